@@ -1,0 +1,4 @@
+pub mod Load
+pub mod Shows
+pub mod State
+pub mod Stretch

@@ -1,0 +1,5 @@
+// Memory.
+#![tactic(auto)]
+
+pub mod flat;
+pub mod memory;

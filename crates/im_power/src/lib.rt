@@ -1,0 +1,6 @@
+// Periods of power.
+#![tactic(auto)]
+
+mod period;
+
+pub use period::Period;

@@ -1,0 +1,4 @@
+pub mod Steps
+pub mod Decode
+pub mod Lines
+pub mod PowerUp

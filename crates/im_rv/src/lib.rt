@@ -1,0 +1,6 @@
+// RV32IM.
+#![tactic(auto)]
+
+pub mod decode;
+pub mod instr;
+pub mod step;
