@@ -2,7 +2,7 @@ ghost use Rattle.std.specs.Prelude.{◌≡◌};
 ghost use Rattle.im_rv.specs.Steps.{cpu_of};
 ghost use Rattle.im_rv.specs.PowerUp.{boot};
 
-use im_mem::memory::Memory;
+use im_mem::Memory;
 use im_power::Period;
 use im_rv::step::{Regs, Went};
 use std::marker::Model;

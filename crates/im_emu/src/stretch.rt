@@ -4,7 +4,7 @@ ghost use Rattle.im_rv.specs.Steps.{cpu_of};
 ghost use Rattle.im_power.specs.Power.{steps_of};
 ghost use Rattle.im_emu.specs.Stretch.{ended_of};
 
-use im_mem::memory::Memory;
+use im_mem::Memory;
 use im_rv::step::{Regs, Went, step};
 
 /// What a run without a loss of power did.

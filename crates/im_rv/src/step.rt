@@ -6,7 +6,7 @@ ghost use Rattle.im_rv.specs.Steps.{quotient, row, effected, done_by, cpu_of, re
 
 use crate::decode::decode_word;
 use crate::instr::{Instr, Op};
-use im_mem::memory::Memory;
+use im_mem::Memory;
 
 /// How a run goes on.
 #[derive(Clone, Copy, PartialEq, Eq, Debug)]
