@@ -31,7 +31,7 @@ last_taken n i b ch j0 j1 w c m m' below went ends mem e0 e1 ec =
     let left : n - i ≡ suc (n - (i + 1)) = omega arith in
     let same : ch ≡ index_changes m m' = rw (ec, e0, e1) refl in
     let whole : ahead i b (joined (step_of c m).went (one_step m (step_of c m)) (steps_of (n - (i + 1)) (step_of c m).cpu)) ≡ ahead i b (one_step m (step_of c m)) =
-        ap (λ v. ahead i b (joined v (one_step m (step_of c m)) (steps_of (n - (i + 1)) (step_of c m).cpu))) (sym went) ∙ ends (n - (i + 1)) in
+    ap (λ v. ahead i b (joined v (one_step m (step_of c m)) (steps_of (n - (i + 1)) (step_of c m).cpu))) (sym went) ∙ ends (n - (i + 1)) in
     rw left (rw (same, went, mem) (sym whole))
 
 pub bounded : (ch i j : ℕ) → ch ≡ differs i j → ch ≤ 1

@@ -2,7 +2,7 @@
 use Rattle.std.specs.Prelude.{ℕ, ◌-◌, List, [], ◌∷◌, length}
 use Rattle.std.specs.List.{flat_map}
 use Rattle.im_num.specs.Bytes.{word_bytes}
-use Rattle.im_mem.specs.Memory.{Mem, written}
+use Rattle.im_mem.specs.Memory.{Mem, written, zeroed}
 use Rattle.im_image.specs.Contents.{ImageValue}
 
 -- OUT_CAP, IN_LEN, STACK_LIM (the stack's end less its size), word 0 (the resume pc) and word 2 (the stack pointer) of
@@ -22,10 +22,6 @@ pieces image input =
 abbrev pub laid : Mem → List (ℕ × List ℕ) → Mem
 laid m [] = m
 laid m (piece ∷ others) = laid (written m piece.0 piece.1) others
-
--- each byte 0
-abbrev pub zeroed : Mem
-zeroed = λ address. 0
 
 abbrev pub memory_of : ImageValue → List ℕ → Mem
 memory_of image input = laid zeroed (pieces image input)

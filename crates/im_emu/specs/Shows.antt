@@ -1,12 +1,7 @@
 -- What a memory shows.
-use Rattle.std.specs.Prelude.{ℕ, ℤ, zero, suc, ◌+◌, min, List, [], ◌∷◌}
+use Rattle.std.specs.Prelude.{ℕ, ℤ, min, List}
 use Rattle.std.specs.Int.{cast_signed, w32}
-use Rattle.im_mem.specs.Memory.{Mem, little}
-
--- n bytes from an address on
-abbrev pub bytes_from : Mem → ℕ → ℕ → List ℕ
-bytes_from m address zero = []
-bytes_from m address (suc n) = m address ∷ bytes_from m (address + 1) n
+use Rattle.im_mem.specs.Memory.{Mem, little, bytes_from}
 
 -- the output: as many bytes of the output area as OUT_LEN says, and no more than the area has
 abbrev pub output_of : Mem → List ℕ

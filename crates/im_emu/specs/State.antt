@@ -23,6 +23,10 @@ pub record State : Type 0 where
 abbrev pub state_of : {M : Type 0} → (M → Mem) → Held M → State
 state_of bytes h = record { mem = bytes h.memory; went = h.went; steps = h.steps; commits = h.commits }
 
+-- a machine that nothing has been run on
+abbrev pub fresh : Mem → State
+fresh m = record { mem = m; went = On; steps = 0; commits = 0 }
+
 -- a count of 64 bits
 abbrev pub counted : ℕ → ℕ
 counted n = min n (2 ^ 64 - 1)

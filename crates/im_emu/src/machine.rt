@@ -2,12 +2,16 @@ ghost use Rattle.std.specs.Prelude.{◌≡◌};
 ghost use Rattle.im_rv.specs.Steps.{cpu_of};
 ghost use Rattle.im_rv.specs.PowerUp.{boot};
 
-use im_mem::Memory;
+use crate::fault::LoadFault;
+use crate::load::{INPUT_CAPACITY, first_memory};
+use crate::shows::{REASON, STATUS, output, word_at};
+use crate::stretch::run_steps;
+use im_image::Image;
+use im_mem::{FlatMem, Memory};
 use im_power::Period;
 use im_rv::step::{Regs, Went};
+use std::alloc::Global;
 use std::marker::Model;
-
-use crate::stretch::{Stretch, run_steps};
 
 /// A memory, and what has been run on it.
 #[derive(Drop)]
@@ -45,6 +49,7 @@ impl<M: Memory> Machine<M> {
     ghost use Rattle.std.specs.Prelude.{◌≡◌, ◌<◌, ◌^◌, [], ◌∷◌};
     ghost use Rattle.im_power.specs.Power.{powered};
     ghost use Rattle.im_emu.specs.State.{after, state_of, with_run};
+    ghost use Rattle.im_emu.specs.Shows.{status_of, reason_of};
 
     /// Runs one period of power as often as it says, or until the machine halts or faults. One
     /// that has halted or faulted stays as it is.
@@ -74,5 +79,68 @@ impl<M: Memory> Machine<M> {
         self.instructions = self.instructions.saturating_add(u64::from(stretch.steps));
         self.commits = self.commits.saturating_add(u64::from(stretch.commits));
         stretch.went
+    }
+
+    /// Instructions executed so far, the one that halted or faulted included; 2^64-1 once that is
+    /// reached.
+    pub fn instructions(&self) -> u64
+        ensures { result ≡ self.now.steps }
+    {
+        self.instructions
+    }
+
+    /// Steps so far that changed INDEX, the word that says which register buffer is live; 2^64-1
+    /// once that is reached.
+    pub fn commits(&self) -> u64
+        ensures { result ≡ self.now.commits }
+    {
+        self.commits
+    }
+
+    /// The word STATUS, read as a signed number.
+    pub fn status(&self) -> i32
+        ensures { result ≡ status_of (M.bytes self.now.memory) }
+    {
+        word_at(&self.memory, STATUS).cast_signed()
+    }
+
+    /// The word REASON: 1 where the stack was exhausted.
+    pub fn reason(&self) -> u32
+        ensures { result ≡ reason_of (M.bytes self.now.memory) }
+    {
+        word_at(&self.memory, REASON)
+    }
+}
+
+impl Machine<FlatMem> {
+    ghost use Rattle.std.specs.Prelude.{◌≡◌, ◌≤◌, ◌<◌, length, IfOk, IsOkUnless, Err};
+    ghost use Rattle.im_mem.specs.Memory.{view};
+    ghost use Rattle.im_emu.specs.Load.{memory_of};
+    ghost use Rattle.im_emu.specs.Shows.{output_of};
+    ghost use Rattle.im_emu.specs.State.{state_of, fresh};
+
+    /// A machine with an image and an input, before power comes. An input of more than 1048576
+    /// bytes is refused, and then no machine is made.
+    pub fn load(alloc: Global, image: &Image, input: &[u8]) -> Result<Machine<FlatMem>, LoadFault>
+        ensures made { IfOk result (λ machine. state_of view machine ≡ fresh (memory_of image.now input.now)) }
+        ensures too_long { 1048576 < length input.now → result ≡ Err (LoadFault.InputTooLong (length input.now) 1048576) }
+        ensures fits { length input.now ≤ 1048576 → IsOkUnless result LoadFault.OutOfMemory }
+    {
+        if input.len() > INPUT_CAPACITY {
+            return Err(LoadFault::InputTooLong(input.len() as u64, INPUT_CAPACITY as u64));
+        }
+        Ok(Machine {
+            memory: first_memory(alloc, image, input)?,
+            went: Went::On,
+            instructions: 0,
+            commits: 0,
+        })
+    }
+
+    /// The output so far: as many bytes of the output area as OUT_LEN says, and at most 1048576.
+    pub fn output(&self) -> &[u8]
+        ensures { result.now ≡ output_of (view self.now.memory) }
+    {
+        output(&self.memory)
     }
 }

@@ -1,9 +1,9 @@
 ghost use Rattle.std.specs.Prelude.{◌≡◌, ◌==◌, cond};
-ghost use Rattle.im_mem.specs.Memory.{little};
 ghost use Rattle.im_rv.specs.Steps.{cpu_of};
 ghost use Rattle.im_power.specs.Power.{steps_of};
 ghost use Rattle.im_emu.specs.Stretch.{ended_of};
 
+use crate::shows::word_at;
 use im_mem::Memory;
 use im_rv::step::{Regs, Went, step};
 
@@ -15,16 +15,6 @@ pub struct Stretch {
     pub steps: u32,
     /// The steps that changed INDEX.
     pub commits: u32,
-}
-
-// The word at 0, which says which register buffer is live.
-fn index_of<M: Memory>(memory: &M) -> u32
-    ensures { result ≡ little (M.bytes memory.now) 0 4 }
-{
-    match memory.load(0, 4) {
-        Some(index) => index,
-        None => unreachable!(),
-    }
 }
 
 // 1 where the two words differ.
@@ -49,10 +39,10 @@ pub fn run_steps<M: Memory>(regs: &mut Regs, memory: &mut M, n: u32) -> Stretch
     ensures ran { ended_of result (M.bytes memory.new) ≡ steps_of n (cpu_of regs.old) (M.bytes memory.old) }
 {
     let mut commits = 0u32;
-    let mut index = index_of(memory);
+    let mut index = word_at(memory, 0);
     for i in 0..n {
         let went = step(regs, memory);
-        let next = index_of(memory);
+        let next = word_at(memory, 0);
         commits += changes(index, next);
         index = next;
         match went {

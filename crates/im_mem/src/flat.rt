@@ -2,11 +2,10 @@ ghost use Rattle.std.specs.Prelude.{◌≡◌, ◌≤◌, ◌+◌, ◌^◌, ◌<
 ghost use Rattle.im_num.specs.Bytes.{bytes_of};
 ghost use Rattle.im_mem.specs.Memory.{little, written, is_place, view, zeroed};
 
+use crate::memory::Memory;
 use im_num::NoMemory;
 use std::alloc::{AllocError, Global};
 use std::marker::Model;
-
-use crate::memory::Memory;
 
 /// Bytes of memory.
 const SIZE: u32 = 5 * 1024 * 1024;
