@@ -1,0 +1,5 @@
+pub mod Counts
+pub mod Shelf
+pub mod Sink
+pub mod Whole
+pub mod Host
