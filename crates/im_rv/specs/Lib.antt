@@ -1,0 +1,6 @@
+pub mod Formats
+pub mod Fits
+pub mod Decode
+pub mod Steps
+pub mod Lines
+pub mod PowerUp
