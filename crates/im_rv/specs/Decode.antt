@@ -68,8 +68,11 @@ line_at w None = None
 line_at w (Some op) = Some (fields (format_of op) op w)
 
 -- 0x00100073 is ebreak; any other word goes by its code numbers
+abbrev pub op_in : ℕ → Option Op
+op_in w = cond (w == 0x00100073) (Some Ebreak) (op_of (bits w 0 7) (bits w 12 3) (bits w 25 7))
+
 abbrev pub decode : ℕ → Option Line
-decode w = line_at w (cond (w == 0x00100073) (Some Ebreak) (op_of (bits w 0 7) (bits w 12 3) (bits w 25 7)))
+decode w = line_at w (op_in w)
 
 abbrev pub decoded : Cpu → Mem → Option Line → Stepped
 decoded c m None = faulted c m

@@ -131,9 +131,13 @@ row Ebreak pc a b imm = Stops
 abbrev pub faulted : Cpu → Mem → Stepped
 faulted c m = record { went = Faulted c.pc; cpu = c; mem = m }
 
--- a loaded number, sign extended from its bytes or not
+-- the lowest n bits, sign extended
+abbrev pub sign_extended : ℕ → ℕ → ℕ
+sign_extended n v = cond (nat_lt v (2 ^ (n - 1))) v (sum_of v (2 ^ 32 - 2 ^ n))
+
+-- a loaded byte or half, sign extended or not; a word is as it is
 abbrev pub extended : ℕ → Bool → ℕ → ℕ
-extended n is_signed v = cond is_signed (signed_bits (8 * n) v) v
+extended n is_signed v = cond is_signed (cond (n == 1) (sign_extended 8 v) (cond (n == 2) (sign_extended 16 v) v)) v
 
 abbrev pub loads : Cpu → Mem → ℕ → ℕ → Bool → Option ℕ → Stepped
 loads c m rd n is_signed None = faulted c m
