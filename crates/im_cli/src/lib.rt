@@ -1,0 +1,14 @@
+// The words of the command line, read as the command that they name.
+#![tactic(auto)]
+
+mod command;
+mod fault;
+mod table;
+mod words;
+
+pub use command::Command;
+pub use fault::WordsFault;
+pub use words::read_words;
+
+#[cfg(test)]
+mod tests;

@@ -1,0 +1,73 @@
+ghost use Rattle.std.specs.Prelude.{◌≡◌, ◌≢◌, IfOk, IfErr, Some, None, map, option_map};
+ghost use Rattle.std.specs.String.{string_bytes};
+ghost use Rattle.clap.specs.Words.{first_of, found_of, kind_of, rows_of, subcommand_rows_of};
+ghost use Rattle.im_cli.specs.Named.{IsUsage, asked, asked_by, meaning, named, run_asked};
+
+use crate::table::command_table;
+use crate::{Command, WordsFault};
+use clap::ArgMatches;
+use clap::error::ErrorKind;
+use std::alloc::Global;
+
+/// The value of the operand or option of this name, where the words give one.
+fn value_of<'a>(found: &ArgMatches<'a>, name: &str) -> Option<&'a str>
+    ensures { option_map (λ s. s.now) result ≡ first_of name.now (rows_of (found_of found.now)) }
+{
+    found.get_str(name)
+}
+
+fn run_command<'a>(found: &ArgMatches<'a>) -> Option<Command<'a>>
+    ensures { option_map meaning result ≡ run_asked (rows_of (found_of found.now)) }
+{
+    let source = value_of(found, "SRC")?;
+    let image = value_of(found, "IMG")?;
+    Some(Command::Run { source, image })
+}
+
+/// The command of this name, with what was found for the words after it.
+fn command_of<'a>(name: &str, found: &ArgMatches<'a>) -> Option<Command<'a>>
+    ensures { option_map meaning result ≡ asked_by name.now (rows_of (found_of found.now)) }
+{
+    match name {
+        "run" => run_command(found),
+        _ => None,
+    }
+}
+
+/// What the table's matches ask for.
+fn matched_command<'a>(matches: &ArgMatches<'a>) -> Option<Command<'a>>
+    ensures { option_map meaning result ≡ asked (subcommand_rows_of matches.now) }
+{
+    let (name, found) = matches.subcommand()?;
+    command_of(name, found)
+}
+
+/// The fault of words that clap refuses: its text, or that memory ran out.
+fn refusal(alloc: Global, error: clap::Error) -> WordsFault
+    ensures { IsUsage result → kind_of error ≢ ErrorKind.OutOfMemory }
+{
+    if error.kind() == ErrorKind::OutOfMemory {
+        return WordsFault::OutOfMemory;
+    }
+    match error.to_string(alloc) {
+        Ok(text) => WordsFault::Usage(text),
+        Err(_) => WordsFault::OutOfMemory,
+    }
+}
+
+/// The command that the words name, the first of them being the program's own name.
+///
+/// `Usage` is answered only where the table takes no such words.
+pub fn read_words<'a>(alloc: Global, words: &'a [String]) -> Result<Command<'a>, WordsFault>
+    ensures named { IfOk result (λ c. named (map string_bytes words.now) ≡ Some (meaning c)) }
+    ensures refused { IfErr result (λ e. IsUsage e → named (map string_bytes words.now) ≡ None) }
+{
+    let table = command_table(alloc)?;
+    match table.try_get_matches_from(words) {
+        Ok(matches) => match matched_command(&matches) {
+            Some(command) => Ok(command),
+            None => Err(WordsFault::Usage("intermit: no command\n".to_string(alloc)?)),
+        },
+        Err(error) => Err(refusal(alloc, error)),
+    }
+}
