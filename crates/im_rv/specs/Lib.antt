@@ -1,4 +1,6 @@
-pub mod Steps
+pub mod Formats
+pub mod Fits
 pub mod Decode
+pub mod Steps
 pub mod Lines
 pub mod PowerUp

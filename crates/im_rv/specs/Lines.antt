@@ -1,4 +1,4 @@
--- An instruction as a line of the table.
+-- An instruction of the code as the definitions see it.
 use Rattle.im_rv.specs.declared.instr.Instr.{Instr}
 use Rattle.im_rv.specs.Steps.{word}
 use Rattle.im_rv.specs.Decode.{Line}

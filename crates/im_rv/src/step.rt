@@ -1,85 +1,43 @@
-ghost use Rattle.std.specs.Prelude.{◌≡◌, ◌+◌, ◌%◌, ◌^◌, ◌<◌};
-ghost use Rattle.std.specs.Int.{w32};
-ghost use Rattle.std.specs.Int.{cast_unsigned};
-ghost use Rattle.im_rv.specs.Decode.{step_of, runs};
-ghost use Rattle.im_rv.specs.Steps.{quotient, row, effected, done_by, cpu_of, regs_of, with_reg, word, extended};
+ghost use Rattle.std.specs.Prelude.{◌≡◌, ◌<◌, true};
+ghost use Rattle.im_rv.specs.Steps.{effected, cpu_of, regs_of, with_reg, word, extended, done_by};
+ghost use Rattle.im_rv.specs.Decode.{step_of};
 
-use crate::decode::decode_word;
-use crate::instr::{Instr, Op};
+use crate::decode::decode;
+use crate::instr::Instr;
+use crate::rows::row_of;
 use im_mem::Memory;
 
 /// How a run goes on.
 #[derive(Clone, Copy, PartialEq, Eq, Debug)]
 pub enum Went {
+    /// The next step may be made.
     On,
+    /// `ebreak` was executed.
     Halted,
+    /// A machine fault, with the pc of the instruction or of the fetch.
     Faulted(u32),
 }
 
-/// The registers and the place in the code.
+/// The place in the code and the registers; x0 reads as 0, whatever the array holds.
 #[derive(Clone, Copy)]
 pub struct Regs {
     pub pc: u32,
     pub x: [u32; 32],
 }
 
-/// What an instruction does.
+/// What an instruction does to registers and memory.
 #[derive(Clone, Copy)]
 pub enum Effect {
-    /// A value for the register, and the next place.
+    /// A value for rd, and the next place.
     Puts(u32, u32),
     /// The next place.
     Goes(u32),
-    /// An address and a size, and whether the sign is extended.
+    /// An address, a size in bytes, and whether the sign is extended: a value for rd.
     Loads(u32, u32, bool),
-    /// An address, a size and a value.
+    /// An address, a size in bytes and a value.
     Stores(u32, u32, u32),
+    /// The run ends here.
     Stops,
-}
-
-fn divided(a: u32, b: u32) -> u32
-    ensures { result ≡ quotient a b }
-{
-    if b == 0 {
-        4294967295
-    } else if a == 2147483648 && b == 4294967295 {
-        a
-    } else {
-        (a.cast_signed() / b.cast_signed()).cast_unsigned()
-    }
-}
-
-fn row_of(op: Op, pc: u32, a: u32, b: u32, imm: u32) -> Effect
-    ensures { result ≡ row op pc a b imm }
-{
-    let next = pc.wrapping_add(4);
-    let address = a.wrapping_add(imm);
-    let target = pc.wrapping_add(imm);
-    match op {
-        Op::Lui => Effect::Puts(imm, next),
-        Op::Jal => Effect::Puts(next, target),
-        Op::Jalr => Effect::Puts(next, address - address % 2),
-        Op::Bne => Effect::Goes(if a == b { next } else { target }),
-        Op::Lb => Effect::Loads(address, 1, true),
-        Op::Lw => Effect::Loads(address, 4, false),
-        Op::Sb => Effect::Stores(address, 1, b),
-        Op::Sw => Effect::Stores(address, 4, b),
-        Op::Addi => Effect::Puts(address, next),
-        Op::Add => Effect::Puts(a.wrapping_add(b), next),
-        Op::Div => Effect::Puts(divided(a, b), next),
-        Op::Fence => Effect::Goes(next),
-        Op::Ebreak => Effect::Stops,
-    }
-}
-
-fn extend(v: u32) -> u32
-    ensures { result ≡ extended v }
-{
-    if v < 128 {
-        v
-    } else {
-        v.wrapping_add(4294967040)
-    }
 }
 
 impl Regs {
@@ -96,6 +54,24 @@ impl Regs {
         ensures x { regs_of self.new.x ≡ with_reg (regs_of self.old.x) rd v }
     {
         self.x[rd as usize] = v;
+    }
+}
+
+fn extend(v: u32, size: u32) -> u32
+    ensures { result ≡ extended size true v }
+{
+    match size {
+        1 => if v < 128 {
+            v
+        } else {
+            v.wrapping_add(0xFFFF_FF00)
+        },
+        2 => if v < 32768 {
+            v
+        } else {
+            v.wrapping_add(0xFFFF_0000)
+        },
+        _ => v,
     }
 }
 
@@ -116,10 +92,10 @@ fn apply<M: Memory>(regs: &mut Regs, memory: &mut M, rd: u8, effect: Effect) -> 
             regs.pc = target;
             Went::On
         }
-        Effect::Loads(address, size, signed) => match memory.load(address, size) {
+        Effect::Loads(address, size, is_signed) => match memory.load(address, size) {
             None => Went::Faulted(regs.pc),
             Some(v) => {
-                regs.set(rd, if signed { extend(v) } else { v });
+                regs.set(rd, if is_signed { extend(v, size) } else { v });
                 regs.pc = next;
                 Went::On
             }
@@ -154,7 +130,7 @@ fn perform<M: Memory>(regs: &mut Regs, memory: &mut M, i: &Instr) -> Went
     apply(regs, memory, i.rd, effect)
 }
 
-/// One step: the word at the place in the code is fetched, decoded and done.
+/// One step: the word at the pc is fetched, decoded and done.
 pub fn step<M: Memory>(regs: &mut Regs, memory: &mut M) -> Went
     ensures went { result ≡ (step_of (cpu_of regs.old) (M.bytes memory.old)).went }
     ensures cpu { cpu_of regs.new ≡ (step_of (cpu_of regs.old) (M.bytes memory.old)).cpu }
@@ -162,7 +138,7 @@ pub fn step<M: Memory>(regs: &mut Regs, memory: &mut M) -> Went
 {
     match memory.load(regs.pc, 4) {
         None => Went::Faulted(regs.pc),
-        Some(w) => match decode_word(w) {
+        Some(w) => match decode(w) {
             None => Went::Faulted(regs.pc),
             Some(i) => perform(regs, memory, &i),
         },
