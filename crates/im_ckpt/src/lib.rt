@@ -1,0 +1,6 @@
+// Register buffers and the routine that restores the registers from them.
+#![tactic(auto)]
+
+mod recovery;
+
+pub use recovery::{boot_buffer, resume_law};

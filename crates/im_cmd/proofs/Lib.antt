@@ -1,0 +1,4 @@
+pub mod Constants
+pub mod Stores
+pub mod Walks
+pub mod Runs

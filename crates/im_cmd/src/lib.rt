@@ -1,0 +1,4 @@
+// The command line: sources become images, and images are run.
+#![tactic(auto)]
+
+mod constant;
