@@ -2,3 +2,8 @@ pub mod Source
 pub mod Reading
 pub mod Straight
 pub mod Keeps
+pub mod Lines
+pub mod Outcome
+pub mod Answers
+pub mod Refusals
+pub mod Machines

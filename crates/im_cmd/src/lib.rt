@@ -2,3 +2,11 @@
 #![tactic(auto)]
 
 mod constant;
+mod refusal;
+mod running;
+mod source;
+mod straight;
+mod telling;
+mod entry;
+
+pub use entry::top;

@@ -35,3 +35,6 @@ and_then-rest (Faulted at) e h = refl
 -- one period of a list, repeated
 pub one_period : (p : Period) (m : Mem) → power (p ∷ []) m ≡ repeated p.count (powered p.n p.junk) m
 one_period p m = and_then-rest _ (repeated p.count (powered p.n p.junk) m) refl
+
+pub repeated-once : (next : Mem → Ended) (m : Mem) → repeated 1 next m ≡ next m
+repeated-once next m = and_then-rest _ (next m) refl

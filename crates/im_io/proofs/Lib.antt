@@ -1,3 +1,4 @@
 pub mod Appending
 pub mod Files
 pub mod Reading
+pub mod Pieces

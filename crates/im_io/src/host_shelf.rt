@@ -15,7 +15,7 @@ pub enum Open<F> {
 #[derive(Drop)]
 pub struct HostShelf<R: Files> {
     files: R,
-    open: Open<R::File>,
+    opened: Open<R::File>,
     read_faults: u64,
     write_faults: u64,
     absences: u64,
@@ -30,7 +30,7 @@ impl<R: Files> HostShelf<R> {
     {
         HostShelf {
             files,
-            open: Open::Nothing,
+            opened: Open::Nothing,
             read_faults: 0,
             write_faults: 0,
             absences: 0,
@@ -42,13 +42,13 @@ impl<R: Files> Shelf for HostShelf<R> {
     ghost use Rattle.std.specs.Prelude.{None};
     ghost use Rattle.im_io.specs.Host.{mode_of};
 
-    ghost state = { λ s. record { mode = mode_of s.open; told = None; read_faults = s.read_faults; write_faults = s.write_faults; absences = s.absences } };
+    ghost state = { λ s. record { mode = mode_of s.opened; told = None; read_faults = s.read_faults; write_faults = s.write_faults; absences = s.absences } };
 
     fn open_file(&mut self, name: &str) -> Result<(), OpenFault> {
-        self.open = Open::Nothing;
+        self.opened = Open::Nothing;
         match fs::open(&self.files, name) {
             Ok(file) => {
-                self.open = Open::Reading(file);
+                self.opened = Open::Reading(file);
                 Ok(())
             }
             Err(fault) => {
@@ -64,7 +64,7 @@ impl<R: Files> Shelf for HostShelf<R> {
     }
 
     fn read(&mut self, buffer: &mut [u8]) -> Result<usize, Failed> {
-        match &mut self.open {
+        match &mut self.opened {
             Open::Reading(file) => match file.read(buffer) {
                 Ok(count) => Ok(count),
                 Err(_) => {
@@ -77,10 +77,10 @@ impl<R: Files> Shelf for HostShelf<R> {
     }
 
     fn create_file(&mut self, name: &str) -> Result<(), Failed> {
-        self.open = Open::Nothing;
+        self.opened = Open::Nothing;
         match fs::create(&self.files, name) {
             Ok(file) => {
-                self.open = Open::Writing(file);
+                self.opened = Open::Writing(file);
                 Ok(())
             }
             Err(_) => {
@@ -91,7 +91,7 @@ impl<R: Files> Shelf for HostShelf<R> {
     }
 
     fn write(&mut self, bytes: &[u8]) -> Result<usize, Failed> {
-        match &mut self.open {
+        match &mut self.opened {
             Open::Writing(file) => match file.write(bytes) {
                 Ok(count) if count > 0 || bytes.is_empty() => Ok(count),
                 Ok(_) | Err(_) => {

@@ -16,4 +16,4 @@ pub use host_sink::HostSink;
 pub use mem_sink::MemSink;
 pub use shelf::Shelf;
 pub use sink::Sink;
-pub use whole::{read_whole, send, store};
+pub use whole::{read_whole, send, send_pieces, store};

@@ -1,4 +1,5 @@
 ghost use Rattle.std.specs.Prelude.{◌≡◌, ◌≤◌, ◌<◌, length};
+ghost use Rattle.std.specs.List.{flat_map};
 ghost use Rattle.im_io.specs.Shelf.{WhereTold, WriteCounts, Reading};
 ghost use Rattle.im_io.specs.Whole.{Sends, Stores, ReadWholeCounts, ReadsWhole, ReadsOpen};
 
@@ -83,6 +84,19 @@ pub fn store<H: Shelf>(shelf: &mut H, name: &str, text: &[u8]) -> Result<(), Fai
     let mut stored = 0;
     while stored < text.len() {
         stored += shelf.write(&text[stored..])?;
+    }
+    Ok(())
+}
+
+/// Sends pieces of a text to a sink, one after the other, as `send` does the text that they make.
+pub fn send_pieces<S: Sink>(sink: &mut S, pieces: &[&[u8]]) -> Result<(), Failed>
+    ensures { Sends (flat_map (λ piece. piece.now) pieces.now) result (S.state sink.old) (S.state sink.new) }
+{
+    for piece in pieces {
+        match send(sink, piece) {
+            Ok(()) => {}
+            Err(fault) => return Err(fault),
+        }
     }
     Ok(())
 }
