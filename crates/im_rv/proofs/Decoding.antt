@@ -63,7 +63,7 @@ j_forth w o l eo =
 order_forth : (w o f : ℕ) → w < 2 ^ 32 → bits w 0 7 ≡ o → bits w 12 3 ≡ f → sum_of (numbers o f 0) (assembled Order (bits w 7 5) (bits w 15 5) 0 (bits w 20 12)) ≡ w
 order_forth w o f l eo ef = omega arith
 
-three : (p q r : Bool) → (p && q && r) ≡ true → (p ≡ true) × (q ≡ true) × (r ≡ true)
+pub three : (p q r : Bool) → (p && q && r) ≡ true → (p ≡ true) × (q ≡ true) × (r ≡ true)
 three p q r h = let a = both _ _ h in let b = both _ _ a.0 in (b.0, b.1, a.1)
 
 abbrev is_coded_op : Op → Bool
@@ -74,7 +74,7 @@ abbrev every : (Op → Bool) → List Op → Bool
 every p [] = true
 every p (op ∷ ops) = p op && every p ops
 
-truth : (b : Bool) → (b ≡ true) ⊎ (b ≡ false)
+pub truth : (b : Bool) → (b ≡ true) ⊎ (b ≡ false)
 truth true = inl refl
 truth false = inr refl
 

@@ -13,7 +13,7 @@ use Rattle.im_rv.specs.Encode.{assembled, encoded}
 use Rattle.im_rv.specs.Decode.{Line, bits, fields, op_of, op_in, line_at, decode, i_imm, s_imm, b_imm, j_imm}
 
 -- a word with these code numbers stands for this operation
-op_found : (w o f g : ℕ) (op : Op) → o < 115 → w % 128 ≡ o → w / 4096 % 8 ≡ f → w / 33554432 % 128 ≡ g → op_of o f g ≡ Some op → op_in w ≡ Some op
+pub op_found : (w o f g : ℕ) (op : Op) → o < 115 → w % 128 ≡ o → w / 4096 % 8 ≡ f → w / 33554432 % 128 ≡ g → op_of o f g ≡ Some op → op_in w ≡ Some op
 op_found w o f g op small eo ef eg h =
     let no : (w == 0x00100073) ≡ false = grind (arith, nat_tests) in
     let e0 : bits w 0 7 ≡ o = omega arith in

@@ -1,3 +1,5 @@
+pub mod Apart
+pub mod Changes
 pub mod Decoding
 pub mod Encoding
 pub mod Straight

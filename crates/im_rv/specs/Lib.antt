@@ -5,3 +5,4 @@ pub mod Encode
 pub mod Steps
 pub mod Lines
 pub mod PowerUp
+pub mod Laws

@@ -6,6 +6,7 @@ pub mod decode;
 pub mod encode;
 pub mod format;
 pub mod instr;
+pub mod laws;
 pub mod line;
 mod rows;
 pub mod step;
