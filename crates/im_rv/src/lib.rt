@@ -10,3 +10,5 @@ pub mod laws;
 pub mod line;
 mod rows;
 pub mod step;
+#[cfg(test)]
+mod tests;
