@@ -1,12 +1,10 @@
 -- Each row has words of its own.
-use Rattle.std.proofs.Common.{◌≡◌, ℕ, ◌<◌, ◌%◌, Bool, true, false, cond, Some, sym, ap, ◌∙◌, subst, arith, refl}
-use Rattle.std.specs.Prelude.{◌==◌}
-use Rattle.std.proofs.lemmas.Bool.Decides.{nat_tests}
+use Rattle.std.proofs.Common.{◌≡◌, ℕ, ◌<◌, ◌%◌, true, cond, Some, sym, ap, ◌∙◌, arith, refl}
 use Rattle.im_rv.specs.declared.instr.Op.{Op}
 use Rattle.im_rv.specs.declared.instr.Op.TheVariants.{Lui, Auipc, Jal, Jalr, Beq, Bne, Blt, Bge, Bltu, Bgeu, Lb, Lh, Lw, Lbu, Lhu, Sb, Sh, Sw, Addi, Slti, Sltiu, Xori, Ori, Andi, Slli, Srli, Srai, Add, Sub, Sll, Slt, Sltu, Xor, Srl, Sra, Or, And, Mul, Mulh, Mulhsu, Mulhu, Div, Divu, Rem, Remu, Fence, Ebreak}
-use Rattle.im_rv.specs.Decode.{bits, is_coded, op_of, op_in}
+use Rattle.im_rv.specs.Decode.{bits, op_of, op_in}
 use Rattle.im_rv.specs.Laws.{is_word_of, RowsApart, RowsReached}
-use Rattle.im_rv.proofs.Encoding.{both, is_same, op_found}
+use Rattle.im_rv.proofs.Encoding.{is_same, op_found}
 use Rattle.im_rv.proofs.Decoding.{three}
 
 -- a word of an operation is found as that

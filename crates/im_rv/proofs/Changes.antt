@@ -1,5 +1,5 @@
 -- What a step may change.
-use Rattle.std.proofs.Common.{◌≡◌, ◌≢◌, ◌⊎◌, inl, inr, ℕ, Bool, true, false, cond, Option, Some, None, sym, ap, ◌∙◌, refl}
+use Rattle.std.proofs.Common.{◌≡◌, ◌≢◌, ◌⊎◌, inl, inr, ℕ, Bool, true, false, cond, Option, Some, None, ◌∙◌, refl}
 use Rattle.im_rv.specs.declared.format.Format.TheVariants.{Store}
 use Rattle.im_rv.specs.declared.instr.Op.{Op}
 use Rattle.im_rv.specs.declared.instr.Op.TheVariants.{Lb, Lh, Lw, Lbu, Lhu, Sb, Sh, Sw}
@@ -9,10 +9,9 @@ use Rattle.im_rv.specs.declared.step.Went.TheVariants.{On}
 use Rattle.im_num.specs.Bytes.{bytes_of}
 use Rattle.im_mem.specs.Memory.{Mem, loaded, stored, written, is_place}
 use Rattle.im_rv.specs.Formats.{format_of}
-use Rattle.im_rv.specs.Steps.{Cpu, Stepped, effected, loads, faulted, row, sum_of, with_reg}
-use Rattle.im_rv.specs.Decode.{Line, decode, decoded, fetched, step_of}
+use Rattle.im_rv.specs.Steps.{Cpu, Stepped, effected, loads, faulted, row, sum_of}
+use Rattle.im_rv.specs.Decode.{Line, decode, decoded, fetched}
 use Rattle.im_rv.specs.Laws.{ZeroStays, OneRegister, Stored, OnlyStores}
-use Rattle.im_rv.proofs.Decoding.{truth}
 use Rattle.im_rv.proofs.Straight.{zero_reg, other_reg}
 
 -- a store that is made where b

@@ -1,4 +1,4 @@
-use Rattle.std.proofs.Common.{◌≡◌, ◌<◌, ◌^◌, ℕ, Some, sym, ap, ◌∙◌}
+use Rattle.std.proofs.Common.{sym, ap, ◌∙◌}
 use Rattle.im_rv.specs.Decode.{decode}
 use Rattle.im_rv.specs.Lines.{line_of}
 use Rattle.im_rv.proofs.Encoding.{decode-encoded}
