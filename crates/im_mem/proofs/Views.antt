@@ -1,5 +1,5 @@
 -- Lists of bytes as memory.
-use Rattle.std.proofs.Common.{◌≡◌, ◌<◌, ◌≤◌, ℕ, zero, suc, ◌+◌, cond, List, [], ◌∷◌, ◌++◌, length, take, drop, get_or, refl, sym, ap, ◌∙◌, add-zero, drop-cons, arith, rules}
+use Rattle.std.proofs.Common.{◌≡◌, ◌<◌, ◌≤◌, ℕ, zero, suc, ◌+◌, cond, List, [], ◌∷◌, ◌++◌, length, take, drop, get_or, refl, ap, add-zero, drop-cons, arith, rules}
 use Rattle.std.specs.Prelude.{slice_set, ◌==◌}
 use Rattle.im_mem.specs.Memory.{Mem, view, written, bytes_from}
 

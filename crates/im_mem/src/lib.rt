@@ -6,3 +6,6 @@ mod memory;
 
 pub use flat::FlatMem;
 pub use memory::Memory;
+
+#[cfg(test)]
+mod tests;

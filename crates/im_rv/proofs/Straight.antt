@@ -1,11 +1,11 @@
 -- Symbolic execution: what one step does where the word that is fetched is known, by its effect.
-use Rattle.std.proofs.Common.{◌≡◌, ◌≢◌, ◌<◌, ℕ, suc, ◌+◌, ◌%◌, ◌^◌, Bool, true, false, cond, Some, None, refl, ap, ◌∙◌, arith}
+use Rattle.std.proofs.Common.{◌≡◌, ◌≢◌, ◌<◌, ℕ, suc, Bool, true, cond, Some, None, ap, ◌∙◌, arith}
 use Rattle.std.proofs.lemmas.Bool.Decides.{nat_tests}
 use Rattle.im_num.specs.Bytes.{bytes_of}
 use Rattle.im_mem.specs.Memory.{Mem, little, loaded, is_place, written}
 use Rattle.im_rv.specs.declared.step.Went.TheVariants.{On, Halted}
 use Rattle.im_rv.specs.declared.step.Effect.TheVariants.{Puts, Goes, Loads, Stores, Stops}
-use Rattle.im_rv.specs.Steps.{Cpu, Stepped, sum_of, with_reg, extended, loads, effected, faulted, done_by, row}
+use Rattle.im_rv.specs.Steps.{Cpu, Stepped, sum_of, with_reg, extended, loads, effected, faulted, row}
 use Rattle.im_rv.specs.Decode.{Line, decode, decoded, fetched, step_of, go_on, runs}
 
 -- a step that goes on is one less to run

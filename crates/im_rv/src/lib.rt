@@ -3,8 +3,12 @@
 
 mod arithmetic;
 pub mod decode;
+pub mod encode;
 pub mod format;
 pub mod instr;
+pub mod laws;
 pub mod line;
 mod rows;
 pub mod step;
+#[cfg(test)]
+mod tests;

@@ -1,7 +1,7 @@
-use Rattle.std.proofs.Common.{◌≡◌, ◌<◌, ◌+◌, ◌∷◌, [], ◌∙◌, refl, sym, ap, length, take, length-take, arith}
+use Rattle.std.proofs.Common.{◌≡◌, ◌<◌, ◌+◌, ◌∷◌, [], ◌∙◌, refl, ap, length, take, length-take, arith}
 use Rattle.std.specs.Prelude.{slice_index}
 use Rattle.std.proofs.lemmas.List.{take_more}
-use Rattle.im_mem.specs.Memory.{view, written}
+use Rattle.im_mem.specs.Memory.{written}
 use Rattle.im_mem.proofs.Views.{view-set, written-append}
 use Rattle.im_mem.proofs.flat.fill.Goals as goal
 

@@ -1,4 +1,4 @@
-use Rattle.std.proofs.Common.{◌≡◌, length, take}
+use Rattle.std.proofs.Common.{◌≡◌, take}
 use Rattle.im_mem.specs.Memory.{view, written}
 use Rattle.im_mem.proofs.flat.fill.Given as goal
 

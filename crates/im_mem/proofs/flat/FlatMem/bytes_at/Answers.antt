@@ -1,5 +1,4 @@
-use Rattle.std.proofs.Common.{◌≡◌, ◌≤◌, ◌∙◌, ◌+◌, ◌-◌, length, take, drop, ap, arith}
-use Rattle.im_mem.specs.Memory.{view, bytes_from}
+use Rattle.std.proofs.Common.{◌≡◌, ◌∙◌, ◌+◌, ◌-◌, length, arith}
 use Rattle.im_mem.proofs.Views.{take-drop}
 use Rattle.im_mem.proofs.flat.FlatMem.bytes_at.Goals as goal
 
