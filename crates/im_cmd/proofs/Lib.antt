@@ -2,3 +2,4 @@ pub mod Constants
 pub mod Stores
 pub mod Walks
 pub mod Runs
+pub mod Loading
