@@ -1,1 +1,4 @@
+pub mod Decoding
+pub mod Encoding
+pub mod Straight
 pub mod Words

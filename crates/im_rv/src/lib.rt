@@ -3,6 +3,7 @@
 
 mod arithmetic;
 pub mod decode;
+pub mod encode;
 pub mod format;
 pub mod instr;
 pub mod line;
