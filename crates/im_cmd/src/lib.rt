@@ -2,3 +2,5 @@
 #![tactic(auto)]
 
 mod constant;
+mod source;
+mod straight;
