@@ -3,3 +3,4 @@ pub mod Stores
 pub mod Walks
 pub mod Runs
 pub mod Loading
+pub mod Compiling

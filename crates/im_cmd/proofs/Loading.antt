@@ -65,7 +65,7 @@ all_small : (bs : List ℕ) → All (λ b. b < 256) bs → Bytes bs
 all_small [] h = tt
 all_small (b ∷ bs) h = (h 0 0 (omega arith), all_small bs (λ k d l. h (suc k) d (omega arith)))
 
-abbrev Words : List ℕ → Type 0
+abbrev pub Words : List ℕ → Type 0
 Words [] = Unit {0}
 Words (w ∷ ws) = (w < 2 ^ 32) × Words ws
 
@@ -93,11 +93,11 @@ stand_rest : (m : Mem) (a : ℕ) (xs ys : List ℕ) → Stands m a (xs ++ ys) �
 stand_rest m a [] ys s = let e : a ≡ a + 4 * 0 = omega arith in subst (λ z. Stands m z ys) e s
 stand_rest m a (x ∷ xs) ys s = let e : a + 4 + 4 * length xs ≡ a + 4 * suc (length xs) = omega arith in subst (λ z. Stands m z ys) e (stand_rest m (a + 4) xs ys s.1)
 
-both_words : (xs ys : List ℕ) → Words xs → Words ys → Words (xs ++ ys)
+pub both_words : (xs ys : List ℕ) → Words xs → Words ys → Words (xs ++ ys)
 both_words [] ys a b = b
 both_words (x ∷ xs) ys a b = (a.0, both_words xs ys a.1 b)
 
-spelt_words : (ws : List ℕ) (ls : List Line) → Spells ws ls → Words ws
+pub spelt_words : (ws : List ℕ) (ls : List Line) → Spells ws ls → Words ws
 spelt_words [] [] s = tt
 spelt_words [] (l ∷ ls) s = absurd s
 spelt_words (w ∷ ws) [] s = absurd s
@@ -115,7 +115,7 @@ spelt_codes m a [] (l ∷ ls) s t = absurd s
 spelt_codes m a (w ∷ ws) [] s t = absurd s
 spelt_codes m a (w ∷ ws) (l ∷ ls) s t = (ap decode t.0 ∙ s.0, spelt_codes m (a + 4) ws ls s.2 t.1)
 
-recovery_fits : Words recovery_words
+pub recovery_fits : Words recovery_words
 recovery_fits = search rules
 
 -- memory as the pieces are laid
