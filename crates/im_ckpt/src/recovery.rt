@@ -6,8 +6,8 @@ use std::alloc::Global;
 
 /// The registers that a buffer keeps beside the resume pc. x3 and x4 are the runtime's own.
 const SAVED: [u32; 29] = [
-    1, 2, 5, 6, 7, 8, 9, 10, 11, 12, 13, 14, 15, 16, 17, 18, 19, 20, 21, 22, 23, 24, 25, 26, 27, 28,
-    29, 30, 31,
+    1, 2, 5, 6, 7, 8, 9, 10, 11, 12, 13, 14, 15, 16, 17, 18, 19, 20, 21, 22, 23, 24, 25, 26, 27,
+    28, 29, 30, 31,
 ];
 
 /// `bne x4, x0, 128`: to the half that reads buffer 1.
@@ -77,5 +77,4 @@ pub fn recovery_code(alloc: Global) -> Result<Vec<u32>, NoMemory>
 /// and writes nothing.
 pub fn resume_law()
     ensures { ResumeLaw }
-{
-}
+{}

@@ -29,7 +29,7 @@ one_more_call old call new xs k l e a b =
     let z : 0 + k ≡ k = omega arith in
     let joined = spells_both old call (lui 5 1024 ∷ calls_lines 0 (take k xs)) (call_lines k (get_or xs k 0)) a b in
     let lines : calls_lines 0 (take k xs) ++ call_lines k (get_or xs k 0) ≡ calls_lines 0 (take (k + 1) xs) =
-        ap (λ n. calls_lines 0 (take k xs) ++ call_lines n (get_or xs k 0)) (sym z) ∙ sym (calls_next 0 xs k l) ∙ ap (λ n. calls_lines 0 (take n xs)) q in
+    ap (λ n. calls_lines 0 (take k xs) ++ call_lines n (get_or xs k 0)) (sym z) ∙ sym (calls_next 0 xs k l) ∙ ap (λ n. calls_lines 0 (take n xs)) q in
     subst (λ t. Spells new (lui 5 1024 ∷ t)) lines (subst (λ t. Spells t (lui 5 1024 ∷ (calls_lines 0 (take k xs) ++ call_lines k (get_or xs k 0)))) (sym e) joined)
 
 take_whole : (xs : List ℕ) (k : ℕ) → length xs ≤ k → take k xs ≡ xs

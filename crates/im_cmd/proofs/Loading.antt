@@ -77,7 +77,7 @@ words_stand (w ∷ ws) m a h =
     let rest = flat_map word_bytes ws in
     let e : a + 1 + 1 + 1 + 1 ≡ a + 4 = omega arith in
     let first : little (written n (a + 1 + 1 + 1 + 1) rest) a 4 ≡ w =
-        little_same (written n (a + 1 + 1 + 1 + 1) rest) n 4 a (λ k p q. before rest n (a + 1 + 1 + 1 + 1) k (omega arith)) ∙ word_here m a w h.0 in
+    little_same (written n (a + 1 + 1 + 1 + 1) rest) n 4 a (λ k p q. before rest n (a + 1 + 1 + 1 + 1) k (omega arith)) ∙ word_here m a w h.0 in
     (first, subst (λ z. Stands (written n z rest) (a + 4) ws) (sym e) (words_stand ws n (a + 4) h.1))
 
 stands_kept : (m n : Mem) (a : ℕ) (ws : List ℕ) → ((k : ℕ) → k < 1048576 → m k ≡ n k) → a + 4 * length ws ≤ 1048576 → Stands m a ws → Stands n a ws
@@ -221,7 +221,7 @@ loaded_fine p image good c input small_input junk k ke =
     let r = resumed_0_restored m junk in
     let d = resumed_0 m junk in
     let straight : Fine p (suc (after_calls p.written 4)) (record { pc = 4352; x = d.x }) m =
-        straight_fine p m 4352 d.x good.status few shown codes refl (omega arith) (omega arith) r.zero_reg in
+    straight_fine p m 4352 d.x good.status few shown codes refl (omega arith) (omega arith) r.zero_reg in
     let at : Fine p (suc k) d m = subst (λ z. Fine p (suc z) d m) (sym ke) (subst (λ z. Fine p (suc (after_calls p.written 4)) (record { pc = z; x = d.x }) m) (sym (r.place ∙ entry)) straight) in
     resume_0 m P back junk (first_bytes image input c.statics small_input) recovery (first_word image input 0 (omega arith)) even (suc k) at
 

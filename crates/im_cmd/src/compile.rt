@@ -4,16 +4,16 @@ ghost use Rattle.im_cmd.specs.Straight.{straight_lines};
 ghost use Rattle.im_cmd.specs.Compiled.{Spells, IsCompiled};
 ghost use Rattle.im_cmd.specs.Keeps.{Keeps};
 
+use crate::source::Program;
+use crate::straight::{base_word, call_words, return_words};
 use im_ckpt::recovery_code;
 use im_image::Image;
 use im_num::NoMemory;
 use std::alloc::Global;
 
-use crate::source::Program;
-use crate::straight::{base_word, call_words, return_words};
-
 /// Bytes of stack, and the output's capacity in bytes.
 const STACK: u32 = 65536;
+
 const OUTPUT_CAPACITY: u32 = 1_048_576;
 
 /// The straight code begins behind recovery.
