@@ -1,3 +1,4 @@
 pub mod Straight
 pub mod Tables
 pub mod Resume
+pub mod Lists

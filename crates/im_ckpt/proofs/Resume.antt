@@ -201,6 +201,9 @@ resumed_0 m junk = half_cpu m 128 4104 (first_regs m junk)
 abbrev pub resumed_1 : Mem → ℕ → Cpu
 resumed_1 m junk = half_cpu m 256 4228 (first_regs m junk)
 
+pub resumed_0_restored : (m : Mem) (junk : ℕ) → Restored m 128 (resumed_0 m junk)
+resumed_0_restored m junk = half_restored m 128 4104 (first_regs m junk) refl
+
 -- what holds there holds 33 steps earlier, as power comes
 pub resume_0 : (m : Mem) (P : ℕ → Cpu → Type 0) → Backward m P → (junk : ℕ) → ((a : ℕ) → m a < 256) → Stands m 4096 recovery_words → little m 0 4 ≡ 0 → little m 128 4 % 2 ≡ 0 → (n : ℕ) → P n (resumed_0 m junk) → P (suc (suc (suc (after saved (suc n))))) (boot junk)
 resume_0 m P back junk bytes st e even n h =

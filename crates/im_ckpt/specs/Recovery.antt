@@ -1,5 +1,5 @@
 -- Recovery: 64 words that restore the registers of the live buffer.
-use Rattle.std.specs.Prelude.{◌≡◌, ℕ, ◌+◌, ◌*◌, ◌%◌, ◌<◌, ◌≢◌, cond, ◌==◌, List, [], ◌∷◌, ◌++◌}
+use Rattle.std.specs.Prelude.{◌≡◌, ℕ, ◌+◌, ◌*◌, ◌%◌, ◌<◌, ◌≢◌, cond, ◌==◌, ◌&&◌, nat_lt, Bool, true, List, [], ◌∷◌, ◌++◌}
 use Rattle.im_rv.specs.declared.step.Went.TheVariants.{On}
 use Rattle.im_mem.specs.Memory.{Mem, little}
 use Rattle.im_rv.specs.Steps.{Cpu}
@@ -13,6 +13,11 @@ lw_word rd imm = imm * 1048576 + 8192 + rd * 128 + 3
 -- the registers that a buffer keeps
 abbrev pub saved : List ℕ
 saved = 1 ∷ 2 ∷ 5 ∷ 6 ∷ 7 ∷ 8 ∷ 9 ∷ 10 ∷ 11 ∷ 12 ∷ 13 ∷ 14 ∷ 15 ∷ 16 ∷ 17 ∷ 18 ∷ 19 ∷ 20 ∷ 21 ∷ 22 ∷ 23 ∷ 24 ∷ 25 ∷ 26 ∷ 27 ∷ 28 ∷ 29 ∷ 30 ∷ 31 ∷ []
+
+-- each is the number of a register
+abbrev pub are_named : List ℕ → Bool
+are_named [] = true
+are_named (i ∷ is) = nat_lt i 32 && are_named is
 
 abbrev pub load_words : ℕ → List ℕ → List ℕ
 load_words base [] = []

@@ -3,4 +3,4 @@
 
 mod recovery;
 
-pub use recovery::{boot_buffer, resume_law};
+pub use recovery::{boot_buffer, recovery_code, resume_law};

@@ -42,7 +42,7 @@ plain_decimal c l = record {
 pub number_found : {E : Type 0} (bs : List ℕ) (r : Result ℕ E) (x : ℕ) → ParsesUnsigned 32 10 bs r → r ≡ Ok x → IsPlain bs → bs ≡ decimal x
 number_found {E} bs r x h e plain =
     let k : ((all_ascii_digits bs ≡ true) × (0 < length bs) × (value_from 0 bs < 2 ^ 32)) × (x ≡ value_from 0 bs) =
-        subst (λ z. OkIff z ((all_ascii_digits bs ≡ true) × (0 < length bs) × (value_from 0 bs < 2 ^ 32)) (value_from 0 bs)) e (parse_plain own 32 bs r h plain.unsigned) in
+    subst (λ z. OkIff z ((all_ascii_digits bs ≡ true) × (0 < length bs) × (value_from 0 bs < 2 ^ 32)) (value_from 0 bs)) e (parse_plain own 32 bs r h plain.unsigned) in
     sym (ap decimal k.1 ∙ decimal-digits_value own bs k.0.0 k.0.1 plain.no_zero (let q : value_from 0 bs < 2 ^ 32 = k.0.2 in omega arith))
 
 pub number_read : {E : Type 0} (bs : List ℕ) (r : Result ℕ E) (c : ℕ) → ParsesUnsigned 32 10 bs r → c ≤ int_max → bs ≡ decimal c → r ≡ Ok c

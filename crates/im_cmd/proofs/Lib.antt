@@ -6,3 +6,5 @@ pub mod OnePeriod
 pub mod Refusing
 pub mod Reports
 pub mod Entries
+pub mod Loading
+pub mod Compiling

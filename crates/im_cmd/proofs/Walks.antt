@@ -19,9 +19,10 @@ SameCode m n = (k : ℕ) → 4096 ≤ k → k < 1048576 → m k ≡ n k
 
 pub codes_kept : (m n : Mem) (pc : ℕ) (ls : List Line) → SameCode m n → 4096 ≤ pc → pc + 4 * length ls ≤ 1048576 → Codes_at m pc ls → Codes_at n pc ls
 codes_kept m n pc [] same low high c = tt
-codes_kept m n pc (l ∷ ls) same low high c =
-    (ap decode (sym (little_same m n 4 pc (λ i p q. same i (omega arith) (omega arith)))) ∙ c.0,
-     codes_kept m n (pc + 4) ls same (omega arith) (omega arith) c.1)
+codes_kept m n pc (l ∷ ls) same low high c = (
+  ap decode (sym (little_same m n 4 pc (λ i p q. same i (omega arith) (omega arith)))) ∙ c.0,
+  codes_kept m n (pc + 4) ls same (omega arith) (omega arith) c.1,
+)
 
 -- a place of an instruction
 pub record IsCode (pc : ℕ) : Type 0 where

@@ -7,3 +7,4 @@ pub mod Outcome
 pub mod Answers
 pub mod Refusals
 pub mod Machines
+pub mod Compiled

@@ -1,12 +1,13 @@
 // The command line: sources become images, and images are run.
 #![tactic(auto)]
 
+mod compile;
 mod constant;
+mod entry;
 mod refusal;
 mod running;
 mod source;
 mod straight;
 mod telling;
-mod entry;
 
 pub use entry::top;

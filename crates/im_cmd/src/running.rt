@@ -16,9 +16,9 @@ use im_num::NoMemory;
 use im_power::Period;
 use std::alloc::Global;
 
+use crate::compile::compile;
 use crate::refusal::Refusal;
 use crate::source::{Program, read_program};
-use crate::straight::compile;
 
 /// Bytes of a source.
 const SOURCE_LIMIT: u64 = 4 * 1024 * 1024;

@@ -5,11 +5,12 @@ use im_num::NoMemory;
 use std::alloc::Global;
 use std::marker::Model;
 
-/// A program that writes the characters of its calls of `putchar`, in order, and returns a status.
-#[derive(Drop)]
+/// A program of the one form: the arguments of its calls of `putchar`, in order, and what `main`
+/// returns. Each is a value of `int` that isn't negative.
+#[derive(Debug, Drop)]
 pub struct Program {
-    written: Vec<u32>,
-    status: u32,
+    pub written: Vec<u32>,
+    pub status: u32,
 }
 
 impl Model for Program {

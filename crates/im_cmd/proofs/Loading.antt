@@ -1,0 +1,238 @@
+-- The first memory of a compiled image, and its run.
+use Rattle.std.proofs.Common.{◌≡◌, ◌≢◌, ℕ, zero, suc, ◌+◌, ◌-◌, ◌*◌, ◌/◌, ◌%◌, ◌^◌, ◌<◌, ◌≤◌, ◌⊎◌, inl, inr, true, cond, Some, List, [], ◌∷◌, ◌++◌, length, refl, sym, ap, ◌∙◌, subst, arith, rules, lit<, lit≤}
+use Rattle.std.specs.Prelude.{All, slice_index_or, ◌==◌}
+use Rattle.std.specs.List.{flat_map}
+use Rattle.std.proofs.lemmas.Bool.Decides.{nat_tests}
+use Rattle.std.proofs.lemmas.List.{length-append}
+use Rattle.im_num.specs.Bytes.{bytes_of, word_bytes}
+use Rattle.im_mem.specs.Memory.{Mem, little, bytes_from, written, zeroed}
+use Rattle.im_rv.specs.declared.step.Went.TheVariants.{On}
+use Rattle.im_rv.specs.Steps.{Cpu}
+use Rattle.im_rv.specs.Decode.{Line, decode, step_of}
+use Rattle.im_rv.specs.PowerUp.{boot}
+use Rattle.im_ckpt.specs.Recovery.{recovery_words, saved, Stands, Restored}
+use Rattle.im_ckpt.proofs.Straight.{Backward, after}
+use Rattle.im_ckpt.proofs.Resume.{resume_0, resumed_0, resumed_0_restored}
+use Rattle.im_image.specs.Contents.{ImageValue}
+use Rattle.im_emu.specs.Load.{memory_of}
+use Rattle.im_emu.specs.Shows.{output_of}
+use Rattle.im_power.specs.Power.{powered, steps_of}
+use Rattle.im_cmd.specs.Source.{Printing, IsPrinting, output_meant, int_max}
+use Rattle.im_cmd.specs.Straight.{straight_lines, return_lines}
+use Rattle.im_cmd.specs.Keeps.{Begins, Keeps, Runs_as}
+use Rattle.im_cmd.specs.Compiled.{Spells, IsCompiled}
+use Rattle.im_cmd.proofs.Stores.{with_word, little_same, word_here}
+use Rattle.im_cmd.proofs.Walks.{Codes_at}
+use Rattle.im_cmd.proofs.Runs.{Fine, Shown, shown_output, fine_back, straight_fine, after_calls, calls_length, lines_length}
+
+put_other : (m : Mem) (a b k : ℕ) → k ≢ a → cond (k == a) b (m k) ≡ m k
+put_other m a b k h = grind (arith, nat_tests)
+
+-- what is written from a on leaves all before it
+pub before : (bs : List ℕ) (m : Mem) (a k : ℕ) → k < a → written m a bs k ≡ m k
+before [] m a k l = refl
+before (b ∷ bs) m a k l = before bs (λ j. cond (j == a) b (m j)) (a + 1) k (omega arith) ∙ put_other m a b k (λ e. absurd (omega arith))
+
+abbrev Bytes : List ℕ → Type 0
+Bytes [] = Unit {0}
+Bytes (b ∷ bs) = (b < 256) × Bytes bs
+
+put_small : (m : Mem) (a b : ℕ) → b < 256 → ((k : ℕ) → m k < 256) → (k : ℕ) → cond (k == a) b (m k) < 256
+put_small m a b l h k = elim (same_or_not k a) [
+  | inl e ↦ (let q : cond (k == a) b (m k) ≡ b = grind (arith, nat_tests) in omega arith)
+  | inr e ↦ (let q : cond (k == a) b (m k) ≡ m k = put_other m a b k e in omega (arith, h k))
+]
+  where
+    same_or_not : (i j : ℕ) → (i ≡ j) ⊎ (i ≢ j)
+    same_or_not i j = grind arith
+
+small : (bs : List ℕ) (m : Mem) (a : ℕ) → Bytes bs → ((k : ℕ) → m k < 256) → (k : ℕ) → written m a bs k < 256
+small [] m a b h k = h k
+small (b ∷ bs) m a s h k = small bs (λ j. cond (j == a) b (m j)) (a + 1) s.1 (put_small m a b s.0 h) k
+
+word_small : (w : ℕ) → Bytes (word_bytes w)
+word_small w = (omega arith, (omega arith, (omega arith, (omega arith, tt))))
+
+and_also : (xs ys : List ℕ) → Bytes xs → Bytes ys → Bytes (xs ++ ys)
+and_also [] ys b c = c
+and_also (x ∷ xs) ys b c = (b.0, and_also xs ys b.1 c)
+
+words_small : (ws : List ℕ) → Bytes (flat_map word_bytes ws)
+words_small [] = tt
+words_small (w ∷ ws) = and_also (word_bytes w) (flat_map word_bytes ws) (word_small w) (words_small ws)
+
+all_small : (bs : List ℕ) → All (λ b. b < 256) bs → Bytes bs
+all_small [] h = tt
+all_small (b ∷ bs) h = (h 0 0 (omega arith), all_small bs (λ k d l. h (suc k) d (omega arith)))
+
+abbrev pub Words : List ℕ → Type 0
+Words [] = Unit {0}
+Words (w ∷ ws) = (w < 2 ^ 32) × Words ws
+
+-- words that are written stand there
+words_stand : (ws : List ℕ) (m : Mem) (a : ℕ) → Words ws → Stands (written m a (flat_map word_bytes ws)) a ws
+words_stand [] m a h = tt
+words_stand (w ∷ ws) m a h =
+    let n = with_word m a w in
+    let rest = flat_map word_bytes ws in
+    let e : a + 1 + 1 + 1 + 1 ≡ a + 4 = omega arith in
+    let first : little (written n (a + 1 + 1 + 1 + 1) rest) a 4 ≡ w =
+    little_same (written n (a + 1 + 1 + 1 + 1) rest) n 4 a (λ k p q. before rest n (a + 1 + 1 + 1 + 1) k (omega arith)) ∙ word_here m a w h.0 in
+    (first, subst (λ z. Stands (written n z rest) (a + 4) ws) (sym e) (words_stand ws n (a + 4) h.1))
+
+stands_kept : (m n : Mem) (a : ℕ) (ws : List ℕ) → ((k : ℕ) → k < 1048576 → m k ≡ n k) → a + 4 * length ws ≤ 1048576 → Stands m a ws → Stands n a ws
+stands_kept m n a [] same l s = tt
+stands_kept m n a (w ∷ ws) same l s =
+    (little_same n m 4 a (λ k p q. sym (same k (omega arith))) ∙ s.0, stands_kept m n (a + 4) ws same (omega arith) s.1)
+
+stand_first : (m : Mem) (a : ℕ) (xs ys : List ℕ) → Stands m a (xs ++ ys) → Stands m a xs
+stand_first m a [] ys s = tt
+stand_first m a (x ∷ xs) ys s = (s.0, stand_first m (a + 4) xs ys s.1)
+
+stand_rest : (m : Mem) (a : ℕ) (xs ys : List ℕ) → Stands m a (xs ++ ys) → Stands m (a + 4 * length xs) ys
+stand_rest m a [] ys s = let e : a ≡ a + 4 * 0 = omega arith in subst (λ z. Stands m z ys) e s
+stand_rest m a (x ∷ xs) ys s = let e : a + 4 + 4 * length xs ≡ a + 4 * suc (length xs) = omega arith in subst (λ z. Stands m z ys) e (stand_rest m (a + 4) xs ys s.1)
+
+pub both_words : (xs ys : List ℕ) → Words xs → Words ys → Words (xs ++ ys)
+both_words [] ys a b = b
+both_words (x ∷ xs) ys a b = (a.0, both_words xs ys a.1 b)
+
+pub spelt_words : (ws : List ℕ) (ls : List Line) → Spells ws ls → Words ws
+spelt_words [] [] s = tt
+spelt_words [] (l ∷ ls) s = absurd s
+spelt_words (w ∷ ws) [] s = absurd s
+spelt_words (w ∷ ws) (l ∷ ls) s = (s.1, spelt_words ws ls s.2)
+
+spelt_length : (ws : List ℕ) (ls : List Line) → Spells ws ls → length ws ≡ length ls
+spelt_length [] [] s = refl
+spelt_length [] (l ∷ ls) s = absurd s
+spelt_length (w ∷ ws) [] s = absurd s
+spelt_length (w ∷ ws) (l ∷ ls) s = ap suc (spelt_length ws ls s.2)
+
+spelt_codes : (m : Mem) (a : ℕ) (ws : List ℕ) (ls : List Line) → Spells ws ls → Stands m a ws → Codes_at m a ls
+spelt_codes m a [] [] s t = tt
+spelt_codes m a [] (l ∷ ls) s t = absurd s
+spelt_codes m a (w ∷ ws) [] s t = absurd s
+spelt_codes m a (w ∷ ws) (l ∷ ls) s t = (ap decode t.0 ∙ s.0, spelt_codes m (a + 4) ws ls s.2 t.1)
+
+pub recovery_fits : Words recovery_words
+recovery_fits = search rules
+
+-- memory as the pieces are laid
+abbrev headed : ImageValue → List ℕ → Mem
+headed image input =
+    let m1 = written zeroed 16 (word_bytes image.out_cap) in
+    let m2 = written m1 20 (word_bytes (length input)) in
+    written m2 28 (word_bytes (3145728 - image.stack))
+
+abbrev entered : ImageValue → List ℕ → Mem
+entered image input = written (headed image input) 128 (word_bytes image.entry)
+
+abbrev buffered : ImageValue → List ℕ → Mem
+buffered image input = written (entered image input) 136 (word_bytes 3145728)
+
+abbrev coded : ImageValue → List ℕ → Mem
+coded image input = written (buffered image input) 4096 (flat_map word_bytes image.words)
+
+below_statics : (image : ImageValue) (input : List ℕ) (k : ℕ) → k < 1048576 → memory_of image input k ≡ coded image input k
+below_statics image input k l =
+    let m6 = coded image input in
+    before input (written m6 1048576 image.statics) 3145728 k (omega arith) ∙ before image.statics m6 1048576 k l
+
+below_buffer : (image : ImageValue) (input : List ℕ) (k : ℕ) → k < 136 → memory_of image input k ≡ entered image input k
+below_buffer image input k l =
+    below_statics image input k (omega arith)
+    ∙ before (flat_map word_bytes image.words) (buffered image input) 4096 k (omega arith)
+    ∙ before (word_bytes 3145728) (entered image input) 136 k l
+
+below_all : (image : ImageValue) (input : List ℕ) (k : ℕ) → k < 16 → memory_of image input k ≡ zeroed k
+below_all image input k l =
+    let m1 = written zeroed 16 (word_bytes image.out_cap) in
+    let m2 = written m1 20 (word_bytes (length input)) in
+    below_buffer image input k (omega arith)
+    ∙ before (word_bytes image.entry) (headed image input) 128 k (omega arith)
+    ∙ before (word_bytes (3145728 - image.stack)) m2 28 k (omega arith)
+    ∙ before (word_bytes (length input)) m1 20 k (omega arith)
+    ∙ before (word_bytes image.out_cap) zeroed 16 k l
+
+first_word : (image : ImageValue) (input : List ℕ) (a : ℕ) → a + 4 ≤ 16 → little (memory_of image input) a 4 ≡ little zeroed a 4
+first_word image input a l = little_same (memory_of image input) zeroed 4 a (λ k p q. below_all image input k (omega arith))
+
+first_entry : (image : ImageValue) (input : List ℕ) → image.entry < 2 ^ 32 → little (memory_of image input) 128 4 ≡ image.entry
+first_entry image input l =
+    little_same (memory_of image input) (entered image input) 4 128 (λ k p q. below_buffer image input k (omega arith))
+    ∙ word_here (headed image input) 128 image.entry l
+
+first_shown : (image : ImageValue) (input : List ℕ) → Shown (memory_of image input) 0 []
+first_shown image input = record {
+  index = first_word image input 0 (omega arith);
+  reason = first_word image input 8 (omega arith);
+  count = first_word image input 12 (omega arith);
+  bytes = refl;
+  few = omega arith;
+}
+
+first_bytes : (image : ImageValue) (input : List ℕ) → image.statics ≡ [] → Bytes input → (k : ℕ) → memory_of image input k < 256
+first_bytes image input none b =
+    let m1 = written zeroed 16 (word_bytes image.out_cap) in
+    let m2 = written m1 20 (word_bytes (length input)) in
+    let s1 = small (word_bytes image.out_cap) zeroed 16 (word_small image.out_cap) (λ k. omega arith) in
+    let s2 = small (word_bytes (length input)) m1 20 (word_small (length input)) s1 in
+    let s3 = small (word_bytes (3145728 - image.stack)) m2 28 (word_small (3145728 - image.stack)) s2 in
+    let s4 = small (word_bytes image.entry) (headed image input) 128 (word_small image.entry) s3 in
+    let s5 = small (word_bytes 3145728) (entered image input) 136 (word_small 3145728) s4 in
+    let s6 = small (flat_map word_bytes image.words) (buffered image input) 4096 (words_small image.words) s5 in
+    let s7 = small image.statics (coded image input) 1048576 (subst Bytes (sym none) tt) s6 in
+    small input (written (coded image input) 1048576 image.statics) 3145728 b s7
+
+straight_length : (p : Printing) → length (straight_lines p) ≡ 4 * length p.written + 5
+straight_length p = let r = lines_length 0 p.written (return_lines p.status) in omega arith
+
+pub words_length : (p : Printing) (image : ImageValue) (c : IsCompiled p image) → length image.words ≡ 4 * length p.written + 69
+words_length p image c =
+    let a = ap length c.words in
+    let b = length-append recovery_words c.code in
+    let d = spelt_length c.code (straight_lines p) c.spelt in
+    let e = straight_length p in
+    let f : length recovery_words ≡ 64 = refl in
+    omega arith
+
+-- the image loaded, and one period
+loaded_fine : (p : Printing) (image : ImageValue) → IsPrinting p → IsCompiled p image → (input : List ℕ) → Bytes input → (junk : ℕ) → (k : ℕ) → k ≡ after_calls p.written 4 → Fine p (suc (suc (suc (after saved (suc (suc k)))))) (boot junk) (memory_of image input)
+loaded_fine p image good c input small_input junk k ke =
+    let m = memory_of image input in
+    let code = c.code in
+    let words = recovery_words ++ code in
+    let size = words_length p image c in
+    let few = good.few in
+    let fits : Words image.words = subst Words (sym c.words) (both_words recovery_words code recovery_fits (spelt_words code (straight_lines p) c.spelt)) in
+    let stand0 : Stands (coded image input) 4096 image.words = words_stand image.words (buffered image input) 4096 fits in
+    let stand1 : Stands m 4096 image.words = stands_kept (coded image input) m 4096 image.words (λ j l. sym (below_statics image input j l)) (omega arith) stand0 in
+    let stand : Stands m 4096 words = subst (λ z. Stands m 4096 z) c.words stand1 in
+    let recovery : Stands m 4096 recovery_words = stand_first m 4096 recovery_words code stand in
+    let rest : Stands m 4352 code = stand_rest m 4096 recovery_words code stand in
+    let codes : Codes_at m 4352 (straight_lines p) = spelt_codes m 4352 code (straight_lines p) c.spelt rest in
+    let entry : little m 128 4 ≡ 4352 = first_entry image input (let e = c.entry in omega arith) ∙ c.entry in
+    let shown = first_shown image input in
+    let begins : Begins (output_of m) (output_meant p) = (output_meant p, ap (λ z. z ++ output_meant p) (sym (shown_output m 0 [] shown))) in
+    let P : ℕ → Cpu → Type 0 = λ n d. Fine p n d m in
+    let back : Backward m P = λ n d e s f. fine_back p n d e m m s begins refl f in
+    let even : little m 128 4 % 2 ≡ 0 = ap (λ z. z % 2) entry in
+    let r = resumed_0_restored m junk in
+    let d = resumed_0 m junk in
+    let straight : Fine p (suc (after_calls p.written 4)) (record { pc = 4352; x = d.x }) m =
+    straight_fine p m 4352 d.x good.status few shown codes refl (omega arith) (omega arith) r.zero_reg in
+    let at : Fine p (suc k) d m = subst (λ z. Fine p (suc z) d m) (sym ke) (subst (λ z. Fine p (suc (after_calls p.written 4)) (record { pc = z; x = d.x }) m) (sym (r.place ∙ entry)) straight) in
+    resume_0 m P back junk (first_bytes image input c.statics small_input) recovery (first_word image input 0 (omega arith)) even (suc k) at
+
+pub keeps : (p : Printing) (image : ImageValue) → IsPrinting p → IsCompiled p image → Keeps p image (length image.words + 68)
+keeps p image good c =
+    let size = words_length p image c in
+    let count = calls_length p.written 4 in
+    let k = after_calls p.written 4 in
+    let steps : suc (suc (suc (after saved (suc (suc k))))) ≡ 4 * length p.written + 38 = omega arith in
+    record {
+      steps = 4 * length p.written + 38;
+      within = omega arith;
+      runs = λ input bytes room n junk. subst (λ z. Runs_as p z n (powered n junk (memory_of image input))) steps (loaded_fine p image good c input (all_small input bytes) junk k refl n);
+    }
