@@ -92,6 +92,13 @@ or_periods (Some fault) periods = Err fault
 unfoldable pub trace_of : List ℕ → Result (List Period) TraceFault
 trace_of text = or_periods (first_fault 1 (lines_of text)) (periods_of (lines_of text))
 
+-- the fault is this one, or memory ran out
+abbrev pub IsFaultOf : TraceFault → Option TraceFault → Type 0
+IsFaultOf (BadLine line) fault = fault ≡ Some (BadLine line)
+IsFaultOf (ZeroRepeat line) fault = fault ≡ Some (ZeroRepeat line)
+IsFaultOf (TooMany sum) fault = fault ≡ Some (TooMany sum)
+IsFaultOf OutOfMemory fault = Unit {0}
+
 -- the answer is this one, or memory ran out
 abbrev pub IsAnswer : {X : Type 0} → Result X TraceFault → Result X TraceFault → Type 0
 IsAnswer (Ok x) answer = answer ≡ Ok x
