@@ -1,2 +1,6 @@
 pub mod Unmet
 pub mod Loops
+pub mod WordLemmas
+pub mod Taken
+pub mod Again
+pub mod Answered

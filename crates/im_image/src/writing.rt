@@ -44,7 +44,8 @@ fn put_object(text: &mut Vec<u8>, object: &Object) -> Result<(), AllocError>
     let run_count = object.runs.len() as u32;
     put_words(text, &[object.at, object.size, name_len, run_count])?;
     text.extend_from_slice(&object.name)?;
-    put_runs(text, &object.runs)
+    put_runs(text, &object.runs)?;
+    Ok(())
 }
 
 /// The text of an image, version 1.
