@@ -174,9 +174,11 @@ objects_again text statics least (object ∷ objects) place few are le e =
     let r = objects_again text statics (object.at + object.size + 1) objects (record_end text place) few are.1 o.there o.behind in
     let same = o.object_is in
     let later = r.0 in
-    let low : object.at + object.size + 1 ≡ word_at text place + word_at text (place + 4) + 1 = lower text place object same in
-    (cc, after_none (length text) (object_requirements text statics least place) (objects_requirements text statics (length objects) (word_at text place + word_at text (place + 4) + 1) (record_end text place)) o.right
-       ∙ subst (λ (x : ℕ). first_unmet (length text) (objects_requirements text statics (length objects) x (record_end text place)) ≡ None) low r.1)
+    let low : object.at + object.size + 1 ≡ word_at text place + word_at text (place + 4) + 1 = lower text place object same in (
+      cc,
+      after_none (length text) (object_requirements text statics least place) (objects_requirements text statics (length objects) (word_at text place + word_at text (place + 4) + 1) (record_end text place)) o.right
+          ∙ subst (λ (x : ℕ). first_unmet (length text) (objects_requirements text statics (length objects) x (record_end text place)) ≡ None) low r.1,
+    )
 
 -- ---- the image
 
@@ -188,12 +190,12 @@ image_again image text is e =
     let v = length image.objects in
     let fm = flat_map object_text image.objects in
     let body = words_text image.words ++ (image.statics ++ fm) in
-    let words-few = leb-true _ _ (and_true _ _ is.word_count).1 in
-    let statics-few = leb-true _ _ (and_true _ _ is.statics_size).0 in
-    let stack-few = leb-true _ _ (and_true _ _ is.stack).1 in
-    let out-few = leb-true _ _ is.out_cap in
-    let entry-few = leb-true _ _ (and_true _ _ is.entry).1 in
-    let objects-few = leb-true _ _ is.object_count in
+    let words-few : n ≤ 261120 = leb-true _ _ (and_true _ _ is.word_count).1 in
+    let statics-few : s ≤ 1048576 = leb-true _ _ (and_true _ _ is.statics_size).0 in
+    let stack-few : image.stack ≤ 1048576 = leb-true _ _ (and_true _ _ is.stack).1 in
+    let out-few : image.out_cap ≤ 1048576 = leb-true _ _ is.out_cap in
+    let entry-few : image.entry + 1 ≤ 4096 + 4 * n = leb-true _ _ (and_true _ _ is.entry).1 in
+    let objects-few : v ≤ s = leb-true _ _ is.object_count in
     let r8 = word_bytes v ++ body in
     let r7 = word_bytes image.entry ++ r8 in
     let r6 = word_bytes image.out_cap ++ r7 in
@@ -221,8 +223,9 @@ image_again image text is e =
     let words-are : words_at text (word_at text 8) 32 ≡ image.words = ap (λ (k : ℕ). words_at text k 32) w2.word ∙ ws.0 in
     let objects-are : objects_at text (word_at text 28) op ≡ image.objects = ap (λ (k : ℕ). objects_at text k op) w7.word ∙ os.0 in
     let head : first_unmet (length text) (header_requirements text) ≡ None = none_unmet (length text) (header_requirements text)
-        (w0.there, (eq-eqb _ _ w0.word, (w1.there, (eq-eqb _ _ w1.word, (w2.there, (rw w2.word is.word_count, (w3.there, (rw w3.word is.statics_size, (w4.there, (rw w4.word is.stack, (w5.there, (rw w5.word is.out_cap, (w6.there, (rw (w2.word, w6.word) is.entry, (w7.there, (rw (w3.word, w7.word) is.object_count, (ws.2, (there, tt)))))))))))))))))) in
+    (w0.there, (eq-eqb _ _ w0.word, (w1.there, (eq-eqb _ _ w1.word, (w2.there, (rw w2.word is.word_count, (w3.there, (rw w3.word is.statics_size, (w4.there, (rw w4.word is.stack, (w5.there, (rw w5.word is.out_cap, (w6.there, (rw (w2.word, w6.word) is.entry, (w7.there, (rw (w3.word, w7.word) is.object_count, (ws.2, (there, tt)))))))))))))))))) in
     let objs : first_unmet (length text) (objects_requirements text (word_at text 12) (word_at text 28) statics_start op) ≡ None =
-        ap (λ (k : ℕ). first_unmet (length text) (objects_requirements text k (word_at text 28) statics_start op)) w3.word ∙ ap (λ (k : ℕ). first_unmet (length text) (objects_requirements text s k statics_start op)) w7.word ∙ os.1 in
-    (after_none (length text) (header_requirements text) (objects_requirements text (word_at text 12) (word_at text 28) statics_start op) head ∙ objs,
-     rw (words-are, statics-are, w4.word, w5.word, w6.word, objects-are) refl)
+    ap (λ (k : ℕ). first_unmet (length text) (objects_requirements text k (word_at text 28) statics_start op)) w3.word ∙ ap (λ (k : ℕ). first_unmet (length text) (objects_requirements text s k statics_start op)) w7.word ∙ os.1 in (
+      after_none (length text) (header_requirements text) (objects_requirements text (word_at text 12) (word_at text 28) statics_start op) head ∙ objs,
+      rw (words-are, statics-are, w4.word, w5.word, w6.word, objects-are) refl,
+    )

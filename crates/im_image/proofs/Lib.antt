@@ -4,3 +4,4 @@ pub mod WordLemmas
 pub mod Taken
 pub mod Again
 pub mod Answered
+pub mod Written

@@ -66,7 +66,7 @@ runs_go_on text at size count place i next before run runs more lt is fits right
     let one : runs ++ runs_at text (count - i) next ≡ runs ++ run_at text next ∷ rest = rw k refl in
     let len = length text in
     let first : first_unmet len (run_requirements text at size (count - i) before next) ≡ first_unmet len (run_requirements text at size n (Some (run_at text next)) (next + 12)) =
-        rw k (ap (first_unmet len) (one_run text at size n next before) ∙ after_none len (run_requirements text at size 1 before next) (run_requirements text at size n (Some (run_at text next)) (next + 12)) right) in
+    rw k (ap (first_unmet len) (one_run text at size n next before) ∙ after_none len (run_requirements text at size 1 before next) (run_requirements text at size n (Some (run_at text next)) (next + 12)) right) in
     record {
       next_is = omega (arith, reads.next_is);
       there = fits;
@@ -83,7 +83,7 @@ runs_stop text at size count place i next before runs fault lt wrong reads =
     let len = length text in
     let later = run_requirements text at size n (Some (run_at text next)) (next + 12) in
     let e : first_unmet len (run_requirements text at size 1 before next ++ later) ≡ first_unmet len (run_requirements text at size (count - i) before next) =
-        rw k (ap (first_unmet len) (sym (one_run text at size n next before))) in
+    rw k (ap (first_unmet len) (sym (one_run text at size n next before))) in
     same_fault fault _ _ (e ∙ reads.right) (stops_in len (run_requirements text at size 1 before next) later fault wrong)
 
 pub record RunsDone (text : List ℕ) (at size count place : ℕ) (runs : List CellRun) : Type 0 where
@@ -145,7 +145,7 @@ objects_go_on text statics count place i least next lower after object objects m
     let low = word_at text next + word_at text (next + 4) + 1 in
     let low-is : lower ≡ low = lower-is ∙ ap (λ (x : ObjectValue). x.at + x.size + 1) is in
     let first : first_unmet len (objects_requirements text statics (count - i) least next) ≡ first_unmet len (objects_requirements text statics n low (record_end text next)) =
-        rw k (ap (first_unmet len) (one_object text statics n least next) ∙ after_none len (object_requirements text statics least next) (objects_requirements text statics n low (record_end text next)) right) in
+    rw k (ap (first_unmet len) (one_object text statics n least next) ∙ after_none len (object_requirements text statics least next) (objects_requirements text statics n low (record_end text next)) right) in
     record {
       there = rw after-is fits;
       objects_are = rw after-is (ap (λ (x : List ObjectValue). x ++ rest) more-is ∙ append_assoc objects (object ∷ []) rest ∙ ap (λ (x : ObjectValue). objects ++ x ∷ rest) is ∙ sym one ∙ reads.objects_are);
@@ -161,7 +161,7 @@ objects_stop text statics count place i least next objects fault lt wrong reads 
     let len = length text in
     let later = objects_requirements text statics n (word_at text next + word_at text (next + 4) + 1) (record_end text next) in
     let e : first_unmet len (object_requirements text statics least next ++ later) ≡ first_unmet len (objects_requirements text statics (count - i) least next) =
-        rw k (ap (first_unmet len) (sym (one_object text statics n least next))) in
+    rw k (ap (first_unmet len) (sym (one_object text statics n least next))) in
     same_fault fault _ _ (e ∙ reads.right) (stops_in len (object_requirements text statics least next) later fault wrong)
 
 pub objects_end : (text : List ℕ) (statics count place i least next : ℕ) (objects : List ObjectValue) → count ≤ i

@@ -107,9 +107,9 @@ object_taken text statics least place fits none =
     let d = word_taken text (place + 12) (place + 16) fits (omega arith) met.0 in
     let e = part_taken text (place + 16) len start refl in
     let behind : drop (place + 16) text ≡ (name ++ flat_map run_text runs) ++ drop (record_end text place) text =
-        e ∙ ap (λ (x : List ℕ). name ++ x) r.text_is ∙ sym (append_assoc name (flat_map run_text runs) (drop (record_end text place) text)) in
+    e ∙ ap (λ (x : List ℕ). name ++ x) r.text_is ∙ sym (append_assoc name (flat_map run_text runs) (drop (record_end text place) text)) in
     let heads : drop place text ≡ word_bytes at ++ (word_bytes size ++ (word_bytes len ++ (word_bytes count ++ ((name ++ flat_map run_text runs) ++ drop (record_end text place) text)))) =
-        a ∙ ap (λ (x : List ℕ). word_bytes at ++ x) (b ∙ ap (λ (x : List ℕ). word_bytes size ++ x) (c ∙ ap (λ (x : List ℕ). word_bytes len ++ x) (d ∙ ap (λ (x : List ℕ). word_bytes count ++ x) behind))) in
+    a ∙ ap (λ (x : List ℕ). word_bytes at ++ x) (b ∙ ap (λ (x : List ℕ). word_bytes size ++ x) (c ∙ ap (λ (x : List ℕ). word_bytes len ++ x) (d ∙ ap (λ (x : List ℕ). word_bytes count ++ x) behind))) in
     record {
       is_object = record {
         place = rw (len-is, count-is) met.1.0;
@@ -172,16 +172,18 @@ image_taken text fits none =
     let s-is : length statics ≡ s = omega (arith, length-take s (drop (statics_place text) text), length-drop (statics_place text) text, there) in
     let p = part_taken text (statics_place text) s (objects_place text) refl in
     let rest : drop 32 text ≡ words_text words ++ (statics ++ flat_map object_text objects) =
-        w.0 ∙ ap (λ (x : List ℕ). words_text words ++ x) (p ∙ ap (λ (x : List ℕ). statics ++ x) o.1) in
-    (record {
-      word_count = rw w.1 m.1.1.1.1.1.0;
-      words = w.2;
-      statics_size = rw s-is m.1.1.1.1.1.1.1.0;
-      statics = IsBytes-part s (statics_place text) text fits;
-      stack = m8.1.0;
-      out_cap = m8.1.1.1.0;
-      entry = rw w.1 m8.1.1.1.1.1.0;
-      object_count = rw (s-is, o.2) m8.1.1.1.1.1.1.1.0;
-      objects = rw s-is o.0;
-    }, header_taken text fits (omega (arith, there)) ∙ ap (λ (x : List ℕ). words_text (header_at_places text) ++ x) rest
-       ∙ ap (λ (h : List ℕ). words_text h ++ (words_text words ++ (statics ++ flat_map object_text objects))) (header_same text (length words) (length statics) (length objects) (eqb-true _ _ m.1.0) (eqb-true _ _ m.1.1.1.0) w.1 s-is o.2))
+    w.0 ∙ ap (λ (x : List ℕ). words_text words ++ x) (p ∙ ap (λ (x : List ℕ). statics ++ x) o.1) in (
+      record {
+        word_count = rw w.1 m.1.1.1.1.1.0;
+        words = w.2;
+        statics_size = rw s-is m.1.1.1.1.1.1.1.0;
+        statics = IsBytes-part s (statics_place text) text fits;
+        stack = m8.1.0;
+        out_cap = m8.1.1.1.0;
+        entry = rw w.1 m8.1.1.1.1.1.0;
+        object_count = rw (s-is, o.2) m8.1.1.1.1.1.1.1.0;
+        objects = rw s-is o.0;
+      },
+      header_taken text fits (omega (arith, there)) ∙ ap (λ (x : List ℕ). words_text (header_at_places text) ++ x) rest
+          ∙ ap (λ (h : List ℕ). words_text h ++ (words_text words ++ (statics ++ flat_map object_text objects))) (header_same text (length words) (length statics) (length objects) (eqb-true _ _ m.1.0) (eqb-true _ _ m.1.1.1.0) w.1 s-is o.2),
+    )

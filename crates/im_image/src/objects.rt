@@ -28,10 +28,10 @@ fn read_head(bytes: &[u8], place: usize) -> Result<ObjectHead, ImageFault>
     requires { place ≤ length bytes.now }
     ensures there { IfOk result (λ _. place + 16 ≤ length bytes.now) }
     ensures head { IfOk result (λ head. head ≡ record {
-        at = word_of bytes.now place;
-        size = word_of bytes.now (place + 4);
-        name = word_of bytes.now (place + 8);
-        runs = word_of bytes.now (place + 12);
+      at = word_of bytes.now place;
+      size = word_of bytes.now (place + 4);
+      name = word_of bytes.now (place + 8);
+      runs = word_of bytes.now (place + 12);
     }) }
     ensures ends { IfErr result (λ _. length bytes.now < place + 16) }
     ensures fault { IfErr result (λ fault. fault ≡ ShortImage (length bytes.now)) }

@@ -54,5 +54,4 @@ pub fn one_image()
     ensures one { (one other : ImageValue) → IsImage one → IsImage other →
         image_text one ≡ image_text other → one ≡ other }
     ensures no_fault { (image : ImageValue) → IsImage image → fault_of (image_text image) ≡ None }
-{
-}
+{}

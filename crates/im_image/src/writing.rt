@@ -34,7 +34,6 @@ fn put_runs(text: &mut Vec<u8>, runs: &[CellRun]) -> Result<(), AllocError>
     Ok(())
 }
 
-#[tactic(auto, unfolding(crate::specs::Text::object_text))]
 fn put_object(text: &mut Vec<u8>, object: &Object) -> Result<(), AllocError>
     requires name { length object.now.name < 2 ^ 32 }
     requires runs { length object.now.runs < 2 ^ 32 }
@@ -49,7 +48,6 @@ fn put_object(text: &mut Vec<u8>, object: &Object) -> Result<(), AllocError>
 }
 
 /// The text of an image, version 1.
-#[tactic(auto, unfolding(crate::specs::Text::image_text))]
 pub fn write_image(alloc: Global, image: &Image) -> Result<Vec<u8>, NoMemory>
     ensures { IfOk result (λ text. text.items ≡ image_text image.now) }
 {

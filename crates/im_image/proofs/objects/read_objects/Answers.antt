@@ -34,7 +34,7 @@ loop-preserved c =
     let runs = ap (λ (x : ObjectValue). length x.runs) c.object.view_is in
     let lower : c.from.result + c.from-in-loop.result + 1 ≡ c.in_ok-object.object.at + c.in_ok-object.object.size + 1 = omega (arith, c.from.ensures, c.from-in-loop.ensures) in
     let after : c.loop.next + (16 + c.len.result + 12 * c.len-in-loop.result) ≡ record_end c.args.bytes.now c.loop.next =
-        omega (arith, c.object.inside.name.ok.0, c.object.inside.runs.ok.0, c.len.ensures, c.len-in-loop.ensures) in
+    omega (arith, c.object.inside.name.ok.0, c.object.inside.runs.ok.0, c.len.ensures, c.len-in-loop.ensures) in
     objects_go_on c.args.bytes.now c.args.statics c.args.count c.args.place c.loop.counter c.loop.least c.loop.next (c.from.result + c.from-in-loop.result + 1) (c.loop.next + (16 + c.len.result + 12 * c.len-in-loop.result)) c.in_ok-object.object c.loop.objects.items c.push.new.self.items c.loop-test.true c.in_ok-object.ensures.object c.in_ok-object.ensures.there lower after c.in_ok-object.ensures.right c.in_ok-push.ensures.items c.loop.invariant
 
 pub returns-then-next-bytes-clause-wrong : goal.returns-then-next-bytes-clause-wrong
