@@ -17,3 +17,6 @@ pub use image::Image;
 pub use object::{CellRun, Object};
 pub use reading::{one_image, read_image};
 pub use writing::write_image;
+
+#[cfg(test)]
+mod tests;

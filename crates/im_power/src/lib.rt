@@ -9,3 +9,6 @@ mod trace;
 pub use fault::TraceFault;
 pub use reading::read_trace;
 pub use trace::{Period, Trace};
+
+#[cfg(test)]
+mod tests;

@@ -1,0 +1,45 @@
+-- What follows from the table of operations, in the manual's terms.
+use Rattle.std.specs.Prelude.{◌≡◌, ◌≢◌, ◌<◌, ◌⊎◌, ◌^◌, ℕ, Bool, true, Some, ◌==◌}
+use Rattle.im_rv.specs.declared.format.Format.TheVariants.{Store}
+use Rattle.im_rv.specs.declared.instr.Op.{Op}
+use Rattle.im_rv.specs.declared.instr.Op.TheVariants.{Ebreak}
+use Rattle.im_mem.specs.Memory.{Mem, loaded, stored}
+use Rattle.im_rv.specs.Formats.{format_of}
+use Rattle.im_rv.specs.Steps.{Cpu}
+use Rattle.im_rv.specs.Decode.{Line, bits, is_coded, op_in, decode, step_of}
+
+-- the word has the code numbers of the operation
+abbrev pub is_word_of : Op → ℕ → Bool
+is_word_of Ebreak w = w == 0x00100073
+is_word_of op w = is_coded op (bits w 0 7) (bits w 12 3) (bits w 25 7)
+
+-- no two rows share a word
+abbrev pub RowsApart : Type 0
+RowsApart = (w : ℕ) (p q : Op) → is_word_of p w ≡ true → is_word_of q w ≡ true → p ≡ q
+
+-- each row is reached
+abbrev pub RowsReached : Type 0
+RowsReached = (op : Op) → (w : ℕ) × (w < 2 ^ 32) × (op_in w ≡ Some op)
+
+-- reading x0 gives 0 after any step
+abbrev pub ZeroStays : Type 0
+ZeroStays = (c : Cpu) (m : Mem) → c.x 0 ≡ 0 → (step_of c m).cpu.x 0 ≡ 0
+
+-- a step changes at most one register
+abbrev pub OneRegister : Type 0
+OneRegister = (c : Cpu) (m : Mem) → (rd : ℕ) × ((i : ℕ) → i ≢ rd → (step_of c m).cpu.x i ≡ c.x i)
+
+-- a store was fetched, and memory is as it leaves it
+pub record Stored (c : Cpu) (m : Mem) (after : Mem) : Type 0 where
+  pub word : ℕ
+  pub line : Line
+  pub place : ℕ
+  pub size : ℕ
+  pub fetched : loaded m c.pc 4 ≡ Some word
+  pub decoded : decode word ≡ Some line
+  pub is_store : format_of line.op ≡ Store
+  pub written : after ≡ stored m place size (c.x line.rs2)
+
+-- only a store changes memory, and only its bytes
+abbrev pub OnlyStores : Type 0
+OnlyStores = (c : Cpu) (m : Mem) → ((step_of c m).mem ≡ m) ⊎ Stored c m (step_of c m).mem

@@ -1,0 +1,146 @@
+ghost use Rattle.std.specs.Prelude.{◌≡◌, ◌<◌, true};
+ghost use Rattle.im_rv.specs.Steps.{effected, cpu_of, regs_of, with_reg, word, extended, done_by};
+ghost use Rattle.im_rv.specs.Decode.{step_of};
+
+use crate::decode::decode;
+use crate::instr::Instr;
+use crate::rows::row_of;
+use im_mem::Memory;
+
+/// How a run goes on.
+#[derive(Clone, Copy, PartialEq, Eq, Debug)]
+pub enum Went {
+    /// The next step may be made.
+    On,
+    /// `ebreak` was executed.
+    Halted,
+    /// A machine fault, with the pc of the instruction or of the fetch.
+    Faulted(u32),
+}
+
+/// The place in the code and the registers; x0 reads as 0, whatever the array holds.
+#[derive(Clone, Copy)]
+pub struct Regs {
+    pub pc: u32,
+    pub x: [u32; 32],
+}
+
+/// What an instruction does to registers and memory.
+#[derive(Clone, Copy)]
+pub enum Effect {
+    /// A value for rd, and the next place.
+    Puts(u32, u32),
+    /// The next place.
+    Goes(u32),
+    /// An address, a size in bytes, and whether the sign is extended: a value for rd.
+    Loads(u32, u32, bool),
+    /// An address, a size in bytes and a value.
+    Stores(u32, u32, u32),
+    /// The run ends here.
+    Stops,
+}
+
+impl Regs {
+    fn get(&self, i: u8) -> u32
+        requires { i < 32 }
+        ensures { result ≡ regs_of self.now.x i }
+    {
+        if i == 0 { 0 } else { self.x[i as usize] }
+    }
+
+    fn set(&mut self, rd: u8, v: u32)
+        requires { rd < 32 }
+        ensures pc { self.new.pc ≡ self.old.pc }
+        ensures x { regs_of self.new.x ≡ with_reg (regs_of self.old.x) rd v }
+    {
+        self.x[rd as usize] = v;
+    }
+}
+
+fn extend(v: u32, size: u32) -> u32
+    ensures { result ≡ extended size true v }
+{
+    match size {
+        1 => if v < 128 {
+            v
+        } else {
+            v.wrapping_add(0xFFFF_FF00)
+        },
+        2 => if v < 32768 {
+            v
+        } else {
+            v.wrapping_add(0xFFFF_0000)
+        },
+        _ => v,
+    }
+}
+
+fn apply<M: Memory>(regs: &mut Regs, memory: &mut M, rd: u8, effect: Effect) -> Went
+    requires { rd < 32 }
+    ensures went { result ≡ (effected (cpu_of regs.old) (M.bytes memory.old) rd effect).went }
+    ensures cpu { cpu_of regs.new ≡ (effected (cpu_of regs.old) (M.bytes memory.old) rd effect).cpu }
+    ensures mem { M.bytes memory.new ≡ (effected (cpu_of regs.old) (M.bytes memory.old) rd effect).mem }
+{
+    let next = regs.pc.wrapping_add(4);
+    match effect {
+        Effect::Puts(value, target) => {
+            regs.set(rd, value);
+            regs.pc = target;
+            Went::On
+        }
+        Effect::Goes(target) => {
+            regs.pc = target;
+            Went::On
+        }
+        Effect::Loads(address, size, is_signed) => match memory.load(address, size) {
+            None => Went::Faulted(regs.pc),
+            Some(v) => {
+                regs.set(rd, if is_signed { extend(v, size) } else { v });
+                regs.pc = next;
+                Went::On
+            }
+        },
+        Effect::Stores(address, size, value) => {
+            if memory.store(address, size, value) {
+                regs.pc = next;
+                Went::On
+            } else {
+                Went::Faulted(regs.pc)
+            }
+        }
+        Effect::Stops => Went::Halted,
+    }
+}
+
+fn perform<M: Memory>(regs: &mut Regs, memory: &mut M, i: &Instr) -> Went
+    requires rd { i.now.rd < 32 }
+    requires rs1 { i.now.rs1 < 32 }
+    requires rs2 { i.now.rs2 < 32 }
+    ensures went { result ≡ (done_by (cpu_of regs.old) (M.bytes memory.old) i.now.op i.now.rd i.now.rs1 i.now.rs2 (word i.now.imm)).went }
+    ensures cpu { cpu_of regs.new ≡ (done_by (cpu_of regs.old) (M.bytes memory.old) i.now.op i.now.rd i.now.rs1 i.now.rs2 (word i.now.imm)).cpu }
+    ensures mem { M.bytes memory.new ≡ (done_by (cpu_of regs.old) (M.bytes memory.old) i.now.op i.now.rd i.now.rs1 i.now.rs2 (word i.now.imm)).mem }
+{
+    let effect = row_of(
+        i.op,
+        regs.pc,
+        regs.get(i.rs1),
+        regs.get(i.rs2),
+        i.imm.cast_unsigned(),
+    );
+    apply(regs, memory, i.rd, effect)
+}
+
+/// One step: the word at the pc is fetched, decoded and done.
+pub fn step<M: Memory>(regs: &mut Regs, memory: &mut M) -> Went
+    ensures went { result ≡ (step_of (cpu_of regs.old) (M.bytes memory.old)).went }
+    ensures cpu { cpu_of regs.new ≡ (step_of (cpu_of regs.old) (M.bytes memory.old)).cpu }
+    ensures mem { M.bytes memory.new ≡ (step_of (cpu_of regs.old) (M.bytes memory.old)).mem }
+{
+    match memory.load(regs.pc, 4) {
+        None => Went::Faulted(regs.pc),
+        Some(w) => match decode(w) {
+            None => Went::Faulted(regs.pc),
+            Some(i) => perform(regs, memory, &i),
+        },
+    }
+}
