@@ -1,0 +1,7 @@
+pub mod Unmet
+pub mod Loops
+pub mod WordLemmas
+pub mod Taken
+pub mod Again
+pub mod Answered
+pub mod Written

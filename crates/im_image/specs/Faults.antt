@@ -7,6 +7,7 @@ use Rattle.im_num.specs.Bytes.{number_of}
 use Rattle.im_image.specs.declared.object.CellRun.{CellRun}
 use Rattle.im_image.specs.declared.fault.ImageFault.{ImageFault}
 use Rattle.im_image.specs.declared.fault.ImageFault.TheVariants.{ShortImage, BadMagic, BadVersion, BadField, Trailing, OutOfMemory}
+use Rattle.im_image.specs.declared.header.Header.{Header}
 use Rattle.im_image.specs.Contents.{ImageValue, ObjectValue, statics_start, is_word_count, is_statics_size, is_stack_size, is_output_capacity, is_entry, is_object_count, is_name_byte, is_object_place, is_run}
 use Rattle.im_image.specs.Text.{magic}
 
@@ -28,6 +29,56 @@ kind_of (suc (suc (suc (suc (suc (suc code)))))) = Ptr
 abbrev pub run_at : List ℕ → ℕ → CellRun
 run_at text place = record { offset = word_at text place; kind = kind_of (word_at text (place + 4)); count = word_at text (place + 8) }
 
+-- n runs from a place on
+unfoldable pub runs_at : List ℕ → ℕ → ℕ → List CellRun
+runs_at text zero place = []
+runs_at text (suc n) place = run_at text place ∷ runs_at text n (place + 12)
+
+-- where the name of the object at a place ends
+abbrev pub name_end : List ℕ → ℕ → ℕ
+name_end text place = place + 16 + word_at text (place + 8)
+
+-- where the object at a place ends
+abbrev pub record_end : List ℕ → ℕ → ℕ
+record_end text place = name_end text place + 12 * word_at text (place + 12)
+
+-- the object at a place
+unfoldable pub object_at : List ℕ → ℕ → ObjectValue
+object_at text place = record {
+  at = word_at text place;
+  size = word_at text (place + 4);
+  name = take (word_at text (place + 8)) (drop (place + 16) text);
+  runs = runs_at text (word_at text (place + 12)) (name_end text place);
+}
+
+-- n objects from a place on
+unfoldable pub objects_at : List ℕ → ℕ → ℕ → List ObjectValue
+objects_at text zero place = []
+objects_at text (suc n) place = object_at text place ∷ objects_at text n (record_end text place)
+
+-- n words from a place on
+unfoldable pub words_at : List ℕ → ℕ → ℕ → List ℕ
+words_at text zero place = []
+words_at text (suc n) place = word_at text place ∷ words_at text n (place + 4)
+
+-- where the statics and the objects begin
+abbrev pub statics_place : List ℕ → ℕ
+statics_place text = 32 + 4 * word_at text 8
+
+abbrev pub objects_place : List ℕ → ℕ
+objects_place text = statics_place text + word_at text 12
+
+-- what the fields of a text say, each at its place
+unfoldable pub image_at : List ℕ → ImageValue
+image_at text = record {
+  words = words_at text (word_at text 8) 32;
+  statics = take (word_at text 12) (drop (statics_place text) text);
+  stack = word_at text 16;
+  out_cap = word_at text 20;
+  entry = word_at text 24;
+  objects = objects_at text (word_at text 28) (objects_place text);
+}
+
 -- A text has so many bytes, or a rule holds, else the fault is this one.
 pub data Requirement : Type 0 where
   HasBytes : ℕ → Requirement
@@ -47,14 +98,6 @@ run_requirements text at size (suc n) before place =
     ∷ (Meets (nat_le (word_at text (place + 4)) 6 && is_run at size before (run_at text place)) (BadField 9)
     ∷ run_requirements text at size n (Some (run_at text place)) (place + 12))
 
--- where the name of the object at a place ends
-abbrev pub name_end : List ℕ → ℕ → ℕ
-name_end text place = place + 16 + word_at text (place + 8)
-
--- where the object at a place ends
-abbrev pub record_end : List ℕ → ℕ → ℕ
-record_end text place = name_end text place + 12 * word_at text (place + 12)
-
 -- one object at a place, of the statics from the address least on
 unfoldable pub object_requirements : (text : List ℕ) (statics least place : ℕ) → List Requirement
 object_requirements text statics least place =
@@ -70,6 +113,17 @@ objects_requirements text statics zero least place = Meets (length text == place
 objects_requirements text statics (suc n) least place =
     object_requirements text statics least place ++ objects_requirements text statics n (word_at text place + word_at text (place + 4) + 1) (record_end text place)
 
+-- what the words of the header say, from the third on
+abbrev pub header_at : List ℕ → Header
+header_at text = record {
+  words = word_at text 8;
+  statics = word_at text 12;
+  stack = word_at text 16;
+  out_cap = word_at text 20;
+  entry = word_at text 24;
+  objects = word_at text 28;
+}
+
 -- the header, the code words and the statics
 unfoldable pub header_requirements : List ℕ → List Requirement
 header_requirements text =
@@ -83,12 +137,12 @@ header_requirements text =
     ∷ (HasBytes 24 ∷ (Meets (is_output_capacity (word_at text 20)) (BadField 6)
     ∷ (HasBytes 28 ∷ (Meets (is_entry words (word_at text 24)) (BadField 7)
     ∷ (HasBytes 32 ∷ (Meets (is_object_count statics (word_at text 28)) (BadField 8)
-    ∷ (HasBytes (32 + 4 * words) ∷ (HasBytes (32 + 4 * words + statics) ∷ [])))))))))))))))))
+    ∷ (HasBytes (statics_place text) ∷ (HasBytes (objects_place text) ∷ [])))))))))))))))))
 
 -- all that a text must meet to be an image's, from the front
 unfoldable pub requirements : List ℕ → List Requirement
 requirements text =
-    header_requirements text ++ objects_requirements text (word_at text 12) (word_at text 28) statics_start (32 + 4 * word_at text 8 + word_at text 12)
+    header_requirements text ++ objects_requirements text (word_at text 12) (word_at text 28) statics_start (objects_place text)
 
 -- the fault of a text, where it isn't an image's
 unfoldable pub fault_of : List ℕ → Option ImageFault

@@ -13,7 +13,7 @@ abbrev pub run_text : CellRun → List ℕ
 run_text run = words_text (run.offset ∷ kind_code run.kind ∷ run.count ∷ [])
 
 -- four words, the name, the runs
-abbrev pub object_text : ObjectValue → List ℕ
+unfoldable pub object_text : ObjectValue → List ℕ
 object_text object =
     words_text (object.at ∷ object.size ∷ length object.name ∷ length object.runs ∷ []) ++ (object.name ++ flat_map run_text object.runs)
 
@@ -27,6 +27,6 @@ header_words image =
     magic ∷ 1 ∷ length image.words ∷ length image.statics ∷ image.stack ∷ image.out_cap ∷ image.entry ∷ length image.objects ∷ []
 
 -- the header, the code words, the statics, the objects
-abbrev pub image_text : ImageValue → List ℕ
+unfoldable pub image_text : ImageValue → List ℕ
 image_text image =
     words_text (header_words image) ++ (words_text image.words ++ (image.statics ++ flat_map object_text image.objects))

@@ -2,13 +2,21 @@
 #![tactic(auto)]
 
 mod fault;
+mod header;
 mod image;
 mod object;
+mod objects;
 mod reading;
+mod rules;
+mod runs;
+mod words;
 mod writing;
 
 pub use fault::ImageFault;
 pub use image::Image;
 pub use object::{CellRun, Object};
-pub use reading::read_image;
+pub use reading::{one_image, read_image};
 pub use writing::write_image;
+
+#[cfg(test)]
+mod tests;
