@@ -1,0 +1,4 @@
+pub mod Tree
+pub mod Operators
+pub mod Grammar
+pub mod Units
