@@ -1,1 +1,5 @@
 pub mod Words
+pub mod Shown
+pub mod Roles
+pub mod Nesting
+pub mod Tally

@@ -1,10 +1,10 @@
 -- A word: what the grammar sees of a token.
-use Rattle.std.specs.Prelude.{ℕ, List, [], ◌∷◌, ◌++◌}
+use Rattle.std.specs.Prelude.{ℕ, List}
 use Rattle.im_tok.specs.declared.keyword.Keyword.{Keyword}
 use Rattle.im_tok.specs.declared.punctuator.Punctuator.{Punctuator}
 use Rattle.im_tok.specs.declared.number.Number.{Number}
 
--- a name's bytes, or those that a string stands for
+-- a name's bytes, or those that a string literal stands for
 abbrev pub Name : Type 0
 Name = List ℕ
 
