@@ -1,7 +1,6 @@
 -- The tree that a Rust tree stands for.
 use Rattle.std.specs.Prelude.{ℕ, List, [], ◌∷◌, map, Option, Some, None}
 use Rattle.std.specs.Option.{option_map}
-use Rattle.std.specs.Vec.{Vec}
 use Rattle.im_word.specs.Words.{Name}
 use Rattle.im_ctree.specs.declared.expression.ExpressionKind as r
 use Rattle.im_ctree.specs.declared.specifier.SpecifierKind as sk
@@ -158,9 +157,14 @@ abbrev mutual
   items_of (sk'.more_of-BlockItem (bi.Declaration d) xs) = t.declaration_item (declaration_of d) (items_of xs)
   items_of (sk'.more_of-BlockItem (bi.Statement' i s) xs) = t.statement_item (statement_of i s) (items_of xs)
 
+abbrev pub block_items_of : List bi.BlockItem → t.BlockItems
+block_items_of [] = t.no_items
+block_items_of (bi.Declaration d ∷ xs) = t.declaration_item (declaration_of d) (block_items_of xs)
+block_items_of (bi.Statement' i s ∷ xs) = t.statement_item (statement_of i s) (block_items_of xs)
+
 abbrev pub external_of : External → t.External
 external_of (ext.Declaration d) = t.external_declaration (declaration_of d)
-external_of (ext.Function f) = t.function_definition (specifiers_of f.specifiers) (declarator_of f.declarator) (t.block f.body.at (items_of f.body.items))
+external_of (ext.Function f) = t.function_definition (specifiers_of f.specifiers) (declarator_of f.declarator) (t.block f.body.at (block_items_of f.body.items.items))
 
 abbrev pub externals_of : List External → t.Tree
 externals_of [] = t.no_externals
