@@ -1,0 +1,2 @@
+mod OpeningFacts
+mod Spellings
