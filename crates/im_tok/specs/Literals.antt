@@ -1,5 +1,5 @@
 -- Character constants and string literals (C11 6.4.4.4, 6.4.5).
-use Rattle.std.specs.Prelude.{◌≡◌, ◌≢◌, ℕ, ◌+◌, ◌≤◌, ◌<◌, ◌⊎◌, ◌==◌, if◌then◌else◌, Option, Some, None, List, [], ◌∷◌, length, drop, map, sum_by, slice_index, slice_range}
+use Rattle.std.specs.Prelude.{◌≡◌, ◌≢◌, ℕ, ◌+◌, ◌≤◌, ◌<◌, ◌⊎◌, ◌==◌, if◌then◌else◌, Option, Some, None, List, [], ◌∷◌, length, drop, map, slice_index, slice_range}
 use Rattle.im_tok.specs.Digits.{IsDigitOf, digits_value}
 use Rattle.im_tok.specs.declared.literal.Element.{Element}
 use Rattle.im_tok.specs.declared.literal.ElementFault.{ElementFault}
@@ -49,7 +49,8 @@ AreElements quote text (element ∷ elements) = IsElement quote text element × 
 
 -- the bytes that elements take
 abbrev pub elements_length : List Element → ℕ
-elements_length elements = sum_by (λ element. element.length) elements
+elements_length [] = 0
+elements_length (element ∷ elements) = element.length + elements_length elements
 
 -- the text is a quote, these elements, and the quote again
 pub record IsLiteral (quote : ℕ) (text : List ℕ) (elements : List Element) : Type 0 where

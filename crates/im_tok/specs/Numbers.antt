@@ -1,5 +1,5 @@
 -- Integer constants, their values and their types (C11 6.4.4.1), where int and long have 32 bits.
-use Rattle.std.specs.Prelude.{◌≡◌, ℕ, ◌≤◌, ◌<◌, ◌⊎◌, List, [], ◌∷◌, Some, length, drop, find, nat_le, slice_index, slice_range}
+use Rattle.std.specs.Prelude.{◌≡◌, ◌≢◌, ℕ, ◌≤◌, ◌<◌, ◌⊎◌, List, [], ◌∷◌, Some, length, drop, find, nat_le, slice_index, slice_range}
 use Rattle.im_tok.specs.Digits.{IsDigitOf, digits_value}
 use Rattle.im_tok.specs.declared.number.Base.{Base}
 use Rattle.im_tok.specs.declared.number.Base.TheVariants.{Decimal, Octal, Hexadecimal}
@@ -20,10 +20,10 @@ prefix_length Decimal = 0
 prefix_length Octal = 0
 prefix_length Hexadecimal = 2
 
--- what a constant of this base begins with: 1 to 9, 0, and 0x or 0X
+-- what a constant of this base begins with: 1 to 9; 0, but no x or X behind it; 0x or 0X
 abbrev pub Begins : Base → List ℕ → Type 0
 Begins Decimal text = (49 ≤ slice_index text 0) × (slice_index text 0 ≤ 57)
-Begins Octal text = slice_index text 0 ≡ 48
+Begins Octal text = (slice_index text 0 ≡ 48) × (slice_index text 1 ≢ 120) × (slice_index text 1 ≢ 88)
 Begins Hexadecimal text = (slice_index text 0 ≡ 48) × ((slice_index text 1 ≡ 120) ⊎ (slice_index text 1 ≡ 88))
 
 abbrev pub IsU : ℕ → Type 0

@@ -51,60 +51,115 @@ pub enum Keyword {
     ThreadLocal,
 }
 
-const KEYWORDS: [(&[u8], Keyword); 44] = [
-    (b"auto", Keyword::Auto),
-    (b"break", Keyword::Break),
-    (b"case", Keyword::Case),
-    (b"char", Keyword::Char),
-    (b"const", Keyword::Const),
-    (b"continue", Keyword::Continue),
-    (b"default", Keyword::Default),
-    (b"do", Keyword::Do),
-    (b"double", Keyword::Double),
-    (b"else", Keyword::Else),
-    (b"enum", Keyword::Enum),
-    (b"extern", Keyword::Extern),
-    (b"float", Keyword::Float),
-    (b"for", Keyword::For),
-    (b"goto", Keyword::Goto),
-    (b"if", Keyword::If),
-    (b"inline", Keyword::Inline),
-    (b"int", Keyword::Int),
-    (b"long", Keyword::Long),
-    (b"register", Keyword::Register),
-    (b"restrict", Keyword::Restrict),
-    (b"return", Keyword::Return),
-    (b"short", Keyword::Short),
-    (b"signed", Keyword::Signed),
-    (b"sizeof", Keyword::Sizeof),
-    (b"static", Keyword::Static),
-    (b"struct", Keyword::Struct),
-    (b"switch", Keyword::Switch),
-    (b"typedef", Keyword::Typedef),
-    (b"union", Keyword::Union),
-    (b"unsigned", Keyword::Unsigned),
-    (b"void", Keyword::Void),
-    (b"volatile", Keyword::Volatile),
-    (b"while", Keyword::While),
-    (b"_Alignas", Keyword::Alignas),
-    (b"_Alignof", Keyword::Alignof),
-    (b"_Atomic", Keyword::Atomic),
-    (b"_Bool", Keyword::Bool),
-    (b"_Complex", Keyword::Complex),
-    (b"_Generic", Keyword::Generic),
-    (b"_Imaginary", Keyword::Imaginary),
-    (b"_Noreturn", Keyword::Noreturn),
-    (b"_Static_assert", Keyword::StaticAssert),
-    (b"_Thread_local", Keyword::ThreadLocal),
-];
+impl Keyword {
+    /// All of them, in the order of the standard.
+    pub const ALL: [Keyword; 44] = [
+        Keyword::Auto,
+        Keyword::Break,
+        Keyword::Case,
+        Keyword::Char,
+        Keyword::Const,
+        Keyword::Continue,
+        Keyword::Default,
+        Keyword::Do,
+        Keyword::Double,
+        Keyword::Else,
+        Keyword::Enum,
+        Keyword::Extern,
+        Keyword::Float,
+        Keyword::For,
+        Keyword::Goto,
+        Keyword::If,
+        Keyword::Inline,
+        Keyword::Int,
+        Keyword::Long,
+        Keyword::Register,
+        Keyword::Restrict,
+        Keyword::Return,
+        Keyword::Short,
+        Keyword::Signed,
+        Keyword::Sizeof,
+        Keyword::Static,
+        Keyword::Struct,
+        Keyword::Switch,
+        Keyword::Typedef,
+        Keyword::Union,
+        Keyword::Unsigned,
+        Keyword::Void,
+        Keyword::Volatile,
+        Keyword::While,
+        Keyword::Alignas,
+        Keyword::Alignof,
+        Keyword::Atomic,
+        Keyword::Bool,
+        Keyword::Complex,
+        Keyword::Generic,
+        Keyword::Imaginary,
+        Keyword::Noreturn,
+        Keyword::StaticAssert,
+        Keyword::ThreadLocal,
+    ];
 
-/// The keyword that is spelled so.
+    /// How it is spelled.
+    pub fn text(self) -> &'static [u8]
+        ensures { result.now ≡ keyword_text self }
+    {
+        match self {
+            Keyword::Auto => b"auto",
+            Keyword::Break => b"break",
+            Keyword::Case => b"case",
+            Keyword::Char => b"char",
+            Keyword::Const => b"const",
+            Keyword::Continue => b"continue",
+            Keyword::Default => b"default",
+            Keyword::Do => b"do",
+            Keyword::Double => b"double",
+            Keyword::Else => b"else",
+            Keyword::Enum => b"enum",
+            Keyword::Extern => b"extern",
+            Keyword::Float => b"float",
+            Keyword::For => b"for",
+            Keyword::Goto => b"goto",
+            Keyword::If => b"if",
+            Keyword::Inline => b"inline",
+            Keyword::Int => b"int",
+            Keyword::Long => b"long",
+            Keyword::Register => b"register",
+            Keyword::Restrict => b"restrict",
+            Keyword::Return => b"return",
+            Keyword::Short => b"short",
+            Keyword::Signed => b"signed",
+            Keyword::Sizeof => b"sizeof",
+            Keyword::Static => b"static",
+            Keyword::Struct => b"struct",
+            Keyword::Switch => b"switch",
+            Keyword::Typedef => b"typedef",
+            Keyword::Union => b"union",
+            Keyword::Unsigned => b"unsigned",
+            Keyword::Void => b"void",
+            Keyword::Volatile => b"volatile",
+            Keyword::While => b"while",
+            Keyword::Alignas => b"_Alignas",
+            Keyword::Alignof => b"_Alignof",
+            Keyword::Atomic => b"_Atomic",
+            Keyword::Bool => b"_Bool",
+            Keyword::Complex => b"_Complex",
+            Keyword::Generic => b"_Generic",
+            Keyword::Imaginary => b"_Imaginary",
+            Keyword::Noreturn => b"_Noreturn",
+            Keyword::StaticAssert => b"_Static_assert",
+            Keyword::ThreadLocal => b"_Thread_local",
+        }
+    }
+}
+
+/// The keyword that is spelled so, where one is.
 pub fn keyword_of(text: &[u8]) -> Option<Keyword>
-    ensures { MatchOption result ((x : Keyword) → text.now ≢ keyword_text x) (λ x. text.now ≡ keyword_text x) }
+    ensures { MatchOption result ((keyword : Keyword) → text.now ≢ keyword_text keyword) (λ keyword. text.now ≡ keyword_text keyword) }
 {
-    for (spelling, value) in &KEYWORDS {
-        if text == *spelling {
-            return Some(*value);
+    for keyword in Keyword::ALL {
+        if text == keyword.text() {
+            return Some(keyword);
         }
     }
     None

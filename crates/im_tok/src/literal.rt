@@ -43,7 +43,6 @@ fn simple_escape(byte: u8) -> Option<u8>
 fn numeric_escape(text: &[u8], radix: u32, first: usize, most: usize) -> Option<Element>
     requires begins { slice_index text.now 0 ≡ 92 }
     requires within { first ≤ length text.now }
-    requires room { most ≤ length text.now }
     requires lower_bound { 2 ≤ radix }
     requires upper_bound { radix ≤ 36 }
     ensures { MatchOption result ((element : Element) → IsNumeric radix first most text.now element → ⊥) (λ element. IsNumeric radix first most text.now element) }
@@ -97,10 +96,13 @@ pub fn character_of(text: &[u8]) -> Option<u8>
     let [b'\'', inner @ ..] = text else {
         return None;
     };
-    let element = element_at(inner, b'\'').ok()?;
-    match &inner[element.length..] {
-        [b'\''] => Some(element.value),
-        _ => None,
+    let Ok(element) = element_at(inner, b'\'') else {
+        return None;
+    };
+    if inner.len() == element.length + 1 && inner[element.length] == b'\'' {
+        Some(element.value)
+    } else {
+        None
     }
 }
 

@@ -63,7 +63,7 @@ impl Base {
 
 /// The base that a constant begins as.
 fn base_of(text: &[u8]) -> Option<Base>
-    ensures { MatchOption result ((base : Base) → Begins base text.now → ⊥) (λ base. Begins base text.now × (length text.now ≡ 1 → prefix_length base ≡ 0)) }
+    ensures { MatchOption result ((base : Base) → Begins base text.now → ⊥) (λ base. Begins base text.now) }
 {
     match text {
         [b'0', b'x' | b'X', ..] => Some(Base::Hexadecimal),
