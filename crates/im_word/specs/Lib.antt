@@ -3,3 +3,4 @@ pub mod Shown
 pub mod Roles
 pub mod Nesting
 pub mod Tally
+pub mod Tokens

@@ -5,6 +5,9 @@ mod nesting;
 mod role;
 mod word;
 
+#[cfg(test)]
+mod tests;
+
 pub use nesting::{NESTING_LIMIT, first_too_deep};
 pub use role::{Role, role_of_word};
-pub use word::Word;
+pub use word::{Word, word_of};
