@@ -3,10 +3,9 @@
 
 mod nesting;
 mod role;
-mod word;
-
 #[cfg(test)]
 mod tests;
+mod word;
 
 pub use nesting::{NESTING_LIMIT, first_too_deep};
 pub use role::{Role, role_of_word};

@@ -64,7 +64,7 @@ fn nesting(rt: HostRuntime) -> Result<(), Fail> {
     // `else` does not, nor the `while` of a `do`
     assert_eq!(rt; first_over(alloc, b"", b"i(x)x;e", 200, b"x;")?, Some(1394));
     assert_eq!(rt; first_over(alloc, b"", b"dx;w(x);x;", 300, b"")?, None);
-    assert_eq!(rt; first_over(alloc, b"d", b"x;w(x);", 201, b"")?, Some(1396));
+    assert_eq!(rt; first_over(alloc, b"dx;", b"w(x);", 201, b"")?, Some(994));
     // a comma forgets operators, and keeps choices
     assert_eq!(rt; first_over(alloc, b"(", b"x=x,", 300, b"x)")?, None);
     assert_eq!(rt; first_over(alloc, b"(", b"x?x:x,", 300, b"x)")?, Some(1196));
