@@ -4,6 +4,7 @@
 mod declaration;
 mod declarator;
 mod expression;
+mod laws;
 mod operator;
 mod specifier;
 mod statement;
@@ -12,6 +13,7 @@ mod unit;
 pub use declaration::{Declaration, InitDeclarator, Initializer};
 pub use declarator::{Core, Declarator, Parameter, Star, Suffix, SuffixKind, TypeName};
 pub use expression::{Expression, ExpressionKind};
+pub use laws::{fronts_are_prefixes, unit_nonempty};
 pub use operator::{AssignOp, BinaryOp, StepOp, UnaryOp};
 pub use specifier::{Enumerator, Member, Specifier, SpecifierKind, SpecifierWord, Specifiers};
 pub use statement::{Block, BlockItem, ForInit, Statement, StatementKind};
