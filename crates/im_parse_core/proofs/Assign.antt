@@ -33,7 +33,7 @@ same_operator op.assign_xor op.assign_xor = refl
 same_operator op.assign_or op.assign_or = refl
 
 one_level : (T : List Name) (n p : ℕ) (t : Expression) (u : List Word) → n < 10 → IsBinary T (suc n) p t u → IsBinary T n p t u
-one_level T n p t u h d = subst (IsBinary T n p t) (sym (append-nil u)) (level h d no_operator)
+one_level T n p t u h d = let here : IsBinary T n p t (u ++ []) = level h d no_operator in subst (IsBinary T n p t) (append-nil u) here
 
 -- a unary expression is a conditional one
 pub unary_is_conditional : (T : List Name) (p : ℕ) (t : Expression) (u : List Word) → IsUnary T p t u → IsConditional T p t u
