@@ -1,6 +1,6 @@
 -- The grammar of expressions and declarators: a constructor for each alternative, over splits of the words.
 -- T holds the typedef names, which stay the same within a declaration; p is the number of the first word.
-use Rattle.std.specs.Prelude.{ℕ, suc, ◌+◌, ◌<◌, ◌≡◌, Bool, true, false, ◌||◌, List, [], ◌∷◌, ◌++◌, length, Option, Some, None}
+use Rattle.std.specs.Prelude.{ℕ, suc, ◌+◌, ◌<◌, ◌≡◌, Bool, true, false, ◌||◌, List, [], ◌∷◌, ◌++◌, length, Some, None}
 use Rattle.std.specs.List.{Contains}
 use Rattle.im_tok.specs.declared.number.Number.{Number}
 use Rattle.im_tok.specs.declared.keyword.Keyword.{Keyword}
@@ -14,7 +14,7 @@ use Rattle.im_ctree.specs.declared.operator.BinaryOp.{BinaryOp}
 use Rattle.im_ctree.specs.declared.operator.AssignOp.{AssignOp}
 use Rattle.im_ctree.specs.declared.specifier.SpecifierWord.{SpecifierWord}
 use Rattle.im_ctree.specs.Operators.{IsOperator, IsAssignment, IsStep, IsPrefix, IsSpecifierWord}
-use Rattle.im_ctree.specs.Tree.{Expression, identifier, integer_constant, character_constant, string_literal, index, call, member_of, arrow_to, post_step, pre_step, unary, size_of_expression, size_of_type, cast, binary, conditional, assign, comma, Expressions, no_expressions, more_expressions, MaybeExpression, no_expression, an_expression, Specifiers, specifiers, SpecifierList, no_specifiers, more_specifiers, Specifier, word_specifier, typedef_specifier, struct_tag, enum_tag, struct_specifier, enum_specifier, Members, no_members, more_members, Enumerators, no_enumerators, more_enumerators, Declarators, no_declarators, more_declarators, Declarator, declarator, Core, absent_core, name_core, inner_core, Suffixes, no_suffixes, array_suffix, function_suffix, MaybeDeclarator, no_declarator, a_declarator, Parameters, no_parameters, more_parameters, TypeName, type_name}
+use Rattle.im_ctree.specs.Tree.{Expression, identifier, integer_constant, character_constant, string_literal, index, call, member_of, arrow_to, post_step, pre_step, unary, size_of_expression, size_of_type, cast, binary, conditional, assign, comma, Expressions, no_expressions, more_expressions, MaybeExpression, no_expression, an_expression, Specifiers, specifiers, SpecifierList, no_specifiers, more_specifiers, Specifier, word_specifier, typedef_specifier, struct_tag, enum_tag, struct_specifier, enum_specifier, Members, no_members, more_members, Enumerators, no_enumerators, more_enumerators, Declarators, no_declarators, more_declarators, Declarator, declarator, absent_core, name_core, inner_core, Suffixes, no_suffixes, array_suffix, function_suffix, MaybeDeclarator, no_declarator, a_declarator, Parameters, no_parameters, more_parameters, TypeName, type_name}
 
 -- String { String }, one literal (C11 6.4.5)
 pub data IsText : Name → List Word → Type 0 where

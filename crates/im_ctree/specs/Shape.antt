@@ -1,7 +1,6 @@
 -- The tree that a Rust tree stands for.
 use Rattle.std.specs.Prelude.{ℕ, List, [], ◌∷◌, map, Option, Some, None}
 use Rattle.std.specs.Option.{option_map}
-use Rattle.im_word.specs.Words.{Name}
 use Rattle.im_ctree.specs.declared.expression.ExpressionKind as r
 use Rattle.im_ctree.specs.declared.specifier.SpecifierKind as sk
 use Rattle.im_ctree.specs.declared.specifier.Specifiers as ss

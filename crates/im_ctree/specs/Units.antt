@@ -6,7 +6,7 @@ use Rattle.im_tok.specs.declared.punctuator.Punctuator.TheVariants.{OpenParen, C
 use Rattle.im_word.specs.Words.{Name, Word, keyword, mark}
 use Rattle.im_ctree.specs.declared.specifier.SpecifierWord.{SpecifierWord}
 use Rattle.im_ctree.specs.declared.specifier.SpecifierWord.TheVariants as word
-use Rattle.im_ctree.specs.Tree.{Expression, MaybeExpression, no_expression, an_expression, Specifiers, specifiers, SpecifierList, no_specifiers, more_specifiers, Specifier, word_specifier, typedef_specifier, struct_tag, enum_tag, struct_specifier, enum_specifier, Declarator, declarator, Core, absent_core, name_core, inner_core, Initializer, value_initializer, braced_initializer, Initializers, no_initializers, more_initializers, MaybeInitializer, no_initializer, an_initializer, InitDeclarators, no_init_declarators, more_init_declarators, Declaration, declaration, ForInit, for_declaration, for_expression, Statement, block_statement, expression_statement, if_statement, while_statement, do_statement, for_statement, switch_statement, case_statement, default_statement, break_statement, continue_statement, return_statement, MaybeStatement, no_statement, a_statement, Block, block, BlockItems, no_items, declaration_item, statement_item, External, external_declaration, function_definition, Tree, no_externals, more_externals}
+use Rattle.im_ctree.specs.Tree.{Expression, MaybeExpression, no_expression, an_expression, Specifiers, specifiers, SpecifierList, no_specifiers, more_specifiers, word_specifier, typedef_specifier, struct_tag, enum_tag, struct_specifier, enum_specifier, Declarator, declarator, Core, absent_core, name_core, inner_core, Initializer, value_initializer, braced_initializer, Initializers, no_initializers, more_initializers, MaybeInitializer, no_initializer, an_initializer, InitDeclarators, no_init_declarators, more_init_declarators, Declaration, declaration, ForInit, for_declaration, for_expression, Statement, block_statement, expression_statement, if_statement, while_statement, do_statement, for_statement, switch_statement, case_statement, default_statement, break_statement, continue_statement, return_statement, no_statement, a_statement, Block, block, BlockItems, no_items, declaration_item, statement_item, External, external_declaration, function_definition, Tree, no_externals, more_externals}
 use Rattle.im_ctree.specs.Grammar.{IsExpression, IsAssign, IsConditional, IsSpecifiers, GoesOnSpecifiers, IsDeclarator}
 
 abbrev pub is_typedef : SpecifierWord → Bool

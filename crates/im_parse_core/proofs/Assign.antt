@@ -1,6 +1,6 @@
 -- assign = cond | unary asgop assign: the choice by what stands behind the conditional expression that was read.
 use Rattle.std.proofs.Common.{◌≡◌, ℕ, suc, ◌+◌, ◌<◌, lit<, List, [], ◌∷◌, ◌++◌, length, inl, inr, sym, refl, ap, ◌∙◌, subst, append_assoc}
-use Rattle.std.specs.Prelude.{Option, Some, None, ◌⊎◌}
+use Rattle.std.specs.Prelude.{Option, Some, ◌⊎◌}
 use Rattle.std.proofs.lemmas.List.{append_cancel_left, append-nil}
 use Rattle.im_tok.specs.declared.punctuator.Punctuator.{Punctuator}
 use Rattle.im_word.specs.Words.{Name, Word, mark}
@@ -9,7 +9,7 @@ use Rattle.im_ctree.specs.Operators as op
 use Rattle.im_ctree.specs.Tree.{Expression, assign}
 use Rattle.im_ctree.specs.Grammar.{IsAssign, chooses, assigned, IsConditional, operates, IsBinary, casts, level, no_operator, uncast, IsUnary}
 use Rattle.im_parse_core.specs.Reads.{head, Agrees, Sole, Reads, Refuses}
-use Rattle.im_parse_core.proofs.Sequences.{Family, Going, head_more}
+use Rattle.im_parse_core.proofs.Sequences.{Going}
 
 -- an assignment operator
 pub data IsAssigning : Option Word → Type 0 where

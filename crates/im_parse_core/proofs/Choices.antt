@@ -1,8 +1,8 @@
 -- Choices: one line of several, by the first word, or by what stands behind a part that two lines begin with.
-use Rattle.std.proofs.Common.{◌≡◌, ℕ, List, [], ◌∷◌, ◌++◌, sym, refl, ap, ◌∙◌, subst}
-use Rattle.std.specs.Prelude.{Option, Some, None}
+use Rattle.std.proofs.Common.{◌≡◌, ℕ, List, [], ◌++◌, sym, refl, ap, ◌∙◌}
+use Rattle.std.specs.Prelude.{Option}
 use Rattle.im_word.specs.Words.{Word}
-use Rattle.im_parse_core.specs.Reads.{head, Agrees, Sole, Reads, Refuses, Within}
+use Rattle.im_parse_core.specs.Reads.{head, Sole, Reads, Refuses, Within}
 use Rattle.im_parse_core.proofs.Sequences.{Family, Going, head_more}
 
 -- a derivation of the whole whose first word is that of w is one of the line

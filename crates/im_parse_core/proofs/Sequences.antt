@@ -1,7 +1,7 @@
 -- Sequences: how what is read of the parts gives what is read of the whole, for any parts.
 use Rattle.std.proofs.Common.{◌≡◌, ℕ, suc, ◌+◌, List, [], ◌∷◌, ◌++◌, length, sym, refl, ap, ◌∙◌, subst, append_assoc}
-use Rattle.std.specs.Prelude.{Option, Some, None}
-use Rattle.std.proofs.lemmas.List.{append_cancel_left, append-nil}
+use Rattle.std.specs.Prelude.{Option, Some}
+use Rattle.std.proofs.lemmas.List.{append_cancel_left}
 use Rattle.im_word.specs.Words.{Word}
 use Rattle.im_parse_core.specs.Reads.{head, Agrees, Sole, Reads, Refuses, Within}
 use Rattle.im_parse_core.specs.Parts.{Both, After, OneOf, Done, Node}

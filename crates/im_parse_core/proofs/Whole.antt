@@ -1,9 +1,9 @@
 -- What was read of all words is exact.
-use Rattle.std.proofs.Common.{◌≡◌, ℕ, ◌+◌, ◌-◌, List, [], ◌∷◌, ◌++◌, length, sym, refl, ap, ◌∙◌, subst, arith, append_assoc, length-append}
-use Rattle.std.specs.Prelude.{Option, Some, None}
+use Rattle.std.proofs.Common.{◌≡◌, ℕ, ◌-◌, List, [], ◌∷◌, ◌++◌, length, sym, refl, ap, ◌∙◌, subst, arith, append_assoc, length-append}
+use Rattle.std.specs.Prelude.{None}
 use Rattle.std.proofs.lemmas.List.{append-nil}
 use Rattle.im_word.specs.Words.{Word}
-use Rattle.im_parse_core.specs.Reads.{head, Agrees, Reads, Refuses}
+use Rattle.im_parse_core.specs.Reads.{head, Reads, Refuses}
 use Rattle.im_parse_core.specs.Exact.{IsParse, IsFault}
 use Rattle.im_parse_core.proofs.Sequences.{Family, Going}
 

@@ -1,6 +1,6 @@
 -- The nesting at a word: how deep brackets, operators and statements stand in one another, by a stack of levels that
 -- the words are read with from the left.
-use Rattle.std.specs.Prelude.{ℕ, zero, suc, ◌+◌, ◌-◌, ◌≤◌, ◌<◌, Bool, true, false, List, [], ◌∷◌, Option, Some, None, MatchOption, length, slice_get, sum_by}
+use Rattle.std.specs.Prelude.{ℕ, zero, suc, ◌+◌, ◌-◌, ◌≤◌, ◌<◌, Bool, true, false, List, [], ◌∷◌, Option, Some, None, length, slice_get, sum_by}
 use Rattle.im_word.specs.Words.{Word}
 use Rattle.im_word.specs.Roles.{role_of}
 use Rattle.im_word.specs.declared.nesting.Level.{Level}

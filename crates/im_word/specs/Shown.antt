@@ -1,5 +1,4 @@
 -- The word that a Rust word stands for, wherever its bytes lie.
-use Rattle.std.specs.Prelude.{ℕ, List}
 use Rattle.im_word.specs.declared.word.Word as w
 use Rattle.im_word.specs.declared.word.Word.TheVariants as v
 use Rattle.im_word.specs.Words.{Word, name, keyword, number, character, text, mark}

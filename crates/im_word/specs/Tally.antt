@@ -1,5 +1,5 @@
 -- How the levels stand in the code, and that its sum of weights is right.
-use Rattle.std.specs.Prelude.{ℕ, ◌≡◌, ◌≤◌, List, [], ◌∷◌, reverse, sum_by}
+use Rattle.std.specs.Prelude.{◌≡◌, ◌≤◌, List, [], ◌∷◌, reverse, sum_by}
 use Rattle.im_word.specs.declared.nesting.Level.{Level}
 use Rattle.im_word.specs.declared.nesting.Levels.{Levels}
 

@@ -1,6 +1,5 @@
-use Rattle.std.proofs.Common.{◌≡◌, List, [], ◌∷◌, ◌++◌, sym, subst, append_assoc}
+use Rattle.std.proofs.Common.{[], ◌++◌, sym, subst, append_assoc}
 use Rattle.std.proofs.lemmas.List.{append-nil}
-use Rattle.im_word.specs.Words.{Word}
 use Rattle.im_ctree.specs.Units.{Spells}
 use Rattle.im_ctree.proofs.laws.fronts_are_prefixes.Goals as goal
 

@@ -1,6 +1,6 @@
-use Rattle.std.proofs.Common.{◌≡◌, ℕ, ◌+◌, ◌<◌, List, [], ◌∷◌, ◌++◌, length, arith, length-append}
+use Rattle.std.proofs.Common.{ℕ, ◌<◌, List, [], ◌∷◌, ◌++◌, length, arith, length-append}
 use Rattle.im_word.specs.Words.{Name, Word, mark}
-use Rattle.im_tok.specs.declared.punctuator.Punctuator.TheVariants.{OpenBrace, CloseBrace, Semicolon}
+use Rattle.im_tok.specs.declared.punctuator.Punctuator.TheVariants.{Semicolon}
 use Rattle.im_ctree.specs.Tree.{Declaration, External, Block, Tree}
 use Rattle.im_ctree.specs.Units.{IsDeclaration, declares_none, declares, IsBlock, a_block, IsExternal, a_declaration, a_definition, IsUnit, last_external, next_external}
 use Rattle.im_ctree.proofs.laws.unit_nonempty.Goals as goal

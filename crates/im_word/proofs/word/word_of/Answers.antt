@@ -1,4 +1,4 @@
-use Rattle.std.proofs.Common.{◌≡◌, ℕ, List, sym, ◌∙◌}
+use Rattle.std.proofs.Common.{◌≡◌, ℕ, List}
 use Rattle.im_tok.specs.Numbers.{IsNumeral}
 use Rattle.im_tok.specs.Literals.{IsCharacter}
 use Rattle.im_tok.specs.declared.number.Number.{Number}
