@@ -1,0 +1,5 @@
+pub mod Tree
+pub mod Operators
+pub mod Grammar
+pub mod Units
+pub mod Shape

@@ -1,0 +1,79 @@
+-- Which punctuators and keywords stand for which operators and specifiers.
+use Rattle.std.specs.Prelude.{ℕ, Bool, true, false}
+use Rattle.im_tok.specs.declared.keyword.Keyword.{Keyword}
+use Rattle.im_tok.specs.declared.keyword.Keyword.TheVariants as keyword
+use Rattle.im_tok.specs.declared.punctuator.Punctuator.{Punctuator}
+use Rattle.im_tok.specs.declared.punctuator.Punctuator.TheVariants as mark
+use Rattle.im_ctree.specs.declared.operator.StepOp.{StepOp}
+use Rattle.im_ctree.specs.declared.operator.StepOp.TheVariants as step
+use Rattle.im_ctree.specs.declared.operator.UnaryOp.{UnaryOp}
+use Rattle.im_ctree.specs.declared.operator.UnaryOp.TheVariants as op
+use Rattle.im_ctree.specs.declared.operator.BinaryOp.{BinaryOp}
+use Rattle.im_ctree.specs.declared.operator.BinaryOp.TheVariants.{Or, And, BitOr, BitXor, BitAnd, Equal, NotEqual, Less, Greater, LessEqual, GreaterEqual, ShiftLeft, ShiftRight, Add, Subtract, Multiply, Divide, Remainder}
+use Rattle.im_ctree.specs.declared.operator.AssignOp.{AssignOp}
+use Rattle.im_ctree.specs.declared.operator.AssignOp.TheVariants as op_assign
+use Rattle.im_ctree.specs.declared.specifier.SpecifierWord.{SpecifierWord}
+use Rattle.im_ctree.specs.declared.specifier.SpecifierWord.TheVariants as word
+
+-- a level of binary operators, of which 0 binds loosest, and its punctuators (C11 6.5.5 to 6.5.14)
+pub data IsOperator : ℕ → BinaryOp → Punctuator → Type 0 where
+  or : IsOperator 0 Or mark.OrOr
+  and : IsOperator 1 And mark.AndAnd
+  bit_or : IsOperator 2 BitOr mark.Bar
+  bit_xor : IsOperator 3 BitXor mark.Caret
+  bit_and : IsOperator 4 BitAnd mark.Ampersand
+  equal : IsOperator 5 Equal mark.EqualEqual
+  not_equal : IsOperator 5 NotEqual mark.NotEqual
+  less : IsOperator 6 Less mark.Less
+  greater : IsOperator 6 Greater mark.Greater
+  less_equal : IsOperator 6 LessEqual mark.LessEqual
+  greater_equal : IsOperator 6 GreaterEqual mark.GreaterEqual
+  shift_left : IsOperator 7 ShiftLeft mark.ShiftLeft
+  shift_right : IsOperator 7 ShiftRight mark.ShiftRight
+  add : IsOperator 8 Add mark.Plus
+  subtract : IsOperator 8 Subtract mark.Minus
+  multiply : IsOperator 9 Multiply mark.Star
+  divide : IsOperator 9 Divide mark.Slash
+  remainder : IsOperator 9 Remainder mark.Percent
+
+-- C11 6.5.16
+pub data IsAssignment : AssignOp → Punctuator → Type 0 where
+  assign : IsAssignment op_assign.Plain mark.Assign
+  assign_multiply : IsAssignment op_assign.Multiply mark.StarAssign
+  assign_divide : IsAssignment op_assign.Divide mark.SlashAssign
+  assign_remainder : IsAssignment op_assign.Remainder mark.PercentAssign
+  assign_add : IsAssignment op_assign.Add mark.PlusAssign
+  assign_subtract : IsAssignment op_assign.Subtract mark.MinusAssign
+  assign_shift_left : IsAssignment op_assign.ShiftLeft mark.ShiftLeftAssign
+  assign_shift_right : IsAssignment op_assign.ShiftRight mark.ShiftRightAssign
+  assign_and : IsAssignment op_assign.BitAnd mark.AndAssign
+  assign_xor : IsAssignment op_assign.BitXor mark.XorAssign
+  assign_or : IsAssignment op_assign.BitOr mark.OrAssign
+
+-- C11 6.5.2.4, 6.5.3.1
+pub data IsStep : StepOp → Punctuator → Type 0 where
+  increment : IsStep step.Increment mark.Increment
+  decrement : IsStep step.Decrement mark.Decrement
+
+-- C11 6.5.3.2, 6.5.3.3
+pub data IsPrefix : UnaryOp → Punctuator → Type 0 where
+  address_of : IsPrefix op.AddressOf mark.Ampersand
+  dereference : IsPrefix op.Dereference mark.Star
+  plus : IsPrefix op.Plus mark.Plus
+  minus : IsPrefix op.Minus mark.Minus
+  bit_not : IsPrefix op.BitNot mark.Tilde
+  not : IsPrefix op.Not mark.Exclamation
+
+-- a specifier's keyword, and whether it is one of a type (C11 6.7.1 to 6.7.3)
+pub data IsSpecifierWord : SpecifierWord → Keyword → Bool → Type 0 where
+  typedef : IsSpecifierWord word.Typedef keyword.Typedef false
+  extern : IsSpecifierWord word.Extern keyword.Extern false
+  static : IsSpecifierWord word.Static keyword.Static false
+  const : IsSpecifierWord word.Const keyword.Const false
+  void : IsSpecifierWord word.Void keyword.Void true
+  char : IsSpecifierWord word.Char keyword.Char true
+  short : IsSpecifierWord word.Short keyword.Short true
+  int : IsSpecifierWord word.Int keyword.Int true
+  long : IsSpecifierWord word.Long keyword.Long true
+  signed : IsSpecifierWord word.Signed keyword.Signed true
+  unsigned : IsSpecifierWord word.Unsigned keyword.Unsigned true

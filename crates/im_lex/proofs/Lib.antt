@@ -1,0 +1,5 @@
+mod KeywordNames
+mod PieceFacts
+mod Readings
+mod OpeningFacts
+mod Spellings

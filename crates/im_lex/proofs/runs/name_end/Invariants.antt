@@ -1,0 +1,9 @@
+use Rattle.std.proofs.Common.{◌≡◌, ◌≢◌, ◌≤◌, ◌<◌, ◌-◌, ℕ, length, slice_index}
+use Rattle.im_lex.specs.Bytes.{IsNameByte}
+use Rattle.im_lex.proofs.runs.name_end.Given as goal
+
+abbrev pub invariant-loop-end : goal.invariant-loop-end
+invariant-loop-end l = (l.end ≤ length l.text) × ((i : ℕ) → i < l.end → IsNameByte (slice_index l.text i))
+
+abbrev pub decreases-loop-end : goal.decreases-loop-end
+decreases-loop-end l = length l.text - l.end

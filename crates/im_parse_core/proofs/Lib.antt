@@ -1,0 +1,4 @@
+pub mod Sequences
+pub mod Choices
+pub mod Whole
+pub mod Assign

@@ -1,0 +1,6 @@
+mod DigitsGrow
+mod Elements
+mod Strings
+mod KeywordPlaces
+mod Numerals
+mod PunctuatorPlaces

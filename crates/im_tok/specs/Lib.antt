@@ -1,0 +1,5 @@
+pub mod Digits
+pub mod Keywords
+pub mod Literals
+pub mod Numbers
+pub mod Punctuators

@@ -1,0 +1,12 @@
+// What the grammar sees of tokens: words, and how deep they are nested.
+#![tactic(auto)]
+
+mod nesting;
+mod role;
+#[cfg(test)]
+mod tests;
+mod word;
+
+pub use nesting::{NESTING_LIMIT, first_too_deep};
+pub use role::{Role, role_of_word};
+pub use word::{Word, word_of};
