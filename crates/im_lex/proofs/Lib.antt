@@ -1,5 +1,7 @@
 mod KeywordNames
+mod LiteralReads
 mod PieceFacts
 mod Readings
 mod OpeningFacts
 mod Spellings
+mod Fronts
