@@ -1,6 +1,6 @@
 -- What stands at the front of a text, by how far its bytes run.
 use Rattle.std.proofs.Common.{◌≡◌, ◌≢◌, ℕ, zero, suc, ◌+◌, ◌-◌, ◌<◌, ◌≤◌, ◌⊎◌, inl, inr, List, [], ◌∷◌, Bool, true, false, IsTrue, length, take, drop, get_or, refl, sym, ap, subst, ◌∙◌, arith}
-use Rattle.std.specs.Prelude.{slice_index}
+use Rattle.std.specs.Prelude.{slice_index, Option, Some, None, MatchOption, is_some}
 use Rattle.std.proofs.lemmas.Bool.{cases_lt}
 use Rattle.std.proofs.lemmas.List.{get_or-take, length-take-le, get_or_past}
 use Rattle.im_tok.specs.Keywords.{keyword_text}
@@ -337,3 +337,28 @@ bad_byte text opens =
      λ e. (let f = sym opens ∙ byte_opening text 34 Text e refl in absurd (cc)),
      λ h. (let f = sym opens ∙ number_opening text h in absurd (cc)),
      λ e g. (let f = sym opens ∙ two_bytes_opening text 47 42 Comment e g refl in absurd (cc)))
+
+pub star_second : (text : List ℕ) → (slice_index text 1 ≡ 42) ⊎ (slice_index text 1 ≡ 47) → slice_index text 1 ≢ 47 → slice_index text 1 ≡ 42
+star_second text (inl e) differs = e
+star_second text (inr e) differs = absurd (differs e)
+
+pub some_of : (o : Option Punctuator) (A : Type 0) (B : Punctuator → Type 0) → MatchOption o A B → is_some o ≡ true → (p : Punctuator) × B p
+some_of None A B h e = absurd (cc)
+some_of (Some p) A B h e = (p, h)
+
+pub none_of : (o : Option Punctuator) (A : Type 0) (B : Punctuator → Type 0) → MatchOption o A B → is_some o ≡ false → A
+none_of None A B h e = h
+none_of (Some p) A B h e = absurd (cc)
+
+pub also_shorter : (text : List ℕ) (n : ℕ) → n < 3 → ((m : ℕ) → 3 - n < m → m ≤ 3 → m ≤ length text → (q : Punctuator) → take m text ≢ punctuator_text q) → (3 - n ≤ length text → (q : Punctuator) → take (3 - n) text ≢ punctuator_text q) → (m : ℕ) → 3 - (n + 1) < m → m ≤ 3 → m ≤ length text → (q : Punctuator) → take m text ≢ punctuator_text q
+also_shorter text n few longer here m gt le within q = by_order (cases_lt (3 - n) m)
+  where
+    by_order : (3 - n < m) ⊎ (m ≤ 3 - n) → take m text ≢ punctuator_text q
+    by_order (inl lt) = longer m lt le within q
+    by_order (inr ge) =
+        let same : 3 - n ≡ m = omega arith in
+        let P : ℕ → Type 0 = λ k. k ≤ length text → take k text ≢ punctuator_text q in
+        subst P same (λ inside. here inside q) within
+
+pub is_true : (b : Bool) → b ≡ true → IsTrue b
+is_true b e = e

@@ -1,4 +1,5 @@
 mod KeywordNames
+mod LiteralFronts
 mod LiteralReads
 mod PieceFacts
 mod Readings

@@ -195,3 +195,12 @@ read_closed quote m end count text elements fault not l h =
     let P : ℕ → Type 0 = λ k. slice_index text k ≡ quote in
     let here : elements_length elements + 1 ≡ end = omega (arith, size, h.place) in
     (omega (arith, l.whole), omega (arith, l.whole, l.within), subst P here l.closed, ap (λ l. length l) same ∙ sym h.counted)
+
+pub element_rest : (quote : ℕ) (text : List ℕ) (end : ℕ) (a : Element) → IsElement quote (take (length text - end) (drop end text)) a → IsElement quote (drop end text) a
+element_rest quote text end a is = let P : List ℕ → Type 0 = λ t. IsElement quote t a in subst P (take_rest text end) is
+
+pub ended : (quote : ℕ) (text : List ℕ) (end count : ℕ) (fault : ElementFault) → ElementsRead quote text end count → NoElement quote (take (length text - end) (drop end text)) × Refused fault quote (take (length text - end) (drop end text)) → ElementsEnd quote text end count fault
+ended quote text end count fault r h =
+    let P : List ℕ → Type 0 = λ t. NoElement quote t × Refused fault quote t in
+    let g = subst P (take_rest text end) h in
+    record { elements = r.elements; read = r.read; place = r.place; counted = r.counted; within = r.within; none = g.0; refused = g.1 }

@@ -65,7 +65,8 @@ fn literal_piece(text: &[u8], quote: u8) -> Result<Piece, LexFaultKind>
 
 /// The comment that begins the text.
 fn comment_piece(text: &[u8]) -> Result<Piece, LexFaultKind>
-    requires { opening_of (slice_index text.now 0) (slice_index text.now 1) ≡ Opening.Comment }
+    requires { (slice_index text.now 0 ≡ 47)
+        × ((slice_index text.now 1 ≡ 42) ⊎ (slice_index text.now 1 ≡ 47)) }
     ensures { MatchResult result
         (λ piece. (start : Bool) → IsNext start text.now piece)
         (λ kind. ((start : Bool) → HasNone start text.now) × IsFault kind text.now) }
