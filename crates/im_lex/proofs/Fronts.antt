@@ -66,16 +66,21 @@ pub next_name : (text : List ℕ) (n : ℕ) → IsNameStart (slice_index text 0)
 next_name text n first run none start =
     let some = name_run_some text n first run in
     let P : ℕ → Type 0 = λ b. IsNameStart b in
-    let Q : ℕ → Type 0 = λ b. IsNameByte b in
-    (record {
-      within = run.within;
-      is = (record {
-        some = omega (arith, length-take-le n text run.within);
-        first = subst P (sym (at n text 0 (omega arith))) first;
-        each = λ i h. (let lt : i < n = omega (arith, length-take-le n text run.within) in subst Q (sym (at n text i lt)) (run.each i lt));
-      }, none);
-      longest = name_longest start text n first run;
-    }, tt)
+    let Q : ℕ → Type 0 = λ b. IsNameByte b in (
+      record {
+        within = run.within;
+        is = (
+          record {
+            some = omega (arith, length-take-le n text run.within);
+            first = subst P (sym (at n text 0 (omega arith))) first;
+            each = λ i h. (let lt : i < n = omega (arith, length-take-le n text run.within) in subst Q (sym (at n text i lt)) (run.each i lt));
+          },
+          none,
+        );
+        longest = name_longest start text n first run;
+      },
+      tt,
+    )
 
 pub next_keyword : (text : List ℕ) (n : ℕ) → IsNameStart (slice_index text 0) → IsRun IsNameByte text n → (k : Keyword) → take n text ≡ keyword_text k → (start : Bool) → IsNext start text (record { kind = Token KeywordToken; length = n })
 next_keyword text n first run k e start = (record { within = run.within; is = (k, e); longest = name_longest start text n first run }, tt)
@@ -113,10 +118,10 @@ number_run start text n begins run =
         some = omega (arith, length-take-le n text run.within, run.some);
         begins = begins_front text n begins run;
         each = λ i pos h.
-          let lt : i < n = omega (arith, length-take-le n text run.within) in
-          let P : ℕ → Type 0 = λ b. GoesOn b (slice_index (take n text) i) in
-          let Q : ℕ → Type 0 = λ b. GoesOn (slice_index text (i - 1)) b in
-          subst P (sym (at n text (i - 1) (omega arith))) (subst Q (sym (at n text i lt)) (run.each i pos lt));
+            let lt : i < n = omega (arith, length-take-le n text run.within) in
+            let P : ℕ → Type 0 = λ b. GoesOn b (slice_index (take n text) i) in
+            let Q : ℕ → Type 0 = λ b. GoesOn (slice_index text (i - 1)) b in
+            subst P (sym (at n text (i - 1) (omega arith))) (subst Q (sym (at n text i lt)) (run.each i pos lt));
       };
       longest = number_longest start text n begins run;
     }
@@ -138,14 +143,16 @@ piece_within start text p is = (omega (arith, piece_some start p.kind (take p.le
 
 pub next_blank : (text : List ℕ) → 0 < length text → IsBlank (slice_index text 0) → (start : Bool) → IsNext start text (record { kind = BlankPiece; length = 1 })
 next_blank text some is start =
-    let P : ℕ → Type 0 = λ b. IsBlank b in
-    (record {
-      within = omega arith;
-      is = (length-take-le 1 text (omega arith), subst P (sym (at 1 text 0 (omega arith))) is);
-      longest = longest_by start text 1 (omega arith) (λ k m two within p e.
-        let one = if_blank start k (take m text) p (e ∙ blank_opening (slice_index text 0) (slice_index text 1) is) in
-        omega (arith, length-take-le m text within));
-    }, tt)
+    let P : ℕ → Type 0 = λ b. IsBlank b in (
+      record {
+        within = omega arith;
+        is = (length-take-le 1 text (omega arith), subst P (sym (at 1 text 0 (omega arith))) is);
+        longest = longest_by start text 1 (omega arith) (λ k m two within p e.
+            let one = if_blank start k (take m text) p (e ∙ blank_opening (slice_index text 0) (slice_index text 1) is) in
+            omega (arith, length-take-le m text within));
+      },
+      tt,
+    )
 
 -- lines
 
@@ -178,12 +185,14 @@ two_first text b c nb nc e f (suc (suc j)) h g = absurd (omega arith)
 
 pub next_line_comment : (text : List ℕ) (n : ℕ) → slice_index text 0 ≡ 47 → slice_index text 1 ≡ 47 → IsRun (λ b. b ≢ 10) text n → (start : Bool) → IsNext start text (record { kind = CommentPiece; length = n })
 next_line_comment text n slash second run start =
-    let two : 1 < n = line_past text n 1 run (stands text 1 (omega (arith, second))) (two_first text 47 47 (λ e. omega arith) (λ e. omega arith) slash second) in
-    (record {
-      within = run.within;
-      is = inl (record { slash = at n text 0 (omega arith) ∙ slash; second = at n text 1 two ∙ second; line = line_front text n run });
-      longest = longest_by start text n (omega arith) (λ k m more within p e. bound m more within (if_comment start k (take m text) p (e ∙ two_bytes_opening text 47 47 Comment slash second refl)));
-    }, tt)
+    let two : 1 < n = line_past text n 1 run (stands text 1 (omega (arith, second))) (two_first text 47 47 (λ e. omega arith) (λ e. omega arith) slash second) in (
+      record {
+        within = run.within;
+        is = inl (record { slash = at n text 0 (omega arith) ∙ slash; second = at n text 1 two ∙ second; line = line_front text n run });
+        longest = longest_by start text n (omega arith) (λ k m more within p e. bound m more within (if_comment start k (take m text) p (e ∙ two_bytes_opening text 47 47 Comment slash second refl)));
+      },
+      tt,
+    )
   where
     bound : (m : ℕ) → 2 ≤ m → m ≤ length text → (IsLineComment (take m text) ⊎ IsBlockComment (take m text)) ⊎ IsOpenComment (take m text) → m ≤ n
     bound m more within (inl (inl h)) = line_bound text n m run within h.line
@@ -199,18 +208,20 @@ closes_whole text m i h c = (sym (at m text i (omega arith)) ∙ c.0, sym (at m 
 pub next_block_comment : (text : List ℕ) (n : ℕ) → slice_index text 0 ≡ 47 → slice_index text 1 ≡ 42 → IsCommentEnd text n → (start : Bool) → IsNext start text (record { kind = CommentPiece; length = n })
 next_block_comment text n slash star end start =
     let size = length-take-le n text end.within in
-    let P : ℕ → Type 0 = λ k. ClosesAt (take n text) (k - 2) in
-    (record {
-      within = end.within;
-      is = inr (record {
-        slash = at n text 0 (omega (arith, end.some)) ∙ slash;
-        star = at n text 1 (omega (arith, end.some)) ∙ star;
-        some = omega (arith, size, end.some);
-        closed = subst P (sym size) (closes_front text n (n - 2) (omega (arith, end.some)) end.closed);
-        first = λ i two h c. end.first i two (omega (arith, size)) (closes_whole text n i (omega (arith, size)) c);
-      });
-      longest = longest_by start text n (omega (arith, end.some)) (λ k m more within p e. bound m more within (cases_lt n m) (if_comment start k (take m text) p (e ∙ two_bytes_opening text 47 42 Comment slash star refl)));
-    }, tt)
+    let P : ℕ → Type 0 = λ k. ClosesAt (take n text) (k - 2) in (
+      record {
+        within = end.within;
+        is = inr (record {
+          slash = at n text 0 (omega (arith, end.some)) ∙ slash;
+          star = at n text 1 (omega (arith, end.some)) ∙ star;
+          some = omega (arith, size, end.some);
+          closed = subst P (sym size) (closes_front text n (n - 2) (omega (arith, end.some)) end.closed);
+          first = λ i two h c. end.first i two (omega (arith, size)) (closes_whole text n i (omega (arith, size)) c);
+        });
+        longest = longest_by start text n (omega (arith, end.some)) (λ k m more within p e. bound m more within (cases_lt n m) (if_comment start k (take m text) p (e ∙ two_bytes_opening text 47 42 Comment slash star refl)));
+      },
+      tt,
+    )
   where
     bound : (m : ℕ) → 2 ≤ m → m ≤ length text → (n < m) ⊎ (m ≤ n) → (IsLineComment (take m text) ⊎ IsBlockComment (take m text)) ⊎ IsOpenComment (take m text) → m ≤ n
     bound m more within (inr le) h = le
@@ -227,8 +238,8 @@ open_comment start text slash star none =
         slash = at (length text) text 0 (omega arith) ∙ slash;
         star = at (length text) text 1 two ∙ star;
         none = λ i h g c.
-          let le : i + 2 ≤ length text = omega (arith, length-take-le (length text) text (omega arith)) in
-          none i h le (closes_whole text (length text) i le c);
+            let le : i + 2 ≤ length text = omega (arith, length-take-le (length text) text (omega arith)) in
+            none i h le (closes_whole text (length text) i le c);
       };
       longest = λ k m within is. within;
     }
@@ -284,12 +295,14 @@ marker_whole text n within h =
 
 pub next_marker : (start : Bool) (text : List ℕ) (n : ℕ) → IsTrue start → BeginsMarker text → IsRun (λ b. b ≢ 10) text n → IsNext start text (record { kind = Marker; length = n })
 next_marker start text n starts h run =
-    let lt : h.place < n = line_past text n h.place run (stands text h.place (omega (arith, h.digit.0))) (marker_line text h) in
-    (record {
-      within = run.within;
-      is = (starts, marker_front text n h lt, line_front text n run);
-      longest = longest_by start text n (omega (arith, h.behind)) (λ k m more within p e. line_bound text n m run within (if_hash start k (take m text) p (e ∙ byte_opening text 35 Hash h.hash refl)).2);
-    }, tt)
+    let lt : h.place < n = line_past text n h.place run (stands text h.place (omega (arith, h.digit.0))) (marker_line text h) in (
+      record {
+        within = run.within;
+        is = (starts, marker_front text n h lt, line_front text n run);
+        longest = longest_by start text n (omega (arith, h.behind)) (λ k m more within p e. line_bound text n m run within (if_hash start k (take m text) p (e ∙ byte_opening text 35 Hash h.hash refl)).2);
+      },
+      tt,
+    )
 
 pub no_marker : (start : Bool) (text : List ℕ) → slice_index text 0 ≡ 35 → (IsTrue start → BeginsMarker text → ⊥) → HasNone start text
 no_marker start text hash none p is =
@@ -302,12 +315,14 @@ no_marker start text hash none p is =
 
 pub next_punctuator : (text : List ℕ) (n : ℕ) → opening text ≡ Other → n ≤ length text → (p : Punctuator) → take n text ≡ punctuator_text p → ((m : ℕ) → n < m → m ≤ 3 → m ≤ length text → (q : Punctuator) → take m text ≢ punctuator_text q) → (start : Bool) → IsNext start text (record { kind = Token PunctuatorToken; length = n })
 next_punctuator text n opens within p e none start =
-    let size : length (take n text) ≡ length (punctuator_text p) = ap length e in
-    (record {
-      within = within;
-      is = (p, e);
-      longest = longest_by start text n (omega (arith, size, length-take-le n text within, punctuator_length p)) (λ k m more inside is f. bound m inside (cases_lt n m) (if_other start k (take m text) is (f ∙ opens)));
-    }, tt)
+    let size : length (take n text) ≡ length (punctuator_text p) = ap length e in (
+      record {
+        within = within;
+        is = (p, e);
+        longest = longest_by start text n (omega (arith, size, length-take-le n text within, punctuator_length p)) (λ k m more inside is f. bound m inside (cases_lt n m) (if_other start k (take m text) is (f ∙ opens)));
+      },
+      tt,
+    )
   where
     bound : (m : ℕ) → m ≤ length text → (n < m) ⊎ (m ≤ n) → (q : Punctuator) × (take m text ≡ punctuator_text q) → m ≤ n
     bound m inside (inr le) h = le
@@ -331,12 +346,13 @@ no_punctuator text opens none start p is =
     by_order (inr ge) = opening_at start p.kind p.length text ge is.0.is ∙ opens
 
 pub bad_byte : (text : List ℕ) → opening text ≡ Other → (slice_index text 0 ≢ 35) × (slice_index text 0 ≢ 39) × (slice_index text 0 ≢ 34) × (BeginsNumber text → ⊥) × (slice_index text 0 ≡ 47 → slice_index text 1 ≢ 42)
-bad_byte text opens =
-    (λ e. (let f = sym opens ∙ byte_opening text 35 Hash e refl in absurd (cc)),
-     λ e. (let f = sym opens ∙ byte_opening text 39 Character e refl in absurd (cc)),
-     λ e. (let f = sym opens ∙ byte_opening text 34 Text e refl in absurd (cc)),
-     λ h. (let f = sym opens ∙ number_opening text h in absurd (cc)),
-     λ e g. (let f = sym opens ∙ two_bytes_opening text 47 42 Comment e g refl in absurd (cc)))
+bad_byte text opens = (
+  λ e. (let f = sym opens ∙ byte_opening text 35 Hash e refl in absurd (cc)),
+  λ e. (let f = sym opens ∙ byte_opening text 39 Character e refl in absurd (cc)),
+  λ e. (let f = sym opens ∙ byte_opening text 34 Text e refl in absurd (cc)),
+  λ h. (let f = sym opens ∙ number_opening text h in absurd (cc)),
+  λ e g. (let f = sym opens ∙ two_bytes_opening text 47 42 Comment e g refl in absurd (cc)),
+)
 
 pub star_second : (text : List ℕ) → (slice_index text 1 ≡ 42) ⊎ (slice_index text 1 ≡ 47) → slice_index text 1 ≢ 47 → slice_index text 1 ≡ 42
 star_second text (inl e) differs = e

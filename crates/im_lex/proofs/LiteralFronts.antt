@@ -88,12 +88,14 @@ literal_longest quote text end count fault kind begins read start k m within is 
 pub next_text : (quote : ℕ) (text : List ℕ) (end count : ℕ) (fault : ElementFault) → quote ≡ 34 → slice_index text 0 ≡ quote → ElementsEnd quote text end count fault → end < length text → slice_index text end ≡ quote → (start : Bool) → IsNext start text (record { kind = Token TextToken; length = end + 1 })
 next_text quote text end count fault kind begins read within closed start =
     let P : ℕ → Type 0 = λ q. IsLiteral q (take (end + 1) text) read.elements in
-    let is = subst P kind (literal_front quote (end + 1) text read.elements (literal_read quote text end count fault begins read within closed)) in
-    (record {
-      within = omega arith;
-      is = (map (λ (a : Element). a.value) read.elements, (read.elements, is, refl));
-      longest = literal_longest quote text end count fault (inr kind) begins read start;
-    }, tt)
+    let is = subst P kind (literal_front quote (end + 1) text read.elements (literal_read quote text end count fault begins read within closed)) in (
+      record {
+        within = omega arith;
+        is = (map (λ (a : Element). a.value) read.elements, (read.elements, is, refl));
+        longest = literal_longest quote text end count fault (inr kind) begins read start;
+      },
+      tt,
+    )
 
 only_one : (quote : ℕ) (bytes : List ℕ) (elements : List Element) → length elements ≡ 1 → IsLiteral 39 bytes elements → (value : ℕ) × IsCharacter bytes value
 only_one quote bytes [] one is = absurd (omega arith)
@@ -103,9 +105,15 @@ only_one quote bytes (a ∷ b ∷ more) one is = absurd (omega arith)
 pub next_character : (quote : ℕ) (text : List ℕ) (end count : ℕ) (fault : ElementFault) → quote ≡ 39 → count ≡ 1 → slice_index text 0 ≡ quote → ElementsEnd quote text end count fault → end < length text → slice_index text end ≡ quote → (start : Bool) → IsNext start text (record { kind = Token CharacterToken; length = end + 1 })
 next_character quote text end count fault kind one begins read within closed start =
     let P : ℕ → Type 0 = λ q. IsLiteral q (take (end + 1) text) read.elements in
-    let is = subst P kind (literal_front quote (end + 1) text read.elements (literal_read quote text end count fault begins read within closed)) in
-    (record {
-      within = omega arith;
-      is = only_one quote (take (end + 1) text) read.elements (sym read.counted ∙ one) is;
-      longest = literal_longest quote text end count fault (inl kind) begins read start;
-    }, tt)
+    let is = subst P kind (literal_front quote (end + 1) text read.elements (literal_read quote text end count fault begins read within closed)) in (
+      record {
+        within = omega arith;
+        is = only_one quote (take (end + 1) text) read.elements (sym read.counted ∙ one) is;
+        longest = literal_longest quote text end count fault (inl kind) begins read start;
+      },
+      tt,
+    )
+
+pub single_quote : (quote : ℕ) → (quote ≡ 39) ⊎ (quote ≡ 34) → quote ≢ 34 → quote ≡ 39
+single_quote quote (inl e) differs = e
+single_quote quote (inr e) differs = absurd (differs e)

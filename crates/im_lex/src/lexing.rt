@@ -29,11 +29,18 @@ pub fn lex(alloc: Global, source: &[u8]) -> Result<Vec<Token>, LexFault>
         let starts_line = at == 0 || source[at - 1] == b'\n';
         let piece = match piece_at(&source[at..], starts_line) {
             Ok(piece) => piece,
-            Err(kind) => return Err(LexFault::Stuck { at: at as u32, kind }),
+            Err(kind) => return Err(LexFault::Stuck {
+                at: at as u32,
+                kind,
+            }),
         };
         let end = at + piece.length;
         if let PieceKind::Token(kind) = piece.kind {
-            tokens.push(Token { kind, span: (at as u32, end as u32), line: line as u32 })?;
+            tokens.push(Token {
+                kind,
+                span: (at as u32, end as u32),
+                line: line as u32,
+            })?;
         }
         line += line_ends(&source[at..end]);
         at = end;
@@ -46,5 +53,4 @@ pub fn one_reading()
     ensures tokens { (text : List ℕ) (a b : List Token) → Lexes text a → Lexes text b → a ≡ b }
     ensures place { (text : List ℕ) (a b : ℕ) → StuckAt text a → StuckAt text b → a ≡ b }
     ensures apart { (text : List ℕ) (tokens : List Token) (at : ℕ) → Lexes text tokens → StuckAt text at → ⊥ }
-{
-}
+{}

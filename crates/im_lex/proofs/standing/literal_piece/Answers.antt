@@ -1,18 +1,11 @@
-use Rattle.std.proofs.Common.{◌≡◌, arith}
-use Rattle.im_lex.proofs.LiteralFronts.{no_literal, bad_escape, broken, next_text, next_character}
+use Rattle.std.proofs.Common.{◌≡◌, arith, subst}
+use Rattle.im_tok.specs.declared.literal.ElementFault.{ElementFault}
+use Rattle.im_lex.specs.Runs.{ElementsEnd}
+use Rattle.im_lex.proofs.LiteralFronts.{bad_escape, broken}
 use Rattle.im_lex.proofs.standing.literal_piece.Goals as goal
 
 pub returns-in-BadEscape : goal.returns-in-BadEscape
-returns-in-BadEscape c = ?
-
-pub returns-in-End : goal.returns-in-End
-returns-in-End c = ?
-
-pub returns-in-End-2 : goal.returns-in-End-2
-returns-in-End-2 c = ?
-
-pub returns-in-End-3 : goal.returns-in-End-3
-returns-in-End-3 c = ?
-
-pub returns-in-End-4 : goal.returns-in-End-4
-returns-in-End-4 c = ?
+returns-in-BadEscape c =
+    let P : ElementFault → Type 0 = λ f. ElementsEnd c.args.quote c.args.text.now c.elements_end-elements.result.end c.elements_end-elements.result.count f in
+    let read = subst P c.in-BadEscape.is c.elements_end-elements.ensures in
+    (bad_escape c.args.quote c.args.text.now _ _ c.requires.kind c.requires.begins read, broken c.args.quote c.args.text.now _ _ _ c.requires.kind c.requires.begins read)

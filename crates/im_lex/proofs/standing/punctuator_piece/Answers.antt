@@ -10,9 +10,9 @@ returns-then-is_some c =
 
 pub loop-shorter-preserved : goal.loop-shorter-preserved
 loop-shorter-preserved c = also_shorter c.args.text.now c.loop-shorter.shorter c.loop-shorter-test.true c.loop-shorter.invariant (elim c.else-length-text.branch [
-      else-length-text-via-then-length-text+else-is_some w ↦ (λ within. none_of w.punctuator_of.result _ _ w.punctuator_of.ensures (sym w.is_some.ensures ∙ w.if-is_some.false))
-    | else-length-text-via-else-length-text w ↦ (λ within. absurd (omega arith))
-    ])
+  | else-length-text-via-then-length-text+else-is_some w ↦ (λ within. none_of w.punctuator_of.result _ _ w.punctuator_of.ensures (sym w.is_some.ensures ∙ w.if-is_some.false))
+  | else-length-text-via-else-length-text w ↦ (λ within. absurd (omega arith))
+])
 
 pub returns : goal.returns
 returns c = (no_punctuator c.args.text.now c.requires (λ m pos few within. c.loop-shorter.invariant m (omega arith) few within), bad_byte c.args.text.now c.requires)

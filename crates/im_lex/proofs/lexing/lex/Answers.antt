@@ -1,0 +1,18 @@
+use Rattle.std.proofs.Common.{◌≡◌, ◌+◌, ◌++◌, List, ℕ, Bool, arith, sym, ◌∙◌, ap, ◌∷◌, []}
+use Rattle.im_tok.specs.declared.token.Token.{Token}
+use Rattle.im_lex.specs.Lexing.{starts_line, token_of, line_at}
+use Rattle.im_lex.proofs.Readings.{reading_push, no_token, a_token, starts_first, starts_later}
+use Rattle.im_lex.proofs.lexing.lex.Goals as goal
+use Rattle.im_lex.proofs.lexing.lex.Goals.{in-Token+in_ok-push, in_default, then-at-eq0, else-at-eq0}
+
+pub loop-at-preserved : goal.loop-at-preserved
+loop-at-preserved c =
+    let starts : c.if-at-eq0.starts_line ≡ starts_line c.args.source.now c.loop-at.at = elim c.if-at-eq0.branch [
+      | then-at-eq0 w ↦ starts_first c.args.source.now c.loop-at.at _ w.if-at-eq0.true w.starts_line-is
+      | else-at-eq0 w ↦ starts_later c.args.source.now c.loop-at.at _ w.if-at-eq0.false w.starts_line-is
+    ] in
+    let grown : c.match-piece.tokens.items ≡ c.loop-at.tokens.items ++ token_of c.args.source.now c.loop-at.at c.in-Ok.piece.kind c.in-Ok.piece.length = elim c.match-piece.branch [
+      | in-Token+in_ok-push w ↦ ap (λ v. v.items) w.tokens-is ∙ a_token c.args.source.now c.loop-at.at c.in-Ok.piece.length c.loop-at.line c.loop-at.tokens.items _ c.in-Ok.piece.kind w.in-Token.kind c.loop-at.invariant.line_is w.in-Token.is w.in_ok-push.ensures.items
+      | in_default w ↦ ap (λ v. v.items) w.tokens-is ∙ no_token c.args.source.now c.loop-at.at c.in-Ok.piece.length c.loop-at.tokens.items c.in-Ok.piece.kind w.in_default.not-Token
+    ] in
+    reading_push c.args.source.now c.loop-at.at c.loop-at.line c.loop-at.tokens.items _ c.if-at-eq0.starts_line c.in-Ok.piece c.line_ends-line.result c.loop-at.invariant starts c.in-Ok.ensures c.line_ends-line.ensures grown
