@@ -5,4 +5,5 @@ mod PieceFacts
 mod Readings
 mod OpeningFacts
 mod Spellings
+mod EachToken
 mod Fronts

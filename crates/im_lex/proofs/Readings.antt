@@ -109,3 +109,25 @@ starts_first text at b e f =
 pub starts_later : (text : List ℕ) (at : ℕ) (b : Bool) → at ≢ 0 → b ≡ (slice_index text (at - 1) == 10) → b ≡ starts_line text at
 starts_later text zero b differs f = absurd (differs refl)
 starts_later text (suc at) b differs f = f ∙ sym (ap (λ x. x || (slice_index text (suc at - 1) == 10)) (eqb-suc-zero at))
+
+pub one_list : (text : List ℕ) (a b : List Token) → Lexes text a → Lexes text b → a ≡ b
+one_list text a b g h =
+    g.2 ∙ ap (λ ps. tokens_of text 0 ps) (one_cut text 0 g.0 h.0 (length text) (length text) g.1 h.1 (none_at_end text) (none_at_end text)).0 ∙ sym h.2
+
+pub apart : (text : List ℕ) (tokens : List Token) (at : ℕ) → Lexes text tokens → StuckAt text at → ⊥
+apart text tokens at g h =
+    omega (arith, (one_cut text 0 g.0 h.pieces (length text) at g.1 h.cut (none_at_end text) h.none).1, h.left)
+
+-- a reading up to the end is one of the text
+pub finished : (text : List ℕ) (at line : ℕ) (tokens : List Token) → Reading text at line tokens → length text ≤ at → Lexes text tokens
+finished text at line tokens r end =
+    let P : ℕ → Type 0 = λ n. IsCut text 0 r.pieces n in
+    let same : at ≡ length text = omega (arith, r.within) in
+    (r.pieces, subst P same r.cut, r.tokens_are)
+
+-- a reading up to where no piece stands
+pub stuck_there : (text : List ℕ) (at line : ℕ) (tokens : List Token) (starts : Bool) → Reading text at line tokens → starts ≡ starts_line text at → at < length text → HasNone starts (take (length text - at) (drop at text)) → StuckAt text at
+stuck_there text at line tokens starts r at_start left none =
+    let P : List ℕ → Type 0 = λ t. HasNone starts t in
+    let Q : Bool → Type 0 = λ b. HasNone b (drop at text) in
+    record { pieces = r.pieces; cut = r.cut; left = left; none = subst Q at_start (subst P (take_rest text at) none) }

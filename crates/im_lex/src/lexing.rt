@@ -1,6 +1,7 @@
-ghost use Rattle.std.specs.Prelude.{◌≡◌, ℕ, ◌<◌, ◌^◌, ◌==◌, List, IfOk, IfErr, length, count_by};
+ghost use Rattle.std.specs.Prelude.{◌≡◌, ℕ, ◌<◌, ◌^◌, ◌==◌, List, All, IfOk, IfErr, MatchResult, length, count_by};
 ghost use Rattle.im_lex.specs.Lexing.{Lexes, StuckAt};
 ghost use Rattle.im_lex.specs.Faults.{IsLexFault};
+ghost use Rattle.im_lex.specs.Tokens.{IsTokenOf};
 ghost use Rattle.im_tok.specs.declared.token.Token.{Token};
 
 use crate::fault::LexFault;
@@ -21,6 +22,9 @@ pub fn lex(alloc: Global, source: &[u8]) -> Result<Vec<Token>, LexFault>
     requires { length source.now < 2 ^ 32 }
     ensures lexes { IfOk result (λ tokens. Lexes source.now tokens.items) }
     ensures stuck { IfErr result (λ fault. IsLexFault source.now fault) }
+    ensures exact { (tokens : List Token) → Lexes source.now tokens →
+        MatchResult result (λ found. found.items ≡ tokens) (λ fault. fault ≡ LexFault.OutOfMemory) }
+    ensures each { IfOk result (λ tokens. All (IsTokenOf source.now) tokens.items) }
 {
     let mut tokens = Vec::new(alloc);
     let mut at = 0;
