@@ -8,6 +8,8 @@ mod opening;
 mod piece;
 mod runs;
 mod standing;
+#[cfg(test)]
+mod tests;
 
 pub use fault::{LexFault, LexFaultKind};
 pub use lexing::{lex, one_reading};

@@ -21,8 +21,8 @@ loop-at-preserved c =
 pub returns-in-Err-clause-exact : goal.returns-in-Err-clause-exact
 returns-in-Err-clause-exact c =
     let starts : c.if-at-eq0.starts_line ≡ starts_line c.args.source.now c.loop-at.at = elim c.if-at-eq0.branch [
-      then-at-eq0 w ↦ starts_first c.args.source.now c.loop-at.at _ w.if-at-eq0.true w.starts_line-is
-    | else-at-eq0 w ↦ starts_later c.args.source.now c.loop-at.at _ w.if-at-eq0.false w.starts_line-is
+      | then-at-eq0 w ↦ starts_first c.args.source.now c.loop-at.at _ w.if-at-eq0.true w.starts_line-is
+      | else-at-eq0 w ↦ starts_later c.args.source.now c.loop-at.at _ w.if-at-eq0.false w.starts_line-is
     ] in
     λ tokens lexes. absurd (apart c.args.source.now tokens c.loop-at.at lexes (stuck_there c.args.source.now c.loop-at.at c.loop-at.line c.loop-at.tokens.items c.if-at-eq0.starts_line c.loop-at.invariant starts c.loop-at-test.true c.in-Err.ensures.0))
 
