@@ -6,7 +6,7 @@ ghost use Rattle.im_tok.specs.declared.token.Token.{Token};
 
 use crate::fault::LexFault;
 use crate::piece::PieceKind;
-use crate::standing::piece_at;
+use crate::pieces::piece_at;
 use im_tok::Token;
 use std::alloc::Global;
 

@@ -6,8 +6,8 @@ mod lexing;
 mod literals;
 mod opening;
 mod piece;
+mod pieces;
 mod runs;
-mod standing;
 #[cfg(test)]
 mod tests;
 

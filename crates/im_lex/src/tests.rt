@@ -1,10 +1,10 @@
 use crate::{LexFault, LexFaultKind, lex};
-use im_tok::TokenKind;
+use im_tok::{Punctuator, TokenKind};
 use std::test::Fail;
 
 #[test]
 fn one_token(rt: HostRuntime) -> Result<(), Fail> {
-    let table: [(&[u8], TokenKind); 72] = [
+    let table: [(&[u8], TokenKind); 26] = [
         (b"x", TokenKind::Name),
         (b"_Bool1", TokenKind::Name),
         (b"integer", TokenKind::Name),
@@ -31,52 +31,6 @@ fn one_token(rt: HostRuntime) -> Result<(), Fail> {
         (b"\"a\\\"b'\"", TokenKind::Text),
         (b"\"\\0018\"", TokenKind::Text),
         (b"\"/* // */\"", TokenKind::Text),
-        (b"[", TokenKind::Punctuator),
-        (b"]", TokenKind::Punctuator),
-        (b"(", TokenKind::Punctuator),
-        (b")", TokenKind::Punctuator),
-        (b"{", TokenKind::Punctuator),
-        (b"}", TokenKind::Punctuator),
-        (b".", TokenKind::Punctuator),
-        (b"->", TokenKind::Punctuator),
-        (b"++", TokenKind::Punctuator),
-        (b"--", TokenKind::Punctuator),
-        (b"&", TokenKind::Punctuator),
-        (b"*", TokenKind::Punctuator),
-        (b"+", TokenKind::Punctuator),
-        (b"-", TokenKind::Punctuator),
-        (b"~", TokenKind::Punctuator),
-        (b"!", TokenKind::Punctuator),
-        (b"/", TokenKind::Punctuator),
-        (b"%", TokenKind::Punctuator),
-        (b"<<", TokenKind::Punctuator),
-        (b">>", TokenKind::Punctuator),
-        (b"<", TokenKind::Punctuator),
-        (b">", TokenKind::Punctuator),
-        (b"<=", TokenKind::Punctuator),
-        (b">=", TokenKind::Punctuator),
-        (b"==", TokenKind::Punctuator),
-        (b"!=", TokenKind::Punctuator),
-        (b"^", TokenKind::Punctuator),
-        (b"|", TokenKind::Punctuator),
-        (b"&&", TokenKind::Punctuator),
-        (b"||", TokenKind::Punctuator),
-        (b"?", TokenKind::Punctuator),
-        (b":", TokenKind::Punctuator),
-        (b";", TokenKind::Punctuator),
-        (b"...", TokenKind::Punctuator),
-        (b"=", TokenKind::Punctuator),
-        (b"*=", TokenKind::Punctuator),
-        (b"/=", TokenKind::Punctuator),
-        (b"%=", TokenKind::Punctuator),
-        (b"+=", TokenKind::Punctuator),
-        (b"-=", TokenKind::Punctuator),
-        (b"<<=", TokenKind::Punctuator),
-        (b">>=", TokenKind::Punctuator),
-        (b"&=", TokenKind::Punctuator),
-        (b"^=", TokenKind::Punctuator),
-        (b"|=", TokenKind::Punctuator),
-        (b",", TokenKind::Punctuator),
     ];
     for (source, kind) in table {
         assert!(rt; source.len() < 100);
@@ -85,6 +39,19 @@ fn one_token(rt: HostRuntime) -> Result<(), Fail> {
         assert!(rt; tokens[0].kind == kind, "{source:?}");
         assert_eq!(rt; tokens[0].span, (0, source.len() as u32));
         assert_eq!(rt; tokens[0].line, 1);
+    }
+    Ok(())
+}
+
+#[test]
+fn each_punctuator(rt: HostRuntime) -> Result<(), Fail> {
+    for punctuator in Punctuator::ALL {
+        let source = punctuator.text();
+        assert!(rt; source.len() < 100);
+        let tokens = lex(rt.alloc(), source)?;
+        assert_eq!(rt; tokens.len(), 1, "{punctuator:?}");
+        assert!(rt; tokens[0].kind == TokenKind::Punctuator, "{punctuator:?}");
+        assert_eq!(rt; tokens[0].span, (0, source.len() as u32));
     }
     Ok(())
 }

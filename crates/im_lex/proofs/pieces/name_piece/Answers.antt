@@ -1,6 +1,6 @@
 use Rattle.std.proofs.Common.{◌≡◌}
 use Rattle.im_lex.proofs.Fronts.{next_name, next_keyword}
-use Rattle.im_lex.proofs.standing.name_piece.Goals as goal
+use Rattle.im_lex.proofs.pieces.name_piece.Goals as goal
 
 pub returns-in-Some : goal.returns-in-Some
 returns-in-Some c = next_keyword c.args.text.now c.name_end-length.result c.requires c.name_end-length.ensures _ c.in-Some.ensures

@@ -2,7 +2,7 @@ use Rattle.std.proofs.Common.{◌≡◌, arith, subst}
 use Rattle.im_tok.specs.declared.literal.ElementFault.{ElementFault}
 use Rattle.im_lex.specs.Runs.{ElementsEnd}
 use Rattle.im_lex.proofs.LiteralFronts.{bad_escape, broken}
-use Rattle.im_lex.proofs.standing.literal_piece.Goals as goal
+use Rattle.im_lex.proofs.pieces.literal_piece.Goals as goal
 
 pub returns-in-BadEscape : goal.returns-in-BadEscape
 returns-in-BadEscape c =

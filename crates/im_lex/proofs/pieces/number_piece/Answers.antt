@@ -1,6 +1,6 @@
 use Rattle.std.proofs.Common.{◌≡◌}
 use Rattle.im_lex.proofs.Fronts.{next_number, no_number}
-use Rattle.im_lex.proofs.standing.number_piece.Goals as goal
+use Rattle.im_lex.proofs.pieces.number_piece.Goals as goal
 
 pub returns-in-Some : goal.returns-in-Some
 returns-in-Some c = next_number c.args.text.now c.number_end-length.result c.requires c.number_end-length.ensures _ c.in-Some.ensures

@@ -1,7 +1,7 @@
 use Rattle.std.proofs.Common.{◌≡◌, ◌-◌, arith, sym, ◌∙◌}
 use Rattle.im_lex.proofs.Fronts.{next_punctuator, no_punctuator, bad_byte, some_of, none_of, also_shorter}
-use Rattle.im_lex.proofs.standing.punctuator_piece.Goals as goal
-use Rattle.im_lex.proofs.standing.punctuator_piece.Goals.{else-length-text-via-then-length-text+else-is_some, else-length-text-via-else-length-text}
+use Rattle.im_lex.proofs.pieces.punctuator_piece.Goals as goal
+use Rattle.im_lex.proofs.pieces.punctuator_piece.Goals.{else-length-text-via-then-length-text+else-is_some, else-length-text-via-else-length-text}
 
 pub returns-then-is_some : goal.returns-then-is_some
 returns-then-is_some c =

@@ -1,5 +1,5 @@
 use Rattle.im_lex.proofs.Fronts.{next_blank}
-use Rattle.im_lex.proofs.standing.piece_at.Goals as goal
+use Rattle.im_lex.proofs.pieces.piece_at.Goals as goal
 
 pub returns-in-Blank : goal.returns-in-Blank
 returns-in-Blank c = next_blank c.args.text.now c.requires c.in-Blank.ensures.opens c.args.starts_line

@@ -1,6 +1,6 @@
 use Rattle.std.proofs.Common.{◌≡◌}
 use Rattle.im_lex.proofs.Fronts.{next_line_comment, next_block_comment, no_comment, star_second}
-use Rattle.im_lex.proofs.standing.comment_piece.Goals as goal
+use Rattle.im_lex.proofs.pieces.comment_piece.Goals as goal
 
 pub returns-then-text-eq47 : goal.returns-then-text-eq47
 returns-then-text-eq47 c = next_line_comment c.args.text.now c.line_end.result c.requires.0 c.if-text-eq47.true c.line_end.ensures
