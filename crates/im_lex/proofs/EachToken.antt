@@ -1,5 +1,5 @@
 -- The tokens that a text lexes to lie in it, and a text that lexes has one answer.
-use Rattle.std.proofs.Common.{◌≡◌, ℕ, zero, suc, ◌+◌, ◌-◌, ◌<◌, ◌≤◌, List, [], ◌∷◌, ◌++◌, Bool, false, length, take, drop, get_or, refl, sym, ap, subst, ◌∙◌, arith}
+use Rattle.std.proofs.Common.{◌≡◌, ℕ, zero, suc, ◌+◌, ◌≤◌, List, [], ◌∷◌, Bool, false, length, take, drop, sym, ap, subst, arith}
 use Rattle.std.specs.Prelude.{All, slice_range}
 use Rattle.std.proofs.lemmas.List.{length-drop}
 use Rattle.std.proofs.lemmas.List.Elements.{All-append}
@@ -9,7 +9,7 @@ use Rattle.im_tok.specs.declared.token.TokenKind.TheVariants.{Name, Keyword, Num
 use Rattle.im_lex.specs.declared.piece.PieceKind.{PieceKind}
 use Rattle.im_lex.specs.declared.piece.PieceKind.TheVariants.{Token as TokenPiece, Blank, Comment, Marker, OpenComment}
 use Rattle.im_lex.specs.declared.piece.Piece.{Piece}
-use Rattle.im_lex.specs.Pieces.{IsPiece, IsAccepted, IsNext}
+use Rattle.im_lex.specs.Pieces.{IsPiece, IsAccepted}
 use Rattle.im_lex.specs.Lexing.{starts_line, line_at, IsCut, token_of, tokens_of, Lexes}
 use Rattle.im_lex.specs.Tokens.{IsTokenOf}
 

@@ -1,5 +1,5 @@
 -- What stands at the front of a text, by how far its bytes run.
-use Rattle.std.proofs.Common.{◌≡◌, ◌≢◌, ℕ, zero, suc, ◌+◌, ◌-◌, ◌<◌, ◌≤◌, ◌⊎◌, inl, inr, List, [], ◌∷◌, Bool, true, false, IsTrue, length, take, drop, get_or, refl, sym, ap, subst, ◌∙◌, arith}
+use Rattle.std.proofs.Common.{◌≡◌, ◌≢◌, ℕ, zero, suc, ◌+◌, ◌-◌, ◌<◌, ◌≤◌, ◌⊎◌, inl, inr, List, Bool, true, false, IsTrue, length, take, refl, sym, ap, subst, ◌∙◌, arith}
 use Rattle.std.specs.Prelude.{slice_index, Option, Some, None, MatchOption, is_some}
 use Rattle.std.proofs.lemmas.Bool.{cases_lt}
 use Rattle.std.proofs.lemmas.List.{get_or-take, length-take-le, get_or_past}
@@ -9,17 +9,14 @@ use Rattle.im_tok.specs.Numbers.{IsNumeral}
 use Rattle.im_tok.specs.declared.keyword.Keyword.{Keyword}
 use Rattle.im_tok.specs.declared.punctuator.Punctuator.{Punctuator}
 use Rattle.im_tok.specs.declared.number.Number.{Number}
-use Rattle.im_tok.specs.declared.token.TokenKind.{TokenKind}
-use Rattle.im_tok.specs.declared.token.TokenKind.TheVariants.{Name as NameToken, Keyword as KeywordToken, Number as NumberToken, Character as CharacterToken, Text as TextToken, Punctuator as PunctuatorToken}
+use Rattle.im_tok.specs.declared.token.TokenKind.TheVariants.{Name as NameToken, Keyword as KeywordToken, Number as NumberToken, Punctuator as PunctuatorToken}
 use Rattle.im_lex.specs.declared.piece.PieceKind.{PieceKind}
 use Rattle.im_lex.specs.declared.piece.PieceKind.TheVariants.{Token, Blank as BlankPiece, Comment as CommentPiece, Marker, OpenComment}
 use Rattle.im_lex.specs.declared.piece.Piece.{Piece}
-use Rattle.im_lex.specs.declared.opening.Opening.{Opening}
 use Rattle.im_lex.specs.declared.opening.Opening.TheVariants.{Character, Text, Hash, Comment, Other}
 use Rattle.im_lex.specs.Bytes.{IsDigit, IsNameStart, IsNameByte, IsBlank, GoesOn}
-use Rattle.im_lex.specs.Openings.{opening_of}
 use Rattle.im_lex.specs.Runs.{IsRun, IsNumberEnd, IsCommentEnd}
-use Rattle.im_lex.specs.Pieces.{IsPiece, IsLongest, IsNext, HasNone, IsName, BeginsNumber, IsNumberRun, IsLineComment, IsBlockComment, IsOpenComment, BeginsMarker, IsOneLine, ClosesAt}
+use Rattle.im_lex.specs.Pieces.{IsPiece, IsLongest, IsNext, HasNone, BeginsNumber, IsLineComment, IsBlockComment, IsOpenComment, BeginsMarker, IsOneLine, ClosesAt}
 use Rattle.im_lex.proofs.OpeningFacts.{opening, code, piece_opening, other_alone, name_opening, blank_opening, number_opening, byte_opening, two_bytes_opening}
 use Rattle.im_lex.proofs.PieceFacts.{one_longest, opening_at, longest_from, if_blank, if_name, if_number, if_hash, if_comment, if_other}
 use Rattle.im_lex.proofs.Readings.{piece_some}

@@ -1,11 +1,11 @@
 -- The bytes of keywords are those of names.
-use Rattle.std.proofs.Common.{◌≡◌, ℕ, suc, zero, ◌<◌, ◌≤◌, ◌⊎◌, inl, inr, List, [], ◌∷◌, Bool, true, false, length, get_or, refl, sym, ap, subst, ◌∙◌, arith, cond, nat_lt, ◌&&◌}
+use Rattle.std.proofs.Common.{◌≡◌, ℕ, suc, zero, ◌<◌, ◌≤◌, ◌⊎◌, inl, inr, List, [], ◌∷◌, Bool, true, false, length, refl, sym, subst, arith, cond, nat_lt, ◌&&◌}
 use Rattle.std.specs.Prelude.{slice_index}
 use Rattle.std.specs.List.{list_all}
-use Rattle.std.proofs.lemmas.Bool.{ltb-true, lt-ltb, le-ltb, ltb-false}
+use Rattle.std.proofs.lemmas.Bool.{ltb-true, ltb-false}
 use Rattle.im_tok.specs.Keywords.{keyword_text}
 use Rattle.im_tok.specs.declared.keyword.Keyword.{Keyword}
-use Rattle.im_lex.specs.Bytes.{IsNameByte, IsNameStart}
+use Rattle.im_lex.specs.Bytes.{IsNameByte}
 use Rattle.im_lex.proofs.Spellings.{name_byte, keyword_bytes}
 
 cond_false : (b c : Bool) → cond b false c ≡ true → (b ≡ false) × (c ≡ true)

@@ -1,20 +1,18 @@
 -- What stands at a quote.
-use Rattle.std.proofs.Common.{◌≡◌, ◌≢◌, ℕ, zero, suc, ◌+◌, ◌-◌, ◌<◌, ◌≤◌, ◌⊎◌, inl, inr, List, [], ◌∷◌, Bool, length, take, drop, get_or, map, refl, sym, ap, subst, ◌∙◌, arith}
+use Rattle.std.proofs.Common.{◌≡◌, ◌≢◌, ℕ, ◌+◌, ◌<◌, ◌≤◌, ◌⊎◌, inl, inr, List, [], ◌∷◌, Bool, length, take, drop, map, refl, sym, ap, subst, ◌∙◌, arith}
 use Rattle.std.specs.Prelude.{slice_index}
 use Rattle.std.proofs.lemmas.List.{get_or-take, get_or-drop, length-take-le}
-use Rattle.im_tok.specs.Literals.{AreElements, elements_length, IsLiteral, IsCharacter, IsText, NoElement, Refused}
+use Rattle.im_tok.specs.Literals.{AreElements, elements_length, IsLiteral, IsCharacter, NoElement, Refused}
 use Rattle.im_tok.specs.declared.literal.Element.{Element}
 use Rattle.im_tok.specs.declared.literal.ElementFault.{ElementFault}
-use Rattle.im_tok.specs.declared.literal.ElementFault.TheVariants.{End, BadEscape}
-use Rattle.im_tok.specs.declared.token.TokenKind.{TokenKind}
+use Rattle.im_tok.specs.declared.literal.ElementFault.TheVariants.{BadEscape}
 use Rattle.im_tok.specs.declared.token.TokenKind.TheVariants.{Character as CharacterToken, Text as TextToken}
 use Rattle.im_lex.specs.declared.piece.PieceKind.{PieceKind}
 use Rattle.im_lex.specs.declared.piece.PieceKind.TheVariants.{Token}
-use Rattle.im_lex.specs.declared.piece.Piece.{Piece}
 use Rattle.im_lex.specs.declared.opening.Opening.TheVariants.{Character, Text}
 use Rattle.im_lex.specs.Runs.{ElementsEnd}
 use Rattle.im_lex.specs.Faults.{IsBroken}
-use Rattle.im_lex.specs.Pieces.{IsPiece, IsLongest, IsNext, HasNone}
+use Rattle.im_lex.specs.Pieces.{IsPiece, IsNext, HasNone}
 use Rattle.im_lex.proofs.OpeningFacts.{piece_opening, byte_opening}
 use Rattle.im_lex.proofs.PieceFacts.{if_character, if_text}
 use Rattle.im_lex.proofs.Readings.{piece_some}

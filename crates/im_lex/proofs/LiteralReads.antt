@@ -1,15 +1,12 @@
 -- How far a literal has been read, and what that says of its pieces.
-use Rattle.std.proofs.Common.{◌≡◌, ◌≢◌, ℕ, zero, suc, ◌+◌, ◌-◌, ◌<◌, ◌≤◌, ◌⊎◌, inl, inr, List, [], ◌∷◌, ◌++◌, Bool, length, Some, take, drop, get_or, map, refl, sym, ap, subst, ◌∙◌, arith, min}
+use Rattle.std.proofs.Common.{◌≡◌, ◌≢◌, ℕ, ◌+◌, ◌-◌, ◌<◌, ◌≤◌, inl, inr, List, [], ◌∷◌, ◌++◌, length, Some, take, drop, refl, sym, ap, subst, ◌∙◌, arith}
 use Rattle.std.specs.Prelude.{slice_index, slice_range}
-use Rattle.std.specs.Char.{digit_value}
-use Rattle.std.proofs.lemmas.Bool.{cases_lt}
-use Rattle.std.proofs.lemmas.List.{get_or-take, get_or-drop, length-take-le, length-drop, drop-drop, drop-take, take-take, take_rest, get_or_past}
+use Rattle.std.proofs.lemmas.List.{get_or-take, get_or-drop, length-take-le, length-drop, drop-drop, drop-take, take-take, take_rest}
 use Rattle.im_tok.specs.Digits.{IsDigitOf, digits_value}
-use Rattle.im_tok.specs.Literals.{IsPlain, IsSimple, IsNumeric, IsElement, simple_escape, AreElements, elements_length, IsLiteral, IsCharacter, IsText, NoElement, Refused}
+use Rattle.im_tok.specs.Literals.{IsNumeric, IsElement, simple_escape, AreElements, elements_length, IsLiteral, NoElement, Refused}
 use Rattle.im_tok.specs.Literals.IsElement.{plain, simple, octal, hexadecimal}
 use Rattle.im_tok.specs.declared.literal.Element.{Element}
 use Rattle.im_tok.specs.declared.literal.ElementFault.{ElementFault}
-use Rattle.im_tok.specs.declared.literal.ElementFault.TheVariants.{End, BadEscape}
 use Rattle.im_tok.proofs.Elements.{one_element, element_size, no_quote}
 use Rattle.im_lex.specs.Runs.{ElementsEnd}
 

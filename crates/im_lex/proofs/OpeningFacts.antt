@@ -1,15 +1,14 @@
 -- The first two bytes of a piece tell its kind.
-use Rattle.std.proofs.Common.{◌≡◌, ℕ, ◌+◌, ◌<◌, ◌≤◌, ◌⊎◌, inl, inr, List, Bool, length, take, get_or, refl, sym, ap, subst, ◌∙◌, arith, true, false, nat_lt, cond}
+use Rattle.std.proofs.Common.{◌≡◌, ℕ, ◌<◌, ◌≤◌, inl, inr, List, Bool, refl, ap, ◌∙◌, arith, true, false, nat_lt, cond}
 use Rattle.std.specs.Prelude.{slice_index}
 use Rattle.std.proofs.lemmas.Bool.{lt-ltb, le-ltb}
-use Rattle.im_tok.specs.declared.token.TokenKind.{TokenKind}
 use Rattle.im_tok.specs.declared.token.TokenKind.TheVariants.{Name as NameToken, Keyword as KeywordToken, Number as NumberToken, Character as CharacterToken, Text as TextToken, Punctuator as PunctuatorToken}
 use Rattle.im_lex.specs.declared.piece.PieceKind.{PieceKind}
 use Rattle.im_lex.specs.declared.piece.PieceKind.TheVariants.{Token, Blank as BlankPiece, Comment as CommentPiece, Marker, OpenComment}
 use Rattle.im_lex.specs.declared.opening.Opening.{Opening}
 use Rattle.im_lex.specs.declared.opening.Opening.TheVariants.{Blank, Name, Number, Character, Text, Hash, Comment, Other}
 use Rattle.im_lex.specs.Bytes.{IsDigit, IsNameStart, IsBlank}
-use Rattle.im_lex.specs.Openings.{opening_of, after_dot, Opens}
+use Rattle.im_lex.specs.Openings.{opening_of, after_dot}
 use Rattle.im_lex.specs.Pieces.{IsPiece, BeginsNumber}
 use Rattle.im_lex.proofs.Spellings.{keyword_opening, punctuator_opening}
 

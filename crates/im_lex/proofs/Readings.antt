@@ -1,5 +1,5 @@
 -- A text is cut in one way, and a reading grows by a piece.
-use Rattle.std.proofs.Common.{◌≡◌, ◌≢◌, ℕ, zero, suc, ◌+◌, ◌-◌, ◌<◌, ◌≤◌, ◌==◌, List, [], ◌∷◌, ◌++◌, Bool, length, take, drop, get_or, refl, sym, ap, subst, ◌∙◌, arith, count_by, append_assoc, cond, true, ◌||◌}
+use Rattle.std.proofs.Common.{◌≡◌, ◌≢◌, ℕ, zero, suc, ◌+◌, ◌-◌, ◌<◌, ◌≤◌, ◌==◌, List, [], ◌∷◌, ◌++◌, Bool, length, take, drop, refl, sym, ap, subst, ◌∙◌, arith, count_by, append_assoc, cond, true, ◌||◌}
 use Rattle.std.specs.Prelude.{slice_index}
 use Rattle.std.proofs.lemmas.List.{length-drop, length-take, take_rest}
 use Rattle.std.proofs.Math.Seq.{take-add}
@@ -12,7 +12,7 @@ use Rattle.im_tok.specs.Punctuators.{punctuator_text}
 use Rattle.im_tok.specs.declared.token.Token.{Token}
 use Rattle.im_lex.specs.declared.piece.PieceKind.{PieceKind}
 use Rattle.im_lex.specs.declared.piece.Piece.{Piece}
-use Rattle.im_lex.specs.Pieces.{IsPiece, IsLongest, IsNext, HasNone}
+use Rattle.im_lex.specs.Pieces.{IsPiece, IsNext, HasNone}
 use Rattle.im_lex.specs.Lexing.{starts_line, line_at, IsCut, token_of, tokens_of, Lexes, StuckAt}
 use Rattle.im_lex.proofs.OpeningFacts.{piece_opening}
 use Rattle.im_lex.proofs.PieceFacts.{one_longest, if_other}

@@ -1,6 +1,5 @@
-use Rattle.std.proofs.Common.{◌≡◌, ◌+◌, ◌++◌, List, ℕ, Bool, arith, sym, ◌∙◌, ap, ◌∷◌, []}
-use Rattle.im_tok.specs.declared.token.Token.{Token}
-use Rattle.im_lex.specs.Lexing.{starts_line, token_of, line_at}
+use Rattle.std.proofs.Common.{◌≡◌, ◌++◌, ◌∙◌, ap}
+use Rattle.im_lex.specs.Lexing.{starts_line, token_of}
 use Rattle.im_lex.proofs.Readings.{reading_push, no_token, a_token, starts_first, starts_later, finished, stuck_there, one_list, apart}
 use Rattle.im_lex.proofs.EachToken.{each_of}
 use Rattle.im_lex.proofs.lexing.lex.Goals as goal

@@ -1,4 +1,3 @@
-use Rattle.std.proofs.Common.{◌≡◌}
 use Rattle.im_lex.proofs.Readings.{one_cut, one_list, apart}
 use Rattle.im_lex.proofs.lexing.one_reading.Goals as goal
 

@@ -1,4 +1,3 @@
-use Rattle.std.proofs.Common.{◌≡◌, arith}
 use Rattle.im_lex.proofs.LiteralReads.{goes_on, element_rest, ended}
 use Rattle.im_lex.proofs.literals.elements_end.Goals as goal
 

@@ -1,4 +1,4 @@
-use Rattle.std.proofs.Common.{◌≡◌, arith}
+use Rattle.std.proofs.Common.{arith}
 use Rattle.im_lex.proofs.LiteralFronts.{no_literal, broken, next_text, next_character, single_quote}
 use Rattle.im_lex.proofs.pieces.closed_piece.Goals as goal
 use Rattle.im_lex.proofs.pieces.closed_piece.Goals.{then-elements-text-via-then-elements-text, then-elements-text-via-else-elements-text+then-text-elements}

@@ -1,4 +1,3 @@
-use Rattle.std.proofs.Common.{◌≡◌}
 use Rattle.im_lex.proofs.Fronts.{next_line_comment, next_block_comment, no_comment, star_second}
 use Rattle.im_lex.proofs.pieces.comment_piece.Goals as goal
 

@@ -1,4 +1,4 @@
-use Rattle.std.proofs.Common.{◌≡◌, arith, subst}
+use Rattle.std.proofs.Common.{subst}
 use Rattle.im_tok.specs.declared.literal.ElementFault.{ElementFault}
 use Rattle.im_lex.specs.Runs.{ElementsEnd}
 use Rattle.im_lex.proofs.LiteralFronts.{bad_escape, broken}

@@ -1,4 +1,4 @@
-use Rattle.std.proofs.Common.{◌≡◌, refl, true, false, IsTrue, sym, ◌∙◌}
+use Rattle.std.proofs.Common.{sym, ◌∙◌}
 use Rattle.std.proofs.lemmas.Bool.{false≢true}
 use Rattle.im_lex.proofs.Fronts.{next_marker, no_marker}
 use Rattle.im_lex.proofs.pieces.marker_piece.Goals as goal

@@ -1,4 +1,3 @@
-use Rattle.std.proofs.Common.{◌≡◌}
 use Rattle.im_lex.proofs.Fronts.{next_name, next_keyword}
 use Rattle.im_lex.proofs.pieces.name_piece.Goals as goal
 

@@ -1,4 +1,3 @@
-use Rattle.std.proofs.Common.{◌≡◌}
 use Rattle.im_lex.proofs.Fronts.{next_number, no_number}
 use Rattle.im_lex.proofs.pieces.number_piece.Goals as goal
 

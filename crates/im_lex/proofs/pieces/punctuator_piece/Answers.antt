@@ -1,4 +1,4 @@
-use Rattle.std.proofs.Common.{◌≡◌, ◌-◌, arith, sym, ◌∙◌}
+use Rattle.std.proofs.Common.{◌-◌, arith, sym, ◌∙◌}
 use Rattle.im_lex.proofs.Fronts.{next_punctuator, no_punctuator, bad_byte, some_of, none_of, also_shorter}
 use Rattle.im_lex.proofs.pieces.punctuator_piece.Goals as goal
 use Rattle.im_lex.proofs.pieces.punctuator_piece.Goals.{else-length-text-via-then-length-text+else-is_some, else-length-text-via-else-length-text}

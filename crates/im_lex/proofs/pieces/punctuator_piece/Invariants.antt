@@ -1,4 +1,4 @@
-use Rattle.std.proofs.Common.{◌≡◌, ◌≢◌, ◌≤◌, ◌<◌, ◌-◌, ℕ, length, take}
+use Rattle.std.proofs.Common.{◌≢◌, ◌≤◌, ◌<◌, ◌-◌, ℕ, length, take}
 use Rattle.im_tok.specs.Punctuators.{punctuator_text}
 use Rattle.im_tok.specs.declared.punctuator.Punctuator.{Punctuator}
 use Rattle.im_lex.proofs.pieces.punctuator_piece.Given as goal
