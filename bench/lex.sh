@@ -6,7 +6,6 @@ top=$(pwd)
 work=$(mktemp -d)
 trap 'rm -rf "$work"' EXIT
 mkdir "$work/crates"
-cp crates.txt "$work"
 for crate in im_num im_tok im_lex; do
     mkdir "$work/crates/$crate"
     for part in src specs proofs; do cp -r "crates/$crate/$part" "$work/crates/$crate"; done
