@@ -1,11 +1,11 @@
 -- The bytes of keywords are those of names.
-use Rattle.std.proofs.Common.{◌≡◌, ℕ, suc, zero, ◌<◌, ◌≤◌, ◌⊎◌, inl, inr, List, [], ◌∷◌, Bool, true, false, length, get_or, refl, sym, ap, subst, ◌∙◌, arith, cond, nat_lt, ◌&&◌}
+use Rattle.std.proofs.Common.{◌≡◌, ℕ, suc, zero, ◌<◌, ◌≤◌, ◌⊎◌, inl, inr, List, [], ◌∷◌, Bool, true, false, length, refl, sym, subst, arith, cond, nat_lt, ◌&&◌}
 use Rattle.std.specs.Prelude.{slice_index}
 use Rattle.std.specs.List.{list_all}
-use Rattle.std.proofs.lemmas.Bool.{ltb-true, lt-ltb, le-ltb, ltb-false}
+use Rattle.std.proofs.lemmas.Bool.{ltb-true, ltb-false}
 use Rattle.im_tok.specs.Keywords.{keyword_text}
 use Rattle.im_tok.specs.declared.keyword.Keyword.{Keyword}
-use Rattle.im_lex.specs.Bytes.{IsNameByte, IsNameStart}
+use Rattle.im_lex.specs.Bytes.{IsNameByte}
 use Rattle.im_lex.proofs.Spellings.{name_byte, keyword_bytes}
 
 cond_false : (b c : Bool) → cond b false c ≡ true → (b ≡ false) × (c ≡ true)
@@ -25,19 +25,23 @@ name_byte-true b e = digits (cond_true (nat_lt b 58) _ (cond_false (nat_lt b 48)
   where
     low : 48 ≤ b
     low = ltb-false b 48 (cond_false (nat_lt b 48) _ e).0
+
     upper : (b ≡ 95) ⊎ ((97 ≤ b) × (b ≤ 122)) → IsNameByte b
     upper (inl f) = inl (inr (inr f))
     upper (inr f) = inl (inr (inl f))
+
     lower : 91 ≤ b → (nat_lt b 96 ≡ true) ⊎ ((nat_lt b 96 ≡ false) × (cond (nat_lt b 97) false (nat_lt b 123) ≡ true)) → (nat_lt b 95 ≡ false) → IsNameByte b
     lower f (inl g) h = upper (inl (omega (arith, ltb-true b 96 g, ltb-false b 95 h)))
     lower f (inr g) h =
         let k = cond_false (nat_lt b 97) _ g.1 in
         upper (inr (ltb-false b 97 k.0, omega (arith, ltb-true b 123 k.1)))
+
     letters : 65 ≤ b → (nat_lt b 91 ≡ true) ⊎ ((nat_lt b 91 ≡ false) × (cond (nat_lt b 95) false (cond (nat_lt b 96) true (cond (nat_lt b 97) false (nat_lt b 123))) ≡ true)) → IsNameByte b
     letters f (inl g) = inl (inl (f, omega (arith, ltb-true b 91 g)))
     letters f (inr g) =
         let k = cond_false (nat_lt b 95) _ g.1 in
         lower (ltb-false b 91 g.0) (cond_true (nat_lt b 96) _ k.1) k.0
+
     digits : (nat_lt b 58 ≡ true) ⊎ ((nat_lt b 58 ≡ false) × (cond (nat_lt b 65) false (cond (nat_lt b 91) true (cond (nat_lt b 95) false (cond (nat_lt b 96) true (cond (nat_lt b 97) false (nat_lt b 123))))) ≡ true)) → IsNameByte b
     digits (inl g) = inr (low, omega (arith, ltb-true b 58 g))
     digits (inr g) =

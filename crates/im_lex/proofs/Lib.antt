@@ -1,5 +1,9 @@
 mod KeywordNames
+mod LiteralFronts
+mod LiteralReads
 mod PieceFacts
 mod Readings
 mod OpeningFacts
 mod Spellings
+mod EachToken
+mod Fronts

@@ -1,15 +1,14 @@
 -- The first two bytes of a piece tell its kind.
-use Rattle.std.proofs.Common.{◌≡◌, ℕ, ◌+◌, ◌<◌, ◌≤◌, ◌⊎◌, inl, inr, List, Bool, length, take, get_or, refl, sym, ap, subst, ◌∙◌, arith, true, false, nat_lt}
+use Rattle.std.proofs.Common.{◌≡◌, ℕ, ◌<◌, ◌≤◌, inl, inr, List, Bool, refl, ap, ◌∙◌, arith, true, false, nat_lt, cond}
 use Rattle.std.specs.Prelude.{slice_index}
 use Rattle.std.proofs.lemmas.Bool.{lt-ltb, le-ltb}
-use Rattle.im_tok.specs.declared.token.TokenKind.{TokenKind}
 use Rattle.im_tok.specs.declared.token.TokenKind.TheVariants.{Name as NameToken, Keyword as KeywordToken, Number as NumberToken, Character as CharacterToken, Text as TextToken, Punctuator as PunctuatorToken}
 use Rattle.im_lex.specs.declared.piece.PieceKind.{PieceKind}
 use Rattle.im_lex.specs.declared.piece.PieceKind.TheVariants.{Token, Blank as BlankPiece, Comment as CommentPiece, Marker, OpenComment}
 use Rattle.im_lex.specs.declared.opening.Opening.{Opening}
 use Rattle.im_lex.specs.declared.opening.Opening.TheVariants.{Blank, Name, Number, Character, Text, Hash, Comment, Other}
 use Rattle.im_lex.specs.Bytes.{IsDigit, IsNameStart, IsBlank}
-use Rattle.im_lex.specs.Openings.{opening_of, after_dot, Opens}
+use Rattle.im_lex.specs.Openings.{opening_of, after_dot}
 use Rattle.im_lex.specs.Pieces.{IsPiece, BeginsNumber}
 use Rattle.im_lex.proofs.Spellings.{keyword_opening, punctuator_opening}
 
@@ -139,3 +138,11 @@ rank Text = 4
 rank Hash = 5
 rank Comment = 6
 rank Other = 7
+
+if_other_so : (t : Bool) (x x' y y' : Opening) → (x ≡ Other → x' ≡ Other) → (y ≡ Other → y' ≡ Other) → cond t x y ≡ Other → cond t x' y' ≡ Other
+if_other_so true x x' y y' f g e = f e
+if_other_so false x x' y y' f g e = g e
+
+-- what opens as nothing else does so alone too
+pub other_alone : (b c : ℕ) → opening_of b c ≡ Other → opening_of b 0 ≡ Other
+other_alone b c = if_other_so (nat_lt b 9) _ _ _ _ (λ e. e) (if_other_so (nat_lt b 14) _ _ _ _ (λ e. e) (if_other_so (nat_lt b 32) _ _ _ _ (λ e. e) (if_other_so (nat_lt b 33) _ _ _ _ (λ e. e) (if_other_so (nat_lt b 34) _ _ _ _ (λ e. e) (if_other_so (nat_lt b 35) _ _ _ _ (λ e. e) (if_other_so (nat_lt b 36) _ _ _ _ (λ e. e) (if_other_so (nat_lt b 39) _ _ _ _ (λ e. e) (if_other_so (nat_lt b 40) _ _ _ _ (λ e. e) (if_other_so (nat_lt b 46) _ _ _ _ (λ e. e) (if_other_so (nat_lt b 47) _ _ _ _ (λ e. refl) (if_other_so (nat_lt b 48) _ _ _ _ (λ e. refl) (if_other_so (nat_lt b 58) _ _ _ _ (λ e. e) (if_other_so (nat_lt b 65) _ _ _ _ (λ e. e) (if_other_so (nat_lt b 91) _ _ _ _ (λ e. e) (if_other_so (nat_lt b 95) _ _ _ _ (λ e. e) (if_other_so (nat_lt b 96) _ _ _ _ (λ e. e) (if_other_so (nat_lt b 97) _ _ _ _ (λ e. e) (if_other_so (nat_lt b 123) _ _ _ _ (λ e. e) (λ e. e)))))))))))))))))))

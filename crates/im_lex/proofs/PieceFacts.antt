@@ -1,21 +1,19 @@
 -- Two pieces of the same bytes are of one kind, and the bytes tell which kinds there may be.
-use Rattle.std.proofs.Common.{◌≡◌, ◌≢◌, ℕ, ◌+◌, ◌-◌, ◌<◌, ◌≤◌, ◌⊎◌, inl, inr, List, Bool, IsTrue, length, take, get_or, refl, sym, ap, subst, ◌∙◌, arith}
+use Rattle.std.proofs.Common.{◌≡◌, ℕ, ◌-◌, ◌<◌, ◌≤◌, ◌⊎◌, inl, inr, List, Bool, IsTrue, length, take, refl, sym, ap, subst, ◌∙◌, arith}
 use Rattle.std.specs.Prelude.{slice_index}
 use Rattle.std.proofs.lemmas.Bool.{cases_lt}
-use Rattle.std.proofs.lemmas.List.{get_or-take, length-take-le}
+use Rattle.std.proofs.lemmas.List.{get_or-take}
 use Rattle.im_tok.specs.Punctuators.{punctuator_text}
 use Rattle.im_tok.specs.Literals.{IsCharacter, IsText}
 use Rattle.im_tok.specs.declared.punctuator.Punctuator.{Punctuator}
-use Rattle.im_tok.specs.declared.token.TokenKind.{TokenKind}
 use Rattle.im_tok.specs.declared.token.TokenKind.TheVariants.{Name as NameToken, Keyword as KeywordToken, Number as NumberToken, Character as CharacterToken, Text as TextToken, Punctuator as PunctuatorToken}
 use Rattle.im_lex.specs.declared.piece.PieceKind.{PieceKind}
 use Rattle.im_lex.specs.declared.piece.PieceKind.TheVariants.{Token, Blank as BlankPiece, Comment as CommentPiece, Marker, OpenComment}
 use Rattle.im_lex.specs.declared.piece.Piece.{Piece}
-use Rattle.im_lex.specs.declared.opening.Opening.{Opening}
 use Rattle.im_lex.specs.declared.opening.Opening.TheVariants.{Blank, Name, Number, Character, Text, Hash, Comment, Other}
 use Rattle.im_lex.specs.Bytes.{IsNameByte}
 use Rattle.im_lex.specs.Openings.{opening_of}
-use Rattle.im_lex.specs.Pieces.{IsPiece, IsLongest, IsNumberRun, IsLineComment, IsBlockComment, IsOpenComment, BeginsMarker, IsOneLine, ClosesAt}
+use Rattle.im_lex.specs.Pieces.{IsPiece, IsLongest, IsNumberRun, IsLineComment, IsBlockComment, IsOpenComment, BeginsMarker, IsOneLine}
 use Rattle.im_lex.proofs.OpeningFacts.{opening, code, piece_opening}
 use Rattle.im_lex.proofs.KeywordNames.{keyword_name}
 

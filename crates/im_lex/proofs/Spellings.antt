@@ -1,5 +1,5 @@
 -- What keywords and punctuators begin with.
-use Rattle.std.proofs.Common.{◌≡◌, ℕ, ◌<◌, ◌≤◌, ◌⊎◌, List, Bool as Truth, true, false, length, get_or, refl, ap, ◌∙◌, arith, lit<, lit≤, nat_lt, if◌then◌else◌}
+use Rattle.std.proofs.Common.{◌≡◌, ℕ, ◌<◌, ◌≤◌, Bool as Truth, true, false, length, refl, lit<, lit≤, nat_lt, if◌then◌else◌}
 use Rattle.std.specs.Prelude.{slice_index}
 use Rattle.std.specs.List.{list_all}
 use Rattle.im_tok.specs.Keywords.{keyword_text}
@@ -9,7 +9,6 @@ use Rattle.im_tok.specs.declared.keyword.Keyword.TheVariants.{Auto as KeywordAut
 use Rattle.im_tok.specs.declared.punctuator.Punctuator.{Punctuator}
 use Rattle.im_tok.specs.declared.punctuator.Punctuator.TheVariants.{OpenBracket, CloseBracket, OpenParen, CloseParen, OpenBrace, CloseBrace, Dot, Arrow, Increment, Decrement, Ampersand, Star, Plus, Minus, Tilde, Exclamation, Slash, Percent, ShiftLeft, ShiftRight, Less, Greater, LessEqual, GreaterEqual, EqualEqual, NotEqual, Caret, Bar, AndAnd, OrOr, Question, Colon, Semicolon, Ellipsis, Assign, StarAssign, SlashAssign, PercentAssign, PlusAssign, MinusAssign, ShiftLeftAssign, ShiftRightAssign, AndAssign, XorAssign, OrAssign, Comma}
 use Rattle.im_lex.specs.Openings.{opening_of}
-use Rattle.im_lex.specs.declared.opening.Opening.{Opening}
 use Rattle.im_lex.specs.declared.opening.Opening.TheVariants.{Name, Other}
 
 pub keyword_opening : (k : Keyword) → opening_of (slice_index (keyword_text k) 0) (slice_index (keyword_text k) 1) ≡ Name

@@ -4,3 +4,4 @@ pub mod Lexing
 pub mod Openings
 pub mod Pieces
 pub mod Runs
+pub mod Tokens

@@ -1,5 +1,5 @@
 -- What a piece may be, by its first two bytes.
-use Rattle.std.specs.Prelude.{ℕ, ◌≡◌, ◌⊎◌, nat_lt, ◌==◌, ◌||◌, if◌then◌else◌}
+use Rattle.std.specs.Prelude.{ℕ, ◌≡◌, ◌⊎◌, nat_lt, ◌==◌, if◌then◌else◌}
 use Rattle.im_lex.specs.declared.opening.Opening.{Opening}
 use Rattle.im_lex.specs.declared.opening.Opening.TheVariants.{Blank, Name, Number, Character, Text, Hash, Comment, Other}
 use Rattle.im_lex.specs.Bytes.{IsDigit, IsNameStart, IsBlank}

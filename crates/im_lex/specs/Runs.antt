@@ -1,5 +1,5 @@
 -- Where runs of bytes end.
-use Rattle.std.specs.Prelude.{ℕ, ◌≡◌, ◌≢◌, ◌+◌, ◌-◌, ◌≤◌, ◌<◌, List, length, slice_index, drop}
+use Rattle.std.specs.Prelude.{ℕ, ◌≡◌, ◌+◌, ◌-◌, ◌≤◌, ◌<◌, List, length, slice_index, drop}
 use Rattle.im_lex.specs.Bytes.{GoesOn}
 use Rattle.im_lex.specs.Pieces.{ClosesAt}
 use Rattle.im_tok.specs.Literals.{AreElements, elements_length, NoElement, Refused}

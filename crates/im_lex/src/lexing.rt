@@ -1,11 +1,12 @@
-ghost use Rattle.std.specs.Prelude.{◌≡◌, ℕ, ◌<◌, ◌^◌, ◌==◌, List, IfOk, IfErr, length, count_by};
+ghost use Rattle.std.specs.Prelude.{◌≡◌, ℕ, ◌<◌, ◌^◌, ◌==◌, List, All, IfOk, IfErr, MatchResult, length, count_by};
 ghost use Rattle.im_lex.specs.Lexing.{Lexes, StuckAt};
 ghost use Rattle.im_lex.specs.Faults.{IsLexFault};
+ghost use Rattle.im_lex.specs.Tokens.{IsTokenOf};
 ghost use Rattle.im_tok.specs.declared.token.Token.{Token};
 
 use crate::fault::LexFault;
 use crate::piece::PieceKind;
-use crate::standing::piece_at;
+use crate::pieces::piece_at;
 use im_tok::Token;
 use std::alloc::Global;
 
@@ -21,6 +22,9 @@ pub fn lex(alloc: Global, source: &[u8]) -> Result<Vec<Token>, LexFault>
     requires { length source.now < 2 ^ 32 }
     ensures lexes { IfOk result (λ tokens. Lexes source.now tokens.items) }
     ensures stuck { IfErr result (λ fault. IsLexFault source.now fault) }
+    ensures exact { (tokens : List Token) → Lexes source.now tokens →
+        MatchResult result (λ found. found.items ≡ tokens) (λ fault. fault ≡ LexFault.OutOfMemory) }
+    ensures each { IfOk result (λ tokens. All (IsTokenOf source.now) tokens.items) }
 {
     let mut tokens = Vec::new(alloc);
     let mut at = 0;
@@ -29,11 +33,18 @@ pub fn lex(alloc: Global, source: &[u8]) -> Result<Vec<Token>, LexFault>
         let starts_line = at == 0 || source[at - 1] == b'\n';
         let piece = match piece_at(&source[at..], starts_line) {
             Ok(piece) => piece,
-            Err(kind) => return Err(LexFault::Stuck { at: at as u32, kind }),
+            Err(kind) => return Err(LexFault::Stuck {
+                at: at as u32,
+                kind,
+            }),
         };
         let end = at + piece.length;
         if let PieceKind::Token(kind) = piece.kind {
-            tokens.push(Token { kind, span: (at as u32, end as u32), line: line as u32 })?;
+            tokens.push(Token {
+                kind,
+                span: (at as u32, end as u32),
+                line: line as u32,
+            })?;
         }
         line += line_ends(&source[at..end]);
         at = end;
@@ -46,5 +57,4 @@ pub fn one_reading()
     ensures tokens { (text : List ℕ) (a b : List Token) → Lexes text a → Lexes text b → a ≡ b }
     ensures place { (text : List ℕ) (a b : ℕ) → StuckAt text a → StuckAt text b → a ≡ b }
     ensures apart { (text : List ℕ) (tokens : List Token) (at : ℕ) → Lexes text tokens → StuckAt text at → ⊥ }
-{
-}
+{}

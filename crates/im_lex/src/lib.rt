@@ -6,8 +6,10 @@ mod lexing;
 mod literals;
 mod opening;
 mod piece;
+mod pieces;
 mod runs;
-mod standing;
+#[cfg(test)]
+mod tests;
 
 pub use fault::{LexFault, LexFaultKind};
 pub use lexing::{lex, one_reading};

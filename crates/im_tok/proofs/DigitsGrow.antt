@@ -1,5 +1,5 @@
 -- A number only grows with more digits.
-use Rattle.std.proofs.Common.{◌≡◌, ℕ, zero, suc, ◌+◌, ◌*◌, ◌≤◌, ◌<◌, List, [], ◌∷◌, fold, take, length, get_or, ◌^◌, arith, refl, ap, sym, ◌∙◌}
+use Rattle.std.proofs.Common.{◌≡◌, ℕ, zero, suc, ◌+◌, ◌*◌, ◌≤◌, ◌<◌, List, [], ◌∷◌, fold, take, length, get_or, ◌^◌, arith, ap, sym, ◌∙◌}
 use Rattle.std.proofs.lemmas.List.Sums.{fold_more}
 use Rattle.std.specs.Char.{digit_value}
 use Rattle.im_tok.specs.Digits.{digits_value}

@@ -1,12 +1,11 @@
 -- One character or escape stands at a place, and one list of them up to a closing quote.
-use Rattle.std.proofs.Common.{◌≡◌, ◌≢◌, ℕ, zero, suc, ◌+◌, ◌-◌, ◌≤◌, ◌<◌, ◌⊎◌, inl, inr, List, [], ◌∷◌, ◌++◌, Some, None, length, take, drop, get_or, map, refl, sym, ◌∙◌, ap, subst, arith}
-use Rattle.std.specs.Prelude.{slice_index, slice_range, sum_by}
+use Rattle.std.proofs.Common.{◌≡◌, ◌≢◌, ℕ, ◌+◌, ◌-◌, ◌≤◌, ◌<◌, ◌⊎◌, inl, inr, List, Some, length, take, drop, get_or, refl, sym, ◌∙◌, ap, subst, arith}
+use Rattle.std.specs.Prelude.{slice_index, slice_range}
 use Rattle.std.proofs.lemmas.Bool.{cases_lt}
 use Rattle.std.proofs.lemmas.Option.{none-some}
 use Rattle.std.proofs.lemmas.List.{take_rest, get_or-drop, get_or_default, length-drop}
-use Rattle.std.specs.Char.{digit_value}
 use Rattle.im_tok.specs.Digits.{IsDigitOf, digits_value}
-use Rattle.im_tok.specs.Literals.{IsPlain, IsSimple, IsNumeric, IsElement, simple_escape, AreElements, elements_length, IsLiteral, IsCharacter, IsText, NoElement}
+use Rattle.im_tok.specs.Literals.{IsNumeric, IsElement, simple_escape, IsCharacter, NoElement}
 use Rattle.im_tok.specs.Literals.IsElement.{plain, simple, octal, hexadecimal}
 use Rattle.im_tok.specs.declared.literal.Element.{Element}
 

@@ -1,5 +1,5 @@
 mod DigitsGrow
-mod Elements
+pub mod Elements
 mod Strings
 mod KeywordPlaces
 mod Numerals

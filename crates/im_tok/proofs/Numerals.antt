@@ -1,9 +1,8 @@
 -- A text has one reading as an integer constant.
-use Rattle.std.proofs.Common.{◌≡◌, ◌≢◌, ℕ, ◌+◌, ◌≤◌, ◌<◌, ◌^◌, ◌⊎◌, inl, inr, List, [], ◌∷◌, Some, None, Option, cond, true, false, Bool, length, take, drop, ◌-◌, get_or, nat_le, refl, sym, ◌∙◌, ap, subst, arith, nat_lt}
+use Rattle.std.proofs.Common.{◌≡◌, ◌≢◌, ℕ, ◌+◌, ◌≤◌, ◌<◌, ◌^◌, ◌⊎◌, inl, inr, List, [], ◌∷◌, Some, cond, true, false, Bool, length, take, drop, ◌-◌, get_or, nat_le, refl, sym, ◌∙◌, ap, subst, arith}
 use Rattle.std.specs.Prelude.{find, slice_index, slice_range}
 use Rattle.std.proofs.lemmas.Bool.{cases_lt, leb-true}
 use Rattle.std.proofs.lemmas.List.{length-drop, length-take, get_or-drop, get_or-take, get_or_default, take_rest}
-use Rattle.std.specs.Char.{digit_value}
 use Rattle.im_tok.specs.Digits.{IsDigitOf, DigitsEnd, digits_value}
 use Rattle.im_tok.specs.Numbers.{radix_of, prefix_length, Begins, IsU, IsL, IsSuffix, greatest, candidates, IsNumeral}
 use Rattle.im_tok.specs.declared.number.Base.{Base}

@@ -1,8 +1,8 @@
 -- How far a string literal has been read.
-use Rattle.std.proofs.Common.{◌≡◌, ◌≢◌, ℕ, zero, suc, ◌+◌, ◌-◌, ◌≤◌, ◌<◌, List, [], ◌∷◌, ◌++◌, length, take, drop, get_or, map, refl, sym, ◌∙◌, ap, subst, arith}
-use Rattle.std.specs.Prelude.{slice_index, sum_by}
+use Rattle.std.proofs.Common.{◌≡◌, ℕ, ◌+◌, ◌-◌, ◌≤◌, List, [], ◌∷◌, ◌++◌, length, take, drop, map, refl, sym, ◌∙◌, ap, subst, arith}
+use Rattle.std.specs.Prelude.{slice_index}
 use Rattle.std.proofs.lemmas.List.{take_rest, drop-drop, get_or-drop, length-drop}
-use Rattle.im_tok.specs.Literals.{IsElement, AreElements, elements_length, IsLiteral, IsText, NoElement}
+use Rattle.im_tok.specs.Literals.{IsElement, AreElements, elements_length, IsText, NoElement}
 use Rattle.im_tok.specs.declared.literal.Element.{Element}
 use Rattle.im_tok.proofs.Elements.{one_element, element_size, no_quote}
 

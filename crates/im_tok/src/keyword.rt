@@ -155,7 +155,9 @@ impl Keyword {
 
 /// The keyword that is spelled so, where one is.
 pub fn keyword_of(text: &[u8]) -> Option<Keyword>
-    ensures { MatchOption result ((keyword : Keyword) → text.now ≢ keyword_text keyword) (λ keyword. text.now ≡ keyword_text keyword) }
+    ensures { MatchOption result
+        ((keyword : Keyword) → text.now ≢ keyword_text keyword)
+        (λ keyword. text.now ≡ keyword_text keyword) }
 {
     for keyword in Keyword::ALL {
         if text == keyword.text() {

@@ -45,7 +45,9 @@ fn numeric_escape(text: &[u8], radix: u32, first: usize, most: usize) -> Option<
     requires within { first ≤ length text.now }
     requires lower_bound { 2 ≤ radix }
     requires upper_bound { radix ≤ 36 }
-    ensures { MatchOption result ((element : Element) → IsNumeric radix first most text.now element → ⊥) (λ element. IsNumeric radix first most text.now element) }
+    ensures { MatchOption result
+        ((element : Element) → IsNumeric radix first most text.now element → ⊥)
+        (λ element. IsNumeric radix first most text.now element) }
 {
     let limit = text.len().min(first.saturating_add(most));
     let length = digits_end(text, first, limit, radix);
@@ -61,7 +63,9 @@ fn numeric_escape(text: &[u8], radix: u32, first: usize, most: usize) -> Option<
 fn escape_at(text: &[u8], quote: u8) -> Option<Element>
     requires begins { slice_index text.now 0 ≡ 92 }
     requires quote { quote ≢ 92 }
-    ensures { MatchOption result (NoElement quote text.now) (λ element. IsElement quote text.now element) }
+    ensures { MatchOption result
+        (NoElement quote text.now)
+        (λ element. IsElement quote text.now element) }
 {
     match text {
         [_, b'x', ..] => numeric_escape(text, 16, 2, text.len()),
@@ -77,7 +81,9 @@ fn escape_at(text: &[u8], quote: u8) -> Option<Element>
 /// The character or the escape at the front of the text, in a literal that `quote` closes.
 pub fn element_at(text: &[u8], quote: u8) -> Result<Element, ElementFault>
     requires { quote ≢ 92 }
-    ensures { MatchResult result (λ element. IsElement quote text.now element) (λ fault. NoElement quote text.now × Refused fault quote text.now) }
+    ensures { MatchResult result
+        (λ element. IsElement quote text.now element)
+        (λ fault. NoElement quote text.now × Refused fault quote text.now) }
 {
     match text {
         [b'\\', ..] => escape_at(text, quote).ok_or(ElementFault::BadEscape),
@@ -91,7 +97,9 @@ pub fn element_at(text: &[u8], quote: u8) -> Result<Element, ElementFault>
 
 /// The value of the character constant that the text is (C11 6.4.4.4), where it is one.
 pub fn character_of(text: &[u8]) -> Option<u8>
-    ensures { MatchOption result ((value : ℕ) → IsCharacter text.now value → ⊥) (λ value. IsCharacter text.now value) }
+    ensures { MatchOption result
+        ((value : ℕ) → IsCharacter text.now value → ⊥)
+        (λ value. IsCharacter text.now value) }
 {
     let [b'\'', inner @ ..] = text else {
         return None;

@@ -63,7 +63,9 @@ impl Base {
 
 /// The base that a constant begins as.
 fn base_of(text: &[u8]) -> Option<Base>
-    ensures { MatchOption result ((base : Base) → Begins base text.now → ⊥) (λ base. Begins base text.now) }
+    ensures { MatchOption result
+        ((base : Base) → Begins base text.now → ⊥)
+        (λ base. Begins base text.now) }
 {
     match text {
         [b'0', b'x' | b'X', ..] => Some(Base::Hexadecimal),
@@ -75,7 +77,9 @@ fn base_of(text: &[u8]) -> Option<Base>
 
 /// The suffix that the text is.
 fn suffix_of(text: &[u8]) -> Option<Suffix>
-    ensures { MatchOption result ((suffix : Suffix) → IsSuffix suffix text.now → ⊥) (λ suffix. IsSuffix suffix text.now) }
+    ensures { MatchOption result
+        ((suffix : Suffix) → IsSuffix suffix text.now → ⊥)
+        (λ suffix. IsSuffix suffix text.now) }
 {
     match text {
         [] => Some(Suffix::Absent),
@@ -105,7 +109,9 @@ fn type_of(base: Base, suffix: Suffix, value: u32) -> Option<NumberType>
 /// The value and the type of the integer constant that the text is. There is none where the text
 /// is of another form, and where no type that it may have holds its value (C11 6.4.4.1).
 pub fn number_of(text: &[u8]) -> Option<Number>
-    ensures { MatchOption result ((number : Number) → IsNumeral text.now number → ⊥) (λ number. IsNumeral text.now number) }
+    ensures { MatchOption result
+        ((number : Number) → IsNumeral text.now number → ⊥)
+        (λ number. IsNumeral text.now number) }
 {
     let base = base_of(text)?;
     let start = base.prefix_length();

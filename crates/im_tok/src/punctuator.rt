@@ -161,7 +161,9 @@ impl Punctuator {
 
 /// The punctuator that is spelled so, where one is.
 pub fn punctuator_of(text: &[u8]) -> Option<Punctuator>
-    ensures { MatchOption result ((punctuator : Punctuator) → text.now ≢ punctuator_text punctuator) (λ punctuator. text.now ≡ punctuator_text punctuator) }
+    ensures { MatchOption result
+        ((punctuator : Punctuator) → text.now ≢ punctuator_text punctuator)
+        (λ punctuator. text.now ≡ punctuator_text punctuator) }
 {
     for punctuator in Punctuator::ALL {
         if text == punctuator.text() {

@@ -1,4 +1,4 @@
-use Rattle.std.proofs.Common.{◌≤◌, ◌<◌, ◌-◌, ℕ, length, slice_index}
+use Rattle.std.proofs.Common.{◌<◌, ◌-◌, ℕ, length, slice_index}
 use Rattle.im_lex.specs.Bytes.{IsGap}
 use Rattle.im_lex.proofs.runs.begins_marker.Given as goal
 

@@ -1,4 +1,4 @@
-use Rattle.std.proofs.Common.{◌≤◌, ◌<◌, ◌+◌, ◌-◌, ℕ, length}
+use Rattle.std.proofs.Common.{◌≤◌, ◌<◌, ◌-◌, ℕ, length}
 use Rattle.im_lex.specs.Pieces.{ClosesAt}
 use Rattle.im_lex.proofs.runs.comment_end.Given as goal
 

@@ -1,4 +1,4 @@
-use Rattle.std.proofs.Common.{◌≡◌, ◌≢◌, ◌≤◌, ◌<◌, ◌-◌, ℕ, length, slice_index}
+use Rattle.std.proofs.Common.{◌≤◌, ◌<◌, ◌-◌, ℕ, length, slice_index}
 use Rattle.im_lex.specs.Bytes.{IsNameByte}
 use Rattle.im_lex.proofs.runs.name_end.Given as goal
 

@@ -1,5 +1,4 @@
-use Rattle.std.proofs.Common.{refl, ◌≡◌, ◌<◌, ◌-◌, ℕ, length, get_or, arith, below_more}
-use Rattle.im_lex.specs.Bytes.{GoesOn}
+use Rattle.std.proofs.Common.{refl, arith, below_more}
 use Rattle.im_lex.proofs.runs.number_end.Goals as goal
 
 pub loop-end-preserved : goal.loop-end-preserved

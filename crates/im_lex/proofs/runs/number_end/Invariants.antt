@@ -1,4 +1,4 @@
-use Rattle.std.proofs.Common.{◌≡◌, ◌≤◌, ◌<◌, ◌-◌, ℕ, length, get_or}
+use Rattle.std.proofs.Common.{◌≤◌, ◌<◌, ◌-◌, ℕ, length, get_or}
 use Rattle.im_lex.specs.Bytes.{GoesOn}
 use Rattle.im_lex.proofs.runs.number_end.Given as goal
 

@@ -1,4 +1,4 @@
-use Rattle.std.proofs.Common.{◌≡◌, ◌≤◌, ◌<◌, ◌-◌, ℕ, slice_index}
+use Rattle.std.proofs.Common.{◌≤◌, ◌<◌, ◌-◌, ℕ, slice_index}
 use Rattle.im_tok.specs.Digits.{IsDigitOf}
 use Rattle.im_tok.proofs.digits.digits_end.Given as goal
 

@@ -1,7 +1,6 @@
-use Rattle.std.proofs.Common.{◌≡◌, ◌<◌, ℕ, take, arith}
+use Rattle.std.proofs.Common.{arith}
 use Rattle.std.proofs.lemmas.List.{take_all}
 use Rattle.im_tok.proofs.DigitsGrow.{too_large}
-use Rattle.im_tok.specs.Digits.{digits_value}
 use Rattle.im_tok.proofs.digits.digits_value.Goals as goal
 
 pub returns-in_err-value : goal.returns-in_err-value

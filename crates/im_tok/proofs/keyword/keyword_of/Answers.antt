@@ -1,4 +1,4 @@
-use Rattle.std.proofs.Common.{◌≡◌, ◌≢◌, ◌<◌, inl, inr, arith}
+use Rattle.std.proofs.Common.{◌≡◌, inl, inr, arith}
 use Rattle.std.proofs.lemmas.Bool.{cases_lt}
 use Rattle.im_tok.proofs.KeywordPlaces.{place, place-lt, differs_at_place}
 use Rattle.im_tok.proofs.keyword.keyword_of.Goals as goal

@@ -1,6 +1,4 @@
-use Rattle.std.proofs.Common.{rules, arith, ◌≡◌, ℕ, ◌-◌, ◌+◌, length, take, drop}
-use Rattle.im_tok.specs.Literals.{IsElement, NoElement, IsCharacter}
-use Rattle.im_tok.proofs.Elements.{behind_quote, not_whole, not_closed, none_behind_quote}
+use Rattle.im_tok.proofs.Elements.{not_whole, not_closed, none_behind_quote}
 use Rattle.im_tok.proofs.literal.character_of.Goals as goal
 use Rattle.im_tok.proofs.literal.character_of.Goals.{else-inner-element-via-then-inner-element+else-inner-element-eq39, else-inner-element-via-else-inner-element}
 

@@ -1,5 +1,3 @@
-use Rattle.std.proofs.Common.{rules, arith, ◌≡◌, ℕ, ◌-◌, ◌+◌, length, take, drop}
-use Rattle.im_tok.specs.Literals.{IsElement, NoElement, IsText}
 use Rattle.im_tok.proofs.Strings.{goes_on, done}
 use Rattle.im_tok.proofs.literal.text_bytes.Goals as goal
 

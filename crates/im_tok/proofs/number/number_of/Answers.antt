@@ -1,9 +1,5 @@
-use Rattle.std.proofs.Common.{rules, arith, ◌≡◌, ℕ, ◌≤◌, ◌<◌, ◌-◌, ◌+◌, ◌^◌, length, take, drop, sym, ◌∙◌, ap, None, Some, get_or, subst}
-use Rattle.im_tok.specs.Digits.{IsDigitOf, DigitsEnd, digits_value}
-use Rattle.im_tok.specs.Numbers.{radix_of, prefix_length, Begins, IsSuffix, greatest, candidates, IsNumeral}
-use Rattle.im_tok.specs.declared.number.Base.{Base}
-use Rattle.im_tok.specs.declared.number.Number.{Number}
-use Rattle.im_tok.proofs.Numerals.{Parts, parts, the_suffix, digits_within, run_at, no_suffix, is_suffix}
+use Rattle.std.proofs.Common.{◌≡◌, sym, ◌∙◌}
+use Rattle.im_tok.proofs.Numerals.{parts, the_suffix, digits_within, run_at, no_suffix, is_suffix}
 use Rattle.std.proofs.lemmas.Option.{none-some}
 use Rattle.im_tok.proofs.number.number_of.Goals as goal
 

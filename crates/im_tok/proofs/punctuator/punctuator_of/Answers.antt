@@ -1,4 +1,4 @@
-use Rattle.std.proofs.Common.{◌≡◌, ◌≢◌, ◌<◌, inl, inr, arith}
+use Rattle.std.proofs.Common.{◌≡◌, inl, inr, arith}
 use Rattle.std.proofs.lemmas.Bool.{cases_lt}
 use Rattle.im_tok.proofs.PunctuatorPlaces.{place, place-lt, differs_at_place}
 use Rattle.im_tok.proofs.punctuator.punctuator_of.Goals as goal

@@ -1,4 +1,4 @@
-use Rattle.std.proofs.Common.{◌≡◌, ◌≢◌, ◌<◌}
+use Rattle.std.proofs.Common.{◌≢◌, ◌<◌}
 use Rattle.im_tok.specs.Punctuators.{punctuator_text}
 use Rattle.im_tok.specs.declared.punctuator.Punctuator.{Punctuator}
 use Rattle.im_tok.proofs.PunctuatorPlaces.{place}
