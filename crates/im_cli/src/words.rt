@@ -1,13 +1,18 @@
 ghost use Rattle.std.specs.Prelude.{◌≡◌, ◌≢◌, IfOk, IfErr, Some, None, map, option_map};
 ghost use Rattle.std.specs.String.{string_bytes};
 ghost use Rattle.clap.specs.Words.{first_of, found_of, kind_of, rows_of, subcommand_rows_of};
-ghost use Rattle.im_cli.specs.Named.{IsUsage, asked, asked_by, meaning, named, run_asked};
+ghost use Rattle.im_cli.specs.Named.{IsUsage, asked, asked_by, build_asked, dump_asked, exec_asked};
+ghost use Rattle.im_cli.specs.Named.{is_set, meaning, named, options_asked, options_meaning, run_asked};
 
+use crate::number::plain_number;
 use crate::table::command_table;
-use crate::{Command, WordsFault};
+use crate::{Command, RunOptions, WordsFault};
 use clap::ArgMatches;
 use clap::error::ErrorKind;
 use std::alloc::Global;
+
+/// What clap lets through and the table doesn't: a number with a sign or a zero before it.
+const NUMBER_FORM: &str = "error: a number has no sign and no zero before it\n";
 
 /// The value of the operand or option of this name, where the words give one.
 fn value_of<'a>(found: &ArgMatches<'a>, name: &str) -> Option<&'a str>
@@ -16,12 +21,59 @@ fn value_of<'a>(found: &ArgMatches<'a>, name: &str) -> Option<&'a str>
     found.get_str(name)
 }
 
-fn run_command<'a>(found: &ArgMatches<'a>) -> Option<Command<'a>>
-    ensures { option_map meaning result ≡ run_asked (rows_of (found_of found.now)) }
+/// Whether the flag of this name is among the words.
+fn is_set(found: &ArgMatches<'_>, name: &str) -> bool
+    ensures { result ≡ is_set name.now (rows_of (found_of found.now)) }
+{
+    value_of(found, name).is_some_and(|text| text == "true")
+}
+
+fn run_options<'a>(found: &ArgMatches<'a>) -> Option<RunOptions<'a>>
+    ensures { option_map options_meaning result ≡ options_asked (rows_of (found_of found.now)) }
+{
+    let steps = plain_number(value_of(found, "steps")?)?;
+    Some(RunOptions {
+        input: value_of(found, "input"),
+        trace: value_of(found, "trace"),
+        steps,
+        vars: is_set(found, "vars"),
+    })
+}
+
+fn build_command<'a>(found: &ArgMatches<'a>) -> Option<Command<'a>>
+    ensures { option_map meaning result ≡ build_asked (rows_of (found_of found.now)) }
 {
     let source = value_of(found, "SRC")?;
     let image = value_of(found, "IMG")?;
-    Some(Command::Run { source, image })
+    Some(Command::Build { source, image })
+}
+
+fn run_command<'a>(found: &ArgMatches<'a>) -> Option<Command<'a>>
+    ensures { option_map meaning result ≡ run_asked (rows_of (found_of found.now)) }
+{
+    let options = run_options(found)?;
+    let source = value_of(found, "SRC")?;
+    let image = value_of(found, "IMG")?;
+    Some(Command::Run {
+        source,
+        image,
+        options,
+    })
+}
+
+fn exec_command<'a>(found: &ArgMatches<'a>) -> Option<Command<'a>>
+    ensures { option_map meaning result ≡ exec_asked (rows_of (found_of found.now)) }
+{
+    let options = run_options(found)?;
+    let image = value_of(found, "IMG")?;
+    Some(Command::Exec { image, options })
+}
+
+fn dump_command<'a>(found: &ArgMatches<'a>) -> Option<Command<'a>>
+    ensures { option_map meaning result ≡ dump_asked (rows_of (found_of found.now)) }
+{
+    let image = value_of(found, "IMG")?;
+    Some(Command::Dump { image })
 }
 
 /// The command of this name, with what was found for the words after it.
@@ -29,7 +81,10 @@ fn command_of<'a>(name: &str, found: &ArgMatches<'a>) -> Option<Command<'a>>
     ensures { option_map meaning result ≡ asked_by name.now (rows_of (found_of found.now)) }
 {
     match name {
+        "build" => build_command(found),
         "run" => run_command(found),
+        "exec" => exec_command(found),
+        "dump" => dump_command(found),
         _ => None,
     }
 }
@@ -57,7 +112,7 @@ fn refusal(alloc: Global, error: clap::Error) -> WordsFault
 
 /// The command that the words name, the first of them being the program's own name.
 ///
-/// `Usage` is answered only where the table takes no such words.
+/// `Usage` is answered only where the words name none, or ask for help.
 pub fn read_words<'a>(alloc: Global, words: &'a [String]) -> Result<Command<'a>, WordsFault>
     ensures named { IfOk result (λ c. named (map string_bytes words.now) ≡ Some (meaning c)) }
     ensures refused { IfErr result (λ e. IsUsage e → named (map string_bytes words.now) ≡ None) }
@@ -66,7 +121,7 @@ pub fn read_words<'a>(alloc: Global, words: &'a [String]) -> Result<Command<'a>,
     match table.try_get_matches_from(words) {
         Ok(matches) => match matched_command(&matches) {
             Some(command) => Ok(command),
-            None => Err(WordsFault::Usage("intermit: no command\n".to_string(alloc)?)),
+            None => Err(WordsFault::Usage(NUMBER_FORM.to_string(alloc)?)),
         },
         Err(error) => Err(refusal(alloc, error)),
     }
