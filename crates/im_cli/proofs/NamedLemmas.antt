@@ -1,5 +1,5 @@
 -- What the table's matches say of the command that the words name.
-use Rattle.std.proofs.Common.{ap, refl, sym, true, List, Option, Some, None, [], ◌≡◌, ◌∙◌, if◌then◌else◌}
+use Rattle.std.proofs.Common.{ap, refl, sym, true, List, Option, Some, [], ◌≡◌, ◌∙◌}
 use Rattle.clap.specs.Words.{App, Row, Text, fault_of, is_simple, is_simple_and_free, subcommand_of}
 use Rattle.clap.specs.Walk.{is_empty}
 use Rattle.clap.proofs.OnLiterals.{clap_on_literals}

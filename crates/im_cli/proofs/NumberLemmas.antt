@@ -1,5 +1,5 @@
 -- What `parse` reads of a text that begins plainly is its plain number.
-use Rattle.std.proofs.Common.{ap, refl, sym, true, false, ℕ, Bool, List, [], ◌∷◌, Option, Some, None, ◌≡◌, ◌≢◌, ◌<◌, ◌^◌, ◌&&◌, codes, arith, get_or, nat_lt, slice_index, subst}
+use Rattle.std.proofs.Common.{ap, refl, true, false, ℕ, Bool, List, [], ◌∷◌, Some, ◌≡◌, ◌≢◌, ◌^◌, ◌&&◌, codes, arith, get_or, nat_lt}
 use Rattle.std.specs.Char.{digit_value, is_digit}
 use Rattle.std.specs.List.{list_all}
 use Rattle.std.specs.Prelude.{Result, Ok, Err}

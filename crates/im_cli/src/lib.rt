@@ -4,6 +4,7 @@
 mod command;
 mod fault;
 mod laws;
+mod matched;
 mod number;
 mod table;
 mod words;

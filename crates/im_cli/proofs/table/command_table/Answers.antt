@@ -1,7 +1,7 @@
-use Rattle.std.proofs.Common.{◌≡◌, ◌∙◌, ◌∷◌, [], ap₂, rules, true}
+use Rattle.std.proofs.Common.{◌≡◌, ◌∙◌, [], ap₂, rules, true}
 use Rattle.std.proofs.lemmas.Result.{IfOk-weaker}
 use Rattle.clap.specs.Words.{App, app_of, with_subcommand}
-use Rattle.im_cli.specs.Table.{build_row, command_line, dump_row, exec_row, run_row}
+use Rattle.im_cli.specs.Table.{build_row, command_line, exec_row, run_row}
 use Rattle.im_cli.proofs.table.command_table.Goals as goal
 
 abbrev empty : App
