@@ -4,3 +4,4 @@ pub mod Walks
 pub mod Runs
 pub mod Loading
 pub mod Compiling
+pub mod Texts
