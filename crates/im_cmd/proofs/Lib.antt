@@ -8,3 +8,4 @@ pub mod Reports
 pub mod Entries
 pub mod Loading
 pub mod Compiling
+pub mod Texts
