@@ -99,3 +99,89 @@ pub fn read_program(alloc: Global, text: &[u8]) -> Result<Option<Program>, NoMem
         None => Ok(None),
     }
 }
+
+#[cfg(test)]
+mod tests {
+    use super::*;
+    use std::test::Fail;
+
+    /// What the text returns, where it is a source.
+    fn status_of(alloc: Global, text: &[u8]) -> Result<Option<u32>, NoMemory> {
+        Ok(match read_program(alloc, text)? {
+            Some(program) => Some(program.status),
+            None => None,
+        })
+    }
+
+    /// A source of so many calls.
+    fn with_calls(alloc: Global, calls: u32) -> Result<Vec<u8>, NoMemory> {
+        let mut text = b"int main(void){".to_vec(alloc)?;
+        for _ in 0..calls {
+            text.extend_from_slice(b"putchar(65);")?;
+        }
+        text.extend_from_slice(b"return 3;}\n")?;
+        Ok(text)
+    }
+
+    #[test]
+    fn tells_sources(rt: HostRuntime) -> Result<(), Fail> {
+        for (text, want) in [
+            ("int main(void){return 0;}", Some(0)),
+            ("int main(void){return 7;}\n", Some(7)),
+            (
+                "int main(void){putchar(72);putchar(0);return 10;}",
+                Some(10),
+            ),
+            (
+                "int main(void){putchar(2147483647);return 2147483647;}\n",
+                Some(2147483647),
+            ),
+            ("", None),
+            ("\n", None),
+            ("int main(void){", None),
+            ("int main(void){}", None),
+            ("int main(void){putchar(72);}", None),
+            ("int main(void){return 7;}\n\n", None),
+            ("int main(void){return 7;}\r\n", None),
+            ("int main(void){return 7;} ", None),
+            (" int main(void){return 7;}", None),
+            ("int main(void) {return 7;}", None),
+            ("int main(void){return  7;}", None),
+            ("int main(void){putchar(72); return 7;}", None),
+            ("int main(void){putchar( 72);return 7;}", None),
+            ("int main(void){putchar(01);return 7;}", None),
+            ("int main(void){putchar(+1);return 7;}", None),
+            ("int main(void){putchar(-1);return 7;}", None),
+            ("int main(void){putchar();return 7;}", None),
+            ("int main(void){putchar(1)return 7;}", None),
+            ("int main(void){putchar(2147483648);return 7;}", None),
+            ("int main(void){return 2147483648;}", None),
+            ("int main(void){return 07;}", None),
+            ("int main(void){return 7;putchar(1);}", None),
+        ] {
+            assert_eq!(rt;
+                status_of(rt.alloc(), text.as_bytes())?,
+                want,
+                "at {text:?}"
+            );
+        }
+        Ok(())
+    }
+
+    #[test]
+    fn keeps_arguments(rt: HostRuntime) -> Result<(), Fail> {
+        let text = b"int main(void){putchar(72);putchar(0);putchar(2147483647);return 10;}";
+        let program = read_program(rt.alloc(), text)?.ok_or("a source")?;
+        assert_eq!(rt; program.written.as_slice(), [72, 0, 2147483647].as_slice());
+        Ok(())
+    }
+
+    #[test]
+    fn bounds_calls(rt: HostRuntime) -> Result<(), Fail> {
+        for (calls, want) in [(999, Some(3)), (1000, Some(3)), (1001, None)] {
+            let text = with_calls(rt.alloc(), calls)?;
+            assert_eq!(rt; status_of(rt.alloc(), &text)?, want, "at {calls} calls");
+        }
+        Ok(())
+    }
+}
