@@ -1,3 +1,5 @@
 pub mod Appending
 pub mod Files
 pub mod Reading
+pub mod MemFiles
+pub mod OpenFile

@@ -1,5 +1,6 @@
-ghost use Rattle.std.specs.Prelude.{◌≡◌, ◌≤◌, ◌+◌, ◌++◌, [], Some, take, length, vec_len, vec_capacity, IfOk};
+ghost use Rattle.std.specs.Prelude.{◌≡◌, [], Some, IfOk};
 
+use crate::room::append;
 use crate::calls::Calls;
 use crate::fault::Failed;
 use crate::sink::Sink;
@@ -13,16 +14,6 @@ pub struct MemSink {
     bytes: Vec<u8>,
     calls: Calls,
     faults: u64,
-}
-
-// Appends bytes for which there is room.
-fn append(bytes: &mut Vec<u8>, piece: &[u8])
-    requires { vec_len bytes.old + length piece.now ≤ vec_capacity bytes.old }
-    ensures { bytes.new.items ≡ bytes.old.items ++ piece.now }
-{
-    for byte in piece {
-        bytes.push_reserved(*byte);
-    }
 }
 
 impl MemSink {
