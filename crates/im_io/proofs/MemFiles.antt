@@ -1,7 +1,6 @@
 -- The first file of a name among many.
-use Rattle.std.proofs.Common.{◌≡◌, ◌≤◌, ◌<◌, ◌≢◌, ℕ, ◌+◌, Bool, true, false, cond, ◌&&◌, eqb, ltb, leb, Option, Some, None, List, [], ◌∷◌, length, set, get_or, inl, inr, refl, sym, ap, ◌∙◌, subst, arith}
+use Rattle.std.proofs.Common.{◌≡◌, ◌≤◌, ◌<◌, ◌≢◌, ℕ, Bool, true, false, cond, ◌&&◌, ltb, Option, Some, None, List, [], length, set, get_or, inl, inr, refl, sym, ap, ◌∙◌, arith}
 use Rattle.std.specs.Prelude.{◌⊎◌, is_some, position}
-use Rattle.std.specs.List.{position_or_len}
 use Rattle.std.specs.Str.{bytes_eq}
 use Rattle.std.proofs.Math.ListN.{get_or-eq_default}
 use Rattle.std.proofs.Math.Path.{fun_ext}
@@ -10,8 +9,8 @@ use Rattle.std.proofs.lemmas.List.{get_or_default, get_or-set_same, get_or-set_o
 use Rattle.std.proofs.lemmas.List.Folds.{position_or_len-set}
 use Rattle.std.proofs.lemmas.List.Quantifiers.{position-Some}
 use Rattle.std.proofs.lemmas.Slice.Eq.{bytes_eq-Decides}
-use Rattle.im_io.specs.Shelf.{Files, with_file}
-use Rattle.im_io.specs.MemFiles.{File, file_at, number_of, files_of, bytes_of, is_first, is_readable}
+use Rattle.im_io.specs.Shelf.{with_file}
+use Rattle.im_io.specs.MemFiles.{File, file_at, number_of, files_of, bytes_of, is_first}
 
 pub both : (a b : Bool) → (a && b) ≡ true → (a ≡ true) × (b ≡ true)
 both true b h = (refl, h)
@@ -34,9 +33,9 @@ past_blank files n past = ap (λ (f : File). f.content) (get_or-eq_default files
 -- a file that is there has a number
 pub within : (files : List File) (n : ℕ) → is_some (file_at files n).content ≡ true → n < length files
 within files n h = elim (cases (ltb n (length files))) [
-    | inl below ↦ ltb-true n (length files) below
-    | inr past ↦ let gone = past_blank files n (ltb-false n (length files) past) in absurd cc
-  ]
+  | inl below ↦ ltb-true n (length files) below
+  | inr past ↦ let gone = past_blank files n (ltb-false n (length files) past) in absurd cc
+]
 
 -- an element that was taken out by its number
 pub element : (files : List File) (n : ℕ) (file : File) → n < length files → file ≡ get_or files n file → file_at files n ≡ file
@@ -105,11 +104,11 @@ content_set : (files : List File) (n : ℕ) (name bytes : List ℕ) (new : File)
 content_set files n name bytes new h named holds other true e =
     let same : other ≡ name = (bytes_eq-Decides other name).0 e in
     ap (λ k. (file_at (set files n new) k).content) (number_set files n new other (named ∙ sym h.named) ∙ ap (number_of files) same ∙ h.first)
-        ∙ ap (λ (f : File). f.content) (get_or-set_same files n new blank h.within)
-        ∙ holds
+    ∙ ap (λ (f : File). f.content) (get_or-set_same files n new blank h.within)
+    ∙ holds
 content_set files n name bytes new h named holds other false e =
     ap (λ k. (file_at (set files n new) k).content) (number_set files n new other (named ∙ sym h.named))
-        ∙ ap (λ (f : File). f.content) (get_or-set_other files n (number_of files other) new blank (other_number files n name other h e))
+    ∙ ap (λ (f : File). f.content) (get_or-set_other files n (number_of files other) new blank (other_number files n name other h e))
 
 pub files_set : (files : List File) (n : ℕ) (name bytes : List ℕ) (new : File) → Found files name n → new.name ≡ name → new.content ≡ Some bytes
     → files_of (set files n new) ≡ with_file (files_of files) name bytes
@@ -122,4 +121,4 @@ pub first_set : (files : List File) (n : ℕ) (name bytes : List ℕ) (new : Fil
 first_set files n name bytes new h named holds =
     let here = get_or-set_same files n new blank h.within in
     both_true _ _ (ap (λ (f : File). is_some f.content) here ∙ ap is_some holds)
-        (eq-eqb _ n (ap (number_of (set files n new)) (named_set files n name new h named) ∙ number_set files n new name (named ∙ sym h.named) ∙ h.first))
+    (eq-eqb _ n (ap (number_of (set files n new)) (named_set files n name new h named) ∙ number_set files n new name (named ∙ sym h.named) ∙ h.first))

@@ -1,7 +1,6 @@
 -- What a call does to what a shelf in memory tells of its open file.
-use Rattle.std.proofs.Common.{◌≡◌, ◌≤◌, ◌<◌, ℕ, ◌+◌, ◌-◌, min, Bool, true, false, cond, Option, Some, None, List, [], ◌++◌, get_or, length, take, drop, set, refl, sym, ap, ◌∙◌, arith}
+use Rattle.std.proofs.Common.{◌≡◌, ◌≤◌, ℕ, ◌+◌, ◌-◌, min, Bool, true, false, cond, Some, List, [], ◌++◌, get_or, length, take, drop, set, refl, sym, ap, ◌∙◌, arith}
 use Rattle.std.proofs.lemmas.Bool.{leb-true}
-use Rattle.std.specs.Prelude.{is_some}
 use Rattle.im_io.specs.Shelf as shelf
 use Rattle.im_io.specs.Shelf.{Files, Mode, Took, Put, Created, with_file}
 use Rattle.im_io.specs.declared.mem_shelf.Place.{Place}

@@ -3,8 +3,8 @@ ghost use Rattle.std.specs.Str.{bytes_eq};
 ghost use Rattle.im_io.specs.MemFiles.{File, bytes_of};
 ghost use Rattle.im_io.specs.Shelf.{Fits, TakesSome};
 
-use crate::room::append;
 use crate::fault::Failed;
+use crate::room::append;
 use im_num::NoMemory;
 use std::alloc::Global;
 use std::marker::Model;

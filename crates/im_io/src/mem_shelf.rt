@@ -15,13 +15,8 @@ use std::alloc::Global;
 pub enum Place {
     Closed,
     /// Open to be read, with how many of its bytes were read.
-    Reading {
-        file: usize,
-        read: usize,
-    },
-    Writing {
-        file: usize,
-    },
+    Reading { file: usize, read: usize },
+    Writing { file: usize },
 }
 
 /// A shelf of files in memory, whose names are given when it is made. It takes no memory after that.
@@ -93,6 +88,27 @@ impl MemShelf {
             Some(number) => self.files[number].contents(),
             None => None,
         }
+    }
+
+    /// How many openings and reads were refused.
+    pub fn read_faults(&self) -> u64
+        ensures { result ≡ (⟦<MemShelf as Shelf>⟧.state self.now).read_faults }
+    {
+        self.read_faults
+    }
+
+    /// How many creations and writes were refused.
+    pub fn write_faults(&self) -> u64
+        ensures { result ≡ (⟦<MemShelf as Shelf>⟧.state self.now).write_faults }
+    {
+        self.write_faults
+    }
+
+    /// How often a file was to be opened that isn't there.
+    pub fn absences(&self) -> u64
+        ensures { result ≡ (⟦<MemShelf as Shelf>⟧.state self.now).absences }
+    {
+        self.absences
     }
 }
 

@@ -1,8 +1,8 @@
 ghost use Rattle.std.specs.Prelude.{◌≡◌, [], Some, IfOk};
 
-use crate::room::append;
 use crate::calls::Calls;
 use crate::fault::Failed;
+use crate::room::append;
 use crate::sink::Sink;
 use im_num::NoMemory;
 use std::alloc::Global;
@@ -34,6 +34,13 @@ impl MemSink {
         ensures { (⟦<MemSink as Sink>⟧.state self.now).contents ≡ Some result.now }
     {
         &self.bytes
+    }
+
+    /// How many writes were refused.
+    pub fn faults(&self) -> u64
+        ensures { result ≡ (⟦<MemSink as Sink>⟧.state self.now).faults }
+    {
+        self.faults
     }
 }
 

@@ -1,4 +1,4 @@
-use Rattle.std.proofs.Common.{◌≡◌, refl, sym, ap, ◌∙◌}
+use Rattle.std.proofs.Common.{◌≡◌, sym, ap, ◌∙◌}
 use Rattle.std.specs.Prelude.{is_some, true}
 use Rattle.im_io.specs.MemFiles.{File, file_at}
 use Rattle.im_io.proofs.MemFiles.{element, found, found_first}
