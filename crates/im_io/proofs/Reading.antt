@@ -1,12 +1,12 @@
 -- A file read piece by piece.
-use Rattle.std.proofs.Common.{◌≡◌, ◌≤◌, ◌<◌, ℕ, ◌+◌, ◌-◌, min, Option, Some, None, List, [], ◌∷◌, ◌++◌, take, drop, length, refl, sym, ap, ◌∙◌, subst, length-take, length-append, arith}
-use Rattle.std.proofs.Math.Seq.{take-add, take-length}
+use Rattle.std.proofs.Common.{◌≡◌, ◌≤◌, ℕ, ◌+◌, Option, Some, None, List, [], ◌++◌, take, drop, length, refl, sym, ap, ◌∙◌, subst, length-take, length-append, arith}
+use Rattle.std.proofs.Math.Seq.{take-add}
 use Rattle.std.specs.Prelude.{IsSome, Result, Ok, Err}
 use Rattle.im_io.specs.declared.fault.ReadFault.{ReadFault}
 use Rattle.im_io.specs.declared.fault.ReadFault.TheVariants.{Absent, Fault, TooLong, OutOfMemory}
 use Rattle.im_io.specs.Counts.{Rose}
 use Rattle.im_io.specs.Shelf.{Files, Told, Took, Opened, ShelfState, SameCounts}
-use Rattle.im_io.specs.Whole.{AtStart, OpenRead, ReadsOpen, ReadWholeCounts, ReadsWhole}
+use Rattle.im_io.specs.Whole.{AtStart, ReadsOpen, ReadWholeCounts, ReadsWhole}
 use Rattle.im_io.proofs.Files.{same_counts}
 
 -- the first bytes of the open file were read

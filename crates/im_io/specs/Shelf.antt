@@ -1,5 +1,5 @@
 -- A shelf of files, of which one is open at a time: what it tells, and what its calls do to that.
-use Rattle.std.specs.Prelude.{◌≡◌, ℕ, ◌+◌, ◌≤◌, ◌<◌, ⊤, Option, Some, None, IsSome, Result, Ok, Err, List, [], ◌∷◌, ◌++◌, length, take, drop, cond}
+use Rattle.std.specs.Prelude.{◌≡◌, ℕ, ◌+◌, ◌≤◌, ◌<◌, ⊤, Option, Some, None, IsSome, Result, Ok, Err, List, [], ◌++◌, length, take, drop, cond}
 use Rattle.std.specs.Str.{bytes_eq}
 use Rattle.im_io.specs.declared.fault.OpenFault.{OpenFault}
 use Rattle.im_io.specs.declared.fault.OpenFault.TheVariants.{Absent, Failed}

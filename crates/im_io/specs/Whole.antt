@@ -1,9 +1,9 @@
 -- Whole files and whole texts.
-use Rattle.std.specs.Prelude.{◌≡◌, ℕ, ◌≤◌, ◌<◌, ◌⊎◌, ⊤, Option, Some, None, Result, Ok, Err, List, ◌++◌, length, take}
+use Rattle.std.specs.Prelude.{◌≡◌, ℕ, ◌≤◌, ◌<◌, ◌⊎◌, ⊤, Some, Result, Ok, Err, List, length, take}
 use Rattle.im_io.specs.declared.fault.ReadFault.{ReadFault}
 use Rattle.im_io.specs.declared.fault.ReadFault.TheVariants.{Absent, Fault, TooLong, OutOfMemory}
 use Rattle.im_io.specs.Counts.{Rose}
-use Rattle.im_io.specs.Shelf.{Told, ShelfState, SameCounts, ReadFaulted, WasAbsent, WriteFaulted, SameFiles, NotThere, with_file}
+use Rattle.im_io.specs.Shelf.{Told, ShelfState, SameCounts, ReadFaulted, WasAbsent, SameFiles, NotThere, with_file}
 use Rattle.im_io.specs.Sink.{SinkState, Appended}
 
 -- ---- reading a whole file

@@ -1,7 +1,8 @@
-ghost use Rattle.std.specs.Prelude.{◌≡◌, ◌≤◌, ◌+◌, ◌++◌, [], Some, take, length, vec_len, vec_capacity, IfOk};
+ghost use Rattle.std.specs.Prelude.{◌≡◌, [], Some, IfOk};
 
 use crate::calls::Calls;
 use crate::fault::Failed;
+use crate::room::append;
 use crate::sink::Sink;
 use im_num::NoMemory;
 use std::alloc::Global;
@@ -13,16 +14,6 @@ pub struct MemSink {
     bytes: Vec<u8>,
     calls: Calls,
     faults: u64,
-}
-
-// Appends bytes for which there is room.
-fn append(bytes: &mut Vec<u8>, piece: &[u8])
-    requires { vec_len bytes.old + length piece.now ≤ vec_capacity bytes.old }
-    ensures { bytes.new.items ≡ bytes.old.items ++ piece.now }
-{
-    for byte in piece {
-        bytes.push_reserved(*byte);
-    }
 }
 
 impl MemSink {
@@ -43,6 +34,13 @@ impl MemSink {
         ensures { (⟦<MemSink as Sink>⟧.state self.now).contents ≡ Some result.now }
     {
         &self.bytes
+    }
+
+    /// How many writes were refused.
+    pub fn faults(&self) -> u64
+        ensures { result ≡ (⟦<MemSink as Sink>⟧.state self.now).faults }
+    {
+        self.faults
     }
 }
 

@@ -1,4 +1,3 @@
-use Rattle.std.proofs.Common.{List, ℕ}
 use Rattle.im_io.specs.Shelf.{Opened}
 use Rattle.im_io.specs.Whole.{ReadsOpen, ReadsWhole}
 use Rattle.im_io.proofs.Files.{told_then}

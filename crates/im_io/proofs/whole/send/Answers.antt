@@ -1,4 +1,4 @@
-use Rattle.std.proofs.Common.{◌≡◌, ◌≤◌, ◌+◌, ◌-◌, ◌∙◌, subst, take, drop, length, length-take, length-drop, arith}
+use Rattle.std.proofs.Common.{◌≤◌, ◌∙◌, subst, drop, length, length-drop, arith}
 use Rattle.im_io.specs.Sink.{Appended}
 use Rattle.im_io.proofs.Appending.{appended_more, first_more, rest_of}
 use Rattle.im_io.proofs.whole.send.Goals as goal

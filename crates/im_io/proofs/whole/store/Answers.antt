@@ -1,8 +1,7 @@
-use Rattle.std.proofs.Common.{◌≡◌, ◌≤◌, ◌+◌, ◌-◌, ◌∙◌, inl, inr, take, drop, length, length-drop, arith}
-use Rattle.im_io.specs.Shelf.{Told, Created, Put, Kept, SameFiles}
-use Rattle.im_io.specs.Whole.{HoldsFirst, HoldsText}
+use Rattle.std.proofs.Common.{◌≤◌, ◌+◌, ◌-◌, take, drop, length, length-drop, arith}
+use Rattle.im_io.specs.Shelf.{Put}
 use Rattle.im_io.proofs.Appending.{rest_of}
-use Rattle.im_io.proofs.Files.{Holds, holds_none, holds_more, holds_all, holds_first, told_then, told_as, same_counts, then_faulted}
+use Rattle.im_io.proofs.Files.{Holds, holds_more, told_then, same_counts}
 use Rattle.im_io.proofs.whole.store.Goals as goal
 
 pub loop-stored-preserved : goal.loop-stored-preserved
