@@ -1,0 +1,10 @@
+//! The typed program, in which each conversion is written out, and what it means.
+#![tactic(auto)]
+
+mod expression;
+mod program;
+mod statement;
+
+pub use expression::{Access, BinaryOp, Change, Comparison, Expr, Place, UnaryOp};
+pub use program::{Constant, Func, Object, Prog, Static};
+pub use statement::{Case, Piece, Stmt};
