@@ -1,5 +1,6 @@
 -- Sizes, alignments and cells of types (C11 6.2.8, 6.5.3.4, 6.7.2.1).
-use Rattle.std.specs.Prelude.{◌≡◌, ℕ, zero, suc, ◌+◌, ◌-◌, ◌*◌, ◌%◌, ◌<◌, max, List, [], ◌∷◌, ◌++◌, map, length}
+use Rattle.std.specs.Prelude.{◌≡◌, ℕ, zero, suc, ◌+◌, ◌-◌, ◌*◌, ◌%◌, ◌<◌, max, List, [], ◌∷◌, ◌++◌, map, length, slice_index_or}
+use Rattle.std.specs.List.{All}
 use Rattle.im_num.specs.declared.kind.Kind.{Kind}
 use Rattle.im_num.specs.declared.kind.Kind.TheVariants.{I8, U8, I16, U16, I32, U32, Ptr}
 use Rattle.im_num.specs.Kinds.{kind_size}
@@ -58,9 +59,7 @@ abbrev pub round_up : ℕ → ℕ → ℕ
 round_up n align = n + (align - n % align) % align
 
 abbrev pub layout_at : List Layout → ℕ → Layout
-layout_at [] n = empty_layout
-layout_at (l ∷ done) zero = l
-layout_at (l ∷ done) (suc n) = layout_at done n
+layout_at done n = slice_index_or done n empty_layout
 
 -- the layout of a type, given those of the structs
 abbrev pub layout_in : List Layout → CType → Layout
@@ -123,8 +122,7 @@ IsComplete structs ty = IsCompleteIn (length structs) ty
 
 -- each member has a complete object type
 abbrev pub MembersAreComplete : ℕ → List Member → Type 0
-MembersAreComplete known [] = Unit {0}
-MembersAreComplete known (m ∷ ms) = IsCompleteIn known m.ty × MembersAreComplete known ms
+MembersAreComplete known members = All (λ (m : Member). IsCompleteIn known m.ty) members
 
 abbrev pub AreCompleteFrom : ℕ → Structs → Type 0
 AreCompleteFrom known [] = Unit {0}
