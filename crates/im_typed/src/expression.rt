@@ -4,8 +4,8 @@ use im_num::Kind;
 #[derive(Clone, Copy, Debug)]
 pub enum Access {
     Cell(Kind),
-    /// A struct of the table, by its number.
-    Struct(u32),
+    /// A struct of the table, by its number, and how many cells it has.
+    Struct { number: u32, cells: u32 },
 }
 
 /// An operator on two integers (C11 6.5.5 to 6.5.7, 6.5.10 to 6.5.12).
@@ -41,7 +41,7 @@ pub enum UnaryOp {
     Complement,
 }
 
-/// How a compound assignment changes what stands at its place (C11 6.5.16.2).
+/// How an assignment changes what stands at its place (C11 6.5.16.2, 6.5.2.4, 6.5.3.1).
 #[derive(Clone, Copy, Debug)]
 pub enum Change {
     /// The old value, of kind `kind`, is converted to the kind `at`, of which `op` is taken, and
@@ -111,12 +111,17 @@ pub enum Expr {
     /// A cast to `void`.
     Discard(Box<Expr>),
     Assign(Access, Box<Place>, Box<Expr>),
-    /// A compound assignment, and `++` and `--`; with `old` its value is the old one, as that of
-    /// the postfix operators is.
+    /// A compound assignment.
     Update {
         place: Box<Place>,
         change: Change,
         by: Box<Expr>,
+    },
+    /// `++` and `--`: a change by 1. With `old` its value is the old one, as that of the postfix
+    /// operators is.
+    Increment {
+        place: Box<Place>,
+        change: Change,
         old: bool,
     },
     /// A member of a struct that stands at no place: those cells of its value, counted.

@@ -4,7 +4,9 @@
 mod expression;
 mod program;
 mod statement;
+mod undefined;
 
 pub use expression::{Access, BinaryOp, Change, Comparison, Expr, Place, UnaryOp};
 pub use program::{Constant, Func, Object, Prog, Static};
 pub use statement::{Case, Piece, Stmt};
+pub use undefined::Undefined;

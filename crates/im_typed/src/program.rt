@@ -7,6 +7,8 @@ use crate::statement::Stmt;
 pub struct Object {
     pub name: Vec<u8>,
     pub ty: CType,
+    /// The bytes that its type takes.
+    pub size: u32,
 }
 
 /// What a cell of a static holds before the start of `main`.
@@ -33,8 +35,6 @@ pub struct Func {
     pub params: u32,
     pub objects: Vec<Object>,
     pub body: Stmt,
-    /// Whether its brace gives 0, as that of `main` does.
-    pub zero_at_brace: bool,
 }
 
 /// A program: the defined statics in the order of their first declaration, then the string
@@ -44,6 +44,6 @@ pub struct Prog {
     pub structs: StructTable,
     pub statics: Vec<Static>,
     pub funcs: Vec<Func>,
-    /// The number of the function `main`.
+    /// The number of the function `main`, whose brace gives 0.
     pub main: u32,
 }

@@ -22,9 +22,11 @@ pub enum Stmt {
     /// A declaration without an initialiser is reached: its object is uninitialised again.
     Forget(u32),
     /// A declaration with an initialiser: its expressions in order, each stored before the next
-    /// one is evaluated; then the cells without an expression become zero or null.
+    /// one is evaluated; then the cells without an expression become zero or null. `cells` is how
+    /// many cells the object has.
     Initialise {
         local: u32,
+        cells: u32,
         pieces: Vec<Piece>,
     },
     Block(Vec<Stmt>),
