@@ -1,5 +1,5 @@
 -- Sizes, alignments and cells of types (C11 6.2.8, 6.5.3.4, 6.7.2.1).
-use Rattle.std.specs.Prelude.{◌≡◌, ℕ, zero, suc, ◌+◌, ◌-◌, ◌*◌, ◌%◌, ◌<◌, max, List, [], ◌∷◌, ◌++◌, map, length, slice_index_or}
+use Rattle.std.specs.Prelude.{◌≡◌, ℕ, zero, suc, ◌+◌, ◌-◌, ◌*◌, ◌%◌, ◌<◌, max, List, [], ◌∷◌, ◌++◌, map, length, slice_index_or, slice_get, Option, Some, None}
 use Rattle.std.specs.List.{All}
 use Rattle.im_num.specs.declared.kind.Kind.{Kind}
 use Rattle.im_num.specs.declared.kind.Kind.TheVariants.{I8, U8, I16, U16, I32, U32, Ptr}
@@ -11,7 +11,7 @@ use Rattle.im_ctype.specs.declared.ctype.CType.TheVariants.{Void, Integer as Int
 use Rattle.im_ctype.specs.declared.table.Member.{Member}
 use Rattle.im_ctype.specs.declared.table.StructType.{StructType}
 use Rattle.im_ctype.specs.declared.table.Extent.{Extent}
-use Rattle.im_ctype.specs.declared.cells.Cell.{Cell}
+use Rattle.im_ctype.specs.declared.cell.Cell.{Cell}
 
 -- the structs of a unit, in the order in which their member lists end
 abbrev pub Structs : Type 0
@@ -108,6 +108,14 @@ extent_of l = record { size = l.size; alignment = l.align }
 -- sizes and alignments of the structs
 abbrev pub extents_of : Structs → List Extent
 extents_of structs = map {A = Layout} extent_of (layouts structs)
+
+abbrev pub members_at : Option StructType → List Member
+members_at None = []
+members_at (Some s) = s.members.items
+
+-- the members of the struct of that number
+abbrev pub members_of : Structs → ℕ → List Member
+members_of structs n = members_at (slice_get structs n)
 
 -- a complete object type, where so many structs have their member lists (C11 6.2.5)
 abbrev pub IsCompleteIn : ℕ → CType → Type 0

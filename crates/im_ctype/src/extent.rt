@@ -35,7 +35,7 @@ pub fn align_of(ty: &CType, table: &StructTable) -> u64
 }
 
 /// The least multiple of the alignment that is not below the offset.
-fn round_up(offset: u64, alignment: u64) -> u64
+pub(crate) fn round_up(offset: u64, alignment: u64) -> u64
     requires nonzero { 0 < alignment }
     requires held { Layout.round_up offset alignment < 2 ^ 64 }
     ensures { result ≡ Layout.round_up offset alignment }

@@ -1,13 +1,13 @@
 //! The types of the language, the table of its structs, and where the cells of an object lie.
 #![tactic(auto)]
 
-mod cells;
+mod cell;
 mod ctype;
 mod extent;
 mod integer;
 mod table;
 
-pub use cells::Cell;
+pub use cell::{cells, Cell};
 pub use ctype::CType;
 pub use extent::{align_of, size_of};
 pub use integer::Integer;

@@ -56,7 +56,7 @@ impl std::marker::Model for StructTable {
 impl StructTable {
     ghost use Rattle.std.specs.Prelude.{◌≡◌, ◌<◌, ◌^◌, [], ◌∷◌, ◌++◌, length, slice_get, is_ok, if◌then◌else◌};
     ghost use Rattle.std.specs.Option.{option_copied};
-    ghost use Rattle.im_ctype.specs.Layout.{layouts, layout_at, extent_of, struct_in, MembersAreComplete};
+    ghost use Rattle.im_ctype.specs.Layout.{layouts, layout_at, extent_of, struct_in, members_of, MembersAreComplete};
 
     /// The table without a struct.
     pub fn new(alloc: Global) -> StructTable
@@ -80,6 +80,17 @@ impl StructTable {
         ensures { option_copied result ≡ slice_get self.now number }
     {
         self.structs.get(number as usize)
+    }
+
+    /// The members of the struct of that number; they have complete object types by the structs
+    /// before it.
+    pub fn members(&self, number: u32) -> &[Member]
+        requires { number < length self.now }
+        ensures members { result.now ≡ members_of self.now number }
+        ensures complete { MembersAreComplete number (members_of self.now number) }
+    {
+        let structure = &self.structs[number as usize];
+        &structure.members
     }
 
     /// The size and alignment of the struct of that number.

@@ -3,7 +3,7 @@ use Rattle.std.specs.Prelude.{ℕ, zero, suc, ◌+◌, Bool, true, false, not, L
 use Rattle.std.specs.Ordering.{int_eq}
 use Rattle.im_num.specs.declared.kind.Kind.{Kind}
 use Rattle.im_num.specs.declared.kind.Kind.TheVariants.{U8, Ptr}
-use Rattle.im_ctype.specs.declared.cells.Cell.{Cell}
+use Rattle.im_ctype.specs.declared.cell.Cell.{Cell}
 use Rattle.im_ctype.specs.Layout.{Layout, layout_at}
 use Rattle.im_typed.specs.declared.expression.Access.{Access}
 use Rattle.im_typed.specs.declared.expression.Access.TheVariants.{Cell as CellOf, Struct as StructOf}

@@ -3,7 +3,7 @@ use Rattle.std.specs.Prelude.{ℕ, zero, suc, ◌+◌, Bool, true, false, not, �
 use Rattle.std.specs.Ordering.{int_eq}
 use Rattle.im_num.specs.declared.kind.Kind.{Kind}
 use Rattle.im_num.specs.declared.kind.Kind.TheVariants.{I8, U8, I16, U16, I32, U32, Ptr}
-use Rattle.im_ctype.specs.declared.cells.Cell.{Cell}
+use Rattle.im_ctype.specs.declared.cell.Cell.{Cell}
 use Rattle.im_typed.specs.declared.expression.Comparison.{Comparison}
 use Rattle.im_typed.specs.declared.expression.Comparison.TheVariants.{Less, Greater, LessOrEqual, GreaterOrEqual, Equal, NotEqual}
 use Rattle.im_typed.specs.declared.undefined.Undefined.TheVariants.{UninitialisedRead, NoSuchCell, OutsideObject, UnrelatedPointers, MissingResult, DeadPointerRead}

@@ -1,6 +1,6 @@
 -- What a program does on an input.
 use Rattle.std.specs.Prelude.{ℕ, zero, suc, ◌+◌, Bool, true, false, List, [], ◌∷◌, ◌++◌, map, length, take, ℤ, pos, Option, Some, None, nat_eq, nat_le, slice_get, slice_index_or}
-use Rattle.im_ctype.specs.declared.cells.Cell.{Cell}
+use Rattle.im_ctype.specs.declared.cell.Cell.{Cell}
 use Rattle.im_ctype.specs.Layout.{Structs, layout, layouts}
 use Rattle.im_typed.specs.declared.program.Constant.{Constant}
 use Rattle.im_typed.specs.declared.program.Constant.TheVariants.{Number as Fixed, Null as Nowhere, Inside}
