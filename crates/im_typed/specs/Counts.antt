@@ -67,12 +67,15 @@ abbrev pub optional_nodes : Option Expr → ℕ
 optional_nodes None = 0
 optional_nodes (Some e) = expr_nodes e
 
+abbrev pub piece_nodes : Piece → ℕ
+piece_nodes p = expr_nodes p.value
+
 -- each statement, with all that it holds; of an initialised object also its cells
 abbrev mutual
   pub stmt_nodes : Stmt → ℕ
   stmt_nodes (Do e) = 1 + expr_nodes e
   stmt_nodes (Forget x) = 1
-  stmt_nodes (Initialise x cells ps) = 1 + cells + sum_by (λ (p : Piece). expr_nodes p.value) ps.items
+  stmt_nodes (Initialise x cells ps) = 1 + cells + sum_by piece_nodes ps.items
   stmt_nodes (Block' shape ss) = 1 + block_nodes ss
   stmt_nodes (If' t p a q b) = 1 + expr_nodes t + stmt_nodes a + stmt_nodes b
   stmt_nodes (While' t p a) = 1 + expr_nodes t + stmt_nodes a

@@ -4,3 +4,4 @@ pub mod Objects
 pub mod Meaning
 pub mod Programs
 pub mod Counts
+pub mod Laws

@@ -100,16 +100,18 @@ read_slots store (suc n) [] = undefined NoSuchCell
 read_slots store (suc n) (t ∷ ts) =
     bind (read_value store t.value) (λ v. bind (read_slots store n ts) (λ vs. give (v ∷ vs)))
 
+-- a run from the slot on where cells stand, in an object
+abbrev pub at_slot : ℕ → List Slot → (ℕ → ℕ → List Slot → Run (List Value)) → Option ℕ → Run (List Value)
+at_slot o ts next None = undefined NoSuchCell
+at_slot o ts next (Some k) = next o k ts
+
+abbrev pub in_object : ℕ → ℕ → List Cell → (ℕ → ℕ → List Slot → Run (List Value)) → Option Stored → Run (List Value)
+in_object o d cs next None = undefined NoSuchCell
+in_object o d cs next (Some x) = either x.live (at_slot o x.slots next (found d cs x.slots)) (undefined NoSuchCell)
+
 -- a run on the live object that a pointer points into, from the slot on where those cells stand
 abbrev pub at_cells : List Cell → Value → (ℕ → ℕ → List Slot → Run (List Value)) → Store → Run (List Value)
-at_cells cs (To o d) next store = in_object (slice_get store o)
-  where
-    at_slot : List Slot → Option ℕ → Run (List Value)
-    at_slot ts None = undefined NoSuchCell
-    at_slot ts (Some k) = next o k ts
-    in_object : Option Stored → Run (List Value)
-    in_object None = undefined NoSuchCell
-    in_object (Some x) = either x.live (at_slot x.slots (found d cs x.slots)) (undefined NoSuchCell)
+at_cells cs (To o d) next store = in_object o d cs next (slice_get store o)
 at_cells cs Nil next store = undefined NoSuchCell
 at_cells cs (Num z) next store = undefined NoSuchCell
 at_cells cs Unset next store = undefined NoSuchCell

@@ -120,3 +120,57 @@ fn row_count(expressions: &[Expr]) -> u64
     }
     total
 }
+
+fn pieces_nodes(pieces: &[Piece]) -> u64
+    ensures { result ≡ min (sum_by piece_nodes pieces.now) (2 ^ 64 - 1) }
+{
+    let mut total: u64 = 0;
+    for piece in pieces {
+        total = total.saturating_add(expression_nodes(&piece.value));
+    }
+    total
+}
+
+fn result_nodes(value: &Option<Expr>) -> u64
+    ensures { result ≡ min (optional_nodes value.now) (2 ^ 64 - 1) }
+{
+    match value {
+        None => 0,
+        Some(value) => expression_nodes(value),
+    }
+}
+
+#[cycle(statements)]
+fn statement_nodes(statement: &Stmt) -> u64
+    ensures { result ≡ min (stmt_nodes statement.now) (2 ^ 64 - 1) }
+{
+    match statement {
+        Stmt::Forget(_) | Stmt::Break | Stmt::Continue => 1,
+        Stmt::Expr(value) => expression_nodes(value).saturating_add(1),
+        Stmt::Initialise { cells, pieces, .. } => sum2(*cells as u64, pieces_nodes(pieces)),
+        Stmt::Block(statements) => block_count(statements).saturating_add(1),
+        Stmt::If(test, first, second) => sum2(expression_nodes(test), statement_nodes(first))
+            .saturating_add(statement_nodes(second)),
+        Stmt::While(test, body) | Stmt::DoWhile(body, test) => {
+            sum2(expression_nodes(test), statement_nodes(body))
+        }
+        Stmt::For { first, test, step, body } => {
+            sum2(statement_nodes(first), expression_nodes(test))
+                .saturating_add(expression_nodes(step))
+                .saturating_add(statement_nodes(body))
+        }
+        Stmt::Switch { value, block, .. } => sum2(expression_nodes(value), block_count(block)),
+        Stmt::Return(value) => result_nodes(value).saturating_add(1),
+    }
+}
+
+#[cycle(statements)]
+fn block_count(statements: &[Stmt]) -> u64
+    ensures { result ≡ min (sum_by stmt_nodes statements.now) (2 ^ 64 - 1) }
+{
+    let mut total: u64 = 0;
+    for statement in statements {
+        total = total.saturating_add(statement_nodes(statement));
+    }
+    total
+}

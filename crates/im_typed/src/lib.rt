@@ -1,11 +1,15 @@
 //! The typed program, in which each conversion is written out, and what it means.
 #![tactic(auto)]
 
+mod counts;
 mod expression;
+mod laws;
 mod program;
 mod statement;
 mod undefined;
 
+pub use counts::{need, nodes};
+pub use laws::more_fuel_law;
 pub use expression::{Access, BinaryOp, Change, Comparison, Expr, Place, UnaryOp};
 pub use program::{Constant, Func, Object, Prog, Static};
 pub use statement::{Case, Piece, Stmt};
