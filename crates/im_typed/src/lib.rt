@@ -9,7 +9,7 @@ mod statement;
 mod undefined;
 
 pub use counts::{need, nodes};
-pub use laws::more_fuel_law;
+pub use laws::{bound_law, fuel_law, more_fuel_law, statics_law};
 pub use expression::{Access, BinaryOp, Change, Comparison, Expr, Place, UnaryOp};
 pub use program::{Constant, Func, Object, Prog, Static};
 pub use statement::{Case, Piece, Stmt};
