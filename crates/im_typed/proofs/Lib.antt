@@ -2,4 +2,3 @@ pub mod Related
 pub mod Parts
 pub mod Induction
 pub mod Whole
-pub mod Rows
