@@ -1,0 +1,4 @@
+pub mod Related
+pub mod Parts
+pub mod Induction
+pub mod Whole

@@ -1,0 +1,48 @@
+use crate::statement::Stmt;
+use im_ctype::{CType, StructTable};
+
+/// An object that a function or the program has.
+#[derive(Debug, Drop)]
+pub struct Object {
+    pub name: Vec<u8>,
+    pub ty: CType,
+    /// The bytes that its type takes.
+    pub size: u32,
+}
+
+/// What a cell of a static holds before the start of `main`.
+#[derive(Clone, Copy, Debug)]
+pub enum Constant {
+    Number(i64),
+    Null,
+    /// A place in a static object: its number, and bytes from its start.
+    Inside { object: u32, offset: u32 },
+}
+
+/// A static object, with the first value of each of its cells.
+#[derive(Debug, Drop)]
+pub struct Static {
+    pub object: Object,
+    pub cells: Vec<Constant>,
+}
+
+/// A function with its body.
+#[derive(Debug, Drop)]
+pub struct Func {
+    pub name: Vec<u8>,
+    /// How many of its objects are parameters; these come first and hold the arguments.
+    pub params: u32,
+    pub objects: Vec<Object>,
+    pub body: Stmt,
+}
+
+/// A program: the defined statics in the order of their first declaration, then the string
+/// literals that initialise no array, named `$1`, `$2` and so on; and the functions in order.
+#[derive(Drop)]
+pub struct Prog {
+    pub structs: StructTable,
+    pub statics: Vec<Static>,
+    pub funcs: Vec<Func>,
+    /// The number of the function `main`, whose brace gives 0.
+    pub main: u32,
+}
