@@ -25,13 +25,16 @@ whole : (source name : List ℕ) (p : Printing) (image : ImageValue) (x y z : To
 whole source name p image x y z h k = record { spelled = h.spelled; stored = record { files = k.files ∙ ap (λ (f : Files). with_file f name (image_text image)) h.files } }
 
 pub store_refused : (A : Type 0) (source name : List ℕ) (p : Printing) (image : ImageValue) (r : Refusal) (a b c : ShelfState) → IsBuilt p image (length image.words + 68) → SameCounts a b × WhereTold a.told b.told (HasProgram source p) → StoresImage {A = A} name (image_text image) (Err r) b c → Refuses (refused_of r) source name a c
-store_refused A source name p image (refusal.CannotWrite other) a b c built read h = (h.0, record {
-  program = p;
-  image = image;
-  built = built;
-  counts = then_faulted a b c read.0 h.1;
-  files = told_then (HasProgram source p) (HoldsPart name (image_text image)) (HalfCompiles source name p image) a.told b.told c.told (half source name p image) read.1 h.2;
-})
+store_refused A source name p image (refusal.CannotWrite other) a b c built read h = (
+  h.0,
+  record {
+    program = p;
+    image = image;
+    built = built;
+    counts = then_faulted a b c read.0 h.1;
+    files = told_then (HasProgram source p) (HoldsPart name (image_text image)) (HalfCompiles source name p image) a.told b.told c.told (half source name p image) read.1 h.2;
+  },
+)
 store_refused A source name p image refusal.OutOfMemory a b c built read h =
     before (same_counts a b c read.0 h.0) (told_then (HasProgram source p) SameFiles SameFiles a.told b.told c.told (same_before source p) read.1 h.1)
 store_refused A source name p image (refusal.CannotRead other) a b c built read h = absurd h
@@ -41,4 +44,4 @@ store_refused A source name p image (refusal.NotCompiled other) a b c built read
 pub starved_behind : (A : Type 0) (source name : List ℕ) (p : Printing) (image : ImageValue) (u : A) (a b c : ShelfState) → IsBuilt p image (length image.words + 68) → SameCounts a b × WhereTold a.told b.told (HasProgram source p) → StoresImage {A = A} name (image_text image) (Ok u) b c → Unaffordable source name a c
 starved_behind A source name p image u a b c built read h =
     behind p image built (same_counts a b c read.0 h.0)
-        (told_then (HasProgram source p) (HoldsText name (image_text image)) (Compiles source name p image) a.told b.told c.told (whole source name p image) read.1 h.1)
+    (told_then (HasProgram source p) (HoldsText name (image_text image)) (Compiles source name p image) a.told b.told c.told (whole source name p image) read.1 h.1)

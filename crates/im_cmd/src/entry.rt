@@ -4,13 +4,12 @@ ghost use Rattle.im_cli.specs.Named.{meaning};
 ghost use Rattle.im_cmd.specs.Refusals.{TellsFault};
 ghost use Rattle.im_cmd.specs.Answers.{Answers, CarriesOut, RunAnswers};
 
-use im_cli::{Command, WordsFault, read_words};
-use im_io::{Shelf, Sink, send};
-use std::alloc::Global;
-
 use crate::refusal::Refusal;
 use crate::running::run_source;
 use crate::telling::{USAGE, tell_refusal, tell_run};
+use im_cli::{Command, WordsFault, read_words};
+use im_io::{Shelf, Sink, send};
+use std::alloc::Global;
 
 /// Carries out the command that the words name, the first of them being the program's own name, and
 /// gives the exit status. Files are the shelf's; `out` gets a run's output, and `err` the lines about

@@ -8,6 +8,9 @@ ghost use Rattle.im_power.specs.Power.{powered};
 ghost use Rattle.im_emu.specs.Load.{memory_of};
 ghost use Rattle.im_cmd.specs.Machines.{ended_of};
 
+use crate::compile::compile;
+use crate::refusal::Refusal;
+use crate::source::{Program, read_program};
 use im_emu::{LoadFault, Machine};
 use im_image::{Image, write_image};
 use im_io::{ReadFault, Shelf, read_whole, store};
@@ -15,10 +18,6 @@ use im_mem::FlatMem;
 use im_num::NoMemory;
 use im_power::Period;
 use std::alloc::Global;
-
-use crate::compile::compile;
-use crate::refusal::Refusal;
-use crate::source::{Program, read_program};
 
 /// Bytes of a source.
 const SOURCE_LIMIT: u64 = 4 * 1024 * 1024;

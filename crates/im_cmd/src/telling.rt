@@ -5,19 +5,23 @@ ghost use Rattle.im_cmd.specs.Outcome.{Got, TellsRun, exit_status, refusal_line}
 ghost use Rattle.im_cmd.specs.Refusals.{refused_of};
 ghost use Rattle.im_cmd.specs.Machines.{ended_of};
 
+use crate::refusal::Refusal;
+use crate::running::Run;
 use im_image::Image;
 use im_io::{Failed, Sink, send, send_pieces};
 use itoa::Buffer;
 
-use crate::refusal::Refusal;
-use crate::running::Run;
-
 /// The exit statuses.
 pub const DONE: u8 = 0;
+
 pub const USAGE: u8 = 2;
+
 pub const REFUSED_SOURCE: u8 = 3;
+
 pub const UNREADABLE: u8 = 7;
+
 pub const UNWRITABLE: u8 = 8;
+
 pub const STARVED: u8 = 9;
 
 // Sends a refusal's line.

@@ -1,8 +1,7 @@
 ghost use Rattle.std.specs.Prelude.{◌≡◌};
 
-use std::marker::Model;
-
 use crate::period::Period;
+use std::marker::Model;
 
 /// Periods in order.
 #[derive(Debug, Drop)]

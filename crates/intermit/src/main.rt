@@ -4,9 +4,8 @@
 use im_cmd::top;
 use im_io::{HostShelf, HostSink, Sink, send};
 use std::alloc::AllocError;
-use std::env;
-use std::io;
 use std::process::ExitCode;
+use std::{env, io};
 
 /// The exit status of words that aren't text.
 const USAGE: u8 = 2;
@@ -26,13 +25,7 @@ fn main(rt: HostRuntime) -> ExitCode {
     };
     let mut shelf = HostShelf::new(&rt);
     let mut out = HostSink::new(rt.stdout());
-    ExitCode::from(top(
-        rt.alloc(),
-        words.as_slice(),
-        &mut shelf,
-        &mut out,
-        &mut err,
-    ))
+    ExitCode::from(top(rt.alloc(), words.as_slice(), &mut shelf, &mut out, &mut err))
 }
 
 fn refuse<E: Sink>(err: &mut E, fault: &io::Error) -> ExitCode {
