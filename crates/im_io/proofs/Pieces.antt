@@ -1,8 +1,8 @@
 -- A text sent in pieces.
-use Rattle.std.proofs.Common.{◌≡◌, ◌≤◌, ◌<◌, ℕ, suc, ◌+◌, min, Option, List, [], ◌∷◌, ◌++◌, take, drop, length, get_or, refl, sym, ap, ◌∙◌, subst, append_assoc, length-append, length-take, drop-cons, arith}
+use Rattle.std.proofs.Common.{◌≡◌, ◌≤◌, ◌<◌, ℕ, suc, ◌+◌, min, List, [], ◌++◌, take, drop, length, get_or, refl, sym, ap, ◌∙◌, subst, drop-cons, arith}
 use Rattle.std.specs.List.{flat_map}
 use Rattle.std.proofs.Math.Seq.{take-append-add}
-use Rattle.std.proofs.lemmas.List.{take_min, take-append-le, take_more, take-append-drop, append-nil}
+use Rattle.std.proofs.lemmas.List.{take_min, take-append-le, take-append-drop}
 use Rattle.std.proofs.lemmas.Grind.{flat_map-append}
 use Rattle.im_io.specs.Counts.{Rose}
 use Rattle.im_io.specs.Sink.{SinkState, Appended}

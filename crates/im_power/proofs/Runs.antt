@@ -1,12 +1,12 @@
 -- A run that counts its steps leaves what the same run leaves without counting.
-use Rattle.std.proofs.Common.{◌≡◌, ◌≤◌, ℕ, zero, suc, ◌+◌, Bool, true, false, cond, refl, sym, ap, ◌∙◌, arith}
+use Rattle.std.proofs.Common.{◌≡◌, ◌≤◌, ℕ, zero, suc, Bool, true, false, cond, refl, sym, arith}
 use Rattle.std.specs.Prelude.{◌==◌}
 use Rattle.im_mem.specs.Memory.{Mem, little}
 use Rattle.im_rv.specs.declared.step.Went.{Went}
 use Rattle.im_rv.specs.declared.step.Went.TheVariants.{On, Halted, Faulted}
 use Rattle.im_rv.specs.Steps.{Cpu, Stepped}
 use Rattle.im_rv.specs.Decode.{step_of, go_on, runs}
-use Rattle.im_power.specs.Power.{Ended, joined, and_then, one_step, steps_of, index_changes}
+use Rattle.im_power.specs.Power.{Ended, joined, one_step, steps_of, index_changes}
 
 -- how a run ended and the memory that it left, by either definition
 pub record SameEnd (e : Ended) (s : Stepped) : Type 0 where

@@ -1,10 +1,9 @@
 -- Runs, one after the other.
-use Rattle.std.proofs.Common.{◌≡◌, ℕ, ◌+◌, List, [], ◌∷◌, ◌++◌, refl, sym, ap, ◌∙◌, add_assoc, zero-add}
+use Rattle.std.proofs.Common.{◌≡◌, ℕ, [], ◌∷◌, refl, sym, ap, ◌∙◌, add_assoc, zero-add}
 use Rattle.std.proofs.Math.Path.{fun_ext}
 use Rattle.im_mem.specs.Memory.{Mem}
 use Rattle.im_rv.specs.declared.step.Went.{Went}
 use Rattle.im_rv.specs.declared.step.Went.TheVariants.{On, Halted, Faulted}
-use Rattle.im_power.specs.declared.period.Period.{Period}
 use Rattle.im_power.specs.Power.{Ended, ahead, joined, and_then, power, powered, repeated}
 use Rattle.im_replay.specs.Split.{SplitTraceLaw}
 

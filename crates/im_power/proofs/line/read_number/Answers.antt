@@ -1,5 +1,5 @@
 use Rattle.std.proofs.Common.{sym, arith, rules, tests}
-use Rattle.im_power.proofs.Numbers.{starts, goes_on, no_digit, too_big, ends}
+use Rattle.im_power.proofs.Numbers.{starts, no_digit, too_big, ends}
 use Rattle.im_power.proofs.line.read_number.Goals as goal
 
 pub loop-byte-init : goal.loop-byte-init
