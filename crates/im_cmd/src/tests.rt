@@ -1,9 +1,11 @@
 use crate::top;
 use im_io::{MemShelf, MemSink};
 use std::alloc::Global;
+use std::process::Abort;
 use std::test::Fail;
 
 /// A command, the numbers of the calls that are refused (0 for none), and what is to come of it.
+#[derive(Clone, Copy)]
 struct Case<'a> {
     words: &'a str,
     shelf_fails: u64,
