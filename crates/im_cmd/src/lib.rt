@@ -9,5 +9,7 @@ mod running;
 mod source;
 mod straight;
 mod telling;
+#[cfg(test)]
+mod tests;
 
 pub use entry::top;
