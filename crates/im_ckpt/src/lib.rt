@@ -4,3 +4,6 @@
 mod recovery;
 
 pub use recovery::{boot_buffer, recovery_code, resume_law};
+
+#[cfg(test)]
+mod tests;

@@ -9,3 +9,6 @@ mod stretch;
 
 pub use fault::LoadFault;
 pub use machine::Machine;
+
+#[cfg(test)]
+mod tests;
