@@ -1,6 +1,7 @@
 #!/bin/sh
 # How fast the lexer is: bytes per second on a source of 4 MiB and on one of twice that, beside the
-# time that `gcc -fsyntax-only` takes for the same texts. Run it at the top of the repository.
+# time that `gcc -fsyntax-only` takes for the same texts. Times are the processor's. Run it at the
+# top of the repository.
 set -e
 top=$(pwd)
 work=$(mktemp -d)
@@ -8,7 +9,9 @@ trap 'rm -rf "$work"' EXIT
 mkdir "$work/crates"
 for crate in im_num im_tok im_lex; do
     mkdir "$work/crates/$crate"
-    for part in src specs proofs; do cp -r "crates/$crate/$part" "$work/crates/$crate"; done
+    for part in src specs proofs; do
+        if [ -d "crates/$crate/$part" ]; then cp -r "crates/$crate/$part" "$work/crates/$crate"; fi
+    done
 done
 mkdir -p "$work/crates/lex_bench/src"
 grep -E '^im_(num|tok|lex):' "$top/crates.txt" > "$work/crates.txt"
@@ -92,11 +95,11 @@ source_of() { # BYTES FILE
         n=$((n + 1))
     done
 }
-seconds() { # COMMAND..
-    start=$(date +%s%N)
-    "$@" > "$work/printed"
-    end=$(date +%s%N)
-    echo "$(((end - start) / 1000000))"
+milliseconds() { # COMMAND..: the processor's time for it; what it prints goes to the file printed
+    ("$@" > "$work/printed"; times) | awk 'END {
+        split($1, user, "m"); split($2, kernel, "m")
+        printf "%d\n", (user[1] * 60 + user[2] + kernel[1] * 60 + kernel[2]) * 1000
+    }'
 }
 
 cd "$work/crates/lex_bench"
@@ -107,8 +110,8 @@ cd "$work"
 for size in 4194304 8388608; do
     source_of "$size" source.c
     bytes=$(wc -c < source.c)
-    ours=$(seconds "$program")
+    ours=$(milliseconds "$program")
     tokens=$(cat "$work/printed")
-    theirs=$(seconds gcc -fsyntax-only source.c)
+    theirs=$(milliseconds gcc -fsyntax-only source.c)
     echo "$bytes bytes, $tokens: $ours ms, $((bytes / (ours + 1))) bytes per ms; gcc -fsyntax-only: $theirs ms"
 done
