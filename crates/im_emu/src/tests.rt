@@ -2,6 +2,7 @@ use crate::{LoadFault, Machine};
 use im_image::read_image;
 use im_power::Period;
 use im_rv::step::Went;
+use std::alloc::Global;
 use std::test::Fail;
 
 /// One code word, EBREAK.
@@ -25,30 +26,14 @@ const THREE_WORDS: [u8; 44] = [
 #[test]
 fn periods_run_until_the_machine_stops(rt: HostRuntime) -> Result<(), Fail> {
     let alloc = rt.alloc();
-    let rows: [(&[u8], Period, Went, u64, u64); 3] = [
-        (
-            &ONE_WORD,
-            Period { n: 100, junk: 0, count: 1 },
-            Went::Halted,
-            0,
-            1,
-        ),
-        (
-            &NO_WORD,
-            Period { n: 100, junk: 0, count: 1 },
-            Went::Faulted(0x1000),
-            0,
-            1,
-        ),
-        (
-            &THREE_WORDS,
-            Period { n: 3, junk: 0, count: 2 },
-            Went::On,
-            2,
-            6,
-        ),
+    // An image, a period's instructions and repeats, and then how it went, commits, instructions.
+    let rows: [(&[u8], u32, u32, Went, u64, u64); 3] = [
+        (&ONE_WORD, 100, 1, Went::Halted, 0, 1),
+        (&NO_WORD, 100, 1, Went::Faulted(0x1000), 0, 1),
+        (&THREE_WORDS, 3, 2, Went::On, 2, 6),
     ];
-    for (text, period, went, commits, instructions) in rows {
+    for (text, n, count, went, commits, instructions) in rows {
+        let period = Period { n, junk: 0, count };
         let image = read_image(alloc, text).ok().ok_or("an image")?;
         let mut machine = Machine::load(alloc, &image, &[]).ok().ok_or("a machine")?;
         assert!(rt; machine.power(period) == went, "at {instructions}");
@@ -65,15 +50,26 @@ fn periods_run_until_the_machine_stops(rt: HostRuntime) -> Result<(), Fail> {
     Ok(())
 }
 
+fn bytes(alloc: Global, count: usize) -> Result<Vec<u8>, Fail> {
+    Ok(vec![in alloc; 7; count]?)
+}
+
 #[test]
 fn an_input_has_at_most_a_mebibyte(rt: HostRuntime) -> Result<(), Fail> {
     let alloc = rt.alloc();
     let image = read_image(alloc, &ONE_WORD).ok().ok_or("an image")?;
-    let input = vec![in alloc; 7u8; 1_048_577]?;
-    assert!(rt; Machine::load(alloc, &image, &input[..1_048_576]).is_ok());
-    assert!(rt;
-        Machine::load(alloc, &image, &input).err()
-            == Some(LoadFault::InputTooLong(1_048_577, 1_048_576))
-    );
+    for (count, fault) in [
+        (1_048_576, None),
+        (
+            1_048_577,
+            Some(LoadFault::InputTooLong(1_048_577, 1_048_576)),
+        ),
+    ] {
+        let input = bytes(alloc, count)?;
+        assert!(rt;
+            Machine::load(alloc, &image, &input).err() == fault,
+            "at {count}"
+        );
+    }
     Ok(())
 }
