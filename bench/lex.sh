@@ -37,8 +37,8 @@ fn main(rt: HostRuntime) -> io::Result<()> {
 MAIN
 
 # real code, with names of their own in each copy
-copy() {
-    sed "s/@/$1/g" <<'CODE'
+code() {
+    cat <<'CODE'
 /* the CRC of IEEE 802.3, bit by bit */
 static unsigned crc_table_@[256];
 static void crc_fill_@(void)
@@ -88,12 +88,14 @@ const char *name_@(struct point_@ *p)
 CODE
 }
 source_of() { # BYTES FILE
-    : > "$2"
-    n=0
-    while [ "$(wc -c < "$2")" -lt "$1" ]; do
-        copy "$n" >> "$2"
-        n=$((n + 1))
-    done
+    code | awk -v size="$1" '{ text = text $0 "\n" } END {
+        while (bytes < size) {
+            copy = text
+            gsub(/@/, copies++, copy)
+            bytes += length(copy)
+            printf "%s", copy
+        }
+    }' > "$2"
 }
 milliseconds() { # COMMAND..: the processor's time for it; what it prints goes to the file printed
     ("$@" > "$work/printed"; times) | awk 'END {

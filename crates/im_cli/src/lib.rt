@@ -3,11 +3,13 @@
 
 mod command;
 mod fault;
+mod laws;
 mod table;
 mod words;
 
 pub use command::Command;
 pub use fault::WordsFault;
+pub use laws::{words_refused_law, words_taken_law};
 pub use words::read_words;
 
 #[cfg(test)]

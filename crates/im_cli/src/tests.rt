@@ -3,7 +3,7 @@ use std::alloc::Global;
 use std::test::Fail;
 
 fn words(alloc: Global, line: &[&str]) -> Result<Vec<String>, Fail> {
-    let mut words = Vec::new_in(alloc);
+    let mut words = Vec::new(alloc);
     for word in line {
         words.push(word.to_string(alloc)?)?;
     }

@@ -1,0 +1,19 @@
+use Rattle.std.proofs.Common.{refl}
+use Rattle.clap.proofs.OnLiterals.{clap_on_literals}
+use Rattle.im_cli.proofs.laws.words_refused_law.Goals as goal
+
+pub returns-clause-few : goal.returns-clause-few
+unfolding clap_on_literals
+returns-clause-few c = refl
+
+pub returns-clause-many : goal.returns-clause-many
+unfolding clap_on_literals
+returns-clause-many c = refl
+
+pub returns-clause-help : goal.returns-clause-help
+unfolding clap_on_literals
+returns-clause-help c = refl
+
+pub returns-clause-option : goal.returns-clause-option
+unfolding clap_on_literals
+returns-clause-option c = refl
