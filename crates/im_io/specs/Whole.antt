@@ -26,6 +26,13 @@ pub record IsLonger (name : List ℕ) (limit : ℕ) (old new : Told) : Type 0 wh
   pub whole : old.files name ≡ Some bytes
   pub longer : limit < length bytes
 
+-- a file that is too long is so by the limit that was asked
+abbrev pub IsLimit : ℕ → ReadFault → Type 0
+IsLimit limit (TooLong most) = most ≡ limit
+IsLimit limit Absent = ⊤
+IsLimit limit Fault = ⊤
+IsLimit limit OutOfMemory = ⊤
+
 -- by the bytes that a file has
 abbrev pub ReadsWhole : {V : Type 0} → (V → List ℕ) → List ℕ → ℕ → Result V ReadFault → Told → Told → Type 0
 ReadsWhole items name limit (Ok bytes) old new = HasWhole name (items bytes) limit old new

@@ -1,7 +1,7 @@
-ghost use Rattle.std.specs.Prelude.{◌≡◌, ◌≤◌, ◌<◌, length};
+ghost use Rattle.std.specs.Prelude.{◌≡◌, ◌≤◌, ◌<◌, length, IfOk, IfErr};
 ghost use Rattle.std.specs.List.{flat_map};
 ghost use Rattle.im_io.specs.Shelf.{WhereTold, WriteCounts, Reading};
-ghost use Rattle.im_io.specs.Whole.{Sends, Stores, ReadWholeCounts, ReadsWhole, ReadsOpen};
+ghost use Rattle.im_io.specs.Whole.{Sends, Stores, ReadWholeCounts, ReadsWhole, ReadsOpen, IsLimit};
 
 use crate::fault::{Failed, OpenFault, ReadFault};
 use crate::shelf::Shelf;
@@ -19,6 +19,8 @@ pub fn read_whole<H: Shelf>(
     limit: u64,
 ) -> Result<Vec<u8>, ReadFault>
     ensures counts { ReadWholeCounts result (H.state shelf.old) (H.state shelf.new) }
+    ensures short { IfOk result (λ bytes. length bytes.items ≤ limit) }
+    ensures limit { IfErr result (λ fault. IsLimit limit fault) }
     ensures told { WhereTold (H.state shelf.old).told (H.state shelf.new).told (ReadsWhole (λ bytes. bytes.items) name.now limit result) }
 {
     let mut buffer = vec![in alloc; 0; CHUNK]?;
@@ -40,6 +42,8 @@ fn read_open<H: Shelf>(
     requires open { (H.state shelf.old).mode ≡ Reading }
     requires buffer { 0 < length buffer.old }
     ensures counts { ReadWholeCounts result (H.state shelf.old) (H.state shelf.new) }
+    ensures short { IfOk result (λ bytes. length bytes.items ≤ limit) }
+    ensures limit { IfErr result (λ fault. IsLimit limit fault) }
     ensures told { WhereTold (H.state shelf.old).told (H.state shelf.new).told (ReadsOpen (λ bytes. bytes.items) limit result) }
 {
     let mut bytes = Vec::new(alloc);
