@@ -9,3 +9,4 @@ pub mod Entries
 pub mod Loading
 pub mod Compiling
 pub mod Texts
+pub mod Built

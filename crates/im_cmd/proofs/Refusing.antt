@@ -1,5 +1,5 @@
 -- Why a run is refused, by its parts.
-use Rattle.std.proofs.Common.{◌≡◌, ◌+◌, ℕ, take, ◌⊎◌, inl, inr, List, Result, Ok, Err, length, refl, sym, ap, ◌∙◌}
+use Rattle.std.proofs.Common.{◌≡◌, ◌+◌, ℕ, take, ◌⊎◌, inl, inr, List, Result, Ok, Err, length, refl, sym, ap, ◌∙◌, [], subst}
 use Rattle.im_io.specs.Shelf.{Files, ShelfState, Told, WhereTold, SameCounts, WriteFaulted, SameFiles, with_file}
 use Rattle.im_io.specs.Whole.{HoldsFirst, HoldsText}
 use Rattle.im_io.proofs.Files.{told_then, same_counts, then_faulted}
@@ -8,7 +8,10 @@ use Rattle.im_image.specs.Text.{image_text}
 use Rattle.im_cmd.specs.declared.refusal.Refusal.{Refusal}
 use Rattle.im_cmd.specs.declared.refusal.Refusal.TheVariants as refusal
 use Rattle.im_cmd.specs.Source.{Printing}
-use Rattle.im_cmd.specs.Answers.{IsBuilt, Compiles, HalfCompiles, Unwritable, Unaffordable, before, behind, Refuses}
+use Rattle.im_cmd.specs.Answers.{IsBuilt, Compiles, HalfCompiles, Unwritable, Unaffordable, before, behind, Refuses, RunsSource, period_length}
+use Rattle.im_power.specs.Power.{Ended, powered}
+use Rattle.im_emu.specs.Load.{memory_of}
+use Rattle.im_cmd.proofs.Built.{is_over}
 use Rattle.im_cmd.specs.Refusals.{refused_of, HasProgram, HoldsPart, StoresImage}
 
 same_before : (source : List ℕ) (p : Printing) (x y z : Told) → HasProgram source p x y → SameFiles y z → SameFiles x z
@@ -45,3 +48,16 @@ pub starved_behind : (A : Type 0) (source name : List ℕ) (p : Printing) (image
 starved_behind A source name p image u a b c built read h =
     behind p image built (same_counts a b c read.0 h.0)
     (told_then (HasProgram source p) (HoldsText name (image_text image)) (Compiles source name p image) a.told b.told c.told (whole source name p image) read.1 h.1)
+
+pub runs_source : (A : Type 0) (source name : List ℕ) (p : Printing) (image : ImageValue) (u : A) (gap : ℕ) (e : Ended) (a b c : ShelfState) → IsBuilt p image (length image.words + 68) → gap ≡ length image.words + 68
+    → SameCounts a b × WhereTold a.told b.told (HasProgram source p) → StoresImage {A = A} name (image_text image) (Ok u) b c → e ≡ powered period_length 0 (memory_of image []) → RunsSource source name image gap e a c
+runs_source A source name p image u gap e a b c built is read h run =
+    let whole_gap : IsBuilt p image gap = subst (IsBuilt p image) (sym is) built in
+    record {
+      program = p;
+      built = whole_gap;
+      counts = same_counts a b c read.0 h.0;
+      files = told_then (HasProgram source p) (HoldsText name (image_text image)) (Compiles source name p image) a.told b.told c.told (whole source name p image) read.1 h.1;
+      run = run;
+      halted = is_over p image gap e whole_gap run;
+    }

@@ -3,12 +3,14 @@ use Rattle.std.specs.Prelude.{◌≡◌, ℕ, ◌+◌, ◌*◌, ◌≤◌, ◌�
 use Rattle.im_io.specs.Shelf.{ShelfState, Told, WhereTold, SameCounts, ReadFaulted, WriteFaulted, WasAbsent, SameFiles, NotThere}
 use Rattle.im_io.specs.Sink.{SinkState, Appended}
 use Rattle.im_io.specs.Whole.{IsLonger, HoldsFirst, HoldsText}
-use Rattle.im_image.specs.Contents.{ImageValue}
+use Rattle.im_image.specs.Contents.{ImageValue, IsImage}
 use Rattle.im_image.specs.Text.{image_text}
+use Rattle.im_rv.specs.declared.step.Went.TheVariants.{Halted}
 use Rattle.im_power.specs.Power.{Ended, powered}
 use Rattle.im_emu.specs.Load.{memory_of}
 use Rattle.im_cli.specs.Named.{Asked, runs, named}
-use Rattle.im_cmd.specs.Source.{Printing, IsSource}
+use Rattle.im_cmd.specs.Source.{Printing, IsPrinting, IsSource}
+use Rattle.im_cmd.specs.Compiled.{IsCompiled}
 use Rattle.im_cmd.specs.Keeps.{Keeps}
 use Rattle.im_cmd.specs.Outcome.{Refused, CannotRead, SourceTooLong, NotCompiled, CannotWrite, NoMemory, TellsRefusal, TellsRun}
 
@@ -22,9 +24,13 @@ period_length = 100000000
 
 -- ---- the image of a program
 
--- Under one period of any length, with any registers at power-up and any input, the image does what the program means;
--- the code is as small as promised, and the gap is the code and what recovery and a cut add.
+-- The image is one, and the program's: recovery and behind it the straight code. Under one period of any length, with any
+-- registers at power-up and any input, it does what the program means; the code is as small as promised, and the gap is
+-- the code and what recovery and a cut add.
 pub record IsBuilt (program : Printing) (image : ImageValue) (gap : ℕ) : Type 0 where
+  pub constants : IsPrinting program
+  pub is_image : IsImage image
+  pub code : IsCompiled program image
   pub keeps : Keeps program image gap
   pub gap_is : gap ≡ length image.words + 68
   pub size : length image.words ≤ 96 + 16 * length program.written
@@ -63,6 +69,7 @@ pub record RunsSource (source image_name : List ℕ) (image : ImageValue) (gap :
   pub counts : SameCounts old new
   pub files : WhereTold old.told new.told (Compiles source image_name program image)
   pub run : ended ≡ powered period_length 0 (memory_of image [])
+  pub halted : ended.went ≡ Halted
 
 -- ---- refusals: why each comes, and what it leaves outside
 

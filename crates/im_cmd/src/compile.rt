@@ -2,7 +2,7 @@ ghost use Rattle.std.specs.Prelude.{◌≡◌, ◌≤◌, ◌+◌, ◌*◌, ◌+
 ghost use Rattle.im_cmd.specs.Source.{IsPrinting, most_calls, int_max};
 ghost use Rattle.im_cmd.specs.Straight.{straight_lines};
 ghost use Rattle.im_cmd.specs.Compiled.{Spells, IsCompiled};
-ghost use Rattle.im_cmd.specs.Keeps.{Keeps};
+ghost use Rattle.im_cmd.specs.Answers.{IsBuilt};
 
 use crate::source::Program;
 use crate::straight::{base_word, call_words, return_words};
@@ -53,10 +53,9 @@ fn image_of(alloc: Global, written: &[u32], status: u32) -> Result<Image, NoMemo
 }
 
 // The image of a program that writes these characters and returns this status.
-fn image_kept(alloc: Global, written: &[u32], status: u32) -> Result<Image, NoMemory>
+fn built_image(alloc: Global, written: &[u32], status: u32) -> Result<Image, NoMemory>
     requires { IsPrinting (record { written = written.now; status = status }) }
-    ensures keeps { IfOk result (λ image. Keeps (record { written = written.now; status = status }) image (length image.words + 68)) }
-    ensures size { IfOk result (λ image. length image.words ≤ 96 + 16 * length written.now) }
+    ensures { IfOk result (λ image. IsBuilt (record { written = written.now; status = status }) image (length image.words + 68)) }
 {
     match image_of(alloc, written, status) {
         Ok(image) => Ok(image),
@@ -66,8 +65,7 @@ fn image_kept(alloc: Global, written: &[u32], status: u32) -> Result<Image, NoMe
 
 /// The image of a program.
 pub fn compile(alloc: Global, program: &Program) -> Result<Image, NoMemory>
-    ensures keeps { IfOk result (λ image. Keeps program.now image (length image.words + 68)) }
-    ensures size { IfOk result (λ image. length image.words ≤ 96 + 16 * length program.now.written) }
+    ensures { IfOk result (λ image. IsBuilt program.now image (length image.words + 68)) }
 {
-    image_kept(alloc, &program.written, program.status)
+    built_image(alloc, &program.written, program.status)
 }

@@ -98,6 +98,13 @@ fn run_image(alloc: Global, image: &Image) -> Result<Machine<FlatMem>, NoMemory>
     Ok(machine)
 }
 
+// The most instructions from power-up to the next cut or the halt.
+fn gap_of(image: &Image) -> u32
+    ensures { result ≡ length image.now.words + 68 }
+{
+    image.words.len() as u32 + CUT_AND_RECOVERY
+}
+
 /// Builds a source, stores its image, and runs the image as it was stored.
 pub fn run_source<'a, H: Shelf>(
     alloc: Global,
@@ -119,7 +126,7 @@ pub fn run_source<'a, H: Shelf>(
     let Ok(machine) = run_image(alloc, &image) else {
         return Err(Refusal::OutOfMemory);
     };
-    let gap = image.words.len() as u32 + CUT_AND_RECOVERY;
+    let gap = gap_of(&image);
     Ok(Run {
         image,
         gap,
