@@ -11,7 +11,7 @@ use Rattle.im_mem.specs.Memory.{Mem, loaded, stored, written, is_place}
 use Rattle.im_rv.specs.Formats.{format_of}
 use Rattle.im_rv.specs.Steps.{Cpu, Stepped, effected, loads, faulted, row, sum_of}
 use Rattle.im_rv.specs.Decode.{Line, decode, decoded, fetched}
-use Rattle.im_rv.specs.Laws.{ZeroStays, OneRegister, Stored, OnlyStores}
+use Rattle.im_rv.specs.Laws.{ZeroStays, OneRegister, Stored, OnlyStores, store_size}
 use Rattle.im_rv.proofs.Straight.{zero_reg, other_reg}
 
 -- a store that is made where b
@@ -75,22 +75,29 @@ saved_mem true c m k = refl
 saved_mem false c m k = refl
 
 -- an operation with this effect leaves memory, or stores the value of rs2
-row_mem : (op : Op) (c : Cpu) (m : Mem) (rd a b imm : ℕ) → ((effected c m rd (row op c.pc a b imm)).mem ≡ m) ⊎ ((format_of op ≡ Store) × (p : ℕ) × (n : ℕ) × ((effected c m rd (row op c.pc a b imm)).mem ≡ stored m p n b))
+row_mem : (op : Op) (c : Cpu) (m : Mem) (rd a b imm : ℕ) → ((effected c m rd (row op c.pc a b imm)).mem ≡ m) ⊎ ((format_of op ≡ Store) × ((effected c m rd (row op c.pc a b imm)).mem ≡ stored m (sum_of a imm) (store_size op) b))
 row_mem Lb c m rd a b imm = inl (loads_mem c m rd 1 true (loaded m (sum_of a imm) 1))
 row_mem Lh c m rd a b imm = inl (loads_mem c m rd 2 true (loaded m (sum_of a imm) 2))
 row_mem Lw c m rd a b imm = inl (loads_mem c m rd 4 false (loaded m (sum_of a imm) 4))
 row_mem Lbu c m rd a b imm = inl (loads_mem c m rd 1 false (loaded m (sum_of a imm) 1))
 row_mem Lhu c m rd a b imm = inl (loads_mem c m rd 2 false (loaded m (sum_of a imm) 2))
-row_mem Sb c m rd a b imm = inr (refl, sum_of a imm, 1, saved_mem (is_place (sum_of a imm) 1) c m (written m (sum_of a imm) (bytes_of 1 b)))
-row_mem Sh c m rd a b imm = inr (refl, sum_of a imm, 2, saved_mem (is_place (sum_of a imm) 2) c m (written m (sum_of a imm) (bytes_of 2 b)))
-row_mem Sw c m rd a b imm = inr (refl, sum_of a imm, 4, saved_mem (is_place (sum_of a imm) 4) c m (written m (sum_of a imm) (bytes_of 4 b)))
+row_mem Sb c m rd a b imm = inr (refl, saved_mem (is_place (sum_of a imm) 1) c m (written m (sum_of a imm) (bytes_of 1 b)))
+row_mem Sh c m rd a b imm = inr (refl, saved_mem (is_place (sum_of a imm) 2) c m (written m (sum_of a imm) (bytes_of 2 b)))
+row_mem Sw c m rd a b imm = inr (refl, saved_mem (is_place (sum_of a imm) 4) c m (written m (sum_of a imm) (bytes_of 4 b)))
 row_mem _ c m rd a b imm = inl refl
 
 decoded_mem : (c : Cpu) (m : Mem) (w : ℕ) (o : Option Line) → loaded m c.pc 4 ≡ Some w → decode w ≡ o → ((decoded c m o).mem ≡ m) ⊎ Stored c m (decoded c m o).mem
 decoded_mem c m w None f d = inl refl
 decoded_mem c m w (Some l) f d = elim (row_mem l.op c m l.rd (c.x l.rs1) (c.x l.rs2) l.imm) [
   | inl e ↦ inl e
-  | inr s ↦ inr (record { word = w; line = l; place = s.1; size = s.2; fetched = f; decoded = d; is_store = s.0; written = s.3 })
+  | inr s ↦ inr (record {
+    word = w;
+    line = l;
+    fetched = f;
+    decoded = d;
+    is_store = s.0;
+    written = s.1;
+  })
 ]
 
 fetched_mem : (c : Cpu) (m : Mem) (o : Option ℕ) → loaded m c.pc 4 ≡ o → ((fetched c m o).mem ≡ m) ⊎ Stored c m (fetched c m o).mem

@@ -2,10 +2,10 @@
 use Rattle.std.specs.Prelude.{◌≡◌, ◌≢◌, ◌<◌, ◌⊎◌, ◌^◌, ℕ, Bool, true, Some, ◌==◌}
 use Rattle.im_rv.specs.declared.format.Format.TheVariants.{Store}
 use Rattle.im_rv.specs.declared.instr.Op.{Op}
-use Rattle.im_rv.specs.declared.instr.Op.TheVariants.{Ebreak}
+use Rattle.im_rv.specs.declared.instr.Op.TheVariants.{Sb, Sh, Sw, Ebreak}
 use Rattle.im_mem.specs.Memory.{Mem, loaded, stored}
 use Rattle.im_rv.specs.Formats.{format_of}
-use Rattle.im_rv.specs.Steps.{Cpu}
+use Rattle.im_rv.specs.Steps.{Cpu, sum_of}
 use Rattle.im_rv.specs.Decode.{Line, bits, is_coded, op_in, decode, step_of}
 
 -- the word has the code numbers of the operation
@@ -29,16 +29,21 @@ ZeroStays = (c : Cpu) (m : Mem) → c.x 0 ≡ 0 → (step_of c m).cpu.x 0 ≡ 0
 abbrev pub OneRegister : Type 0
 OneRegister = (c : Cpu) (m : Mem) → (rd : ℕ) × ((i : ℕ) → i ≢ rd → (step_of c m).cpu.x i ≡ c.x i)
 
--- a store was fetched, and memory is as it leaves it
+-- bytes that a store writes (RISC-V Unprivileged ISA, 2.6); none for what is no store
+abbrev pub store_size : Op → ℕ
+store_size Sb = 1
+store_size Sh = 2
+store_size Sw = 4
+store_size op = 0
+
+-- a store was fetched, and memory is as it leaves it: the lowest bytes of rs2 at the sum of rs1 and the immediate
 pub record Stored (c : Cpu) (m : Mem) (after : Mem) : Type 0 where
   pub word : ℕ
   pub line : Line
-  pub place : ℕ
-  pub size : ℕ
   pub fetched : loaded m c.pc 4 ≡ Some word
   pub decoded : decode word ≡ Some line
   pub is_store : format_of line.op ≡ Store
-  pub written : after ≡ stored m place size (c.x line.rs2)
+  pub written : after ≡ stored m (sum_of (c.x line.rs1) line.imm) (store_size line.op) (c.x line.rs2)
 
 -- only a store changes memory, and only its bytes
 abbrev pub OnlyStores : Type 0

@@ -20,7 +20,8 @@ pub fn one_register()
     ensures { OneRegister }
 {}
 
-/// Only a store changes memory, and only the bytes of its access.
+/// Only a store changes memory, and only its one, two or four bytes at the sum of rs1 and the
+/// immediate, which become the lowest bytes of rs2 (RISC-V Unprivileged ISA, 2.6).
 pub fn only_stores()
     ensures { OnlyStores }
 {}
