@@ -6,6 +6,7 @@ use Rattle.im_io.specs.Shelf.{Files, Mode, Took, Put, Created, with_file}
 use Rattle.im_io.specs.declared.mem_shelf.Place.{Place}
 use Rattle.im_io.specs.declared.mem_shelf.Place.TheVariants.{Closed, Reading, Writing}
 use Rattle.im_io.specs.MemFiles.{File, file_at, files_of, bytes_of, is_first, is_readable, mode_of, told_of}
+use Rattle.im_io.specs.MemShelves.{file_open}
 use Rattle.im_io.proofs.MemFiles.{Found, both, bytes_there, element, found_content, first_found, files_set, named_set, first_set}
 
 reading : (b : Bool) → cond b shelf.Reading shelf.Closed ≡ shelf.Reading → b ≡ true
@@ -21,6 +22,10 @@ readable files place i r at h = reading (is_readable files i r) (sym (ap (mode_o
 
 pub writable : (files : List File) (place : Place) (i : ℕ) → place ≡ Writing i → mode_of files place ≡ shelf.Writing → is_first files i ≡ true
 writable files place i at h = writing (is_first files i) (sym (ap (mode_of files) at) ∙ h)
+
+-- the file that is open to be written
+pub file_written : (files : List File) (place : Place) (i : ℕ) (file : File) → place ≡ Writing i → mode_of files place ≡ shelf.Writing → file ≡ get_or files i file → file_open files place ≡ file
+file_written files place i file at mode is = ap (file_open files) at ∙ element files i file (first_found files i (writable files place i at mode)).0.within is
 
 pub took : (files : List File) (place : Place) (i r : ℕ) (file : File) (buffer filled : List ℕ) (count : ℕ) → place ≡ Reading i r → mode_of files place ≡ shelf.Reading
     → file ≡ get_or files i file
@@ -46,7 +51,7 @@ took files place i r file buffer filled count at mode is many next =
 
 pub put : (files : List File) (place : Place) (i : ℕ) (file : File) (piece : List ℕ) (count : ℕ) (new : File) → place ≡ Writing i → mode_of files place ≡ shelf.Writing
     → file ≡ get_or files i file
-    → new ≡ record { name = file.name; content = Some (bytes_of file.content ++ take count piece) }
+    → new ≡ record { name = file.name; content = Some (bytes_of file.content ++ take count piece); room = file.room }
     → Put piece count (told_of files place) (told_of (set files i new) place)
 put files place i file piece count new at mode is changed =
     let opened = first_found files i (writable files place i at mode) in
@@ -65,12 +70,12 @@ pub record Emptied (files : List File) (name : List ℕ) (i : ℕ) (new : File) 
   pub mode : mode_of (set files i new) (Writing i) ≡ shelf.Writing
   pub created : (place : Place) → Created name (told_of files place) (told_of (set files i new) (Writing i))
 
-told_files : (files : List File) (place : Place) → (told_of files place).files ≡ files_of files
+pub told_files : (files : List File) (place : Place) → (told_of files place).files ≡ files_of files
 told_files files Closed = refl
 told_files files (Reading i r) = refl
 told_files files (Writing i) = refl
 
-pub emptied : (files : List File) (name : List ℕ) (i : ℕ) (file new : File) → Found files name i → file ≡ get_or files i file → new ≡ record { name = file.name; content = Some [] } → Emptied files name i new
+pub emptied : (files : List File) (name : List ℕ) (i : ℕ) (file new : File) → Found files name i → file ≡ get_or files i file → new ≡ record { name = file.name; content = Some []; room = file.room } → Emptied files name i new
 emptied files name i file new found is changed =
     let here : file_at files i ≡ file = element files i file found.within is in
     let named : new.name ≡ name = ap (λ (f : File). f.name) changed ∙ ap (λ (f : File). f.name) (sym here) ∙ found.named in

@@ -80,7 +80,7 @@ pub whole_read : {V : Type 0} (items : V → List ℕ) (name : List ℕ) (limit 
 whole_read items name limit (Ok bytes) x y z h k =
     let found = whole_of (x.files name) h.there in
     let answer = k.answer found.0 (start_of name found.0 x y h found.1) in
-    record { files = k.files ∙ h.files; whole = found.1 ∙ ap Some (sym answer.0); short = rw answer.0 answer.1 }
+    record { files = k.files ∙ h.files; whole = found.1 ∙ ap Some (sym answer.0); short = rw answer.0 answer.1; at_end = answer.2 ∙ ap length (sym answer.0) }
 whole_read items name limit (Err Absent) x y z h k =
     let found = whole_of (x.files name) h.there in
     absurd (k.answer found.0 (start_of name found.0 x y h found.1))
@@ -88,5 +88,5 @@ whole_read items name limit (Err Fault) x y z h k = record { files = k.files ∙
 whole_read items name limit (Err (TooLong most)) x y z h k =
     let found = whole_of (x.files name) h.there in
     let answer = k.answer found.0 (start_of name found.0 x y h found.1) in
-    (answer.0, record { files = k.files ∙ h.files; bytes = found.0; whole = found.1; longer = answer.1 })
+    (answer.0, record { files = k.files ∙ h.files; bytes = found.0; whole = found.1; longer = answer.1; stopped = answer.2 })
 whole_read items name limit (Err OutOfMemory) x y z h k = record { files = k.files ∙ h.files }

@@ -2,5 +2,8 @@ pub mod Counts
 pub mod Shelf
 pub mod Sink
 pub mod Whole
+pub mod Rooms
+pub mod MemSinks
 pub mod MemFiles
+pub mod MemShelves
 pub mod Host

@@ -1,5 +1,5 @@
 -- Whole files and whole texts.
-use Rattle.std.specs.Prelude.{◌≡◌, ℕ, ◌≤◌, ◌<◌, ◌⊎◌, ⊤, Some, Result, Ok, Err, List, length, take}
+use Rattle.std.specs.Prelude.{◌≡◌, ℕ, ◌+◌, ◌≤◌, ◌<◌, ◌⊎◌, ⊤, Some, Result, Ok, Err, List, length, take}
 use Rattle.im_io.specs.declared.fault.ReadFault.{ReadFault}
 use Rattle.im_io.specs.declared.fault.ReadFault.TheVariants.{Absent, Fault, TooLong, OutOfMemory}
 use Rattle.im_io.specs.Counts.{Rose}
@@ -15,16 +15,20 @@ ReadWholeCounts (Err Fault) old new = ReadFaulted old new
 ReadWholeCounts (Err (TooLong limit)) old new = SameCounts old new
 ReadWholeCounts (Err OutOfMemory) old new = SameCounts old new
 
+-- these are the file's bytes, and all of them were read
 pub record HasWhole (name bytes : List ℕ) (limit : ℕ) (old new : Told) : Type 0 where
   pub files : new.files ≡ old.files
   pub whole : old.files name ≡ Some bytes
   pub short : length bytes ≤ limit
+  pub at_end : new.place ≡ length bytes
 
+-- the file has more bytes than the limit; the first one over it was read, and none after that
 pub record IsLonger (name : List ℕ) (limit : ℕ) (old new : Told) : Type 0 where
   pub files : new.files ≡ old.files
   pub bytes : List ℕ
   pub whole : old.files name ≡ Some bytes
   pub longer : limit < length bytes
+  pub stopped : new.place ≡ limit + 1
 
 -- a file that is too long is so by the limit that was asked
 abbrev pub IsLimit : ℕ → ReadFault → Type 0
@@ -46,17 +50,17 @@ pub record AtStart (whole : List ℕ) (told : Told) : Type 0 where
   pub place : told.place ≡ 0
   pub there : told.files told.name ≡ Some whole
 
--- the answer of reading on to the end of a file with these bytes
-abbrev pub OpenRead : {V : Type 0} → (V → List ℕ) → List ℕ → ℕ → Result V ReadFault → Type 0
-OpenRead items whole limit (Ok bytes) = (items bytes ≡ whole) × (length whole ≤ limit)
-OpenRead items whole limit (Err Absent) = ⊥
-OpenRead items whole limit (Err Fault) = ⊤
-OpenRead items whole limit (Err (TooLong most)) = (most ≡ limit) × (limit < length whole)
-OpenRead items whole limit (Err OutOfMemory) = ⊤
+-- the answer of reading on to the end of a file with these bytes, and how many of them were read
+abbrev pub OpenRead : {V : Type 0} → (V → List ℕ) → List ℕ → ℕ → Result V ReadFault → ℕ → Type 0
+OpenRead items whole limit (Ok bytes) place = (items bytes ≡ whole) × (length whole ≤ limit) × (place ≡ length whole)
+OpenRead items whole limit (Err Absent) place = ⊥
+OpenRead items whole limit (Err Fault) place = ⊤
+OpenRead items whole limit (Err (TooLong most)) place = (most ≡ limit) × (limit < length whole) × (place ≡ limit + 1)
+OpenRead items whole limit (Err OutOfMemory) place = ⊤
 
 pub record ReadsOpen {V : Type 0} (items : V → List ℕ) (limit : ℕ) (result : Result V ReadFault) (old new : Told) : Type 0 where
   pub files : new.files ≡ old.files
-  pub answer : (whole : List ℕ) → AtStart whole old → OpenRead items whole limit result
+  pub answer : (whole : List ℕ) → AtStart whole old → OpenRead items whole limit result new.place
 
 -- ---- writing a whole file
 
@@ -74,7 +78,7 @@ Stores name text (Err fault) old new = SameFiles old new ⊎ HoldsFirst name tex
 
 -- ---- sending a whole text
 
--- the first bytes of a text were taken, and where not all were, the count rose
+-- the first bytes of a text were taken, and the count rose
 pub record SentFirst (text : List ℕ) (old new : SinkState) : Type 0 where
   pub count : ℕ
   pub taken : Appended (take count text) old.contents new.contents

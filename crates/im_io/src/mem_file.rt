@@ -1,10 +1,11 @@
-ghost use Rattle.std.specs.Prelude.{◌≡◌, ◌<◌, ◌≤◌, ◌+◌, ◌-◌, ◌^◌, ◌++◌, min, [], Some, None, is_some, option_map, IsTrue, MatchOption, MatchResult, take, drop, length, IfOk};
+ghost use Rattle.std.specs.Prelude.{◌≡◌, ◌<◌, ◌≤◌, ◌+◌, ◌-◌, ◌^◌, ◌++◌, ◌↔◌, min, IsErr, [], Some, None, is_some, option_map, IsTrue, MatchOption, MatchResult, take, drop, length, IfOk};
 ghost use Rattle.std.specs.Str.{bytes_eq};
-ghost use Rattle.im_io.specs.MemFiles.{File, bytes_of};
+ghost use Rattle.im_io.specs.MemFiles.{File, bytes_of, new_file, left};
+ghost use Rattle.im_io.specs.Rooms.{NothingFits};
 ghost use Rattle.im_io.specs.Shelf.{Fits, TakesSome};
 
 use crate::fault::Failed;
-use crate::room::append;
+use crate::room::{append, nothing_fits};
 use im_num::NoMemory;
 use std::alloc::Global;
 use std::marker::Model;
@@ -18,12 +19,12 @@ pub(crate) struct MemFile {
 }
 
 impl Model for MemFile {
-    ghost use Rattle.std.specs.Prelude.{Some, None, cond, string_bytes};
+    ghost use Rattle.std.specs.Prelude.{Some, None, cond, string_bytes, vec_capacity};
     ghost use Rattle.im_io.specs.MemFiles.{File};
 
     ghost Value = { File };
 
-    ghost view = { λ file. record { name = string_bytes file.name; content = cond file.is_there (Some file.bytes.items) None } };
+    ghost view = { λ file. record { name = string_bytes file.name; content = cond file.is_there (Some file.bytes.items) None; room = vec_capacity file.bytes } };
 }
 
 impl MemFile {
@@ -34,7 +35,7 @@ impl MemFile {
         bytes: &Option<Vec<u8>>,
         room: usize,
     ) -> Result<MemFile, NoMemory>
-        ensures { IfOk result (λ file. file ≡ record { name = name.now; content = option_map (λ held. held.items) bytes.now }) }
+        ensures { IfOk result (λ file. file ≡ new_file name.now (option_map (λ held. held.items) bytes.now) room) }
     {
         let held = match bytes {
             Some(held) => held.as_slice(),
@@ -87,7 +88,7 @@ impl MemFile {
 
     /// Puts an empty file there.
     pub(crate) fn create(&mut self)
-        ensures { self.new ≡ record { name = self.old.name; content = Some [] } }
+        ensures { self.new ≡ record { name = self.old.name; content = Some []; room = self.old.room } }
     {
         self.bytes.clear();
         self.is_there = true;
@@ -99,13 +100,15 @@ impl MemFile {
         requires there { IsTrue (is_some self.old.content) }
         ensures fits { Fits piece.now result }
         ensures some { TakesSome piece.now result }
-        ensures put { MatchResult result (λ count. self.new ≡ record { name = self.old.name; content = Some (bytes_of self.old.content ++ take count piece.now) }) (λ _. self.new ≡ self.old) }
+        ensures refused { IsErr result ↔ NothingFits piece.now (left self.old) }
+        ensures count { IfOk result (λ count. count ≡ min (length piece.now) (left self.old)) }
+        ensures put { MatchResult result (λ count. self.new ≡ record { name = self.old.name; content = Some (bytes_of self.old.content ++ take count piece.now); room = self.old.room }) (λ _. self.new ≡ self.old) }
     {
         let room = self.bytes.capacity() - self.bytes.len();
-        let count = piece.len().min(room);
-        if count == 0 && !piece.is_empty() {
+        if nothing_fits(piece, room) {
             return Err(Failed);
         }
+        let count = piece.len().min(room);
         append(&mut self.bytes, &piece[..count]);
         Ok(count)
     }

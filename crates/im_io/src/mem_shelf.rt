@@ -1,7 +1,6 @@
-ghost use Rattle.std.specs.Prelude.{◌≡◌, None, Some, [], IsTrue, IfSome, MatchOption, map, string_bytes, position, IfOk};
+ghost use Rattle.std.specs.Prelude.{◌≡◌, None, IsTrue, MatchOption, position};
 ghost use Rattle.std.specs.Str.{bytes_eq};
-ghost use Rattle.im_io.specs.Shelf as shelf;
-ghost use Rattle.im_io.specs.MemFiles.{file_at, files_of, given_file, is_first};
+ghost use Rattle.im_io.specs.MemFiles.{file_at, files_of, is_first};
 
 use crate::calls::Calls;
 use crate::fault::{Failed, OpenFault};
@@ -9,6 +8,7 @@ use crate::mem_file::MemFile;
 use crate::shelf::Shelf;
 use im_num::NoMemory;
 use std::alloc::Global;
+use std::marker::Model;
 
 /// What is open: a file, by its number.
 #[derive(Drop)]
@@ -30,6 +30,14 @@ pub struct MemShelf {
     read_faults: u64,
     write_faults: u64,
     absences: u64,
+}
+
+impl Model for MemShelf {
+    ghost use Rattle.im_io.specs.MemShelves.{MemoryShelf};
+
+    ghost Value = { MemoryShelf };
+
+    ghost view = { λ s. record { files = s.files.items; place = s.place; made = s.calls.made; failing = s.calls.failing.items; read_faults = s.read_faults; write_faults = s.write_faults; absences = s.absences } };
 }
 
 // The first file of this name, by its number.
@@ -56,6 +64,11 @@ fn find_there(files: &[MemFile], name: &str) -> Option<usize>
 }
 
 impl MemShelf {
+    ghost use Rattle.std.specs.Prelude.{◌≡◌, None, Some, [], IfSome, MatchOption, map, string_bytes, IfOk};
+    ghost use Rattle.im_io.specs.Shelf as shelf;
+    ghost use Rattle.im_io.specs.MemFiles.{files_of, given_file};
+    ghost use Rattle.im_io.specs.declared.mem_shelf.Place.TheVariants as place;
+
     /// A shelf of files, each by its name, the bytes that it has (or none, where it isn't there yet)
     /// and its room in bytes. Of two files of one name the first counts. `failing` has the numbers of
     /// the calls to be refused; the first call's number is 1.
@@ -64,7 +77,8 @@ impl MemShelf {
         files: &[(String, Option<Vec<u8>>, usize)],
         failing: &[u64],
     ) -> Result<MemShelf, NoMemory>
-        ensures { IfOk result (λ made. ⟦<MemShelf as Shelf>⟧.state made ≡ record { mode = shelf.Closed; told = Some (record { files = files_of (map (given_file string_bytes (λ bytes. bytes.items)) files.now); name = []; place = 0 }); read_faults = 0; write_faults = 0; absences = 0 }) }
+        ensures state { IfOk result (λ made. ⟦<MemShelf as Shelf>⟧.state made ≡ record { mode = shelf.Closed; told = Some (record { files = files_of (map (given_file string_bytes (λ bytes. bytes.items)) files.now); name = []; place = 0 }); read_faults = 0; write_faults = 0; absences = 0 }) }
+        ensures value { IfOk result (λ made. made ≡ record { files = map (given_file string_bytes (λ bytes. bytes.items)) files.now; place = place.Closed; made = 0; failing = failing.now; read_faults = 0; write_faults = 0; absences = 0 }) }
     {
         let mut held = Vec::with_capacity(alloc, files.len())?;
         for (name, bytes, room) in files {
@@ -84,10 +98,8 @@ impl MemShelf {
     pub fn file(&self, name: &str) -> Option<&[u8]>
         ensures { IfSome (⟦<MemShelf as Shelf>⟧.state self.now).told (λ told. MatchOption result (told.files name.now ≡ None) (λ bytes. told.files name.now ≡ Some bytes.now)) }
     {
-        match find(&self.files, name) {
-            Some(number) => self.files[number].contents(),
-            None => None,
-        }
+        let number = find(&self.files, name)?;
+        self.files[number].contents()
     }
 
     /// How many openings and reads were refused.
@@ -113,12 +125,25 @@ impl MemShelf {
 }
 
 impl Shelf for MemShelf {
-    ghost use Rattle.std.specs.Prelude.{Some};
-    ghost use Rattle.im_io.specs.MemFiles.{mode_of, told_of};
+    ghost use Rattle.std.specs.Prelude.{◌≡◌, ◌↔◌, ◌⊎◌, None, IfOk, IsErr, IsErrOf, length, min};
+    ghost use Rattle.im_io.specs.Shelf.{WhereTold, OpenCounts, mode_opened, Opens, ReadCounts, Reads, WriteCounts, mode_created, Creates, Writes, Fits, TakesSome, Reading, Writing};
+    ghost use Rattle.im_io.specs.Rooms.{NothingFits};
+    ghost use Rattle.im_io.specs.MemFiles.{files_of, left, IsGiven};
+    ghost use Rattle.im_io.specs.MemShelves.{state_of, Fails, file_open, bytes_left, CallMade, faults_after, read_faults_after, absences_after};
+    ghost use Rattle.im_io.specs.declared.fault.OpenFault.TheVariants as open_fault;
 
-    ghost state = { λ s. record { mode = mode_of s.files.items s.place; told = Some (told_of s.files.items s.place); read_faults = s.read_faults; write_faults = s.write_faults; absences = s.absences } };
+    ghost state = { state_of };
 
-    fn open_file(&mut self, name: &str) -> Result<(), OpenFault> {
+    fn open_file(&mut self, name: &str) -> Result<(), OpenFault>
+        ensures counts { OpenCounts result (state_of self.old) (state_of self.new) }
+        ensures mode { (state_of self.new).mode ≡ mode_opened result }
+        ensures told { WhereTold (state_of self.old).told (state_of self.new).told (Opens name.now result) }
+        ensures failed { IsErrOf result open_fault.Failed ↔ Fails self.old }
+        ensures absent { IsErrOf result open_fault.Absent ↔ ((Fails self.old → ⊥) × (files_of self.old.files name.now ≡ None)) }
+        ensures made { CallMade self.old self.new }
+        ensures faults { self.new.read_faults ≡ read_faults_after result self.old.read_faults }
+        ensures absences { self.new.absences ≡ absences_after result self.old.absences }
+    {
         self.place = Place::Closed;
         if self.calls.is_refused() {
             self.read_faults = self.read_faults.saturating_add(1);
@@ -136,7 +161,17 @@ impl Shelf for MemShelf {
         }
     }
 
-    fn read(&mut self, buffer: &mut [u8]) -> Result<usize, Failed> {
+    fn read(&mut self, buffer: &mut [u8]) -> Result<usize, Failed>
+        requires { (state_of self.old).mode ≡ Reading }
+        ensures counts { ReadCounts result (state_of self.old) (state_of self.new) }
+        ensures mode { (state_of self.new).mode ≡ Reading }
+        ensures fits { Fits buffer.old result }
+        ensures told { WhereTold (state_of self.old).told (state_of self.new).told (Reads buffer.old buffer.new result) }
+        ensures failed { IsErr result ↔ Fails self.old }
+        ensures count { IfOk result (λ count. count ≡ min (length buffer.old) (bytes_left self.old)) }
+        ensures made { CallMade self.old self.new }
+        ensures faults { self.new.read_faults ≡ faults_after result self.old.read_faults }
+    {
         match self.place {
             Place::Reading { file, read } => {
                 if self.calls.is_refused() {
@@ -154,7 +189,14 @@ impl Shelf for MemShelf {
         }
     }
 
-    fn create_file(&mut self, name: &str) -> Result<(), Failed> {
+    fn create_file(&mut self, name: &str) -> Result<(), Failed>
+        ensures counts { WriteCounts result (state_of self.old) (state_of self.new) }
+        ensures mode { (state_of self.new).mode ≡ mode_created result }
+        ensures told { WhereTold (state_of self.old).told (state_of self.new).told (Creates name.now result) }
+        ensures failed { IsErr result ↔ (Fails self.old ⊎ (IsGiven name.now self.old.files → ⊥)) }
+        ensures made { CallMade self.old self.new }
+        ensures faults { self.new.write_faults ≡ faults_after result self.old.write_faults }
+    {
         self.place = Place::Closed;
         if self.calls.is_refused() {
             self.write_faults = self.write_faults.saturating_add(1);
@@ -173,7 +215,18 @@ impl Shelf for MemShelf {
         }
     }
 
-    fn write(&mut self, bytes: &[u8]) -> Result<usize, Failed> {
+    fn write(&mut self, bytes: &[u8]) -> Result<usize, Failed>
+        requires { (state_of self.old).mode ≡ Writing }
+        ensures counts { WriteCounts result (state_of self.old) (state_of self.new) }
+        ensures mode { (state_of self.new).mode ≡ Writing }
+        ensures fits { Fits bytes.now result }
+        ensures some { TakesSome bytes.now result }
+        ensures told { WhereTold (state_of self.old).told (state_of self.new).told (Writes bytes.now result) }
+        ensures failed { IsErr result ↔ (Fails self.old ⊎ NothingFits bytes.now (left (file_open self.old.files self.old.place))) }
+        ensures count { IfOk result (λ count. count ≡ min (length bytes.now) (left (file_open self.old.files self.old.place))) }
+        ensures made { CallMade self.old self.new }
+        ensures faults { self.new.write_faults ≡ faults_after result self.old.write_faults }
+    {
         match self.place {
             Place::Writing { file } => {
                 if self.calls.is_refused() {

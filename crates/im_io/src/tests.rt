@@ -1,5 +1,6 @@
-use crate::{Failed, MemShelf, MemSink, ReadFault, read_whole, send, store};
+use crate::{Failed, HostShelf, HostSink, MemShelf, MemSink, ReadFault, read_whole, send, store};
 use std::alloc::Global;
+use std::fs;
 use std::test::Fail;
 
 // Two files: `a` has six bytes and room for eight, and `b` isn't there and has room for four.
@@ -83,5 +84,33 @@ fn a_sink_keeps_what_it_took(rt: HostRuntime) -> Result<(), Fail> {
     assert!(rt; send(&mut sink, b"two") == Err(Failed));
     assert_eq!(rt; sink.contents(), b"onetw".as_slice());
     assert_eq!(rt; sink.faults(), 2);
+    Ok(())
+}
+
+const FOLDER: &str = "im_io_host_test";
+
+const PATH: &str = "im_io_host_test/text";
+
+#[test]
+fn the_host_keeps_what_was_stored_and_sent(rt: HostRuntime) -> Result<(), Fail> {
+    let alloc = rt.alloc();
+    let _ = fs::remove_dir_all(&rt, FOLDER);
+    let mut shelf = HostShelf::new(&rt);
+    assert!(rt; store(&mut shelf, PATH, b"sensor") == Err(Failed));
+    fs::create_dir(&rt, FOLDER)?;
+    assert!(rt; read_whole(alloc, &mut shelf, PATH, 9).err() == Some(ReadFault::Absent));
+    assert!(rt; store(&mut shelf, PATH, b"sensor") == Ok(()));
+    for limit in [6, 7] {
+        let bytes = read_whole(alloc, &mut shelf, PATH, limit).unwrap_or(Vec::new(alloc));
+        assert_eq!(rt; bytes.as_slice(), b"sensor".as_slice());
+    }
+    assert!(rt; read_whole(alloc, &mut shelf, PATH, 5).err() == Some(ReadFault::TooLong(5)));
+    assert!(rt; read_whole(alloc, &mut shelf, FOLDER, 9).err() == Some(ReadFault::Fault));
+    let mut sink = HostSink::new(fs::create(&rt, PATH)?);
+    assert!(rt; send(&mut sink, b"one") == Ok(()));
+    assert!(rt; send(&mut sink, b"two") == Ok(()));
+    let bytes = read_whole(alloc, &mut shelf, PATH, 6).unwrap_or(Vec::new(alloc));
+    assert_eq!(rt; bytes.as_slice(), b"onetwo".as_slice());
+    fs::remove_dir_all(&rt, FOLDER)?;
     Ok(())
 }
