@@ -1,18 +1,16 @@
 -- Cells of arrays and structs, and a number that falls from a type to its parts.
-use Rattle.std.proofs.Common.{◌≡◌, ℕ, zero, suc, ◌+◌, ◌-◌, ◌*◌, ◌%◌, ◌<◌, ◌≤◌, List, [], ◌∷◌, ◌++◌, map, length, take, drop, get_or, subst, refl, sym, ap, ◌∙◌, arith, add_assoc, append_assoc, length-append, nat_cmp, sum_by, append-nil}
-use Rattle.std.specs.Prelude.{slice_get, Option, Some, None}
+use Rattle.std.proofs.Common.{◌≡◌, ℕ, zero, suc, ◌+◌, ◌*◌, ◌<◌, ◌≤◌, List, [], ◌∷◌, ◌++◌, length, take, get_or, subst, refl, sym, ap, ◌∙◌, arith, add_assoc, append_assoc, length-append, sum_by, append-nil}
 use Rattle.std.proofs.lemmas.List.{map-append, get_or_append_left}
 use Rattle.std.proofs.lemmas.List.Sums.{get_or-le-sum_by, sum_by-cons}
 use Rattle.std.proofs.Math.Nat.{mul-le-mul_right}
 use Rattle.std.proofs.Math.Seq.{get_or-append_seam}
 use Rattle.std.proofs.lemmas.Grind.{common_steps}
-use Rattle.im_num.specs.declared.kind.Kind.{Kind}
 use Rattle.im_ctype.specs.declared.cell.Cell.{Cell}
 use Rattle.im_ctype.specs.declared.ctype.CType.{CType}
 use Rattle.im_ctype.specs.declared.ctype.CType.TheVariants.{Void, Integer as IntegerType, Pointer', Array', Struct}
 use Rattle.im_ctype.specs.declared.table.Member.{Member}
 use Rattle.im_ctype.specs.declared.table.StructType.{StructType}
-use Rattle.im_ctype.specs.Layout.{Structs, Layout, empty_layout, moved_cell, moved, repeated, round_up, layout_at, layout_in, with_member, members_in, with_trailing_bytes, struct_in, layouts_from, layouts, members_at, members_of, IsCompleteIn, MembersAreComplete, AreCompleteFrom, AreComplete}
+use Rattle.im_ctype.specs.Layout.{Structs, Layout, empty_layout, moved_cell, moved, repeated, round_up, layout_at, layout_in, with_member, members_in, with_trailing_bytes, struct_in, layouts_from, layouts, members_of, IsCompleteIn, MembersAreComplete, AreCompleteFrom, AreComplete}
 use Rattle.im_ctype.proofs.Layouts.{SoFar, take-next, so_far-held, so_far-next}
 
 -- cells moved

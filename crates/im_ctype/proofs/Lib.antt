@@ -1,2 +1,4 @@
-pub mod Layouts
 pub mod CellLists
+pub mod Growing
+pub mod Layouts
+pub mod Places

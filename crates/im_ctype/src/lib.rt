@@ -5,6 +5,7 @@ mod cell;
 mod ctype;
 mod extent;
 mod integer;
+pub mod laws;
 mod table;
 
 pub use cell::{Cell, cells};
@@ -12,3 +13,6 @@ pub use ctype::CType;
 pub use extent::{align_of, size_of};
 pub use integer::Integer;
 pub use table::{Extent, Member, StructTable, StructType};
+
+#[cfg(test)]
+mod tests;

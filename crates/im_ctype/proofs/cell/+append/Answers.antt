@@ -1,7 +1,7 @@
-use Rattle.std.proofs.Common.{rules, ◌≡◌, ◌<◌, ◌≤◌, ◌+◌, ◌*◌, ◌-◌, ◌++◌, ◌∙◌, ap, sym, subst, ℕ, suc, take, length, arith}
-use Rattle.im_ctype.specs.Layout.{layout, layouts, layout_in, layout_at, members_in, members_of, empty_layout, round_up, moved, repeated, IsCompleteIn}
-use Rattle.im_ctype.proofs.Layouts.{SoFar, so_far-next, layout-positive}
-use Rattle.im_ctype.proofs.CellLists.{moved-array, elements-step, offset-step, offset-bound, members-step, at-member, complete-more, member-complete, member-held, member-lighter, next-so_far, all-cells, weight, table_depth}
+use Rattle.std.proofs.Common.{◌≡◌, ◌≤◌, ◌+◌, ◌++◌, ap, take, length, arith}
+use Rattle.im_ctype.specs.Layout.{layout, layouts, members_in, members_of, empty_layout, moved}
+use Rattle.im_ctype.proofs.Layouts.{layout-positive}
+use Rattle.im_ctype.proofs.CellLists.{moved-array, elements-step, offset-step, members-step, at-member, complete-more, member-complete, member-held, member-lighter, next-so_far, all-cells}
 use Rattle.im_ctype.proofs.cell.+append.Goals as goal
 
 pub append_cells-returns-in-Array : goal.append_cells-returns-in-Array

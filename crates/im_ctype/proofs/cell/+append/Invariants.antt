@@ -1,4 +1,4 @@
-use Rattle.std.proofs.Common.{◌≡◌, ℕ, ◌+◌, ◌-◌, ◌*◌, ◌++◌, suc, take}
+use Rattle.std.proofs.Common.{◌≡◌, ◌+◌, ◌-◌, ◌*◌, ◌++◌, suc, take}
 use Rattle.im_ctype.specs.Layout.{layout, layouts, members_in, members_of, empty_layout, moved, repeated}
 use Rattle.im_ctype.proofs.Layouts.{SoFar}
 use Rattle.im_ctype.proofs.CellLists.{weight, table_depth}

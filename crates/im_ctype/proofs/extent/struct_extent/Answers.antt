@@ -1,5 +1,4 @@
-use Rattle.std.proofs.Common.{◌≡◌, ◌<◌, ◌≤◌, ◌+◌, ◌^◌, max, ◌∙◌, ℕ, arith}
-use Rattle.im_ctype.specs.Layout.{layouts, layout, layout_in, round_up, members_in, empty_layout, with_trailing_bytes}
+use Rattle.std.proofs.Common.{◌≡◌, max, ◌∙◌, arith}
 use Rattle.im_ctype.proofs.Layouts.{ord_max-is, so_far-next, so_far-held, so_far-positive, layout-positive}
 use Rattle.im_ctype.proofs.extent.struct_extent.Goals as goal
 

@@ -1,7 +1,7 @@
-use Rattle.std.proofs.Common.{◌≡◌, ◌<◌, ◌∙◌, ap, sym, List, length, get_or, arith, ℕ}
+use Rattle.std.proofs.Common.{◌≡◌, ◌<◌, ◌∙◌, ap, List, length, get_or, arith}
 use Rattle.im_ctype.specs.declared.table.StructType.{StructType}
 use Rattle.im_ctype.specs.declared.table.Extent.{Extent}
-use Rattle.im_ctype.specs.Layout.{layouts, layout_at, extent_of, extents_of}
+use Rattle.im_ctype.specs.Layout.{layouts, layout_at, extent_of}
 use Rattle.im_ctype.proofs.Layouts.{length-extents_of, extent-at}
 use Rattle.im_ctype.proofs.table.StructTable.extent.Goals as goal
 

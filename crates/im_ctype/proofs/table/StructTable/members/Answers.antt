@@ -1,4 +1,4 @@
-use Rattle.std.proofs.Common.{◌≡◌, sym, subst, List, ℕ}
+use Rattle.std.proofs.Common.{◌≡◌, subst, List}
 use Rattle.im_ctype.specs.declared.table.StructType.{StructType}
 use Rattle.im_ctype.specs.Layout.{members_of, MembersAreComplete}
 use Rattle.im_ctype.proofs.CellLists.{table-complete}

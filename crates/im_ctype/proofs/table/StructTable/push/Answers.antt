@@ -1,4 +1,4 @@
-use Rattle.std.proofs.Common.{◌≡◌, ◌∷◌, ◌∙◌, ap, sym, subst, List, length, ℕ}
+use Rattle.std.proofs.Common.{◌≡◌, ◌∙◌, ap, sym, subst, List, length}
 use Rattle.im_ctype.specs.declared.table.StructType.{StructType}
 use Rattle.im_ctype.specs.declared.table.Member.{Member}
 use Rattle.im_ctype.specs.Layout.{layouts, extent_of, empty_layout, members_in, with_trailing_bytes, struct_in, MembersAreComplete}
