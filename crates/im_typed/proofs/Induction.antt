@@ -1,7 +1,8 @@
 -- Expressions and statements, where what calls do is related.
-use Rattle.std.proofs.Common.{◌≡◌, ℕ, zero, suc, ◌+◌, ◌≤◌, List, [], ◌∷◌, Bool, true, false, take, drop, arith}
-use Rattle.std.specs.Prelude.{Option, Some, None, ℤ, pos, not, nat_abs}
+use Rattle.std.proofs.Common.{ℕ, zero, suc, ◌+◌, ◌≤◌, List, [], ◌∷◌, true, false, take, drop, arith}
+use Rattle.std.specs.Prelude.{Option, Some, None, pos, not, nat_abs}
 use Rattle.im_num.specs.declared.kind.Kind.TheVariants.{U8}
+use Rattle.im_num.specs.Kinds.{wrap}
 use Rattle.im_ctype.specs.Layout.{Layout}
 use Rattle.im_typed.specs.declared.expression.Place.{Place}
 use Rattle.im_typed.specs.declared.expression.Place.TheVariants.{Static, Local, Target', Member'}
@@ -11,11 +12,11 @@ use Rattle.im_typed.specs.declared.statement.Piece.{Piece}
 use Rattle.im_typed.specs.declared.statement.Stmt.{Stmt, Row_of-Stmt, end_of-Stmt, more_of-Stmt}
 use Rattle.im_typed.specs.declared.statement.Stmt.TheVariants.{Expr as Do, Forget, Initialise, Block', If', While', DoWhile', For', Switch', Break, Continue, Return}
 use Rattle.im_typed.specs.declared.undefined.Undefined.TheVariants.{MissingResult, DeadPointerRead}
-use Rattle.im_typed.specs.Numbers.{wrap, apply, apply_one}
+use Rattle.im_typed.specs.Numbers.{apply, apply_one}
 use Rattle.im_typed.specs.Runs.{Value, Num, Nil, To, Run, bind, give, starve, with_fuel, either}
-use Rattle.im_typed.specs.Objects.{then_value, used, holds, is_dead, bytes_moved}
+use Rattle.im_typed.specs.Objects.{used, holds, is_dead, bytes_moved}
 use Rattle.im_typed.specs.Meaning.{Around, Calls, Flow, Next, Broke, Continued, Returned, after_turn, cells_of, place_of, value_of, values_of, turns, decides, entered, given_offsets, pieces_of, returned, does, does_from}
-use Rattle.im_typed.proofs.Related.{Related, Tame, tame-bind, tame-give, tame-undefined, tame-starve, tame-paid, tame-see, tame-either, rel-bind, rel-give, rel-undefined, rel-see, rel-either, rel-paid, rel-paid-zero, rel-paid-suc, rel-down}
+use Rattle.im_typed.proofs.Related.{Related, Tame, tame-bind, tame-give, tame-undefined, tame-starve, tame-paid, tame-see, tame-either, rel-bind, rel-give, rel-see, rel-either, rel-paid, rel-paid-zero, rel-paid-suc, rel-down}
 use Rattle.im_typed.proofs.Parts.{rel-truth, rel-used, rel-then_value, rel-then_number, rel-fine, rel-scalar, rel-read_at, rel-write_at, rel-moved_by, rel-member_at, rel-distance, rel-compare_values, rel-update, rel-next_byte, rel-put_byte, rel-after, rel-after_turn, rel-out_of_switch, rel-decides, rel-forget, rel-clear_rest}
 
 abbrev pub within : List Layout → ℕ → ℕ → Calls → Around

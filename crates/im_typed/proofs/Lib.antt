@@ -2,3 +2,4 @@ pub mod Related
 pub mod Parts
 pub mod Induction
 pub mod Whole
+pub mod Rows

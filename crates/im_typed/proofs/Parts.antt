@@ -1,21 +1,20 @@
 -- What each step of the meaning keeps.
-use Rattle.std.proofs.Common.{◌≡◌, ℕ, zero, suc, ◌+◌, ◌≤◌, List, [], ◌∷◌, ◌++◌, Bool, true, false, map, length, take, drop, refl, sym, ap, ◌∙◌, subst, arith}
+use Rattle.std.proofs.Common.{◌≡◌, ℕ, zero, suc, ◌+◌, List, [], ◌∷◌, ◌++◌, Bool, true, false, map, length, take, drop, refl, ap, arith}
 use Rattle.std.specs.Prelude.{Option, Some, None, ℤ, pos, negsuc, ◌+ℤ◌, not, slice_get, nat_eq, nat_le, nat_lt, ◌&&◌, int_rem, ◌-ℤ◌}
 use Rattle.std.specs.Ordering.{int_eq}
-use Rattle.im_num.specs.declared.kind.Kind.{Kind}
+use Rattle.im_num.specs.Kinds.{wrap}
 use Rattle.im_ctype.specs.declared.cell.Cell.{Cell}
-use Rattle.im_ctype.specs.Layout.{Layout}
 use Rattle.im_typed.specs.declared.expression.Change.{Change}
 use Rattle.im_typed.specs.declared.expression.Change.TheVariants.{Number as NumberBy, Move as PointerBy}
 use Rattle.im_typed.specs.declared.expression.Comparison.{Comparison}
 use Rattle.im_typed.specs.declared.expression.Comparison.TheVariants.{Less, Greater, LessOrEqual, GreaterOrEqual, Equal, NotEqual}
 use Rattle.im_typed.specs.declared.undefined.Undefined.TheVariants.{UninitialisedRead, NoSuchCell, OutsideObject, UnrelatedPointers, MissingResult, DeadPointerRead}
-use Rattle.im_typed.specs.Numbers.{Result, Fine, Bad, apply, wrap, compares}
-use Rattle.im_typed.specs.Runs.{Value, Num, Nil, To, Unset, Slot, Stored, Store, World, State, Run, bind, give, undefined, either, see, filled, with_values, put, leave_input, emit}
-use Rattle.im_typed.specs.Objects.{scalar, number, truth, lives, is_dead, used, then_value, number_in, then_number, fine, found, read_value, read_slots, at_slot, in_object, at_cells, read_at, write_at, size_at, within, moved_by, member_at, bytes_moved, distance, same_place, ordered, compare_places, compare_values, holds}
-use Rattle.im_typed.specs.Meaning.{Flow, Next, Broke, Continued, Returned, after, after_turn, out_of_switch, decides, changed, changed_cells, update, next_byte, put_byte, forget, clear_rest, slots_at, zero_of, is_among}
-use Rattle.im_typed.specs.Laws.{Begins, Shape, cell_shape, shape_of, shapes}
-use Rattle.im_typed.proofs.Related.{begins_self, first_shapes, Related, Benign, changing, rel-bind, rel-give, rel-undefined, rel-see, rel-either, rel-changing}
+use Rattle.im_typed.specs.Numbers.{Result, Fine, Bad, apply, compares}
+use Rattle.im_typed.specs.Runs.{Value, Num, Nil, To, Unset, Slot, Stored, Store, World, Run, bind, give, filled, with_values, put, leave_input, emit}
+use Rattle.im_typed.specs.Objects.{scalar, truth, lives, is_dead, used, then_value, number_in, then_number, fine, found, read_value, read_slots, at_slot, in_object, at_cells, read_at, write_at, size_at, within, moved_by, member_at, bytes_moved, distance, same_place, ordered, compare_places, compare_values, holds}
+use Rattle.im_typed.specs.Meaning.{Flow, Next, Broke, Continued, Returned, after, after_turn, out_of_switch, decides, changed, changed_cells, update, next_byte, put_byte, forget, clear_rest}
+use Rattle.im_typed.specs.Laws.{Shape, cell_shape, shape_of, shapes}
+use Rattle.im_typed.proofs.Related.{begins_self, first_shapes, Related, Benign, rel-bind, rel-give, rel-undefined, rel-see, rel-either, rel-changing}
 
 -- stores
 

@@ -1,8 +1,8 @@
 -- Two runs of which the second has more fuel, and what each run keeps.
-use Rattle.std.proofs.Common.{◌≡◌, ℕ, zero, suc, ◌+◌, ◌≤◌, List, [], ◌∷◌, ◌++◌, Bool, true, false, map, length, take, refl, sym, ap, ◌∙◌, subst, arith, append_assoc, append-nil}
+use Rattle.std.proofs.Common.{◌≡◌, ℕ, zero, suc, ◌+◌, ◌≤◌, List, [], ◌++◌, Bool, true, false, length, take, refl, sym, ap, ◌∙◌, subst, arith, append_assoc, append-nil}
 use Rattle.im_typed.specs.declared.undefined.Undefined.{Undefined}
-use Rattle.im_typed.specs.Runs.{Value, Slot, Stored, Store, World, State, Fails, Starves, Exhausts, Answer, Gives, Stops, Run, goes_on, bind, give, undefined, starve, exhaust, pay, with_fuel, either, see, filled, with_values, put, leave_input, emit}
-use Rattle.im_typed.specs.Laws.{Begins, CellShape, Shape, cell_shape, shape_of, shapes}
+use Rattle.im_typed.specs.Runs.{Store, World, State, Fails, Starves, Exhausts, Answer, Gives, Stops, Run, goes_on, bind, give, undefined, starve, exhaust, pay, with_fuel, either, see}
+use Rattle.im_typed.specs.Laws.{Begins, Shape, shapes}
 
 pub begins_self : (o : List ℕ) → Begins o o
 begins_self o = ([], append-nil o)

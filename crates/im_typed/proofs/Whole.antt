@@ -1,17 +1,16 @@
 -- Calls and whole programs.
-use Rattle.std.proofs.Common.{◌≡◌, ℕ, zero, suc, ◌+◌, ◌≤◌, List, [], ◌∷◌, ◌++◌, Bool, true, false, map, length, take, refl, sym, ap, ◌∙◌, subst, arith, length-append}
-use Rattle.std.specs.Prelude.{Option, Some, None, ℤ, pos, nat_eq, nat_le, slice_get, slice_index_or}
+use Rattle.std.proofs.Common.{◌≡◌, ℕ, zero, suc, ◌+◌, ◌≤◌, List, [], ◌∷◌, ◌++◌, Bool, length, take, refl, sym, ap, ◌∙◌, arith, length-append}
+use Rattle.std.specs.Prelude.{Option, Some, None, nat_eq, nat_le, slice_get, slice_index_or}
 use Rattle.std.proofs.lemmas.List.{take-append-le, length-map}
 use Rattle.std.proofs.lemmas.Grind.{common_steps}
-use Rattle.im_ctype.specs.Layout.{Layout, layouts}
-use Rattle.im_typed.specs.declared.program.Static.{Static}
+use Rattle.im_ctype.specs.Layout.{layouts}
 use Rattle.im_typed.specs.declared.program.Func.{Func}
 use Rattle.im_typed.specs.declared.undefined.Undefined.TheVariants.{MissingResult}
-use Rattle.im_typed.specs.Runs.{Value, Slot, Stored, Store, World, State, Fails, Starves, Exhausts, Answer, Gives, Stops, Run, goes_on, bind, give, undefined, starve, exhaust, pay, with_fuel, either, see}
+use Rattle.im_typed.specs.Runs.{Value, Store, World, State, Fails, Starves, Exhausts, Answer, Gives, Stops, bind}
 use Rattle.im_typed.specs.Meaning.{Calls, Flow, does}
-use Rattle.im_typed.specs.Programs.{Setting, objects_of, statics_of, ended, call_result, leave, around, activation, enters, called, calls_of, start, run_of_main, Outcome, Undef, More, End, status_of, outcome, meaning}
-use Rattle.im_typed.specs.Laws.{Begins, GoesOnFrom, Extends, Shape, shape_of, shapes, FuelAtMost, StaticsHave}
-use Rattle.im_typed.proofs.Related.{begins_self, more, first_shapes, After, Keeps, Tame, Grown, Linked, Related, Benign, changing, tame-starve, tame-paid, rel-bind, rel-give, rel-undefined, rel-see, rel-see_there, rel-exhaust, rel-either, rel-paid-zero, rel-paid-suc, rel-changing}
+use Rattle.im_typed.specs.Programs.{Setting, objects_of, statics_of, ended, call_result, leave, around, activation, enters, called, calls_of, start, run_of_main, outcome, meaning}
+use Rattle.im_typed.specs.Laws.{GoesOnFrom, Extends, shape_of, shapes, FuelAtMost, StaticsHave}
+use Rattle.im_typed.proofs.Related.{begins_self, first_shapes, Keeps, Tame, Grown, Linked, Related, Benign, changing, tame-starve, rel-bind, rel-give, rel-undefined, rel-see, rel-see_there, rel-exhaust, rel-either, rel-paid-zero, rel-paid-suc, rel-changing}
 use Rattle.im_typed.proofs.Induction.{RelatedCalls, rel-does}
 
 -- leaving an activation

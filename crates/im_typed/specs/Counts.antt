@@ -1,5 +1,5 @@
 -- How many nodes a function has, and the bytes that its frame may need.
-use Rattle.std.specs.Prelude.{ℕ, ◌+◌, ◌*◌, ◌/◌, Bool, List, [], ◌∷◌, length, sum_by, Option, Some, None, if◌then◌else◌}
+use Rattle.std.specs.Prelude.{ℕ, ◌+◌, ◌*◌, ◌/◌, length, sum_by, Option, Some, None, if◌then◌else◌}
 use Rattle.im_typed.specs.declared.expression.Access.{Access}
 use Rattle.im_typed.specs.declared.expression.Access.TheVariants.{Cell as CellOf, Struct as StructOf}
 use Rattle.im_typed.specs.declared.expression.Change.{Change}
@@ -70,7 +70,8 @@ optional_nodes (Some e) = expr_nodes e
 abbrev pub piece_nodes : Piece → ℕ
 piece_nodes p = expr_nodes p.value
 
--- each statement, with all that it holds; of an initialised object also its cells
+-- each statement, with all that it holds; of an initialised object also its cells, and of a switch
+-- also each `case` label, which is a statement with a constant expression (C11 6.8.1): 2 nodes
 abbrev mutual
   pub stmt_nodes : Stmt → ℕ
   stmt_nodes (Do e) = 1 + expr_nodes e
@@ -81,7 +82,7 @@ abbrev mutual
   stmt_nodes (While' t p a) = 1 + expr_nodes t + stmt_nodes a
   stmt_nodes (DoWhile' p a t) = 1 + stmt_nodes a + expr_nodes t
   stmt_nodes (For' p a t step q b) = 1 + stmt_nodes a + expr_nodes t + expr_nodes step + stmt_nodes b
-  stmt_nodes (Switch' e ks otherwise shape ss) = 1 + expr_nodes e + block_nodes ss
+  stmt_nodes (Switch' e ks otherwise shape ss) = 1 + expr_nodes e + 2 * length ks.items + block_nodes ss
   stmt_nodes Break = 1
   stmt_nodes Continue = 1
   stmt_nodes (Return e) = 1 + optional_nodes e

@@ -1,7 +1,7 @@
 -- What is said of a meaning at more fuel, and of the shape of objects.
-use Rattle.std.specs.Prelude.{◌≡◌, ℕ, ◌≤◌, List, ◌++◌, map, length}
+use Rattle.std.specs.Prelude.{◌≡◌, ℕ, ◌≤◌, List, ◌++◌, map}
 use Rattle.im_num.specs.declared.kind.Kind.{Kind}
-use Rattle.im_typed.specs.Runs.{Slot, Stored, Store, State, Answer, Gives, Stops}
+use Rattle.im_typed.specs.Runs.{Slot, Stored, Store, Answer, Gives, Stops}
 use Rattle.im_typed.specs.Programs.{Outcome, Undef, More, End}
 
 -- the second list begins with the first

@@ -1,8 +1,9 @@
--- What expressions and statements do, from left to right (C11 6.5, 6.8).
+-- What expressions, initialisers and statements do, from left to right (C11 6.5, 6.7.9, 6.8), and getchar and putchar (C11 7.21.7).
 use Rattle.std.specs.Prelude.{ℕ, zero, suc, ◌+◌, Bool, true, false, not, List, [], ◌∷◌, ◌++◌, map, length, take, drop, ℤ, pos, negsuc, nat_abs, Option, Some, None, nat_eq, nat_lt, slice_get, if◌then◌else◌}
 use Rattle.std.specs.Ordering.{int_eq}
 use Rattle.im_num.specs.declared.kind.Kind.{Kind}
 use Rattle.im_num.specs.declared.kind.Kind.TheVariants.{U8, Ptr}
+use Rattle.im_num.specs.Kinds.{wrap}
 use Rattle.im_ctype.specs.declared.cell.Cell.{Cell}
 use Rattle.im_ctype.specs.Layout.{Layout, layout_at}
 use Rattle.im_typed.specs.declared.expression.Access.{Access}
@@ -17,7 +18,7 @@ use Rattle.im_typed.specs.declared.statement.Piece.{Piece}
 use Rattle.im_typed.specs.declared.statement.Case.{Case}
 use Rattle.im_typed.specs.declared.statement.Stmt.{Stmt, Row_of-Stmt, end_of-Stmt, more_of-Stmt}
 use Rattle.im_typed.specs.declared.statement.Stmt.TheVariants.{Expr as Do, Forget, Initialise, Block', If', While', DoWhile', For', Switch', Break, Continue, Return}
-use Rattle.im_typed.specs.Numbers.{wrap, apply, apply_one}
+use Rattle.im_typed.specs.Numbers.{apply, apply_one}
 use Rattle.im_typed.specs.Runs.{Value, Num, Nil, To, Unset, Slot, Stored, Run, bind, give, starve, with_fuel, either, see, put, leave_input, emit}
 use Rattle.im_typed.specs.Objects.{scalar, number, truth, used, then_value, number_in, then_number, fine, read_at, write_at, moved_by, member_at, bytes_moved, distance, compare_values, holds}
 

@@ -1,9 +1,9 @@
--- Integers of a kind, and the operators on them (C11 6.3.1.3, 6.5.3.3, 6.5.5 to 6.5.12).
-use Rattle.std.specs.Prelude.{ℕ, ◌-◌, ◌*◌, ◌^◌, Bool, true, false, not, ℤ, pos, negsuc, ◌+ℤ◌, ◌-ℤ◌, ◌*ℤ◌, neg_ℤ, nat_abs, nat_lt, int_lt, int_le, int_div, int_rem, bit_and, bit_or, bit_xor, if◌then◌else◌, ◌&&◌}
-use Rattle.std.specs.Int.{int_rem_euclid, int_div_euclid}
+-- The operators on integers of a kind (C11 6.5.3.3, 6.5.5 to 6.5.12). What `wrap` gives is said by the law `wrap_is_of_the_kind` of im_num.
+use Rattle.std.specs.Prelude.{ℕ, ◌^◌, Bool, true, false, not, ℤ, pos, negsuc, ◌+ℤ◌, ◌-ℤ◌, ◌*ℤ◌, neg_ℤ, nat_lt, int_lt, int_le, int_div, int_rem, bit_and, bit_or, bit_xor, if◌then◌else◌, ◌&&◌}
+use Rattle.std.specs.Int.{int_div_euclid}
 use Rattle.std.specs.Ordering.{int_eq}
 use Rattle.im_num.specs.declared.kind.Kind.{Kind}
-use Rattle.im_num.specs.Kinds.{kind_size, is_signed}
+use Rattle.im_num.specs.Kinds.{is_signed, least, wrap, word}
 use Rattle.im_typed.specs.declared.expression.BinaryOp.{BinaryOp}
 use Rattle.im_typed.specs.declared.expression.BinaryOp.TheVariants.{Add, Subtract, Multiply, Divide, Remainder, BitAnd, BitOr, BitXor, ShiftLeft, ShiftRight}
 use Rattle.im_typed.specs.declared.expression.UnaryOp.{UnaryOp}
@@ -12,22 +12,6 @@ use Rattle.im_typed.specs.declared.expression.Comparison.{Comparison}
 use Rattle.im_typed.specs.declared.expression.Comparison.TheVariants.{Less, Greater, LessOrEqual, GreaterOrEqual, Equal, NotEqual}
 use Rattle.im_typed.specs.declared.undefined.Undefined.{Undefined}
 use Rattle.im_typed.specs.declared.undefined.Undefined.TheVariants.{ZeroDivisor, QuotientOverflow, ShiftCount}
-
--- how many values a kind has
-abbrev pub span : Kind → ℤ
-span k = pos (2 ^ (8 * kind_size k))
-
--- the least value of a kind
-abbrev pub least : Kind → ℤ
-least k = if is_signed k then neg_ℤ (pos (2 ^ (8 * kind_size k - 1))) else pos 0
-
--- the one value of the kind that equals z modulo the number of its values
-unfoldable pub wrap : Kind → ℤ → ℤ
-wrap k z = int_rem_euclid (z -ℤ least k) (span k) +ℤ least k
-
--- the bits of a value, in 32 bits
-unfoldable pub word : ℤ → ℕ
-word z = nat_abs (int_rem_euclid z (pos (2 ^ 32)))
 
 -- the number that an operator gives, or why it gives none
 pub data Result : Type 0 where

@@ -1,4 +1,4 @@
--- What a program does on an input.
+-- What a program does on an input: its statics, calls, and what main returns (C11 5.1.2.2.3, 6.2.4, 6.5.2.2, 6.7.9, 6.9.1).
 use Rattle.std.specs.Prelude.{ℕ, zero, suc, ◌+◌, Bool, true, false, List, [], ◌∷◌, ◌++◌, map, length, take, ℤ, pos, Option, Some, None, nat_eq, nat_le, slice_get, slice_index_or}
 use Rattle.im_ctype.specs.declared.cell.Cell.{Cell}
 use Rattle.im_ctype.specs.Layout.{Structs, layout, layouts}

@@ -1,5 +1,5 @@
--- Objects and their cells, what a run works on, and runs one after another.
-use Rattle.std.specs.Prelude.{ℕ, zero, suc, Bool, true, false, List, [], ◌∷◌, ◌++◌, ℤ, Option, Some, None}
+-- Objects and their cells (C11 6.2.4), what a run works on, and runs one after another.
+use Rattle.std.specs.Prelude.{ℕ, zero, suc, Bool, true, false, List, [], ◌∷◌, ◌++◌, ℤ}
 use Rattle.im_num.specs.declared.kind.Kind.{Kind}
 use Rattle.im_typed.specs.declared.undefined.Undefined.{Undefined}
 
