@@ -16,39 +16,39 @@ use Rattle.im_ctree.specs.declared.specifier.SpecifierWord.{SpecifierWord}
 use Rattle.im_ctree.specs.declared.specifier.SpecifierWord.TheVariants as word
 
 -- a level of binary operators, of which 0 binds loosest, and its punctuators (C11 6.5.5 to 6.5.14)
-pub data IsOperator : ℕ → BinaryOp → Punctuator → Type 0 where
-  or : IsOperator 0 Or mark.OrOr
-  and : IsOperator 1 And mark.AndAnd
-  bit_or : IsOperator 2 BitOr mark.Bar
-  bit_xor : IsOperator 3 BitXor mark.Caret
-  bit_and : IsOperator 4 BitAnd mark.Ampersand
-  equal : IsOperator 5 Equal mark.EqualEqual
-  not_equal : IsOperator 5 NotEqual mark.NotEqual
-  less : IsOperator 6 Less mark.Less
-  greater : IsOperator 6 Greater mark.Greater
-  less_equal : IsOperator 6 LessEqual mark.LessEqual
-  greater_equal : IsOperator 6 GreaterEqual mark.GreaterEqual
-  shift_left : IsOperator 7 ShiftLeft mark.ShiftLeft
-  shift_right : IsOperator 7 ShiftRight mark.ShiftRight
-  add : IsOperator 8 Add mark.Plus
-  subtract : IsOperator 8 Subtract mark.Minus
-  multiply : IsOperator 9 Multiply mark.Star
-  divide : IsOperator 9 Divide mark.Slash
-  remainder : IsOperator 9 Remainder mark.Percent
+pub data IsBinaryOperator : ℕ → BinaryOp → Punctuator → Type 0 where
+  or : IsBinaryOperator 0 Or mark.OrOr
+  and : IsBinaryOperator 1 And mark.AndAnd
+  bit_or : IsBinaryOperator 2 BitOr mark.Bar
+  bit_xor : IsBinaryOperator 3 BitXor mark.Caret
+  bit_and : IsBinaryOperator 4 BitAnd mark.Ampersand
+  equal : IsBinaryOperator 5 Equal mark.EqualEqual
+  not_equal : IsBinaryOperator 5 NotEqual mark.NotEqual
+  less : IsBinaryOperator 6 Less mark.Less
+  greater : IsBinaryOperator 6 Greater mark.Greater
+  less_equal : IsBinaryOperator 6 LessEqual mark.LessEqual
+  greater_equal : IsBinaryOperator 6 GreaterEqual mark.GreaterEqual
+  shift_left : IsBinaryOperator 7 ShiftLeft mark.ShiftLeft
+  shift_right : IsBinaryOperator 7 ShiftRight mark.ShiftRight
+  add : IsBinaryOperator 8 Add mark.Plus
+  subtract : IsBinaryOperator 8 Subtract mark.Minus
+  multiply : IsBinaryOperator 9 Multiply mark.Star
+  divide : IsBinaryOperator 9 Divide mark.Slash
+  remainder : IsBinaryOperator 9 Remainder mark.Percent
 
 -- C11 6.5.16
-pub data IsAssignment : AssignOp → Punctuator → Type 0 where
-  assign : IsAssignment op_assign.Plain mark.Assign
-  assign_multiply : IsAssignment op_assign.Multiply mark.StarAssign
-  assign_divide : IsAssignment op_assign.Divide mark.SlashAssign
-  assign_remainder : IsAssignment op_assign.Remainder mark.PercentAssign
-  assign_add : IsAssignment op_assign.Add mark.PlusAssign
-  assign_subtract : IsAssignment op_assign.Subtract mark.MinusAssign
-  assign_shift_left : IsAssignment op_assign.ShiftLeft mark.ShiftLeftAssign
-  assign_shift_right : IsAssignment op_assign.ShiftRight mark.ShiftRightAssign
-  assign_and : IsAssignment op_assign.BitAnd mark.AndAssign
-  assign_xor : IsAssignment op_assign.BitXor mark.XorAssign
-  assign_or : IsAssignment op_assign.BitOr mark.OrAssign
+pub data IsAssignOperator : AssignOp → Punctuator → Type 0 where
+  assign : IsAssignOperator op_assign.Plain mark.Assign
+  assign_multiply : IsAssignOperator op_assign.Multiply mark.StarAssign
+  assign_divide : IsAssignOperator op_assign.Divide mark.SlashAssign
+  assign_remainder : IsAssignOperator op_assign.Remainder mark.PercentAssign
+  assign_add : IsAssignOperator op_assign.Add mark.PlusAssign
+  assign_subtract : IsAssignOperator op_assign.Subtract mark.MinusAssign
+  assign_shift_left : IsAssignOperator op_assign.ShiftLeft mark.ShiftLeftAssign
+  assign_shift_right : IsAssignOperator op_assign.ShiftRight mark.ShiftRightAssign
+  assign_and : IsAssignOperator op_assign.BitAnd mark.AndAssign
+  assign_xor : IsAssignOperator op_assign.BitXor mark.XorAssign
+  assign_or : IsAssignOperator op_assign.BitOr mark.OrAssign
 
 -- C11 6.5.2.4, 6.5.3.1
 pub data IsStep : StepOp → Punctuator → Type 0 where

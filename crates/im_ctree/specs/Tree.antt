@@ -1,4 +1,6 @@
--- The tree that a unit spells, apart from where its parts lie in memory. A node has first the number of its first token.
+-- The tree that a unit spells, apart from where its parts lie in memory.
+-- The first field of an expression, a specifier, specifiers as a whole, an enumerator, a declarator, a suffix, an
+-- initialiser in braces, a statement and a block is the number of its first token; other nodes have no such field.
 use Rattle.std.specs.Prelude.{ℕ, List, Option}
 use Rattle.im_tok.specs.declared.number.Number.{Number}
 use Rattle.im_word.specs.Words.{Name}

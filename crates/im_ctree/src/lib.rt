@@ -3,6 +3,7 @@
 
 mod declaration;
 mod declarator;
+mod examples;
 mod expression;
 mod laws;
 mod operator;
@@ -12,8 +13,15 @@ mod unit;
 
 pub use declaration::{Declaration, InitDeclarator, Initializer};
 pub use declarator::{Core, Declarator, Parameter, Star, Suffix, SuffixKind, TypeName};
+pub use examples::{
+    assignment_example, cast_examples, parameter_example, program_example, sizeof_examples,
+    statement_examples,
+};
 pub use expression::{Expression, ExpressionKind};
-pub use laws::{fronts_are_prefixes, unit_nonempty};
+pub use laws::{
+    balanced_law, fronts_are_prefixes, unique_declarator_law, unique_expression_law,
+    unique_unit_law, unit_nonempty,
+};
 pub use operator::{AssignOp, BinaryOp, StepOp, UnaryOp};
 pub use specifier::{Enumerator, Member, Specifier, SpecifierKind, SpecifierWord, Specifiers};
 pub use statement::{Block, BlockItem, ForInit, Statement, StatementKind};

@@ -2,3 +2,8 @@ pub mod Sequences
 pub mod Choices
 pub mod Whole
 pub mod Assign
+pub mod Repetitions
+pub mod Parted
+pub mod ListLoops
+pub mod IntegerReads
+pub mod Commas

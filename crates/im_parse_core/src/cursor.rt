@@ -1,9 +1,10 @@
 ghost use Rattle.std.specs.Prelude.{◌≡◌, ◌∷◌, ◌↔◌, Some, IsTrue, MatchOption, map};
+ghost use Rattle.im_tok.specs.declared.number.Number.{Number};
 ghost use Rattle.im_word.specs.Shown.{shown};
-ghost use Rattle.im_word.specs.Words.{mark};
+ghost use Rattle.im_word.specs.Words.{mark, number};
 ghost use Rattle.im_parse_core.specs.Reads.{head};
 
-use im_tok::Punctuator;
+use im_tok::{Number, Punctuator};
 use im_word::Word;
 
 fn is_mark(word: &Word, punctuator: Punctuator) -> bool
@@ -28,5 +29,18 @@ pub fn after_mark<'a, 'b>(words: &'a [Word<'b>], punctuator: Punctuator) -> Opti
                 None
             }
         }
+    }
+}
+
+/// The integer constant that stands first, and what stands behind it.
+pub fn after_number<'a, 'b>(words: &'a [Word<'b>]) -> Option<(Number, &'a [Word<'b>])>
+    ensures { MatchOption result ((n : Number) → head (map shown words.now) ≡ Some (number n) → ⊥) (λ found. map shown words.now ≡ number found.0 ∷ map shown found.1.now) }
+{
+    match words.split_first() {
+        None => None,
+        Some((first, rest)) => match first {
+            Word::Number(found) => Some((*found, rest)),
+            _ => None,
+        },
     }
 }

@@ -1,0 +1,8 @@
+pub mod Balance
+pub mod BalanceUnits
+pub mod Derivations
+pub mod Ranks
+pub mod Behind
+pub mod Unique
+pub mod UniqueUnits
+pub mod Refusals

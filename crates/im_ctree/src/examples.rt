@@ -1,0 +1,43 @@
+//! Derivations of words that stand for what is peculiar to the grammar. These laws have no body.
+
+ghost use Rattle.std.specs.Prelude.{ℕ, List};
+ghost use Rattle.std.specs.List.{Contains};
+ghost use Rattle.im_word.specs.Words.{Name};
+ghost use Rattle.im_ctree.specs.Tree as tree;
+ghost use Rattle.im_ctree.specs.Grammar.{IsExpression, IsParameter};
+ghost use Rattle.im_ctree.specs.Units.{IsStatement, Spells};
+ghost use Rattle.im_ctree.specs.Samples.{program_words, program_tree, else_words, else_tree, do_words, do_tree, sizeof_words, sizeof_type_tree, sizeof_expression_tree, cast_words, cast_tree, call_tree, parameter_words, int_specifiers, parameter_tree, assignment_words};
+
+/// `int main ( void ) { putchar ( 72 ) ; return 7 ; }` is a unit.
+pub fn program_example()
+    ensures { Spells program_tree program_words }
+{}
+
+/// In `if ( a ) if ( b ) c ; else d ;` the `else` is the inner `if`'s (C11 6.8.4.1), and `do s ; while ( e ) ;` is a
+/// statement, for names that are no typedef names.
+pub fn statement_examples()
+    ensures else_of_inner { (names : List Name) (a b c d : Name) → (Contains names a → ⊥) → (Contains names b → ⊥) → (Contains names c → ⊥) → (Contains names d → ⊥) → IsStatement names 0 (else_tree a b c d) names (else_words a b c d) }
+    ensures do_while { (names : List Name) (s e : Name) → (Contains names s → ⊥) → (Contains names e → ⊥) → IsStatement names 0 (do_tree s e) names (do_words s e) }
+{}
+
+/// `sizeof ( x )` has a type where x is a typedef name, and an expression where it is none (C11 6.5.3).
+pub fn sizeof_examples()
+    ensures of_type { (names : List Name) (x : Name) → Contains names x → IsExpression names 0 (sizeof_type_tree x) (sizeof_words x) }
+    ensures of_expression { (names : List Name) (x : Name) → (Contains names x → ⊥) → IsExpression names 0 (sizeof_expression_tree x) (sizeof_words x) }
+{}
+
+/// `( f ) ( x )` is a cast where f is a typedef name, and a call where it is none (C11 6.5.2, 6.5.4).
+pub fn cast_examples()
+    ensures cast { (names : List Name) (f x : Name) → Contains names f → (Contains names x → ⊥) → IsExpression names 0 (cast_tree f x) (cast_words f x) }
+    ensures call { (names : List Name) (f x : Name) → (Contains names f → ⊥) → (Contains names x → ⊥) → IsExpression names 0 (call_tree f x) (cast_words f x) }
+{}
+
+/// The parameter `int ( t )` is a function of a t where t is a typedef name (C11 6.7.6.3p11).
+pub fn parameter_example()
+    ensures { (names : List Name) (t : Name) → Contains names t → IsParameter names 0 int_specifiers (parameter_tree t) (parameter_words t) }
+{}
+
+/// `a = b ? c : d = e` is no expression, whatever its names are: the left side of an assignment is unary (C11 6.5.16).
+pub fn assignment_example()
+    ensures { (names : List Name) (a b c d e : Name) (p : ℕ) (expression : tree.Expression) → IsExpression names p expression (assignment_words a b c d e) → ⊥ }
+{}
