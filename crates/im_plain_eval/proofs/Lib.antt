@@ -1,0 +1,5 @@
+pub mod Endless
+pub mod Rows
+pub mod Sizes
+pub mod Steps
+pub mod Turns
