@@ -1,3 +1,4 @@
 pub mod Stretches
 pub mod Periods
 pub mod Loads
+pub mod Layouts

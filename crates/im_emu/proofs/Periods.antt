@@ -1,10 +1,11 @@
 -- Periods taken one at a time.
-use Rattle.std.proofs.Common.{◌≡◌, ◌<◌, ◌≤◌, ℕ, zero, suc, ◌+◌, ◌-◌, ◌^◌, min, cond, List, [], ◌∷◌, refl, sym, ap, ◌∙◌, subst, add_assoc, add-zero, arith}
+use Rattle.std.proofs.Common.{◌≡◌, ◌<◌, ◌≤◌, ℕ, suc, ◌+◌, ◌^◌, List, [], ◌∷◌, ◌++◌, ◌≢◌, length, drop, get_or, refl, sym, ap, ◌∙◌, subst, add-zero, arith}
+use Rattle.std.proofs.lemmas.List.{at_drop_more, at_drop_all}
 use Rattle.im_mem.specs.Memory.{Mem}
 use Rattle.im_rv.specs.declared.step.Went.{Went}
 use Rattle.im_rv.specs.declared.step.Went.TheVariants.{On, Halted, Faulted}
 use Rattle.im_power.specs.declared.period.Period.{Period}
-use Rattle.im_power.specs.Power.{Ended, at_rest, ahead, joined, and_then, repeated, powered, power}
+use Rattle.im_power.specs.Power.{Ended, at_rest, joined, repeated, powered, power}
 use Rattle.im_emu.specs.State.{State, counted, with_run, unless_over, after}
 
 counted-counted : (a b c : ℕ) → counted (counted (a + b) + c) ≡ counted (a + (b + c))
@@ -38,3 +39,61 @@ one_period p m = and_then-rest _ (repeated p.count (powered p.n p.junk) m) refl
 
 pub repeated-once : (next : Mem → Ended) (m : Mem) → repeated 1 next m ≡ next m
 repeated-once next m = and_then-rest _ (next m) refl
+
+-- no period
+pub after-none : (s : State) → s.steps < 2 ^ 64 → s.commits < 2 ^ 64 → after [] s ≡ s
+after-none s steps commits = with_rest s s.went refl steps commits
+
+first_period : (p : Period) (ps : List Period) (s : State) (w : Went) → s.went ≡ w → after (p ∷ ps) s ≡ after ps (after (p ∷ []) s)
+first_period p ps s On h =
+    let e = repeated p.count (powered p.n p.junk) s.mem in
+    let one : after (p ∷ []) s ≡ with_run s e = rw (h, one_period p s.mem) refl in
+    rw (one, h) (with_run-joined s e.went e (power ps) refl)
+first_period p ps s Halted h = let one : after (p ∷ []) s ≡ s = rw h refl in rw (one, h) refl
+first_period p ps s (Faulted at) h = let one : after (p ∷ []) s ≡ s = rw h refl in rw (one, h) refl
+
+-- the first period of a list, and then the others
+pub after-first : (p : Period) (ps : List Period) (s : State) → after (p ∷ ps) s ≡ after ps (after (p ∷ []) s)
+after-first p ps s = first_period p ps s s.went refl
+
+-- one of the periods that are left
+pub next_period : (d : Period) (i : ℕ) (ps qs : List Period) (s t first : State) → qs ≡ ps → i < length qs → after (drop i ps) s ≡ after ps first → t ≡ after (get_or qs i d ∷ []) s → after (drop (i + 1) ps) t ≡ after ps first
+next_period d i ps qs s t first e below rest one =
+    let there : i < length ps = subst (λ xs. i < length xs) e below in
+    let at : t ≡ after (get_or ps i d ∷ []) s = one ∙ ap (λ xs. after (get_or xs i d ∷ []) s) e in
+    ap (after (drop (i + 1) ps)) at
+    ∙ sym (after-first (get_or ps i d) (drop (i + 1) ps) s)
+    ∙ sym (at_drop_more (λ xs. after xs s) ps i d there)
+    ∙ rest
+
+-- none of the periods is left
+pub all_periods : (i : ℕ) (ps qs : List Period) (s first : State) → qs ≡ ps → length qs ≤ i → s.steps < 2 ^ 64 → s.commits < 2 ^ 64 → after (drop i ps) s ≡ after ps first → s ≡ after ps first
+all_periods i ps qs s first e ends steps commits rest =
+    let none : length ps ≤ i = subst (λ xs. length xs ≤ i) e ends in
+    sym (after-none s steps commits)
+    ∙ sym (at_drop_all (λ xs. after xs s) ps i none)
+    ∙ rest
+
+-- ---- a list of periods in two parts
+
+bounded_at : (p : Period) (s : State) (w : Went) → s.went ≡ w → s.steps < 2 ^ 64 → s.commits < 2 ^ 64 → ((after (p ∷ []) s).steps < 2 ^ 64) × ((after (p ∷ []) s).commits < 2 ^ 64)
+bounded_at p s On h a b = rw h (omega arith, omega arith)
+bounded_at p s Halted h a b = rw h (a, b)
+bounded_at p s (Faulted at) h a b = rw h (a, b)
+
+pub two_parts : (ps qs : List Period) (s : State) → s.steps < 2 ^ 64 → s.commits < 2 ^ 64 → after (ps ++ qs) s ≡ after qs (after ps s)
+two_parts [] qs s a b = ap (after qs) (sym (after-none s a b))
+two_parts (p ∷ ps) qs s a b =
+    let one = after (p ∷ []) s in
+    let counts = bounded_at p s s.went refl a b in
+    after-first p (ps ++ qs) s
+    ∙ two_parts ps qs one counts.0 counts.1
+    ∙ ap (after qs) (sym (after-first p ps s))
+
+stays_at : (ps : List Period) (s : State) (w : Went) → s.went ≡ w → s.went ≢ On → after ps s ≡ s
+stays_at ps s On h not = absurd (not h)
+stays_at ps s Halted h not = rw h refl
+stays_at ps s (Faulted at) h not = rw h refl
+
+pub stays : (ps : List Period) (s : State) → s.went ≢ On → after ps s ≡ s
+stays ps s not = stays_at ps s s.went refl not

@@ -1,12 +1,12 @@
 -- A run taken a step at a time.
-use Rattle.std.proofs.Common.{◌≡◌, ◌<◌, ◌≤◌, ℕ, zero, suc, ◌+◌, ◌-◌, cond, refl, sym, ap, ◌∙◌, subst, add_assoc, arith}
+use Rattle.std.proofs.Common.{◌≡◌, ◌<◌, ◌≤◌, ℕ, suc, ◌+◌, ◌-◌, cond, refl, sym, ap, ◌∙◌, add_assoc, arith}
 use Rattle.std.specs.Prelude.{◌==◌}
 use Rattle.im_mem.specs.Memory.{Mem, little}
 use Rattle.im_rv.specs.declared.step.Went.{Went}
-use Rattle.im_rv.specs.declared.step.Went.TheVariants.{On, Halted, Faulted}
+use Rattle.im_rv.specs.declared.step.Went.TheVariants.{On}
 use Rattle.im_rv.specs.Steps.{Cpu, Stepped}
 use Rattle.im_rv.specs.Decode.{step_of}
-use Rattle.im_power.specs.Power.{Ended, at_rest, ahead, joined, and_then, one_step, steps_of, index_changes}
+use Rattle.im_power.specs.Power.{Ended, ahead, joined, and_then, one_step, steps_of, index_changes}
 
 pub ahead-ahead : (a b c d : ℕ) (e : Ended) → ahead a b (ahead c d e) ≡ ahead (a + c) (b + d) e
 ahead-ahead a b c d e = rw (← add_assoc a c e.steps, ← add_assoc b d e.commits) refl

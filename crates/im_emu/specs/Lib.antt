@@ -2,3 +2,4 @@ pub mod Load
 pub mod Shows
 pub mod State
 pub mod Stretch
+pub mod Variables

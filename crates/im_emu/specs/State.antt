@@ -1,5 +1,6 @@
 -- What a machine has: its memory, how its run has gone, and two counts, which stay at their type's end.
-use Rattle.std.specs.Prelude.{ℕ, ◌+◌, ◌-◌, ◌^◌, min, List, [], ◌∷◌}
+use Rattle.std.specs.Prelude.{ℕ, ◌+◌, ◌-◌, ◌^◌, min, List}
+use Rattle.im_image.specs.Contents.{ObjectValue}
 use Rattle.im_mem.specs.Memory.{Mem}
 use Rattle.im_rv.specs.declared.step.Went.{Went}
 use Rattle.im_rv.specs.declared.step.Went.TheVariants.{On, Halted, Faulted}
@@ -12,6 +13,7 @@ pub record Held (M : Type 0) : Type 0 where
   pub went : Went
   pub steps : ℕ
   pub commits : ℕ
+  pub objects : List ObjectValue
 
 pub record State : Type 0 where
   pub mem : Mem

@@ -2,12 +2,16 @@
 #![tactic(auto)]
 
 mod fault;
+mod laws;
 mod load;
 mod machine;
+mod objects;
 mod shows;
 mod stretch;
+mod vars;
 
 pub use fault::LoadFault;
+pub use laws::{periods_law, place_law};
 pub use machine::Machine;
 
 #[cfg(test)]

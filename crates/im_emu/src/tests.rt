@@ -1,6 +1,7 @@
 use crate::{LoadFault, Machine};
 use im_image::read_image;
-use im_power::Period;
+use im_num::CellValue;
+use im_power::{Period, read_trace};
 use im_rv::step::Went;
 use std::alloc::Global;
 use std::test::Fail;
@@ -72,4 +73,118 @@ fn an_input_has_at_most_a_mebibyte(rt: HostRuntime) -> Result<(), Fail> {
         );
     }
     Ok(())
+}
+
+#[test]
+fn a_trace_runs_to_its_end_or_a_stop(rt: HostRuntime) -> Result<(), Fail> {
+    let alloc = rt.alloc();
+    // An image, a trace, and then how it went, commits, instructions.
+    let rows: [(&[u8], &[u8], Went, u64, u64); 5] = [
+        (&THREE_WORDS, b"3 0 2", Went::On, 2, 6),
+        (&THREE_WORDS, b"3\n2 7 2\n3", Went::On, 2, 10),
+        (&THREE_WORDS, b"; nothing", Went::On, 0, 0),
+        (&ONE_WORD, b"0 9 4\n5 0 2\n6", Went::Halted, 0, 1),
+        (&NO_WORD, b"5\n6", Went::Faulted(0x1000), 0, 1),
+    ];
+    for (text, lines, went, commits, instructions) in rows {
+        let image = read_image(alloc, text).ok().ok_or("an image")?;
+        let trace = read_trace(alloc, lines).ok().ok_or("a trace")?;
+        let mut machine = Machine::load(alloc, &image, &[]).ok().ok_or("a machine")?;
+        assert!(rt; machine.run(&trace) == went, "at {instructions}");
+        assert_eq!(rt; machine.commits(), commits);
+        assert_eq!(rt; machine.instructions(), instructions);
+        if went != Went::On {
+            assert!(rt; machine.run(&trace) == went);
+            assert_eq!(rt; machine.commits(), commits);
+            assert_eq!(rt; machine.instructions(), instructions);
+        }
+    }
+    Ok(())
+}
+
+fn put_words(text: &mut Vec<u8>, words: &[u32]) -> Result<(), Fail> {
+    for word in words {
+        text.extend_from_slice(&word.to_le_bytes())?;
+    }
+    Ok(())
+}
+
+/// An image of one code word and three objects: a cell of each kind but Ptr, eight pointers, and
+/// three halves.
+fn image_of_every_kind(alloc: Global) -> Result<Vec<u8>, Fail> {
+    let mut text = Vec::new(alloc);
+    put_words(
+        &mut text,
+        &[0x5652_4d49, 1, 1, 64, 256, 0, 0x1000, 3, 0x0010_0073],
+    )?;
+    text.extend_from_slice(&[
+        0xff, 0xff, 0, 0x80, 0xfe, 0xff, 9, 9, 0, 0, 0, 0x80, 0xff, 0xff, 0xff, 0xff,
+    ])?;
+    put_words(
+        &mut text,
+        &[
+            9, 0, 0x10_0000, 0x10_0010, 0x10_0011, 0x10_0014, 0x10_0034, 0x10_0035, 0x2f_ffff, 9,
+        ],
+    )?;
+    text.extend_from_slice(&[1, 0, 0xfe, 0xff, 3, 0, 9, 9])?;
+    put_words(&mut text, &[0x10_0000, 16, 1, 6])?;
+    text.push(b'k')?;
+    put_words(
+        &mut text,
+        &[0, 0, 1, 1, 1, 1, 2, 2, 1, 4, 3, 1, 8, 4, 1, 12, 5, 1],
+    )?;
+    put_words(&mut text, &[0x10_0014, 32, 2, 1])?;
+    text.extend_from_slice(b"$p")?;
+    put_words(&mut text, &[0, 6, 8])?;
+    put_words(&mut text, &[0x10_0038, 6, 3, 1])?;
+    text.extend_from_slice(b"t_3")?;
+    put_words(&mut text, &[0, 2, 3])?;
+    Ok(text)
+}
+
+#[test]
+fn variables_of_every_kind(rt: HostRuntime) -> Result<(), Fail> {
+    let alloc = rt.alloc();
+    let text = image_of_every_kind(alloc)?;
+    let image = read_image(alloc, &text).ok().ok_or("an image")?;
+    let machine = Machine::load(alloc, &image, &[]).ok().ok_or("a machine")?;
+    let numbers = [
+        CellValue::Number(-1),
+        CellValue::Number(255),
+        CellValue::Number(-32768),
+        CellValue::Number(65534),
+        CellValue::Number(-2_147_483_648),
+        CellValue::Number(4_294_967_295),
+    ];
+    let pointers = [
+        CellValue::Null,
+        inside(0, 0),
+        inside(0, 16),
+        CellValue::Local,
+        inside(1, 0),
+        inside(1, 32),
+        CellValue::Local,
+        CellValue::Local,
+    ];
+    let halves = [
+        CellValue::Number(1),
+        CellValue::Number(-2),
+        CellValue::Number(3),
+    ];
+    let rows: [(&[u8], &[CellValue]); 3] = [
+        (b"k", &numbers),
+        (b"$p", &pointers),
+        (b"t_3", &halves),
+    ];
+    let vars = machine.vars(alloc)?;
+    assert_eq!(rt; vars.len(), 3);
+    for (var, (name, cells)) in vars.iter().zip(rows) {
+        assert_eq!(rt; var.name.as_slice(), name);
+        assert_eq!(rt; var.cells.as_slice(), cells);
+    }
+    Ok(())
+}
+
+fn inside(object: u32, offset: u32) -> CellValue {
+    CellValue::Inside { object, offset }
 }

@@ -1,4 +1,4 @@
-use Rattle.std.proofs.Common.{◌≡◌, refl}
+use Rattle.std.proofs.Common.{refl}
 use Rattle.im_emu.proofs.load.first_memory.Goals as goal
 
 pub returns : goal.returns

@@ -1,4 +1,4 @@
-use Rattle.std.proofs.Common.{◌≡◌, refl, ◌∙◌, sym, ap, arith}
+use Rattle.std.proofs.Common.{refl, ◌∙◌, ap, arith}
 use Rattle.im_emu.specs.Stretch.{ended_of}
 use Rattle.im_emu.proofs.Stretches.{one_taken, last_taken, bounded}
 use Rattle.im_emu.proofs.stretch.run_steps.Goals as goal

@@ -17,4 +17,5 @@ repeats-preserved g c =
       rest = repeat_first (c.args.period.count - (c.repeats.counter + 1)) one s (state_of bytes c.run_period-went.new.self) (sym c.repeats.invariant.went ∙ c.in-On.is) c.run_period-went.ensures.machine
           ∙ ap (λ k. unless_over s.went s (repeated k one s.mem)) (sym left)
           ∙ c.repeats.invariant.rest;
+      objects = c.run_period-went.ensures.objects ∙ c.repeats.invariant.objects;
     }

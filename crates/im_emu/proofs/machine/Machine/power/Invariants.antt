@@ -13,4 +13,5 @@ invariant-repeats g l =
       steps : now.steps < 2 ^ 64;
       commits : now.commits < 2 ^ 64;
       rest : unless_over now.went now (repeated (l.period.count - l.counter) one now.mem) ≡ unless_over first.went first (repeated l.period.count one first.mem);
+      objects : l.self.objects ≡ l.fn.self.objects;
     }
