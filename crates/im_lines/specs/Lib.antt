@@ -1,0 +1,6 @@
+pub mod Numerals
+pub mod Builds
+pub mod Runs
+pub mod Dumps
+pub mod Refusals
+pub mod Variables

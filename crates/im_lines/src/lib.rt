@@ -1,0 +1,20 @@
+// The lines that the commands print, each sent to a sink piece by piece from fixed buffers.
+#![tactic(auto)]
+
+mod builds;
+mod dumps;
+mod ending;
+mod instruction;
+mod numerals;
+mod refusal;
+mod runs;
+#[cfg(test)]
+mod tests;
+mod variables;
+
+pub use builds::send_build_lines;
+pub use dumps::send_dump_lines;
+pub use ending::Ending;
+pub use refusal::{Refusal, send_refusal_line};
+pub use runs::send_run_lines;
+pub use variables::send_variable_lines;

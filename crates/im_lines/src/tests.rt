@@ -1,0 +1,218 @@
+use crate::instruction::send_instruction;
+use crate::{
+    Ending, Refusal, send_build_lines, send_dump_lines, send_refusal_line, send_run_lines,
+    send_variable_lines,
+};
+use im_image::{ImageFault, read_image};
+use im_io::{Failed, MemSink};
+use im_num::{CellValue, Var};
+use im_power::TraceFault;
+use im_rv::step::Went;
+use std::alloc::Global;
+use std::test::Fail;
+
+/// One code word, EBREAK.
+const ONE_WORD: [u8; 36] = [
+    0x49, 0x4d, 0x52, 0x56, 1, 0, 0, 0, 1, 0, 0, 0, 0, 0, 0, 0, 0, 1, 0, 0, 0, 0, 0, 0, 0, 0x10, 0,
+    0, 0, 0, 0, 0, 0x73, 0, 0x10, 0,
+];
+
+/// Two code words, ADDI and EBREAK, 16 bytes of statics, and in them two objects: `n`, an I32 at
+/// 0x100000, and `p`, two pointers at 0x100008.
+const TWO_OBJECTS: [u8; 114] = [
+    0x49, 0x4d, 0x52, 0x56, 1, 0, 0, 0, 2, 0, 0, 0, 16, 0, 0, 0, 0, 2, 0, 0, 8, 0, 0, 0, 4, 0x10,
+    0, 0, 2, 0, 0, 0, 0x93, 0x02, 0xd3, 0xff, 0x73, 0, 0x10, 0, 0, 0, 0, 0, 0, 0, 0, 0, 0, 0, 0, 0,
+    0, 0, 0, 0, 0, 0, 0x10, 0, 4, 0, 0, 0, 1, 0, 0, 0, 1, 0, 0, 0, b'n', 0, 0, 0, 0, 4, 0, 0, 0, 1,
+    0, 0, 0, 8, 0, 0x10, 0, 8, 0, 0, 0, 1, 0, 0, 0, 1, 0, 0, 0, b'p', 0, 0, 0, 0, 6, 0, 0, 0, 2, 0,
+    0, 0,
+];
+
+fn sink(alloc: Global) -> Result<MemSink, Fail> {
+    Ok(MemSink::new(alloc, 400, &[])?)
+}
+
+#[test]
+fn images(rt: HostRuntime) -> Result<(), Fail> {
+    let alloc = rt.alloc();
+    let rows: [(&[u8], &str); 2] = [
+        (
+            &ONE_WORD,
+            "version 1\ncode 1\nstatics 0\nstack 256\nout-cap 0\nentry 00001000\n00001000: 00100073 ebreak\n",
+        ),
+        (
+            &TWO_OBJECTS,
+            "version 1\ncode 2\nstatics 16\nstack 512\nout-cap 8\nentry 00001004\nvar n 00100000 4\nvar p 00100008 8\n00001000: ffd30293 addi 5 6 -3\n00001004: 00100073 ebreak\n",
+        ),
+    ];
+    for (bytes, lines) in rows {
+        let image = read_image(alloc, bytes).ok().ok_or("an image")?;
+        let mut sink = sink(alloc)?;
+        assert!(rt; send_dump_lines(&mut sink, &image) == Ok(()));
+        assert_eq!(rt; sink.contents(), lines.as_bytes());
+    }
+    Ok(())
+}
+
+#[test]
+fn instructions(rt: HostRuntime) -> Result<(), Fail> {
+    let rows: [(u32, &str); 12] = [
+        (0x0000_2203, "lw 4 0 0"),
+        (0x0040_2023, "sw 0 4 0"),
+        (0x4000_4033, "word"),
+        (0xffd3_0293, "addi 5 6 -3"),
+        (0xffff_f0b7, "lui 1 1048575"),
+        (0x0ff0_000f, "fence 0 0 255"),
+        (0xfe20_8ee3, "beq 1 2 -4"),
+        (0xff9f_f06f, "jal 0 -8"),
+        (0x01f1_1093, "slli 1 2 31"),
+        (0x0031_00b3, "add 1 2 3"),
+        (0x0010_0073, "ebreak"),
+        (0x0000_0073, "word"),
+    ];
+    for (word, text) in rows {
+        let mut sink = sink(rt.alloc())?;
+        assert!(rt; send_instruction(&mut sink, word) == Ok(()));
+        assert_eq!(rt; sink.contents(), text.as_bytes());
+    }
+    Ok(())
+}
+
+#[test]
+fn runs(rt: HostRuntime) -> Result<(), Fail> {
+    let rows: [(Went, u32, &str); 4] = [
+        (Went::Halted, 0, "status -7\n"),
+        (Went::Halted, 1, "intermit: stack exhausted\n"),
+        (Went::On, 0, "intermit: out of power\n"),
+        (
+            Went::Faulted(0xfffc),
+            0,
+            "intermit: machine fault at 0x0000fffc\n",
+        ),
+    ];
+    for (went, reason, line) in rows {
+        let mut sink = sink(rt.alloc())?;
+        assert!(rt; send_run_lines(&mut sink, Ending::of(went, reason), -7, 3, 42) == Ok(()));
+        let lines = format!(in rt.alloc(); "{line}commits 3\ninstructions 42\n")?;
+        assert_eq!(rt; sink.contents(), lines.as_bytes());
+    }
+    let mut sink = sink(rt.alloc())?;
+    assert!(rt; send_build_lines(&mut sink, 73, 141) == Ok(()));
+    assert_eq!(rt; sink.contents(), b"code 73\ngap 141\n".as_slice());
+    Ok(())
+}
+
+#[test]
+fn refusals(rt: HostRuntime) -> Result<(), Fail> {
+    let rows: [(Refusal, &str); 17] = [
+        (Refusal::CannotRead("a.c"), "cannot read a.c"),
+        (
+            Refusal::SourceTooLong("a.c"),
+            "a.c: source 4194305 over 4194304",
+        ),
+        (Refusal::NotCompiled("a.c"), "a.c: not yet compiled"),
+        (
+            Refusal::NotAnImage("i", ImageFault::ShortImage(35)),
+            "i: short image at 35",
+        ),
+        (
+            Refusal::NotAnImage("i", ImageFault::BadMagic),
+            "i: bad magic",
+        ),
+        (
+            Refusal::NotAnImage("i", ImageFault::BadVersion(2)),
+            "i: bad version 2",
+        ),
+        (
+            Refusal::NotAnImage("i", ImageFault::BadField(3)),
+            "i: bad field 3",
+        ),
+        (
+            Refusal::NotAnImage("i", ImageFault::Trailing(36)),
+            "i: trailing bytes at 36",
+        ),
+        (
+            Refusal::NotAnImage("i", ImageFault::OutOfMemory),
+            "i: no memory",
+        ),
+        (Refusal::CannotWrite("i"), "cannot write i"),
+        (
+            Refusal::InputTooLong(1048577, 1048576),
+            "input of 1048577 bytes over 1048576",
+        ),
+        (Refusal::FileTooLong("t", 65536), "t over 65536 bytes"),
+        (
+            Refusal::NotATrace("t", TraceFault::BadLine(4)),
+            "t: bad line 4",
+        ),
+        (
+            Refusal::NotATrace("t", TraceFault::ZeroRepeat(5)),
+            "t: zero repeat at line 5",
+        ),
+        (
+            Refusal::NotATrace("t", TraceFault::TooMany(1000001)),
+            "t: too many periods 1000001",
+        ),
+        (
+            Refusal::NotATrace("t", TraceFault::OutOfMemory),
+            "t: no memory",
+        ),
+        (Refusal::OutOfMemory, "no memory"),
+    ];
+    for (refusal, text) in rows {
+        let mut sink = sink(rt.alloc())?;
+        assert!(rt; send_refusal_line(&mut sink, &refusal) == Ok(()));
+        let line = format!(in rt.alloc(); "intermit: {text}\n")?;
+        assert_eq!(rt; sink.contents(), line.as_bytes());
+    }
+    Ok(())
+}
+
+fn variable(alloc: Global, name: &[u8], cells: &[CellValue]) -> Result<Var, Fail> {
+    Ok(Var {
+        name: Vec::from_slice(alloc, name)?,
+        cells: Vec::from_slice(alloc, cells)?,
+    })
+}
+
+#[test]
+fn variables(rt: HostRuntime) -> Result<(), Fail> {
+    let alloc = rt.alloc();
+    let image = read_image(alloc, &TWO_OBJECTS).ok().ok_or("an image")?;
+    let inside = CellValue::Inside {
+        object: 1,
+        offset: 4,
+    };
+    // An object's number that no object has.
+    let outside = CellValue::Inside {
+        object: 2,
+        offset: 0,
+    };
+    let mut variables = Vec::new(alloc);
+    variables.push(variable(alloc, b"n", &[CellValue::Number(-2147483648)])?)?;
+    variables.push(variable(
+        alloc,
+        b"p",
+        &[CellValue::Null, inside, CellValue::Local, outside],
+    )?)?;
+    let mut sink = sink(alloc)?;
+    assert!(rt; send_variable_lines(&mut sink, &image.objects, &variables) == Ok(()));
+    assert_eq!(rt;
+        sink.contents(),
+        b"var n -2147483648\nvar p null p+4 local +0\n".as_slice()
+    );
+    Ok(())
+}
+
+#[test]
+fn a_sink_fails_in_mid_stream(rt: HostRuntime) -> Result<(), Fail> {
+    let alloc = rt.alloc();
+    let image = read_image(alloc, &ONE_WORD).ok().ok_or("an image")?;
+    let mut sink = MemSink::new(alloc, 400, &[3])?;
+    assert!(rt; send_dump_lines(&mut sink, &image) == Err(Failed));
+    assert_eq!(rt; sink.contents(), b"version 1\ncode 1".as_slice());
+    assert_eq!(rt; sink.faults(), 1);
+    let mut short = MemSink::new(alloc, 70, &[])?;
+    assert!(rt; send_dump_lines(&mut short, &image) == Err(Failed));
+    assert_eq!(rt; short.contents().len(), 70);
+    Ok(())
+}
