@@ -1,1 +1,7 @@
+pub mod NumberLemmas
 pub mod NamedLemmas
+pub mod OperandLemmas
+pub mod OptionLemmas
+pub mod RowLemmas
+pub mod FirstWordLemmas
+pub mod TakenLemmas

@@ -1,10 +1,10 @@
 -- What the table's matches say of the command that the words name.
-use Rattle.std.proofs.Common.{ap, refl, sym, true, List, Option, Some, None, [], ◌≡◌, ◌∙◌, if◌then◌else◌}
+use Rattle.std.proofs.Common.{ap, refl, sym, true, List, Option, Some, [], ◌≡◌, ◌∙◌}
 use Rattle.clap.specs.Words.{App, Row, Text, fault_of, is_simple, is_simple_and_free, subcommand_of}
 use Rattle.clap.specs.Walk.{is_empty}
 use Rattle.clap.proofs.OnLiterals.{clap_on_literals}
 use Rattle.im_cli.specs.Table.{command_line}
-use Rattle.im_cli.specs.Named.{Asked, asked, is_taken, named}
+use Rattle.im_cli.specs.Named.{Asked, asked, is_faultless, named}
 
 pub is_simple_line : is_simple command_line ≡ true
 unfolding clap_on_literals
@@ -15,9 +15,9 @@ unfolding clap_on_literals
 is_free_line = refl
 
 -- where clap finds no fault in the words, they name what its matches ask for
-pub named_where_taken : (table : App) → table ≡ command_line → (words : List Text) (found : Option (Text × List Row)) (what : Asked)
+pub named_where_faultless : (table : App) → table ≡ command_line → (words : List Text) (found : Option (Text × List Row)) (what : Asked)
     → fault_of table words ≡ [] → found ≡ subcommand_of table words → asked found ≡ Some what → named words ≡ Some what
-named_where_taken table table_is words found what fault found_is asks =
-    let taken : is_taken words ≡ true = ap is_empty (ap (λ (a : App). fault_of a words) (sym table_is) ∙ fault) in
+named_where_faultless table table_is words found what fault found_is asks =
+    let faultless : is_faultless words ≡ true = ap is_empty (ap (λ (a : App). fault_of a words) (sym table_is) ∙ fault) in
     let same : found ≡ subcommand_of command_line words = found_is ∙ ap (λ (a : App). subcommand_of a words) table_is in
-    rw (taken, ← same) asks
+    rw (faultless, ← same) asks

@@ -1,43 +1,125 @@
 -- The command that words name.
-use Rattle.std.specs.Prelude.{Bool, true, false, Option, Some, None, List, [], ◌∷◌, codes}
+use Rattle.std.specs.Prelude.{ℕ, ◌==◌, Bool, false, Option, Some, None}
+use Rattle.std.specs.Prelude.{List, [], ◌∷◌, ◌++◌, codes}
 use Rattle.std.specs.Prelude.{if◌then◌else◌, option_and_then, option_map}
+use Rattle.std.specs.Option.{option_map_or}
 use Rattle.std.specs.Str.{bytes_eq}
 use Rattle.clap.specs.Words.{Row, Text, fault_of, first_of, subcommand_of}
 use Rattle.clap.specs.Walk.{is_empty}
+use Rattle.im_cli.specs.Numbers.{plain_number}
 use Rattle.im_cli.specs.Table.{command_line}
+use Rattle.im_cli.specs.declared.command.RunOptions.{RunOptions}
 use Rattle.im_cli.specs.declared.command.Command.{Command}
 use Rattle.im_cli.specs.declared.command.Command.TheVariants as command
 use Rattle.im_cli.specs.declared.fault.WordsFault.{WordsFault}
 use Rattle.im_cli.specs.declared.fault.WordsFault.TheVariants as fault
 use Rattle.std.specs.Prelude.{⊤}
 
+-- how an image is run: the files that are named for its input and its periods, the steps of the
+-- one period that there is without a trace, and whether the variables are shown
+pub record Options : Type 0 where
+  pub input : Option Text
+  pub trace : Option Text
+  pub steps : ℕ
+  pub vars : Bool
+
+-- the options where no word gives any
+abbrev pub default_options : Options
+default_options = record { input = None; trace = None; steps = 100000000; vars = false }
+
+-- the word begins with a hyphen (45) and has more characters; other words are files and values
+abbrev pub is_option : Text → Bool
+is_option (first ∷ second ∷ rest) = first == 45
+is_option word = false
+
+-- the words of an option that has a value, where it is given
+abbrev pub given : Text → Option Text → List Text
+given option None = []
+given option (Some value) = option ∷ value ∷ []
+
+-- the words of the options that are given, in the table's order
+abbrev pub option_words : Option Text → Option Text → Option Text → Bool → List Text
+option_words input trace steps vars = given (codes "--input") input
+    ++ (given (codes "--trace") trace ++ (given (codes "--steps") steps
+    ++ (if vars then codes "--vars" ∷ [] else [])))
+
 -- what a command asks for, its files by name
 pub data Asked : Type 0 where
-  runs : Text → Text → Asked
+  builds : Text → Text → Asked
+  runs : Text → Text → Options → Asked
+  executes : Text → Options → Asked
+  dumps : Text → Asked
 
--- run SRC IMG
-abbrev pub run_asked : List Row → Option Asked
-run_asked rows = option_and_then (λ source. option_map (λ image. runs source image)
+-- SRC and IMG
+abbrev pub pair_asked : (Text → Text → Asked) → List Row → Option Asked
+pair_asked asks rows = option_and_then (λ source. option_map (λ image. asks source image)
     (first_of (codes "IMG") rows)) (first_of (codes "SRC") rows)
+
+-- the flag is among the words
+abbrev pub is_set : Text → List Row → Bool
+is_set name rows = option_map_or (λ text. bytes_eq text (codes "true")) (first_of name rows) false
+
+abbrev pub options_asked : List Row → Option Options
+options_asked rows = option_map (λ steps. record {
+  input = first_of (codes "input") rows;
+  trace = first_of (codes "trace") rows;
+  steps = steps;
+  vars = is_set (codes "vars") rows;
+}) (option_and_then plain_number (first_of (codes "steps") rows))
+
+abbrev pub build_asked : List Row → Option Asked
+build_asked = pair_asked builds
+
+abbrev pub run_asked : List Row → Option Asked
+run_asked rows = option_and_then (λ options.
+    pair_asked (λ source image. runs source image options) rows) (options_asked rows)
+
+abbrev pub exec_asked : List Row → Option Asked
+exec_asked rows = option_and_then (λ options. option_map (λ image. executes image options)
+    (first_of (codes "IMG") rows)) (options_asked rows)
+
+abbrev pub dump_asked : List Row → Option Asked
+dump_asked rows = option_map dumps (first_of (codes "IMG") rows)
 
 -- what the command of this name asks for, by what was found for the words after it
 abbrev pub asked_by : Text → List Row → Option Asked
-asked_by name rows = if bytes_eq name (codes "run") then run_asked rows else None
+asked_by name rows = if bytes_eq name (codes "build") then build_asked rows
+    else (if bytes_eq name (codes "run") then run_asked rows
+    else (if bytes_eq name (codes "exec") then exec_asked rows
+    else (if bytes_eq name (codes "dump") then dump_asked rows else None)))
 
 abbrev pub asked : Option (Text × List Row) → Option Asked
 asked = option_and_then (λ found. asked_by found.0 found.1)
 
--- the table takes the words: clap finds no fault in them, a request for help being one
-abbrev pub is_taken : List Text → Bool
-is_taken words = is_empty (fault_of command_line words)
+-- clap finds no fault in the words, a request for help being one
+abbrev pub is_faultless : List Text → Bool
+is_faultless words = is_empty (fault_of command_line words)
 
--- the command that the words name, the first of them being the program's own name
+-- the command that the words name, the first of them being the program's own name; the table takes
+-- the words where they name one
 abbrev pub named : List Text → Option Asked
-named words = if is_taken words then asked (subcommand_of command_line words) else None
+named words =
+    if is_faultless words then asked (subcommand_of command_line words) else None
+
+-- the text that clap finds for --steps, its default where the words give none
+abbrev pub steps_found : List Text → Option Text
+steps_found words =
+    option_and_then (λ found. first_of (codes "steps") found.1) (subcommand_of command_line words)
+
+abbrev pub options_meaning : RunOptions → Options
+options_meaning options = record {
+  input = option_map (λ file. file.now) options.input;
+  trace = option_map (λ file. file.now) options.trace;
+  steps = options.steps;
+  vars = options.vars;
+}
 
 -- what a command of the program's asks for
 abbrev pub meaning : Command → Asked
-meaning (command.Run source image) = runs source.now image.now
+meaning (command.Build source image) = builds source.now image.now
+meaning (command.Run source image options) = runs source.now image.now (options_meaning options)
+meaning (command.Exec image options) = executes image.now (options_meaning options)
+meaning (command.Dump image) = dumps image.now
 
 abbrev pub IsUsage : WordsFault → Type 0
 IsUsage (fault.Usage text) = ⊤

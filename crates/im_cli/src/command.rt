@@ -1,6 +1,37 @@
 /// What the words of a command line ask for. Files are given by the names that the words have.
 #[derive(Clone, Copy, PartialEq, Eq, Debug)]
 pub enum Command<'a> {
-    /// Build the source, store the image under the second name, and run the stored image.
-    Run { source: &'a str, image: &'a str },
+    /// Build the source, and store the image under the second name.
+    Build {
+        source: &'a str,
+        image: &'a str,
+    },
+    /// Build and store, and then run the stored image.
+    Run {
+        source: &'a str,
+        image: &'a str,
+        options: RunOptions<'a>,
+    },
+    /// Run an image.
+    Exec {
+        image: &'a str,
+        options: RunOptions<'a>,
+    },
+    /// Show what an image holds.
+    Dump {
+        image: &'a str,
+    },
+}
+
+/// How an image is run.
+#[derive(Clone, Copy, PartialEq, Eq, Debug)]
+pub struct RunOptions<'a> {
+    /// The file that the program reads. Where none is named its input is empty.
+    pub input: Option<&'a str>,
+    /// The file that tells the periods of power.
+    pub trace: Option<&'a str>,
+    /// The instructions of the one period that there is without a trace.
+    pub steps: u32,
+    /// Whether the variables are shown at the end.
+    pub vars: bool,
 }

@@ -7,7 +7,7 @@ use thiserror::Error;
 /// Why words name no command.
 #[derive(Debug, Drop, Error)]
 pub enum WordsFault {
-    /// The table takes no such words, a request for help among them: the text for the user.
+    /// The table doesn't take the words, a request for help among them: the text for the user.
     #[error("{0}")]
     Usage(String),
     #[error("no memory")]

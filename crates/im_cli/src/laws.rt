@@ -1,17 +1,79 @@
-ghost use Rattle.std.specs.Prelude.{◌≡◌, ◌∷◌, [], Some, None, codes};
-ghost use Rattle.im_cli.specs.Named.{named, runs};
+ghost use Rattle.std.specs.Prelude.{◌≡◌, ℕ, ◌∷◌, [], Bool, IfSome, Option, Some, None, codes};
+ghost use Rattle.std.specs.Prelude.{List, false, is_some, true, unwrap_or};
+ghost use Rattle.clap.specs.Words.{Text};
+ghost use Rattle.im_cli.specs.Named.{builds, default_options, dumps, executes, is_faultless, is_option};
+ghost use Rattle.im_cli.specs.Named.{named, option_words, runs, steps_found};
+ghost use Rattle.im_cli.specs.Numbers.{plain_number, starts_plainly};
 
-/// Words that name a command.
+/// Words that name a command, one line for each.
 pub fn words_taken_law()
-    ensures { named (codes "intermit" ∷ codes "run" ∷ codes "a" ∷ codes "b" ∷ []) ≡ Some (runs (codes "a") (codes "b")) }
+    ensures build { named (codes "intermit" ∷ codes "build" ∷ codes "a" ∷ codes "b" ∷ [])
+        ≡ Some (builds (codes "a") (codes "b")) }
+    ensures run { named (codes "intermit" ∷ codes "run" ∷ codes "a" ∷ codes "b" ∷ [])
+        ≡ Some (runs (codes "a") (codes "b")
+        (record { input = None; trace = None; steps = 100000000; vars = false })) }
+    ensures exec { named (codes "p" ∷ codes "exec" ∷ codes "--vars"
+        ∷ codes "--steps=7" ∷ codes "b" ∷ codes "--input" ∷ codes "f" ∷ [])
+        ≡ Some (executes (codes "b")
+        (record { input = Some (codes "f"); trace = None; steps = 7; vars = true })) }
+    ensures dump { named (codes "intermit" ∷ codes "dump"
+        ∷ codes "b" ∷ []) ≡ Some (dumps (codes "b")) }
 {}
 
-/// Words that name no command: none at all, too few, too many, a request for help, and an option that
-/// there isn't.
+/// Each command takes its files by their places, whatever their names are but options.
+pub fn files_law()
+    ensures build { (program source image : Text) → is_option source ≡ false
+        → is_option image ≡ false → named (program ∷ codes "build" ∷ source ∷ image ∷ [])
+        ≡ Some (builds source image) }
+    ensures run { (program source image : Text) → is_option source ≡ false
+        → is_option image ≡ false → named (program ∷ codes "run" ∷ source ∷ image ∷ [])
+        ≡ Some (runs source image default_options) }
+    ensures exec { (program image : Text) → is_option image ≡ false
+        → named (program ∷ codes "exec" ∷ image ∷ []) ≡ Some (executes image default_options) }
+    ensures dump { (program image : Text) → is_option image ≡ false
+        → named (program ∷ codes "dump" ∷ image ∷ []) ≡ Some (dumps image) }
+{}
+
+/// A run's options, each given or not, after the files.
+pub fn options_law()
+    ensures exec { (program image : Text) (input trace steps : Option Text) (vars : Bool)
+        (number : ℕ) → is_option image ≡ false → IfSome input (λ file. is_option file ≡ false)
+        → IfSome trace (λ file. is_option file ≡ false)
+        → plain_number (unwrap_or steps (codes "100000000")) ≡ Some number
+        → named (program ∷ codes "exec" ∷ image ∷ option_words input trace steps vars)
+        ≡ Some (executes image
+        (record { input = input; trace = trace; steps = number; vars = vars })) }
+    ensures run { (program source image : Text) (input trace steps : Option Text) (vars : Bool)
+        (number : ℕ) → is_option source ≡ false → is_option image ≡ false
+        → IfSome input (λ file. is_option file ≡ false)
+        → IfSome trace (λ file. is_option file ≡ false)
+        → plain_number (unwrap_or steps (codes "100000000")) ≡ Some number
+        → named (program ∷ codes "run" ∷ source ∷ image ∷ option_words input trace steps vars)
+        ≡ Some (runs source image
+        (record { input = input; trace = trace; steps = number; vars = vars })) }
+{}
+
+/// Words in which clap finds no fault name a command, unless the number of `--steps` has a sign or a
+/// zero before it.
+pub fn faultless_law()
+    ensures { (words : List Text) → is_faultless words ≡ true
+        → IfSome (steps_found words) (λ text. starts_plainly text ≡ true)
+        → is_some (named words) ≡ true }
+{}
+
+/// Words that name no command: none at all, too few, too many, a request for help, an option that
+/// there isn't, and numbers out of range, with a sign, or with a zero before them.
 pub fn words_refused_law()
     ensures alone { named (codes "intermit" ∷ []) ≡ None }
     ensures few { named (codes "intermit" ∷ codes "run" ∷ codes "a" ∷ []) ≡ None }
-    ensures many { named (codes "intermit" ∷ codes "run" ∷ codes "a" ∷ codes "b" ∷ codes "c" ∷ []) ≡ None }
+    ensures many { named (codes "intermit" ∷ codes "run" ∷ codes "a" ∷ codes "b"
+        ∷ codes "c" ∷ []) ≡ None }
     ensures help { named (codes "intermit" ∷ codes "--help" ∷ []) ≡ None }
     ensures option { named (codes "intermit" ∷ codes "run" ∷ codes "-x" ∷ codes "b" ∷ []) ≡ None }
+    ensures range { named (codes "intermit" ∷ codes "exec" ∷ codes "b"
+        ∷ codes "--steps" ∷ codes "4294967296" ∷ []) ≡ None }
+    ensures sign { named (codes "intermit" ∷ codes "exec" ∷ codes "b"
+        ∷ codes "--steps" ∷ codes "+7" ∷ []) ≡ None }
+    ensures zero { named (codes "intermit" ∷ codes "exec" ∷ codes "b"
+        ∷ codes "--steps" ∷ codes "07" ∷ []) ≡ None }
 {}

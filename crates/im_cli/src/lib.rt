@@ -4,12 +4,14 @@
 mod command;
 mod fault;
 mod laws;
+mod matched;
+mod number;
 mod table;
 mod words;
 
-pub use command::Command;
+pub use command::{Command, RunOptions};
 pub use fault::WordsFault;
-pub use laws::{words_refused_law, words_taken_law};
+pub use laws::{faultless_law, files_law, options_law, words_refused_law, words_taken_law};
 pub use words::read_words;
 
 #[cfg(test)]

@@ -1,4 +1,7 @@
-use crate::{Command, WordsFault, read_words};
+use crate::{
+    Command, RunOptions, WordsFault, faultless_law, files_law, options_law, read_words,
+    words_refused_law, words_taken_law,
+};
 use std::alloc::Global;
 use std::test::Fail;
 
@@ -11,27 +14,79 @@ fn words(alloc: Global, line: &[&str]) -> Result<Vec<String>, Fail> {
 }
 
 #[test]
-fn reads_a_run(rt: HostRuntime) -> Result<(), Fail> {
+fn names_the_command(rt: HostRuntime) -> Result<(), Fail> {
+    words_taken_law();
+    faultless_law();
+    files_law();
+    options_law();
     let alloc = rt.alloc();
-    let line = words(alloc, &["intermit", "run", "a.c", "a.img"])?;
-    let command = read_words(alloc, line.as_slice())?;
-    let expected = Command::Run {
+    let plain = RunOptions {
+        input: None,
+        trace: None,
+        steps: 100_000_000,
+        vars: false,
+    };
+    let full = RunOptions {
+        input: Some("in"),
+        trace: Some("t"),
+        steps: 4_294_967_295,
+        vars: true,
+    };
+    let line = words(alloc, &["intermit", "build", "a.c", "a.img"])?;
+    let expected = Command::Build {
         source: "a.c",
         image: "a.img",
     };
-    assert!(rt; command == expected);
+    assert!(rt; read_words(alloc, line.as_slice())? == expected);
+    let line = words(alloc, &["intermit", "run", "a.c", "a.img"])?;
+    let expected = Command::Run {
+        source: "a.c",
+        image: "a.img",
+        options: plain,
+    };
+    assert!(rt; read_words(alloc, line.as_slice())? == expected);
+    let line = words(
+        alloc,
+        &[
+            "intermit",
+            "exec",
+            "--input=in",
+            "--trace",
+            "t",
+            "a.img",
+            "--steps",
+            "4294967295",
+            "--vars",
+        ],
+    )?;
+    let expected = Command::Exec {
+        image: "a.img",
+        options: full,
+    };
+    assert!(rt; read_words(alloc, line.as_slice())? == expected);
+    let line = words(alloc, &["intermit", "dump", "a.img"])?;
+    assert!(rt; read_words(alloc, line.as_slice())? == Command::Dump { image: "a.img" });
     Ok(())
 }
 
 #[test]
 fn refuses_other_words(rt: HostRuntime) -> Result<(), Fail> {
+    words_refused_law();
     let alloc = rt.alloc();
-    let lines: [&[&str]; 5] = [
+    let lines: [&[&str]; 13] = [
         &["intermit"],
         &["intermit", "run", "a.c"],
         &["intermit", "run", "a.c", "a.img", "more"],
         &["intermit", "--help"],
+        &["intermit", "help"],
+        &["intermit", "walk", "a.c", "a.img"],
         &["intermit", "run", "-x", "a.img"],
+        &["intermit", "build", "a.c", "a.img", "--vars"],
+        &["intermit", "exec", "a.img", "--vars", "--vars"],
+        &["intermit", "exec", "a.img", "--steps", "4294967296"],
+        &["intermit", "exec", "a.img", "--steps", "+7"],
+        &["intermit", "exec", "a.img", "--steps", "07"],
+        &["intermit", "exec", "a.img", "--steps=-0"],
     ];
     for line in lines.as_slice() {
         let line = words(alloc, *line)?;

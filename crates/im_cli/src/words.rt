@@ -1,46 +1,16 @@
-ghost use Rattle.std.specs.Prelude.{◌≡◌, ◌≢◌, IfOk, IfErr, Some, None, map, option_map};
+ghost use Rattle.std.specs.Prelude.{◌≡◌, ◌≢◌, IfOk, IfErr, Some, None, map};
 ghost use Rattle.std.specs.String.{string_bytes};
-ghost use Rattle.clap.specs.Words.{first_of, found_of, kind_of, rows_of, subcommand_rows_of};
-ghost use Rattle.im_cli.specs.Named.{IsUsage, asked, asked_by, meaning, named, run_asked};
+ghost use Rattle.clap.specs.Words.{kind_of};
+ghost use Rattle.im_cli.specs.Named.{IsUsage, meaning, named};
 
+use crate::matched::matched_command;
 use crate::table::command_table;
 use crate::{Command, WordsFault};
-use clap::ArgMatches;
 use clap::error::ErrorKind;
 use std::alloc::Global;
 
-/// The value of the operand or option of this name, where the words give one.
-fn value_of<'a>(found: &ArgMatches<'a>, name: &str) -> Option<&'a str>
-    ensures { option_map (λ s. s.now) result ≡ first_of name.now (rows_of (found_of found.now)) }
-{
-    found.get_str(name)
-}
-
-fn run_command<'a>(found: &ArgMatches<'a>) -> Option<Command<'a>>
-    ensures { option_map meaning result ≡ run_asked (rows_of (found_of found.now)) }
-{
-    let source = value_of(found, "SRC")?;
-    let image = value_of(found, "IMG")?;
-    Some(Command::Run { source, image })
-}
-
-/// The command of this name, with what was found for the words after it.
-fn command_of<'a>(name: &str, found: &ArgMatches<'a>) -> Option<Command<'a>>
-    ensures { option_map meaning result ≡ asked_by name.now (rows_of (found_of found.now)) }
-{
-    match name {
-        "run" => run_command(found),
-        _ => None,
-    }
-}
-
-/// What the table's matches ask for.
-fn matched_command<'a>(matches: &ArgMatches<'a>) -> Option<Command<'a>>
-    ensures { option_map meaning result ≡ asked (subcommand_rows_of matches.now) }
-{
-    let (name, found) = matches.subcommand()?;
-    command_of(name, found)
-}
+/// What clap lets through and the table doesn't: a number with a sign or a zero before it.
+const NUMBER_FORM: &str = "error: a number has no sign and no zero before it\n";
 
 /// The fault of words that clap refuses: its text, or that memory ran out.
 fn refusal(alloc: Global, error: clap::Error) -> WordsFault
@@ -57,7 +27,7 @@ fn refusal(alloc: Global, error: clap::Error) -> WordsFault
 
 /// The command that the words name, the first of them being the program's own name.
 ///
-/// `Usage` is answered only where the table takes no such words.
+/// `Usage` is answered only where the words name none, or ask for help.
 pub fn read_words<'a>(alloc: Global, words: &'a [String]) -> Result<Command<'a>, WordsFault>
     ensures named { IfOk result (λ c. named (map string_bytes words.now) ≡ Some (meaning c)) }
     ensures refused { IfErr result (λ e. IsUsage e → named (map string_bytes words.now) ≡ None) }
@@ -66,7 +36,7 @@ pub fn read_words<'a>(alloc: Global, words: &'a [String]) -> Result<Command<'a>,
     match table.try_get_matches_from(words) {
         Ok(matches) => match matched_command(&matches) {
             Some(command) => Ok(command),
-            None => Err(WordsFault::Usage("intermit: no command\n".to_string(alloc)?)),
+            None => Err(WordsFault::Usage(NUMBER_FORM.to_string(alloc)?)),
         },
         Err(error) => Err(refusal(alloc, error)),
     }

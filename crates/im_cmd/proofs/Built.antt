@@ -1,14 +1,9 @@
 -- What is built of a program.
-use Rattle.std.proofs.Common.{◌≡◌, ◌≤◌, ◌<◌, ℕ, ◌+◌, ◌*◌, ◌^◌, List, [], length, refl, sym, ap, ◌∙◌, subst, arith}
-use Rattle.std.proofs.lemmas.List.Elements.{All-nil}
-use Rattle.im_rv.specs.declared.step.Went.TheVariants.{Halted}
-use Rattle.im_image.specs.Contents.{ImageValue, IsImage, ObjectValue}
-use Rattle.im_power.specs.Power.{Ended, powered}
-use Rattle.im_emu.specs.Load.{memory_of}
+use Rattle.std.proofs.Common.{◌≡◌, ℕ, ◌+◌, List, [], length, refl, arith}
+use Rattle.im_image.specs.Contents.{ImageValue, ObjectValue}
 use Rattle.im_cmd.specs.Source.{Printing, IsPrinting}
 use Rattle.im_cmd.specs.Compiled.{IsCompiled}
-use Rattle.im_cmd.specs.Keeps.{Keeps}
-use Rattle.im_cmd.specs.Answers.{IsBuilt, period_length}
+use Rattle.im_cmd.specs.Builds.{IsBuilt}
 use Rattle.im_cmd.proofs.Loading.{keeps, words_length}
 use Rattle.im_cmd.proofs.Compiling.{image_is}
 
@@ -27,11 +22,3 @@ is_built p i good c =
       gap_is = refl;
       size = omega (arith, count);
     }
-
--- the one period is long enough
-pub is_over : (p : Printing) (i : ImageValue) (gap : ℕ) (e : Ended) → IsBuilt p i gap → e ≡ powered period_length 0 (memory_of i []) → e.went ≡ Halted
-unfolding period_length
-is_over p i gap e built run =
-    let few = built.constants.few in
-    let short : built.keeps.steps ≤ 100000000 = omega (arith, built.keeps.within, built.gap_is, built.size, few) in
-    ap (λ (r : Ended). r.went) run ∙ (built.keeps.runs [] (All-nil (λ b. b < 256)) (omega arith) 100000000 0).halts short

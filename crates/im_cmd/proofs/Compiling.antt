@@ -1,16 +1,16 @@
 -- The code that is put together.
-use Rattle.std.proofs.Common.{◌≡◌, ℕ, zero, suc, ◌+◌, ◌*◌, ◌^◌, ◌<◌, ◌≤◌, true, List, [], ◌∷◌, ◌++◌, length, take, get_or, refl, sym, ap, ◌∙◌, subst, arith, lit<, lit≤}
-use Rattle.std.specs.Prelude.{slice_index, IsTrue, nat_le, ◌&&◌}
+use Rattle.std.proofs.Common.{◌≡◌, ℕ, zero, suc, ◌+◌, ◌*◌, ◌^◌, ◌<◌, ◌≤◌, true, List, [], ◌∷◌, ◌++◌, length, take, get_or, refl, sym, ap, ◌∙◌, subst, arith, lit<}
+use Rattle.std.specs.Prelude.{slice_index, nat_le, ◌&&◌}
 use Rattle.std.proofs.lemmas.Bool.Decides.{nat_tests}
 use Rattle.im_rv.specs.Decode.{Line}
 use Rattle.im_ckpt.specs.Recovery.{recovery_words}
 use Rattle.im_image.specs.Contents.{ImageValue, IsImage}
 use Rattle.im_cmd.specs.Source.{Printing, IsPrinting}
 use Rattle.im_cmd.specs.Straight.{lui, call_lines, calls_lines, return_lines, straight_lines}
-use Rattle.im_cmd.specs.Compiled.{Spells, IsCompiled}
+use Rattle.im_cmd.specs.Compiled.{StandFor, IsCompiled}
 use Rattle.im_cmd.proofs.Loading.{Words, both_words, spelt_words, recovery_fits, words_length}
 
-pub spells_both : (vs ws : List ℕ) (ks ls : List Line) → Spells vs ks → Spells ws ls → Spells (vs ++ ws) (ks ++ ls)
+pub spells_both : (vs ws : List ℕ) (ks ls : List Line) → StandFor vs ks → StandFor ws ls → StandFor (vs ++ ws) (ks ++ ls)
 spells_both [] ws [] ls a b = b
 spells_both [] ws (k ∷ ks) ls a b = absurd a
 spells_both (v ∷ vs) ws [] ls a b = absurd a
@@ -23,14 +23,14 @@ calls_next i (x ∷ xs) (suc k) l =
     let e : i + 1 + k ≡ i + suc k = omega arith in
     ap (λ t. call_lines i x ++ t) (calls_next (i + 1) xs k (omega arith) ∙ ap (λ z. calls_lines (i + 1) (take k xs) ++ call_lines z (get_or xs k 0)) e)
 
-pub one_more_call : (old call new : List ℕ) (xs : List ℕ) (k : ℕ) → k < length xs → new ≡ old ++ call → Spells old (lui 5 1024 ∷ calls_lines 0 (take k xs)) → Spells call (call_lines k (get_or xs k 0)) → Spells new (lui 5 1024 ∷ calls_lines 0 (take (k + 1) xs))
+pub one_more_call : (old call new : List ℕ) (xs : List ℕ) (k : ℕ) → k < length xs → new ≡ old ++ call → StandFor old (lui 5 1024 ∷ calls_lines 0 (take k xs)) → StandFor call (call_lines k (get_or xs k 0)) → StandFor new (lui 5 1024 ∷ calls_lines 0 (take (k + 1) xs))
 one_more_call old call new xs k l e a b =
     let q : suc k ≡ k + 1 = omega arith in
     let z : 0 + k ≡ k = omega arith in
     let joined = spells_both old call (lui 5 1024 ∷ calls_lines 0 (take k xs)) (call_lines k (get_or xs k 0)) a b in
     let lines : calls_lines 0 (take k xs) ++ call_lines k (get_or xs k 0) ≡ calls_lines 0 (take (k + 1) xs) =
     ap (λ n. calls_lines 0 (take k xs) ++ call_lines n (get_or xs k 0)) (sym z) ∙ sym (calls_next 0 xs k l) ∙ ap (λ n. calls_lines 0 (take n xs)) q in
-    subst (λ t. Spells new (lui 5 1024 ∷ t)) lines (subst (λ t. Spells t (lui 5 1024 ∷ (calls_lines 0 (take k xs) ++ call_lines k (get_or xs k 0)))) (sym e) joined)
+    subst (λ t. StandFor new (lui 5 1024 ∷ t)) lines (subst (λ t. StandFor t (lui 5 1024 ∷ (calls_lines 0 (take k xs) ++ call_lines k (get_or xs k 0)))) (sym e) joined)
 
 take_whole : (xs : List ℕ) (k : ℕ) → length xs ≤ k → take k xs ≡ xs
 take_whole [] zero l = refl
@@ -38,10 +38,10 @@ take_whole [] (suc k) l = refl
 take_whole (x ∷ xs) zero l = absurd (omega arith)
 take_whole (x ∷ xs) (suc k) l = ap (λ t. x ∷ t) (take_whole xs k (omega arith))
 
-pub with_return : (old end new xs : List ℕ) (k status : ℕ) → length xs ≤ k → new ≡ old ++ end → Spells old (lui 5 1024 ∷ calls_lines 0 (take k xs)) → Spells end (return_lines status) → Spells new (lui 5 1024 ∷ (calls_lines 0 xs ++ return_lines status))
+pub with_return : (old end new xs : List ℕ) (k status : ℕ) → length xs ≤ k → new ≡ old ++ end → StandFor old (lui 5 1024 ∷ calls_lines 0 (take k xs)) → StandFor end (return_lines status) → StandFor new (lui 5 1024 ∷ (calls_lines 0 xs ++ return_lines status))
 with_return old end new xs k status l e a b =
     let joined = spells_both old end (lui 5 1024 ∷ calls_lines 0 (take k xs)) (return_lines status) a b in
-    subst (λ t. Spells new (lui 5 1024 ∷ (calls_lines 0 t ++ return_lines status))) (take_whole xs k l) (subst (λ t. Spells t (lui 5 1024 ∷ (calls_lines 0 (take k xs) ++ return_lines status))) (sym e) joined)
+    subst (λ t. StandFor new (lui 5 1024 ∷ (calls_lines 0 t ++ return_lines status))) (take_whole xs k l) (subst (λ t. StandFor t (lui 5 1024 ∷ (calls_lines 0 (take k xs) ++ return_lines status))) (sym e) joined)
 
 word_at : (ws : List ℕ) → Words ws → (k : ℕ) → slice_index ws k < 2 ^ 32
 word_at [] h k = lit< tt
@@ -55,7 +55,7 @@ entry_ok : (n : ℕ) → 69 ≤ n → nat_le (4352 + 1) (4096 + 4 * n) ≡ true
 entry_ok n a = grind (arith, nat_tests)
 
 -- the image is one
-pub image_is : (p : Printing) (words code statics : List ℕ) → IsPrinting p → (i : ImageValue) → i ≡ record { words = words; statics = []; stack = 65536; out_cap = 1048576; entry = 4352; objects = [] } → words ≡ recovery_words ++ code → Spells code (straight_lines p) → IsImage i
+pub image_is : (p : Printing) (words code statics : List ℕ) → IsPrinting p → (i : ImageValue) → i ≡ record { words = words; statics = []; stack = 65536; out_cap = 1048576; entry = 4352; objects = [] } → words ≡ recovery_words ++ code → StandFor code (straight_lines p) → IsImage i
 image_is p words code statics good i e w s =
     let image : ImageValue = record { words = words; statics = []; stack = 65536; out_cap = 1048576; entry = 4352; objects = [] } in
     let c : IsCompiled p image = record { code = code; words = w; spelt = s; entry = refl; statics = refl; objects = refl; stack = refl; out_cap = refl } in

@@ -1,19 +1,13 @@
 -- The top call's answers, by the words.
-use Rattle.std.proofs.Common.{◌≡◌, ℕ, List, None, Bor, refl}
-use Rattle.im_cli.specs.declared.command.Command.{Command}
-use Rattle.im_cli.specs.declared.command.Command.TheVariants.{Run}
+use Rattle.std.proofs.Common.{◌≡◌, ℕ, List, None, refl}
 use Rattle.im_io.specs.Shelf.{ShelfState}
 use Rattle.im_io.specs.Sink.{SinkState}
 use Rattle.im_cli.specs.Named.{named, IsUsage}
 use Rattle.im_cli.specs.declared.fault.WordsFault.{WordsFault}
 use Rattle.im_cli.specs.declared.fault.WordsFault.TheVariants as fault
 use Rattle.im_cmd.specs.Answers.{Answers, usage, starved}
-use Rattle.im_cmd.specs.Refusals.{TellsFault}
+use Rattle.im_cmd.specs.Stages.{TellsFault}
 
 pub fault_answers : (words : List (List ℕ)) (f : WordsFault) (shelf : ShelfState) (out err err' : SinkState) (status : ℕ) → (IsUsage f → named words ≡ None) → TellsFault f err err' status → Answers words shelf shelf out out err err' status
-fault_answers words (fault.Usage text) shelf out err err' status unnamed told = usage (unnamed tt) told.0 refl refl told.1
+fault_answers words (fault.Usage text) shelf out err err' status unnamed told = usage told.1.0 (unnamed tt) told.0 refl refl told.1.1
 fault_answers words fault.OutOfMemory shelf out err err' status unnamed told = starved refl (record { answered = told.0; nothing = refl; line = told.1 })
-
--- each command is a run, so far
-pub run_of : (command : Command) → (source : Bor (List ℕ)) × ((image : Bor (List ℕ)) × (command ≡ Run source image))
-run_of (Run source image) = (source, (image, refl))

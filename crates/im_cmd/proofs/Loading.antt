@@ -1,26 +1,25 @@
 -- The first memory of a compiled image, and its run.
-use Rattle.std.proofs.Common.{◌≡◌, ◌≢◌, ℕ, zero, suc, ◌+◌, ◌-◌, ◌*◌, ◌/◌, ◌%◌, ◌^◌, ◌<◌, ◌≤◌, ◌⊎◌, inl, inr, true, cond, Some, List, [], ◌∷◌, ◌++◌, length, refl, sym, ap, ◌∙◌, subst, arith, rules, lit<, lit≤}
-use Rattle.std.specs.Prelude.{All, slice_index_or, ◌==◌}
+use Rattle.std.proofs.Common.{◌≡◌, ◌≢◌, ℕ, suc, ◌+◌, ◌-◌, ◌*◌, ◌%◌, ◌^◌, ◌<◌, ◌≤◌, ◌⊎◌, inl, inr, cond, List, [], ◌∷◌, ◌++◌, length, refl, sym, ap, ◌∙◌, subst, arith, rules}
+use Rattle.std.specs.Prelude.{All, ◌==◌}
 use Rattle.std.specs.List.{flat_map}
 use Rattle.std.proofs.lemmas.Bool.Decides.{nat_tests}
 use Rattle.std.proofs.lemmas.List.{length-append}
-use Rattle.im_num.specs.Bytes.{bytes_of, word_bytes}
-use Rattle.im_mem.specs.Memory.{Mem, little, bytes_from, written, zeroed}
-use Rattle.im_rv.specs.declared.step.Went.TheVariants.{On}
+use Rattle.im_num.specs.Bytes.{word_bytes}
+use Rattle.im_mem.specs.Memory.{Mem, little, written, zeroed}
 use Rattle.im_rv.specs.Steps.{Cpu}
-use Rattle.im_rv.specs.Decode.{Line, decode, step_of}
+use Rattle.im_rv.specs.Decode.{Line, decode}
 use Rattle.im_rv.specs.PowerUp.{boot}
-use Rattle.im_ckpt.specs.Recovery.{recovery_words, saved, Stands, Restored}
+use Rattle.im_ckpt.specs.Recovery.{recovery_words, saved, Stands}
 use Rattle.im_ckpt.proofs.Straight.{Backward, after}
 use Rattle.im_ckpt.proofs.Resume.{resume_0, resumed_0, resumed_0_restored}
 use Rattle.im_image.specs.Contents.{ImageValue}
 use Rattle.im_emu.specs.Load.{memory_of}
 use Rattle.im_emu.specs.Shows.{output_of}
-use Rattle.im_power.specs.Power.{powered, steps_of}
-use Rattle.im_cmd.specs.Source.{Printing, IsPrinting, output_meant, int_max}
+use Rattle.im_power.specs.Power.{powered}
+use Rattle.im_cmd.specs.Source.{Printing, IsPrinting, output_meant}
 use Rattle.im_cmd.specs.Straight.{straight_lines, return_lines}
-use Rattle.im_cmd.specs.Keeps.{Begins, Keeps, Runs_as}
-use Rattle.im_cmd.specs.Compiled.{Spells, IsCompiled}
+use Rattle.im_cmd.specs.Keeps.{Begins, Keeps, RunsAs}
+use Rattle.im_cmd.specs.Compiled.{StandFor, IsCompiled}
 use Rattle.im_cmd.proofs.Stores.{with_word, little_same, word_here}
 use Rattle.im_cmd.proofs.Walks.{Codes_at}
 use Rattle.im_cmd.proofs.Runs.{Fine, Shown, shown_output, fine_back, straight_fine, after_calls, calls_length, lines_length}
@@ -97,19 +96,19 @@ pub both_words : (xs ys : List ℕ) → Words xs → Words ys → Words (xs ++ y
 both_words [] ys a b = b
 both_words (x ∷ xs) ys a b = (a.0, both_words xs ys a.1 b)
 
-pub spelt_words : (ws : List ℕ) (ls : List Line) → Spells ws ls → Words ws
+pub spelt_words : (ws : List ℕ) (ls : List Line) → StandFor ws ls → Words ws
 spelt_words [] [] s = tt
 spelt_words [] (l ∷ ls) s = absurd s
 spelt_words (w ∷ ws) [] s = absurd s
 spelt_words (w ∷ ws) (l ∷ ls) s = (s.1, spelt_words ws ls s.2)
 
-spelt_length : (ws : List ℕ) (ls : List Line) → Spells ws ls → length ws ≡ length ls
+spelt_length : (ws : List ℕ) (ls : List Line) → StandFor ws ls → length ws ≡ length ls
 spelt_length [] [] s = refl
 spelt_length [] (l ∷ ls) s = absurd s
 spelt_length (w ∷ ws) [] s = absurd s
 spelt_length (w ∷ ws) (l ∷ ls) s = ap suc (spelt_length ws ls s.2)
 
-spelt_codes : (m : Mem) (a : ℕ) (ws : List ℕ) (ls : List Line) → Spells ws ls → Stands m a ws → Codes_at m a ls
+spelt_codes : (m : Mem) (a : ℕ) (ws : List ℕ) (ls : List Line) → StandFor ws ls → Stands m a ws → Codes_at m a ls
 spelt_codes m a [] [] s t = tt
 spelt_codes m a [] (l ∷ ls) s t = absurd s
 spelt_codes m a (w ∷ ws) [] s t = absurd s
@@ -234,5 +233,5 @@ keeps p image good c =
     record {
       steps = 4 * length p.written + 38;
       within = omega arith;
-      runs = λ input bytes room n junk. subst (λ z. Runs_as p z n (powered n junk (memory_of image input))) steps (loaded_fine p image good c input (all_small input bytes) junk k refl n);
+      runs = λ input bytes room n junk. subst (λ z. RunsAs p z n (powered n junk (memory_of image input))) steps (loaded_fine p image good c input (all_small input bytes) junk k refl n);
     }

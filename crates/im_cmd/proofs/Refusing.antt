@@ -1,63 +1,50 @@
--- Why a run is refused, by its parts.
-use Rattle.std.proofs.Common.{◌≡◌, ◌+◌, ℕ, take, ◌⊎◌, inl, inr, List, Result, Ok, Err, length, refl, sym, ap, ◌∙◌, [], subst}
-use Rattle.im_io.specs.Shelf.{Files, ShelfState, Told, WhereTold, SameCounts, WriteFaulted, SameFiles, with_file}
-use Rattle.im_io.specs.Whole.{HoldsFirst, HoldsText}
-use Rattle.im_io.proofs.Files.{told_then, same_counts, then_faulted}
-use Rattle.im_image.specs.Contents.{ImageValue}
-use Rattle.im_image.specs.Text.{image_text}
-use Rattle.im_cmd.specs.declared.refusal.Refusal.{Refusal}
-use Rattle.im_cmd.specs.declared.refusal.Refusal.TheVariants as refusal
-use Rattle.im_cmd.specs.Source.{Printing}
-use Rattle.im_cmd.specs.Answers.{IsBuilt, Compiles, HalfCompiles, Unwritable, Unaffordable, before, behind, Refuses, RunsSource, period_length}
-use Rattle.im_power.specs.Power.{Ended, powered}
-use Rattle.im_emu.specs.Load.{memory_of}
-use Rattle.im_cmd.proofs.Built.{is_over}
-use Rattle.im_cmd.specs.Refusals.{refused_of, HasProgram, HoldsPart, StoresImage}
+-- One stage after another: what both leave outside, and why the second is refused.
+use Rattle.std.proofs.Common.{ℕ, List, sym, ap, ◌∙◌, subst}
+use Rattle.im_io.specs.Counts.{Rose}
+use Rattle.im_io.specs.Shelf.{Files, ShelfState, Told, SameCounts, ReadFaulted, WasAbsent, SameFiles, NotThere}
+use Rattle.im_io.specs.Whole.{HasWhole, IsLonger}
+use Rattle.im_io.proofs.Files.{told_then, told_as, same_counts}
+use Rattle.im_cmd.specs.Files.{Unchanged, ReadsFile, Unreadable, failed, absent, IsOver}
 
-same_before : (source : List ℕ) (p : Printing) (x y z : Told) → HasProgram source p x y → SameFiles y z → SameFiles x z
-same_before source p x y z h k = record { files = k.files ∙ h.files }
+-- ---- what two calls leave
 
-part_before : (source name text : List ℕ) (p : Printing) (x y z : Told) → HasProgram source p x y → HoldsPart name text y z → HoldsPart name text x z
-part_before source name text p x y z h (inl k) = inl (same_before source p x y z h k)
-part_before source name text p x y z h (inr k) = inr (record { count = k.count; files = k.files ∙ ap (λ (f : Files). with_file f name (take k.count text)) h.files })
+same_files : (x y z : Told) → SameFiles x y → SameFiles y z → SameFiles x z
+same_files x y z h k = record { files = k.files ∙ h.files }
 
-half : (source name : List ℕ) (p : Printing) (image : ImageValue) (x y z : Told) → HasProgram source p x y → HoldsPart name (image_text image) y z → HalfCompiles source name p image x z
-half source name p image x y z h k = record { spelled = h.spelled; stored = part_before source name (image_text image) p x y z h k }
+pub unchanged_then : (a b c : ShelfState) → Unchanged a b → Unchanged b c → Unchanged a c
+unchanged_then a b c h k = record { counts = same_counts a b c h.counts k.counts; files = told_then SameFiles SameFiles SameFiles a.told b.told c.told same_files h.files k.files }
 
-whole : (source name : List ℕ) (p : Printing) (image : ImageValue) (x y z : Told) → HasProgram source p x y → HoldsText name (image_text image) y z → Compiles source name p image x z
-whole source name p image x y z h k = record { spelled = h.spelled; stored = record { files = k.files ∙ ap (λ (f : Files). with_file f name (image_text image)) h.files } }
+then_read_faulted : (a b c : ShelfState) → SameCounts a b → ReadFaulted b c → ReadFaulted a c
+then_read_faulted a b c h k = record {
+  read_faults = subst (λ n. Rose n c.read_faults) h.read_faults k.read_faults;
+  write_faults = k.write_faults ∙ h.write_faults;
+  absences = k.absences ∙ h.absences;
+}
 
-pub store_refused : (A : Type 0) (source name : List ℕ) (p : Printing) (image : ImageValue) (r : Refusal) (a b c : ShelfState) → IsBuilt p image (length image.words + 68) → SameCounts a b × WhereTold a.told b.told (HasProgram source p) → StoresImage {A = A} name (image_text image) (Err r) b c → Refuses (refused_of r) source name a c
-store_refused A source name p image (refusal.CannotWrite other) a b c built read h = (
-  h.0,
-  record {
-    program = p;
-    image = image;
-    built = built;
-    counts = then_faulted a b c read.0 h.1;
-    files = told_then (HasProgram source p) (HoldsPart name (image_text image)) (HalfCompiles source name p image) a.told b.told c.told (half source name p image) read.1 h.2;
-  },
-)
-store_refused A source name p image refusal.OutOfMemory a b c built read h =
-    before (same_counts a b c read.0 h.0) (told_then (HasProgram source p) SameFiles SameFiles a.told b.told c.told (same_before source p) read.1 h.1)
-store_refused A source name p image (refusal.CannotRead other) a b c built read h = absurd h
-store_refused A source name p image (refusal.SourceTooLong other) a b c built read h = absurd h
-store_refused A source name p image (refusal.NotCompiled other) a b c built read h = absurd h
+then_absent : (a b c : ShelfState) → SameCounts a b → WasAbsent b c → WasAbsent a c
+then_absent a b c h k = record {
+  read_faults = k.read_faults ∙ h.read_faults;
+  write_faults = k.write_faults ∙ h.write_faults;
+  absences = subst (λ n. Rose n c.absences) h.absences k.absences;
+}
 
-pub starved_behind : (A : Type 0) (source name : List ℕ) (p : Printing) (image : ImageValue) (u : A) (a b c : ShelfState) → IsBuilt p image (length image.words + 68) → SameCounts a b × WhereTold a.told b.told (HasProgram source p) → StoresImage {A = A} name (image_text image) (Ok u) b c → Unaffordable source name a c
-starved_behind A source name p image u a b c built read h =
-    behind p image built (same_counts a b c read.0 h.0)
-    (told_then (HasProgram source p) (HoldsText name (image_text image)) (Compiles source name p image) a.told b.told c.told (whole source name p image) read.1 h.1)
+not_there : (name : List ℕ) (x y z : Told) → SameFiles x y → NotThere name y z → NotThere name x z
+not_there name x y z h k = record { files = k.files ∙ h.files; absent = ap (λ (f : Files). f name) (sym h.files) ∙ k.absent }
 
-pub runs_source : (A : Type 0) (source name : List ℕ) (p : Printing) (image : ImageValue) (u : A) (gap : ℕ) (e : Ended) (a b c : ShelfState) → IsBuilt p image (length image.words + 68) → gap ≡ length image.words + 68
-    → SameCounts a b × WhereTold a.told b.told (HasProgram source p) → StoresImage {A = A} name (image_text image) (Ok u) b c → e ≡ powered period_length 0 (memory_of image []) → RunsSource source name image gap e a c
-runs_source A source name p image u gap e a b c built is read h run =
-    let whole_gap : IsBuilt p image gap = subst (IsBuilt p image) (sym is) built in
-    record {
-      program = p;
-      built = whole_gap;
-      counts = same_counts a b c read.0 h.0;
-      files = told_then (HasProgram source p) (HoldsText name (image_text image)) (Compiles source name p image) a.told b.told c.told (whole source name p image) read.1 h.1;
-      run = run;
-      halted = is_over p image gap e whole_gap run;
-    }
+pub unreadable_then : (name : List ℕ) (a b c : ShelfState) → Unchanged a b → Unreadable name b c → Unreadable name a c
+unreadable_then name a b c h (failed counts files) = failed (then_read_faulted a b c h.counts counts) (told_then SameFiles SameFiles SameFiles a.told b.told c.told same_files h.files files)
+unreadable_then name a b c h (absent counts files) = absent (then_absent a b c h.counts counts) (told_then SameFiles (NotThere name) (NotThere name) a.told b.told c.told (not_there name) h.files files)
+
+longer : (name : List ℕ) (limit : ℕ) (x y z : Told) → SameFiles x y → IsLonger name limit y z → IsLonger name limit x z
+longer name limit x y z h k = record { files = k.files ∙ h.files; bytes = k.bytes; whole = ap (λ (f : Files). f name) (sym h.files) ∙ k.whole; longer = k.longer; stopped = k.stopped }
+
+pub over_then : (name : List ℕ) (limit : ℕ) (a b c : ShelfState) → Unchanged a b → IsOver name limit b c → IsOver name limit a c
+over_then name limit a b c h k = record { counts = same_counts a b c h.counts k.counts; files = told_then SameFiles (IsLonger name limit) (IsLonger name limit) a.told b.told c.told (longer name limit) h.files k.files }
+
+-- ---- a file that was read
+
+same_whole : (name bytes : List ℕ) (limit : ℕ) (x y : Told) → HasWhole name bytes limit x y → SameFiles x y
+same_whole name bytes limit x y h = record { files = h.files }
+
+pub unchanged_read : (name bytes : List ℕ) (limit : ℕ) (a b : ShelfState) → ReadsFile name bytes limit a b → Unchanged a b
+unchanged_read name bytes limit a b h = record { counts = h.counts; files = told_as (HasWhole name bytes limit) SameFiles a.told b.told (same_whole name bytes limit) h.files }

@@ -1,27 +1,26 @@
 -- The straight code runs as its program.
-use Rattle.std.proofs.Common.{◌≡◌, ◌≢◌, ℕ, zero, suc, ◌+◌, ◌-◌, ◌*◌, ◌/◌, ◌%◌, ◌^◌, ◌<◌, ◌≤◌, ◌⊎◌, inl, inr, Bool, true, false, cond, List, [], ◌∷◌, ◌++◌, length, map, min, refl, sym, ap, ◌∙◌, subst, append_assoc, arith}
-use Rattle.std.specs.Prelude.{ℤ, pos, ◌==◌, nat_lt, nat_le}
+use Rattle.std.proofs.Common.{◌≡◌, ◌≢◌, ℕ, zero, suc, ◌+◌, ◌*◌, ◌%◌, ◌^◌, ◌<◌, ◌≤◌, ◌⊎◌, inl, inr, true, cond, List, [], ◌∷◌, ◌++◌, length, map, min, refl, sym, ap, ◌∙◌, subst, append_assoc, arith}
+use Rattle.std.specs.Prelude.{pos, ◌==◌}
 use Rattle.std.specs.Int.{cast_signed, w32}
 use Rattle.std.proofs.lemmas.Bool.Decides.{nat_tests}
 use Rattle.std.proofs.lemmas.List.{append-nil}
-use Rattle.im_rv.specs.declared.step.Went.{Went}
-use Rattle.im_rv.specs.declared.step.Went.TheVariants.{On, Halted, Faulted}
+use Rattle.im_rv.specs.declared.step.Went.TheVariants.{On, Halted}
 use Rattle.im_mem.specs.Memory.{Mem, little, bytes_from, is_place}
-use Rattle.im_rv.specs.Steps.{Cpu, Stepped, sum_of, with_reg, signed_bits}
+use Rattle.im_rv.specs.Steps.{Cpu, Stepped, sum_of, with_reg}
 use Rattle.im_rv.specs.Decode.{Line, step_of}
 use Rattle.im_emu.specs.Shows.{output_of, status_of, reason_of}
 use Rattle.im_power.specs.Power.{Ended, at_rest, ahead, and_then, one_step, index_changes, steps_of}
 use Rattle.im_cmd.specs.Source.{Printing, output_meant, status_meant, int_max}
-use Rattle.im_cmd.specs.Straight.{addi, lui, sb, sw, ebreak, call_lines, calls_lines, return_lines, straight_lines, upper_part, lower_part}
-use Rattle.im_cmd.specs.Keeps.{Begins, Runs_as}
+use Rattle.im_cmd.specs.Straight.{addi, sw, ebreak, calls_lines, return_lines, straight_lines, upper_part, lower_part}
+use Rattle.im_cmd.specs.Keeps.{Begins, RunsAs}
 use Rattle.im_cmd.proofs.Stores.{with_byte, with_word, little_same, bytes_same, bytes_one_more, byte_other, byte_here, word_other, word_here}
 use Rattle.im_cmd.proofs.Walks.{Codes_at, SameCode, codes_kept, IsCode, addi_step, lui_step, sb_step, sw_step, ebreak_step}
 
 -- from here the program ends after k more steps
 abbrev pub Fine : Printing → ℕ → Cpu → Mem → Type 0
-Fine p k c m = (n : ℕ) → Runs_as p k n (steps_of n c m)
+Fine p k c m = (n : ℕ) → RunsAs p k n (steps_of n c m)
 
-rested : (p : Printing) (k : ℕ) (m : Mem) → 0 < k → Begins (output_of m) (output_meant p) → Runs_as p k 0 (at_rest m)
+rested : (p : Printing) (k : ℕ) (m : Mem) → 0 < k → Begins (output_of m) (output_meant p) → RunsAs p k 0 (at_rest m)
 rested p k m l b = record {
   safe = λ at e. cc;
   begins = b;
@@ -40,7 +39,7 @@ no_change m m' e = unchanged (little m 0 4) (little m' 0 4) e
     unchanged : (a b : ℕ) → a ≡ b → let d : ℕ = cond (a == b) 0 1 in d ≡ 0
     unchanged a b e = grind (arith, nat_tests)
 
-later : (p : Printing) (k n : ℕ) (m m' : Mem) (e : Ended) → little m 0 4 ≡ little m' 0 4 → Runs_as p k n e → Runs_as p (suc k) (suc n) (ahead 1 (index_changes m m') e)
+later : (p : Printing) (k n : ℕ) (m m' : Mem) (e : Ended) → little m 0 4 ≡ little m' 0 4 → RunsAs p k n e → RunsAs p (suc k) (suc n) (ahead 1 (index_changes m m') e)
 later p k n m m' e same r = record {
   safe = r.safe;
   begins = r.begins;
@@ -56,9 +55,9 @@ later p k n m m' e same r = record {
 pub fine_back : (p : Printing) (k : ℕ) (c d : Cpu) (m m' : Mem) → step_of c m ≡ record { went = On; cpu = d; mem = m' } → Begins (output_of m) (output_meant p) → little m 0 4 ≡ little m' 0 4 → Fine p k d m' → Fine p (suc k) c m
 fine_back p k c d m m' e b same f zero = rested p (suc k) m (omega arith) b
 fine_back p k c d m m' e b same f (suc n) =
-    subst (λ z. Runs_as p (suc k) (suc n) z) (sym (ap (λ (s : Stepped). and_then (one_step m s) (steps_of n s.cpu)) e)) (later p k n m m' (steps_of n d m') same (f n))
+    subst (λ z. RunsAs p (suc k) (suc n) z) (sym (ap (λ (s : Stepped). and_then (one_step m s) (steps_of n s.cpu)) e)) (later p k n m m' (steps_of n d m') same (f n))
 
-over : (p : Printing) (n : ℕ) (m : Mem) → output_of m ≡ output_meant p → status_of m ≡ status_meant p → reason_of m ≡ 0 → Runs_as p 1 (suc n) (record { went = Halted; mem = m; steps = 1; commits = index_changes m m })
+over : (p : Printing) (n : ℕ) (m : Mem) → output_of m ≡ output_meant p → status_of m ≡ status_meant p → reason_of m ≡ 0 → RunsAs p 1 (suc n) (record { went = Halted; mem = m; steps = 1; commits = index_changes m m })
 over p n m o s r = record {
   safe = λ at e. cc;
   begins = ([], sym o ∙ sym (append-nil (output_of m)));
@@ -74,7 +73,7 @@ over p n m o s r = record {
 pub fine_halt : (p : Printing) (c d : Cpu) (m : Mem) → step_of c m ≡ record { went = Halted; cpu = d; mem = m } → output_of m ≡ output_meant p → status_of m ≡ status_meant p → reason_of m ≡ 0 → Fine p 1 c m
 fine_halt p c d m e o s r zero = rested p 1 m (omega arith) ([], sym o ∙ sym (append-nil (output_of m)))
 fine_halt p c d m e o s r (suc n) =
-    subst (λ z. Runs_as p 1 (suc n) z) (sym (ap (λ (s : Stepped). and_then (one_step m s) (steps_of n s.cpu)) e)) (over p n m o s r)
+    subst (λ z. RunsAs p 1 (suc n) z) (sym (ap (λ (s : Stepped). and_then (one_step m s) (steps_of n s.cpu)) e)) (over p n m o s r)
 
 -- i calls are done, and this is their output
 pub record Shown (m : Mem) (i : ℕ) (done : List ℕ) : Type 0 where

@@ -1,10 +1,10 @@
 -- Steps of straight code.
-use Rattle.std.proofs.Common.{◌≡◌, ◌≢◌, ℕ, zero, suc, ◌+◌, ◌*◌, ◌%◌, ◌^◌, ◌<◌, ◌≤◌, ◌⊎◌, inl, inr, Bool, true, false, cond, Some, None, List, [], ◌∷◌, ◌++◌, length, refl, sym, ap, ◌∙◌, subst, arith}
+use Rattle.std.proofs.Common.{◌≡◌, ℕ, ◌+◌, ◌*◌, ◌%◌, ◌^◌, ◌<◌, ◌≤◌, true, cond, Some, None, List, [], ◌∷◌, length, sym, ap, ◌∙◌, arith}
 use Rattle.std.proofs.lemmas.Bool.Decides.{nat_tests}
 use Rattle.std.specs.Prelude.{◌==◌, nat_le, ◌&&◌}
 use Rattle.im_rv.specs.declared.step.Went.TheVariants.{On, Halted}
-use Rattle.im_mem.specs.Memory.{Mem, little, loaded, is_place, stored}
-use Rattle.im_rv.specs.Steps.{Cpu, Stepped, sum_of, with_reg, faulted, done_by}
+use Rattle.im_mem.specs.Memory.{Mem, little, is_place, stored}
+use Rattle.im_rv.specs.Steps.{Cpu, sum_of, with_reg, faulted, done_by}
 use Rattle.im_rv.specs.Decode.{Line, decode, decoded, fetched, step_of}
 use Rattle.im_cmd.specs.Straight.{addi, lui, sb, sw, ebreak}
 use Rattle.im_cmd.proofs.Stores.{with_byte, with_word, little_same}

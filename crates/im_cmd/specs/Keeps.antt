@@ -1,6 +1,5 @@
 -- What an image keeps of a program.
 use Rattle.std.specs.Prelude.{◌≡◌, ℕ, ◌<◌, ◌≤◌, List, ◌++◌, length, All}
-use Rattle.im_rv.specs.declared.step.Went.{Went}
 use Rattle.im_rv.specs.declared.step.Went.TheVariants.{On, Halted, Faulted}
 use Rattle.im_image.specs.Contents.{ImageValue}
 use Rattle.im_emu.specs.Load.{memory_of}
@@ -12,9 +11,9 @@ use Rattle.im_cmd.specs.Source.{Printing, output_meant, status_meant}
 abbrev pub Begins : List ℕ → List ℕ → Type 0
 Begins front whole = (rest : List ℕ) × (whole ≡ front ++ rest)
 
--- a run of n instructions that the program ends after so many: no fault, what is written begins what the
+-- a run of n instructions of a program that takes so many steps: no fault, what is written begins what the
 -- program writes, and where the run halts it is the program's output, status and reason 0
-pub record Runs_as (p : Printing) (steps n : ℕ) (e : Ended) : Type 0 where
+pub record RunsAs (p : Printing) (steps n : ℕ) (e : Ended) : Type 0 where
   pub safe : (at : ℕ) → e.went ≡ Faulted at → ⊥
   pub begins : Begins (output_of e.mem) (output_meant p)
   pub on : n < steps → e.went ≡ On
@@ -30,4 +29,4 @@ pub record Runs_as (p : Printing) (steps n : ℕ) (e : Ended) : Type 0 where
 pub record Keeps (p : Printing) (image : ImageValue) (gap : ℕ) : Type 0 where
   pub steps : ℕ
   pub within : steps ≤ gap
-  pub runs : (input : List ℕ) → All (λ b. b < 256) input → length input ≤ 1048576 → (n junk : ℕ) → Runs_as p steps n (powered n junk (memory_of image input))
+  pub runs : (input : List ℕ) → All (λ b. b < 256) input → length input ≤ 1048576 → (n junk : ℕ) → RunsAs p steps n (powered n junk (memory_of image input))

@@ -1,10 +1,12 @@
 pub mod Source
 pub mod Reading
 pub mod Straight
+pub mod Compiled
 pub mod Keeps
-pub mod Lines
+pub mod Files
+pub mod Builds
+pub mod Images
+pub mod Runs
 pub mod Outcome
 pub mod Answers
-pub mod Refusals
-pub mod Machines
-pub mod Compiled
+pub mod Stages

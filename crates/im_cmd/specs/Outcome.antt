@@ -1,41 +1,68 @@
 -- How a command ends, and what is then printed.
-use Rattle.std.specs.Prelude.{◌≡◌, ℕ, ◌+◌, List, [], ◌∷◌, ◌++◌, length, codes, decimal}
-use Rattle.im_image.specs.Contents.{ImageValue}
+use Rattle.std.specs.Prelude.{◌≡◌, ℕ, Bool, true, false, Option, Some, None, List, [], ◌++◌, length, codes}
+use Rattle.im_mem.specs.Memory.{Mem}
+use Rattle.im_image.specs.Contents.{ImageValue, ObjectValue}
 use Rattle.im_power.specs.Power.{Ended}
-use Rattle.im_emu.specs.Shows.{output_of, status_of}
+use Rattle.im_emu.specs.Shows.{output_of, status_of, reason_of}
+use Rattle.im_emu.specs.Variables.{Variable, vars_of}
 use Rattle.im_io.specs.Sink.{SinkState}
 use Rattle.im_io.specs.Whole.{SentAll, SentFirst}
-use Rattle.im_cmd.specs.Lines.{build_lines, run_lines}
+use Rattle.im_lines.specs.declared.ending.Ending.{Ending}
+use Rattle.im_lines.specs.declared.ending.Ending.TheVariants.{Returned, StackExhausted, OutOfPower, MachineFault}
+use Rattle.im_lines.specs.Builds.{build_lines}
+use Rattle.im_lines.specs.Runs.{ending_of, run_lines}
+use Rattle.im_lines.specs.Variables.{variable_lines}
+use Rattle.im_lines.specs.Refusals.{Refused, CannotRead, SourceTooLong, NotCompiled, NotAnImage, CannotWrite, InputTooLong, FileTooLong, NotATrace, NoMemory, refusal_line}
 
--- a command that isn't carried out, with the name of the file that is its cause
-pub data Refused : Type 0 where
-  CannotRead : List ℕ → Refused
-  SourceTooLong : List ℕ → Refused
-  NotCompiled : List ℕ → Refused
-  CannotWrite : List ℕ → Refused
-  NoMemory : Refused
+-- ---- exit statuses
 
-abbrev pub exit_status : Refused → ℕ
-exit_status (CannotRead name) = 7
-exit_status (SourceTooLong name) = 3
-exit_status (NotCompiled name) = 3
-exit_status (CannotWrite name) = 8
-exit_status NoMemory = 9
+abbrev pub refusal_status : Refused → ℕ
+refusal_status (CannotRead name) = 7
+refusal_status (SourceTooLong name) = 3
+refusal_status (NotCompiled name) = 3
+refusal_status (NotAnImage name fault) = 5
+refusal_status (CannotWrite name) = 8
+refusal_status (InputTooLong count limit) = 13
+refusal_status (FileTooLong name limit) = 14
+refusal_status (NotATrace name fault) = 6
+refusal_status NoMemory = 9
 
-abbrev pub refusal_line : Refused → List ℕ
-refusal_line (CannotRead name) = codes "intermit: cannot read " ++ name ++ codes "\n"
-refusal_line (SourceTooLong name) = codes "intermit: " ++ name ++ codes ": source 4194305 over 4194304\n"
-refusal_line (NotCompiled name) = codes "intermit: " ++ name ++ codes ": not yet compiled\n"
-refusal_line (CannotWrite name) = codes "intermit: cannot write " ++ name ++ codes "\n"
-refusal_line NoMemory = codes "intermit: no memory\n"
+abbrev pub ending_status : Ending → ℕ
+ending_status Returned = 0
+ending_status StackExhausted = 1
+ending_status OutOfPower = 4
+ending_status (MachineFault at) = 10
 
--- the line of a run whose output can't be written
+abbrev pub ending : Ended → Ending
+ending ended = ending_of ended.went (reason_of ended.mem)
+
+-- ---- texts
+
+-- the line of a command whose output can't be written
 abbrev pub no_output_line : List ℕ
 no_output_line = codes "intermit: cannot write output\n"
 
--- what a run leaves on the second stream: of the image, and of the run
-abbrev pub report_of : ImageValue → ℕ → Ended → List ℕ
-report_of image gap ended = build_lines (length image.words) gap ++ run_lines (status_of ended.mem) ended.commits ended.steps
+-- the variables, where they are to be shown
+abbrev pub shown : Bool → List ObjectValue → Mem → Option (List Variable)
+shown true objects mem = Some (vars_of objects mem)
+shown false objects mem = None
+
+abbrev pub shown_lines : ImageValue → Option (List Variable) → List ℕ
+shown_lines image None = []
+shown_lines image (Some variables) = variable_lines image.objects variables
+
+-- how a run ended, with these variables
+abbrev pub run_report : ImageValue → Ended → Option (List Variable) → List ℕ
+run_report image ended variables = run_lines (ending ended) (status_of ended.mem) ended.commits ended.steps ++ shown_lines image variables
+
+-- the lines of the build before it, where the image was built by the same command; given is its gap
+abbrev pub report_with : Option ℕ → ImageValue → Ended → Option (List Variable) → List ℕ
+report_with None image ended variables = run_report image ended variables
+report_with (Some gap) image ended variables = build_lines (length image.words) gap ++ run_report image ended variables
+
+-- what a run leaves on the second sink
+abbrev pub report : Option ℕ → Bool → ImageValue → Ended → List ℕ
+report gap vars image ended = report_with gap image ended (shown vars image.objects ended.mem)
 
 -- ---- what a sink got of a text: the whole, or the first bytes where its count of faults rose
 
@@ -47,13 +74,18 @@ pub data Got (text : List ℕ) (old new : SinkState) : Type 0 where
 
 -- a refusal's line goes to the second sink, and nothing to the first
 pub record TellsRefusal (refused : Refused) (out out' err err' : SinkState) (status : ℕ) : Type 0 where
-  pub answered : status ≡ exit_status refused
+  pub answered : status ≡ refusal_status refused
   pub nothing : out' ≡ out
   pub line : Got (refusal_line refused) err err'
 
+-- a text goes to the first sink; where that refuses, the status is 8, and the second sink gets the line that says so
+pub data TellsText (text : List ℕ) (out out' err err' : SinkState) : ℕ → Type 0 where
+  text_told : SentAll text out out' → err' ≡ err → TellsText text out out' err err' 0
+  text_cut : SentFirst text out out' → Got no_output_line err err' → TellsText text out out' err err' 8
+
 -- the output goes to the first sink and the report to the second; a sink that refuses turns the status into 8, and one
 -- that refuses output has its own line on the second in the report's place
-pub data TellsRun (image : ImageValue) (gap : ℕ) (ended : Ended) (out out' err err' : SinkState) : ℕ → Type 0 where
-  told : SentAll (output_of ended.mem) out out' → SentAll (report_of image gap ended) err err' → TellsRun image gap ended out out' err err' 0
-  report_cut : SentAll (output_of ended.mem) out out' → SentFirst (report_of image gap ended) err err' → TellsRun image gap ended out out' err err' 8
-  output_cut : SentFirst (output_of ended.mem) out out' → Got no_output_line err err' → TellsRun image gap ended out out' err err' 8
+pub data TellsRun (lines : List ℕ) (ended : Ended) (out out' err err' : SinkState) : ℕ → Type 0 where
+  told : SentAll (output_of ended.mem) out out' → SentAll lines err err' → TellsRun lines ended out out' err err' (ending_status (ending ended))
+  report_cut : SentAll (output_of ended.mem) out out' → SentFirst lines err err' → TellsRun lines ended out out' err err' 8
+  output_cut : SentFirst (output_of ended.mem) out out' → Got no_output_line err err' → TellsRun lines ended out out' err err' 8

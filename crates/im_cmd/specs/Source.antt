@@ -1,5 +1,5 @@
 -- Sources of one form: a main function that writes given characters and returns a given status.
-use Rattle.std.specs.Prelude.{◌≡◌, ℕ, ℤ, pos, ◌%◌, ◌^◌, ◌<◌, ◌≤◌, ◌⊎◌, List, [], ◌∷◌, ◌++◌, map, length, All, codes}
+use Rattle.std.specs.Prelude.{◌≡◌, ℕ, ℤ, pos, ◌%◌, ◌≤◌, ◌⊎◌, List, [], ◌∷◌, ◌++◌, map, length, All, codes}
 use Rattle.std.specs.Fmt.{decimal}
 
 -- what a source writes, an argument of putchar after the other, and what it returns

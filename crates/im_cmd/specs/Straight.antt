@@ -1,7 +1,6 @@
 -- The straight code of a program: register x5 has the output's address, each call stores its byte and then
 -- the output's length, and the status is stored before the halt.
-use Rattle.std.specs.Prelude.{ℕ, ◌+◌, ◌-◌, ◌*◌, ◌/◌, ◌%◌, cond, nat_lt, List, [], ◌∷◌, ◌++◌}
-use Rattle.im_rv.specs.declared.instr.Op.{Op}
+use Rattle.std.specs.Prelude.{ℕ, ◌+◌, ◌/◌, ◌%◌, List, [], ◌∷◌, ◌++◌}
 use Rattle.im_rv.specs.declared.instr.Op.TheVariants.{Lui, Addi, Sb, Sw, Ebreak}
 use Rattle.im_rv.specs.Decode.{Line}
 use Rattle.im_rv.specs.Steps.{signed_bits}

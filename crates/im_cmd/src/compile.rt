@@ -1,8 +1,8 @@
 ghost use Rattle.std.specs.Prelude.{◌≡◌, ◌≤◌, ◌+◌, ◌*◌, ◌++◌, ◌∷◌, [], IfOk, OnOk, length};
 ghost use Rattle.im_cmd.specs.Source.{IsPrinting, most_calls, int_max};
 ghost use Rattle.im_cmd.specs.Straight.{straight_lines};
-ghost use Rattle.im_cmd.specs.Compiled.{Spells, IsCompiled};
-ghost use Rattle.im_cmd.specs.Answers.{IsBuilt};
+ghost use Rattle.im_cmd.specs.Compiled.{StandFor, IsCompiled};
+ghost use Rattle.im_cmd.specs.Builds.{IsBuilt};
 
 use crate::source::Program;
 use crate::straight::{base_word, call_words, return_words};
@@ -23,7 +23,7 @@ const ENTRY: u32 = 0x1100;
 fn straight_code(alloc: Global, written: &[u32], status: u32) -> Result<Vec<u32>, NoMemory>
     requires few { length written.now ≤ most_calls }
     requires status { status ≤ int_max }
-    ensures { IfOk result (λ code. Spells code.items (straight_lines (record { written = written.now; status = status }))) }
+    ensures { IfOk result (λ code. StandFor code.items (straight_lines (record { written = written.now; status = status }))) }
 {
     let mut code = Vec::new(alloc);
     code.push(base_word())?;

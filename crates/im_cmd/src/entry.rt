@@ -1,28 +1,36 @@
 ghost use Rattle.std.specs.Prelude.{map};
 ghost use Rattle.std.specs.String.{string_bytes};
 ghost use Rattle.im_cli.specs.Named.{meaning};
-ghost use Rattle.im_cmd.specs.Refusals.{TellsFault};
-ghost use Rattle.im_cmd.specs.Answers.{Answers, CarriesOut, RunAnswers};
+ghost use Rattle.im_cmd.specs.Stages.{TellsFault};
+ghost use Rattle.im_cmd.specs.Answers.{Answers, CarriesOut};
 
-use crate::refusal::Refusal;
-use crate::running::run_source;
-use crate::telling::{USAGE, tell_refusal, tell_run};
+use crate::commands::{build_source, dump, execute, run_source};
+use crate::status::USAGE;
+use crate::telling::tell_refusal;
 use im_cli::{Command, WordsFault, read_words};
 use im_io::{Shelf, Sink, send};
+use im_lines::Refusal;
 use std::alloc::Global;
 
 /// Carries out the command that the words name, the first of them being the program's own name, and
-/// gives the exit status. Files are the shelf's; `out` gets a run's output, and `err` the lines about
-/// the build and the run, or the line of a refusal.
+/// gives the exit status. Files are the shelf's; `out` gets what the command is for, and `err` the
+/// lines about a build and a run beside it, or the line of a refusal.
 ///
 /// | Status | Comes |
 /// |---|---|
-/// | 0 | the run halted, and all was written |
-/// | 2 | the words name no command |
+/// | 0 | all was done; a run halted, and not for want of stack |
+/// | 1 | a run halted for want of stack |
+/// | 2 | the words name no command, or ask for help |
 /// | 3 | the source is longer than 4194304 bytes, or isn't of the form that is compiled |
-/// | 7 | the source can't be read |
+/// | 4 | a run neither halted nor faulted in the periods of power that it had |
+/// | 5 | the file that is to be run or shown holds no image |
+/// | 6 | the text of the trace's file is no trace's |
+/// | 7 | a file can't be read |
 /// | 8 | the image, the output or the report can't be written |
 /// | 9 | memory ran out |
+/// | 10 | a run ended by a machine fault |
+/// | 13 | the input is longer than 1048576 bytes |
+/// | 14 | another file is longer than files of its kind may be |
 pub fn top<H: Shelf, O: Sink, E: Sink>(
     alloc: Global,
     words: &[String],
@@ -60,22 +68,13 @@ fn carry_out<H: Shelf, O: Sink, E: Sink>(
     ensures { CarriesOut (meaning command.entry) (H.state shelf.old) (H.state shelf.new) (O.state out.old) (O.state out.new) (E.state err.old) (E.state err.new) result }
 {
     match command {
-        Command::Run { source, image } => run(alloc, shelf, out, err, source, image),
-    }
-}
-
-fn run<H: Shelf, O: Sink, E: Sink>(
-    alloc: Global,
-    shelf: &mut H,
-    out: &mut O,
-    err: &mut E,
-    source: &str,
-    image: &str,
-) -> u8
-    ensures { RunAnswers source.now image.now (H.state shelf.old) (H.state shelf.new) (O.state out.old) (O.state out.new) (E.state err.old) (E.state err.new) result }
-{
-    match run_source(alloc, shelf, source, image) {
-        Ok(run) => tell_run(out, err, &run),
-        Err(refusal) => tell_refusal(err, &refusal),
+        Command::Build { source, image } => build_source(alloc, shelf, out, err, source, image),
+        Command::Run {
+            source,
+            image,
+            options,
+        } => run_source(alloc, shelf, out, err, source, image, options),
+        Command::Exec { image, options } => execute(alloc, shelf, out, err, image, options),
+        Command::Dump { image } => dump(alloc, shelf, out, err, image),
     }
 }

@@ -1,135 +1,157 @@
-ghost use Rattle.std.specs.Prelude.{◌≡◌, ◌+◌, ◌≤◌, ◌*◌, [], length, IfOk, MatchResult};
-ghost use Rattle.im_image.specs.Text.{image_text};
-ghost use Rattle.im_io.specs.Shelf.{SameCounts, WhereTold};
-ghost use Rattle.im_emu.specs.State.{fresh, state_of, after};
-ghost use Rattle.im_cmd.specs.Answers.{IsBuilt, Refuses, RunsSource, period_length};
-ghost use Rattle.im_cmd.specs.Refusals.{refused_of, ReadsProgram, StoresImage};
-ghost use Rattle.im_power.specs.Power.{powered};
-ghost use Rattle.im_emu.specs.Load.{memory_of};
-ghost use Rattle.im_cmd.specs.Machines.{ended_of};
+ghost use Rattle.std.specs.Prelude.{◌≡◌, ◌∷◌, [], IfOk, MatchResult};
+ghost use Rattle.im_mem.specs.Memory.{view};
+ghost use Rattle.im_cli.specs.Named.{options_meaning};
+ghost use Rattle.im_lines.specs.Refusals.{refused_of};
+ghost use Rattle.im_cmd.specs.Runs.{RefusesRun};
+ghost use Rattle.im_cmd.specs.Outcome.{shown};
+ghost use Rattle.im_cmd.specs.Stages.{ended_of, variables_of, ReadsInput, RefusesInput, Loads, RefusesLoad, ReadsTrace, RefusesTrace, ReadsPeriods, RefusesPeriods, Ran};
 
-use crate::compile::compile;
-use crate::refusal::Refusal;
-use crate::source::{Program, read_program};
+use crate::files::read_file;
+use im_cli::RunOptions;
 use im_emu::{LoadFault, Machine};
-use im_image::{Image, write_image};
-use im_io::{ReadFault, Shelf, read_whole, store};
+use im_image::Image;
+use im_io::Shelf;
+use im_lines::Refusal;
 use im_mem::FlatMem;
-use im_num::NoMemory;
-use im_power::Period;
+use im_num::{NoMemory, Var};
+use im_power::{Period, Trace, TraceFault, read_trace};
 use std::alloc::Global;
 
-/// Bytes of a source.
-const SOURCE_LIMIT: u64 = 4 * 1024 * 1024;
+/// Bytes of an input's or a trace's file.
+const RUN_FILE_LIMIT: u64 = 16 * 1024 * 1024;
 
-/// Instructions of the one period of a run.
-const PERIOD_LENGTH: u32 = 100_000_000;
-
-#[tactic(auto, unfolding(crate::specs::Answers::period_length))]
-fn one_period() -> Period
-    ensures { result ≡ record { n = period_length; junk = 0; count = 1 } }
-{
-    Period {
-        n: PERIOD_LENGTH,
-        junk: 0,
-        count: 1,
-    }
-}
-
-/// Instructions that recovery and a cut add to the longest way through the code.
-const CUT_AND_RECOVERY: u32 = 68;
-
-/// An image, and what was run on it.
+/// A machine on which an image was run.
 #[derive(Drop)]
 pub struct Run {
-    pub image: Image,
-    /// The most instructions from power-up to the next cut or the halt.
-    pub gap: u32,
     pub machine: Machine<FlatMem>,
+    /// The image's variables as the run left them, where they are to be shown.
+    pub variables: Option<Vec<Var>>,
 }
 
-// The program that a source file spells.
-fn program_of<'a, H: Shelf>(
+// The bytes of the file that is named for the input; none without a name.
+fn read_input<'a, H: Shelf>(
     alloc: Global,
     shelf: &mut H,
-    source: &'a str,
-) -> Result<Program, Refusal<'a>>
-    ensures { ReadsProgram source.now result (H.state shelf.old) (H.state shelf.new) }
+    options: RunOptions<'a>,
+) -> Result<Vec<u8>, Refusal<'a>>
+    ensures { MatchResult result (λ input. ReadsInput (options_meaning options.entry) input.items (H.state shelf.old) (H.state shelf.new))
+        (λ refusal. RefusesInput (refused_of refusal) (options_meaning options.entry) (H.state shelf.old) (H.state shelf.new)) }
 {
-    let text = match read_whole(alloc, shelf, source, SOURCE_LIMIT) {
-        Ok(text) => text,
-        Err(ReadFault::Absent) | Err(ReadFault::Fault) => return Err(Refusal::CannotRead(source)),
-        Err(ReadFault::TooLong(_)) => return Err(Refusal::SourceTooLong(source)),
-        Err(ReadFault::OutOfMemory) => return Err(Refusal::OutOfMemory),
-    };
-    match read_program(alloc, &text) {
-        Ok(Some(program)) => Ok(program),
-        Ok(None) => Err(Refusal::NotCompiled(source)),
-        Err(NoMemory::OutOfMemory) => Err(Refusal::OutOfMemory),
+    match options.input {
+        Some(name) => match read_file(alloc, shelf, name, RUN_FILE_LIMIT) {
+            Ok(input) => Ok(input),
+            Err(refusal) => Err(refusal),
+        },
+        None => Ok(Vec::new(alloc)),
     }
 }
 
-// Writes an image's text to its file.
-fn store_image<'a, H: Shelf>(
+// A machine with an image and an input.
+fn load<'a>(alloc: Global, image: &Image, input: &[u8]) -> Result<Machine<FlatMem>, Refusal<'a>>
+    ensures { MatchResult result (λ machine. Loads image.now input.now machine)
+        (λ refusal. RefusesLoad (refused_of refusal) input.now) }
+{
+    match Machine::load(alloc, image, input) {
+        Ok(machine) => Ok(machine),
+        Err(LoadFault::InputTooLong(length, limit)) => Err(Refusal::InputTooLong(length, limit)),
+        Err(LoadFault::OutOfMemory) => Err(Refusal::OutOfMemory),
+    }
+}
+
+// One period of so many instructions, with zeros in the registers.
+fn one_period(alloc: Global, steps: u32) -> Result<Trace, NoMemory>
+    ensures { IfOk result (λ periods. periods ≡ (record { n = steps; junk = 0; count = 1 }) ∷ []) }
+{
+    let mut periods = Vec::new(alloc);
+    periods.push(Period {
+        n: steps,
+        junk: 0,
+        count: 1,
+    })?;
+    Ok(Trace::new(periods))
+}
+
+// The periods that a file lists.
+fn read_trace_file<'a, H: Shelf>(
     alloc: Global,
     shelf: &mut H,
     name: &'a str,
-    image: &Image,
-) -> Result<(), Refusal<'a>>
-    ensures { StoresImage name.now (image_text image.now) result (H.state shelf.old) (H.state shelf.new) }
+) -> Result<Trace, Refusal<'a>>
+    ensures { MatchResult result (λ periods. ReadsTrace name.now periods (H.state shelf.old) (H.state shelf.new))
+        (λ refusal. RefusesTrace (refused_of refusal) name.now (H.state shelf.old) (H.state shelf.new)) }
 {
-    let Ok(text) = write_image(alloc, image) else {
-        return Err(Refusal::OutOfMemory);
+    let text = match read_file(alloc, shelf, name, RUN_FILE_LIMIT) {
+        Ok(text) => text,
+        Err(refusal) => return Err(refusal),
     };
-    match store(shelf, name, &text) {
-        Ok(()) => Ok(()),
-        Err(_) => Err(Refusal::CannotWrite(name)),
+    match read_trace(alloc, &text) {
+        Ok(trace) => Ok(trace),
+        Err(TraceFault::OutOfMemory) => Err(Refusal::OutOfMemory),
+        Err(fault) => Err(Refusal::NotATrace(name, fault)),
     }
 }
 
-// Runs an image under the one period, with no input.
-fn run_image(alloc: Global, image: &Image) -> Result<Machine<FlatMem>, NoMemory>
-    ensures { IfOk result (λ machine. ended_of machine ≡ powered period_length 0 (memory_of image.now [])) }
-{
-    let Ok(mut machine) = Machine::load(alloc, image, &[]) else {
-        return Err(NoMemory::OutOfMemory);
-    };
-    machine.power(one_period());
-    Ok(machine)
-}
-
-// The most instructions from power-up to the next cut or the halt.
-fn gap_of(image: &Image) -> u32
-    ensures { result ≡ length image.now.words + 68 }
-{
-    image.words.len() as u32 + CUT_AND_RECOVERY
-}
-
-/// Builds a source, stores its image, and runs the image as it was stored.
-pub fn run_source<'a, H: Shelf>(
+// The periods that the named file lists; without a name the one of so many instructions.
+fn read_periods<'a, H: Shelf>(
     alloc: Global,
     shelf: &mut H,
-    source: &'a str,
-    image_name: &'a str,
-) -> Result<Run, Refusal<'a>>
-    ensures { MatchResult result (λ run. RunsSource source.now image_name.now run.image run.gap (ended_of run.machine) (H.state shelf.old) (H.state shelf.new))
-        (λ refusal. Refuses (refused_of refusal) source.now image_name.now (H.state shelf.old) (H.state shelf.new)) }
+    options: RunOptions<'a>,
+) -> Result<Trace, Refusal<'a>>
+    ensures { MatchResult result (λ periods. ReadsPeriods (options_meaning options.entry) periods (H.state shelf.old) (H.state shelf.new))
+        (λ refusal. RefusesPeriods (refused_of refusal) (options_meaning options.entry) (H.state shelf.old) (H.state shelf.new)) }
 {
-    let program = program_of(alloc, shelf, source)?;
-    let Ok(image) = compile(alloc, &program) else {
-        return Err(Refusal::OutOfMemory);
-    };
-    match store_image(alloc, shelf, image_name, &image) {
-        Ok(()) => {}
-        Err(refusal) => return Err(refusal),
+    match options.trace {
+        Some(name) => match read_trace_file(alloc, shelf, name) {
+            Ok(trace) => Ok(trace),
+            Err(refusal) => Err(refusal),
+        },
+        None => match one_period(alloc, options.steps) {
+            Ok(trace) => Ok(trace),
+            Err(NoMemory::OutOfMemory) => Err(Refusal::OutOfMemory),
+        },
     }
-    let Ok(machine) = run_image(alloc, &image) else {
-        return Err(Refusal::OutOfMemory);
+}
+
+// The variables of a machine's image, where they are to be shown.
+fn shown_variables(
+    alloc: Global,
+    machine: &Machine<FlatMem>,
+    vars: bool,
+) -> Result<Option<Vec<Var>>, NoMemory>
+    ensures { IfOk result (λ variables. variables_of (λ vars. vars.items) variables ≡ shown vars machine.now.objects (view machine.now.memory)) }
+{
+    if vars {
+        Ok(Some(machine.vars(alloc)?))
+    } else {
+        Ok(None)
+    }
+}
+
+/// Runs an image with the input and under the periods that the options name.
+pub fn run_image<'a, H: Shelf>(
+    alloc: Global,
+    shelf: &mut H,
+    image: &Image,
+    options: RunOptions<'a>,
+) -> Result<Run, Refusal<'a>>
+    ensures { MatchResult result (λ run. Ran (options_meaning options.entry) image.now (ended_of run.machine) (variables_of (λ vars. vars.items) run.variables) (H.state shelf.old) (H.state shelf.new))
+        (λ refusal. RefusesRun (refused_of refusal) (options_meaning options.entry) (H.state shelf.old) (H.state shelf.new)) }
+{
+    let input = match read_input(alloc, shelf, options) {
+        Ok(input) => input,
+        Err(refusal) => return Err(refusal),
     };
-    let gap = gap_of(&image);
-    Ok(Run {
-        image,
-        gap,
-        machine,
-    })
+    let mut machine = match load(alloc, image, &input) {
+        Ok(machine) => machine,
+        Err(refusal) => return Err(refusal),
+    };
+    let trace = match read_periods(alloc, shelf, options) {
+        Ok(trace) => trace,
+        Err(refusal) => return Err(refusal),
+    };
+    machine.run(&trace);
+    match shown_variables(alloc, &machine, options.vars) {
+        Ok(variables) => Ok(Run { machine, variables }),
+        Err(NoMemory::OutOfMemory) => Err(Refusal::OutOfMemory),
+    }
 }

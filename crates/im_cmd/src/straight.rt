@@ -3,7 +3,7 @@ ghost use Rattle.im_rv.specs.Fits.{in_bits, in_signed};
 ghost use Rattle.im_rv.specs.Steps.{word};
 ghost use Rattle.im_rv.specs.Lines.{line_of};
 ghost use Rattle.im_cmd.specs.Straight.{addi, lui, sb, sw, ebreak, call_lines, return_lines, upper_part, lower_part};
-ghost use Rattle.im_cmd.specs.Compiled.{Spells};
+ghost use Rattle.im_cmd.specs.Compiled.{StandFor};
 
 use im_rv::encode::encode;
 use im_rv::instr::{Instr, Op};
@@ -78,7 +78,7 @@ fn load_small(rd: u8, value: u16) -> Instr
 /// The words of a call after so many others: its byte is stored, then the output's length.
 pub fn call_words(calls: u16, character: u32) -> [u32; 4]
     requires { calls < 1000 }
-    ensures { Spells result (call_lines calls character) }
+    ensures { StandFor result (call_lines calls character) }
 {
     let byte = (character % 256) as u16;
     [
@@ -123,7 +123,7 @@ fn halt() -> Instr
 /// The words that store the status and halt.
 pub fn return_words(status: u32) -> [u32; 4]
     requires { status < 2 ^ 31 }
-    ensures { Spells result (return_lines status) }
+    ensures { StandFor result (return_lines status) }
 {
     [
         encode(load_upper(6, upper(status))),
@@ -135,7 +135,7 @@ pub fn return_words(status: u32) -> [u32; 4]
 
 /// The word that sets x5 to the output's address.
 pub fn base_word() -> u32
-    ensures { Spells (result ∷ []) (lui 5 1024 ∷ []) }
+    ensures { StandFor (result ∷ []) (lui 5 1024 ∷ []) }
 {
     encode(load_upper(5, 1024))
 }

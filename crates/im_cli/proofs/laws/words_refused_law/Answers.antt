@@ -17,3 +17,15 @@ returns-clause-help c = refl
 pub returns-clause-option : goal.returns-clause-option
 unfolding clap_on_literals
 returns-clause-option c = refl
+
+pub returns-clause-range : goal.returns-clause-range
+unfolding clap_on_literals
+returns-clause-range c = refl
+
+pub returns-clause-sign : goal.returns-clause-sign
+unfolding clap_on_literals
+returns-clause-sign c = refl
+
+pub returns-clause-zero : goal.returns-clause-zero
+unfolding clap_on_literals
+returns-clause-zero c = refl

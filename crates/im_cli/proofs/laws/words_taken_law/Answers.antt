@@ -2,6 +2,18 @@ use Rattle.std.proofs.Common.{refl}
 use Rattle.clap.proofs.OnLiterals.{clap_on_literals}
 use Rattle.im_cli.proofs.laws.words_taken_law.Goals as goal
 
-pub returns : goal.returns
+pub returns-clause-build : goal.returns-clause-build
 unfolding clap_on_literals
-returns c = refl
+returns-clause-build c = refl
+
+pub returns-clause-run : goal.returns-clause-run
+unfolding clap_on_literals
+returns-clause-run c = refl
+
+pub returns-clause-exec : goal.returns-clause-exec
+unfolding clap_on_literals
+returns-clause-exec c = refl
+
+pub returns-clause-dump : goal.returns-clause-dump
+unfolding clap_on_literals
+returns-clause-dump c = refl

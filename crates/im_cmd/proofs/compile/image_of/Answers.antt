@@ -1,6 +1,4 @@
-use Rattle.std.proofs.Common.{◌≡◌, ◌++◌, List, refl, sym, ap, ◌∙◌, arith}
 use Rattle.im_cmd.proofs.Compiling.{image_is, put_together}
-use Rattle.im_image.specs.Contents.{ImageValue}
 use Rattle.im_ckpt.specs.Recovery.{recovery_words}
 use Rattle.im_cmd.proofs.compile.image_of.Goals as goal
 

@@ -1,4 +1,4 @@
-use Rattle.std.proofs.Common.{◌≡◌, ◌<◌, ◌≤◌, length, arith}
+use Rattle.std.proofs.Common.{arith}
 use Rattle.im_cmd.proofs.Compiling.{one_more_call, with_return}
 use Rattle.im_cmd.proofs.compile.straight_code.Goals as goal
 

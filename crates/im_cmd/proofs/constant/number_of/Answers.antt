@@ -1,4 +1,4 @@
-use Rattle.std.proofs.Common.{◌≡◌, ℕ, ◌≤◌, subst, sym, ap, ◌∙◌, arith, refl, Ok, Result}
+use Rattle.std.proofs.Common.{◌≡◌, subst, sym, ◌∙◌, arith, refl, Ok}
 use Rattle.im_cmd.specs.Reading.{IsPlain}
 use Rattle.im_cmd.proofs.Constants.{plain_decimal, number_found, number_read, text_decimal}
 use Rattle.im_cmd.proofs.constant.number_of.Goals as goal

@@ -1,5 +1,3 @@
-use Rattle.std.proofs.Common.{◌≡◌, ◌≢◌, ℕ, List, ◌++◌, ◌∷◌, ◌≤◌, subst, sym, ap, ◌∙◌, arith, None}
-use Rattle.std.specs.Prelude.{MatchOption}
 use Rattle.im_cmd.proofs.Constants.{other_front}
 use Rattle.im_cmd.proofs.constant.read_constant.Goals as goal
 

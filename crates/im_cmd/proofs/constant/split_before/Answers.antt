@@ -1,4 +1,3 @@
-use Rattle.std.proofs.Common.{◌≡◌, ℕ, ◌≤◌, subst, sym, ap, ◌∙◌, arith}
 use Rattle.im_cmd.proofs.Constants.{cut_at, cut_missing}
 use Rattle.im_cmd.proofs.constant.split_before.Goals as goal
 

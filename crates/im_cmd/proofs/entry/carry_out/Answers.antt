@@ -1,5 +1,13 @@
-use Rattle.im_cmd.proofs.Entries.{run_of}
 use Rattle.im_cmd.proofs.entry.carry_out.Goals as goal
 
-pub returns : goal.returns
-returns g c = let shape = (run_of c.args.command).1.1 in rw shape (rw shape at c.run.ensures)
+pub returns-in-Build : goal.returns-in-Build
+returns-in-Build g c = rw c.in-Build.is c.build_source.ensures
+
+pub returns-in-Run : goal.returns-in-Run
+returns-in-Run g c = rw c.in-Run.is c.run_source.ensures
+
+pub returns-in-Exec : goal.returns-in-Exec
+returns-in-Exec g c = rw c.in-Exec.is c.execute.ensures
+
+pub returns-in-Dump : goal.returns-in-Dump
+returns-in-Dump g c = rw c.in-Dump.is c.dump.ensures

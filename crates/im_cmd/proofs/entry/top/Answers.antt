@@ -1,6 +1,5 @@
-use Rattle.std.proofs.Common.{refl}
 use Rattle.im_cli.specs.Named.{meaning}
-use Rattle.im_cmd.specs.Answers.{usage, starved, carried_out}
+use Rattle.im_cmd.specs.Answers.{carried_out}
 use Rattle.im_cmd.proofs.Entries.{fault_answers}
 use Rattle.im_cmd.proofs.entry.top.Goals as goal
 

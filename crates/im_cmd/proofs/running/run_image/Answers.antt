@@ -1,12 +1,12 @@
-use Rattle.std.proofs.Common.{◌≡◌, ◌<◌, ◌^◌, ◌∙◌, [], ◌∷◌, ap, arith}
-use Rattle.im_emu.specs.Load.{memory_of}
-use Rattle.im_emu.specs.State.{State, after}
-use Rattle.im_cmd.specs.Answers.{period_length}
-use Rattle.im_cmd.proofs.OnePeriod.{end_of, single_run, short_period}
+use Rattle.im_lines.specs.Refusals.{refused_of}
+use Rattle.im_cmd.proofs.Stages.{ran, run_periods_refused}
 use Rattle.im_cmd.proofs.running.run_image.Goals as goal
 
-pub returns : goal.returns
-returns c =
-    ap end_of c.power.ensures.machine
-    ∙ ap (λ (s : State). end_of (after (c.one_period.result ∷ []) s)) c.in-Ok.ensures.made
-    ∙ single_run period_length 0 (memory_of c.args.image.now []) c.one_period.result c.one_period.ensures short_period
+pub returns-in-Ok-shown_variables : goal.returns-in-Ok-shown_variables
+returns-in-Ok-shown_variables g c =
+    ran _ _ _ _ _ _ _ _ _ _ c.in-Ok.ensures (rw c.deref.ensures.value at c.in-Ok-load.ensures) c.in-Ok-read_periods.ensures
+    c.run.ensures.machine c.run.ensures.objects c.in-Ok-shown_variables.ensures
+
+pub returns-in-Err-read_periods : goal.returns-in-Err-read_periods
+returns-in-Err-read_periods g c =
+    run_periods_refused (refused_of c.in-Err-read_periods.refusal) _ _ _ _ _ _ _ c.in-Ok.ensures (rw c.deref.ensures.value at c.in-Ok-load.ensures) c.in-Err-read_periods.ensures

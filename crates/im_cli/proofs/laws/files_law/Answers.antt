@@ -1,0 +1,14 @@
+use Rattle.im_cli.proofs.OperandLemmas.{build_files, dump_files, exec_files, run_files}
+use Rattle.im_cli.proofs.laws.files_law.Goals as goal
+
+pub returns-clause-build : goal.returns-clause-build
+returns-clause-build c = build_files
+
+pub returns-clause-run : goal.returns-clause-run
+returns-clause-run c = run_files
+
+pub returns-clause-exec : goal.returns-clause-exec
+returns-clause-exec c = exec_files
+
+pub returns-clause-dump : goal.returns-clause-dump
+returns-clause-dump c = dump_files

@@ -1,0 +1,91 @@
+ghost use Rattle.std.specs.Prelude.{◌≡◌, option_map};
+ghost use Rattle.clap.specs.Words.{first_of, found_of, rows_of, subcommand_rows_of};
+ghost use Rattle.im_cli.specs.Named.{asked, asked_by, build_asked, dump_asked, exec_asked, is_set};
+ghost use Rattle.im_cli.specs.Named.{meaning, options_asked, options_meaning, run_asked};
+
+use crate::number::plain_number;
+use crate::{Command, RunOptions};
+use clap::ArgMatches;
+
+/// The value of the operand or option of this name, where the words give one.
+fn value_of<'a>(found: &ArgMatches<'a>, name: &str) -> Option<&'a str>
+    ensures { option_map (λ s. s.now) result ≡ first_of name.now (rows_of (found_of found.now)) }
+{
+    found.get_str(name)
+}
+
+/// Whether the flag of this name is among the words.
+fn is_set(found: &ArgMatches<'_>, name: &str) -> bool
+    ensures { result ≡ is_set name.now (rows_of (found_of found.now)) }
+{
+    value_of(found, name).is_some_and(|text| text == "true")
+}
+
+fn run_options<'a>(found: &ArgMatches<'a>) -> Option<RunOptions<'a>>
+    ensures { option_map options_meaning result ≡ options_asked (rows_of (found_of found.now)) }
+{
+    let steps = plain_number(value_of(found, "steps")?)?;
+    Some(RunOptions {
+        input: value_of(found, "input"),
+        trace: value_of(found, "trace"),
+        steps,
+        vars: is_set(found, "vars"),
+    })
+}
+
+fn build_command<'a>(found: &ArgMatches<'a>) -> Option<Command<'a>>
+    ensures { option_map meaning result ≡ build_asked (rows_of (found_of found.now)) }
+{
+    let source = value_of(found, "SRC")?;
+    let image = value_of(found, "IMG")?;
+    Some(Command::Build { source, image })
+}
+
+fn run_command<'a>(found: &ArgMatches<'a>) -> Option<Command<'a>>
+    ensures { option_map meaning result ≡ run_asked (rows_of (found_of found.now)) }
+{
+    let options = run_options(found)?;
+    let source = value_of(found, "SRC")?;
+    let image = value_of(found, "IMG")?;
+    Some(Command::Run {
+        source,
+        image,
+        options,
+    })
+}
+
+fn exec_command<'a>(found: &ArgMatches<'a>) -> Option<Command<'a>>
+    ensures { option_map meaning result ≡ exec_asked (rows_of (found_of found.now)) }
+{
+    let options = run_options(found)?;
+    let image = value_of(found, "IMG")?;
+    Some(Command::Exec { image, options })
+}
+
+fn dump_command<'a>(found: &ArgMatches<'a>) -> Option<Command<'a>>
+    ensures { option_map meaning result ≡ dump_asked (rows_of (found_of found.now)) }
+{
+    let image = value_of(found, "IMG")?;
+    Some(Command::Dump { image })
+}
+
+/// The command of this name, with what was found for the words after it.
+fn command_of<'a>(name: &str, found: &ArgMatches<'a>) -> Option<Command<'a>>
+    ensures { option_map meaning result ≡ asked_by name.now (rows_of (found_of found.now)) }
+{
+    match name {
+        "build" => build_command(found),
+        "run" => run_command(found),
+        "exec" => exec_command(found),
+        "dump" => dump_command(found),
+        _ => None,
+    }
+}
+
+/// What the table's matches ask for.
+pub(crate) fn matched_command<'a>(matches: &ArgMatches<'a>) -> Option<Command<'a>>
+    ensures { option_map meaning result ≡ asked (subcommand_rows_of matches.now) }
+{
+    let (name, found) = matches.subcommand()?;
+    command_of(name, found)
+}

@@ -1,0 +1,94 @@
+ghost use Rattle.im_cli.specs.Named.{options_meaning};
+ghost use Rattle.im_cmd.specs.Answers.{BuildAnswers, RunAnswers, ExecAnswers, DumpAnswers};
+
+use crate::building::build;
+use crate::running::run_image;
+use crate::stored::read_stored;
+use crate::telling::{finish, tell_refusal, tell_run, word_count};
+use im_cli::RunOptions;
+use im_io::{Shelf, Sink};
+use im_lines::{send_build_lines, send_dump_lines};
+use std::alloc::Global;
+
+/// Builds a source and stores its image. `out` gets the lines of the build.
+pub fn build_source<H: Shelf, O: Sink, E: Sink>(
+    alloc: Global,
+    shelf: &mut H,
+    out: &mut O,
+    err: &mut E,
+    source: &str,
+    image_name: &str,
+) -> u8
+    ensures { BuildAnswers source.now image_name.now (H.state shelf.old) (H.state shelf.new) (O.state out.old) (O.state out.new) (E.state err.old) (E.state err.new) result }
+{
+    match build(alloc, shelf, source, image_name) {
+        Ok(built) => {
+            let sent = send_build_lines(out, word_count(&built.image), built.gap);
+            finish(err, sent)
+        }
+        Err(refusal) => tell_refusal(err, &refusal),
+    }
+}
+
+/// Builds a source, stores its image, and runs it. `out` gets the run's output, and `err` the lines of
+/// the build and of the run.
+pub fn run_source<H: Shelf, O: Sink, E: Sink>(
+    alloc: Global,
+    shelf: &mut H,
+    out: &mut O,
+    err: &mut E,
+    source: &str,
+    image_name: &str,
+    options: RunOptions<'_>,
+) -> u8
+    ensures { RunAnswers source.now image_name.now (options_meaning options.entry) (H.state shelf.old) (H.state shelf.new) (O.state out.old) (O.state out.new) (E.state err.old) (E.state err.new) result }
+{
+    let built = match build(alloc, shelf, source, image_name) {
+        Ok(built) => built,
+        Err(refusal) => return tell_refusal(err, &refusal),
+    };
+    match run_image(alloc, shelf, &built.image, options) {
+        Ok(run) => tell_run(out, err, &built.image, Some(built.gap), &run),
+        Err(refusal) => tell_refusal(err, &refusal),
+    }
+}
+
+/// Runs an image. `out` gets the run's output, and `err` the lines of the run.
+pub fn execute<H: Shelf, O: Sink, E: Sink>(
+    alloc: Global,
+    shelf: &mut H,
+    out: &mut O,
+    err: &mut E,
+    image_name: &str,
+    options: RunOptions<'_>,
+) -> u8
+    ensures { ExecAnswers image_name.now (options_meaning options.entry) (H.state shelf.old) (H.state shelf.new) (O.state out.old) (O.state out.new) (E.state err.old) (E.state err.new) result }
+{
+    let image = match read_stored(alloc, shelf, image_name) {
+        Ok(image) => image,
+        Err(refusal) => return tell_refusal(err, &refusal),
+    };
+    match run_image(alloc, shelf, &image, options) {
+        Ok(run) => tell_run(out, err, &image, None, &run),
+        Err(refusal) => tell_refusal(err, &refusal),
+    }
+}
+
+/// Shows what an image holds. `out` gets the lines.
+pub fn dump<H: Shelf, O: Sink, E: Sink>(
+    alloc: Global,
+    shelf: &mut H,
+    out: &mut O,
+    err: &mut E,
+    image_name: &str,
+) -> u8
+    ensures { DumpAnswers image_name.now (H.state shelf.old) (H.state shelf.new) (O.state out.old) (O.state out.new) (E.state err.old) (E.state err.new) result }
+{
+    match read_stored(alloc, shelf, image_name) {
+        Ok(image) => {
+            let sent = send_dump_lines(out, &image);
+            finish(err, sent)
+        }
+        Err(refusal) => tell_refusal(err, &refusal),
+    }
+}
