@@ -6,10 +6,11 @@ use Rattle.im_typed.specs.Meaning.{Calls, Flow, Next, after_turn, turns, value_o
 use Rattle.im_ctype.specs.Layout.{Layout}
 use Rattle.im_typed.specs.declared.expression.Expr.{Expr}
 use Rattle.im_typed.specs.declared.statement.Stmt.{Stmt}
-use Rattle.im_plain_eval.specs.declared.machine.Frame.{Frame}
-use Rattle.im_plain_eval.specs.declared.machine.Machine.{Machine}
-use Rattle.im_plain_eval.specs.Shown.{state_of, at_frame}
-use Rattle.im_plain_eval.specs.Flows.{turn_body, does_all}
+use Rattle.im_state.specs.declared.machine.Frame.{Frame}
+use Rattle.im_state.specs.declared.machine.Machine.{Machine}
+use Rattle.im_state.specs.Shown.{state_of, at_frame}
+use Rattle.im_state.specs.Lists.{does_all}
+use Rattle.im_plain_eval.specs.Flows.{turn_body}
 
 -- a turn begins with the test
 pub turns_test : (k : ℕ) (test : Run (List Value)) (body : Run Flow) (s : State) → turns k test body (give Next) s ≡ goes_on (test s) (λ vs. used vs (λ v. either (holds v) (turn_body k test body) (give Next)))

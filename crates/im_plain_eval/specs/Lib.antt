@@ -2,5 +2,4 @@ pub mod Flows
 pub mod Hand
 pub mod Samples
 pub mod Served
-pub mod Shown
 pub mod Statements

@@ -1,27 +1,8 @@
 -- The expressions that the evaluator serves: those on integers that stand in variables of one integer.
 use Rattle.std.specs.Prelude.{◌^◌, pos, neg_ℤ, ◌<ℤ◌}
-use Rattle.im_typed.specs.declared.expression.Access.{Access}
-use Rattle.im_typed.specs.declared.expression.Access.TheVariants.{Cell as CellOf, Struct as StructOf}
-use Rattle.im_typed.specs.declared.expression.Change.{Change}
-use Rattle.im_typed.specs.declared.expression.Change.TheVariants.{Number as NumberBy, Move as PointerBy}
-use Rattle.im_typed.specs.declared.expression.Place.{Place}
-use Rattle.im_typed.specs.declared.expression.Place.TheVariants.{Static, Local, Target', Member'}
 use Rattle.im_typed.specs.declared.expression.Expr.{Expr}
 use Rattle.im_typed.specs.declared.expression.Expr.TheVariants.{Number, Null, Read', Address', Convert', Unary', Binary', Move', MoveBy', Distance', Compare', Not', And', Or', Choose', Comma', Discard', Assign', Update', Increment', Part', Call', Getchar, Putchar'}
-
-abbrev pub IsServedAccess : Access → Type 0
-IsServedAccess (CellOf k) = Unit {0}
-IsServedAccess (StructOf n cells) = ⊥
-
-abbrev pub IsServedPlace : Place → Type 0
-IsServedPlace (Static n) = Unit {0}
-IsServedPlace (Local n) = Unit {0}
-IsServedPlace (Target' p e) = ⊥
-IsServedPlace (Member' p a d) = ⊥
-
-abbrev pub IsServedChange : Change → Type 0
-IsServedChange (NumberBy k op at) = Unit {0}
-IsServedChange (PointerBy size back) = ⊥
+use Rattle.im_state.specs.Cells.{IsServedAccess, IsServedPlace, IsServedChange}
 
 abbrev pub IsServed : Expr → Type 0
 IsServed (Number z) = neg_ℤ (pos (2 ^ 63)) <ℤ z

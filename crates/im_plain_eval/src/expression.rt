@@ -1,59 +1,15 @@
-ghost use Rattle.std.specs.Prelude.{◌≡◌, ◌≤◌, List, pos};
+ghost use Rattle.std.specs.Prelude.{◌≤◌, List};
 ghost use Rattle.im_ctype.specs.Layout.{Layout};
-ghost use Rattle.im_typed.specs.Runs.{State, Value, Gives, To, bind, give};
-ghost use Rattle.im_typed.specs.Meaning.{Calls, place_of, value_of, cells_of, one_cell, update};
-ghost use Rattle.im_plain_eval.specs.Shown.{Meets, state_of, at_frame};
-ghost use Rattle.im_plain_eval.specs.Served.{IsServed, IsServedPlace, IsServedAccess, IsServedChange};
+ghost use Rattle.im_typed.specs.Meaning.{Calls, value_of};
+ghost use Rattle.im_state.specs.Shown.{Meets, state_of, at_frame};
+ghost use Rattle.im_plain_eval.specs.Served.{IsServed};
 
-use crate::arithmetic::is_nonzero;
-use crate::change::{assign, count};
-use crate::machine::{Cell, Found, Frame, Machine, Stopped, get_char, put_char, read};
-use crate::number::Number;
-use crate::operand::{binary, compared, converted, discarded, negated, tested, unary, used_number};
-use im_num::Kind;
-use im_typed::{Access, Change, Expr, Place};
-
-fn kind_at(access: Access) -> Kind
-    requires { IsServedAccess access }
-    ensures { (structs : List Layout) → cells_of structs access ≡ one_cell result }
-{
-    match access {
-        Access::Cell(kind) => kind,
-        Access::Struct { .. } => unreachable!(),
-    }
-}
-
-fn object_at(frame: Frame, place: &Place) -> usize
-    requires { IsServedPlace place.now }
-    ensures { (structs : List Layout) (calls : Calls) (s : State) → place_of (at_frame frame structs calls) place.now s ≡ Gives (To result 0) s }
-{
-    match place {
-        Place::Static(number) => *number as usize,
-        Place::Local(number) => frame.base as usize + *number as usize,
-        Place::Target(_) | Place::Member(_, _) => unreachable!(),
-    }
-}
-
-fn increment(
-    machine: &mut Machine,
-    frame: Frame,
-    place: &Place,
-    change: Change,
-    old: bool,
-) -> Result<Found, Stopped>
-    requires place { IsServedPlace place.now }
-    requires change { IsServedChange change }
-    ensures meaning { (structs : List Layout) (calls : Calls) → Meets result (state_of machine.new) (bind (place_of (at_frame frame structs calls) place.now) (update change old (give (pos 1))) (state_of machine.old)) }
-    ensures fuel { machine.new.fuel ≤ machine.old.fuel }
-{
-    match change {
-        Change::Number { kind, op, at } => {
-            let object = object_at(frame, place);
-            count(machine, Cell { kind, object }, op, at, old)
-        }
-        Change::Move { .. } => unreachable!(),
-    }
-}
+use im_state::{
+    Cell, Found, Frame, Machine, Number, Stopped, assign, binary, compared, converted, discarded,
+    get_char, increment, is_nonzero, kind_at, negated, object_at, put_char, read, tested, unary,
+    used_number,
+};
+use im_typed::Expr;
 
 /// The value of an expression, whose operands are evaluated from left to right.
 pub fn value_of(machine: &mut Machine, frame: Frame, expr: &Expr) -> Result<Found, Stopped>

@@ -2,20 +2,13 @@
 //! variables of one integer each. Its answer is what the program means.
 #![tactic(auto)]
 
-mod arithmetic;
-mod change;
 mod examples;
 mod expression;
-mod machine;
-mod number;
-mod operand;
 mod recognise;
 mod statement;
 #[cfg(test)]
 mod tests;
 
 pub use expression::value_of;
-pub use machine::{Found, Frame, Machine, Stopped, Variable};
-pub use number::Number;
 pub use recognise::{evaluate, execute, is_served, is_served_statement};
-pub use statement::{Ended, run};
+pub use statement::run;

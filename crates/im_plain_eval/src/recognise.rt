@@ -1,45 +1,18 @@
 ghost use Rattle.std.specs.Prelude.{◌↔◌, ◌≤◌, ℕ, IsTrue, List, MatchOption};
 ghost use Rattle.im_ctype.specs.Layout.{Layout};
 ghost use Rattle.im_typed.specs.Meaning.{Calls, does, value_of};
-ghost use Rattle.im_plain_eval.specs.Shown.{Meets, state_of, at_frame};
+ghost use Rattle.im_state.specs.Shown.{Meets, state_of, at_frame};
 ghost use Rattle.std.specs.List.{All};
-ghost use Rattle.im_plain_eval.specs.Flows.{MeetsFlow};
+ghost use Rattle.im_state.specs.Flows.{MeetsFlow};
 ghost use Rattle.im_plain_eval.specs.Statements.{IsServedStatement};
-ghost use Rattle.im_plain_eval.specs.Served.{IsServed, IsServedPlace, IsServedAccess, IsServedChange};
+ghost use Rattle.im_plain_eval.specs.Served.{IsServed};
 
 use crate::expression::value_of;
-use crate::machine::{Found, Frame, Machine, Stopped};
-use crate::statement::{Ended, run};
-use im_typed::{Access, Change, Expr, Place, Stmt};
-
-fn is_served_access(access: Access) -> bool
-    ensures { IsTrue result ↔ IsServedAccess access }
-{
-    match access {
-        Access::Cell(_) => true,
-        Access::Struct { .. } => false,
-    }
-}
-
-fn is_served_place(place: &Place) -> bool
-    ensures { IsTrue result ↔ IsServedPlace place.now }
-{
-    match place {
-        Place::Static(_) => true,
-        Place::Local(_) => true,
-        Place::Target(_) => false,
-        Place::Member(_, _) => false,
-    }
-}
-
-fn is_served_change(change: Change) -> bool
-    ensures { IsTrue result ↔ IsServedChange change }
-{
-    match change {
-        Change::Number { .. } => true,
-        Change::Move { .. } => false,
-    }
-}
+use crate::statement::run;
+use im_state::{
+    Ended, Found, Frame, Machine, Stopped, is_served_access, is_served_change, is_served_place,
+};
+use im_typed::{Expr, Stmt};
 
 /// Whether the evaluator serves an expression.
 pub fn is_served(expr: &Expr) -> bool

@@ -1,28 +1,18 @@
-ghost use Rattle.std.specs.Prelude.{◌≡◌, ◌<◌, ◌≤◌, ℕ, List, [], ◌∷◌};
+ghost use Rattle.std.specs.Prelude.{◌≡◌, ◌<◌, ◌≤◌, ℕ, List};
 ghost use Rattle.std.specs.List.{All};
 ghost use Rattle.im_ctype.specs.Layout.{Layout};
-ghost use Rattle.im_typed.specs.Runs.{State, Answer, Value, Run, give, goes_on};
-ghost use Rattle.im_typed.specs.Objects.{used};
-ghost use Rattle.im_typed.specs.Meaning as Meaning;
-ghost use Rattle.im_typed.specs.Meaning.{Calls, Flow, Next, Returned, value_of, does, turns};
-ghost use Rattle.im_plain_eval.specs.Shown.{Meets, state_of, at_frame};
-ghost use Rattle.im_plain_eval.specs.Flows.{MeetsFlow, MeetsTest, MeetsTurn, TurnAfter, turn_body, does_all};
+ghost use Rattle.im_typed.specs.Runs.{State, Value, Run, give};
+ghost use Rattle.im_typed.specs.Meaning.{Calls, Flow, Next, value_of, does, turns};
+ghost use Rattle.im_state.specs.Shown.{state_of, at_frame};
+ghost use Rattle.im_state.specs.Flows.{MeetsFlow};
+ghost use Rattle.im_state.specs.Lists.{does_all};
+ghost use Rattle.im_plain_eval.specs.Flows.{MeetsTurn, TurnAfter, turn_body};
 ghost use Rattle.im_plain_eval.specs.Served.{IsServed};
 ghost use Rattle.im_plain_eval.specs.Statements.{IsServedStatement};
 
-use crate::arithmetic::is_nonzero;
 use crate::expression::value_of;
-use crate::machine::{Found, Frame, Machine, Stopped, forget};
-use im_typed::{Expr, Stmt, Undefined};
-
-/// How a statement ends.
-#[derive(Clone, Copy, Debug)]
-pub enum Ended {
-    Next,
-    Broke,
-    Continued,
-    Returned(Found),
-}
+use im_state::{Ended, Found, Frame, Machine, Stopped, decided, dropped, forget, returned};
+use im_typed::{Expr, Stmt};
 
 /// How a turn of a loop ends.
 #[derive(Clone, Copy)]
@@ -30,52 +20,6 @@ enum Turn {
     Again,
     Left(Ended),
     Stopped(Stopped),
-}
-
-fn test_of(found: Found) -> Result<bool, Stopped>
-    ensures { (s : State) (r : Answer (List Value)) → Meets (Ok found) s r → MeetsTest result s r }
-{
-    match found {
-        Found::Number(number) => Ok(is_nonzero(number)),
-        Found::Nothing => Err(Stopped::Undefined(Undefined::MissingResult)),
-    }
-}
-
-/// What a test decides.
-fn decided(found: Result<Found, Stopped>) -> Result<bool, Stopped>
-    ensures { (s : State) (r : Answer (List Value)) → Meets found s r → MeetsTest result s r }
-{
-    match found {
-        Err(why) => Err(why),
-        Ok(found) => test_of(found),
-    }
-}
-
-fn return_of(found: Found) -> Result<Ended, Stopped>
-    ensures { (s : State) (r : Answer (List Value)) → Meets (Ok found) s r → MeetsFlow result s (goes_on r (λ vs. used vs (λ v. give (Returned (v ∷ []))))) }
-{
-    match found {
-        Found::Number(_) => Ok(Ended::Returned(found)),
-        Found::Nothing => Err(Stopped::Undefined(Undefined::MissingResult)),
-    }
-}
-
-fn returned(found: Result<Found, Stopped>) -> Result<Ended, Stopped>
-    ensures { (s : State) (r : Answer (List Value)) → Meets found s r → MeetsFlow result s (goes_on r (λ vs. used vs (λ v. give (Returned (v ∷ []))))) }
-{
-    match found {
-        Err(why) => Err(why),
-        Ok(found) => return_of(found),
-    }
-}
-
-fn dropped(found: Result<Found, Stopped>) -> Result<Ended, Stopped>
-    ensures { (s : State) (r : Answer (List Value)) → Meets found s r → MeetsFlow result s (goes_on r (λ vs. give Next)) }
-{
-    match found {
-        Err(why) => Err(why),
-        Ok(_) => Ok(Ended::Next),
-    }
 }
 
 fn turn_of(ended: Ended) -> Turn

@@ -1,5 +1,6 @@
-use crate::{Ended, Found, Frame, Machine, Number, Stopped, Variable, run, value_of};
+use crate::{run, value_of};
 use im_num::Kind;
+use im_state::{Ended, Found, Frame, Machine, Number, Stopped, Variable};
 use im_typed::{Access, BinaryOp, Change, Comparison, Expr, Place, Stmt, Undefined};
 use std::alloc::{AllocError, Global};
 use std::test::Fail;

@@ -5,7 +5,7 @@ use Rattle.im_typed.specs.Objects.{number_in, scalar, fine, truth, holds, compar
 use Rattle.im_typed.specs.Numbers.{apply}
 use Rattle.im_num.specs.Kinds.{wrap}
 use Rattle.im_typed.specs.Meaning.{value_of, put_byte}
-use Rattle.im_plain_eval.specs.Shown.{Meets, state_of, at_frame}
+use Rattle.im_state.specs.Shown.{Meets, state_of, at_frame}
 use Rattle.im_plain_eval.proofs.expression.+value_of.Goals as goal
 
 pub returns-in-Unary-clause-meaning : goal.returns-in-Unary-clause-meaning

@@ -4,10 +4,13 @@ use Rattle.im_typed.specs.declared.statement.Stmt.{size-Stmt}
 use Rattle.im_typed.specs.declared.statement.Stmt.TheViews.{sized-Block}
 use Rattle.im_typed.specs.Runs.{Gives, give}
 use Rattle.im_typed.specs.Meaning.{Next, value_of, does, turns}
-use Rattle.im_plain_eval.specs.Shown.{Halts, state_of, at_frame}
-use Rattle.im_plain_eval.specs.Flows.{MeetsFlow, flow, turn_body, does_all}
+use Rattle.im_state.specs.Shown.{Halts, state_of, at_frame}
+use Rattle.im_state.specs.Flows.{MeetsFlow, flow}
+use Rattle.im_state.specs.Lists.{does_all}
+use Rattle.im_plain_eval.specs.Flows.{turn_body}
 use Rattle.im_plain_eval.specs.Statements.{IsServedStatement}
-use Rattle.im_plain_eval.proofs.Rows.{block_served, block_does}
+use Rattle.im_state.proofs.Rows.{block_does}
+use Rattle.im_plain_eval.proofs.Rows.{block_served}
 use Rattle.im_plain_eval.proofs.Turns.{turns_test, carried_again, carried_end}
 use Rattle.im_plain_eval.proofs.statement.+statement.Goals as goal
 

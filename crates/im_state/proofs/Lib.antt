@@ -1,0 +1,4 @@
+pub mod Lifetimes
+pub mod Rows
+pub mod Sizes
+pub mod Steps
