@@ -1,0 +1,9 @@
+pub mod Activations
+pub mod Blocks
+pub mod Bounds
+pub mod Calls
+pub mod Carried
+pub mod Fewer
+pub mod Frames
+pub mod Popped
+pub mod Values

@@ -1,0 +1,28 @@
+use Rattle.std.proofs.Common.{subst}
+use Rattle.im_ctype.specs.Layout.{layouts}
+use Rattle.im_typed.specs.Programs.{calls_of}
+use Rattle.im_state.specs.Shown.{state_of, values}
+use Rattle.im_eval.specs.Stack.{in_activation}
+use Rattle.im_eval.specs.Steps.{MeetsNext}
+use Rattle.im_eval.specs.Tasks.{operates, takes_argument, uses}
+use Rattle.im_eval.proofs.Frames.{at_activation}
+use Rattle.im_eval.proofs.step.resume_value.Goals as goal
+
+pub returns-in-Operator-clause-meaning : goal.returns-in-Operator-clause-meaning
+returns-in-Operator-clause-meaning c = λ g n e.
+    let here = in_activation g n c.args.run.now.frame.base in
+    let s = state_of c.args.run.now.machine in
+    let met = subst (λ x. MeetsNext x c.operate-next.result (state_of c.operate-next.new.machine) (operates x c.in-Operator.operator (values c.args.found) s)) (at_activation g n c.args.run.now.frame e) (c.operate-next.ensures.meaning (layouts g.prog.structs) (calls_of g n)) in
+    rw c.in-Operator.is (c.follow.ensures.meaning g n c.args.run.now.frame.base (state_of c.operate-next.new.machine) (operates here c.in-Operator.operator (values c.args.found) s) met)
+
+pub returns-in-Argument-clause-meaning : goal.returns-in-Argument-clause-meaning
+returns-in-Argument-clause-meaning c = λ g n e.
+    let here = in_activation g n c.args.run.now.frame.base in
+    let s = state_of c.args.run.now.machine in
+    rw c.in-Argument.is (c.follow-in-Argument.ensures.meaning g n c.args.run.now.frame.base s (takes_argument here c.in-Argument.call (values c.args.found) s) (c.take_argument.ensures.meaning here s))
+
+pub returns-in-Use-clause-meaning : goal.returns-in-Use-clause-meaning
+returns-in-Use-clause-meaning c = λ g n e.
+    let here = in_activation g n c.args.run.now.frame.base in
+    let s = state_of c.args.run.now.machine in
+    rw c.in-Use.is (c.proceed.ensures.meaning g n c.args.run.now.frame.base s (uses here n c.in-Use.used (values c.args.found) s) (c.use_value.ensures.meaning here n s))

@@ -1,0 +1,81 @@
+ghost use Rattle.std.specs.Prelude.{◌≡◌, ℕ, ◌+◌, List, [], ◌∷◌, ◌++◌, IfOk, IfErr};
+ghost use Rattle.std.specs.List.{All};
+ghost use Rattle.im_typed.specs.Meaning.{Flow};
+ghost use Rattle.im_typed.specs.Programs.{Setting};
+ghost use Rattle.im_typed.specs.Runs.{State, Answer, Value, goes_on};
+ghost use Rattle.im_state.specs.declared.machine.Stopped.TheVariants.{OutOfMemory};
+ghost use Rattle.im_eval.specs.Going.{ServedNow, WithinSteps, tasks_weight};
+ghost use Rattle.im_eval.specs.ServedTasks.{IsServedNext, IsServedOnward, IsServedTask};
+ghost use Rattle.im_eval.specs.Stack.{MeetsNow, Valued, Flowed, finishes, in_activation, pending};
+ghost use Rattle.im_eval.specs.Steps.{MeetsNext, MeetsOnward};
+ghost use Rattle.im_eval.specs.Weights.{next_weight, onward_weight};
+
+use crate::next::{Next, Onward};
+use crate::now::Now;
+use crate::task::{Rest, Task};
+use im_state::Stopped;
+
+/// Puts a task on the stack, and goes on with what comes before it.
+pub(crate) fn before<'p>(
+    tasks: &mut Vec<Task<'p>>,
+    now: Now<'p>,
+    task: Task<'p>,
+) -> Result<Now<'p>, Stopped>
+    ensures next { IfOk result (λ next. next ≡ now.entry) }
+    ensures pushed { IfOk result (λ _. tasks.new.items ≡ tasks.old.items ++ task.entry ∷ []) }
+    ensures stopped { IfErr result (λ why. why ≡ OutOfMemory) }
+    ensures kept { IfErr result (λ _. tasks.new.items ≡ tasks.old.items) }
+    ensures served { All IsServedTask tasks.old.items → IsServedTask task.entry → All IsServedTask tasks.new.items }
+{
+    match tasks.push(task) {
+        Err(_) => Err(Stopped::OutOfMemory),
+        Ok(()) => Ok(now),
+    }
+}
+
+/// Goes on with an expression, and puts on the stack what comes behind it.
+pub(crate) fn follow<'p>(tasks: &mut Vec<Task<'p>>, next: Next<'p>) -> Result<Now<'p>, Stopped>
+    requires next { IsServedNext next }
+    requires tasks { All IsServedTask tasks.old.items }
+    ensures meaning { (g : Setting) (n base : ℕ) (s : State) (r : Answer (List Value)) → MeetsNext (in_activation g n base) next.entry s r → MeetsNow g n base (pending tasks.new.items) result s (goes_on r (λ vs. finishes g n base (pending tasks.old.items) (Valued vs))) }
+    ensures served { ServedNow result }
+    ensures tasks { All IsServedTask tasks.new.items }
+    ensures lighter { WithinSteps (next_weight next.entry + tasks_weight tasks.old.items) result tasks.new.items }
+{
+    match next {
+        Next::Value(found) => match found {
+            Err(why) => Err(why),
+            Ok(found) => Ok(Now::Value(found)),
+        },
+        Next::Evaluate(expr) => Ok(Now::Evaluate(expr)),
+        Next::Operand(expr, operator) => {
+            before(tasks, Now::Evaluate(expr), Task::Operator(operator))
+        }
+        Next::Arguments(call) => Ok(Now::Arguments(call)),
+    }
+}
+
+/// Goes on with a statement, and puts on the stack what comes behind it.
+pub(crate) fn proceed<'p>(tasks: &mut Vec<Task<'p>>, onward: Onward<'p>) -> Result<Now<'p>, Stopped>
+    requires onward { IsServedOnward onward }
+    requires tasks { All IsServedTask tasks.old.items }
+    ensures meaning { (g : Setting) (n base : ℕ) (s : State) (r : Answer Flow) → MeetsOnward (in_activation g n base) n onward.entry s r → MeetsNow g n base (pending tasks.new.items) result s (goes_on r (λ f. finishes g n base (pending tasks.old.items) (Flowed f))) }
+    ensures served { ServedNow result }
+    ensures tasks { All IsServedTask tasks.new.items }
+    ensures lighter { WithinSteps (onward_weight onward.entry + tasks_weight tasks.old.items) result tasks.new.items }
+{
+    match onward {
+        Onward::Ended(ended) => match ended {
+            Err(why) => Err(why),
+            Ok(ended) => Ok(Now::Ended(ended)),
+        },
+        Onward::Evaluate(expr, used) => before(tasks, Now::Evaluate(expr), Task::Use(used)),
+        Onward::Execute(stmt) => Ok(Now::Execute(stmt)),
+        Onward::First(stmt, turn) => {
+            before(tasks, Now::Execute(stmt), Task::Rest(Rest::First(turn)))
+        }
+        Onward::Statements(statements) => Ok(Now::Statements(statements)),
+        Onward::Turn(turn) => Ok(Now::Turn(turn)),
+        Onward::Enter(turn) => Ok(Now::Enter(turn)),
+    }
+}

@@ -1,0 +1,11 @@
+use crate::task::Task;
+use im_state::{Frame, Machine};
+
+/// A run of a program: what it works on, where the activation stands, and what is still to do, the
+/// next task last.
+#[derive(Drop)]
+pub(crate) struct Run<'p> {
+    pub machine: Machine,
+    pub frame: Frame,
+    pub tasks: Vec<Task<'p>>,
+}

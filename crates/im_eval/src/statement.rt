@@ -1,0 +1,76 @@
+ghost use Rattle.std.specs.Prelude.{◌<◌, ◌≤◌, ℕ, List};
+ghost use Rattle.im_ctype.specs.Layout.{Layout};
+ghost use Rattle.im_typed.specs.Runs.{State};
+ghost use Rattle.im_typed.specs.Meaning.{Around, Calls, does, returned};
+ghost use Rattle.im_state.specs.Shown.{state_of, at_frame};
+ghost use Rattle.im_eval.specs.Served.{IsServedOptional, IsServedStatement};
+ghost use Rattle.im_eval.specs.ServedTasks.{IsServedOnward};
+ghost use Rattle.im_eval.specs.Steps.{MeetsOnward};
+ghost use Rattle.im_eval.specs.Weights.{optional_weight, statement_weight, onward_weight};
+
+use crate::next::Onward;
+use crate::task::{Loop, Use};
+use im_state::{Ended, Found, Frame, Machine, forget};
+use im_typed::{Expr, Stmt};
+
+/// How a `return` begins.
+fn return_of<'p>(value: &'p Option<Expr>) -> Onward<'p>
+    requires { IsServedOptional value.now }
+    ensures meaning { (c : Around) (n : ℕ) (s : State) → MeetsOnward c n result s (returned c value.entry.now s) }
+    ensures served { IsServedOnward result }
+    ensures lighter { onward_weight result < optional_weight value.entry.now }
+{
+    match value {
+        None => Onward::Ended(Ok(Ended::Returned(Found::Nothing))),
+        Some(expr) => Onward::Evaluate(expr, Use::Return),
+    }
+}
+
+/// How a statement begins: with its first expression or statement, or with its end where it has
+/// none.
+pub(crate) fn start<'p>(machine: &mut Machine, frame: Frame, stmt: &'p Stmt) -> Onward<'p>
+    requires { IsServedStatement stmt.now }
+    ensures meaning { (structs : List Layout) (calls : Calls) (n : ℕ) → MeetsOnward (at_frame frame structs calls) n result (state_of machine.new) (does (at_frame frame structs calls) n stmt.entry.now (state_of machine.old)) }
+    ensures served { IsServedOnward result }
+    ensures lighter { onward_weight result < statement_weight stmt.entry.now }
+    ensures fuel { machine.new.fuel ≤ machine.old.fuel }
+{
+    match stmt {
+        Stmt::Expr(expr) => Onward::Evaluate(expr, Use::Drop),
+        Stmt::Forget(local) => {
+            forget(machine, frame.base as usize + *local as usize);
+            Onward::Ended(Ok(Ended::Next))
+        }
+        Stmt::Block(statements) => Onward::Statements(statements),
+        Stmt::If(test, chosen, otherwise) => {
+            Onward::Evaluate(test, Use::Branch(chosen, otherwise))
+        }
+        Stmt::While(test, body) => Onward::Turn(Loop {
+            test,
+            step: None,
+            body,
+        }),
+        Stmt::DoWhile(body, test) => Onward::Enter(Loop {
+            test,
+            step: None,
+            body,
+        }),
+        Stmt::For {
+            first,
+            test,
+            step,
+            body,
+        } => Onward::First(
+            first,
+            Loop {
+                test,
+                step: Some(step),
+                body,
+            },
+        ),
+        Stmt::Break => Onward::Ended(Ok(Ended::Broke)),
+        Stmt::Continue => Onward::Ended(Ok(Ended::Continued)),
+        Stmt::Return(value) => return_of(value),
+        Stmt::Initialise { .. } | Stmt::Switch { .. } => unreachable!(),
+    }
+}
