@@ -1,6 +1,7 @@
 use super::{File, Wanted, file, tries};
 use im_io::MemShelf;
 use std::alloc::Global;
+use std::process::Abort;
 use std::test::Fail;
 
 /// Halts.
@@ -181,10 +182,10 @@ fn an_image_is_shown(rt: HostRuntime) -> Result<(), Fail> {
     )
 }
 
-#[test]
-fn variables_are_shown(rt: HostRuntime) -> Result<(), Fail> {
-    // The number -5 at 0x100000 by the name a, and a pointer to it at 0x100008 by the name p.
-    let mut text = Vec::from_slice(rt.alloc(), b"IMRV")?;
+/// The text of an image that halts, with the number -5 at 0x100000 by the name a, and a pointer to
+/// it at 0x100008 by the name p.
+fn text_with_variables(alloc: Global) -> Result<Vec<u8>, Fail> {
+    let mut text = Vec::from_slice(alloc, b"IMRV")?;
     for word in [
         1,
         1,
@@ -209,6 +210,12 @@ fn variables_are_shown(rt: HostRuntime) -> Result<(), Fail> {
             push_word(&mut text, word)?;
         }
     }
+    Ok(text)
+}
+
+#[test]
+fn variables_are_shown(rt: HostRuntime) -> Result<(), Fail> {
+    let text = text_with_variables(rt.alloc())?;
     let mut shelf = shelf_of(rt.alloc(), &text)?;
     let wanted = Wanted {
         status: 0,
@@ -225,67 +232,85 @@ fn variables_are_shown(rt: HostRuntime) -> Result<(), Fail> {
     )
 }
 
-#[test]
-fn faulty_images_are_told(rt: HostRuntime) -> Result<(), Fail> {
-    let whole = image_text(rt.alloc(), 0x1000, &[HALT])?;
-    assert_eq!(rt; whole.len(), 36);
-    for k in 0..whole.len() {
-        let line = format!(in rt.alloc(); "intermit: x.img: short image at {k}\n")?;
-        let wanted = Wanted {
-            status: 5,
-            output: b"",
-            lines: line.as_bytes(),
-        };
-        let mut shelf = shelf_of(rt.alloc(), &whole[..k])?;
-        tries(
-            &rt,
-            rt.alloc(),
-            &mut shelf,
-            1000,
-            "intermit exec x.img",
-            &wanted,
-        )?;
-    }
-    let changes: [(usize, u8, &[u8]); 6] = [
-        (0, 0, b"intermit: x.img: bad magic\n"),
-        (4, 9, b"intermit: x.img: bad version 9\n"),
-        (8, 0, b"intermit: x.img: bad field 3\n"),
-        (12, 1, b"intermit: x.img: bad field 4\n"),
-        (24, 4, b"intermit: x.img: bad field 7\n"),
-        (28, 1, b"intermit: x.img: bad field 8\n"),
-    ];
-    for (place, byte, lines) in changes {
-        let mut text = Vec::from_slice(rt.alloc(), &whole)?;
-        text[place] = byte;
-        let wanted = Wanted {
-            status: 5,
-            output: b"",
-            lines,
-        };
-        let mut shelf = shelf_of(rt.alloc(), &text)?;
-        tries(
-            &rt,
-            rt.alloc(),
-            &mut shelf,
-            1000,
-            "intermit exec x.img",
-            &wanted,
-        )?;
-    }
-    let mut longer = Vec::from_slice(rt.alloc(), &whole)?;
-    longer.push(0)?;
+// Asks `exec` for an image, which it refuses with this line.
+fn refuses(rt: &impl Abort, alloc: Global, text: &[u8], line: &[u8]) -> Result<(), Fail> {
     let wanted = Wanted {
         status: 5,
         output: b"",
-        lines: b"intermit: x.img: trailing bytes at 36\n",
+        lines: line,
     };
-    let mut shelf = shelf_of(rt.alloc(), &longer)?;
-    tries(
+    let mut shelf = shelf_of(alloc, text)?;
+    tries(rt, alloc, &mut shelf, 1000, "intermit exec x.img", &wanted)
+}
+
+#[test]
+fn short_and_long_images_are_refused(rt: HostRuntime) -> Result<(), Fail> {
+    let mut text = image_text(rt.alloc(), 0x1000, &[HALT])?;
+    assert_eq!(rt; text.len(), 36);
+    for k in 0..text.len() {
+        let line = format!(in rt.alloc(); "intermit: x.img: short image at {k}\n")?;
+        refuses(&rt, rt.alloc(), &text[..k], line.as_bytes())?;
+    }
+    text.push(0)?;
+    refuses(
         &rt,
         rt.alloc(),
-        &mut shelf,
-        1000,
-        "intermit dump x.img",
-        &wanted,
+        &text,
+        b"intermit: x.img: trailing bytes at 36\n",
+    )
+}
+
+// Asks for a text with another byte at a place.
+fn refuses_changed(
+    rt: &impl Abort,
+    alloc: Global,
+    whole: &[u8],
+    changes: &[(usize, u8, &[u8])],
+) -> Result<(), Fail> {
+    for (place, byte, line) in changes {
+        let mut text = Vec::from_slice(alloc, whole)?;
+        if let Some(changed) = text.get_mut(*place) {
+            *changed = *byte;
+        }
+        refuses(rt, alloc, &text, line)?;
+    }
+    Ok(())
+}
+
+#[test]
+fn faulty_fields_are_refused(rt: HostRuntime) -> Result<(), Fail> {
+    let whole = image_text(rt.alloc(), 0x1000, &[HALT])?;
+    refuses_changed(
+        &rt,
+        rt.alloc(),
+        &whole,
+        &[
+            (0, 0, b"intermit: x.img: bad magic\n"),
+            (4, 9, b"intermit: x.img: bad version 9\n"),
+            (8, 0, b"intermit: x.img: bad field 3\n"),
+            (11, 1, b"intermit: x.img: bad field 3\n"),
+            (12, 1, b"intermit: x.img: bad field 4\n"),
+            (17, 0, b"intermit: x.img: bad field 5\n"),
+            (23, 1, b"intermit: x.img: bad field 6\n"),
+            (24, 4, b"intermit: x.img: bad field 7\n"),
+            (28, 1, b"intermit: x.img: bad field 8\n"),
+        ],
+    )
+}
+
+#[test]
+fn faulty_objects_are_refused(rt: HostRuntime) -> Result<(), Fail> {
+    // A size of 0, a name that is no name, an unknown kind, and a second object in the first one.
+    let whole = text_with_variables(rt.alloc())?;
+    refuses_changed(
+        &rt,
+        rt.alloc(),
+        &whole,
+        &[
+            (52, 0, b"intermit: x.img: bad field 9\n"),
+            (64, b'-', b"intermit: x.img: bad field 9\n"),
+            (69, 7, b"intermit: x.img: bad field 9\n"),
+            (77, 4, b"intermit: x.img: bad field 9\n"),
+        ],
     )
 }
