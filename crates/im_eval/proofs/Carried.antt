@@ -8,6 +8,7 @@ use Rattle.im_eval.specs.declared.run.Run.{Run}
 use Rattle.im_eval.specs.Going.{IsServedNow}
 use Rattle.im_eval.specs.ServedTasks.{IsServedTask}
 use Rattle.im_eval.specs.Stack.{pending, runs}
+use Rattle.im_eval.specs.Tidy.{IsTidy}
 
 -- what is next in a run, and then its tasks
 abbrev pub comes : Setting → ℕ → Run → Now → Answer (List Value)
@@ -18,20 +19,22 @@ pub record Carried (main : ℕ) (r : Run) (now : Now) (s : Run) (next : Now) : T
   pub capacity : s.frame.capacity ≡ r.frame.capacity
   pub served : IsServedNow next
   pub tasks : All IsServedTask s.tasks.items
+  pub tidy : IsTidy s
   pub same : (g : Setting) (n : ℕ) → g.capacity ≡ r.frame.capacity → g.prog.main ≡ main → r.machine.fuel ≤ n → comes g n r now ≡ comes g n s next
 
-pub carried_first : (main : ℕ) (r : Run) (now : Now) → IsServedNow now → All IsServedTask r.tasks.items → Carried main r now r now
-carried_first main r now h i = record { fuel = omega arith; capacity = refl; served = h; tasks = i; same = λ g n e m f. refl }
+pub carried_first : (main : ℕ) (r : Run) (now : Now) → IsServedNow now → All IsServedTask r.tasks.items → IsTidy r → Carried main r now r now
+carried_first main r now h i d = record { fuel = omega arith; capacity = refl; served = h; tasks = i; tidy = d; same = λ g n e m f. refl }
 
-pub carried_on : (main : ℕ) (r s t : Run) (now next after : Now) → Carried main r now s next → t.machine.fuel ≤ s.machine.fuel → t.frame.capacity ≡ s.frame.capacity → IsServedNow after → All IsServedTask t.tasks.items
+pub carried_on : (main : ℕ) (r s t : Run) (now next after : Now) → Carried main r now s next → t.machine.fuel ≤ s.machine.fuel → t.frame.capacity ≡ s.frame.capacity → IsServedNow after → All IsServedTask t.tasks.items → IsTidy t
     → ((g : Setting) (n : ℕ) → g.capacity ≡ s.frame.capacity → g.prog.main ≡ main → s.machine.fuel ≤ n → comes g n s next ≡ comes g n t after)
     → Carried main r now t after
-carried_on main r s t now next after c less cap h i step =
+carried_on main r s t now next after c less cap h i d step =
     record {
       fuel = let x = c.fuel in omega arith;
       capacity = cap ∙ c.capacity;
       served = h;
       tasks = i;
+      tidy = d;
       same = λ g n e m f. c.same g n e m f ∙ step g n (e ∙ sym c.capacity) m (let x = c.fuel in omega arith);
     }
 
@@ -48,4 +51,5 @@ pub record CarriedIn (g : Setting) (r : Run) (now : Now) (s : Run) (next : Now) 
   pub capacity : s.frame.capacity ≡ r.frame.capacity
   pub served : IsServedNow next
   pub tasks : All IsServedTask s.tasks.items
+  pub tidy : IsTidy s
   pub same : (n : ℕ) → r.machine.fuel ≤ n → comes g n r now ≡ comes g n s next

@@ -3,7 +3,7 @@ use Rattle.std.proofs.Common.{◌≡◌, ℕ, ap, sym}
 use Rattle.im_ctype.specs.Layout.{layouts}
 use Rattle.im_typed.specs.Meaning.{Around}
 use Rattle.im_typed.specs.Programs.{Setting, calls_of}
-use Rattle.im_state.specs.declared.machine.Frame.{Frame}
+use Rattle.im_state.specs.declared.frame.Frame.{Frame}
 use Rattle.im_state.specs.Shown.{at_frame}
 use Rattle.im_eval.specs.Stack.{in_activation}
 

@@ -3,7 +3,9 @@ pub mod Blocks
 pub mod Bounds
 pub mod Calls
 pub mod Carried
+pub mod Dead
 pub mod Fewer
 pub mod Frames
 pub mod Popped
+pub mod Switches
 pub mod Values

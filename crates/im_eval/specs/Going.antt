@@ -1,4 +1,4 @@
--- What holds of what is next: all of it is served, and how many steps it takes at most without fuel.
+-- What holds of what is next: all of it is served, and how many steps it takes at most up to a call or a loop's body.
 use Rattle.std.specs.Prelude.{◌≡◌, ◌<◌, ◌≤◌, ℕ, ◌+◌, List, [], sum_by, Ok, Err}
 use Rattle.std.specs.Prelude.{Result as Either}
 use Rattle.std.specs.List.{All}
@@ -7,7 +7,7 @@ use Rattle.im_eval.specs.declared.task.Task.{Task}
 use Rattle.im_eval.specs.declared.now.Now.{Now}
 use Rattle.im_eval.specs.declared.now.Now.TheVariants.{Evaluate, Arguments, Execute, Statements, Turn, Enter, Value as ValueNow, Ended as EndedNow}
 use Rattle.im_eval.specs.declared.now.Pause.{Pause}
-use Rattle.im_eval.specs.declared.now.Pause.TheVariants.{Done, Enter as EnterPaid, Call as CallPaid}
+use Rattle.im_eval.specs.declared.now.Pause.TheVariants.{Done, Enter as EnterDue, Call as CallDue}
 use Rattle.im_eval.specs.declared.now.Step.{Step}
 use Rattle.im_eval.specs.declared.now.Step.TheVariants.{Free, Paused}
 use Rattle.im_eval.specs.Served.{IsServed, IsServedStatement}
@@ -24,10 +24,11 @@ IsServedNow (Enter l) = IsServedLoop l
 IsServedNow (ValueNow found) = Unit {0}
 IsServedNow (EndedNow ended) = Unit {0}
 
+-- what is paid next is served; a call that is paid next has all its arguments
 abbrev pub IsServedPause : Pause → Type 0
 IsServedPause (Done found) = Unit {0}
-IsServedPause (EnterPaid l) = IsServedLoop l
-IsServedPause (CallPaid call) = call.rest.now ≡ []
+IsServedPause (EnterDue l) = IsServedLoop l
+IsServedPause (CallDue call) = call.rest.now ≡ []
 
 abbrev pub IsServedStep : Step → Type 0
 IsServedStep (Free now) = IsServedNow now
@@ -63,7 +64,7 @@ abbrev pub WithinSteps : ℕ → Either Now Stopped → List Task → Type 0
 WithinSteps most (Ok now) ts = now_weight now + tasks_weight ts ≤ most
 WithinSteps most (Err why) ts = Unit {0}
 
--- and a step that isn't paused takes fewer than so many
+-- behind a step that isn't a pause fewer than so many are left
 abbrev pub FewerSteps : ℕ → Either Step Stopped → List Task → Type 0
 FewerSteps most (Ok (Free now)) ts = now_weight now + tasks_weight ts < most
 FewerSteps most (Ok (Paused pause)) ts = Unit {0}

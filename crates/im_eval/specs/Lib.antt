@@ -5,4 +5,5 @@ pub mod Shown
 pub mod Stack
 pub mod Steps
 pub mod Tasks
+pub mod Tidy
 pub mod Weights

@@ -1,8 +1,9 @@
--- The programs that the evaluator serves: those on integers that stand in variables of one integer each.
-use Rattle.std.specs.Prelude.{◌^◌, pos, neg_ℤ, ◌<ℤ◌, Option, Some, None}
+-- The programs that the evaluator serves: those without pointers, arrays, structs and strings. Each object is one integer, and no number is -2^63.
+use Rattle.std.specs.Prelude.{◌≡◌, ◌^◌, List, [], ◌∷◌, pos, neg_ℤ, ◌<ℤ◌, Option, Some, None}
 use Rattle.std.specs.List.{All}
 use Rattle.im_typed.specs.declared.expression.Expr.{Expr, Row_of-Expr, end_of-Expr, more_of-Expr}
 use Rattle.im_typed.specs.declared.expression.Expr.TheVariants.{Number, Null, Read', Address', Convert', Unary', Binary', Move', MoveBy', Distance', Compare', Not', And', Or', Choose', Comma', Discard', Assign', Update', Increment', Part', Call', Getchar, Putchar'}
+use Rattle.im_typed.specs.declared.statement.Piece.{Piece}
 use Rattle.im_typed.specs.declared.statement.Stmt.{Stmt, Row_of-Stmt, end_of-Stmt, more_of-Stmt}
 use Rattle.im_typed.specs.declared.statement.Stmt.TheVariants.{Expr as Do, Forget, Initialise, Block', If', While', DoWhile', For', Switch', Break, Continue, Return}
 use Rattle.im_typed.specs.declared.program.Func.{Func}
@@ -30,7 +31,7 @@ abbrev mutual
   IsServed (Comma' p a q b) = IsServed a × IsServed b
   IsServed (Discard' p a) = IsServed a
   IsServed (Assign' x p a q e) = IsServedAccess x × IsServedPlace a × IsServed e
-  IsServed (Update' p a change q e) = ⊥
+  IsServed (Update' p a change q e) = IsServedPlace a × IsServedChange change × IsServed e
   IsServed (Increment' p a change old) = IsServedPlace a × IsServedChange change
   IsServed (Part' from count p e) = ⊥
   IsServed (Call' f shape args) = AreServed args
@@ -45,17 +46,23 @@ abbrev pub IsServedOptional : Option Expr → Type 0
 IsServedOptional None = Unit {0}
 IsServedOptional (Some e) = IsServed e
 
+-- an initialiser of one integer: one expression, for the cell at the object's start
+abbrev pub IsFirstValue : List Piece → Type 0
+IsFirstValue [] = ⊥
+IsFirstValue (p ∷ []) = (p.offset ≡ 0) × IsServedAccess p.access × IsServed p.value
+IsFirstValue (p ∷ q ∷ ps) = ⊥
+
 abbrev mutual
   pub IsServedStatement : Stmt → Type 0
   IsServedStatement (Do e) = IsServed e
   IsServedStatement (Forget x) = Unit {0}
-  IsServedStatement (Initialise x cells ps) = ⊥
+  IsServedStatement (Initialise x cells ps) = IsFirstValue ps.items
   IsServedStatement (Block' shape ss) = AreServedStatements ss
   IsServedStatement (If' t p a q b) = IsServed t × IsServedStatement a × IsServedStatement b
   IsServedStatement (While' t p a) = IsServed t × IsServedStatement a
   IsServedStatement (DoWhile' p a t) = IsServedStatement a × IsServed t
   IsServedStatement (For' p a t step q b) = IsServedStatement a × IsServed t × IsServed step × IsServedStatement b
-  IsServedStatement (Switch' e ks otherwise shape ss) = ⊥
+  IsServedStatement (Switch' e ks otherwise shape ss) = IsServed e × AreServedStatements ss
   IsServedStatement Break = Unit {0}
   IsServedStatement Continue = Unit {0}
   IsServedStatement (Return e) = IsServedOptional e

@@ -4,19 +4,20 @@ use Rattle.std.specs.List.{All}
 use denote.Bor.{Bor}
 use Rattle.im_typed.specs.declared.expression.Expr.{Expr}
 use Rattle.im_eval.specs.declared.task.Operator.{Operator}
-use Rattle.im_eval.specs.declared.task.Operator.TheVariants.{Convert, Unary, Right, Apply, RightCompared, Compare, Not, And, Or, IsNonzero, Choose, Comma, Discard, Store, Putchar}
+use Rattle.im_eval.specs.declared.task.Operator.TheVariants.{Convert, Unary, Right, Apply, RightCompared, Compare, Not, And, Or, IsNonzero, Choose, Comma, Discard, Store, Change, Putchar}
 use Rattle.im_eval.specs.declared.task.Call.{Call}
 use Rattle.im_eval.specs.declared.task.Loop.{Loop}
+use Rattle.im_eval.specs.declared.task.Switch.{Switch}
 use Rattle.im_eval.specs.declared.task.Use.{Use}
-use Rattle.im_eval.specs.declared.task.Use.TheVariants.{Drop, Return, Branch, Turn as TurnOn, Again}
+use Rattle.im_eval.specs.declared.task.Use.TheVariants.{Drop, Return, Initialise, Branch, Turn as TurnOn, Again, Enter as EnterSwitch}
 use Rattle.im_eval.specs.declared.task.Rest.{Rest}
-use Rattle.im_eval.specs.declared.task.Rest.TheVariants.{Statements as StatementsLeft, Body, First as FirstDone}
+use Rattle.im_eval.specs.declared.task.Rest.TheVariants.{Statements as StatementsLeft, Body, First as FirstDone, Switch as SwitchDone}
 use Rattle.im_eval.specs.declared.task.Task.{Task}
 use Rattle.im_eval.specs.declared.task.Task.TheVariants.{Operator as OperatorTask, Argument, Use as UseTask, Rest as RestTask, Leave}
 use Rattle.im_eval.specs.declared.next.Next.{Next}
 use Rattle.im_eval.specs.declared.next.Next.TheVariants.{Value as ValueOf, Evaluate, Operand, Arguments}
 use Rattle.im_eval.specs.declared.next.Onward.{Onward}
-use Rattle.im_eval.specs.declared.next.Onward.TheVariants.{Ended, Evaluate as EvaluateFor, Execute, First, Statements, Turn, Enter}
+use Rattle.im_eval.specs.declared.next.Onward.TheVariants.{Ended, Evaluate as EvaluateFor, Execute, First, Statements, Block, Turn, Enter}
 use Rattle.im_eval.specs.Served.{IsServed, IsServedStatement}
 
 abbrev pub IsServedOperator : Operator → Type 0
@@ -34,29 +35,36 @@ IsServedOperator (Choose a b) = IsServed a.now × IsServed b.now
 IsServedOperator (Comma b) = IsServed b.now
 IsServedOperator Discard = Unit {0}
 IsServedOperator (Store cell) = Unit {0}
+IsServedOperator (Change cell op at before) = Unit {0}
 IsServedOperator Putchar = Unit {0}
 
 abbrev pub IsServedCall : Call → Type 0
 IsServedCall call = All IsServed call.rest.now
 
-abbrev pub IsServedStep : Option (Bor Expr) → Type 0
-IsServedStep None = Unit {0}
-IsServedStep (Some e) = IsServed e.now
+abbrev pub IsServedLoopStep : Option (Bor Expr) → Type 0
+IsServedLoopStep None = Unit {0}
+IsServedLoopStep (Some e) = IsServed e.now
 
 abbrev pub IsServedLoop : Loop → Type 0
-IsServedLoop l = IsServed l.test.now × IsServedStep l.step × IsServedStatement l.body.now.value
+IsServedLoop l = IsServed l.test.now × IsServedLoopStep l.step × IsServedStatement l.body.now.value
+
+abbrev pub IsServedSwitch : Switch → Type 0
+IsServedSwitch w = All IsServedStatement w.block.now.items
 
 abbrev pub IsServedUse : Use → Type 0
 IsServedUse Drop = Unit {0}
 IsServedUse Return = Unit {0}
+IsServedUse (Initialise cell) = Unit {0}
 IsServedUse (Branch a b) = IsServedStatement a.now.value × IsServedStatement b.now.value
 IsServedUse (TurnOn l) = IsServedLoop l
 IsServedUse (Again l) = IsServedLoop l
+IsServedUse (EnterSwitch w) = IsServedSwitch w
 
 abbrev pub IsServedRest : Rest → Type 0
 IsServedRest (StatementsLeft ss) = All IsServedStatement ss.now
 IsServedRest (Body l) = IsServedLoop l
 IsServedRest (FirstDone l) = IsServedLoop l
+IsServedRest SwitchDone = Unit {0}
 
 abbrev pub IsServedTask : Task → Type 0
 IsServedTask (OperatorTask o) = IsServedOperator o
@@ -77,5 +85,6 @@ IsServedOnward (EvaluateFor e u) = IsServed e.now × IsServedUse u
 IsServedOnward (Execute t) = IsServedStatement t.now
 IsServedOnward (First t l) = IsServedStatement t.now.value × IsServedLoop l
 IsServedOnward (Statements ss) = All IsServedStatement ss.now
+IsServedOnward (Block ss) = All IsServedStatement ss.now
 IsServedOnward (Turn l) = IsServedLoop l
 IsServedOnward (Enter l) = IsServedLoop l

@@ -2,7 +2,7 @@
 use Rattle.std.specs.Prelude.{◌≡◌, ℕ, List, [], ◌∷◌, reverse, nat_eq, Ok, Err}
 use Rattle.std.specs.Prelude.{Result as Either}
 use Rattle.im_typed.specs.Runs.{Value, State, Answer, Run, bind, give}
-use Rattle.im_typed.specs.Meaning.{Around, Flow, value_of, does}
+use Rattle.im_typed.specs.Meaning.{Around, Flow, Returned, value_of, does}
 use Rattle.im_typed.specs.Programs.{Setting, around, calls_of, leave}
 use Rattle.im_state.specs.declared.machine.Stopped.{Stopped}
 use Rattle.im_state.specs.Shown.{Halts, values}
@@ -13,7 +13,7 @@ use Rattle.im_eval.specs.declared.task.Task.TheVariants.{Operator as OperatorTas
 use Rattle.im_eval.specs.declared.now.Now.{Now}
 use Rattle.im_eval.specs.declared.now.Now.TheVariants.{Evaluate, Arguments, Execute, Statements, Turn, Enter, Value as ValueNow, Ended as EndedNow}
 use Rattle.im_eval.specs.declared.now.Pause.{Pause}
-use Rattle.im_eval.specs.declared.now.Pause.TheVariants.{Done, Enter as EnterPaid, Call as CallPaid}
+use Rattle.im_eval.specs.declared.now.Pause.TheVariants.{Done, Enter as EnterDue, Call as CallDue}
 use Rattle.im_eval.specs.declared.now.Step.{Step}
 use Rattle.im_eval.specs.declared.now.Step.TheVariants.{Free, Paused}
 use Rattle.im_eval.specs.Tasks.{operates, takes_argument, calls_on, loops, enters_body, uses, goes_after}
@@ -28,11 +28,11 @@ abbrev pub pending : List Task → List Task
 pending ts = reverse ts
 
 module _ (g : Setting) (n : ℕ) where
-  -- an activation whose first object has that number; calls and loops are bounded by a number that is to be at least the fuel
+  -- an activation whose first object has that number; its calls are bounded by n, which is to be at least the fuel
   abbrev pub in_activation : ℕ → Around
   in_activation base = around g (calls_of g n) base
 
-  -- the tasks from there on; one that waits for something else is passed over
+  -- the tasks from there on. A task that waits for something else is passed over; a value at the end of a function is returned
   abbrev pub finishes : ℕ → List Task → Point → Run (List Value)
   finishes base [] (Valued vs) = give vs
   finishes base [] (Flowed f) = give []
@@ -44,13 +44,16 @@ module _ (g : Setting) (n : ℕ) where
   finishes base (UseTask u ∷ ts) (Flowed f) = finishes base ts (Flowed f)
   finishes base (RestTask r ∷ ts) (Valued vs) = finishes base ts (Valued vs)
   finishes base (RestTask r ∷ ts) (Flowed f) = bind (goes_after (in_activation base) n r f) (λ h. finishes base ts (Flowed h))
-  finishes base (Leave caller ∷ ts) (Valued vs) = finishes base ts (Valued vs)
+  finishes base (Leave caller ∷ ts) (Valued vs) =
+      bind (leave base caller.frames (nat_eq caller.function g.prog.main) (Returned vs)) (λ ws. finishes caller.base ts (Valued ws))
   finishes base (Leave caller ∷ ts) (Flowed f) =
       bind (leave base caller.frames (nat_eq caller.function g.prog.main) f) (λ vs. finishes caller.base ts (Valued vs))
 
+  -- a run, and the tasks behind it with the value that it gives
   abbrev pub then_valued : ℕ → List Task → Run (List Value) → Run (List Value)
   then_valued base ts m = bind m (λ vs. finishes base ts (Valued vs))
 
+  -- and with the way in which it ends
   abbrev pub then_flowed : ℕ → List Task → Run Flow → Run (List Value)
   then_flowed base ts m = bind m (λ f. finishes base ts (Flowed f))
 
@@ -65,14 +68,16 @@ module _ (g : Setting) (n : ℕ) where
   runs base ts (ValueNow found) = finishes base ts (Valued (values found))
   runs base ts (EndedNow ended) = finishes base ts (Flowed (flow ended))
 
-  abbrev pub goes_on_from : ℕ → List Task → Pause → Run (List Value)
-  goes_on_from base ts (Done found) = give (values found)
-  goes_on_from base ts (EnterPaid l) = then_flowed base ts (enters_body (in_activation base) n l)
-  goes_on_from base ts (CallPaid call) = then_valued base ts (calls_on (in_activation base) call)
+  -- what a pause leaves to do, and then the tasks; where the run is done, nothing is left
+  abbrev pub resumes : ℕ → List Task → Pause → Run (List Value)
+  resumes base ts (Done found) = give (values found)
+  resumes base ts (EnterDue l) = then_flowed base ts (enters_body (in_activation base) n l)
+  resumes base ts (CallDue call) = then_valued base ts (calls_on (in_activation base) call)
 
+  -- what is to do behind a step
   abbrev pub steps_on : ℕ → List Task → Step → Run (List Value)
   steps_on base ts (Free now) = runs base ts now
-  steps_on base ts (Paused pause) = goes_on_from base ts pause
+  steps_on base ts (Paused pause) = resumes base ts pause
 
   -- a run goes on so in this state, or has stopped
   abbrev pub MeetsNow : ℕ → List Task → Either Now Stopped → State → Answer (List Value) → Type 0
@@ -84,5 +89,5 @@ module _ (g : Setting) (n : ℕ) where
   MeetsStep base ts (Err why) s r = Halts why s r
 
   abbrev pub MeetsPause : ℕ → List Task → Either Pause Stopped → State → Answer (List Value) → Type 0
-  MeetsPause base ts (Ok pause) s r = r ≡ goes_on_from base ts pause s
+  MeetsPause base ts (Ok pause) s r = r ≡ resumes base ts pause s
   MeetsPause base ts (Err why) s r = Halts why s r

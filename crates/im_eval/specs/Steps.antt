@@ -1,14 +1,14 @@
 -- What is shown of the way in which an expression or a statement goes on.
 use Rattle.std.specs.Prelude.{◌≡◌, ℕ, List}
 use Rattle.im_typed.specs.Runs.{Value, State, Answer, goes_on}
-use Rattle.im_typed.specs.Meaning.{Around, Flow, value_of, does}
+use Rattle.im_typed.specs.Meaning.{Around, Flow, out_of_switch, value_of, does}
 use Rattle.im_state.specs.Shown.{Meets}
 use Rattle.im_state.specs.Flows.{MeetsFlow}
 use Rattle.im_state.specs.Lists.{does_all}
 use Rattle.im_eval.specs.declared.next.Next.{Next}
 use Rattle.im_eval.specs.declared.next.Next.TheVariants.{Value as ValueOf, Evaluate, Operand, Arguments}
 use Rattle.im_eval.specs.declared.next.Onward.{Onward}
-use Rattle.im_eval.specs.declared.next.Onward.TheVariants.{Ended, Evaluate as EvaluateFor, Execute, First, Statements, Turn, Enter}
+use Rattle.im_eval.specs.declared.next.Onward.TheVariants.{Ended, Evaluate as EvaluateFor, Execute, First, Statements, Block, Turn, Enter}
 use Rattle.im_eval.specs.Tasks.{operates, calls_on, loops, enters_body, uses}
 
 -- a run of an expression goes on so in this state
@@ -25,5 +25,6 @@ MeetsOnward c n (EvaluateFor e u) s r = r ≡ goes_on (value_of c e.now s) (uses
 MeetsOnward c n (Execute t) s r = r ≡ does c n t.now s
 MeetsOnward c n (First t l) s r = r ≡ goes_on (does c n t.now.value s) (λ f. loops c n l)
 MeetsOnward c n (Statements ss) s r = r ≡ does_all c n ss.now s
+MeetsOnward c n (Block ss) s r = r ≡ goes_on (does_all c n ss.now s) out_of_switch
 MeetsOnward c n (Turn l) s r = r ≡ loops c n l s
 MeetsOnward c n (Enter l) s r = r ≡ enters_body c n l s

@@ -1,24 +1,26 @@
--- How many steps what is still to do takes at most, until it takes fuel or is done.
+-- How many steps what is still to do takes at most, up to the next call or loop's body.
 use Rattle.std.specs.Prelude.{ℕ, ◌+◌, List, sum_by, Option, Some, None}
 use denote.Bor.{Bor}
 use Rattle.im_typed.specs.declared.expression.Expr.{Expr, Row_of-Expr, end_of-Expr, more_of-Expr}
 use Rattle.im_typed.specs.declared.expression.Expr.TheVariants.{Number, Null, Read', Address', Convert', Unary', Binary', Move', MoveBy', Distance', Compare', Not', And', Or', Choose', Comma', Discard', Assign', Update', Increment', Part', Call', Getchar, Putchar'}
+use Rattle.im_typed.specs.declared.statement.Piece.{Piece}
 use Rattle.im_typed.specs.declared.statement.Stmt.{Stmt, Row_of-Stmt, end_of-Stmt, more_of-Stmt}
 use Rattle.im_typed.specs.declared.statement.Stmt.TheVariants.{Expr as Do, Forget, Initialise, Block', If', While', DoWhile', For', Switch', Break, Continue, Return}
 use Rattle.im_eval.specs.declared.task.Operator.{Operator}
-use Rattle.im_eval.specs.declared.task.Operator.TheVariants.{Convert, Unary, Right, Apply, RightCompared, Compare, Not, And, Or, IsNonzero, Choose, Comma, Discard, Store, Putchar}
+use Rattle.im_eval.specs.declared.task.Operator.TheVariants.{Convert, Unary, Right, Apply, RightCompared, Compare, Not, And, Or, IsNonzero, Choose, Comma, Discard, Store, Change, Putchar}
 use Rattle.im_eval.specs.declared.task.Call.{Call}
 use Rattle.im_eval.specs.declared.task.Loop.{Loop}
+use Rattle.im_eval.specs.declared.task.Switch.{Switch}
 use Rattle.im_eval.specs.declared.task.Use.{Use}
-use Rattle.im_eval.specs.declared.task.Use.TheVariants.{Drop, Return as ReturnIt, Branch, Turn as TurnOn, Again}
+use Rattle.im_eval.specs.declared.task.Use.TheVariants.{Drop, Return as ReturnIt, Initialise as InitialiseIt, Branch, Turn as TurnOn, Again, Enter as EnterSwitch}
 use Rattle.im_eval.specs.declared.task.Rest.{Rest}
-use Rattle.im_eval.specs.declared.task.Rest.TheVariants.{Statements as StatementsLeft, Body, First as FirstDone}
+use Rattle.im_eval.specs.declared.task.Rest.TheVariants.{Statements as StatementsLeft, Body, First as FirstDone, Switch as SwitchDone}
 use Rattle.im_eval.specs.declared.task.Task.{Task}
 use Rattle.im_eval.specs.declared.task.Task.TheVariants.{Operator as OperatorTask, Argument, Use as UseTask, Rest as RestTask, Leave}
 use Rattle.im_eval.specs.declared.next.Next.{Next}
 use Rattle.im_eval.specs.declared.next.Next.TheVariants.{Value as ValueOf, Evaluate, Operand, Arguments}
 use Rattle.im_eval.specs.declared.next.Onward.{Onward}
-use Rattle.im_eval.specs.declared.next.Onward.TheVariants.{Ended, Evaluate as EvaluateFor, Execute, First, Statements, Turn, Enter}
+use Rattle.im_eval.specs.declared.next.Onward.TheVariants.{Ended, Evaluate as EvaluateFor, Execute, First, Statements, Block as BlockFrom, Turn, Enter}
 
 abbrev mutual
   pub weight : Expr → ℕ
@@ -40,7 +42,7 @@ abbrev mutual
   weight (Comma' p a q b) = 2 + weight a + weight b
   weight (Discard' p a) = 2 + weight a
   weight (Assign' x p a q e) = 2 + weight e
-  weight (Update' p a change q e) = 1
+  weight (Update' p a change q e) = 2 + weight e
   weight (Increment' p a change old) = 1
   weight (Part' from count p e) = 1
   weight (Call' f shape args) = 2 + weight_of_row args
@@ -58,18 +60,21 @@ abbrev pub optional_weight : Option Expr → ℕ
 optional_weight None = 1
 optional_weight (Some e) = 2 + weight e
 
--- the body of a loop is entered for fuel
+abbrev pub value_weight : Piece → ℕ
+value_weight p = weight p.value
+
+-- a loop's body isn't counted: it is entered for fuel
 abbrev mutual
   pub statement_weight : Stmt → ℕ
   statement_weight (Do e) = 2 + weight e
   statement_weight (Forget x) = 1
-  statement_weight (Initialise x cells ps) = 1
+  statement_weight (Initialise x cells ps) = 2 + sum_by value_weight ps.items
   statement_weight (Block' shape ss) = 2 + block_weight ss
   statement_weight (If' t p a q b) = 2 + weight t + statement_weight a + statement_weight b
   statement_weight (While' t p a) = 3 + weight t
   statement_weight (DoWhile' p a t) = 1
   statement_weight (For' p a t step q b) = 4 + statement_weight a + weight t
-  statement_weight (Switch' e ks otherwise shape ss) = 1
+  statement_weight (Switch' e ks otherwise shape ss) = 4 + weight e + block_weight ss
   statement_weight Break = 1
   statement_weight Continue = 1
   statement_weight (Return e) = optional_weight e
@@ -98,6 +103,7 @@ operator_weight (Choose a b) = 1 + weight a.now + weight b.now
 operator_weight (Comma b) = 1 + weight b.now
 operator_weight Discard = 1
 operator_weight (Store cell) = 1
+operator_weight (Change cell op at before) = 1
 operator_weight Putchar = 1
 
 abbrev pub arguments_weight : Call → ℕ
@@ -110,20 +116,27 @@ abbrev pub step_weight : Option (Bor Expr) → ℕ
 step_weight None = 0
 step_weight (Some e) = weight e.now
 
+abbrev pub statements_weight : List Stmt → ℕ
+statements_weight ss = 1 + sum_by listed_weight ss
+
+-- a task for the end of its block is put on the stack
+abbrev pub switch_weight : Switch → ℕ
+switch_weight w = 1 + statements_weight w.block.now.items
+
 abbrev pub use_weight : Use → ℕ
 use_weight Drop = 1
 use_weight ReturnIt = 1
+use_weight (InitialiseIt cell) = 1
 use_weight (Branch a b) = 1 + statement_weight a.now.value + statement_weight b.now.value
 use_weight (TurnOn l) = 1
 use_weight (Again l) = 1 + turn_weight l
-
-abbrev pub statements_weight : List Stmt → ℕ
-statements_weight ss = 1 + sum_by listed_weight ss
+use_weight (EnterSwitch w) = 1 + switch_weight w
 
 abbrev pub rest_weight : Rest → ℕ
 rest_weight (StatementsLeft ss) = 1 + statements_weight ss.now
 rest_weight (Body l) = 2 + step_weight l.step + turn_weight l
 rest_weight (FirstDone l) = 1 + turn_weight l
+rest_weight SwitchDone = 1
 
 abbrev pub task_weight : Task → ℕ
 task_weight (OperatorTask o) = operator_weight o
@@ -144,5 +157,6 @@ onward_weight (EvaluateFor e u) = weight e.now + use_weight u
 onward_weight (Execute t) = statement_weight t.now
 onward_weight (First t l) = statement_weight t.now.value + 1 + turn_weight l
 onward_weight (Statements ss) = statements_weight ss.now
+onward_weight (BlockFrom ss) = 1 + statements_weight ss.now
 onward_weight (Turn l) = turn_weight l
 onward_weight (Enter l) = 0

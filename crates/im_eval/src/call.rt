@@ -1,3 +1,4 @@
+ghost use Rattle.im_eval.specs.Tidy.{IsTidy};
 ghost use Rattle.std.specs.Prelude.{◌≡◌, ◌<◌, ◌≤◌, ◌+◌, ◌^◌, ℕ, [], IfOk, nat_le, slice_index_or};
 ghost use Rattle.std.specs.List.{All};
 ghost use Rattle.im_typed.specs.Programs as Programs;
@@ -16,7 +17,7 @@ use crate::now::Now;
 use crate::run::Run;
 use crate::setting::Setting;
 use crate::task::{Call, Caller, Loop, Rest, Task};
-use im_state::{Number, Stopped, enter};
+use im_state::{Frame, Number, Stopped, enter};
 use im_typed::{Func, Undefined};
 use std::alloc::Global;
 
@@ -24,11 +25,13 @@ use std::alloc::Global;
 pub(crate) fn enter_body<'p>(run: &mut Run<'p>, turn: Loop<'p>) -> Result<Now<'p>, Stopped>
     requires turn { IsServedLoop turn }
     requires tasks { All IsServedTask run.old.tasks.items }
+    requires tidy { IsTidy run.old }
     ensures meaning { (g : Programs.Setting) (n : ℕ) → MeetsNow g n run.new.frame.base (pending run.new.tasks.items) result (state_of run.new.machine) (then_flowed g n run.old.frame.base (pending run.old.tasks.items) (enters_body (in_activation g n run.old.frame.base) n turn.entry) (state_of run.old.machine)) }
     ensures served { ServedNow result }
     ensures tasks { All IsServedTask run.new.tasks.items }
     ensures paid { IfOk result (λ _. run.new.machine.fuel < run.old.machine.fuel) }
     ensures capacity { run.new.frame.capacity ≡ run.old.frame.capacity }
+    ensures tidy { IfOk result (λ _. IsTidy run.new) }
 {
     if run.machine.fuel == 0 {
         return Err(Stopped::MoreFuel);
@@ -59,26 +62,31 @@ fn enter_activation<'p>(
 ) -> Result<Now<'p>, Stopped>
     requires func { IsServedFunction func.now }
     requires tasks { All IsServedTask run.old.tasks.items }
+    requires tidy { IsTidy run.old }
     requires room { run.old.machine.frames + bytes < 2 ^ 64 }
     ensures meaning { (g : Programs.Setting) (n : ℕ) → slice_index_or g.frames function 0 ≡ bytes → MeetsNow g n run.new.frame.base (pending run.new.tasks.items) result (state_of run.new.machine) (then_valued g n run.old.frame.base (pending run.old.tasks.items) (activation g (calls_of g n) n function func.now (numbers arguments.now)) (state_of run.old.machine)) }
     ensures served { ServedNow result }
     ensures tasks { All IsServedTask run.new.tasks.items }
     ensures fuel { run.new.machine.fuel ≡ run.old.machine.fuel }
     ensures capacity { run.new.frame.capacity ≡ run.old.frame.capacity }
+    ensures tidy { IfOk result (λ _. IsTidy run.new) }
 {
-    let Ok(base) = u32::try_from(run.machine.store.len()) else {
-        return Err(Stopped::OutOfMemory);
-    };
+    let base = run.machine.store.len();
     let caller = Caller {
         function,
         base: run.frame.base,
+        past: run.past,
         frames: run.machine.frames,
     };
     match enter(alloc, &mut run.machine, &func.objects, arguments, bytes) {
         Err(why) => return Err(why),
         Ok(()) => {}
     }
-    run.frame.base = base;
+    run.past = run.machine.store.len();
+    run.frame = Frame {
+        base,
+        capacity: run.frame.capacity,
+    };
     before(
         &mut run.tasks,
         Now::Execute(&func.body),
@@ -96,11 +104,13 @@ pub(crate) fn enter_function<'p>(
 ) -> Result<Now<'p>, Stopped>
     requires program { IsServedProgram setting.prog.now }
     requires tasks { All IsServedTask run.old.tasks.items }
+    requires tidy { IsTidy run.old }
     ensures meaning { let g = setting_of setting.entry in (n : ℕ) → MeetsNow g n run.new.frame.base (pending run.new.tasks.items) result (state_of run.new.machine) (then_valued g n run.old.frame.base (pending run.old.tasks.items) (called g (calls_of g n) n function (numbers arguments.now)) (state_of run.old.machine)) }
     ensures served { ServedNow result }
     ensures tasks { All IsServedTask run.new.tasks.items }
     ensures fuel { run.new.machine.fuel ≡ run.old.machine.fuel }
     ensures capacity { run.new.frame.capacity ≡ run.old.frame.capacity }
+    ensures tidy { IfOk result (λ _. IsTidy run.new) }
 {
     match setting.prog.funcs.get(function as usize) {
         None => Err(Stopped::Undefined(Undefined::MissingResult)),
@@ -135,11 +145,13 @@ pub(crate) fn call_function<'p>(
     requires program { IsServedProgram setting.prog.now }
     requires ready { call.rest.now ≡ [] }
     requires tasks { All IsServedTask run.old.tasks.items }
+    requires tidy { IsTidy run.old }
     ensures meaning { let g = setting_of setting.entry in (n : ℕ) → run.old.machine.fuel ≤ n → MeetsNow g n run.new.frame.base (pending run.new.tasks.items) result (state_of run.new.machine) (then_valued g n run.old.frame.base (pending run.old.tasks.items) (calls_on (in_activation g n run.old.frame.base) call.entry) (state_of run.old.machine)) }
     ensures served { ServedNow result }
     ensures tasks { All IsServedTask run.new.tasks.items }
     ensures paid { IfOk result (λ _. run.new.machine.fuel < run.old.machine.fuel) }
     ensures capacity { run.new.frame.capacity ≡ run.old.frame.capacity }
+    ensures tidy { IfOk result (λ _. IsTidy run.new) }
 {
     if run.machine.fuel == 0 {
         return Err(Stopped::MoreFuel);

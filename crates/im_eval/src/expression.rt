@@ -1,6 +1,10 @@
-ghost use Rattle.std.specs.Prelude.{◌<◌, ◌≤◌, List};
+ghost use Rattle.im_state.specs.Activations.{Rewritten};
+ghost use Rattle.std.specs.Prelude.{◌+◌, ◌<◌, ◌≤◌, List, false};
 ghost use Rattle.im_ctype.specs.Layout.{Layout};
-ghost use Rattle.im_typed.specs.Meaning.{Calls, value_of};
+ghost use Rattle.im_typed.specs.Meaning.{Calls, place_of, update, value_of};
+ghost use Rattle.im_typed.specs.Objects.{then_number};
+ghost use Rattle.im_typed.specs.Runs.{bind, give};
+ghost use Rattle.im_state.specs.Cells.{IsServedPlace, IsServedChange};
 ghost use Rattle.im_state.specs.Shown.{state_of, at_frame};
 ghost use Rattle.im_eval.specs.Served.{IsServed};
 ghost use Rattle.im_eval.specs.ServedTasks.{IsServedNext};
@@ -10,10 +14,46 @@ ghost use Rattle.im_eval.specs.Weights.{weight, next_weight};
 use crate::next::Next;
 use crate::task::{Call, Operator};
 use im_state::{
-    Cell, Found, Frame, Machine, Number, get_char, increment, kind_at, object_at, read,
+    Cell, Found, Frame, Machine, Number, get_char, increment, kind_at, object_at, read, used_number,
 };
-use im_typed::Expr;
+use im_typed::{Change, Expr, Place};
 use std::alloc::Global;
+
+/// How a compound assignment begins: its old value is read, and then the amount is evaluated.
+fn begin_change<'p>(
+    machine: &Machine,
+    frame: Frame,
+    place: &Place,
+    change: Change,
+    by: &'p Expr,
+) -> Next<'p>
+    requires place { IsServedPlace place.now }
+    requires change { IsServedChange change }
+    requires by { IsServed by.now }
+    ensures meaning { (structs : List Layout) (calls : Calls) → MeetsNext (at_frame frame structs calls) result (state_of machine.now) (bind (place_of (at_frame frame structs calls) place.now) (update change false (then_number (value_of (at_frame frame structs calls) by.now) give)) (state_of machine.now)) }
+    ensures served { IsServedNext result }
+    ensures lighter { next_weight result < 2 + weight by.now }
+{
+    match change {
+        Change::Number { kind, op, at } => {
+            let object = object_at(frame, place);
+            let cell = Cell { kind, object };
+            match used_number(read(machine, cell)) {
+                Err(why) => Next::Value(Err(why)),
+                Ok(before) => {
+                    let operator = Operator::Change {
+                        cell,
+                        op,
+                        at,
+                        before,
+                    };
+                    Next::Operand(by, operator)
+                }
+            }
+        }
+        Change::Move { .. } => unreachable!(),
+    }
+}
 
 /// How an expression begins: with the first of its operands, or with its value where it has none.
 pub(crate) fn begin<'p>(
@@ -27,6 +67,7 @@ pub(crate) fn begin<'p>(
     ensures served { IsServedNext result }
     ensures lighter { next_weight result < weight expr.entry.now }
     ensures fuel { machine.new.fuel ≤ machine.old.fuel }
+    ensures rewritten { Rewritten (state_of machine.old).world.store (state_of machine.new).world.store }
 {
     match expr {
         Expr::Number(value) => Next::Value(Ok(Found::Number(Number { value: *value }))),
@@ -58,6 +99,7 @@ pub(crate) fn begin<'p>(
             };
             Next::Operand(value, Operator::Store(cell))
         }
+        Expr::Update { place, change, by } => begin_change(machine, frame, place, *change, by),
         Expr::Increment { place, change, old } => {
             Next::Value(increment(machine, frame, place, *change, *old))
         }
@@ -73,7 +115,6 @@ pub(crate) fn begin<'p>(
         | Expr::Move { .. }
         | Expr::MoveBy { .. }
         | Expr::Distance { .. }
-        | Expr::Update { .. }
         | Expr::Part { .. } => unreachable!(),
     }
 }

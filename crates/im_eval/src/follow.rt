@@ -1,3 +1,5 @@
+ghost use Rattle.im_eval.specs.Tidy.{IsStacked};
+ghost use Rattle.im_typed.specs.Runs.{Store};
 ghost use Rattle.std.specs.Prelude.{◌≡◌, ℕ, ◌+◌, List, [], ◌∷◌, ◌++◌, IfOk, IfErr};
 ghost use Rattle.std.specs.List.{All};
 ghost use Rattle.im_typed.specs.Meaning.{Flow};
@@ -40,6 +42,7 @@ pub(crate) fn follow<'p>(tasks: &mut Vec<Task<'p>>, next: Next<'p>) -> Result<No
     ensures meaning { (g : Setting) (n base : ℕ) (s : State) (r : Answer (List Value)) → MeetsNext (in_activation g n base) next.entry s r → MeetsNow g n base (pending tasks.new.items) result s (goes_on r (λ vs. finishes g n base (pending tasks.old.items) (Valued vs))) }
     ensures served { ServedNow result }
     ensures tasks { All IsServedTask tasks.new.items }
+    ensures stacked { (base : ℕ) (store : Store) → IsStacked base (pending tasks.old.items) store → IsStacked base (pending tasks.new.items) store }
     ensures lighter { WithinSteps (next_weight next.entry + tasks_weight tasks.old.items) result tasks.new.items }
 {
     match next {
@@ -62,6 +65,7 @@ pub(crate) fn proceed<'p>(tasks: &mut Vec<Task<'p>>, onward: Onward<'p>) -> Resu
     ensures meaning { (g : Setting) (n base : ℕ) (s : State) (r : Answer Flow) → MeetsOnward (in_activation g n base) n onward.entry s r → MeetsNow g n base (pending tasks.new.items) result s (goes_on r (λ f. finishes g n base (pending tasks.old.items) (Flowed f))) }
     ensures served { ServedNow result }
     ensures tasks { All IsServedTask tasks.new.items }
+    ensures stacked { (base : ℕ) (store : Store) → IsStacked base (pending tasks.old.items) store → IsStacked base (pending tasks.new.items) store }
     ensures lighter { WithinSteps (onward_weight onward.entry + tasks_weight tasks.old.items) result tasks.new.items }
 {
     match onward {
@@ -75,6 +79,9 @@ pub(crate) fn proceed<'p>(tasks: &mut Vec<Task<'p>>, onward: Onward<'p>) -> Resu
             before(tasks, Now::Execute(stmt), Task::Rest(Rest::First(turn)))
         }
         Onward::Statements(statements) => Ok(Now::Statements(statements)),
+        Onward::Block(statements) => {
+            before(tasks, Now::Statements(statements), Task::Rest(Rest::Switch))
+        }
         Onward::Turn(turn) => Ok(Now::Turn(turn)),
         Onward::Enter(turn) => Ok(Now::Enter(turn)),
     }

@@ -21,6 +21,8 @@ pub(crate) enum Onward<'p> {
     /// The first statement of a `for` is executed, then its loop.
     First(&'p Box<Stmt>, Loop<'p>),
     Statements(&'p [Stmt]),
+    /// The statements of a switch's block from where it is entered.
+    Block(&'p [Stmt]),
     /// The next turn of a loop begins with its test.
     Turn(Loop<'p>),
     /// The body of a loop is entered, for a unit of fuel.

@@ -20,7 +20,7 @@ pub(crate) enum Now<'p> {
     Ended(Ended),
 }
 
-/// Where a run comes to a unit of fuel, or to its end.
+/// Where a run comes to a call or a loop's body, which take a unit of fuel, or to its end.
 #[derive(Drop)]
 pub(crate) enum Pause<'p> {
     Done(Found),
@@ -29,7 +29,7 @@ pub(crate) enum Pause<'p> {
     Call(Call<'p>),
 }
 
-/// A step that takes no fuel: what is next, or a pause.
+/// What a step leads to.
 #[derive(Drop)]
 pub(crate) enum Step<'p> {
     Free(Now<'p>),

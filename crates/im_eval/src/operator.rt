@@ -1,3 +1,4 @@
+ghost use Rattle.im_state.specs.Activations.{Rewritten};
 ghost use Rattle.std.specs.Prelude.{◌<◌, ◌≤◌, List};
 ghost use Rattle.im_ctype.specs.Layout.{Layout};
 ghost use Rattle.im_typed.specs.Meaning.{Calls};
@@ -10,8 +11,8 @@ ghost use Rattle.im_eval.specs.Weights.{operator_weight, next_weight};
 use crate::next::Next;
 use crate::task::Operator;
 use im_state::{
-    Found, Frame, Machine, Number, assign, binary, compared, converted, discarded, is_nonzero,
-    negated, put_char, tested, unary, used_number,
+    Found, Frame, Machine, Number, assign, binary, change_by, compared, converted, discarded,
+    is_nonzero, negated, put_char, tested, unary, used_number,
 };
 
 /// An operator goes on from the value of an operand.
@@ -26,6 +27,7 @@ pub(crate) fn operate<'p>(
     ensures served { IsServedNext result }
     ensures lighter { next_weight result < operator_weight operator.entry }
     ensures fuel { machine.new.fuel ≤ machine.old.fuel }
+    ensures rewritten { Rewritten (state_of machine.old).world.store (state_of machine.new).world.store }
 {
     match operator {
         Operator::Convert(kind) => Next::Value(converted(kind, Ok(found))),
@@ -69,6 +71,15 @@ pub(crate) fn operate<'p>(
         Operator::Comma(right) => Next::Evaluate(right),
         Operator::Discard => Next::Value(discarded(Ok(found))),
         Operator::Store(cell) => Next::Value(assign(machine, cell, Ok(found))),
+        Operator::Change {
+            cell,
+            op,
+            at,
+            before,
+        } => match used_number(Ok(found)) {
+            Err(why) => Next::Value(Err(why)),
+            Ok(by) => Next::Value(change_by(machine, cell, op, at, before, by)),
+        },
         Operator::Putchar => match used_number(Ok(found)) {
             Err(why) => Next::Value(Err(why)),
             Ok(number) => Next::Value(put_char(machine, frame.capacity, number)),

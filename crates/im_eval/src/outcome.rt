@@ -6,6 +6,7 @@ use im_typed::Undefined;
 pub enum Ending {
     /// `main` returned.
     Returned,
+    /// A function was called whose frame has no room on the stack.
     StackExhausted,
 }
 
@@ -19,6 +20,7 @@ pub enum Outcome {
         /// The bytes written so far.
         output: Vec<u8>,
     },
+    /// It ended.
     Ended {
         ending: Ending,
         /// What `main` returned; 0 where the stack is exhausted.

@@ -1,3 +1,4 @@
+ghost use Rattle.im_eval.specs.Tidy.{IsTidy};
 ghost use Rattle.std.specs.Prelude.{◌≡◌, ◌↔◌, ◌≤◌, ℕ, List, [], map, take, Err, IfOk, IfErr};
 ghost use Rattle.std.specs.List.{All};
 ghost use Rattle.im_typed.specs.Programs as Programs;
@@ -28,7 +29,7 @@ use thiserror::Error;
 /// Why a program isn't evaluated.
 #[derive(Clone, Copy, PartialEq, Eq, Debug, Error)]
 pub enum EvalFault {
-    /// The program has something that the evaluator doesn't serve.
+    /// The program has a pointer, an array, a struct, a string, or the number -2^63.
     #[error("not served")]
     NotServed,
     #[error("out of memory")]
@@ -45,6 +46,7 @@ fn finish<'p>(
     requires program { IsServedProgram setting.prog.now }
     requires now { IsServedNow first }
     requires tasks { All IsServedTask run.old.tasks.items }
+    requires tidy { IsTidy run.old }
     requires capacity { run.old.frame.capacity ≡ setting.capacity }
     ensures { let g = setting_of setting.entry in (n : ℕ) → run.old.machine.fuel ≤ n → Meets result (state_of run.new.machine) (runs g n run.old.frame.base (pending run.old.tasks.items) first.entry (state_of run.old.machine)) }
 {
@@ -134,6 +136,7 @@ fn conclude(
 fn run_main<'p>(alloc: Global, setting: Setting<'p>, run: &mut Run<'p>) -> Result<Found, Stopped>
     requires program { IsServedProgram setting.prog.now }
     requires tasks { run.old.tasks.items ≡ [] }
+    requires tidy { IsTidy run.old }
     requires capacity { run.old.frame.capacity ≡ setting.capacity }
     ensures { let g = setting_of setting.entry in (n : ℕ) → run.old.machine.fuel ≤ n → Meets result (state_of run.new.machine) (called g (calls_of g n) n g.prog.main [] (state_of run.old.machine)) }
 {
@@ -143,8 +146,9 @@ fn run_main<'p>(alloc: Global, setting: Setting<'p>, run: &mut Run<'p>) -> Resul
     }
 }
 
-/// What a program does on an input, with so much fuel: each call, each turn of a loop, each
-/// `getchar` and each `putchar` takes a unit. Calls of the program take no stack of the caller's.
+/// What a program does on an input (C11 5.1.2.3), with so much fuel: each call but that of `main`,
+/// each turn of a loop, each `getchar` and each `putchar` takes a unit. Calls of the program take
+/// no stack of the caller's; the test of what is served takes as much as the program's trees nest.
 pub fn evaluate(
     alloc: Global,
     setting: Setting<'_>,
@@ -164,9 +168,11 @@ pub fn evaluate(
         base: 0,
         capacity: setting.capacity as u64,
     };
+    let past = machine.store.len();
     let mut run = Run {
         machine,
         frame,
+        past,
         tasks: Vec::new(alloc),
     };
     let end = run_main(alloc, setting, &mut run);

@@ -1,20 +1,23 @@
-ghost use Rattle.std.specs.Prelude.{◌<◌, ℕ};
-ghost use Rattle.im_typed.specs.Meaning.{Around};
-ghost use Rattle.im_typed.specs.Runs.{State};
-ghost use Rattle.im_state.specs.Shown.{values};
+ghost use Rattle.im_state.specs.Activations.{Rewritten};
+ghost use Rattle.std.specs.Prelude.{◌≡◌, ◌<◌, ◌≤◌, ℕ, drop};
+ghost use Rattle.im_typed.specs.Meaning.{Around, entered, out_of_switch};
+ghost use Rattle.im_typed.specs.Runs.{State, Gives};
+ghost use Rattle.im_state.specs.Shown.{state_of, values};
 ghost use Rattle.im_state.specs.Flows.{flow};
 ghost use Rattle.im_eval.specs.Served.{IsServedStatement};
-ghost use Rattle.im_eval.specs.ServedTasks.{IsServedLoop, IsServedOnward, IsServedRest, IsServedUse};
+ghost use Rattle.im_eval.specs.ServedTasks.{IsServedLoop, IsServedOnward, IsServedRest, IsServedSwitch, IsServedUse};
 ghost use Rattle.im_eval.specs.Steps.{MeetsOnward};
 ghost use Rattle.im_eval.specs.Tasks.{ends_turn, goes_after, uses};
 ghost use Rattle.im_eval.specs.Weights.{onward_weight, rest_weight, use_weight};
 ghost use Rattle.im_eval.specs.declared.task.Rest.TheVariants.{Body};
-ghost use Rattle.im_eval.specs.declared.task.Use.TheVariants.{Branch, Turn};
+ghost use Rattle.im_eval.specs.declared.task.Use.TheVariants.{Branch, Enter, Turn};
 
 use crate::next::Onward;
-use crate::task::{Loop, Rest, Use};
-use im_state::{Ended, Found, decided, dropped, returned};
-use im_typed::Stmt;
+use crate::task::{Loop, Rest, Switch, Use};
+use im_state::{
+    Ended, Found, Machine, Number, decided, dropped, initialise, returned, used_number,
+};
+use im_typed::{Case, Stmt};
 
 /// A choice between two statements goes on from the value of its test.
 fn branch<'p>(found: Found, chosen: &'p Box<Stmt>, otherwise: &'p Box<Stmt>) -> Onward<'p>
@@ -49,19 +52,58 @@ fn turn<'p>(found: Found, turn: Loop<'p>) -> Onward<'p>
     }
 }
 
+/// Where a switch enters its block: the number of the statement behind the label.
+fn entry(cases: &[Case], number: Number, otherwise: u32) -> u32
+    ensures { result ≡ entered number.value cases.now otherwise }
+{
+    'labels: for case in cases {
+        if number.value == case.value {
+            return case.at;
+        }
+    }
+    otherwise
+}
+
+/// The statements of a block from one of them on; none behind its end.
+fn from<'p>(block: &'p [Stmt], first: usize) -> &'p [Stmt]
+    ensures { result.now ≡ drop first block.now }
+{
+    &block[first.min(block.len())..]
+}
+
+/// A switch goes on from its value.
+fn enter<'p>(found: Found, switch: Switch<'p>) -> Onward<'p>
+    requires { IsServedSwitch switch }
+    ensures meaning { (c : Around) (n : ℕ) (s : State) → MeetsOnward c n result s (uses c n (Enter switch.entry) (values found) s) }
+    ensures served { IsServedOnward result }
+    ensures lighter { onward_weight result < use_weight (Enter switch.entry) }
+{
+    match used_number(Ok(found)) {
+        Err(why) => Onward::Ended(Err(why)),
+        Ok(number) => {
+            let first = entry(switch.cases, number, switch.otherwise);
+            Onward::Block(from(switch.block, first as usize))
+        }
+    }
+}
+
 /// A statement goes on from the value of its expression.
-pub(crate) fn use_value<'p>(used: Use<'p>, found: Found) -> Onward<'p>
+pub(crate) fn use_value<'p>(machine: &mut Machine, used: Use<'p>, found: Found) -> Onward<'p>
     requires { IsServedUse used }
-    ensures meaning { (c : Around) (n : ℕ) (s : State) → MeetsOnward c n result s (uses c n used.entry (values found) s) }
+    ensures meaning { (c : Around) (n : ℕ) → MeetsOnward c n result (state_of machine.new) (uses c n used.entry (values found) (state_of machine.old)) }
     ensures served { IsServedOnward result }
     ensures lighter { onward_weight result < use_weight used.entry }
+    ensures fuel { machine.new.fuel ≤ machine.old.fuel }
+    ensures rewritten { Rewritten (state_of machine.old).world.store (state_of machine.new).world.store }
 {
     match used {
         Use::Drop => Onward::Ended(dropped(Ok(found))),
         Use::Return => Onward::Ended(returned(Ok(found))),
+        Use::Initialise(cell) => Onward::Ended(initialise(machine, cell, found)),
         Use::Branch(chosen, otherwise) => branch(found, chosen, otherwise),
         Use::Turn(next) => turn(found, next),
         Use::Again(next) => Onward::Turn(next),
+        Use::Enter(switch) => enter(found, switch),
     }
 }
 
@@ -82,6 +124,16 @@ fn end_turn<'p>(turn: Loop<'p>, ended: Ended) -> Onward<'p>
     }
 }
 
+/// How a switch ends where its block ended so: a `break` leaves it (C11 6.8.6.3).
+fn left(ended: Ended) -> Ended
+    ensures { (s : State) → out_of_switch (flow ended) s ≡ Gives (flow result) s }
+{
+    match ended {
+        Ended::Broke => Ended::Next,
+        Ended::Next | Ended::Continued | Ended::Returned(_) => ended,
+    }
+}
+
 /// A statement goes on from where one in it ended.
 pub(crate) fn go_after<'p>(rest: Rest<'p>, ended: Ended) -> Onward<'p>
     requires { IsServedRest rest }
@@ -96,5 +148,6 @@ pub(crate) fn go_after<'p>(rest: Rest<'p>, ended: Ended) -> Onward<'p>
         },
         Rest::Body(turn) => end_turn(turn, ended),
         Rest::First(turn) => Onward::Turn(turn),
+        Rest::Switch => Onward::Ended(Ok(left(ended))),
     }
 }

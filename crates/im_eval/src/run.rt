@@ -7,5 +7,7 @@ use im_state::{Frame, Machine};
 pub(crate) struct Run<'p> {
     pub machine: Machine,
     pub frame: Frame,
+    /// From this number on all objects are dead.
+    pub past: usize,
     pub tasks: Vec<Task<'p>>,
 }

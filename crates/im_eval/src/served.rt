@@ -1,12 +1,12 @@
 ghost use Rattle.std.specs.Prelude.{◌↔◌, IsTrue};
 ghost use Rattle.std.specs.List.{All};
 ghost use Rattle.im_state.specs.Objects.{IsServedObject, IsServedStatic};
-ghost use Rattle.im_eval.specs.Served.{IsServed, IsServedOptional, IsServedStatement, IsServedFunction, IsServedProgram};
+ghost use Rattle.im_eval.specs.Served.{IsFirstValue, IsServed, IsServedOptional, IsServedStatement, IsServedFunction, IsServedProgram};
 
 use im_state::{
     is_served_access, is_served_change, is_served_object, is_served_place, is_served_static,
 };
-use im_typed::{Expr, Func, Object, Prog, Static, Stmt};
+use im_typed::{Expr, Func, Object, Piece, Prog, Static, Stmt};
 
 #[cycle(served)]
 fn are_served(exprs: &[Expr]) -> bool
@@ -43,6 +43,9 @@ fn is_served(expr: &Expr) -> bool
         Expr::Assign(access, place, value) => {
             is_served_access(*access) && is_served_place(place) && is_served(value)
         }
+        Expr::Update { place, change, by } => {
+            is_served_place(place) && is_served_change(*change) && is_served(by)
+        }
         Expr::Increment { place, change, .. } => {
             is_served_place(place) && is_served_change(*change)
         }
@@ -54,7 +57,6 @@ fn is_served(expr: &Expr) -> bool
         Expr::Move { .. } => false,
         Expr::MoveBy { .. } => false,
         Expr::Distance { .. } => false,
-        Expr::Update { .. } => false,
         Expr::Part { .. } => false,
     }
 }
@@ -65,6 +67,18 @@ fn is_served_optional(expr: &Option<Expr>) -> bool
     match expr {
         None => true,
         Some(expr) => is_served(expr),
+    }
+}
+
+/// Whether an initialiser is that of one integer.
+fn is_first_value(pieces: &[Piece]) -> bool
+    ensures { IsTrue result ↔ IsFirstValue pieces.now }
+{
+    match pieces {
+        [piece] => {
+            piece.offset == 0 && is_served_access(piece.access) && is_served(&piece.value)
+        }
+        _ => false,
     }
 }
 
@@ -108,8 +122,8 @@ fn is_served_statement(stmt: &Stmt) -> bool
         Stmt::Break => true,
         Stmt::Continue => true,
         Stmt::Return(value) => is_served_optional(value),
-        Stmt::Initialise { .. } => false,
-        Stmt::Switch { .. } => false,
+        Stmt::Initialise { pieces, .. } => is_first_value(pieces),
+        Stmt::Switch { value, block, .. } => is_served(value) && are_served_statements(block),
     }
 }
 

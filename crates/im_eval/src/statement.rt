@@ -1,17 +1,19 @@
-ghost use Rattle.std.specs.Prelude.{◌<◌, ◌≤◌, ℕ, List};
+ghost use Rattle.im_state.specs.Activations.{Rewritten};
+ghost use Rattle.std.specs.Prelude.{◌<◌, ◌≤◌, ◌+◌, ℕ, List, sum_by};
+ghost use Rattle.im_eval.specs.Tasks.{initialises};
 ghost use Rattle.im_ctype.specs.Layout.{Layout};
 ghost use Rattle.im_typed.specs.Runs.{State};
 ghost use Rattle.im_typed.specs.Meaning.{Around, Calls, does, returned};
 ghost use Rattle.im_state.specs.Shown.{state_of, at_frame};
-ghost use Rattle.im_eval.specs.Served.{IsServedOptional, IsServedStatement};
+ghost use Rattle.im_eval.specs.Served.{IsFirstValue, IsServedOptional, IsServedStatement};
 ghost use Rattle.im_eval.specs.ServedTasks.{IsServedOnward};
 ghost use Rattle.im_eval.specs.Steps.{MeetsOnward};
-ghost use Rattle.im_eval.specs.Weights.{optional_weight, statement_weight, onward_weight};
+ghost use Rattle.im_eval.specs.Weights.{optional_weight, statement_weight, onward_weight, value_weight};
 
 use crate::next::Onward;
-use crate::task::{Loop, Use};
-use im_state::{Ended, Found, Frame, Machine, forget};
-use im_typed::{Expr, Stmt};
+use crate::task::{Loop, Switch, Use};
+use im_state::{Cell, Ended, Found, Frame, Machine, forget, kind_at};
+use im_typed::{Expr, Piece, Stmt};
 
 /// How a `return` begins.
 fn return_of<'p>(value: &'p Option<Expr>) -> Onward<'p>
@@ -26,6 +28,25 @@ fn return_of<'p>(value: &'p Option<Expr>) -> Onward<'p>
     }
 }
 
+/// How a declaration with an initialiser of one integer begins.
+fn first_value<'p>(frame: Frame, local: u32, pieces: &'p [Piece]) -> Onward<'p>
+    requires { IsFirstValue pieces.now }
+    ensures meaning { (structs : List Layout) (calls : Calls) (n : ℕ) (s : State) → MeetsOnward (at_frame frame structs calls) n result s (initialises (at_frame frame structs calls) (frame.base + local) pieces.entry.now s) }
+    ensures served { IsServedOnward result }
+    ensures lighter { onward_weight result < 2 + sum_by value_weight pieces.entry.now }
+{
+    match pieces {
+        [piece] => {
+            let cell = Cell {
+                kind: kind_at(piece.access),
+                object: frame.base + local as usize,
+            };
+            Onward::Evaluate(&piece.value, Use::Initialise(cell))
+        }
+        _ => unreachable!(),
+    }
+}
+
 /// How a statement begins: with its first expression or statement, or with its end where it has
 /// none.
 pub(crate) fn start<'p>(machine: &mut Machine, frame: Frame, stmt: &'p Stmt) -> Onward<'p>
@@ -34,11 +55,12 @@ pub(crate) fn start<'p>(machine: &mut Machine, frame: Frame, stmt: &'p Stmt) -> 
     ensures served { IsServedOnward result }
     ensures lighter { onward_weight result < statement_weight stmt.entry.now }
     ensures fuel { machine.new.fuel ≤ machine.old.fuel }
+    ensures rewritten { Rewritten (state_of machine.old).world.store (state_of machine.new).world.store }
 {
     match stmt {
         Stmt::Expr(expr) => Onward::Evaluate(expr, Use::Drop),
         Stmt::Forget(local) => {
-            forget(machine, frame.base as usize + *local as usize);
+            forget(machine, frame.base + *local as usize);
             Onward::Ended(Ok(Ended::Next))
         }
         Stmt::Block(statements) => Onward::Statements(statements),
@@ -71,6 +93,19 @@ pub(crate) fn start<'p>(machine: &mut Machine, frame: Frame, stmt: &'p Stmt) -> 
         Stmt::Break => Onward::Ended(Ok(Ended::Broke)),
         Stmt::Continue => Onward::Ended(Ok(Ended::Continued)),
         Stmt::Return(value) => return_of(value),
-        Stmt::Initialise { .. } | Stmt::Switch { .. } => unreachable!(),
+        Stmt::Switch {
+            value,
+            cases,
+            otherwise,
+            block,
+        } => Onward::Evaluate(
+            value,
+            Use::Enter(Switch {
+                cases,
+                otherwise: *otherwise,
+                block,
+            }),
+        ),
+        Stmt::Initialise { local, pieces, .. } => first_value(frame, *local, pieces),
     }
 }

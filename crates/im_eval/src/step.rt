@@ -1,7 +1,9 @@
-ghost use Rattle.std.specs.Prelude.{◌≡◌, ◌≤◌, ℕ, ◌+◌, List, ◌∷◌, nat_eq};
+ghost use Rattle.im_state.specs.Activations.{AllDead, left};
+ghost use Rattle.im_eval.specs.Tidy.{IsStacked, IsTidy, store_of};
+ghost use Rattle.std.specs.Prelude.{◌≡◌, ◌≤◌, ℕ, ◌+◌, List, ◌∷◌, nat_eq, IfOk, IsOk};
 ghost use Rattle.std.specs.List.{All};
 ghost use Rattle.im_typed.specs.Programs.{Setting, call_result};
-ghost use Rattle.im_typed.specs.Runs.{State, Answer, Value};
+ghost use Rattle.im_typed.specs.Runs.{State, Store, Answer, Value};
 ghost use Rattle.im_state.specs.Shown.{state_of, values};
 ghost use Rattle.im_state.specs.Flows.{flow};
 ghost use Rattle.im_eval.specs.Going.{FewerNow, FewerSteps, IsServedNow, ServedNow, ServedPause, ServedStep, now_weight, tasks_weight};
@@ -21,21 +23,41 @@ use crate::operator::operate;
 use crate::resume::{go_after, use_value};
 use crate::run::Run;
 use crate::statement::start;
-use crate::task::{Call, Rest, Task, Use};
-use im_state::{Ended, Found, Number, Stopped, leave};
+use crate::task::{Call, Caller, Rest, Task, Use};
+use im_state::{Ended, Found, Frame, Number, Stopped, leave};
 use im_typed::Stmt;
 use std::alloc::Global;
+
+/// A function's activation ends: the caller's goes on.
+fn leave_function<'p>(run: &mut Run<'p>, caller: Caller)
+    requires { AllDead run.old.past (store_of run.old) }
+    ensures meaning { state_of run.new.machine ≡ left run.old.frame.base caller.frames (state_of run.old.machine) }
+    ensures base { run.new.frame.base ≡ caller.base }
+    ensures past { run.new.past ≡ caller.past }
+    ensures capacity { run.new.frame.capacity ≡ run.old.frame.capacity }
+    ensures tasks { run.new.tasks.items ≡ run.old.tasks.items }
+    ensures fuel { run.new.machine.fuel ≡ run.old.machine.fuel }
+{
+    leave(&mut run.machine, run.frame.base, run.past, caller.frames);
+    run.frame = Frame {
+        base: caller.base,
+        capacity: run.frame.capacity,
+    };
+    run.past = caller.past;
+}
 
 /// A task takes the value of an expression.
 fn resume_value<'p>(run: &mut Run<'p>, task: Task<'p>, found: Found) -> Result<Now<'p>, Stopped>
     requires task { IsServedTask task }
     requires tasks { All IsServedTask run.old.tasks.items }
+    requires tidy { AllDead run.old.past (store_of run.old) × IsStacked run.old.frame.base (task ∷ pending run.old.tasks.items) (store_of run.old) }
     ensures meaning { (g : Setting) (n : ℕ) → g.capacity ≡ run.old.frame.capacity → MeetsNow g n run.new.frame.base (pending run.new.tasks.items) result (state_of run.new.machine) (finishes g n run.old.frame.base (task.entry ∷ pending run.old.tasks.items) (Valued (values found)) (state_of run.old.machine)) }
     ensures served { ServedNow result }
     ensures tasks { All IsServedTask run.new.tasks.items }
     ensures lighter { FewerNow (task_weight task.entry + tasks_weight run.old.tasks.items) result run.new.tasks.items }
     ensures fuel { run.new.machine.fuel ≤ run.old.machine.fuel }
     ensures capacity { run.new.frame.capacity ≡ run.old.frame.capacity }
+    ensures tidy { IfOk result (λ _. IsTidy run.new) }
 {
     match task {
         Task::Operator(operator) => {
@@ -43,8 +65,15 @@ fn resume_value<'p>(run: &mut Run<'p>, task: Task<'p>, found: Found) -> Result<N
             follow(&mut run.tasks, next)
         }
         Task::Argument(call) => follow(&mut run.tasks, take_argument(call, found)),
-        Task::Use(used) => proceed(&mut run.tasks, use_value(used, found)),
-        Task::Rest(_) | Task::Leave(_) => Ok(Now::Value(found)),
+        Task::Use(used) => {
+            let onward = use_value(&mut run.machine, used, found);
+            proceed(&mut run.tasks, onward)
+        }
+        Task::Leave(caller) => {
+            leave_function(run, caller);
+            Ok(Now::Value(found))
+        }
+        Task::Rest(_) => Ok(Now::Value(found)),
     }
 }
 
@@ -74,18 +103,19 @@ fn resume_ended<'p>(
 ) -> Result<Now<'p>, Stopped>
     requires task { IsServedTask task }
     requires tasks { All IsServedTask run.old.tasks.items }
+    requires tidy { AllDead run.old.past (store_of run.old) × IsStacked run.old.frame.base (task ∷ pending run.old.tasks.items) (store_of run.old) }
     ensures meaning { (g : Setting) (n : ℕ) → g.capacity ≡ run.old.frame.capacity → g.prog.main ≡ main → MeetsNow g n run.new.frame.base (pending run.new.tasks.items) result (state_of run.new.machine) (finishes g n run.old.frame.base (task.entry ∷ pending run.old.tasks.items) (Flowed (flow ended)) (state_of run.old.machine)) }
     ensures served { ServedNow result }
     ensures tasks { All IsServedTask run.new.tasks.items }
     ensures lighter { FewerNow (task_weight task.entry + tasks_weight run.old.tasks.items) result run.new.tasks.items }
     ensures fuel { run.new.machine.fuel ≤ run.old.machine.fuel }
     ensures capacity { run.new.frame.capacity ≡ run.old.frame.capacity }
+    ensures tidy { IfOk result (λ _. IsTidy run.new) }
 {
     match task {
         Task::Rest(rest) => proceed(&mut run.tasks, go_after(rest, ended)),
         Task::Leave(caller) => {
-            leave(&mut run.machine, run.frame.base as usize, caller.frames);
-            run.frame.base = caller.base;
+            leave_function(run, caller);
             Ok(Now::Value(result_of(main, caller.function, ended)))
         }
         Task::Argument(_call) => Ok(Now::Ended(ended)),
@@ -100,6 +130,7 @@ fn next_statement<'p>(tasks: &mut Vec<Task<'p>>, statements: &'p [Stmt]) -> Resu
     ensures meaning { (g : Setting) (n base : ℕ) (s : State) → MeetsNow g n base (pending tasks.new.items) result s (runs g n base (pending tasks.old.items) (Statements statements.entry) s) }
     ensures served { ServedNow result }
     ensures tasks { All IsServedTask tasks.new.items }
+    ensures stacked { (base : ℕ) (store : Store) → IsStacked base (pending tasks.old.items) store → IsStacked base (pending tasks.new.items) store }
     ensures lighter { FewerNow (statements_weight statements.entry.now + tasks_weight tasks.old.items) result tasks.new.items }
 {
     match statements.split_first() {
@@ -121,6 +152,7 @@ fn next_argument<'p>(tasks: &mut Vec<Task<'p>>, call: Call<'p>) -> Result<Step<'
     ensures meaning { (g : Setting) (n base : ℕ) (s : State) → MeetsStep g n base (pending tasks.new.items) result s (runs g n base (pending tasks.old.items) (Arguments call.entry) s) }
     ensures served { ServedStep result }
     ensures tasks { All IsServedTask tasks.new.items }
+    ensures stacked { (base : ℕ) (store : Store) → IsStacked base (pending tasks.old.items) store → IsStacked base (pending tasks.new.items) store }
     ensures lighter { FewerSteps (arguments_weight call.entry + tasks_weight tasks.old.items) result tasks.new.items }
 {
     let Call {
@@ -148,9 +180,11 @@ fn next_argument<'p>(tasks: &mut Vec<Task<'p>>, call: Call<'p>) -> Result<Step<'
     }
 }
 
-fn free<'p>(next: Result<Now<'p>, Stopped>) -> Result<Step<'p>, Stopped>
+/// A step behind which this is next.
+fn goes_on<'p>(next: Result<Now<'p>, Stopped>) -> Result<Step<'p>, Stopped>
     ensures meaning { (g : Setting) (n base : ℕ) (ts : List Task) (s : State) (r : Answer (List Value)) → MeetsNow g n base ts next.entry s r → MeetsStep g n base ts result s r }
     ensures served { ServedNow next.entry → ServedStep result }
+    ensures ok { IfOk result (λ _. IsOk next.entry) }
     ensures lighter { (most : ℕ) (ts : List Task) → FewerNow most next.entry ts → FewerSteps most result ts }
 {
     match next {
@@ -168,41 +202,43 @@ pub(crate) fn step<'p>(
 ) -> Result<Step<'p>, Stopped>
     requires now { IsServedNow now }
     requires tasks { All IsServedTask run.old.tasks.items }
+    requires tidy { IsTidy run.old }
     ensures meaning { (g : Setting) (n : ℕ) → g.capacity ≡ run.old.frame.capacity → g.prog.main ≡ main → run.old.machine.fuel ≤ n → MeetsStep g n run.new.frame.base (pending run.new.tasks.items) result (state_of run.new.machine) (runs g n run.old.frame.base (pending run.old.tasks.items) now.entry (state_of run.old.machine)) }
     ensures served { ServedStep result }
     ensures tasks { All IsServedTask run.new.tasks.items }
     ensures lighter { FewerSteps (now_weight now.entry + tasks_weight run.old.tasks.items) result run.new.tasks.items }
     ensures fuel { run.new.machine.fuel ≤ run.old.machine.fuel }
     ensures capacity { run.new.frame.capacity ≡ run.old.frame.capacity }
+    ensures tidy { IfOk result (λ _. IsTidy run.new) }
 {
     match now {
         Now::Evaluate(expr) => {
             let next = begin(alloc, &mut run.machine, run.frame, expr);
-            free(follow(&mut run.tasks, next))
+            goes_on(follow(&mut run.tasks, next))
         }
         Now::Arguments(call) => next_argument(&mut run.tasks, call),
         Now::Execute(stmt) => {
             let onward = start(&mut run.machine, run.frame, stmt);
-            free(proceed(&mut run.tasks, onward))
+            goes_on(proceed(&mut run.tasks, onward))
         }
-        Now::Statements(statements) => free(next_statement(&mut run.tasks, statements)),
+        Now::Statements(statements) => goes_on(next_statement(&mut run.tasks, statements)),
         Now::Turn(turn) => {
             let onward = Onward::Evaluate(turn.test, Use::Turn(turn));
-            free(proceed(&mut run.tasks, onward))
+            goes_on(proceed(&mut run.tasks, onward))
         }
         Now::Enter(turn) => Ok(Step::Paused(Pause::Enter(turn))),
         Now::Value(found) => match run.tasks.pop() {
             None => Ok(Step::Paused(Pause::Done(found))),
-            Some(task) => free(resume_value(run, task, found)),
+            Some(task) => goes_on(resume_value(run, task, found)),
         },
         Now::Ended(ended) => match run.tasks.pop() {
             None => Ok(Step::Paused(Pause::Done(Found::Nothing))),
-            Some(task) => free(resume_ended(run, main, task, ended)),
+            Some(task) => goes_on(resume_ended(run, main, task, ended)),
         },
     }
 }
 
-/// All steps up to one that takes fuel, or to the end.
+/// All steps up to a call or a loop's body, which take fuel, or to the end.
 pub(crate) fn settle<'p>(
     alloc: Global,
     run: &mut Run<'p>,
@@ -211,11 +247,13 @@ pub(crate) fn settle<'p>(
 ) -> Result<Pause<'p>, Stopped>
     requires now { IsServedNow first }
     requires tasks { All IsServedTask run.old.tasks.items }
+    requires tidy { IsTidy run.old }
     ensures meaning { (g : Setting) (n : ℕ) → g.capacity ≡ run.old.frame.capacity → g.prog.main ≡ main → run.old.machine.fuel ≤ n → MeetsPause g n run.new.frame.base (pending run.new.tasks.items) result (state_of run.new.machine) (runs g n run.old.frame.base (pending run.old.tasks.items) first.entry (state_of run.old.machine)) }
     ensures served { ServedPause result }
     ensures tasks { All IsServedTask run.new.tasks.items }
     ensures fuel { run.new.machine.fuel ≤ run.old.machine.fuel }
     ensures capacity { run.new.frame.capacity ≡ run.old.frame.capacity }
+    ensures tidy { IfOk result (λ _. IsTidy run.new) }
 {
     let mut now = first;
     'steps: loop {

@@ -1,6 +1,8 @@
+ghost use Rattle.std.specs.Prelude.{◌<◌, ◌^◌};
+
 use im_num::Kind;
 use im_state::{Cell, Number};
-use im_typed::{BinaryOp, Comparison, Expr, Stmt, UnaryOp};
+use im_typed::{BinaryOp, Case, Comparison, Expr, Stmt, UnaryOp};
 
 /// What an operator still does, once the value of an operand is there.
 #[derive(Clone, Copy)]
@@ -23,6 +25,14 @@ pub(crate) enum Operator<'p> {
     Comma(&'p Expr),
     Discard,
     Store(Cell),
+    /// The amount of a compound assignment comes.
+    Change {
+        cell: Cell,
+        op: BinaryOp,
+        at: Kind,
+        /// The old value.
+        before: Number,
+    },
     Putchar,
 }
 
@@ -45,16 +55,29 @@ pub(crate) struct Loop<'p> {
     pub body: &'p Box<Stmt>,
 }
 
+/// A switch, whose block is entered at one of its labels.
+#[derive(Clone, Copy)]
+pub(crate) struct Switch<'p> {
+    pub cases: &'p Vec<Case>,
+    /// The number of the statement before which the block is entered where no label has the value.
+    pub otherwise: u32,
+    pub block: &'p Vec<Stmt>,
+}
+
 /// What a statement still does, once the value of its expression is there.
 #[derive(Clone, Copy)]
 pub(crate) enum Use<'p> {
     Drop,
     Return,
+    /// The first value of a variable comes.
+    Initialise(Cell),
     Branch(&'p Box<Stmt>, &'p Box<Stmt>),
     /// The test of a loop comes.
     Turn(Loop<'p>),
     /// The step of a loop comes.
     Again(Loop<'p>),
+    /// The value of a switch comes.
+    Enter(Switch<'p>),
 }
 
 /// What a statement still does, once a statement in it ended.
@@ -66,6 +89,8 @@ pub(crate) enum Rest<'p> {
     Body(Loop<'p>),
     /// The first statement of a `for` ended.
     First(Loop<'p>),
+    /// The block of a switch ended.
+    Switch,
 }
 
 /// Where a call goes on when its function's body ended.
@@ -74,9 +99,12 @@ pub(crate) struct Caller {
     /// The number of the function that was called.
     pub function: u32,
     /// The number of the caller's first object.
-    pub base: u32,
+    pub base: usize,
+    /// The number behind the caller's last object.
+    pub past: usize,
     /// The bytes of the frames that were active at the call.
     pub frames: u64,
+    pub ghost small: { base < 2 ^ 63 },
 }
 
 /// What is still to do.

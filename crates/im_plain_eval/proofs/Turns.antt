@@ -6,7 +6,7 @@ use Rattle.im_typed.specs.Meaning.{Calls, Flow, Next, after_turn, turns, value_o
 use Rattle.im_ctype.specs.Layout.{Layout}
 use Rattle.im_typed.specs.declared.expression.Expr.{Expr}
 use Rattle.im_typed.specs.declared.statement.Stmt.{Stmt}
-use Rattle.im_state.specs.declared.machine.Frame.{Frame}
+use Rattle.im_state.specs.declared.frame.Frame.{Frame}
 use Rattle.im_state.specs.declared.machine.Machine.{Machine}
 use Rattle.im_state.specs.Shown.{state_of, at_frame}
 use Rattle.im_state.specs.Lists.{does_all}

@@ -135,7 +135,7 @@ pub fn run(machine: &mut Machine, frame: Frame, stmt: &Stmt) -> Result<Ended, St
         },
         Stmt::Block(statements) => run_all(machine, frame, statements),
         Stmt::Forget(local) => {
-            forget(machine, frame.base as usize + *local as usize);
+            forget(machine, frame.base + *local as usize);
             Ok(Ended::Next)
         }
         Stmt::Break => Ok(Ended::Broke),

@@ -1,16 +1,17 @@
 -- Variables that come into being, and variables that die.
-use Rattle.std.proofs.Common.{◌≡◌, ◌∙◌, refl, ap, sym, subst, ℕ, zero, suc, ◌<◌, ◌≤◌, List, ◌∷◌, [], ◌++◌, length, map, take, drop, Some, None, Option, Bor, false, arith}
+use Rattle.std.proofs.Common.{◌≡◌, ◌∙◌, ◌⊎◌, inl, inr, min, refl, ap, sym, subst, ℕ, zero, suc, ◌<◌, ◌≤◌, List, ◌∷◌, [], ◌++◌, length, map, take, drop, Some, None, Option, Vec, Global, Bor, false, arith}
+use Rattle.std.proofs.lemmas.List.{length-map}
 use Rattle.std.specs.List.{slice_index_or, slice_set, AllWithin, HoldsAt}
 use Rattle.std.specs.Option.{MatchOption, option_copied}
 use Rattle.im_ctype.specs.Layout.{Structs}
 use Rattle.im_typed.specs.declared.program.Object.{Object}
-use Rattle.im_typed.specs.Runs.{Value, Num}
+use Rattle.im_typed.specs.Runs.{Value, Num, Stored, Store}
 use Rattle.im_typed.specs.Programs.{made, objects_of, ended}
 use Rattle.im_state.specs.declared.machine.Variable.{Variable}
 use Rattle.im_state.specs.declared.number.Number.{Number}
 use Rattle.im_state.specs.Objects.{numbers}
 use Rattle.im_state.specs.Shown.{shown, slots_of, cell_value}
-use Rattle.im_state.specs.Activations.{first_values}
+use Rattle.im_state.specs.Activations.{AllDead, first_values}
 
 objects_more' : (structs : Structs) (os : List Object) (n : ℕ) (o : Object) → n < length os → o ≡ slice_index_or os n o → objects_of structs (take (suc n) os) [] ≡ objects_of structs (take n os) [] ++ made structs o [] ∷ []
 objects_more' structs [] n o h e = absurd (omega arith)
@@ -67,3 +68,65 @@ ended_are [] zero h = refl
 ended_are [] (suc base) h = refl
 ended_are (w ∷ vs) zero h = ap (λ o. o ∷ ended 0 (map {A = Variable} shown vs)) (dead_here w (h 0 w (omega arith) (omega arith))) ∙ ap (λ os. shown w ∷ os) (ended_are vs zero (λ k d above below. h (suc k) d (omega arith) (omega arith)))
 ended_are (w ∷ vs) (suc base) h = ap (λ os. shown w ∷ os) (ended_are vs base (λ k d above below. h (suc k) d (omega arith) (omega arith)))
+
+le_or_lt : (k m : ℕ) → (k < m) ⊎ (m ≤ k)
+le_or_lt k zero = inr (omega arith)
+le_or_lt zero (suc m) = inl (omega arith)
+le_or_lt (suc k) (suc m) = lifted (le_or_lt k m)
+  where
+    lifted : (k < m) ⊎ (m ≤ k) → (suc k < suc m) ⊎ (suc m ≤ suc k)
+    lifted (inl h) = inl (omega arith)
+    lifted (inr h) = inr (omega arith)
+
+-- dead up to a number, and from one on that is not above
+pub dead_throughout : (vs : List Variable) (base number past high : ℕ) → past ≤ number → AllWithin (λ (x : Variable). x.live ≡ false) vs base number → AllWithin (λ (x : Variable). x.live ≡ false) vs past high → AllWithin (λ (x : Variable). x.live ≡ false) vs base high
+dead_throughout vs base number past high le f g k d above below = here (le_or_lt k number)
+  where
+    here : (k < number) ⊎ (number ≤ k) → (slice_index_or vs k d).live ≡ false
+    here (inl h) = f k d above h
+    here (inr h) = g k d (omega arith) below
+
+live_of : (w : Variable) → record (shown w) { live = false; slots = [] } ≡ shown w → w.live ≡ false
+live_of w e = sym (ap (λ o. o.live) e)
+
+abbrev first_or : Stored → List Stored → Stored
+first_or d [] = d
+first_or d (o ∷ os) = o
+
+abbrev rest_of : List Stored → List Stored
+rest_of [] = []
+rest_of (o ∷ os) = os
+
+-- variables that have ended are dead
+pub are_dead : (vs : List Variable) (past : ℕ) → ended past (map {A = Variable} shown vs) ≡ map {A = Variable} shown vs → AllWithin (λ (x : Variable). x.live ≡ false) vs past (length vs)
+are_dead [] past e k d above below = absurd (omega arith)
+are_dead (w ∷ vs) zero e zero d above below = live_of w (ap (λ os. first_or (shown w) os) e)
+are_dead (w ∷ vs) zero e (suc k) d above below = are_dead vs zero (ap rest_of e) k d (omega arith) (omega arith)
+are_dead (w ∷ vs) (suc past) e zero d above below = absurd (omega arith)
+are_dead (w ∷ vs) (suc past) e (suc k) d above below = are_dead vs past (ap rest_of e) k d (omega arith) (omega arith)
+
+-- a variable that dies leaves the others as they were
+still_dead_at : (vs : List Variable) (n k : ℕ) (v d : Variable) → (slice_index_or vs k d).live ≡ false → (slice_index_or (slice_set vs n (record v { live = false })) k d).live ≡ false
+still_dead_at [] n k v d h = h
+still_dead_at (w ∷ vs) zero zero v d h = refl
+still_dead_at (w ∷ vs) zero (suc k) v d h = h
+still_dead_at (w ∷ vs) (suc n) zero v d h = h
+still_dead_at (w ∷ vs) (suc n) (suc k) v d h = still_dead_at vs n k v d h
+
+pub still_dead : (vs : List Variable) (low high n : ℕ) (v : Variable) → AllWithin (λ (x : Variable). x.live ≡ false) vs low high → AllWithin (λ (x : Variable). x.live ≡ false) (slice_set vs n (record v { live = false })) low high
+still_dead vs low high n v dead = λ k d above below. still_dead_at vs n k v d (dead k d above below)
+
+not_min : (past high k : ℕ) → min past high ≤ k → k < high → past ≤ k
+not_min past high k h below = grind (arith, h, below)
+
+pub dead_from_min : (vs : List Variable) (past high : ℕ) → AllWithin (λ (x : Variable). x.live ≡ false) vs past high → AllWithin (λ (x : Variable). x.live ≡ false) vs (min past high) high
+dead_from_min vs past high f = λ k d above below. f k d (not_min past high k above below) below
+
+-- behind its last object a store has none that lives
+pub dead_past : (s : Store) → AllDead (length s) s
+dead_past [] = refl
+dead_past (o ∷ os) = ap (λ xs. o ∷ xs) (dead_past os)
+
+-- as many objects as variables
+pub shown_length : (vs : Vec Variable Global) → vs.len ≡ length (map {A = Variable} shown vs.items)
+shown_length vs = vs.ok.0 ∙ sym (length-map vs.items shown)

@@ -1,11 +1,11 @@
 -- Runs that stop, and a variable among the objects.
-use Rattle.std.proofs.Common.{◌≡◌, refl, ap, sym, subst, ℕ, zero, suc, ◌<◌, ◌≤◌, List, ◌∷◌, [], length, map, Some, None, Bool, true, false, ◌&&◌, arith}
+use Rattle.std.proofs.Common.{if◌then◌else◌, ◌≡◌, refl, ap, sym, subst, ℕ, zero, suc, ◌<◌, ◌≤◌, List, ◌∷◌, [], length, map, Some, None, Bool, true, false, ◌&&◌, arith}
 use Rattle.std.specs.List.{slice_get, slice_index_or, slice_set}
 use Rattle.im_num.specs.declared.kind.Kind.{Kind}
 use Rattle.im_typed.specs.declared.undefined.Undefined.TheVariants.{NoSuchCell}
 use Rattle.im_typed.specs.Runs.{Value, Num, State, Answer, Stops, Fails, Run, either, undefined, goes_on, with_values, filled, Slot, Unset}
 use Rattle.im_typed.specs.Objects.{kind_eq, found, at_slot, in_object}
-use Rattle.im_typed.specs.Meaning.{one_cell, slots_at}
+use Rattle.im_typed.specs.Meaning.{one_cell, slots_at, is_among, zero_of}
 use Rattle.im_state.specs.declared.number.Number.{Number}
 use Rattle.im_state.specs.declared.machine.Variable.{Variable}
 use Rattle.im_state.specs.declared.machine.Stopped.{Stopped}
@@ -94,3 +94,14 @@ pub forgotten_past : (vs : List Variable) (n : ℕ) → length vs ≤ n → map 
 forgotten_past [] n h = refl
 forgotten_past (w ∷ vs) zero h = absurd (omega arith)
 forgotten_past (w ∷ vs) (suc n) h = ap (λ os. shown w ∷ os) (forgotten_past vs n (omega arith))
+
+-- a variable whose one cell was given keeps its value as the rest is cleared
+kept_slots : (live : Bool) (k : Kind) (w : Value) → filled 0 (map {A = Slot} (λ t. if is_among t.offset (0 ∷ []) then t.value else zero_of t.kind) (slots_of live k w)) (slots_of live k w) ≡ slots_of live k w
+kept_slots true k w = refl
+kept_slots false k w = refl
+
+pub cleared_rest : (vs : List Variable) (n : ℕ) → with_values n 0 (map {A = Slot} (λ t. if is_among t.offset (0 ∷ []) then t.value else zero_of t.kind) (slots_at (slice_get (map {A = Variable} shown vs) n))) (map {A = Variable} shown vs) ≡ map {A = Variable} shown vs
+cleared_rest [] n = refl
+cleared_rest (w ∷ vs) zero =
+    ap (λ ts. record (shown w) { slots = ts } ∷ map {A = Variable} shown vs) (kept_slots w.live w.kind (cell_value w.value))
+cleared_rest (w ∷ vs) (suc n) = ap (λ os. shown w ∷ os) (cleared_rest vs n)

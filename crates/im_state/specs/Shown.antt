@@ -12,7 +12,7 @@ use Rattle.im_typed.specs.Meaning.{Around, Calls, slots_at}
 use Rattle.im_state.specs.declared.number.Number.{Number}
 use Rattle.im_state.specs.declared.machine.Variable.{Variable}
 use Rattle.im_state.specs.declared.machine.Machine.{Machine}
-use Rattle.im_state.specs.declared.machine.Frame.{Frame}
+use Rattle.im_state.specs.declared.frame.Frame.{Frame}
 use Rattle.im_state.specs.declared.machine.Found.{Found}
 use Rattle.im_state.specs.declared.machine.Found.TheVariants.{Number as Scalar, Nothing}
 use Rattle.im_state.specs.declared.machine.Stopped.{Stopped}

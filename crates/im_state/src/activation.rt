@@ -6,7 +6,7 @@ ghost use Rattle.im_typed.specs.Programs.{made, constant, objects_of, statics_of
 ghost use Rattle.im_state.specs.declared.machine.Stopped.TheVariants.{OutOfMemory};
 ghost use Rattle.im_state.specs.Shown.{shown, state_of};
 ghost use Rattle.im_state.specs.Objects.{IsServedType, IsServedObject, IsServedConstant, IsServedStatic, numbers};
-ghost use Rattle.im_state.specs.Activations.{first_values, entered, left};
+ghost use Rattle.im_state.specs.Activations.{AllDead, first_values, entered, left};
 
 use crate::machine::{Machine, Stopped, Variable};
 use crate::number::Number;
@@ -128,21 +128,23 @@ pub fn enter(
     }
 }
 
-fn end(store: &mut Vec<Variable>, base: usize)
+fn end(store: &mut Vec<Variable>, base: usize, past: usize)
+    requires { AllDead past (map {A = Variable} shown store.old.items) }
     ensures { map {A = Variable} shown store.new.items ≡ ended base (map {A = Variable} shown store.old.items) }
 {
-    for number in base..store.len() {
+    for number in base..past.min(store.len()) {
         store[number].live = false;
     }
 }
 
 /// An activation ends: its objects, those from `base` on, die (C11 6.2.4), and its frame is given
-/// back, so that `frames` bytes are taken.
-pub fn leave(machine: &mut Machine, base: usize, frames: u64)
+/// back, so that `frames` bytes are taken. From `past` on all objects are dead already.
+pub fn leave(machine: &mut Machine, base: usize, past: usize, frames: u64)
+    requires { AllDead past (state_of machine.old).world.store }
     ensures meaning { state_of machine.new ≡ left base frames (state_of machine.old) }
     ensures fuel { machine.new.fuel ≡ machine.old.fuel }
 {
-    end(&mut machine.store, base);
+    end(&mut machine.store, base, past);
     machine.frames = frames;
 }
 

@@ -1,3 +1,4 @@
+ghost use Rattle.im_state.specs.Activations.{Rewritten};
 ghost use Rattle.std.specs.Prelude.{◌≡◌, ◌↔◌, ◌≤◌, List, pos, IsTrue};
 ghost use Rattle.im_ctype.specs.Layout.{Layout};
 ghost use Rattle.im_typed.specs.Runs.{State, Gives, To, bind, give};
@@ -6,7 +7,8 @@ ghost use Rattle.im_state.specs.Shown.{Meets, state_of, at_frame};
 ghost use Rattle.im_state.specs.Cells.{IsServedPlace, IsServedAccess, IsServedChange};
 
 use crate::change::count;
-use crate::machine::{Cell, Found, Frame, Machine, Stopped};
+use crate::frame::Frame;
+use crate::machine::{Cell, Found, Machine, Stopped};
 use im_num::Kind;
 use im_typed::{Access, Change, Place};
 
@@ -60,7 +62,7 @@ pub fn object_at(frame: Frame, place: &Place) -> usize
 {
     match place {
         Place::Static(number) => *number as usize,
-        Place::Local(number) => frame.base as usize + *number as usize,
+        Place::Local(number) => frame.base + *number as usize,
         Place::Target(_) | Place::Member(_, _) => unreachable!(),
     }
 }
@@ -77,6 +79,7 @@ pub fn increment(
     requires change { IsServedChange change }
     ensures meaning { (structs : List Layout) (calls : Calls) → Meets result (state_of machine.new) (bind (place_of (at_frame frame structs calls) place.now) (update change old (give (pos 1))) (state_of machine.old)) }
     ensures fuel { machine.new.fuel ≤ machine.old.fuel }
+    ensures rewritten { Rewritten (state_of machine.old).world.store (state_of machine.new).world.store }
 {
     match change {
         Change::Number { kind, op, at } => {

@@ -8,6 +8,7 @@ mod arithmetic;
 mod cell;
 mod change;
 mod flow;
+mod frame;
 mod machine;
 mod number;
 mod operand;
@@ -19,10 +20,9 @@ pub use arithmetic::is_nonzero;
 pub use cell::{
     increment, is_served_access, is_served_change, is_served_place, kind_at, object_at,
 };
-pub use change::assign;
+pub use change::{assign, change_by, initialise};
 pub use flow::{Ended, decided, dropped, returned};
-pub use machine::{
-    Cell, Found, Frame, Machine, Stopped, Variable, forget, get_char, put_char, read,
-};
+pub use frame::Frame;
+pub use machine::{Cell, Found, Machine, Stopped, Variable, forget, get_char, put_char, read};
 pub use number::Number;
 pub use operand::{binary, compared, converted, discarded, negated, tested, unary, used_number};

@@ -1,3 +1,4 @@
+ghost use Rattle.im_state.specs.Activations.{Rewritten};
 ghost use Rattle.std.specs.Prelude.{◌≡◌, List, pos, [], ◌∷◌, ℕ, ℤ, nat_abs, Some};
 ghost use Rattle.im_num.specs.declared.kind.Kind.TheVariants.{U8};
 ghost use Rattle.im_typed.specs.Runs.{State, Answer, Value, Num, To, Run, goes_on, with_fuel, see};
@@ -39,14 +40,6 @@ pub struct Machine {
     /// The bytes of the active frames.
     pub frames: u64,
     pub fuel: u64,
-}
-
-/// Where a run of the machine stands: the number of the activation's first variable, and the bytes
-/// that the output has room for.
-#[derive(Clone, Copy)]
-pub struct Frame {
-    pub base: u32,
-    pub capacity: u64,
 }
 
 /// A variable by its number, and the kind as which it is accessed.
@@ -112,6 +105,7 @@ pub fn read(machine: &Machine, cell: Cell) -> Result<Found, Stopped>
 pub fn get_char(machine: &mut Machine) -> Result<Found, Stopped>
     ensures meaning { Meets result (state_of machine.new) (with_fuel (see (λ w. next_byte w.input)) (state_of machine.old)) }
     ensures fuel { machine.new.fuel ≤ machine.old.fuel }
+    ensures rewritten { Rewritten (state_of machine.old).world.store (state_of machine.new).world.store }
 {
     if machine.fuel == 0 {
         return Err(Stopped::MoreFuel);
@@ -129,6 +123,7 @@ pub fn get_char(machine: &mut Machine) -> Result<Found, Stopped>
 fn put_byte(machine: &mut Machine, capacity: u64, byte: u8) -> Result<Found, Stopped>
     ensures meaning { Meets result (state_of machine.new) (with_fuel (put_byte capacity byte) (state_of machine.old)) }
     ensures fuel { machine.new.fuel ≤ machine.old.fuel }
+    ensures rewritten { Rewritten (state_of machine.old).world.store (state_of machine.new).world.store }
 {
     if machine.fuel == 0 {
         return Err(Stopped::MoreFuel);
@@ -154,6 +149,7 @@ fn byte_of(number: Number) -> u8
 pub fn put_char(machine: &mut Machine, capacity: u64, number: Number) -> Result<Found, Stopped>
     ensures meaning { Meets result (state_of machine.new) (with_fuel (put_byte capacity (nat_abs (wrap U8 number.value))) (state_of machine.old)) }
     ensures fuel { machine.new.fuel ≤ machine.old.fuel }
+    ensures rewritten { Rewritten (state_of machine.old).world.store (state_of machine.new).world.store }
 {
     put_byte(machine, capacity, byte_of(number))
 }
@@ -177,6 +173,7 @@ fn set_value(machine: &mut Machine, object: usize, number: Number)
     requires { object < length machine.old.store.items }
     ensures meaning { state_of machine.new ≡ after_store object number.value (state_of machine.old) }
     ensures fuel { machine.new.fuel ≡ machine.old.fuel }
+    ensures rewritten { Rewritten (state_of machine.old).world.store (state_of machine.new).world.store }
 {
     machine.store[object].value = Some(number);
 }
@@ -185,6 +182,7 @@ fn set_value(machine: &mut Machine, object: usize, number: Number)
 pub fn store(machine: &mut Machine, cell: Cell, number: Number) -> Result<Found, Stopped>
     ensures meaning { Meets result (state_of machine.new) (write_at (one_cell cell.kind) (To cell.object 0) (Num number.value ∷ []) (state_of machine.old)) }
     ensures fuel { machine.new.fuel ≤ machine.old.fuel }
+    ensures rewritten { Rewritten (state_of machine.old).world.store (state_of machine.new).world.store }
 {
     if !stands(machine, cell) {
         return Err(Stopped::Undefined(Undefined::NoSuchCell));
@@ -197,6 +195,7 @@ pub fn store(machine: &mut Machine, cell: Cell, number: Number) -> Result<Found,
 pub fn forget(machine: &mut Machine, object: usize)
     ensures meaning { state_of machine.new ≡ after_forget object (state_of machine.old) }
     ensures fuel { machine.new.fuel ≡ machine.old.fuel }
+    ensures rewritten { Rewritten (state_of machine.old).world.store (state_of machine.new).world.store }
 {
     if object >= machine.store.len() {
         return;

@@ -62,7 +62,8 @@ fn objects_live_for_an_activation(rt: HostRuntime) {
     assert!(rt; is_seven(read_int(&machine, 0)));
     let second = has_stopped(read_int(&machine, 1));
     assert!(rt; matches!(second, Some(Undefined::UninitialisedRead)));
-    leave(&mut machine, 0, 0);
+    let past = machine.store.len();
+    leave(&mut machine, 0, past, 0);
     let first = has_stopped(read_int(&machine, 0));
     assert!(rt; matches!(first, Some(Undefined::NoSuchCell)));
     assert_eq!(rt; machine.frames, 0);

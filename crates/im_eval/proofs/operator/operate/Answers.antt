@@ -1,12 +1,13 @@
-use Rattle.std.proofs.Common.{◌≡◌, ◌∙◌, true, false, nat_abs, refl, ap, sym, subst}
+use Rattle.std.proofs.Common.{◌≡◌, ◌∙◌, [], ◌∷◌, true, false, nat_abs, refl, ap, sym, subst}
 use denote.Bor.{Bor}
 use Rattle.im_num.specs.declared.kind.Kind.TheVariants.{U8}
 use Rattle.im_num.specs.Kinds.{wrap}
+use Rattle.im_typed.specs.declared.expression.Change.TheVariants.{Number as NumberBy}
 use Rattle.im_typed.specs.declared.expression.Expr.{Expr}
 use Rattle.im_typed.specs.Numbers.{apply}
-use Rattle.im_typed.specs.Runs.{Num, Gives, bind, either, with_fuel}
-use Rattle.im_typed.specs.Objects.{number_in, scalar, fine, truth, holds, compare_values, then_number, then_value}
-use Rattle.im_typed.specs.Meaning.{value_of, put_byte}
+use Rattle.im_typed.specs.Runs.{Num, To, Gives, bind, either, with_fuel}
+use Rattle.im_typed.specs.Objects.{number_in, scalar, fine, truth, holds, compare_values, then_number, then_value, write_at}
+use Rattle.im_typed.specs.Meaning.{changed, one_cell, put_byte, value_of}
 use Rattle.im_state.specs.Shown.{Meets, state_of, at_frame, values}
 use Rattle.im_eval.proofs.Values.{used_number_of}
 use Rattle.im_eval.proofs.operator.operate.Goals as goal
@@ -139,10 +140,24 @@ returns-in-Store-clause-meaning c = λ structs calls.
 pub returns-in-Err-used_number-5-clause-meaning : goal.returns-in-Err-used_number-5-clause-meaning
 returns-in-Err-used_number-5-clause-meaning c = λ structs calls.
     let s = state_of c.args.machine.now in
-    rw c.in-Putchar.is (c.in-Err-used_number-5.ensures s (Gives (values c.args.found) s) refl (λ vs. λ v. number_in v (λ z. with_fuel (put_byte c.args.frame.capacity (nat_abs (wrap U8 z))))))
+    let cell = c.in-Change.cell in
+    let change = NumberBy cell.kind c.in-Change.op c.in-Change.at in
+    rw c.in-Change.is (c.in-Err-used_number-5.ensures s (Gives (values c.args.found) s) refl
+    (λ vs. λ v. number_in v (λ by. bind (changed change (Num c.in-Change.before.value) by) (λ after. bind (write_at (one_cell cell.kind) (To cell.object 0) (after ∷ [])) (λ _. scalar after)))))
 
 pub returns-in-Ok-used_number-5-clause-meaning : goal.returns-in-Ok-used_number-5-clause-meaning
 returns-in-Ok-used_number-5-clause-meaning c = λ structs calls.
     let s = state_of c.args.machine.now in
     let begun = used_number_of _ _ s _ (c.in-Ok-used_number-5.ensures s (Gives (values c.args.found) s) refl) in
+    rw c.in-Change.is (subst (Meets c.change_by.result (state_of c.change_by.new.machine)) (sym begun) c.change_by.ensures.meaning)
+
+pub returns-in-Err-used_number-6-clause-meaning : goal.returns-in-Err-used_number-6-clause-meaning
+returns-in-Err-used_number-6-clause-meaning c = λ structs calls.
+    let s = state_of c.args.machine.now in
+    rw c.in-Putchar.is (c.in-Err-used_number-6.ensures s (Gives (values c.args.found) s) refl (λ vs. λ v. number_in v (λ z. with_fuel (put_byte c.args.frame.capacity (nat_abs (wrap U8 z))))))
+
+pub returns-in-Ok-used_number-6-clause-meaning : goal.returns-in-Ok-used_number-6-clause-meaning
+returns-in-Ok-used_number-6-clause-meaning c = λ structs calls.
+    let s = state_of c.args.machine.now in
+    let begun = used_number_of _ _ s _ (c.in-Ok-used_number-6.ensures s (Gives (values c.args.found) s) refl) in
     rw c.in-Putchar.is (subst (Meets c.put_char.result (state_of c.put_char.new.machine)) (sym begun) c.put_char.ensures.meaning)

@@ -1,10 +1,10 @@
-use Rattle.std.proofs.Common.{subst, nat_abs, false, true}
+use Rattle.std.proofs.Common.{◌≡◌, subst, nat_abs, false, true}
 use Rattle.im_num.specs.declared.kind.Kind.TheVariants.{U8}
-use Rattle.im_typed.specs.Runs.{bind, either, with_fuel}
+use Rattle.im_typed.specs.Runs.{To, Gives, bind, either, with_fuel}
 use Rattle.im_typed.specs.Objects.{number_in, scalar, fine, truth, holds, compare_values, then_number, then_value}
 use Rattle.im_typed.specs.Numbers.{apply}
 use Rattle.im_num.specs.Kinds.{wrap}
-use Rattle.im_typed.specs.Meaning.{value_of, put_byte}
+use Rattle.im_typed.specs.Meaning.{place_of, value_of, put_byte}
 use Rattle.im_state.specs.Shown.{Meets, state_of, at_frame}
 use Rattle.im_plain_eval.proofs.expression.+value_of.Goals as goal
 
@@ -49,3 +49,13 @@ returns-in-Err-used_number-5-clause-meaning t c = λ structs calls.
     let met = c.value_of-in-Putchar.ensures.meaning structs calls in
     let here : Meets c.value_of-in-Putchar.result (state_of c.value_of-in-Putchar.new.machine) (value_of (at_frame c.args.frame structs calls) c.in-Putchar.operand.value (state_of c.args.machine.now)) = subst (λ e. Meets c.value_of-in-Putchar.result (state_of c.value_of-in-Putchar.new.machine) (value_of (at_frame c.args.frame structs calls) e (state_of c.args.machine.now))) c.deref-in-Putchar.ensures met in
     rw c.in-Putchar.is (c.in-Err-used_number-5.ensures (state_of c.value_of-in-Putchar.new.machine) (value_of (at_frame c.args.frame structs calls) c.in-Putchar.operand.value (state_of c.args.machine.now)) here (λ vs. λ v. number_in v (λ z. with_fuel (put_byte c.args.frame.capacity (nat_abs (wrap U8 z))))))
+
+pub returns-in-Assign-clause-meaning : goal.returns-in-Assign-clause-meaning
+returns-in-Assign-clause-meaning t c = λ structs calls.
+    let here = at_frame c.args.frame structs calls in
+    let s = state_of c.args.machine.now in
+    let found = c.value_of-found in
+    let met : Meets found.result (state_of found.new.machine) (value_of here c.in-Assign.value.value s) = subst (λ e. Meets found.result (state_of found.new.machine) (value_of here e s)) c.deref-in-Assign-2.ensures (found.ensures.meaning structs calls) in
+    let object = c.object_at-in-Assign.result in
+    let at : place_of here c.in-Assign.place.value s ≡ Gives (To object 0) s = subst (λ a. place_of here a s ≡ Gives (To object 0) s) c.deref-in-Assign.ensures (c.object_at-in-Assign.ensures structs calls s) in
+    rw (c.in-Assign.is, at, c.kind_at-in-Assign.ensures structs) (c.assign.ensures.meaning (value_of here c.in-Assign.value.value s) met)

@@ -8,6 +8,7 @@ use Rattle.im_state.proofs.activation.end.Given as goal
 abbrev pub invariant-loop-number : goal.invariant-loop-number
 invariant-loop-number l = record {
   dead : AllWithin (λ (v : Variable). v.live ≡ false) l.store.items l.base l.number;
+  behind : AllWithin (λ (v : Variable). v.live ≡ false) l.store.items l.past (length l.fn.store.items);
   rest : ended l.base (map {A = Variable} shown l.store.items) ≡ ended l.base (map {A = Variable} shown l.fn.store.items);
   same : length l.store.items ≡ length l.fn.store.items;
 }

@@ -1,4 +1,5 @@
 use Rattle.std.proofs.Common.{◌<◌, ◌≤◌, length, ap, rules}
+use Rattle.im_state.specs.Activations.{At}
 use Rattle.im_state.specs.Shown.{state_of}
 use Rattle.im_state.proofs.Steps.{forgotten_at, forgotten_past}
 use Rattle.im_state.proofs.machine.forget.Goals as goal
@@ -14,3 +15,8 @@ returns-clause-meaning c =
     let s = state_of c.args.machine.now in
     let inside : c.args.object < length c.args.machine.now.store.items = search rules in
     ap (λ os. record s { world = record s.world { store = os } }) (forgotten_at c.args.machine.now.store.items c.args.object c.index_mut.result.now inside c.index_mut.ensures.value)
+
+pub returns-clause-rewritten : goal.returns-clause-rewritten
+returns-clause-rewritten c =
+    let inside : c.args.object < length c.args.machine.now.store.items = search rules in
+    At c.args.object 0 _ (forgotten_at c.args.machine.now.store.items c.args.object c.index_mut.result.now inside c.index_mut.ensures.value)
