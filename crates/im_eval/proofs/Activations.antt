@@ -20,7 +20,7 @@ use Rattle.im_eval.specs.declared.task.Loop.{Loop}
 use Rattle.im_eval.specs.declared.task.Call.{Call}
 use Rattle.im_eval.specs.ServedTasks.{IsServedTask}
 use Rattle.im_eval.specs.Tasks.{calls_on, enters_body, ends_turn}
-use Rattle.im_eval.specs.Stack.{MeetsNow, Valued, Flowed, finishes, in_activation, pending, runs, then_valued, then_flowed}
+use Rattle.im_eval.specs.Stack.{MeetsNow, Valued, Flowed, continues, in_activation, pending, runs, then_valued, then_flowed}
 use Rattle.im_eval.proofs.Bounds.{call_enters}
 
 -- what follows a run that another one follows
@@ -49,10 +49,10 @@ served_before old new (Err why) t pushed kept h one = subst (All IsServedTask) (
 -- a loop's body is entered for a unit of fuel
 pub body_enters : (g : Setting) (n base f : ℕ) (ts : List Task) (l : Loop) (s : State) → s.fuel ≡ suc f
     → then_flowed g n base ts (enters_body (in_activation g n base) n l) s
-    ≡ goes_on (does (in_activation g n base) n l.body.now.value (record { world = s.world; fuel = f })) (λ x. finishes g n base (RestTask (Body l) ∷ ts) (Flowed x))
+    ≡ goes_on (does (in_activation g n base) n l.body.now.value (record { world = s.world; fuel = f })) (λ x. continues g n base (RestTask (Body l) ∷ ts) (Flowed x))
 body_enters g n base f ts l s e =
     let c = in_activation g n base in
-    let after : Flow → Run (List Value) = λ x. finishes g n base ts (Flowed x) in
+    let after : Flow → Run (List Value) = λ x. continues g n base ts (Flowed x) in
     ap (λ r. goes_on r after) (pay_some f s.fuel s.world (bind (does c n l.body.now.value) (ends_turn c n l)) e)
     ∙ goes_on_twice (does c n l.body.now.value (record { world = s.world; fuel = f })) (ends_turn c n l) after
 
@@ -68,5 +68,5 @@ pub call_paid : (g : Setting) (n base f : ℕ) (ts : List Task) (call : Call) (s
     ≡ then_valued g n base ts (called g (calls_of g n) n call.function (numbers call.ready.items)) (record { world = s.world; fuel = f })
 call_paid g n base f ts call s none le e =
     let does_call = called g (calls_of g n) n call.function (numbers call.ready.items) in
-    ap (λ r. goes_on r (λ vs. finishes g n base ts (Valued vs)))
+    ap (λ r. goes_on r (λ vs. continues g n base ts (Valued vs)))
     (calls_ready (in_activation g n base) call s none ∙ call_enters g n call.function (numbers call.ready.items) s le ∙ pay_some f s.fuel s.world does_call e)

@@ -8,8 +8,8 @@ use Rattle.im_eval.specs.declared.now.Now.{Now}
 use Rattle.im_eval.specs.declared.now.Now.TheVariants.{Evaluate, Arguments, Execute, Statements, Turn, Enter, Value as ValueNow, Ended as EndedNow}
 use Rattle.im_eval.specs.declared.now.Pause.{Pause}
 use Rattle.im_eval.specs.declared.now.Pause.TheVariants.{Done, Enter as EnterDue, Call as CallDue}
-use Rattle.im_eval.specs.declared.now.Step.{Step}
-use Rattle.im_eval.specs.declared.now.Step.TheVariants.{Free, Paused}
+use Rattle.im_eval.specs.declared.now.Progress.{Progress}
+use Rattle.im_eval.specs.declared.now.Progress.TheVariants.{Free, Paused}
 use Rattle.im_eval.specs.Served.{IsServed, IsServedStatement}
 use Rattle.im_eval.specs.ServedTasks.{IsServedCall, IsServedLoop}
 use Rattle.im_eval.specs.Weights.{weight, arguments_weight, statement_weight, statements_weight, turn_weight, task_weight}
@@ -30,17 +30,17 @@ IsServedPause (Done found) = Unit {0}
 IsServedPause (EnterDue l) = IsServedLoop l
 IsServedPause (CallDue call) = call.rest.now ≡ []
 
-abbrev pub IsServedStep : Step → Type 0
-IsServedStep (Free now) = IsServedNow now
-IsServedStep (Paused pause) = IsServedPause pause
+abbrev pub IsServedProgress : Progress → Type 0
+IsServedProgress (Free now) = IsServedNow now
+IsServedProgress (Paused pause) = IsServedPause pause
 
 abbrev pub ServedNow : Either Now Stopped → Type 0
 ServedNow (Ok now) = IsServedNow now
 ServedNow (Err why) = Unit {0}
 
-abbrev pub ServedStep : Either Step Stopped → Type 0
-ServedStep (Ok step) = IsServedStep step
-ServedStep (Err why) = Unit {0}
+abbrev pub ServedProgress : Either Progress Stopped → Type 0
+ServedProgress (Ok step) = IsServedProgress step
+ServedProgress (Err why) = Unit {0}
 
 abbrev pub ServedPause : Either Pause Stopped → Type 0
 ServedPause (Ok pause) = IsServedPause pause
@@ -65,7 +65,7 @@ WithinSteps most (Ok now) ts = now_weight now + tasks_weight ts ≤ most
 WithinSteps most (Err why) ts = Unit {0}
 
 -- behind a step that isn't a pause fewer than so many are left
-abbrev pub FewerSteps : ℕ → Either Step Stopped → List Task → Type 0
+abbrev pub FewerSteps : ℕ → Either Progress Stopped → List Task → Type 0
 FewerSteps most (Ok (Free now)) ts = now_weight now + tasks_weight ts < most
 FewerSteps most (Ok (Paused pause)) ts = Unit {0}
 FewerSteps most (Err why) ts = Unit {0}

@@ -14,10 +14,10 @@ use Rattle.im_eval.specs.declared.task.Rest.{Rest}
 use Rattle.im_eval.specs.declared.task.Rest.TheVariants.{Statements as StatementsLeft, Body, First as FirstDone, Switch as SwitchDone}
 use Rattle.im_eval.specs.declared.task.Task.{Task}
 use Rattle.im_eval.specs.declared.task.Task.TheVariants.{Operator as OperatorTask, Argument, Use as UseTask, Rest as RestTask, Leave}
-use Rattle.im_eval.specs.declared.next.Next.{Next}
-use Rattle.im_eval.specs.declared.next.Next.TheVariants.{Value as ValueOf, Evaluate, Operand, Arguments}
-use Rattle.im_eval.specs.declared.next.Onward.{Onward}
-use Rattle.im_eval.specs.declared.next.Onward.TheVariants.{Ended, Evaluate as EvaluateFor, Execute, First, Statements, Block, Turn, Enter}
+use Rattle.im_eval.specs.declared.next.ExpressionStep.{ExpressionStep}
+use Rattle.im_eval.specs.declared.next.ExpressionStep.TheVariants.{Value as ValueOf, Evaluate, Operand, Arguments}
+use Rattle.im_eval.specs.declared.next.StatementStep.{StatementStep}
+use Rattle.im_eval.specs.declared.next.StatementStep.TheVariants.{Ended, Evaluate as EvaluateFor, Execute, First, Statements, Block, Turn, Enter}
 use Rattle.im_eval.specs.Served.{IsServed, IsServedStatement}
 
 abbrev pub IsServedOperator : Operator → Type 0
@@ -73,18 +73,18 @@ IsServedTask (UseTask u) = IsServedUse u
 IsServedTask (RestTask r) = IsServedRest r
 IsServedTask (Leave caller) = Unit {0}
 
-abbrev pub IsServedNext : Next → Type 0
-IsServedNext (ValueOf found) = Unit {0}
-IsServedNext (Evaluate e) = IsServed e.now
-IsServedNext (Operand e o) = IsServed e.now × IsServedOperator o
-IsServedNext (Arguments call) = IsServedCall call
+abbrev pub IsServedExpressionStep : ExpressionStep → Type 0
+IsServedExpressionStep (ValueOf found) = Unit {0}
+IsServedExpressionStep (Evaluate e) = IsServed e.now
+IsServedExpressionStep (Operand e o) = IsServed e.now × IsServedOperator o
+IsServedExpressionStep (Arguments call) = IsServedCall call
 
-abbrev pub IsServedOnward : Onward → Type 0
-IsServedOnward (Ended ended) = Unit {0}
-IsServedOnward (EvaluateFor e u) = IsServed e.now × IsServedUse u
-IsServedOnward (Execute t) = IsServedStatement t.now
-IsServedOnward (First t l) = IsServedStatement t.now.value × IsServedLoop l
-IsServedOnward (Statements ss) = All IsServedStatement ss.now
-IsServedOnward (Block ss) = All IsServedStatement ss.now
-IsServedOnward (Turn l) = IsServedLoop l
-IsServedOnward (Enter l) = IsServedLoop l
+abbrev pub IsServedStatementStep : StatementStep → Type 0
+IsServedStatementStep (Ended ended) = Unit {0}
+IsServedStatementStep (EvaluateFor e u) = IsServed e.now × IsServedUse u
+IsServedStatementStep (Execute t) = IsServedStatement t.now
+IsServedStatementStep (First t l) = IsServedStatement t.now.value × IsServedLoop l
+IsServedStatementStep (Statements ss) = All IsServedStatement ss.now
+IsServedStatementStep (Block ss) = All IsServedStatement ss.now
+IsServedStatementStep (Turn l) = IsServedLoop l
+IsServedStatementStep (Enter l) = IsServedLoop l

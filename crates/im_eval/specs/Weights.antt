@@ -17,10 +17,10 @@ use Rattle.im_eval.specs.declared.task.Rest.{Rest}
 use Rattle.im_eval.specs.declared.task.Rest.TheVariants.{Statements as StatementsLeft, Body, First as FirstDone, Switch as SwitchDone}
 use Rattle.im_eval.specs.declared.task.Task.{Task}
 use Rattle.im_eval.specs.declared.task.Task.TheVariants.{Operator as OperatorTask, Argument, Use as UseTask, Rest as RestTask, Leave}
-use Rattle.im_eval.specs.declared.next.Next.{Next}
-use Rattle.im_eval.specs.declared.next.Next.TheVariants.{Value as ValueOf, Evaluate, Operand, Arguments}
-use Rattle.im_eval.specs.declared.next.Onward.{Onward}
-use Rattle.im_eval.specs.declared.next.Onward.TheVariants.{Ended, Evaluate as EvaluateFor, Execute, First, Statements, Block as BlockFrom, Turn, Enter}
+use Rattle.im_eval.specs.declared.next.ExpressionStep.{ExpressionStep}
+use Rattle.im_eval.specs.declared.next.ExpressionStep.TheVariants.{Value as ValueOf, Evaluate, Operand, Arguments}
+use Rattle.im_eval.specs.declared.next.StatementStep.{StatementStep}
+use Rattle.im_eval.specs.declared.next.StatementStep.TheVariants.{Ended, Evaluate as EvaluateFor, Execute, First, Statements, Block as BlockFrom, Turn, Enter}
 
 abbrev mutual
   pub weight : Expr → ℕ
@@ -145,18 +145,18 @@ task_weight (UseTask u) = use_weight u
 task_weight (RestTask r) = rest_weight r
 task_weight (Leave caller) = 1
 
-abbrev pub next_weight : Next → ℕ
-next_weight (ValueOf found) = 0
-next_weight (Evaluate e) = weight e.now
-next_weight (Operand e o) = weight e.now + operator_weight o
-next_weight (Arguments call) = arguments_weight call
+abbrev pub expression_step_weight : ExpressionStep → ℕ
+expression_step_weight (ValueOf found) = 0
+expression_step_weight (Evaluate e) = weight e.now
+expression_step_weight (Operand e o) = weight e.now + operator_weight o
+expression_step_weight (Arguments call) = arguments_weight call
 
-abbrev pub onward_weight : Onward → ℕ
-onward_weight (Ended ended) = 0
-onward_weight (EvaluateFor e u) = weight e.now + use_weight u
-onward_weight (Execute t) = statement_weight t.now
-onward_weight (First t l) = statement_weight t.now.value + 1 + turn_weight l
-onward_weight (Statements ss) = statements_weight ss.now
-onward_weight (BlockFrom ss) = 1 + statements_weight ss.now
-onward_weight (Turn l) = turn_weight l
-onward_weight (Enter l) = 0
+abbrev pub statement_step_weight : StatementStep → ℕ
+statement_step_weight (Ended ended) = 0
+statement_step_weight (EvaluateFor e u) = weight e.now + use_weight u
+statement_step_weight (Execute t) = statement_weight t.now
+statement_step_weight (First t l) = statement_weight t.now.value + 1 + turn_weight l
+statement_step_weight (Statements ss) = statements_weight ss.now
+statement_step_weight (BlockFrom ss) = 1 + statements_weight ss.now
+statement_step_weight (Turn l) = turn_weight l
+statement_step_weight (Enter l) = 0

@@ -12,7 +12,7 @@ ghost use Rattle.im_eval.specs.Shown.{setting_of};
 ghost use Rattle.im_eval.specs.Stack.{MeetsNow, in_activation, pending, then_flowed, then_valued};
 ghost use Rattle.im_eval.specs.Tasks.{calls_on, enters_body};
 
-use crate::follow::before;
+use crate::continuation::push_task;
 use crate::now::Now;
 use crate::run::Run;
 use crate::setting::Setting;
@@ -37,7 +37,7 @@ pub(crate) fn enter_body<'p>(run: &mut Run<'p>, turn: Loop<'p>) -> Result<Now<'p
         return Err(Stopped::MoreFuel);
     }
     run.machine.fuel -= 1;
-    before(
+    push_task(
         &mut run.tasks,
         Now::Execute(turn.body),
         Task::Rest(Rest::Body(turn)),
@@ -87,7 +87,7 @@ fn enter_activation<'p>(
         base,
         capacity: run.frame.capacity,
     };
-    before(
+    push_task(
         &mut run.tasks,
         Now::Execute(&func.body),
         Task::Leave(caller),

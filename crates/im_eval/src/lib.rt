@@ -4,8 +4,8 @@
 
 mod argument;
 mod call;
+mod continuation;
 mod expression;
-mod follow;
 mod next;
 mod now;
 mod operator;

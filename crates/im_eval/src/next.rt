@@ -4,7 +4,7 @@ use im_typed::{Expr, Stmt};
 
 /// How an expression goes on.
 #[derive(Drop)]
-pub(crate) enum Next<'p> {
+pub(crate) enum ExpressionStep<'p> {
     Value(Result<Found, Stopped>),
     Evaluate(&'p Expr),
     /// The operand is evaluated, then the operator applied.
@@ -14,7 +14,7 @@ pub(crate) enum Next<'p> {
 
 /// How a statement goes on.
 #[derive(Clone, Copy)]
-pub(crate) enum Onward<'p> {
+pub(crate) enum StatementStep<'p> {
     Ended(Result<Ended, Stopped>),
     Evaluate(&'p Expr, Use<'p>),
     Execute(&'p Stmt),

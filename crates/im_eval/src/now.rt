@@ -31,7 +31,7 @@ pub(crate) enum Pause<'p> {
 
 /// What a step leads to.
 #[derive(Drop)]
-pub(crate) enum Step<'p> {
+pub(crate) enum Progress<'p> {
     Free(Now<'p>),
     Paused(Pause<'p>),
 }

@@ -6,19 +6,19 @@ ghost use Rattle.im_typed.specs.Programs.{Setting, call_result};
 ghost use Rattle.im_typed.specs.Runs.{State, Store, Answer, Value};
 ghost use Rattle.im_state.specs.Shown.{state_of, values};
 ghost use Rattle.im_state.specs.Flows.{flow};
-ghost use Rattle.im_eval.specs.Going.{FewerNow, FewerSteps, IsServedNow, ServedNow, ServedPause, ServedStep, now_weight, tasks_weight};
+ghost use Rattle.im_eval.specs.Going.{FewerNow, FewerSteps, IsServedNow, ServedNow, ServedPause, ServedProgress, now_weight, tasks_weight};
 ghost use Rattle.im_eval.specs.ServedTasks.{IsServedCall, IsServedTask};
 ghost use Rattle.im_eval.specs.Served.{IsServedStatement};
-ghost use Rattle.im_eval.specs.Stack.{MeetsNow, MeetsPause, MeetsStep, Valued, Flowed, finishes, pending, runs};
+ghost use Rattle.im_eval.specs.Stack.{MeetsNow, MeetsPause, MeetsProgress, Valued, Flowed, continues, pending, runs};
 ghost use Rattle.im_eval.specs.Weights.{arguments_weight, statements_weight, task_weight};
 ghost use Rattle.im_eval.specs.declared.now.Now.TheVariants.{Arguments, Statements};
 ghost use Rattle.im_eval.specs.declared.task.Task.{Task};
 
 use crate::argument::take_argument;
+use crate::continuation::{continue_expression, continue_statement, push_task};
 use crate::expression::begin;
-use crate::follow::{before, follow, proceed};
-use crate::next::Onward;
-use crate::now::{Now, Pause, Step};
+use crate::next::StatementStep;
+use crate::now::{Now, Pause, Progress};
 use crate::operator::operate;
 use crate::resume::{go_after, use_value};
 use crate::run::Run;
@@ -51,7 +51,7 @@ fn resume_value<'p>(run: &mut Run<'p>, task: Task<'p>, found: Found) -> Result<N
     requires task { IsServedTask task }
     requires tasks { All IsServedTask run.old.tasks.items }
     requires tidy { AllDead run.old.past (store_of run.old) × IsStacked run.old.frame.base (task ∷ pending run.old.tasks.items) (store_of run.old) }
-    ensures meaning { (g : Setting) (n : ℕ) → g.capacity ≡ run.old.frame.capacity → MeetsNow g n run.new.frame.base (pending run.new.tasks.items) result (state_of run.new.machine) (finishes g n run.old.frame.base (task.entry ∷ pending run.old.tasks.items) (Valued (values found)) (state_of run.old.machine)) }
+    ensures meaning { (g : Setting) (n : ℕ) → g.capacity ≡ run.old.frame.capacity → MeetsNow g n run.new.frame.base (pending run.new.tasks.items) result (state_of run.new.machine) (continues g n run.old.frame.base (task.entry ∷ pending run.old.tasks.items) (Valued (values found)) (state_of run.old.machine)) }
     ensures served { ServedNow result }
     ensures tasks { All IsServedTask run.new.tasks.items }
     ensures lighter { FewerNow (task_weight task.entry + tasks_weight run.old.tasks.items) result run.new.tasks.items }
@@ -62,12 +62,12 @@ fn resume_value<'p>(run: &mut Run<'p>, task: Task<'p>, found: Found) -> Result<N
     match task {
         Task::Operator(operator) => {
             let next = operate(&mut run.machine, run.frame, operator, found);
-            follow(&mut run.tasks, next)
+            continue_expression(&mut run.tasks, next)
         }
-        Task::Argument(call) => follow(&mut run.tasks, take_argument(call, found)),
+        Task::Argument(call) => continue_expression(&mut run.tasks, take_argument(call, found)),
         Task::Use(used) => {
             let onward = use_value(&mut run.machine, used, found);
-            proceed(&mut run.tasks, onward)
+            continue_statement(&mut run.tasks, onward)
         }
         Task::Leave(caller) => {
             leave_function(run, caller);
@@ -104,7 +104,7 @@ fn resume_ended<'p>(
     requires task { IsServedTask task }
     requires tasks { All IsServedTask run.old.tasks.items }
     requires tidy { AllDead run.old.past (store_of run.old) × IsStacked run.old.frame.base (task ∷ pending run.old.tasks.items) (store_of run.old) }
-    ensures meaning { (g : Setting) (n : ℕ) → g.capacity ≡ run.old.frame.capacity → g.prog.main ≡ main → MeetsNow g n run.new.frame.base (pending run.new.tasks.items) result (state_of run.new.machine) (finishes g n run.old.frame.base (task.entry ∷ pending run.old.tasks.items) (Flowed (flow ended)) (state_of run.old.machine)) }
+    ensures meaning { (g : Setting) (n : ℕ) → g.capacity ≡ run.old.frame.capacity → g.prog.main ≡ main → MeetsNow g n run.new.frame.base (pending run.new.tasks.items) result (state_of run.new.machine) (continues g n run.old.frame.base (task.entry ∷ pending run.old.tasks.items) (Flowed (flow ended)) (state_of run.old.machine)) }
     ensures served { ServedNow result }
     ensures tasks { All IsServedTask run.new.tasks.items }
     ensures lighter { FewerNow (task_weight task.entry + tasks_weight run.old.tasks.items) result run.new.tasks.items }
@@ -113,7 +113,7 @@ fn resume_ended<'p>(
     ensures tidy { IfOk result (λ _. IsTidy run.new) }
 {
     match task {
-        Task::Rest(rest) => proceed(&mut run.tasks, go_after(rest, ended)),
+        Task::Rest(rest) => continue_statement(&mut run.tasks, go_after(rest, ended)),
         Task::Leave(caller) => {
             leave_function(run, caller);
             Ok(Now::Value(result_of(main, caller.function, ended)))
@@ -136,7 +136,7 @@ fn next_statement<'p>(tasks: &mut Vec<Task<'p>>, statements: &'p [Stmt]) -> Resu
     match statements.split_first() {
         None => Ok(Now::Ended(Ended::Next)),
         Some((first, rest)) => {
-            before(
+            push_task(
                 tasks,
                 Now::Execute(first),
                 Task::Rest(Rest::Statements(rest)),
@@ -146,11 +146,11 @@ fn next_statement<'p>(tasks: &mut Vec<Task<'p>>, statements: &'p [Stmt]) -> Resu
 }
 
 /// The next argument of a call, or the call.
-fn next_argument<'p>(tasks: &mut Vec<Task<'p>>, call: Call<'p>) -> Result<Step<'p>, Stopped>
+fn next_argument<'p>(tasks: &mut Vec<Task<'p>>, call: Call<'p>) -> Result<Progress<'p>, Stopped>
     requires call { IsServedCall call }
     requires tasks { All IsServedTask tasks.old.items }
-    ensures meaning { (g : Setting) (n base : ℕ) (s : State) → MeetsStep g n base (pending tasks.new.items) result s (runs g n base (pending tasks.old.items) (Arguments call.entry) s) }
-    ensures served { ServedStep result }
+    ensures meaning { (g : Setting) (n base : ℕ) (s : State) → MeetsProgress g n base (pending tasks.new.items) result s (runs g n base (pending tasks.old.items) (Arguments call.entry) s) }
+    ensures served { ServedProgress result }
     ensures tasks { All IsServedTask tasks.new.items }
     ensures stacked { (base : ℕ) (store : Store) → IsStacked base (pending tasks.old.items) store → IsStacked base (pending tasks.new.items) store }
     ensures lighter { FewerSteps (arguments_weight call.entry + tasks_weight tasks.old.items) result tasks.new.items }
@@ -161,7 +161,7 @@ fn next_argument<'p>(tasks: &mut Vec<Task<'p>>, call: Call<'p>) -> Result<Step<'
         rest,
     } = call;
     match rest.split_first() {
-        None => Ok(Step::Paused(Pause::Call(Call {
+        None => Ok(Progress::Paused(Pause::Call(Call {
             function,
             ready,
             rest,
@@ -172,24 +172,24 @@ fn next_argument<'p>(tasks: &mut Vec<Task<'p>>, call: Call<'p>) -> Result<Step<'
                 ready,
                 rest,
             };
-            match before(tasks, Now::Evaluate(first), Task::Argument(left)) {
+            match push_task(tasks, Now::Evaluate(first), Task::Argument(left)) {
                 Err(why) => Err(why),
-                Ok(now) => Ok(Step::Free(now)),
+                Ok(now) => Ok(Progress::Free(now)),
             }
         }
     }
 }
 
 /// A step behind which this is next.
-fn goes_on<'p>(next: Result<Now<'p>, Stopped>) -> Result<Step<'p>, Stopped>
-    ensures meaning { (g : Setting) (n base : ℕ) (ts : List Task) (s : State) (r : Answer (List Value)) → MeetsNow g n base ts next.entry s r → MeetsStep g n base ts result s r }
-    ensures served { ServedNow next.entry → ServedStep result }
+fn goes_on<'p>(next: Result<Now<'p>, Stopped>) -> Result<Progress<'p>, Stopped>
+    ensures meaning { (g : Setting) (n base : ℕ) (ts : List Task) (s : State) (r : Answer (List Value)) → MeetsNow g n base ts next.entry s r → MeetsProgress g n base ts result s r }
+    ensures served { ServedNow next.entry → ServedProgress result }
     ensures ok { IfOk result (λ _. IsOk next.entry) }
     ensures lighter { (most : ℕ) (ts : List Task) → FewerNow most next.entry ts → FewerSteps most result ts }
 {
     match next {
         Err(why) => Err(why),
-        Ok(now) => Ok(Step::Free(now)),
+        Ok(now) => Ok(Progress::Free(now)),
     }
 }
 
@@ -199,12 +199,12 @@ pub(crate) fn step<'p>(
     run: &mut Run<'p>,
     main: u32,
     now: Now<'p>,
-) -> Result<Step<'p>, Stopped>
+) -> Result<Progress<'p>, Stopped>
     requires now { IsServedNow now }
     requires tasks { All IsServedTask run.old.tasks.items }
     requires tidy { IsTidy run.old }
-    ensures meaning { (g : Setting) (n : ℕ) → g.capacity ≡ run.old.frame.capacity → g.prog.main ≡ main → run.old.machine.fuel ≤ n → MeetsStep g n run.new.frame.base (pending run.new.tasks.items) result (state_of run.new.machine) (runs g n run.old.frame.base (pending run.old.tasks.items) now.entry (state_of run.old.machine)) }
-    ensures served { ServedStep result }
+    ensures meaning { (g : Setting) (n : ℕ) → g.capacity ≡ run.old.frame.capacity → g.prog.main ≡ main → run.old.machine.fuel ≤ n → MeetsProgress g n run.new.frame.base (pending run.new.tasks.items) result (state_of run.new.machine) (runs g n run.old.frame.base (pending run.old.tasks.items) now.entry (state_of run.old.machine)) }
+    ensures served { ServedProgress result }
     ensures tasks { All IsServedTask run.new.tasks.items }
     ensures lighter { FewerSteps (now_weight now.entry + tasks_weight run.old.tasks.items) result run.new.tasks.items }
     ensures fuel { run.new.machine.fuel ≤ run.old.machine.fuel }
@@ -214,25 +214,25 @@ pub(crate) fn step<'p>(
     match now {
         Now::Evaluate(expr) => {
             let next = begin(alloc, &mut run.machine, run.frame, expr);
-            goes_on(follow(&mut run.tasks, next))
+            goes_on(continue_expression(&mut run.tasks, next))
         }
         Now::Arguments(call) => next_argument(&mut run.tasks, call),
         Now::Execute(stmt) => {
             let onward = start(&mut run.machine, run.frame, stmt);
-            goes_on(proceed(&mut run.tasks, onward))
+            goes_on(continue_statement(&mut run.tasks, onward))
         }
         Now::Statements(statements) => goes_on(next_statement(&mut run.tasks, statements)),
         Now::Turn(turn) => {
-            let onward = Onward::Evaluate(turn.test, Use::Turn(turn));
-            goes_on(proceed(&mut run.tasks, onward))
+            let onward = StatementStep::Evaluate(turn.test, Use::Turn(turn));
+            goes_on(continue_statement(&mut run.tasks, onward))
         }
-        Now::Enter(turn) => Ok(Step::Paused(Pause::Enter(turn))),
+        Now::Enter(turn) => Ok(Progress::Paused(Pause::Enter(turn))),
         Now::Value(found) => match run.tasks.pop() {
-            None => Ok(Step::Paused(Pause::Done(found))),
+            None => Ok(Progress::Paused(Pause::Done(found))),
             Some(task) => goes_on(resume_value(run, task, found)),
         },
         Now::Ended(ended) => match run.tasks.pop() {
-            None => Ok(Step::Paused(Pause::Done(Found::Nothing))),
+            None => Ok(Progress::Paused(Pause::Done(Found::Nothing))),
             Some(task) => goes_on(resume_ended(run, main, task, ended)),
         },
     }
@@ -259,8 +259,8 @@ pub(crate) fn settle<'p>(
     'steps: loop {
         match step(alloc, run, main, now) {
             Err(why) => return Err(why),
-            Ok(Step::Paused(pause)) => return Ok(pause),
-            Ok(Step::Free(next)) => now = next,
+            Ok(Progress::Paused(pause)) => return Ok(pause),
+            Ok(Progress::Free(next)) => now = next,
         }
     }
 }

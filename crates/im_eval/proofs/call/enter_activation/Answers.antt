@@ -14,10 +14,10 @@ returns-clause-tidy c =
     let s = (state_of run.machine).world.store in
     let new = (state_of c.enter.new.machine).world.store in
     let made = ap (λ x. x.world.store) (c.in-Ok.ensures.meaning []) in
-    if_ok_then _ _ c.before-2.result c.before-2.ensures.pushed (λ e.
-    tidy_entered s (objects_of [] c.deref.result.now (numbers c.args.arguments.now)) new c.len-run.result c.len-base.result (pending run.tasks.items) (pending c.before-2.new.tasks.items) _
+    if_ok_then _ _ c.push_task.result c.push_task.ensures.pushed (λ e.
+    tidy_entered s (objects_of [] c.deref.result.now (numbers c.args.arguments.now)) new c.len-run.result c.len-base.result (pending run.tasks.items) (pending c.push_task.new.tasks.items) _
     made
     (c.len-run.ensures ∙ shown_length c.enter.new.machine.store)
     (c.len-base.ensures ∙ shown_length run.machine.store)
-    (taken c.before-2.new.tasks.items run.tasks.items _ e)
+    (taken c.push_task.new.tasks.items run.tasks.items _ e)
     c.requires.tidy.0 c.requires.tidy.1)

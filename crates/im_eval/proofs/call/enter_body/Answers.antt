@@ -5,7 +5,7 @@ use Rattle.im_state.specs.Shown.{state_of}
 use Rattle.im_eval.specs.declared.now.Now.TheVariants.{Execute}
 use Rattle.im_eval.specs.declared.task.Task.TheVariants.{Rest as RestTask}
 use Rattle.im_eval.specs.declared.task.Rest.TheVariants.{Body}
-use Rattle.im_eval.specs.Stack.{Flowed, finishes, in_activation, pending}
+use Rattle.im_eval.specs.Stack.{Flowed, continues, in_activation, pending}
 use Rattle.im_eval.proofs.Activations.{meets_before, served_before, body_enters}
 use Rattle.im_eval.proofs.call.enter_body.Goals as goal
 
@@ -20,9 +20,9 @@ returns-clause-meaning c = λ g n.
     let some = c.if-run-eq0.false in
     let unit : s.fuel ≡ suc (run.machine.fuel - 1) = omega arith in
     let begun = body_enters g n base (run.machine.fuel - 1) ts c.args.turn s unit in
-    let same = ap (λ b. goes_on (does (in_activation g n base) n b paid) (λ x. finishes g n base (t ∷ ts) (Flowed x))) (sym c.deref.ensures) in
-    meets_before g n base run.tasks.items c.before-2.new.tasks.items c.before-2.result (Execute c.deref.result) t paid _ c.before-2.ensures.next c.before-2.ensures.pushed c.before-2.ensures.stopped (begun ∙ same)
+    let same = ap (λ b. goes_on (does (in_activation g n base) n b paid) (λ x. continues g n base (t ∷ ts) (Flowed x))) (sym c.deref.ensures) in
+    meets_before g n base run.tasks.items c.push_task.new.tasks.items c.push_task.result (Execute c.deref.result) t paid _ c.push_task.ensures.next c.push_task.ensures.pushed c.push_task.ensures.stopped (begun ∙ same)
 
 pub returns-clause-tasks : goal.returns-clause-tasks
 returns-clause-tasks c =
-    served_before c.args.run.now.tasks.items c.before-2.new.tasks.items c.before-2.result (RestTask (Body c.args.turn)) c.before-2.ensures.pushed c.before-2.ensures.kept c.requires.tasks c.requires.turn
+    served_before c.args.run.now.tasks.items c.push_task.new.tasks.items c.push_task.result (RestTask (Body c.args.turn)) c.push_task.ensures.pushed c.push_task.ensures.kept c.requires.tasks c.requires.turn

@@ -7,7 +7,7 @@ use Rattle.im_state.specs.Objects.{numbers}
 use Rattle.im_state.specs.Shown.{state_of, at_frame}
 use Rattle.im_state.proofs.Rows.{call_value}
 use Rattle.im_eval.specs.Served.{IsServed}
-use Rattle.im_eval.specs.Steps.{MeetsNext}
+use Rattle.im_eval.specs.Steps.{MeetsExpressionStep}
 use Rattle.im_eval.specs.Weights.{weight, argument_weight}
 use Rattle.im_eval.proofs.Calls.{arguments_served, call_weight}
 use Rattle.im_eval.proofs.expression.begin.Goals as goal
@@ -18,8 +18,8 @@ returns-in-Update-clause-meaning c = λ structs calls.
     let s = state_of c.args.machine.now in
     let change = c.in-Update.change in
     let by = c.in-Update.by.value in
-    rw c.in-Update.is (subst (λ p. MeetsNext around c.begin_change.result s (bind (place_of around p) (update change false (then_number (value_of around by) give)) s)) c.deref-in-Update.ensures
-    (subst (λ e. MeetsNext around c.begin_change.result s (bind (place_of around c.deref-in-Update.result.now) (update change false (then_number (value_of around e) give)) s)) c.deref-in-Update-2.ensures (c.begin_change.ensures.meaning structs calls)))
+    rw c.in-Update.is (subst (λ p. MeetsExpressionStep around c.begin_change.result s (bind (place_of around p) (update change false (then_number (value_of around by) give)) s)) c.deref-in-Update.ensures
+    (subst (λ e. MeetsExpressionStep around c.begin_change.result s (bind (place_of around c.deref-in-Update.result.now) (update change false (then_number (value_of around e) give)) s)) c.deref-in-Update-2.ensures (c.begin_change.ensures.meaning structs calls)))
 
 pub returns-in-Call-clause-meaning : goal.returns-in-Call-clause-meaning
 returns-in-Call-clause-meaning c = λ structs calls.

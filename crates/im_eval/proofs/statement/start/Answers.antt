@@ -4,7 +4,7 @@ use Rattle.im_state.specs.Shown.{state_of, at_frame}
 use Rattle.im_state.specs.Lists.{does_all}
 use Rattle.im_state.proofs.Rows.{block_does}
 use Rattle.im_eval.specs.Served.{IsServedStatement}
-use Rattle.im_eval.specs.Steps.{MeetsOnward}
+use Rattle.im_eval.specs.Steps.{MeetsStatementStep}
 use Rattle.im_eval.specs.Tasks.{initialises}
 use Rattle.im_eval.specs.Weights.{weight, statement_weight, statements_weight, listed_weight}
 use Rattle.im_eval.proofs.Blocks.{block_served, weight_of_block}
@@ -47,4 +47,4 @@ pub returns-in-Initialise-clause-meaning : goal.returns-in-Initialise-clause-mea
 returns-in-Initialise-clause-meaning c = λ structs calls n.
     let here = at_frame c.args.frame structs calls in
     let s = state_of c.args.machine.now in
-    rw c.in-Initialise.is (subst (λ ps. MeetsOnward here n c.first_value.result s (initialises here (c.args.frame.base + c.in-Initialise.local) ps s)) c.deref-in-Initialise.ensures.value (c.first_value.ensures.meaning structs calls n s))
+    rw c.in-Initialise.is (subst (λ ps. MeetsStatementStep here n c.first_value.result s (initialises here (c.args.frame.base + c.in-Initialise.local) ps s)) c.deref-in-Initialise.ensures.value (c.first_value.ensures.meaning structs calls n s))

@@ -5,5 +5,5 @@ use Rattle.im_eval.proofs.step.next_argument.Goals as goal
 
 pub returns-in-Ok-clause-tasks : goal.returns-in-Ok-clause-tasks
 returns-in-Ok-clause-tasks c =
-    c.before-in-Some.ensures.served c.requires.tasks
+    c.push_task.ensures.served c.requires.tasks
     (All-tail IsServed c.in-Some.first.now c.in-Some.rest.now (subst (All IsServed) c.in-Some.ensures.cases.0 c.requires.call))

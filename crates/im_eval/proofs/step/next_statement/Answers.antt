@@ -5,5 +5,5 @@ use Rattle.im_eval.proofs.step.next_statement.Goals as goal
 
 pub returns-in-Some-clause-tasks : goal.returns-in-Some-clause-tasks
 returns-in-Some-clause-tasks c =
-    c.before-in-Some.ensures.served c.requires.tasks
+    c.push_task.ensures.served c.requires.tasks
     (All-tail IsServedStatement c.in-Some.first.now c.in-Some.rest.now (subst (All IsServedStatement) c.in-Some.ensures.cases.0 c.requires.statements))

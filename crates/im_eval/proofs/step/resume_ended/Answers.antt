@@ -8,4 +8,4 @@ pub returns-in-Rest-clause-meaning : goal.returns-in-Rest-clause-meaning
 returns-in-Rest-clause-meaning c = λ g n e m.
     let here = in_activation g n c.args.run.now.frame.base in
     let s = state_of c.args.run.now.machine in
-    rw c.in-Rest.is (c.proceed.ensures.meaning g n c.args.run.now.frame.base s (goes_after here n c.in-Rest.rest (flow c.args.ended) s) (c.go_after.ensures.meaning here n s))
+    rw c.in-Rest.is (c.continue_statement.ensures.meaning g n c.args.run.now.frame.base s (goes_after here n c.in-Rest.rest (flow c.args.ended) s) (c.go_after.ensures.meaning here n s))
