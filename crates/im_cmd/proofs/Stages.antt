@@ -12,7 +12,7 @@ use Rattle.im_power.specs.declared.fault.TraceFault.{TraceFault}
 use Rattle.im_power.specs.Text.{trace_of}
 use Rattle.im_emu.specs.Load.{memory_of}
 use Rattle.im_emu.specs.State.{Held, state_of, fresh, after}
-use Rattle.im_emu.specs.Variables.{Variable}
+use Rattle.im_num.specs.Variables.{Variable}
 use Rattle.im_cli.specs.Named.{Options}
 use Rattle.im_lines.specs.Refusals.{Refused, CannotRead, SourceTooLong, NotCompiled, NotAnImage, CannotWrite, InputTooLong, FileTooLong, NotATrace, NoMemory}
 use Rattle.im_cmd.specs.Files.{Unchanged, ReadsFile, RefusesFile, Unreadable, failed, absent, IsOver}

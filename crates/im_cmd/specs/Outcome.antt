@@ -4,7 +4,8 @@ use Rattle.im_mem.specs.Memory.{Mem}
 use Rattle.im_image.specs.Contents.{ImageValue, ObjectValue}
 use Rattle.im_power.specs.Power.{Ended}
 use Rattle.im_emu.specs.Shows.{output_of, status_of, reason_of}
-use Rattle.im_emu.specs.Variables.{Variable, vars_of}
+use Rattle.im_num.specs.Variables.{Variable}
+use Rattle.im_emu.specs.Variables.{vars_of}
 use Rattle.im_io.specs.Sink.{SinkState}
 use Rattle.im_io.specs.Whole.{SentAll, SentFirst}
 use Rattle.im_lines.specs.declared.ending.Ending.{Ending}

@@ -12,7 +12,7 @@ use Rattle.im_power.specs.Power.{Ended}
 use Rattle.im_power.specs.Text.{repeats, trace_of}
 use Rattle.im_emu.specs.Load.{memory_of}
 use Rattle.im_emu.specs.State.{Held, fresh, state_of}
-use Rattle.im_emu.specs.Variables.{Variable, variable_of}
+use Rattle.im_num.specs.Variables.{Variable, variable_of}
 use Rattle.im_cli.specs.declared.fault.WordsFault.{WordsFault}
 use Rattle.im_cli.specs.declared.fault.WordsFault.TheVariants as fault
 use Rattle.im_cli.specs.Named.{Options}

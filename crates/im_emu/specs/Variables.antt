@@ -5,19 +5,11 @@ use Rattle.im_num.specs.declared.kind.Kind.{Kind}
 use Rattle.im_num.specs.declared.kind.Kind.TheVariants.{I8, U8, I16, U16, I32, U32, Ptr}
 use Rattle.im_num.specs.declared.values.CellValue.{CellValue}
 use Rattle.im_num.specs.declared.values.CellValue.TheVariants.{Number, Null, Inside, Local}
-use Rattle.im_num.specs.declared.values.Var.{Var}
+use Rattle.im_num.specs.Variables.{Variable}
 use Rattle.im_num.specs.Kinds.{kind_size, wrap}
 use Rattle.im_mem.specs.Memory.{Mem, little}
 use Rattle.im_image.specs.declared.object.CellRun.{CellRun}
 use Rattle.im_image.specs.Contents.{ObjectValue, AreObjects, statics_start}
-
--- a variable's name, and the values of its cells in order
-pub record Variable : Type 0 where
-  pub name : List ℕ
-  pub cells : List CellValue
-
-abbrev pub variable_of : Var → Variable
-variable_of var = record { name = var.name.items; cells = var.cells.items }
 
 -- the objects of an image, in the order of their addresses, among statics of at most a MiB
 pub record AreLaidOut (objects : List ObjectValue) : Type 0 where

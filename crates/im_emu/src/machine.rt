@@ -56,7 +56,8 @@ impl<M: Memory> Machine<M> {
     ghost use Rattle.im_power.specs.Power.{powered};
     ghost use Rattle.im_emu.specs.State.{after, state_of, with_run};
     ghost use Rattle.im_emu.specs.Shows.{status_of, reason_of};
-    ghost use Rattle.im_emu.specs.Variables.{variable_of, vars_of};
+    ghost use Rattle.im_num.specs.Variables.{variable_of};
+    ghost use Rattle.im_emu.specs.Variables.{vars_of};
 
     /// Runs one period of power as often as it says, or until the machine halts or faults. One
     /// that has halted or faulted stays as it is.

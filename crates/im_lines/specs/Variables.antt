@@ -5,7 +5,7 @@ use Rattle.std.specs.Fmt.{signed_decimal}
 use Rattle.im_num.specs.declared.values.CellValue.{CellValue}
 use Rattle.im_num.specs.declared.values.CellValue.TheVariants.{Number, Null, Inside, Local}
 use Rattle.im_image.specs.Contents.{ObjectValue}
-use Rattle.im_emu.specs.Variables.{Variable}
+use Rattle.im_num.specs.Variables.{Variable}
 
 -- the name of the object of this number
 abbrev pub object_name : List ObjectValue → ℕ → List ℕ

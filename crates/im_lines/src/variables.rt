@@ -2,7 +2,7 @@ ghost use Rattle.std.specs.Prelude.{◌≡◌, ◌++◌, codes, decimal, map};
 ghost use Rattle.std.specs.List.{flat_map};
 ghost use Rattle.std.specs.Fmt.{signed_decimal};
 ghost use Rattle.im_io.specs.Whole.{Sends};
-ghost use Rattle.im_emu.specs.Variables.{variable_of};
+ghost use Rattle.im_num.specs.Variables.{variable_of};
 ghost use Rattle.im_lines.specs.Variables.{cell_text, object_name, variable_line, variable_lines};
 
 use im_image::Object;

@@ -3,7 +3,7 @@ use Rattle.std.specs.List.{flat_map}
 use Rattle.std.proofs.lemmas.List.{take_all}
 use Rattle.std.proofs.lemmas.List.Folds.{flat_map-map}
 use Rattle.im_io.specs.Whole.{SentAll, SentFirst}
-use Rattle.im_emu.specs.Variables.{variable_of}
+use Rattle.im_num.specs.Variables.{variable_of}
 use Rattle.im_lines.specs.Variables.{variable_line}
 use Rattle.im_lines.proofs.Joined.{item_first}
 use Rattle.im_lines.proofs.variables.send_variable_lines.Goals as goal

@@ -1,7 +1,7 @@
 use Rattle.std.proofs.Common.{take}
 use Rattle.std.specs.List.{flat_map}
 use Rattle.im_io.specs.Whole.{SentAll}
-use Rattle.im_emu.specs.Variables.{variable_of}
+use Rattle.im_num.specs.Variables.{variable_of}
 use Rattle.im_lines.specs.Variables.{variable_line}
 use Rattle.im_lines.proofs.variables.send_variable_lines.Given as goal
 
