@@ -6,6 +6,7 @@ pub mod assembler;
 mod code;
 mod computation;
 pub mod decode;
+mod effect;
 pub mod encode;
 pub mod format;
 pub mod instr;
@@ -18,6 +19,7 @@ mod tests;
 mod transfer;
 
 pub use code::{Code, Cut, Line, Part, plain};
+pub use effect::{Effect, Extension};
 pub use format::Format;
 pub use instr::{Instr, Op};
 pub use step::{Regs, Went};
