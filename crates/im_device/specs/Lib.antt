@@ -4,3 +4,4 @@ pub mod Periods
 pub mod Load
 pub mod Shows
 pub mod Variables
+pub mod Laws
