@@ -1,6 +1,6 @@
 -- Recovery restores the live buffer, step by step.
-use Rattle.std.proofs.Common.{◌≡◌, ◌≢◌, ℕ, zero, suc, ◌+◌, ◌-◌, ◌*◌, ◌%◌, ◌^◌, ◌<◌, ◌≤◌, ◌⊎◌, inl, inr, Bool, true, false, cond, Some, List, [], ◌∷◌, ◌++◌, length, replicate, get_or, refl, sym, ap, ◌∙◌, subst, arith}
-use Rattle.std.specs.Prelude.{◌==◌, ◌&&◌, ◌||◌, not, nat_lt}
+use Rattle.std.proofs.Common.{◌≡◌, ◌≢◌, ℕ, zero, suc, ◌+◌, ◌-◌, ◌*◌, ◌%◌, ◌^◌, ◌<◌, ◌≤◌, ◌⊎◌, inl, inr, Bool, true, false, cond, List, [], ◌∷◌, ◌++◌, replicate, get_or, refl, sym, ap, ◌∙◌, subst, arith}
+use Rattle.std.specs.Prelude.{◌==◌, ◌&&◌, ◌||◌, nat_lt}
 use Rattle.std.proofs.lemmas.Bool.Decides.{nat_tests}
 use Rattle.std.proofs.lemmas.List.{get_or-replicate, get_or_past, length-replicate}
 use Rattle.im_mem.specs.Memory.{Mem, little, is_place, Stands}
@@ -14,11 +14,10 @@ use Rattle.im_rv.specs.Encode.{encoded}
 use Rattle.im_rv.specs.Lines.{instruction}
 use Rattle.im_rv.proofs.Straight.{puts_step, goes_step}
 use Rattle.im_rv.proofs.Effecting.{torn_whole}
-use Rattle.im_device.specs.Run.{Moment, boot, index_of, counting, one_step, after_step, run, torn, after_tear}
-use Rattle.im_device.specs.Periods.{fresh, power_up}
+use Rattle.im_device.specs.Run.{Moment, boot, index_of, counting, after_step, run, torn}
 use Rattle.im_ckpt.specs.Buffers.{buffer}
 use Rattle.im_ckpt.specs.Recovery.{kept_registers, load_line, return_line, recovery_words, Restored}
-use Rattle.im_ckpt.specs.Laws.{CanResume, Resumes, resuming, ResumeLaw}
+use Rattle.im_ckpt.specs.Laws.{CanResume, resuming, ResumeLaw}
 use Rattle.im_ckpt.proofs.Loads.{Backward, load_step, load_words, filled, past, after, walk, rest_stands, has, filled_in, filled_other}
 
 -- ---- which registers are loaded
