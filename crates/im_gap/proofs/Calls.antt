@@ -1,8 +1,8 @@
 -- The code of a call within a call: a number for each word that falls along each edge.
-use Rattle.std.proofs.Common.{◌≡◌, ℕ, zero, suc, ◌<◌, ◌≤◌, ◌⊎◌, inl, inr, true, false, List, [], ◌∷◌, length, refl, ap, arith}
+use Rattle.std.proofs.Common.{◌≡◌, ℕ, zero, suc, ◌<◌, ◌≤◌, ◌⊎◌, inl, inr, true, false, List, [], ◌∷◌, refl, ap, arith}
 use Rattle.std.specs.Prelude.{slice_index}
-use Rattle.im_rv.specs.Code.{address, instruction_at}
-use Rattle.im_gap.specs.Flow.{links, IsBehind, Flow, IsResumeWord}
+use Rattle.im_rv.specs.Code.{instruction_at}
+use Rattle.im_gap.specs.Flow.{links, IsBehind, Flow}
 use Rattle.im_gap.specs.Laws.{nested_calls, CallsLaw}
 use Rattle.im_gap.proofs.Walking.{rank_law}
 

@@ -1,0 +1,4 @@
+pub mod Rows
+pub mod Lengths
+pub mod Along
+pub mod Progress
