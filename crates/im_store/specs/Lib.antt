@@ -1,0 +1,6 @@
+pub mod Checks
+pub mod Numbers
+pub mod Objects
+pub mod Access
+pub mod Pointers
+pub mod Outcomes
