@@ -1,5 +1,5 @@
 -- What stands behind the parts of the grammar's lines.
-use Rattle.std.proofs.Common.{◌≡◌, ℕ, suc, ◌+◌, ◌-◌, ◌≤◌, ◌<◌, Bool, true, false, ◌||◌, List, [], ◌∷◌, ◌++◌, sym, subst, ap, refl, inl, inr, ◌∙◌, arith, append_assoc}
+use Rattle.std.proofs.Common.{◌≡◌, ℕ, suc, ◌+◌, ◌-◌, ◌≤◌, ◌<◌, Bool, true, false, List, [], ◌∷◌, ◌++◌, sym, subst, ap, refl, inl, inr, ◌∙◌, arith, append_assoc}
 use Rattle.std.proofs.lemmas.List.{append-nil}
 use Rattle.std.specs.Prelude.{◌⊎◌}
 use Rattle.im_tok.specs.declared.keyword.Keyword.{Keyword}
@@ -8,10 +8,10 @@ use Rattle.im_tok.specs.declared.punctuator.Punctuator.{Punctuator}
 use Rattle.im_tok.specs.declared.punctuator.Punctuator.TheVariants.{Star, OpenParen, CloseParen, OpenBracket, OpenBrace, Question, Colon}
 use Rattle.im_word.specs.Words.{Name, Word, name, keyword, number, character, text, mark}
 use Rattle.im_ctree.specs.declared.specifier.SpecifierWord.{SpecifierWord}
-use Rattle.im_ctree.specs.declared.specifier.SpecifierWord.TheVariants as word
 use Rattle.im_ctree.specs.Operators as op
 use Rattle.im_ctree.specs.Tree as tree
 use Rattle.im_ctree.specs.Grammar as grammar
+use Rattle.im_ctree.specs.Typedefs.{has_type_from}
 use Rattle.im_ctree.specs.Grammar.{IsJoinedText, last_text, more_text, IsConsts, no_const, a_const, IsStars, no_star, a_star, GoesOnSpecifiers, a_typedef_name, OpensParameters, at_close, at_typedef_name}
 use Rattle.im_ctree.proofs.Ranks.{rank, head_rank, operator_rank, step_rank, rest_same, part, Starting, starting_append, meets, StartsSpecifier, at_typedef, at_word, at_struct, at_enum, StartsDeclarator, at_declared, at_star, at_paren, StartsAbstract, at_abstract_star, at_abstract_paren, at_abstract_bracket, closing, head_closing, Closes, close_paren, close_bracket, close_brace, close_declaration, Separated, closes, at_comma, closes_rank, type_name_starts, parameter_starts}
 
@@ -195,7 +195,7 @@ head_specifier (keyword k ∷ v) = keyword_specifier k
 head_specifier (mark m ∷ v) = mark_brace m
 head_specifier _ = 0
 
-word_goes : {x : SpecifierWord} {k : Keyword} {b : Bool} → op.IsSpecifierWord x k b → keyword_specifier k ≡ 1
+word_goes : {x : SpecifierWord} {k : Keyword} → op.IsSpecifierWord x k → keyword_specifier k ≡ 1
 word_goes op.typedef = refl
 word_goes op.extern = refl
 word_goes op.static = refl
@@ -211,7 +211,7 @@ word_goes op.unsigned = refl
 abbrev pub SpecifierEnds : List Name → Bool → List Word → Type 0
 SpecifierEnds T seen r = (head_specifier r ≡ 0) × (GoesOnSpecifiers T seen r → ⊥)
 
-specifier_goes : {T : List Name} {a b : Bool} {p : ℕ} {x : tree.Specifier} {u : List Word} → grammar.IsSpecifier T a b p x u → (z : List Word) → SpecifierEnds T a (u ++ z) → ⊥
+specifier_goes : {T : List Name} {a : Bool} {p : ℕ} {x : tree.Specifier} {u : List Word} → grammar.IsSpecifier T a p x u → (z : List Word) → SpecifierEnds T a (u ++ z) → ⊥
 specifier_goes (grammar.a_word is) z h = omega (arith, h.0, word_goes is)
 specifier_goes (grammar.a_struct ms) z h = omega (arith, h.0)
 specifier_goes (grammar.a_named_struct n ms) z h = omega (arith, h.0)
@@ -221,12 +221,12 @@ specifier_goes (grammar.a_named_enum n es) z h = omega (arith, h.0)
 specifier_goes (grammar.an_enum_tag n) z h = omega (arith, h.0)
 specifier_goes (grammar.its_typedef_name n is) z h = h.1 (a_typedef_name is)
 
-pub specifier_clash : {T : List Name} {a a' b : Bool} {p : ℕ} {x : tree.Specifier} (u : List Word) → grammar.IsSpecifier T a' b p x u → a ≡ a' → (r z : List Word) → r ≡ u ++ z → SpecifierEnds T a r → ⊥
+pub specifier_clash : {T : List Name} {a a' : Bool} {p : ℕ} {x : tree.Specifier} (u : List Word) → grammar.IsSpecifier T a' p x u → a ≡ a' → (r z : List Word) → r ≡ u ++ z → SpecifierEnds T a r → ⊥
 specifier_clash {T = T} {a = a} u d same r z eq h =
     let h1 : SpecifierEnds T a (u ++ z) = subst (SpecifierEnds T a) eq h in
     specifier_goes d z (subst (λ y. SpecifierEnds T y (u ++ z)) same h1)
 
-specifier_brace : {T : List Name} {a b : Bool} {p : ℕ} {x : tree.Specifier} {u : List Word} → grammar.IsSpecifier T a b p x u → (z : List Word) → head_brace (u ++ z) ≡ 0
+specifier_brace : {T : List Name} {a : Bool} {p : ℕ} {x : tree.Specifier} {u : List Word} → grammar.IsSpecifier T a p x u → (z : List Word) → head_brace (u ++ z) ≡ 0
 specifier_brace (grammar.a_word is) z = refl
 specifier_brace (grammar.a_struct ms) z = refl
 specifier_brace (grammar.a_named_struct n ms) z = refl
@@ -245,60 +245,12 @@ no_brace (number n ∷ v) h = refl
 no_brace (character n ∷ v) h = refl
 no_brace (text s ∷ v) h = refl
 
-pub tail_brace : {T : List Name} {a seen : Bool} {p : ℕ} {xs : tree.SpecifierList} {v : List Word} → grammar.SpecifierTail T a seen p xs v → (r : List Word) → SpecifierEnds T seen r → head_brace (v ++ r) ≡ 0
+pub tail_brace : {T : List Name} {a : Bool} {p : ℕ} {xs : tree.SpecifierList} {v : List Word} → grammar.SpecifierTail T a p xs v → (r : List Word) → SpecifierEnds T (has_type_from a xs) r → head_brace (v ++ r) ≡ 0
 tail_brace grammar.last_specifier r h = no_brace r h.0
 tail_brace (grammar.next_specifier {u = u} {v = v} d rest) r h = ap head_brace (append_assoc u v r) ∙ specifier_brace d (v ++ r)
 
-abbrev is_type_word : SpecifierWord → Bool
-is_type_word word.Typedef = false
-is_type_word word.Extern = false
-is_type_word word.Static = false
-is_type_word word.Const = false
-is_type_word word.Void = true
-is_type_word word.Char = true
-is_type_word word.Short = true
-is_type_word word.Int = true
-is_type_word word.Long = true
-is_type_word word.Signed = true
-is_type_word word.Unsigned = true
-
-abbrev pub after_specifier : Bool → tree.Specifier → Bool
-after_specifier a (tree.word_specifier p x) = a || is_type_word x
-after_specifier a (tree.typedef_specifier p n) = true
-after_specifier a (tree.struct_tag p n) = true
-after_specifier a (tree.enum_tag p n) = true
-after_specifier a (tree.struct_specifier p n ms) = true
-after_specifier a (tree.enum_specifier p n es) = true
-
-word_types : {x : SpecifierWord} {k : Keyword} {b : Bool} → op.IsSpecifierWord x k b → b ≡ is_type_word x
-word_types op.typedef = refl
-word_types op.extern = refl
-word_types op.static = refl
-word_types op.const = refl
-word_types op.void = refl
-word_types op.char = refl
-word_types op.short = refl
-word_types op.int = refl
-word_types op.long = refl
-word_types op.signed = refl
-word_types op.unsigned = refl
-
-specifier_types : {T : List Name} {a b : Bool} {p : ℕ} {x : tree.Specifier} {u : List Word} → grammar.IsSpecifier T a b p x u → b ≡ after_specifier a x
-specifier_types (grammar.a_word {a = a} is) = ap (λ z. a || z) (word_types is)
-specifier_types (grammar.a_struct ms) = refl
-specifier_types (grammar.a_named_struct n ms) = refl
-specifier_types (grammar.a_struct_tag n) = refl
-specifier_types (grammar.an_enum es) = refl
-specifier_types (grammar.a_named_enum n es) = refl
-specifier_types (grammar.an_enum_tag n) = refl
-specifier_types (grammar.its_typedef_name n is) = refl
-
-pub types_same : {T : List Name} {a a' b b' : Bool} {p p' : ℕ} {x x' : tree.Specifier} {u u' : List Word} → grammar.IsSpecifier T a b p x u → grammar.IsSpecifier T a' b' p' x' u' → a ≡ a' → x ≡ x' → b ≡ b'
-types_same {a = a} {a' = a'} {x = x} {x' = x'} d d' same_a same_x =
-    specifier_types d ∙ ap (λ z. after_specifier z x) same_a ∙ ap (λ z. after_specifier a' z) same_x ∙ sym (specifier_types d')
-
 -- which line a specifier is, by its first words
-abbrev pub specifier_line : {T : List Name} {a b : Bool} {p : ℕ} {x : tree.Specifier} {u : List Word} → grammar.IsSpecifier T a b p x u → ℕ
+abbrev pub specifier_line : {T : List Name} {a : Bool} {p : ℕ} {x : tree.Specifier} {u : List Word} → grammar.IsSpecifier T a p x u → ℕ
 specifier_line (grammar.a_word is) = 0
 specifier_line (grammar.a_struct ms) = 1
 specifier_line (grammar.a_named_struct n ms) = 2
@@ -322,7 +274,7 @@ head_line (keyword k ∷ v) = keyword_line k v
 head_line (name n ∷ v) = 5
 head_line _ = 6
 
-word_line : {x : SpecifierWord} {k : Keyword} {b : Bool} → op.IsSpecifierWord x k b → (v : List Word) → 0 ≡ keyword_line k v
+word_line : {x : SpecifierWord} {k : Keyword} → op.IsSpecifierWord x k → (v : List Word) → 0 ≡ keyword_line k v
 word_line op.typedef v = refl
 word_line op.extern v = refl
 word_line op.static v = refl
@@ -335,7 +287,7 @@ word_line op.long v = refl
 word_line op.signed v = refl
 word_line op.unsigned v = refl
 
-specifier_code : {T : List Name} {a b : Bool} {p : ℕ} {x : tree.Specifier} {u : List Word} (d : grammar.IsSpecifier T a b p x u) (r : List Word) → specifier_line d ≡ head_line (u ++ r)
+specifier_code : {T : List Name} {a : Bool} {p : ℕ} {x : tree.Specifier} {u : List Word} (d : grammar.IsSpecifier T a p x u) (r : List Word) → specifier_line d ≡ head_line (u ++ r)
 specifier_code (grammar.a_word is) r = word_line is r
 specifier_code (grammar.a_struct ms) r = refl
 specifier_code (grammar.a_named_struct n ms) r = refl
@@ -345,7 +297,7 @@ specifier_code (grammar.a_named_enum n es) r = refl
 specifier_code (grammar.an_enum_tag n) r = refl
 specifier_code (grammar.its_typedef_name n is) r = refl
 
-pub specifier_line_same : {T : List Name} {a b a' b' : Bool} {p p' : ℕ} {x x' : tree.Specifier} {u u' : List Word} (d : grammar.IsSpecifier T a b p x u) (d' : grammar.IsSpecifier T a' b' p' x' u') (r r' : List Word) → u ++ r ≡ u' ++ r' → specifier_line d ≡ specifier_line d'
+pub specifier_line_same : {T : List Name} {a a' : Bool} {p p' : ℕ} {x x' : tree.Specifier} {u u' : List Word} (d : grammar.IsSpecifier T a p x u) (d' : grammar.IsSpecifier T a' p' x' u') (r r' : List Word) → u ++ r ≡ u' ++ r' → specifier_line d ≡ specifier_line d'
 specifier_line_same d d' r r' eq = specifier_code d r ∙ ap head_line eq ∙ sym (specifier_code d' r')
 
 -- declarators
@@ -370,7 +322,7 @@ starting_follows {T = T} {seen = seen} v s none z =
     let same : v ++ z ≡ s.0 ∷ (s.1 ++ z) = ap (λ y. y ++ z) s.2 in
     (ap head_specifier same ∙ declarator_specifier (s.1 ++ z) s.3, λ g. none (subst (GoesOnSpecifiers T seen) (sym s.2) (goes_moved s.1 (subst (GoesOnSpecifiers T seen) same g))))
 
-pub declarator_follows : {T : List Name} {g seen : Bool} {p : ℕ} {d : tree.Declarator} (v : List Word) → grammar.IsDeclarator T g p d v → (GoesOnSpecifiers T seen v → ⊥) → (z : List Word) → SpecifierEnds T seen (v ++ z)
+pub declarator_follows : {T : List Name} {seen g : Bool} {p : ℕ} {d : tree.Declarator} (v : List Word) → grammar.IsDeclarator T g p d v → (GoesOnSpecifiers T seen v → ⊥) → (z : List Word) → SpecifierEnds T seen (v ++ z)
 declarator_follows v d none z = starting_follows v (declarator_starts d) none z
 
 suffix_starts : {T : List Name} {p : ℕ} {ts : tree.Suffixes} {w : List Word} → grammar.IsSuffixes T p ts w → (x : Word) (v : List Word) → w ≡ x ∷ v → StartsAbstract x

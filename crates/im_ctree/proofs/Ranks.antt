@@ -164,7 +164,7 @@ prefix_alike op.not op.not = refl
 pub prefix_same : {o o' : UnaryOp} {m m' : Punctuator} → op.IsPrefix o m → op.IsPrefix o' m' → m ≡ m' → o ≡ o'
 prefix_same {o' = o'} is is' same = prefix_alike is (subst (λ z. op.IsPrefix o' z) (sym same) is')
 
-specifier_alike : {x x' : SpecifierWord} {k : Keyword} {b b' : Bool} → op.IsSpecifierWord x k b → op.IsSpecifierWord x' k b' → x ≡ x'
+specifier_alike : {x x' : SpecifierWord} {k : Keyword} → op.IsSpecifierWord x k → op.IsSpecifierWord x' k → x ≡ x'
 specifier_alike op.typedef op.typedef = refl
 specifier_alike op.extern op.extern = refl
 specifier_alike op.static op.static = refl
@@ -177,8 +177,8 @@ specifier_alike op.long op.long = refl
 specifier_alike op.signed op.signed = refl
 specifier_alike op.unsigned op.unsigned = refl
 
-pub specifier_same : {x x' : SpecifierWord} {k k' : Keyword} {b b' : Bool} → op.IsSpecifierWord x k b → op.IsSpecifierWord x' k' b' → k ≡ k' → x ≡ x'
-specifier_same {x' = x'} {b' = b'} is is' same = specifier_alike is (subst (λ z. op.IsSpecifierWord x' z b') (sym same) is')
+pub specifier_same : {x x' : SpecifierWord} {k k' : Keyword} → op.IsSpecifierWord x k → op.IsSpecifierWord x' k' → k ≡ k' → x ≡ x'
+specifier_same {x' = x'} is is' same = specifier_alike is (subst (λ z. op.IsSpecifierWord x' z) (sym same) is')
 
 -- lists that begin with the same part
 pub rest_same : {x x' : Word} {v v' : List Word} → x ∷ v ≡ x' ∷ v' → v ≡ v'
@@ -214,7 +214,7 @@ pub data StartsExpression (T : List Name) : Word → Type 0 where
 -- what begins specifiers
 pub data StartsSpecifier (T : List Name) : Word → Type 0 where
   at_typedef : {n : Name} → Contains T n → StartsSpecifier T (name n)
-  at_word : {x : SpecifierWord} {k : Keyword} {b : Bool} → op.IsSpecifierWord x k b → StartsSpecifier T (keyword k)
+  at_word : {x : SpecifierWord} {k : Keyword} → op.IsSpecifierWord x k → StartsSpecifier T (keyword k)
   at_struct : StartsSpecifier T (keyword Struct)
   at_enum : StartsSpecifier T (keyword Enum)
 
@@ -372,7 +372,7 @@ assign_starts (grammar.assigned {m = m} {u = u} {v = v} a is b) = starting_appen
 pub expression_starts : {T : List Name} {p : ℕ} {t : tree.Expression} {w : List Word} → grammar.IsExpression T p t w → Starting (StartsExpression T) w
 expression_starts (grammar.assigns {u = u} {v = v} a rest) = starting_append u v (assign_starts a)
 
-pub specifier_starts : {T : List Name} {a b : Bool} {p : ℕ} {x : tree.Specifier} {w : List Word} → grammar.IsSpecifier T a b p x w → Starting (StartsSpecifier T) w
+pub specifier_starts : {T : List Name} {a : Bool} {p : ℕ} {x : tree.Specifier} {w : List Word} → grammar.IsSpecifier T a p x w → Starting (StartsSpecifier T) w
 specifier_starts (grammar.a_word {k = k} is) = (keyword k, [], refl, at_word is)
 specifier_starts (grammar.a_struct {u = u} ms) = (keyword Struct, mark punctuator.OpenBrace ∷ (u ++ (mark punctuator.CloseBrace ∷ [])), refl, at_struct)
 specifier_starts (grammar.a_named_struct n {u = u} ms) = (keyword Struct, name n ∷ mark punctuator.OpenBrace ∷ (u ++ (mark punctuator.CloseBrace ∷ [])), refl, at_struct)
@@ -382,7 +382,7 @@ specifier_starts (grammar.a_named_enum n {u = u} es) = (keyword Enum, name n ∷
 specifier_starts (grammar.an_enum_tag n) = (keyword Enum, name n ∷ [], refl, at_enum)
 specifier_starts (grammar.its_typedef_name n is) = (name n, [], refl, at_typedef is)
 
-pub specifiers_starts : {T : List Name} {seen : Bool} {p : ℕ} {s : tree.Specifiers} {w : List Word} → grammar.IsSpecifiers T seen p s w → Starting (StartsSpecifier T) w
+pub specifiers_starts : {T : List Name} {p : ℕ} {s : tree.Specifiers} {w : List Word} → grammar.IsSpecifiers T p s w → Starting (StartsSpecifier T) w
 specifiers_starts (grammar.first_specifier {u = u} {v = v} a rest) = starting_append u v (specifier_starts a)
 
 pub type_name_starts : {T : List Name} {p : ℕ} {n : tree.TypeName} {w : List Word} → grammar.IsTypeName T p n w → Starting (StartsSpecifier T) w

@@ -1,6 +1,6 @@
 pub mod Tree
+pub mod Typedefs
 pub mod Operators
-pub mod Balanced
 pub mod Grammar
 pub mod Units
 pub mod Shape

@@ -1,7 +1,7 @@
 use Rattle.std.proofs.Common.{[], ◌++◌, sym, subst, append_assoc}
 use Rattle.std.proofs.lemmas.List.{append-nil}
 use Rattle.im_ctree.specs.Units.{Spells}
-use Rattle.im_ctree.proofs.laws.fronts_are_prefixes.Goals as goal
+use Rattle.im_ctree.proofs.laws.fronts_are_prefixes_law.Goals as goal
 
 pub returns-clause-whole : goal.returns-clause-whole
 returns-clause-whole c = λ unit words d. ([], unit, subst (Spells unit) (sym (append-nil words)) d)
