@@ -2,7 +2,10 @@ pub mod Formats
 pub mod Fits
 pub mod Decode
 pub mod Encode
+pub mod Effects
+pub mod Torn
 pub mod Steps
 pub mod Lines
+pub mod Code
 pub mod PowerUp
 pub mod Laws

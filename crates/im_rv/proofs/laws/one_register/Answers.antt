@@ -1,5 +1,0 @@
-use Rattle.im_rv.proofs.Changes.{one_register}
-use Rattle.im_rv.proofs.laws.one_register.Goals as goal
-
-pub returns : goal.returns
-returns c = one_register
