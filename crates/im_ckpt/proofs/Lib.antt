@@ -1,4 +1,7 @@
-pub mod Straight
-pub mod Tables
+pub mod Checkpoints
+pub mod Loads
+pub mod Phases
+pub mod Pushing
 pub mod Resume
-pub mod Lists
+pub mod Rungs
+pub mod Slots
