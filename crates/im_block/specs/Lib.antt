@@ -1,0 +1,10 @@
+pub mod Meaning
+pub mod Runs
+pub mod Sections
+pub mod Tagged
+pub mod Paths
+pub mod Shape
+pub mod Uncut
+pub mod Forced
+pub mod Flow
+pub mod Wellformed
