@@ -1,0 +1,3 @@
+pub mod Words
+pub mod Cost
+pub mod Twins

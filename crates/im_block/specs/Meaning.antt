@@ -5,6 +5,7 @@ use Rattle.im_num.specs.declared.kind.Kind.TheVariants.{U8, I32, U32, Ptr}
 use Rattle.im_num.specs.Kinds.{wrap, word, kind_size}
 use Rattle.im_ctype.specs.declared.cell.Cell.{Cell}
 use Rattle.im_store.specs.declared.operators.BinaryOp.{BinaryOp}
+use Rattle.im_store.specs.declared.operators.UnaryOp.{UnaryOp}
 use Rattle.im_store.specs.declared.operators.BinaryOp.TheVariants.{ShiftLeft, ShiftRight}
 use Rattle.im_store.specs.declared.operators.Comparison.{Comparison}
 use Rattle.im_store.specs.declared.undefined.Undefined.TheVariants.{NoSuchCell, MissingResult, DeadPointerRead}
@@ -159,8 +160,12 @@ pointer_of store Null = Fine Null
 pointer_of store (Pointer o i) = unless (lives store o) (Pointer o i) DeadPointerRead
 pointer_of store Unset = Bad MissingResult
 
-abbrev pub truth : Bool → Value
-truth b = Number (if b then pos 1 else pos 0)
+-- numbers and truth values as values
+abbrev pub as_number : Checked ℤ → Checked Value
+as_number c = then_ c (λ z. Fine (Number z))
+
+abbrev pub as_truth : Checked Bool → Checked Value
+as_truth c = then_ c (λ b. Fine (Number (if b then pos 1 else pos 0)))
 
 -- a value as a condition: a number is looked at in 32 bits
 abbrev pub condition : Store → Value → Checked Bool
@@ -169,46 +174,56 @@ condition store Null = Fine false
 condition store (Pointer o i) = unless (lives store o) true DeadPointerRead
 condition store Unset = Bad MissingResult
 
+abbrev pub negation : Store → Value → Checked Bool
+negation store v = then_ (condition store v) (λ b. Fine (not b))
+
 -- operands are brought into the kind; the count of a shift is taken as it is
 abbrev pub right_of : BinaryOp → Kind → ℤ → ℤ
 right_of ShiftLeft kind b = b
 right_of ShiftRight kind b = b
 right_of op kind b = wrap kind b
 
+abbrev pub converted : Kind → Value → Checked ℤ
+converted kind v = then_ (number_of v) (λ z. Fine (wrap kind z))
+
+abbrev pub computed_one : UnaryOp → Kind → Value → Checked ℤ
+computed_one op kind v = then_ (converted kind v) (λ a. Fine (apply_one op kind a))
+
 abbrev pub computed : BinaryOp → Kind → Value → Value → Checked ℤ
 computed op kind v w =
-    then_ (number_of v) (λ a. then_ (number_of w) (λ b. apply op kind (wrap kind a) (right_of op kind b)))
+    then_ (converted kind v) (λ a. then_ (number_of w) (λ b. apply op kind a (right_of op kind b)))
 
 abbrev pub compared : Store → Comparison → Kind → Value → Value → Checked Bool
 compared store op kind v w =
     if same_kind kind Ptr
     then then_ (pointer_of store v) (λ a. then_ (pointer_of store w) (λ b. compare_places op a b))
-    else then_ (number_of v) (λ a. then_ (number_of w) (λ b. Fine (compares op (wrap kind a) (wrap kind b))))
+    else then_ (converted kind v) (λ a. then_ (converted kind w) (λ b. Fine (compares op a b)))
 
-abbrev pub moved_value : Store → ℕ → Bool → Value → Value → Checked Value
-moved_value store size back pointer by =
-    then_ (number_of by) (λ z. moved_by store (bytes_moved size back z) pointer)
+abbrev pub moved : Store → ℕ → Bool → Value → Value → Checked Value
+moved store size back pointer by = then_ (number_of by) (λ z. moved_by store (bytes_moved size back z) pointer)
 
 abbrev pub distance_of : Store → ℕ → Value → Value → Checked ℤ
 distance_of store size v w =
     then_ (pointer_of store v) (λ a. then_ (pointer_of store w) (λ b. distance size a b))
 
--- what a cell of a kind takes: a number as it is in that kind, a pointer where the kind is of pointers
+-- what a cell of a kind takes: a number in that kind, a pointer where the kind is that of pointers
 abbrev pub stored : Kind → Value → Checked Value
 stored kind (Number z) = unless (not (same_kind kind Ptr)) (Number (wrap kind z)) MissingResult
 stored kind Null = unless (same_kind kind Ptr) Null MissingResult
 stored kind (Pointer o i) = unless (same_kind kind Ptr) (Pointer o i) MissingResult
 stored kind Unset = Bad MissingResult
 
+-- places
+
 -- so many bytes behind a place; no bytes behind any value is that value, null too
 abbrev pub further : Store → ℕ → Value → Checked Value
 further store zero v = Fine v
 further store (suc d) v = member_at store (suc d) v
 
-abbrev pub place_of : Place → Frame → Store → Checked Value
-place_of (Static object offset) frame store = further store offset (Pointer (static object) 0)
-place_of (Local object offset) frame store = further store offset (Pointer (object_of frame.active (Named object)) 0)
-place_of (Through pointer offset) frame store = further store offset (frame.registers pointer)
+abbrev pub place_of : Place → Active → (ℕ → Value) → Store → Checked Value
+place_of (Static object offset) by registers store = further store offset (Pointer (static object) 0)
+place_of (Local object offset) by registers store = further store offset (Pointer (object_of by (Named object)) 0)
+place_of (Through pointer offset) by registers store = further store offset (registers pointer)
 
 pub record Location : Type 0 where
   pub object : Object
@@ -221,15 +236,43 @@ location_of Null = Bad NoSuchCell
 location_of Unset = Bad NoSuchCell
 
 -- where an access goes
-abbrev pub located : Place → Frame → Store → Checked Location
-located place frame store = then_ (place_of place frame store) location_of
+abbrev pub located : Place → Active → (ℕ → Value) → Store → Checked Location
+located place by registers store = then_ (place_of place by registers store) location_of
+
+-- what a read finds, and what a write leaves, with the place
+pub record Found : Type 0 where
+  pub at : Location
+  pub value : Value
+
+pub record Left : Type 0 where
+  pub at : Location
+  pub store : Store
+
+abbrev pub found_in : Location → Checked Value → Checked Found
+found_in at c = then_ c (λ v. Fine (record { at = at; value = v }))
+
+abbrev pub left_in : Location → Checked Store → Checked Left
+left_in at c = then_ c (λ store. Fine (record { at = at; store = store }))
+
+abbrev pub read_place : Place → Kind → Active → (ℕ → Value) → Store → Checked Found
+read_place place kind by registers store =
+    then_ (located place by registers store) (λ at. found_in at (read_cell store at.object at.offset kind))
+
+abbrev pub write_place : Place → Kind → Value → Active → (ℕ → Value) → Store → Checked Left
+write_place place kind v by registers store =
+    then_ (located place by registers store) (λ at.
+    then_ (stored kind v) (λ taken. left_in at (write_cell store at.object at.offset kind taken)))
 
 -- a slot takes and gives any value as it is
-abbrev pub read_slot : Store → Object → Checked Value
-read_slot store o = unless (lives store o) (store.values o 0) NoSuchCell
+abbrev pub slot_of : ℕ → Active → Location
+slot_of slot by = record { object = object_of by (Slot slot); offset = 0 }
 
-abbrev pub write_slot : Store → Object → Value → Checked Store
-write_slot store o v = unless (lives store o) (record store { values = with_value store.values o 0 v }) NoSuchCell
+abbrev pub read_slot : Location → Store → Checked Found
+read_slot at store = found_in at (unless (lives store at.object) (store.values at.object at.offset) NoSuchCell)
+
+abbrev pub write_slot : Location → Value → Store → Checked Left
+write_slot at v store =
+    left_in at (unless (lives store at.object) (record store { values = with_value store.values at.object at.offset v }) NoSuchCell)
 
 -- registers
 
@@ -263,8 +306,18 @@ abbrev pub sets : ℕ → Value → List Line → State → List Event → Next
 sets to v rest s events =
     Goes (record s { frame = record (with_rest s.frame rest) { registers = with_register s.frame.registers to v } }) events
 
-abbrev pub stores : Store → List Line → State → List Event → Next
-stores store rest s events = Goes (record s { frame = with_rest s.frame rest; store = store }) events
+-- the forms of a line: a value, a read, a write
+abbrev pub computes : ℕ → Checked Value → List Line → State → Next
+computes to c rest s = on_checked c (λ v. sets to v rest s [])
+
+abbrev pub reads : ℕ → Site → Checked Found → List Line → State → Next
+reads to site c rest s =
+    on_checked c (λ f. sets to f.value rest s (Reads site s.frame.active f.at.object f.at.offset ∷ []))
+
+abbrev pub writes : Site → Checked Left → List Line → State → Next
+writes site c rest s =
+    on_checked c (λ l.
+    Goes (record s { frame = with_rest s.frame rest; store = l.store }) (Writes site s.frame.active l.at.object l.at.offset ∷ []))
 
 abbrev pub static_of : StaticOf → StaticObject
 static_of s = record { name = s.name.items; cells = s.object.cells.items }
@@ -325,41 +378,29 @@ module _ (u : Code) (g : Setting) where
       else served to (Number (negsuc 0)) rest s.input s.output fuel s
 
   abbrev pub does : Line → List Line → State → Next
-  does (Put to z) rest s = sets to (Number z) rest s []
-  does (PutNull to) rest s = sets to Null rest s []
-  does (Copy to from) rest s = sets to (s.frame.registers from) rest s []
-  does (Convert to kind from) rest s =
-      on_checked (number_of (s.frame.registers from)) (λ z. sets to (Number (wrap kind z)) rest s [])
-  does (Unary to op kind from) rest s =
-      on_checked (number_of (s.frame.registers from)) (λ z. sets to (Number (apply_one op kind (wrap kind z))) rest s [])
-  does (Not to from) rest s =
-      on_checked (condition s.store (s.frame.registers from)) (λ b. sets to (truth (not b)) rest s [])
+  does (Put to z) rest s = computes to (Fine (Number z)) rest s
+  does (PutNull to) rest s = computes to (Fine Null) rest s
+  does (Copy to from) rest s = computes to (Fine (s.frame.registers from)) rest s
+  does (Convert to kind from) rest s = computes to (as_number (converted kind (s.frame.registers from))) rest s
+  does (Unary to op kind from) rest s = computes to (as_number (computed_one op kind (s.frame.registers from))) rest s
+  does (Not to from) rest s = computes to (as_truth (negation s.store (s.frame.registers from))) rest s
   does (Compute to op kind left right) rest s =
-      on_checked (computed op kind (s.frame.registers left) (s.frame.registers right)) (λ z. sets to (Number z) rest s [])
+      computes to (as_number (computed op kind (s.frame.registers left) (s.frame.registers right))) rest s
   does (Compare to op kind left right) rest s =
-      on_checked (compared s.store op kind (s.frame.registers left) (s.frame.registers right)) (λ b. sets to (truth b) rest s [])
+      computes to (as_truth (compared s.store op kind (s.frame.registers left) (s.frame.registers right))) rest s
   does (Move to size back pointer by) rest s =
-      on_checked (moved_value s.store size back (s.frame.registers pointer) (s.frame.registers by)) (λ v. sets to v rest s [])
+      computes to (moved s.store size back (s.frame.registers pointer) (s.frame.registers by)) rest s
   does (Distance to size left right) rest s =
-      on_checked (distance_of s.store size (s.frame.registers left) (s.frame.registers right)) (λ z. sets to (Number z) rest s [])
-  does (Address to place) rest s =
-      on_checked (place_of place s.frame s.store) (λ v. sets to v rest s [])
+      computes to (as_number (distance_of s.store size (s.frame.registers left) (s.frame.registers right))) rest s
+  does (Address to place) rest s = computes to (place_of place s.frame.active s.frame.registers s.store) rest s
   does (Read to place kind access) rest s =
-      on_checked (located place s.frame s.store) (λ at.
-      on_checked (read_cell s.store at.object at.offset kind) (λ v.
-      sets to v rest s (Reads (site_of access kind) s.frame.active at.object at.offset ∷ [])))
+      reads to (site_of access kind) (read_place place kind s.frame.active s.frame.registers s.store) rest s
   does (Write place kind from access) rest s =
-      on_checked (located place s.frame s.store) (λ at.
-      on_checked (stored kind (s.frame.registers from)) (λ v.
-      on_checked (write_cell s.store at.object at.offset kind v) (λ store.
-      stores store rest s (Writes (site_of access kind) s.frame.active at.object at.offset ∷ []))))
-  does (Reload to slot access) rest s =
-      on_checked (read_slot s.store (object_of s.frame.active (Slot slot))) (λ v.
-      sets to v rest s (Reads (slot_site access slot) s.frame.active (object_of s.frame.active (Slot slot)) 0 ∷ []))
+      writes (site_of access kind) (write_place place kind (s.frame.registers from) s.frame.active s.frame.registers s.store) rest s
+  does (Reload to slot access) rest s = reads to (slot_site access slot) (read_slot (slot_of slot s.frame.active) s.store) rest s
   does (Spill slot from access) rest s =
-      on_checked (write_slot s.store (object_of s.frame.active (Slot slot)) (s.frame.registers from)) (λ store.
-      stores store rest s (Writes (slot_site access slot) s.frame.active (object_of s.frame.active (Slot slot)) 0 ∷ []))
-  does (Cut cause) rest s = stores s.store rest s (Cuts ∷ [])
+      writes (slot_site access slot) (write_slot (slot_of slot s.frame.active) (s.frame.registers from) s.store) rest s
+  does (Cut cause) rest s = Goes (record s { frame = with_rest s.frame rest }) (Cuts ∷ [])
   does (Call to i first count) rest s =
       takes s.fuel s.output (λ fuel. enters i first count s.frame.registers (waiting s.frame to rest ∷ s.callers) fuel s)
   does (GetChar to) rest s = takes s.fuel s.output (λ fuel. gets to rest s.input fuel s)
