@@ -1,7 +1,7 @@
 -- A run passes each line at most once, and once more for each unit of fuel.
 use Rattle.std.proofs.Common.{◌≡◌, ℕ, zero, suc, ◌+◌, ◌*◌, ◌<◌, ◌≤◌, List, [], ◌∷◌, Bool, true, false, Option, Some, None, refl, sym, ap, ◌∙◌, subst, arith}
-use Rattle.std.specs.Prelude.{slice_get, nat_le, nat_lt, length, if◌then◌else◌}
-use Rattle.im_num.specs.Kinds.{wrap, word}
+use Rattle.std.specs.Prelude.{slice_get, nat_abs, nat_le, nat_lt, length, if◌then◌else◌}
+use Rattle.im_num.specs.Kinds.{wrap}
 use Rattle.im_num.specs.declared.kind.Kind.TheVariants.{U8}
 use Rattle.im_store.specs.Checks.{Checked, Fine, Bad}
 use Rattle.im_store.specs.Objects.{Value, Number, Null, Unset, Store}
@@ -236,7 +236,7 @@ module _ (u : Code) (g : Setting) (w : Weights) where
   does_pays s (PutChar to from) rest ordered e sound =
       let here = rest_is s (PutChar to from) rest e in
       takes_pays (potential s) (w.line (PutChar to from) + w.routine) s.fuel s.output _ (omega arith) (λ less paid.
-      checked_pays (potential s) (w.line (PutChar to from) + w.routine) (number_of (s.frame.registers from)) _ (omega arith) (λ z is. puts_pays s to from rest (word (wrap U8 z)) less e paid sound))
+      checked_pays (potential s) (w.line (PutChar to from) + w.routine) (number_of (s.frame.registers from)) _ (omega arith) (λ z is. puts_pays s to from rest (nat_abs (wrap U8 z)) less e paid sound))
 
   step_pays : (s : State) (lines : List Line) → AllOrdered u → s.frame.spot.rest ≡ lines → Sound s → Pays (potential s) (next_weight w lines s.frame.spot.exit) (step_at u g lines s)
   step_pays s [] ordered e sound = leaves_pays s s.frame.spot.exit ordered refl e sound

@@ -1,8 +1,8 @@
 -- Code with further cuts does the same.
 use Rattle.std.proofs.Common.{◌≡◌, ℕ, zero, suc, List, [], ◌∷◌, ◌++◌, Bool, true, false, Option, Some, None, refl, sym, ap, ◌∙◌, subst}
-use Rattle.std.specs.Prelude.{slice_get, pos, negsuc, nat_le, nat_lt, length, if◌then◌else◌}
+use Rattle.std.specs.Prelude.{slice_get, nat_abs, pos, negsuc, nat_le, nat_lt, length, if◌then◌else◌}
 use Rattle.std.proofs.lemmas.List.{append-nil}
-use Rattle.im_num.specs.Kinds.{wrap, word}
+use Rattle.im_num.specs.Kinds.{wrap}
 use Rattle.im_num.specs.declared.kind.Kind.TheVariants.{U8}
 use Rattle.im_store.specs.Checks.{Checked, Fine, Bad}
 use Rattle.im_store.specs.Objects.{Value, Number, Null, Unset, Store}
@@ -224,7 +224,7 @@ module _ (u w : Code) (g : Setting) (all : SameFunctions u.functions.items w.fun
       takes_twin s.fuel s.output _ _ (λ fuel.
       checked_twin (number_of (s.frame.registers from)) _ _ (λ z.
       either_twin (nat_lt (length s.output) g.capacity) _ _ _ _
-      (served_twin s to (Number (pos (word (wrap U8 z)))) rest rest' before s.input (s.output ++ word (wrap U8 z) ∷ []) fuel callers waiting e)
+      (served_twin s to (Number (pos (nat_abs (wrap U8 z)))) rest rest' before s.input (s.output ++ nat_abs (wrap U8 z) ∷ []) fuel callers waiting e)
       (served_twin s to (Number (negsuc 0)) rest rest' before s.input s.output fuel callers waiting e)))
 
   back_twin : (s : State) (before : List Line) (callers callers' : List Frame) (value : Value) → SameCallers callers callers' → NextTwin (back u g callers value s) (back v g callers' value (twin s before callers'))

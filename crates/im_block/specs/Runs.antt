@@ -1,44 +1,13 @@
 -- Runs of a unit: from the start of main on, and what a whole run comes to.
 use Rattle.std.specs.Prelude.{◌≡◌, ℕ, zero, suc, ◌==◌, ◌&&◌, if◌then◌else◌, List, [], ◌∷◌, ◌++◌, Option, Some, None, slice_get}
-use Rattle.im_ctype.specs.declared.cell.Cell.{Cell}
 use Rattle.im_store.specs.Objects.{Name, Named, Slot, Link, Value, Unset, Shape, Store}
 use Rattle.im_store.specs.Outcomes.{Outcome}
+use Rattle.im_store.specs.Statics.{with_statics}
 use Rattle.im_block.specs.declared.code.Exit.TheVariants.{Jump}
 use Rattle.im_block.specs.declared.unit.Constant.{Constant}
 use Rattle.im_block.specs.declared.unit.Static.{Static as StaticOf}
 use Rattle.im_block.specs.declared.unit.Unit.{Unit as Code}
-use Rattle.im_block.specs.Meaning.{Setting, Event, Reads, Writes, Tests, Saves, Restores, Serves, Cuts, State, Next, Goes, Stops, shape_of, constant, enters, step}
-
--- the statics, before main starts
-
-abbrev pub shape_of_static : Option StaticOf → Option Shape
-shape_of_static None = None
-shape_of_static (Some s) = Some (shape_of s.object)
-
-abbrev pub static_shape : List StaticOf → Name → Option Shape
-static_shape statics (Named n) = shape_of_static (slice_get statics n)
-static_shape statics (Slot n) = None
-static_shape statics Link = None
-
-abbrev pub value_at : List Cell → List Constant → ℕ → Value
-value_at [] vs offset = Unset
-value_at (c ∷ cs) [] offset = Unset
-value_at (c ∷ cs) (v ∷ vs) offset = if c.offset == offset then constant v else value_at cs vs offset
-
-abbrev pub value_of_static : Option StaticOf → ℕ → Value
-value_of_static None offset = Unset
-value_of_static (Some s) offset = value_at s.object.cells.items s.values.items offset
-
-abbrev pub static_value : List StaticOf → Name → ℕ → Value
-static_value statics (Named n) offset = value_of_static (slice_get statics n) offset
-static_value statics (Slot n) offset = Unset
-static_value statics Link offset = Unset
-
-abbrev pub first_store : Code → Store
-first_store u = record {
-  shape = λ o. if o.activation == 0 && o.depth == 0 then static_shape u.statics.items o.name else None;
-  values = λ o offset. static_value u.statics.items o.name offset;
-}
+use Rattle.im_block.specs.Meaning.{Setting, Event, Reads, Writes, Tests, Saves, Restores, Serves, Cuts, State, Next, Goes, Stops, statics_of, enters, step}
 
 -- before main begins: no activation is at work
 abbrev pub before : Code → Setting → ℕ → State
@@ -51,7 +20,7 @@ before u g fuel = record {
     to = 0;
   };
   callers = [];
-  store = first_store u;
+  store = with_statics (statics_of u);
   begun = 0;
   input = g.input;
   output = [];
