@@ -268,9 +268,9 @@ module _ (u : Code) (g : Setting) (w : Weights) where
       let within = function_within w u.functions.items u.main f e in
       let bound = n * total w u + blocks_weight w f.blocks.items in
       let pays = enters_pays (before u g n) u.main 0 0 0 bound n (λ r. Unset) [] ordered (omega arith) tt (λ h at_h.
-          let one : Some h ≡ Some f = sym at_h ∙ e in
-          let same : blocks_weight w h.blocks.items ≡ blocks_weight w f.blocks.items = ap (λ o. blocks_weight w (blocks_of o)) one in
-          omega arith) in
+      let one : Some h ≡ Some f = sym at_h ∙ e in
+      let same : blocks_weight w h.blocks.items ≡ blocks_weight w f.blocks.items = ap (λ o. blocks_weight w (blocks_of o)) one in
+      omega arith) in
       let all = begun_pays bound (start u g n) (spent u g w k) pays (λ s sound. spent_within k s ordered sound) in
       omega arith
 

@@ -133,31 +133,35 @@ module _ (u w : Code) (g : Setting) (all : SameFunctions u.functions.items w.fun
   to_twin : (s : State) (b fuel : ℕ) (before : List Line) (callers : List Frame) → SameCallers s.callers callers → NextTwin (goes_to u g b fuel s) (goes_to v g b fuel (twin s before callers))
   to_twin s b fuel before callers waiting =
       function_twin (slice_get u.functions.items s.frame.function) (slice_get w.functions.items s.frame.function) _ _ (both_at s.frame.function) (λ old new same.
-      block_twin (slice_get old.blocks.items b) (slice_get new.blocks.items b) _ _ (both_blocks old.blocks.items new.blocks.items b same.blocks) (λ block other e.
-      (refl, record {
-        rest = other.lines.items;
-        callers = callers;
-        is = ap (λ x. record s { frame = record s.frame { spot = record { block = b; rest = other.lines.items; exit = x } }; callers = callers; fuel = fuel }) e.exit;
-        lines = e.lines;
-        waiting = waiting;
-      })))
+      block_twin (slice_get old.blocks.items b) (slice_get new.blocks.items b) _ _ (both_blocks old.blocks.items new.blocks.items b same.blocks) (λ block other e. (
+        refl,
+        record {
+          rest = other.lines.items;
+          callers = callers;
+          is = ap (λ x. record s { frame = record s.frame { spot = record { block = b; rest = other.lines.items; exit = x } }; callers = callers; fuel = fuel }) e.exit;
+          lines = e.lines;
+          waiting = waiting;
+        },
+      )))
 
   -- a new activation
   new_twin : (s : State) (i : ℕ) (old : Function) (active : Active) (registers : ℕ → Value) (callers callers' : List Frame) (fuel : ℕ) (block other : Block) (before : List Line) (waiting : List Frame) → SameCallers callers callers' → SameBlock block other → NextTwin (activates i old active registers callers fuel block s) (activates i old active registers callers' fuel other (twin s before waiting))
-  new_twin s i old active registers callers callers' fuel block other before waiting same e =
-      (refl, record {
-        rest = other.lines.items;
+  new_twin s i old active registers callers callers' fuel block other before waiting same e = (
+    refl,
+    record {
+      rest = other.lines.items;
+      callers = callers';
+      is = ap (λ x. record s {
+        frame = record { function = i; spot = record { block = old.entry; rest = other.lines.items; exit = x }; active = active; registers = registers; to = 0 };
         callers = callers';
-        is = ap (λ x. record s {
-          frame = record { function = i; spot = record { block = old.entry; rest = other.lines.items; exit = x }; active = active; registers = registers; to = 0 };
-          callers = callers';
-          store = begun_by old active s.store;
-          begun = active.number;
-          fuel = fuel;
-        }) e.exit;
-        lines = e.lines;
-        waiting = same;
-      })
+        store = begun_by old active s.store;
+        begun = active.number;
+        fuel = fuel;
+      }) e.exit;
+      lines = e.lines;
+      waiting = same;
+    },
+  )
 
   enters_twin : (s : State) (i first count fuel : ℕ) (registers registers' : ℕ → Value) (callers callers' : List Frame) (before : List Line) (waiting : List Frame) → registers' ≡ registers → SameCallers callers callers' → NextTwin (enters u g i first count registers callers fuel s) (enters v g i first count registers' callers' fuel (twin s before waiting))
   enters_twin s i first count fuel registers registers' callers callers' before waiting e same =
@@ -185,14 +189,16 @@ module _ (u w : Code) (g : Setting) (all : SameFunctions u.functions.items w.fun
   }
 
   served_twin : (s : State) (to : ℕ) (value : Value) (rest rest' before : List Line) (input output : List ℕ) (fuel : ℕ) (callers : List Frame) → SameCallers s.callers callers → WithCuts rest rest' → NextTwin (served u g to value rest input output fuel s) (served v g to value rest' input output fuel (twin s before callers))
-  served_twin s to value rest rest' before input output fuel callers waiting e =
-      (refl, record {
-        rest = rest';
-        callers = callers;
-        is = ap (λ r. record s { frame = record (with_rest s.frame rest') { registers = with_register r to value }; callers = callers; input = input; output = output; fuel = fuel }) (left_twin s);
-        lines = e;
-        waiting = waiting;
-      })
+  served_twin s to value rest rest' before input output fuel callers waiting e = (
+    refl,
+    record {
+      rest = rest';
+      callers = callers;
+      is = ap (λ r. record s { frame = record (with_rest s.frame rest') { registers = with_register r to value }; callers = callers; input = input; output = output; fuel = fuel }) (left_twin s);
+      lines = e;
+      waiting = waiting;
+    },
+  )
 
   gets_twin : (s : State) (to : ℕ) (rest rest' before : List Line) (input : List ℕ) (fuel : ℕ) (callers : List Frame) → SameCallers s.callers callers → WithCuts rest rest' → NextTwin (gets u g to rest input fuel s) (gets v g to rest' input fuel (twin s before callers))
   gets_twin s to rest rest' before [] fuel callers waiting e = served_twin s to (Number (negsuc 0)) rest rest' before [] s.output fuel callers waiting e
