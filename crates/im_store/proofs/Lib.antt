@@ -1,1 +1,2 @@
+pub mod OfKind
 mod Sizes
