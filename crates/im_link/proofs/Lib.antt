@@ -1,0 +1,6 @@
+pub mod Joining
+pub mod Placing
+pub mod Accessing
+pub mod Cutting
+pub mod Laying
+pub mod Whole
