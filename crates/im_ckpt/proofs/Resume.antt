@@ -157,6 +157,10 @@ unfoldable pub cpu_after : ℕ → Cpu → Mem → Cpu
 cpu_after zero c m = c
 cpu_after (suc n) c m = cpu_after n (step_of c m).cpu m
 
+pub after_none : (c : Cpu) (m : Mem) → cpu_after 0 c m ≡ c
+unfolding cpu_after
+after_none c m = refl
+
 -- each of the first k steps goes on and leaves memory as it is
 abbrev pub Walks : Mem → ℕ → Cpu → Type 0
 Walks m k c = (i : ℕ) → i < k → step_of (cpu_after i c m) m ≡ record { went = On; cpu = cpu_after (suc i) c m; mem = m }

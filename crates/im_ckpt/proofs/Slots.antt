@@ -157,7 +157,7 @@ saved-calm run t i h = ap (λ b. cond b false (saves_reg (run t) i || (not (sets
 pub saved-flip : (run : ℕ → State) (t i : ℕ) → flip run t ≡ true → saved run (suc t) i ≡ false
 saved-flip run t i h = ap (λ b. cond b false (saves_reg (run t) i || (not (sets (run t) i) && saved run t i))) h
 
-or_cases : (a b c : Bool) → (a || (not b && c)) ≡ true → (a ≡ true) ⊎ ((b ≡ false) × (c ≡ true))
+pub or_cases : (a b c : Bool) → (a || (not b && c)) ≡ true → (a ≡ true) ⊎ ((b ≡ false) × (c ≡ true))
 or_cases true b c h = inl refl
 or_cases false true c h = absurd (cc)
 or_cases false false c h = inr (refl, h)

@@ -1,1 +1,11 @@
-pub mod Split
+pub mod Buffers
+pub mod Endless
+pub mod Following
+pub mod Growing
+pub mod Images
+pub mod Instance
+pub mod Machine
+pub mod Owing
+pub mod Shows
+pub mod Sound
+pub mod Steps
