@@ -4,3 +4,7 @@ mod Related
 mod Parts
 mod Induction
 mod Whole
+mod Sounds
+mod SoundCells
+mod SoundExprs
+mod SoundStmts
