@@ -4,3 +4,4 @@ pub mod Accessing
 pub mod Cutting
 pub mod Laying
 pub mod Whole
+pub mod Checking
