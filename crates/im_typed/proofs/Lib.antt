@@ -1,5 +1,1 @@
-pub mod Related
-pub mod Parts
-pub mod Induction
-pub mod Whole
-pub mod Rows
+mod Rows

@@ -3,16 +3,14 @@
 
 mod counts;
 mod expression;
-mod laws;
+mod frames;
 mod program;
 mod statement;
 #[cfg(test)]
 mod tests;
-mod undefined;
 
 pub use counts::{need, nodes};
-pub use expression::{Access, BinaryOp, Change, Comparison, Expr, Place, UnaryOp};
-pub use laws::{bound_law, fuel_law, more_fuel_law, statics_law};
+pub use expression::{Access, Change, Expr, Place};
+pub use frames::{Frame, Frames};
 pub use program::{Constant, Func, Object, Prog, Static};
 pub use statement::{Case, Piece, Stmt};
-pub use undefined::Undefined;

@@ -1,5 +1,0 @@
-use Rattle.im_typed.proofs.Whole.{statics-shape}
-use Rattle.im_typed.proofs.laws.statics_law.Goals as goal
-
-pub returns : goal.returns
-returns c = λ g input fuel. statics-shape g input fuel
