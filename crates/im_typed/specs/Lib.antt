@@ -6,3 +6,4 @@ pub mod Meaning
 pub mod Programs
 pub mod Counts
 pub mod Frames
+pub mod Samples

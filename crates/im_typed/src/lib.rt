@@ -2,6 +2,7 @@
 #![tactic(auto)]
 
 mod counts;
+mod examples;
 mod expression;
 mod frames;
 mod program;
@@ -10,6 +11,7 @@ mod statement;
 mod tests;
 
 pub use counts::{need, nodes};
+pub use examples::{activations, dead_pointers, endless_loop, initialisers, input_and_output, left_to_right, missing_result, null_pointer, order_by_kind, pointers, quotient_overflow, recursion, rows, shifts, struct_access, struct_values, switch_statement, truncation, uninitialised_read, wrapping, zero_divisor};
 pub use expression::{Access, Change, Expr, Place};
 pub use frames::{Frame, Frames};
 pub use program::{Constant, Func, Object, Prog, Static};

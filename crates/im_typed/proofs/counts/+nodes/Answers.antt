@@ -1,5 +1,5 @@
 use Rattle.std.proofs.Common.{rules, ap}
-use Rattle.im_typed.proofs.Rows.{nodes_of, call-nodes}
+use Rattle.im_typed.proofs.RowCounts.{nodes_of, call-nodes}
 use Rattle.im_typed.proofs.counts.+nodes.Goals as goal
 
 pub count_expression-returns-in-Call : goal.count_expression-returns-in-Call

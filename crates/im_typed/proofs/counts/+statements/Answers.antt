@@ -1,5 +1,5 @@
 use Rattle.std.proofs.Common.{rules, ap}
-use Rattle.im_typed.proofs.Rows.{nodes_in, block-nodes, switch-nodes}
+use Rattle.im_typed.proofs.RowCounts.{nodes_in, block-nodes, switch-nodes}
 use Rattle.im_typed.proofs.counts.+statements.Goals as goal
 
 pub count_statement-returns-in-Block : goal.count_statement-returns-in-Block
