@@ -1,2 +1,6 @@
 mod RowCounts
 mod Endless
+mod Related
+mod Parts
+mod Induction
+mod Whole

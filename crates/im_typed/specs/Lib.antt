@@ -6,4 +6,5 @@ pub mod Meaning
 pub mod Programs
 pub mod Counts
 pub mod Frames
+pub mod Laws
 pub mod Samples

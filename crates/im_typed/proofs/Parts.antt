@@ -1,0 +1,77 @@
+-- What each step of the meaning keeps.
+use Rattle.std.proofs.Common.{◌≡◌, ℕ, List, [], ◌∷◌, ◌++◌, Bool, true, false, length, refl}
+use Rattle.std.specs.Prelude.{ℤ, pos, negsuc, nat_lt}
+use Rattle.im_store.specs.declared.undefined.Undefined.TheVariants.{MissingResult}
+use Rattle.im_store.specs.Objects.{Value, Number, Store}
+use Rattle.im_store.specs.Access.{taken, read_cells, write_cells, at_place}
+use Rattle.im_typed.specs.declared.expression.Change.{Change}
+use Rattle.im_typed.specs.Program.{Access, Scalar}
+use Rattle.im_typed.specs.Runs.{World, Run, ◌>>=◌, give, change, leave_store}
+use Rattle.im_typed.specs.Values.{Values, scalar, truth, used, value_in, number_of, number_in, cells_of, read_at, write_at, changed_kind, changed, update}
+use Rattle.im_typed.specs.Meaning.{Flow, Next, Broke, Continued, Returned, after, after_turn, decides, next_byte, put_byte, change_store}
+use Rattle.im_store.specs.Pointers.{holds}
+use Rattle.im_typed.proofs.Related.{begins_self, Related, Benign, rel-bind, rel-give, rel-undefined, rel-look, rel-checked, rel-in_store, rel-change, rel-either}
+
+pub rel-change_store : {k b : ℕ} (f : Store → Store) → Related k b (change_store f) (change_store f)
+rel-change_store f = rel-change (λ w. record w { store = f w.store }) (record { grown = λ w. begins_self w.output })
+
+pub rel-leave_store : {k b : ℕ} (store : Store) → Related k b (leave_store store) (leave_store store)
+rel-leave_store store = rel-change (λ w. record w { store = store }) (record { grown = λ w. begins_self w.output })
+
+-- values
+
+pub rel-used : {k b : ℕ} (vs : Values) → Related k b (used vs) (used vs)
+rel-used [] = rel-undefined MissingResult
+rel-used (v ∷ vs) = rel-in_store (λ store. taken store v)
+
+pub rel-value_in : {k b : ℕ} {m m' : Run Values} → Related k b m m' → Related k b (value_in m) (value_in m')
+rel-value_in g = rel-bind g (λ vs. rel-used vs)
+
+pub rel-number_in : {k b : ℕ} {m m' : Run Values} → Related k b m m' → Related k b (number_in m) (number_in m')
+rel-number_in g = rel-bind (rel-value_in g) (λ v. rel-checked (number_of v))
+
+-- cells
+
+pub rel-read_at : {k b : ℕ} (x : Access) (at : Value) → Related k b (read_at x at) (read_at x at)
+rel-read_at x at = rel-in_store (λ store. at_place at (λ o offset. read_cells store o offset (cells_of x)))
+
+pub rel-write_at : {k b : ℕ} (x : Access) (at : Value) (vs : Values) → Related k b (write_at x at vs) (write_at x at vs)
+rel-write_at x at vs =
+    rel-bind (rel-in_store (λ store. at_place at (λ o offset. write_cells store o offset (cells_of x) vs)))
+    (λ after. rel-bind (rel-leave_store after) (λ _. rel-give vs))
+
+pub rel-update : {k b : ℕ} (c : Change) (old : Bool) (at : Value) {m m' : Run ℤ} → Related k b m m' → Related k b (update c old m at) (update c old m' at)
+rel-update c old at g =
+    rel-bind (rel-value_in (rel-read_at (Scalar (changed_kind c)) at)) (λ before.
+    rel-bind g (λ by. rel-bind (rel-in_store (changed c before by)) (λ after.
+    rel-bind (rel-write_at (Scalar (changed_kind c)) at (after ∷ [])) (λ _. rel-give _))))
+
+-- input and output
+
+pub rel-next_byte : {k b : ℕ} (input : List ℕ) → Related k b (next_byte input) (next_byte input)
+rel-next_byte [] = rel-give (Number (negsuc 0) ∷ [])
+rel-next_byte (byte ∷ rest) =
+    rel-bind (rel-change (λ w. record w { input = rest }) (record { grown = λ w. begins_self w.output })) (λ _. rel-give (Number (pos byte) ∷ []))
+
+pub rel-put_byte : {k b : ℕ} (capacity byte : ℕ) → Related k b (put_byte capacity byte) (put_byte capacity byte)
+rel-put_byte capacity byte =
+    rel-bind rel-look (λ w. rel-either (nat_lt (length w.output) capacity)
+    (rel-bind (rel-change (λ w. record w { output = w.output ++ byte ∷ [] }) (record { grown = λ w. (byte ∷ [], refl) })) (λ _. rel-give (Number (pos byte) ∷ [])))
+    (rel-give (Number (negsuc 0) ∷ [])))
+
+-- statements
+
+pub rel-after : {k b : ℕ} (f : Flow) {m m' : Run Flow} → Related k b m m' → Related k b (after f m) (after f m')
+rel-after Next g = g
+rel-after Broke g = rel-give Broke
+rel-after Continued g = rel-give Continued
+rel-after (Returned vs) g = rel-give (Returned vs)
+
+pub rel-after_turn : {k b : ℕ} (f : Flow) {m m' : Run Flow} → Related k b m m' → Related k b (after_turn f m) (after_turn f m')
+rel-after_turn Next g = g
+rel-after_turn Broke g = rel-give Next
+rel-after_turn Continued g = g
+rel-after_turn (Returned vs) g = rel-give (Returned vs)
+
+pub rel-decides : {k b : ℕ} {test test' : Run Values} {x x' y y' : Run Flow} → Related k b test test' → Related k b x x' → Related k b y y' → Related k b (decides test x y) (decides test' x' y')
+rel-decides t g h = rel-bind (rel-value_in t) (λ v. rel-either (holds v) g h)
