@@ -15,9 +15,9 @@ use Rattle.im_typed.specs.Meaning.{Around, Calls, local, Flow, Next, Broke, Cont
 use Rattle.im_typed.proofs.Related.{Related, Tame, tame-bind, tame-give, tame-undefined, tame-starve, tame-paid, tame-either, tame-in_store, rel-bind, rel-give, rel-look, rel-checked, rel-in_store, rel-either, rel-paid, rel-paid-zero, rel-paid-suc, rel-down}
 use Rattle.im_typed.proofs.Parts.{rel-change_store, rel-used, rel-value_in, rel-number_in, rel-read_at, rel-write_at, rel-update, rel-next_byte, rel-put_byte, rel-after, rel-after_turn, rel-decides}
 
-abbrev pub within : ℕ → ℕ → ℕ → Calls → Around
-within activation depth capacity calls =
-    record { activation = activation; depth = depth; capacity = capacity; calls = calls }
+abbrev pub within : ℕ → ℕ → ℕ → ℕ → Calls → Around
+within activation depth first capacity calls =
+    record { activation = activation; depth = depth; first = first; capacity = capacity; calls = calls }
 
 -- calls that are related, whatever is called
 pub record RelatedCalls (k b : ℕ) (calls calls' : Calls) : Type 0 where
@@ -79,15 +79,15 @@ rel-turns {k} (suc b) (suc n) (suc n') le le' t g h =
     (rel-paid-suc (rel-bind (rel-down g) (λ f. rel-after_turn f (rel-bind (rel-down h) (λ _. rel-turns b n n' l l' (rel-down t) (rel-down g) (rel-down h))))))
     (rel-give Next)
 
-module _ (k b activation depth capacity : ℕ) (calls calls' : Calls) (called : RelatedCalls k b calls calls') where
+module _ (k b activation depth first capacity : ℕ) (calls calls' : Calls) (called : RelatedCalls k b calls calls') where
   abbrev c : Around
-  c = within activation depth capacity calls
+  c = within activation depth first capacity calls
 
   abbrev d : Around
-  d = within activation depth capacity calls'
+  d = within activation depth first capacity calls'
 
   abbrev object : ℕ → Object
-  object n = record { activation = activation; depth = depth; name = Named n }
+  object n = record { activation = activation; depth = depth; name = Named (first + n) }
 
   mutual
     pub rel-place : (p : Place) → Related k b (place_of c p) (place_of d p)

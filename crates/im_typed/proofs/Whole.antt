@@ -11,13 +11,13 @@ use Rattle.im_typed.specs.Program.{Func}
 use Rattle.im_typed.specs.Runs.{World, State, Fails, Starves, Exhausts, Answer, Gives, Stops}
 use Rattle.im_typed.specs.Values.{Values}
 use Rattle.im_typed.specs.Meaning.{Calls, Flow}
-use Rattle.im_typed.specs.Programs.{Setting, call_result, entering, leaving, frame_of, body_of, enters, called, calls_of, start, run_of_main, outcome_of, meaning}
+use Rattle.im_typed.specs.Programs.{Setting, first_object, call_result, entering, leaving, frame_of, body_of, enters, called, calls_of, start, run_of_main, outcome_of, meaning}
 use Rattle.im_typed.specs.Laws.{GoesOnFrom, Extends, FuelAtMost, ShowsStatics}
 use Rattle.im_typed.proofs.Related.{begins_self, Keeps, Tame, Grown, Linked, Related, Benign, tame-starve, rel-bind, rel-give, rel-undefined, rel-look, rel-exhaust, rel-either, rel-change, rel-paid-zero, rel-paid-suc}
 use Rattle.im_typed.proofs.Induction.{RelatedCalls, rel-does}
 
-entering-benign : (activation depth : ℕ) (f : Func) (args : List Value) → Benign (entering activation depth f args)
-entering-benign activation depth f args = record { grown = λ w. begins_self w.output }
+entering-benign : (activation depth first : ℕ) (f : Func) (args : List Value) → Benign (entering activation depth first f args)
+entering-benign activation depth first f args = record { grown = λ w. begins_self w.output }
 
 leaving-benign : (activation depth : ℕ) → Benign (leaving activation depth)
 leaving-benign activation depth = record { grown = λ w. begins_self w.output }
@@ -27,8 +27,9 @@ module _ (g : Setting) where
   rel-body k b n n' i f args w calls calls' le le' h =
       let a = suc w.activations in
       let d = w.depth + frame_of g i in
-      rel-bind (rel-change (entering a d f args) (entering-benign a d f args)) (λ _.
-      rel-bind (rel-does k b a d g.capacity calls calls' h n n' le le' f.body) (λ flow.
+      let first = first_object g.prog i in
+      rel-bind (rel-change (entering a d first f args) (entering-benign a d first f args)) (λ _.
+      rel-bind (rel-does k b a d first g.capacity calls calls' h n n' le le' f.body) (λ flow.
       rel-bind (rel-change (leaving a w.depth) (leaving-benign a w.depth)) (λ _.
       rel-give (call_result (i == g.prog.main) flow))))
 

@@ -17,10 +17,12 @@ use Rattle.im_typed.specs.Values.{Values, scalar, number, truth, used, value_in,
 abbrev pub Calls : Type 0
 Calls = ℕ → List Value → Run Values
 
--- what the meaning of a body stands on: the activation's number and depth, the capacity of the output in bytes, and what calls do
+-- what the meaning of a body stands on: the activation's number and depth, the number of the function's first object, the
+-- capacity of the output in bytes, and what calls do
 pub record Around : Type 0 where
   pub activation : ℕ
   pub depth : ℕ
+  pub first : ℕ
   pub capacity : ℕ
   pub calls : Calls
 
@@ -41,7 +43,7 @@ put_byte capacity b = do
 
 module _ (c : Around) where
   abbrev pub local : ℕ → Object
-  local n = record { activation = c.activation; depth = c.depth; name = Named n }
+  local n = record { activation = c.activation; depth = c.depth; name = Named (c.first + n) }
 
   abbrev mutual
     -- the place that an expression designates

@@ -1,6 +1,5 @@
 -- What a program does on an input: its statics, calls, and what main returns (C11 5.1.2.2.3, 6.2.4, 6.5.2.2, 6.9.1).
-use Rattle.std.specs.Prelude.{ℕ, zero, suc, ◌+◌, ◌==◌, Bool, true, false, List, [], ◌∷◌, map, ℤ, pos, Option, Some, None, nat_le, slice_get, slice_index_or, if◌then◌else◌}
-use Rattle.std.specs.Option.{option_map}
+use Rattle.std.specs.Prelude.{ℕ, zero, suc, ◌+◌, ◌-◌, ◌==◌, length, take, sum_by, Bool, true, false, List, [], ◌∷◌, map, ℤ, pos, Option, Some, None, nat_le, slice_get, slice_index_or, if◌then◌else◌}
 use Rattle.im_store.specs.declared.undefined.Undefined.TheVariants.{MissingResult}
 use Rattle.im_store.specs.Objects.{Name, Named, Slot, Link, Object, Value, Number, Shape, shape_of, Store, begins, ends}
 use Rattle.im_store.specs.Statics.{with_statics}
@@ -18,14 +17,22 @@ pub record Setting : Type 0 where
   pub stack : ℕ
   pub capacity : ℕ
 
--- the objects of a function by their names: no value is a pointer to what has another sort of name
-abbrev pub shapes_of : List LocalObject → Name → Option Shape
-shapes_of objects (Named number) =
-    option_map {T = LocalObject} (λ o. shape_of o.size o.cells) (slice_get objects number)
-shapes_of objects (Slot number) = None
-shapes_of objects Link = None
+-- an object's name is the number of its declaration in the program: the statics, then the objects of each function
+abbrev pub first_object : Prog → ℕ → ℕ
+first_object g k = length g.statics + sum_by (λ (f : Func). length f.objects) (take k g.funcs)
 
--- the parameters, from the n-th object of an activation on, hold the arguments
+abbrev pub shape_in : Option LocalObject → Option Shape
+shape_in None = None
+shape_in (Some o) = Some (shape_of o.size o.cells)
+
+-- the objects of a function by their names, from its first one's number on
+abbrev pub shapes_of : ℕ → List LocalObject → Name → Option Shape
+shapes_of first objects (Named number) =
+    if nat_le first number then shape_in (slice_get objects (number - first)) else None
+shapes_of first objects (Slot number) = None
+shapes_of first objects Link = None
+
+-- the parameters, from the object of a number on, hold the arguments
 abbrev pub with_arguments : ℕ → ℕ → ℕ → List Value → (Object → ℕ → Value) → Object → ℕ → Value
 with_arguments activation depth n [] values = values
 with_arguments activation depth n (v ∷ vs) values =
@@ -33,15 +40,15 @@ with_arguments activation depth n (v ∷ vs) values =
     with_value (with_arguments activation depth (suc n) vs values) parameter 0 v
 
 -- the objects of an activation come into being
-abbrev pub with_objects : ℕ → ℕ → Func → List Value → Store → Store
-with_objects activation depth f args store =
-    let fresh = begins store activation depth (shapes_of f.objects) in
-    record fresh { values = with_arguments activation depth 0 args fresh.values }
+abbrev pub with_objects : ℕ → ℕ → ℕ → Func → List Value → Store → Store
+with_objects activation depth first f args store =
+    let fresh = begins store activation depth (shapes_of first f.objects) in
+    record fresh { values = with_arguments activation depth first args fresh.values }
 
 -- an activation is entered and left: its objects come into being and die, and its frame is given back
-abbrev pub entering : ℕ → ℕ → Func → List Value → World → World
-entering activation depth f args w =
-    record w { store = with_objects activation depth f args w.store; activations = activation; depth = depth }
+abbrev pub entering : ℕ → ℕ → ℕ → Func → List Value → World → World
+entering activation depth first f args w =
+    record w { store = with_objects activation depth first f args w.store; activations = activation; depth = depth }
 
 abbrev pub leaving : ℕ → ℕ → World → World
 leaving activation depth w = record w { store = ends w.store activation; depth = depth }
@@ -56,15 +63,15 @@ module _ (g : Setting) where
   abbrev pub frame_of : ℕ → ℕ
   frame_of k = slice_index_or g.frames k 0
 
-  abbrev pub around : Calls → ℕ → ℕ → Around
-  around calls activation depth =
-      record { activation = activation; depth = depth; capacity = g.capacity; calls = calls }
+  abbrev pub around : Calls → ℕ → ℕ → ℕ → Around
+  around calls activation depth first =
+      record { activation = activation; depth = depth; first = first; capacity = g.capacity; calls = calls }
 
   -- the body of the k-th function, in which each loop has at most n turns
   abbrev pub body_of : Calls → ℕ → ℕ → Func → List Value → World → Run Values
   body_of calls n k f args w = do
-    _ ← change (entering (suc w.activations) (w.depth + frame_of k) f args)
-    flow ← does (around calls (suc w.activations) (w.depth + frame_of k)) n f.body
+    _ ← change (entering (suc w.activations) (w.depth + frame_of k) (first_object g.prog k) f args)
+    flow ← does (around calls (suc w.activations) (w.depth + frame_of k) (first_object g.prog k)) n f.body
     _ ← change (leaving (suc w.activations) w.depth)
     give (call_result (k == g.prog.main) flow)
 
