@@ -5,3 +5,4 @@ pub mod Statics
 pub mod Access
 pub mod Pointers
 pub mod Outcomes
+pub mod Applied
