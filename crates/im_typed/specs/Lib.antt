@@ -6,5 +6,6 @@ pub mod Meaning
 pub mod Programs
 pub mod Counts
 pub mod Frames
+pub mod Typing
 pub mod Laws
 pub mod Samples
