@@ -4,3 +4,6 @@ mod Related
 mod Parts
 mod Induction
 mod Whole
+mod Sounds
+mod SoundCells
+mod SoundExprs

@@ -7,5 +7,6 @@ pub mod Programs
 pub mod Counts
 pub mod Frames
 pub mod Typing
+pub mod Sound
 pub mod Laws
 pub mod Samples

@@ -79,6 +79,10 @@ AreLaidOut from size [] = from ≤ size
 AreLaidOut from size (c ∷ cs) =
     (from ≤ c.offset) × (c.offset % kind_size c.kind ≡ 0) × AreLaidOut (c.offset + kind_size c.kind) size cs
 
+-- an object of the language: at most 1048576 bytes
+abbrev pub IsObject : ℕ → List Cell → Type 0
+IsObject size cells = (size ≤ 1048576) × AreLaidOut 0 size cells
+
 -- these cells, from an offset on, are cells of the object
 abbrev pub StandAmong : List Cell → ℕ → List Cell → Type 0
 StandAmong cells offset parts = Each {A = Cell} (λ c. kind_at cells (offset + c.offset) ≡ Some c.kind) parts
@@ -246,7 +250,7 @@ IsOneCell (c ∷ d ∷ cs) = ⊥
 
 abbrev pub IsTypedFunc : Prog → Func → Type 0
 IsTypedFunc g f =
-    (f.params ≤ length f.objects) × Each {A = LocalObject} (λ o. AreLaidOut 0 o.size o.cells) f.objects
+    (f.params ≤ length f.objects) × Each {A = LocalObject} (λ o. IsObject o.size o.cells) f.objects
     × Each {A = LocalObject} (λ o. IsOneCell o.cells) (take f.params f.objects) × IsTypedStmt g f false false f.body
 
 -- a place in a static, or at its end
@@ -274,7 +278,7 @@ AreFirstValues statics (c ∷ cs) [] = ⊥
 AreFirstValues statics (c ∷ cs) (v ∷ vs) = IsFirstValue statics c.kind v × AreFirstValues statics cs vs
 
 abbrev pub IsTypedStatic : List StaticObject → StaticObject → Type 0
-IsTypedStatic statics s = AreLaidOut 0 s.size s.cells × AreFirstValues statics s.cells s.first
+IsTypedStatic statics s = IsObject s.size s.cells × AreFirstValues statics s.cells s.first
 
 -- `int main(void)` (C11 5.1.2.2.1)
 abbrev pub IsMain : Option Func → Type 0
