@@ -7,3 +7,4 @@ mod Whole
 mod Sounds
 mod SoundCells
 mod SoundExprs
+mod SoundStmts
