@@ -188,11 +188,7 @@ fn condition(rt: &impl Abort, alloc: Global) -> Expr {
     push(rt, &mut arguments, Expr::Read(NUMBER, local(rt, alloc, 0)));
     let not = Expr::Not(boxed(rt, alloc, Expr::Call(0, arguments)));
     let (i, three) = (counter(rt, alloc), number(rt, alloc, 3));
-    let equal = boxed(
-        rt,
-        alloc,
-        Expr::Compare(Comparison::Equal, Kind::I32, i, three),
-    );
+    let equal = boxed(rt, alloc, Expr::Compare(Comparison::Equal, Kind::I32, i, three));
     Expr::And(equal, boxed(rt, alloc, not))
 }
 
@@ -224,12 +220,7 @@ fn counted_loop(rt: &impl Abort, alloc: Global) -> Stmt {
     };
     Stmt::For {
         first,
-        test: Expr::Compare(
-            Comparison::Less,
-            Kind::I32,
-            counter(rt, alloc),
-            number(rt, alloc, 10),
-        ),
+        test: Expr::Compare(Comparison::Less, Kind::I32, counter(rt, alloc), number(rt, alloc, 10)),
         step: Expr::Increment {
             place: local(rt, alloc, 0),
             change,
@@ -312,11 +303,7 @@ fn stored(rt: &impl Abort, alloc: Global) -> Expr {
 /// cast, the comma, 11 of its left side, and 3 of its right side.
 fn pointer_loop(rt: &impl Abort, alloc: Global) -> Stmt {
     let (p, q) = (value(rt, alloc, POINTER, 0), value(rt, alloc, POINTER, 1));
-    let differ = boxed(
-        rt,
-        alloc,
-        Expr::Compare(Comparison::NotEqual, Kind::Ptr, p, q),
-    );
+    let differ = boxed(rt, alloc, Expr::Compare(Comparison::NotEqual, Kind::Ptr, p, q));
     let total = Expr::Read(SHORT, boxed(rt, alloc, Place::Static(0)));
     let test = Expr::Or(differ, boxed(rt, alloc, total));
     let change = Change::Move {
