@@ -1,2 +1,7 @@
+pub mod Built
+pub mod Kept
 pub mod Laws
 pub mod Layout
+pub mod Members
+pub mod Table
+pub mod Types
