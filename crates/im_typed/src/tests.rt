@@ -141,16 +141,8 @@ fn counts(alloc: Global, params: u32, objects: Vec<Object>, body: Vec<Stmt>) -> 
 fn three_objects(rt: &impl Abort, alloc: Global) -> Vec<Object> {
     let mut objects = Vec::new(alloc);
     push(rt, &mut objects, object(rt, alloc, b"p", 4));
-    push(
-        rt,
-        &mut objects,
-        object(rt, alloc, b"n", 1),
-    );
-    push(
-        rt,
-        &mut objects,
-        object(rt, alloc, b"t", 12),
-    );
+    push(rt, &mut objects, object(rt, alloc, b"n", 1));
+    push(rt, &mut objects, object(rt, alloc, b"t", 12));
     objects
 }
 
@@ -185,7 +177,11 @@ fn condition(rt: &impl Abort, alloc: Global) -> Expr {
     push(rt, &mut arguments, Expr::Read(NUMBER, local(rt, alloc, 0)));
     let not = Expr::Not(boxed(rt, alloc, Expr::Call(0, arguments)));
     let (i, three) = (counter(rt, alloc), number(rt, alloc, 3));
-    let equal = boxed(rt, alloc, Expr::Compare(Comparison::Equal, Kind::I32, i, three));
+    let equal = boxed(
+        rt,
+        alloc,
+        Expr::Compare(Comparison::Equal, Kind::I32, i, three),
+    );
     Expr::And(equal, boxed(rt, alloc, not))
 }
 
@@ -217,7 +213,12 @@ fn counted_loop(rt: &impl Abort, alloc: Global) -> Stmt {
     };
     Stmt::For {
         first,
-        test: Expr::Compare(Comparison::Less, Kind::I32, counter(rt, alloc), number(rt, alloc, 10)),
+        test: Expr::Compare(
+            Comparison::Less,
+            Kind::I32,
+            counter(rt, alloc),
+            number(rt, alloc, 10),
+        ),
         step: Expr::Increment {
             place: local(rt, alloc, 0),
             change,
@@ -256,11 +257,7 @@ fn choice(rt: &impl Abort, alloc: Global) -> Stmt {
 fn statements(rt: HostRuntime) {
     let alloc = rt.alloc();
     let mut objects = Vec::new(alloc);
-    push(
-        &rt,
-        &mut objects,
-        object(&rt, alloc, b"i", 4),
-    );
+    push(&rt, &mut objects, object(&rt, alloc, b"i", 4));
     let mut body = Vec::new(alloc);
     push(&rt, &mut body, Stmt::Forget(0));
     push(&rt, &mut body, counted_loop(&rt, alloc));
@@ -300,7 +297,11 @@ fn stored(rt: &impl Abort, alloc: Global) -> Expr {
 /// cast, the comma, 11 of its left side, and 3 of its right side.
 fn pointer_loop(rt: &impl Abort, alloc: Global) -> Stmt {
     let (p, q) = (value(rt, alloc, POINTER, 0), value(rt, alloc, POINTER, 1));
-    let differ = boxed(rt, alloc, Expr::Compare(Comparison::NotEqual, Kind::Ptr, p, q));
+    let differ = boxed(
+        rt,
+        alloc,
+        Expr::Compare(Comparison::NotEqual, Kind::Ptr, p, q),
+    );
     let total = Expr::Read(SHORT, boxed(rt, alloc, Place::Static(0)));
     let test = Expr::Or(differ, boxed(rt, alloc, total));
     let change = Change::Move {
@@ -350,16 +351,8 @@ fn distance(rt: &impl Abort, alloc: Global) -> Stmt {
 fn pointers(rt: HostRuntime) {
     let alloc = rt.alloc();
     let mut objects = Vec::new(alloc);
-    push(
-        &rt,
-        &mut objects,
-        object(&rt, alloc, b"p", 4),
-    );
-    push(
-        &rt,
-        &mut objects,
-        object(&rt, alloc, b"q", 4),
-    );
+    push(&rt, &mut objects, object(&rt, alloc, b"p", 4));
+    push(&rt, &mut objects, object(&rt, alloc, b"q", 4));
     let mut body = Vec::new(alloc);
     push(&rt, &mut body, pointer_loop(&rt, alloc));
     push(&rt, &mut body, distance(&rt, alloc));
