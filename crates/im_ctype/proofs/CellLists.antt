@@ -1,15 +1,12 @@
 -- Cells moved, cells of arrays, and layouts as more structs get their member lists.
-use Rattle.std.proofs.Common.{◌≡◌, ℕ, zero, suc, ◌+◌, ◌*◌, ◌<◌, ◌≤◌, Bool, true, false, ◌&&◌, nat_lt, List, [], ◌∷◌, ◌++◌, length, take, get_or, subst, refl, sym, ap, ◌∙◌, arith, add_assoc, append_assoc, length-append, append-nil}
+use Rattle.std.proofs.Common.{◌≡◌, ℕ, zero, suc, ◌+◌, ◌*◌, Bool, true, false, ◌&&◌, nat_lt, List, [], ◌∷◌, ◌++◌, length, subst, refl, sym, ap, ◌∙◌, arith, add_assoc}
 use Rattle.std.specs.Prelude.{slice_get, Some}
-use Rattle.std.specs.List.{All}
 use Rattle.std.proofs.lemmas.List.{map-append, get_or_append_left}
-use Rattle.std.proofs.lemmas.List.Elements.{All-tail, All-head}
 use Rattle.std.proofs.lemmas.Option.{slice_get_within, get_or_from_slice_get}
 use borrow.Author.Tests.{ltb-true}
-use Rattle.im_ctype.specs.Built.{built}
 use Rattle.im_ctype.specs.declared.cell.Cell.{Cell}
-use Rattle.im_ctype.specs.Types.{CType, void, integer, pointer, array, unsized, struct, function, Member, Structs, members_at, members_of, is_complete}
-use Rattle.im_ctype.specs.Layout.{Layout, empty_layout, moved_cell, moved, repeated, round_up, layout_at, layout_in, with_member, members_in, with_trailing_bytes, struct_in, layouts, layout, IsComplete, MembersAreComplete}
+use Rattle.im_ctype.specs.Types.{CType, void, integer, pointer, array, unsized, struct, function, Member, Structs, is_complete}
+use Rattle.im_ctype.specs.Layout.{Layout, empty_layout, moved_cell, moved, repeated, layout_in, with_member, members_in, with_trailing_bytes, struct_in, layouts, layout, IsComplete, MembersAreComplete}
 use Rattle.im_ctype.proofs.Building.{length-built, built-at, built-prefix}
 
 -- cells moved
