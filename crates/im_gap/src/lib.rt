@@ -8,5 +8,5 @@ mod table;
 #[cfg(test)]
 mod tests;
 
-pub use laws::rank_law;
+pub use laws::{calls_law, rank_law};
 pub use longest::{gap, longest_gap};

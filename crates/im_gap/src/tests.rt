@@ -1,4 +1,4 @@
-use crate::longest_gap;
+use crate::{gap, longest_gap};
 use im_rv::Code;
 use std::alloc::Global;
 use std::test::Fail;
@@ -36,25 +36,34 @@ fn small_codes(rt: HostRuntime) -> Result<(), Fail> {
         0x00029a63, 0x00000013, 0x00000013, 0x0240006f, 0x00000013, 0x00000013, 0x00000013,
         0x00000013, 0x00000013, 0x00000013, 0x00000013, 0x00000013, 0x00100073,
     ];
-    // main calls f, f calls g, a cut behind each call; the routine is the flip and a return
-    let nested_calls = [
-        0x00c000ef, 0x01c001ef, 0x00100073, 0x00c000ef, 0x010001ef, 0x00008067, 0x00000013,
-        0x00008067, 0x00402023, 0x00018067,
-    ];
     // a loop of three instructions whose edge is a cut
     let cut_loop = [
         0x00000013, 0x00c001ef, 0xff9ff06f, 0x00100073, 0x00402023, 0x00018067,
     ];
     let endless_loop = [0x00000013, 0xfe029ee3, 0x00100073];
-    let rows: [(&[u32], Option<u32>); 4] = [
+    let rows: [(&[u32], Option<u32>); 3] = [
         (&diamond, Some(33 + 9)),
-        (&nested_calls, Some(33 + 6)),
         (&cut_loop, Some(33 + 4)),
         (&endless_loop, None),
     ];
     for (words, longest) in rows {
         assert_eq!(rt; longest_from(rt.alloc(), words, 0x1000)?, longest);
     }
+    Ok(())
+}
+
+#[test]
+fn a_call_within_a_call(rt: HostRuntime) -> Result<(), Fail> {
+    let words = [
+        0x00c000ef, 0x01c001ef, 0x00100073, 0x00c000ef, 0x010001ef, 0x00008067, 0x00000013,
+        0x00008067, 0x00402023, 0x00018067,
+    ];
+    let code = Code {
+        words: Vec::from_slice(rt.alloc(), &words)?,
+        entry: 0x1000,
+        cuts: Vec::new(rt.alloc()),
+    };
+    assert_eq!(rt; gap(rt.alloc(), &code)?, 33 + 6);
     Ok(())
 }
 
