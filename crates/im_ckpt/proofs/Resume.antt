@@ -184,7 +184,7 @@ holds_back m P k c d e h = subst (λ (s : Stepped). P (cpu_after k s.cpu m)) (sy
 pub recovery_walks : (m : Mem) (junk : ℕ) → CanResume m → Walks m 33 (boot junk)
 recovery_walks m junk can = resume_back m (Walks m) (walks_back m) junk can (λ i l. absurd (omega arith))
 
-counts_same : (m : Mem) (n : ℕ) → counting m m n ≡ n
+pub counts_same : (m : Mem) (n : ℕ) → counting m m n ≡ n
 counts_same m n = let q : (index_of m == index_of m) ≡ true = grind (arith, nat_tests) in ap (λ b. cond b n (suc n)) q
 
 -- such steps are a run that commits nothing

@@ -8,9 +8,10 @@ use Rattle.im_ctree.specs.Tree as tree
 use Rattle.im_ctree.specs.Typedefs.{adds_type, has_type, has_type_from}
 use Rattle.im_ctree.specs.Grammar as grammar
 use Rattle.im_ctree.specs.Grammar.{no_star}
+use Rattle.im_ctree.specs.Follow.{Closes, Separated, SpecifierEnds, close_brace, close_bracket, close_declaration, close_paren, closes, head_brace, head_rank}
 use Rattle.im_ctree.proofs.Derivations.{binary_of}
-use Rattle.im_ctree.proofs.Ranks.{head_rank, operator_rank, operator_same, assign_operator_rank, assign_operator_same, step_same, prefix_same, specifier_same, rest_same, mark_same, behind, part, blocked, primary_clash, unary_clash, unary_second, paren_type, Closes, close_paren, close_bracket, close_brace, close_declaration, Separated, closes, closes_rank, separated_rank, not_expression, not_specifier, not_closing, conditional_starts, assign_starts, parameter_starts, members_starts}
-use Rattle.im_ctree.proofs.Behind.{comma_ends, binary_ends, postfix_ends, postfix_clash, argument_ends, declarator_tail_ends, enumerator_tail_ends, parameter_tail_ends, unique_text, unique_stars, Untyped, conditional_leads, SpecifierEnds, head_brace, specifier_clash, tail_brace, specifier_line_same, declarator_starts, declarator_follows, maybe_abstract_follows, suffixes_star, suffix_clash, abstract_begins, suffixes_unnamed, parameters_open, suffixes_starless, separated_undeclared}
+use Rattle.im_ctree.proofs.Ranks.{operator_rank, operator_same, assign_operator_rank, assign_operator_same, step_same, prefix_same, specifier_same, rest_same, mark_same, behind, part, blocked, primary_clash, unary_clash, unary_second, paren_type, closes_rank, separated_rank, not_expression, not_specifier, not_closing, conditional_starts, assign_starts, parameter_starts, members_starts}
+use Rattle.im_ctree.proofs.Behind.{comma_ends, binary_ends, postfix_ends, postfix_clash, argument_ends, declarator_tail_ends, enumerator_tail_ends, parameter_tail_ends, unique_text, unique_stars, Untyped, conditional_leads, specifier_clash, tail_brace, specifier_line_same, declarator_starts, declarator_follows, maybe_abstract_follows, suffixes_star, suffix_clash, abstract_begins, suffixes_unnamed, parameters_open, suffixes_starless, separated_undeclared}
 
 keyword_same : {k k' : Keyword} {v v' : List Word} → keyword k ∷ v ≡ keyword k' ∷ v' → k ≡ k'
 keyword_same same = cc

@@ -12,8 +12,9 @@ use Rattle.im_ctree.specs.Grammar.{GoesOnSpecifiers}
 use Rattle.im_ctree.specs.Units as units
 use Rattle.im_ctree.specs.Typedefs.{has_type, typedef_names, names_behind, names_behind_init, names_behind_external}
 use Rattle.im_ctree.specs.Units.{takes_else}
-use Rattle.im_ctree.proofs.Ranks.{head_rank, rest_same, behind, part, Starting, starting_append, meets, apart, StartsExpression, at_name, at_number, at_character, at_text, at_open, at_step, at_prefix, at_sizeof, StartsSpecifier, at_typedef, at_word, at_struct, at_enum, StartsDeclarator, head_closing, Closes, close_paren, close_brace, close_declaration, Separated, closes, at_comma, closes_rank, separated_rank, not_expression, not_specifier, not_closing, assign_starts, expression_starts, specifiers_starts}
-use Rattle.im_ctree.proofs.Behind.{SpecifierEnds, head_brace, goes_named, declarator_starts, starting_follows, declarator_follows, separated_undeclared, separated_code}
+use Rattle.im_ctree.specs.Follow.{Closes, Separated, SpecifierEnds, Starting, StartsDeclarator, StartsExpression, StartsSpecifier, at_character, at_comma, at_enum, at_name, at_number, at_open, at_prefix, at_sizeof, at_step, at_struct, at_text, at_typedef, at_word, close_brace, close_declaration, close_paren, closes, head_brace, head_rank}
+use Rattle.im_ctree.proofs.Ranks.{rest_same, behind, part, starting_append, meets, apart, head_closing, closes_rank, separated_rank, not_expression, not_specifier, not_closing, assign_starts, expression_starts, specifiers_starts}
+use Rattle.im_ctree.proofs.Behind.{goes_named, declarator_starts, starting_follows, declarator_follows, separated_undeclared, separated_code}
 use Rattle.im_ctree.proofs.Unique.{unique_expression, unique_assign, unique_conditional, unique_specifiers, unique_declarator}
 
 -- first words

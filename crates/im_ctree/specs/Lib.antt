@@ -3,5 +3,6 @@ pub mod Typedefs
 pub mod Operators
 pub mod Grammar
 pub mod Units
+pub mod Follow
 pub mod Shape
 pub mod Samples

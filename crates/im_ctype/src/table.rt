@@ -173,7 +173,11 @@ impl TypeTable {
 
     /// Where these members lie, one behind another, and the extent of a struct of them (C11
     /// 6.7.2.1p15).
-    fn placed(&self, alloc: Global, members: &[Member]) -> Result<(Vec<MemberPlace>, Extent), NoMemory>
+    fn placed(
+        &self,
+        alloc: Global,
+        members: &[Member],
+    ) -> Result<(Vec<MemberPlace>, Extent), NoMemory>
         requires known { AreMembersIn (length self.now.nodes) members.now }
         requires held { (struct_in (layouts (structs_of self.now)) (members_in (types_of self.now) members.now)).size < 2 ^ 64 }
         ensures places { IfOk result (λ found. found.0.items ≡ places_in (layouts (structs_of self.now)) (members_in (types_of self.now) members.now)) }

@@ -90,7 +90,7 @@ module _ {R : Type 0} (next : R → Mem → Next R) (tear : ℕ → R → Mem �
     ]
   ]
 
-  fixed_mixed : (s : ℕ) (m : Mem) → Mixed flip wr mem buf s m → (a : ℕ) → fixed a ≡ true → m a ≡ mem s a
+  pub fixed_mixed : (s : ℕ) (m : Mem) → Mixed flip wr mem buf s m → (a : ℕ) → fixed a ≡ true → m a ≡ mem s a
   fixed_mixed s m mixed a h = elim (mixed a (u.fixed_outside a h)) [
     | inl e ↦ e
     | inr w ↦ absurd (let y = u.fixed_unwritten w.time a h w.no_flip in let bad : Some (m a) ≡ None = sym w.value ∙ y in cc)

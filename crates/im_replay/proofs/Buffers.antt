@@ -1,26 +1,25 @@
 -- The two register buffers, step by step.
-use Rattle.std.proofs.Common.{◌≡◌, ◌≢◌, ℕ, zero, suc, ◌+◌, ◌-◌, ◌*◌, ◌%◌, ◌^◌, ◌<◌, ◌≤◌, ◌⊎◌, inl, inr, Bool, true, false, cond, Some, None, refl, sym, ap, ◌∙◌, subst, arith}
+use Rattle.std.proofs.Common.{◌≡◌, ◌≢◌, ℕ, zero, suc, ◌+◌, ◌-◌, ◌*◌, ◌%◌, ◌^◌, ◌<◌, ◌≤◌, ◌⊎◌, inl, inr, Bool, true, false, cond, Some, refl, sym, ap, ◌∙◌, subst, arith}
 use Rattle.std.specs.Prelude.{◌==◌, ◌&&◌, ◌||◌, not, nat_lt, nat_eq}
 use Rattle.std.proofs.lemmas.Bool.Decides.{nat_tests}
 use Rattle.im_num.specs.Bytes.{bytes_of}
 use Rattle.im_mem.specs.Memory.{Mem, little, written, is_place}
-use Rattle.im_mem.proofs.Words.{little-alike, little-same, little-other, length-bytes_of}
+use Rattle.im_mem.proofs.Words.{little-alike, little-same, little-other}
 use Rattle.im_rv.specs.declared.effect.Effect.TheVariants.{Puts, Stores}
 use Rattle.im_rv.specs.Steps.{Cpu, effected, sum_of}
 use Rattle.im_ckpt.specs.Buffers.{buffer, is_buffer, slot, idle, saves_by, saves_reg, saved}
 use Rattle.im_path.specs.Sections.{start}
 use Rattle.im_path.proofs.Times.{truth, start-flip, start-calm}
-use Rattle.im_rv.specs.Effects.{effect, rd_of, rs1_of, rs2_of, patch, writes_by, stores_word, sets_by}
+use Rattle.im_rv.specs.Effects.{effect, rd_of, rs1_of, rs2_of, stores_word, sets_by}
 use Rattle.im_device.specs.Run.{index_of}
 use Rattle.im_ckpt.specs.Runs.{State, stepped, line_at, effect_at, sets, flip, writes}
 use Rattle.im_replay.specs.Needed.{Needed}
 use Rattle.im_ckpt.specs.Recovery.{return_line}
 use Rattle.im_replay.specs.Sections.{IsLive}
 use Rattle.im_replay.proofs.Sound.{IsSound, IsFilled, IsLike}
-use Rattle.im_rv.proofs.Locality.{patch_below, patch_above}
 use Rattle.im_rv.proofs.Tearing.{word_store}
 use Rattle.im_replay.proofs.Steps.{Paces, needs_next, needs_used, effect_is, there}
-use Rattle.im_ckpt.proofs.Slots.{Saves, saves_of, saves_if, or_cases, idle_other, saved_named, saved-calm, saved-flip, slots_apart, apart, buffer_inside, word_outside}
+use Rattle.im_ckpt.proofs.Slots.{Saves, saves_of, saves_if, or_cases, idle_other, saved_named, saved-calm, slots_apart}
 
 eq_of : (a b : ℕ) → not (nat_eq a b) ≡ false → a ≡ b
 eq_of a b h = grind (arith, nat_tests)

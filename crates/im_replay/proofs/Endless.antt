@@ -1,5 +1,5 @@
 -- The run of one endless period is a run.
-use Rattle.std.proofs.Common.{◌≡◌, ◌≢◌, ℕ, zero, suc, ◌+◌, ◌≤◌, ◌⊎◌, inl, inr, refl, sym, ap, ◌∙◌, subst, arith}
+use Rattle.std.proofs.Common.{◌≡◌, ◌≢◌, ℕ, zero, suc, ◌+◌, ◌⊎◌, inl, inr, refl, sym, ap, ◌∙◌, subst, arith}
 use Rattle.im_mem.specs.Memory.{Mem}
 use Rattle.im_rv.specs.declared.step.Went.{Went}
 use Rattle.im_rv.specs.declared.step.Went.TheVariants.{On, Halted, Faulted}
@@ -9,8 +9,8 @@ use Rattle.im_rv.proofs.Changes.{ends_calm}
 use Rattle.im_device.specs.Run.{Moment, boot, unless_over, one_step, run}
 use Rattle.im_device.specs.Periods.{fresh, power_up}
 use Rattle.im_device.proofs.Runs.{run_over, run_parts}
-use Rattle.im_ckpt.specs.Runs.{State, stepped, IsRun}
-use Rattle.im_ckpt.specs.Laws.{CanResume, resuming}
+use Rattle.im_ckpt.specs.Runs.{stepped, IsRun}
+use Rattle.im_ckpt.specs.Laws.{CanResume}
 use Rattle.im_ckpt.proofs.Resume.{cpu_after, resuming_is}
 use Rattle.im_replay.specs.Uninterrupted.{state_of, uninterrupted}
 

@@ -14,7 +14,7 @@ use Rattle.im_device.specs.Run.{boot, index_of}
 use Rattle.im_path.specs.Path.{Moment, Spell, long_periods}
 use Rattle.im_path.specs.Sections.{Mixed, start, flips}
 use Rattle.im_path.proofs.Times.{truth, start_start}
-use Rattle.im_path.proofs.Replay.{Place, Fails, Left, Failed, Ended, In_recovery, In_section, At_end, left_fails, replay, replay_within, flips-start, progress, halts, ended_same}
+use Rattle.im_path.proofs.Replay.{fixed_mixed, Place, Fails, Left, Failed, Ended, In_recovery, In_section, At_end, left_fails, replay, replay_within, flips-start, progress, halts, ended_same}
 use Rattle.im_rv.specs.Effects.{effect, writes_by}
 use Rattle.im_replay.proofs.Machine.{next_of, powered, switched_on, Stands_at, Runs, Recovers, Executes, Is_over, within, Ended_as, Replays_path, waking}
 use Rattle.im_rv.specs.Torn.{torn_of}
@@ -25,7 +25,7 @@ use Rattle.im_replay.proofs.Sound.{IsLike, IsSound}
 use Rattle.im_rv.proofs.Locality.{step_effected, saved_at}
 use Rattle.im_replay.proofs.Steps.{effect_is}
 use Rattle.im_replay.proofs.Buffers.{index_calm}
-use Rattle.im_replay.proofs.Instance.{followed}
+use Rattle.im_replay.proofs.Instance.{followed, wake, can_of}
 
 -- a step that ends without a fault is a stop
 stops_alone : (c : Cpu) (m : Mem) (rd : ℕ) (e : Effect) → not (is_on (effected c m rd e).went) ≡ true → ((at : ℕ) → (effected c m rd e).went ≢ Faulted at) → e ≡ Stops
@@ -94,7 +94,7 @@ module _ (run : ℕ → State) (code : ℕ) (u : IsSound run code) where
   count_start t c e = flips-start next_of torn_of boot index_of (memory run) (writes run) (reads run) (flip run) (ends run) is_buffer (is_fixed code) (IsLike run) (IsLive run) resume 33 waking (followed run code u) t ∙ e
 
   placed : (s n : ℕ) (x : Moment Cpu) → There s n x → Stands_at run x × Runs run s n x
-  placed s n x (In_recovery w ws wi) = (record { s = w.s; begins = w.begins; commits = w.count; bytes = w.mixed; live = w.lives; index = index_is w.s x.commits x.mem w.mixed w.count; same_index = same_index w.s x.mem w.mixed }, Recovers w.junk (subst (λ z. z ≤ 33) wi w.within) (w.at ∙ ap (λ z. waking z w.junk x.mem) wi) w.going)
+  placed s n x (In_recovery w ws wi) = (record { s = w.s; begins = w.begins; commits = w.count; bytes = w.mixed; live = w.lives; index = index_is w.s x.commits x.mem w.mixed w.count; same_index = same_index w.s x.mem w.mixed }, Recovers w.junk (subst (λ z. z ≤ 33) wi w.within) (can_of run code u w.s x.mem (wake run code u w.s x.mem w.begins w.lives (fixed_mixed next_of torn_of boot index_of (memory run) (writes run) (reads run) (flip run) (ends run) is_buffer (is_fixed code) (IsLike run) (IsLive run) resume 33 waking (followed run code u) w.s x.mem w.mixed))) (w.at ∙ ap (λ z. waking z w.junk x.mem) wi) w.going)
   placed s n x (In_section t age g) = (record { s = start (flip run) t; begins = start_start (flip run) t; commits = count_start t x.commits g.count; bytes = g.tracks.mixed; live = g.tracks.lives; index = index_is (start (flip run) t) x.commits x.mem g.tracks.mixed (count_start t x.commits g.count); same_index = same_index (start (flip run) t) x.mem g.tracks.mixed }, Executes t age g.regs.place g.regs.regs g.count g.going)
   placed s n x (At_end e) = (record { s = start (flip run) e.t; begins = start_start (flip run) e.t; commits = count_start e.t x.commits e.count; bytes = e.tracks.mixed; live = e.tracks.lives; index = index_is (start (flip run) e.t) x.commits x.mem e.tracks.mixed (count_start e.t x.commits e.count); same_index = same_index (start (flip run) e.t) x.mem e.tracks.mixed }, Is_over e.over)
 

@@ -14,11 +14,8 @@ use Rattle.im_ckpt.specs.Runs.{State, flip, ends, memory, writes, reads}
 use Rattle.im_ckpt.specs.Buffers.{is_buffer, is_fixed}
 use Rattle.im_replay.specs.Sections.{resume, IsLive}
 use Rattle.im_replay.proofs.Sound.{IsLike, IsSound}
-use Rattle.im_replay.specs.Uninterrupted.{uninterrupted}
 use Rattle.im_replay.specs.Output.{Extends, SameOutput, ShowsSafely}
 use Rattle.im_replay.proofs.Instance.{followed}
-use Rattle.im_replay.proofs.Owing.{sound}
-use Rattle.im_replay.proofs.Images.{owed_of}
 use Rattle.im_replay.proofs.Shows.{shown, shows_more}
 
 steps-add : (n k : ℕ) (x : Moment Cpu) → steps next_of index_of (n + k) x ≡ steps next_of index_of k (steps next_of index_of n x)

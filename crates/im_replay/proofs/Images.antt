@@ -10,7 +10,7 @@ use Rattle.im_rv.proofs.Tearing.{writes_small}
 use Rattle.im_rv.proofs.Effecting.{step_mem}
 use Rattle.im_rv.proofs.Sizes.{step_words}
 use Rattle.im_device.specs.Run.{boot, index_of}
-use Rattle.im_ckpt.specs.Runs.{State, stepped, line_at}
+use Rattle.im_ckpt.specs.Runs.{State, line_at}
 use Rattle.im_ckpt.specs.Buffers.{buffer}
 use Rattle.im_ckpt.specs.Recovery.{Restored, recovery_words}
 use Rattle.im_ckpt.specs.Checkpoint.{checkpoint_words}

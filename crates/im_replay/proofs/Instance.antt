@@ -115,7 +115,7 @@ module _ (run : ℕ → State) (code : ℕ) (u : IsSound run code) where
     pub even : little m (buffer (little m 0 4)) 4 % 2 ≡ 0
     pub index : little m 0 4 ≡ index_of (run s).mem
 
-  wake : (s : ℕ) (m : Mem) → start (flip run) s ≡ s → IsLive run s m → ((a : ℕ) → is_fixed code a ≡ true → m a ≡ (run s).mem a) → Wake s m
+  pub wake : (s : ℕ) (m : Mem) → start (flip run) s ≡ s → IsLive run s m → ((a : ℕ) → is_fixed code a ≡ true → m a ≡ (run s).mem a) → Wake s m
   wake s m b l h =
       let index : little m 0 4 ≡ index_of (run s).mem = little-alike m (run s).mem 4 0 (λ i p q. h i (low_fixed code i q)) in
       record {
@@ -126,7 +126,7 @@ module _ (run : ℕ → State) (code : ℕ) (u : IsSound run code) where
         index = index;
       }
 
-  can_of : (s : ℕ) (m : Mem) → Wake s m → CanResume m
+  pub can_of : (s : ℕ) (m : Mem) → Wake s m → CanResume m
   can_of s m w = record { bytes = w.small; recovery = w.stands; index = w.bit; even = w.even }
 
   wakes_on : (s i junk : ℕ) (m : Mem) → start (flip run) s ≡ s → IsLive run s m → ((a : ℕ) → is_fixed code a ≡ true → m a ≡ (run s).mem a) → i < 33 → step_of (waking i junk m) m ≡ record { went = On; cpu = waking (suc i) junk m; mem = m }

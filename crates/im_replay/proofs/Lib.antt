@@ -1,4 +1,6 @@
+pub mod Bridge
 pub mod Buffers
+pub mod Device
 pub mod Endless
 pub mod Following
 pub mod Growing

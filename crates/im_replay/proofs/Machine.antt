@@ -12,6 +12,7 @@ use Rattle.im_path.specs.Path.Next.{Goes as Goes_to, Ends}
 use Rattle.im_path.specs.Sections.{start, flips, Mixed}
 use Rattle.im_ckpt.specs.Runs.{State, flip, ends, memory, writes}
 use Rattle.im_ckpt.specs.Buffers.{is_buffer}
+use Rattle.im_ckpt.specs.Laws.{CanResume}
 use Rattle.im_ckpt.proofs.Resume.{cpu_after}
 use Rattle.im_replay.specs.Needed.{Needed}
 use Rattle.im_replay.specs.Sections.{resume, IsLive}
@@ -54,7 +55,7 @@ pub record Stands_at (run : ℕ → State) (x : Moment Cpu) : Type 0 where
 -- How it is with the power on, n instructions after it came in the section that began at s: recovery runs,
 -- or the run is n - 33 instructions behind the place where that section resumes, with the registers that are needed there; or it is over.
 pub data Runs (run : ℕ → State) (s n : ℕ) (x : Moment Cpu) : Type 0 where
-  Recovers : (junk : ℕ) → n ≤ 33 → x.regs ≡ waking n junk x.mem → x.over ≡ false → Runs run s n x
+  Recovers : (junk : ℕ) → n ≤ 33 → CanResume x.mem → x.regs ≡ waking n junk x.mem → x.over ≡ false → Runs run s n x
   Executes : (t : ℕ) → t + 33 ≡ resume s + n → x.regs.pc ≡ (run t).cpu.pc → ((i : ℕ) → Needed run t i → x.regs.x i ≡ (run t).cpu.x i) → flips (flip run) t ≡ x.commits → x.over ≡ false → Runs run s n x
   Is_over : x.over ≡ true → Runs run s n x
 
@@ -92,4 +93,3 @@ pub record Never_shrinks_path (run : ℕ → State) (m : Mem) : Type 0 where
   -- and each shows what the uninterrupted run shows at some time
   pub shows : (ps : List Spell) → (t : ℕ) × SameOutput (powered ps m).mem (run t).mem
   pub shows_within : (ps : List Spell) (n junk : ℕ) → (powered ps m).over ≡ false → (t : ℕ) × SameOutput (within ps n junk m).mem (run t).mem
-

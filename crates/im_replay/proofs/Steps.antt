@@ -1,23 +1,22 @@
 -- A step of a replaying run does what the run without failures does at that time.
 use Rattle.im_ckpt.proofs.Slots.{Saves}
-use Rattle.std.proofs.Common.{◌≡◌, ◌≢◌, ℕ, suc, ◌+◌, ◌*◌, ◌<◌, ◌≤◌, ◌⊎◌, inl, inr, Bool, true, false, cond, Option, Some, refl, sym, ap, ◌∙◌, subst, arith}
-use Rattle.std.specs.Prelude.{◌==◌, ◌&&◌, ◌||◌, not, nat_lt, unwrap_or}
+use Rattle.std.proofs.Common.{◌≡◌, ◌≢◌, ℕ, suc, ◌+◌, ◌<◌, ◌≤◌, ◌⊎◌, inl, inr, Bool, true, false, Option, Some, refl, sym, ap, ◌∙◌, subst, arith}
+use Rattle.std.specs.Prelude.{◌==◌, ◌&&◌, ◌||◌, not, unwrap_or}
 use Rattle.std.proofs.lemmas.Bool.Decides.{nat_tests}
-use Rattle.im_mem.specs.Memory.{Mem, is_place}
+use Rattle.im_mem.specs.Memory.{Mem}
 use Rattle.im_mem.proofs.Words.{little-alike}
 use Rattle.im_rv.specs.declared.step.Went.TheVariants.{Faulted}
 use Rattle.im_rv.specs.declared.effect.Effect.{Effect}
 use Rattle.im_rv.specs.declared.effect.Effect.TheVariants.{Stores}
 use Rattle.im_rv.specs.Steps.{Cpu, Stepped, row, effected}
 use Rattle.im_rv.specs.Decode.{step_of}
-use Rattle.im_rv.specs.Effects.{fetched_line, effect, effect_by, effect_of, rd_of, rs1_of, rs2_of, writes_by, reads_by, stores_word, sets_by}
+use Rattle.im_rv.specs.Effects.{fetched_line, effect, effect_by, effect_of, rd_of, rs1_of, rs2_of, writes_by, reads_by, sets_by}
 use Rattle.im_device.specs.Run.{index_of}
 use Rattle.im_ckpt.specs.Runs.{State, line_at, effect_at, sets, writes, reads}
-use Rattle.im_ckpt.specs.Buffers.{is_buffer, is_fixed, slot, idle, saves_by, saves_reg}
+use Rattle.im_ckpt.specs.Buffers.{is_fixed, slot, idle, saves_by}
 use Rattle.im_replay.specs.Needed.{uses, Needed}
 use Rattle.im_replay.proofs.Sound.{IsSound, IsLike}
 use Rattle.im_rv.proofs.Locality.{line_same, step_effected, stores_same, effect_same}
-use Rattle.im_rv.proofs.Tearing.{word_store}
 use Rattle.im_rv.proofs.Effecting.{word_row}
 
 -- what the step of a replaying run does beside that of the run without failures

@@ -1,5 +1,5 @@
 -- What is promised of a device whose power fails: at each moment it stands where the run that never loses power stood.
-use Rattle.std.specs.Prelude.{◌≡◌, ◌≢◌, ℕ, suc, ◌+◌, ◌%◌, ◌<◌, ◌≤◌, ◌⊎◌, cond, nat_le, true, false, List, [], ◌∷◌, ◌++◌}
+use Rattle.std.specs.Prelude.{◌≡◌, ◌≢◌, ℕ, ◌+◌, ◌%◌, ◌<◌, ◌≤◌, ◌⊎◌, cond, nat_le, true, false, List, [], ◌∷◌, ◌++◌}
 use Rattle.im_mem.specs.Memory.{Mem}
 use Rattle.im_rv.specs.declared.step.Went.TheVariants.{On}
 use Rattle.im_power.specs.declared.period.Period.{Period}

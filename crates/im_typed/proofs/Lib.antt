@@ -8,3 +8,5 @@ mod Sounds
 mod SoundCells
 mod SoundExprs
 mod SoundStmts
+mod SoundCalls
+mod SoundRuns

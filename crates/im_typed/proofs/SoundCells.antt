@@ -68,7 +68,7 @@ module _ (statics : List StaticObject) (begun : ℕ) (store : Store) (sound : Is
       let began = sound.began o s e in
       let small = sound.small o s e in
       let few : offset ≤ 1048576 = omega arith in
-      (refl, began, few, subst (λ r. IsInside r offset) (sym e) le)
+      (refl, began, few, subst (λ r. IsInside r o.activation offset) (sym e) le)
 
   within-value : (o : Object) (z : ℤ) (v : Value) → within store o z ≡ Fine v → IsValue begun store Ptr v
   within-value o (negsuc n) v e = absurd (cc)
@@ -138,6 +138,7 @@ module _ (statics : List StaticObject) (begun : ℕ) where
         small = sound.small;
         cells = λ p s i k ls cs. stored-cell begun store o offset kind v t.0 t.1 t.2 h p i s k ls cs (sound.cells p s i k ls cs) (same_object p o && i == offset) refl;
         live = sound.live;
+        only = sound.only;
       }
 
   -- what a store of several cells keeps
@@ -154,7 +155,7 @@ module _ (statics : List StaticObject) (begun : ℕ) where
       value-at : (v : Value) → IsValue begun before k v → IsValue begun after k v
       value-at (Number z) g = g
       value-at Null g = g
-      value-at (Pointer o offset) g = (g.0, g.1, g.2, subst (λ s. IsInside s offset) (sym (same o)) g.3)
+      value-at (Pointer o offset) g = (g.0, g.1, g.2, subst (λ s. IsInside s o.activation offset) (sym (same o)) g.3)
       value-at Unset g = g
 
   pub write-cells : (store : Store) (o : Object) (offset : ℕ) (cs : List Cell) (vs : Values) (after : Store) → IsSound statics begun store → AreValues begun store (kinds_of cs) vs → write_cells store o offset cs vs ≡ Fine after → Stored store after

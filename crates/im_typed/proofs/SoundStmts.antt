@@ -49,6 +49,7 @@ module _ (statics : List StaticObject) where
     small = sound.small;
     cells = λ p s i k ls cs. forgotten-cell begun store o p k (store.values p i) later (sound.cells p s i k ls cs) (same_object p o) refl;
     live = sound.live;
+    only = sound.only;
   }
 
   cleared-sound : (begun : ℕ) (store : Store) (given : List ℕ) (o : Object) → IsSound statics begun store → IsSound statics begun (cleared given o store)
@@ -59,6 +60,7 @@ module _ (statics : List StaticObject) where
         cleared-cell begun store p.activation k (kind_of_cell (store.shape p) i) (store.values p i) (ap (λ r. kind_of_cell r i) ls ∙ cs)
         (sound.cells p s i k ls cs) (same_object p o) (is_among i given);
     live = sound.live;
+    only = sound.only;
   }
 
   right-change_store : (f : Store → Store) (s : State) → ((o : Object) → (f s.world.store).shape o ≡ s.world.store.shape o) → IsSound statics s.world.activations (f s.world.store) → IsSoundWorld statics s.world → IsRight statics s.world (λ w x. Unit {0}) (change_store f s)

@@ -35,7 +35,7 @@ value-kept {w} {t} k kind (Pointer o offset) h =
     let x = k.more in
     let y = h.1 in
     let le : o.activation ≤ t.activations = omega arith in
-    (h.0, le, h.2, subst (λ s. IsInside s offset) (sym (k.same o)) h.3)
+    (h.0, le, h.2, subst (λ s. IsInside s o.activation offset) (sym (k.same o)) h.3)
 value-kept k kind Unset h = h
 
 pub values-kept : {w t : World} → Keeps w t → (ks : List Kind) (vs : Values) → AreValues w.activations w.store ks vs → AreValues t.activations t.store ks vs

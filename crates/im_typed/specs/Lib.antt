@@ -7,6 +7,7 @@ pub mod Programs
 pub mod Counts
 pub mod Frames
 pub mod Typing
+pub mod Limits
 pub mod Sound
 pub mod Laws
 pub mod Samples

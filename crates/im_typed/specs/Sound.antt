@@ -1,5 +1,5 @@
 -- What holds all along the runs of a well-typed program: who lives, and which values there are.
-use Rattle.std.specs.Prelude.{◌≡◌, ℕ, ◌<◌, ◌≤◌, List, [], ◌∷◌, ℤ, Option, Some, None, slice_get}
+use Rattle.std.specs.Prelude.{◌≡◌, ℕ, zero, suc, ◌<◌, ◌≤◌, List, [], ◌∷◌, ℤ, Option, Some, None, slice_get}
 use Rattle.std.specs.Option.{option_map}
 use Rattle.im_num.specs.declared.kind.Kind.{Kind}
 use Rattle.im_num.specs.declared.kind.Kind.TheVariants.{I32, Ptr}
@@ -17,17 +17,18 @@ use Rattle.im_typed.specs.Values.{Values, cells_of}
 use Rattle.im_typed.specs.Meaning.{Around, local, Flow, Next, Broke, Continued, Returned}
 use Rattle.im_typed.specs.Typing.{Each, IsInteger, kinds_of, HasPlace}
 
--- a dead object has no place left that could be missed
-abbrev pub IsInside : Option Shape → ℕ → Type 0
-IsInside None offset = Unit {0}
-IsInside (Some s) offset = offset ≤ s.size
+-- a place in an object of that shape or at its end; an activation's object may be dead, a static never is
+abbrev pub IsInside : Option Shape → ℕ → ℕ → Type 0
+IsInside (Some s) activation offset = offset ≤ s.size
+IsInside None zero offset = ⊥
+IsInside None (suc activation) offset = Unit {0}
 
 -- a value of a kind, where so many activations began: an integer of the kind; null; a place in an object or at its end
 abbrev pub IsValue : ℕ → Store → Kind → Value → Type 0
 IsValue begun store kind (Number z) = IsInteger kind × IsOfKind kind z
 IsValue begun store kind Null = kind ≡ Ptr
 IsValue begun store kind (Pointer o offset) =
-    (kind ≡ Ptr) × (o.activation ≤ begun) × (offset ≤ 1048576) × IsInside (store.shape o) offset
+    (kind ≡ Ptr) × (o.activation ≤ begun) × (offset ≤ 1048576) × IsInside (store.shape o) o.activation offset
 IsValue begun store kind Unset = ⊥
 
 -- a cell has a value of its kind; that of an activation's object may have none
@@ -38,12 +39,13 @@ IsCellValue begun store activation kind (Pointer o offset) = IsValue begun store
 IsCellValue begun store activation kind Unset = 0 < activation
 
 -- a store of a run in which so many activations began: who lives has begun and is small, its cells have values of their
--- kinds, and the statics live
+-- kinds, and the statics live, and no others of activation 0
 pub record IsSound (statics : List StaticObject) (begun : ℕ) (store : Store) : Type 0 where
   pub began : (o : Object) (s : Shape) → store.shape o ≡ Some s → o.activation ≤ begun
   pub small : (o : Object) (s : Shape) → store.shape o ≡ Some s → s.size ≤ 1048576
   pub cells : (o : Object) (s : Shape) (offset : ℕ) (kind : Kind) → store.shape o ≡ Some s → s.cells offset ≡ Some kind → IsCellValue begun store o.activation kind (store.values o offset)
   pub live : (n : ℕ) (s : StaticObject) → slice_get statics n ≡ Some s → store.shape (static n) ≡ Some (shape_of s.size s.cells)
+  pub only : (o : Object) (t : Shape) → store.shape o ≡ Some t → o.activation ≡ 0 → (n : ℕ) × (s : StaticObject) × (o ≡ static n) × (slice_get statics n ≡ Some s)
 
 -- the input is bytes, too
 pub record IsSoundWorld (statics : List StaticObject) (w : World) : Type 0 where

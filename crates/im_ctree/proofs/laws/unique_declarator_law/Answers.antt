@@ -1,7 +1,7 @@
 use Rattle.std.proofs.Common.{[], ◌∷◌, refl, arith}
 use Rattle.im_word.specs.Words.{mark}
+use Rattle.im_ctree.specs.Follow.{close_paren, closes}
 use Rattle.im_tok.specs.declared.punctuator.Punctuator.TheVariants.{CloseParen}
-use Rattle.im_ctree.proofs.Ranks.{close_paren, closes}
 use Rattle.im_ctree.proofs.Behind.{goes_named}
 use Rattle.im_ctree.proofs.Unique.{unique_specifiers, unique_declarator, unique_parameter, unique_type_name}
 use Rattle.im_ctree.proofs.laws.unique_declarator_law.Goals as goal
