@@ -19,12 +19,12 @@ Item X L cons xs Y = Both X (λ a. Both L (λ b. Y (before cons (xs ++ a ∷ [])
 item_into : {A B C : Type 0} (X : Family A) (L : Family B) (cons : A → B → B) (xs : List A) (Y : B → Family C) (q : ℕ) → Into (Item X L cons xs Y) (Both (Both X (λ a. Made (cons a) L)) (λ b. Y (before cons xs b))) q
 item_into X L cons xs Y q t _ (both {a = a} {u = u} d (both {a = b} {u = v} {v = w} e f)) =
     subst (Both (Both X (λ a. Made (cons a) L)) (λ b. Y (before cons xs b)) q t) (append_assoc u v w)
-        (both (both d (made e)) (subst (λ k. Y (before cons xs (cons a b)) k t w) (omega (arith, length-append u v)) (subst (λ z. Y z (q + length u + length v) t w) (before_more cons xs a b) f)))
+    (both (both d (made e)) (subst (λ k. Y (before cons xs (cons a b)) k t w) (omega (arith, length-append u v)) (subst (λ z. Y z (q + length u + length v) t w) (before_more cons xs a b) f)))
 
 item_back : {A B C : Type 0} (X : Family A) (L : Family B) (cons : A → B → B) (xs : List A) (Y : B → Family C) (q : ℕ) → Into (Both (Both X (λ a. Made (cons a) L)) (λ b. Y (before cons xs b))) (Item X L cons xs Y) q
 item_back X L cons xs Y q t _ (both {v = w} (both {a = a} {u = u} d (made {t = b} {u = v} e)) f) =
     subst (Item X L cons xs Y q t) (sym (append_assoc u v w))
-        (both d (both e (subst (λ z. Y z (q + length u + length v) t w) (sym (before_more cons xs a b)) (subst (λ k. Y (before cons xs (cons a b)) k t w) (omega (arith, length-append u v)) f))))
+    (both d (both e (subst (λ z. Y z (q + length u + length v) t w) (sym (before_more cons xs a b)) (subst (λ k. Y (before cons xs (cons a b)) k t w) (omega (arith, length-append u v)) f))))
 
 pub item : {A B C D' : Type 0} {D : Family D'} {E : Ending D'} {p : ℕ} {w : List Word} {X : Family A} {L : Family B} {cons : A → B → B} {F : Ending C} {q : ℕ} {m : List Word} {put : C → D'} (xs : List A) (Y : B → Family C) → Within D E p w (Both (Both X (λ a. Made (cons a) L)) (λ b. Y (before cons xs b))) F q m put → Within D E p w (Item X L cons xs Y) F q m put
 item {X = X} {L = L} {cons = cons} {q = q} xs Y from = line (Item X L cons xs Y) (item_into X L cons xs Y q) (λ t u r e d f. item_back X L cons xs Y q t u d) from
