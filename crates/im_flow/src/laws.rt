@@ -1,4 +1,4 @@
-ghost use Rattle.im_flow.specs.Loop.{LoopPlacedLaw};
+ghost use Rattle.im_flow.specs.Loop.{LoopGapLaw, LoopPlacedLaw, LoopProgressesLaw};
 ghost use Rattle.im_flow.specs.Laws.{AlongLaw, GapLaw, LongPeriodsLaw, OneGapLaw, StepLaw};
 
 /// A step on code goes along the static flow, but for returns, flips and halts.
@@ -27,7 +27,17 @@ pub fn long_periods_law()
     ensures { LongPeriodsLaw }
 {}
 
-/// The premises on runs are met by a loop of one cut, whose K is 45.
+/// The premises on runs are met by a loop of one cut.
 pub fn loop_placed_law()
     ensures { LoopPlacedLaw }
+{}
+
+/// The loop's longest gap is 45 instructions.
+pub fn loop_gap_law()
+    ensures { LoopGapLaw }
+{}
+
+/// So the loop commits in every period of at least 45 instructions.
+pub fn loop_progresses_law()
+    ensures { LoopProgressesLaw }
 {}
