@@ -3,6 +3,7 @@ use Rattle.std.proofs.Common.{◌≡◌, ◌≤◌, zero, ◌≢◌, ℕ, suc, �
 use Rattle.std.specs.Prelude.{◌==◌}
 use Rattle.std.proofs.lemmas.Bool.Decides.{nat_tests}
 use Rattle.im_rv.specs.declared.instr.Op.TheVariants.{Lw}
+use Rattle.im_rv.specs.declared.effect.Extension.TheVariants.{Zero}
 use Rattle.im_rv.specs.declared.step.Went.TheVariants.{On}
 use Rattle.im_mem.specs.Memory.{Mem, little, loaded, is_place}
 use Rattle.im_rv.specs.Steps.{Cpu, Stepped, sum_of, with_reg, loads}
@@ -31,8 +32,8 @@ load_step m pc rd imm x h f x0 =
     let c : Cpu = record { pc = pc; x = x } in
     ap (fetched c m) (fetch_is m pc (lw_word rd imm) h f.here)
     ∙ ap (decoded c m) f.line
-    ∙ ap (λ a. loads c m rd 4 false (loaded m a 4)) (ap (λ z. sum_of z imm) x0 ∙ f.address)
-    ∙ ap (λ b. loads c m rd 4 false (cond b (Some (little m imm 4)) None)) f.there
+    ∙ ap (λ a. loads c m rd 4 Zero (loaded m a 4)) (ap (λ z. sum_of z imm) x0 ∙ f.address)
+    ∙ ap (λ b. loads c m rd 4 Zero (cond b (Some (little m imm 4)) None)) f.there
     ∙ ap (λ p. record { went = On; cpu = record { pc = p; x = with_reg x rd (little m imm 4) }; mem = m }) f.next
 
 abbrev pub Fit : ℕ → ℕ → List ℕ → Type 0

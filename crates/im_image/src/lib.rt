@@ -2,6 +2,7 @@
 #![tactic(auto)]
 
 mod fault;
+mod form;
 mod header;
 mod image;
 mod object;
@@ -13,6 +14,7 @@ mod words;
 mod writing;
 
 pub use fault::ImageFault;
+pub use form::{Form, Version};
 pub use image::Image;
 pub use object::{CellRun, Object};
 pub use reading::{one_image, read_image};

@@ -32,21 +32,28 @@ value_of digits = fold (λ n digit. 10 * n + (digit - 48)) 0 digits
 unfoldable pub number : List ℕ → Option ℕ
 number field = if list_all is_digit field && nat_lt (value_of field) (2 ^ 32) then Some (value_of field) else None
 
--- a period of so many instructions with this word in the registers, so many times
-abbrev pub period : Option ℕ → Option ℕ → Option ℕ → Line
-period (Some n) (Some junk) (Some zero) = ZeroRepeats
-period (Some n) (Some junk) (Some (suc others)) = Gives (record { n = n; junk = junk; count = suc others })
-period (Some n) (Some junk) None = Malformed
-period (Some n) None count = Malformed
-period None junk count = Malformed
+-- a number that is a mask of four bits
+abbrev pub mask_of : Option ℕ → Option ℕ
+mask_of None = None
+mask_of (Some n) = if nat_lt n 16 then Some n else None
 
--- one to three numbers: the second is 0 and the third 1 where it is absent
+-- a period of so many instructions with this word in the registers, so many times, each ending with this mask
+abbrev pub period : Option ℕ → Option ℕ → Option ℕ → Option ℕ → Line
+period (Some n) (Some junk) (Some zero) (Some mask) = ZeroRepeats
+period (Some n) (Some junk) (Some (suc others)) (Some mask) = Gives (record { n = n; junk = junk; count = suc others; mask = mask })
+period (Some n) (Some junk) (Some count) None = Malformed
+period (Some n) (Some junk) None mask = Malformed
+period (Some n) None count mask = Malformed
+period None junk count mask = Malformed
+
+-- one to four numbers: the second is 0, the third 1 and the fourth 0 where it is absent
 abbrev pub by_fields : List (List ℕ) → Line
 by_fields [] = Skipped
-by_fields (n ∷ []) = period (number n) (Some 0) (Some 1)
-by_fields (n ∷ junk ∷ []) = period (number n) (number junk) (Some 1)
-by_fields (n ∷ junk ∷ count ∷ []) = period (number n) (number junk) (number count)
-by_fields (n ∷ junk ∷ count ∷ other ∷ others) = Malformed
+by_fields (n ∷ []) = period (number n) (Some 0) (Some 1) (Some 0)
+by_fields (n ∷ junk ∷ []) = period (number n) (number junk) (Some 1) (Some 0)
+by_fields (n ∷ junk ∷ count ∷ []) = period (number n) (number junk) (number count) (Some 0)
+by_fields (n ∷ junk ∷ count ∷ mask ∷ []) = period (number n) (number junk) (number count) (mask_of (number mask))
+by_fields (n ∷ junk ∷ count ∷ mask ∷ other ∷ others) = Malformed
 
 -- the first field begins with ;
 abbrev pub is_comment : List (List ℕ) → Bool

@@ -1,5 +1,5 @@
 ghost use Rattle.std.specs.Prelude.{◌≡◌, map, IfOk};
-ghost use Rattle.im_power.specs.Text.{number, period, by_fields, line_of, fields, is_blank as blank_test, is_comment as comment_test};
+ghost use Rattle.im_power.specs.Text.{number, mask_of, period, by_fields, line_of, fields, is_blank as blank_test, is_comment as comment_test};
 
 use crate::period::Period;
 use std::alloc::{AllocError, Global};
@@ -43,12 +43,27 @@ fn read_number(field: &[u8]) -> Option<u32>
     Some(value)
 }
 
-fn make_period(n: Option<u32>, junk: Option<u32>, count: Option<u32>) -> Line
-    ensures { result ≡ period n junk count }
+/// A number that is a mask of four bits.
+fn to_mask(number: Option<u32>) -> Option<u32>
+    ensures { result ≡ mask_of number }
 {
-    match (n, junk, count) {
-        (Some(_), Some(_), Some(0)) => Line::ZeroRepeats,
-        (Some(n), Some(junk), Some(count)) => Line::Gives(Period { n, junk, count }),
+    match number {
+        Some(mask) if mask < 16 => number,
+        _ => None,
+    }
+}
+
+fn make_period(n: Option<u32>, junk: Option<u32>, count: Option<u32>, mask: Option<u32>) -> Line
+    ensures { result ≡ period n junk count mask }
+{
+    match (n, junk, count, mask) {
+        (Some(_), Some(_), Some(0), Some(_)) => Line::ZeroRepeats,
+        (Some(n), Some(junk), Some(count), Some(mask)) => Line::Gives(Period {
+            n,
+            junk,
+            count,
+            mask,
+        }),
         _ => Line::Malformed,
     }
 }
@@ -59,9 +74,20 @@ fn read_fields(parts: &[&[u8]]) -> Line
 {
     match parts {
         [] => Line::Skipped,
-        [n] => make_period(read_number(n), Some(0), Some(1)),
-        [n, junk] => make_period(read_number(n), read_number(junk), Some(1)),
-        [n, junk, count] => make_period(read_number(n), read_number(junk), read_number(count)),
+        [n] => make_period(read_number(n), Some(0), Some(1), Some(0)),
+        [n, junk] => make_period(read_number(n), read_number(junk), Some(1), Some(0)),
+        [n, junk, count] => make_period(
+            read_number(n),
+            read_number(junk),
+            read_number(count),
+            Some(0),
+        ),
+        [n, junk, count, mask] => make_period(
+            read_number(n),
+            read_number(junk),
+            read_number(count),
+            to_mask(read_number(mask)),
+        ),
         _ => Line::Malformed,
     }
 }

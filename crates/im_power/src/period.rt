@@ -7,4 +7,7 @@ pub struct Period {
     pub junk: u32,
     /// How many such periods follow one another.
     pub count: u32,
+    /// Which bytes of the next store are still written as the power fails: byte i where bit i is
+    /// set, i from 0 to 3. With 0 the power fails between two instructions.
+    pub mask: u32,
 }

@@ -3,8 +3,10 @@ use Rattle.std.proofs.Common.{◌≡◌, ◌≢◌, ◌⊎◌, inl, inr, ℕ, Bo
 use Rattle.im_rv.specs.declared.format.Format.TheVariants.{Store}
 use Rattle.im_rv.specs.declared.instr.Op.{Op}
 use Rattle.im_rv.specs.declared.instr.Op.TheVariants.{Lb, Lh, Lw, Lbu, Lhu, Sb, Sh, Sw}
-use Rattle.im_rv.specs.declared.step.Effect.{Effect}
-use Rattle.im_rv.specs.declared.step.Effect.TheVariants.{Puts, Goes, Loads, Stores, Stops}
+use Rattle.im_rv.specs.declared.effect.Effect.{Effect}
+use Rattle.im_rv.specs.declared.effect.Extension.{Extension}
+use Rattle.im_rv.specs.declared.effect.Extension.TheVariants.{Sign, Zero}
+use Rattle.im_rv.specs.declared.effect.Effect.TheVariants.{Puts, Goes, Loads, Stores, Stops}
 use Rattle.im_rv.specs.declared.step.Went.TheVariants.{On}
 use Rattle.im_num.specs.Bytes.{bytes_of}
 use Rattle.im_mem.specs.Memory.{Mem, loaded, stored, written, is_place}
@@ -22,7 +24,7 @@ saved_regs : (b : Bool) (c : Cpu) (m k : Mem) (i : ℕ) → (saved_at b c m k).c
 saved_regs true c m k i = refl
 saved_regs false c m k i = refl
 
-loads_zero : (c : Cpu) (m : Mem) (rd n : ℕ) (s : Bool) (o : Option ℕ) → c.x 0 ≡ 0 → (loads c m rd n s o).cpu.x 0 ≡ 0
+loads_zero : (c : Cpu) (m : Mem) (rd n : ℕ) (s : Extension) (o : Option ℕ) → c.x 0 ≡ 0 → (loads c m rd n s o).cpu.x 0 ≡ 0
 loads_zero c m rd n s None h = h
 loads_zero c m rd n s (Some v) h = zero_reg c.x rd _ ∙ h
 
@@ -33,7 +35,7 @@ effect_zero c m rd (Loads a n s) h = loads_zero c m rd n s (loaded m a n) h
 effect_zero c m rd (Stores a n v) h = saved_regs (is_place a n) c m (stored m a n v) 0 ∙ h
 effect_zero c m rd Stops h = h
 
-loads_other : (c : Cpu) (m : Mem) (rd n : ℕ) (s : Bool) (o : Option ℕ) (i : ℕ) → i ≢ rd → (loads c m rd n s o).cpu.x i ≡ c.x i
+loads_other : (c : Cpu) (m : Mem) (rd n : ℕ) (s : Extension) (o : Option ℕ) (i : ℕ) → i ≢ rd → (loads c m rd n s o).cpu.x i ≡ c.x i
 loads_other c m rd n s None i ne = refl
 loads_other c m rd n s (Some v) i ne = other_reg c.x rd _ i ne
 
@@ -66,7 +68,7 @@ fetched_one c m (Some w) = decoded_one c m (decode w)
 pub one_register : OneRegister
 one_register c m = fetched_one c m (loaded m c.pc 4)
 
-loads_mem : (c : Cpu) (m : Mem) (rd n : ℕ) (s : Bool) (o : Option ℕ) → (loads c m rd n s o).mem ≡ m
+loads_mem : (c : Cpu) (m : Mem) (rd n : ℕ) (s : Extension) (o : Option ℕ) → (loads c m rd n s o).mem ≡ m
 loads_mem c m rd n s None = refl
 loads_mem c m rd n s (Some v) = refl
 
@@ -76,11 +78,11 @@ saved_mem false c m k = refl
 
 -- an operation with this effect leaves memory, or stores the value of rs2
 row_mem : (op : Op) (c : Cpu) (m : Mem) (rd a b imm : ℕ) → ((effected c m rd (row op c.pc a b imm)).mem ≡ m) ⊎ ((format_of op ≡ Store) × ((effected c m rd (row op c.pc a b imm)).mem ≡ stored m (sum_of a imm) (store_size op) b))
-row_mem Lb c m rd a b imm = inl (loads_mem c m rd 1 true (loaded m (sum_of a imm) 1))
-row_mem Lh c m rd a b imm = inl (loads_mem c m rd 2 true (loaded m (sum_of a imm) 2))
-row_mem Lw c m rd a b imm = inl (loads_mem c m rd 4 false (loaded m (sum_of a imm) 4))
-row_mem Lbu c m rd a b imm = inl (loads_mem c m rd 1 false (loaded m (sum_of a imm) 1))
-row_mem Lhu c m rd a b imm = inl (loads_mem c m rd 2 false (loaded m (sum_of a imm) 2))
+row_mem Lb c m rd a b imm = inl (loads_mem c m rd 1 Sign (loaded m (sum_of a imm) 1))
+row_mem Lh c m rd a b imm = inl (loads_mem c m rd 2 Sign (loaded m (sum_of a imm) 2))
+row_mem Lw c m rd a b imm = inl (loads_mem c m rd 4 Zero (loaded m (sum_of a imm) 4))
+row_mem Lbu c m rd a b imm = inl (loads_mem c m rd 1 Zero (loaded m (sum_of a imm) 1))
+row_mem Lhu c m rd a b imm = inl (loads_mem c m rd 2 Zero (loaded m (sum_of a imm) 2))
 row_mem Sb c m rd a b imm = inr (refl, saved_mem (is_place (sum_of a imm) 1) c m (written m (sum_of a imm) (bytes_of 1 b)))
 row_mem Sh c m rd a b imm = inr (refl, saved_mem (is_place (sum_of a imm) 2) c m (written m (sum_of a imm) (bytes_of 2 b)))
 row_mem Sw c m rd a b imm = inr (refl, saved_mem (is_place (sum_of a imm) 4) c m (written m (sum_of a imm) (bytes_of 4 b)))

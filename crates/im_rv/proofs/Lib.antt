@@ -2,5 +2,9 @@ pub mod Apart
 pub mod Changes
 pub mod Decoding
 pub mod Encoding
+pub mod Locality
+pub mod Effecting
+pub mod Sizes
 pub mod Straight
+pub mod Tearing
 pub mod Words

@@ -1,10 +1,11 @@
 -- Symbolic execution: what one step does where the word that is fetched is known, by its effect.
-use Rattle.std.proofs.Common.{◌≡◌, ◌≢◌, ◌<◌, ℕ, suc, Bool, true, cond, Some, None, ap, ◌∙◌, arith}
+use Rattle.std.proofs.Common.{◌≡◌, ◌≢◌, ◌<◌, ℕ, suc, true, cond, Some, None, ap, ◌∙◌, arith}
 use Rattle.std.proofs.lemmas.Bool.Decides.{nat_tests}
 use Rattle.im_num.specs.Bytes.{bytes_of}
 use Rattle.im_mem.specs.Memory.{Mem, little, loaded, is_place, written}
 use Rattle.im_rv.specs.declared.step.Went.TheVariants.{On, Halted}
-use Rattle.im_rv.specs.declared.step.Effect.TheVariants.{Puts, Goes, Loads, Stores, Stops}
+use Rattle.im_rv.specs.declared.effect.Extension.{Extension}
+use Rattle.im_rv.specs.declared.effect.Effect.TheVariants.{Puts, Goes, Loads, Stores, Stops}
 use Rattle.im_rv.specs.Steps.{Cpu, Stepped, sum_of, with_reg, extended, loads, effected, faulted, row}
 use Rattle.im_rv.specs.Decode.{Line, decode, decoded, fetched, step_of, go_on, runs}
 
@@ -37,11 +38,11 @@ pub goes_step : (c : Cpu) (m : Mem) (w : ℕ) (l : Line) (target : ℕ) → Fetc
 goes_step c m w l target f e = step_is c m w l f ∙ ap (effected c m l.rd) e
 
 -- a load from a place
-pub loads_step : (c : Cpu) (m : Mem) (w : ℕ) (l : Line) (a n : ℕ) (is_signed : Bool) → Fetches c m w l → row l.op c.pc (c.x l.rs1) (c.x l.rs2) l.imm ≡ Loads a n is_signed → is_place a n ≡ true → step_of c m ≡ record { went = On; cpu = record { pc = sum_of c.pc 4; x = with_reg c.x l.rd (extended n is_signed (little m a n)) }; mem = m }
-loads_step c m w l a n is_signed f e ok =
+pub loads_step : (c : Cpu) (m : Mem) (w : ℕ) (l : Line) (a n : ℕ) (extension : Extension) → Fetches c m w l → row l.op c.pc (c.x l.rs1) (c.x l.rs2) l.imm ≡ Loads a n extension → is_place a n ≡ true → step_of c m ≡ record { went = On; cpu = record { pc = sum_of c.pc 4; x = with_reg c.x l.rd (extended n extension (little m a n)) }; mem = m }
+loads_step c m w l a n extension f e ok =
     step_is c m w l f
     ∙ ap (effected c m l.rd) e
-    ∙ ap (λ b. loads c m l.rd n is_signed (cond b (Some (little m a n)) None)) ok
+    ∙ ap (λ b. loads c m l.rd n extension (cond b (Some (little m a n)) None)) ok
 
 -- a store to a place
 pub stores_step : (c : Cpu) (m : Mem) (w : ℕ) (l : Line) (a n v : ℕ) → Fetches c m w l → row l.op c.pc (c.x l.rs1) (c.x l.rs2) l.imm ≡ Stores a n v → is_place a n ≡ true → step_of c m ≡ record { went = On; cpu = record { pc = sum_of c.pc 4; x = c.x }; mem = written m a (bytes_of n v) }

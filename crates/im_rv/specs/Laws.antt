@@ -6,6 +6,7 @@ use Rattle.im_rv.specs.declared.instr.Op.TheVariants.{Sb, Sh, Sw, Ebreak}
 use Rattle.im_mem.specs.Memory.{Mem, loaded, stored}
 use Rattle.im_rv.specs.Formats.{format_of}
 use Rattle.im_rv.specs.Steps.{Cpu, sum_of}
+use Rattle.im_rv.specs.Torn.{torn_of}
 use Rattle.im_rv.specs.Decode.{Line, bits, is_coded, op_in, decode, step_of}
 
 -- the word has the code numbers of the operation
@@ -24,6 +25,18 @@ RowsReached = (op : Op) → (w : ℕ) × (w < 2 ^ 32) × (op_in w ≡ Some op)
 -- reading x0 gives 0 after any step
 abbrev pub ZeroStays : Type 0
 ZeroStays = (c : Cpu) (m : Mem) → c.x 0 ≡ 0 → (step_of c m).cpu.x 0 ≡ 0
+
+-- after any step registers hold words, where they did before and memory holds bytes
+abbrev pub WordsStay : Type 0
+WordsStay = (c : Cpu) (m : Mem) → ((i : ℕ) → c.x i < 2 ^ 32) → ((a : ℕ) → m a < 256) → (i : ℕ) → (step_of c m).cpu.x i < 2 ^ 32
+
+-- memory holds bytes after a step, and after one that is torn, where it did before
+abbrev pub BytesStay : Type 0
+BytesStay = (c : Cpu) (m : Mem) → ((a : ℕ) → m a < 256) → ((a : ℕ) → (step_of c m).mem a < 256) × ((mask a : ℕ) → torn_of mask c m a < 256)
+
+-- of a step that is torn each byte is the old one or the one that the whole step leaves
+abbrev pub TornBetween : Type 0
+TornBetween = (mask : ℕ) (c : Cpu) (m : Mem) (a : ℕ) → (torn_of mask c m a ≡ m a) ⊎ (torn_of mask c m a ≡ (step_of c m).mem a)
 
 -- a step changes at most one register
 abbrev pub OneRegister : Type 0

@@ -2,6 +2,8 @@ pub mod Formats
 pub mod Fits
 pub mod Decode
 pub mod Encode
+pub mod Effects
+pub mod Torn
 pub mod Steps
 pub mod Lines
 pub mod PowerUp

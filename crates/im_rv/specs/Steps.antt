@@ -1,12 +1,14 @@
 -- One step of the machine, a row for each operation (RISC-V Unprivileged ISA, RV32I 2.1 and M 2.0).
-use Rattle.std.specs.Prelude.{ℕ, ℤ, pos, ◌+◌, ◌-◌, ◌*◌, ◌/◌, ◌%◌, ◌^◌, ◌*ℤ◌, Bool, true, false, cond, ◌&&◌, ◌==◌, nat_lt, Option, Some, None, List, slice_index, int_div, int_rem, int_lt, bit_and, bit_or, bit_xor}
+use Rattle.std.specs.Prelude.{ℕ, ℤ, pos, ◌+◌, ◌-◌, ◌*◌, ◌/◌, ◌%◌, ◌^◌, ◌*ℤ◌, Bool, cond, ◌&&◌, ◌==◌, nat_lt, Option, Some, None, List, slice_index, int_div, int_rem, int_lt, bit_and, bit_or, bit_xor}
 use Rattle.std.specs.Int.{cast_unsigned, cast_signed, w32, w64, int_shr}
 use Rattle.im_rv.specs.declared.instr.Op.{Op}
 use Rattle.im_rv.specs.declared.instr.Op.TheVariants.{Lui, Auipc, Jal, Jalr, Beq, Bne, Blt, Bge, Bltu, Bgeu, Lb, Lh, Lw, Lbu, Lhu, Sb, Sh, Sw, Addi, Slti, Sltiu, Xori, Ori, Andi, Slli, Srli, Srai, Add, Sub, Sll, Slt, Sltu, Xor, Srl, Sra, Or, And, Mul, Mulh, Mulhsu, Mulhu, Div, Divu, Rem, Remu, Fence, Ebreak}
 use Rattle.im_rv.specs.declared.step.Went.{Went}
 use Rattle.im_rv.specs.declared.step.Went.TheVariants.{On, Halted, Faulted}
-use Rattle.im_rv.specs.declared.step.Effect.{Effect}
-use Rattle.im_rv.specs.declared.step.Effect.TheVariants.{Puts, Goes, Loads, Stores, Stops}
+use Rattle.im_rv.specs.declared.effect.Effect.{Effect}
+use Rattle.im_rv.specs.declared.effect.Effect.TheVariants.{Puts, Goes, Loads, Stores, Stops}
+use Rattle.im_rv.specs.declared.effect.Extension.{Extension}
+use Rattle.im_rv.specs.declared.effect.Extension.TheVariants.{Sign, Zero}
 use Rattle.im_rv.specs.declared.step.Regs.{Regs}
 use Rattle.im_mem.specs.Memory.{Mem, loaded, stored, is_place}
 
@@ -89,11 +91,11 @@ row Blt pc a b imm = Goes (cond (less_signed a b) (sum_of pc imm) (sum_of pc 4))
 row Bge pc a b imm = Goes (cond (less_signed a b) (sum_of pc 4) (sum_of pc imm))
 row Bltu pc a b imm = Goes (cond (nat_lt a b) (sum_of pc imm) (sum_of pc 4))
 row Bgeu pc a b imm = Goes (cond (nat_lt a b) (sum_of pc 4) (sum_of pc imm))
-row Lb pc a b imm = Loads (sum_of a imm) 1 true
-row Lh pc a b imm = Loads (sum_of a imm) 2 true
-row Lw pc a b imm = Loads (sum_of a imm) 4 false
-row Lbu pc a b imm = Loads (sum_of a imm) 1 false
-row Lhu pc a b imm = Loads (sum_of a imm) 2 false
+row Lb pc a b imm = Loads (sum_of a imm) 1 Sign
+row Lh pc a b imm = Loads (sum_of a imm) 2 Sign
+row Lw pc a b imm = Loads (sum_of a imm) 4 Zero
+row Lbu pc a b imm = Loads (sum_of a imm) 1 Zero
+row Lhu pc a b imm = Loads (sum_of a imm) 2 Zero
 row Sb pc a b imm = Stores (sum_of a imm) 1 b
 row Sh pc a b imm = Stores (sum_of a imm) 2 b
 row Sw pc a b imm = Stores (sum_of a imm) 4 b
@@ -135,18 +137,19 @@ faulted c m = record { went = Faulted c.pc; cpu = c; mem = m }
 abbrev pub sign_extended : ℕ → ℕ → ℕ
 sign_extended n v = cond (nat_lt v (2 ^ (n - 1))) v (sum_of v (2 ^ 32 - 2 ^ n))
 
--- a loaded byte or half, sign extended or not; a word is as it is
-abbrev pub extended : ℕ → Bool → ℕ → ℕ
-extended n is_signed v = cond is_signed (cond (n == 1) (sign_extended 8 v) (cond (n == 2) (sign_extended 16 v) v)) v
+-- a loaded byte or half as a word; a word is as it is
+abbrev pub extended : ℕ → Extension → ℕ → ℕ
+extended n Sign v = cond (n == 1) (sign_extended 8 v) (cond (n == 2) (sign_extended 16 v) v)
+extended n Zero v = v
 
-abbrev pub loads : Cpu → Mem → ℕ → ℕ → Bool → Option ℕ → Stepped
-loads c m rd n is_signed None = faulted c m
-loads c m rd n is_signed (Some v) = record { went = On; cpu = record { pc = sum_of c.pc 4; x = with_reg c.x rd (extended n is_signed v) }; mem = m }
+abbrev pub loads : Cpu → Mem → ℕ → ℕ → Extension → Option ℕ → Stepped
+loads c m rd n extension None = faulted c m
+loads c m rd n extension (Some v) = record { went = On; cpu = record { pc = sum_of c.pc 4; x = with_reg c.x rd (extended n extension v) }; mem = m }
 
 abbrev pub effected : Cpu → Mem → ℕ → Effect → Stepped
 effected c m rd (Puts v target) = record { went = On; cpu = record { pc = target; x = with_reg c.x rd v }; mem = m }
 effected c m rd (Goes target) = record { went = On; cpu = record { pc = target; x = c.x }; mem = m }
-effected c m rd (Loads a n is_signed) = loads c m rd n is_signed (loaded m a n)
+effected c m rd (Loads a n extension) = loads c m rd n extension (loaded m a n)
 effected c m rd (Stores a n v) = cond (is_place a n) (record { went = On; cpu = record { pc = sum_of c.pc 4; x = c.x }; mem = stored m a n v }) (faulted c m)
 effected c m rd Stops = record { went = Halted; cpu = c; mem = m }
 

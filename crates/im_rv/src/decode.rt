@@ -12,7 +12,7 @@ use crate::instr::{Instr, Op};
 pub(crate) const EBREAK: u32 = 0x0010_0073;
 
 fn branch_op(funct3: u32, funct7: u32) -> Option<Op>
-    ensures { result ≡ op_of 99 funct3 funct7 }
+    ensures { result ≡ op_of 0x63 funct3 funct7 }
 {
     match funct3 {
         0 => Some(Op::Beq),
@@ -26,7 +26,7 @@ fn branch_op(funct3: u32, funct7: u32) -> Option<Op>
 }
 
 fn load_op(funct3: u32, funct7: u32) -> Option<Op>
-    ensures { result ≡ op_of 3 funct3 funct7 }
+    ensures { result ≡ op_of 0x03 funct3 funct7 }
 {
     match funct3 {
         0 => Some(Op::Lb),
@@ -39,7 +39,7 @@ fn load_op(funct3: u32, funct7: u32) -> Option<Op>
 }
 
 fn store_op(funct3: u32, funct7: u32) -> Option<Op>
-    ensures { result ≡ op_of 35 funct3 funct7 }
+    ensures { result ≡ op_of 0x23 funct3 funct7 }
 {
     match funct3 {
         0 => Some(Op::Sb),
@@ -50,7 +50,7 @@ fn store_op(funct3: u32, funct7: u32) -> Option<Op>
 }
 
 fn immediate_op(funct3: u32, funct7: u32) -> Option<Op>
-    ensures { result ≡ op_of 19 funct3 funct7 }
+    ensures { result ≡ op_of 0x13 funct3 funct7 }
 {
     match (funct3, funct7) {
         (0, _) => Some(Op::Addi),
@@ -67,7 +67,7 @@ fn immediate_op(funct3: u32, funct7: u32) -> Option<Op>
 }
 
 fn plain_op(funct3: u32) -> Option<Op>
-    ensures { result ≡ op_of 51 funct3 0 }
+    ensures { result ≡ op_of 0x33 funct3 0 }
 {
     match funct3 {
         0 => Some(Op::Add),
@@ -83,7 +83,7 @@ fn plain_op(funct3: u32) -> Option<Op>
 }
 
 fn product_op(funct3: u32) -> Option<Op>
-    ensures { result ≡ op_of 51 funct3 1 }
+    ensures { result ≡ op_of 0x33 funct3 1 }
 {
     match funct3 {
         0 => Some(Op::Mul),
@@ -99,7 +99,7 @@ fn product_op(funct3: u32) -> Option<Op>
 }
 
 fn register_op(funct3: u32, funct7: u32) -> Option<Op>
-    ensures { result ≡ op_of 51 funct3 funct7 }
+    ensures { result ≡ op_of 0x33 funct3 funct7 }
 {
     match funct7 {
         0 => plain_op(funct3),
@@ -117,16 +117,16 @@ fn operation(opcode: u32, funct3: u32, funct7: u32) -> Option<Op>
     ensures { result ≡ op_of opcode funct3 funct7 }
 {
     match opcode {
-        3 => load_op(funct3, funct7),
-        15 => if funct3 == 0 { Some(Op::Fence) } else { None },
-        19 => immediate_op(funct3, funct7),
-        23 => Some(Op::Auipc),
-        35 => store_op(funct3, funct7),
-        51 => register_op(funct3, funct7),
-        55 => Some(Op::Lui),
-        99 => branch_op(funct3, funct7),
-        103 => if funct3 == 0 { Some(Op::Jalr) } else { None },
-        111 => Some(Op::Jal),
+        0x03 => load_op(funct3, funct7),
+        0x0F => if funct3 == 0 { Some(Op::Fence) } else { None },
+        0x13 => immediate_op(funct3, funct7),
+        0x17 => Some(Op::Auipc),
+        0x23 => store_op(funct3, funct7),
+        0x33 => register_op(funct3, funct7),
+        0x37 => Some(Op::Lui),
+        0x63 => branch_op(funct3, funct7),
+        0x67 => if funct3 == 0 { Some(Op::Jalr) } else { None },
+        0x6F => Some(Op::Jal),
         _ => None,
     }
 }

@@ -1,14 +1,25 @@
-// The instructions of RV32IM: what a word stands for, and what one step does to registers and memory.
+//! From words to steps: what each word stands for in RV32IM, and what one step does to registers and memory.
 #![tactic(auto)]
 
 mod arithmetic;
+pub mod assembler;
+mod code;
+mod computation;
 pub mod decode;
+mod effect;
 pub mod encode;
 pub mod format;
 pub mod instr;
 pub mod laws;
-pub mod line;
+mod operands;
 mod rows;
 pub mod step;
 #[cfg(test)]
 mod tests;
+mod transfer;
+
+pub use code::{Code, Cut, Line, Part, plain};
+pub use effect::{Effect, Extension};
+pub use format::Format;
+pub use instr::{Instr, Op};
+pub use step::{Regs, Went};

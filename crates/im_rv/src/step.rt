@@ -1,8 +1,9 @@
-ghost use Rattle.std.specs.Prelude.{◌≡◌, ◌<◌, true};
+ghost use Rattle.std.specs.Prelude.{◌≡◌, ◌<◌};
 ghost use Rattle.im_rv.specs.Steps.{effected, cpu_of, regs_of, with_reg, word, extended, done_by};
 ghost use Rattle.im_rv.specs.Decode.{step_of};
 
 use crate::decode::decode;
+use crate::effect::{Effect, Extension};
 use crate::instr::Instr;
 use crate::rows::row_of;
 use im_mem::Memory;
@@ -25,21 +26,6 @@ pub struct Regs {
     pub x: [u32; 32],
 }
 
-/// What an instruction does to registers and memory.
-#[derive(Clone, Copy)]
-pub enum Effect {
-    /// A value for rd, and the next place.
-    Puts(u32, u32),
-    /// The next place.
-    Goes(u32),
-    /// An address, a size in bytes, and whether the sign is extended: a value for rd.
-    Loads(u32, u32, bool),
-    /// An address, a size in bytes and a value.
-    Stores(u32, u32, u32),
-    /// The run ends here.
-    Stops,
-}
-
 impl Regs {
     fn get(&self, i: u8) -> u32
         requires { i < 32 }
@@ -57,8 +43,8 @@ impl Regs {
     }
 }
 
-fn extend(v: u32, size: u32) -> u32
-    ensures { result ≡ extended size true v }
+fn sign_extend(v: u32, size: u32) -> u32
+    ensures { result ≡ extended size Extension.Sign v }
 {
     match size {
         1 => if v < 128 {
@@ -75,6 +61,15 @@ fn extend(v: u32, size: u32) -> u32
     }
 }
 
+fn extend(v: u32, size: u32, extension: Extension) -> u32
+    ensures { result ≡ extended size extension v }
+{
+    match extension {
+        Extension::Sign => sign_extend(v, size),
+        Extension::Zero => v,
+    }
+}
+
 fn apply<M: Memory>(regs: &mut Regs, memory: &mut M, rd: u8, effect: Effect) -> Went
     requires { rd < 32 }
     ensures went { result ≡ (effected (cpu_of regs.old) (M.bytes memory.old) rd effect).went }
@@ -83,24 +78,32 @@ fn apply<M: Memory>(regs: &mut Regs, memory: &mut M, rd: u8, effect: Effect) -> 
 {
     let next = regs.pc.wrapping_add(4);
     match effect {
-        Effect::Puts(value, target) => {
+        Effect::Puts { value, next } => {
             regs.set(rd, value);
-            regs.pc = target;
+            regs.pc = next;
             Went::On
         }
-        Effect::Goes(target) => {
-            regs.pc = target;
+        Effect::Goes { next } => {
+            regs.pc = next;
             Went::On
         }
-        Effect::Loads(address, size, is_signed) => match memory.load(address, size) {
+        Effect::Loads {
+            address,
+            size,
+            extension,
+        } => match memory.load(address, size) {
             None => Went::Faulted(regs.pc),
             Some(v) => {
-                regs.set(rd, if is_signed { extend(v, size) } else { v });
+                regs.set(rd, extend(v, size, extension));
                 regs.pc = next;
                 Went::On
             }
         },
-        Effect::Stores(address, size, value) => {
+        Effect::Stores {
+            address,
+            size,
+            value,
+        } => {
             if memory.store(address, size, value) {
                 regs.pc = next;
                 Went::On

@@ -1,5 +1,5 @@
 use Rattle.im_rv.proofs.Apart.{rows_reached}
-use Rattle.im_rv.proofs.laws.rows_reached.Goals as goal
+use Rattle.im_rv.proofs.laws.rows_reached_law.Goals as goal
 
 pub returns : goal.returns
 returns c = rows_reached

@@ -1,0 +1,7 @@
+pub mod Torn
+pub mod Run
+pub mod Periods
+pub mod Load
+pub mod Shows
+pub mod Variables
+pub mod Laws

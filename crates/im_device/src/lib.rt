@@ -1,0 +1,6 @@
+//! What a device does: power-up, steps, torn stores, periods of power, loading, and what memory shows.
+#![tactic(auto)]
+
+mod laws;
+
+pub use laws::{run_law, split_trace_law};
