@@ -1,4 +1,3 @@
-pub mod Straight
-pub mod Tables
+pub mod Loads
+pub mod Pushing
 pub mod Resume
-pub mod Lists

@@ -1,9 +1,14 @@
-// Register buffers and the routine that restores the registers from them.
+//! From a cut to its register buffer, and from a buffer back to the registers: the checkpoint routine and recovery.
 #![tactic(auto)]
 
+mod checkpoint;
+mod laws;
+mod push;
 mod recovery;
 
-pub use recovery::{boot_buffer, recovery_code, resume_law};
+pub use checkpoint::checkpoint_lines;
+pub use laws::{checkpoint_law, resume_law};
+pub use recovery::{boot_buffer, recovery_lines};
 
 #[cfg(test)]
 mod tests;

@@ -5,7 +5,7 @@ use Rattle.im_rv.specs.declared.step.Went.{Went}
 use Rattle.im_rv.specs.declared.step.Went.TheVariants.{On, Halted, Faulted}
 use Rattle.im_rv.specs.Decode.{step_of}
 use Rattle.im_power.specs.declared.period.Period.{Period}
-use Rattle.im_device.specs.Torn.{torn_of}
+use Rattle.im_rv.specs.Torn.{torn_of}
 use Rattle.im_device.specs.Run.{Moment, unless_over, one_step, run, torn, after_tear, index_of}
 use Rattle.im_device.specs.Periods.{Device, fresh, power_up, power_down, powered, repeated, power}
 use Rattle.im_device.specs.Laws.{RunLaw, SplitTraceLaw, behind, on_memory_of}

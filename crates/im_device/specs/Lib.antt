@@ -1,4 +1,3 @@
-pub mod Torn
 pub mod Run
 pub mod Periods
 pub mod Load

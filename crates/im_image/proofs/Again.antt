@@ -1,18 +1,24 @@
 -- The text of an image has no fault, and its fields say that image.
-use Rattle.std.proofs.Common.{◌≡◌, ℕ, zero, suc, ◌+◌, ◌-◌, ◌*◌, ◌^◌, ◌<◌, ◌≤◌, Bool, true, false, List, [], ◌∷◌, ◌++◌, length, get_or, take, drop, Option, Some, None, refl, sym, ap, subst, ◌∙◌, append_assoc, arith, ltb, leb, ◌&&◌}
-use Rattle.std.specs.List.{flat_map, list_all}
-use Rattle.std.proofs.lemmas.Bool.{leb-true, eqb-true, le-leb, eq-eqb}
-use Rattle.std.proofs.lemmas.List.{length-take, length-drop, append-nil, take_at, drop_at, drop-drop, length-append}
+use Rattle.std.proofs.Common.{◌≡◌, ℕ, suc, ◌+◌, ◌*◌, ◌^◌, ◌<◌, ◌≤◌, Bool, true, List, [], ◌∷◌, ◌++◌, length, get_or, take, drop, Option, Some, None, refl, sym, ap, subst, ◌∙◌, append_assoc, arith, leb, ◌&&◌}
+use Rattle.std.specs.List.{flat_map}
+use Rattle.std.proofs.lemmas.Bool.{leb-true, eq-eqb}
+use Rattle.std.proofs.lemmas.List.{length-drop, take_at, drop_at, drop-drop, length-append}
 use Rattle.im_num.specs.declared.kind.Kind.{Kind}
 use Rattle.im_num.specs.declared.kind.Kind.TheVariants.{I8, U8, I16, U16, I32, U32, Ptr}
 use Rattle.im_num.specs.Kinds.{kind_size}
 use Rattle.im_num.specs.Bytes.{word_bytes}
 use Rattle.im_image.specs.declared.object.CellRun.{CellRun}
-use Rattle.im_image.specs.Contents.{ImageValue, ObjectValue, kind_code, is_name_byte, run_end, end_of, continues, is_run, AreRuns, IsObject, AreObjects, IsImage, is_object_place, statics_start}
-use Rattle.im_image.specs.Text.{words_text, run_text, object_text, image_text, header_words, magic}
-use Rattle.im_image.specs.Faults.{word_at, kind_of, run_at, words_at, runs_at, object_at, objects_at, image_at, name_end, record_end, statics_place, objects_place, first_unmet, run_requirements, object_requirements, objects_requirements, header_requirements, requirements, fault_of}
-use Rattle.im_image.proofs.Unmet.{AllMet, all_met, none_unmet, after_none}
-use Rattle.im_image.proofs.WordLemmas.{WordIs, word_is}
+use Rattle.im_image.specs.declared.fault.ImageFault.TheVariants.{BadField}
+use Rattle.im_mem.specs.Map.{statics_start}
+use Rattle.im_image.specs.declared.version.Version.{Version}
+use Rattle.im_image.specs.declared.version.Version.TheVariants.{One, Two}
+use Rattle.im_image.specs.declared.form.Form.{Form}
+use Rattle.im_image.specs.declared.form.Form.TheVariants.{OneLength, TwoLengths}
+use Rattle.im_image.specs.Contents.{ImageValue, ObjectValue, kind_code, run_end, end_of, is_run, is_form, AreRuns, IsObject, AreObjects, IsImage, is_object_place}
+use Rattle.im_image.specs.Text.{words_text, run_text, object_text, image_text, version_number, form_number, form_words, magic}
+use Rattle.im_image.specs.Faults.{word_at, kind_of, run_at, words_at, runs_at, object_at, objects_at, image_at, name_end, record_end, words_place, statics_place, objects_place, is_version, version_of, version_at, form_of, form_at, header_size, HasBytes, Meets, first_unmet, run_requirements, object_requirements, objects_requirements, header_requirements, form_requirements, front_requirements, requirements, fault_of}
+use Rattle.im_image.proofs.Unmet.{AllMet, none_unmet, after_none}
+use Rattle.im_image.proofs.WordLemmas.{word_is}
 use Rattle.im_image.proofs.Taken.{and_true}
 
 -- ---- words
@@ -180,52 +186,98 @@ objects_again text statics least (object ∷ objects) place few are le e =
           ∙ subst (λ (x : ℕ). first_unmet (length text) (objects_requirements text statics (length objects) x (record_end text place)) ≡ None) low r.1,
     )
 
+-- ---- the version and the form
+
+version_again : (version : Version) → (version_of (version_number version) ≡ version) × (is_version (version_number version) ≡ true) × (version_number version < 2 ^ 32)
+version_again One = (refl, refl, omega arith)
+version_again Two = (refl, refl, omega arith)
+
+form_number_again : (form : Form) → (form_of (form_number form) ≡ form) × (leb (form_number form) 1 ≡ true) × (form_number form < 2 ^ 32)
+form_number_again OneLength = (refl, refl, omega arith)
+form_number_again TwoLengths = (refl, refl, omega arith)
+
+record FormAgain (text : List ℕ) (version : Version) (form : Form) (rest : List ℕ) : Type 0 where
+  form_is : form_at version text ≡ form
+  right : first_unmet (length text) (form_requirements version text) ≡ None
+  behind : drop (header_size version) text ≡ rest
+  there : header_size version ≤ length text
+
+form_again : (text : List ℕ) (version : Version) (form : Form) (rest : List ℕ) → is_form version form ≡ true → 32 ≤ length text → drop 32 text ≡ words_text (form_words version form) ++ rest → FormAgain text version form rest
+unfolding form_requirements
+form_again text One OneLength rest is le e = record { form_is = refl; right = refl; behind = e; there = le }
+form_again text One TwoLengths rest is le e = absurd cc
+form_again text Two form rest is le e =
+    let f = form_number_again form in
+    let w = word_is text 32 36 (form_number form) rest refl f.2 e in
+    record {
+      form_is = ap form_of w.word ∙ f.0;
+      right = none_unmet (length text) (HasBytes 36 ∷ (Meets (leb (word_at text 32) 1) (BadField 9) ∷ [])) (w.there, (rw w.word f.1, tt));
+      behind = w.behind;
+      there = w.there;
+    }
+
 -- ---- the image
 
 pub image_again : (image : ImageValue) (text : List ℕ) → IsImage image → text ≡ image_text image → (fault_of text ≡ None) × (image_at text ≡ image)
-unfolding fault_of requirements header_requirements image_at image_text
+unfolding fault_of requirements front_requirements header_requirements image_at image_text
 image_again image text is e =
     let n = length image.words in
     let s = length image.statics in
     let v = length image.objects in
     let fm = flat_map object_text image.objects in
     let body = words_text image.words ++ (image.statics ++ fm) in
+    let formed = words_text (form_words image.version image.form) in
     let words-few : n ≤ 261120 = leb-true _ _ (and_true _ _ is.word_count).1 in
     let statics-few : s ≤ 1048576 = leb-true _ _ (and_true _ _ is.statics_size).0 in
     let stack-few : image.stack ≤ 1048576 = leb-true _ _ (and_true _ _ is.stack).1 in
     let out-few : image.out_cap ≤ 1048576 = leb-true _ _ is.out_cap in
     let entry-few : image.entry + 1 ≤ 4096 + 4 * n = leb-true _ _ (and_true _ _ is.entry).1 in
     let objects-few : v ≤ s = leb-true _ _ is.object_count in
-    let r8 = word_bytes v ++ body in
+    let version = version_again image.version in
+    let r9 = formed ++ body in
+    let r8 = word_bytes v ++ r9 in
     let r7 = word_bytes image.entry ++ r8 in
     let r6 = word_bytes image.out_cap ++ r7 in
     let r5 = word_bytes image.stack ++ r6 in
     let r4 = word_bytes s ++ r5 in
     let r3 = word_bytes n ++ r4 in
-    let r2 = word_bytes 1 ++ r3 in
+    let r2 = word_bytes (version_number image.version) ++ r3 in
     let w0 = word_is text 0 4 magic r2 refl (omega arith) e in
-    let w1 = word_is text 4 8 1 r3 refl (omega arith) w0.behind in
+    let w1 = word_is text 4 8 (version_number image.version) r3 refl version.2 w0.behind in
     let w2 = word_is text 8 12 n r4 refl (omega arith) w1.behind in
     let w3 = word_is text 12 16 s r5 refl (omega arith) w2.behind in
     let w4 = word_is text 16 20 image.stack r6 refl (omega arith) w3.behind in
     let w5 = word_is text 20 24 image.out_cap r7 refl (omega arith) w4.behind in
     let w6 = word_is text 24 28 image.entry r8 refl (omega arith) w5.behind in
-    let w7 = word_is text 28 32 v body refl (omega arith) w6.behind in
+    let w7 = word_is text 28 32 v r9 refl (omega arith) w6.behind in
+    let version-is : version_at text ≡ image.version = ap version_of w1.word ∙ version.0 in
+    let f = form_again text image.version image.form body is.form w7.there w7.behind in
+    let wp = words_place text in
     let sp = statics_place text in
     let op = objects_place text in
-    let sp-is : sp ≡ 32 + 4 * n = ap (λ (k : ℕ). 32 + 4 * k) w2.word in
+    let wp-is : wp ≡ header_size image.version = ap header_size version-is in
+    let sp-is : sp ≡ wp + 4 * n = ap (λ (k : ℕ). wp + 4 * k) w2.word in
     let op-is : op ≡ sp + s = ap (λ (k : ℕ). sp + k) w3.word in
-    let ws = words_again text image.words 32 sp (image.statics ++ fm) is.words sp-is w7.behind w7.there in
+    let behind-form : drop wp text ≡ body = ap (λ (k : ℕ). drop k text) wp-is ∙ f.behind in
+    let form-there : wp ≤ length text = omega (arith, wp-is, f.there) in
+    let ws = words_again text image.words wp sp (image.statics ++ fm) is.words sp-is behind-form form-there in
     let statics-are : take (word_at text 12) (drop sp text) ≡ image.statics = ap (λ (k : ℕ). take k (drop sp text)) w3.word ∙ ap (take s) ws.1 ∙ take_at image.statics fm s refl in
     let behind : drop op text ≡ fm = ap (λ (k : ℕ). drop k text) op-is ∙ sym (drop-drop s sp text) ∙ ap (drop s) ws.1 ∙ drop_at image.statics fm s refl in
     let there : op ≤ length text = omega (arith, ws.2, op-is, ap length ws.1, length-drop sp text, length-append image.statics fm) in
     let os = objects_again text s statics_start image.objects op statics-few is.objects there behind in
-    let words-are : words_at text (word_at text 8) 32 ≡ image.words = ap (λ (k : ℕ). words_at text k 32) w2.word ∙ ws.0 in
+    let words-are : words_at text (word_at text 8) wp ≡ image.words = ap (λ (k : ℕ). words_at text k wp) w2.word ∙ ws.0 in
     let objects-are : objects_at text (word_at text 28) op ≡ image.objects = ap (λ (k : ℕ). objects_at text k op) w7.word ∙ os.0 in
+    let form-is : form_at (version_at text) text ≡ image.form = ap (λ (x : Version). form_at x text) version-is ∙ f.form_is in
     let head : first_unmet (length text) (header_requirements text) ≡ None = none_unmet (length text) (header_requirements text)
-    (w0.there, (eq-eqb _ _ w0.word, (w1.there, (eq-eqb _ _ w1.word, (w2.there, (rw w2.word is.word_count, (w3.there, (rw w3.word is.statics_size, (w4.there, (rw w4.word is.stack, (w5.there, (rw w5.word is.out_cap, (w6.there, (rw (w2.word, w6.word) is.entry, (w7.there, (rw (w3.word, w7.word) is.object_count, (ws.2, (there, tt)))))))))))))))))) in
+    (w0.there, (eq-eqb _ _ w0.word, (w1.there, (rw w1.word version.1, (w2.there, (rw w2.word is.word_count, (w3.there, (rw w3.word is.statics_size, (w4.there, (rw w4.word is.stack, (w5.there, (rw w5.word is.out_cap, (w6.there, (rw (w2.word, w6.word) is.entry, (w7.there, (rw (w3.word, w7.word) is.object_count, tt)))))))))))))))) in
+    let room = HasBytes sp ∷ (HasBytes op ∷ []) in
+    let right : first_unmet (length text) (form_requirements (version_at text) text) ≡ None = ap (λ (x : Version). first_unmet (length text) (form_requirements x text)) version-is ∙ f.right in
+    let front : first_unmet (length text) (front_requirements text) ≡ None =
+    after_none (length text) (header_requirements text) (form_requirements (version_at text) text ++ room) head
+    ∙ after_none (length text) (form_requirements (version_at text) text) room right
+    ∙ none_unmet (length text) room (ws.2, (there, tt)) in
     let objs : first_unmet (length text) (objects_requirements text (word_at text 12) (word_at text 28) statics_start op) ≡ None =
     ap (λ (k : ℕ). first_unmet (length text) (objects_requirements text k (word_at text 28) statics_start op)) w3.word ∙ ap (λ (k : ℕ). first_unmet (length text) (objects_requirements text s k statics_start op)) w7.word ∙ os.1 in (
-      after_none (length text) (header_requirements text) (objects_requirements text (word_at text 12) (word_at text 28) statics_start op) head ∙ objs,
-      rw (words-are, statics-are, w4.word, w5.word, w6.word, objects-are) refl,
+      after_none (length text) (front_requirements text) (objects_requirements text (word_at text 12) (word_at text 28) statics_start op) front ∙ objs,
+      rw (words-are, statics-are, w4.word, w5.word, w6.word, objects-are, form-is, version-is) refl,
     )

@@ -1,5 +1,6 @@
 pub mod Unmet
 pub mod Loops
+pub mod Front
 pub mod WordLemmas
 pub mod Taken
 pub mod Again

@@ -3,9 +3,9 @@ use Rattle.std.proofs.Common.{◌≡◌, ℕ, zero, suc, ◌+◌, ◌-◌, ◌*�
 use Rattle.std.proofs.lemmas.List.{append-nil, length-take, length-drop}
 use Rattle.im_image.specs.declared.object.CellRun.{CellRun}
 use Rattle.im_image.specs.declared.fault.ImageFault.{ImageFault}
-use Rattle.im_image.specs.declared.header.Header.{Header}
-use Rattle.im_image.specs.Contents.{ObjectValue, ImageValue, statics_start}
-use Rattle.im_image.specs.Faults.{word_at, run_at, words_at, runs_at, object_at, objects_at, name_end, record_end, first_unmet, run_requirements, object_requirements, objects_requirements, header_requirements, requirements, fault_of, header_at, image_at, objects_place, IsFaultOf}
+use Rattle.im_mem.specs.Map.{statics_start}
+use Rattle.im_image.specs.Contents.{ObjectValue}
+use Rattle.im_image.specs.Faults.{word_at, run_at, words_at, runs_at, object_at, objects_at, name_end, record_end, first_unmet, run_requirements, object_requirements, objects_requirements, IsFaultOf}
 use Rattle.im_image.proofs.Unmet.{after_none, stops_in, same_fault}
 
 -- ---- words
@@ -173,30 +173,3 @@ objects_end text statics count place i least next objects le reads =
     let one : objects ++ objects_at text (count - i) next ≡ objects = rw k (append-nil objects) in
     let none : first_unmet (length text) (objects_requirements text statics (count - i) least next) ≡ first_unmet (length text) (objects_requirements text statics 0 least next) = rw k refl in
     (sym one ∙ reads.objects_are, sym none ∙ reads.right)
-
--- ---- the whole text
-
-pub after_header : (text : List ℕ) → first_unmet (length text) (header_requirements text) ≡ None
-    → first_unmet (length text) (objects_requirements text (word_at text 12) (word_at text 28) statics_start (objects_place text)) ≡ fault_of text
-unfolding fault_of requirements
-after_header text right = sym (after_none (length text) (header_requirements text) (objects_requirements text (word_at text 12) (word_at text 28) statics_start (objects_place text)) right)
-
-pub in_header : (text : List ℕ) (fault : ImageFault) → IsFaultOf fault (first_unmet (length text) (header_requirements text)) → IsFaultOf fault (fault_of text)
-unfolding fault_of requirements
-in_header text fault wrong = stops_in (length text) (header_requirements text) (objects_requirements text (word_at text 12) (word_at text 28) statics_start (objects_place text)) fault wrong
-
--- the objects' requirements, with the header's words in place of their places
-pub behind_header : (text : List ℕ) (header : Header) (place : ℕ) → header ≡ header_at text → place ≡ 32 + 4 * header.words + header.statics → first_unmet (length text) (header_requirements text) ≡ None
-    → first_unmet (length text) (objects_requirements text header.statics header.objects statics_start place) ≡ fault_of text
-behind_header text header place is at right = rw (at, is) (after_header text right)
-
-abbrev pub record_of : List ℕ → List ℕ → Header → List ObjectValue → ImageValue
-record_of words statics header objects = record { words = words; statics = statics; stack = header.stack; out_cap = header.out_cap; entry = header.entry; objects = objects }
-
-pub made : (text : List ℕ) (header : Header) (words statics : List ℕ) (objects : List ObjectValue) (a b : ℕ) → header ≡ header_at text → a ≡ 32 + 4 * header.words → b ≡ 32 + 4 * header.words + header.statics
-    → words ≡ words_at text header.words 32 → statics ≡ take (b - a) (drop a text) → objects ≡ objects_at text header.objects b
-    → record_of words statics header objects ≡ image_at text
-unfolding image_at
-made text header words statics objects a b is a-is b-is ew es eo =
-    let n : b - a ≡ header.statics = omega arith in
-    rw (ew, es, eo, n, a-is, b-is, is) refl

@@ -1,14 +1,18 @@
 -- A text without a fault is the text of the image that its fields say.
-use Rattle.std.proofs.Common.{◌≡◌, ℕ, zero, suc, ◌+◌, ◌-◌, ◌*◌, ◌^◌, ◌<◌, ◌≤◌, Bool, true, false, List, [], ◌∷◌, ◌++◌, length, get_or, take, drop, Option, Some, None, refl, sym, ap, subst, ◌∙◌, append_assoc, inl, inr, arith, ltb, leb, ◌&&◌}
+use Rattle.std.proofs.Common.{◌≡◌, ℕ, zero, suc, ◌+◌, ◌*◌, ◌^◌, ◌<◌, ◌≤◌, Bool, true, false, List, [], ◌∷◌, ◌++◌, length, get_or, take, drop, Option, Some, None, refl, sym, ap, ◌∙◌, append_assoc, arith, cond, eqb, leb, ◌&&◌, ◌||◌}
 use Rattle.std.specs.List.{flat_map}
 use Rattle.std.proofs.lemmas.Bool.{leb-true, eqb-true}
-use Rattle.std.proofs.lemmas.List.{drop_all, length-take, length-drop, append-nil}
-use Rattle.im_num.specs.declared.kind.Kind.{Kind}
+use Rattle.std.proofs.lemmas.Grind.{flat_map-append}
+use Rattle.std.proofs.lemmas.List.{drop_all, length-take, length-drop}
 use Rattle.im_num.specs.Bytes.{word_bytes}
 use Rattle.im_image.specs.declared.object.CellRun.{CellRun}
-use Rattle.im_image.specs.Contents.{ImageValue, ObjectValue, kind_code, is_run, AreRuns, IsObject, AreObjects, IsImage, is_object_place, statics_start}
-use Rattle.im_image.specs.Text.{words_text, run_text, object_text, image_text, magic}
-use Rattle.im_image.specs.Faults.{word_at, kind_of, run_at, words_at, runs_at, object_at, objects_at, image_at, name_end, record_end, statics_place, objects_place, first_unmet, run_requirements, object_requirements, objects_requirements, header_requirements, requirements, fault_of}
+use Rattle.im_mem.specs.Map.{statics_start}
+use Rattle.im_image.specs.declared.version.Version.{Version}
+use Rattle.im_image.specs.declared.version.Version.TheVariants.{One, Two}
+use Rattle.im_image.specs.declared.form.Form.{Form}
+use Rattle.im_image.specs.Contents.{kind_code, is_run, is_form, AreRuns, IsObject, AreObjects, IsImage}
+use Rattle.im_image.specs.Text.{words_text, run_text, object_text, image_text, version_number, form_number, form_words, magic}
+use Rattle.im_image.specs.Faults.{word_at, kind_of, run_at, words_at, runs_at, object_at, objects_at, image_at, name_end, record_end, words_place, statics_place, objects_place, is_version, version_of, version_at, form_of, form_at, header_size, HasBytes, first_unmet, run_requirements, object_requirements, objects_requirements, header_requirements, form_requirements, front_requirements, requirements, fault_of}
 use Rattle.im_image.proofs.Unmet.{AllMet, all_met, both_none}
 use Rattle.im_image.proofs.Loops.{length-runs_at}
 use Rattle.im_image.proofs.WordLemmas.{IsBytes, IsBytes-part, word_taken, word_fits, part_taken}
@@ -148,32 +152,79 @@ header_taken text fits le =
     word_taken text 0 4 fits refl (omega arith) ∙ ap (λ (x : List ℕ). w 0 ++ x) (word_taken text 4 8 fits refl (omega arith) ∙ ap (λ (x : List ℕ). w 4 ++ x) (word_taken text 8 12 fits refl (omega arith) ∙ ap (λ (x : List ℕ). w 8 ++ x) (word_taken text 12 16 fits refl (omega arith)
     ∙ ap (λ (x : List ℕ). w 12 ++ x) (word_taken text 16 20 fits refl (omega arith) ∙ ap (λ (x : List ℕ). w 16 ++ x) (word_taken text 20 24 fits refl (omega arith) ∙ ap (λ (x : List ℕ). w 20 ++ x) (word_taken text 24 28 fits refl (omega arith) ∙ ap (λ (x : List ℕ). w 24 ++ x) (word_taken text 28 32 fits refl le)))))))
 
-header_same : (text : List ℕ) (words statics objects : ℕ) → word_at text 0 ≡ magic → word_at text 4 ≡ 1 → words ≡ word_at text 8 → statics ≡ word_at text 12 → objects ≡ word_at text 28
-    → header_at_places text ≡ magic ∷ 1 ∷ words ∷ statics ∷ word_at text 16 ∷ word_at text 20 ∷ word_at text 24 ∷ objects ∷ []
-header_same text words statics objects e0 e4 e8 e12 e28 = cc
+header_same : (text : List ℕ) (version words statics objects : ℕ) → word_at text 0 ≡ magic → word_at text 4 ≡ version → words ≡ word_at text 8 → statics ≡ word_at text 12 → objects ≡ word_at text 28
+    → header_at_places text ≡ magic ∷ version ∷ words ∷ statics ∷ word_at text 16 ∷ word_at text 20 ∷ word_at text 24 ∷ objects ∷ []
+header_same text version words statics objects e0 e4 e8 e12 e28 = cc
+
+-- ---- the version and the form
+
+version_by : (one two : Bool) (word : ℕ) → eqb word 1 ≡ one → eqb word 2 ≡ two → (one || two) ≡ true → word ≡ version_number (cond one One Two)
+version_by true two word e1 e2 h = eqb-true _ _ e1
+version_by false true word e1 e2 h = eqb-true _ _ e2
+version_by false false word e1 e2 h = absurd cc
+
+version_back : (word : ℕ) → is_version word ≡ true → word ≡ version_number (version_of word)
+version_back word h = version_by (eqb word 1) (eqb word 2) word refl refl h
+
+form_back : (word : ℕ) → word ≤ 1 → word ≡ form_number (form_of word)
+form_back zero le = refl
+form_back (suc zero) le = refl
+form_back (suc (suc n)) le = absurd (omega arith)
+
+record FormTaken (text : List ℕ) (version : Version) : Type 0 where
+  is_one : is_form version (form_at version text) ≡ true
+  text_is : drop 32 text ≡ words_text (form_words version (form_at version text)) ++ drop (header_size version) text
+  there : header_size version ≤ length text
+
+form_taken : (text : List ℕ) (version : Version) → IsBytes text → 32 ≤ length text → AllMet (length text) (form_requirements version text) → FormTaken text version
+unfolding form_requirements
+form_taken text One fits le met = record { is_one = refl; text_is = refl; there = le }
+form_taken text Two fits le met =
+    let e = form_back (word_at text 32) (leb-true _ _ met.1.0) in
+    record {
+      is_one = refl;
+      text_is = word_taken text 32 36 fits refl met.0 ∙ ap (λ (w : ℕ). word_bytes w ++ drop 36 text) e;
+      there = met.0;
+    }
+
+-- the words of the header in two parts
+pub header_parts : (version : Version) (form : Form) (words statics stack out_cap entry objects : ℕ)
+    → words_text (magic ∷ version_number version ∷ words ∷ statics ∷ stack ∷ out_cap ∷ entry ∷ objects ∷ []) ++ words_text (form_words version form)
+    ≡ words_text (magic ∷ version_number version ∷ words ∷ statics ∷ stack ∷ out_cap ∷ entry ∷ objects ∷ form_words version form)
+header_parts version form words statics stack out_cap entry objects =
+    sym (flat_map-append word_bytes (magic ∷ version_number version ∷ words ∷ statics ∷ stack ∷ out_cap ∷ entry ∷ objects ∷ []) (form_words version form))
 
 pub image_taken : (text : List ℕ) → IsBytes text → fault_of text ≡ None → IsImage (image_at text) × (text ≡ image_text (image_at text))
-unfolding fault_of requirements header_requirements image_at image_text
+unfolding fault_of requirements front_requirements header_requirements image_at image_text
 image_taken text fits none =
     let len = length text in
     let n = word_at text 8 in
     let s = word_at text 12 in
     let v = word_at text 28 in
-    let both = both_none len (header_requirements text) (objects_requirements text s v statics_start (objects_place text)) none in
-    let m = all_met len (header_requirements text) both.0 in
+    let version = version_at text in
+    let form = form_at version text in
+    let both = both_none len (front_requirements text) (objects_requirements text s v statics_start (objects_place text)) none in
+    let front = both_none len (header_requirements text) (form_requirements version text ++ (HasBytes (statics_place text) ∷ (HasBytes (objects_place text) ∷ []))) both.0 in
+    let back = both_none len (form_requirements version text) (HasBytes (statics_place text) ∷ (HasBytes (objects_place text) ∷ [])) front.1 in
+    let m = all_met len (header_requirements text) front.0 in
     let m8 = m.1.1.1.1.1.1.1.1 in
-    let m16 = m8.1.1.1.1.1.1.1.1 in
-    let there : objects_place text ≤ len = m16.1.0 in
-    let w = words_taken text n 32 (statics_place text) fits refl (omega (arith, there)) in
+    let r = all_met len (HasBytes (statics_place text) ∷ (HasBytes (objects_place text) ∷ [])) back.1 in
+    let there : objects_place text ≤ len = r.1.0 in
+    let f = form_taken text version fits m8.1.1.1.1.1.1.0 (all_met len (form_requirements version text) back.0) in
+    let w = words_taken text n (words_place text) (statics_place text) fits refl (omega (arith, there)) in
     let o = objects_taken text s v statics_start (objects_place text) fits there both.1 in
-    let words = words_at text n 32 in
+    let words = words_at text n (words_place text) in
     let statics = take s (drop (statics_place text) text) in
     let objects = objects_at text v (objects_place text) in
     let s-is : length statics ≡ s = omega (arith, length-take s (drop (statics_place text) text), length-drop (statics_place text) text, there) in
     let p = part_taken text (statics_place text) s (objects_place text) refl in
-    let rest : drop 32 text ≡ words_text words ++ (statics ++ flat_map object_text objects) =
-    w.0 ∙ ap (λ (x : List ℕ). words_text words ++ x) (p ∙ ap (λ (x : List ℕ). statics ++ x) o.1) in (
+    let body = words_text words ++ (statics ++ flat_map object_text objects) in
+    let rest : drop (words_place text) text ≡ body = w.0 ∙ ap (λ (x : List ℕ). words_text words ++ x) (p ∙ ap (λ (x : List ℕ). statics ++ x) o.1) in
+    let eight = magic ∷ version_number version ∷ length words ∷ length statics ∷ word_at text 16 ∷ word_at text 20 ∷ word_at text 24 ∷ length objects ∷ [] in
+    let formed = words_text (form_words version form) in
+    let version-is : word_at text 4 ≡ version_number version = version_back (word_at text 4) m.1.1.1.0 in (
       record {
+        form = f.is_one;
         word_count = rw w.1 m.1.1.1.1.1.0;
         words = w.2;
         statics_size = rw s-is m.1.1.1.1.1.1.1.0;
@@ -184,6 +235,9 @@ image_taken text fits none =
         object_count = rw (s-is, o.2) m8.1.1.1.1.1.1.1.0;
         objects = rw s-is o.0;
       },
-      header_taken text fits (omega (arith, there)) ∙ ap (λ (x : List ℕ). words_text (header_at_places text) ++ x) rest
-          ∙ ap (λ (h : List ℕ). words_text h ++ (words_text words ++ (statics ++ flat_map object_text objects))) (header_same text (length words) (length statics) (length objects) (eqb-true _ _ m.1.0) (eqb-true _ _ m.1.1.1.0) w.1 s-is o.2),
+      header_taken text fits m8.1.1.1.1.1.1.0
+          ∙ ap (λ (x : List ℕ). words_text (header_at_places text) ++ x) (f.text_is ∙ ap (λ (x : List ℕ). formed ++ x) rest)
+          ∙ ap (λ (h : List ℕ). words_text h ++ (formed ++ body)) (header_same text (version_number version) (length words) (length statics) (length objects) (eqb-true _ _ m.1.0) version-is w.1 s-is o.2)
+          ∙ sym (append_assoc (words_text eight) formed body)
+          ∙ ap (λ (x : List ℕ). x ++ body) (header_parts version form (length words) (length statics) (word_at text 16) (word_at text 20) (word_at text 24) (length objects)),
     )

@@ -1,5 +1,5 @@
 -- The first requirement that isn't met, of lists one after the other.
-use Rattle.std.proofs.Common.{◌≡◌, ℕ, ◌≤◌, Bool, true, false, cond, ltb, List, [], ◌∷◌, ◌++◌, Option, Some, None, refl, subst, arith}
+use Rattle.std.proofs.Common.{◌≡◌, ℕ, ◌≤◌, Bool, true, false, cond, ltb, List, [], ◌∷◌, ◌++◌, Option, Some, None, refl, subst}
 use Rattle.std.proofs.lemmas.Bool.{ltb-false, le-ltb}
 use Rattle.im_image.specs.declared.fault.ImageFault.{ImageFault}
 use Rattle.im_image.specs.declared.fault.ImageFault.TheVariants.{ShortImage, BadMagic, BadVersion, BadField, Trailing, OutOfMemory}

@@ -1,8 +1,9 @@
 -- A text that is written part by part.
-use Rattle.std.proofs.Common.{◌≡◌, ℕ, zero, suc, ◌+◌, ◌^◌, ◌<◌, ◌≤◌, List, [], ◌∷◌, ◌++◌, length, get_or, refl, sym, ap, ◌∙◌, append_assoc, arith}
+use Rattle.std.proofs.Common.{◌≡◌, ℕ, zero, suc, ◌+◌, ◌^◌, ◌<◌, ◌≤◌, List, [], ◌∷◌, ◌++◌, length, get_or, sym, ap, ◌∙◌, append_assoc, arith}
 use Rattle.std.specs.List.{flat_map}
-use Rattle.im_image.specs.Contents.{ImageValue, ObjectValue, IsObject, AreObjects}
-use Rattle.im_image.specs.Text.{words_text, run_text, object_text, image_text, magic}
+use Rattle.im_image.specs.Contents.{ImageValue, ObjectValue, AreObjects}
+use Rattle.im_image.specs.Text.{words_text, run_text, object_text, image_text, header_words, form_words, version_number, magic}
+use Rattle.im_image.proofs.Taken.{header_parts}
 use Rattle.im_image.proofs.Again.{runs_fit}
 
 three : (a b c d h n r : List ℕ) → b ≡ a ++ h → c ≡ b ++ n → d ≡ c ++ r → d ≡ a ++ (h ++ (n ++ r))
@@ -26,9 +27,16 @@ object_fits statics least (first ∷ objects) zero object few are lt at =
     record { name = rw (← e) are.0.name_length; runs = rw (← e) (runs_fit statics least first few are.0) }
 object_fits statics least (first ∷ objects) (suc i) object few are lt at = object_fits statics (first.at + first.size + 1) objects i object few are.1 (omega arith) at
 
-pub image_put : (image : ImageValue) (a b c d e : List ℕ) (header : List ℕ) → header ≡ magic ∷ 1 ∷ length image.words ∷ length image.statics ∷ image.stack ∷ image.out_cap ∷ image.entry ∷ length image.objects ∷ []
-    → a ≡ [] → b ≡ a ++ words_text header → c ≡ b ++ words_text image.words → d ≡ c ++ image.statics → e ≡ d ++ flat_map object_text image.objects → e ≡ image_text image
+-- the header is written in two parts
+pub header_put : (image : ImageValue) (a b c : List ℕ) (header : List ℕ) → header ≡ magic ∷ version_number image.version ∷ length image.words ∷ length image.statics ∷ image.stack ∷ image.out_cap ∷ image.entry ∷ length image.objects ∷ []
+    → a ≡ [] → b ≡ a ++ words_text header → c ≡ b ++ words_text (form_words image.version image.form) → c ≡ words_text (header_words image)
+header_put image a b c header same empty p q =
+    let formed = words_text (form_words image.version image.form) in
+    q ∙ ap (λ (x : List ℕ). x ++ formed) (p ∙ ap (λ (x : List ℕ). x ++ words_text header) empty ∙ ap words_text same)
+    ∙ header_parts image.version image.form (length image.words) (length image.statics) image.stack image.out_cap image.entry (length image.objects)
+
+pub image_put : (image : ImageValue) (b c d e : List ℕ) → b ≡ words_text (header_words image) → c ≡ b ++ words_text image.words → d ≡ c ++ image.statics → e ≡ d ++ flat_map object_text image.objects → e ≡ image_text image
 unfolding image_text
-image_put image a b c d e header same empty p q r s =
-    let all : e ≡ b ++ (words_text image.words ++ (image.statics ++ flat_map object_text image.objects)) = three b c d e (words_text image.words) image.statics (flat_map object_text image.objects) q r s in
-    all ∙ ap (λ (x : List ℕ). x ++ (words_text image.words ++ (image.statics ++ flat_map object_text image.objects))) (p ∙ ap (λ (x : List ℕ). x ++ words_text header) empty ∙ ap words_text same)
+image_put image b c d e p q r s =
+    three b c d e (words_text image.words) image.statics (flat_map object_text image.objects) q r s
+    ∙ ap (λ (x : List ℕ). x ++ (words_text image.words ++ (image.statics ++ flat_map object_text image.objects))) p

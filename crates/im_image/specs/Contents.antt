@@ -1,10 +1,15 @@
 -- What an image holds, apart from where it lies in memory, and the rules that it meets.
-use Rattle.std.specs.Prelude.{◌≡◌, ℕ, ◌+◌, ◌*◌, ◌%◌, ◌^◌, ◌<◌, ◌==◌, ◌&&◌, ◌||◌, nat_le, not, Bool, false, IsTrue, List, [], ◌∷◌, length, slice_index, Option, Some, None}
+use Rattle.std.specs.Prelude.{ℕ, ◌+◌, ◌*◌, ◌/◌, ◌%◌, ◌^◌, ◌<◌, ◌==◌, ◌&&◌, ◌||◌, nat_le, not, Bool, true, false, IsTrue, List, [], ◌∷◌, length, slice_index, Option, Some, None}
 use Rattle.std.specs.List.{list_all}
 use Rattle.im_num.specs.declared.kind.Kind.{Kind}
 use Rattle.im_num.specs.declared.kind.Kind.TheVariants.{I8, U8, I16, U16, I32, U32, Ptr}
 use Rattle.im_num.specs.Kinds.{kind_size}
+use Rattle.im_mem.specs.Map.{code_start, code_capacity, statics_start, statics_capacity, stack_capacity, output_capacity}
 use Rattle.im_image.specs.declared.object.CellRun.{CellRun}
+use Rattle.im_image.specs.declared.version.Version.{Version}
+use Rattle.im_image.specs.declared.version.Version.TheVariants.{One, Two}
+use Rattle.im_image.specs.declared.form.Form.{Form}
+use Rattle.im_image.specs.declared.form.Form.TheVariants.{OneLength, TwoLengths}
 
 -- an object's first address, its size in bytes, its name, and its cells by offset
 pub record ObjectValue : Type 0 where
@@ -13,8 +18,11 @@ pub record ObjectValue : Type 0 where
   pub name : List ℕ
   pub runs : List CellRun
 
--- the code words, the bytes of the statics, bytes of stack, bytes of output, the entry's address, the named objects
+-- the version of its text, the form of the output's length, the code words, the bytes of the statics, bytes of stack, bytes of
+-- output, the entry's address, the named objects
 pub record ImageValue : Type 0 where
+  pub version : Version
+  pub form : Form
   pub words : List ℕ
   pub statics : List ℕ
   pub stack : ℕ
@@ -22,27 +30,29 @@ pub record ImageValue : Type 0 where
   pub entry : ℕ
   pub objects : List ObjectValue
 
--- the statics' first address
-abbrev pub statics_start : ℕ
-statics_start = 1048576
-
 -- ---- the rules of the header's fields
 
 abbrev pub is_word_count : ℕ → Bool
-is_word_count words = nat_le 1 words && nat_le words 261120
+is_word_count words = nat_le 1 words && nat_le words (code_capacity / 4)
 
 abbrev pub is_statics_size : ℕ → Bool
-is_statics_size statics = nat_le statics 1048576 && statics % 4 == 0
+is_statics_size statics = nat_le statics statics_capacity && statics % 4 == 0
 
 abbrev pub is_stack_size : ℕ → Bool
-is_stack_size stack = nat_le 256 stack && nat_le stack 1048576
+is_stack_size stack = nat_le 256 stack && nat_le stack stack_capacity
 
 abbrev pub is_output_capacity : ℕ → Bool
-is_output_capacity out_cap = nat_le out_cap 1048576
+is_output_capacity out_cap = nat_le out_cap output_capacity
 
 -- a multiple of 4 among the addresses of the code words
 abbrev pub is_entry : ℕ → ℕ → Bool
-is_entry words entry = entry % 4 == 0 && nat_le 4096 entry && nat_le (entry + 1) (4096 + 4 * words)
+is_entry words entry = entry % 4 == 0 && nat_le code_start entry && nat_le (entry + 1) (code_start + 4 * words)
+
+-- version 1 has no word for the form, which is 0
+abbrev pub is_form : Version → Form → Bool
+is_form One OneLength = true
+is_form One TwoLengths = false
+is_form Two form = true
 
 abbrev pub is_object_count : ℕ → ℕ → Bool
 is_object_count statics objects = nat_le objects statics
@@ -108,6 +118,7 @@ AreObjects statics least (object ∷ objects) = IsObject statics least object ×
 -- ---- an image
 
 pub record IsImage (image : ImageValue) : Type 0 where
+  pub form : IsTrue (is_form image.version image.form)
   pub word_count : IsTrue (is_word_count (length image.words))
   pub words : (k : ℕ) → slice_index image.words k < 2 ^ 32
   pub statics_size : IsTrue (is_statics_size (length image.statics))

@@ -1,3 +1,6 @@
 pub mod Contents
 pub mod Text
 pub mod Faults
+pub mod Upgrade
+pub mod Header
+pub mod Laws

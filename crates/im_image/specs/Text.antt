@@ -1,8 +1,12 @@
--- The text of an image, version 1, as a function of the image.
+-- The text of an image, as a function of the image.
 use Rattle.std.specs.Prelude.{ℕ, List, [], ◌∷◌, ◌++◌, length}
 use Rattle.std.specs.List.{flat_map}
 use Rattle.im_num.specs.Bytes.{word_bytes}
 use Rattle.im_image.specs.declared.object.CellRun.{CellRun}
+use Rattle.im_image.specs.declared.version.Version.{Version}
+use Rattle.im_image.specs.declared.version.Version.TheVariants.{One, Two}
+use Rattle.im_image.specs.declared.form.Form.{Form}
+use Rattle.im_image.specs.declared.form.Form.TheVariants.{OneLength, TwoLengths}
 use Rattle.im_image.specs.Contents.{ImageValue, ObjectValue, kind_code}
 
 -- words, each as four bytes, the lowest first
@@ -21,10 +25,31 @@ object_text object =
 abbrev pub magic : ℕ
 magic = 0x56524D49
 
--- the magic, the version, the number of code words, bytes of statics, stack, output capacity, entry, number of objects
+abbrev pub version_number : Version → ℕ
+version_number One = 1
+version_number Two = 2
+
+abbrev pub form_number : Form → ℕ
+form_number OneLength = 0
+form_number TwoLengths = 1
+
+-- version 2 has a word for the form
+abbrev pub form_words : Version → Form → List ℕ
+form_words One form = []
+form_words Two form = form_number form ∷ []
+
+-- the magic, the version, the number of code words, bytes of statics, stack, output capacity, entry, number of objects, form
 abbrev pub header_words : ImageValue → List ℕ
 header_words image =
-    magic ∷ 1 ∷ length image.words ∷ length image.statics ∷ image.stack ∷ image.out_cap ∷ image.entry ∷ length image.objects ∷ []
+    magic
+    ∷ version_number image.version
+    ∷ length image.words
+    ∷ length image.statics
+    ∷ image.stack
+    ∷ image.out_cap
+    ∷ image.entry
+    ∷ length image.objects
+    ∷ form_words image.version image.form
 
 -- the header, the code words, the statics, the objects
 unfoldable pub image_text : ImageValue → List ℕ

@@ -1,6 +1,7 @@
 ghost use Rattle.std.specs.Prelude.{◌≡◌};
 ghost use Rattle.im_image.specs.declared.fault.ImageFault.TheVariants.{OutOfMemory};
 
+use im_num::NoMemory;
 use std::alloc::{AllocError, AllocFailed};
 use thiserror::Error;
 
@@ -12,10 +13,10 @@ pub enum ImageFault {
     ShortImage(u64),
     #[error("bad magic")]
     BadMagic,
-    /// A version other than 1.
+    /// A version other than 1 and 2.
     #[error("bad version {0}")]
     BadVersion(u32),
-    /// The number of the first field whose rule the bytes break, from 3 to 9.
+    /// The number of the first field whose rule the bytes break, from 3 to 10.
     #[error("bad field {0}")]
     BadField(u32),
     /// The place of the first byte behind the last object.
@@ -23,6 +24,14 @@ pub enum ImageFault {
     Trailing(u64),
     #[error("no memory")]
     OutOfMemory,
+}
+
+impl From<NoMemory> for ImageFault {
+    ghost from_gives = { λ _ e. e ≡ OutOfMemory };
+
+    fn from(_fault: NoMemory) -> ImageFault {
+        ImageFault::OutOfMemory
+    }
 }
 
 impl From<AllocError> for ImageFault {

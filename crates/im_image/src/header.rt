@@ -1,21 +1,21 @@
-//! The header: eight words.
-
 ghost use Rattle.std.specs.Prelude.{◌≡◌, ◌≤◌, ◌+◌, ◌*◌, length, None, true, false, IfOk, OnOk, OnErr, IfErr};
-ghost use Rattle.im_image.specs.Faults.{header_at, header_requirements, objects_place, first_unmet, IsFaultOf};
+ghost use Rattle.im_image.specs.Header.{header_at};
+ghost use Rattle.im_image.specs.Faults as faults;
+ghost use Rattle.im_image.specs.Faults.{form_at, header_size, header_requirements, form_requirements, first_unmet, version_of, form_of, IsFaultOf};
 
 use crate::fault::ImageFault;
+use crate::form::Form;
 use crate::rules;
-use crate::words::{short, word_at};
+use crate::version::Version;
+use crate::words::word_at;
 
 /// The bytes "IMRV" as a word.
 pub const MAGIC: u32 = 0x5652_4d49;
 
-/// The one version there is.
-pub const VERSION: u32 = 1;
-
-/// What the header says from its third word on.
+/// What the eight words that both versions have say, from the second on.
 #[derive(Clone, Copy)]
 pub struct Header {
+    pub version: Version,
     /// How many code words.
     pub words: u32,
     /// Bytes of statics.
@@ -31,18 +31,38 @@ pub struct Header {
 }
 
 impl Header {
+    /// The place of the first code word.
+    pub fn words_place(&self) -> usize
+        ensures { result ≡ header_size self.now.version }
+    {
+        match self.version {
+            Version::One => 32,
+            Version::Two => 36,
+        }
+    }
+
     /// The place of the first byte of the statics.
     pub fn statics_place(&self) -> usize
-        ensures { result ≡ 32 + 4 * self.now.words }
+        ensures { result ≡ header_size self.now.version + 4 * self.now.words }
     {
-        32 + 4 * self.words as usize
+        self.words_place() + 4 * self.words as usize
     }
 
     /// The place of the first object.
     pub fn objects_place(&self) -> usize
-        ensures { result ≡ 32 + 4 * self.now.words + self.now.statics }
+        ensures { result ≡ header_size self.now.version + 4 * self.now.words + self.now.statics }
     {
         self.statics_place() + self.statics as usize
+    }
+
+    /// The number of the field that the objects are.
+    pub fn objects_field(&self) -> u32
+        ensures { result ≡ faults.objects_field self.now.version }
+    {
+        match self.version {
+            Version::One => 9,
+            Version::Two => 10,
+        }
     }
 }
 
@@ -55,11 +75,39 @@ fn check(holds: bool, fault: ImageFault) -> Result<(), ImageFault>
     if holds { Ok(()) } else { Err(fault) }
 }
 
-/// The header of a text that has the code words and the statics too.
+fn is_version(word: u32) -> bool
+    ensures { result ≡ faults.is_version word }
+{
+    word == 1 || word == 2
+}
+
+/// The version of a word that is one's.
+fn to_version(word: u32) -> Version
+    ensures { result ≡ version_of word }
+{
+    if word == 1 {
+        Version::One
+    } else {
+        Version::Two
+    }
+}
+
+/// The form of a word that is one's.
+fn to_form(word: u32) -> Form
+    ensures { result ≡ form_of word }
+{
+    if word == 0 {
+        Form::OneLength
+    } else {
+        Form::TwoLengths
+    }
+}
+
+/// The eight words that both versions have.
 #[tactic(auto, unfolding(crate::specs::Faults::header_requirements))]
 pub fn read_header(bytes: &[u8]) -> Result<Header, ImageFault>
     ensures header { IfOk result (λ header. header ≡ header_at bytes.now) }
-    ensures there { OnOk result (objects_place bytes.now ≤ length bytes.now) }
+    ensures there { OnOk result (32 ≤ length bytes.now) }
     ensures right { OnOk result (first_unmet (length bytes.now) (header_requirements bytes.now) ≡ None) }
     ensures wrong { IfErr result
         (λ fault. IsFaultOf fault (first_unmet (length bytes.now) (header_requirements bytes.now))) }
@@ -67,7 +115,7 @@ pub fn read_header(bytes: &[u8]) -> Result<Header, ImageFault>
     let magic = word_at(bytes, 0)?;
     check(magic == MAGIC, ImageFault::BadMagic)?;
     let version = word_at(bytes, 4)?;
-    check(version == VERSION, ImageFault::BadVersion(version))?;
+    check(is_version(version), ImageFault::BadVersion(version))?;
     let words = word_at(bytes, 8)?;
     check(rules::is_word_count(words), ImageFault::BadField(3))?;
     let statics = word_at(bytes, 12)?;
@@ -80,16 +128,33 @@ pub fn read_header(bytes: &[u8]) -> Result<Header, ImageFault>
     check(rules::is_entry(words, entry), ImageFault::BadField(7))?;
     let objects = word_at(bytes, 28)?;
     check(objects <= statics, ImageFault::BadField(8))?;
-    let header = Header {
+    Ok(Header {
+        version: to_version(version),
         words,
         statics,
         stack,
         out_cap,
         entry,
         objects,
-    };
-    if bytes.len() < header.objects_place() {
-        return Err(short(bytes));
+    })
+}
+
+/// The form of a text of this version.
+#[tactic(auto, unfolding(crate::specs::Faults::form_requirements))]
+pub fn read_form(bytes: &[u8], version: Version) -> Result<Form, ImageFault>
+    requires { 32 ≤ length bytes.now }
+    ensures form { IfOk result (λ form. form ≡ form_at version bytes.now) }
+    ensures there { OnOk result (header_size version ≤ length bytes.now) }
+    ensures right { OnOk result (first_unmet (length bytes.now) (form_requirements version bytes.now) ≡ None) }
+    ensures wrong { IfErr result
+        (λ fault. IsFaultOf fault (first_unmet (length bytes.now) (form_requirements version bytes.now))) }
+{
+    match version {
+        Version::One => Ok(Form::OneLength),
+        Version::Two => {
+            let form = word_at(bytes, 32)?;
+            check(form <= 1, ImageFault::BadField(9))?;
+            Ok(to_form(form))
+        }
     }
-    Ok(header)
 }

@@ -1,9 +1,15 @@
+use crate::form::Form;
 use crate::object::Object;
+use crate::version::Version;
 use std::marker::Model;
 
 /// What a device is loaded with. Each value meets the rules of the image's text.
 #[derive(Debug, Drop)]
 pub struct Image {
+    /// The version of its text.
+    pub version: Version,
+    /// How memory tells the length of the output.
+    pub form: Form,
     /// The code, from address 0x1000 on.
     pub words: Vec<u32>,
     /// The first bytes of the statics, from address 0x100000 on.
@@ -24,6 +30,8 @@ impl Model for Image {
     ghost Value = { ImageValue };
 
     ghost view = { λ a. record {
+      version = a.version;
+      form = a.form;
       words = a.words.items;
       statics = a.statics.items;
       stack = a.stack;
@@ -33,6 +41,8 @@ impl Model for Image {
     } };
 
     ghost invariant = { λ a. IsImage (record {
+      version = a.version;
+      form = a.form;
       words = a.words.items;
       statics = a.statics.items;
       stack = a.stack;

@@ -1,13 +1,14 @@
 ghost use Rattle.std.specs.Prelude.{◌≡◌, ◌+◌, ◌<◌, ◌≤◌, length, None, IfOk, OnOk, IfErr};
 ghost use Rattle.im_image.specs.declared.fault.ImageFault.TheVariants.{ShortImage};
-ghost use Rattle.im_image.specs.Contents.{statics_start};
-ghost use Rattle.im_image.specs.Faults.{object_at, objects_at, record_end, object_requirements, objects_requirements, first_unmet, IsFaultOf, word_at as word_of};
+ghost use Rattle.im_mem.specs.Map.{statics_start};
+ghost use Rattle.im_image.specs.Faults.{object_at, objects_at, record_end, object_requirements, objects_requirements, first_unmet, objects_field, version_at, IsFaultOf, word_at as word_of};
 
 use crate::fault::ImageFault;
 use crate::object::Object;
-use crate::rules::{STATICS_START, is_name, is_object_place};
+use crate::rules::{is_name, is_object_place};
 use crate::runs::read_runs;
 use crate::words::{short, word_at};
+use im_mem::STATICS_START;
 use std::alloc::Global;
 
 /// The four words of an object.
@@ -47,16 +48,18 @@ fn read_head(bytes: &[u8], place: usize) -> Result<ObjectHead, ImageFault>
     })
 }
 
-/// The object at a place, from the address `least` on.
+/// The object at a place, from the address `least` on. The objects are the field of this number.
 #[tactic(auto, unfolding(crate::specs::Faults::object_requirements, crate::specs::Faults::object_at))]
 fn read_object(
     alloc: Global,
     bytes: &[u8],
+    field: u32,
     statics: u32,
     least: u64,
     place: usize,
 ) -> Result<Object, ImageFault>
-    requires { place ≤ length bytes.now }
+    requires field { field ≡ objects_field (version_at bytes.now) }
+    requires there { place ≤ length bytes.now }
     ensures there { OnOk result (record_end bytes.now place ≤ length bytes.now) }
     ensures object { IfOk result (λ object. object ≡ object_at bytes.now place) }
     ensures right { OnOk result (first_unmet (length bytes.now) (object_requirements bytes.now statics least place) ≡ None) }
@@ -65,7 +68,7 @@ fn read_object(
 {
     let head = read_head(bytes, place)?;
     if !is_object_place(statics, least, &head) {
-        return Err(ImageFault::BadField(9));
+        return Err(ImageFault::BadField(field));
     }
     let name_place = place + 16;
     if bytes.len() - name_place < head.name as usize {
@@ -74,9 +77,11 @@ fn read_object(
     let runs_place = name_place + head.name as usize;
     let name = &bytes[name_place..runs_place];
     if !is_name(name) {
-        return Err(ImageFault::BadField(9));
+        return Err(ImageFault::BadField(field));
     }
-    let runs = read_runs(alloc, bytes, head.at, head.size, head.runs, runs_place)?;
+    let runs = read_runs(
+        alloc, bytes, field, head.at, head.size, head.runs, runs_place,
+    )?;
     Ok(Object {
         at: head.at,
         size: head.size,
@@ -89,11 +94,13 @@ fn read_object(
 pub fn read_objects(
     alloc: Global,
     bytes: &[u8],
+    field: u32,
     statics: u32,
     count: u32,
     place: usize,
 ) -> Result<Vec<Object>, ImageFault>
-    requires { place ≤ length bytes.now }
+    requires field { field ≡ objects_field (version_at bytes.now) }
+    requires there { place ≤ length bytes.now }
     ensures objects { IfOk result (λ objects. objects.items ≡ objects_at bytes.now count place) }
     ensures right { OnOk result
         (first_unmet (length bytes.now) (objects_requirements bytes.now statics count statics_start place) ≡ None) }
@@ -101,10 +108,10 @@ pub fn read_objects(
         (first_unmet (length bytes.now) (objects_requirements bytes.now statics count statics_start place))) }
 {
     let mut objects = Vec::new(alloc);
-    let mut least = STATICS_START;
+    let mut least = u64::from(STATICS_START);
     let mut next = place;
     for _ in 0..count {
-        let object = read_object(alloc, bytes, statics, least, next)?;
+        let object = read_object(alloc, bytes, field, statics, least, next)?;
         least = u64::from(object.at) + u64::from(object.size) + 1;
         next += 16 + object.name.len() + 12 * object.runs.len();
         objects.push(object)?;

@@ -1,15 +1,34 @@
-ghost use Rattle.std.specs.Prelude.{◌≡◌, IfOk, OnOk, IfErr, Ok, Err, Some, None};
+ghost use Rattle.std.specs.Prelude.{◌≡◌, ◌≤◌, IfOk, OnOk, IfErr, Ok, Err, Some, None, length};
 ghost use Rattle.im_image.specs.declared.fault.ImageFault.{ImageFault};
 ghost use Rattle.im_image.specs.Contents.{ImageValue, IsImage};
 ghost use Rattle.im_image.specs.Text.{image_text};
-ghost use Rattle.im_image.specs.Faults.{fault_of, image_at, IsFaultOf, IsAnswer};
+ghost use Rattle.im_image.specs.Header.{header_at};
+ghost use Rattle.im_image.specs.Faults.{fault_of, form_at, front_requirements, first_unmet, image_at, objects_place, version_at, IsFaultOf, IsAnswer};
 
 use crate::fault::ImageFault;
-use crate::header::read_header;
+use crate::form::Form;
+use crate::header::{Header, read_form, read_header};
 use crate::image::Image;
 use crate::objects::read_objects;
-use crate::words::read_words;
+use crate::words::{read_words, short};
 use std::alloc::Global;
+
+/// The header and the form of a text that has the code words and the statics too.
+fn read_front(bytes: &[u8]) -> Result<(Header, Form), ImageFault>
+    ensures header { IfOk result (λ front. front.0 ≡ header_at bytes.now) }
+    ensures form { IfOk result (λ front. front.1 ≡ form_at (version_at bytes.now) bytes.now) }
+    ensures there { OnOk result (objects_place bytes.now ≤ length bytes.now) }
+    ensures right { OnOk result (first_unmet (length bytes.now) (front_requirements bytes.now) ≡ None) }
+    ensures wrong { IfErr result
+        (λ fault. IsFaultOf fault (first_unmet (length bytes.now) (front_requirements bytes.now))) }
+{
+    let header = read_header(bytes)?;
+    let form = read_form(bytes, header.version)?;
+    if bytes.len() < header.objects_place() {
+        return Err(short(bytes));
+    }
+    Ok((header, form))
+}
 
 /// What the fields say, each at its place, or the first fault.
 fn read_fields(alloc: Global, bytes: &[u8]) -> Result<Image, ImageFault>
@@ -17,13 +36,23 @@ fn read_fields(alloc: Global, bytes: &[u8]) -> Result<Image, ImageFault>
     ensures right { OnOk result (fault_of bytes.now ≡ None) }
     ensures wrong { IfErr result (λ fault. IsFaultOf fault (fault_of bytes.now)) }
 {
-    let header = read_header(bytes)?;
+    let (header, form) = read_front(bytes)?;
     let statics_place = header.statics_place();
     let objects_place = header.objects_place();
-    let words = read_words(alloc, bytes, header.words, 32)?;
-    let objects = read_objects(alloc, bytes, header.statics, header.objects, objects_place)?;
+    let field = header.objects_field();
+    let words = read_words(alloc, bytes, header.words, header.words_place())?;
+    let objects = read_objects(
+        alloc,
+        bytes,
+        field,
+        header.statics,
+        header.objects,
+        objects_place,
+    )?;
     let statics = Vec::from_slice(alloc, &bytes[statics_place..objects_place])?;
     Ok(Image {
+        version: header.version,
+        form,
         words,
         statics,
         stack: header.stack,
@@ -48,10 +77,3 @@ pub fn read_image(alloc: Global, bytes: &[u8]) -> Result<Image, ImageFault>
 {
     read_fields(alloc, bytes)
 }
-
-/// A text is that of one image, and has a fault exactly where it is none's.
-pub fn one_image()
-    ensures one { (one other : ImageValue) → IsImage one → IsImage other →
-        image_text one ≡ image_text other → one ≡ other }
-    ensures no_fault { (image : ImageValue) → IsImage image → fault_of (image_text image) ≡ None }
-{}

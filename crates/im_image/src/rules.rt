@@ -8,40 +8,42 @@ ghost use Rattle.std.specs.List.{list_all};
 
 use crate::object::CellRun;
 use crate::objects::ObjectHead;
+use im_mem::{
+    CODE_CAPACITY, CODE_START, OUTPUT_CAPACITY, STACK_CAPACITY, STATICS_CAPACITY, STATICS_START,
+};
 use im_num::Kind;
-
-/// The first address of the statics.
-pub const STATICS_START: u64 = 0x10_0000;
 
 pub fn is_word_count(words: u32) -> bool
     ensures { result ≡ rules.is_word_count words }
 {
-    1 <= words && words <= 261_120
+    1 <= words && words <= CODE_CAPACITY / 4
 }
 
 pub fn is_statics_size(statics: u32) -> bool
     ensures { result ≡ rules.is_statics_size statics }
 {
-    statics <= 0x10_0000 && statics % 4 == 0
+    statics <= STATICS_CAPACITY && statics % 4 == 0
 }
 
 pub fn is_stack_size(stack: u32) -> bool
     ensures { result ≡ rules.is_stack_size stack }
 {
-    256 <= stack && stack <= 0x10_0000
+    256 <= stack && stack <= STACK_CAPACITY
 }
 
 pub fn is_output_capacity(out_cap: u32) -> bool
     ensures { result ≡ rules.is_output_capacity out_cap }
 {
-    out_cap <= 0x10_0000
+    out_cap <= OUTPUT_CAPACITY
 }
 
 /// A multiple of 4 among the addresses of the code words.
 pub fn is_entry(words: u32, entry: u32) -> bool
     ensures { result ≡ rules.is_entry words entry }
 {
-    entry % 4 == 0 && 0x1000 <= entry && u64::from(entry) + 1 <= 0x1000 + 4 * u64::from(words)
+    entry % 4 == 0
+        && CODE_START <= entry
+        && u64::from(entry) + 1 <= u64::from(CODE_START) + 4 * u64::from(words)
 }
 
 pub fn is_name_byte(byte: u8) -> bool
@@ -145,7 +147,8 @@ pub fn is_object_place(statics: u32, least: u64, head: &ObjectHead) -> bool
 {
     1 <= head.size
         && least <= u64::from(head.at)
-        && u64::from(head.at) + u64::from(head.size) <= STATICS_START + u64::from(statics)
+        && u64::from(head.at) + u64::from(head.size)
+            <= u64::from(STATICS_START) + u64::from(statics)
         && 1 <= head.name
         && 1 <= head.runs
 }

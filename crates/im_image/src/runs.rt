@@ -1,5 +1,5 @@
 ghost use Rattle.std.specs.Prelude.{◌≡◌, ◌+◌, ◌*◌, ◌<◌, ◌≤◌, length, None, IfOk, OnOk, IfErr, Option};
-ghost use Rattle.im_image.specs.Faults.{runs_at, run_at, run_requirements, first_unmet, IsFaultOf, word_at as word_of};
+ghost use Rattle.im_image.specs.Faults.{runs_at, run_at, run_requirements, first_unmet, objects_field, version_at, IsFaultOf, word_at as word_of};
 
 use crate::fault::ImageFault;
 use crate::object::CellRun;
@@ -7,16 +7,19 @@ use crate::rules::{is_run, kind_of_code};
 use crate::words::{short, word_at};
 use std::alloc::Global;
 
-/// The run at a place, of an object at this address, of this size.
+/// The run at a place, of an object at this address, of this size. The objects are the field of
+/// this number.
 #[tactic(auto, unfolding(crate::specs::Faults::run_requirements))]
 fn read_run(
     bytes: &[u8],
+    field: u32,
     at: u32,
     size: u32,
     before: Option<CellRun>,
     place: usize,
 ) -> Result<CellRun, ImageFault>
-    requires { place ≤ length bytes.now }
+    requires field { field ≡ objects_field (version_at bytes.now) }
+    requires there { place ≤ length bytes.now }
     ensures there { IfOk result (λ _. place + 12 ≤ length bytes.now) }
     ensures run { IfOk result (λ run. run ≡ run_at bytes.now place) }
     ensures right { OnOk result (first_unmet (length bytes.now) (run_requirements bytes.now at size 1 before place) ≡ None) }
@@ -35,7 +38,7 @@ fn read_run(
         count,
     };
     if code > 6 || !is_run(at, size, before, &run) {
-        return Err(ImageFault::BadField(9));
+        return Err(ImageFault::BadField(field));
     }
     Ok(run)
 }
@@ -44,12 +47,14 @@ fn read_run(
 pub fn read_runs(
     alloc: Global,
     bytes: &[u8],
+    field: u32,
     at: u32,
     size: u32,
     count: u32,
     place: usize,
 ) -> Result<Vec<CellRun>, ImageFault>
-    requires { place ≤ length bytes.now }
+    requires field { field ≡ objects_field (version_at bytes.now) }
+    requires there { place ≤ length bytes.now }
     ensures there { IfOk result (λ _. place + 12 * count ≤ length bytes.now) }
     ensures runs { IfOk result (λ runs. runs.items ≡ runs_at bytes.now count place) }
     ensures right { OnOk result (first_unmet (length bytes.now) (run_requirements bytes.now at size count None place) ≡ None) }
@@ -60,7 +65,7 @@ pub fn read_runs(
     let mut before = None;
     let mut next = place;
     for _ in 0..count {
-        let run = read_run(bytes, at, size, before, next)?;
+        let run = read_run(bytes, field, at, size, before, next)?;
         runs.push(run)?;
         before = Some(run);
         next += 12;

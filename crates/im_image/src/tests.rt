@@ -14,6 +14,12 @@ const THREE_WORDS: [u8; 44] = [
     0, 0, 0, 0, 0, 0x03, 0x22, 0, 0, 0x13, 0x42, 0x12, 0, 0x23, 0x20, 0x40, 0,
 ];
 
+/// One code word, EBREAK, as version 2 with form 0.
+const ONE_WORD_2: [u8; 40] = [
+    0x49, 0x4d, 0x52, 0x56, 2, 0, 0, 0, 1, 0, 0, 0, 0, 0, 0, 0, 0, 1, 0, 0, 0, 0, 0, 0, 0, 0x10, 0,
+    0, 0, 0, 0, 0, 0, 0, 0, 0, 0x73, 0, 0x10, 0,
+];
+
 /// Whether bytes are refused with this line.
 fn is_refused(rt: &HostRuntime, bytes: &[u8], line: &str) -> bool {
     match read_image(rt.alloc(), bytes) {
@@ -84,6 +90,46 @@ fn refusals(rt: HostRuntime) -> Result<(), Fail> {
 }
 
 #[test]
+fn version_2(rt: HostRuntime) -> Result<(), Fail> {
+    let text = upgrade(rt.alloc(), &ONE_WORD)?;
+    assert_eq!(rt; text.as_slice(), ONE_WORD_2.as_slice());
+    let again = upgrade(rt.alloc(), &text)?;
+    assert_eq!(rt; again.as_slice(), ONE_WORD_2.as_slice());
+    for k in 0..40usize {
+        let line = format!(in rt.alloc(); "short image at {k}")?;
+        assert!(rt; is_refused(&rt, &ONE_WORD_2[..k], line.as_str()));
+    }
+    for (word, form) in [
+        (0, Some(Form::OneLength)),
+        (1, Some(Form::TwoLengths)),
+        (2, None),
+    ] {
+        let mut bytes = ONE_WORD_2;
+        bytes[32] = word;
+        match read_image(rt.alloc(), &bytes) {
+            Ok(image) => assert!(rt; image.version == Version::Two && Some(image.form) == form),
+            Err(_) => assert!(rt; form.is_none() && is_refused(&rt, &bytes, "bad field 9")),
+        }
+    }
+    let mut longer = Vec::from_slice(rt.alloc(), &ONE_WORD_2)?;
+    longer.push(0)?;
+    assert!(rt; is_refused(&rt, &longer, "trailing bytes at 40"));
+    // An object without bytes, at the statics' start: field 9 of version 1, field 10 of version 2.
+    let object: [u8; 20] = [
+        0, 0, 0, 0, 0, 0, 0x10, 0, 0, 0, 0, 0, 1, 0, 0, 0, 1, 0, 0, 0,
+    ];
+    let rows: [(&[u8], &str); 2] = [(&ONE_WORD, "bad field 9"), (&ONE_WORD_2, "bad field 10")];
+    for (image, line) in rows {
+        let mut bytes = Vec::from_slice(rt.alloc(), image)?;
+        bytes[12] = 4;
+        bytes[28] = 1;
+        bytes.extend_from_slice(&object)?;
+        assert!(rt; is_refused(&rt, &bytes, line), "{line}");
+    }
+    Ok(())
+}
+
+#[test]
 fn every_kind(rt: HostRuntime) -> Result<(), Fail> {
     let mut bytes = Vec::from_slice(rt.alloc(), &ONE_WORD)?;
     bytes[12] = 20;
@@ -122,6 +168,5 @@ fn every_kind(rt: HostRuntime) -> Result<(), Fail> {
     assert_eq!(rt; image.objects.len(), 1);
     let text = write_image(rt.alloc(), &image)?;
     assert_eq!(rt; text.as_slice(), bytes.as_slice());
-    one_image();
     Ok(())
 }

@@ -1,12 +1,14 @@
 ghost use Rattle.std.specs.Prelude.{◌≡◌, ◌<◌, ◌^◌, ◌++◌, length, IfOk, OnOk};
 ghost use Rattle.std.specs.List.{flat_map};
 ghost use Rattle.im_num.specs.Bytes.{word_bytes};
-ghost use Rattle.im_image.specs.Text.{words_text, run_text, object_text, image_text};
+ghost use Rattle.im_image.specs.Text.{words_text, run_text, object_text, image_text, form_words};
 
-use crate::header::{MAGIC, VERSION};
+use crate::form::Form;
+use crate::header::MAGIC;
 use crate::image::Image;
 use crate::object::{CellRun, Object};
 use crate::rules::kind_code;
+use crate::version::Version;
 use im_num::NoMemory;
 use std::alloc::{AllocError, Global};
 
@@ -47,14 +49,24 @@ fn put_object(text: &mut Vec<u8>, object: &Object) -> Result<(), AllocError>
     Ok(())
 }
 
-/// The text of an image, version 1.
+// Version 2 has a word for the form.
+fn put_form(text: &mut Vec<u8>, version: Version, form: Form) -> Result<(), AllocError>
+    ensures { OnOk result (text.new.items ≡ text.old.items ++ words_text (form_words version form)) }
+{
+    match version {
+        Version::One => Ok(()),
+        Version::Two => put_words(text, &[form.number()]),
+    }
+}
+
+/// The text of an image, of its version.
 pub fn write_image(alloc: Global, image: &Image) -> Result<Vec<u8>, NoMemory>
     ensures { IfOk result (λ text. text.items ≡ image_text image.now) }
 {
     let mut text = Vec::new(alloc);
     let header = [
         MAGIC,
-        VERSION,
+        image.version.number(),
         image.words.len() as u32,
         image.statics.len() as u32,
         image.stack,
@@ -63,6 +75,7 @@ pub fn write_image(alloc: Global, image: &Image) -> Result<Vec<u8>, NoMemory>
         image.objects.len() as u32,
     ];
     put_words(&mut text, &header)?;
+    put_form(&mut text, image.version, image.form)?;
     put_words(&mut text, &image.words)?;
     text.extend_from_slice(&image.statics)?;
     for object in &image.objects {

@@ -1,4 +1,5 @@
-ghost use Rattle.std.specs.Prelude.{◌≡◌, None};
+ghost use Rattle.std.specs.Prelude.{◌≡◌};
+ghost use Rattle.im_rv.specs.Lines.{code_line, line_of, plain_line};
 
 use crate::instr::Instr;
 use im_num::Cause;
@@ -48,7 +49,7 @@ pub struct Cut {
 
 /// A line with nothing but its instruction.
 pub fn plain(instr: Instr) -> Line
-    ensures { result ≡ record { label = None; instr = instr; target = None; access = None; cause = None } }
+    ensures { code_line result ≡ plain_line (line_of instr) }
 {
     Line {
         label: None,

@@ -1,6 +1,7 @@
-use Rattle.std.proofs.Common.{◌≡◌, ◌++◌, take}
-use Rattle.im_ckpt.specs.Recovery.{load_words}
+use Rattle.std.proofs.Common.{◌≡◌, ◌++◌, take, map}
+use Rattle.im_rv.specs.Lines.{code_lines, plain_line}
+use Rattle.im_ckpt.specs.Recovery.{load_lines}
 use Rattle.im_ckpt.proofs.recovery.push_loads.Given as goal
 
-abbrev pub invariant-loop-rd : goal.invariant-loop-rd
-invariant-loop-rd l = l.words.items ≡ l.fn.words.items ++ load_words l.base (take l.rd-index l.registers)
+abbrev pub invariant-loop-register : goal.invariant-loop-register
+invariant-loop-register l = code_lines l.lines.items ≡ code_lines l.initial.lines.items ++ map plain_line (load_lines l.base (take l.register-index l.registers))

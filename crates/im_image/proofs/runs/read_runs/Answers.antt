@@ -1,4 +1,3 @@
-use Rattle.std.proofs.Common.{arith}
 use Rattle.std.proofs.lemmas.Result.{err_from_is_err_and}
 use Rattle.im_image.proofs.Loops.{runs_go_on, runs_stop, runs_end}
 use Rattle.im_image.proofs.runs.read_runs.Goals as goal

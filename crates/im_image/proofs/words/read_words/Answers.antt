@@ -1,4 +1,3 @@
-use Rattle.std.proofs.Common.{arith}
 use Rattle.im_image.proofs.Loops.{words_go_on, words_end}
 use Rattle.im_image.proofs.words.read_words.Goals as goal
 

@@ -1,4 +1,4 @@
-use Rattle.std.proofs.Common.{◌≡◌, ◌++◌, List, ℕ, length, ap, ◌∙◌, sym, arith}
+use Rattle.std.proofs.Common.{◌≡◌, ◌++◌, length, ap, ◌∙◌, arith}
 use Rattle.std.specs.List.{flat_map}
 use Rattle.im_image.specs.Contents.{ObjectValue}
 use Rattle.im_image.specs.Text.{run_text}

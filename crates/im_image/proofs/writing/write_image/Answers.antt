@@ -1,11 +1,11 @@
-use Rattle.std.proofs.Common.{◌≡◌, ◌≤◌, ◌<◌, [], ◌∷◌, ◌++◌, length, get_or, ap, ◌∙◌, sym, arith}
+use Rattle.std.proofs.Common.{◌≡◌, ◌≤◌, [], ◌∷◌, ◌++◌, length, refl, ap, ◌∙◌, arith}
 use Rattle.std.proofs.lemmas.Bool.{leb-true}
 use Rattle.std.specs.List.{flat_map}
 use Rattle.std.proofs.lemmas.List.{take_all}
 use Rattle.im_image.specs.Contents.{ImageValue}
-use Rattle.im_image.specs.Text.{magic, words_text, object_text}
+use Rattle.im_image.specs.Text.{magic, words_text, object_text, form_words, version_number}
 use Rattle.im_image.proofs.Taken.{and_true}
-use Rattle.im_image.proofs.Written.{object_fits, image_put}
+use Rattle.im_image.proofs.Written.{object_fits, header_put, image_put}
 use Rattle.im_image.proofs.writing.write_image.Goals as goal
 
 pub put_object-requires-clause-name : goal.put_object-requires-clause-name
@@ -33,10 +33,14 @@ returns c =
     let stack = ap (λ (x : ImageValue). x.stack) c.image.view_is in
     let out_cap = ap (λ (x : ImageValue). x.out_cap) c.image.view_is in
     let entry = ap (λ (x : ImageValue). x.entry) c.image.view_is in
-    let header = magic ∷ 1 ∷ c.len.result ∷ c.len-2.result ∷ inner.stack ∷ inner.out_cap ∷ inner.entry ∷ c.len-3.result ∷ [] in
+    let version = ap (λ (x : ImageValue). x.version) c.image.view_is in
+    let form = ap (λ (x : ImageValue). x.form) c.image.view_is in
+    let header = magic ∷ c.number.result ∷ c.len.result ∷ c.len-2.result ∷ inner.stack ∷ inner.out_cap ∷ inner.entry ∷ c.len-3.result ∷ [] in
+    let number : c.number.result ≡ version_number image.version = c.number.ensures ∙ ap version_number version in
     let all = take_all c.loop-object.object-index c.deref-object-items.result.now c.loop-object-test.false in
-    image_put image c.new-text.result.items c.put_words.new.text.items c.put_words-2.new.text.items c.extend_from_slice.new.self.items c.loop-object.text.items header (cc) c.new-text.ensures.items
-    c.in_ok-put_words.ensures
-    (c.in_ok-put_words-2.ensures ∙ ap (λ x. c.put_words.new.text.items ++ words_text x) (c.deref.ensures.value ∙ words-are))
+    let formed : c.put_form.new.text.items ≡ c.put_words.new.text.items ++ words_text (form_words image.version image.form) = c.in_ok-put_form.ensures ∙ rw (version, form) refl in
+    let front = header_put image c.new-text.result.items c.put_words.new.text.items c.put_form.new.text.items header (cc) c.new-text.ensures.items c.in_ok-put_words.ensures formed in
+    image_put image c.put_form.new.text.items c.put_words-2.new.text.items c.extend_from_slice.new.self.items c.loop-object.text.items front
+    (c.in_ok-put_words-2.ensures ∙ ap (λ x. c.put_form.new.text.items ++ words_text x) (c.deref.ensures.value ∙ words-are))
     (c.in_ok-extend_from_slice.ensures.items ∙ ap (λ x. c.put_words-2.new.text.items ++ x) (c.deref-2.ensures.value ∙ statics-are))
     (c.loop-object.invariant ∙ ap (λ x. c.extend_from_slice.new.self.items ++ flat_map object_text x) (all ∙ c.deref-object-items.ensures.value ∙ objects-are))
