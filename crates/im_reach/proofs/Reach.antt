@@ -85,7 +85,7 @@ pub record Quiet (m k : Mem) : Type 0 where
   pub input : little k in_len_at 4 ≡ little m in_len_at 4
   pub position : little k in_pos_at 4 ≡ little m in_pos_at 4
 
-length_same : (m k : Mem) → Quiet m k → output_length TwoLengths k ≡ output_length TwoLengths m
+pub length_same : (m k : Mem) → Quiet m k → output_length TwoLengths k ≡ output_length TwoLengths m
 length_same m k q = ap (λ z. cond (z == 0) (little k out_len0_at 4) (little k out_len1_at 4)) q.selector ∙ ap (λ z. cond (m out_sel_at == 0) z (little k out_len1_at 4)) q.length0 ∙ ap (λ z. cond (m out_sel_at == 0) (little m out_len0_at 4) z) q.length1
 
 pub shown_same : (m k : Mem) → Quiet m k → shown k ≡ shown m

@@ -1,0 +1,5 @@
+pub mod Registers
+pub mod Mapped
+pub mod Values
+pub mod Checks
+pub mod Cells

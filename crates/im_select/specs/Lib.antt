@@ -1,0 +1,4 @@
+pub mod Linking
+pub mod Selected
+pub mod Linked
+pub mod Law

@@ -1,0 +1,2 @@
+//! From placed code over objects to instructions over memory.
+#![tactic(auto)]
