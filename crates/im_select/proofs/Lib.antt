@@ -6,3 +6,4 @@ pub mod Cells
 pub mod Relation
 pub mod Ends
 pub mod Shapes
+pub mod Calls

@@ -19,7 +19,7 @@ use Rattle.im_block.specs.declared.unit.Function.{Function}
 use Rattle.im_block.specs.declared.unit.Unit.{Unit as Code}
 use Rattle.im_block.specs.Meaning.{Setting, cell_at, shape_of, shape_at, slot_shape, numbered, shapes_of, static_of}
 use Rattle.im_block.specs.Runs.{first_store, static_shape, shape_of_static}
-use Rattle.im_block.specs.Wellformed.{IsWellFormed}
+use Rattle.im_block.specs.Wellformed.{IsWellFormed, IsFunction, IsStatic}
 use Rattle.im_block.specs.Wellformed.{HasCells as HasCellsOf}
 use Rattle.im_select.specs.Linking.{Linking, address, HasCells, Means}
 use Rattle.im_select.specs.Linked.{IsLinked}
@@ -40,14 +40,14 @@ record Found (cells : List CellOf) (i : ℕ) (k : Kind) : Type 0 where
 
 found_cell : (cells : List CellOf) (i : ℕ) (k : Kind) → cell_at cells i ≡ Some k → Found cells i k
 found_cell [] i k h = absurd cc
-found_cell (c ∷ cs) i k h = by (c.offset == i) refl h
+found_cell (c ∷ cs) i k h = by (c.offset == i) refl (λ e. found_cell cs i k e) h
   where
     equal : (a b : ℕ) → (a == b) ≡ true → a ≡ b
     equal a b t = grind (arith, nat_tests)
 
-    by : (b : Bool) → (c.offset == i) ≡ b → cond b (Some c.kind) (cell_at cs i) ≡ Some k → Found (c ∷ cs) i k
-    by true t e = record { index = 0; cell = c; there = refl; offset = equal c.offset i t; kind = cc }
-    by false t e = let f = found_cell cs i k e in record { index = suc f.index; cell = f.cell; there = f.there; offset = f.offset; kind = f.kind }
+    by : (b : Bool) → (c.offset == i) ≡ b → (cell_at cs i ≡ Some k → Found cs i k) → cond b (Some c.kind) (cell_at cs i) ≡ Some k → Found (c ∷ cs) i k
+    by true t more e = record { index = 0; cell = c; there = refl; offset = equal c.offset i t; kind = cc }
+    by false t more e = let f = more e in record { index = suc f.index; cell = f.cell; there = f.there; offset = f.offset; kind = f.kind }
 
 three_ways : (i j : ℕ) → (i ≡ j) ⊎ (i < j) ⊎ (j < i)
 three_ways i j = grind arith
@@ -106,7 +106,7 @@ numbered_is first xs n x h = by (nat_le first n) h
 pub function_cells : (u : Code) → IsWellFormed u → (i : ℕ) (f : Function) → slice_get u.functions.items i ≡ Some f → (a : Name) (sh : Shape) → shapes_of f a ≡ Some sh → HasCells sh
 function_cells u w i f is (Named n) sh h =
     let k = shape_is (numbered f.first_object f.objects.items n) sh h in
-    let o = all_at _ u.functions.items i f w.functions is in
+    let o : IsFunction u.functions.items f = all_at (IsFunction u.functions.items) u.functions.items i f w.functions is in
     subst (λ z. HasCells z) k.2 (shape_cells k.0 (all_at HasCellsOf f.objects.items (n - f.first_object) k.0 o.objects (numbered_is f.first_object f.objects.items n k.0 k.1)))
 function_cells u w i f is (Slot n) sh h = by (nat_lt n f.slots) h
   where
@@ -122,7 +122,7 @@ static_is (Some s) sh h = (s, refl, cc)
 pub static_cells : (u : Code) → IsWellFormed u → (a : Name) (sh : Shape) → static_shape u.statics.items a ≡ Some sh → HasCells sh
 static_cells u w (Named n) sh h =
     let k = static_is (slice_get u.statics.items n) sh h in
-    let s = all_at _ u.statics.items n k.0 w.statics k.1 in
+    let s : IsStatic u.statics.items k.0 = all_at (IsStatic u.statics.items) u.statics.items n k.0 w.statics k.1 in
     subst (λ z. HasCells z) k.2 (shape_cells k.0.object s.cells)
 static_cells u w (Slot n) sh h = absurd cc
 static_cells u w Link sh h = absurd cc
