@@ -1,0 +1,6 @@
+pub mod Words
+pub mod Cost
+pub mod Twins
+pub mod Bytes
+pub mod Sections
+pub mod Flows

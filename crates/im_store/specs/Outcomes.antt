@@ -5,6 +5,7 @@ use Rattle.im_num.specs.declared.values.CellValue.TheVariants.{Number as ANumber
 use Rattle.im_num.specs.Variables.{Variable}
 use Rattle.im_ctype.specs.declared.cell.Cell.{Cell}
 use Rattle.im_store.specs.declared.undefined.Undefined.{Undefined}
+use Rattle.im_store.specs.Statics.{StaticObject}
 use Rattle.im_store.specs.Objects.{Name, Named, Slot, Link, Object, static, Value, Number, Null, Pointer, Unset, Store}
 
 -- undefined behaviour; fuel is wanted and none is left; or an end: its reason (0: main returned; 1: the stack was
@@ -22,11 +23,6 @@ IsDefined (End reason status output variables) = Unit {0}
 -- the new one is the old one, where that is defined
 abbrev pub Refines : Outcome → Outcome → Type 0
 Refines new old = IsDefined old → new ≡ old
-
--- a static of a program: its name and its cells
-pub record StaticObject : Type 0 where
-  pub name : List ℕ
-  pub cells : List Cell
 
 -- a place as it is shown: in a static by the static's number
 abbrev pub static_shown : Name → ℕ → CellValue

@@ -1,7 +1,10 @@
-pub mod Numbers
+pub mod Program
+pub mod ProgramOf
 pub mod Runs
-pub mod Objects
+pub mod Values
 pub mod Meaning
 pub mod Programs
 pub mod Counts
+pub mod Frames
 pub mod Laws
+pub mod Samples

@@ -1,5 +1,6 @@
 use crate::statement::Stmt;
 use im_ctype::{CType, StructTable};
+use im_num::Kind;
 
 /// An object that a function or the program has.
 #[derive(Debug, Drop)]
@@ -13,7 +14,7 @@ pub struct Object {
 /// What a cell of a static holds before the start of `main`.
 #[derive(Clone, Copy, Debug)]
 pub enum Constant {
-    Number(i64),
+    Number(i128),
     Null,
     /// A place in a static object: its number, and bytes from its start.
     Inside { object: u32, offset: u32 },
@@ -32,6 +33,8 @@ pub struct Func {
     pub name: Vec<u8>,
     /// How many of its objects are parameters; these come first and hold the arguments.
     pub params: u32,
+    /// The kind of its result; none where that is `void`.
+    pub result: Option<Kind>,
     pub objects: Vec<Object>,
     pub body: Stmt,
 }

@@ -1,16 +1,17 @@
 use super::*;
 use im_ctype::{CType, Integer};
 use im_num::Kind;
+use im_store::{BinaryOp, Comparison, UnaryOp};
 use std::alloc::Global;
 use std::process::Abort;
 
-const NUMBER: Access = Access::Cell(Kind::I32);
+const NUMBER: Access = Access::Scalar(Kind::I32);
 
-const SHORT: Access = Access::Cell(Kind::I16);
+const SHORT: Access = Access::Scalar(Kind::I16);
 
-const BYTE: Access = Access::Cell(Kind::U8);
+const BYTE: Access = Access::Scalar(Kind::U8);
 
-const POINTER: Access = Access::Cell(Kind::Ptr);
+const POINTER: Access = Access::Scalar(Kind::Ptr);
 /// Of `struct triple { int a; int b; int c; }`.
 const TRIPLE: Access = Access::Struct {
     number: 0,
@@ -39,8 +40,8 @@ fn pointer(rt: &impl Abort, alloc: Global, name: &[u8], target: CType) -> Object
 }
 
 /// 1 node.
-fn number(rt: &impl Abort, alloc: Global, value: i64) -> Box<Expr> {
-    boxed(rt, alloc, Expr::Number(value))
+fn number(rt: &impl Abort, alloc: Global, value: i128) -> Box<Expr> {
+    boxed(rt, alloc, Expr::Number(Kind::I32, value))
 }
 
 /// 1 node.
@@ -118,7 +119,7 @@ fn called(rt: &impl Abort, alloc: Global) -> Stmt {
         &mut arguments,
         Expr::Part {
             from: 2,
-            count: 1,
+            access: NUMBER,
             whole,
         },
     );
@@ -132,6 +133,7 @@ fn counts(alloc: Global, params: u32, objects: Vec<Object>, body: Vec<Stmt>) -> 
     let func = Func {
         name: Vec::new(alloc),
         params,
+        result: None,
         objects,
         body: Stmt::Block(body),
     };
@@ -182,11 +184,11 @@ fn counter(rt: &impl Abort, alloc: Global) -> Box<Expr> {
 /// `i == 3 && !f(1, i)`: the and, 4 nodes of the comparison, and 5 of the not.
 fn condition(rt: &impl Abort, alloc: Global) -> Expr {
     let mut arguments = Vec::new(alloc);
-    push(rt, &mut arguments, Expr::Number(1));
+    push(rt, &mut arguments, Expr::Number(Kind::I32, 1));
     push(rt, &mut arguments, Expr::Read(NUMBER, local(rt, alloc, 0)));
     let not = Expr::Not(boxed(rt, alloc, Expr::Call(0, arguments)));
     let (i, three) = (counter(rt, alloc), number(rt, alloc, 3));
-    let equal = boxed(rt, alloc, Expr::Compare(Comparison::Equal, i, three));
+    let equal = boxed(rt, alloc, Expr::Compare(Comparison::Equal, Kind::I32, i, three));
     Expr::And(equal, boxed(rt, alloc, not))
 }
 
@@ -218,7 +220,7 @@ fn counted_loop(rt: &impl Abort, alloc: Global) -> Stmt {
     };
     Stmt::For {
         first,
-        test: Expr::Compare(Comparison::Less, counter(rt, alloc), number(rt, alloc, 10)),
+        test: Expr::Compare(Comparison::Less, Kind::I32, counter(rt, alloc), number(rt, alloc, 10)),
         step: Expr::Increment {
             place: local(rt, alloc, 0),
             change,
@@ -301,7 +303,7 @@ fn stored(rt: &impl Abort, alloc: Global) -> Expr {
 /// cast, the comma, 11 of its left side, and 3 of its right side.
 fn pointer_loop(rt: &impl Abort, alloc: Global) -> Stmt {
     let (p, q) = (value(rt, alloc, POINTER, 0), value(rt, alloc, POINTER, 1));
-    let differ = boxed(rt, alloc, Expr::Compare(Comparison::NotEqual, p, q));
+    let differ = boxed(rt, alloc, Expr::Compare(Comparison::NotEqual, Kind::Ptr, p, q));
     let total = Expr::Read(SHORT, boxed(rt, alloc, Place::Static(0)));
     let test = Expr::Or(differ, boxed(rt, alloc, total));
     let change = Change::Move {
