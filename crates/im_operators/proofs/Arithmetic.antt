@@ -1,10 +1,11 @@
 -- Operators on promoted values are operations on their words.
-use Rattle.std.proofs.Common.{◌≡◌, ◌≢◌, ℕ, ◌+◌, ◌-◌, ◌*◌, ◌/◌, ◌%◌, ◌^◌, ◌<◌, ◌≤◌, ◌⊎◌, inl, inr, ℤ, pos, negsuc, ◌+ℤ◌, ◌-ℤ◌, ◌*ℤ◌, ◌≤ℤ◌, ◌<ℤ◌, Bool, true, false, cond, sym, ap, ◌∙◌, subst, refl, arith, lit<}
+use Rattle.std.proofs.Common.{◌≡◌, ◌≢◌, ℕ, suc, ◌+◌, ◌-◌, ◌*◌, ◌/◌, ◌%◌, ◌^◌, ◌<◌, ◌≤◌, ◌⊎◌, inl, inr, ℤ, pos, negsuc, ◌+ℤ◌, ◌-ℤ◌, ◌*ℤ◌, ◌≤ℤ◌, ◌<ℤ◌, Bool, true, false, cond, sym, ap, ◌∙◌, subst, refl, arith, lit<}
 use Rattle.std.specs.Prelude.{neg_ℤ, nat_lt, int_lt, ◌==◌, bit_and, bit_or, bit_xor, int_div, int_rem}
 use Rattle.std.specs.Int.{int_wrap, int_div_euclid, cast_signed, cast_unsigned, w32}
 use Rattle.std.specs.Int.Bits.{and_lt}
 use Rattle.std.proofs.lemmas.Nat.{or_lt, xor_lt}
-use Rattle.std.proofs.lemmas.Int.{ints, of_z-to_z, wrapping_mul-bits}
+use Rattle.std.proofs.lemmas.Int.{ints, of_z-to_z, wrapping_mul-bits, int_wrap-mul_left, int_wrap-mul_right}
+use Rattle.std.proofs.Math.Pow.{pow-lt}
 use Rattle.std.proofs.lemmas.Bool.Decides.{nat_tests}
 use Rattle.im_num.specs.declared.kind.Kind.{Kind}
 use Rattle.im_num.specs.declared.kind.Kind.TheVariants.{I32, U32}
@@ -67,3 +68,35 @@ unsigned_less a b = ap (λ z. int_lt z (wrap U32 b)) (wrap_unsigned a) ∙ ap (�
 
 pub signed_less : (a b : ℤ) → int_lt (wrap I32 a) (wrap I32 b) ≡ less_signed (word a) (word b)
 signed_less a b = ap (λ z. int_lt z (wrap I32 b)) (wrap_signed a) ∙ ap (λ z. int_lt (signed (word a)) z) (wrap_signed b)
+
+-- products of any integers
+
+wrapped_left : (a b : ℤ) → word (signed (word a) *ℤ b) ≡ word (a *ℤ b)
+unfolding word int_wrap
+wrapped_left a b =
+    let e : cast_signed w32 (word (signed (word a) *ℤ b)) ≡ cast_signed w32 (word (a *ℤ b)) = int_wrap-mul_left w32 a b in
+    sym (of_z-to_z w32 (word (signed (word a) *ℤ b)) (word_small (signed (word a) *ℤ b))) ∙ ap (cast_unsigned w32) e ∙ of_z-to_z w32 (word (a *ℤ b)) (word_small (a *ℤ b))
+
+wrapped_right : (a b : ℤ) → word (a *ℤ signed (word b)) ≡ word (a *ℤ b)
+unfolding word int_wrap
+wrapped_right a b =
+    let e : cast_signed w32 (word (a *ℤ signed (word b))) ≡ cast_signed w32 (word (a *ℤ b)) = int_wrap-mul_right w32 a b in
+    sym (of_z-to_z w32 (word (a *ℤ signed (word b))) (word_small (a *ℤ signed (word b)))) ∙ ap (cast_unsigned w32) e ∙ of_z-to_z w32 (word (a *ℤ b)) (word_small (a *ℤ b))
+
+pub word_product : (a b : ℤ) → word (a *ℤ b) ≡ word a * word b % 2 ^ 32
+word_product a b = sym (wrapped_left a b) ∙ sym (wrapped_right (signed (word a)) b) ∙ signed_product (word a) (word b) (word_small a) (word_small b)
+
+-- shifts up
+
+below_word : (n : ℕ) → n < 32 → 2 ^ n < 2 ^ 32
+below_word n h = pow-lt h
+
+pub shifted_word : (k : Kind) (a : ℤ) (n : ℕ) → IsPromoted k → n < 32 → word (wrap k (wrap k a *ℤ pos (2 ^ n))) ≡ word a * 2 ^ n % 2 ^ 32
+shifted_word k a n h less =
+    word_wrap k _ h ∙ word_product (wrap k a) (pos (2 ^ n)) ∙ ap (λ z. z * word (pos (2 ^ n)) % 2 ^ 32) (word_wrap k a h) ∙ ap (λ z. word a * z % 2 ^ 32) (word_of (2 ^ n) (below_word n less))
+
+-- quotients and remainders
+
+pub word_cast : (z : ℤ) → (pos 0 -ℤ pos 4294967296) ≤ℤ z → z <ℤ pos 4294967296 → word z ≡ cast_unsigned w32 z
+word_cast (pos n) low high = word_of n (omega (arith, ints))
+word_cast (negsuc n) low high = word_only (negsuc n) (negsuc 0) (4294967296 - suc n) (omega arith) (let h : suc n ≤ 4294967296 = omega (arith, ints) in omega (arith, ints))

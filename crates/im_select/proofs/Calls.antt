@@ -27,12 +27,11 @@ use Rattle.im_store.specs.Outcomes.{Undef, More, End, variables}
 use Rattle.im_block.specs.declared.code.Line.{Line}
 use Rattle.im_block.specs.declared.code.Line.TheVariants.{Call}
 use Rattle.im_block.specs.declared.code.Block.{Block}
-use Rattle.im_block.specs.declared.unit.Static.{Static as StaticOf}
 use Rattle.im_block.specs.declared.unit.Registers.{Registers}
 use Rattle.im_block.specs.declared.unit.Registers.TheVariants.{Machine}
 use Rattle.im_block.specs.declared.unit.Function.{Function}
 use Rattle.im_block.specs.declared.unit.Unit.{Unit as Code}
-use Rattle.im_block.specs.Meaning.{Setting, Active, object_of, Spot, Frame, State, Next, Goes, Stops, Event, Tests, Saves, Restores, link_shape, shapes_of, static_of, number_of, passed, kept, kept_by, at_block, activates, next_active, waiting, does, enters, returned, back}
+use Rattle.im_block.specs.Meaning.{Setting, Active, object_of, Spot, Frame, State, Next, Goes, Stops, Event, Tests, Saves, Restores, link_shape, shapes_of, statics_of, number_of, passed, kept, kept_by, at_block, activates, next_active, waiting, does, enters, returned, back}
 use Rattle.im_select.specs.Linking.{Linking, pointer_at, frame_of, limit_of, address, Means, LaidOut}
 use Rattle.im_select.specs.Selected.{Leaves, InResult, Checked, Prologue, Stands}
 use Rattle.im_select.specs.Linked.{FunctionAt, IsLinked}
@@ -164,7 +163,7 @@ live_new u shape a depth objects some l o e =
     ap (λ z. cond z (cond (o.depth == depth) (objects o.name) None) (shape o)) t ∙ l o e
 
 -- the stack is exhausted: the cause is stored, and the run ends
-exhausted : (p : Linking) (u : Code) (g : Setting) → Premises p u g → (s : State) (m : Mem) (x : ℕ → ℕ) (frames : List Mark) → Fixed p.image m → Words (limit_of g) g.capacity m → shown m ≡ s.output → x 0 ≡ 0 → StaticsLive u s.store.shape → Mapped p s.store.shape frames → Memory p s.store.shape s.store.values m → Finished p u 0 (record { pc = p.full; x = x }) m 1 (pos 0) s.output (variables (map {A = StaticOf} static_of u.statics.items) s.store) []
+exhausted : (p : Linking) (u : Code) (g : Setting) → Premises p u g → (s : State) (m : Mem) (x : ℕ → ℕ) (frames : List Mark) → Fixed p.image m → Words (limit_of g) g.capacity m → shown m ≡ s.output → x 0 ≡ 0 → StaticsLive u s.store.shape → Mapped p s.store.shape frames → Memory p s.store.shape s.store.values m → Finished p u 0 (record { pc = p.full; x = x }) m 1 (pos 0) s.output (variables (statics_of u) s.store) []
 exhausted p u g l s m x frames fixed words seen x0 live mapped memory =
     let a : ℕ = sum_of (x 0) 1 in
     let y : ℕ → ℕ = with_reg x 5 a in
@@ -218,10 +217,10 @@ lower p g m pc target x depth size pro fixed words x0 x2 small top =
       homes = λ i six. other_reg down.y 5 lim i (omega arith) ∙ down.kept i (omega arith) (omega arith);
     }
 
-enter_full : (p : Linking) (u : Code) (g : Setting) → Premises p u g → (s : State) (m : Mem) (pc mid next : ℕ) (x : ℕ → ℕ) (depth size : ℕ) (frames : List Mark) → Fixed p.image m → Words (limit_of g) g.capacity m → shown m ≡ s.output → StaticsLive u s.store.shape → Mapped p s.store.shape frames → Memory p s.store.shape s.store.values m → (w : Lowered p g m pc mid x depth size) → nat_lt (w.z 6) (w.z 5) ≡ true → Checked p mid next → Finished p u 9 (record { pc = pc; x = x }) m 1 (pos 0) s.output (variables (map {A = StaticOf} static_of u.statics.items) s.store) (Tests ∷ [])
+enter_full : (p : Linking) (u : Code) (g : Setting) → Premises p u g → (s : State) (m : Mem) (pc mid next : ℕ) (x : ℕ → ℕ) (depth size : ℕ) (frames : List Mark) → Fixed p.image m → Words (limit_of g) g.capacity m → shown m ≡ s.output → StaticsLive u s.store.shape → Mapped p s.store.shape frames → Memory p s.store.shape s.store.values m → (w : Lowered p g m pc mid x depth size) → nat_lt (w.z 6) (w.z 5) ≡ true → Checked p mid next → Finished p u 9 (record { pc = pc; x = x }) m 1 (pos 0) s.output (variables (statics_of u) s.store) (Tests ∷ [])
 enter_full p u g l s m pc mid next x depth size frames fixed words seen live mapped memory w t check =
     let q : Passed m mid w.z p.full = no_room p m mid w.z next fixed t check in
-    let e : Finished p u 0 (record { pc = p.full; x = q.y }) m 1 (pos 0) s.output (variables (map {A = StaticOf} static_of u.statics.items) s.store) [] = exhausted p u g l s m q.y frames fixed words seen (q.kept 0 ∙ w.z0) live mapped memory in
+    let e : Finished p u 0 (record { pc = p.full; x = q.y }) m 1 (pos 0) s.output (variables (statics_of u) s.store) [] = exhausted p u g l s m q.y frames fixed words seen (q.kept 0 ∙ w.z0) live mapped memory in
     let some_ : plus w.n (plus q.n e.n) ≡ w.n + (q.n + e.n) = plus_is w.n (plus q.n e.n) ∙ ap (λ z. w.n + z) (plus_is q.n e.n) in
     record {
       n = plus w.n (plus q.n e.n);

@@ -7,3 +7,4 @@ pub mod Relation
 pub mod Ends
 pub mod Shapes
 pub mod Calls
+pub mod Places

@@ -21,8 +21,8 @@ use Rattle.im_store.specs.Objects.{Name, Link, Object, Value, Unset, Shape}
 use Rattle.im_store.specs.Outcomes.{Outcome, Undef, More, End}
 use Rattle.im_block.specs.declared.unit.Function.{Function}
 use Rattle.im_block.specs.declared.unit.Unit.{Unit as Code}
-use Rattle.im_block.specs.Meaning.{Setting, Spot, Frame, State, Event, Next, Goes, Stops, link_shape, on_checked, takes}
-use Rattle.im_block.specs.Runs.{first_store}
+use Rattle.im_block.specs.Meaning.{Setting, Spot, Frame, State, Event, Next, Goes, Stops, link_shape, statics_of, on_checked, takes}
+use Rattle.im_store.specs.Statics.{with_statics}
 use Rattle.im_select.specs.Linking.{Linking, pointer_at, frame_of, limit_of, address}
 use Rattle.im_select.specs.Selected.{Stands}
 use Rattle.im_select.specs.Law.{Touches, ShowsStatics}
@@ -73,7 +73,7 @@ pub record Rel (p : Linking) (u : Code) (g : Setting) (s : State) (c : Cpu) (m :
   pub words : Words (limit_of g) g.capacity m
   pub output : shown m ≡ s.output
   pub input : left m ≡ s.input
-  pub statics : (o : Object) → o.activation ≡ 0 → s.store.shape o ≡ (first_store u).shape o
+  pub statics : (o : Object) → o.activation ≡ 0 → s.store.shape o ≡ (with_statics (statics_of u)).shape o
 
 -- what a step of placed code is on the machine: some steps, at most so many
 pub record Advanced (p : Linking) (u : Code) (g : Setting) (words : ℕ) (c : Cpu) (m : Mem) (s : State) (events : List Event) : Type 0 where

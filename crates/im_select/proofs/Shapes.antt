@@ -11,14 +11,16 @@ use Rattle.im_num.specs.Variables.{Variable}
 use Rattle.im_mem.specs.Memory.{Mem}
 use Rattle.im_ctype.specs.declared.cell.Cell.{Cell as CellOf}
 use Rattle.im_operators.specs.Tables.{cell_word}
-use Rattle.im_store.specs.Objects.{Name, Named, Slot, Link, Object, static, Value, Shape, Store}
+use Rattle.im_store.specs.Objects.{Name, Named, Slot, Link, Object, static, Value, Shape, Store, kind_at, shape_of}
+use Rattle.im_store.specs.Statics.{StaticObject, static_shapes, with_statics}
+use Rattle.std.specs.Option.{option_map}
+use Rattle.std.proofs.lemmas.Option.{slice_get-map}
 use Rattle.im_store.specs.Outcomes.{variables}
 use Rattle.im_block.specs.declared.unit.Object.{Object as Declared}
 use Rattle.im_block.specs.declared.unit.Static.{Static as StaticOf}
 use Rattle.im_block.specs.declared.unit.Function.{Function}
 use Rattle.im_block.specs.declared.unit.Unit.{Unit as Code}
-use Rattle.im_block.specs.Meaning.{Setting, cell_at, shape_of, shape_at, slot_shape, numbered, shapes_of, static_of}
-use Rattle.im_block.specs.Runs.{first_store, static_shape, shape_of_static}
+use Rattle.im_block.specs.Meaning.{Setting, shape_at, slot_shape, link_shape, shapes_of, static_of, statics_of}
 use Rattle.im_block.specs.Wellformed.{IsWellFormed, IsFunction, IsStatic}
 use Rattle.im_block.specs.Wellformed.{HasCells as HasCellsOf}
 use Rattle.im_select.specs.Linking.{Linking, address, HasCells, Means}
@@ -38,21 +40,21 @@ record Found (cells : List CellOf) (i : ℕ) (k : Kind) : Type 0 where
   offset : cell.offset ≡ i
   kind : cell.kind ≡ k
 
-found_cell : (cells : List CellOf) (i : ℕ) (k : Kind) → cell_at cells i ≡ Some k → Found cells i k
+found_cell : (cells : List CellOf) (i : ℕ) (k : Kind) → kind_at cells i ≡ Some k → Found cells i k
 found_cell [] i k h = absurd cc
 found_cell (c ∷ cs) i k h = by (c.offset == i) refl (λ e. found_cell cs i k e) h
   where
     equal : (a b : ℕ) → (a == b) ≡ true → a ≡ b
     equal a b t = grind (arith, nat_tests)
 
-    by : (b : Bool) → (c.offset == i) ≡ b → (cell_at cs i ≡ Some k → Found cs i k) → cond b (Some c.kind) (cell_at cs i) ≡ Some k → Found (c ∷ cs) i k
+    by : (b : Bool) → (c.offset == i) ≡ b → (kind_at cs i ≡ Some k → Found cs i k) → cond b (Some c.kind) (kind_at cs i) ≡ Some k → Found (c ∷ cs) i k
     by true t more e = record { index = 0; cell = c; there = refl; offset = equal c.offset i t; kind = cc }
     by false t more e = let f = more e in record { index = suc f.index; cell = f.cell; there = f.there; offset = f.offset; kind = f.kind }
 
 three_ways : (i j : ℕ) → (i ≡ j) ⊎ (i < j) ⊎ (j < i)
 three_ways i j = grind arith
 
-pub shape_cells : (o : Declared) → HasCellsOf o → HasCells (shape_of o)
+pub shape_cells : (o : Declared) → HasCellsOf o → HasCells (shape_of o.size o.cells.items)
 shape_cells o h = record {
   inside = λ i k e. let f = found_cell o.cells.items i k e in let l = h.inside f.index f.cell f.there in let a = f.offset in let b = ap kind_size f.kind in omega arith;
   even = λ i k e.
@@ -92,36 +94,37 @@ slot_cells = record {
   apart = λ i k j l e d. inl ((slot_cell i k e).0 ∙ sym (slot_cell j l d).0);
 }
 
-shape_is : (o : Option Declared) (sh : Shape) → shape_at o ≡ Some sh → (d : Declared) × (o ≡ Some d) × (shape_of d ≡ sh)
+shape_is : (o : Option Declared) (sh : Shape) → shape_at o ≡ Some sh → (d : Declared) × (o ≡ Some d) × (shape_of d.size d.cells.items ≡ sh)
 shape_is None sh h = absurd cc
 shape_is (Some d) sh h = (d, refl, cc)
 
-numbered_is : {A : Type 0} (first : ℕ) (xs : List A) (n : ℕ) (x : A) → numbered first xs n ≡ Some x → slice_get xs (n - first) ≡ Some x
-numbered_is first xs n x h = by (nat_le first n) h
+named_is : (first : ℕ) (xs : List Declared) (n : ℕ) (sh : Shape) → cond (nat_le first n) (shape_at (slice_get xs (n - first))) None ≡ Some sh → shape_at (slice_get xs (n - first)) ≡ Some sh
+named_is first xs n sh h = by (nat_le first n) h
   where
-    by : (b : Bool) → cond b (slice_get xs (n - first)) None ≡ Some x → slice_get xs (n - first) ≡ Some x
+    by : (b : Bool) → cond b (shape_at (slice_get xs (n - first))) None ≡ Some sh → shape_at (slice_get xs (n - first)) ≡ Some sh
     by true e = e
     by false e = absurd cc
 
 pub function_cells : (u : Code) → IsWellFormed u → (i : ℕ) (f : Function) → slice_get u.functions.items i ≡ Some f → (a : Name) (sh : Shape) → shapes_of f a ≡ Some sh → HasCells sh
 function_cells u w i f is (Named n) sh h =
-    let k = shape_is (numbered f.first_object f.objects.items n) sh h in
+    let k = shape_is (slice_get f.objects.items (n - f.first_object)) sh (named_is f.first_object f.objects.items n sh h) in
     let o : IsFunction u.functions.items f = all_at (IsFunction u.functions.items) u.functions.items i f w.functions is in
-    subst (λ z. HasCells z) k.2 (shape_cells k.0 (all_at HasCellsOf f.objects.items (n - f.first_object) k.0 o.objects (numbered_is f.first_object f.objects.items n k.0 k.1)))
+    subst (λ z. HasCells z) k.2 (shape_cells k.0 (all_at HasCellsOf f.objects.items (n - f.first_object) k.0 o.objects k.1))
 function_cells u w i f is (Slot n) sh h = by (nat_lt n f.slots) h
   where
     by : (b : Bool) → cond b (Some slot_shape) None ≡ Some sh → HasCells sh
     by true e = let q : slot_shape ≡ sh = cc in subst (λ z. HasCells z) q slot_cells
     by false e = absurd cc
-function_cells u w i f is Link sh h = (let q : Rattle.im_block.specs.Meaning.link_shape ≡ sh = cc in subst (λ z. HasCells z) q (record { inside = λ i k e. absurd cc; even = λ i k e. absurd cc; apart = λ i k j l e d. absurd cc }))
+function_cells u w i f is Link sh h = (let q : link_shape ≡ sh = cc in subst (λ z. HasCells z) q (record { inside = λ i k e. absurd cc; even = λ i k e. absurd cc; apart = λ i k j l e d. absurd cc }))
 
-static_is : (o : Option StaticOf) (sh : Shape) → shape_of_static o ≡ Some sh → (s : StaticOf) × (o ≡ Some s) × (shape_of s.object ≡ sh)
+static_is : (o : Option StaticOf) (sh : Shape) → option_map {T = StaticObject} (λ s. shape_of s.size s.cells) (option_map static_of o) ≡ Some sh → (s : StaticOf) × (o ≡ Some s) × (shape_of s.object.size s.object.cells.items ≡ sh)
 static_is None sh h = absurd cc
 static_is (Some s) sh h = (s, refl, cc)
 
-pub static_cells : (u : Code) → IsWellFormed u → (a : Name) (sh : Shape) → static_shape u.statics.items a ≡ Some sh → HasCells sh
+pub static_cells : (u : Code) → IsWellFormed u → (a : Name) (sh : Shape) → static_shapes (statics_of u) a ≡ Some sh → HasCells sh
 static_cells u w (Named n) sh h =
-    let k = static_is (slice_get u.statics.items n) sh h in
+    let e : slice_get (statics_of u) n ≡ option_map static_of (slice_get u.statics.items n) = slice_get-map static_of u.statics.items n in
+    let k = static_is (slice_get u.statics.items n) sh (ap (option_map {T = StaticObject} (λ s. shape_of s.size s.cells)) (sym e) ∙ h) in
     let s : IsStatic u.statics.items k.0 = all_at (IsStatic u.statics.items) u.statics.items n k.0 w.statics k.1 in
     subst (λ z. HasCells z) k.2 (shape_cells k.0.object s.cells)
 static_cells u w (Slot n) sh h = absurd cc
@@ -131,17 +134,17 @@ static_cells u w Link sh h = absurd cc
 pub record Premises (p : Linking) (u : Code) (g : Setting) : Type 0 where
   pub at : IsLinked p u g
   pub cells : (i : ℕ) (f : Function) → slice_get u.functions.items i ≡ Some f → (a : Name) (sh : Shape) → shapes_of f a ≡ Some sh → HasCells sh
-  pub static_cells : (a : Name) (sh : Shape) → static_shape u.statics.items a ≡ Some sh → HasCells sh
+  pub static_cells : (a : Name) (sh : Shape) → static_shapes (statics_of u) a ≡ Some sh → HasCells sh
 
 -- the statics live as they did at first
 abbrev pub StaticsLive : Code → (Object → Option Shape) → Type 0
-StaticsLive u shape = (o : Object) → o.activation ≡ 0 → shape o ≡ (first_store u).shape o
+StaticsLive u shape = (o : Object) → o.activation ≡ 0 → shape o ≡ (with_statics (statics_of u)).shape o
 
-pub shows_statics : (p : Linking) (u : Code) (store : Store) (frames : List Mark) (m k : Mem) → StaticsLive u store.shape → Mapped p store.shape frames → Memory p store.shape store.values m → ((a : ℕ) → 1048576 ≤ a → a < 3145728 → k a ≡ m a) → ShowsStatics p u (variables (map {A = StaticOf} static_of u.statics.items) store) k
+pub shows_statics : (p : Linking) (u : Code) (store : Store) (frames : List Mark) (m k : Mem) → StaticsLive u store.shape → Mapped p store.shape frames → Memory p store.shape store.values m → ((a : ℕ) → 1048576 ≤ a → a < 3145728 → k a ≡ m a) → ShowsStatics p u (variables (statics_of u) store) k
 shows_statics p u store frames m k live mapped memory same = record {
   store = store;
   same = refl;
   cells = λ n s i kind e c.
-      let sh : store.shape (static n) ≡ Some (shape_of s.object) = live (static n) refl ∙ ap shape_of_static e in
-      memory_same p store.shape frames store.values m k mapped same memory (static n) i kind (record { sh = shape_of s.object; live = sh; cell = c });
+      let sh : store.shape (static n) ≡ Some (shape_of s.size s.cells) = live (static n) refl ∙ ap (option_map {T = StaticObject} (λ q. shape_of q.size q.cells)) e in
+      memory_same p store.shape frames store.values m k mapped same memory (static n) i kind (record { sh = shape_of s.size s.cells; live = sh; cell = c });
 }

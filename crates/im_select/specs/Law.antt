@@ -1,5 +1,5 @@
 -- What the machine does where a unit of placed code is selected and linked.
-use Rattle.std.specs.Prelude.{◌≡◌, ◌≢◌, ◌≤◌, ℕ, zero, suc, ◌+◌, List, [], ◌∷◌, ◌++◌, map, replicate, Some, slice_get}
+use Rattle.std.specs.Prelude.{◌≡◌, ◌≢◌, ◌≤◌, ℕ, zero, suc, ◌+◌, List, [], ◌∷◌, ◌++◌, replicate, Some, slice_get}
 use Rattle.im_num.specs.declared.kind.Kind.{Kind}
 use Rattle.im_num.specs.Kinds.{word}
 use Rattle.im_num.specs.Variables.{Variable}
@@ -10,13 +10,13 @@ use Rattle.im_rv.specs.Steps.{Cpu, Stepped}
 use Rattle.im_rv.specs.Decode.{runs}
 use Rattle.im_reach.specs.Touches.{Flipped, Touch, Loaded, Stored, touched, heard}
 use Rattle.im_reach.specs.Shown.{shown, Begins}
-use Rattle.im_store.specs.Objects.{Name, Link, Object, static, Store}
+use Rattle.im_store.specs.Objects.{Name, Link, Object, static, Store, kind_at}
+use Rattle.im_store.specs.Statics.{StaticObject}
 use Rattle.im_store.specs.Outcomes.{Outcome, Undef, More, End, IsDefined, variables}
 use Rattle.im_block.specs.declared.code.Line.{Line}
 use Rattle.im_block.specs.declared.code.Line.TheVariants.{Cut}
-use Rattle.im_block.specs.declared.unit.Static.{Static as StaticOf}
 use Rattle.im_block.specs.declared.unit.Unit.{Unit as Code}
-use Rattle.im_block.specs.Meaning.{Setting, Active, Site, object_of, shape_of, static_of, Event, Reads, Writes, Tests, Saves, Restores, Serves, Cuts}
+use Rattle.im_block.specs.Meaning.{Setting, Active, Site, object_of, statics_of, Event, Reads, Writes, Tests, Saves, Restores, Serves, Cuts}
 use Rattle.im_block.specs.Runs.{start, Runs}
 use Rattle.im_block.specs.Sections.{Item, Reader, Writer, Break, NoWar, items}
 use Rattle.im_block.specs.Forced.{AllForced}
@@ -49,8 +49,8 @@ steps p = record { line = steps_of p; exit = exit_words; entry = 10; routine = p
 -- memory shows the statics: they are as some store has them, whose cells have these words
 pub record ShowsStatics (p : Linking) (u : Code) (shows : List Variable) (m : Mem) : Type 0 where
   pub store : Store
-  pub same : shows ≡ variables (map {A = StaticOf} static_of u.statics.items) store
-  pub cells : (n : ℕ) (s : StaticOf) (i : ℕ) (k : Kind) → slice_get u.statics.items n ≡ Some s → (shape_of s.object).cells i ≡ Some k → Means p (store.values (static n) i) (cell_word m k (address p (static n) + i))
+  pub same : shows ≡ variables (statics_of u) store
+  pub cells : (n : ℕ) (s : StaticObject) (i : ℕ) (k : Kind) → slice_get (statics_of u) n ≡ Some s → kind_at s.cells i ≡ Some k → Means p (store.values (static n) i) (cell_word m k (address p (static n) + i))
 
 -- how a run with n fuel has ended after j steps, or that it goes on, each unit of fuel being worth a step
 abbrev pub Shows : Linking → Code → Outcome → ℕ → ℕ → Stepped → Type 0

@@ -12,8 +12,8 @@ use Rattle.im_block.specs.declared.code.Block.{Block}
 use Rattle.im_block.specs.declared.unit.Registers.TheVariants.{Machine}
 use Rattle.im_block.specs.declared.unit.Function.{Function}
 use Rattle.im_block.specs.declared.unit.Unit.{Unit as Code}
-use Rattle.im_block.specs.Meaning.{Setting, shapes_of}
-use Rattle.im_block.specs.Runs.{static_shape, static_value}
+use Rattle.im_store.specs.Statics.{static_shapes, static_values}
+use Rattle.im_block.specs.Meaning.{Setting, shapes_of, statics_of}
 use Rattle.im_operators.specs.Tables.{cell_word}
 use Rattle.im_select.specs.Linking.{Linking, LaidOut, Means, frame_of, limit_of, runtime}
 use Rattle.im_select.specs.Selected.{Prologue, Stands, IsEntry}
@@ -31,8 +31,8 @@ pub record FunctionAt (p : Linking) (g : Setting) (i : ℕ) (f : Function) : Typ
 pub record IsLinked (p : Linking) (u : Code) (g : Setting) : Type 0 where
   pub functions : (i : ℕ) (f : Function) → slice_get u.functions.items i ≡ Some f → FunctionAt p g i f
   pub first : p.at Link ≡ 0
-  pub statics : LaidOut p (static_shape u.statics.items) statics_start (statics_start + statics_capacity)
-  pub initial : (a : Name) (sh : Shape) (i : ℕ) (k : Kind) → static_shape u.statics.items a ≡ Some sh → sh.cells i ≡ Some k → Means p (static_value u.statics.items a i) (cell_word p.image k (p.at a + i))
+  pub statics : LaidOut p (static_shapes (statics_of u)) statics_start (statics_start + statics_capacity)
+  pub initial : (a : Name) (sh : Shape) (i : ℕ) (k : Kind) → static_shapes (statics_of u) a ≡ Some sh → sh.cells i ≡ Some k → Means p (static_values (statics_of u) a i) (cell_word p.image k (p.at a + i))
   pub stack : g.stack ≤ stack_capacity
   pub words : Words (limit_of g) g.capacity p.image
   pub silent : shown p.image ≡ []
