@@ -78,13 +78,13 @@ word_difference a b = let x = as_word a in let y = as_word b in let q = as_word 
 pub wrap_unsigned : (z : ℤ) → wrap U32 z ≡ pos (word z)
 wrap_unsigned z = sym (unsigned_word z)
 
-below_or_not : (n k : ℕ) → (n < k) ⊎ (k ≤ n)
+pub below_or_not : (n k : ℕ) → (n < k) ⊎ (k ≤ n)
 below_or_not n k = grind arith
 
-signed_low : (n : ℕ) → n < 2 ^ 31 → signed n ≡ pos n
+pub signed_low : (n : ℕ) → n < 2 ^ 31 → signed n ≡ pos n
 signed_low n h = omega (arith, ints)
 
-signed_high : (n : ℕ) → 2 ^ 31 ≤ n → n < 2 ^ 32 → signed n ≡ pos n -ℤ pos 4294967296
+pub signed_high : (n : ℕ) → 2 ^ 31 ≤ n → n < 2 ^ 32 → signed n ≡ pos n -ℤ pos 4294967296
 signed_high n h k =
     let t : nat_lt n (2 ^ 31) ≡ false = grind (arith, nat_tests) in
     let e : signed n ≡ negsuc (4294967296 - suc n) = first_of (grind (arith, ints, nat_tests), grind (arith, ints), cc, search (arith, ints, nat_tests)) in
@@ -104,13 +104,13 @@ wrap_signed z =
       | inr x ↦ (let q : wrap I32 z ≡ pos (word z) -ℤ pos 4294967296 = omega (arith, ints) in q ∙ sym (signed_high (word z) x t))
     ]
 
-extended8 : (v : ℕ) → ((v < 128) × (extended 1 Sign v ≡ v)) ⊎ ((128 ≤ v) × (extended 1 Sign v ≡ (v + 4294967040) % 4294967296))
+pub extended8 : (v : ℕ) → ((v < 128) × (extended 1 Sign v ≡ v)) ⊎ ((128 ≤ v) × (extended 1 Sign v ≡ (v + 4294967040) % 4294967296))
 extended8 v = elim (below_or_not v 128) [
   | inl h ↦ inl (h, (let t : nat_lt v 128 ≡ true = grind (arith, nat_tests) in ap (λ b. cond b v (sum_of v 4294967040)) t))
   | inr h ↦ inr (h, (let t : nat_lt v 128 ≡ false = grind (arith, nat_tests) in ap (λ b. cond b v (sum_of v 4294967040)) t))
 ]
 
-extended16 : (v : ℕ) → ((v < 32768) × (extended 2 Sign v ≡ v)) ⊎ ((32768 ≤ v) × (extended 2 Sign v ≡ (v + 4294901760) % 4294967296))
+pub extended16 : (v : ℕ) → ((v < 32768) × (extended 2 Sign v ≡ v)) ⊎ ((32768 ≤ v) × (extended 2 Sign v ≡ (v + 4294901760) % 4294967296))
 extended16 v = elim (below_or_not v 32768) [
   | inl h ↦ inl (h, (let t : nat_lt v 32768 ≡ true = grind (arith, nat_tests) in ap (λ b. cond b v (sum_of v 4294901760)) t))
   | inr h ↦ inr (h, (let t : nat_lt v 32768 ≡ false = grind (arith, nat_tests) in ap (λ b. cond b v (sum_of v 4294901760)) t))

@@ -8,3 +8,5 @@ pub mod Ends
 pub mod Shapes
 pub mod Calls
 pub mod Places
+pub mod Operators
+pub mod Gives

@@ -23,10 +23,10 @@ truth false = inr refl
 pub means_at : (p : Linking) (v v' : Value) (w w' : ℕ) → v' ≡ v → w' ≡ w → Means p v w → Means p v' w'
 means_at p v v' w w' a b m = subst (λ z. Means p z w') (sym a) (subst (λ z. Means p v z) (sym b) m)
 
-register_same : (registers : ℕ → Value) (to : ℕ) (v : Value) → with_register registers to v to ≡ v
+pub register_same : (registers : ℕ → Value) (to : ℕ) (v : Value) → with_register registers to v to ≡ v
 register_same registers to v = let t : (to == to) ≡ true = grind (arith, nat_tests) in ap (λ b. cond b v (registers to)) t
 
-register_other : (registers : ℕ → Value) (to : ℕ) (v : Value) (r : ℕ) → r ≢ to → with_register registers to v r ≡ registers r
+pub register_other : (registers : ℕ → Value) (to : ℕ) (v : Value) (r : ℕ) → r ≢ to → with_register registers to v r ≡ registers r
 register_other registers to v r ne = let t : (r == to) ≡ false = grind (arith, nat_tests) in ap (λ b. cond b v (registers r)) t
 
 pub set_home : (p : Linking) (registers : ℕ → Value) (sp : ℕ) (x : ℕ → ℕ) (to : ℕ) (v : Value) (w : ℕ) → 6 < to → RegsMean p registers sp x → Means p v w → RegsMean p (with_register registers to v) sp (with_reg x to w)
