@@ -200,3 +200,18 @@ complemented_word k a h =
     let one : word (negsuc 0) ≡ 4294967295 = word_only (negsuc 0) (negsuc 0) 4294967295 (omega arith) (omega (arith, ints)) in
     let e : bit_xor (word a) 0xFFFFFFFF ≡ difference_of 4294967295 (word a) = xor_ones (word a) w ∙ (omega arith) in
     e ∙ ap (λ z. difference_of z (word a)) (sym one) ∙ ap (difference_of (word (negsuc 0))) (sym (word_wrap k a h)) ∙ sym (word_difference (negsuc 0) (wrap k a)) ∙ sym (word_wrap k (negsuc 0 -ℤ wrap k a) h)
+
+-- a quotient by a divisor that is neither 0 nor -1
+pub quotient_word : (a b : ℕ) → a < 2 ^ 32 → 0 < b → b < 2 ^ 31 → quotient a b ≡ word (int_div (signed a) (pos b))
+quotient_word a b h some less =
+    let t : (b == 0) ≡ false = grind (arith, nat_tests) in
+    let f : (b == 0xFFFFFFFF) ≡ false = grind (arith, nat_tests) in
+    let s = signed_middle a h in
+    let m = quotient_middle (signed a) (signed b) s.0 s.1 in
+    ap (λ q. cond q 0xFFFFFFFF (cond (overflows a b) 0x80000000 (cast_unsigned w32 (int_div (signed a) (signed b))))) t
+    ∙ ap (λ q. cond q 0x80000000 (cast_unsigned w32 (int_div (signed a) (signed b)))) (never (a == 0x80000000) (b == 0xFFFFFFFF) f)
+    ∙ sym (word_cast (int_div (signed a) (signed b)) m.low m.high) ∙ ap (λ q. word (int_div (signed a) q)) (signed_low b less)
+  where
+    never : (p q : Bool) → q ≡ false → (p && q) ≡ false
+    never true q e = e
+    never false q e = refl

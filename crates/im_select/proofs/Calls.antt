@@ -22,7 +22,7 @@ use Rattle.im_reach.proofs.Reach.{plus_is, join, puts, leaps, loads, stores, the
 use Rattle.im_operators.specs.Tables.{extension_of, cell_word}
 use Rattle.im_operators.proofs.Words.{word_small, word_of, word_wrap32}
 use Rattle.im_store.specs.Checks.{Fine}
-use Rattle.im_store.specs.Objects.{Name, Link, Object, Value, Number, Null, Pointer, Unset, Shape, Store, begins, ends as ends_, shape_with, values_with, shape_without}
+use Rattle.im_store.specs.Objects.{Name, Slot, Link, Object, Value, Number, Null, Pointer, Unset, Shape, Store, begins, ends as ends_, shape_with, values_with, shape_without}
 use Rattle.im_store.specs.Outcomes.{Undef, More, End, variables}
 use Rattle.im_block.specs.declared.code.Line.{Line}
 use Rattle.im_block.specs.declared.code.Line.TheVariants.{Call}
@@ -31,7 +31,7 @@ use Rattle.im_block.specs.declared.unit.Registers.{Registers}
 use Rattle.im_block.specs.declared.unit.Registers.TheVariants.{Machine}
 use Rattle.im_block.specs.declared.unit.Function.{Function}
 use Rattle.im_block.specs.declared.unit.Unit.{Unit as Code}
-use Rattle.im_block.specs.Meaning.{Setting, Active, object_of, Spot, Frame, State, Next, Goes, Stops, Event, Tests, Saves, Restores, link_shape, shapes_of, statics_of, number_of, passed, kept, kept_by, at_block, activates, next_active, waiting, does, enters, returned, back}
+use Rattle.im_block.specs.Meaning.{Setting, Active, object_of, Spot, Frame, State, Next, Goes, Stops, Event, Tests, Saves, Restores, link_shape, slot_shape, shapes_of, statics_of, number_of, passed, kept, kept_by, at_block, activates, next_active, waiting, does, enters, returned, back}
 use Rattle.im_select.specs.Linking.{Linking, pointer_at, frame_of, limit_of, address, Means, LaidOut}
 use Rattle.im_select.specs.Selected.{Leaves, InResult, Checked, Prologue, Stands}
 use Rattle.im_select.specs.Linked.{FunctionAt, IsLinked}
@@ -41,7 +41,7 @@ use Rattle.im_select.proofs.Mapped.{Mark, mark, marks, Mapped, Under, under_more
 use Rattle.im_select.proofs.Checks.{found_fine, fine_is}
 use Rattle.im_select.proofs.Cells.{Memory, write_fixed, write_words, heard_load, heard_store}
 use Rattle.im_select.proofs.Shapes.{Premises, StaticsLive, shows_statics}
-use Rattle.im_select.proofs.Relation.{Ordered, link_of, AllLinked, Back, Chain, Rel, Advanced, Finished, After, checked_after, takes_after, SameLinks, chain_kept, link_place}
+use Rattle.im_select.proofs.Relation.{SlotsShaped, Ordered, link_of, AllLinked, Back, Chain, Rel, Advanced, Finished, After, checked_after, takes_after, SameLinks, chain_kept, link_place}
 use Rattle.im_select.proofs.Ends.{ends, told, Added, adds, regs_still, Jumped, jumps, Passed, has_room, no_room}
 
 cond_after : (p : Linking) (u : Code) (g : Setting) (words : ℕ) (c : Cpu) (m : Mem) (b : Bool) (one other : Next) → (b ≡ true → After p u g words c m one) → (b ≡ false → After p u g words c m other) → After p u g words c m (cond b one other)
@@ -96,6 +96,7 @@ pub record Outer (p : Linking) (u : Code) (g : Setting) (shape : Object → Opti
   pub small : ra < 2 ^ 32
   pub waits : Waits p u g m depth ra ws
   pub live : StaticsLive u shape
+  pub slots : SlotsShaped shape
 
 lowered_word : (depth size : ℕ) → size ≤ 65536 → depth ≤ 1048576 → sum_of (pointer_at depth) (2 ^ 32 - size) ≡ pointer_at (depth + size)
 lowered_word depth size a b = omega arith
@@ -161,6 +162,22 @@ live_new : (u : Code) (shape : Object → Option Shape) (a depth : ℕ) (objects
 live_new u shape a depth objects some l o e =
     let t : (o.activation == a) ≡ false = grind (arith, nat_tests) in
     ap (λ z. cond z (cond (o.depth == depth) (objects o.name) None) (shape o)) t ∙ l o e
+
+slots_of : (f : Function) (a : Name) (n : ℕ) (sh : Shape) → a ≡ Slot n → shapes_of f a ≡ Some sh → sh ≡ slot_shape
+slots_of f a n sh e h = by (nat_lt n f.slots) (ap (shapes_of f) (sym e) ∙ h)
+  where
+    by : (b : Bool) → cond b (Some slot_shape) None ≡ Some sh → sh ≡ slot_shape
+    by true k = cc
+    by false k = absurd cc
+
+slots_new : (shape : Object → Option Shape) (a depth : ℕ) (f : Function) → SlotsShaped shape → SlotsShaped (shape_with shape a depth (shapes_of f))
+slots_new shape a depth f l o n sh e h = elim (origin shape a depth (shapes_of f) o sh h) [
+  | Fresh x y z ↦ slots_of f o.name n sh e z
+  | Older z ↦ l o n sh e z
+]
+
+slots_left : (shape : Object → Option Shape) (a : ℕ) → SlotsShaped shape → SlotsShaped (shape_without shape a)
+slots_left shape a l o n sh e h = l o n sh e (closed shape a o sh h).1
 
 -- the stack is exhausted: the cause is stored, and the run ends
 exhausted : (p : Linking) (u : Code) (g : Setting) → Premises p u g → (s : State) (m : Mem) (x : ℕ → ℕ) (frames : List Mark) → Fixed p.image m → Words (limit_of g) g.capacity m → shown m ≡ s.output → x 0 ≡ 0 → StaticsLive u s.store.shape → Mapped p s.store.shape frames → Memory p s.store.shape s.store.values m → Finished p u 0 (record { pc = p.full; x = x }) m 1 (pos 0) s.output (variables (statics_of u) s.store) []
@@ -251,8 +268,8 @@ entered i active fuel registers ws s f block = record {
 frame_place : (depth : ℕ) → depth % 4 ≡ 0 → is_place (pointer_at depth) 4 ≡ true
 frame_place depth a = let e : pointer_at depth % 4 ≡ 0 = omega arith in let f : pointer_at depth + 4 ≤ 5242880 = omega arith in grind (arith, nat_tests)
 
-enter_begun : (p : Linking) (u : Code) (g : Setting) → Premises p u g → (s : State) (i depth fuel ra count : ℕ) (registers : ℕ → Value) (ws : List Frame) (m : Mem) (x : ℕ → ℕ) (f : Function) (block : Block) (pro : Prologue p (p.entry i) (frame_of g i) (p.place i f.entry)) → Fixed p.image m → Words (limit_of g) g.capacity m → shown m ≡ s.output → left m ≡ s.input → RegsMean p registers (pointer_at depth) x → x 1 ≡ ra → Memory p s.store.shape s.store.values m → Outer p u g s.store.shape m ws depth (s.begun + 1) ra → slice_get u.functions.items i ≡ Some f → FunctionAt p g i f → slice_get f.blocks.items f.entry ≡ Some block → (w : Lowered p g m (p.entry i) (pro.a + 4) x depth (frame_of g i)) → depth + frame_of g i ≤ g.stack → Reach 1 [] (record { pc = pro.a + 4; x = w.z }) m (record { pc = pro.b; x = w.z }) m → Advanced p u g 9 (record { pc = p.entry i; x = x }) m (entered i (record { number = s.begun + 1; depth = depth + frame_of g i }) fuel (passed f.first_parameter 10 count registers) ws s f block) (Tests ∷ Saves (record { number = s.begun + 1; depth = depth + frame_of g i }) ∷ [])
-enter_begun p u g l s i depth fuel ra count registers ws m x f block pro fixed words seen unread regs x1 mem outer is at found w room_ check =
+enter_begun : (p : Linking) (u : Code) (g : Setting) → Premises p u g → (s : State) (i depth fuel ra first count : ℕ) (registers : ℕ → Value) (ws : List Frame) (m : Mem) (x : ℕ → ℕ) (f : Function) (block : Block) (pro : Prologue p (p.entry i) (frame_of g i) (p.place i f.entry)) → (first ≡ 10) ⊎ (count ≡ 0) → Fixed p.image m → Words (limit_of g) g.capacity m → shown m ≡ s.output → left m ≡ s.input → RegsMean p registers (pointer_at depth) x → x 1 ≡ ra → Memory p s.store.shape s.store.values m → Outer p u g s.store.shape m ws depth (s.begun + 1) ra → slice_get u.functions.items i ≡ Some f → FunctionAt p g i f → slice_get f.blocks.items f.entry ≡ Some block → (w : Lowered p g m (p.entry i) (pro.a + 4) x depth (frame_of g i)) → depth + frame_of g i ≤ g.stack → Reach 1 [] (record { pc = pro.a + 4; x = w.z }) m (record { pc = pro.b; x = w.z }) m → Advanced p u g 9 (record { pc = p.entry i; x = x }) m (entered i (record { number = s.begun + 1; depth = depth + frame_of g i }) fuel (passed f.first_parameter first count registers) ws s f block) (Tests ∷ Saves (record { number = s.begun + 1; depth = depth + frame_of g i }) ∷ [])
+enter_begun p u g l s i depth fuel ra first count registers ws m x f block pro alike fixed words seen unread regs x1 mem outer is at found w room_ check =
     let a : ℕ = s.begun + 1 in
     let size : ℕ = frame_of g i in
     let sp : ℕ = pointer_at (depth + size) in
@@ -289,7 +306,7 @@ enter_begun p u g l s i depth fuel ra count registers ws m x f block pro fixed w
           (join 1 1 (Stored (address p o) 4 ∷ []) [] _ _ _ m k k save' j.reach)));
       rel = record {
         fixed = fixed';
-        regs = subst (λ z. RegsMean p (passed z 10 count registers) sp j.y) (sym at.received) (only_arguments p 10 count registers sp j.y
+        regs = subst (λ z. RegsMean p (passed z first count registers) sp j.y) (sym at.received) (only_arguments p 10 first count registers sp j.y alike
             (subst (λ q. RegsMean p registers q j.y) (j.kept 2 ∙ e2)
             (regs_still p registers (pointer_at depth) x j.y regs (j.kept 0 ∙ other_reg w.z 2 v2 0 (omega arith) ∙ w.z0 ∙ sym regs.zero_reg) (λ r six. j.kept r ∙ other_reg w.z 2 v2 r (omega arith) ∙ w.homes r six))));
         f = f;
@@ -304,13 +321,14 @@ enter_begun p u g l s i depth fuel ra count registers ws m x f block pro fixed w
         words = write_words (limit_of g) g.capacity m sp 4 ra (omega arith) (omega arith) words;
         output = output_written m sp 4 ra (omega arith) (omega arith) ∙ seen;
         input = left_written m sp 4 ra (omega arith) (omega arith) ∙ unread;
+        slots = slots_new s.store.shape a (depth + size) f outer.slots;
         statics = live_new u s.store.shape a (depth + size) (shapes_of f) (omega arith) outer.live;
       };
     }
 
 -- a whole prologue
-pub enter_after : (p : Linking) (u : Code) (g : Setting) → Premises p u g → (s : State) (i fuel ra count : ℕ) (registers : ℕ → Value) (ws : List Frame) (m : Mem) (x : ℕ → ℕ) → Fixed p.image m → Words (limit_of g) g.capacity m → shown m ≡ s.output → left m ≡ s.input → RegsMean p registers (pointer_at s.frame.active.depth) x → x 1 ≡ ra → Memory p s.store.shape s.store.values m → Outer p u g s.store.shape m ws s.frame.active.depth (s.begun + 1) ra → After p u g 9 (record { pc = p.entry i; x = x }) m (enters u g i 10 count registers ws fuel s)
-enter_after p u g l s i fuel ra count registers ws m x fixed words seen unread regs x1 mem outer =
+pub enter_after : (p : Linking) (u : Code) (g : Setting) → Premises p u g → (s : State) (i fuel ra first count : ℕ) (registers : ℕ → Value) (ws : List Frame) (m : Mem) (x : ℕ → ℕ) → (first ≡ 10) ⊎ (count ≡ 0) → Fixed p.image m → Words (limit_of g) g.capacity m → shown m ≡ s.output → left m ≡ s.input → RegsMean p registers (pointer_at s.frame.active.depth) x → x 1 ≡ ra → Memory p s.store.shape s.store.values m → Outer p u g s.store.shape m ws s.frame.active.depth (s.begun + 1) ra → After p u g 9 (record { pc = p.entry i; x = x }) m (enters u g i first count registers ws fuel s)
+enter_after p u g l s i fuel ra first count registers ws m x alike fixed words seen unread regs x1 mem outer =
     checked_after p u g 9 _ m _ _ (λ f is0.
     let is : slice_get u.functions.items i ≡ Some f = found_fine _ f is0 in
     let at = l.at.functions i f is in
@@ -324,7 +342,7 @@ enter_after p u g l s i fuel ra count registers ws m x fixed words seen unread r
     cond_after p u g 9 _ m (nat_le (depth + size) g.stack) _ _
     (λ t.
     checked_after p u g 9 _ m _ _ (λ block found0.
-    enter_begun p u g l s i depth fuel ra count registers ws m x f block pro fixed words seen unread regs x1 mem outer is at (found_fine _ block found0) w (has_room_for (depth + size) g.stack t) (has_room p m (pro.a + 4) w.z pro.b fixed (test ∙ room_yes depth size g.stack at.small top stack t) pro.checked)))
+    enter_begun p u g l s i depth fuel ra first count registers ws m x f block pro alike fixed words seen unread regs x1 mem outer is at (found_fine _ block found0) w (has_room_for (depth + size) g.stack t) (has_room p m (pro.a + 4) w.z pro.b fixed (test ∙ room_yes depth size g.stack at.small top stack t) pro.checked)))
     (λ t. enter_full p u g l s m (p.entry i) (pro.a + 4) pro.b x depth size (marks ws) fixed words seen outer.live outer.mapped mem w (test ∙ room_no depth size g.stack at.small top stack t) pro.checked))
 
 -- registers are lost at calls
@@ -340,7 +358,7 @@ call_after p u g l s c m r i count imm rest lands h code =
     takes_after p u g 10 c m s.fuel s.output _ r.output (λ less.
     first_after p u g 9 c (record { pc = p.entry i; x = x }) m _
     (leaps p.image m c.pc c.x (jumping 1 imm) (sum_of c.pc 4) (p.entry i) r.fixed h (ap (Puts (sum_of c.pc 4)) lands))
-    (enter_after p u g l s i less (c.pc + 4) count s.frame.registers (waiting u g s.frame 10 rest ∷ s.callers) m x r.fixed r.words r.output r.input
+    (enter_after p u g l s i less (c.pc + 4) 10 count s.frame.registers (waiting u g s.frame 10 rest ∷ s.callers) m x (inl refl) r.fixed r.words r.output r.input
     (set_scratch p s.frame.registers (pointer_at s.frame.active.depth) c.x 1 (sum_of c.pc 4) (omega arith) (omega arith) (omega arith) r.regs)
     (same_reg c.x 1 (sum_of c.pc 4) (omega arith) ∙ (let q = pc_low in omega arith))
     r.memory
@@ -354,6 +372,7 @@ call_after p u g l s c m r i count imm rest lands h code =
       small = omega arith;
       waits = (refl, (r.f, record { is = r.is; lost = lost_by p u g l s.frame.function r.f s.frame.registers r.is; to = refl; code = code; even = (omega arith); low = pc_low }, r.chain));
       live = r.statics;
+      slots = r.slots;
     })))
 
 -- the lines of a return
@@ -492,6 +511,7 @@ back_after p u g l s c m r (w ∷ ws) v result leaves mapped ordered linked chai
         words = r.words;
         output = r.output;
         input = r.input;
+        slots = slots_left s.store.shape s.frame.active.number r.slots;
         statics = live_left u s.store.shape s.frame.active.number linked.0 r.statics;
       };
     }

@@ -194,5 +194,6 @@ writes_after p u g at0 s c m r from w base imm next k site o rest no5 size b h c
         output = output_written m (address p ob + i) (kind_size k) (b.y from) rm.low top ∙ r.output;
         input = left_written m (address p ob + i) (kind_size k) (b.y from) rm.low top ∙ r.input;
         statics = r.statics;
+        slots = r.slots;
       };
     }))

@@ -10,3 +10,8 @@ pub mod Calls
 pub mod Places
 pub mod Operators
 pub mod Gives
+pub mod Pointers
+pub mod Computing
+pub mod Lines
+pub mod Fuel
+pub mod Steps

@@ -1,5 +1,5 @@
 -- Registers that hold the words of values.
-use Rattle.std.proofs.Common.{◌≡◌, ◌≢◌, ℕ, ◌<◌, ◌⊎◌, inl, inr, Bool, true, false, cond, List, [], ◌∷◌, sym, ap, ◌∙◌, subst, refl, arith}
+use Rattle.std.proofs.Common.{◌≡◌, ◌≢◌, ℕ, ◌<◌, ◌≤◌, ◌⊎◌, inl, inr, Bool, true, false, cond, List, [], ◌∷◌, sym, ap, ◌∙◌, subst, refl, arith}
 use Rattle.std.specs.Prelude.{◌==◌, ◌+◌, ◌-◌, nat_le, nat_lt, ◌&&◌}
 use Rattle.std.proofs.lemmas.Bool.Decides.{nat_tests}
 use Rattle.im_rv.specs.Steps.{with_reg}
@@ -64,23 +64,29 @@ set_stack p registers sp x w m = record {
   homes = λ r rsix. means_at p (registers r) _ (x r) _ refl (other_reg x 2 w r (omega arith)) (m.homes r rsix);
 }
 
--- arguments stay in the registers that they come in
-passed_mean : (p : Linking) (to count : ℕ) (registers : ℕ → Value) (r w : ℕ) → Means p (registers r) w → Means p (passed to to count registers r) w
-passed_mean p to count registers r w m = by (nat_le to r) refl (nat_lt r (to + count))
+-- arguments stay in the registers that they come in, or there are none
+passed_mean : (p : Linking) (to first count : ℕ) (registers : ℕ → Value) (r w : ℕ) → (first ≡ to) ⊎ (count ≡ 0) → Means p (registers r) w → Means p (passed to first count registers r) w
+passed_mean p to first count registers r w alike m = by (nat_le to r) refl (nat_lt r (to + count)) refl
   where
-    place : (a : Bool) → nat_le to r ≡ a → a ≡ true → to + (r - to) ≡ r
-    place a e t = grind (arith, nat_tests)
+    place : nat_le to r ≡ true → first ≡ to → first + (r - to) ≡ r
+    place t e = let k : to ≤ r = grind (arith, nat_tests) in omega arith
 
-    by : (a : Bool) → nat_le to r ≡ a → (b : Bool) → Means p (cond (a && b) (registers (to + (r - to))) Unset) w
-    by true e true = subst (λ z. Means p (registers z) w) (sym (place true e refl)) m
-    by true e false = tt
-    by false e b = tt
+    none : nat_le to r ≡ true → nat_lt r (to + count) ≡ true → count ≡ 0 → ⊥
+    none t q e = let k : to ≤ r = grind (arith, nat_tests) in let l : r < to + count = grind (arith, nat_tests) in omega arith
 
-pub only_arguments : (p : Linking) (to count : ℕ) (registers : ℕ → Value) (sp : ℕ) (x : ℕ → ℕ) → RegsMean p registers sp x → RegsMean p (passed to to count registers) sp x
-only_arguments p to count registers sp x m = record {
+    by : (a : Bool) → nat_le to r ≡ a → (b : Bool) → nat_lt r (to + count) ≡ b → Means p (cond (a && b) (registers (first + (r - to))) Unset) w
+    by true e true f = elim alike [
+      | inl h ↦ subst (λ z. Means p (registers z) w) (sym (place e h)) m
+      | inr h ↦ absurd (none e f h)
+    ]
+    by true e false f = tt
+    by false e b f = tt
+
+pub only_arguments : (p : Linking) (to first count : ℕ) (registers : ℕ → Value) (sp : ℕ) (x : ℕ → ℕ) → (first ≡ to) ⊎ (count ≡ 0) → RegsMean p registers sp x → RegsMean p (passed to first count registers) sp x
+only_arguments p to first count registers sp x alike m = record {
   zero_reg = m.zero_reg;
   stack = m.stack;
-  homes = λ r rsix. passed_mean p to count registers r (x r) (m.homes r rsix);
+  homes = λ r rsix. passed_mean p to first count registers r (x r) alike (m.homes r rsix);
 }
 
 -- one register alone

@@ -17,11 +17,11 @@ use Rattle.im_reach.specs.Instructions.{Fixed}
 use Rattle.im_reach.specs.Routines.{Words}
 use Rattle.im_store.specs.declared.undefined.Undefined.{Undefined}
 use Rattle.im_store.specs.Checks.{Checked, Fine, Bad}
-use Rattle.im_store.specs.Objects.{Name, Link, Object, Value, Unset, Shape}
+use Rattle.im_store.specs.Objects.{Name, Slot, Link, Object, Value, Unset, Shape}
 use Rattle.im_store.specs.Outcomes.{Outcome, Undef, More, End}
 use Rattle.im_block.specs.declared.unit.Function.{Function}
 use Rattle.im_block.specs.declared.unit.Unit.{Unit as Code}
-use Rattle.im_block.specs.Meaning.{Setting, Spot, Frame, State, Event, Next, Goes, Stops, link_shape, statics_of, on_checked, takes}
+use Rattle.im_block.specs.Meaning.{Setting, Spot, Frame, State, Event, Next, Goes, Stops, link_shape, slot_shape, statics_of, on_checked, takes}
 use Rattle.im_store.specs.Statics.{with_statics}
 use Rattle.im_select.specs.Linking.{Linking, pointer_at, frame_of, limit_of, address}
 use Rattle.im_select.specs.Selected.{Stands}
@@ -58,6 +58,10 @@ Chain p u g m depth size [] = (little m (pointer_at depth) 4 ≡ p.begin + 4) ×
 Chain p u g m depth size (w ∷ ws) =
     (depth ≡ w.active.depth + size) × ((h : Function) × Back p u g (little m (pointer_at depth) 4) w h × Chain p u g m w.active.depth (frame_of g w.function) ws)
 
+-- the objects of slots have a slot's shape
+abbrev pub SlotsShaped : (Object → Option Shape) → Type 0
+SlotsShaped shape = (o : Object) (n : ℕ) (sh : Shape) → o.name ≡ Slot n → shape o ≡ Some sh → sh ≡ slot_shape
+
 pub record Rel (p : Linking) (u : Code) (g : Setting) (s : State) (c : Cpu) (m : Mem) : Type 0 where
   pub fixed : Fixed p.image m
   pub regs : RegsMean p s.frame.registers (pointer_at s.frame.active.depth) c.x
@@ -73,6 +77,7 @@ pub record Rel (p : Linking) (u : Code) (g : Setting) (s : State) (c : Cpu) (m :
   pub words : Words (limit_of g) g.capacity m
   pub output : shown m ≡ s.output
   pub input : left m ≡ s.input
+  pub slots : SlotsShaped s.store.shape
   pub statics : (o : Object) → o.activation ≡ 0 → s.store.shape o ≡ (with_statics (statics_of u)).shape o
 
 -- what a step of placed code is on the machine: some steps, at most so many
@@ -132,6 +137,7 @@ moved_rel p u g s c m r pc x spot registers fuel code regs = record {
   output = r.output;
   input = r.input;
   statics = r.statics;
+  slots = r.slots;
 }
 
 -- the return addresses are as they were

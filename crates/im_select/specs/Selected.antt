@@ -85,7 +85,7 @@ pub data Selected (p : Linking) (pc : ℕ) : Line → ℕ → Type 0 where
   Nots : (to from : ℕ) → IsHome to → IsHome from → Holds p.image pc (with_immediate Sltiu to from 1) → Selected p pc (Not to from) (pc + 4)
   Computes : (to : ℕ) (op : BinaryOp) (kind : Kind) (left right : ℕ) → IsHome to → IsHome left → IsHome right → IsPromoted kind → Holds p.image pc (on_registers (operation op kind) to left right) → Selected p pc (Compute to op kind left right) (pc + 4)
   Compares : (to : ℕ) (op : Comparison) (kind : Kind) (left right next : ℕ) → IsHome to → IsHome left → IsHome right → IsPromoted kind ⊎ (kind ≡ Ptr) → Compared p pc to (less_op kind) left right op next → Selected p pc (Compare to op kind left right) next
-  Moves : (to size : ℕ) (back : Bool) (pointer by mid : ℕ) → IsHome to → IsHome pointer → IsHome by → Constant p pc 5 size mid → Holds p.image mid (on_registers Mul 5 5 by) → Holds p.image (mid + 4) (on_registers (if back then Sub else AddOp) to pointer 5) → Selected p pc (Move to size back pointer by) (mid + 4 + 4)
+  Moves : (to size : ℕ) (back : Bool) (pointer by mid : ℕ) → IsHome to → IsHome pointer → IsHome by → size < 2 ^ 32 → Constant p pc 5 size mid → Holds p.image mid (on_registers Mul 5 5 by) → Holds p.image (mid + 4) (on_registers (if back then Sub else AddOp) to pointer 5) → Selected p pc (Move to size back pointer by) (mid + 4 + 4)
   Measures : (to size left right mid : ℕ) → IsHome to → IsHome left → IsHome right → 0 < size → size < 2 ^ 31 → Holds p.image pc (on_registers Sub 5 left right) → Constant p (pc + 4) 6 size mid → Holds p.image mid (on_registers Div to 5 6) → Selected p pc (Distance to size left right) (mid + 4)
   Addresses : (to : ℕ) (place : Place) (base imm next : ℕ) → IsHome to → Based p pc place base imm next → Holds p.image next (with_immediate Addi to base imm) → Selected p pc (Address to place) (next + 4)
   Fetches : (to : ℕ) (place : Place) (kind : Kind) (access base imm next : ℕ) → IsHome to → Based p pc place base imm next → Holds p.image next (with_immediate (load_op kind) to base imm) → Selected p pc (Read to place kind access) (next + 4)
