@@ -56,9 +56,9 @@ gets_paid u g to rest [] fuel n s h = h
 gets_paid u g to rest (byte ∷ input) fuel n s h = h
 
 does_paid : (u : Code) (g : Setting) (line : Line) (rest : List Line) (s : State) → Paid s.fuel (does u g line rest s)
-does_paid u g (Put to z) rest s = computes_paid to _ rest s
-does_paid u g (PutNull to) rest s = computes_paid to _ rest s
-does_paid u g (Copy to from) rest s = computes_paid to _ rest s
+does_paid u g (Put to z) rest s = omega arith
+does_paid u g (PutNull to) rest s = omega arith
+does_paid u g (Copy to from) rest s = omega arith
 does_paid u g (Convert to kind from) rest s = computes_paid to _ rest s
 does_paid u g (Unary to op kind from) rest s = computes_paid to _ rest s
 does_paid u g (Not to from) rest s = computes_paid to _ rest s

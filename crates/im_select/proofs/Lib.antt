@@ -15,3 +15,6 @@ pub mod Computing
 pub mod Lines
 pub mod Fuel
 pub mod Steps
+pub mod Separate
+pub mod Sections
+pub mod Whole

@@ -211,12 +211,12 @@ follow p u g l (suc k) s c m o events run right r e = follow_next p u g k o run 
 
 -- the machine before its first line
 
-record StaticLies (u : Code) (o : Object) (sh : Shape) : Type 0 where
-  activation : o.activation ≡ 0
-  depth : o.depth ≡ 0
-  there : static_shapes (statics_of u) o.name ≡ Some sh
+pub record StaticLies (u : Code) (o : Object) (sh : Shape) : Type 0 where
+  pub activation : o.activation ≡ 0
+  pub depth : o.depth ≡ 0
+  pub there : static_shapes (statics_of u) o.name ≡ Some sh
 
-static_lies : (u : Code) (o : Object) (sh : Shape) → (with_statics (statics_of u)).shape o ≡ Some sh → StaticLies u o sh
+pub static_lies : (u : Code) (o : Object) (sh : Shape) → (with_statics (statics_of u)).shape o ≡ Some sh → StaticLies u o sh
 static_lies u o sh e = by (o.activation == 0) (o.depth == 0) refl refl e
   where
     equal : (a : ℕ) → (a == 0) ≡ true → a ≡ 0
