@@ -53,7 +53,7 @@ name_at statics by n = either_name (nat_lt n statics) (static n) (object_of by (
 
 -- the bytes of an access of this size are those that it reaches
 abbrev pub Fits : ℕ → Option Reach → Active → ℕ → List Byte → Type 0
-Fits statics None by n bytes = ⊥
+Fits statics None by n bytes = Unit {0}
 Fits statics (Some (ToSlot slot)) by n bytes = bytes ≡ bytes_of (object_of by (Slot slot)) 0 n
 Fits statics (Some (Exactly object at)) by n bytes = bytes ≡ bytes_of (object_at statics by object) at n
 Fits statics (Some (Among objects)) by n bytes = (x : Byte) → Has bytes x → HasNumber x.object objects
@@ -147,37 +147,28 @@ sharing statics (Some (Among os)) (Some (Among ps)) m n by wb rb x fw fr hw hr =
     let same = named_is w.0 r.0 (sym w.1 ∙ r.1) in
     (r.0, subst (Has os) same w.2, r.2)
 sharing statics (Some (Among os)) None m n by wb rb x fw fr hw hr = tt
-sharing statics None s m n by wb rb x fw fr hw hr = absurd fw
-
--- no access touches a return address
-pub never_link : (statics : ℕ) (r : Option Reach) (by : Active) (n : ℕ) (bytes : List Byte) (x : Byte) → Fits statics r by n bytes → Has bytes x → name_of x ≡ Link → ⊥
-never_link statics None by n bytes x f h e = absurd f
-never_link statics (Some (ToSlot slot)) by n bytes x f h e =
-    let name : Slot slot ≡ Link = sym (slot_name by slot n bytes x f h) ∙ e in
-    cc
-never_link statics (Some (Exactly object at)) by n bytes x f h e =
-    let name : Named object ≡ Link = sym (exact_name statics by object at n bytes x f h) ∙ e in
-    cc
-never_link statics (Some (Among objects)) by n bytes x f h e =
-    let w = f x h in
-    let name : Named w.0 ≡ Link = sym w.1 ∙ e in
-    cc
+sharing statics None s m n by wb rb x fw fr hw hr = tt
 
 pub link_name : (by : Active) (x : Byte) → Has (link_bytes by) x → name_of x ≡ Link
 link_name by x h = ap (λ (o : Object). o.name) (has_bytes (object_of by Link) 0 4 x h).object
 
+-- what an access touches: bytes within its reach, and no return address
+pub record Touched (statics : ℕ) (tags : Tags) (by : Active) (site : Site) (bytes : List Byte) : Type 0 where
+  pub fit : Fits statics (reach_of tags site) by site.size bytes
+  pub free : (x : Byte) → Has bytes x → name_of x ≡ Link → ⊥
+
 -- what a section touches is what a path does
 abbrev pub Aligned : ℕ → Tags → Active → List Step → List (Item Byte) → Type 0
 Aligned statics tags by [] [] = Unit {0}
-Aligned statics tags by (ReadStep site ∷ path) (Reader bytes ∷ section) = Fits statics (reach_of tags site) by site.size bytes × Aligned statics tags by path section
-Aligned statics tags by (WriteStep site ∷ path) (Writer bytes ∷ section) = Fits statics (reach_of tags site) by site.size bytes × Aligned statics tags by path section
+Aligned statics tags by (ReadStep site ∷ path) (Reader bytes ∷ section) = Touched statics tags by site bytes × Aligned statics tags by path section
+Aligned statics tags by (WriteStep site ∷ path) (Writer bytes ∷ section) = Touched statics tags by site bytes × Aligned statics tags by path section
 Aligned statics tags by path section = ⊥
 
 pub record OpenRead (statics : ℕ) (tags : Tags) (by : Active) (path : List Step) (x : Byte) : Type 0 where
   pub site : Site
   pub bytes : List Byte
   pub open_there : Open tags path site
-  pub fit : Fits statics (reach_of tags site) by site.size bytes
+  pub touched : Touched statics tags by site bytes
   pub has : Has bytes x
 
 -- what a section exposes is open on its path
@@ -186,8 +177,8 @@ exposed_open statics tags by path [] x al ex = absurd ex
 exposed_open statics tags by [] (Reader bytes ∷ section) x al ex = absurd al
 exposed_open statics tags by (ReadStep site ∷ path) (Reader bytes ∷ section) x al ex =
     ⊎_elim
-    (λ h. record { site = site; bytes = bytes; open_there = inl refl; fit = al.0; has = h })
-    (λ h. let r = exposed_open statics tags by path section x al.1 h in record { site = r.site; bytes = r.bytes; open_there = inr r.open_there; fit = r.fit; has = r.has })
+    (λ h. record { site = site; bytes = bytes; open_there = inl refl; touched = al.0; has = h })
+    (λ h. let r = exposed_open statics tags by path section x al.1 h in record { site = r.site; bytes = r.bytes; open_there = inr r.open_there; touched = r.touched; has = r.has })
     ex
 exposed_open statics tags by (WriteStep site ∷ path) (Reader bytes ∷ section) x al ex = absurd al
 exposed_open statics tags by [] (Writer bytes ∷ section) x al ex = absurd al
@@ -197,20 +188,20 @@ exposed_open statics tags by (WriteStep site ∷ path) (Writer bytes ∷ section
     record {
       site = r.site;
       bytes = r.bytes;
-      open_there = (λ c. ex.0 (covered statics (reach_of tags site) (reach_of tags r.site) site.size r.site.size by bytes r.bytes x c al.0 r.fit r.has), r.open_there);
-      fit = r.fit;
+      open_there = (λ c. ex.0 (covered statics (reach_of tags site) (reach_of tags r.site) site.size r.site.size by bytes r.bytes x c al.0.fit r.touched.fit r.has), r.open_there);
+      touched = r.touched;
       has = r.has;
     }
 exposed_open statics tags by path (Break ∷ section) x al ex = absurd ex
 
-pub aligned_read : (statics : ℕ) (tags : Tags) (by : Active) (site : Site) (bytes : List Byte) (path : List Step) (section : List (Item Byte)) → Aligned statics tags by path section → Fits statics (reach_of tags site) by site.size bytes → Aligned statics tags by (path ++ ReadStep site ∷ []) (section ++ Reader bytes ∷ [])
+pub aligned_read : (statics : ℕ) (tags : Tags) (by : Active) (site : Site) (bytes : List Byte) (path : List Step) (section : List (Item Byte)) → Aligned statics tags by path section → Touched statics tags by site bytes → Aligned statics tags by (path ++ ReadStep site ∷ []) (section ++ Reader bytes ∷ [])
 aligned_read statics tags by site bytes [] [] al h = (h, tt)
 aligned_read statics tags by site bytes [] (i ∷ section) al h = absurd al
 aligned_read statics tags by site bytes (ReadStep a ∷ path) (Reader bs ∷ section) al h = (al.0, aligned_read statics tags by site bytes path section al.1 h)
 aligned_read statics tags by site bytes (WriteStep a ∷ path) (Writer bs ∷ section) al h = (al.0, aligned_read statics tags by site bytes path section al.1 h)
 aligned_read statics tags by site bytes (a ∷ path) section al h = absurd al
 
-pub aligned_write : (statics : ℕ) (tags : Tags) (by : Active) (site : Site) (bytes : List Byte) (path : List Step) (section : List (Item Byte)) → Aligned statics tags by path section → Fits statics (reach_of tags site) by site.size bytes → Aligned statics tags by (path ++ WriteStep site ∷ []) (section ++ Writer bytes ∷ [])
+pub aligned_write : (statics : ℕ) (tags : Tags) (by : Active) (site : Site) (bytes : List Byte) (path : List Step) (section : List (Item Byte)) → Aligned statics tags by path section → Touched statics tags by site bytes → Aligned statics tags by (path ++ WriteStep site ∷ []) (section ++ Writer bytes ∷ [])
 aligned_write statics tags by site bytes [] [] al h = (h, tt)
 aligned_write statics tags by site bytes [] (i ∷ section) al h = absurd al
 aligned_write statics tags by site bytes (ReadStep a ∷ path) (Reader bs ∷ section) al h = (al.0, aligned_write statics tags by site bytes path section al.1 h)

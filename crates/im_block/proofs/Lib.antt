@@ -4,3 +4,4 @@ pub mod Twins
 pub mod Bytes
 pub mod Sections
 pub mod Flows
+pub mod Stores

@@ -6,7 +6,7 @@ use Rattle.im_num.specs.Kinds.{wrap}
 use Rattle.im_num.specs.declared.kind.Kind.TheVariants.{U8}
 use Rattle.im_num.specs.declared.values.Cause.{Cause}
 use Rattle.im_store.specs.Checks.{Checked, Fine, Bad}
-use Rattle.im_store.specs.Objects.{Value, Number, Null, Unset}
+use Rattle.im_store.specs.Objects.{Slot, Link, Object, Value, Number, Null, Unset}
 use Rattle.im_store.specs.Outcomes.{Outcome}
 use Rattle.im_block.specs.declared.access.Tags.{Tags}
 use Rattle.im_block.specs.declared.code.Line.{Line}
@@ -16,14 +16,15 @@ use Rattle.im_block.specs.declared.code.Exit.TheVariants.{Jump, Turn, Branch, Re
 use Rattle.im_block.specs.declared.code.Block.{Block}
 use Rattle.im_block.specs.declared.unit.Function.{Function}
 use Rattle.im_block.specs.declared.unit.Unit.{Unit as Code}
-use Rattle.im_block.specs.Meaning.{Setting, Site, Event, Reads, Writes, Tests, Saves, Restores, Serves, Cuts, Found, Left, Spot, Active, Frame, State, Next, Goes, Stops, on_checked, takes, found, kept_by, with_rest, with_register, at_block, sets, computes, reads, writes, waiting, enters, served, gets, does, goes_to, back, leaves, step_at, step, number_of, condition, next_active}
+use Rattle.im_block.specs.Meaning.{object_of, Setting, Site, site_of, slot_site, slot_of, statics_of, Location, Event, Reads, Writes, Tests, Saves, Restores, Serves, Cuts, Found, Left, Spot, Active, Frame, State, Next, Goes, Stops, on_checked, takes, found, kept_by, with_rest, with_register, at_block, sets, computes, reads, writes, waiting, enters, served, gets, does, goes_to, back, leaves, step_at, step, number_of, condition, next_active}
 use Rattle.im_block.specs.Runs.{start, before, Over, goes_on, exec, Runs}
 use Rattle.im_block.specs.Sections.{Item, Reader, Writer, Break, Has, Exposed, NoWar, NoWarAfter, Byte, bytes_of, link_bytes, items}
-use Rattle.im_block.specs.Tagged.{reach_of, AllHold}
+use Rattle.im_block.specs.Tagged.{reach_of, Reaches, HoldsAt, AllHold}
 use Rattle.im_block.specs.Paths.{Step, ReadStep, WriteStep, steps_of, IsCut, IsEdge, spot, Path, Here, Along, Across, AfterCut, Begins, AllSectioned}
 use Rattle.im_block.specs.Forced.{StartsWithCut, CutAfterCalls, AllForced}
 use Rattle.im_block.proofs.Words.{found_is}
-use Rattle.im_block.proofs.Bytes.{Fits, fits, sharing, never_link, link_name, Aligned, exposed_open, aligned_read, aligned_write}
+use Rattle.im_block.proofs.Bytes.{has_bytes, fits, sharing, link_name, Touched, Aligned, exposed_open, aligned_read, aligned_write}
+use Rattle.im_block.proofs.Stores.{Bare, bare_shape, bare_begun, bare_ended, bare_start, read_free, write_leaves, write_free, slot_read_at, slot_write_at, slot_write_leaves}
 
 -- the spot stands in its block
 pub record Stands (blocks : List Block) (s : Spot) : Type 0 where
@@ -128,6 +129,7 @@ module _ (u : Code) (tags : Tags) (g : Setting) (forced : AllForced u) (sectione
     known : Known s.frame s.frame.spot
     callers : AllWaiting s.callers
     track : Track s.frame section
+    bare : Bare s.store
 
   -- one step keeps to the paths
   abbrev Keeps : List (Item Byte) → Next → Type 0
@@ -178,7 +180,7 @@ module _ (u : Code) (tags : Tags) (g : Setting) (forced : AllForced u) (sectione
   silent_keeps : (s : State) (section : List (Item Byte)) (line : Line) (rest : List Line) (registers : ℕ → Value) (input output : List ℕ) (fuel : ℕ) (events : List Event) → items events ≡ [] → s.frame.spot.rest ≡ line ∷ rest → (IsCut line → ⊥) → steps_of line ≡ [] → Tracked s section → Keeps section (Goes (record s { frame = set_to s.frame rest registers; input = input; output = output; fuel = fuel }) events)
   silent_keeps s section line rest registers input output fuel events quiet e uncut none t = λ _. (
     section,
-    record { known = known_with s.frame (set_to s.frame rest registers) (past s.frame rest) refl (known_next s section line rest e t); callers = t.callers; track = track_past s.frame section line rest registers e uncut none t.track },
+    record { known = known_with s.frame (set_to s.frame rest registers) (past s.frame rest) refl (known_next s section line rest e t); callers = t.callers; track = track_past s.frame section line rest registers e uncut none t.track; bare = t.bare },
     λ more h. subst (λ l. NoWarAfter section (l ++ more)) (sym quiet) h,
   )
 
@@ -187,53 +189,55 @@ module _ (u : Code) (tags : Tags) (g : Setting) (forced : AllForced u) (sectione
       checked_keeps section c (λ v. sets to v rest s []) (λ v is.
       silent_keeps s section line rest (with_register s.frame.registers to v) s.input s.output s.fuel [] refl e uncut none t)
 
-  read_track : (frame : Frame) (section : List (Item Byte)) (line : Line) (rest : List Line) (registers : ℕ → Value) (site : Site) (bytes : List Byte) → frame.spot.rest ≡ line ∷ rest → (IsCut line → ⊥) → steps_of line ≡ ReadStep site ∷ [] → Fits statics (reach_of tags site) frame.active site.size bytes → Track frame section → Track (set_to frame rest registers) (section ++ Reader bytes ∷ [])
+  read_track : (frame : Frame) (section : List (Item Byte)) (line : Line) (rest : List Line) (registers : ℕ → Value) (site : Site) (bytes : List Byte) → frame.spot.rest ≡ line ∷ rest → (IsCut line → ⊥) → steps_of line ≡ ReadStep site ∷ [] → Touched statics tags frame.active site bytes → Track frame section → Track (set_to frame rest registers) (section ++ Reader bytes ∷ [])
   read_track frame section line rest registers site bytes e uncut is fit (OnPath f begin path at from p al) =
       let there : Path f.blocks.items begin path (past frame (line ∷ rest)) = subst (λ r. Path f.blocks.items begin path (past frame r)) e p in
       let on = Along path frame.spot.block line rest frame.spot.exit uncut there in
       OnPath f begin (path ++ ReadStep site ∷ []) at from (subst (λ q. Path f.blocks.items begin (path ++ q) (past frame rest)) is on) (aligned_read statics tags frame.active site bytes path section al fit)
   read_track frame section line rest registers site bytes e uncut is fit (Soon h) = absurd (uncut (subst StartsWithCut e h))
 
-  reads_keeps : (s : State) (section : List (Item Byte)) (line : Line) (to : ℕ) (site : Site) (c : Checked Found) (rest : List Line) → s.frame.spot.rest ≡ line ∷ rest → (IsCut line → ⊥) → steps_of line ≡ ReadStep site ∷ [] → Tracked s section → Keeps section (reads to site c rest s)
-  reads_keeps s section line to site c rest e uncut is t =
-      checked_keeps section c _ (λ x _ holds.
+  reads_keeps : (s : State) (section : List (Item Byte)) (line : Line) (to : ℕ) (site : Site) (c : Checked Found) (rest : List Line) → s.frame.spot.rest ≡ line ∷ rest → (IsCut line → ⊥) → steps_of line ≡ ReadStep site ∷ [] → ((f : Found) → c ≡ Fine f → HoldsAt statics site.slot (slice_get tags.tags.items site.number) s.frame.active f.at.object f.at.offset → Touched statics tags s.frame.active site (bytes_of f.at.object f.at.offset site.size)) → Tracked s section → Keeps section (reads to site c rest s)
+  reads_keeps s section line to site c rest e uncut is touch t =
+      checked_keeps section c _ (λ x fine holds.
       let bytes = bytes_of x.at.object x.at.offset site.size in
-      let fit = fits statics (reach_of tags site) s.frame.active x.at.object x.at.offset site.size holds.0 in (
+      let fit = touch x fine holds.0 in (
         section ++ Reader bytes ∷ [],
         record {
           known = known_with s.frame _ (past s.frame rest) refl (known_next s section line rest e t);
           callers = t.callers;
           track = read_track s.frame section line rest (with_register s.frame.registers to x.value) site bytes e uncut is fit t.track;
+          bare = t.bare;
         },
         λ more h. h,
       ))
 
   -- no byte of the write is exposed
-  write_safe : (s : State) (section : List (Item Byte)) (line : Line) (rest : List Line) (site : Site) (bytes : List Byte) → s.frame.spot.rest ≡ line ∷ rest → (IsCut line → ⊥) → steps_of line ≡ WriteStep site ∷ [] → Fits statics (reach_of tags site) s.frame.active site.size bytes → Track s.frame section → (x : Byte) → Has bytes x → Exposed section x → ⊥
+  write_safe : (s : State) (section : List (Item Byte)) (line : Line) (rest : List Line) (site : Site) (bytes : List Byte) → s.frame.spot.rest ≡ line ∷ rest → (IsCut line → ⊥) → steps_of line ≡ WriteStep site ∷ [] → Touched statics tags s.frame.active site bytes → Track s.frame section → (x : Byte) → Has bytes x → Exposed section x → ⊥
   write_safe s section line rest site bytes e uncut is fit (OnPath f begin path at from p al) x has exposed =
       let there : Path f.blocks.items begin path (past s.frame (line ∷ rest)) = subst (λ r. Path f.blocks.items begin path (past s.frame r)) e p in
       let r = exposed_open statics tags s.frame.active path section x al exposed in
-      let meet = sharing statics (reach_of tags site) (reach_of tags r.site) site.size r.site.size s.frame.active bytes r.bytes x fit r.fit has r.has in
+      let meet = sharing statics (reach_of tags site) (reach_of tags r.site) site.size r.site.size s.frame.active bytes r.bytes x fit.fit r.touched.fit has r.has in
       (sectioned.each s.frame.function f at).each begin from path s.frame.spot.block line rest s.frame.spot.exit there site r.site is r.open_there meet
   write_safe s section line rest site bytes e uncut is fit (Soon h) x has exposed = uncut (subst StartsWithCut e h)
 
-  write_track : (frame : Frame) (section : List (Item Byte)) (line : Line) (rest : List Line) (site : Site) (bytes : List Byte) → frame.spot.rest ≡ line ∷ rest → (IsCut line → ⊥) → steps_of line ≡ WriteStep site ∷ [] → Fits statics (reach_of tags site) frame.active site.size bytes → Track frame section → Track (with_rest frame rest) (section ++ Writer bytes ∷ [])
+  write_track : (frame : Frame) (section : List (Item Byte)) (line : Line) (rest : List Line) (site : Site) (bytes : List Byte) → frame.spot.rest ≡ line ∷ rest → (IsCut line → ⊥) → steps_of line ≡ WriteStep site ∷ [] → Touched statics tags frame.active site bytes → Track frame section → Track (with_rest frame rest) (section ++ Writer bytes ∷ [])
   write_track frame section line rest site bytes e uncut is fit (OnPath f begin path at from p al) =
       let there : Path f.blocks.items begin path (past frame (line ∷ rest)) = subst (λ r. Path f.blocks.items begin path (past frame r)) e p in
       let on = Along path frame.spot.block line rest frame.spot.exit uncut there in
       OnPath f begin (path ++ WriteStep site ∷ []) at from (subst (λ q. Path f.blocks.items begin (path ++ q) (past frame rest)) is on) (aligned_write statics tags frame.active site bytes path section al fit)
   write_track frame section line rest site bytes e uncut is fit (Soon h) = absurd (uncut (subst StartsWithCut e h))
 
-  writes_keeps : (s : State) (section : List (Item Byte)) (line : Line) (site : Site) (c : Checked Left) (rest : List Line) → s.frame.spot.rest ≡ line ∷ rest → (IsCut line → ⊥) → steps_of line ≡ WriteStep site ∷ [] → Tracked s section → Keeps section (writes site c rest s)
-  writes_keeps s section line site c rest e uncut is t =
-      checked_keeps section c _ (λ x _ holds.
+  writes_keeps : (s : State) (section : List (Item Byte)) (line : Line) (site : Site) (c : Checked Left) (rest : List Line) → s.frame.spot.rest ≡ line ∷ rest → (IsCut line → ⊥) → steps_of line ≡ WriteStep site ∷ [] → ((l : Left) → c ≡ Fine l → HoldsAt statics site.slot (slice_get tags.tags.items site.number) s.frame.active l.at.object l.at.offset → Touched statics tags s.frame.active site (bytes_of l.at.object l.at.offset site.size)) → ((l : Left) → c ≡ Fine l → l.store.shape ≡ s.store.shape) → Tracked s section → Keeps section (writes site c rest s)
+  writes_keeps s section line site c rest e uncut is touch leaves t =
+      checked_keeps section c _ (λ x fine holds.
       let bytes = bytes_of x.at.object x.at.offset site.size in
-      let fit = fits statics (reach_of tags site) s.frame.active x.at.object x.at.offset site.size holds.0 in (
+      let fit = touch x fine holds.0 in (
         section ++ Writer bytes ∷ [],
         record {
           known = known_with s.frame _ (past s.frame rest) refl (known_next s section line rest e t);
           callers = t.callers;
           track = write_track s.frame section line rest site bytes e uncut is fit t.track;
+          bare = bare_shape s.store x.store (leaves x fine) t.bare;
         },
         λ more h. (write_safe s section line rest site bytes e uncut is fit t.track, h),
       ))
@@ -249,6 +253,7 @@ module _ (u : Code) (tags : Tags) (g : Setting) (forced : AllForced u) (sectione
           known = known_with s.frame _ begin refl (known_next s section (Cut cause) rest e t);
           callers = t.callers;
           track = OnPath now.f begin [] now.at (inr from) Here tt;
+          bare = t.bare;
         },
         λ more h. h,
       )
@@ -278,15 +283,15 @@ module _ (u : Code) (tags : Tags) (g : Setting) (forced : AllForced u) (sectione
       checked_keeps section (found (slice_get f.blocks.items b)) _ (λ block is_block _.
       let at = found_is (slice_get f.blocks.items b) block is_block in (
         section,
-        record { known = known_at s.frame _ f b block refl at_f at; callers = t.callers; track = to_track s.frame section f b block edge e at_f at t.track },
+        record { known = known_at s.frame _ f b block refl at_f at; callers = t.callers; track = to_track s.frame section f b block edge e at_f at t.track; bare = t.bare },
         λ more h. h,
       )))
 
-  back_keeps : (s : State) (section : List (Item Byte)) (callers : List Frame) (v : Value) → AllWaiting callers → Keeps section (back u g callers v s)
-  back_keeps s section [] v h = checked_keeps section (number_of v) _ (λ n _. tt)
-  back_keeps s section (x ∷ callers) v h = λ _. (
+  back_keeps : (s : State) (section : List (Item Byte)) (callers : List Frame) (v : Value) → Bare s.store → AllWaiting callers → Keeps section (back u g callers v s)
+  back_keeps s section [] v bare h = checked_keeps section (number_of v) _ (λ n _. tt)
+  back_keeps s section (x ∷ callers) v bare h = λ _. (
     section ++ Reader (link_bytes s.frame.active) ∷ [],
-    record { known = known_with x _ x.spot refl h.0; callers = h.2; track = Soon h.1 },
+    record { known = known_with x _ x.spot refl h.0; callers = h.2; track = Soon h.1; bare = bare_ended s.store s.frame.active.number bare },
     λ more n. n,
   )
 
@@ -300,17 +305,17 @@ module _ (u : Code) (tags : Tags) (g : Setting) (forced : AllForced u) (sectione
   leaves_keeps s section (Branch on x y) e nothing t =
       checked_keeps section (condition s.store (s.frame.registers on)) _ (λ holds _.
       to_keeps s section (if holds then x else y) s.fuel (subst (λ z. IsEdge z (if holds then x else y)) (sym e) (branch_edge holds x y on)) nothing t)
-  leaves_keeps s section (Return from) e nothing t = back_keeps s section s.callers _ t.callers
+  leaves_keeps s section (Return from) e nothing t = back_keeps s section s.callers _ t.bare t.callers
 
   -- a return address is new, so no section has read it
   link_safe : (frame : Frame) (section : List (Item Byte)) (by : Active) (line : Line) (rest : List Line) → frame.spot.rest ≡ line ∷ rest → (IsCut line → ⊥) → Track frame section → (x : Byte) → Has (link_bytes by) x → Exposed section x → ⊥
   link_safe frame section by line rest e uncut (OnPath f begin path at from p al) x has exposed =
       let r = exposed_open statics tags frame.active path section x al exposed in
-      never_link statics (reach_of tags r.site) frame.active r.site.size r.bytes x r.fit r.has (link_name by x has)
+      r.touched.free x r.has (link_name by x has)
   link_safe frame section by line rest e uncut (Soon h) x has exposed = uncut (subst StartsWithCut e h)
 
-  enters_keeps : (s : State) (section : List (Item Byte)) (i first count fuel : ℕ) (registers : ℕ → Value) (callers : List Frame) → ((by : Active) (x : Byte) → Has (link_bytes by) x → Exposed section x → ⊥) → AllWaiting callers → Keeps section (enters u g i first count registers callers fuel s)
-  enters_keeps s section i first count fuel registers callers safe all =
+  enters_keeps : (s : State) (section : List (Item Byte)) (i first count fuel : ℕ) (registers : ℕ → Value) (callers : List Frame) → ((by : Active) (x : Byte) → Has (link_bytes by) x → Exposed section x → ⊥) → Bare s.store → AllWaiting callers → Keeps section (enters u g i first count registers callers fuel s)
+  enters_keeps s section i first count fuel registers callers safe bare all =
       checked_keeps section (found (slice_get u.functions.items i)) _ (λ f is_f.
       let at_f = found_is (slice_get u.functions.items i) f is_f in
       either_keeps section (nat_le (next_active u g i s).depth g.stack) _ _
@@ -321,6 +326,7 @@ module _ (u : Code) (tags : Tags) (g : Setting) (forced : AllForced u) (sectione
           known = record { f = f; at = at_f; stands = stands_first f.blocks.items f.entry block at; later = (forced.each i f at_f).calls f.entry block at };
           callers = all;
           track = Soon ((forced.each i f at_f).entry block at);
+          bare = bare_begun s.store f (next_active u g i s) bare;
         },
         λ more h. (safe (next_active u g i s), h),
       )))
@@ -331,7 +337,7 @@ module _ (u : Code) (tags : Tags) (g : Setting) (forced : AllForced u) (sectione
       takes_keeps section s.fuel s.output _ (λ less.
       let line = Call to i first count in
       let now = known_now s section line rest e t in
-      enters_keeps s section i first count less s.frame.registers (waiting u g s.frame to rest ∷ s.callers) (λ by. link_safe s.frame section by line rest e (λ h. h) t.track) (known_with s.frame _ (past s.frame rest) refl (known_next s section line rest e t), now.later.0, t.callers))
+      enters_keeps s section i first count less s.frame.registers (waiting u g s.frame to rest ∷ s.callers) (λ by. link_safe s.frame section by line rest e (λ h. h) t.track) t.bare (known_with s.frame _ (past s.frame rest) refl (known_next s section line rest e t), now.later.0, t.callers))
 
   served_keeps : (s : State) (section : List (Item Byte)) (line : Line) (to : ℕ) (v : Value) (rest : List Line) (input output : List ℕ) (fuel : ℕ) → s.frame.spot.rest ≡ line ∷ rest → (IsCut line → ⊥) → steps_of line ≡ [] → Tracked s section → Keeps section (served u g to v rest input output fuel s)
   served_keeps s section line to v rest input output fuel e uncut none t =
@@ -340,6 +346,18 @@ module _ (u : Code) (tags : Tags) (g : Setting) (forced : AllForced u) (sectione
   gets_keeps : (s : State) (section : List (Item Byte)) (to : ℕ) (rest : List Line) (input : List ℕ) (fuel : ℕ) → s.frame.spot.rest ≡ GetChar to ∷ rest → Tracked s section → Keeps section (gets u g to rest input fuel s)
   gets_keeps s section to rest [] fuel e t = served_keeps s section (GetChar to) to (Number (negsuc 0)) rest [] s.output fuel e (λ h. h) refl t
   gets_keeps s section to rest (byte ∷ input) fuel e t = served_keeps s section (GetChar to) to (Number (pos byte)) rest input s.output fuel e (λ h. h) refl t
+
+  -- an access to a place, an access to a slot
+  touched_at : (site : Site) (by : Active) (o : Object) (offset : ℕ) → Reaches statics (reach_of tags site) by o offset → (o.name ≡ Link → ⊥) → Touched statics tags by site (bytes_of o offset site.size)
+  touched_at site by o offset h other = record {
+    fit = fits statics (reach_of tags site) by o offset site.size h;
+    free = λ x has is. other (ap (λ (q : Object). q.name) (sym (has_bytes o offset site.size x has).object) ∙ is);
+  }
+
+  slot_touched : (access slot : ℕ) (by : Active) (at : Location) → at ≡ slot_of slot by → Touched statics tags by (slot_site access slot) (bytes_of at.object at.offset 4)
+  slot_touched access slot by at e =
+      subst (λ (l : Location). Touched statics tags by (slot_site access slot) (bytes_of l.object l.offset 4)) (sym e)
+      (touched_at (slot_site access slot) by (object_of by (Slot slot)) 0 (refl, refl) (λ is. cc))
 
   does_keeps : (s : State) (section : List (Item Byte)) (line : Line) (rest : List Line) → s.frame.spot.rest ≡ line ∷ rest → Tracked s section → Keeps section (does u g line rest s)
   does_keeps s section (Put to z) rest e t = computes_keeps s section _ to (Fine (Number z)) rest e (λ h. h) refl t
@@ -353,10 +371,21 @@ module _ (u : Code) (tags : Tags) (g : Setting) (forced : AllForced u) (sectione
   does_keeps s section (Move to size back pointer by) rest e t = computes_keeps s section _ to _ rest e (λ h. h) refl t
   does_keeps s section (Distance to size left right) rest e t = computes_keeps s section _ to _ rest e (λ h. h) refl t
   does_keeps s section (Address to place) rest e t = computes_keeps s section _ to _ rest e (λ h. h) refl t
-  does_keeps s section (Read to place kind access) rest e t = reads_keeps s section _ to _ _ rest e (λ h. h) refl t
-  does_keeps s section (Write place kind from access) rest e t = writes_keeps s section _ _ _ rest e (λ h. h) refl t
-  does_keeps s section (Reload to slot access) rest e t = reads_keeps s section _ to _ _ rest e (λ h. h) refl t
-  does_keeps s section (Spill slot from access) rest e t = writes_keeps s section _ _ _ rest e (λ h. h) refl t
+  does_keeps s section (Read to place kind access) rest e t =
+      reads_keeps s section _ to (site_of access kind) _ rest e (λ h. h) refl (λ f fine holds.
+      touched_at (site_of access kind) s.frame.active f.at.object f.at.offset holds (read_free place kind s.frame.active s.frame.registers s.store f t.bare fine)) t
+  does_keeps s section (Write place kind from access) rest e t =
+      writes_keeps s section _ (site_of access kind) _ rest e (λ h. h) refl
+      (λ l fine holds.
+      touched_at (site_of access kind) s.frame.active l.at.object l.at.offset holds (write_free place kind (s.frame.registers from) s.frame.active s.frame.registers s.store l t.bare fine))
+      (λ l fine. write_leaves place kind (s.frame.registers from) s.frame.active s.frame.registers s.store l fine) t
+  does_keeps s section (Reload to slot access) rest e t =
+      reads_keeps s section _ to (slot_site access slot) _ rest e (λ h. h) refl (λ f fine holds.
+      slot_touched access slot s.frame.active f.at (slot_read_at (slot_of slot s.frame.active) s.store f fine)) t
+  does_keeps s section (Spill slot from access) rest e t =
+      writes_keeps s section _ (slot_site access slot) _ rest e (λ h. h) refl
+      (λ l fine holds. slot_touched access slot s.frame.active l.at (slot_write_at (slot_of slot s.frame.active) (s.frame.registers from) s.store l fine))
+      (λ l fine. slot_write_leaves (slot_of slot s.frame.active) (s.frame.registers from) s.store l fine) t
   does_keeps s section (Cut cause) rest e t = cut_keeps s section cause rest e t
   does_keeps s section (Call to i first count) rest e t = call_keeps s section to i first count rest e t
   does_keeps s section (GetChar to) rest e t = takes_keeps section s.fuel s.output _ (λ less. gets_keeps s section to rest s.input less e t)
@@ -397,7 +426,7 @@ module _ (u : Code) (tags : Tags) (g : Setting) (forced : AllForced u) (sectione
 
   whole_safe : (n k : ℕ) (o : Outcome) (run : List Event) → goes_on (start u g n) (exec u g k) [] ≡ Over o run → AllHold statics tags run → NoWar (items run)
   whole_safe n k o run e all =
-      let kept = enters_keeps (before u g n) [] u.main 0 0 n (λ r. Unset) [] (λ by x has exposed. exposed) tt in
+      let kept = enters_keeps (before u g n) [] u.main 0 0 n (λ r. Unset) [] (λ by x has exposed. exposed) (bare_start (statics_of u)) tt in
       let r = next_safe k (start u g n) [] [] run o e all kept (λ s' section' events' e' t'. run_safe k s' section' events' run o e' all t') in
       subst (λ l. NoWar (items l)) (sym r.is) r.safe
 

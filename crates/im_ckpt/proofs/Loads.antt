@@ -1,5 +1,5 @@
 -- Straight runs of loads.
-use Rattle.std.proofs.Common.{◌≡◌, ◌≤◌, zero, ◌≢◌, ℕ, suc, ◌+◌, ◌*◌, ◌%◌, ◌^◌, ◌<◌, ◌⊎◌, inl, inr, Bool, true, false, cond, Some, List, [], ◌∷◌, ◌++◌, refl, sym, ap, ◌∙◌, subst, arith}
+use Rattle.std.proofs.Common.{◌≡◌, ◌≤◌, ◌≢◌, ℕ, suc, ◌+◌, ◌*◌, ◌%◌, ◌^◌, ◌<◌, ◌⊎◌, inl, inr, Bool, true, false, cond, Some, List, [], ◌∷◌, ◌++◌, refl, sym, ap, ◌∙◌, subst, arith}
 use Rattle.std.specs.Prelude.{◌==◌, ◌&&◌, nat_lt, pos}
 use Rattle.std.proofs.lemmas.Bool.Decides.{nat_tests}
 use Rattle.im_mem.specs.Memory.{Mem, little, is_place, Stands}
@@ -7,7 +7,7 @@ use Rattle.im_rv.specs.declared.instr.Op.TheVariants.{Lw}
 use Rattle.im_rv.specs.declared.effect.Effect.TheVariants.{Loads}
 use Rattle.im_rv.specs.declared.effect.Extension.TheVariants.{Zero}
 use Rattle.im_rv.specs.declared.step.Went.TheVariants.{On}
-use Rattle.im_rv.specs.Steps.{Cpu, Stepped, sum_of, with_reg, word}
+use Rattle.im_rv.specs.Steps.{Cpu, sum_of, with_reg, word}
 use Rattle.im_rv.specs.Decode.{decode, step_of}
 use Rattle.im_rv.specs.Encode.{encoded}
 use Rattle.im_rv.specs.Fits.{fits}

@@ -1,6 +1,6 @@
 -- Recovery restores the live buffer, step by step.
-use Rattle.std.proofs.Common.{◌≡◌, ◌≢◌, ℕ, zero, suc, ◌+◌, ◌-◌, ◌*◌, ◌%◌, ◌^◌, ◌<◌, ◌≤◌, ◌⊎◌, inl, inr, Bool, true, false, cond, Some, List, [], ◌∷◌, ◌++◌, length, replicate, get_or, refl, sym, ap, ◌∙◌, subst, arith}
-use Rattle.std.specs.Prelude.{◌==◌, ◌&&◌, ◌||◌, not, nat_lt}
+use Rattle.std.proofs.Common.{◌≡◌, ◌≢◌, ℕ, zero, suc, ◌+◌, ◌-◌, ◌*◌, ◌%◌, ◌^◌, ◌<◌, ◌≤◌, ◌⊎◌, inl, inr, Bool, true, false, cond, List, [], ◌∷◌, ◌++◌, replicate, get_or, refl, sym, ap, ◌∙◌, subst, arith}
+use Rattle.std.specs.Prelude.{◌==◌, ◌&&◌, ◌||◌, nat_lt}
 use Rattle.std.proofs.lemmas.Bool.Decides.{nat_tests}
 use Rattle.std.proofs.lemmas.List.{get_or-replicate, get_or_past, length-replicate}
 use Rattle.im_mem.specs.Memory.{Mem, little, is_place, Stands}
@@ -14,11 +14,10 @@ use Rattle.im_rv.specs.Encode.{encoded}
 use Rattle.im_rv.specs.Lines.{instruction}
 use Rattle.im_rv.proofs.Straight.{puts_step, goes_step}
 use Rattle.im_rv.proofs.Effecting.{torn_whole}
-use Rattle.im_device.specs.Run.{Moment, boot, index_of, counting, one_step, after_step, run, torn, after_tear}
-use Rattle.im_device.specs.Periods.{fresh, power_up}
+use Rattle.im_device.specs.Run.{Moment, boot, index_of, counting, after_step, run, torn}
 use Rattle.im_ckpt.specs.Buffers.{buffer}
 use Rattle.im_ckpt.specs.Recovery.{kept_registers, load_line, return_line, recovery_words, Restored}
-use Rattle.im_ckpt.specs.Laws.{CanResume, Resumes, resuming, ResumeLaw}
+use Rattle.im_ckpt.specs.Laws.{CanResume, resuming, ResumeLaw}
 use Rattle.im_ckpt.proofs.Loads.{Backward, load_step, load_words, filled, past, after, walk, rest_stands, has, filled_in, filled_other}
 
 -- ---- which registers are loaded
@@ -158,6 +157,10 @@ unfoldable pub cpu_after : ℕ → Cpu → Mem → Cpu
 cpu_after zero c m = c
 cpu_after (suc n) c m = cpu_after n (step_of c m).cpu m
 
+pub after_none : (c : Cpu) (m : Mem) → cpu_after 0 c m ≡ c
+unfolding cpu_after
+after_none c m = refl
+
 -- each of the first k steps goes on and leaves memory as it is
 abbrev pub Walks : Mem → ℕ → Cpu → Type 0
 Walks m k c = (i : ℕ) → i < k → step_of (cpu_after i c m) m ≡ record { went = On; cpu = cpu_after (suc i) c m; mem = m }
@@ -181,7 +184,7 @@ holds_back m P k c d e h = subst (λ (s : Stepped). P (cpu_after k s.cpu m)) (sy
 pub recovery_walks : (m : Mem) (junk : ℕ) → CanResume m → Walks m 33 (boot junk)
 recovery_walks m junk can = resume_back m (Walks m) (walks_back m) junk can (λ i l. absurd (omega arith))
 
-counts_same : (m : Mem) (n : ℕ) → counting m m n ≡ n
+pub counts_same : (m : Mem) (n : ℕ) → counting m m n ≡ n
 counts_same m n = let q : (index_of m == index_of m) ≡ true = grind (arith, nat_tests) in ap (λ b. cond b n (suc n)) q
 
 -- such steps are a run that commits nothing

@@ -1,5 +1,5 @@
 -- The two register buffers. Of a buffer word 0 is the place where its section resumes, and word i is register xi.
-use Rattle.std.specs.Prelude.{ℕ, zero, suc, ◌+◌, ◌*◌, Bool, true, false, cond, not, ◌&&◌, ◌||◌, ◌==◌, nat_le, nat_lt}
+use Rattle.std.specs.Prelude.{ℕ, zero, suc, ◌+◌, ◌*◌, Bool, false, cond, not, ◌&&◌, ◌||◌, ◌==◌, nat_le, nat_lt}
 use Rattle.im_mem.specs.Memory.{is_place}
 use Rattle.im_mem.specs.Map.{buffer0_start, buffer1_start, code_start}
 use Rattle.im_rv.specs.declared.effect.Effect.{Effect}

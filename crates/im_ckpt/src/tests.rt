@@ -1,6 +1,6 @@
 use crate::{boot_buffer, checkpoint_lines, recovery_lines};
-use im_rv::encode::encode;
 use im_rv::Line;
+use im_rv::encode::encode;
 use std::test::Fail;
 
 #[test]

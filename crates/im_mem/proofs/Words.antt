@@ -1,9 +1,9 @@
 -- Numbers of several bytes in memory: what a store leaves, and what it leaves alone.
-use Rattle.std.proofs.Common.{◌≡◌, ℕ, zero, suc, ◌+◌, ◌*◌, ◌/◌, ◌%◌, ◌^◌, ◌<◌, ◌≤◌, ◌⊎◌, inl, inr, List, [], ◌∷◌, length, cond, ap, ◌∙◌, refl, arith}
+use Rattle.std.proofs.Common.{◌≡◌, ℕ, zero, suc, ◌+◌, ◌*◌, ◌/◌, ◌%◌, ◌^◌, ◌<◌, ◌≤◌, ◌⊎◌, inl, inr, List, [], ◌∷◌, length, cond, ap, ◌∙◌, get_or, refl, sym, arith}
 use Rattle.std.specs.Prelude.{◌==◌}
 use Rattle.std.proofs.lemmas.Bool.Decides.{nat_tests}
 use Rattle.im_num.specs.Bytes.{bytes_of}
-use Rattle.im_mem.specs.Memory.{Mem, little, written}
+use Rattle.im_mem.specs.Memory.{Mem, little, written, Stands}
 
 -- the number that equal bytes make
 pub little-alike : (m n : Mem) (k a : ℕ) → ((i : ℕ) → a ≤ i → i < a + k → m i ≡ n i) → little m a k ≡ little n a k
@@ -55,3 +55,14 @@ written-small m a (suc n) w h k = written-small (λ i. cond (i == a) (w % 256) (
 -- n bytes below 256 make a number below 256 ^ n: for a word
 pub word-small : (m : Mem) (a : ℕ) → ((k : ℕ) → m k < 256) → little m a 4 < 2 ^ 32
 word-small m a h = omega (arith, h a, h (a + 1), h (a + 1 + 1), h (a + 1 + 1 + 1))
+
+-- the word at a place of those that stand in memory
+pub stands-at : (m : Mem) (a : ℕ) (ws : List ℕ) (k : ℕ) → Stands m a ws → k < length ws → little m (a + 4 * k) 4 ≡ get_or ws k 0
+stands-at m a [] k st l = absurd (omega arith)
+stands-at m a (w ∷ ws) zero st l = let q : a + 4 * 0 ≡ a = omega arith in ap (λ z. little m z 4) q ∙ st.0
+stands-at m a (w ∷ ws) (suc k) st l = let q : a + 4 * suc k ≡ a + 4 + 4 * k = omega arith in ap (λ z. little m z 4) q ∙ stands-at m (a + 4) ws k st.1 (omega arith)
+
+-- words stand where each byte of theirs is the same
+pub stands-alike : (m n : Mem) (ws : List ℕ) (a : ℕ) → ((k : ℕ) → a ≤ k → k < a + 4 * length ws → m k ≡ n k) → Stands m a ws → Stands n a ws
+stands-alike m n [] a h st = tt
+stands-alike m n (w ∷ ws) a h st = (sym (little-alike m n 4 a (λ i l r. h i l (omega arith))) ∙ st.0, stands-alike m n ws (a + 4) (λ k l r. h k (omega arith) (omega arith)) st.1)

@@ -1,6 +1,9 @@
 -- A fact on memory that each step of one section keeps holds from one moment on to each later one, as long as that section lasts.
 use Rattle.std.proofs.Common.{◌≡◌, ℕ, suc, ◌+◌, ◌≤◌, ◌⊎◌, inl, inr, Bool, false, Option, sym, ◌∙◌, arith}
-use Rattle.im_path.specs.Path.{Mem, Next, patched, Moment, steps, torn, start, Followed}
+use Rattle.im_mem.specs.Memory.{Mem}
+use Rattle.im_path.specs.Path.{Next, patched, Moment, steps, torn}
+use Rattle.im_path.specs.Sections.{start}
+use Rattle.im_path.specs.Followed.{Followed}
 use Rattle.im_path.proofs.Times.{truth, start-flip, start-calm, start_le}
 use Rattle.im_path.proofs.Replay.{Place, In_recovery, In_section, At_end, Fails, failed, left_fails, in_period, place_steps, torn_place}
 

@@ -1,7 +1,10 @@
 -- A run whose power fails follows the run without failures, section by section.
 use Rattle.std.proofs.Common.{◌≡◌, ◌≢◌, ℕ, zero, suc, ◌+◌, ◌<◌, ◌≤◌, ◌⊎◌, inl, inr, Bool, true, false, cond, Option, Some, None, List, [], ◌∷◌, refl, sym, ap, ◌∙◌, subst, arith}
 use Rattle.std.specs.Prelude.{nat_le, is_some, unwrap_or, ◌||◌, nat_eq}
-use Rattle.im_path.specs.Path.{long_periods, Mem, Next, Goes, Ends, patched, Moment, counted, after_step, one_step, steps, torn, Spell, period, power, start, flips, wrote, Writes, Mixed, Agrees, Followed}
+use Rattle.im_path.specs.Path.{long_periods, Next, Goes, Ends, patched, Moment, counted, after_step, one_step, steps, torn, Spell, period, power}
+use Rattle.im_mem.specs.Memory.{Mem}
+use Rattle.im_path.specs.Sections.{start, flips, wrote, Writes, Mixed}
+use Rattle.im_path.specs.Followed.{Agrees, Followed}
 use Rattle.std.proofs.lemmas.Bool.Decides.{nat_tests}
 use Rattle.im_path.proofs.Times.{truth, start-flip, start-calm, start_le, start_past, start_start, wrote-calm, wrote-flip, wrote_by, unwritten, order}
 
@@ -87,7 +90,7 @@ module _ {R : Type 0} (next : R → Mem → Next R) (tear : ℕ → R → Mem �
     ]
   ]
 
-  fixed_mixed : (s : ℕ) (m : Mem) → Mixed flip wr mem buf s m → (a : ℕ) → fixed a ≡ true → m a ≡ mem s a
+  pub fixed_mixed : (s : ℕ) (m : Mem) → Mixed flip wr mem buf s m → (a : ℕ) → fixed a ≡ true → m a ≡ mem s a
   fixed_mixed s m mixed a h = elim (mixed a (u.fixed_outside a h)) [
     | inl e ↦ e
     | inr w ↦ absurd (let y = u.fixed_unwritten w.time a h w.no_flip in let bad : Some (m a) ≡ None = sym w.value ∙ y in cc)

@@ -1,7 +1,9 @@
 -- Sections of a run, by the times of its steps.
 use Rattle.std.proofs.Common.{◌≡◌, ◌≢◌, ℕ, zero, suc, ◌<◌, ◌≤◌, ◌⊎◌, inl, inr, Bool, true, false, cond, Option, Some, None, refl, sym, ap, ◌∙◌, subst, arith}
 use Rattle.std.specs.Prelude.{is_some, unwrap_or, ◌||◌}
-use Rattle.im_path.specs.Path.{Mem, patched, start, wrote}
+use Rattle.im_mem.specs.Memory.{Mem}
+use Rattle.im_path.specs.Path.{patched}
+use Rattle.im_path.specs.Sections.{start, wrote}
 
 pub truth : (b : Bool) → (b ≡ true) ⊎ (b ≡ false)
 truth true = inl refl

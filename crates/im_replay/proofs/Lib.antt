@@ -1,1 +1,13 @@
-pub mod Split
+pub mod Bridge
+pub mod Buffers
+pub mod Device
+pub mod Endless
+pub mod Following
+pub mod Growing
+pub mod Images
+pub mod Instance
+pub mod Machine
+pub mod Owing
+pub mod Shows
+pub mod Sound
+pub mod Steps

@@ -1,6 +1,6 @@
-// Laws of runs that lose power.
+//! From a run that never loses power to all runs that do: what a device shows that loses power at any moment.
 #![tactic(auto)]
 
 mod laws;
 
-pub use laws::split_trace_law;
+pub use laws::{output_law, progress_law, replay_law};

@@ -13,7 +13,7 @@ use Rattle.im_mem.specs.Memory.{Mem, loaded, stored, written, is_place}
 use Rattle.im_rv.specs.Formats.{format_of}
 use Rattle.im_rv.specs.Steps.{Cpu, Stepped, effected, loads, faulted, row, sum_of}
 use Rattle.im_rv.specs.Decode.{Line, decode, decoded, fetched}
-use Rattle.im_rv.specs.Laws.{ZeroStays, OneRegister, Stored, OnlyStores, store_size}
+use Rattle.im_rv.specs.Laws.{EndsCalm, ZeroStays, OneRegister, Stored, OnlyStores, store_size}
 use Rattle.im_rv.proofs.Straight.{zero_reg, other_reg}
 
 -- a store that is made where b
@@ -108,3 +108,35 @@ fetched_mem c m (Some w) f = decoded_mem c m w (decode w) f refl
 
 pub only_stores : OnlyStores
 only_stores c m = fetched_mem c m (loaded m c.pc 4) refl
+
+-- ---- the end
+
+-- processor and memory are as they were, where the run doesn't go on
+abbrev Calm : Cpu → Mem → Stepped → Type 0
+Calm c m s = s.went ≢ On → (s.cpu ≡ c) × (s.mem ≡ m)
+
+loads_calm : (c : Cpu) (m : Mem) (rd n : ℕ) (s : Extension) (o : Option ℕ) → Calm c m (loads c m rd n s o)
+loads_calm c m rd n s None over = (refl, refl)
+loads_calm c m rd n s (Some v) over = absurd (over refl)
+
+saved_calm : (b : Bool) (c : Cpu) (m k : Mem) → Calm c m (saved_at b c m k)
+saved_calm true c m k over = absurd (over refl)
+saved_calm false c m k over = (refl, refl)
+
+effect_calm : (c : Cpu) (m : Mem) (rd : ℕ) (e : Effect) → Calm c m (effected c m rd e)
+effect_calm c m rd (Puts v t) over = absurd (over refl)
+effect_calm c m rd (Goes t) over = absurd (over refl)
+effect_calm c m rd (Loads a n s) over = loads_calm c m rd n s (loaded m a n) over
+effect_calm c m rd (Stores a n v) over = saved_calm (is_place a n) c m (stored m a n v) over
+effect_calm c m rd Stops over = (refl, refl)
+
+decoded_calm : (c : Cpu) (m : Mem) (o : Option Line) → Calm c m (decoded c m o)
+decoded_calm c m None over = (refl, refl)
+decoded_calm c m (Some l) over = effect_calm c m l.rd (row l.op c.pc (c.x l.rs1) (c.x l.rs2) l.imm) over
+
+fetched_calm : (c : Cpu) (m : Mem) (o : Option ℕ) → Calm c m (fetched c m o)
+fetched_calm c m None over = (refl, refl)
+fetched_calm c m (Some w) over = decoded_calm c m (decode w) over
+
+pub ends_calm : EndsCalm
+ends_calm c m = fetched_calm c m (loaded m c.pc 4)

@@ -8,3 +8,4 @@ pub mod Sizes
 pub mod Straight
 pub mod Tearing
 pub mod Words
+pub mod Masks

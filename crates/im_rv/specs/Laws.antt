@@ -3,6 +3,7 @@ use Rattle.std.specs.Prelude.{◌≡◌, ◌≢◌, ◌<◌, ◌⊎◌, ◌^◌,
 use Rattle.im_rv.specs.declared.format.Format.TheVariants.{Store}
 use Rattle.im_rv.specs.declared.instr.Op.{Op}
 use Rattle.im_rv.specs.declared.instr.Op.TheVariants.{Sb, Sh, Sw, Ebreak}
+use Rattle.im_rv.specs.declared.step.Went.TheVariants.{On}
 use Rattle.im_mem.specs.Memory.{Mem, loaded, stored}
 use Rattle.im_rv.specs.Formats.{format_of}
 use Rattle.im_rv.specs.Steps.{Cpu, sum_of}
@@ -37,6 +38,10 @@ BytesStay = (c : Cpu) (m : Mem) → ((a : ℕ) → m a < 256) → ((a : ℕ) →
 -- of a step that is torn each byte is the old one or the one that the whole step leaves
 abbrev pub TornBetween : Type 0
 TornBetween = (mask : ℕ) (c : Cpu) (m : Mem) (a : ℕ) → (torn_of mask c m a ≡ m a) ⊎ (torn_of mask c m a ≡ (step_of c m).mem a)
+
+-- a step that halts or faults leaves processor and memory as they were
+abbrev pub EndsCalm : Type 0
+EndsCalm = (c : Cpu) (m : Mem) → (step_of c m).went ≢ On → ((step_of c m).cpu ≡ c) × ((step_of c m).mem ≡ m)
 
 -- a step changes at most one register
 abbrev pub OneRegister : Type 0

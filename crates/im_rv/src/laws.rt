@@ -1,4 +1,4 @@
-ghost use Rattle.im_rv.specs.Laws.{RowsApart, RowsReached, ZeroStays, OneRegister, OnlyStores, WordsStay, BytesStay, TornBetween};
+ghost use Rattle.im_rv.specs.Laws.{RowsApart, RowsReached, ZeroStays, OneRegister, OnlyStores, WordsStay, BytesStay, TornBetween, EndsCalm};
 
 /// No word stands for two operations, so the order of the table is no matter.
 pub fn rows_apart_law()
@@ -39,4 +39,9 @@ pub fn one_register_law()
 /// immediate, which become the lowest bytes of rs2 (RISC-V Unprivileged ISA, 2.6).
 pub fn only_stores_law()
     ensures { OnlyStores }
+{}
+
+/// A step that halts or faults leaves processor and memory as they were.
+pub fn ends_calm_law()
+    ensures { EndsCalm }
 {}

@@ -16,6 +16,7 @@ mod rows;
 pub mod step;
 #[cfg(test)]
 mod tests;
+mod torn;
 mod transfer;
 
 pub use code::{Code, Cut, Line, Part, plain};
@@ -23,3 +24,4 @@ pub use effect::{Effect, Extension};
 pub use format::Format;
 pub use instr::{Instr, Op};
 pub use step::{Regs, Went};
+pub use torn::tear;

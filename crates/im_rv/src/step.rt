@@ -1,5 +1,5 @@
 ghost use Rattle.std.specs.Prelude.{◌≡◌, ◌<◌};
-ghost use Rattle.im_rv.specs.Steps.{effected, cpu_of, regs_of, with_reg, word, extended, done_by};
+ghost use Rattle.im_rv.specs.Steps.{effected, cpu_of, regs_of, row, with_reg, word, extended, done_by};
 ghost use Rattle.im_rv.specs.Decode.{step_of};
 
 use crate::decode::decode;
@@ -115,6 +115,21 @@ fn apply<M: Memory>(regs: &mut Regs, memory: &mut M, rd: u8, effect: Effect) -> 
     }
 }
 
+/// What an instruction does with these registers.
+pub(crate) fn effect_of(regs: &Regs, i: &Instr) -> Effect
+    requires rs1 { i.now.rs1 < 32 }
+    requires rs2 { i.now.rs2 < 32 }
+    ensures { let c = cpu_of regs.now in result ≡ row i.now.op c.pc (c.x i.now.rs1) (c.x i.now.rs2) (word i.now.imm) }
+{
+    row_of(
+        i.op,
+        regs.pc,
+        regs.get(i.rs1),
+        regs.get(i.rs2),
+        i.imm.cast_unsigned(),
+    )
+}
+
 fn perform<M: Memory>(regs: &mut Regs, memory: &mut M, i: &Instr) -> Went
     requires rd { i.now.rd < 32 }
     requires rs1 { i.now.rs1 < 32 }
@@ -123,13 +138,7 @@ fn perform<M: Memory>(regs: &mut Regs, memory: &mut M, i: &Instr) -> Went
     ensures cpu { cpu_of regs.new ≡ (done_by (cpu_of regs.old) (M.bytes memory.old) i.now.op i.now.rd i.now.rs1 i.now.rs2 (word i.now.imm)).cpu }
     ensures mem { M.bytes memory.new ≡ (done_by (cpu_of regs.old) (M.bytes memory.old) i.now.op i.now.rd i.now.rs1 i.now.rs2 (word i.now.imm)).mem }
 {
-    let effect = row_of(
-        i.op,
-        regs.pc,
-        regs.get(i.rs1),
-        regs.get(i.rs2),
-        i.imm.cast_unsigned(),
-    );
+    let effect = effect_of(regs, i);
     apply(regs, memory, i.rd, effect)
 }
 

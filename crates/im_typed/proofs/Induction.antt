@@ -161,7 +161,8 @@ module _ (k b activation depth first capacity : ℕ) (calls calls' : Calls) (cal
       rel-does (While t x) = rel-turns b n n' le le' (rel-value t) (rel-does x) (rel-give [])
       rel-does (DoWhile x t) =
           rel-paid (rel-bind (rel-does x) (λ f. rel-after_turn f (rel-turns b n n' le le' (rel-value t) (rel-does x) (rel-give []))))
-      rel-does (For x t step y) = rel-bind (rel-does x) (λ _. rel-turns b n n' le le' (rel-value t) (rel-does y) (rel-value step))
+      rel-does (For x t step y) =
+          rel-bind (rel-does x) (λ f. rel-after f (rel-turns b n n' le le' (rel-value t) (rel-does y) (rel-value step)))
       rel-does (Switch e ks otherwise ss) =
           rel-bind (rel-number_in (rel-value e)) (λ z. rel-bind (rel-does_from (entered z ks otherwise) ss) (λ f. rel-give (out_of_switch f)))
       rel-does Break = rel-give Broke

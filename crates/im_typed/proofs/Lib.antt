@@ -4,3 +4,9 @@ mod Related
 mod Parts
 mod Induction
 mod Whole
+mod Sounds
+mod SoundCells
+mod SoundExprs
+mod SoundStmts
+mod SoundCalls
+mod SoundRuns

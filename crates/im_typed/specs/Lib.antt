@@ -6,5 +6,8 @@ pub mod Meaning
 pub mod Programs
 pub mod Counts
 pub mod Frames
+pub mod Typing
+pub mod Limits
+pub mod Sound
 pub mod Laws
 pub mod Samples

@@ -270,8 +270,8 @@ module _ (c : Around) where
         f ← does a
         after_turn f (turns n (value_of c t) (does a) (give [])))
       does (For a t step b) = do
-        _ ← does a
-        turns n (value_of c t) (does b) (value_of c step)
+        f ← does a
+        after f (turns n (value_of c t) (does b) (value_of c step))
       does (Switch e ks otherwise ss) = do
         z ← number_in (value_of c e)
         f ← does_from (entered z ks otherwise) ss

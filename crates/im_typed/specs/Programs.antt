@@ -59,6 +59,11 @@ call_result is_main (Returned vs) = vs
 call_result true _ = Number (pos 0) ∷ []
 call_result false _ = []
 
+-- main of a well-typed program gives a number
+abbrev pub status_of : Values → ℤ
+status_of (Number z ∷ vs) = z
+status_of _ = pos 0
+
 module _ (g : Setting) where
   abbrev pub frame_of : ℕ → ℕ
   frame_of k = slice_index_or g.frames k 0
@@ -97,11 +102,6 @@ module _ (g : Setting) where
   -- the run of main, which takes no fuel; calls and loops are bounded by a number that is at least the fuel
   abbrev pub run_of_main : ℕ → List ℕ → ℕ → Answer Values
   run_of_main bound input fuel = called (calls_of bound) bound g.prog.main [] (start input fuel)
-
-  -- main of a well-typed program gives a number
-  abbrev pub status_of : Values → ℤ
-  status_of (Number z ∷ vs) = z
-  status_of _ = pos 0
 
   abbrev pub outcome_of : Answer Values → Outcome
   outcome_of (Gives vs s) = End 0 (status_of vs) s.world.output (variables g.prog.statics s.world.store)

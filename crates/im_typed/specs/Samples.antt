@@ -1,5 +1,5 @@
 -- Small programs, whose meaning the laws of `examples` compute. Each stands below its source.
-use Rattle.std.specs.Prelude.{ℕ, ◌+◌, ◌*◌, zero, suc, Bool, true, false, List, [], ◌∷◌, ◌++◌, ℤ, pos, negsuc, Option, Some, None}
+use Rattle.std.specs.Prelude.{◌≡◌, ℕ, ◌+◌, ◌*◌, zero, suc, Bool, true, false, List, [], ◌∷◌, ◌++◌, ℤ, pos, negsuc, Option, Some, None}
 use Rattle.im_num.specs.declared.kind.Kind.{Kind}
 use Rattle.im_num.specs.declared.kind.Kind.TheVariants.{I8, U8, I32, U32, Ptr}
 use Rattle.im_ctype.specs.declared.cell.Cell.{Cell}
@@ -11,7 +11,7 @@ use Rattle.im_store.specs.Objects.{Value}
 use Rattle.im_store.specs.Objects as v
 use Rattle.im_num.specs.Variables.{Variable}
 use Rattle.im_store.specs.Statics.{StaticObject, with_statics}
-use Rattle.im_store.specs.Outcomes.{variables}
+use Rattle.im_store.specs.Outcomes.{Outcome, Undef, More, End, variables}
 use Rattle.im_typed.specs.declared.expression.Change.{Change}
 use Rattle.im_typed.specs.declared.expression.Change.TheVariants.{Number as NumberBy, Move as PointerBy}
 use Rattle.im_typed.specs.declared.statement.Case.{Case}
@@ -107,6 +107,12 @@ program statics funcs =
 abbrev pub main_only : List LocalObject → List Stmt → Setting
 main_only objects body = program [] (function 0 (Some I32) objects body ∷ [])
 
+-- an end of main with that status
+abbrev pub IsEnd : ℕ → Outcome → Type 0
+IsEnd n (Undef why) = ⊥
+IsEnd n (More output) = ⊥
+IsEnd n (End reason status output variables) = (reason ≡ 0) × (status ≡ pos n)
+
 -- the statics as they are shown before the start of main
 abbrev pub first_shown : Setting → List Variable
 first_shown g = variables g.prog.statics (with_statics g.prog.statics)
@@ -154,6 +160,13 @@ recurses depth stack =
       stack = stack;
       capacity = 0;
     }
+
+-- `int g; int main(void) { if (g) return 5; g = 1; return main(); }`
+abbrev pub calls_main : Setting
+calls_main =
+    program (static_of 4 (ints 0 1) (v.Number (pos 0) ∷ []) ∷ [])
+    (function 0 (Some I32) []
+    (If (get (Static 0)) (returns (int 5)) (Block no_stmts) ∷ set (Static 0) (int 1) ∷ returns (Call 0 no_exprs) ∷ []) ∷ [])
 
 -- `int f(int *p, int n) { int x; if (n) return f(&x, 0); return p == &x; } int main(void) { return f(0, 1); }`
 abbrev pub has_two_activations : Setting
@@ -253,6 +266,15 @@ initialises_in_order =
     ∷ Initialise 1 3 (piece 0 (Scalar I32) (count_up (Local 0)) ∷ piece 4 (Scalar I32) (count_up (Local 0)) ∷ [])
     ∷ returns (plus (plus (plus (get (element 4 (Local 1) 0)) (times (get (element 4 (Local 1) 1)) (int 10)))
     (times (get (element 4 (Local 1) 2)) (int 100))) (times (get (Local 0)) (int 1000))) ∷ [])
+
+-- `struct t { int x; int y[2]; } a[2] = {{i++, {i++}}, {i++}}; .. return a[0].y[0] * 100 + a[1].x * 10 + a[1].y[1];`, with i from 1
+abbrev pub initialises_nested : Setting
+initialises_nested =
+    main_only (int_object ∷ object 24 (ints 0 6) ∷ [])
+    (Initialise 0 1 (piece 0 (Scalar I32) (int 1) ∷ [])
+    ∷ Initialise 1 6 (piece 0 (Scalar I32) (count_up (Local 0)) ∷ piece 4 (Scalar I32) (count_up (Local 0)) ∷ piece 12 (Scalar I32) (count_up (Local 0)) ∷ [])
+    ∷ returns (plus (plus (times (get (element 4 (Member (element 12 (Local 1) 0) 4) 0)) (int 100)) (times (get (Member (element 12 (Local 1) 1) 0)) (int 10)))
+    (get (element 4 (Member (element 12 (Local 1) 1) 4) 1))) ∷ [])
 
 -- `int a[2] = {1, a[0]}; return a[1];`
 abbrev pub initialises_from_itself : Setting

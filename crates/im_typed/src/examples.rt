@@ -8,7 +8,7 @@ ghost use Rattle.im_store.specs.declared.undefined.Undefined.TheVariants.{Uninit
 ghost use Rattle.im_store.specs.Outcomes.{Undef, More, End};
 ghost use Rattle.im_typed.specs.Program.{Local, Target, Member, Address, Move, Compare, NullPointer};
 ghost use Rattle.im_typed.specs.Programs.{meaning};
-ghost use Rattle.im_typed.specs.Samples.{int, get, pointer, target, first_shown, divides_by_zero, counts_within, computes, signed_char_of_200, endless, reads_unset, recurses, has_two_activations, reads_dead_pointer, uses_dead_result, uses_missing_result, writes_twice, reads_twice, compares_with_one, reads_struct, reads_unset_struct, takes_part, copies_itself, initialises_in_order, initialises_from_itself, switches, goes_on_in_rows, subtracts, orders, orders_two_objects, with_null};
+ghost use Rattle.im_typed.specs.Samples.{IsEnd, calls_main, initialises_nested, int, get, pointer, target, first_shown, divides_by_zero, counts_within, computes, signed_char_of_200, endless, reads_unset, recurses, has_two_activations, reads_dead_pointer, uses_dead_result, uses_missing_result, writes_twice, reads_twice, compares_with_one, reads_struct, reads_unset_struct, takes_part, copies_itself, initialises_in_order, initialises_from_itself, switches, goes_on_in_rows, subtracts, orders, orders_two_objects, with_null};
 
 /// A zero divisor is undefined (C11 6.5.5).
 pub fn zero_divisor()
@@ -81,6 +81,12 @@ pub fn recursion()
         meaning (recurses 100 1623) input 101 ≡ End 1 (pos 0) [] [] }
 {}
 
+/// A recursive call of main takes fuel, as each call does; its start takes none.
+pub fn recursive_main()
+    ensures paid { (input : List ℕ) → IsEnd 5 (meaning calls_main input 1) }
+    ensures unpaid { (input : List ℕ) → meaning calls_main input 0 ≡ More [] }
+{}
+
 /// Each activation has objects of its own (C11 6.2.4).
 pub fn activations()
     ensures { (input : List ℕ) → meaning has_two_activations input 2 ≡ End 0 (pos 0) [] [] }
@@ -135,6 +141,8 @@ pub fn struct_values()
 pub fn initialisers()
     ensures in_order { (input : List ℕ) (fuel : ℕ) →
         meaning initialises_in_order input fuel ≡ End 0 (pos 3021) [] [] }
+    ensures nested { (input : List ℕ) (fuel : ℕ)
+        → meaning initialises_nested input fuel ≡ End 0 (pos 230) [] [] }
     ensures from_itself { (input : List ℕ) (fuel : ℕ) →
         meaning initialises_from_itself input fuel ≡ End 0 (pos 1) [] [] }
 {}

@@ -8,6 +8,10 @@ pub returns-clause-in_order : goal.returns-clause-in_order
 unfolding meaning wrap word apply apply_one
 returns-clause-in_order c = λ input fuel. refl
 
+pub returns-clause-nested : goal.returns-clause-nested
+unfolding meaning wrap word apply apply_one
+returns-clause-nested c = λ input fuel. refl
+
 pub returns-clause-from_itself : goal.returns-clause-from_itself
 unfolding meaning wrap word apply apply_one
 returns-clause-from_itself c = λ input fuel. refl
