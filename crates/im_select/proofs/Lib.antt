@@ -18,3 +18,4 @@ pub mod Steps
 pub mod Separate
 pub mod Sections
 pub mod Whole
+pub mod Lift

@@ -2,3 +2,4 @@ pub mod Linking
 pub mod Selected
 pub mod Linked
 pub mod Law
+pub mod Symbolic

@@ -37,12 +37,12 @@ pub data Constant (p : Linking) (pc rd : ℕ) : ℕ → ℕ → Type 0 where
   Large : (n hi lo : ℕ) → Splits hi lo n → Holds p.image pc (upper rd hi) → Holds p.image (pc + 4) (with_immediate Addi rd rd lo) → Constant p pc rd n (pc + 4 + 4)
 
 -- from pc to next, lines after which base plus imm is register r plus n; they may use x5
-pub data Displaced (p : Linking) (pc r : ℕ) : ℕ → ℕ → ℕ → ℕ → Type 0 where          -- n, base, imm, next
+pub data Displaced (p : Linking) (pc r : ℕ) : ℕ → ℕ → ℕ → ℕ → Type 0 where  -- n, base, imm, next
   Near : (n : ℕ) → Displaced p pc r n r n pc
   Far : (n hi lo : ℕ) → Splits hi lo n → Holds p.image pc (upper 5 hi) → Holds p.image (pc + 4) (on_registers AddOp 5 5 r) → Displaced p pc r n 5 lo (pc + 4 + 4)
 
 -- from pc to next, lines after which the register base plus imm is the place
-pub data Based (p : Linking) (pc : ℕ) : Place → ℕ → ℕ → ℕ → Type 0 where          -- place, base, imm, next
+pub data Based (p : Linking) (pc : ℕ) : Place → ℕ → ℕ → ℕ → Type 0 where  -- place, base, imm, next
   InFrame : (object offset base imm next : ℕ) → Displaced p pc 2 (p.at (Named object) + offset) base imm next → Based p pc (Local object offset) base imm next
   InStatic : (object offset hi lo : ℕ) → Splits hi lo (p.at (Named object) + offset) → Holds p.image pc (upper 5 hi) → Based p pc (Static object offset) 5 lo (pc + 4)
   Behind : (r offset base imm next : ℕ) → IsHome r → Displaced p pc r offset base imm next → Based p pc (Through r offset) base imm next

@@ -3,4 +3,4 @@
 
 mod laws;
 
-pub use laws::select_keeps_law;
+pub use laws::{lines_law, select_keeps_law};
