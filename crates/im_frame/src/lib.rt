@@ -1,8 +1,0 @@
-//! From a function to the layout of its frame: its return address, its slots, its objects.
-#![tactic(auto)]
-
-mod fault;
-mod layout;
-
-pub use fault::FrameFault;
-pub use layout::{frame_bytes, layout, Layout};
