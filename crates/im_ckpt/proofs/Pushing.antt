@@ -1,7 +1,10 @@
 -- Lists of lines as they grow.
-use Rattle.std.proofs.Common.{◌≡◌, ℕ, zero, suc, ◌+◌, ◌*◌, ◌<◌, true, List, [], ◌∷◌, ◌++◌, length, take, get_or, map, refl, sym, ap, ◌∙◌, append_assoc, arith}
+use Rattle.std.proofs.Common.{◌≡◌, ℕ, zero, suc, ◌+◌, ◌-◌, ◌*◌, ◌<◌, true, List, [], ◌∷◌, ◌++◌, length, take, get_or, map, refl, sym, ap, ◌∙◌, append_assoc, arith}
 use Rattle.std.proofs.lemmas.Bool.Decides.{nat_tests}
-use Rattle.im_rv.specs.Lines.{CodeLine, plain_line}
+use Rattle.im_rv.specs.declared.instr.Op.TheVariants.{Xori, Slli, Addi, Jal}
+use Rattle.im_rv.specs.Decode.{Line}
+use Rattle.im_rv.specs.Lines.{instruction, CodeLine, plain_line}
+use Rattle.im_ckpt.specs.Checkpoint.{labelled, entry_code}
 use Rattle.im_ckpt.specs.Recovery.{load_line, load_lines}
 use Rattle.im_ckpt.specs.Registers.{are_registers}
 
@@ -42,3 +45,14 @@ load_grown base old now new is k l a b =
     ∙ append_assoc old (map f (take k is)) (f (get_or is k 0) ∷ [])
     ∙ ap (λ z. old ++ z) (sym (one_more f 0 is k l) ∙ sym (load_each base (take (suc k) is)))
     ∙ ap (λ z. old ++ map plain_line (load_lines base (take z is))) q
+
+-- an entry of the checkpoint routine is made of its five lines
+pub entry_grown : (old first now : List CodeLine) (m : ℕ) (w x s a j : Line) → w ≡ load_line 4 0 → x ≡ instruction Xori 4 4 0 1 → s ≡ instruction Slli 4 4 0 7 → a ≡ instruction Addi 4 4 0 128 → j ≡ instruction Jal 0 0 0 (748 - 24 * m) → first ≡ old ++ labelled m w ∷ [] → now ≡ first ++ (plain_line x ∷ plain_line s ∷ plain_line a ∷ plain_line j ∷ []) → now ≡ old ++ entry_code m
+entry_grown old first now m w x s a j p q r t u b c =
+    c ∙ ap (λ z. z ++ (plain_line x ∷ plain_line s ∷ plain_line a ∷ plain_line j ∷ [])) b
+    ∙ append_assoc old (labelled m w ∷ []) (plain_line x ∷ plain_line s ∷ plain_line a ∷ plain_line j ∷ [])
+    ∙ ap (λ z. old ++ (labelled m z ∷ plain_line x ∷ plain_line s ∷ plain_line a ∷ plain_line j ∷ [])) p
+    ∙ ap (λ z. old ++ (labelled m (load_line 4 0) ∷ plain_line z ∷ plain_line s ∷ plain_line a ∷ plain_line j ∷ [])) q
+    ∙ ap (λ z. old ++ (labelled m (load_line 4 0) ∷ plain_line (instruction Xori 4 4 0 1) ∷ plain_line z ∷ plain_line a ∷ plain_line j ∷ [])) r
+    ∙ ap (λ z. old ++ (labelled m (load_line 4 0) ∷ plain_line (instruction Xori 4 4 0 1) ∷ plain_line (instruction Slli 4 4 0 7) ∷ plain_line z ∷ plain_line j ∷ [])) t
+    ∙ ap (λ z. old ++ (labelled m (load_line 4 0) ∷ plain_line (instruction Xori 4 4 0 1) ∷ plain_line (instruction Slli 4 4 0 7) ∷ plain_line (instruction Addi 4 4 0 128) ∷ plain_line z ∷ [])) u

@@ -1,10 +1,10 @@
 ghost use Rattle.std.specs.Prelude.{◌≡◌, ◌<◌, ◌≤◌, ◌++◌, ◌∷◌, [], OnOk, IfOk, IsTrue, map};
 ghost use Rattle.im_rv.specs.Lines.{code_lines, plain_line};
 ghost use Rattle.im_ckpt.specs.Buffers.{slot};
-ghost use Rattle.im_ckpt.specs.Checkpoint.{checkpoint, entries, entry_lines, store_line};
+ghost use Rattle.im_ckpt.specs.Checkpoint.{checkpoint_code, entries, entry_code, store_line};
 ghost use Rattle.im_ckpt.specs.Registers.{are_registers};
 
-use crate::push::{push, push_all};
+use crate::push::{push, push_all, push_labelled};
 use im_num::NoMemory;
 use im_rv::Line;
 use im_rv::assembler::{addi, jal, jalr, lw, slli, srli, sw, xori};
@@ -33,24 +33,24 @@ fn slot_of(register: u8) -> u16
 fn push_entry(lines: &mut Vec<Line>, m: u8) -> Result<(), NoMemory>
     requires { m < 32 }
     ensures { OnOk result (code_lines lines.new.items
-        ≡ code_lines lines.old.items ++ map plain_line (entry_lines m)) }
+        ≡ code_lines lines.old.items ++ entry_code m) }
 {
     let to_ladder = i32::from(748 - 24 * u16::from(m));
-    let entry = [
-        lw(4, 0, 0),
+    let others = [
         xori(4, 4, 1),
         slli(4, 4, 7),
         addi(4, 4, 128),
         jal(0, to_ladder),
     ];
-    push_all(lines, &entry)?;
+    push_labelled(lines, m, lw(4, 0, 0))?;
+    push_all(lines, &others)?;
     Ok(())
 }
 
 /// Entries E4 to E31.
 fn push_entries(lines: &mut Vec<Line>) -> Result<(), NoMemory>
     ensures { OnOk result (code_lines lines.new.items
-        ≡ code_lines lines.old.items ++ map plain_line (entries 28)) }
+        ≡ code_lines lines.old.items ++ entries 28) }
 {
     for n in 0..28 {
         push_entry(lines, n + 4)?;
@@ -80,9 +80,10 @@ fn push_stores(lines: &mut Vec<Line>, registers: &[u8]) -> Result<(), NoMemory>
 }
 
 /// The lines of the checkpoint routine, 173 in all, which stand at 0x1100: entries E4 to E31 of five
-/// lines each, and one ladder. A cut is `jal x3, Em` where x5 to xm are to be saved.
+/// lines each, and one ladder. A cut is `jal x3, Em` where x5 to xm are to be saved; the label of
+/// entry Em is m.
 pub fn checkpoint_lines(alloc: Global) -> Result<Vec<Line>, NoMemory>
-    ensures { IfOk result (λ lines. code_lines lines.items ≡ map plain_line checkpoint) }
+    ensures { IfOk result (λ lines. code_lines lines.items ≡ checkpoint_code) }
 {
     let mut lines = Vec::new(alloc);
     push_entries(&mut lines)?;

@@ -5,7 +5,7 @@ use Rattle.std.specs.Prelude.{◌⊎◌}
 use Rattle.im_tok.specs.declared.keyword.Keyword.{Keyword}
 use Rattle.im_tok.specs.declared.keyword.Keyword.TheVariants as key
 use Rattle.im_tok.specs.declared.punctuator.Punctuator.TheVariants.{Star, OpenParen, CloseParen, OpenBracket, Question, Colon}
-use Rattle.im_word.specs.Words.{Name, Word, name, keyword, number, character, text, mark}
+use Rattle.im_word.specs.Words.{Name, Word, name, keyword, number, character, text, mark, unknown}
 use Rattle.im_ctree.specs.declared.specifier.SpecifierWord.{SpecifierWord}
 use Rattle.im_ctree.specs.Operators as op
 use Rattle.im_ctree.specs.Tree as tree
@@ -202,6 +202,7 @@ no_brace (keyword k ∷ v) h = refl
 no_brace (number n ∷ v) h = refl
 no_brace (character n ∷ v) h = refl
 no_brace (text s ∷ v) h = refl
+no_brace (unknown ∷ v) h = refl
 
 pub tail_brace : {T : List Name} {a : Bool} {p : ℕ} {xs : tree.SpecifierList} {v : List Word} → grammar.SpecifierTail T a p xs v → (r : List Word) → SpecifierEnds T (has_type_from a xs) r → head_brace (v ++ r) ≡ 0
 tail_brace grammar.last_specifier r h = no_brace r h.0

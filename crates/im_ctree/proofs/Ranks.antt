@@ -5,7 +5,7 @@ use Rattle.im_tok.specs.declared.keyword.Keyword.{Keyword}
 use Rattle.im_tok.specs.declared.keyword.Keyword.TheVariants.{Sizeof, Struct, Enum}
 use Rattle.im_tok.specs.declared.punctuator.Punctuator.{Punctuator}
 use Rattle.im_tok.specs.declared.punctuator.Punctuator.TheVariants as punctuator
-use Rattle.im_word.specs.Words.{Name, Word, name, keyword, number, character, text, mark}
+use Rattle.im_word.specs.Words.{Name, Word, name, keyword, number, character, text, mark, unknown}
 use Rattle.im_ctree.specs.declared.operator.StepOp.{StepOp}
 use Rattle.im_ctree.specs.declared.operator.UnaryOp.{UnaryOp}
 use Rattle.im_ctree.specs.declared.operator.BinaryOp.{BinaryOp}
@@ -313,6 +313,7 @@ head_primary (name n ∷ v) = 0
 head_primary (number n ∷ v) = 1
 head_primary (character n ∷ v) = 2
 head_primary (text s ∷ v) = 3
+head_primary (unknown ∷ v) = 5
 head_primary (mark m ∷ v) = 4
 head_primary (keyword k ∷ v) = 5
 
@@ -357,6 +358,7 @@ head_unary (name n ∷ v) = 0
 head_unary (number n ∷ v) = 0
 head_unary (character n ∷ v) = 0
 head_unary (text s ∷ v) = 0
+head_unary (unknown ∷ v) = 0
 
 pub text_unary : {s : Name} {u : List Word} → grammar.IsJoinedText s u → (r : List Word) → 0 ≡ head_unary (u ++ r)
 text_unary (grammar.last_text s) r = refl

@@ -4,7 +4,7 @@ use Rattle.im_tok.specs.declared.keyword.Keyword.{Keyword}
 use Rattle.im_tok.specs.declared.keyword.Keyword.TheVariants as key
 use Rattle.im_tok.specs.declared.punctuator.Punctuator.{Punctuator}
 use Rattle.im_tok.specs.declared.punctuator.Punctuator.TheVariants.{OpenParen, CloseParen, OpenBrace, CloseBrace, Colon, Semicolon, Assign, Comma}
-use Rattle.im_word.specs.Words.{Name, Word, name, keyword, number, character, text, mark}
+use Rattle.im_word.specs.Words.{Name, Word, name, keyword, number, character, text, mark, unknown}
 use Rattle.im_ctree.specs.Operators as op
 use Rattle.im_ctree.specs.Tree as tree
 use Rattle.im_ctree.specs.Grammar as grammar
@@ -227,6 +227,7 @@ head_statement (name n ∷ v) = 1
 head_statement (number n ∷ v) = 1
 head_statement (character n ∷ v) = 1
 head_statement (text s ∷ v) = 1
+head_statement (unknown ∷ v) = 12
 
 expression_statement : {T : List Name} {x : Word} (v : List Word) → StartsExpression T x → 1 ≡ head_statement (x ∷ v)
 expression_statement v (at_name free) = refl

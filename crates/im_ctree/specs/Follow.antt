@@ -7,7 +7,7 @@ use Rattle.im_tok.specs.declared.keyword.Keyword.TheVariants as key
 use Rattle.im_tok.specs.declared.keyword.Keyword.TheVariants.{Sizeof, Struct, Enum}
 use Rattle.im_tok.specs.declared.punctuator.Punctuator.{Punctuator}
 use Rattle.im_tok.specs.declared.punctuator.Punctuator.TheVariants as punctuator
-use Rattle.im_word.specs.Words.{Name, Word, name, keyword, number, character, text, mark}
+use Rattle.im_word.specs.Words.{Name, Word, name, keyword, number, character, text, mark, unknown}
 use Rattle.im_ctree.specs.declared.operator.StepOp.{StepOp}
 use Rattle.im_ctree.specs.declared.operator.UnaryOp.{UnaryOp}
 use Rattle.im_ctree.specs.declared.specifier.SpecifierWord.{SpecifierWord}
@@ -62,6 +62,7 @@ rank (name n) = 0
 rank (keyword k) = 0
 rank (number n) = 0
 rank (character n) = 0
+rank unknown = 0
 
 abbrev pub head_rank : List Word → ℕ
 head_rank [] = 0

@@ -1,11 +1,10 @@
 -- A table with one type more.
-use Rattle.std.proofs.Common.{◌≡◌, ◌⊎◌, inl, inr, ℕ, zero, suc, ◌+◌, ◌<◌, ◌≤◌, ◌^◌, true, List, [], ◌∷◌, ◌++◌, map, length, get_or, Some, refl, sym, ap, ◌∙◌, subst, arith, length-append}
+use Rattle.std.proofs.Common.{◌≡◌, ◌⊎◌, inl, inr, ℕ, zero, suc, ◌≤◌, true, List, [], ◌∷◌, ◌++◌, map, length, get_or, Some, refl, sym, ap, ◌∙◌, subst, arith, length-append}
 use Rattle.std.specs.Prelude.{slice_get}
 use Rattle.std.specs.List.{All}
 use Rattle.std.proofs.lemmas.List.{get_or_append_left, map-append}
 use Rattle.std.proofs.lemmas.Option.{slice_get_within, none-some, same_Some}
 use Rattle.std.proofs.Math.Seq.{get_or-append_seam}
-use Rattle.im_ctype.specs.Built.{built}
 use Rattle.im_ctype.specs.declared.extent.Extent.{Extent}
 use Rattle.im_ctype.specs.declared.member.Member as rust
 use Rattle.im_ctype.specs.declared.node.TypeId.{TypeId}
@@ -14,7 +13,7 @@ use Rattle.im_ctype.specs.declared.node.TypeNode.TheVariants as node
 use Rattle.im_ctype.specs.Types.{CType, void, array, Member, Structs, is_complete}
 use Rattle.im_ctype.specs.Layout.{Layout, layouts, AreComplete}
 use Rattle.im_ctype.specs.Members.{places}
-use Rattle.im_ctype.specs.Table.{Table, type_in, type_of_node, types_of, type_at, structs_of, member_in, members_in, IsIn, IsTypeOf, IsGrown}
+use Rattle.im_ctype.specs.Table.{Table, type_in, type_of_node, types_of, structs_of, member_in, members_in, IsTypeOf, IsGrown}
 use Rattle.im_ctype.specs.Kept.{extent_of, kept_extent, AreNodes, AreMembersIn, IsKept, Entry}
 use Rattle.im_ctype.specs.Table.{IsEarlier, IsSound}
 use Rattle.im_ctype.proofs.Building.{length-built, built-push}

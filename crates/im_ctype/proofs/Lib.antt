@@ -1,5 +1,5 @@
 pub mod Building
-pub mod Cells
+pub mod CellLists
 pub mod Compared
 pub mod Grown
 pub mod MoreStructs
@@ -7,4 +7,5 @@ pub mod Numbered
 pub mod Places
 pub mod Rounded
 pub mod Same
+pub mod Steps
 pub mod Walked

@@ -1,15 +1,13 @@
 -- A table with one struct more.
-use Rattle.std.proofs.Common.{◌≡◌, ◌⊎◌, inl, inr, ℕ, zero, suc, ◌+◌, ◌<◌, ◌≤◌, true, false, Bool, ◌&&◌, nat_lt, List, [], ◌∷◌, ◌++◌, map, length, get_or, Some, refl, sym, ap, ◌∙◌, subst, arith, length-append}
+use Rattle.std.proofs.Common.{◌≡◌, inl, inr, ℕ, zero, suc, ◌+◌, ◌<◌, ◌≤◌, true, false, Bool, ◌&&◌, nat_lt, List, [], ◌∷◌, ◌++◌, map, length, get_or, Some, refl, sym, ap, ◌∙◌, subst, arith, length-append}
 use Rattle.std.specs.Prelude.{slice_get}
 use Rattle.std.specs.List.{All}
 use Rattle.std.proofs.lemmas.Bool.{ltb-true, lt-ltb}
 use Rattle.std.proofs.lemmas.List.{length-map, map-append}
 use Rattle.std.proofs.lemmas.List.Elements.{All-append, All-cons, All-nil}
-use Rattle.std.proofs.lemmas.Option.{slice_get_within, slice_get-get_or, get_or_from_slice_get, slice_get_past, none-some, same_Some}
-use Rattle.im_ctype.specs.Built.{built}
+use Rattle.std.proofs.lemmas.Option.{slice_get_within, slice_get-get_or, get_or_from_slice_get}
 use Rattle.im_ctype.specs.declared.extent.Extent.{Extent}
 use Rattle.im_ctype.specs.declared.member.Member as rust
-use Rattle.im_ctype.specs.declared.member.MemberPlace.{MemberPlace}
 use Rattle.im_ctype.specs.declared.node.TypeNode.{TypeNode}
 use Rattle.im_ctype.specs.declared.node.TypeNode.TheVariants as node
 use Rattle.im_ctype.specs.Types.{CType, void, integer, pointer, array, unsized, struct, function, Member, Structs, members_of, is_complete}
@@ -17,10 +15,10 @@ use Rattle.im_ctype.specs.Layout.{Layout, empty_layout, layout_in, with_member, 
 use Rattle.im_ctype.specs.Members.{place_behind, places_from, places_in, places}
 use Rattle.im_ctype.specs.Table as table
 use Rattle.im_ctype.specs.Table.{Table, type_of_node, types_of, structs_of, with_struct}
-use Rattle.im_ctype.specs.Kept.{extent_of, kept_extent, AreNodes, AreMembersIn, IsKept, Entry}
+use Rattle.im_ctype.specs.Kept.{extent_of, kept_extent, AreMembersIn, IsKept, Entry}
 use Rattle.im_ctype.specs.Table.{IsSound}
-use Rattle.im_ctype.proofs.Building.{length-built, built-push, built-prefix}
-use Rattle.im_ctype.proofs.Cells.{layout_in-more, complete-element}
+use Rattle.im_ctype.proofs.Building.{length-built, built-push}
+use Rattle.im_ctype.proofs.CellLists.{layout_in-more, complete-element}
 use Rattle.im_ctype.proofs.Numbered.{type-of-node, count-structs}
 use Rattle.im_ctype.proofs.Grown.{one-of}
 

@@ -1,5 +1,5 @@
 -- The types of a table by their numbers, and what is kept beside them.
-use Rattle.std.proofs.Common.{◌≡◌, ℕ, zero, suc, ◌<◌, ◌≤◌, List, [], ◌∷◌, ◌++◌, map, length, get_or, Some, refl, sym, ap, ◌∙◌, arith}
+use Rattle.std.proofs.Common.{◌≡◌, ℕ, ◌<◌, List, ◌++◌, length, get_or, Some, refl, sym, ap, ◌∙◌, arith}
 use Rattle.std.specs.Prelude.{slice_get}
 use Rattle.std.proofs.lemmas.List.{get_or-map, length-map, get_or_append_left}
 use Rattle.std.proofs.lemmas.Option.{slice_get_within, get_or_from_slice_get}
@@ -7,10 +7,10 @@ use Rattle.im_ctype.specs.Built.{built}
 use Rattle.im_ctype.specs.declared.extent.Extent.{Extent}
 use Rattle.im_ctype.specs.declared.node.TypeNode.{TypeNode}
 use Rattle.im_ctype.specs.declared.node.TypeNode.TheVariants as node
-use Rattle.im_ctype.specs.Types.{CType, void, struct, Structs}
+use Rattle.im_ctype.specs.Types.{CType, void}
 use Rattle.im_ctype.specs.Layout.{Layout, empty_layout, layout_in, layouts, layout_at, struct_in}
 use Rattle.im_ctype.specs.Table.{Table, type_in, type_of_node, types_of, structs_of}
-use Rattle.im_ctype.specs.Kept.{extent_of, no_extent, kept_extent, AreNodes, IsKept, Entry}
+use Rattle.im_ctype.specs.Kept.{extent_of, kept_extent, AreNodes, IsKept, Entry}
 use Rattle.im_ctype.specs.Table.{IsEarlier}
 use Rattle.im_ctype.proofs.Building.{length-built, built-at}
 

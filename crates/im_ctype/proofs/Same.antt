@@ -1,8 +1,8 @@
 -- Types are told apart by their numbers.
-use Rattle.std.proofs.Common.{◌≡◌, ℕ, zero, suc, ◌<◌, ◌≤◌, nat_eq, Bool, true, false, ◌&&◌, List, [], ◌∷◌, length, get_or, Some, refl, sym, ap, ◌∙◌, subst, arith}
+use Rattle.std.proofs.Common.{◌≡◌, ℕ, zero, suc, ◌<◌, ◌≤◌, nat_eq, Bool, true, false, ◌&&◌, List, length, get_or, Some, refl, sym, ap, ◌∙◌, arith}
 use Rattle.std.specs.Prelude.{slice_get}
 use Rattle.std.proofs.lemmas.Bool.{eqb-true, eq-eqb}
-use Rattle.std.proofs.lemmas.Option.{slice_get-get_or, slice_get_within}
+use Rattle.std.proofs.lemmas.Option.{slice_get-get_or}
 use Rattle.im_ctype.specs.Built.{built}
 use Rattle.im_ctype.specs.declared.integer.Integer.{Integer}
 use Rattle.im_ctype.specs.declared.integer.Integer.TheVariants.{Char, SignedChar, UnsignedChar, Short, UnsignedShort, Int, UnsignedInt, Long, UnsignedLong}
@@ -10,7 +10,7 @@ use Rattle.im_ctype.specs.declared.node.TypeId.{TypeId}
 use Rattle.im_ctype.specs.declared.node.TypeNode.{TypeNode}
 use Rattle.im_ctype.specs.declared.node.TypeNode.TheVariants as node
 use Rattle.im_ctype.specs.Types.{CType, void, integer, pointer, array, unsized, struct, function, CTypes, no_types, more_types, same_integer, same_bool, same_type, same_types}
-use Rattle.im_ctype.specs.Table.{Table, IsIn, type_in, type_of_node, types_of, type_at}
+use Rattle.im_ctype.specs.Table.{type_in, type_of_node}
 use Rattle.im_ctype.specs.Kept.{AreNodes}
 use Rattle.im_ctype.specs.Table.{IsEarlier}
 use Rattle.im_ctype.proofs.Compared.{same-number}

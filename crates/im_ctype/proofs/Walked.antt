@@ -1,5 +1,5 @@
 -- The members of a struct, one after another.
-use Rattle.std.proofs.Common.{◌≡◌, ℕ, zero, suc, ◌+◌, ◌<◌, ◌≤◌, ◌^◌, max, List, [], ◌∷◌, ◌++◌, map, length, drop, get_or, Some, refl, sym, ap, ◌∙◌, subst, arith, length-append, append_assoc, append-nil, nat_cmp, drop-cons}
+use Rattle.std.proofs.Common.{◌≡◌, ℕ, suc, ◌+◌, ◌<◌, ◌≤◌, max, List, [], ◌∷◌, ◌++◌, length, drop, get_or, refl, sym, ap, ◌∙◌, subst, arith, length-append, append_assoc, append-nil, nat_cmp, drop-cons}
 use Rattle.std.specs.Ordering.{ord_max}
 use Rattle.std.proofs.lemmas.List.{get_or-map, length-map}
 use Rattle.std.proofs.lemmas.Grind.{common_steps}
@@ -7,7 +7,7 @@ use Rattle.im_ctype.specs.declared.cell.Cell.{Cell}
 use Rattle.im_ctype.specs.declared.extent.Extent.{Extent}
 use Rattle.im_ctype.specs.declared.member.Member as rust
 use Rattle.im_ctype.specs.declared.member.MemberPlace.{MemberPlace}
-use Rattle.im_ctype.specs.Types.{CType, Member, Structs}
+use Rattle.im_ctype.specs.Types.{CType, Member}
 use Rattle.im_ctype.specs.Layout.{Layout, empty_layout, moved_cell, moved, round_up, layout_in, layouts, with_member, members_in, with_trailing_bytes, struct_in}
 use Rattle.im_ctype.specs.Members.{place_behind, places_from, places_in}
 use Rattle.im_ctype.specs.Table as table

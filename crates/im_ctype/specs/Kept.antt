@@ -1,17 +1,14 @@
 -- What a table of types keeps beside its types, and what is always so of it. Private contracts alone speak of this.
-use Rattle.std.specs.Prelude.{◌≡◌, ℕ, ◌<◌, ◌≤◌, ◌^◌, true, List, [], ◌∷◌, map, length, Option, Some, slice_get}
+use Rattle.std.specs.Prelude.{◌≡◌, ℕ, ◌<◌, ◌≤◌, ◌^◌, List, map, length, Some, slice_get}
 use Rattle.std.specs.List.{All}
-use Rattle.im_ctype.specs.Built.{built}
 use Rattle.im_ctype.specs.declared.extent.Extent.{Extent}
 use Rattle.im_ctype.specs.declared.member.Member as rust
 use Rattle.im_ctype.specs.declared.member.MemberPlace.{MemberPlace}
-use Rattle.im_ctype.specs.declared.node.TypeId.{TypeId}
 use Rattle.im_ctype.specs.declared.node.TypeNode.{TypeNode}
-use Rattle.im_ctype.specs.declared.node.TypeNode.TheVariants as node
-use Rattle.im_ctype.specs.Types.{CType, void, integer, pointer, array, unsized, struct, function, Structs, is_complete}
+use Rattle.im_ctype.specs.Types.{CType, void, integer, pointer, array, unsized, struct, function}
 use Rattle.im_ctype.specs.Layout.{Layout, layout_in, layouts, AreComplete}
 use Rattle.im_ctype.specs.Members.{places}
-use Rattle.im_ctype.specs.Table.{Table, IsEarlier, IsSound, type_of_node, types_of, structs_of}
+use Rattle.im_ctype.specs.Table.{Table, IsEarlier, IsSound, types_of, structs_of}
 
 abbrev pub extent_of : Layout → Extent
 extent_of l = record { size = l.size; alignment = l.align; cells = length l.cells }

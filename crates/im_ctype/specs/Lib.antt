@@ -3,5 +3,6 @@ pub mod Kept
 pub mod Laws
 pub mod Layout
 pub mod Members
+pub mod Pending
 pub mod Table
 pub mod Types

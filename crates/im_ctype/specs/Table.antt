@@ -1,6 +1,6 @@
 -- The table in which a compiler keeps types: each entry names earlier ones, and no type stands in it twice. What is said of
 -- types is said of the plain types that the entries stand for.
-use Rattle.std.specs.Prelude.{◌≡◌, ℕ, zero, suc, ◌<◌, ◌≤◌, Bool, true, false, List, [], ◌∷◌, ◌++◌, map, length, slice_index_or, slice_get, Option, Some, None}
+use Rattle.std.specs.Prelude.{◌≡◌, ℕ, ◌<◌, ◌≤◌, true, List, [], ◌∷◌, ◌++◌, map, length, slice_index_or, slice_get, Option, Some, None}
 use Rattle.im_ctype.specs.declared.node.TypeId.{TypeId}
 use Rattle.im_ctype.specs.declared.node.TypeNode.{TypeNode}
 use Rattle.im_ctype.specs.declared.node.TypeNode.TheVariants as node

@@ -2,7 +2,7 @@ ghost use Rattle.std.specs.Prelude.{◌≡◌, ℕ, ◌<◌, ◌^◌, ◌*◌, �
 ghost use Rattle.im_ctype.specs.Types.{same_type};
 ghost use Rattle.im_ctype.specs.Members.{places, places_in};
 ghost use Rattle.im_ctype.specs.Kept.{AreMembersIn, kept_extent, extent_of};
-ghost use Rattle.im_ctype.specs.Layout.{layouts, layout_at, struct_in, MembersAreComplete};
+ghost use Rattle.im_ctype.specs.Layout.{layouts, layout_at, struct_in, AreComplete, MembersAreComplete};
 ghost use Rattle.im_ctype.specs.Table.{IsEarlier, IsSound, with_struct, members_at, members_in, IsIn, IsTypeOf, IsGrown, type_at, type_of_node, types_of, structs_of, layout_of};
 
 use crate::extent::{Extent, round_up};
@@ -68,6 +68,7 @@ impl TypeTable {
         ensures type_is { type_at self.now ty ≡ type_of_node (types_of self.now) result }
         ensures earlier { IsEarlier ty.0 result }
         ensures sound { IsSound (length self.now.structs) (types_of self.now) result }
+        ensures complete { AreComplete (structs_of self.now) }
     {
         self.nodes.get(ty)
     }
@@ -131,7 +132,9 @@ impl TypeTable {
 
     /// The members of a struct; none where it has no member list.
     pub fn members(&self, number: u32) -> &[Member]
-        ensures { result.now ≡ members_at self.now number }
+        ensures members { result.now ≡ members_at self.now number }
+        ensures known { AreMembersIn (length self.now.nodes) result.now }
+        ensures complete { AreComplete (structs_of self.now) }
     {
         match self.structs.get(number as usize) {
             Some(structure) => &structure.members,

@@ -119,10 +119,12 @@ module _ (g : Prog) where
       (right-checked g.statics (λ w v. IsValue w.activations w.store kind v) u (changed c before by u.world.store) sane₂
       (λ v e. changed-value g.statics u.world.activations u.world.store sane₂.store c before v by step e)) (λ after x sane₃ kept₃ ha.
       right-bind g.statics (right-write g.statics (Scalar kind) at (after ∷ []) x sane₃ (ha, tt)) (λ _ y sane₄ kept₄ _.
-      right-give g.statics y _ sane₄
-      (either-value y.world kind old before after
-      (value-kept (keeps-trans t.world x.world y.world (keeps-trans t.world u.world x.world kept₂ kept₃) kept₄) kind before hb)
-      (value-kept kept₄ kind after ha), refl)))))
+      right-give g.statics y _ sane₄ (
+        either-value y.world kind old before after
+            (value-kept (keeps-trans t.world x.world y.world (keeps-trans t.world u.world x.world kept₂ kept₃) kept₄) kind before hb)
+            (value-kept kept₄ kind after ha),
+        refl,
+      )))))
 
   -- input and output
 

@@ -42,8 +42,7 @@ module _ (g : Setting) (typed : IsWellTyped g.prog) where
   left-at k f s w same now sane m (Gives flow t) h =
       let a = suc s.world.activations in
       let later : 0 < a = omega arith in
-      let kept = h.1.more in
-      (
+      let kept = h.1.more in (
         record { store = ended-sound g.prog.statics t.world a h.0 later; input = h.0.input },
         record {
           more = omega arith;
@@ -226,10 +225,11 @@ cells-found from size [] h = tt
 cells-found from size (c ∷ cs) h =
     let found = cells-found (c.offset + kind_size c.kind) size cs h.2 in
     let behind = cells-from (c.offset + kind_size c.kind) size cs h.2 in
-    let some = some-size c.kind in
-    (if-true (c.offset == c.offset) (Some c.kind) (kind_at cs c.offset) (eq-eqb c.offset c.offset refl),
-    each-with (λ (d : Cell). kind_at cs d.offset ≡ Some d.kind) (λ (d : Cell). c.offset + kind_size c.kind ≤ d.offset) (λ (d : Cell). kind_at (c ∷ cs) d.offset ≡ Some d.kind) cs found behind
-    (λ d e le. let lt : c.offset < d.offset = omega arith in if-false (c.offset == d.offset) (Some c.kind) (kind_at cs d.offset) (differs c.offset d.offset lt) ∙ e))
+    let some = some-size c.kind in (
+      if-true (c.offset == c.offset) (Some c.kind) (kind_at cs c.offset) (eq-eqb c.offset c.offset refl),
+      each-with (λ (d : Cell). kind_at cs d.offset ≡ Some d.kind) (λ (d : Cell). c.offset + kind_size c.kind ≤ d.offset) (λ (d : Cell). kind_at (c ∷ cs) d.offset ≡ Some d.kind) cs found behind
+          (λ d e le. let lt : c.offset < d.offset = omega arith in if-false (c.offset == d.offset) (Some c.kind) (kind_at cs d.offset) (differs c.offset d.offset lt) ∙ e),
+    )
 
 module _ (statics : List StaticObject) (begun : ℕ) (store : Store) (sound : IsSound statics begun store) where
   inside-some : (r : Option Shape) (activation offset : ℕ) → activation ≡ 0 → IsInside r activation offset → (s : Shape) × (r ≡ Some s) × (offset ≤ s.size)
@@ -258,17 +258,19 @@ module _ (statics : List StaticObject) (begun : ℕ) (store : Store) (sound : Is
 
   shown-cells : (n : ℕ) (s : StaticObject) (cells : List Cell) → slice_get statics n ≡ Some s → Each {A = Cell} (λ c. kind_at s.cells c.offset ≡ Some c.kind) cells → AreShown statics cells (cells_shown (store.values (static n)) cells)
   shown-cells n s [] e h = tt
-  shown-cells n s (c ∷ cs) e h =
-      (cell-right c.kind (store.values (static n) c.offset) (sound.cells (static n) (object_shape s.size s.cells) c.offset c.kind (sound.live n s e) h.0),
-      shown-cells n s cs e h.1)
+  shown-cells n s (c ∷ cs) e h = (
+    cell-right c.kind (store.values (static n) c.offset) (sound.cells (static n) (object_shape s.size s.cells) c.offset c.kind (sound.live n s e) h.0),
+    shown-cells n s cs e h.1,
+  )
 
   show-each : (n : ℕ) (ss : List StaticObject) → ((i : ℕ) (s : StaticObject) → slice_get ss i ≡ Some s → slice_get statics (n + i) ≡ Some s) → Each (IsTypedStatic statics) ss → ShowEach statics ss (variables_from n ss store)
   show-each n [] at t = tt
   show-each n (s ∷ ss) at t =
-      let zero_in : n ≡ n + 0 = omega arith in
-      (refl,
-      shown-cells n s s.cells (ap (slice_get statics) zero_in ∙ at 0 s refl) (cells-found 0 s.size s.cells t.0.0.1),
-      show-each (suc n) ss (λ i x e. let next : suc n + i ≡ n + suc i = omega arith in ap (slice_get statics) next ∙ at (suc i) x e) t.1)
+      let zero_in : n ≡ n + 0 = omega arith in (
+        refl,
+        shown-cells n s s.cells (ap (slice_get statics) zero_in ∙ at 0 s refl) (cells-found 0 s.size s.cells t.0.0.1),
+        show-each (suc n) ss (λ i x e. let next : suc n + i ≡ n + suc i = omega arith in ap (slice_get statics) next ∙ at (suc i) x e) t.1,
+      )
 
 status-right : (w : World) (vs : Values) → Fits (Some (Scalar I32)) w vs → IsOfKind I32 (status_of vs)
 status-right w (Number z ∷ vs) h = h.0.1

@@ -1,7 +1,8 @@
--- The program that a Rust value stands for. A struct's cells are those of its layout.
+-- The program that a Rust value stands for. Its table of types has the cells of structs and objects.
 use Rattle.std.specs.Prelude.{ℕ, List, [], ◌∷◌, map, Option, Some, None}
 use Rattle.std.specs.Option.{option_map}
-use Rattle.im_ctype.specs.Layout.{Structs, layout, layouts, layout_at}
+use Rattle.im_ctype.specs.Layout.{layouts, layout_at}
+use Rattle.im_ctype.specs.Table.{Table, structs_of, layout_of}
 use Rattle.im_store.specs.Objects.{Value, Number, Null, Pointer, static}
 use Rattle.im_store.specs.Statics.{StaticObject}
 use Rattle.im_typed.specs.declared.expression.Access.{Access}
@@ -18,10 +19,10 @@ use Rattle.im_typed.specs.declared.program.Func as rf
 use Rattle.im_typed.specs.declared.program.Prog as rpr
 use Rattle.im_typed.specs.Program as p
 
-module _ (structs : Structs) where
+module _ (types : Table) where
   abbrev pub access_of : Access → p.Access
   access_of (ra.Scalar kind) = p.Scalar kind
-  access_of (ra.Struct number cells) = p.Struct cells (layout_at (layouts structs) number).cells
+  access_of (ra.Struct number cells) = p.Struct cells (layout_at (layouts (structs_of types)) number).cells
 
   abbrev mutual
     pub place_of : rp.Place → p.Place
@@ -83,7 +84,7 @@ module _ (structs : Structs) where
     stmts_of (rs.more_of-Stmt s rest) = p.more_stmts (stmt_of s) (stmts_of rest)
 
   abbrev pub object_of : ro.Object → p.LocalObject
-  object_of o = record { name = o.name.items; size = o.size; cells = (layout structs o.ty).cells }
+  object_of o = record { name = o.name.items; size = o.size; cells = (layout_of types o.ty).cells }
 
   abbrev pub func_of : rf.Func → p.Func
   func_of f =
@@ -105,14 +106,14 @@ module _ (structs : Structs) where
       record {
         name = s.object.name.items;
         size = s.object.size;
-        cells = (layout structs s.object.ty).cells;
+        cells = (layout_of types s.object.ty).cells;
         first = map first_of s.cells.items;
       }
 
 abbrev pub program_of : rpr.Prog → p.Prog
 program_of g =
     record {
-      statics = map (static_of g.structs) g.statics.items;
-      funcs = map (func_of g.structs) g.funcs.items;
+      statics = map (static_of g.types) g.statics.items;
+      funcs = map (func_of g.types) g.funcs.items;
       main = g.main;
     }

@@ -1,5 +1,5 @@
 ghost use Rattle.std.specs.Prelude.{◌≡◌, map, IfOk};
-ghost use Rattle.im_ctype.specs.Layout.{Structs};
+ghost use Rattle.im_ctype.specs.Table.{Table};
 ghost use Rattle.im_typed.specs.ProgramOf.{func_of};
 ghost use Rattle.im_typed.specs.Frames.{size_in, sizes_in};
 
@@ -35,7 +35,7 @@ impl Frames {
 
     /// The bytes of the frames of these functions, in their order.
     pub fn sizes(&self, alloc: Global, funcs: &[Func]) -> Result<Vec<u32>, NoMemory>
-        ensures { IfOk result (λ sizes. (structs : Structs) → sizes.items ≡ sizes_in self.now.frames.items (map (func_of structs) funcs.now)) }
+        ensures { IfOk result (λ sizes. (types : Table) → sizes.items ≡ sizes_in self.now.frames.items (map (func_of types) funcs.now)) }
     {
         let mut sizes = Vec::new(alloc);
         for func in funcs {

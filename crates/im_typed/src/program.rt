@@ -1,12 +1,12 @@
 use crate::statement::Stmt;
-use im_ctype::{CType, StructTable};
+use im_ctype::{TypeId, TypeTable};
 use im_num::Kind;
 
 /// An object that a function or the program has.
 #[derive(Debug, Drop)]
 pub struct Object {
     pub name: Vec<u8>,
-    pub ty: CType,
+    pub ty: TypeId,
     /// The bytes that its type takes.
     pub size: u32,
 }
@@ -43,7 +43,7 @@ pub struct Func {
 /// literals that initialise no array, named `$1`, `$2` and so on; and the functions in order.
 #[derive(Drop)]
 pub struct Prog {
-    pub structs: StructTable,
+    pub types: TypeTable,
     pub statics: Vec<Static>,
     pub funcs: Vec<Func>,
     /// The number of the function `main`, whose brace gives 0.

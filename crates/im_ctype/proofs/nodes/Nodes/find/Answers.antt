@@ -1,6 +1,3 @@
-use Rattle.std.proofs.Common.{◌≡◌, ℕ, Some, subst, List}
-use Rattle.std.specs.Prelude.{slice_get, IfNone, Option}
-use Rattle.im_ctype.specs.declared.node.TypeId.{TypeId}
 use Rattle.im_ctype.proofs.Compared.{node-found, node-absent}
 use Rattle.im_ctype.proofs.nodes.Nodes.find.Goals as goal
 

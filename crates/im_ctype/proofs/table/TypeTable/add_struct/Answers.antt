@@ -1,10 +1,8 @@
-use Rattle.std.proofs.Common.{◌≡◌, ◌∙◌, sym, ap, subst, List, [], ◌∷◌, ◌++◌, length, map}
+use Rattle.std.proofs.Common.{◌≡◌, sym, subst, List, length}
 use Rattle.std.proofs.lemmas.List.{map-append}
 use Rattle.im_ctype.specs.declared.member.Member as rust
-use Rattle.im_ctype.specs.declared.member.MemberPlace.{MemberPlace}
-use Rattle.im_ctype.specs.declared.extent.Extent.{Extent}
 use Rattle.im_ctype.specs.declared.table.Structure.{Structure}
-use Rattle.im_ctype.specs.Kept.{AreMembersIn, IsKept, Entry, extent_of}
+use Rattle.im_ctype.specs.Kept.{AreMembersIn, Entry, extent_of}
 use Rattle.im_ctype.specs.Layout.{MembersAreComplete, layouts, struct_in}
 use Rattle.im_ctype.specs.Members.{places_in}
 use Rattle.im_ctype.specs.Table.{Table, members_in, types_of, structs_of}

@@ -1,10 +1,9 @@
-use Rattle.std.proofs.Common.{◌≡◌, subst, sym, length, List, [], ◌∷◌, ◌++◌}
-use Rattle.im_ctype.specs.declared.extent.Extent.{Extent}
+use Rattle.std.proofs.Common.{◌≡◌, subst, sym, length, List}
 use Rattle.im_ctype.specs.declared.node.TypeNode.{TypeNode}
-use Rattle.im_ctype.specs.Kept.{AreNodes, IsKept, kept_extent}
+use Rattle.im_ctype.specs.Kept.{AreNodes, kept_extent}
 use Rattle.im_ctype.specs.Table.{IsEarlier, IsSound}
 use Rattle.im_ctype.specs.Layout.{layouts}
-use Rattle.im_ctype.specs.Table.{Table, IsTypeOf, IsGrown, types_of, structs_of, type_of_node}
+use Rattle.im_ctype.specs.Table.{Table, IsTypeOf, types_of, structs_of, type_of_node}
 use Rattle.im_ctype.proofs.Grown.{type-pushed, grown-pushed, kept-with, is-type-found}
 use Rattle.im_ctype.proofs.table.TypeTable.intern.Goals as goal
 

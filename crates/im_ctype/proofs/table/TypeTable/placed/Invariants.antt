@@ -1,5 +1,5 @@
 use Rattle.im_ctype.specs.Layout.{layouts}
-use Rattle.im_ctype.specs.Table.{Table, members_in, types_of, structs_of}
+use Rattle.im_ctype.specs.Table.{members_in, types_of, structs_of}
 use Rattle.im_ctype.proofs.Walked.{SoFar}
 use Rattle.im_ctype.proofs.table.TypeTable.placed.Given as goal
 

@@ -1,12 +1,11 @@
-use Rattle.std.proofs.Common.{◌≡◌, ◌<◌, ◌≤◌, ◌∙◌, ap, sym, subst, length, List, get_or, map, None, refl, arith}
-use Rattle.std.specs.Prelude.{slice_get}
+use Rattle.std.proofs.Common.{◌≡◌, ◌<◌, ◌≤◌, ◌∙◌, ap, sym, subst, length, List, get_or, map, refl, arith}
 use Rattle.std.proofs.lemmas.Bool.{ltb-true}
 use Rattle.std.proofs.lemmas.List.{get_or-map, length-map}
 use Rattle.std.proofs.lemmas.Option.{slice_get_past, slice_get_read}
 use Rattle.im_ctype.specs.declared.table.Structure.{Structure}
 use Rattle.im_ctype.specs.declared.member.Member as rust
 use Rattle.im_ctype.specs.Kept.{Entry}
-use Rattle.im_ctype.specs.Types.{Structs, members_at}
+use Rattle.im_ctype.specs.Types.{members_at}
 use Rattle.im_ctype.specs.Layout.{layouts}
 use Rattle.im_ctype.specs.Members.{places, places_in}
 use Rattle.im_ctype.specs.Table.{Table, structs_of, types_of, members_in}
