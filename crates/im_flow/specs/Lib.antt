@@ -1,3 +1,2 @@
 pub mod Flows
 pub mod Laws
-pub mod Loop

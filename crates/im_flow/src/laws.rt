@@ -1,4 +1,3 @@
-ghost use Rattle.im_flow.specs.Loop.{LoopPlacedLaw};
 ghost use Rattle.im_flow.specs.Laws.{AlongLaw, GapLaw, LongPeriodsLaw, OneGapLaw, StepLaw};
 
 /// A step on code goes along the static flow, but for returns, flips and halts.
@@ -25,9 +24,4 @@ pub fn along_law()
 /// such periods than the run has commits end it.
 pub fn long_periods_law()
     ensures { LongPeriodsLaw }
-{}
-
-/// The premises on runs are met by a loop of one cut, whose K is 45.
-pub fn loop_placed_law()
-    ensures { LoopPlacedLaw }
 {}

@@ -3,4 +3,4 @@
 
 mod laws;
 
-pub use laws::{along_law, gap_law, long_periods_law, loop_placed_law, one_gap_law, step_law};
+pub use laws::{along_law, gap_law, long_periods_law, one_gap_law, step_law};

@@ -6,9 +6,9 @@ use Rattle.im_gap.specs.Table.{resume_words}
 use Rattle.im_gap_witness.proofs.Ranks.{are_below, is_ranked, bounded_by}
 use Rattle.im_witness.specs.Loop.{loop_memory}
 use Rattle.im_witness.proofs.Laws_of.{loop_law}
-use Rattle.im_flow.specs.Loop.{loop_words}
+use Rattle.im_gap_witness.specs.Loop.{loop_words}
 use Rattle.im_gap_witness.specs.Laws.{LoopGapLaw, LoopProgressesLaw}
-use Rattle.im_flow.proofs.LoopRun.{loop_placed_law}
+use Rattle.im_gap_witness.proofs.LoopRun.{loop_placed_law}
 use Rattle.im_flow.proofs.Progress.{long_periods_law}
 
 abbrev ranks : List ℕ

@@ -1,3 +1,4 @@
+ghost use Rattle.im_gap_witness.specs.Loop.{LoopPlacedLaw};
 ghost use Rattle.im_gap_witness.specs.Laws.{LoopGapLaw, LoopProgressesLaw};
 
 /// The loop's longest gap is 45 instructions: recovery, and both of its own, the checkpoint up to
@@ -9,4 +10,9 @@ pub fn loop_gap_law()
 /// So the loop commits in every period of at least 45 instructions.
 pub fn loop_progresses_law()
     ensures { LoopProgressesLaw }
+{}
+
+/// The premises on runs are met by the loop.
+pub fn loop_placed_law()
+    ensures { LoopPlacedLaw }
 {}

@@ -3,4 +3,4 @@
 
 mod laws;
 
-pub use laws::{loop_gap_law, loop_progresses_law};
+pub use laws::{loop_gap_law, loop_placed_law, loop_progresses_law};

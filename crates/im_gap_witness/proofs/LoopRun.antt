@@ -1,5 +1,5 @@
 -- The loop of one cut meets the premises on runs.
-use Rattle.std.proofs.Common.{◌≡◌, ℕ, zero, suc, ◌+◌, ◌*◌, ◌%◌, ◌<◌, ◌≤◌, ◌⊎◌, inl, inr, true, false, List, [], ◌∷◌, ◌++◌, map, length, refl, sym, ap, subst, ◌∙◌, arith}
+use Rattle.std.proofs.Common.{◌≡◌, ℕ, ◌+◌, ◌*◌, ◌≤◌, ◌⊎◌, inl, inr, true, false, List, [], ◌∷◌, ◌++◌, map, length, refl, sym, ap, subst, ◌∙◌, arith}
 use Rattle.std.specs.Prelude.{nat_le, nat_lt, ◌&&◌}
 use Rattle.std.proofs.lemmas.Bool.Decides.{nat_tests}
 use Rattle.im_mem.specs.Memory.{Mem, little, Stands}
@@ -13,14 +13,13 @@ use Rattle.im_ckpt.specs.Laws.{CanResume, is_runtime, IsCut}
 use Rattle.im_replay.specs.Uninterrupted.{uninterrupted}
 use Rattle.im_replay.proofs.Endless.{is_run}
 use Rattle.im_replay.proofs.Images.{can_resume, first_mem, first_place, zeros, words}
-use Rattle.im_witness.specs.Images.{with_runtime}
 use Rattle.im_witness.specs.Loop.{call_line, back_line, loop_memory}
 use Rattle.im_witness.proofs.Loading.{recovery_there, checkpoint_there, own_there, bytes_there, index_there, start_there}
 use Rattle.im_witness.proofs.Loop.{LoopImage, cut_is}
 use Rattle.im_witness.proofs.Laws_of.{loop_law}
 use Rattle.im_gap.specs.declared.flow.Turn.TheVariants.{Jumps, Returns}
 use Rattle.im_gap.specs.Flow.{turn_of, links}
-use Rattle.im_flow.specs.Loop.{loop_words, LoopPlacedLaw}
+use Rattle.im_gap_witness.specs.Loop.{loop_words, LoopPlacedLaw}
 
 stands_append : (m : Mem) (a b : ℕ) (xs ys : List ℕ) → Stands m a xs → b ≡ a + 4 * length xs → Stands m b ys → Stands m a (xs ++ ys)
 stands_append m a b [] ys h e g = subst (λ (z : ℕ). Stands m z ys) (let z : b ≡ a = omega arith in z) g
