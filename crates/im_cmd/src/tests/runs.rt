@@ -1,7 +1,8 @@
 use super::images::image_text;
 use super::{File, Wanted, file, tries};
-use im_ckpt::recovery_code;
+use im_ckpt::recovery_lines;
 use im_io::MemShelf;
+use im_rv::encode::encode;
 use std::alloc::Global;
 use std::test::Fail;
 
@@ -25,7 +26,10 @@ fn push_saves(words: &mut Vec<u32>, buffer: u32) -> Result<(), Fail> {
 // Recovery, the checkpoint routine at 0x1100, and behind it at 0x120c a loop that is a cut and no more:
 // 133 words, of which no period of fewer than 69 instructions gets around.
 fn cutting_loop(alloc: Global) -> Result<Vec<u32>, Fail> {
-    let mut words = recovery_code(alloc)?;
+    let mut words = Vec::new(alloc);
+    for line in &recovery_lines(alloc)? {
+        words.push(encode(line.instr))?;
+    }
     // lw x4, 0(x0); bne x4, x0, 136
     words.extend_from_slice(&[0x0000_2203, 0x0802_1463])?;
     push_saves(&mut words, 256)?;

@@ -169,7 +169,7 @@ fn an_image_stays_stored_where_its_run_is_refused(rt: HostRuntime) -> Result<(),
         let mut shelf = shelf(rt.alloc(), 0)?;
         tries(&rt, rt.alloc(), &mut shelf, 1000, command, &wanted)?;
         let image = shelf.file("h.img").ok_or("no image")?;
-        assert_eq!(rt; image.len(), 324);
+        assert_eq!(rt; image.len(), 328);
     }
     Ok(())
 }
