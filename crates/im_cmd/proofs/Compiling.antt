@@ -4,6 +4,8 @@ use Rattle.std.specs.Prelude.{slice_index, nat_le, ◌&&◌}
 use Rattle.std.proofs.lemmas.Bool.Decides.{nat_tests}
 use Rattle.im_rv.specs.Decode.{Line}
 use Rattle.im_ckpt.specs.Recovery.{recovery_words}
+use Rattle.im_image.specs.declared.version.Version.TheVariants.{Two}
+use Rattle.im_image.specs.declared.form.Form.TheVariants.{TwoLengths}
 use Rattle.im_image.specs.Contents.{ImageValue, IsImage}
 use Rattle.im_cmd.specs.Source.{Printing, IsPrinting}
 use Rattle.im_cmd.specs.Straight.{lui, call_lines, calls_lines, return_lines, straight_lines}
@@ -54,14 +56,19 @@ count_ok n a b = grind (arith, nat_tests)
 entry_ok : (n : ℕ) → 69 ≤ n → nat_le (4352 + 1) (4096 + 4 * n) ≡ true
 entry_ok n a = grind (arith, nat_tests)
 
+-- the image of these words
+abbrev pub built_of : List ℕ → ImageValue
+built_of words = record { version = Two; form = TwoLengths; words = words; statics = []; stack = 65536; out_cap = 1048576; entry = 4352; objects = [] }
+
 -- the image is one
-pub image_is : (p : Printing) (words code statics : List ℕ) → IsPrinting p → (i : ImageValue) → i ≡ record { words = words; statics = []; stack = 65536; out_cap = 1048576; entry = 4352; objects = [] } → words ≡ recovery_words ++ code → StandFor code (straight_lines p) → IsImage i
+pub image_is : (p : Printing) (words code statics : List ℕ) → IsPrinting p → (i : ImageValue) → i ≡ built_of words → words ≡ recovery_words ++ code → StandFor code (straight_lines p) → IsImage i
 image_is p words code statics good i e w s =
-    let image : ImageValue = record { words = words; statics = []; stack = 65536; out_cap = 1048576; entry = 4352; objects = [] } in
-    let c : IsCompiled p image = record { code = code; words = w; spelt = s; entry = refl; statics = refl; objects = refl; stack = refl; out_cap = refl } in
+    let image : ImageValue = built_of words in
+    let c : IsCompiled p image = record { version = refl; form = refl; code = code; words = w; spelt = s; entry = refl; statics = refl; objects = refl; stack = refl; out_cap = refl } in
     let n = words_length p image c in
     let few = good.few in
     let r : IsImage image = record {
+      form = refl;
       word_count = count_ok (length words) (omega arith) (omega arith);
       words = word_at words (subst Words (sym w) (both_words recovery_words code recovery_fits (spelt_words code (straight_lines p) s)));
       statics_size = refl;

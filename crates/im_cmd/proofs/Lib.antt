@@ -1,7 +1,9 @@
 pub mod Constants
 pub mod Stores
 pub mod Walks
+pub mod Words
 pub mod Runs
+pub mod Untorn
 pub mod Loading
 pub mod Compiling
 pub mod Texts

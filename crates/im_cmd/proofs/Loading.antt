@@ -2,27 +2,33 @@
 use Rattle.std.proofs.Common.{◌≡◌, ◌≢◌, ℕ, suc, ◌+◌, ◌-◌, ◌*◌, ◌%◌, ◌^◌, ◌<◌, ◌≤◌, ◌⊎◌, inl, inr, cond, List, [], ◌∷◌, ◌++◌, length, refl, sym, ap, ◌∙◌, subst, arith, rules}
 use Rattle.std.specs.Prelude.{All, ◌==◌}
 use Rattle.std.specs.List.{flat_map}
+use Rattle.std.proofs.lemmas.Bool.{cases_lt}
 use Rattle.std.proofs.lemmas.Bool.Decides.{nat_tests}
 use Rattle.std.proofs.lemmas.List.{length-append}
 use Rattle.im_num.specs.Bytes.{word_bytes}
-use Rattle.im_mem.specs.Memory.{Mem, little, written, zeroed}
+use Rattle.im_mem.specs.Memory.{Mem, little, written, zeroed, Stands}
+use Rattle.im_mem.proofs.Words.{written-above}
 use Rattle.im_rv.specs.Steps.{Cpu}
 use Rattle.im_rv.specs.Decode.{Line, decode}
-use Rattle.im_rv.specs.PowerUp.{boot}
-use Rattle.im_ckpt.specs.Recovery.{recovery_words, saved, Stands}
-use Rattle.im_ckpt.proofs.Straight.{Backward, after}
-use Rattle.im_ckpt.proofs.Resume.{resume_0, resumed_0, resumed_0_restored}
+use Rattle.im_image.specs.declared.form.Form.TheVariants.{TwoLengths}
 use Rattle.im_image.specs.Contents.{ImageValue}
-use Rattle.im_emu.specs.Load.{memory_of}
-use Rattle.im_emu.specs.Shows.{output_of}
-use Rattle.im_power.specs.Power.{powered}
+use Rattle.im_device.specs.Run.{Moment, index_of, run, torn}
+use Rattle.im_device.specs.Periods.{fresh, power_up, powered}
+use Rattle.im_device.specs.Load.{memory_of}
+use Rattle.im_device.specs.Shows.{output_of}
+use Rattle.im_device.proofs.Runs.{run_parts}
+use Rattle.im_ckpt.specs.Buffers.{buffer}
+use Rattle.im_ckpt.specs.Recovery.{recovery_words}
+use Rattle.im_ckpt.specs.Laws.{CanResume, resuming}
+use Rattle.im_ckpt.proofs.Resume.{resume}
 use Rattle.im_cmd.specs.Source.{Printing, IsPrinting, output_meant}
 use Rattle.im_cmd.specs.Straight.{straight_lines, return_lines}
 use Rattle.im_cmd.specs.Keeps.{Begins, Keeps, RunsAs}
 use Rattle.im_cmd.specs.Compiled.{StandFor, IsCompiled}
 use Rattle.im_cmd.proofs.Stores.{with_word, little_same, word_here}
 use Rattle.im_cmd.proofs.Walks.{Codes_at}
-use Rattle.im_cmd.proofs.Runs.{Fine, Shown, shown_output, fine_back, straight_fine, after_calls, calls_length, lines_length}
+use Rattle.im_cmd.proofs.Runs.{Ends, Fine, Shown, shown_output, rested, under_way, straight_fine, after_calls, calls_length, lines_length}
+use Rattle.im_cmd.proofs.Untorn.{torn_none}
 
 put_other : (m : Mem) (a b k : ℕ) → k ≢ a → cond (k == a) b (m k) ≡ m k
 put_other m a b k h = grind (arith, nat_tests)
@@ -162,11 +168,22 @@ first_entry image input l =
     little_same (memory_of image input) (entered image input) 4 128 (λ k p q. below_buffer image input k (omega arith))
     ∙ word_here (headed image input) 128 image.entry l
 
+first_selector : (image : ImageValue) (input : List ℕ) → memory_of image input 36 ≡ 0
+first_selector image input =
+    let m1 = written zeroed 16 (word_bytes image.out_cap) in
+    let m2 = written m1 20 (word_bytes (length input)) in
+    below_buffer image input 36 (omega arith)
+    ∙ before (word_bytes image.entry) (headed image input) 128 36 (omega arith)
+    ∙ written-above m2 28 36 (word_bytes (3145728 - image.stack)) (omega arith)
+    ∙ written-above m1 20 36 (word_bytes (length input)) (omega arith)
+    ∙ written-above zeroed 16 36 (word_bytes image.out_cap) (omega arith)
+
 first_shown : (image : ImageValue) (input : List ℕ) → Shown (memory_of image input) 0 []
 first_shown image input = record {
   index = first_word image input 0 (omega arith);
   reason = first_word image input 8 (omega arith);
   count = first_word image input 12 (omega arith);
+  selector = first_selector image input;
   bytes = refl;
   few = omega arith;
 }
@@ -196,9 +213,17 @@ words_length p image c =
     let f : length recovery_words ≡ 64 = refl in
     omega arith
 
--- the image loaded, and one period
-loaded_fine : (p : Printing) (image : ImageValue) → IsPrinting p → IsCompiled p image → (input : List ℕ) → Bytes input → (junk : ℕ) → (k : ℕ) → k ≡ after_calls p.written 4 → Fine p (suc (suc (suc (after saved (suc (suc k)))))) (boot junk) (memory_of image input)
-loaded_fine p image good c input small_input junk k ke =
+-- ---- the image loaded, and one period
+
+record IsLoaded (p : Printing) (m : Mem) : Type 0 where
+  can : CanResume m
+  index : index_of m ≡ 0
+  entry : little m 128 4 ≡ 4352
+  shown : Shown m 0 []
+  codes : Codes_at m 4352 (straight_lines p)
+
+loaded : (p : Printing) (image : ImageValue) → IsPrinting p → IsCompiled p image → (input : List ℕ) → Bytes input → IsLoaded p (memory_of image input)
+loaded p image good c input small_input =
     let m = memory_of image input in
     let code = c.code in
     let words = recovery_words ++ code in
@@ -210,28 +235,82 @@ loaded_fine p image good c input small_input junk k ke =
     let stand : Stands m 4096 words = subst (λ z. Stands m 4096 z) c.words stand1 in
     let recovery : Stands m 4096 recovery_words = stand_first m 4096 recovery_words code stand in
     let rest : Stands m 4352 code = stand_rest m 4096 recovery_words code stand in
-    let codes : Codes_at m 4352 (straight_lines p) = spelt_codes m 4352 code (straight_lines p) c.spelt rest in
-    let entry : little m 128 4 ≡ 4352 = first_entry image input (let e = c.entry in omega arith) ∙ c.entry in
     let shown = first_shown image input in
-    let begins : Begins (output_of m) (output_meant p) = (output_meant p, ap (λ z. z ++ output_meant p) (sym (shown_output m 0 [] shown))) in
-    let P : ℕ → Cpu → Type 0 = λ n d. Fine p n d m in
-    let back : Backward m P = λ n d e s f. fine_back p n d e m m s begins refl f in
-    let even : little m 128 4 % 2 ≡ 0 = ap (λ z. z % 2) entry in
-    let r = resumed_0_restored m junk in
-    let d = resumed_0 m junk in
-    let straight : Fine p (suc (after_calls p.written 4)) (record { pc = 4352; x = d.x }) m =
-    straight_fine p m 4352 d.x good.status few shown codes refl (omega arith) (omega arith) r.zero_reg in
-    let at : Fine p (suc k) d m = subst (λ z. Fine p (suc z) d m) (sym ke) (subst (λ z. Fine p (suc (after_calls p.written 4)) (record { pc = z; x = d.x }) m) (sym (r.place ∙ entry)) straight) in
-    resume_0 m P back junk (first_bytes image input c.statics small_input) recovery (first_word image input 0 (omega arith)) even (suc k) at
+    let index : index_of m ≡ 0 = shown.index in
+    let entry : little m 128 4 ≡ 4352 = first_entry image input (let e = c.entry in omega arith) ∙ c.entry in
+    let live : little m (buffer (index_of m)) 4 ≡ 4352 = ap (λ i. little m (buffer i) 4) index ∙ entry in
+    record {
+      can = record {
+        bytes = first_bytes image input c.statics small_input;
+        recovery = recovery;
+        index = omega (arith, index);
+        even = ap (λ z. z % 2) live;
+      };
+      index = index;
+      entry = entry;
+      shown = shown;
+      codes = spelt_codes m 4352 code (straight_lines p) c.spelt rest;
+    }
+
+-- the straight code behind recovery
+behind : (p : Printing) (k n : ℕ) (x : Moment) → 33 ≤ n → Ends p k 33 (n - 33) x → Ends p (33 + k) 0 n x
+behind p k n x l r = record {
+  safe = r.safe;
+  begins = r.begins;
+  on = λ h. r.on (omega arith);
+  halts = λ h. r.halts (omega arith);
+  output = r.output;
+  status = r.status;
+  reason = r.reason;
+  count = λ h. (let q = r.count h in omega arith);
+  uncommitted = r.uncommitted;
+}
+
+from_power_up : (p : Printing) (m : Mem) (junk n : ℕ) → IsPrinting p → IsLoaded p m → Ends p (33 + suc (after_calls p.written 4)) 0 n (resuming n junk m)
+from_power_up p m junk n good h =
+    let k = suc (after_calls p.written 4) in
+    let r = resume m junk h.can in
+    let c = (resuming 33 junk m).cpu in
+    let begins : Begins (output_of TwoLengths m) (output_meant p) = (output_meant p, ap (λ z. z ++ output_meant p) (sym (shown_output m 0 [] h.shown))) in
+    let live : little m (buffer (index_of m)) 4 ≡ 4352 = ap (λ i. little m (buffer i) 4) h.index ∙ h.entry in
+    let place : c.pc ≡ 4352 = r.restored.place ∙ live in
+    let straight : Fine p k (record { pc = 4352; x = c.x }) m =
+    straight_fine p m 4352 c.x good.status good.few h.shown h.codes refl (omega arith) (omega arith) r.restored.zero_reg in
+    let fine : Fine p k c m = subst (λ z. Fine p k (record { pc = z; x = c.x }) m) (sym place) straight in
+    elim (cases_lt n 33) [
+      | inl less ↦ (let early : resuming n junk m ≡ under_way n (resuming n junk m).cpu m = r.goes_on n (omega arith) in
+          subst (λ x. Ends p (33 + k) 0 n x) (sym early) (rested p (33 + k) 0 n n (resuming n junk m).cpu m (omega arith) begins))
+      | inr more ↦ (let parts : n ≡ 33 + (n - 33) = omega arith in
+          let late : resuming n junk m ≡ run (n - 33) (under_way 33 c m) =
+          ap (λ z. run z (power_up junk (fresh m))) parts ∙ run_parts 33 (n - 33) (power_up junk (fresh m)) ∙ ap (run (n - 33)) (r.goes_on 33 (omega arith)) in
+          subst (λ x. Ends p (33 + k) 0 n x) (sym late) (behind p k n (run (n - 33) (under_way 33 c m)) more (fine (n - 33) 33)))
+    ]
+
+as_period : (p : Printing) (steps n junk : ℕ) (m : Mem) → Ends p steps 0 n (resuming n junk m) → RunsAs p TwoLengths steps n (powered n junk 0 (fresh m))
+as_period p steps n junk m r =
+    let x = resuming n junk m in
+    let ends : Ends p steps 0 n (torn 0 x) = subst (λ y. Ends p steps 0 n y) (sym (torn_none x)) r in
+    record {
+      safe = ends.safe;
+      begins = ends.begins;
+      on = ends.on;
+      halts = ends.halts;
+      output = ends.output;
+      status = ends.status;
+      reason = ends.reason;
+      count = λ h. (let q = ends.count h in omega arith);
+      uncommitted = ends.uncommitted;
+    }
 
 pub keeps : (p : Printing) (image : ImageValue) → IsPrinting p → IsCompiled p image → Keeps p image (length image.words + 68)
 keeps p image good c =
     let size = words_length p image c in
     let count = calls_length p.written 4 in
-    let k = after_calls p.written 4 in
-    let steps : suc (suc (suc (after saved (suc (suc k))))) ≡ 4 * length p.written + 38 = omega arith in
+    let k = suc (after_calls p.written 4) in
     record {
-      steps = 4 * length p.written + 38;
+      steps = 33 + k;
       within = omega arith;
-      runs = λ input bytes room n junk. subst (λ z. RunsAs p z n (powered n junk (memory_of image input))) steps (loaded_fine p image good c input (all_small input bytes) junk k refl n);
+      runs = λ input bytes room n junk.
+          subst (λ form. RunsAs p form (33 + k) n (powered n junk 0 (fresh (memory_of image input)))) (sym c.form)
+          (as_period p (33 + k) n junk (memory_of image input) (from_power_up p (memory_of image input) junk n good (loaded p image good c input (all_small input bytes))));
     }

@@ -4,24 +4,42 @@ use Rattle.std.specs.Prelude.{pos, ◌==◌}
 use Rattle.std.specs.Int.{cast_signed, w32}
 use Rattle.std.proofs.lemmas.Bool.Decides.{nat_tests}
 use Rattle.std.proofs.lemmas.List.{append-nil}
-use Rattle.im_rv.specs.declared.step.Went.TheVariants.{On, Halted}
+use Rattle.im_rv.specs.declared.step.Went.TheVariants.{On, Halted, Faulted}
 use Rattle.im_mem.specs.Memory.{Mem, little, bytes_from, is_place}
 use Rattle.im_rv.specs.Steps.{Cpu, Stepped, sum_of, with_reg}
 use Rattle.im_rv.specs.Decode.{Line, step_of}
-use Rattle.im_emu.specs.Shows.{output_of, status_of, reason_of}
-use Rattle.im_power.specs.Power.{Ended, at_rest, ahead, and_then, one_step, index_changes, steps_of}
+use Rattle.im_image.specs.declared.form.Form.TheVariants.{TwoLengths}
+use Rattle.im_device.specs.Run.{Moment, run, after_step, counting}
+use Rattle.im_device.specs.Shows.{output_length, output_of, status_of, reason_of}
+use Rattle.im_device.proofs.Runs.{run_over}
 use Rattle.im_cmd.specs.Source.{Printing, output_meant, status_meant, int_max}
 use Rattle.im_cmd.specs.Straight.{addi, sw, ebreak, calls_lines, return_lines, straight_lines, upper_part, lower_part}
-use Rattle.im_cmd.specs.Keeps.{Begins, RunsAs}
+use Rattle.im_cmd.specs.Keeps.{Begins}
 use Rattle.im_cmd.proofs.Stores.{with_byte, with_word, little_same, bytes_same, bytes_one_more, byte_other, byte_here, word_other, word_here}
 use Rattle.im_cmd.proofs.Walks.{Codes_at, SameCode, codes_kept, IsCode, addi_step, lui_step, sb_step, sw_step, ebreak_step}
 
+-- a device under power after so many steps, none of which changed INDEX
+abbrev pub under_way : ℕ → Cpu → Mem → Moment
+under_way steps c m = record { went = On; cpu = c; mem = m; steps = steps; commits = 0 }
+
+-- n steps of a program that takes so many more, counted from the steps before
+pub record Ends (p : Printing) (steps before n : ℕ) (x : Moment) : Type 0 where
+  pub safe : (at : ℕ) → x.went ≡ Faulted at → ⊥
+  pub begins : Begins (output_of TwoLengths x.mem) (output_meant p)
+  pub on : n < steps → x.went ≡ On
+  pub halts : steps ≤ n → x.went ≡ Halted
+  pub output : x.went ≡ Halted → output_of TwoLengths x.mem ≡ output_meant p
+  pub status : x.went ≡ Halted → status_of x.mem ≡ status_meant p
+  pub reason : x.went ≡ Halted → reason_of x.mem ≡ 0
+  pub count : x.went ≡ Halted → x.steps ≡ before + steps
+  pub uncommitted : x.commits ≡ 0
+
 -- from here the program ends after k more steps
 abbrev pub Fine : Printing → ℕ → Cpu → Mem → Type 0
-Fine p k c m = (n : ℕ) → RunsAs p k n (steps_of n c m)
+Fine p k c m = (n s : ℕ) → Ends p k s n (run n (under_way s c m))
 
-rested : (p : Printing) (k : ℕ) (m : Mem) → 0 < k → Begins (output_of m) (output_meant p) → RunsAs p k 0 (at_rest m)
-rested p k m l b = record {
+pub rested : (p : Printing) (k s n steps : ℕ) (c : Cpu) (m : Mem) → n < k → Begins (output_of TwoLengths m) (output_meant p) → Ends p k s n (under_way steps c m)
+rested p k s n steps c m l b = record {
   safe = λ at e. cc;
   begins = b;
   on = λ h. refl;
@@ -33,14 +51,14 @@ rested p k m l b = record {
   uncommitted = refl;
 }
 
-no_change : (m m' : Mem) → little m 0 4 ≡ little m' 0 4 → index_changes m m' ≡ 0
+no_change : (m m' : Mem) → little m 0 4 ≡ little m' 0 4 → counting m m' 0 ≡ 0
 no_change m m' e = unchanged (little m 0 4) (little m' 0 4) e
   where
     unchanged : (a b : ℕ) → a ≡ b → let d : ℕ = cond (a == b) 0 1 in d ≡ 0
     unchanged a b e = grind (arith, nat_tests)
 
-later : (p : Printing) (k n : ℕ) (m m' : Mem) (e : Ended) → little m 0 4 ≡ little m' 0 4 → RunsAs p k n e → RunsAs p (suc k) (suc n) (ahead 1 (index_changes m m') e)
-later p k n m m' e same r = record {
+later : (p : Printing) (k s n : ℕ) (x : Moment) → Ends p k (suc s) n x → Ends p (suc k) s (suc n) x
+later p k s n x r = record {
   safe = r.safe;
   begins = r.begins;
   on = λ h. r.on (omega arith);
@@ -49,43 +67,56 @@ later p k n m m' e same r = record {
   status = r.status;
   reason = r.reason;
   count = λ h. (let q = r.count h in omega arith);
-  uncommitted = (let a : index_changes m m' ≡ 0 = no_change m m' same in let b = r.uncommitted in omega arith);
+  uncommitted = r.uncommitted;
 }
 
-pub fine_back : (p : Printing) (k : ℕ) (c d : Cpu) (m m' : Mem) → step_of c m ≡ record { went = On; cpu = d; mem = m' } → Begins (output_of m) (output_meant p) → little m 0 4 ≡ little m' 0 4 → Fine p k d m' → Fine p (suc k) c m
-fine_back p k c d m m' e b same f zero = rested p (suc k) m (omega arith) b
-fine_back p k c d m m' e b same f (suc n) =
-    subst (λ z. RunsAs p (suc k) (suc n) z) (sym (ap (λ (s : Stepped). and_then (one_step m s) (steps_of n s.cpu)) e)) (later p k n m m' (steps_of n d m') same (f n))
+abbrev one_more : ℕ → Cpu → Mem → ℕ → Moment
+one_more s d m' commits = record { went = On; cpu = d; mem = m'; steps = suc s; commits = commits }
 
-over : (p : Printing) (n : ℕ) (m : Mem) → output_of m ≡ output_meant p → status_of m ≡ status_meant p → reason_of m ≡ 0 → RunsAs p 1 (suc n) (record { went = Halted; mem = m; steps = 1; commits = index_changes m m })
-over p n m o s r = record {
+pub fine_back : (p : Printing) (k : ℕ) (c d : Cpu) (m m' : Mem) → step_of c m ≡ record { went = On; cpu = d; mem = m' } → Begins (output_of TwoLengths m) (output_meant p) → little m 0 4 ≡ little m' 0 4 → Fine p k d m' → Fine p (suc k) c m
+fine_back p k c d m m' e b same f zero s = rested p (suc k) s 0 s c m (omega arith) b
+fine_back p k c d m m' e b same f (suc n) s =
+    let stepped : run (suc n) (under_way s c m) ≡ run n (under_way (suc s) d m') =
+    ap (λ (t : Stepped). run n (after_step (under_way s c m) t)) e ∙ ap (λ z. run n (one_more s d m' z)) (no_change m m' same) in
+    subst (λ z. Ends p (suc k) s (suc n) z) (sym stepped) (later p k s n (run n (under_way (suc s) d m')) (f n (suc s)))
+
+abbrev ended_at : ℕ → Cpu → Mem → ℕ → Moment
+ended_at s d m commits = record { went = Halted; cpu = d; mem = m; steps = suc s; commits = commits }
+
+over : (p : Printing) (n s : ℕ) (d : Cpu) (m : Mem) → output_of TwoLengths m ≡ output_meant p → status_of m ≡ status_meant p → reason_of m ≡ 0 → Ends p 1 s (suc n) (ended_at s d m 0)
+over p n s d m o t r = record {
   safe = λ at e. cc;
-  begins = ([], sym o ∙ sym (append-nil (output_of m)));
+  begins = ([], sym o ∙ sym (append-nil (output_of TwoLengths m)));
   on = λ h. absurd (omega arith);
   halts = λ h. refl;
   output = λ e. o;
-  status = λ e. s;
+  status = λ e. t;
   reason = λ e. r;
-  count = λ e. refl;
-  uncommitted = no_change m m refl;
+  count = λ e. omega arith;
+  uncommitted = refl;
 }
 
-pub fine_halt : (p : Printing) (c d : Cpu) (m : Mem) → step_of c m ≡ record { went = Halted; cpu = d; mem = m } → output_of m ≡ output_meant p → status_of m ≡ status_meant p → reason_of m ≡ 0 → Fine p 1 c m
-fine_halt p c d m e o s r zero = rested p 1 m (omega arith) ([], sym o ∙ sym (append-nil (output_of m)))
-fine_halt p c d m e o s r (suc n) =
-    subst (λ z. RunsAs p 1 (suc n) z) (sym (ap (λ (s : Stepped). and_then (one_step m s) (steps_of n s.cpu)) e)) (over p n m o s r)
+pub fine_halt : (p : Printing) (c d : Cpu) (m : Mem) → step_of c m ≡ record { went = Halted; cpu = d; mem = m } → output_of TwoLengths m ≡ output_meant p → status_of m ≡ status_meant p → reason_of m ≡ 0 → Fine p 1 c m
+fine_halt p c d m e o t r zero s = rested p 1 s 0 s c m (omega arith) ([], sym o ∙ sym (append-nil (output_of TwoLengths m)))
+fine_halt p c d m e o t r (suc n) s =
+    let stepped : run (suc n) (under_way s c m) ≡ run n (ended_at s d m 0) =
+    ap (λ (u : Stepped). run n (after_step (under_way s c m) u)) e ∙ ap (λ z. run n (ended_at s d m z)) (no_change m m refl) in
+    let stays = run_over n (ended_at s d m 0) (λ on. let bad : Halted ≡ On = on in cc) in
+    subst (λ z. Ends p 1 s (suc n) z) (sym (stepped ∙ stays)) (over p n s d m o t r)
 
 -- i calls are done, and this is their output
 pub record Shown (m : Mem) (i : ℕ) (done : List ℕ) : Type 0 where
   pub index : little m 0 4 ≡ 0
   pub reason : little m 8 4 ≡ 0
   pub count : little m 12 4 ≡ i
+  pub selector : m 36 ≡ 0
   pub bytes : bytes_from m 4194304 i ≡ done
   pub few : i ≤ 1000
 
-pub shown_output : (m : Mem) (i : ℕ) (done : List ℕ) → Shown m i done → output_of m ≡ done
+pub shown_output : (m : Mem) (i : ℕ) (done : List ℕ) → Shown m i done → output_of TwoLengths m ≡ done
 shown_output m i done s =
-    let e : min (little m 12 4) 1048576 ≡ i = (let a = s.count in let b = s.few in omega arith) in
+    let chosen : output_length TwoLengths m ≡ i = rw s.selector s.count in
+    let e : min (output_length TwoLengths m) 1048576 ≡ i = (let b = s.few in omega arith) in
     ap (λ n. bytes_from m 4194304 n) e ∙ s.bytes
 
 -- a byte stored behind the output shows nothing
@@ -97,6 +128,7 @@ byte_shown m i done w s =
       index = little_same n m 4 0 (λ k a b. other k (omega arith)) ∙ s.index;
       reason = little_same n m 4 8 (λ k a b. other k (omega arith)) ∙ s.reason;
       count = little_same n m 4 12 (λ k a b. other k (omega arith)) ∙ s.count;
+      selector = other 36 (omega arith) ∙ s.selector;
       bytes = bytes_same n m 4194304 i (λ k a b. other k (omega arith)) ∙ s.bytes;
       few = s.few;
     }
@@ -111,6 +143,7 @@ length_shown m i done b s l h =
       index = little_same n m 4 0 (λ k a b. other k (inl (omega arith))) ∙ s.index;
       reason = little_same n m 4 8 (λ k a b. other k (inl (omega arith))) ∙ s.reason;
       count = word_here m 12 (i + 1) (omega arith);
+      selector = other 36 (inr (omega arith)) ∙ s.selector;
       bytes = bytes_same n m 4194304 (i + 1) (λ k a b. other k (inr (omega arith)))
           ∙ ap (λ z. bytes_from m 4194304 z) (sym e)
           ∙ bytes_one_more m 4194304 i
@@ -128,6 +161,7 @@ status_shown m i done w s =
       index = little_same n m 4 0 (λ k a b. other k (inl (omega arith))) ∙ s.index;
       reason = little_same n m 4 8 (λ k a b. other k (inr (omega arith))) ∙ s.reason;
       count = little_same n m 4 12 (λ k a b. other k (inr (omega arith))) ∙ s.count;
+      selector = other 36 (inr (omega arith)) ∙ s.selector;
       bytes = bytes_same n m 4194304 i (λ k a b. other k (inr (omega arith))) ∙ s.bytes;
       few = s.few;
     }
@@ -167,7 +201,7 @@ return_fine p i m pc x l s codes al low high x0 =
     let m3 = with_word m 4 (x2 6) in
     let s3 : Shown m3 i (output_meant p) = status_shown m i (output_meant p) (x2 6) s in
     let word3 : little m3 4 4 ≡ p.status = word_here m 4 (x2 6) (let q = six2 in omega arith) ∙ six2 in
-    let b : Begins (output_of m) (output_meant p) = ([], sym (shown_output m i (output_meant p) s) ∙ sym (append-nil (output_of m))) in
+    let b : Begins (output_of TwoLengths m) (output_meant p) = ([], sym (shown_output m i (output_meant p) s) ∙ sym (append-nil (output_of TwoLengths m))) in
     let same : SameCode m m3 = λ k q r. word_other m 4 (x2 6) k (inr (omega arith)) in
     let codes3 = codes_kept m m3 (pc + 4 + 4 + 4) (ebreak ∷ []) same (omega arith) (omega arith) codes.1.1.1 in
     fine_back p 3 (record { pc = pc; x = x }) (record { pc = pc + 4; x = x1 }) m m (lui_step m pc x 6 (upper_part p.status) up (code_place pc 4 al low (omega arith) (omega arith)) codes.0 refl) b refl
@@ -216,8 +250,8 @@ calls_fine p (c ∷ cs) done i m pc x l s whole few codes al low high h =
     let same2 : SameCode m1 m2 = λ k q r. word_other m1 12 (x2 7) k (inr (omega arith)) in
     let codes1 = codes_kept m m1 (pc + 4 + 4) (addi 7 0 (i + 1) ∷ sw 7 12 0 ∷ tail) same1 (omega arith) (omega arith) codes.1.1 in
     let codes2 = codes_kept m1 m2 (pc + 4 + 4 + 4 + 4) tail same2 (omega arith) (omega arith) codes1.1.1 in
-    let b0 : Begins (output_of m) (output_meant p) = (map (λ c. c % 256) (c ∷ cs), whole ∙ ap (λ z. z ++ map (λ c. c % 256) (c ∷ cs)) (sym (shown_output m i done s))) in
-    let b1 : Begins (output_of m1) (output_meant p) = (map (λ c. c % 256) (c ∷ cs), whole ∙ ap (λ z. z ++ map (λ c. c % 256) (c ∷ cs)) (sym (shown_output m1 i done s1))) in
+    let b0 : Begins (output_of TwoLengths m) (output_meant p) = (map (λ c. c % 256) (c ∷ cs), whole ∙ ap (λ z. z ++ map (λ c. c % 256) (c ∷ cs)) (sym (shown_output m i done s))) in
+    let b1 : Begins (output_of TwoLengths m1) (output_meant p) = (map (λ c. c % 256) (c ∷ cs), whole ∙ ap (λ z. z ++ map (λ c. c % 256) (c ∷ cs)) (sym (shown_output m1 i done s1))) in
     let n = after_calls cs 4 in
     fine_back p (suc (suc (suc n))) (record { pc = pc; x = x }) (record { pc = pc + 4; x = x1 }) m m (addi_step m pc x 6 0 (c % 256) (c % 256) (code_place pc 4 al low (omega arith) (omega arith)) codes.0 (ap (λ z. sum_of z (c % 256)) h.zero_reg ∙ (let q : sum_of 0 (c % 256) ≡ c % 256 = omega arith in q))) b0 refl
     (fine_back p (suc (suc n)) (record { pc = pc + 4; x = x1 }) (record { pc = pc + 4 + 4; x = x1 }) m m1 (sb_step m (pc + 4) x1 6 i 5 a (code_place (pc + 4) 3 (omega arith) (omega arith) (omega arith) (omega arith)) codes.1.0 (ap (λ z. sum_of z i) h1.output ∙ (let q : sum_of 4194304 i ≡ a = omega arith in q)) (is_output a (omega arith))) b0 (s.index ∙ sym s1.index)

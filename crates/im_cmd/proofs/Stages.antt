@@ -10,8 +10,9 @@ use Rattle.im_image.specs.Contents.{ImageValue}
 use Rattle.im_power.specs.declared.period.Period.{Period}
 use Rattle.im_power.specs.declared.fault.TraceFault.{TraceFault}
 use Rattle.im_power.specs.Text.{trace_of}
-use Rattle.im_emu.specs.Load.{memory_of}
-use Rattle.im_emu.specs.State.{Held, state_of, fresh, after}
+use Rattle.im_device.specs.Load.{memory_of}
+use Rattle.im_device.specs.Periods.{fresh, power}
+use Rattle.im_emu.specs.State.{Held, SameImage, counted, device_of}
 use Rattle.im_num.specs.Variables.{Variable}
 use Rattle.im_cli.specs.Named.{Options}
 use Rattle.im_lines.specs.Refusals.{Refused, CannotRead, SourceTooLong, NotCompiled, NotAnImage, CannotWrite, InputTooLong, FileTooLong, NotATrace, NoMemory}
@@ -190,11 +191,11 @@ run_starved options input periods a b c read h = unchanged_then a b c read.uncha
 
 pub ran : (options : Options) (image : ImageValue) (input : List ℕ) (periods : List Period) (loaded run : Held (List ℕ)) (variables : Option (List Variable)) (a b c : ShelfState) →
     ReadsInput options input a b → Loads image input loaded → ReadsPeriods options periods b c →
-    state_of view run ≡ after periods (state_of view loaded) → run.objects ≡ loaded.objects →
-    variables ≡ shown options.vars run.objects (view run.memory) → Ran options image (ended_of run) variables a c
-ran options image input periods loaded run variables a b c read l h e objects vars =
+    device_of view run ≡ counted (power periods (device_of view loaded)) → SameImage loaded run →
+    variables ≡ shown options.vars run.objects (view run.memory) → Ran options image run.form (ended_of run) variables a c
+ran options image input periods loaded run variables a b c read l h e same vars =
     let m = memory_of image input in
-    let whole : state_of view run ≡ after periods (fresh m) = e ∙ ap (after periods) l.made in
+    let whole : device_of view run ≡ counted (power periods (fresh m)) = e ∙ ap (λ d. counted (power periods d)) l.made in
     record {
       run = record {
         unchanged = unchanged_then a b c read.unchanged h.unchanged;
@@ -202,7 +203,8 @@ ran options image input periods loaded run variables a b c read l h e objects va
         takes = takes options image input loaded a b c.told read l h.unchanged.files;
         periods = periods;
         are_periods = h.are_periods;
-        run = trace_run periods m (state_of view run) h.is_trace whole;
+        run = trace_run periods m (device_of view run) h.is_trace whole;
       };
-      are_shown = vars ∙ ap (λ objects. shown options.vars objects (view run.memory)) (objects ∙ l.objects);
+      form_is = same.form ∙ l.of_image.form;
+      are_shown = vars ∙ ap (λ objects. shown options.vars objects (view run.memory)) (same.objects ∙ l.of_image.objects);
     }

@@ -3,7 +3,7 @@ use Rattle.std.specs.Prelude.{◌≡◌, ℕ, List, length, Some, None}
 use Rattle.im_io.specs.Shelf.{ShelfState}
 use Rattle.im_io.specs.Sink.{SinkState}
 use Rattle.im_image.specs.Contents.{ImageValue}
-use Rattle.im_power.specs.Power.{Ended}
+use Rattle.im_device.specs.Periods.{Device}
 use Rattle.im_cli.specs.Named.{Asked, Options, builds, runs, executes, dumps, named}
 use Rattle.im_lines.specs.Builds.{build_lines}
 use Rattle.im_lines.specs.Dumps.{dump_lines}
@@ -27,8 +27,8 @@ pub data RunAnswers (source image_name : List ℕ) (options : Options) (old new 
   run_refused : (r : Refused) (image : ImageValue) (gap : ℕ) (stored : ShelfState) → Builds source image_name image gap old stored
       → RefusesRun r options stored new → TellsRefusal r out out' err err' status
       → RunAnswers source image_name options old new out out' err err' status
-  ran : (image : ImageValue) (gap : ℕ) (ended : Ended) (stored : ShelfState) → Builds source image_name image gap old stored
-      → RunsImage options image ended stored new → TellsRun (report (Some gap) options.vars image ended) ended out out' err err' status
+  ran : (image : ImageValue) (gap : ℕ) (ended : Device) (stored : ShelfState) → Builds source image_name image gap old stored
+      → RunsImage options image ended stored new → TellsRun (report (Some gap) options.vars image ended) image.form ended out out' err err' status
       → RunAnswers source image_name options old new out out' err err' status
 
 -- an image is read and run
@@ -38,8 +38,8 @@ pub data ExecAnswers (name : List ℕ) (options : Options) (old new : ShelfState
   exec_refused : (r : Refused) (image : ImageValue) (read : ShelfState) → ReadsImage name image old read
       → RefusesRun r options read new → TellsRefusal r out out' err err' status
       → ExecAnswers name options old new out out' err err' status
-  executed : (image : ImageValue) (ended : Ended) (read : ShelfState) → ReadsImage name image old read
-      → RunsImage options image ended read new → TellsRun (report None options.vars image ended) ended out out' err err' status
+  executed : (image : ImageValue) (ended : Device) (read : ShelfState) → ReadsImage name image old read
+      → RunsImage options image ended read new → TellsRun (report None options.vars image ended) image.form ended out out' err err' status
       → ExecAnswers name options old new out out' err err' status
 
 -- an image is read and shown

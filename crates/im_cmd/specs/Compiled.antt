@@ -2,6 +2,8 @@
 use Rattle.std.specs.Prelude.{◌≡◌, ℕ, ◌^◌, ◌<◌, List, [], ◌∷◌, ◌++◌, Some}
 use Rattle.im_rv.specs.Decode.{Line, decode}
 use Rattle.im_ckpt.specs.Recovery.{recovery_words}
+use Rattle.im_image.specs.declared.version.Version.TheVariants.{Two}
+use Rattle.im_image.specs.declared.form.Form.TheVariants.{TwoLengths}
 use Rattle.im_image.specs.Contents.{ImageValue}
 use Rattle.im_cmd.specs.Source.{Printing}
 use Rattle.im_cmd.specs.Straight.{straight_lines}
@@ -14,6 +16,8 @@ StandFor (w ∷ ws) [] = ⊥
 StandFor (w ∷ ws) (l ∷ ls) = (decode w ≡ Some l) × (w < 2 ^ 32) × StandFor ws ls
 
 pub record IsCompiled (p : Printing) (image : ImageValue) : Type 0 where
+  pub version : image.version ≡ Two
+  pub form : image.form ≡ TwoLengths
   pub code : List ℕ
   pub words : image.words ≡ recovery_words ++ code
   pub spelt : StandFor code (straight_lines p)

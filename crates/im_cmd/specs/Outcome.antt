@@ -2,10 +2,11 @@
 use Rattle.std.specs.Prelude.{◌≡◌, ℕ, Bool, true, false, Option, Some, None, List, [], ◌++◌, length, codes}
 use Rattle.im_mem.specs.Memory.{Mem}
 use Rattle.im_image.specs.Contents.{ImageValue, ObjectValue}
-use Rattle.im_power.specs.Power.{Ended}
-use Rattle.im_emu.specs.Shows.{output_of, status_of, reason_of}
+use Rattle.im_device.specs.Periods.{Device}
+use Rattle.im_image.specs.declared.form.Form.{Form}
+use Rattle.im_device.specs.Shows.{output_of, status_of, reason_of}
 use Rattle.im_num.specs.Variables.{Variable}
-use Rattle.im_emu.specs.Variables.{vars_of}
+use Rattle.im_device.specs.Variables.{vars_of}
 use Rattle.im_io.specs.Sink.{SinkState}
 use Rattle.im_io.specs.Whole.{SentAll, SentFirst}
 use Rattle.im_lines.specs.declared.ending.Ending.{Ending}
@@ -34,7 +35,7 @@ ending_status StackExhausted = 1
 ending_status OutOfPower = 4
 ending_status (MachineFault at) = 10
 
-abbrev pub ending : Ended → Ending
+abbrev pub ending : Device → Ending
 ending ended = ending_of ended.went (reason_of ended.mem)
 
 -- ---- texts
@@ -53,16 +54,16 @@ shown_lines image None = []
 shown_lines image (Some variables) = variable_lines image.objects variables
 
 -- how a run ended, with these variables
-abbrev pub run_report : ImageValue → Ended → Option (List Variable) → List ℕ
+abbrev pub run_report : ImageValue → Device → Option (List Variable) → List ℕ
 run_report image ended variables = run_lines (ending ended) (status_of ended.mem) ended.commits ended.steps ++ shown_lines image variables
 
 -- the lines of the build before it, where the image was built by the same command; given is its gap
-abbrev pub report_with : Option ℕ → ImageValue → Ended → Option (List Variable) → List ℕ
+abbrev pub report_with : Option ℕ → ImageValue → Device → Option (List Variable) → List ℕ
 report_with None image ended variables = run_report image ended variables
 report_with (Some gap) image ended variables = build_lines (length image.words) gap ++ run_report image ended variables
 
 -- what a run leaves on the second sink
-abbrev pub report : Option ℕ → Bool → ImageValue → Ended → List ℕ
+abbrev pub report : Option ℕ → Bool → ImageValue → Device → List ℕ
 report gap vars image ended = report_with gap image ended (shown vars image.objects ended.mem)
 
 -- ---- what a sink got of a text: the whole, or the first bytes where its count of faults rose
@@ -86,7 +87,7 @@ pub data TellsText (text : List ℕ) (out out' err err' : SinkState) : ℕ → T
 
 -- the output goes to the first sink and the report to the second; a sink that refuses turns the status into 8, and one
 -- that refuses output has its own line on the second in the report's place
-pub data TellsRun (lines : List ℕ) (ended : Ended) (out out' err err' : SinkState) : ℕ → Type 0 where
-  told : SentAll (output_of ended.mem) out out' → SentAll lines err err' → TellsRun lines ended out out' err err' (ending_status (ending ended))
-  report_cut : SentAll (output_of ended.mem) out out' → SentFirst lines err err' → TellsRun lines ended out out' err err' 8
-  output_cut : SentFirst (output_of ended.mem) out out' → Got no_output_line err err' → TellsRun lines ended out out' err err' 8
+pub data TellsRun (lines : List ℕ) (form : Form) (ended : Device) (out out' err err' : SinkState) : ℕ → Type 0 where
+  told : SentAll (output_of form ended.mem) out out' → SentAll lines err err' → TellsRun lines form ended out out' err err' (ending_status (ending ended))
+  report_cut : SentAll (output_of form ended.mem) out out' → SentFirst lines err err' → TellsRun lines form ended out out' err err' 8
+  output_cut : SentFirst (output_of form ended.mem) out out' → Got no_output_line err err' → TellsRun lines form ended out out' err err' 8

@@ -5,8 +5,9 @@ use Rattle.im_image.specs.Contents.{ImageValue}
 use Rattle.im_power.specs.declared.period.Period.{Period}
 use Rattle.im_power.specs.declared.fault.TraceFault.{TraceFault}
 use Rattle.im_power.specs.Text.{trace_of}
-use Rattle.im_power.specs.Power.{Ended, power}
-use Rattle.im_emu.specs.Load.{memory_of}
+use Rattle.im_mem.specs.Map.{input_capacity}
+use Rattle.im_device.specs.Periods.{Device, fresh, power}
+use Rattle.im_device.specs.Load.{memory_of}
 use Rattle.im_cli.specs.Named.{Options}
 use Rattle.im_lines.specs.Refusals.{Refused, CannotRead, SourceTooLong, NotCompiled, NotAnImage, CannotWrite, InputTooLong, FileTooLong, NotATrace, NoMemory}
 use Rattle.im_cmd.specs.Files.{Unchanged, Unreadable, IsOver}
@@ -14,10 +15,6 @@ use Rattle.im_cmd.specs.Files.{Unchanged, Unreadable, IsOver}
 -- bytes of an input's or a trace's file
 abbrev pub run_file_limit : ℕ
 run_file_limit = 16777216
-
--- bytes of input that a machine has room for
-abbrev pub input_capacity : ℕ
-input_capacity = 1048576
 
 -- where files are told, the file of this name holds these bytes
 abbrev pub IsFile : List ℕ → List ℕ → Option Told → Type 0
@@ -41,7 +38,7 @@ pub record HoldsTrace (name : List ℕ) (periods : List Period) (told : Option T
 
 -- the periods are those of the named file; without a name there is one of so many instructions, with zeros in the registers
 abbrev pub ArePeriods : Option (List ℕ) → ℕ → List Period → Option Told → Type 0
-ArePeriods None steps periods told = periods ≡ (record { n = steps; junk = 0; count = 1 }) ∷ []
+ArePeriods None steps periods told = periods ≡ (record { n = steps; junk = 0; count = 1; mask = 0 }) ∷ []
 ArePeriods (Some name) steps periods told = HoldsTrace name periods told
 
 -- an input was taken, which the machine has room for
@@ -51,13 +48,13 @@ pub record TakesInput (options : Options) (input : List ℕ) (told : Option Told
   pub bytes : All (λ byte. byte < 256) input
 
 -- the run of an image, nothing having failed outside
-pub record RunsImage (options : Options) (image : ImageValue) (ended : Ended) (old new : ShelfState) : Type 0 where
+pub record RunsImage (options : Options) (image : ImageValue) (ended : Device) (old new : ShelfState) : Type 0 where
   pub unchanged : Unchanged old new
   pub input : List ℕ
   pub takes : TakesInput options input new.told
   pub periods : List Period
   pub are_periods : ArePeriods options.trace options.steps periods new.told
-  pub run : ended ≡ power periods (memory_of image input)
+  pub run : ended ≡ power periods (fresh (memory_of image input))
 
 -- ---- why an image isn't run, and what that leaves outside
 

@@ -8,10 +8,12 @@ use Rattle.im_io.specs.Whole.{HoldsText, HoldsFirst}
 use Rattle.im_image.specs.Contents.{ImageValue}
 use Rattle.im_power.specs.declared.period.Period.{Period}
 use Rattle.im_power.specs.declared.fault.TraceFault.{TraceFault}
-use Rattle.im_power.specs.Power.{Ended}
+use Rattle.im_mem.specs.Map.{input_capacity}
+use Rattle.im_image.specs.declared.form.Form.{Form}
+use Rattle.im_device.specs.Periods.{Device, fresh}
+use Rattle.im_device.specs.Load.{memory_of}
 use Rattle.im_power.specs.Text.{repeats, trace_of}
-use Rattle.im_emu.specs.Load.{memory_of}
-use Rattle.im_emu.specs.State.{Held, fresh, state_of}
+use Rattle.im_emu.specs.State.{Held, IsImageOf, device_of}
 use Rattle.im_num.specs.Variables.{Variable, variable_of}
 use Rattle.im_cli.specs.declared.fault.WordsFault.{WordsFault}
 use Rattle.im_cli.specs.declared.fault.WordsFault.TheVariants as fault
@@ -20,12 +22,12 @@ use Rattle.im_lines.specs.Refusals.{Refused, CannotRead, SourceTooLong, NotCompi
 use Rattle.im_cmd.specs.Source.{Printing}
 use Rattle.im_cmd.specs.Files.{Unchanged, Unreadable, IsOver}
 use Rattle.im_cmd.specs.Builds.{Spells, NotOfTheForm, source_limit}
-use Rattle.im_cmd.specs.Runs.{Holds, IsInput, HoldsTrace, ArePeriods, RunsImage, input_capacity, run_file_limit}
+use Rattle.im_cmd.specs.Runs.{Holds, IsInput, HoldsTrace, ArePeriods, RunsImage, run_file_limit}
 use Rattle.im_cmd.specs.Outcome.{Got, shown, no_output_line, refusal_status}
 
 -- the machine as the end of a run
-abbrev pub ended_of : Held (List ℕ) → Ended
-ended_of machine = record { went = machine.went; mem = view machine.memory; steps = machine.steps; commits = machine.commits }
+abbrev pub ended_of : Held (List ℕ) → Device
+ended_of machine = device_of view machine
 
 -- the variables of the code
 abbrev pub variables_of : {V : Type 0} → (V → List Var) → Option V → Option (List Variable)
@@ -95,8 +97,8 @@ RefusesInput (NotATrace name fault) options old new = ⊥
 
 -- a machine on which nothing was run
 pub record Loads (image : ImageValue) (input : List ℕ) (machine : Held (List ℕ)) : Type 0 where
-  pub made : state_of view machine ≡ fresh (memory_of image input)
-  pub objects : machine.objects ≡ image.objects
+  pub made : device_of view machine ≡ fresh (memory_of image input)
+  pub of_image : IsImageOf image machine
   pub fits : length input ≤ input_capacity
   pub bytes : (k : ℕ) → slice_index input k < 256
 
@@ -160,8 +162,9 @@ RefusesPeriods (CannotWrite name) options old new = ⊥
 RefusesPeriods (InputTooLong count limit) options old new = ⊥
 
 -- an image was run, and its variables are at hand where they are to be shown
-pub record Ran (options : Options) (image : ImageValue) (ended : Ended) (variables : Option (List Variable)) (old new : ShelfState) : Type 0 where
+pub record Ran (options : Options) (image : ImageValue) (form : Form) (ended : Device) (variables : Option (List Variable)) (old new : ShelfState) : Type 0 where
   pub run : RunsImage options image ended old new
+  pub form_is : form ≡ image.form
   pub are_shown : variables ≡ shown options.vars image.objects ended.mem
 
 -- ---- telling

@@ -1,4 +1,7 @@
-ghost use Rattle.std.specs.Prelude.{◌≡◌, ◌≤◌, ◌+◌, ◌*◌, ◌++◌, ◌∷◌, [], IfOk, OnOk, length};
+ghost use Rattle.std.specs.Prelude.{◌≡◌, ◌≤◌, ◌+◌, ◌*◌, ◌++◌, ◌∷◌, [], IfOk, OnOk, length, map};
+ghost use Rattle.im_rv.specs.Encode.{encoded};
+ghost use Rattle.im_rv.specs.Lines.{line_of};
+ghost use Rattle.im_ckpt.specs.Recovery.{recovery_words};
 ghost use Rattle.im_cmd.specs.Source.{IsPrinting, most_calls, int_max};
 ghost use Rattle.im_cmd.specs.Straight.{straight_lines};
 ghost use Rattle.im_cmd.specs.Compiled.{StandFor, IsCompiled};
@@ -6,18 +9,40 @@ ghost use Rattle.im_cmd.specs.Builds.{IsBuilt};
 
 use crate::source::Program;
 use crate::straight::{base_word, call_words, return_words};
-use im_ckpt::recovery_code;
-use im_image::Image;
+use im_ckpt::recovery_lines;
+use im_image::{Form, Image, Version};
+use im_mem::OUTPUT_CAPACITY;
 use im_num::NoMemory;
-use std::alloc::Global;
+use im_rv::encode::encode;
+use im_rv::{Instr, Line};
+use std::alloc::{AllocError, Global};
 
-/// Bytes of stack, and the output's capacity in bytes.
+/// Bytes of stack.
 const STACK: u32 = 65536;
-
-const OUTPUT_CAPACITY: u32 = 1_048_576;
 
 /// The straight code begins behind recovery.
 const ENTRY: u32 = 0x1100;
+
+fn word_of(instr: Instr) -> u32
+    ensures { result ≡ encoded (line_of instr) }
+{
+    encode(instr)
+}
+
+// The words of these lines, which have no targets.
+fn words_of(alloc: Global, lines: &[Line]) -> Result<Vec<u32>, AllocError>
+    ensures { IfOk result (λ words. words.items ≡ map (λ line. encoded (line_of line.instr)) lines.now) }
+{
+    lines.iter().map(|line| word_of(line.instr)).collect(alloc)
+}
+
+// The words of recovery.
+fn recovery_code(alloc: Global) -> Result<Vec<u32>, NoMemory>
+    ensures { IfOk result (λ words. words.items ≡ recovery_words) }
+{
+    let lines = recovery_lines(alloc)?;
+    Ok(words_of(alloc, &lines)?)
+}
 
 // The straight code of a program that writes these characters and returns this status.
 fn straight_code(alloc: Global, written: &[u32], status: u32) -> Result<Vec<u32>, NoMemory>
@@ -43,6 +68,8 @@ fn image_of(alloc: Global, written: &[u32], status: u32) -> Result<Image, NoMemo
     let code = straight_code(alloc, written, status)?;
     words.extend_from_slice(&code)?;
     Ok(Image {
+        version: Version::Two,
+        form: Form::TwoLengths,
         words,
         statics: Vec::new(alloc),
         stack: STACK,

@@ -60,13 +60,14 @@ fn load<'a>(alloc: Global, image: &Image, input: &[u8]) -> Result<Machine<FlatMe
 
 // One period of so many instructions, with zeros in the registers.
 fn one_period(alloc: Global, steps: u32) -> Result<Trace, NoMemory>
-    ensures { IfOk result (λ periods. periods ≡ (record { n = steps; junk = 0; count = 1 }) ∷ []) }
+    ensures { IfOk result (λ periods. periods ≡ (record { n = steps; junk = 0; count = 1; mask = 0 }) ∷ []) }
 {
     let mut periods = Vec::new(alloc);
     periods.push(Period {
         n: steps,
         junk: 0,
         count: 1,
+        mask: 0,
     })?;
     Ok(Trace::new(periods))
 }
@@ -134,7 +135,7 @@ pub fn run_image<'a, H: Shelf>(
     image: &Image,
     options: RunOptions<'a>,
 ) -> Result<Run, Refusal<'a>>
-    ensures { MatchResult result (λ run. Ran (options_meaning options.entry) image.now (ended_of run.machine) (variables_of (λ vars. vars.items) run.variables) (H.state shelf.old) (H.state shelf.new))
+    ensures { MatchResult result (λ run. Ran (options_meaning options.entry) image.now run.machine.form (ended_of run.machine) (variables_of (λ vars. vars.items) run.variables) (H.state shelf.old) (H.state shelf.new))
         (λ refusal. RefusesRun (refused_of refusal) (options_meaning options.entry) (H.state shelf.old) (H.state shelf.new)) }
 {
     let input = match read_input(alloc, shelf, options) {

@@ -107,7 +107,7 @@ pub fn tell_run<O: Sink, E: Sink>(
     gap: Option<u32>,
     run: &Run,
 ) -> u8
-    ensures { TellsRun (report_with gap image.now (ended_of run.now.machine) (variables_of (λ vars. vars.items) run.now.variables)) (ended_of run.now.machine) (O.state out.old) (O.state out.new) (E.state err.old) (E.state err.new) result }
+    ensures { TellsRun (report_with gap image.now (ended_of run.now.machine) (variables_of (λ vars. vars.items) run.now.variables)) run.now.machine.form (ended_of run.now.machine) (O.state out.old) (O.state out.new) (E.state err.old) (E.state err.new) result }
 {
     match send(out, run.machine.output()) {
         Ok(()) => {}

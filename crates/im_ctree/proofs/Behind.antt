@@ -1,19 +1,19 @@
 -- What stands behind the parts of the grammar's lines.
-use Rattle.std.proofs.Common.{◌≡◌, ℕ, suc, ◌+◌, ◌-◌, ◌≤◌, ◌<◌, Bool, true, false, ◌||◌, List, [], ◌∷◌, ◌++◌, sym, subst, ap, refl, inl, inr, ◌∙◌, arith, append_assoc}
+use Rattle.std.proofs.Common.{◌≡◌, ℕ, suc, ◌+◌, ◌-◌, ◌≤◌, ◌<◌, Bool, List, [], ◌∷◌, ◌++◌, sym, subst, ap, refl, inl, inr, ◌∙◌, arith, append_assoc}
 use Rattle.std.proofs.lemmas.List.{append-nil}
 use Rattle.std.specs.Prelude.{◌⊎◌}
 use Rattle.im_tok.specs.declared.keyword.Keyword.{Keyword}
 use Rattle.im_tok.specs.declared.keyword.Keyword.TheVariants as key
-use Rattle.im_tok.specs.declared.punctuator.Punctuator.{Punctuator}
-use Rattle.im_tok.specs.declared.punctuator.Punctuator.TheVariants.{Star, OpenParen, CloseParen, OpenBracket, OpenBrace, Question, Colon}
-use Rattle.im_word.specs.Words.{Name, Word, name, keyword, number, character, text, mark}
+use Rattle.im_tok.specs.declared.punctuator.Punctuator.TheVariants.{Star, OpenParen, CloseParen, OpenBracket, Question, Colon}
+use Rattle.im_word.specs.Words.{Name, Word, name, keyword, number, character, text, mark, unknown}
 use Rattle.im_ctree.specs.declared.specifier.SpecifierWord.{SpecifierWord}
-use Rattle.im_ctree.specs.declared.specifier.SpecifierWord.TheVariants as word
 use Rattle.im_ctree.specs.Operators as op
 use Rattle.im_ctree.specs.Tree as tree
 use Rattle.im_ctree.specs.Grammar as grammar
+use Rattle.im_ctree.specs.Typedefs.{has_type_from}
 use Rattle.im_ctree.specs.Grammar.{IsJoinedText, last_text, more_text, IsConsts, no_const, a_const, IsStars, no_star, a_star, GoesOnSpecifiers, a_typedef_name, OpensParameters, at_close, at_typedef_name}
-use Rattle.im_ctree.proofs.Ranks.{rank, head_rank, operator_rank, step_rank, rest_same, part, Starting, starting_append, meets, StartsSpecifier, at_typedef, at_word, at_struct, at_enum, StartsDeclarator, at_declared, at_star, at_paren, StartsAbstract, at_abstract_star, at_abstract_paren, at_abstract_bracket, closing, head_closing, Closes, close_paren, close_bracket, close_brace, close_declaration, Separated, closes, at_comma, closes_rank, type_name_starts, parameter_starts}
+use Rattle.im_ctree.specs.Follow.{Closes, Separated, SpecifierEnds, Starting, StartsAbstract, StartsDeclarator, StartsSpecifier, at_abstract_bracket, at_abstract_paren, at_abstract_star, at_comma, at_declared, at_enum, at_paren, at_star, at_struct, at_typedef, at_word, close_brace, close_bracket, close_declaration, close_paren, closes, head_brace, head_rank, head_specifier, head_star, keyword_specifier, rank, star_rank}
+use Rattle.im_ctree.proofs.Ranks.{operator_rank, step_rank, rest_same, part, starting_append, meets, closing, head_closing, closes_rank, type_name_starts, parameter_starts}
 
 -- behind the first part of a repetition
 pub comma_ends : {T : List Name} {s p : ℕ} {a t : tree.Expression} {v : List Word} → grammar.CommaTail T s p a t v → (r : List Word) → head_rank r < 1 → head_rank (v ++ r) < 2
@@ -40,7 +40,7 @@ postfix_line (grammar.dots n rest) = 3
 postfix_line (grammar.arrows n rest) = 4
 postfix_line (grammar.steps is rest) = 5
 
-postfix_code : {T : List Name} {s p : ℕ} {a t : tree.Expression} {v : List Word} (d : grammar.PostfixTail T s p a t v) (r : List Word) → head_rank r < 14 → postfix_line d ≡ head_rank (v ++ r) - 13
+pub postfix_code : {T : List Name} {s p : ℕ} {a t : tree.Expression} {v : List Word} (d : grammar.PostfixTail T s p a t v) (r : List Word) → head_rank r < 14 → postfix_line d ≡ head_rank (v ++ r) - 13
 postfix_code grammar.no_postfix r e = omega (arith, e)
 postfix_code (grammar.indexes b rest) r e = refl
 postfix_code (grammar.calls b rest) r e = refl
@@ -69,11 +69,11 @@ parameter_tail_ends grammar.last_parameter r c = closes c
 parameter_tail_ends (grammar.next_parameter q rest) r c = at_comma
 
 -- string literals side by side
-text_rank : {s : Name} {u : List Word} → IsJoinedText s u → (r : List Word) → head_rank (u ++ r) ≡ 19
+pub text_rank : {s : Name} {u : List Word} → IsJoinedText s u → (r : List Word) → head_rank (u ++ r) ≡ 19
 text_rank (last_text s) r = refl
 text_rank (more_text s rest) r = refl
 
-text_blocked : {s : Name} {u r : List Word} (r' : List Word) → IsJoinedText s u → head_rank r < 19 → r ≡ u ++ r' → ⊥
+pub text_blocked : {s : Name} {u r : List Word} (r' : List Word) → IsJoinedText s u → head_rank r < 19 → r ≡ u ++ r' → ⊥
 text_blocked r' d e eq = omega (arith, e, ap head_rank eq, text_rank d r')
 
 pub unique_text : {s s' : Name} {w w' : List Word} → IsJoinedText s w → IsJoinedText s' w' → (r r' : List Word) → head_rank r < 19 → head_rank r' < 19 → w ++ r ≡ w' ++ r' → (s ≡ s') × (w ≡ w')
@@ -86,19 +86,10 @@ unique_text (more_text s rest) (more_text s' rest') r r' e e' eq =
     (cc (h, two.0), cc (h, two.1))
 
 -- stars, and `const` behind them
-abbrev pub star_rank : Word → ℕ
-star_rank (keyword key.Const) = 2
-star_rank (mark Star) = 1
-star_rank _ = 0
-
-abbrev pub head_star : List Word → ℕ
-head_star [] = 0
-head_star (x ∷ v) = star_rank x
-
-star_blocked : {x : Word} {r v : List Word} (k : ℕ) → head_star r < k → r ≡ x ∷ v → k ≤ star_rank x → ⊥
+pub star_blocked : {x : Word} {r v : List Word} (k : ℕ) → head_star r < k → r ≡ x ∷ v → k ≤ star_rank x → ⊥
 star_blocked {x = x} {r = r} k e eq least = let h : head_star r ≡ star_rank x = ap head_star eq in omega (arith, e, least, h)
 
-unique_consts : {n n' : ℕ} {w w' : List Word} → IsConsts n w → IsConsts n' w' → (r r' : List Word) → head_star r < 2 → head_star r' < 2 → w ++ r ≡ w' ++ r' → (n ≡ n') × (w ≡ w')
+pub unique_consts : {n n' : ℕ} {w w' : List Word} → IsConsts n w → IsConsts n' w' → (r r' : List Word) → head_star r < 2 → head_star r' < 2 → w ++ r ≡ w' ++ r' → (n ≡ n') × (w ≡ w')
 unique_consts no_const no_const r r' e e' eq = (refl, refl)
 unique_consts no_const (a_const rest') r r' e e' eq = absurd (star_blocked 2 e eq (omega arith))
 unique_consts (a_const rest) no_const r r' e e' eq = absurd (star_blocked 2 e' (sym eq) (omega arith))
@@ -106,7 +97,7 @@ unique_consts (a_const rest) (a_const rest') r r' e e' eq =
     let two = unique_consts rest rest' r r' e e' (rest_same eq) in
     (ap (λ z. suc z) two.0, ap (λ z. keyword key.Const ∷ z) two.1)
 
-stars_ends : {ns : List ℕ} {v : List Word} → IsStars ns v → (r : List Word) → head_star r < 1 → head_star (v ++ r) < 2
+pub stars_ends : {ns : List ℕ} {v : List Word} → IsStars ns v → (r : List Word) → head_star r < 1 → head_star (v ++ r) < 2
 stars_ends no_star r e = omega (arith, e)
 stars_ends (a_star cs rest) r e = omega arith
 
@@ -132,7 +123,7 @@ pub record Leads (T : List Name) (p : ℕ) (w r : List Word) : Type 0 where
 abbrev pub Untyped : List Name → List Word → Type 0
 Untyped T z = (x : Word) (v : List Word) → z ≡ mark OpenParen ∷ (x ∷ v) → StartsSpecifier T x → ⊥
 
-leads_more : {T : List Name} {p : ℕ} (u x r : List Word) → Leads T p u (x ++ r) → Leads T p (u ++ x) r
+pub leads_more : {T : List Name} {p : ℕ} (u x r : List Word) → Leads T p u (x ++ r) → Leads T p (u ++ x) r
 leads_more u x r l = record {
   lead = l.lead;
   front = l.front;
@@ -143,15 +134,15 @@ leads_more u x r l = record {
   other = λ h. l.other (ap head_rank (sym (append_assoc l.others x r)) ∙ h);
 }
 
-tail_ends : {T : List Name} {s n p : ℕ} {a t : tree.Expression} {v : List Word} → grammar.BinaryTail T s n p a t v → n < 10 → (r : List Word) → head_rank r < 14 → head_rank (v ++ r) < 14
+pub tail_ends : {T : List Name} {s n p : ℕ} {a t : tree.Expression} {v : List Word} → grammar.BinaryTail T s n p a t v → n < 10 → (r : List Word) → head_rank r < 14 → head_rank (v ++ r) < 14
 tail_ends grammar.no_operator under r e = e
 tail_ends (grammar.an_operator is b rest) under r e = omega (arith, operator_rank is, under)
 
-tail_other : {T : List Name} {s n p : ℕ} {a t : tree.Expression} {v : List Word} → grammar.BinaryTail T s n p a t v → (r : List Word) → (head_rank r ≡ 2 → ⊥) → head_rank (v ++ r) ≡ 2 → ⊥
+pub tail_other : {T : List Name} {s n p : ℕ} {a t : tree.Expression} {v : List Word} → grammar.BinaryTail T s n p a t v → (r : List Word) → (head_rank r ≡ 2 → ⊥) → head_rank (v ++ r) ≡ 2 → ⊥
 tail_other grammar.no_operator r e = e
 tail_other (grammar.an_operator is b rest) r e = λ h. omega (arith, operator_rank is, h)
 
-binary_leads : {T : List Name} {n p : ℕ} {t : tree.Expression} {w : List Word} → grammar.IsBinary T n p t w → (r : List Word) → head_rank r < 14 → (head_rank r ≡ 2 → ⊥) → Untyped T (w ++ r) → Leads T p w r
+pub binary_leads : {T : List Name} {n p : ℕ} {t : tree.Expression} {w : List Word} → grammar.IsBinary T n p t w → (r : List Word) → head_rank r < 14 → (head_rank r ≡ 2 → ⊥) → Untyped T (w ++ r) → Leads T p w r
 binary_leads (grammar.casts (grammar.uncast {u = u} d)) r e other free = record { lead = _; front = u; others = []; cut = sym (append-nil u); unary = d; ends = e; other = other }
 binary_leads (grammar.casts (grammar.a_cast {u = u} {v = v} n d)) r e other free =
     let s = type_name_starts n in
@@ -165,37 +156,7 @@ conditional_leads {T = T} (grammar.a_choice {u = u} {v = v} {w = w} c a b) r e f
     let x = mark Question ∷ (v ++ (mark Colon ∷ w)) in
     leads_more u x r (binary_leads c (x ++ r) (omega arith) (λ h. omega (arith, h)) (subst (Untyped T) (append_assoc u x r) free))
 
--- what goes on with specifiers
-abbrev pub keyword_specifier : Keyword → ℕ
-keyword_specifier key.Typedef = 1
-keyword_specifier key.Extern = 1
-keyword_specifier key.Static = 1
-keyword_specifier key.Const = 1
-keyword_specifier key.Void = 1
-keyword_specifier key.Char = 1
-keyword_specifier key.Short = 1
-keyword_specifier key.Int = 1
-keyword_specifier key.Long = 1
-keyword_specifier key.Signed = 1
-keyword_specifier key.Unsigned = 1
-keyword_specifier key.Struct = 1
-keyword_specifier key.Enum = 1
-keyword_specifier _ = 0
-
-abbrev pub mark_brace : Punctuator → ℕ
-mark_brace OpenBrace = 1
-mark_brace _ = 0
-
-abbrev pub head_brace : List Word → ℕ
-head_brace (mark m ∷ v) = mark_brace m
-head_brace _ = 0
-
-abbrev pub head_specifier : List Word → ℕ
-head_specifier (keyword k ∷ v) = keyword_specifier k
-head_specifier (mark m ∷ v) = mark_brace m
-head_specifier _ = 0
-
-word_goes : {x : SpecifierWord} {k : Keyword} {b : Bool} → op.IsSpecifierWord x k b → keyword_specifier k ≡ 1
+pub word_goes : {x : SpecifierWord} {k : Keyword} → op.IsSpecifierWord x k → keyword_specifier k ≡ 1
 word_goes op.typedef = refl
 word_goes op.extern = refl
 word_goes op.static = refl
@@ -208,10 +169,7 @@ word_goes op.long = refl
 word_goes op.signed = refl
 word_goes op.unsigned = refl
 
-abbrev pub SpecifierEnds : List Name → Bool → List Word → Type 0
-SpecifierEnds T seen r = (head_specifier r ≡ 0) × (GoesOnSpecifiers T seen r → ⊥)
-
-specifier_goes : {T : List Name} {a b : Bool} {p : ℕ} {x : tree.Specifier} {u : List Word} → grammar.IsSpecifier T a b p x u → (z : List Word) → SpecifierEnds T a (u ++ z) → ⊥
+pub specifier_goes : {T : List Name} {a : Bool} {p : ℕ} {x : tree.Specifier} {u : List Word} → grammar.IsSpecifier T a p x u → (z : List Word) → SpecifierEnds T a (u ++ z) → ⊥
 specifier_goes (grammar.a_word is) z h = omega (arith, h.0, word_goes is)
 specifier_goes (grammar.a_struct ms) z h = omega (arith, h.0)
 specifier_goes (grammar.a_named_struct n ms) z h = omega (arith, h.0)
@@ -221,12 +179,12 @@ specifier_goes (grammar.a_named_enum n es) z h = omega (arith, h.0)
 specifier_goes (grammar.an_enum_tag n) z h = omega (arith, h.0)
 specifier_goes (grammar.its_typedef_name n is) z h = h.1 (a_typedef_name is)
 
-pub specifier_clash : {T : List Name} {a a' b : Bool} {p : ℕ} {x : tree.Specifier} (u : List Word) → grammar.IsSpecifier T a' b p x u → a ≡ a' → (r z : List Word) → r ≡ u ++ z → SpecifierEnds T a r → ⊥
+pub specifier_clash : {T : List Name} {a a' : Bool} {p : ℕ} {x : tree.Specifier} (u : List Word) → grammar.IsSpecifier T a' p x u → a ≡ a' → (r z : List Word) → r ≡ u ++ z → SpecifierEnds T a r → ⊥
 specifier_clash {T = T} {a = a} u d same r z eq h =
     let h1 : SpecifierEnds T a (u ++ z) = subst (SpecifierEnds T a) eq h in
     specifier_goes d z (subst (λ y. SpecifierEnds T y (u ++ z)) same h1)
 
-specifier_brace : {T : List Name} {a b : Bool} {p : ℕ} {x : tree.Specifier} {u : List Word} → grammar.IsSpecifier T a b p x u → (z : List Word) → head_brace (u ++ z) ≡ 0
+pub specifier_brace : {T : List Name} {a : Bool} {p : ℕ} {x : tree.Specifier} {u : List Word} → grammar.IsSpecifier T a p x u → (z : List Word) → head_brace (u ++ z) ≡ 0
 specifier_brace (grammar.a_word is) z = refl
 specifier_brace (grammar.a_struct ms) z = refl
 specifier_brace (grammar.a_named_struct n ms) z = refl
@@ -236,7 +194,7 @@ specifier_brace (grammar.a_named_enum n es) z = refl
 specifier_brace (grammar.an_enum_tag n) z = refl
 specifier_brace (grammar.its_typedef_name n is) z = refl
 
-no_brace : (r : List Word) → head_specifier r ≡ 0 → head_brace r ≡ 0
+pub no_brace : (r : List Word) → head_specifier r ≡ 0 → head_brace r ≡ 0
 no_brace [] h = refl
 no_brace (mark m ∷ v) h = h
 no_brace (name n ∷ v) h = refl
@@ -244,61 +202,14 @@ no_brace (keyword k ∷ v) h = refl
 no_brace (number n ∷ v) h = refl
 no_brace (character n ∷ v) h = refl
 no_brace (text s ∷ v) h = refl
+no_brace (unknown ∷ v) h = refl
 
-pub tail_brace : {T : List Name} {a seen : Bool} {p : ℕ} {xs : tree.SpecifierList} {v : List Word} → grammar.SpecifierTail T a seen p xs v → (r : List Word) → SpecifierEnds T seen r → head_brace (v ++ r) ≡ 0
+pub tail_brace : {T : List Name} {a : Bool} {p : ℕ} {xs : tree.SpecifierList} {v : List Word} → grammar.SpecifierTail T a p xs v → (r : List Word) → SpecifierEnds T (has_type_from a xs) r → head_brace (v ++ r) ≡ 0
 tail_brace grammar.last_specifier r h = no_brace r h.0
 tail_brace (grammar.next_specifier {u = u} {v = v} d rest) r h = ap head_brace (append_assoc u v r) ∙ specifier_brace d (v ++ r)
 
-abbrev is_type_word : SpecifierWord → Bool
-is_type_word word.Typedef = false
-is_type_word word.Extern = false
-is_type_word word.Static = false
-is_type_word word.Const = false
-is_type_word word.Void = true
-is_type_word word.Char = true
-is_type_word word.Short = true
-is_type_word word.Int = true
-is_type_word word.Long = true
-is_type_word word.Signed = true
-is_type_word word.Unsigned = true
-
-abbrev pub after_specifier : Bool → tree.Specifier → Bool
-after_specifier a (tree.word_specifier p x) = a || is_type_word x
-after_specifier a (tree.typedef_specifier p n) = true
-after_specifier a (tree.struct_tag p n) = true
-after_specifier a (tree.enum_tag p n) = true
-after_specifier a (tree.struct_specifier p n ms) = true
-after_specifier a (tree.enum_specifier p n es) = true
-
-word_types : {x : SpecifierWord} {k : Keyword} {b : Bool} → op.IsSpecifierWord x k b → b ≡ is_type_word x
-word_types op.typedef = refl
-word_types op.extern = refl
-word_types op.static = refl
-word_types op.const = refl
-word_types op.void = refl
-word_types op.char = refl
-word_types op.short = refl
-word_types op.int = refl
-word_types op.long = refl
-word_types op.signed = refl
-word_types op.unsigned = refl
-
-specifier_types : {T : List Name} {a b : Bool} {p : ℕ} {x : tree.Specifier} {u : List Word} → grammar.IsSpecifier T a b p x u → b ≡ after_specifier a x
-specifier_types (grammar.a_word {a = a} is) = ap (λ z. a || z) (word_types is)
-specifier_types (grammar.a_struct ms) = refl
-specifier_types (grammar.a_named_struct n ms) = refl
-specifier_types (grammar.a_struct_tag n) = refl
-specifier_types (grammar.an_enum es) = refl
-specifier_types (grammar.a_named_enum n es) = refl
-specifier_types (grammar.an_enum_tag n) = refl
-specifier_types (grammar.its_typedef_name n is) = refl
-
-pub types_same : {T : List Name} {a a' b b' : Bool} {p p' : ℕ} {x x' : tree.Specifier} {u u' : List Word} → grammar.IsSpecifier T a b p x u → grammar.IsSpecifier T a' b' p' x' u' → a ≡ a' → x ≡ x' → b ≡ b'
-types_same {a = a} {a' = a'} {x = x} {x' = x'} d d' same_a same_x =
-    specifier_types d ∙ ap (λ z. after_specifier z x) same_a ∙ ap (λ z. after_specifier a' z) same_x ∙ sym (specifier_types d')
-
 -- which line a specifier is, by its first words
-abbrev pub specifier_line : {T : List Name} {a b : Bool} {p : ℕ} {x : tree.Specifier} {u : List Word} → grammar.IsSpecifier T a b p x u → ℕ
+abbrev pub specifier_line : {T : List Name} {a : Bool} {p : ℕ} {x : tree.Specifier} {u : List Word} → grammar.IsSpecifier T a p x u → ℕ
 specifier_line (grammar.a_word is) = 0
 specifier_line (grammar.a_struct ms) = 1
 specifier_line (grammar.a_named_struct n ms) = 2
@@ -308,21 +219,21 @@ specifier_line (grammar.a_named_enum n es) = 4
 specifier_line (grammar.an_enum_tag n) = 4
 specifier_line (grammar.its_typedef_name n is) = 5
 
-abbrev tag_line : ℕ → List Word → ℕ
+abbrev pub tag_line : ℕ → List Word → ℕ
 tag_line k (name n ∷ v) = k + 1
 tag_line k _ = k
 
-abbrev keyword_line : Keyword → List Word → ℕ
+abbrev pub keyword_line : Keyword → List Word → ℕ
 keyword_line key.Struct v = tag_line 1 v
 keyword_line key.Enum v = tag_line 3 v
 keyword_line _ v = 0
 
-abbrev head_line : List Word → ℕ
+abbrev pub head_line : List Word → ℕ
 head_line (keyword k ∷ v) = keyword_line k v
 head_line (name n ∷ v) = 5
 head_line _ = 6
 
-word_line : {x : SpecifierWord} {k : Keyword} {b : Bool} → op.IsSpecifierWord x k b → (v : List Word) → 0 ≡ keyword_line k v
+pub word_line : {x : SpecifierWord} {k : Keyword} → op.IsSpecifierWord x k → (v : List Word) → 0 ≡ keyword_line k v
 word_line op.typedef v = refl
 word_line op.extern v = refl
 word_line op.static v = refl
@@ -335,7 +246,7 @@ word_line op.long v = refl
 word_line op.signed v = refl
 word_line op.unsigned v = refl
 
-specifier_code : {T : List Name} {a b : Bool} {p : ℕ} {x : tree.Specifier} {u : List Word} (d : grammar.IsSpecifier T a b p x u) (r : List Word) → specifier_line d ≡ head_line (u ++ r)
+pub specifier_code : {T : List Name} {a : Bool} {p : ℕ} {x : tree.Specifier} {u : List Word} (d : grammar.IsSpecifier T a p x u) (r : List Word) → specifier_line d ≡ head_line (u ++ r)
 specifier_code (grammar.a_word is) r = word_line is r
 specifier_code (grammar.a_struct ms) r = refl
 specifier_code (grammar.a_named_struct n ms) r = refl
@@ -345,11 +256,11 @@ specifier_code (grammar.a_named_enum n es) r = refl
 specifier_code (grammar.an_enum_tag n) r = refl
 specifier_code (grammar.its_typedef_name n is) r = refl
 
-pub specifier_line_same : {T : List Name} {a b a' b' : Bool} {p p' : ℕ} {x x' : tree.Specifier} {u u' : List Word} (d : grammar.IsSpecifier T a b p x u) (d' : grammar.IsSpecifier T a' b' p' x' u') (r r' : List Word) → u ++ r ≡ u' ++ r' → specifier_line d ≡ specifier_line d'
+pub specifier_line_same : {T : List Name} {a a' : Bool} {p p' : ℕ} {x x' : tree.Specifier} {u u' : List Word} (d : grammar.IsSpecifier T a p x u) (d' : grammar.IsSpecifier T a' p' x' u') (r r' : List Word) → u ++ r ≡ u' ++ r' → specifier_line d ≡ specifier_line d'
 specifier_line_same d d' r r' eq = specifier_code d r ∙ ap head_line eq ∙ sym (specifier_code d' r')
 
 -- declarators
-stars_first : {P : Word → Type 0} {ns : List ℕ} {u : List Word} → P (mark Star) → IsStars ns u → (z : List Word) → Starting P z → Starting P (u ++ z)
+pub stars_first : {P : Word → Type 0} {ns : List ℕ} {u : List Word} → P (mark Star) → IsStars ns u → (z : List Word) → Starting P z → Starting P (u ++ z)
 stars_first star no_star z s = s
 stars_first star (a_star {u = u} {v = v} cs rest) z s = (mark Star, (u ++ v) ++ z, refl, star)
 
@@ -357,10 +268,10 @@ pub declarator_starts : {T : List Name} {g : Bool} {p : ℕ} {d : tree.Declarato
 declarator_starts (grammar.a_name n {v = v} ns ts) = stars_first at_star ns (name n ∷ v) (name n, v, refl, at_declared)
 declarator_starts (grammar.an_inner {v = v} {w = w} ns d none ts) = stars_first at_star ns (mark OpenParen ∷ (v ++ (mark CloseParen ∷ w))) (mark OpenParen, v ++ (mark CloseParen ∷ w), refl, at_paren)
 
-goes_moved : {T : List Name} {seen : Bool} {x : Word} {v : List Word} (z : List Word) → GoesOnSpecifiers T seen (x ∷ v) → GoesOnSpecifiers T seen (x ∷ z)
+pub goes_moved : {T : List Name} {seen : Bool} {x : Word} {v : List Word} (z : List Word) → GoesOnSpecifiers T seen (x ∷ v) → GoesOnSpecifiers T seen (x ∷ z)
 goes_moved z (a_typedef_name is) = a_typedef_name is
 
-declarator_specifier : {x : Word} (z : List Word) → StartsDeclarator x → head_specifier (x ∷ z) ≡ 0
+pub declarator_specifier : {x : Word} (z : List Word) → StartsDeclarator x → head_specifier (x ∷ z) ≡ 0
 declarator_specifier z at_declared = refl
 declarator_specifier z at_star = refl
 declarator_specifier z at_paren = refl
@@ -370,10 +281,10 @@ starting_follows {T = T} {seen = seen} v s none z =
     let same : v ++ z ≡ s.0 ∷ (s.1 ++ z) = ap (λ y. y ++ z) s.2 in
     (ap head_specifier same ∙ declarator_specifier (s.1 ++ z) s.3, λ g. none (subst (GoesOnSpecifiers T seen) (sym s.2) (goes_moved s.1 (subst (GoesOnSpecifiers T seen) same g))))
 
-pub declarator_follows : {T : List Name} {g seen : Bool} {p : ℕ} {d : tree.Declarator} (v : List Word) → grammar.IsDeclarator T g p d v → (GoesOnSpecifiers T seen v → ⊥) → (z : List Word) → SpecifierEnds T seen (v ++ z)
+pub declarator_follows : {T : List Name} {seen g : Bool} {p : ℕ} {d : tree.Declarator} (v : List Word) → grammar.IsDeclarator T g p d v → (GoesOnSpecifiers T seen v → ⊥) → (z : List Word) → SpecifierEnds T seen (v ++ z)
 declarator_follows v d none z = starting_follows v (declarator_starts d) none z
 
-suffix_starts : {T : List Name} {p : ℕ} {ts : tree.Suffixes} {w : List Word} → grammar.IsSuffixes T p ts w → (x : Word) (v : List Word) → w ≡ x ∷ v → StartsAbstract x
+pub suffix_starts : {T : List Name} {p : ℕ} {ts : tree.Suffixes} {w : List Word} → grammar.IsSuffixes T p ts w → (x : Word) (v : List Word) → w ≡ x ∷ v → StartsAbstract x
 suffix_starts grammar.no_suffix x v eq = absurd cc
 suffix_starts (grammar.an_array e rest) x v eq = let h : mark OpenBracket ≡ x = cc in subst StartsAbstract h at_abstract_bracket
 suffix_starts (grammar.a_function qs rest) x v eq = let h : mark OpenParen ≡ x = cc in subst StartsAbstract h at_abstract_paren
@@ -391,12 +302,12 @@ head_named _ = 0
 pub goes_named : {T : List Name} {seen : Bool} {w : List Word} → GoesOnSpecifiers T seen w → head_named w ≡ 1
 goes_named (a_typedef_name is) = refl
 
-abstract_ends : {T : List Name} {seen : Bool} {x : Word} (z : List Word) → StartsAbstract x → SpecifierEnds T seen (x ∷ z)
+pub abstract_ends : {T : List Name} {seen : Bool} {x : Word} (z : List Word) → StartsAbstract x → SpecifierEnds T seen (x ∷ z)
 abstract_ends z at_abstract_star = (refl, λ g. omega (arith, goes_named g))
 abstract_ends z at_abstract_paren = (refl, λ g. omega (arith, goes_named g))
 abstract_ends z at_abstract_bracket = (refl, λ g. omega (arith, goes_named g))
 
-separated_ends : {T : List Name} {seen : Bool} {r : List Word} → Separated r → SpecifierEnds T seen r
+pub separated_ends : {T : List Name} {seen : Bool} {r : List Word} → Separated r → SpecifierEnds T seen r
 separated_ends (closes close_paren) = (refl, λ g. omega (arith, goes_named g))
 separated_ends (closes close_bracket) = (refl, λ g. omega (arith, goes_named g))
 separated_ends (closes close_brace) = (refl, λ g. omega (arith, goes_named g))
@@ -409,7 +320,7 @@ maybe_abstract_follows {T = T} {seen = seen} (grammar.an_abstract d) r e =
     let s = abstract_starts d in
     subst (SpecifierEnds T seen) (ap (λ y. y ++ r) (sym s.2)) (abstract_ends (s.1 ++ r) s.3)
 
-separated_star : {r : List Word} → Separated r → head_star r ≡ 0
+pub separated_star : {r : List Word} → Separated r → head_star r ≡ 0
 separated_star (closes close_paren) = refl
 separated_star (closes close_bracket) = refl
 separated_star (closes close_brace) = refl
@@ -426,7 +337,7 @@ suffix_line grammar.no_suffix = 0
 suffix_line (grammar.an_array e rest) = 1
 suffix_line (grammar.a_function qs rest) = 2
 
-suffix_code : {T : List Name} {p : ℕ} {ts : tree.Suffixes} {v : List Word} (d : grammar.IsSuffixes T p ts v) (r : List Word) → head_rank r < 14 → suffix_line d ≡ head_rank (v ++ r) - 13
+pub suffix_code : {T : List Name} {p : ℕ} {ts : tree.Suffixes} {v : List Word} (d : grammar.IsSuffixes T p ts v) (r : List Word) → head_rank r < 14 → suffix_line d ≡ head_rank (v ++ r) - 13
 suffix_code grammar.no_suffix r e = omega (arith, e)
 suffix_code (grammar.an_array l rest) r e = refl
 suffix_code (grammar.a_function qs rest) r e = refl
@@ -441,12 +352,12 @@ separated_code (closes close_brace) = refl
 separated_code (closes close_declaration) = refl
 separated_code at_comma = refl
 
-abstract_code : {x : Word} → StartsAbstract x → 12 < closing x + rank x
+pub abstract_code : {x : Word} → StartsAbstract x → 12 < closing x + rank x
 abstract_code at_abstract_star = omega arith
 abstract_code at_abstract_paren = omega arith
 abstract_code at_abstract_bracket = omega arith
 
-declarator_code : {x : Word} → StartsDeclarator x → closing x + rank x ≡ 1 → ⊥
+pub declarator_code : {x : Word} → StartsDeclarator x → closing x + rank x ≡ 1 → ⊥
 declarator_code at_declared h = omega (arith, h)
 declarator_code at_star h = omega (arith, h)
 declarator_code at_paren h = omega (arith, h)
@@ -469,17 +380,17 @@ suffixes_unnamed grammar.no_suffix r e n z eq = omega (arith, ap (λ y. head_clo
 suffixes_unnamed (grammar.an_array l rest) r e n z eq = cc
 suffixes_unnamed (grammar.a_function qs rest) r e n z eq = cc
 
-opens : {T : List Name} {x : Word} {v : List Word} → StartsSpecifier T x → OpensParameters T (x ∷ v)
+pub opens : {T : List Name} {x : Word} {v : List Word} → StartsSpecifier T x → OpensParameters T (x ∷ v)
 opens (at_typedef is) = at_typedef_name is
 opens (at_word is) = grammar.at_word is
 opens at_struct = grammar.at_struct
 opens at_enum = grammar.at_enum
 
-parameters_first : {T : List Name} {p : ℕ} {qs : tree.Parameters} {u : List Word} → grammar.IsParameters T p qs u → (z : List Word) (x : Word) (v : List Word) → x ∷ v ≡ u ++ (mark CloseParen ∷ z) → StartsSpecifier T x ⊎ (x ≡ mark CloseParen)
+pub parameters_first : {T : List Name} {p : ℕ} {qs : tree.Parameters} {u : List Word} → grammar.IsParameters T p qs u → (z : List Word) (x : Word) (v : List Word) → x ∷ v ≡ u ++ (mark CloseParen ∷ z) → StartsSpecifier T x ⊎ (x ≡ mark CloseParen)
 parameters_first grammar.no_parameter z x v eq = inr cc
 parameters_first (grammar.first_parameter {u = u} {v = w} q rest) z x v eq = inl (meets ((u ++ w) ++ (mark CloseParen ∷ z)) (starting_append (u ++ w) (mark CloseParen ∷ z) (starting_append u w (parameter_starts q))) (sym eq))
 
-not_close : {x : Word} → StartsDeclarator x → x ≡ mark CloseParen → ⊥
+pub not_close : {x : Word} → StartsDeclarator x → x ≡ mark CloseParen → ⊥
 not_close at_declared eq = cc
 not_close at_star eq = cc
 not_close at_paren eq = cc

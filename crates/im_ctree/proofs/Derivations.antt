@@ -36,22 +36,22 @@ number_of : {T : List Name} {p : ℕ} (n : Number) → grammar.IsCast T p (tree.
 number_of n = cast_of (grammar.a_number n)
 
 -- the statement of one name
-statement_of : {T : List Name} {p : ℕ} {x : Name} → (Contains T x → ⊥) → units.IsStatement T p (name_statement p x) T (name x ∷ mark Semicolon ∷ [])
+statement_of : {T : List Name} {p : ℕ} {x : Name} → (Contains T x → ⊥) → units.IsStatement T p (name_statement p x) (name x ∷ mark Semicolon ∷ [])
 statement_of free = units.computes (units.something (expression_of (name_of free)))
 
 -- one argument in parentheses, behind what it is for
 one_argument : {T : List Name} {s p : ℕ} {a b : tree.Expression} {x : Word} → grammar.IsCast T (suc p) b (x ∷ []) → grammar.PostfixTail T s p a (tree.call s a (tree.more_expressions b tree.no_expressions)) (mark OpenParen ∷ x ∷ mark CloseParen ∷ [])
 one_argument d = grammar.calls (grammar.first_argument (assign_of d) grammar.last_argument) grammar.no_postfix
 
-pub else_derived : (T : List Name) (a b c d : Name) → (Contains T a → ⊥) → (Contains T b → ⊥) → (Contains T c → ⊥) → (Contains T d → ⊥) → units.IsStatement T 0 (else_tree a b c d) T (else_words a b c d)
+pub else_derived : (T : List Name) (a b c d : Name) → (Contains T a → ⊥) → (Contains T b → ⊥) → (Contains T c → ⊥) → (Contains T d → ⊥) → units.IsStatement T 0 (else_tree a b c d) (else_words a b c d)
 else_derived T a b c d fa fb fc fd =
     units.ifs (expression_of (name_of fa)) (units.if_elses (expression_of (name_of fb)) (statement_of fc) refl (statement_of fd))
 
-pub do_derived : (T : List Name) (s e : Name) → (Contains T s → ⊥) → (Contains T e → ⊥) → units.IsStatement T 0 (do_tree s e) T (do_words s e)
+pub do_derived : (T : List Name) (s e : Name) → (Contains T s → ⊥) → (Contains T e → ⊥) → units.IsStatement T 0 (do_tree s e) (do_words s e)
 do_derived T s e fs fe = units.dos (statement_of fs) (expression_of (name_of fe))
 
 -- a typedef name as the type of a cast, of `sizeof`, or of a parameter
-typedef_of : {T : List Name} {p : ℕ} {x : Name} → Contains T x → grammar.IsSpecifiers T true p (typedef_specifiers p x) (name x ∷ [])
+typedef_of : {T : List Name} {p : ℕ} {x : Name} → Contains T x → grammar.IsSpecifiers T p (typedef_specifiers p x) (name x ∷ [])
 typedef_of {x = x} is = grammar.first_specifier (grammar.its_typedef_name x is) grammar.last_specifier
 
 type_of : {T : List Name} {p : ℕ} {x : Name} → Contains T x → grammar.IsTypeName T p (tree.type_name (typedef_specifiers p x) tree.no_declarator) (name x ∷ [])

@@ -1,5 +1,3 @@
-pub mod Balance
-pub mod BalanceUnits
 pub mod Derivations
 pub mod Ranks
 pub mod Behind

@@ -1,13 +1,11 @@
 -- What may stand behind an expression of each level, and first words.
 use Rattle.std.proofs.Common.{◌≡◌, ℕ, ◌+◌, ◌≤◌, ◌<◌, Bool, List, [], ◌∷◌, ◌++◌, sym, subst, ap, refl, ◌∙◌, arith, append_assoc}
 use Rattle.std.proofs.lemmas.List.{append_cancel_left}
-use Rattle.std.specs.List.{Contains}
-use Rattle.im_tok.specs.declared.number.Number.{Number}
 use Rattle.im_tok.specs.declared.keyword.Keyword.{Keyword}
 use Rattle.im_tok.specs.declared.keyword.Keyword.TheVariants.{Sizeof, Struct, Enum}
 use Rattle.im_tok.specs.declared.punctuator.Punctuator.{Punctuator}
 use Rattle.im_tok.specs.declared.punctuator.Punctuator.TheVariants as punctuator
-use Rattle.im_word.specs.Words.{Name, Word, name, keyword, number, character, text, mark}
+use Rattle.im_word.specs.Words.{Name, Word, name, keyword, number, character, text, mark, unknown}
 use Rattle.im_ctree.specs.declared.operator.StepOp.{StepOp}
 use Rattle.im_ctree.specs.declared.operator.UnaryOp.{UnaryOp}
 use Rattle.im_ctree.specs.declared.operator.BinaryOp.{BinaryOp}
@@ -16,59 +14,7 @@ use Rattle.im_ctree.specs.declared.specifier.SpecifierWord.{SpecifierWord}
 use Rattle.im_ctree.specs.Operators as op
 use Rattle.im_ctree.specs.Tree as tree
 use Rattle.im_ctree.specs.Grammar as grammar
-
--- how tightly a punctuator goes on with what stands before it, and 0 where it goes on with no expression
-abbrev pub mark_rank : Punctuator → ℕ
-mark_rank punctuator.Comma = 1
-mark_rank punctuator.Assign = 2
-mark_rank punctuator.StarAssign = 2
-mark_rank punctuator.SlashAssign = 2
-mark_rank punctuator.PercentAssign = 2
-mark_rank punctuator.PlusAssign = 2
-mark_rank punctuator.MinusAssign = 2
-mark_rank punctuator.ShiftLeftAssign = 2
-mark_rank punctuator.ShiftRightAssign = 2
-mark_rank punctuator.AndAssign = 2
-mark_rank punctuator.XorAssign = 2
-mark_rank punctuator.OrAssign = 2
-mark_rank punctuator.Question = 3
-mark_rank punctuator.OrOr = 4
-mark_rank punctuator.AndAnd = 5
-mark_rank punctuator.Bar = 6
-mark_rank punctuator.Caret = 7
-mark_rank punctuator.Ampersand = 8
-mark_rank punctuator.EqualEqual = 9
-mark_rank punctuator.NotEqual = 9
-mark_rank punctuator.Less = 10
-mark_rank punctuator.Greater = 10
-mark_rank punctuator.LessEqual = 10
-mark_rank punctuator.GreaterEqual = 10
-mark_rank punctuator.ShiftLeft = 11
-mark_rank punctuator.ShiftRight = 11
-mark_rank punctuator.Plus = 12
-mark_rank punctuator.Minus = 12
-mark_rank punctuator.Star = 13
-mark_rank punctuator.Slash = 13
-mark_rank punctuator.Percent = 13
-mark_rank punctuator.OpenBracket = 14
-mark_rank punctuator.OpenParen = 15
-mark_rank punctuator.Dot = 16
-mark_rank punctuator.Arrow = 17
-mark_rank punctuator.Increment = 18
-mark_rank punctuator.Decrement = 18
-mark_rank _ = 0
-
-abbrev pub rank : Word → ℕ
-rank (mark m) = mark_rank m
-rank (text s) = 19
-rank (name n) = 0
-rank (keyword k) = 0
-rank (number n) = 0
-rank (character n) = 0
-
-abbrev pub head_rank : List Word → ℕ
-head_rank [] = 0
-head_rank (x ∷ v) = rank x
+use Rattle.im_ctree.specs.Follow.{Closes, Separated, Starting, StartsExpression, StartsSpecifier, at_character, at_comma, at_enum, at_name, at_number, at_open, at_prefix, at_sizeof, at_step, at_struct, at_text, at_typedef, at_word, close_brace, close_bracket, close_declaration, close_paren, closes, head_rank, mark_rank, rank}
 
 pub operator_rank : {n : ℕ} {o : BinaryOp} {m : Punctuator} → op.IsBinaryOperator n o m → mark_rank m ≡ n + 4
 operator_rank op.or = refl
@@ -90,7 +36,7 @@ operator_rank op.multiply = refl
 operator_rank op.divide = refl
 operator_rank op.remainder = refl
 
-operator_alike : {n n' : ℕ} {o o' : BinaryOp} {m : Punctuator} → op.IsBinaryOperator n o m → op.IsBinaryOperator n' o' m → o ≡ o'
+pub operator_alike : {n n' : ℕ} {o o' : BinaryOp} {m : Punctuator} → op.IsBinaryOperator n o m → op.IsBinaryOperator n' o' m → o ≡ o'
 operator_alike op.or op.or = refl
 operator_alike op.and op.and = refl
 operator_alike op.bit_or op.bit_or = refl
@@ -126,7 +72,7 @@ assign_operator_rank op.assign_and = refl
 assign_operator_rank op.assign_xor = refl
 assign_operator_rank op.assign_or = refl
 
-assign_operator_alike : {o o' : AssignOp} {m : Punctuator} → op.IsAssignOperator o m → op.IsAssignOperator o' m → o ≡ o'
+pub assign_operator_alike : {o o' : AssignOp} {m : Punctuator} → op.IsAssignOperator o m → op.IsAssignOperator o' m → o ≡ o'
 assign_operator_alike op.assign op.assign = refl
 assign_operator_alike op.assign_multiply op.assign_multiply = refl
 assign_operator_alike op.assign_divide op.assign_divide = refl
@@ -142,7 +88,7 @@ assign_operator_alike op.assign_or op.assign_or = refl
 pub assign_operator_same : {o o' : AssignOp} {m m' : Punctuator} → op.IsAssignOperator o m → op.IsAssignOperator o' m' → m ≡ m' → o ≡ o'
 assign_operator_same {o' = o'} is is' same = assign_operator_alike is (subst (λ z. op.IsAssignOperator o' z) (sym same) is')
 
-step_alike : {o o' : StepOp} {m : Punctuator} → op.IsStep o m → op.IsStep o' m → o ≡ o'
+pub step_alike : {o o' : StepOp} {m : Punctuator} → op.IsStep o m → op.IsStep o' m → o ≡ o'
 step_alike op.increment op.increment = refl
 step_alike op.decrement op.decrement = refl
 
@@ -153,7 +99,7 @@ pub step_rank : {o : StepOp} {m : Punctuator} → op.IsStep o m → mark_rank m 
 step_rank op.increment = refl
 step_rank op.decrement = refl
 
-prefix_alike : {o o' : UnaryOp} {m : Punctuator} → op.IsPrefix o m → op.IsPrefix o' m → o ≡ o'
+pub prefix_alike : {o o' : UnaryOp} {m : Punctuator} → op.IsPrefix o m → op.IsPrefix o' m → o ≡ o'
 prefix_alike op.address_of op.address_of = refl
 prefix_alike op.dereference op.dereference = refl
 prefix_alike op.plus op.plus = refl
@@ -164,7 +110,7 @@ prefix_alike op.not op.not = refl
 pub prefix_same : {o o' : UnaryOp} {m m' : Punctuator} → op.IsPrefix o m → op.IsPrefix o' m' → m ≡ m' → o ≡ o'
 prefix_same {o' = o'} is is' same = prefix_alike is (subst (λ z. op.IsPrefix o' z) (sym same) is')
 
-specifier_alike : {x x' : SpecifierWord} {k : Keyword} {b b' : Bool} → op.IsSpecifierWord x k b → op.IsSpecifierWord x' k b' → x ≡ x'
+pub specifier_alike : {x x' : SpecifierWord} {k : Keyword} → op.IsSpecifierWord x k → op.IsSpecifierWord x' k → x ≡ x'
 specifier_alike op.typedef op.typedef = refl
 specifier_alike op.extern op.extern = refl
 specifier_alike op.static op.static = refl
@@ -177,8 +123,8 @@ specifier_alike op.long op.long = refl
 specifier_alike op.signed op.signed = refl
 specifier_alike op.unsigned op.unsigned = refl
 
-pub specifier_same : {x x' : SpecifierWord} {k k' : Keyword} {b b' : Bool} → op.IsSpecifierWord x k b → op.IsSpecifierWord x' k' b' → k ≡ k' → x ≡ x'
-specifier_same {x' = x'} {b' = b'} is is' same = specifier_alike is (subst (λ z. op.IsSpecifierWord x' z b') (sym same) is')
+pub specifier_same : {x x' : SpecifierWord} {k k' : Keyword} → op.IsSpecifierWord x k → op.IsSpecifierWord x' k' → k ≡ k' → x ≡ x'
+specifier_same {x' = x'} is is' same = specifier_alike is (subst (λ z. op.IsSpecifierWord x' z) (sym same) is')
 
 -- lists that begin with the same part
 pub rest_same : {x x' : Word} {v v' : List Word} → x ∷ v ≡ x' ∷ v' → v ≡ v'
@@ -199,38 +145,6 @@ part {P = P} u x r u' x' r' one eq =
 
 pub blocked : {x : Word} {r v : List Word} (k : ℕ) → head_rank r < k → r ≡ x ∷ v → k ≤ rank x → ⊥
 blocked {x = x} k e eq least = let h : head_rank _ ≡ rank x = ap head_rank eq in omega (arith, e, least, h)
-
--- what begins an expression
-pub data StartsExpression (T : List Name) : Word → Type 0 where
-  at_name : {n : Name} → (Contains T n → ⊥) → StartsExpression T (name n)
-  at_number : {n : Number} → StartsExpression T (number n)
-  at_character : {n : ℕ} → StartsExpression T (character n)
-  at_text : {s : Name} → StartsExpression T (text s)
-  at_open : StartsExpression T (mark punctuator.OpenParen)
-  at_step : {o : StepOp} {m : Punctuator} → op.IsStep o m → StartsExpression T (mark m)
-  at_prefix : {o : UnaryOp} {m : Punctuator} → op.IsPrefix o m → StartsExpression T (mark m)
-  at_sizeof : StartsExpression T (keyword Sizeof)
-
--- what begins specifiers
-pub data StartsSpecifier (T : List Name) : Word → Type 0 where
-  at_typedef : {n : Name} → Contains T n → StartsSpecifier T (name n)
-  at_word : {x : SpecifierWord} {k : Keyword} {b : Bool} → op.IsSpecifierWord x k b → StartsSpecifier T (keyword k)
-  at_struct : StartsSpecifier T (keyword Struct)
-  at_enum : StartsSpecifier T (keyword Enum)
-
--- what begins a declarator, or an abstract one
-pub data StartsDeclarator : Word → Type 0 where
-  at_declared : {n : Name} → StartsDeclarator (name n)
-  at_star : StartsDeclarator (mark punctuator.Star)
-  at_paren : StartsDeclarator (mark punctuator.OpenParen)
-
-pub data StartsAbstract : Word → Type 0 where
-  at_abstract_star : StartsAbstract (mark punctuator.Star)
-  at_abstract_paren : StartsAbstract (mark punctuator.OpenParen)
-  at_abstract_bracket : StartsAbstract (mark punctuator.OpenBracket)
-
-abbrev pub Starting : (Word → Type 0) → List Word → Type 0
-Starting P w = (x : Word) × (v : List Word) × (w ≡ x ∷ v) × P x
 
 pub starting_append : {P : Word → Type 0} (u z : List Word) → Starting P u → Starting P (u ++ z)
 starting_append u z s = (s.0, s.1 ++ z, ap (λ y. y ++ z) s.2, s.3)
@@ -261,16 +175,6 @@ abbrev pub head_closing : List Word → ℕ
 head_closing [] = 0
 head_closing (x ∷ v) = closing x
 
-pub data Closes : List Word → Type 0 where
-  close_paren : {v : List Word} → Closes (mark punctuator.CloseParen ∷ v)
-  close_bracket : {v : List Word} → Closes (mark punctuator.CloseBracket ∷ v)
-  close_brace : {v : List Word} → Closes (mark punctuator.CloseBrace ∷ v)
-  close_declaration : {v : List Word} → Closes (mark punctuator.Semicolon ∷ v)
-
-pub data Separated : List Word → Type 0 where
-  closes : {r : List Word} → Closes r → Separated r
-  at_comma : {v : List Word} → Separated (mark punctuator.Comma ∷ v)
-
 pub closes_closing : {r : List Word} → Closes r → head_closing r ≡ 1
 closes_closing close_paren = refl
 closes_closing close_bracket = refl
@@ -287,11 +191,11 @@ pub separated_rank : {r : List Word} → Separated r → head_rank r < 2
 separated_rank (closes c) = omega (arith, closes_rank c)
 separated_rank at_comma = omega arith
 
-step_opens : {o : StepOp} {m : Punctuator} → op.IsStep o m → closing (mark m) ≡ 0
+pub step_opens : {o : StepOp} {m : Punctuator} → op.IsStep o m → closing (mark m) ≡ 0
 step_opens op.increment = refl
 step_opens op.decrement = refl
 
-prefix_opens : {o : UnaryOp} {m : Punctuator} → op.IsPrefix o m → closing (mark m) ≡ 0
+pub prefix_opens : {o : UnaryOp} {m : Punctuator} → op.IsPrefix o m → closing (mark m) ≡ 0
 prefix_opens op.address_of = refl
 prefix_opens op.dereference = refl
 prefix_opens op.plus = refl
@@ -299,7 +203,7 @@ prefix_opens op.minus = refl
 prefix_opens op.bit_not = refl
 prefix_opens op.not = refl
 
-expression_opens : {T : List Name} {x : Word} → StartsExpression T x → closing x ≡ 0
+pub expression_opens : {T : List Name} {x : Word} → StartsExpression T x → closing x ≡ 0
 expression_opens (at_name free) = refl
 expression_opens at_number = refl
 expression_opens at_character = refl
@@ -309,7 +213,7 @@ expression_opens (at_step is) = step_opens is
 expression_opens (at_prefix is) = prefix_opens is
 expression_opens at_sizeof = refl
 
-specifier_opens : {T : List Name} {x : Word} → StartsSpecifier T x → closing x ≡ 0
+pub specifier_opens : {T : List Name} {x : Word} → StartsSpecifier T x → closing x ≡ 0
 specifier_opens (at_typedef is) = refl
 specifier_opens (at_word is) = refl
 specifier_opens at_struct = refl
@@ -332,32 +236,32 @@ not_closing {x = x} {r = r} c eq opens =
     omega (arith, a, closes_closing c, opens)
 
 -- the first words of each kind of expression
-text_starts : {T : List Name} {s : Name} {u : List Word} → grammar.IsJoinedText s u → Starting (StartsExpression T) u
+pub text_starts : {T : List Name} {s : Name} {u : List Word} → grammar.IsJoinedText s u → Starting (StartsExpression T) u
 text_starts (grammar.last_text s) = (text s, [], refl, at_text)
 text_starts (grammar.more_text s {u = u} rest) = (text s, u, refl, at_text)
 
-primary_starts : {T : List Name} {p : ℕ} {t : tree.Expression} {w : List Word} → grammar.IsPrimary T p t w → Starting (StartsExpression T) w
+pub primary_starts : {T : List Name} {p : ℕ} {t : tree.Expression} {w : List Word} → grammar.IsPrimary T p t w → Starting (StartsExpression T) w
 primary_starts (grammar.an_identifier n free) = (name n, [], refl, at_name free)
 primary_starts (grammar.a_number n) = (number n, [], refl, at_number)
 primary_starts (grammar.a_character n) = (character n, [], refl, at_character)
 primary_starts (grammar.a_string s) = text_starts s
 primary_starts (grammar.grouped {u = u} e) = (mark punctuator.OpenParen, u ++ (mark punctuator.CloseParen ∷ []), refl, at_open)
 
-postfix_starts : {T : List Name} {p : ℕ} {t : tree.Expression} {w : List Word} → grammar.IsPostfix T p t w → Starting (StartsExpression T) w
+pub postfix_starts : {T : List Name} {p : ℕ} {t : tree.Expression} {w : List Word} → grammar.IsPostfix T p t w → Starting (StartsExpression T) w
 postfix_starts (grammar.primary {u = u} {v = v} a rest) = starting_append u v (primary_starts a)
 
-unary_starts : {T : List Name} {p : ℕ} {t : tree.Expression} {w : List Word} → grammar.IsUnary T p t w → Starting (StartsExpression T) w
+pub unary_starts : {T : List Name} {p : ℕ} {t : tree.Expression} {w : List Word} → grammar.IsUnary T p t w → Starting (StartsExpression T) w
 unary_starts (grammar.postfix a) = postfix_starts a
 unary_starts (grammar.stepped {m = m} {u = u} is a) = (mark m, u, refl, at_step is)
 unary_starts (grammar.prefixed {m = m} {u = u} is a) = (mark m, u, refl, at_prefix is)
 unary_starts (grammar.sized {u = u} a) = (keyword Sizeof, u, refl, at_sizeof)
 unary_starts (grammar.type_sized {u = u} n) = (keyword Sizeof, mark punctuator.OpenParen ∷ (u ++ (mark punctuator.CloseParen ∷ [])), refl, at_sizeof)
 
-cast_starts : {T : List Name} {p : ℕ} {t : tree.Expression} {w : List Word} → grammar.IsCast T p t w → Starting (StartsExpression T) w
+pub cast_starts : {T : List Name} {p : ℕ} {t : tree.Expression} {w : List Word} → grammar.IsCast T p t w → Starting (StartsExpression T) w
 cast_starts (grammar.uncast a) = unary_starts a
 cast_starts (grammar.a_cast {u = u} {v = v} n a) = (mark punctuator.OpenParen, u ++ (mark punctuator.CloseParen ∷ v), refl, at_open)
 
-binary_starts : {T : List Name} {n p : ℕ} {t : tree.Expression} {w : List Word} → grammar.IsBinary T n p t w → Starting (StartsExpression T) w
+pub binary_starts : {T : List Name} {n p : ℕ} {t : tree.Expression} {w : List Word} → grammar.IsBinary T n p t w → Starting (StartsExpression T) w
 binary_starts (grammar.casts a) = cast_starts a
 binary_starts (grammar.level {u = u} {v = v} under a rest) = starting_append u v (binary_starts a)
 
@@ -372,7 +276,7 @@ assign_starts (grammar.assigned {m = m} {u = u} {v = v} a is b) = starting_appen
 pub expression_starts : {T : List Name} {p : ℕ} {t : tree.Expression} {w : List Word} → grammar.IsExpression T p t w → Starting (StartsExpression T) w
 expression_starts (grammar.assigns {u = u} {v = v} a rest) = starting_append u v (assign_starts a)
 
-pub specifier_starts : {T : List Name} {a b : Bool} {p : ℕ} {x : tree.Specifier} {w : List Word} → grammar.IsSpecifier T a b p x w → Starting (StartsSpecifier T) w
+pub specifier_starts : {T : List Name} {a : Bool} {p : ℕ} {x : tree.Specifier} {w : List Word} → grammar.IsSpecifier T a p x w → Starting (StartsSpecifier T) w
 specifier_starts (grammar.a_word {k = k} is) = (keyword k, [], refl, at_word is)
 specifier_starts (grammar.a_struct {u = u} ms) = (keyword Struct, mark punctuator.OpenBrace ∷ (u ++ (mark punctuator.CloseBrace ∷ [])), refl, at_struct)
 specifier_starts (grammar.a_named_struct n {u = u} ms) = (keyword Struct, name n ∷ mark punctuator.OpenBrace ∷ (u ++ (mark punctuator.CloseBrace ∷ [])), refl, at_struct)
@@ -382,7 +286,7 @@ specifier_starts (grammar.a_named_enum n {u = u} es) = (keyword Enum, name n ∷
 specifier_starts (grammar.an_enum_tag n) = (keyword Enum, name n ∷ [], refl, at_enum)
 specifier_starts (grammar.its_typedef_name n is) = (name n, [], refl, at_typedef is)
 
-pub specifiers_starts : {T : List Name} {seen : Bool} {p : ℕ} {s : tree.Specifiers} {w : List Word} → grammar.IsSpecifiers T seen p s w → Starting (StartsSpecifier T) w
+pub specifiers_starts : {T : List Name} {p : ℕ} {s : tree.Specifiers} {w : List Word} → grammar.IsSpecifiers T p s w → Starting (StartsSpecifier T) w
 specifiers_starts (grammar.first_specifier {u = u} {v = v} a rest) = starting_append u v (specifier_starts a)
 
 pub type_name_starts : {T : List Name} {p : ℕ} {n : tree.TypeName} {w : List Word} → grammar.IsTypeName T p n w → Starting (StartsSpecifier T) w
@@ -403,20 +307,21 @@ primary_line (grammar.a_character n) = 2
 primary_line (grammar.a_string s) = 3
 primary_line (grammar.grouped e) = 4
 
-abbrev head_primary : List Word → ℕ
+abbrev pub head_primary : List Word → ℕ
 head_primary [] = 5
 head_primary (name n ∷ v) = 0
 head_primary (number n ∷ v) = 1
 head_primary (character n ∷ v) = 2
 head_primary (text s ∷ v) = 3
+head_primary (unknown ∷ v) = 5
 head_primary (mark m ∷ v) = 4
 head_primary (keyword k ∷ v) = 5
 
-text_line : {s : Name} {u : List Word} → grammar.IsJoinedText s u → (r : List Word) → 3 ≡ head_primary (u ++ r)
+pub text_line : {s : Name} {u : List Word} → grammar.IsJoinedText s u → (r : List Word) → 3 ≡ head_primary (u ++ r)
 text_line (grammar.last_text s) r = refl
 text_line (grammar.more_text s rest) r = refl
 
-primary_code : {T : List Name} {p : ℕ} {t : tree.Expression} {w : List Word} (d : grammar.IsPrimary T p t w) (r : List Word) → primary_line d ≡ head_primary (w ++ r)
+pub primary_code : {T : List Name} {p : ℕ} {t : tree.Expression} {w : List Word} (d : grammar.IsPrimary T p t w) (r : List Word) → primary_line d ≡ head_primary (w ++ r)
 primary_code (grammar.an_identifier n free) r = refl
 primary_code (grammar.a_number n) r = refl
 primary_code (grammar.a_character n) r = refl
@@ -434,7 +339,7 @@ unary_line (grammar.prefixed is a) = 2
 unary_line (grammar.sized a) = 3
 unary_line (grammar.type_sized n) = 3
 
-abbrev mark_unary : Punctuator → ℕ
+abbrev pub mark_unary : Punctuator → ℕ
 mark_unary punctuator.Increment = 1
 mark_unary punctuator.Decrement = 1
 mark_unary punctuator.Ampersand = 2
@@ -445,7 +350,7 @@ mark_unary punctuator.Tilde = 2
 mark_unary punctuator.Exclamation = 2
 mark_unary _ = 0
 
-abbrev head_unary : List Word → ℕ
+abbrev pub head_unary : List Word → ℕ
 head_unary [] = 0
 head_unary (mark m ∷ v) = mark_unary m
 head_unary (keyword k ∷ v) = 3
@@ -453,26 +358,27 @@ head_unary (name n ∷ v) = 0
 head_unary (number n ∷ v) = 0
 head_unary (character n ∷ v) = 0
 head_unary (text s ∷ v) = 0
+head_unary (unknown ∷ v) = 0
 
-text_unary : {s : Name} {u : List Word} → grammar.IsJoinedText s u → (r : List Word) → 0 ≡ head_unary (u ++ r)
+pub text_unary : {s : Name} {u : List Word} → grammar.IsJoinedText s u → (r : List Word) → 0 ≡ head_unary (u ++ r)
 text_unary (grammar.last_text s) r = refl
 text_unary (grammar.more_text s rest) r = refl
 
-primary_unary : {T : List Name} {p : ℕ} {t : tree.Expression} {w : List Word} → grammar.IsPrimary T p t w → (r : List Word) → 0 ≡ head_unary (w ++ r)
+pub primary_unary : {T : List Name} {p : ℕ} {t : tree.Expression} {w : List Word} → grammar.IsPrimary T p t w → (r : List Word) → 0 ≡ head_unary (w ++ r)
 primary_unary (grammar.an_identifier n free) r = refl
 primary_unary (grammar.a_number n) r = refl
 primary_unary (grammar.a_character n) r = refl
 primary_unary (grammar.a_string s) r = text_unary s r
 primary_unary (grammar.grouped e) r = refl
 
-postfix_unary : {T : List Name} {p : ℕ} {t : tree.Expression} {w : List Word} → grammar.IsPostfix T p t w → (r : List Word) → 0 ≡ head_unary (w ++ r)
+pub postfix_unary : {T : List Name} {p : ℕ} {t : tree.Expression} {w : List Word} → grammar.IsPostfix T p t w → (r : List Word) → 0 ≡ head_unary (w ++ r)
 postfix_unary (grammar.primary {u = u} {v = v} a rest) r = primary_unary a (v ++ r) ∙ ap head_unary (sym (append_assoc u v r))
 
-step_unary : {o : StepOp} {m : Punctuator} → op.IsStep o m → 1 ≡ mark_unary m
+pub step_unary : {o : StepOp} {m : Punctuator} → op.IsStep o m → 1 ≡ mark_unary m
 step_unary op.increment = refl
 step_unary op.decrement = refl
 
-prefix_unary : {o : UnaryOp} {m : Punctuator} → op.IsPrefix o m → 2 ≡ mark_unary m
+pub prefix_unary : {o : UnaryOp} {m : Punctuator} → op.IsPrefix o m → 2 ≡ mark_unary m
 prefix_unary op.address_of = refl
 prefix_unary op.dereference = refl
 prefix_unary op.plus = refl
@@ -480,7 +386,7 @@ prefix_unary op.minus = refl
 prefix_unary op.bit_not = refl
 prefix_unary op.not = refl
 
-unary_code : {T : List Name} {p : ℕ} {t : tree.Expression} {w : List Word} (d : grammar.IsUnary T p t w) (r : List Word) → unary_line d ≡ head_unary (w ++ r)
+pub unary_code : {T : List Name} {p : ℕ} {t : tree.Expression} {w : List Word} (d : grammar.IsUnary T p t w) (r : List Word) → unary_line d ≡ head_unary (w ++ r)
 unary_code (grammar.postfix a) r = postfix_unary a r
 unary_code (grammar.stepped is a) r = step_unary is
 unary_code (grammar.prefixed is a) r = prefix_unary is
@@ -491,7 +397,7 @@ pub unary_clash : {T : List Name} {p p' : ℕ} {t t' : tree.Expression} {w w' : 
 unary_clash d d' r r' eq = unary_code d r ∙ ap head_unary eq ∙ sym (unary_code d' r')
 
 -- a parenthesis before what begins specifiers opens no expression
-primary_second : {T : List Name} {p : ℕ} {t : tree.Expression} {w : List Word} (d : grammar.IsPrimary T p t w) (r : List Word) {x : Word} {v : List Word} → w ++ r ≡ mark punctuator.OpenParen ∷ (x ∷ v) → StartsSpecifier T x → ⊥
+pub primary_second : {T : List Name} {p : ℕ} {t : tree.Expression} {w : List Word} (d : grammar.IsPrimary T p t w) (r : List Word) {x : Word} {v : List Word} → w ++ r ≡ mark punctuator.OpenParen ∷ (x ∷ v) → StartsSpecifier T x → ⊥
 primary_second {T = T} (grammar.grouped {u = u} e) r {x = x} eq is =
     apart (meets ((u ++ (mark punctuator.CloseParen ∷ [])) ++ r) (starting_append (u ++ (mark punctuator.CloseParen ∷ [])) r (starting_append u (mark punctuator.CloseParen ∷ []) (expression_starts e))) (rest_same eq)) is
 primary_second d r eq is = omega (arith, primary_code d r, ap head_primary eq)

@@ -7,8 +7,9 @@ use Rattle.im_word.specs.Words.{Name, Word, name, mark}
 use Rattle.im_ctree.specs.Tree as tree
 use Rattle.im_ctree.specs.Grammar as grammar
 use Rattle.im_ctree.specs.Samples.{assignment_words}
+use Rattle.im_ctree.specs.Follow.{Starting, StartsExpression, at_name, head_rank}
 use Rattle.im_ctree.proofs.Derivations.{binary_of, expression_of, name_of}
-use Rattle.im_ctree.proofs.Ranks.{head_rank, assign_operator_rank, rest_same, behind, blocked, Starting, starting_append, meets, StartsExpression, at_name, conditional_starts, assign_starts, expression_starts}
+use Rattle.im_ctree.proofs.Ranks.{assign_operator_rank, rest_same, behind, blocked, starting_append, meets, conditional_starts, assign_starts, expression_starts}
 use Rattle.im_ctree.proofs.Behind.{comma_ends}
 use Rattle.im_ctree.proofs.Unique.{unique_expression, unique_conditional, unique_binary, unique_cast}
 

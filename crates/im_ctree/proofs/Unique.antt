@@ -1,15 +1,17 @@
 -- Words have at most one derivation of each nonterminal, and it ends at one place, where what stands behind doesn't
 -- go on with it.
-use Rattle.std.proofs.Common.{◌≡◌, ℕ, ◌+◌, ◌<◌, Bool, true, List, [], ◌∷◌, ◌++◌, sym, subst, ap, refl, ◌∙◌, arith, append_assoc}
+use Rattle.std.proofs.Common.{◌≡◌, ℕ, ◌+◌, ◌<◌, Bool, true, false, List, [], ◌∷◌, ◌++◌, sym, subst, ap, refl, ◌∙◌, arith, append_assoc}
 use Rattle.im_tok.specs.declared.keyword.Keyword.{Keyword}
 use Rattle.im_tok.specs.declared.punctuator.Punctuator.TheVariants.{Star, OpenParen, CloseParen, CloseBracket, CloseBrace, Question, Colon, Semicolon}
 use Rattle.im_word.specs.Words.{Name, Word, name, keyword, mark}
 use Rattle.im_ctree.specs.Tree as tree
+use Rattle.im_ctree.specs.Typedefs.{adds_type, has_type, has_type_from}
 use Rattle.im_ctree.specs.Grammar as grammar
 use Rattle.im_ctree.specs.Grammar.{no_star}
+use Rattle.im_ctree.specs.Follow.{Closes, Separated, SpecifierEnds, close_brace, close_bracket, close_declaration, close_paren, closes, head_brace, head_rank}
 use Rattle.im_ctree.proofs.Derivations.{binary_of}
-use Rattle.im_ctree.proofs.Ranks.{head_rank, operator_rank, operator_same, assign_operator_rank, assign_operator_same, step_same, prefix_same, specifier_same, rest_same, mark_same, behind, part, blocked, primary_clash, unary_clash, unary_second, paren_type, Closes, close_paren, close_bracket, close_brace, close_declaration, Separated, closes, closes_rank, separated_rank, not_expression, not_specifier, not_closing, conditional_starts, assign_starts, parameter_starts, members_starts}
-use Rattle.im_ctree.proofs.Behind.{comma_ends, binary_ends, postfix_ends, postfix_clash, argument_ends, declarator_tail_ends, enumerator_tail_ends, parameter_tail_ends, unique_text, unique_stars, Untyped, conditional_leads, SpecifierEnds, head_brace, specifier_clash, tail_brace, types_same, specifier_line_same, declarator_starts, declarator_follows, maybe_abstract_follows, suffixes_star, suffix_clash, abstract_begins, suffixes_unnamed, parameters_open, suffixes_starless, separated_undeclared}
+use Rattle.im_ctree.proofs.Ranks.{operator_rank, operator_same, assign_operator_rank, assign_operator_same, step_same, prefix_same, specifier_same, rest_same, mark_same, behind, part, blocked, primary_clash, unary_clash, unary_second, paren_type, closes_rank, separated_rank, not_expression, not_specifier, not_closing, conditional_starts, assign_starts, parameter_starts, members_starts}
+use Rattle.im_ctree.proofs.Behind.{comma_ends, binary_ends, postfix_ends, postfix_clash, argument_ends, declarator_tail_ends, enumerator_tail_ends, parameter_tail_ends, unique_text, unique_stars, Untyped, conditional_leads, specifier_clash, tail_brace, specifier_line_same, declarator_starts, declarator_follows, maybe_abstract_follows, suffixes_star, suffix_clash, abstract_begins, suffixes_unnamed, parameters_open, suffixes_starless, separated_undeclared}
 
 keyword_same : {k k' : Keyword} {v v' : List Word} → keyword k ∷ v ≡ keyword k' ∷ v' → k ≡ k'
 keyword_same same = cc
@@ -47,6 +49,14 @@ declarator_begins d r r' e eq =
 declarator_not_maybe : {T : List Name} {p p' : ℕ} {d : tree.Declarator} {d' : tree.MaybeDeclarator} {w w' : List Word} → grammar.IsDeclarator T true p d w → grammar.IsMaybeAbstract T p' d' w' → (r r' : List Word) → Separated r' → w ++ r ≡ w' ++ r' → ⊥
 declarator_not_maybe d grammar.no_abstract r r' e eq = declarator_begins d r r' e eq
 declarator_not_maybe d (grammar.an_abstract d') r r' e eq = declarator_not_abstract d refl d' r r' e eq
+
+adds_same : {a a' : Bool} {x x' : tree.Specifier} → a ≡ a' → x ≡ x' → adds_type a x ≡ adds_type a' x'
+adds_same {a' = a'} {x = x} sa sx = ap (λ z. adds_type z x) sa ∙ ap (λ z. adds_type a' z) sx
+
+-- the same parentheses round the same declarator
+around_same : {p p' : ℕ} {ns ns' : List ℕ} {d d' : tree.Declarator} {ts ts' : tree.Suffixes} → p ≡ p' → ns ≡ ns' → d ≡ d' → ts ≡ ts' → tree.around p ns d ts ≡ tree.around p' ns' d' ts'
+around_same {p' = p'} {ns = ns} {ns' = ns'} {d = d} {d' = d'} {ts = ts} sp sn sd st =
+    ap (λ z. tree.around z ns d ts) sp ∙ ap (λ z. tree.around p' z d ts) sn ∙ ap (λ z. tree.around p' ns' z ts) sd ∙ ap (λ z. tree.around p' ns' d' z) st
 
 mutual
   pub unique_expression : {T : List Name} {p p' : ℕ} {t t' : tree.Expression} {w w' : List Word} → grammar.IsExpression T p t w → grammar.IsExpression T p' t' w' → p ≡ p' → (r r' : List Word) → head_rank r < 1 → head_rank r' < 1 → w ++ r ≡ w' ++ r' → (t ≡ t') × (w ≡ w')
@@ -218,22 +228,22 @@ mutual
       (one.0, cc one.1)
   unique_primary d d' sp r r' e e' eq = absurd (omega (arith, primary_clash d d' r r' eq))
 
-  pub unique_specifiers : {T : List Name} {seen seen' : Bool} {p p' : ℕ} {s s' : tree.Specifiers} {w w' : List Word} → grammar.IsSpecifiers T seen p s w → grammar.IsSpecifiers T seen' p' s' w' → p ≡ p' → (r r' : List Word) → SpecifierEnds T seen r → SpecifierEnds T seen' r' → w ++ r ≡ w' ++ r' → (s ≡ s') × (w ≡ w')
+  pub unique_specifiers : {T : List Name} {p p' : ℕ} {s s' : tree.Specifiers} {w w' : List Word} → grammar.IsSpecifiers T p s w → grammar.IsSpecifiers T p' s' w' → p ≡ p' → (r r' : List Word) → SpecifierEnds T (has_type s) r → SpecifierEnds T (has_type s') r' → w ++ r ≡ w' ++ r' → (s ≡ s') × (w ≡ w')
   unique_specifiers (grammar.first_specifier {u = u} {v = v} a rest) (grammar.first_specifier {u = u'} {v = v'} a' rest') sp r r' e e' eq =
       let one = part u v r u' v' r' (unique_specifier a a' sp (v ++ r) (v' ++ r') (tail_brace rest r e) (tail_brace rest' r' e')) eq in
-      let two = unique_specifier_tail rest rest' (types_same a a' refl one.0) (cc (sp, one.1)) r r' e e' one.2 in
+      let two = unique_specifier_tail rest rest' (ap (λ z. adds_type false z) one.0) (cc (sp, one.1)) r r' e e' one.2 in
       (cc (sp, one.0, two.0), cc (one.1, two.1))
 
-  unique_specifier_tail : {T : List Name} {a a' seen seen' : Bool} {p p' : ℕ} {xs xs' : tree.SpecifierList} {w w' : List Word} → grammar.SpecifierTail T a seen p xs w → grammar.SpecifierTail T a' seen' p' xs' w' → a ≡ a' → p ≡ p' → (r r' : List Word) → SpecifierEnds T seen r → SpecifierEnds T seen' r' → w ++ r ≡ w' ++ r' → (xs ≡ xs') × (w ≡ w')
+  unique_specifier_tail : {T : List Name} {a a' : Bool} {p p' : ℕ} {xs xs' : tree.SpecifierList} {w w' : List Word} → grammar.SpecifierTail T a p xs w → grammar.SpecifierTail T a' p' xs' w' → a ≡ a' → p ≡ p' → (r r' : List Word) → SpecifierEnds T (has_type_from a xs) r → SpecifierEnds T (has_type_from a' xs') r' → w ++ r ≡ w' ++ r' → (xs ≡ xs') × (w ≡ w')
   unique_specifier_tail grammar.last_specifier grammar.last_specifier sa sp r r' e e' eq = (refl, refl)
   unique_specifier_tail grammar.last_specifier (grammar.next_specifier {u = u'} {v = v'} d' rest') sa sp r r' e e' eq = absurd (specifier_clash u' d' sa r (v' ++ r') (eq ∙ append_assoc u' v' r') e)
   unique_specifier_tail (grammar.next_specifier {u = u} {v = v} d rest) grammar.last_specifier sa sp r r' e e' eq = absurd (specifier_clash u d (sym sa) r' (v ++ r) (sym eq ∙ append_assoc u v r) e')
   unique_specifier_tail (grammar.next_specifier {u = u} {v = v} d rest) (grammar.next_specifier {u = u'} {v = v'} d' rest') sa sp r r' e e' eq =
       let one = part u v r u' v' r' (unique_specifier d d' sp (v ++ r) (v' ++ r') (tail_brace rest r e) (tail_brace rest' r' e')) eq in
-      let two = unique_specifier_tail rest rest' (types_same d d' sa one.0) (cc (sp, one.1)) r r' e e' one.2 in
+      let two = unique_specifier_tail rest rest' (adds_same sa one.0) (cc (sp, one.1)) r r' e e' one.2 in
       (cc (one.0, two.0), cc (one.1, two.1))
 
-  unique_specifier : {T : List Name} {a a' b b' : Bool} {p p' : ℕ} {x x' : tree.Specifier} {w w' : List Word} → grammar.IsSpecifier T a b p x w → grammar.IsSpecifier T a' b' p' x' w' → p ≡ p' → (r r' : List Word) → head_brace r ≡ 0 → head_brace r' ≡ 0 → w ++ r ≡ w' ++ r' → (x ≡ x') × (w ≡ w')
+  unique_specifier : {T : List Name} {a a' : Bool} {p p' : ℕ} {x x' : tree.Specifier} {w w' : List Word} → grammar.IsSpecifier T a p x w → grammar.IsSpecifier T a' p' x' w' → p ≡ p' → (r r' : List Word) → head_brace r ≡ 0 → head_brace r' ≡ 0 → w ++ r ≡ w' ++ r' → (x ≡ x') × (w ≡ w')
   unique_specifier (grammar.a_word is) (grammar.a_word is') sp r r' e e' eq =
       let sk = keyword_same eq in
       (cc (sp, specifier_same is is' sk), cc sk)
@@ -329,7 +339,7 @@ mutual
       let one = part u (mark OpenParen ∷ (v ++ (mark CloseParen ∷ w))) r u' (mark OpenParen ∷ (v' ++ (mark CloseParen ∷ w'))) r' (unique_stars ns ns' (mark OpenParen ∷ ((v ++ (mark CloseParen ∷ w)) ++ r)) (mark OpenParen ∷ ((v' ++ (mark CloseParen ∷ w')) ++ r')) (omega arith) (omega arith)) eq in
       let two = part v (mark CloseParen ∷ w) r v' (mark CloseParen ∷ w') r' (unique_declarator d d' (cc (sp, one.1)) (mark CloseParen ∷ (w ++ r)) (mark CloseParen ∷ (w' ++ r')) (omega arith) (omega arith)) (rest_same one.2) in
       let three = unique_suffixes ts ts' (cc (sp, one.1, two.1)) r r' e e' (rest_same two.2) in
-      (cc (sp, one.0, two.0, three.0), cc (one.1, two.1, three.1))
+      (around_same sp one.0 two.0 three.0, cc (one.1, two.1, three.1))
   unique_declarator (grammar.a_name n {u = u} {v = v} ns ts) (grammar.an_inner {u = u'} {v = v'} {w = w'} ns' d' none' ts') sp r r' e e' eq =
       let one = part u (name n ∷ v) r u' (mark OpenParen ∷ (v' ++ (mark CloseParen ∷ w'))) r' (unique_stars ns ns' (name n ∷ (v ++ r)) (mark OpenParen ∷ ((v' ++ (mark CloseParen ∷ w')) ++ r')) (omega arith) (omega arith)) eq in
       absurd (cc one.2)
@@ -417,7 +427,7 @@ mutual
       let one = part u (mark OpenParen ∷ ((mark Star ∷ v) ++ (mark CloseParen ∷ w))) r u' (mark OpenParen ∷ ((mark Star ∷ v') ++ (mark CloseParen ∷ w'))) r' (unique_stars ns ns' (mark OpenParen ∷ (((mark Star ∷ v) ++ (mark CloseParen ∷ w)) ++ r)) (mark OpenParen ∷ (((mark Star ∷ v') ++ (mark CloseParen ∷ w')) ++ r')) (omega arith) (omega arith)) eq in
       let two = part (mark Star ∷ v) (mark CloseParen ∷ w) r (mark Star ∷ v') (mark CloseParen ∷ w') r' (unique_abstract d d' (cc (sp, one.1)) (mark CloseParen ∷ (w ++ r)) (mark CloseParen ∷ (w' ++ r')) (closes close_paren) (closes close_paren)) (rest_same one.2) in
       let three = unique_suffixes ts ts' (cc (sp, one.1, two.1)) r r' (omega (arith, separated_rank e)) (omega (arith, separated_rank e')) (rest_same two.2) in
-      (cc (sp, one.0, two.0, three.0), cc (one.1, two.1, three.1))
+      (around_same sp one.0 two.0 three.0, cc (one.1, two.1, three.1))
   unique_abstract (grammar.with_stars {n = n} {ns = ms} {u = u} {v = v} ns ts) (grammar.with_suffixes {x = x'} {v = v'} ts') sp r r' e e' eq =
       let one = part u v r [] (x' ∷ v') r' (unique_stars ns no_star (v ++ r) ((x' ∷ v') ++ r') (suffixes_star ts r e) (suffixes_star ts' r' e')) eq in
       absurd (cc one.0)

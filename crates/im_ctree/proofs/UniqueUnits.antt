@@ -4,15 +4,17 @@ use Rattle.im_tok.specs.declared.keyword.Keyword.{Keyword}
 use Rattle.im_tok.specs.declared.keyword.Keyword.TheVariants as key
 use Rattle.im_tok.specs.declared.punctuator.Punctuator.{Punctuator}
 use Rattle.im_tok.specs.declared.punctuator.Punctuator.TheVariants.{OpenParen, CloseParen, OpenBrace, CloseBrace, Colon, Semicolon, Assign, Comma}
-use Rattle.im_word.specs.Words.{Name, Word, name, keyword, number, character, text, mark}
+use Rattle.im_word.specs.Words.{Name, Word, name, keyword, number, character, text, mark, unknown}
 use Rattle.im_ctree.specs.Operators as op
 use Rattle.im_ctree.specs.Tree as tree
 use Rattle.im_ctree.specs.Grammar as grammar
 use Rattle.im_ctree.specs.Grammar.{GoesOnSpecifiers}
 use Rattle.im_ctree.specs.Units as units
-use Rattle.im_ctree.specs.Units.{takes_else, typedef_names}
-use Rattle.im_ctree.proofs.Ranks.{head_rank, rest_same, behind, part, Starting, starting_append, meets, apart, StartsExpression, at_name, at_number, at_character, at_text, at_open, at_step, at_prefix, at_sizeof, StartsSpecifier, at_typedef, at_word, at_struct, at_enum, StartsDeclarator, head_closing, Closes, close_paren, close_brace, close_declaration, Separated, closes, at_comma, closes_rank, separated_rank, not_expression, not_specifier, not_closing, assign_starts, expression_starts, specifiers_starts}
-use Rattle.im_ctree.proofs.Behind.{SpecifierEnds, head_brace, goes_named, declarator_starts, starting_follows, declarator_follows, separated_undeclared, separated_code}
+use Rattle.im_ctree.specs.Typedefs.{has_type, typedef_names, names_behind, names_behind_init, names_behind_external}
+use Rattle.im_ctree.specs.Units.{takes_else}
+use Rattle.im_ctree.specs.Follow.{Closes, Separated, SpecifierEnds, Starting, StartsDeclarator, StartsExpression, StartsSpecifier, at_character, at_comma, at_enum, at_name, at_number, at_open, at_prefix, at_sizeof, at_step, at_struct, at_text, at_typedef, at_word, close_brace, close_declaration, close_paren, closes, head_brace, head_rank}
+use Rattle.im_ctree.proofs.Ranks.{rest_same, behind, part, starting_append, meets, apart, head_closing, closes_rank, separated_rank, not_expression, not_specifier, not_closing, assign_starts, expression_starts, specifiers_starts}
+use Rattle.im_ctree.proofs.Behind.{goes_named, declarator_starts, starting_follows, declarator_follows, separated_undeclared, separated_code}
 use Rattle.im_ctree.proofs.Unique.{unique_expression, unique_assign, unique_conditional, unique_specifiers, unique_declarator}
 
 -- first words
@@ -172,19 +174,19 @@ declaration_not_expression w _ d (units.something {u = u} x) r r' eq =
     let s = expression_starts x in
     apart s.3 (meets (w ++ r) (starting_append w r (declaration_starts d)) (eq ∙ ap (λ z. (z ++ (mark Semicolon ∷ [])) ++ r') s.2))
 
-unique_for_init : {T U U' : List Name} {p p' : ℕ} {i i' : tree.ForInit} {w w' : List Word} → units.IsForInit T p i U w → units.IsForInit T p' i' U' w' → p ≡ p' → (r r' : List Word) → w ++ r ≡ w' ++ r' → ((i ≡ i') × (U ≡ U')) × (w ≡ w')
-unique_for_init {T = T} (units.begins_with_declaration d) (units.begins_with_declaration d') sp r r' eq =
+unique_for_init : {T : List Name} {p p' : ℕ} {i i' : tree.ForInit} {w w' : List Word} → units.IsForInit T p i w → units.IsForInit T p' i' w' → p ≡ p' → (r r' : List Word) → w ++ r ≡ w' ++ r' → (i ≡ i') × (w ≡ w')
+unique_for_init (units.begins_with_declaration d) (units.begins_with_declaration d') sp r r' eq =
     let one = unique_declaration d d' sp r r' eq in
-    ((cc one.0, ap (λ z. typedef_names T z) one.0), one.1)
+    (cc one.0, one.1)
 unique_for_init (units.begins_with_expression {u = u} x) (units.begins_with_expression {u = u'} x') sp r r' eq =
     let y = mark Semicolon ∷ [] in
     let one = part u y r u' y r' (unique_maybe_expression x x' sp (y ++ r) (y ++ r') close_declaration close_declaration) eq in
-    ((cc one.0, refl), cc one.1)
+    (cc one.0, cc one.1)
 unique_for_init (units.begins_with_declaration {u = w} d) (units.begins_with_expression {u = u'} x') sp r r' eq = absurd (declaration_not_expression w u' d x' r r' eq)
 unique_for_init (units.begins_with_expression {u = u} x) (units.begins_with_declaration {u = w'} d') sp r r' eq = absurd (declaration_not_expression w' u d' x r' r (sym eq))
 
 -- which line a statement is, by its first word
-abbrev pub statement_line : {T U : List Name} {p : ℕ} {s : tree.Statement} {w : List Word} → units.IsStatement T p s U w → ℕ
+abbrev pub statement_line : {T : List Name} {p : ℕ} {s : tree.Statement} {w : List Word} → units.IsStatement T p s w → ℕ
 statement_line (units.blocks b) = 0
 statement_line (units.computes e) = 1
 statement_line (units.ifs e s) = 2
@@ -225,6 +227,7 @@ head_statement (name n ∷ v) = 1
 head_statement (number n ∷ v) = 1
 head_statement (character n ∷ v) = 1
 head_statement (text s ∷ v) = 1
+head_statement (unknown ∷ v) = 12
 
 expression_statement : {T : List Name} {x : Word} (v : List Word) → StartsExpression T x → 1 ≡ head_statement (x ∷ v)
 expression_statement v (at_name free) = refl
@@ -248,10 +251,10 @@ computes_code (units.something x) r =
     let s = expression_starts x in
     expression_statement ((s.1 ++ (mark Semicolon ∷ [])) ++ r) s.3 ∙ ap (λ z. head_statement ((z ++ (mark Semicolon ∷ [])) ++ r)) (sym s.2)
 
-block_code : {T U : List Name} {p : ℕ} {b : tree.Block} {w : List Word} → units.IsBlock T p b U w → (r : List Word) → 0 ≡ head_statement (w ++ r)
+block_code : {T : List Name} {p : ℕ} {b : tree.Block} {w : List Word} → units.IsBlock T p b w → (r : List Word) → 0 ≡ head_statement (w ++ r)
 block_code (units.a_block is) r = refl
 
-statement_code : {T U : List Name} {p : ℕ} {s : tree.Statement} {w : List Word} (d : units.IsStatement T p s U w) (r : List Word) → statement_line d ≡ head_statement (w ++ r)
+statement_code : {T : List Name} {p : ℕ} {s : tree.Statement} {w : List Word} (d : units.IsStatement T p s w) (r : List Word) → statement_line d ≡ head_statement (w ++ r)
 statement_code (units.blocks b) r = block_code b r
 statement_code (units.computes e) r = computes_code e r
 statement_code (units.ifs e s) r = refl
@@ -266,10 +269,10 @@ statement_code units.breaks r = refl
 statement_code units.continues r = refl
 statement_code (units.returns e) r = refl
 
-statement_clash : {T U T' U' : List Name} {p p' : ℕ} {s s' : tree.Statement} {w w' : List Word} (d : units.IsStatement T p s U w) (d' : units.IsStatement T' p' s' U' w') (r r' : List Word) → w ++ r ≡ w' ++ r' → statement_line d ≡ statement_line d'
+statement_clash : {T T' : List Name} {p p' : ℕ} {s s' : tree.Statement} {w w' : List Word} (d : units.IsStatement T p s w) (d' : units.IsStatement T' p' s' w') (r r' : List Word) → w ++ r ≡ w' ++ r' → statement_line d ≡ statement_line d'
 statement_clash d d' r r' eq = statement_code d r ∙ ap head_statement eq ∙ sym (statement_code d' r')
 
-line_bound : {T U : List Name} {p : ℕ} {s : tree.Statement} {w : List Word} (d : units.IsStatement T p s U w) → statement_line d < 12
+line_bound : {T : List Name} {p : ℕ} {s : tree.Statement} {w : List Word} (d : units.IsStatement T p s w) → statement_line d < 12
 line_bound (units.blocks b) = omega arith
 line_bound (units.computes e) = omega arith
 line_bound (units.ifs e s) = omega arith
@@ -285,7 +288,7 @@ line_bound units.continues = omega arith
 line_bound (units.returns e) = omega arith
 
 -- no statement begins with a closing brace
-not_statement : {T U : List Name} {p : ℕ} {s : tree.Statement} (u z : List Word) {v : List Word} → units.IsStatement T p s U u → mark CloseBrace ∷ v ≡ u ++ z → ⊥
+not_statement : {T : List Name} {p : ℕ} {s : tree.Statement} (u z : List Word) {v : List Word} → units.IsStatement T p s u → mark CloseBrace ∷ v ≡ u ++ z → ⊥
 not_statement u z d eq = omega (arith, line_bound d, statement_code d z, ap head_statement eq)
 
 -- what begins specifiers begins no statement: by the lines of statements where it is a keyword
@@ -308,7 +311,7 @@ specifier_statement v at_enum = refl
 specifier_code : {T : List Name} (w z : List Word) → Starting (StartsSpecifier T) w → 1 ≡ head_statement (w ++ z)
 specifier_code w z s = specifier_statement (s.1 ++ z) s.3 ∙ ap (λ y. head_statement (y ++ z)) (sym s.2)
 
-declaration_not_statement : {T U : List Name} {p p' : ℕ} {d : tree.Declaration} {s : tree.Statement} (w w' : List Word) → units.IsDeclaration T p d w → units.IsStatement T p' s U w' → (r r' : List Word) → w ++ r ≡ w' ++ r' → ⊥
+declaration_not_statement : {T : List Name} {p p' : ℕ} {d : tree.Declaration} {s : tree.Statement} (w w' : List Word) → units.IsDeclaration T p d w → units.IsStatement T p' s w' → (r r' : List Word) → w ++ r ≡ w' ++ r' → ⊥
 declaration_not_statement w _ d (units.computes {u = u} e) r r' eq = declaration_not_expression w u d e r r' eq
 declaration_not_statement w w' d s r r' eq = omega (arith, specifier_code w r (declaration_starts d), ap head_statement eq, statement_code s r')
 
@@ -359,10 +362,10 @@ maybe_else (units.something x) r =
     let s = expression_starts x in
     ap (λ z. head_else ((z ++ (mark Semicolon ∷ [])) ++ r)) s.2 ∙ expression_else ((s.1 ++ (mark Semicolon ∷ [])) ++ r) s.3
 
-block_else : {T U : List Name} {p : ℕ} {b : tree.Block} {w : List Word} → units.IsBlock T p b U w → (r : List Word) → head_else (w ++ r) ≡ 0
+block_else : {T : List Name} {p : ℕ} {b : tree.Block} {w : List Word} → units.IsBlock T p b w → (r : List Word) → head_else (w ++ r) ≡ 0
 block_else (units.a_block is) r = refl
 
-statement_else : {T U : List Name} {p : ℕ} {s : tree.Statement} {w : List Word} → units.IsStatement T p s U w → (r : List Word) → head_else (w ++ r) ≡ 0
+statement_else : {T : List Name} {p : ℕ} {s : tree.Statement} {w : List Word} → units.IsStatement T p s w → (r : List Word) → head_else (w ++ r) ≡ 0
 statement_else (units.blocks b) r = block_else b r
 statement_else (units.computes e) r = maybe_else e r
 statement_else (units.ifs e s) r = refl
@@ -377,7 +380,7 @@ statement_else units.breaks r = refl
 statement_else units.continues r = refl
 statement_else (units.returns e) r = refl
 
-items_else : {T U : List Name} {p : ℕ} {is : tree.BlockItems} {w : List Word} → units.IsBlockItems T p is U w → (r : List Word) → head_else (w ++ (mark CloseBrace ∷ r)) ≡ 0
+items_else : {T : List Name} {p : ℕ} {is : tree.BlockItems} {w : List Word} → units.IsBlockItems T p is w → (r : List Word) → head_else (w ++ (mark CloseBrace ∷ r)) ≡ 0
 items_else units.no_item r = refl
 items_else (units.next_declaration {u = u} {v = v} d is) r =
     let s = declaration_starts d in
@@ -397,8 +400,8 @@ move_maybe {p = p} {t = t} {w = w} same d = subst (λ z. units.IsMaybeExpression
 move_declaration : {T T' : List Name} {p : ℕ} {d : tree.Declaration} {w : List Word} → T ≡ T' → units.IsDeclaration T' p d w → units.IsDeclaration T p d w
 move_declaration {p = p} {d = t} {w = w} same d = subst (λ z. units.IsDeclaration z p t w) (sym same) d
 
-move_for_init : {T T' U : List Name} {p : ℕ} {i : tree.ForInit} {w : List Word} → T ≡ T' → units.IsForInit T' p i U w → units.IsForInit T p i U w
-move_for_init {U = U} {p = p} {i = i} {w = w} same d = subst (λ z. units.IsForInit z p i U w) (sym same) d
+move_for_init : {T T' : List Name} {p : ℕ} {i : tree.ForInit} {w : List Word} → T ≡ T' → units.IsForInit T' p i w → units.IsForInit T p i w
+move_for_init {p = p} {i = i} {w = w} same d = subst (λ z. units.IsForInit z p i w) (sym same) d
 
 -- the parentheses of a statement
 in_parentheses : {T T' : List Name} {p p' : ℕ} {t t' : tree.Expression} (u v r u' v' r' : List Word) → grammar.IsExpression T p t u → grammar.IsExpression T' p' t' u' → T ≡ T' → p ≡ p' → (u ++ (mark CloseParen ∷ v)) ++ r ≡ (u' ++ (mark CloseParen ∷ v')) ++ r' → (t ≡ t') × (u ≡ u') × (v ++ r ≡ v' ++ r')
@@ -406,15 +409,25 @@ in_parentheses u v r u' v' r' d d' same sp eq =
     let one = part u (mark CloseParen ∷ v) r u' (mark CloseParen ∷ v') r' (unique_expression d (move_expression same d') sp (mark CloseParen ∷ (v ++ r)) (mark CloseParen ∷ (v' ++ r')) (omega arith) (omega arith)) eq in
     (one.0, one.1, rest_same one.2)
 
+-- the typedef names behind the same
+behind_same : {T T' : List Name} {s s' : tree.Statement} → T ≡ T' → s ≡ s' → names_behind T s ≡ names_behind T' s'
+behind_same {T' = T'} {s = s} sT ss = ap (λ z. names_behind z s) sT ∙ ap (λ z. names_behind T' z) ss
+
+init_same : {T T' : List Name} {i i' : tree.ForInit} → T ≡ T' → i ≡ i' → names_behind_init T i ≡ names_behind_init T' i'
+init_same {T' = T'} {i = i} sT si = ap (λ z. names_behind_init z i) sT ∙ ap (λ z. names_behind_init T' z) si
+
+external_same : {T T' : List Name} {x x' : tree.External} → T ≡ T' → x ≡ x' → names_behind_external T x ≡ names_behind_external T' x'
+external_same {T' = T'} {x = x} sT sx = ap (λ z. names_behind_external z x) sT ∙ ap (λ z. names_behind_external T' z) sx
+
 mutual
-  unique_block : {T T' U U' : List Name} {p p' : ℕ} {b b' : tree.Block} {w w' : List Word} → units.IsBlock T p b U w → units.IsBlock T' p' b' U' w' → T ≡ T' → p ≡ p' → (r r' : List Word) → w ++ r ≡ w' ++ r' → ((b ≡ b') × (U ≡ U')) × (w ≡ w')
+  unique_block : {T T' : List Name} {p p' : ℕ} {b b' : tree.Block} {w w' : List Word} → units.IsBlock T p b w → units.IsBlock T' p' b' w' → T ≡ T' → p ≡ p' → (r r' : List Word) → w ++ r ≡ w' ++ r' → (b ≡ b') × (w ≡ w')
   unique_block (units.a_block {u = u} is) (units.a_block {u = u'} is') sT sp r r' eq =
       let y = mark CloseBrace ∷ [] in
       let one = part u y r u' y r' (unique_items is is' sT (cc sp) r r') (rest_same eq) in
-      ((cc (sp, one.0.0), one.0.1), cc one.1)
+      (cc (sp, one.0), cc one.1)
 
-  unique_items : {T T' U U' : List Name} {p p' : ℕ} {is is' : tree.BlockItems} {w w' : List Word} → units.IsBlockItems T p is U w → units.IsBlockItems T' p' is' U' w' → T ≡ T' → p ≡ p' → (r r' : List Word) → w ++ (mark CloseBrace ∷ r) ≡ w' ++ (mark CloseBrace ∷ r') → ((is ≡ is') × (U ≡ U')) × (w ≡ w')
-  unique_items units.no_item units.no_item sT sp r r' eq = ((refl, sT), refl)
+  unique_items : {T T' : List Name} {p p' : ℕ} {is is' : tree.BlockItems} {w w' : List Word} → units.IsBlockItems T p is w → units.IsBlockItems T' p' is' w' → T ≡ T' → p ≡ p' → (r r' : List Word) → w ++ (mark CloseBrace ∷ r) ≡ w' ++ (mark CloseBrace ∷ r') → (is ≡ is') × (w ≡ w')
+  unique_items units.no_item units.no_item sT sp r r' eq = (refl, refl)
   unique_items units.no_item (units.next_declaration {u = u'} {v = v'} d' is') sT sp r r' eq = absurd (not_specifier u' (v' ++ (mark CloseBrace ∷ r')) close_brace (declaration_starts d') (eq ∙ append_assoc u' v' (mark CloseBrace ∷ r')))
   unique_items units.no_item (units.next_statement {u = u'} {v = v'} s' is') sT sp r r' eq = absurd (not_statement u' (v' ++ (mark CloseBrace ∷ r')) s' (eq ∙ append_assoc u' v' (mark CloseBrace ∷ r')))
   unique_items (units.next_declaration {u = u} {v = v} d is) units.no_item sT sp r r' eq = absurd (not_specifier u (v ++ (mark CloseBrace ∷ r)) close_brace (declaration_starts d) (sym eq ∙ append_assoc u v (mark CloseBrace ∷ r)))
@@ -425,13 +438,13 @@ mutual
       let one = part u v z u' v' z' (unique_declaration d (move_declaration sT d') sp (v ++ z) (v' ++ z')) eq in
       let sU : typedef_names T t ≡ typedef_names T' t' = ap (λ y. typedef_names y t) sT ∙ ap (λ y. typedef_names T' y) one.0 in
       let two = unique_items is is' sU (cc (sp, one.1)) r r' one.2 in
-      ((cc (one.0, two.0.0), two.0.1), cc (one.1, two.1))
+      (cc (one.0, two.0), cc (one.1, two.1))
   unique_items (units.next_statement {u = u} {v = v} s is) (units.next_statement {u = u'} {v = v'} s' is') sT sp r r' eq =
       let z = mark CloseBrace ∷ r in
       let z' = mark CloseBrace ∷ r' in
       let one = part u v z u' v' z' (unique_statement s s' sT sp (v ++ z) (v' ++ z') (λ h. items_else is r) (λ h. items_else is' r')) eq in
-      let two = unique_items is is' one.0.1 (cc (sp, one.1)) r r' one.2 in
-      ((cc (one.0.0, two.0.0), two.0.1), cc (one.1, two.1))
+      let two = unique_items is is' (behind_same sT one.0) (cc (sp, one.1)) r r' one.2 in
+      (cc (one.0, two.0), cc (one.1, two.1))
   unique_items (units.next_declaration {u = u} {v = v} d is) (units.next_statement {u = u'} {v = v'} s' is') sT sp r r' eq =
       let z = mark CloseBrace ∷ r in
       let z' = mark CloseBrace ∷ r' in
@@ -441,23 +454,23 @@ mutual
       let z' = mark CloseBrace ∷ r' in
       absurd (declaration_not_statement u' u (move_declaration sT d') s (v' ++ z') (v ++ z) (sym (append_assoc u' v' z') ∙ sym eq ∙ append_assoc u v z))
 
-  unique_statement : {T T' U U' : List Name} {p p' : ℕ} {s s' : tree.Statement} {w w' : List Word} → units.IsStatement T p s U w → units.IsStatement T' p' s' U' w' → T ≡ T' → p ≡ p' → (r r' : List Word) → StatementEnds s r → StatementEnds s' r' → w ++ r ≡ w' ++ r' → ((s ≡ s') × (U ≡ U')) × (w ≡ w')
+  unique_statement : {T T' : List Name} {p p' : ℕ} {s s' : tree.Statement} {w w' : List Word} → units.IsStatement T p s w → units.IsStatement T' p' s' w' → T ≡ T' → p ≡ p' → (r r' : List Word) → StatementEnds s r → StatementEnds s' r' → w ++ r ≡ w' ++ r' → (s ≡ s') × (w ≡ w')
   unique_statement (units.blocks b) (units.blocks b') sT sp r r' e e' eq =
       let one = unique_block b b' sT sp r r' eq in
-      ((cc (sp, one.0.0), one.0.1), one.1)
+      (cc (sp, one.0), one.1)
   unique_statement (units.computes {u = u} x) (units.computes {u = u'} x') sT sp r r' e e' eq =
       let y = mark Semicolon ∷ [] in
       let one = part u y r u' y r' (unique_maybe_expression x (move_maybe sT x') sp (y ++ r) (y ++ r') close_declaration close_declaration) eq in
-      ((cc (sp, one.0), sT), cc one.1)
+      (cc (sp, one.0), cc one.1)
   unique_statement (units.ifs {u = u} {v = v} x s) (units.ifs {u = u'} {v = v'} x' s') sT sp r r' e e' eq =
       let one = in_parentheses u v r u' v' r' x x' sT (cc sp) (rest_same (rest_same eq)) in
       let two = unique_statement s s' sT (cc (sp, one.1)) r r' (λ h. e refl) (λ h. e' refl) one.2 in
-      ((cc (sp, one.0, two.0.0), two.0.1), cc (one.1, two.1))
+      (cc (sp, one.0, two.0), cc (one.1, two.1))
   unique_statement (units.if_elses {s = f} {u = u} {v = v} {w = w} x s none t) (units.if_elses {s = f'} {u = u'} {v = v'} {w = w'} x' s' none' t') sT sp r r' e e' eq =
       let one = in_parentheses u (v ++ (keyword key.Else ∷ w)) r u' (v' ++ (keyword key.Else ∷ w')) r' x x' sT (cc sp) (rest_same (rest_same eq)) in
       let two = part v (keyword key.Else ∷ w) r v' (keyword key.Else ∷ w') r' (unique_statement s s' sT (cc (sp, one.1)) (keyword key.Else ∷ (w ++ r)) (keyword key.Else ∷ (w' ++ r')) (no_else f (keyword key.Else ∷ (w ++ r)) none) (no_else f' (keyword key.Else ∷ (w' ++ r')) none')) one.2 in
-      let three = unique_statement t t' two.0.1 (cc (sp, one.1, two.1)) r r' e e' (rest_same two.2) in
-      ((cc (sp, one.0, two.0.0, three.0.0), three.0.1), cc (one.1, two.1, three.1))
+      let three = unique_statement t t' (behind_same sT two.0) (cc (sp, one.1, two.1)) r r' e e' (rest_same two.2) in
+      (cc (sp, one.0, two.0, three.0), cc (one.1, two.1, three.1))
   unique_statement (units.ifs {u = u} {v = v} x s) (units.if_elses {s = f'} {u = u'} {v = v'} {w = w'} x' s' none' t') sT sp r r' e e' eq =
       let y = keyword key.Else ∷ w' in
       let one = in_parentheses u v r u' (v' ++ y) r' x x' sT (cc sp) (rest_same (rest_same eq)) in
@@ -473,44 +486,41 @@ mutual
   unique_statement (units.whiles {u = u} {v = v} x s) (units.whiles {u = u'} {v = v'} x' s') sT sp r r' e e' eq =
       let one = in_parentheses u v r u' v' r' x x' sT (cc sp) (rest_same (rest_same eq)) in
       let two = unique_statement s s' sT (cc (sp, one.1)) r r' e e' one.2 in
-      ((cc (sp, one.0, two.0.0), two.0.1), cc (one.1, two.1))
+      (cc (sp, one.0, two.0), cc (one.1, two.1))
   unique_statement (units.dos {u = u} {v = v} s x) (units.dos {u = u'} {v = v'} s' x') sT sp r r' e e' eq =
       let y = mark Semicolon ∷ [] in
       let one = part u (keyword key.While ∷ mark OpenParen ∷ (v ++ (mark CloseParen ∷ y))) r u' (keyword key.While ∷ mark OpenParen ∷ (v' ++ (mark CloseParen ∷ y))) r' (unique_statement s s' sT (cc sp) (keyword key.While ∷ mark OpenParen ∷ ((v ++ (mark CloseParen ∷ y)) ++ r)) (keyword key.While ∷ mark OpenParen ∷ ((v' ++ (mark CloseParen ∷ y)) ++ r')) (λ h. refl) (λ h. refl)) (rest_same eq) in
-      let two = in_parentheses v y r v' y r' x x' one.0.1 (cc (sp, one.1)) (rest_same (rest_same one.2)) in
-      ((cc (sp, one.0.0, two.0), one.0.1), cc (one.1, two.1))
+      let two = in_parentheses v y r v' y r' x x' (behind_same sT one.0) (cc (sp, one.1)) (rest_same (rest_same one.2)) in
+      (cc (sp, one.0, two.0), cc (one.1, two.1))
   unique_statement (units.fors {u = u} {v = v} {w = w} {x = x} i c n s) (units.fors {u = u'} {v = v'} {w = w'} {x = x'} i' c' n' s') sT sp r r' e e' eq =
       let z = w ++ (mark CloseParen ∷ x) in
       let z' = w' ++ (mark CloseParen ∷ x') in
       let one = part u (v ++ (mark Semicolon ∷ z)) r u' (v' ++ (mark Semicolon ∷ z')) r' (unique_for_init i (move_for_init sT i') (cc sp) ((v ++ (mark Semicolon ∷ z)) ++ r) ((v' ++ (mark Semicolon ∷ z')) ++ r')) (rest_same (rest_same eq)) in
-      let two = part v (mark Semicolon ∷ z) r v' (mark Semicolon ∷ z') r' (unique_maybe_expression c (move_maybe one.0.1 c') (cc (sp, one.1)) (mark Semicolon ∷ (z ++ r)) (mark Semicolon ∷ (z' ++ r')) close_declaration close_declaration) one.2 in
-      let three = part w (mark CloseParen ∷ x) r w' (mark CloseParen ∷ x') r' (unique_maybe_expression n (move_maybe one.0.1 n') (cc (sp, one.1, two.1)) (mark CloseParen ∷ (x ++ r)) (mark CloseParen ∷ (x' ++ r')) close_paren close_paren) (rest_same two.2) in
-      let four = unique_statement s s' one.0.1 (cc (sp, one.1, two.1, three.1)) r r' e e' (rest_same three.2) in
-      ((cc (sp, one.0.0, two.0, three.0, four.0.0), four.0.1), cc (one.1, two.1, three.1, four.1))
+      let two = part v (mark Semicolon ∷ z) r v' (mark Semicolon ∷ z') r' (unique_maybe_expression c (move_maybe (init_same sT one.0) c') (cc (sp, one.1)) (mark Semicolon ∷ (z ++ r)) (mark Semicolon ∷ (z' ++ r')) close_declaration close_declaration) one.2 in
+      let three = part w (mark CloseParen ∷ x) r w' (mark CloseParen ∷ x') r' (unique_maybe_expression n (move_maybe (init_same sT one.0) n') (cc (sp, one.1, two.1)) (mark CloseParen ∷ (x ++ r)) (mark CloseParen ∷ (x' ++ r')) close_paren close_paren) (rest_same two.2) in
+      let four = unique_statement s s' (init_same sT one.0) (cc (sp, one.1, two.1, three.1)) r r' e e' (rest_same three.2) in
+      (cc (sp, one.0, two.0, three.0, four.0), cc (one.1, two.1, three.1, four.1))
   unique_statement (units.switches {u = u} {v = v} x b) (units.switches {u = u'} {v = v'} x' b') sT sp r r' e e' eq =
       let one = in_parentheses u v r u' v' r' x x' sT (cc sp) (rest_same (rest_same eq)) in
       let two = unique_block b b' sT (cc (sp, one.1)) r r' one.2 in
-      ((cc (sp, one.0, two.0.0), two.0.1), cc (one.1, two.1))
+      (cc (sp, one.0, two.0), cc (one.1, two.1))
   unique_statement (units.cases {u = u} {v = v} x s) (units.cases {u = u'} {v = v'} x' s') sT sp r r' e e' eq =
       let one = part u (mark Colon ∷ v) r u' (mark Colon ∷ v') r' (unique_conditional x (move_conditional sT x') (cc sp) (mark Colon ∷ (v ++ r)) (mark Colon ∷ (v' ++ r')) (omega arith) (omega arith)) (rest_same eq) in
       let two = unique_statement s s' sT (cc (sp, one.1)) r r' e e' (rest_same one.2) in
-      ((cc (sp, one.0, two.0.0), two.0.1), cc (one.1, two.1))
+      (cc (sp, one.0, two.0), cc (one.1, two.1))
   unique_statement (units.defaults s) (units.defaults s') sT sp r r' e e' eq =
       let two = unique_statement s s' sT (cc sp) r r' e e' (rest_same (rest_same eq)) in
-      ((cc (sp, two.0.0), two.0.1), cc two.1)
-  unique_statement units.breaks units.breaks sT sp r r' e e' eq = ((cc sp, sT), refl)
-  unique_statement units.continues units.continues sT sp r r' e e' eq = ((cc sp, sT), refl)
+      (cc (sp, two.0), cc two.1)
+  unique_statement units.breaks units.breaks sT sp r r' e e' eq = (cc sp, refl)
+  unique_statement units.continues units.continues sT sp r r' e e' eq = (cc sp, refl)
   unique_statement (units.returns {u = u} x) (units.returns {u = u'} x') sT sp r r' e e' eq =
       let y = mark Semicolon ∷ [] in
       let one = part u y r u' y r' (unique_maybe_expression x (move_maybe sT x') (cc sp) (y ++ r) (y ++ r') close_declaration close_declaration) (rest_same eq) in
-      ((cc (sp, one.0), sT), cc one.1)
+      (cc (sp, one.0), cc one.1)
   unique_statement d d' sT sp r r' e e' eq = absurd (omega (arith, statement_clash d d' r r' eq))
 
-pub statement_sole : {T U U' : List Name} {p : ℕ} {s s' : tree.Statement} {w : List Word} → units.IsStatement T p s U w → units.IsStatement T p s' U' w → s ≡ s'
-statement_sole d d' = (unique_statement d d' refl refl [] [] (λ h. refl) (λ h. refl) refl).0.0
-
-pub after_sole : {T U U' : List Name} {p : ℕ} {s s' : tree.Statement} {w : List Word} → units.IsStatement T p s U w → units.IsStatement T p s' U' w → U ≡ U'
-after_sole d d' = (unique_statement d d' refl refl [] [] (λ h. refl) (λ h. refl) refl).0.1
+pub statement_sole : {T : List Name} {p : ℕ} {s s' : tree.Statement} {w : List Word} → units.IsStatement T p s w → units.IsStatement T p s' w → s ≡ s'
+statement_sole d d' = (unique_statement d d' refl refl [] [] (λ h. refl) (λ h. refl) refl).0
 
 pub declaration_sole : {T : List Name} {p : ℕ} {d d' : tree.Declaration} {w : List Word} → units.IsDeclaration T p d w → units.IsDeclaration T p d' w → d ≡ d'
 declaration_sole d d' = (unique_declaration d d' refl [] [] refl).0
@@ -549,17 +559,17 @@ first_of (units.next_declarator {u = u} {v = v} {w = w} d i ds) r = record {
   brace = ap head_brace (append_assoc v (mark Comma ∷ w) (mark Semicolon ∷ r)) ∙ initializer_brace i (mark Comma ∷ (w ++ (mark Semicolon ∷ r))) refl;
 }
 
-block_brace : {T U : List Name} {p : ℕ} {b : tree.Block} {w : List Word} → units.IsBlock T p b U w → (r : List Word) → head_brace (w ++ r) ≡ 1
+block_brace : {T : List Name} {p : ℕ} {b : tree.Block} {w : List Word} → units.IsBlock T p b w → (r : List Word) → head_brace (w ++ r) ≡ 1
 block_brace (units.a_block is) r = refl
 
-block_rank : {T U : List Name} {p : ℕ} {b : tree.Block} {w : List Word} → units.IsBlock T p b U w → (r : List Word) → head_rank (w ++ r) < 14
+block_rank : {T : List Name} {p : ℕ} {b : tree.Block} {w : List Word} → units.IsBlock T p b w → (r : List Word) → head_rank (w ++ r) < 14
 block_rank (units.a_block is) r = omega arith
 
 definition_follows : {T : List Name} {seen : Bool} {p : ℕ} {d : tree.Declarator} (v w : List Word) → grammar.IsDeclarator T false p d v → (GoesOnSpecifiers T seen v → ⊥) → (r : List Word) → SpecifierEnds T seen ((v ++ w) ++ r)
 definition_follows {T = T} {seen = seen} v w d none r = subst (SpecifierEnds T seen) (sym (append_assoc v w r)) (declarator_follows v d none (w ++ r))
 
 -- a declaration is no function definition
-declaration_not_definition : {T T' U : List Name} {seen : Bool} {p p' q q' : ℕ} {t : tree.Declaration} {f : tree.Specifiers} {g : tree.Declarator} {h : tree.Block} (w u' v' w' : List Word) → units.IsDeclaration T p t w → grammar.IsSpecifiers T seen p' f u' → (GoesOnSpecifiers T seen v' → ⊥) → grammar.IsDeclarator T false q g v' → units.IsBlock T' q' h U w' → p ≡ p' → q ≡ p' + length u' → (r r' : List Word) → w ++ r ≡ (u' ++ (v' ++ w')) ++ r' → ⊥
+declaration_not_definition : {T T' : List Name} {p p' q q' : ℕ} {t : tree.Declaration} {f : tree.Specifiers} {g : tree.Declarator} {h : tree.Block} (w u' v' w' : List Word) → units.IsDeclaration T p t w → grammar.IsSpecifiers T p' f u' → (GoesOnSpecifiers T (has_type f) v' → ⊥) → grammar.IsDeclarator T false q g v' → units.IsBlock T' q' h w' → p ≡ p' → q ≡ p' + length u' → (r r' : List Word) → w ++ r ≡ (u' ++ (v' ++ w')) ++ r' → ⊥
 declaration_not_definition _ u' v' w' (units.declares_none {u = u} s) s' none' d' b' sp sq r r' eq =
     let y = mark Semicolon ∷ [] in
     let one = part u y r u' (v' ++ w') r' (unique_specifiers s s' sp (y ++ r) ((v' ++ w') ++ r') (ends_declaration r) (definition_follows v' w' d' none' r')) eq in
@@ -572,8 +582,8 @@ declaration_not_definition _ u' v' w' (units.declares {u = u} {v = v} s none ds)
     let two = unique_declarator f.derived d' (cc (sp, sq, one.1)) (f.others ++ (mark Semicolon ∷ r)) (w' ++ r') f.ends (block_rank b' r') eq2 in
     omega (arith, f.brace, block_brace b' r', ap head_brace (behind f.front (f.others ++ (mark Semicolon ∷ r)) v' (w' ++ r') two.1 eq2))
 
-move_specifiers : {T T' : List Name} {seen : Bool} {p : ℕ} {s : tree.Specifiers} {w : List Word} → T ≡ T' → grammar.IsSpecifiers T' seen p s w → grammar.IsSpecifiers T seen p s w
-move_specifiers {seen = seen} {p = p} {s = s} {w = w} same d = subst (λ z. grammar.IsSpecifiers z seen p s w) (sym same) d
+move_specifiers : {T T' : List Name} {p : ℕ} {s : tree.Specifiers} {w : List Word} → T ≡ T' → grammar.IsSpecifiers T' p s w → grammar.IsSpecifiers T p s w
+move_specifiers {p = p} {s = s} {w = w} same d = subst (λ z. grammar.IsSpecifiers z p s w) (sym same) d
 
 move_declarator : {T T' : List Name} {g : Bool} {p : ℕ} {d : tree.Declarator} {w : List Word} → T ≡ T' → grammar.IsDeclarator T' g p d w → grammar.IsDeclarator T g p d w
 move_declarator {g = g} {p = p} {d = t} {w = w} same d = subst (λ z. grammar.IsDeclarator z g p t w) (sym same) d
@@ -581,22 +591,22 @@ move_declarator {g = g} {p = p} {d = t} {w = w} same d = subst (λ z. grammar.Is
 move_none : {T T' : List Name} {seen : Bool} {v : List Word} → T ≡ T' → (GoesOnSpecifiers T' seen v → ⊥) → GoesOnSpecifiers T seen v → ⊥
 move_none {seen = seen} {v = v} same none g = none (subst (λ z. GoesOnSpecifiers z seen v) same g)
 
-unique_external : {T T' U U' : List Name} {p p' : ℕ} {x x' : tree.External} {w w' : List Word} → units.IsExternal T p x U w → units.IsExternal T' p' x' U' w' → T ≡ T' → p ≡ p' → (r r' : List Word) → w ++ r ≡ w' ++ r' → ((x ≡ x') × (U ≡ U')) × (w ≡ w')
+unique_external : {T T' : List Name} {p p' : ℕ} {x x' : tree.External} {w w' : List Word} → units.IsExternal T p x w → units.IsExternal T' p' x' w' → T ≡ T' → p ≡ p' → (r r' : List Word) → w ++ r ≡ w' ++ r' → (x ≡ x') × (w ≡ w')
 unique_external (units.a_declaration {T = T} {d = t} d) (units.a_declaration {T = T'} {d = t'} d') sT sp r r' eq =
     let one = unique_declaration d (move_declaration sT d') sp r r' eq in
-    ((cc one.0, ap (λ y. typedef_names y t) sT ∙ ap (λ y. typedef_names T' y) one.0), one.1)
+    (cc one.0, one.1)
 unique_external (units.a_definition {u = u} {v = v} {w = w} s none d b) (units.a_definition {u = u'} {v = v'} {w = w'} s' none' d' b') sT sp r r' eq =
     let e' = move_declarator sT d' in
     let one = part u (v ++ w) r u' (v' ++ w') r' (unique_specifiers s (move_specifiers sT s') sp ((v ++ w) ++ r) ((v' ++ w') ++ r') (definition_follows v w d none r) (definition_follows v' w' e' (move_none sT none') r')) eq in
     let two = part v w r v' w' r' (unique_declarator d e' (cc (sp, one.1)) (w ++ r) (w' ++ r') (block_rank b r) (block_rank b' r')) one.2 in
     let three = unique_block b b' sT (cc (sp, one.1, two.1)) r r' two.2 in
-    ((cc (one.0, two.0, three.0.0), three.0.1), cc (one.1, two.1, three.1))
+    (cc (one.0, two.0, three.0), cc (one.1, two.1, three.1))
 unique_external (units.a_declaration {u = w} d) (units.a_definition {u = u'} {v = v'} {w = w'} s' none' d' b') sT sp r r' eq =
     absurd (declaration_not_definition w u' v' w' d (move_specifiers sT s') (move_none sT none') (move_declarator sT d') b' sp refl r r' eq)
 unique_external (units.a_definition {u = u} {v = v} {w = w} s none d b) (units.a_declaration {u = w'} d') sT sp r r' eq =
     absurd (declaration_not_definition w' u v w (move_declaration sT d') s none d b (sym sp) refl r' r (sym eq))
 
-external_starts : {T U : List Name} {p : ℕ} {x : tree.External} {w : List Word} → units.IsExternal T p x U w → Starting (StartsSpecifier T) w
+external_starts : {T : List Name} {p : ℕ} {x : tree.External} {w : List Word} → units.IsExternal T p x w → Starting (StartsSpecifier T) w
 external_starts (units.a_declaration d) = declaration_starts d
 external_starts (units.a_definition {u = u} {v = v} {w = w} s none d b) = starting_append u (v ++ w) (specifiers_starts s)
 
@@ -610,11 +620,11 @@ unit_begins d eq = let s = unit_starts d in let h : [] ≡ s.0 ∷ (s.1 ++ []) =
 unique_unit : {T T' : List Name} {p p' : ℕ} {t t' : tree.Tree} {w w' : List Word} → units.IsUnit T p t w → units.IsUnit T' p' t' w' → T ≡ T' → p ≡ p' → w ++ [] ≡ w' ++ [] → t ≡ t'
 unique_unit (units.last_external x) (units.last_external x') sT sp eq =
     let one = unique_external x x' sT sp [] [] eq in
-    cc one.0.0
+    cc one.0
 unique_unit (units.next_external {u = u} {v = v} x rest) (units.next_external {u = u'} {v = v'} x' rest') sT sp eq =
     let one = part u v [] u' v' [] (unique_external x x' sT sp (v ++ []) (v' ++ [])) eq in
-    let two = unique_unit rest rest' one.0.1 (cc (sp, one.1)) one.2 in
-    cc (one.0.0, two)
+    let two = unique_unit rest rest' (external_same sT one.0) (cc (sp, one.1)) one.2 in
+    cc (one.0, two)
 unique_unit (units.last_external {u = w} x) (units.next_external {u = u'} {v = v'} x' rest') sT sp eq =
     let eq1 : w ++ [] ≡ u' ++ (v' ++ []) = eq ∙ append_assoc u' v' [] in
     let one = unique_external x x' sT sp [] (v' ++ []) eq1 in

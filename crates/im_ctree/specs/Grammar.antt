@@ -1,6 +1,6 @@
 -- The grammar of expressions and declarators: a constructor for each alternative, over splits of the words.
 -- T holds the typedef names, which stay the same within a declaration; p is the number of the first word.
-use Rattle.std.specs.Prelude.{ℕ, suc, ◌+◌, ◌<◌, ◌≡◌, Bool, true, false, ◌||◌, List, [], ◌∷◌, ◌++◌, length, Some, None}
+use Rattle.std.specs.Prelude.{ℕ, suc, ◌+◌, ◌<◌, ◌≡◌, Bool, true, false, List, [], ◌∷◌, ◌++◌, length, Some, None}
 use Rattle.std.specs.List.{Contains}
 use Rattle.im_tok.specs.declared.number.Number.{Number}
 use Rattle.im_tok.specs.declared.keyword.Keyword.{Keyword}
@@ -14,7 +14,8 @@ use Rattle.im_ctree.specs.declared.operator.BinaryOp.{BinaryOp}
 use Rattle.im_ctree.specs.declared.operator.AssignOp.{AssignOp}
 use Rattle.im_ctree.specs.declared.specifier.SpecifierWord.{SpecifierWord}
 use Rattle.im_ctree.specs.Operators.{IsBinaryOperator, IsAssignOperator, IsStep, IsPrefix, IsSpecifierWord}
-use Rattle.im_ctree.specs.Tree.{Expression, identifier, integer_constant, character_constant, string_literal, index, call, member_of, arrow_to, post_step, pre_step, unary, size_of_expression, size_of_type, cast, binary, conditional, assign, comma, Expressions, no_expressions, more_expressions, MaybeExpression, no_expression, an_expression, Specifiers, specifiers, SpecifierList, no_specifiers, more_specifiers, Specifier, word_specifier, typedef_specifier, struct_tag, enum_tag, struct_specifier, enum_specifier, Members, no_members, more_members, Enumerators, no_enumerators, more_enumerators, Declarators, no_declarators, more_declarators, Declarator, declarator, absent_core, name_core, inner_core, Suffixes, no_suffixes, array_suffix, function_suffix, MaybeDeclarator, no_declarator, a_declarator, Parameters, no_parameters, more_parameters, TypeName, type_name}
+use Rattle.im_ctree.specs.Typedefs.{adds_type, has_type}
+use Rattle.im_ctree.specs.Tree.{Expression, identifier, integer_constant, character_constant, string_literal, index, call, member_of, arrow_to, post_step, pre_step, unary, size_of_expression, size_of_type, cast, binary, conditional, assign, comma, Expressions, no_expressions, more_expressions, MaybeExpression, no_expression, an_expression, Specifiers, specifiers, SpecifierList, no_specifiers, more_specifiers, Specifier, word_specifier, typedef_specifier, struct_tag, enum_tag, struct_specifier, enum_specifier, Members, no_members, more_members, Enumerators, no_enumerators, more_enumerators, Declarators, no_declarators, more_declarators, Declarator, declarator, absent_core, name_core, around, Suffixes, no_suffixes, array_suffix, function_suffix, MaybeDeclarator, no_declarator, a_declarator, Parameters, no_parameters, more_parameters, TypeName, type_name}
 
 -- String { String }, one literal (C11 6.4.5)
 pub data IsJoinedText : Name → List Word → Type 0 where
@@ -31,8 +32,8 @@ pub data IsStars : List ℕ → List Word → Type 0 where
   no_star : IsStars [] []
   a_star : {n : ℕ} {ns : List ℕ} {u v : List Word} → IsConsts n u → IsStars ns v → IsStars (n ∷ ns) (mark Star ∷ (u ++ v))
 
--- The words go on with the specifiers before them: they begin with a typedef name. The Bool says whether a type's word
--- (one of a type specifier, C11 6.7.2) stands in those specifiers; behind one, a typedef name is none of them.
+-- The words go on with the specifiers before them: they begin with a typedef name. The Bool says whether a type (C11 6.7.2) stands
+-- in those specifiers; behind one, a typedef name is none of them.
 pub data GoesOnSpecifiers (T : List Name) : Bool → List Word → Type 0 where
   a_typedef_name : {n : Name} {w : List Word} → Contains T n → GoesOnSpecifiers T false (name n ∷ w)
 
@@ -40,7 +41,7 @@ pub data GoesOnSpecifiers (T : List Name) : Bool → List Word → Type 0 where
 pub data OpensParameters (T : List Name) : List Word → Type 0 where
   at_close : {w : List Word} → OpensParameters T (mark CloseParen ∷ w)
   at_typedef_name : {n : Name} {w : List Word} → Contains T n → OpensParameters T (name n ∷ w)
-  at_word : {x : SpecifierWord} {k : Keyword} {b : Bool} {w : List Word} → IsSpecifierWord x k b → OpensParameters T (keyword k ∷ w)
+  at_word : {x : SpecifierWord} {k : Keyword} {w : List Word} → IsSpecifierWord x k → OpensParameters T (keyword k ∷ w)
   at_struct : {w : List Word} → OpensParameters T (keyword Struct ∷ w)
   at_enum : {w : List Word} → OpensParameters T (keyword Enum ∷ w)
 
@@ -142,46 +143,46 @@ mutual
     a_string : {p : ℕ} {s : Name} {u : List Word} → IsJoinedText s u → IsPrimary T p (string_literal p s) u
     grouped : {p : ℕ} {t : Expression} {u : List Word} → IsExpression T (suc p) t u → IsPrimary T p t (mark OpenParen ∷ (u ++ (mark CloseParen ∷ [])))
 
-  -- specs = spec { spec }; seen says whether a type's words stand in them (C11 6.7)
-  pub data IsSpecifiers (T : List Name) : Bool → ℕ → Specifiers → List Word → Type 0 where
-    first_specifier : {b seen : Bool} {p : ℕ} {x : Specifier} {xs : SpecifierList} {u v : List Word}
-        → IsSpecifier T false b p x u
-        → SpecifierTail T b seen (p + length u) xs v
-        → IsSpecifiers T seen p (specifiers p (more_specifiers x xs)) (u ++ v)
+  -- specs = spec { spec } (C11 6.7)
+  pub data IsSpecifiers (T : List Name) : ℕ → Specifiers → List Word → Type 0 where
+    first_specifier : {p : ℕ} {x : Specifier} {xs : SpecifierList} {u v : List Word}
+        → IsSpecifier T false p x u
+        → SpecifierTail T (adds_type false x) (p + length u) xs v
+        → IsSpecifiers T p (specifiers p (more_specifiers x xs)) (u ++ v)
 
-  -- { spec }: the first Bool says whether a type's word stands before it, the second whether one does up to its end
-  pub data SpecifierTail (T : List Name) : Bool → Bool → ℕ → SpecifierList → List Word → Type 0 where
-    last_specifier : {seen : Bool} {p : ℕ} → SpecifierTail T seen seen p no_specifiers []
-    next_specifier : {a b seen : Bool} {p : ℕ} {x : Specifier} {xs : SpecifierList} {u v : List Word}
-        → IsSpecifier T a b p x u
-        → SpecifierTail T b seen (p + length u) xs v
-        → SpecifierTail T a seen p (more_specifiers x xs) (u ++ v)
+  -- { spec }; the Bool says whether a type stands in the specifiers before it
+  pub data SpecifierTail (T : List Name) : Bool → ℕ → SpecifierList → List Word → Type 0 where
+    last_specifier : {a : Bool} {p : ℕ} → SpecifierTail T a p no_specifiers []
+    next_specifier : {a : Bool} {p : ℕ} {x : Specifier} {xs : SpecifierList} {u v : List Word}
+        → IsSpecifier T a p x u
+        → SpecifierTail T (adds_type a x) (p + length u) xs v
+        → SpecifierTail T a p (more_specifiers x xs) (u ++ v)
 
-  -- spec = typedef | .. | unsigned | struct | enum | typedef-name (C11 6.7.1 to 6.7.3, 6.7.8); the first Bool says whether
-  -- a type's word stands in the specifiers before it, the second whether one does in those up to its end
-  pub data IsSpecifier (T : List Name) : Bool → Bool → ℕ → Specifier → List Word → Type 0 where
-    a_word : {a b : Bool} {p : ℕ} {x : SpecifierWord} {k : Keyword} → IsSpecifierWord x k b → IsSpecifier T a (a || b) p (word_specifier p x) (keyword k ∷ [])
+  -- spec = typedef | .. | unsigned | struct | enum | typedef-name (C11 6.7.1 to 6.7.3, 6.7.8); the Bool says whether a
+  -- type stands in the specifiers before it
+  pub data IsSpecifier (T : List Name) : Bool → ℕ → Specifier → List Word → Type 0 where
+    a_word : {a : Bool} {p : ℕ} {x : SpecifierWord} {k : Keyword} → IsSpecifierWord x k → IsSpecifier T a p (word_specifier p x) (keyword k ∷ [])
     a_struct : {a : Bool} {p : ℕ} {ms : Members} {u : List Word}
         → IsMembers T (suc (suc p)) ms u
-        → IsSpecifier T a true p (struct_specifier p None ms) (keyword Struct ∷ mark OpenBrace ∷ (u ++ (mark CloseBrace ∷ [])))
+        → IsSpecifier T a p (struct_specifier p None ms) (keyword Struct ∷ mark OpenBrace ∷ (u ++ (mark CloseBrace ∷ [])))
     a_named_struct : {a : Bool} {p : ℕ} (n : Name) {ms : Members} {u : List Word}
         → IsMembers T (suc (suc (suc p))) ms u
-        → IsSpecifier T a true p (struct_specifier p (Some n) ms) (keyword Struct ∷ name n ∷ mark OpenBrace ∷ (u ++ (mark CloseBrace ∷ [])))
-    a_struct_tag : {a : Bool} {p : ℕ} (n : Name) → IsSpecifier T a true p (struct_tag p n) (keyword Struct ∷ name n ∷ [])
+        → IsSpecifier T a p (struct_specifier p (Some n) ms) (keyword Struct ∷ name n ∷ mark OpenBrace ∷ (u ++ (mark CloseBrace ∷ [])))
+    a_struct_tag : {a : Bool} {p : ℕ} (n : Name) → IsSpecifier T a p (struct_tag p n) (keyword Struct ∷ name n ∷ [])
     an_enum : {a : Bool} {p : ℕ} {es : Enumerators} {u : List Word}
         → IsEnumerators T (suc (suc p)) es u
-        → IsSpecifier T a true p (enum_specifier p None es) (keyword Enum ∷ mark OpenBrace ∷ (u ++ (mark CloseBrace ∷ [])))
+        → IsSpecifier T a p (enum_specifier p None es) (keyword Enum ∷ mark OpenBrace ∷ (u ++ (mark CloseBrace ∷ [])))
     a_named_enum : {a : Bool} {p : ℕ} (n : Name) {es : Enumerators} {u : List Word}
         → IsEnumerators T (suc (suc (suc p))) es u
-        → IsSpecifier T a true p (enum_specifier p (Some n) es) (keyword Enum ∷ name n ∷ mark OpenBrace ∷ (u ++ (mark CloseBrace ∷ [])))
-    an_enum_tag : {a : Bool} {p : ℕ} (n : Name) → IsSpecifier T a true p (enum_tag p n) (keyword Enum ∷ name n ∷ [])
-    its_typedef_name : {p : ℕ} (n : Name) → Contains T n → IsSpecifier T false true p (typedef_specifier p n) (name n ∷ [])
+        → IsSpecifier T a p (enum_specifier p (Some n) es) (keyword Enum ∷ name n ∷ mark OpenBrace ∷ (u ++ (mark CloseBrace ∷ [])))
+    an_enum_tag : {a : Bool} {p : ℕ} (n : Name) → IsSpecifier T a p (enum_tag p n) (keyword Enum ∷ name n ∷ [])
+    its_typedef_name : {p : ℕ} (n : Name) → Contains T n → IsSpecifier T false p (typedef_specifier p n) (name n ∷ [])
 
   -- member { member }, member = specs declarator { "," declarator } ";" (C11 6.7.2.1)
   pub data IsMembers (T : List Name) : ℕ → Members → List Word → Type 0 where
-    first_member : {seen : Bool} {p : ℕ} {s : Specifiers} {d : Declarator} {ds : Declarators} {ms : Members} {u v w x : List Word}
-        → IsSpecifiers T seen p s u
-        → (GoesOnSpecifiers T seen v → ⊥)
+    first_member : {p : ℕ} {s : Specifiers} {d : Declarator} {ds : Declarators} {ms : Members} {u v w x : List Word}
+        → IsSpecifiers T p s u
+        → (GoesOnSpecifiers T (has_type s) v → ⊥)
         → IsDeclarator T false (p + length u) d v
         → DeclaratorTail T (p + length u + length v) ds w
         → MemberTail T (suc (p + length u + length v + length w)) ms x
@@ -230,7 +231,7 @@ mutual
         → IsDeclarator T g (suc (p + length u)) d v
         → (g ≡ true → OpensParameters T v → ⊥)
         → IsSuffixes T (suc (suc (p + length u) + length v)) ts w
-        → IsDeclarator T g p (declarator p ns (inner_core d) ts) (u ++ (mark OpenParen ∷ (v ++ (mark CloseParen ∷ w))))
+        → IsDeclarator T g p (around p ns d ts) (u ++ (mark OpenParen ∷ (v ++ (mark CloseParen ∷ w))))
 
   -- { tail }, tail = "[" [cond] "]" | "(" [ param { "," param } ] ")" (C11 6.7.6.2, 6.7.6.3)
   pub data IsSuffixes (T : List Name) : ℕ → Suffixes → List Word → Type 0 where
@@ -267,17 +268,17 @@ mutual
 
   -- param = specs [ declarator | abstract ] (C11 6.7.6)
   pub data IsParameter (T : List Name) : ℕ → Specifiers → MaybeDeclarator → List Word → Type 0 where
-    named_parameter : {seen : Bool} {p : ℕ} {s : Specifiers} {d : Declarator} {u v : List Word}
-        → IsSpecifiers T seen p s u
-        → (GoesOnSpecifiers T seen v → ⊥)
+    named_parameter : {p : ℕ} {s : Specifiers} {d : Declarator} {u v : List Word}
+        → IsSpecifiers T p s u
+        → (GoesOnSpecifiers T (has_type s) v → ⊥)
         → IsDeclarator T true (p + length u) d v
         → IsParameter T p s (a_declarator d) (u ++ v)
-    other_parameter : {seen : Bool} {p : ℕ} {s : Specifiers} {d : MaybeDeclarator} {u v : List Word} → IsSpecifiers T seen p s u → IsMaybeAbstract T (p + length u) d v → IsParameter T p s d (u ++ v)
+    other_parameter : {p : ℕ} {s : Specifiers} {d : MaybeDeclarator} {u v : List Word} → IsSpecifiers T p s u → IsMaybeAbstract T (p + length u) d v → IsParameter T p s d (u ++ v)
 
   -- typename = specs [ abstract ] (C11 6.7.7)
   pub data IsTypeName (T : List Name) : ℕ → TypeName → List Word → Type 0 where
-    a_type_name : {seen : Bool} {p : ℕ} {s : Specifiers} {d : MaybeDeclarator} {u v : List Word}
-        → IsSpecifiers T seen p s u
+    a_type_name : {p : ℕ} {s : Specifiers} {d : MaybeDeclarator} {u v : List Word}
+        → IsSpecifiers T p s u
         → IsMaybeAbstract T (p + length u) d v
         → IsTypeName T p (type_name s d) (u ++ v)
 
@@ -294,4 +295,4 @@ mutual
         → IsStars ns u
         → IsAbstract T (suc (p + length u)) d (mark Star ∷ v)
         → IsSuffixes T (suc (suc (p + length u) + length (mark Star ∷ v))) ts w
-        → IsAbstract T p (declarator p ns (inner_core d) ts) (u ++ (mark OpenParen ∷ ((mark Star ∷ v) ++ (mark CloseParen ∷ w))))
+        → IsAbstract T p (around p ns d ts) (u ++ (mark OpenParen ∷ ((mark Star ∷ v) ++ (mark CloseParen ∷ w))))

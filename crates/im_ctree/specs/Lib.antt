@@ -1,7 +1,8 @@
 pub mod Tree
+pub mod Typedefs
 pub mod Operators
-pub mod Balanced
 pub mod Grammar
 pub mod Units
+pub mod Follow
 pub mod Shape
 pub mod Samples

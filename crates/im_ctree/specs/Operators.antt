@@ -1,5 +1,5 @@
 -- Which punctuators and keywords stand for which operators and specifiers.
-use Rattle.std.specs.Prelude.{ℕ, Bool, true, false}
+use Rattle.std.specs.Prelude.{ℕ}
 use Rattle.im_tok.specs.declared.keyword.Keyword.{Keyword}
 use Rattle.im_tok.specs.declared.keyword.Keyword.TheVariants as keyword
 use Rattle.im_tok.specs.declared.punctuator.Punctuator.{Punctuator}
@@ -64,16 +64,16 @@ pub data IsPrefix : UnaryOp → Punctuator → Type 0 where
   bit_not : IsPrefix op.BitNot mark.Tilde
   not : IsPrefix op.Not mark.Exclamation
 
--- a specifier's keyword, and whether it is one of a type (C11 6.7.1 to 6.7.3)
-pub data IsSpecifierWord : SpecifierWord → Keyword → Bool → Type 0 where
-  typedef : IsSpecifierWord word.Typedef keyword.Typedef false
-  extern : IsSpecifierWord word.Extern keyword.Extern false
-  static : IsSpecifierWord word.Static keyword.Static false
-  const : IsSpecifierWord word.Const keyword.Const false
-  void : IsSpecifierWord word.Void keyword.Void true
-  char : IsSpecifierWord word.Char keyword.Char true
-  short : IsSpecifierWord word.Short keyword.Short true
-  int : IsSpecifierWord word.Int keyword.Int true
-  long : IsSpecifierWord word.Long keyword.Long true
-  signed : IsSpecifierWord word.Signed keyword.Signed true
-  unsigned : IsSpecifierWord word.Unsigned keyword.Unsigned true
+-- a specifier's keyword (C11 6.7.1 to 6.7.3)
+pub data IsSpecifierWord : SpecifierWord → Keyword → Type 0 where
+  typedef : IsSpecifierWord word.Typedef keyword.Typedef
+  extern : IsSpecifierWord word.Extern keyword.Extern
+  static : IsSpecifierWord word.Static keyword.Static
+  const : IsSpecifierWord word.Const keyword.Const
+  void : IsSpecifierWord word.Void keyword.Void
+  char : IsSpecifierWord word.Char keyword.Char
+  short : IsSpecifierWord word.Short keyword.Short
+  int : IsSpecifierWord word.Int keyword.Int
+  long : IsSpecifierWord word.Long keyword.Long
+  signed : IsSpecifierWord word.Signed keyword.Signed
+  unsigned : IsSpecifierWord word.Unsigned keyword.Unsigned

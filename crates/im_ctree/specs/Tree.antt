@@ -1,7 +1,7 @@
 -- The tree that a unit spells, apart from where its parts lie in memory.
 -- The first field of an expression, a specifier, specifiers as a whole, an enumerator, a declarator, a suffix, an
 -- initialiser in braces, a statement and a block is the number of its first token; other nodes have no such field.
-use Rattle.std.specs.Prelude.{ℕ, List, Option}
+use Rattle.std.specs.Prelude.{ℕ, Bool, true, false, ◌||◌, cond, List, [], ◌∷◌, ◌++◌, Option}
 use Rattle.im_tok.specs.declared.number.Number.{Number}
 use Rattle.im_word.specs.Words.{Name}
 use Rattle.im_ctree.specs.declared.operator.StepOp.{StepOp}
@@ -88,6 +88,25 @@ mutual
 
   pub data TypeName : Type 0 where
     type_name : Specifiers → MaybeDeclarator → TypeName
+
+abbrev pub append_suffixes : Suffixes → Suffixes → Suffixes
+append_suffixes no_suffixes us = us
+append_suffixes (array_suffix p e ts) us = array_suffix p e (append_suffixes ts us)
+append_suffixes (function_suffix p qs ts) us = function_suffix p qs (append_suffixes ts us)
+
+abbrev pub unsuffixed : Suffixes → Bool
+unsuffixed no_suffixes = true
+unsuffixed (array_suffix p e ts) = false
+unsuffixed (function_suffix p qs ts) = false
+
+abbrev pub unstarred : List ℕ → Bool
+unstarred [] = true
+unstarred (n ∷ ns) = false
+
+-- A declarator in parentheses, with these stars before them and these suffixes behind. The parentheses are kept only
+-- where they change what is declared: where suffixes stand behind them, and stars within.
+abbrev pub around : ℕ → List ℕ → Declarator → Suffixes → Declarator
+around p ns (declarator q ms c ts) us = cond (unsuffixed us || unstarred ms) (declarator p (ns ++ ms) c (append_suffixes ts us)) (declarator p ns (inner_core (declarator q ms c ts)) us)
 
 mutual
   -- C11 6.7.9

@@ -16,8 +16,8 @@ pub fn program_example()
 /// In `if ( a ) if ( b ) c ; else d ;` the `else` is the inner `if`'s (C11 6.8.4.1), and `do s ; while ( e ) ;` is a
 /// statement, for names that are no typedef names.
 pub fn statement_examples()
-    ensures else_of_inner { (names : List Name) (a b c d : Name) → (Contains names a → ⊥) → (Contains names b → ⊥) → (Contains names c → ⊥) → (Contains names d → ⊥) → IsStatement names 0 (else_tree a b c d) names (else_words a b c d) }
-    ensures do_while { (names : List Name) (s e : Name) → (Contains names s → ⊥) → (Contains names e → ⊥) → IsStatement names 0 (do_tree s e) names (do_words s e) }
+    ensures else_of_inner { (names : List Name) (a b c d : Name) → (Contains names a → ⊥) → (Contains names b → ⊥) → (Contains names c → ⊥) → (Contains names d → ⊥) → IsStatement names 0 (else_tree a b c d) (else_words a b c d) }
+    ensures do_while { (names : List Name) (s e : Name) → (Contains names s → ⊥) → (Contains names e → ⊥) → IsStatement names 0 (do_tree s e) (do_words s e) }
 {}
 
 /// `sizeof ( x )` has a type where x is a typedef name, and an expression where it is none (C11 6.5.3).

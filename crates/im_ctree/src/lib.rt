@@ -1,4 +1,4 @@
-// The syntax tree of a unit, and what spells it.
+//! From words to the syntax tree that they spell: the tree, and the grammar of C11 6.5 to 6.9.
 #![tactic(auto)]
 
 mod declaration;
@@ -19,8 +19,8 @@ pub use examples::{
 };
 pub use expression::{Expression, ExpressionKind};
 pub use laws::{
-    balanced_law, fronts_are_prefixes, unique_declarator_law, unique_expression_law,
-    unique_unit_law, unit_nonempty,
+    fronts_are_prefixes_law, unique_declarator_law, unique_expression_law, unique_unit_law,
+    unit_nonempty_law,
 };
 pub use operator::{AssignOp, BinaryOp, StepOp, UnaryOp};
 pub use specifier::{Enumerator, Member, Specifier, SpecifierKind, SpecifierWord, Specifiers};

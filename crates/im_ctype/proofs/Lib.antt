@@ -1,4 +1,11 @@
+pub mod Building
 pub mod CellLists
-pub mod Growing
-pub mod Layouts
+pub mod Compared
+pub mod Grown
+pub mod MoreStructs
+pub mod Numbered
 pub mod Places
+pub mod Rounded
+pub mod Same
+pub mod Steps
+pub mod Walked

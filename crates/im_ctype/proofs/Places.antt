@@ -1,5 +1,6 @@
 -- Where the cells of a layout lie: one behind another, within its size, at multiples of their own sizes.
-use Rattle.std.proofs.Common.{◌≡◌, ℕ, zero, suc, ◌+◌, ◌*◌, ◌/◌, ◌%◌, ◌<◌, ◌≤◌, inl, inr, max, List, [], ◌∷◌, ◌++◌, refl, sym, ap, ◌∙◌, subst, arith}
+use Rattle.std.proofs.lemmas.List.{length-map}
+use Rattle.std.proofs.Common.{length, length-append, ◌≡◌, ℕ, zero, suc, ◌+◌, ◌*◌, ◌/◌, ◌%◌, ◌<◌, ◌≤◌, inl, inr, max, List, [], ◌∷◌, ◌++◌, refl, sym, ap, ◌∙◌, subst, arith}
 use Rattle.std.specs.Prelude.{slice_get, Some}
 use Rattle.std.specs.List.{All, flat_map, range_with_len}
 use Rattle.std.proofs.lemmas.List.Elements.{All-nil, All-cons}
@@ -9,11 +10,9 @@ use Rattle.im_num.specs.declared.kind.Kind.{Kind}
 use Rattle.im_num.specs.declared.kind.Kind.TheVariants.{I8, U8, I16, U16, I32, U32, Ptr}
 use Rattle.im_num.specs.Kinds.{kind_size}
 use Rattle.im_ctype.specs.declared.cell.Cell.{Cell}
-use Rattle.im_ctype.specs.declared.ctype.CType.{CType}
-use Rattle.im_ctype.specs.declared.ctype.CType.TheVariants.{Void, Integer as IntegerType, Pointer', Array', Struct}
-use Rattle.im_ctype.specs.declared.table.Member.{Member}
-use Rattle.im_ctype.specs.declared.table.StructType.{StructType}
-use Rattle.im_ctype.specs.Layout.{Structs, Layout, kind_of, scalar_layout, empty_layout, moved_cell, moved, repeated, round_up, layout_at, layout_in, with_member, members_in, with_trailing_bytes, struct_in, layouts_from, layouts, layout}
+use Rattle.im_ctype.specs.Built.{built_from}
+use Rattle.im_ctype.specs.Types.{CType, void, integer, pointer, array, unsized, struct, function, Member, Structs, kind_of}
+use Rattle.im_ctype.specs.Layout.{Layout, scalar_layout, empty_layout, moved_cell, moved, repeated, round_up, layout_at, layout_in, with_member, members_in, with_trailing_bytes, struct_in, layouts, layout}
 use Rattle.im_ctype.specs.Laws.{end_of, CellsInside, CellsAlignedAt, CellsDisjoint, cells_side_by_side, IsAlignment}
 
 -- multiples
@@ -247,20 +246,22 @@ AreSound done = (n : ℕ) → Sound (layout_at done n)
 
 pub sound-in : (done : List Layout) (ty : CType) → AreSound done → Sound (layout_in done ty)
 unfolding AreSound
-sound-in done Void g = sound-empty
-sound-in done (IntegerType i) g = sound-scalar (kind_of i)
-sound-in done (Pointer' c p t) g = sound-scalar Ptr
-sound-in done (Array' p t n) g = sound-array n (layout_in done t) (sound-in done t g)
-sound-in done (Struct n) g = g n
+sound-in done void g = sound-empty
+sound-in done (integer i) g = sound-scalar (kind_of i)
+sound-in done (pointer c t) g = sound-scalar Ptr
+sound-in done (array t n) g = sound-array n (layout_in done t) (sound-in done t g)
+sound-in done (unsized t) g = sound-empty
+sound-in done (struct n) g = g n
+sound-in done (function r ps) g = sound-empty
 
 placed-members : (done : List Layout) (ms : List Member) (s : Layout) → AreSound done → Placed s → Placed (members_in done ms s)
 placed-members done [] s g h = h
 placed-members done (m ∷ ms) s g h =
-    placed-members done ms (with_member s (layout_in done m.ty)) g (placed-member s (layout_in done m.ty) h (sound-in done m.ty g))
+    placed-members done ms (with_member s (layout_in done m.type)) g (placed-member s (layout_in done m.type) h (sound-in done m.type g))
 
-sound-struct : (done : List Layout) (s : StructType) → AreSound done → Sound (struct_in done s)
-sound-struct done s g =
-    sound-trailing (members_in done s.members.items empty_layout) (placed-members done s.members.items empty_layout g placed-empty)
+sound-struct : (done : List Layout) (ms : List Member) → AreSound done → Sound (struct_in done ms)
+sound-struct done ms g =
+    sound-trailing (members_in done ms empty_layout) (placed-members done ms empty_layout g placed-empty)
 
 sound-push : (done : List Layout) (l : Layout) → Sound l → AreSound done → AreSound (done ++ l ∷ [])
 unfolding AreSound
@@ -269,9 +270,10 @@ sound-push [] l h g (suc n) = sound-empty
 sound-push (k ∷ done) l h g zero = g zero
 sound-push (k ∷ done) l h g (suc n) = sound-push done l h (λ m. g (suc m)) n
 
-sound-from : (done : List Layout) (ss : Structs) → AreSound done → AreSound (layouts_from done ss)
+sound-from : (done : List Layout) (ss : Structs) → AreSound done → AreSound (built_from struct_in done ss)
 sound-from done [] g = g
-sound-from done (s ∷ ss) g = sound-from (done ++ struct_in done s ∷ []) ss (sound-push done (struct_in done s) (sound-struct done s g) g)
+sound-from done (ms ∷ ss) g =
+    sound-from (done ++ struct_in done ms ∷ []) ss (sound-push done (struct_in done ms) (sound-struct done ms g) g)
 
 sound-none : AreSound []
 unfolding AreSound
@@ -315,3 +317,51 @@ pub side-by-side : (n : ℕ) (e : Layout) → repeated 0 n e ≡ cells_side_by_s
 side-by-side n e =
     let z : 0 ≡ 0 * e.size = omega arith in
     ap (λ x. repeated x n e) z ∙ repeated-from 0 n e
+
+-- how many cells there are
+
+chained-count : (low high : ℕ) (cs : List Cell) → Chained low high cs → low + length cs ≤ high
+chained-count low high [] h = omega arith
+chained-count low high (c ∷ cs) h =
+    let k = chained-count (end_of c) high cs h.1 in
+    let p = kind-positive c.kind in
+    omega (arith, h.0, k, p)
+  where
+    kind-positive : (k : Kind) → 0 < kind_size k
+    kind-positive I8 = omega arith
+    kind-positive U8 = omega arith
+    kind-positive I16 = omega arith
+    kind-positive U16 = omega arith
+    kind-positive I32 = omega arith
+    kind-positive U32 = omega arith
+    kind-positive Ptr = omega arith
+
+-- each cell takes a byte at least
+pub few-cells : (ss : Structs) (ty : CType) → length (layout ss ty).cells ≤ (layout ss ty).size
+few-cells ss ty =
+    let h = chained-count 0 (layout ss ty).size (layout ss ty).cells (sound ss ty).placed.chained in
+    omega arith
+
+pub length-repeated : (at n : ℕ) (e : Layout) → length (repeated at n e) ≡ n * length e.cells
+length-repeated at zero e = omega arith
+length-repeated at (suc n) e =
+    let a = length-append (moved at e.cells) (repeated (at + e.size) n e) in
+    let m = length-map {A = Cell} e.cells (moved_cell at) in
+    let r = length-repeated (at + e.size) n e in
+    let s : suc n * length e.cells ≡ length e.cells + n * length e.cells = grind arith in
+    omega arith
+
+pub few-cells-in : (ss : Structs) (ms : List Member) → length (struct_in (layouts ss) ms).cells ≤ (struct_in (layouts ss) ms).size
+few-cells-in ss ms =
+    let s = sound-struct (layouts ss) ms (sound-from [] ss sound-none) in
+    let h = chained-count 0 (struct_in (layouts ss) ms).size (struct_in (layouts ss) ms).cells s.placed.chained in
+    omega arith
+
+pub positive-alignment : (ss : Structs) (ty : CType) → 0 < (layout ss ty).align
+positive-alignment ss ty = elim (alignment-is ss ty) [
+  | inl e ↦ omega (arith, e)
+  | inr k ↦ elim k [
+    | inl e ↦ omega (arith, e)
+    | inr e ↦ omega (arith, e)
+  ]
+]

@@ -1,5 +1,5 @@
 -- What is said of the cells of every layout.
-use Rattle.std.specs.Prelude.{◌≡◌, ℕ, ◌+◌, ◌*◌, ◌%◌, ◌<◌, ◌≤◌, ◌⊎◌, List, slice_get, Some}
+use Rattle.std.specs.Prelude.{◌≡◌, ℕ, ◌+◌, ◌*◌, ◌%◌, ◌<◌, ◌≤◌, ◌⊎◌, List, slice_get, Some, take, drop}
 use Rattle.std.specs.List.{All, flat_map, range_with_len}
 use Rattle.im_num.specs.Kinds.{kind_size}
 use Rattle.im_ctype.specs.declared.cell.Cell.{Cell}
@@ -24,6 +24,10 @@ CellsDisjoint l = (i j : ℕ) (c d : Cell) → i < j → slice_get l.cells i ≡
 -- the cells of so many objects of one layout, the k-th of them k times its size from the first
 abbrev pub cells_side_by_side : ℕ → Layout → List Cell
 cells_side_by_side count l = flat_map (λ k. moved (k * l.size) l.cells) (range_with_len 0 count)
+
+-- so many cells, from one on
+abbrev pub cells_from : ℕ → ℕ → Layout → List Cell
+cells_from first count l = take count (drop first l.cells)
 
 -- an alignment that a type of the language can have
 abbrev pub IsAlignment : ℕ → Type 0

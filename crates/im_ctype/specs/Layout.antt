@@ -1,39 +1,18 @@
 -- Sizes, alignments and cells of types (C11 6.2.8, 6.5.3.4, 6.7.2.1).
-use Rattle.std.specs.Prelude.{ℕ, zero, suc, ◌+◌, ◌-◌, ◌*◌, ◌%◌, ◌<◌, max, List, [], ◌∷◌, ◌++◌, map, length, slice_index_or, slice_get, Option, Some, None}
+use Rattle.std.specs.Prelude.{◌≡◌, ℕ, zero, suc, ◌+◌, ◌-◌, ◌*◌, ◌%◌, max, List, [], ◌∷◌, ◌++◌, map, length, slice_index_or, true}
 use Rattle.std.specs.List.{All}
 use Rattle.im_num.specs.declared.kind.Kind.{Kind}
-use Rattle.im_num.specs.declared.kind.Kind.TheVariants.{I8, U8, I16, U16, I32, U32, Ptr}
+use Rattle.im_num.specs.declared.kind.Kind.TheVariants.{Ptr}
 use Rattle.im_num.specs.Kinds.{kind_size}
-use Rattle.im_ctype.specs.declared.integer.Integer.{Integer}
-use Rattle.im_ctype.specs.declared.integer.Integer.TheVariants.{Char, SignedChar, UnsignedChar, Short, UnsignedShort, Int, UnsignedInt, Long, UnsignedLong}
-use Rattle.im_ctype.specs.declared.ctype.CType.{CType}
-use Rattle.im_ctype.specs.declared.ctype.CType.TheVariants.{Void, Integer as IntegerType, Pointer', Array', Struct}
-use Rattle.im_ctype.specs.declared.table.Member.{Member}
-use Rattle.im_ctype.specs.declared.table.StructType.{StructType}
-use Rattle.im_ctype.specs.declared.table.Extent.{Extent}
+use Rattle.im_ctype.specs.Types.{CType, void, integer, pointer, array, unsized, struct, function, Member, Structs, kind_of, is_complete}
+use Rattle.im_ctype.specs.Built.{built}
 use Rattle.im_ctype.specs.declared.cell.Cell.{Cell}
-
--- the structs of a unit, in the order in which their member lists end
-abbrev pub Structs : Type 0
-Structs = List StructType
 
 -- how an object of a type lies in memory; offsets are bytes from its start
 pub record Layout : Type 0 where
   pub size : ℕ
   pub align : ℕ
   pub cells : List Cell
-
--- the kind of a cell of an integer type; plain char is unsigned
-abbrev pub kind_of : Integer → Kind
-kind_of Char = U8
-kind_of SignedChar = I8
-kind_of UnsignedChar = U8
-kind_of Short = I16
-kind_of UnsignedShort = U16
-kind_of Int = I32
-kind_of UnsignedInt = U32
-kind_of Long = I32
-kind_of UnsignedLong = U32
 
 -- one cell, aligned to its own size
 abbrev pub scalar_layout : Kind → Layout
@@ -63,13 +42,15 @@ layout_at done n = slice_index_or done n empty_layout
 
 -- the layout of a type, given those of the structs
 abbrev pub layout_in : List Layout → CType → Layout
-layout_in done Void = empty_layout
-layout_in done (IntegerType i) = scalar_layout (kind_of i)
-layout_in done (Pointer' c p t) = scalar_layout Ptr
-layout_in done (Array' p t n) =
+layout_in done void = empty_layout
+layout_in done (integer i) = scalar_layout (kind_of i)
+layout_in done (pointer c t) = scalar_layout Ptr
+layout_in done (array t n) =
     let e = layout_in done t in
     record { size = n * e.size; align = e.align; cells = repeated 0 n e }
-layout_in done (Struct n) = layout_at done n
+layout_in done (unsized t) = empty_layout
+layout_in done (struct n) = layout_at done n
+layout_in done (function r ps) = empty_layout
 
 -- a layout with one more member behind it
 abbrev pub with_member : Layout → Layout → Layout
@@ -80,61 +61,35 @@ with_member s m =
 -- the members in order, from the layout of those before them
 abbrev pub members_in : List Layout → List Member → Layout → Layout
 members_in done [] so_far = so_far
-members_in done (m ∷ ms) so_far = members_in done ms (with_member so_far (layout_in done m.ty))
+members_in done (m ∷ ms) so_far = members_in done ms (with_member so_far (layout_in done m.type))
 
 -- bytes behind the last member, so that copies lie aligned side by side
 abbrev pub with_trailing_bytes : Layout → Layout
 with_trailing_bytes all = record { size = round_up all.size all.align; align = all.align; cells = all.cells }
 
 -- a struct, from its members
-abbrev pub struct_in : List Layout → StructType → Layout
-struct_in done s = with_trailing_bytes (members_in done s.members.items empty_layout)
-
-abbrev pub layouts_from : List Layout → Structs → List Layout
-layouts_from done [] = done
-layouts_from done (s ∷ ss) = layouts_from (done ++ struct_in done s ∷ []) ss
+abbrev pub struct_in : List Layout → List Member → Layout
+struct_in done ms = with_trailing_bytes (members_in done ms empty_layout)
 
 -- the layouts of the structs, in their order, each from those before it
 abbrev pub layouts : Structs → List Layout
-layouts structs = layouts_from [] structs
+layouts structs = built struct_in structs
 
 -- the layout of a type
 abbrev pub layout : Structs → CType → Layout
 layout structs ty = layout_in (layouts structs) ty
 
-abbrev pub extent_of : Layout → Extent
-extent_of l = record { size = l.size; alignment = l.align }
-
--- sizes and alignments of the structs
-abbrev pub extents_of : Structs → List Extent
-extents_of structs = map {A = Layout} extent_of (layouts structs)
-
-abbrev pub members_at : Option StructType → List Member
-members_at None = []
-members_at (Some s) = s.members.items
-
--- the members of the struct of that number
-abbrev pub members_of : Structs → ℕ → List Member
-members_of structs n = members_at (slice_get structs n)
-
--- a complete object type, where so many structs have their member lists (C11 6.2.5)
-abbrev pub IsCompleteIn : ℕ → CType → Type 0
-IsCompleteIn known Void = ⊥
-IsCompleteIn known (IntegerType i) = Unit {0}
-IsCompleteIn known (Pointer' c p t) = Unit {0}
-IsCompleteIn known (Array' p t n) = (0 < n) × IsCompleteIn known t
-IsCompleteIn known (Struct n) = n < known
-
+-- a complete object type by these structs
 abbrev pub IsComplete : Structs → CType → Type 0
-IsComplete structs ty = IsCompleteIn (length structs) ty
+IsComplete structs ty = is_complete (length structs) ty ≡ true
 
--- each member has a complete object type
+-- each member has a complete object type, where so many structs have their member lists
 abbrev pub MembersAreComplete : ℕ → List Member → Type 0
-MembersAreComplete known members = All (λ (m : Member). IsCompleteIn known m.ty) members
+MembersAreComplete known members = All (λ (m : Member). is_complete known m.type ≡ true) members
 
 abbrev pub AreCompleteFrom : ℕ → Structs → Type 0
 AreCompleteFrom known [] = Unit {0}
-AreCompleteFrom known (s ∷ ss) = MembersAreComplete known s.members.items × AreCompleteFrom (suc known) ss
+AreCompleteFrom known (ms ∷ rest) = MembersAreComplete known ms × AreCompleteFrom (suc known) rest
 
 -- each struct holds only structs that stand before it
 abbrev pub AreComplete : Structs → Type 0

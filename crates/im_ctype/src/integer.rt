@@ -1,12 +1,12 @@
 ghost use Rattle.std.specs.Prelude.{◌≡◌};
 ghost use Rattle.im_num.specs.Kinds.{kind_size};
-ghost use Rattle.im_ctype.specs.Layout.{kind_of};
+ghost use Rattle.im_ctype.specs.Types.{kind_of};
 
 use im_num::Kind;
 
 /// The integer types (C11 6.2.5). `Char`, `SignedChar` and `UnsignedChar` are three distinct
 /// types, and `Int` and `Long` are distinct though they have the same values.
-#[derive(Clone, Copy, PartialEq, Eq, Debug)]
+#[derive(Clone, Copy, PartialEq, Eq, Hash, Debug)]
 pub enum Integer {
     Char,
     SignedChar,

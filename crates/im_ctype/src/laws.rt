@@ -1,11 +1,11 @@
-//! What holds of the layout of every type, whatever the structs of the unit. Each law is a function
-//! with an empty body, whose contract says it.
-ghost use Rattle.std.specs.Prelude.{◌≡◌, ℕ, ◌%◌, ◌<◌, ◌≤◌, ◌++◌, slice_get, Option, Some};
-ghost use Rattle.im_ctype.specs.declared.ctype.CType.{CType};
-ghost use Rattle.im_ctype.specs.declared.ctype.CType.TheVariants.{Array', Struct};
-ghost use Rattle.im_ctype.specs.declared.table.StructType.{StructType};
-ghost use Rattle.im_ctype.specs.Layout.{IsComplete, MembersAreComplete, Structs, layout, layouts, round_up, struct_in};
-ghost use Rattle.im_ctype.specs.Laws.{CellsInside, CellsAlignedAt, CellsDisjoint, IsAlignment, cells_side_by_side};
+//! What holds of types and of their layouts, whatever the structs of the unit. Each law is a
+//! function with an empty body, whose contract says it.
+ghost use Rattle.std.specs.Prelude.{◌≡◌, ◌↔◌, ℕ, ◌+◌, ◌%◌, ◌<◌, ◌≤◌, ◌++◌, List, length, slice_get, Some, true};
+ghost use Rattle.im_ctype.specs.declared.member.MemberPlace.{MemberPlace};
+ghost use Rattle.im_ctype.specs.Types.{CType, Member, Structs, array, struct, members_of, same_type};
+ghost use Rattle.im_ctype.specs.Layout.{IsComplete, MembersAreComplete, AreComplete, layout, layouts, moved, round_up, struct_in};
+ghost use Rattle.im_ctype.specs.Members.{places, member_cells};
+ghost use Rattle.im_ctype.specs.Laws.{CellsInside, CellsAlignedAt, CellsDisjoint, IsAlignment, cells_from, cells_side_by_side};
 
 /// Each cell of an object lies within it: its offset and its bytes are at most the object's bytes.
 pub fn cells_inside_law()
@@ -27,7 +27,7 @@ pub fn cells_disjoint_law()
 /// The cells of an array are those of its element, once for each element, each time moved on by
 /// the element's size (C11 6.2.5).
 pub fn array_cells_law()
-    ensures { (structs : Structs) (p : _) (element : CType) (count : ℕ) → (layout structs (Array' p element count)).cells ≡ cells_side_by_side count (layout structs element) }
+    ensures { (structs : Structs) (element : CType) (count : ℕ) → (layout structs (array element count)).cells ≡ cells_side_by_side count (layout structs element) }
 {}
 
 /// An alignment is 1, 2 or 4, and a size is a multiple of it, so objects of one type side by side
@@ -47,10 +47,23 @@ pub fn round_up_law()
 /// A struct whose members have complete types by the structs before it lies as its member list
 /// says, each member's type as it lies in the whole unit (C11 6.7.2.1).
 pub fn struct_law()
-    ensures { (structs : Structs) (n : ℕ) (s : StructType) → slice_get structs n ≡ Some s → MembersAreComplete n s.members.items → layout structs (Struct n) ≡ struct_in (layouts structs) s }
+    ensures { (structs : Structs) (n : ℕ) (members : List Member) → slice_get structs n ≡ Some members → MembersAreComplete n members → layout structs (struct n) ≡ struct_in (layouts structs) members }
 {}
 
 /// A complete type keeps its layout when more structs get their member lists.
 pub fn more_structs_law()
     ensures { (structs more : Structs) (ty : CType) → IsComplete structs ty → layout (structs ++ more) ty ≡ layout structs ty }
+{}
+
+/// The cells of a struct are those of its members in their order, each moved to its member's
+/// place. From a member's first cell on they are that member's, and it lies within the struct.
+pub fn member_law()
+    ensures cells { (structs : Structs) (n : ℕ) → AreComplete structs → (layout structs (struct n)).cells ≡ member_cells (layouts structs) (members_of structs n) (places structs n) }
+    ensures from_first { (structs : Structs) (n i : ℕ) (m : Member) (p : MemberPlace) → AreComplete structs → slice_get (members_of structs n) i ≡ Some m → slice_get (places structs n) i ≡ Some p → cells_from p.first_cell (length (layout structs m.type).cells) (layout structs (struct n)) ≡ moved p.offset (layout structs m.type).cells }
+    ensures inside { (structs : Structs) (n i : ℕ) (m : Member) (p : MemberPlace) → AreComplete structs → slice_get (members_of structs n) i ≡ Some m → slice_get (places structs n) i ≡ Some p → p.offset + (layout structs m.type).size ≤ (layout structs (struct n)).size }
+{}
+
+/// The test for the same type holds of a type and itself alone (C11 6.2.7).
+pub fn same_type_law()
+    ensures { (first second : CType) → (same_type first second ≡ true) ↔ (first ≡ second) }
 {}

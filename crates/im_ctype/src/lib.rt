@@ -1,18 +1,23 @@
-//! The types of the language, the table of its structs, and where the cells of an object lie.
+//! The types of the language, the table that holds them, and where the cells of an object lie.
 #![tactic(auto)]
 
+mod build;
 mod cell;
-mod ctype;
 mod extent;
 mod integer;
 pub mod laws;
+mod listing;
+mod member;
+mod node;
+mod nodes;
+mod size;
 mod table;
 
-pub use cell::{Cell, cells};
-pub use ctype::CType;
-pub use extent::{align_of, size_of};
-pub use integer::Integer;
-pub use table::{Extent, Member, StructTable, StructType};
-
-#[cfg(test)]
-mod tests;
+pub use cell::Cell;
+pub use extent::Extent;
+pub use integer::{Integer, bytes_of_kind};
+pub use listing::cells;
+pub use member::{Member, MemberPlace};
+pub use node::{TypeId, TypeNode};
+pub use size::{align_of, cell_count, is_complete, size_of};
+pub use table::TypeTable;

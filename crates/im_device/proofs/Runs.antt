@@ -82,13 +82,13 @@ torn_by_later On mask s c x = rw (counted_later (index_of x.mem == index_of (tor
 torn_by_later Halted mask s c x = refl
 torn_by_later (Faulted at) mask s c x = refl
 
-powered_behind : (first d : Device) (n junk mask : ℕ) → powered n junk mask (behind first d) ≡ behind first (powered n junk mask d)
+pub powered_behind : (first d : Device) (n junk mask : ℕ) → powered n junk mask (behind first d) ≡ behind first (powered n junk mask d)
 powered_behind first d n junk mask =
     let x = run n (power_up junk d) in
     ap (λ y. power_down (torn mask y)) (run_later n first.steps first.commits (power_up junk d))
     ∙ ap power_down (torn_by_later x.went mask first.steps first.commits x)
 
-repeated_behind : (first d : Device) (k : ℕ) (next : Device → Device) → ((e : Device) → next (behind first e) ≡ behind first (next e)) → repeated k next (behind first d) ≡ behind first (repeated k next d)
+pub repeated_behind : (first d : Device) (k : ℕ) (next : Device → Device) → ((e : Device) → next (behind first e) ≡ behind first (next e)) → repeated k next (behind first d) ≡ behind first (repeated k next d)
 repeated_behind first d zero next h = refl
 repeated_behind first d (suc k) next h = ap (repeated k next) (h d) ∙ repeated_behind first (next d) k next h
 

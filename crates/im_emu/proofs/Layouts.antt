@@ -11,8 +11,10 @@ use Rattle.im_num.specs.declared.values.CellValue.TheVariants.{Inside, Local}
 use Rattle.im_num.specs.Kinds.{kind_size}
 use Rattle.im_mem.specs.Memory.{Mem, is_place}
 use Rattle.im_image.specs.declared.object.CellRun.{CellRun}
-use Rattle.im_image.specs.Contents.{ObjectValue, ImageValue, IsImage, AreObjects, AreRuns, IsObject, is_run, is_object_place, run_end, statics_start}
-use Rattle.im_emu.specs.Variables.{AreLaidOut, HaveBegun, reaches, place_from, cell_of, cells_from}
+use Rattle.im_image.specs.Contents.{ObjectValue, ImageValue, IsImage, AreObjects, AreRuns, IsObject, is_run, is_object_place, run_end}
+use Rattle.im_mem.specs.Map.{statics_start}
+use Rattle.im_device.specs.Variables.{reaches, place_from, cell_of, cells_from}
+use Rattle.im_emu.specs.Layouts.{AreLaidOut, HaveBegun}
 
 -- ---- the cells of a run
 

@@ -1,99 +1,105 @@
--- Periods taken one at a time.
-use Rattle.std.proofs.Common.{◌≡◌, ◌<◌, ◌≤◌, ℕ, suc, ◌+◌, ◌^◌, List, [], ◌∷◌, ◌++◌, ◌≢◌, length, drop, get_or, refl, sym, ap, ◌∙◌, subst, add-zero, arith}
+-- Periods taken one at a time, with counts that stay at their type's end.
+use Rattle.std.proofs.Common.{◌≡◌, ◌≢◌, ◌<◌, ◌≤◌, ℕ, suc, ◌+◌, ◌^◌, List, [], ◌∷◌, length, drop, get_or, refl, sym, ap, ◌∙◌, subst, arith}
 use Rattle.std.proofs.lemmas.List.{at_drop_more, at_drop_all}
-use Rattle.im_mem.specs.Memory.{Mem}
-use Rattle.im_rv.specs.declared.step.Went.{Went}
-use Rattle.im_rv.specs.declared.step.Went.TheVariants.{On, Halted, Faulted}
+use Rattle.im_rv.specs.declared.step.Went.TheVariants.{On}
 use Rattle.im_power.specs.declared.period.Period.{Period}
-use Rattle.im_power.specs.Power.{Ended, at_rest, joined, repeated, powered, power}
-use Rattle.im_emu.specs.State.{State, counted, with_run, unless_over, after}
+use Rattle.im_device.specs.Laws.{behind}
+use Rattle.im_device.specs.Periods.{Device, fresh, powered, repeated, power}
+use Rattle.im_device.proofs.Runs.{powered_behind, powered_over, repeated_behind, repeated_over, power_behind, power_parts}
+use Rattle.im_emu.specs.State.{counted, saturated}
+use Rattle.im_emu.specs.Laws.{PeriodsLaw}
 
-counted-counted : (a b c : ℕ) → counted (counted (a + b) + c) ≡ counted (a + (b + c))
-counted-counted a b c = omega arith
+-- ---- counts
 
-with_run-joined : (s : State) (w : Went) (e : Ended) (next : Mem → Ended) → w ≡ e.went → with_run s (joined w e next) ≡ unless_over w (with_run s e) (next e.mem)
-with_run-joined s On e next h = rw (← counted-counted s.steps e.steps (next e.mem).steps, ← counted-counted s.commits e.commits (next e.mem).commits) refl
-with_run-joined s Halted e next h = refl
-with_run-joined s (Faulted at) e next h = refl
+-- what is done doesn't depend on the counts
+abbrev pub IsBlind : (Device → Device) → Type 0
+IsBlind next = (first d : Device) → next (behind first d) ≡ behind first (next d)
+
+counted_behind : (d e : Device) → counted (behind (counted d) e) ≡ counted (behind d e)
+counted_behind d e =
+    let steps : saturated (saturated d.steps + e.steps) ≡ saturated (d.steps + e.steps) = omega arith in
+    let commits : saturated (saturated d.commits + e.commits) ≡ saturated (d.commits + e.commits) = omega arith in
+    rw (steps, commits) refl
+
+-- the device with its counts at 0
+abbrev uncounted : Device → Device
+uncounted d = record { went = d.went; mem = d.mem; steps = 0; commits = 0 }
+
+recounted : (d : Device) → behind d (uncounted d) ≡ d
+recounted d =
+    let steps : d.steps + 0 ≡ d.steps = omega arith in
+    let commits : d.commits + 0 ≡ d.commits = omega arith in
+    rw (steps, commits) refl
+
+from_zero : (next : Device → Device) → IsBlind next → (d : Device) → next d ≡ behind d (next (uncounted d))
+from_zero next blind d = ap next (sym (recounted d)) ∙ blind d (uncounted d)
+
+pub counted_first : (next : Device → Device) → IsBlind next → (d : Device) → counted (next (counted d)) ≡ counted (next d)
+counted_first next blind d =
+    ap counted (from_zero next blind (counted d)) ∙ counted_behind d (next (uncounted d)) ∙ ap counted (sym (from_zero next blind d))
+
+pub counted_same : (d : Device) → d.steps < 2 ^ 64 → d.commits < 2 ^ 64 → counted d ≡ d
+counted_same d a b =
+    let steps : saturated d.steps ≡ d.steps = omega arith in
+    let commits : saturated d.commits ≡ d.commits = omega arith in
+    rw (steps, commits) refl
+
+-- ---- one period
+
+-- it is run on memory, and the counts are added
+pub added : (next : Device → Device) → IsBlind next → (d e : Device) → d.went ≡ On → e ≡ next (fresh d.mem)
+    → record { went = e.went; mem = e.mem; steps = saturated (d.steps + e.steps); commits = saturated (d.commits + e.commits) } ≡ counted (next d)
+added next blind d e on is =
+    let same : fresh d.mem ≡ uncounted d = rw on refl in
+    ap (λ x. counted (behind d x)) (is ∙ ap next same) ∙ ap counted (sym (from_zero next blind d))
+
+pub one_blind : (p : Period) → IsBlind (powered p.n p.junk p.mask)
+one_blind p first d = powered_behind first d p.n p.junk p.mask
+
+-- ---- its repeats
 
 -- one of the repeats that are left
-pub repeat_first : (k : ℕ) (f : Mem → Ended) (s t : State) → s.went ≡ On → t ≡ with_run s (f s.mem) → unless_over t.went t (repeated k f t.mem) ≡ unless_over s.went s (repeated (suc k) f s.mem)
-repeat_first k f s t on e = rw (e, on) (sym (with_run-joined s (f s.mem).went (f s.mem) (repeated k f) refl))
+pub repeat_first : (k : ℕ) (p : Period) (now later : Device) → later ≡ counted (powered p.n p.junk p.mask now)
+    → counted (repeated k (powered p.n p.junk p.mask) later) ≡ counted (repeated (suc k) (powered p.n p.junk p.mask) now)
+repeat_first k p now later e =
+    let next = powered p.n p.junk p.mask in
+    ap (λ d. counted (repeated k next d)) e ∙ counted_first (repeated k next) (λ first d. repeated_behind first d k next (one_blind p first)) (next now)
 
-pub with_rest : (s : State) (w : Went) → s.went ≡ w → s.steps < 2 ^ 64 → s.commits < 2 ^ 64 → unless_over w s (at_rest s.mem) ≡ s
-with_rest s On h a b =
-    let steps : counted (s.steps + 0) ≡ s.steps = omega arith in
-    let commits : counted (s.commits + 0) ≡ s.commits = omega arith in
-    rw (steps, commits, ← h) refl
-with_rest s Halted h a b = refl
-with_rest s (Faulted at) h a b = refl
+-- none of the repeats does anything, as the run is over
+pub repeat_over : (k : ℕ) (p : Period) (now : Device) → now.went ≢ On → now.steps < 2 ^ 64 → now.commits < 2 ^ 64 → now ≡ counted (repeated k (powered p.n p.junk p.mask) now)
+repeat_over k p now over a b =
+    let next = powered p.n p.junk p.mask in
+    sym (ap counted (repeated_over k next now (powered_over p.n p.junk p.mask now over)) ∙ counted_same now a b)
 
-and_then-rest : (w : Went) (e : Ended) → w ≡ e.went → joined w e at_rest ≡ e
-and_then-rest On e h = rw (add-zero, add-zero, h) refl
-and_then-rest Halted e h = refl
-and_then-rest (Faulted at) e h = refl
+-- none of the repeats is left
+pub repeat_none : (k : ℕ) (p : Period) (now : Device) → k ≡ 0 → now.steps < 2 ^ 64 → now.commits < 2 ^ 64 → now ≡ counted (repeated k (powered p.n p.junk p.mask) now)
+repeat_none k p now none a b = rw none (sym (counted_same now a b))
 
--- one period of a list, repeated
-pub one_period : (p : Period) (m : Mem) → power (p ∷ []) m ≡ repeated p.count (powered p.n p.junk) m
-one_period p m = and_then-rest _ (repeated p.count (powered p.n p.junk) m) refl
+-- ---- a list of periods
 
-pub repeated-once : (next : Mem → Ended) (m : Mem) → repeated 1 next m ≡ next m
-repeated-once next m = and_then-rest _ (next m) refl
+periods_blind : (periods : List Period) → IsBlind (power periods)
+periods_blind periods first d = power_behind first periods d
 
--- no period
-pub after-none : (s : State) → s.steps < 2 ^ 64 → s.commits < 2 ^ 64 → after [] s ≡ s
-after-none s steps commits = with_rest s s.went refl steps commits
-
-first_period : (p : Period) (ps : List Period) (s : State) (w : Went) → s.went ≡ w → after (p ∷ ps) s ≡ after ps (after (p ∷ []) s)
-first_period p ps s On h =
-    let e = repeated p.count (powered p.n p.junk) s.mem in
-    let one : after (p ∷ []) s ≡ with_run s e = rw (h, one_period p s.mem) refl in
-    rw (one, h) (with_run-joined s e.went e (power ps) refl)
-first_period p ps s Halted h = let one : after (p ∷ []) s ≡ s = rw h refl in rw (one, h) refl
-first_period p ps s (Faulted at) h = let one : after (p ∷ []) s ≡ s = rw h refl in rw (one, h) refl
-
--- the first period of a list, and then the others
-pub after-first : (p : Period) (ps : List Period) (s : State) → after (p ∷ ps) s ≡ after ps (after (p ∷ []) s)
-after-first p ps s = first_period p ps s s.went refl
+pub period_first : (p : Period) (ps : List Period) (now later : Device) → later ≡ counted (power (p ∷ []) now) → counted (power ps later) ≡ counted (power (p ∷ ps) now)
+period_first p ps now later e = ap (λ d. counted (power ps d)) e ∙ counted_first (power ps) (periods_blind ps) (power (p ∷ []) now)
 
 -- one of the periods that are left
-pub next_period : (d : Period) (i : ℕ) (ps qs : List Period) (s t first : State) → qs ≡ ps → i < length qs → after (drop i ps) s ≡ after ps first → t ≡ after (get_or qs i d ∷ []) s → after (drop (i + 1) ps) t ≡ after ps first
+pub next_period : (d : Period) (i : ℕ) (ps qs : List Period) (s t first : Device) → qs ≡ ps → i < length qs → counted (power (drop i ps) s) ≡ counted (power ps first) → t ≡ counted (power (get_or qs i d ∷ []) s)
+    → counted (power (drop (i + 1) ps) t) ≡ counted (power ps first)
 next_period d i ps qs s t first e below rest one =
     let there : i < length ps = subst (λ xs. i < length xs) e below in
-    let at : t ≡ after (get_or ps i d ∷ []) s = one ∙ ap (λ xs. after (get_or xs i d ∷ []) s) e in
-    ap (after (drop (i + 1) ps)) at
-    ∙ sym (after-first (get_or ps i d) (drop (i + 1) ps) s)
-    ∙ sym (at_drop_more (λ xs. after xs s) ps i d there)
+    let at : t ≡ counted (power (get_or ps i d ∷ []) s) = one ∙ ap (λ xs. counted (power (get_or xs i d ∷ []) s)) e in
+    period_first (get_or ps i d) (drop (i + 1) ps) s t at
+    ∙ sym (at_drop_more (λ xs. counted (power xs s)) ps i d there)
     ∙ rest
 
 -- none of the periods is left
-pub all_periods : (i : ℕ) (ps qs : List Period) (s first : State) → qs ≡ ps → length qs ≤ i → s.steps < 2 ^ 64 → s.commits < 2 ^ 64 → after (drop i ps) s ≡ after ps first → s ≡ after ps first
+pub all_periods : (i : ℕ) (ps qs : List Period) (s first : Device) → qs ≡ ps → length qs ≤ i → s.steps < 2 ^ 64 → s.commits < 2 ^ 64 → counted (power (drop i ps) s) ≡ counted (power ps first) → s ≡ counted (power ps first)
 all_periods i ps qs s first e ends steps commits rest =
     let none : length ps ≤ i = subst (λ xs. length xs ≤ i) e ends in
-    sym (after-none s steps commits)
-    ∙ sym (at_drop_all (λ xs. after xs s) ps i none)
+    sym (counted_same s steps commits)
+    ∙ sym (at_drop_all (λ xs. counted (power xs s)) ps i none)
     ∙ rest
 
--- ---- a list of periods in two parts
-
-bounded_at : (p : Period) (s : State) (w : Went) → s.went ≡ w → s.steps < 2 ^ 64 → s.commits < 2 ^ 64 → ((after (p ∷ []) s).steps < 2 ^ 64) × ((after (p ∷ []) s).commits < 2 ^ 64)
-bounded_at p s On h a b = rw h (omega arith, omega arith)
-bounded_at p s Halted h a b = rw h (a, b)
-bounded_at p s (Faulted at) h a b = rw h (a, b)
-
-pub two_parts : (ps qs : List Period) (s : State) → s.steps < 2 ^ 64 → s.commits < 2 ^ 64 → after (ps ++ qs) s ≡ after qs (after ps s)
-two_parts [] qs s a b = ap (after qs) (sym (after-none s a b))
-two_parts (p ∷ ps) qs s a b =
-    let one = after (p ∷ []) s in
-    let counts = bounded_at p s s.went refl a b in
-    after-first p (ps ++ qs) s
-    ∙ two_parts ps qs one counts.0 counts.1
-    ∙ ap (after qs) (sym (after-first p ps s))
-
-stays_at : (ps : List Period) (s : State) (w : Went) → s.went ≡ w → s.went ≢ On → after ps s ≡ s
-stays_at ps s On h not = absurd (not h)
-stays_at ps s Halted h not = rw h refl
-stays_at ps s (Faulted at) h not = rw h refl
-
-pub stays : (ps : List Period) (s : State) → s.went ≢ On → after ps s ≡ s
-stays ps s not = stays_at ps s s.went refl not
+pub two_parts : PeriodsLaw
+two_parts first second d = ap counted (power_parts first second d) ∙ sym (counted_first (power second) (periods_blind second) (power first d))

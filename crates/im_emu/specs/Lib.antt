@@ -1,5 +1,4 @@
-pub mod Load
-pub mod Shows
 pub mod State
 pub mod Stretch
-pub mod Variables
+pub mod Layouts
+pub mod Laws

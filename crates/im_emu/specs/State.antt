@@ -1,47 +1,42 @@
--- What a machine has: its memory, how its run has gone, and two counts, which stay at their type's end.
-use Rattle.std.specs.Prelude.{ℕ, ◌+◌, ◌-◌, ◌^◌, min, List}
-use Rattle.im_image.specs.Contents.{ObjectValue}
+-- A machine as a device: what it holds, and its two counts, which stay at their type's end.
+use Rattle.std.specs.Prelude.{◌≡◌, ℕ, ◌-◌, ◌^◌, min, List}
 use Rattle.im_mem.specs.Memory.{Mem}
 use Rattle.im_rv.specs.declared.step.Went.{Went}
-use Rattle.im_rv.specs.declared.step.Went.TheVariants.{On, Halted, Faulted}
-use Rattle.im_power.specs.Power.{Ended, power}
-use Rattle.im_power.specs.declared.period.Period.{Period}
+use Rattle.im_image.specs.declared.version.Version.{Version}
+use Rattle.im_image.specs.declared.form.Form.{Form}
+use Rattle.im_image.specs.Contents.{ImageValue, ObjectValue}
+use Rattle.im_device.specs.Periods.{Device}
 
--- a machine over a memory of type M
+-- a machine over a memory of type M, with its image's version, form and objects
 pub record Held (M : Type 0) : Type 0 where
   pub memory : M
   pub went : Went
   pub steps : ℕ
   pub commits : ℕ
+  pub version : Version
+  pub form : Form
   pub objects : List ObjectValue
 
-pub record State : Type 0 where
-  pub mem : Mem
-  pub went : Went
-  pub steps : ℕ
-  pub commits : ℕ
-
--- a machine, its memory seen as bytes
-abbrev pub state_of : {M : Type 0} → (M → Mem) → Held M → State
-state_of bytes h = record { mem = bytes h.memory; went = h.went; steps = h.steps; commits = h.commits }
-
--- a machine that nothing has been run on
-abbrev pub fresh : Mem → State
-fresh m = record { mem = m; went = On; steps = 0; commits = 0 }
+-- its memory seen as bytes
+abbrev pub device_of : {M : Type 0} → (M → Mem) → Held M → Device
+device_of bytes h = record { went = h.went; mem = bytes h.memory; steps = h.steps; commits = h.commits }
 
 -- a count of 64 bits
-abbrev pub counted : ℕ → ℕ
-counted n = min n (2 ^ 64 - 1)
+abbrev pub saturated : ℕ → ℕ
+saturated n = min n (2 ^ 64 - 1)
 
--- the machine as a run from its memory leaves it
-abbrev pub with_run : State → Ended → State
-with_run s e = record { mem = e.mem; went = e.went; steps = counted (s.steps + e.steps); commits = counted (s.commits + e.commits) }
+-- a device whose counts are of 64 bits
+abbrev pub counted : Device → Device
+counted d = record { went = d.went; mem = d.mem; steps = saturated d.steps; commits = saturated d.commits }
 
--- periods change a machine that has neither halted nor faulted, and no other
-abbrev pub unless_over : Went → State → Ended → State
-unless_over On s e = with_run s e
-unless_over Halted s e = s
-unless_over (Faulted at) s e = s
+-- what a run doesn't change
+pub record SameImage {M : Type 0} (old new : Held M) : Type 0 where
+  pub version : new.version ≡ old.version
+  pub form : new.form ≡ old.form
+  pub objects : new.objects ≡ old.objects
 
-abbrev pub after : List Period → State → State
-after periods s = unless_over s.went s (power periods s.mem)
+-- what a machine has of its image beside the memory
+pub record IsImageOf {M : Type 0} (image : ImageValue) (h : Held M) : Type 0 where
+  pub version : h.version ≡ image.version
+  pub form : h.form ≡ image.form
+  pub objects : h.objects ≡ image.objects

@@ -1,4 +1,4 @@
-// The machine: five MiB of nonvolatile memory, and registers that each loss of power clears.
+//! The machine: five MiB of nonvolatile memory, and registers that each loss of power clears.
 #![tactic(auto)]
 
 mod fault;
@@ -11,7 +11,7 @@ mod stretch;
 mod vars;
 
 pub use fault::LoadFault;
-pub use laws::{periods_law, place_law};
+pub use laws::periods_law;
 pub use machine::Machine;
 
 #[cfg(test)]

@@ -2,15 +2,15 @@ ghost use Rattle.std.specs.Prelude.{◌≡◌, ◌≤◌, ◌<◌, ◌+◌, ◌*
 ghost use Rattle.std.specs.List.{flat_map};
 ghost use Rattle.im_num.specs.Bytes.{word_bytes};
 ghost use Rattle.im_mem.specs.Memory.{view, written};
-ghost use Rattle.im_emu.specs.Load.{memory_of};
+ghost use Rattle.im_device.specs.Load.{memory_of};
 
 use im_image::Image;
-use im_mem::{FlatMem, Memory};
+use im_mem::{
+    BUFFER0_START, CODE_START, FlatMem, IN_LEN, INPUT_START, Memory, OUT_CAP, STACK_END, STACK_LIM,
+    STATICS_START,
+};
 use im_num::NoMemory;
 use std::alloc::Global;
-
-/// Bytes of input that a machine takes.
-pub const INPUT_CAPACITY: usize = 1024 * 1024;
 
 fn put_word(memory: &mut FlatMem, at: u32, word: u32)
     requires aligned { at % 4 ≡ 0 }
@@ -37,13 +37,13 @@ pub fn first_memory(alloc: Global, image: &Image, input: &[u8]) -> Result<FlatMe
     ensures { IfOk result (λ memory. view memory ≡ memory_of image.now input.now) }
 {
     let mut memory = FlatMem::new(alloc)?;
-    put_word(&mut memory, 0x10, image.out_cap);
-    put_word(&mut memory, 0x14, input.len() as u32);
-    put_word(&mut memory, 0x1c, 0x30_0000 - image.stack);
-    put_word(&mut memory, 0x80, image.entry);
-    put_word(&mut memory, 0x88, 0x30_0000);
-    put_words(&mut memory, 0x1000, &image.words);
-    memory.fill(0x10_0000, &image.statics);
-    memory.fill(0x30_0000, input);
+    put_word(&mut memory, OUT_CAP, image.out_cap);
+    put_word(&mut memory, IN_LEN, input.len() as u32);
+    put_word(&mut memory, STACK_LIM, STACK_END - image.stack);
+    put_word(&mut memory, BUFFER0_START, image.entry);
+    put_word(&mut memory, BUFFER0_START + 8, STACK_END);
+    put_words(&mut memory, CODE_START, &image.words);
+    memory.fill(STATICS_START, &image.statics);
+    memory.fill(INPUT_START, input);
     Ok(memory)
 }

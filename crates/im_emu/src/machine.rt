@@ -1,18 +1,16 @@
 ghost use Rattle.std.specs.Prelude.{◌≡◌};
-ghost use Rattle.im_rv.specs.Steps.{cpu_of};
-ghost use Rattle.im_rv.specs.PowerUp.{boot};
 
 use crate::fault::LoadFault;
-use crate::load::{INPUT_CAPACITY, first_memory};
+use crate::load::first_memory;
 use crate::objects::copy_objects;
-use crate::shows::{REASON, STATUS, output, word_at};
-use crate::stretch::run_steps;
+use crate::shows::{output, word_at};
+use crate::stretch::run_period;
 use crate::vars::variables;
-use im_image::{Image, Object};
-use im_mem::{FlatMem, Memory};
+use im_image::{Form, Image, Object, Version};
+use im_mem::{FlatMem, INPUT_CAPACITY, Memory, REASON, STATUS};
 use im_num::{NoMemory, Var};
 use im_power::{Period, Trace};
-use im_rv::step::{Regs, Went};
+use im_rv::Went;
 use std::alloc::Global;
 use std::marker::Model;
 
@@ -23,8 +21,11 @@ pub struct Machine<M: Memory> {
     went: Went,
     /// Instructions executed; 2^64-1 once that is reached.
     instructions: u64,
-    /// Steps that changed INDEX; 2^64-1 once that is reached.
+    /// Steps and torn stores that changed INDEX; 2^64-1 once that is reached.
     commits: u64,
+    /// The image's.
+    version: Version,
+    form: Form,
     /// The image's, by address.
     objects: Vec<Object>,
 }
@@ -32,44 +33,47 @@ pub struct Machine<M: Memory> {
 impl<M: Memory> Model for Machine<M> {
     ghost use Rattle.std.specs.Prelude.{◌<◌, ◌^◌};
     ghost use Rattle.im_emu.specs.State.{Held};
-    ghost use Rattle.im_emu.specs.Variables.{AreLaidOut};
+    ghost use Rattle.im_emu.specs.Layouts.{AreLaidOut};
 
     ghost Value = { Held M };
 
-    ghost view = { λ s. record { memory = s.memory; went = s.went; steps = s.instructions; commits = s.commits; objects = s.objects.items } };
+    ghost view = { λ s. record {
+      memory = s.memory;
+      went = s.went;
+      steps = s.instructions;
+      commits = s.commits;
+      version = s.version;
+      form = s.form;
+      objects = s.objects.items;
+    } };
 
-    ghost invariant = { λ s. record { steps : s.instructions < 2 ^ 64; commits : s.commits < 2 ^ 64; objects : AreLaidOut s.objects.items } };
-}
-
-// The registers as power comes.
-fn power_up(junk: u32) -> Regs
-    ensures { cpu_of result ≡ boot junk }
-{
-    Regs {
-        pc: 0x1000,
-        x: [junk; 32],
-    }
+    ghost invariant = { λ s. record {
+      steps : s.instructions < 2 ^ 64;
+      commits : s.commits < 2 ^ 64;
+      objects : AreLaidOut s.objects.items;
+    } };
 }
 
 impl<M: Memory> Machine<M> {
     ghost use Rattle.std.specs.Prelude.{◌≡◌, ◌<◌, ◌^◌, [], ◌∷◌, map, IfOk};
-    ghost use Rattle.im_power.specs.Power.{powered};
-    ghost use Rattle.im_emu.specs.State.{after, state_of, with_run};
-    ghost use Rattle.im_emu.specs.Shows.{status_of, reason_of};
+    ghost use Rattle.im_rv.specs.declared.step.Went.TheVariants.{On};
+    ghost use Rattle.im_device.specs.Periods.{power, powered};
+    ghost use Rattle.im_device.specs.Shows.{status_of, reason_of};
+    ghost use Rattle.im_device.specs.Variables.{vars_of};
+    ghost use Rattle.im_emu.specs.State.{counted, device_of, SameImage};
     ghost use Rattle.im_num.specs.Variables.{variable_of};
-    ghost use Rattle.im_emu.specs.Variables.{vars_of};
 
     /// Runs one period of power as often as it says, or until the machine halts or faults. One
     /// that has halted or faulted stays as it is.
     pub fn power(&mut self, period: Period) -> Went
-        ensures machine { state_of M.bytes self.new ≡ after (period ∷ []) (state_of M.bytes self.old) }
+        ensures device { device_of M.bytes self.new ≡ counted (power (period ∷ []) (device_of M.bytes self.old)) }
         ensures went { result ≡ self.new.went }
-        ensures objects { self.new.objects ≡ self.old.objects }
+        ensures image { SameImage self.old self.new }
     {
         let mut went = self.went;
         'repeats: for _ in 0..period.count {
             match went {
-                Went::On => went = self.run_period(period.n, period.junk),
+                Went::On => went = self.run_once(&period),
                 Went::Halted | Went::Faulted(_) => return went,
             }
         }
@@ -79,9 +83,9 @@ impl<M: Memory> Machine<M> {
     /// Runs all periods of the trace in order, or until the machine halts or faults. One that has
     /// halted or faulted stays as it is.
     pub fn run(&mut self, trace: &Trace) -> Went
-        ensures machine { state_of M.bytes self.new ≡ after trace.now (state_of M.bytes self.old) }
+        ensures device { device_of M.bytes self.new ≡ counted (power trace.now (device_of M.bytes self.old)) }
         ensures went { result ≡ self.new.went }
-        ensures objects { self.new.objects ≡ self.old.objects }
+        ensures image { SameImage self.old self.new }
     {
         for period in trace.as_slice() {
             self.power(*period);
@@ -89,18 +93,19 @@ impl<M: Memory> Machine<M> {
         self.went
     }
 
-    fn run_period(&mut self, n: u32, junk: u32) -> Went
+    fn run_once(&mut self, period: &Period) -> Went
+        requires { self.old.went ≡ On }
         ensures went { result ≡ self.new.went }
         ensures steps { self.new.steps < 2 ^ 64 }
         ensures commits { self.new.commits < 2 ^ 64 }
-        ensures machine { state_of M.bytes self.new ≡ with_run (state_of M.bytes self.old) (powered n junk (M.bytes self.old.memory)) }
-        ensures objects { self.new.objects ≡ self.old.objects }
+        ensures device { device_of M.bytes self.new ≡
+            counted (powered period.now.n period.now.junk period.now.mask (device_of M.bytes self.old)) }
+        ensures image { SameImage self.old self.new }
     {
-        let mut regs = power_up(junk);
-        let stretch = run_steps(&mut regs, &mut self.memory, n);
+        let stretch = run_period(&mut self.memory, period);
         self.went = stretch.went;
         self.instructions = self.instructions.saturating_add(u64::from(stretch.steps));
-        self.commits = self.commits.saturating_add(u64::from(stretch.commits));
+        self.commits = self.commits.saturating_add(stretch.commits);
         stretch.went
     }
 
@@ -112,8 +117,8 @@ impl<M: Memory> Machine<M> {
         self.instructions
     }
 
-    /// Steps so far that changed INDEX, the word that says which register buffer is live; 2^64-1
-    /// once that is reached.
+    /// Steps and torn stores so far that changed INDEX, the word that says which register buffer is
+    /// live; 2^64-1 once that is reached.
     pub fn commits(&self) -> u64
         ensures { result ≡ self.now.commits }
     {
@@ -125,6 +130,20 @@ impl<M: Memory> Machine<M> {
         ensures { result ≡ self.now.went }
     {
         self.went
+    }
+
+    /// The version of the image's text.
+    pub fn version(&self) -> Version
+        ensures { result ≡ self.now.version }
+    {
+        self.version
+    }
+
+    /// How memory tells the length of the output: the image's form.
+    pub fn form(&self) -> Form
+        ensures { result ≡ self.now.form }
+    {
+        self.form
     }
 
     /// The word STATUS, read as a signed number.
@@ -152,34 +171,39 @@ impl<M: Memory> Machine<M> {
 impl Machine<FlatMem> {
     ghost use Rattle.std.specs.Prelude.{◌≡◌, ◌≤◌, ◌<◌, length, IfOk, IsOkUnless, Err};
     ghost use Rattle.im_mem.specs.Memory.{view};
-    ghost use Rattle.im_emu.specs.Load.{memory_of};
-    ghost use Rattle.im_emu.specs.Shows.{output_of};
-    ghost use Rattle.im_emu.specs.State.{state_of, fresh};
+    ghost use Rattle.im_mem.specs.Map.{input_capacity};
+    ghost use Rattle.im_device.specs.Periods.{fresh};
+    ghost use Rattle.im_device.specs.Load.{memory_of};
+    ghost use Rattle.im_device.specs.Shows.{output_of};
+    ghost use Rattle.im_emu.specs.State.{device_of, IsImageOf};
 
     /// A machine with an image and an input, before power comes. An input of more than 1048576
     /// bytes is refused, and then no machine is made.
     pub fn load(alloc: Global, image: &Image, input: &[u8]) -> Result<Machine<FlatMem>, LoadFault>
-        ensures made { IfOk result (λ machine. state_of view machine ≡ fresh (memory_of image.now input.now)) }
-        ensures objects { IfOk result (λ machine. machine.objects ≡ image.now.objects) }
-        ensures too_long { 1048576 < length input.now → result ≡ Err (LoadFault.InputTooLong (length input.now) 1048576) }
-        ensures fits { length input.now ≤ 1048576 → IsOkUnless result LoadFault.OutOfMemory }
+        ensures made { IfOk result (λ machine. device_of view machine ≡ fresh (memory_of image.now input.now)) }
+        ensures image { IfOk result (λ machine. IsImageOf image.now machine) }
+        ensures too_long { input_capacity < length input.now →
+            result ≡ Err (LoadFault.InputTooLong (length input.now) input_capacity) }
+        ensures fits { length input.now ≤ input_capacity → IsOkUnless result LoadFault.OutOfMemory }
     {
-        if input.len() > INPUT_CAPACITY {
-            return Err(LoadFault::InputTooLong(input.len() as u64, INPUT_CAPACITY as u64));
+        if input.len() > INPUT_CAPACITY as usize {
+            return Err(LoadFault::InputTooLong(input.len() as u64, u64::from(INPUT_CAPACITY)));
         }
         Ok(Machine {
             memory: first_memory(alloc, image, input)?,
             went: Went::On,
             instructions: 0,
             commits: 0,
+            version: image.version,
+            form: image.form,
             objects: copy_objects(alloc, &image.objects)?,
         })
     }
 
-    /// The output so far: as many bytes of the output area as OUT_LEN says, and at most 1048576.
+    /// The output so far, as long as memory says by the image's form, and at most 1048576 bytes.
     pub fn output(&self) -> &[u8]
-        ensures { result.now ≡ output_of (view self.now.memory) }
+        ensures { result.now ≡ output_of self.now.form (view self.now.memory) }
     {
-        output(&self.memory)
+        output(&self.memory, self.form)
     }
 }

@@ -1,18 +1,9 @@
 ghost use Rattle.std.specs.Prelude.{◌≡◌, true};
 ghost use Rattle.im_mem.specs.Memory.{little, view, is_place};
-ghost use Rattle.im_emu.specs.Shows.{output_of};
+ghost use Rattle.im_device.specs.Shows.{output_length as output_length_of, output_of};
 
-use im_mem::{FlatMem, Memory};
-
-/// The addresses of the words that a run leaves for its observer.
-pub const STATUS: u32 = 0x04;
-
-pub const REASON: u32 = 0x08;
-
-pub const OUT_LEN: u32 = 0x0c;
-
-// Bytes of the output area.
-const OUTPUT_CAPACITY: u32 = 1024 * 1024;
+use im_image::Form;
+use im_mem::{FlatMem, Memory, OUT_LEN0, OUT_LEN1, OUT_SEL, OUTPUT_CAPACITY, OUTPUT_START};
 
 /// The word at an address of the runtime's.
 pub fn word_at<M: Memory>(memory: &M, at: u32) -> u32
@@ -25,9 +16,39 @@ pub fn word_at<M: Memory>(memory: &M, at: u32) -> u32
     }
 }
 
-/// The output that a memory shows.
-pub fn output(memory: &FlatMem) -> &[u8]
-    ensures { result.now ≡ output_of (view memory.now) }
+// The byte at an address of the runtime's.
+fn byte_at<M: Memory>(memory: &M, at: u32) -> u32
+    requires { is_place at 1 ≡ true }
+    ensures { result ≡ M.bytes memory.now at }
 {
-    memory.bytes_at(0x40_0000, word_at(memory, OUT_LEN).min(OUTPUT_CAPACITY))
+    match memory.load(at, 1) {
+        Some(byte) => byte,
+        None => unreachable!(),
+    }
+}
+
+// The output's length in bytes, as memory names it.
+fn output_length<M: Memory>(memory: &M, form: Form) -> u32
+    ensures { result ≡ output_length_of form (M.bytes memory.now) }
+{
+    match form {
+        Form::OneLength => word_at(memory, OUT_LEN0),
+        Form::TwoLengths => {
+            if byte_at(memory, OUT_SEL) == 0 {
+                word_at(memory, OUT_LEN0)
+            } else {
+                word_at(memory, OUT_LEN1)
+            }
+        }
+    }
+}
+
+/// The output that a memory shows under a form.
+pub fn output(memory: &FlatMem, form: Form) -> &[u8]
+    ensures { result.now ≡ output_of form (view memory.now) }
+{
+    memory.bytes_at(
+        OUTPUT_START,
+        output_length(memory, form).min(OUTPUT_CAPACITY),
+    )
 }

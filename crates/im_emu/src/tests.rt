@@ -1,8 +1,8 @@
 use crate::{LoadFault, Machine};
-use im_image::read_image;
+use im_image::{Version, read_image};
 use im_num::CellValue;
 use im_power::{Period, read_trace};
-use im_rv::step::Went;
+use im_rv::Went;
 use std::alloc::Global;
 use std::test::Fail;
 
@@ -34,7 +34,12 @@ fn periods_run_until_the_machine_stops(rt: HostRuntime) -> Result<(), Fail> {
         (&THREE_WORDS, 3, 2, Went::On, 2, 6),
     ];
     for (text, n, count, went, commits, instructions) in rows {
-        let period = Period { n, junk: 0, count };
+        let period = Period {
+            n,
+            junk: 0,
+            count,
+            mask: 0,
+        };
         let image = read_image(alloc, text).ok().ok_or("an image")?;
         let mut machine = Machine::load(alloc, &image, &[]).ok().ok_or("a machine")?;
         assert!(rt; machine.power(period) == went, "at {instructions}");
@@ -105,6 +110,79 @@ fn a_trace_runs_to_its_end_or_a_stop(rt: HostRuntime) -> Result<(), Fail> {
 fn put_words(text: &mut Vec<u8>, words: &[u32]) -> Result<(), Fail> {
     for word in words {
         text.extend_from_slice(&word.to_le_bytes())?;
+    }
+    Ok(())
+}
+
+/// The text of an image of version 2 with this form word and these code words.
+fn image_of(alloc: Global, form: u32, words: &[u32]) -> Result<Vec<u8>, Fail> {
+    let mut text = Vec::new(alloc);
+    let count = u32::try_from(words.len()).ok().ok_or("few words")?;
+    put_words(
+        &mut text,
+        &[0x5652_4d49, 2, count, 0, 256, 1024, 0x1000, 0, form],
+    )?;
+    put_words(&mut text, words)?;
+    Ok(text)
+}
+
+#[test]
+fn a_torn_store_writes_the_bytes_of_its_mask(rt: HostRuntime) -> Result<(), Fail> {
+    let alloc = rt.alloc();
+    // addi x5,x0,-1; sw x5,4(x0); ebreak
+    let status = [0xfff0_0293, 0x0050_2223, 0x0010_0073];
+    // lw x4,0(x0); xori x4,x4,1; sw x4,0(x0)
+    let flip = [0x0000_2203, 0x0012_4213, 0x0040_2023];
+    // Code, a trace, and then how it went, instructions, commits, status.
+    let rows: [(&[u32], &[u8], Went, u64, u64, i32); 8] = [
+        (&status, b"1 0 1 5", Went::On, 1, 0, 16_711_935),
+        (&status, b"1 0 1 15", Went::On, 1, 0, -1),
+        (&status, b"0 0 1 15", Went::On, 0, 0, 0),
+        (&status, b"2 0 1 15", Went::On, 2, 0, -1),
+        (&status, b"3 0 1 15\n1 0 1 5", Went::Halted, 3, 0, -1),
+        (&flip, b"2 0 1 1", Went::On, 2, 1, 0),
+        (&flip, b"2 0 1 14", Went::On, 2, 0, 0),
+        (&flip, b"2 0 3 15", Went::On, 6, 3, 0),
+    ];
+    for (words, lines, went, instructions, commits, status) in rows {
+        let text = image_of(alloc, 1, words)?;
+        let image = read_image(alloc, &text).ok().ok_or("an image")?;
+        let trace = read_trace(alloc, lines).ok().ok_or("a trace")?;
+        let mut machine = Machine::load(alloc, &image, &[]).ok().ok_or("a machine")?;
+        assert!(rt; machine.run(&trace) == went, "at {instructions}");
+        assert_eq!(rt; machine.instructions(), instructions);
+        assert_eq!(rt; machine.commits(), commits);
+        assert_eq!(rt; machine.status(), status);
+    }
+    Ok(())
+}
+
+#[test]
+fn output_is_as_long_as_the_form_says(rt: HostRuntime) -> Result<(), Fail> {
+    let alloc = rt.alloc();
+    // addi x5,x0,1; sw x5,12(x0); addi x6,x0,3; sw x6,32(x0); then sb x5,36(x0) or sb x5,37(x0)
+    let lengths = [0x0010_0293, 0x0050_2623, 0x0030_0313, 0x0260_2023];
+    // The last store, the form, the output's length.
+    for (last, form, length) in [
+        (0x0250_0223, 0, 1),
+        (0x0250_0223, 1, 3),
+        (0x0250_02a3, 0, 1),
+        (0x0250_02a3, 1, 1),
+    ] {
+        let mut words = Vec::from_slice(alloc, &lengths)?;
+        words.push(last)?;
+        let text = image_of(alloc, form, &words)?;
+        let image = read_image(alloc, &text).ok().ok_or("an image")?;
+        let mut machine = Machine::load(alloc, &image, &[]).ok().ok_or("a machine")?;
+        machine.power(Period {
+            n: 5,
+            junk: 9,
+            count: 1,
+            mask: 0,
+        });
+        assert_eq!(rt; machine.output().len(), length);
+        assert_eq!(rt; machine.form().number(), form);
+        assert!(rt; machine.version() == Version::Two);
     }
     Ok(())
 }

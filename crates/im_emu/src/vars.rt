@@ -5,7 +5,8 @@ ghost use Rattle.im_num.specs.Kinds.{kind_size};
 ghost use Rattle.im_mem.specs.Memory.{little, is_place};
 ghost use Rattle.im_image.specs.Contents.{run_end, AreRuns};
 ghost use Rattle.im_num.specs.Variables.{variable_of};
-ghost use Rattle.im_emu.specs.Variables.{AreLaidOut, HaveBegun, reaches, place_from, pointer_of, cell_of, run_cells, vars_of};
+ghost use Rattle.im_device.specs.Variables.{reaches, place_from, pointer_of, cell_of, run_cells, vars_of};
+ghost use Rattle.im_emu.specs.Layouts.{AreLaidOut, HaveBegun};
 
 use im_image::{CellRun, Object};
 use im_mem::Memory;

@@ -9,7 +9,12 @@ use Rattle.im_rv.specs.declared.instr.Op.{Op}
 use Rattle.im_rv.specs.declared.instr.Op.TheVariants.{Lui, Auipc, Jal, Jalr, Beq, Bne, Blt, Bge, Bltu, Bgeu, Lb, Lh, Lw, Lbu, Lhu, Sb, Sh, Sw, Addi, Slti, Sltiu, Xori, Ori, Andi, Slli, Srli, Srai, Add, Sub, Sll, Slt, Sltu, Xor, Srl, Sra, Or, And, Mul, Mulh, Mulhsu, Mulhu, Div, Divu, Rem, Remu, Fence, Ebreak}
 use Rattle.im_rv.specs.Formats.{format_of}
 use Rattle.im_rv.specs.Decode.{Line, decode}
+use Rattle.im_mem.specs.Map.{code_start}
+use Rattle.im_image.specs.declared.version.Version.{Version}
+use Rattle.im_image.specs.declared.version.Version.TheVariants.{One, Two}
+use Rattle.im_image.specs.declared.form.Form.{Form}
 use Rattle.im_image.specs.Contents.{ImageValue, ObjectValue}
+use Rattle.im_image.specs.Text.{version_number, form_number}
 use Rattle.im_lines.specs.Numerals.{hex_word}
 
 -- the operation's name in the manual's assembly text
@@ -100,12 +105,21 @@ object_line object = codes "var " ++ object.name ++ codes " " ++ hex_word object
 
 abbrev pub header_lines : ImageValue → List ℕ
 header_lines image =
-    codes "version 1\ncode " ++ decimal (length image.words)
+    codes "version " ++ decimal (version_number image.version)
+    ++ codes "\ncode " ++ decimal (length image.words)
     ++ codes "\nstatics " ++ decimal (length image.statics)
     ++ codes "\nstack " ++ decimal image.stack
     ++ codes "\nout-cap " ++ decimal image.out_cap
     ++ codes "\nentry " ++ hex_word image.entry ++ codes "\n"
 
--- the header, the objects, and the code
+-- the form, which version 1 doesn't have
+abbrev pub form_line : Version → Form → List ℕ
+form_line One form = []
+form_line Two form = codes "form " ++ decimal (form_number form) ++ codes "\n"
+
+-- the header and the form, the objects, and the code
 abbrev pub dump_lines : ImageValue → List ℕ
-dump_lines image = header_lines image ++ flat_map object_line image.objects ++ word_lines 0x1000 image.words
+dump_lines image =
+    (header_lines image ++ form_line image.version image.form)
+    ++ flat_map object_line image.objects
+    ++ word_lines code_start image.words

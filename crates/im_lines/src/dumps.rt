@@ -1,29 +1,30 @@
 ghost use Rattle.std.specs.Prelude.{◌≤◌, ◌++◌, codes, decimal, length};
 ghost use Rattle.std.specs.List.{flat_map};
 ghost use Rattle.im_io.specs.Whole.{Sends};
+ghost use Rattle.im_mem.specs.Map.{code_start};
 ghost use Rattle.im_rv.specs.Decode.{decode as decoded_word};
 ghost use Rattle.im_lines.specs.Numerals.{hex_word};
-ghost use Rattle.im_lines.specs.Dumps.{dump_lines, header_lines, instruction_text, object_line, word_line, word_lines};
+ghost use Rattle.im_lines.specs.Dumps.{dump_lines, form_line, header_lines, instruction_text, object_line, word_line, word_lines};
 
 use crate::instruction::send_instruction;
 use crate::numerals::hex_text;
-use im_image::{Image, Object};
+use im_image::{Form, Image, Object, Version};
 use im_io::{Failed, Sink, send, send_pieces};
+use im_mem::CODE_START;
 use itoa::Buffer;
-
-/// The address of the first code word.
-const CODE_START: u32 = 0x1000;
 
 fn send_header<S: Sink>(
     sink: &mut S,
+    version: u32,
     code: usize,
     statics: usize,
     stack: u32,
     out_cap: u32,
     entry: u32,
 ) -> Result<(), Failed>
-    ensures { Sends (codes "version 1\ncode " ++ decimal code ++ codes "\nstatics " ++ decimal statics ++ codes "\nstack " ++ decimal stack ++ codes "\nout-cap " ++ decimal out_cap ++ codes "\nentry " ++ hex_word entry ++ codes "\n") result (S.state sink.old) (S.state sink.new) }
+    ensures { Sends (codes "version " ++ decimal version ++ codes "\ncode " ++ decimal code ++ codes "\nstatics " ++ decimal statics ++ codes "\nstack " ++ decimal stack ++ codes "\nout-cap " ++ decimal out_cap ++ codes "\nentry " ++ hex_word entry ++ codes "\n") result (S.state sink.old) (S.state sink.new) }
 {
+    let mut version_text = Buffer::new();
     let mut code_text = Buffer::new();
     let mut statics_text = Buffer::new();
     let mut stack_text = Buffer::new();
@@ -31,7 +32,9 @@ fn send_header<S: Sink>(
     send_pieces(
         sink,
         &[
-            b"version 1\ncode ",
+            b"version ",
+            version_text.format(version).as_bytes(),
+            b"\ncode ",
             code_text.format(code).as_bytes(),
             b"\nstatics ",
             statics_text.format(statics).as_bytes(),
@@ -51,12 +54,26 @@ fn send_header_lines<S: Sink>(sink: &mut S, image: &Image) -> Result<(), Failed>
 {
     send_header(
         sink,
+        image.version.number(),
         image.words.len(),
         image.statics.len(),
         image.stack,
         image.out_cap,
         image.entry,
     )
+}
+
+fn send_form_line<S: Sink>(sink: &mut S, version: Version, form: Form) -> Result<(), Failed>
+    ensures { Sends (form_line version form) result (S.state sink.old) (S.state sink.new) }
+{
+    let mut text = Buffer::new();
+    match version {
+        Version::One => send(sink, b""),
+        Version::Two => send_pieces(
+            sink,
+            &[b"form ", text.format(form.number()).as_bytes(), b"\n"],
+        ),
+    }
 }
 
 fn send_object_line<S: Sink>(sink: &mut S, object: &Object) -> Result<(), Failed>
@@ -116,7 +133,7 @@ fn send_word_line<S: Sink>(sink: &mut S, at: u32, word: u32) -> Result<(), Faile
 
 fn send_word_lines<S: Sink>(sink: &mut S, words: &[u32]) -> Result<(), Failed>
     requires { length words.now ≤ 261120 }
-    ensures { Sends (word_lines 0x1000 words.now) result (S.state sink.old) (S.state sink.new) }
+    ensures { Sends (word_lines code_start words.now) result (S.state sink.old) (S.state sink.new) }
 {
     let mut at = CODE_START;
     for word in words {
@@ -130,7 +147,7 @@ fn send_word_lines<S: Sink>(sink: &mut S, words: &[u32]) -> Result<(), Failed>
 }
 
 fn send_code<S: Sink>(sink: &mut S, image: &Image) -> Result<(), Failed>
-    ensures { Sends (word_lines 0x1000 image.now.words) result (S.state sink.old) (S.state sink.new) }
+    ensures { Sends (word_lines code_start image.now.words) result (S.state sink.old) (S.state sink.new) }
 {
     send_word_lines(sink, &image.words)
 }
@@ -141,11 +158,29 @@ fn send_objects<S: Sink>(sink: &mut S, image: &Image) -> Result<(), Failed>
     send_object_lines(sink, &image.objects)
 }
 
-// The header and the objects.
-fn send_front<S: Sink>(sink: &mut S, image: &Image) -> Result<(), Failed>
-    ensures { Sends (header_lines image.now ++ flat_map object_line image.now.objects) result (S.state sink.old) (S.state sink.new) }
+fn send_form<S: Sink>(sink: &mut S, image: &Image) -> Result<(), Failed>
+    ensures { Sends (form_line image.now.version image.now.form) result (S.state sink.old) (S.state sink.new) }
+{
+    send_form_line(sink, image.version, image.form)
+}
+
+// The header and the form.
+fn send_whole_header<S: Sink>(sink: &mut S, image: &Image) -> Result<(), Failed>
+    ensures { Sends (header_lines image.now ++ form_line image.now.version image.now.form)
+        result (S.state sink.old) (S.state sink.new) }
 {
     match send_header_lines(sink, image) {
+        Ok(()) => send_form(sink, image),
+        Err(fault) => Err(fault),
+    }
+}
+
+// The header, the form and the objects.
+fn send_front<S: Sink>(sink: &mut S, image: &Image) -> Result<(), Failed>
+    ensures { Sends ((header_lines image.now ++ form_line image.now.version image.now.form)
+        ++ flat_map object_line image.now.objects) result (S.state sink.old) (S.state sink.new) }
+{
+    match send_whole_header(sink, image) {
         Ok(()) => send_objects(sink, image),
         Err(fault) => Err(fault),
     }

@@ -1,7 +1,7 @@
 ghost use Rattle.std.specs.Prelude.{◌≡◌};
 ghost use Rattle.im_lines.specs.Runs.{ending_of};
 
-use im_rv::step::Went;
+use im_rv::Went;
 
 /// How a run of an image ended.
 #[derive(Clone, Copy, PartialEq, Eq, Debug)]

@@ -7,7 +7,7 @@ use im_image::{ImageFault, read_image};
 use im_io::{Failed, MemSink};
 use im_num::{CellValue, Var};
 use im_power::TraceFault;
-use im_rv::step::Went;
+use im_rv::Went;
 use std::alloc::Global;
 use std::test::Fail;
 

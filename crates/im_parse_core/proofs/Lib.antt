@@ -1,9 +1,3 @@
-pub mod Sequences
-pub mod Choices
-pub mod Whole
-pub mod Assign
-pub mod Repetitions
-pub mod Parted
-pub mod ListLoops
-pub mod IntegerReads
-pub mod Commas
+pub mod PlacesAt
+pub mod Steps
+pub mod Lists

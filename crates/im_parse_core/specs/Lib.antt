@@ -1,6 +1,4 @@
 pub mod Reads
 pub mod Parts
-pub mod Exact
+pub mod Places
 pub mod Lists
-pub mod Integers
-pub mod Stops

@@ -1,35 +1,20 @@
 -- The parts that the grammar's lines are put together from.
-use Rattle.std.specs.Prelude.{ℕ, suc, ◌+◌, ◌≡◌, List, [], ◌∷◌, ◌++◌, length}
+use Rattle.std.specs.Prelude.{ℕ, suc, ◌+◌, List, [], ◌∷◌, ◌++◌, length}
 use Rattle.im_word.specs.Words.{Word}
+use Rattle.im_parse_core.specs.Reads.{Family}
 
 -- one part, and then another, which has the first's tree
-pub record Both {A B : Type 0} (D : ℕ → A → List Word → Type 0) (E : A → ℕ → B → List Word → Type 0) (p : ℕ) (t : B) (w : List Word) : Type 0 where
-  pub first : A
-  pub u : List Word
-  pub v : List Word
-  pub cut : w ≡ u ++ v
-  pub one : D p first u
-  pub two : E first (p + length u) t v
+pub data Both {A B : Type 0} (D : Family A) (X : A → Family B) : ℕ → B → List Word → Type 0 where
+  both : {p : ℕ} {a : A} {t : B} {u v : List Word} → D p a u → X a (p + length u) t v → Both D X p t (u ++ v)
 
 -- this word, and then a part
-pub record After {A : Type 0} (x : Word) (D : ℕ → A → List Word → Type 0) (p : ℕ) (t : A) (w : List Word) : Type 0 where
-  pub u : List Word
-  pub cut : w ≡ x ∷ u
-  pub body : D (suc p) t u
+pub data After {A : Type 0} (x : Word) (D : Family A) : ℕ → A → List Word → Type 0 where
+  after : {p : ℕ} {t : A} {u : List Word} → D (suc p) t u → After x D p t (x ∷ u)
 
--- a word of a table, and what it stands for
-pub record OneOf {A : Type 0} (Is : A → Word → Type 0) (p : ℕ) (t : A) (w : List Word) : Type 0 where
-  pub word : Word
-  pub cut : w ≡ word ∷ []
-  pub is : Is t word
+-- a part, and what its tree is made to
+pub data Made {A B : Type 0} (f : A → B) (D : Family A) : ℕ → B → List Word → Type 0 where
+  made : {p : ℕ} {t : A} {u : List Word} → D p t u → Made f D p (f t) u
 
 -- no words, with this tree
-pub record Done {A : Type 0} (tree : A) (p : ℕ) (t : A) (w : List Word) : Type 0 where
-  pub same : t ≡ tree
-  pub cut : w ≡ []
-
--- a node over the tree of a part
-pub record Node {A B : Type 0} (node : ℕ → A → B) (D : ℕ → A → List Word → Type 0) (p : ℕ) (t : B) (w : List Word) : Type 0 where
-  pub inner : A
-  pub is : t ≡ node p inner
-  pub body : D p inner w
+pub data Done {A : Type 0} (tree : A) : ℕ → A → List Word → Type 0 where
+  done : {p : ℕ} → Done tree p tree []

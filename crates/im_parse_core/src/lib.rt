@@ -1,12 +1,8 @@
-// What the parsing functions share.
+//! From words to what stands at a place among them; and what every parsing function promises.
 #![tactic(auto)]
 
 mod cursor;
-mod integer;
 mod stop;
-#[cfg(test)]
-mod tests;
 
-pub use cursor::{after_mark, after_number};
-pub use integer::{integer_constant, integer_constants};
+pub use cursor::{after_keyword, after_mark, is_typedef_name, name_at, word_at};
 pub use stop::Stop;

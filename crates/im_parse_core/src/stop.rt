@@ -1,22 +1,29 @@
 ghost use Rattle.std.specs.Prelude.{◌≡◌};
 ghost use Rattle.im_parse_core.specs.declared.stop.Stop.TheVariants.{Memory};
 
-use im_word::Word;
-use std::alloc::AllocFailed;
+use std::alloc::{AllocError, AllocFailed};
 
 /// Why a parsing function read nothing.
-#[derive(Drop)]
-pub enum Stop<'a, 'b> {
-    /// The words from the first on that goes on no derivation.
-    Syntax(&'a [Word<'b>]),
+#[derive(Clone, Copy, PartialEq, Eq, Debug)]
+pub enum Stop {
+    /// The number of the first word that goes on no derivation.
+    Syntax(u32),
     /// Memory ran out.
     Memory,
 }
 
-impl<'a, 'b, T: Drop> From<AllocFailed<T>> for Stop<'a, 'b> {
+impl<T: Drop> From<AllocFailed<T>> for Stop {
     ghost from_gives = { λ _ stop. stop ≡ Memory };
 
-    fn from(_fault: AllocFailed<T>) -> Stop<'a, 'b> {
+    fn from(_fault: AllocFailed<T>) -> Stop {
+        Stop::Memory
+    }
+}
+
+impl From<AllocError> for Stop {
+    ghost from_gives = { λ _ stop. stop ≡ Memory };
+
+    fn from(_fault: AllocError) -> Stop {
         Stop::Memory
     }
 }

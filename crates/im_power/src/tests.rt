@@ -38,11 +38,17 @@ fn periods(rt: HostRuntime) -> Result<(), Fail> {
     let trace = read_trace(rt.alloc(), b"1 0 1 5\n2 3 4 0015")
         .ok()
         .ok_or("masks")?;
-    assert_eq!(rt; trace.as_slice(), [one(1, 0, 1, 5), one(2, 3, 4, 15)].as_slice());
+    assert_eq!(rt;
+        trace.as_slice(),
+        [one(1, 0, 1, 5), one(2, 3, 4, 15)].as_slice()
+    );
     let trace = read_trace(rt.alloc(), b"000000000000000000001\r\n ;x\r\n\t2\t3 \n")
         .ok()
         .ok_or("two")?;
-    assert_eq!(rt; trace.as_slice(), [one(1, 0, 1, 0), one(2, 3, 1, 0)].as_slice());
+    assert_eq!(rt;
+        trace.as_slice(),
+        [one(1, 0, 1, 0), one(2, 3, 1, 0)].as_slice()
+    );
     let trace = read_trace(rt.alloc(), b"").ok().ok_or("none")?;
     assert_eq!(rt; Trace::new(trace.into_vec()).as_slice().len(), 0);
     Ok(())

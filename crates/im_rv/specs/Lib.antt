@@ -6,5 +6,6 @@ pub mod Effects
 pub mod Torn
 pub mod Steps
 pub mod Lines
+pub mod Code
 pub mod PowerUp
 pub mod Laws

@@ -1,5 +1,12 @@
-pub mod Related
-pub mod Parts
-pub mod Induction
-pub mod Whole
-pub mod Rows
+mod RowCounts
+mod Endless
+mod Related
+mod Parts
+mod Induction
+mod Whole
+mod Sounds
+mod SoundCells
+mod SoundExprs
+mod SoundStmts
+mod SoundCalls
+mod SoundRuns

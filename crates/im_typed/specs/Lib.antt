@@ -1,7 +1,13 @@
-pub mod Numbers
+pub mod Program
+pub mod ProgramOf
 pub mod Runs
-pub mod Objects
+pub mod Values
 pub mod Meaning
 pub mod Programs
 pub mod Counts
+pub mod Frames
+pub mod Typing
+pub mod Limits
+pub mod Sound
 pub mod Laws
+pub mod Samples

@@ -1,17 +1,14 @@
--- What a program does on an input: its statics, calls, and what main returns (C11 5.1.2.2.3, 6.2.4, 6.5.2.2, 6.7.9, 6.9.1).
-use Rattle.std.specs.Prelude.{ℕ, zero, suc, ◌+◌, Bool, true, false, List, [], ◌∷◌, ◌++◌, map, length, take, ℤ, pos, Option, Some, None, nat_eq, nat_le, slice_get, slice_index_or}
-use Rattle.im_ctype.specs.declared.cell.Cell.{Cell}
-use Rattle.im_ctype.specs.Layout.{Structs, layout, layouts}
-use Rattle.im_typed.specs.declared.program.Constant.{Constant}
-use Rattle.im_typed.specs.declared.program.Constant.TheVariants.{Number as Fixed, Null as Nowhere, Inside}
-use Rattle.im_typed.specs.declared.program.Object.{Object}
-use Rattle.im_typed.specs.declared.program.Static.{Static}
-use Rattle.im_typed.specs.declared.program.Func.{Func}
-use Rattle.im_typed.specs.declared.program.Prog.{Prog}
-use Rattle.im_typed.specs.declared.undefined.Undefined.{Undefined}
-use Rattle.im_typed.specs.declared.undefined.Undefined.TheVariants.{MissingResult}
-use Rattle.im_typed.specs.Runs.{Value, Num, Nil, To, Unset, Slot, Stored, Store, State, Fails, Starves, Exhausts, Answer, Gives, Stops, Run, bind, undefined, starve, exhaust, with_fuel, either, see}
-use Rattle.im_typed.specs.Meaning.{Around, Calls, Flow, Returned, does}
+-- What a program does on an input: its statics, calls, and what main returns (C11 5.1.2.2.3, 6.2.4, 6.5.2.2, 6.9.1).
+use Rattle.std.specs.Prelude.{ℕ, zero, suc, ◌+◌, ◌-◌, ◌==◌, length, take, sum_by, Bool, true, false, List, [], ◌∷◌, map, ℤ, pos, Option, Some, None, nat_le, slice_get, slice_index_or, if◌then◌else◌}
+use Rattle.im_store.specs.declared.undefined.Undefined.TheVariants.{MissingResult}
+use Rattle.im_store.specs.Objects.{Name, Named, Slot, Link, Object, Value, Number, Shape, shape_of, Store, begins, ends}
+use Rattle.im_store.specs.Statics.{with_statics}
+use Rattle.im_store.specs.Access.{with_value}
+use Rattle.im_store.specs.Outcomes.{Outcome, Undef, More, End, variables}
+use Rattle.im_typed.specs.Program.{LocalObject, Func, Prog}
+use Rattle.im_typed.specs.Runs.{World, State, Fails, Starves, Exhausts, Answer, Gives, Stops, Run, ◌>>=◌, give, undefined, starve, exhaust, look, change, with_fuel, either}
+use Rattle.im_typed.specs.Values.{Values}
+use Rattle.im_typed.specs.Meaning.{Around, Calls, Flow, Next, Broke, Continued, Returned, local, does}
 
 -- a program, the size of each function's frame in bytes, the size of the stack in bytes, and the capacity of the output in bytes
 pub record Setting : Type 0 where
@@ -20,69 +17,78 @@ pub record Setting : Type 0 where
   pub stack : ℕ
   pub capacity : ℕ
 
--- cells whose first ones have these values
-abbrev pub with_first : List Value → List Cell → List Slot
-with_first vs [] = []
-with_first [] (c ∷ cs) = record { offset = c.offset; kind = c.kind; value = Unset } ∷ with_first [] cs
-with_first (v ∷ vs) (c ∷ cs) = record { offset = c.offset; kind = c.kind; value = v } ∷ with_first vs cs
+-- an object's name is the number of its declaration in the program: the statics, then the objects of each function
+abbrev pub first_object : Prog → ℕ → ℕ
+first_object g k = length g.statics + sum_by (λ (f : Func). length f.objects) (take k g.funcs)
 
--- a new object, whose first cells have these values
-abbrev pub made : Structs → Object → List Value → Stored
-made structs o vs =
-    let l = layout structs o.ty in
-    record { name = o.name.items; size = l.size; live = true; slots = with_first vs l.cells }
+abbrev pub shape_in : Option LocalObject → Option Shape
+shape_in None = None
+shape_in (Some o) = Some (shape_of o.size o.cells)
 
--- the objects of an activation: the parameters hold the arguments
-abbrev pub objects_of : Structs → List Object → List Value → Store
-objects_of structs [] vs = []
-objects_of structs (o ∷ os) [] = made structs o [] ∷ objects_of structs os []
-objects_of structs (o ∷ os) (v ∷ vs) = made structs o (v ∷ []) ∷ objects_of structs os vs
+-- the objects of a function by their names, from its first one's number on
+abbrev pub shapes_of : ℕ → List LocalObject → Name → Option Shape
+shapes_of first objects (Named number) =
+    if nat_le first number then shape_in (slice_get objects (number - first)) else None
+shapes_of first objects (Slot number) = None
+shapes_of first objects Link = None
 
-abbrev pub constant : Constant → Value
-constant (Fixed z) = Num z
-constant Nowhere = Nil
-constant (Inside o d) = To o d
+-- the parameters, from the object of a number on, hold the arguments
+abbrev pub with_arguments : ℕ → ℕ → ℕ → List Value → (Object → ℕ → Value) → Object → ℕ → Value
+with_arguments activation depth n [] values = values
+with_arguments activation depth n (v ∷ vs) values =
+    let parameter : Object = record { activation = activation; depth = depth; name = Named n } in
+    with_value (with_arguments activation depth (suc n) vs values) parameter 0 v
 
-abbrev pub statics_of : Structs → List Static → Store
-statics_of structs ss = map {A = Static} (λ s. made structs s.object (map constant s.cells.items)) ss
+-- the objects of an activation come into being
+abbrev pub with_objects : ℕ → ℕ → ℕ → Func → List Value → Store → Store
+with_objects activation depth first f args store =
+    let fresh = begins store activation depth (shapes_of first f.objects) in
+    record fresh { values = with_arguments activation depth first args fresh.values }
 
--- the objects from the n-th on, dead
-abbrev pub ended : ℕ → Store → Store
-ended n [] = []
-ended (suc n) (o ∷ os) = o ∷ ended n os
-ended zero (o ∷ os) = record o { live = false; slots = [] } ∷ ended zero os
+-- an activation is entered and left: its objects come into being and die, and its frame is given back
+abbrev pub entering : ℕ → ℕ → ℕ → Func → List Value → World → World
+entering activation depth first f args w =
+    record w { store = with_objects activation depth first f args w.store; activations = activation; depth = depth }
+
+abbrev pub leaving : ℕ → ℕ → World → World
+leaving activation depth w = record w { store = ends w.store activation; depth = depth }
 
 -- what a call gives: the returned value; at the brace 0 from main, and nothing from another function
-abbrev pub call_result : Bool → Flow → List Value
+abbrev pub call_result : Bool → Flow → Values
 call_result is_main (Returned vs) = vs
-call_result true _ = Num (pos 0) ∷ []
+call_result true _ = Number (pos 0) ∷ []
 call_result false _ = []
 
--- an activation is left: its objects die, and its frame is given back
-abbrev pub leave : ℕ → ℕ → Bool → Flow → Run (List Value)
-leave base frames is_main f s =
-    Gives (call_result is_main f) (record s { world = record s.world { store = ended base s.world.store; frames = frames } })
+-- main of a well-typed program gives a number
+abbrev pub status_of : Values → ℤ
+status_of (Number z ∷ vs) = z
+status_of _ = pos 0
 
 module _ (g : Setting) where
-  abbrev pub around : Calls → ℕ → Around
-  around calls base =
-      record { structs = layouts g.prog.structs; capacity = g.capacity; base = base; calls = calls }
+  abbrev pub frame_of : ℕ → ℕ
+  frame_of k = slice_index_or g.frames k 0
 
-  -- an activation, whose objects come into being; each loop in it has at most n turns
-  abbrev pub activation : Calls → ℕ → ℕ → Func → List Value → Run (List Value)
-  activation calls n k f args s =
-      bind (does (around calls (length s.world.store)) n f.body)
-      (leave (length s.world.store) s.world.frames (nat_eq k g.prog.main))
-      (record s { world = record s.world { store = s.world.store ++ objects_of g.prog.structs f.objects.items args; frames = s.world.frames + slice_index_or g.frames k 0 } })
+  abbrev pub around : Calls → ℕ → ℕ → ℕ → Around
+  around calls activation depth first =
+      record { activation = activation; depth = depth; first = first; capacity = g.capacity; calls = calls }
 
-  -- the k-th function is entered, where its frame has room
-  abbrev pub enters : Calls → ℕ → ℕ → Option Func → List Value → Run (List Value)
+  -- the body of the k-th function, in which each loop has at most n turns
+  abbrev pub body_of : Calls → ℕ → ℕ → Func → List Value → World → Run Values
+  body_of calls n k f args w = do
+    _ ← change (entering (suc w.activations) (w.depth + frame_of k) (first_object g.prog k) f args)
+    flow ← does (around calls (suc w.activations) (w.depth + frame_of k) (first_object g.prog k)) n f.body
+    _ ← change (leaving (suc w.activations) w.depth)
+    give (call_result (k == g.prog.main) flow)
+
+  -- the k-th function is entered, where its frame has room; a well-typed program calls functions alone that are there
+  abbrev pub enters : Calls → ℕ → ℕ → Option Func → List Value → Run Values
   enters calls n k None args = undefined MissingResult
-  enters calls n k (Some f) args =
-      see (λ w. either (nat_le (w.frames + slice_index_or g.frames k 0) g.stack) (activation calls n k f args) exhaust)
+  enters calls n k (Some f) args = do
+    w ← look
+    either (nat_le (w.depth + frame_of k) g.stack) (body_of calls n k f args w) exhaust
 
-  abbrev pub called : Calls → ℕ → ℕ → List Value → Run (List Value)
-  called calls n k args = enters calls n k (slice_get g.prog.funcs.items k) args
+  abbrev pub called : Calls → ℕ → ℕ → List Value → Run Values
+  called calls n k args = enters calls n k (slice_get g.prog.funcs k) args
 
   -- calls at most n deep, in which loops have at most n turns: a unit of fuel, then the frame
   abbrev pub calls_of : ℕ → Calls
@@ -91,27 +97,17 @@ module _ (g : Setting) where
 
   abbrev pub start : List ℕ → ℕ → State
   start input fuel =
-      record { world = record { store = statics_of g.prog.structs g.prog.statics.items; input = input; output = []; frames = 0 }; fuel = fuel }
+      record { world = record { store = with_statics g.prog.statics; activations = 0; depth = 0; input = input; output = [] }; fuel = fuel }
 
-  -- the run of main; calls and loops are bounded by a number that is at least the fuel
-  abbrev pub run_of_main : ℕ → List ℕ → ℕ → Answer (List Value)
+  -- the run of main, which takes no fuel; calls and loops are bounded by a number that is at least the fuel
+  abbrev pub run_of_main : ℕ → List ℕ → ℕ → Answer Values
   run_of_main bound input fuel = called (calls_of bound) bound g.prog.main [] (start input fuel)
 
--- what a program means
-pub data Outcome : Type 0 where
-  Undef : Undefined → Outcome
-  More : (output : List ℕ) → Outcome
-  End : (reason : ℕ) (status : ℤ) (output : List ℕ) (statics : Store) → Outcome
+  abbrev pub outcome_of : Answer Values → Outcome
+  outcome_of (Gives vs s) = End 0 (status_of vs) s.world.output (variables g.prog.statics s.world.store)
+  outcome_of (Stops (Fails why)) = Undef why
+  outcome_of (Stops (Starves output)) = More output
+  outcome_of (Stops (Exhausts output store)) = End 1 (pos 0) output (variables g.prog.statics store)
 
-abbrev pub status_of : List Value → ℤ
-status_of (Num z ∷ vs) = z
-status_of _ = pos 0
-
-abbrev pub outcome : ℕ → Answer (List Value) → Outcome
-outcome statics (Gives vs s) = End 0 (status_of vs) s.world.output (take statics s.world.store)
-outcome statics (Stops (Fails why)) = Undef why
-outcome statics (Stops (Starves out)) = More out
-outcome statics (Stops (Exhausts out store)) = End 1 (pos 0) out (take statics store)
-
-unfoldable pub meaning : Setting → List ℕ → ℕ → Outcome
-meaning g input fuel = outcome (length g.prog.statics.items) (run_of_main g fuel input fuel)
+  unfoldable pub meaning : List ℕ → ℕ → Outcome
+  meaning input fuel = outcome_of (run_of_main fuel input fuel)

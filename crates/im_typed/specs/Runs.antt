@@ -1,38 +1,17 @@
--- Objects and their cells (C11 6.2.4), what a run works on, and runs one after another.
-use Rattle.std.specs.Prelude.{ℕ, zero, suc, Bool, true, false, List, [], ◌∷◌, ◌++◌, ℤ}
-use Rattle.im_num.specs.declared.kind.Kind.{Kind}
-use Rattle.im_typed.specs.declared.undefined.Undefined.{Undefined}
+-- What a run works on, and runs one after another.
+use Rattle.std.specs.Prelude.{ℕ, zero, suc, Bool, true, false, List, [], ◌∷◌, ◌++◌}
+use Rattle.im_store.specs.declared.undefined.Undefined.{Undefined}
+use Rattle.im_store.specs.Checks.{Checked, Fine, Bad}
+use Rattle.im_store.specs.Objects.{Store}
 
--- the value of a cell: a number, null, a place in an object, or nothing yet
-pub data Value : Type 0 where
-  Num : ℤ → Value
-  Nil : Value
-  To : (object offset : ℕ) → Value
-  Unset : Value
-
--- a cell of an object, and its value
-pub record Slot : Type 0 where
-  pub offset : ℕ
-  pub kind : Kind
-  pub value : Value
-
--- an object (C11 6.2.4); a dead one has no cells
-pub record Stored : Type 0 where
-  pub name : List ℕ
-  pub size : ℕ
-  pub live : Bool
-  pub slots : List Slot
-
--- all objects so far, by number: the statics, then those of each activation
-abbrev pub Store : Type 0
-Store = List Stored
-
--- what a run works on, but for its fuel; `frames` is the sum of the active frames in bytes
+-- what a run works on, but for its fuel: the store; how many activations there were; the bytes of stack in use; the input
+-- that is left; the output
 pub record World : Type 0 where
   pub store : Store
+  pub activations : ℕ
+  pub depth : ℕ
   pub input : List ℕ
   pub output : List ℕ
-  pub frames : ℕ
 
 pub record State : Type 0 where
   pub world : World
@@ -40,7 +19,7 @@ pub record State : Type 0 where
 
 -- why a run goes no further: undefined behaviour, want of fuel, want of stack
 pub data Stop : Type 0 where
-  Fails : Undefined → Stop
+  Fails : (why : Undefined) → Stop
   Starves : (output : List ℕ) → Stop
   Exhausts : (output : List ℕ) (store : Store) → Stop
 
@@ -56,8 +35,9 @@ goes_on (Gives a s) next = next a s
 goes_on (Stops why) next = Stops why
 
 -- one run, and then the next with what it gave
-abbrev pub bind : {A B : Type 0} → Run A → (A → Run B) → Run B
-bind m next s = goes_on (m s) next
+infixl 10 ◌>>=◌
+abbrev pub ◌>>=◌ : {A B : Type 0} → Run A → (A → Run B) → Run B
+m >>= next = λ s. goes_on (m s) next
 
 abbrev pub give : {A : Type 0} → A → Run A
 give a s = Gives a s
@@ -71,6 +51,13 @@ starve s = Stops (Starves s.world.output)
 abbrev pub exhaust : {A : Type 0} → Run A
 exhaust s = Stops (Exhausts s.world.output s.world.store)
 
+-- looks at what the run works on
+abbrev pub look : Run World
+look s = Gives s.world s
+
+abbrev pub change : (World → World) → Run (Unit {0})
+change f s = Gives tt (record { world = f s.world; fuel = s.fuel })
+
 abbrev pub pay : {A : Type 0} → ℕ → World → Run A → Answer A
 pay zero w next = Stops (Starves w.output)
 pay (suc fuel) w next = next (record { world = w; fuel = fuel })
@@ -83,31 +70,14 @@ abbrev pub either : {A : Type 0} → Bool → Run A → Run A → Run A
 either true a b = a
 either false a b = b
 
--- a run that looks at what it works on
-abbrev pub see : {A : Type 0} → (World → Run A) → Run A
-see next s = next s.world s
+-- what has no meaning ends the run
+abbrev pub checked : {A : Type 0} → Checked A → Run A
+checked (Fine a) = give a
+checked (Bad why) = undefined why
 
--- the slots with these values from the k-th on
-abbrev pub filled : ℕ → List Value → List Slot → List Slot
-filled k vs [] = []
-filled (suc k) vs (t ∷ ts) = t ∷ filled k vs ts
-filled zero [] (t ∷ ts) = t ∷ ts
-filled zero (v ∷ vs) (t ∷ ts) = record t { value = v } ∷ filled zero vs ts
+-- what is looked up in the store
+abbrev pub in_store : {A : Type 0} → (Store → Checked A) → Run A
+in_store f = look >>= (λ w. checked (f w.store))
 
--- the store with these values in the n-th object, from its k-th slot on
-abbrev pub with_values : ℕ → ℕ → List Value → Store → Store
-with_values n k vs [] = []
-with_values zero k vs (o ∷ os) = record o { slots = filled k vs o.slots } ∷ os
-with_values (suc n) k vs (o ∷ os) = o ∷ with_values n k vs os
-
--- stores these values in the n-th object, from its k-th slot on, and goes on
-abbrev pub put : {A : Type 0} → ℕ → ℕ → List Value → Run A → Run A
-put n k vs next s = next (record s { world = record s.world { store = with_values n k vs s.world.store } })
-
--- has that input left, and goes on
-abbrev pub leave_input : {A : Type 0} → List ℕ → Run A → Run A
-leave_input rest next s = next (record s { world = record s.world { input = rest } })
-
--- appends a byte to the output, and goes on
-abbrev pub emit : {A : Type 0} → ℕ → Run A → Run A
-emit byte next s = next (record s { world = record s.world { output = s.world.output ++ byte ∷ [] } })
+abbrev pub leave_store : Store → Run (Unit {0})
+leave_store store = change (λ w. record w { store = store })

@@ -1,5 +1,8 @@
-ghost use Rattle.std.specs.Prelude.{◌≡◌, ◌-◌, ◌+◌, ◌*◌, ◌^◌, length, min, sum_by};
-ghost use Rattle.im_typed.specs.Objects.{kind_eq};
+ghost use Rattle.std.specs.Prelude.{◌≡◌, ◌-◌, ◌+◌, ◌*◌, ◌^◌, length, map, min, sum_by};
+ghost use Rattle.std.specs.Option.{option_map};
+ghost use Rattle.im_ctype.specs.Table.{Table};
+ghost use Rattle.im_store.specs.Objects.{same_kind};
+ghost use Rattle.im_typed.specs.ProgramOf.{access_of, place_of, expr_of, piece_of, stmt_of, object_of, func_of};
 ghost use Rattle.im_typed.specs.Counts.{struct_cells, conversions_in, place_nodes, expr_nodes, piece_nodes, optional_nodes, stmt_nodes, func_nodes, func_need, slot_bytes};
 
 use crate::expression::{Access, Change, Expr, Place};
@@ -11,7 +14,7 @@ use crate::statement::{Case, Piece, Stmt};
 /// object with an initialiser, and 2 for each `case` label (C11 6.8.1). It stays at 2^64 - 1 once
 /// it is reached.
 pub fn nodes(func: &Func) -> u64
-    ensures { result ≡ min (func_nodes func.now) (2 ^ 64 - 1) }
+    ensures { (types : Table) → result ≡ min (func_nodes (func_of types func.now)) (2 ^ 64 - 1) }
 {
     (func.objects.len() as u64).saturating_add(count_statement(&func.body))
 }
@@ -20,7 +23,7 @@ pub fn nodes(func: &Func) -> u64
 /// local object its size, rounded up to whole words of 4 bytes, and a word more. It stays at
 /// 2^64 - 1 once it is reached.
 pub fn need(func: &Func) -> u64
-    ensures { result ≡ min (func_need func.now) (2 ^ 64 - 1) }
+    ensures { (types : Table) → result ≡ min (func_need (func_of types func.now)) (2 ^ 64 - 1) }
 {
     nodes(func)
         .saturating_mul(12)
@@ -30,7 +33,7 @@ pub fn need(func: &Func) -> u64
 
 /// The bytes of objects in a frame, each in whole words and with an unused word behind it.
 fn objects_bytes(objects: &[Object]) -> u64
-    ensures { result ≡ min (sum_by slot_bytes objects.now) (2 ^ 64 - 1) }
+    ensures { (types : Table) → result ≡ min (sum_by slot_bytes (map (object_of types) objects.now)) (2 ^ 64 - 1) }
 {
     let mut total: u64 = 0;
     for object in objects {
@@ -42,10 +45,10 @@ fn objects_bytes(objects: &[Object]) -> u64
 
 /// The cells that are counted of an assignment: each one of a struct's.
 fn access_cells(access: Access) -> u64
-    ensures { result ≡ struct_cells access }
+    ensures { (types : Table) → result ≡ struct_cells (access_of types access) }
 {
     match access {
-        Access::Cell(_) => 0,
+        Access::Scalar(_) => 0,
         Access::Struct { cells, .. } => cells as u64,
     }
 }
@@ -63,7 +66,7 @@ fn change_conversions(change: Change) -> u64
 
 #[cycle(nodes)]
 fn count_place(place: &Place) -> u64
-    ensures { result ≡ min (place_nodes place.now) (2 ^ 64 - 1) }
+    ensures { (types : Table) → result ≡ min (place_nodes (place_of types place.now)) (2 ^ 64 - 1) }
 {
     match place {
         Place::Static(_) | Place::Local(_) => 1,
@@ -81,10 +84,10 @@ fn node_over(left: u64, right: u64) -> u64
 
 #[cycle(nodes)]
 fn count_expression(expression: &Expr) -> u64
-    ensures { result ≡ min (expr_nodes expression.now) (2 ^ 64 - 1) }
+    ensures { (types : Table) → result ≡ min (expr_nodes (expr_of types expression.now)) (2 ^ 64 - 1) }
 {
     match expression {
-        Expr::Number(_) | Expr::Null | Expr::Getchar => 1,
+        Expr::Number(_, _) | Expr::Null | Expr::Getchar => 1,
         Expr::Read(_, place) | Expr::Address(place) => count_place(place).saturating_add(1),
         Expr::Convert(_, operand)
         | Expr::Unary(_, _, operand)
@@ -97,7 +100,7 @@ fn count_expression(expression: &Expr) -> u64
         }
         Expr::Binary(_, _, left, right)
         | Expr::Distance { left, right, .. }
-        | Expr::Compare(_, left, right)
+        | Expr::Compare(_, _, left, right)
         | Expr::And(left, right)
         | Expr::Or(left, right)
         | Expr::Comma(left, right) => node_over(count_expression(left), count_expression(right)),
@@ -122,7 +125,7 @@ fn count_expression(expression: &Expr) -> u64
 
 #[cycle(nodes)]
 fn count_arguments(expressions: &[Expr]) -> u64
-    ensures { result ≡ min (sum_by expr_nodes expressions.now) (2 ^ 64 - 1) }
+    ensures { (types : Table) → result ≡ min (sum_by (λ e. expr_nodes (expr_of types e)) expressions.now) (2 ^ 64 - 1) }
 {
     let mut total: u64 = 0;
     for expression in expressions {
@@ -132,7 +135,7 @@ fn count_arguments(expressions: &[Expr]) -> u64
 }
 
 fn count_pieces(pieces: &[Piece]) -> u64
-    ensures { result ≡ min (sum_by piece_nodes pieces.now) (2 ^ 64 - 1) }
+    ensures { (types : Table) → result ≡ min (sum_by piece_nodes (map (piece_of types) pieces.now)) (2 ^ 64 - 1) }
 {
     let mut total: u64 = 0;
     for piece in pieces {
@@ -142,7 +145,7 @@ fn count_pieces(pieces: &[Piece]) -> u64
 }
 
 fn count_result(value: &Option<Expr>) -> u64
-    ensures { result ≡ min (optional_nodes value.now) (2 ^ 64 - 1) }
+    ensures { (types : Table) → result ≡ min (optional_nodes (option_map (expr_of types) value.now)) (2 ^ 64 - 1) }
 {
     match value {
         None => 0,
@@ -159,7 +162,7 @@ fn count_labels(cases: &[Case]) -> u64
 
 #[cycle(statements)]
 fn count_statement(statement: &Stmt) -> u64
-    ensures { result ≡ min (stmt_nodes statement.now) (2 ^ 64 - 1) }
+    ensures { (types : Table) → result ≡ min (stmt_nodes (stmt_of types statement.now)) (2 ^ 64 - 1) }
 {
     match statement {
         Stmt::Forget(_) | Stmt::Break | Stmt::Continue => 1,
@@ -198,7 +201,7 @@ fn count_statement(statement: &Stmt) -> u64
 
 #[cycle(statements)]
 fn count_block(statements: &[Stmt]) -> u64
-    ensures { result ≡ min (sum_by stmt_nodes statements.now) (2 ^ 64 - 1) }
+    ensures { (types : Table) → result ≡ min (sum_by (λ s. stmt_nodes (stmt_of types s)) statements.now) (2 ^ 64 - 1) }
 {
     let mut total: u64 = 0;
     for statement in statements {

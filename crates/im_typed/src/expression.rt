@@ -1,44 +1,12 @@
 use im_num::Kind;
+use im_store::{BinaryOp, Comparison, UnaryOp};
 
 /// What is read or written at a place: one cell, or each cell of a struct.
 #[derive(Clone, Copy, Debug)]
 pub enum Access {
-    Cell(Kind),
+    Scalar(Kind),
     /// A struct of the table, by its number, and how many cells it has.
     Struct { number: u32, cells: u32 },
-}
-
-/// An operator on two integers (C11 6.5.5 to 6.5.7, 6.5.10 to 6.5.12).
-#[derive(Clone, Copy, PartialEq, Eq, Debug)]
-pub enum BinaryOp {
-    Add,
-    Subtract,
-    Multiply,
-    Divide,
-    Remainder,
-    BitAnd,
-    BitOr,
-    BitXor,
-    ShiftLeft,
-    ShiftRight,
-}
-
-/// A comparison of two integers or of two pointers (C11 6.5.8, 6.5.9).
-#[derive(Clone, Copy, PartialEq, Eq, Debug)]
-pub enum Comparison {
-    Less,
-    Greater,
-    LessOrEqual,
-    GreaterOrEqual,
-    Equal,
-    NotEqual,
-}
-
-/// An operator on one integer (C11 6.5.3.3).
-#[derive(Clone, Copy, PartialEq, Eq, Debug)]
-pub enum UnaryOp {
-    Negate,
-    Complement,
 }
 
 /// How an assignment changes what stands at its place (C11 6.5.16.2, 6.5.2.4, 6.5.3.1).
@@ -69,7 +37,8 @@ pub enum Place {
 #[cycle(expression)]
 #[derive(Debug, Drop)]
 pub enum Expr {
-    Number(i64),
+    /// An integer constant and its kind (C11 6.4.4.1, 6.4.4.4).
+    Number(Kind, i128),
     /// The null pointer.
     Null,
     /// The value that stands at a place.
@@ -100,7 +69,8 @@ pub enum Expr {
         left: Box<Expr>,
         right: Box<Expr>,
     },
-    Compare(Comparison, Box<Expr>, Box<Expr>),
+    /// Both operands have been converted to the kind; `Ptr` of two pointers.
+    Compare(Comparison, Kind, Box<Expr>, Box<Expr>),
     Not(Box<Expr>),
     And(Box<Expr>, Box<Expr>),
     Or(Box<Expr>, Box<Expr>),
@@ -124,10 +94,10 @@ pub enum Expr {
         change: Change,
         old: bool,
     },
-    /// A member of a struct that stands at no place: those cells of its value, counted.
+    /// A member of a struct that stands at no place: its value's cells from number `from` on.
     Part {
         from: u32,
-        count: u32,
+        access: Access,
         whole: Box<Expr>,
     },
     /// A call of a function of the program, by its number.

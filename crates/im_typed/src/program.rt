@@ -1,11 +1,12 @@
 use crate::statement::Stmt;
-use im_ctype::{CType, StructTable};
+use im_ctype::{TypeId, TypeTable};
+use im_num::Kind;
 
 /// An object that a function or the program has.
 #[derive(Debug, Drop)]
 pub struct Object {
     pub name: Vec<u8>,
-    pub ty: CType,
+    pub ty: TypeId,
     /// The bytes that its type takes.
     pub size: u32,
 }
@@ -13,7 +14,7 @@ pub struct Object {
 /// What a cell of a static holds before the start of `main`.
 #[derive(Clone, Copy, Debug)]
 pub enum Constant {
-    Number(i64),
+    Number(i128),
     Null,
     /// A place in a static object: its number, and bytes from its start.
     Inside { object: u32, offset: u32 },
@@ -32,6 +33,8 @@ pub struct Func {
     pub name: Vec<u8>,
     /// How many of its objects are parameters; these come first and hold the arguments.
     pub params: u32,
+    /// The kind of its result; none where that is `void`.
+    pub result: Option<Kind>,
     pub objects: Vec<Object>,
     pub body: Stmt,
 }
@@ -40,7 +43,7 @@ pub struct Func {
 /// literals that initialise no array, named `$1`, `$2` and so on; and the functions in order.
 #[derive(Drop)]
 pub struct Prog {
-    pub structs: StructTable,
+    pub types: TypeTable,
     pub statics: Vec<Static>,
     pub funcs: Vec<Func>,
     /// The number of the function `main`, whose brace gives 0.

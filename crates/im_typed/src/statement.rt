@@ -11,7 +11,7 @@ pub struct Piece {
 /// A label of a switch, and the number of the statement of its block before which it stands.
 #[derive(Clone, Copy, Debug)]
 pub struct Case {
-    pub value: i64,
+    pub value: i128,
     pub at: u32,
 }
 

@@ -1,16 +1,17 @@
 use super::*;
-use im_ctype::{CType, Integer};
+use im_ctype::TypeId;
 use im_num::Kind;
+use im_store::{BinaryOp, Comparison, UnaryOp};
 use std::alloc::Global;
 use std::process::Abort;
 
-const NUMBER: Access = Access::Cell(Kind::I32);
+const NUMBER: Access = Access::Scalar(Kind::I32);
 
-const SHORT: Access = Access::Cell(Kind::I16);
+const SHORT: Access = Access::Scalar(Kind::I16);
 
-const BYTE: Access = Access::Cell(Kind::U8);
+const BYTE: Access = Access::Scalar(Kind::U8);
 
-const POINTER: Access = Access::Cell(Kind::Ptr);
+const POINTER: Access = Access::Scalar(Kind::Ptr);
 /// Of `struct triple { int a; int b; int c; }`.
 const TRIPLE: Access = Access::Struct {
     number: 0,
@@ -25,22 +26,19 @@ fn push<T: Drop>(rt: &impl Abort, list: &mut Vec<T>, value: T) {
     list.push(value).ok().expect(rt, "memory");
 }
 
-fn object(rt: &impl Abort, alloc: Global, name: &[u8], ty: CType, size: u32) -> Object {
+/// An object of so many bytes; the counts don't look at its type.
+fn object(rt: &impl Abort, alloc: Global, name: &[u8], size: u32) -> Object {
     let name = name.to_vec(alloc).expect(rt, "memory");
-    Object { name, ty, size }
-}
-
-fn pointer(rt: &impl Abort, alloc: Global, name: &[u8], target: CType) -> Object {
-    let ty = CType::Pointer {
-        constant: false,
-        target: boxed(rt, alloc, target),
-    };
-    object(rt, alloc, name, ty, 4)
+    Object {
+        name,
+        ty: TypeId(0),
+        size,
+    }
 }
 
 /// 1 node.
-fn number(rt: &impl Abort, alloc: Global, value: i64) -> Box<Expr> {
-    boxed(rt, alloc, Expr::Number(value))
+fn number(rt: &impl Abort, alloc: Global, value: i128) -> Box<Expr> {
+    boxed(rt, alloc, Expr::Number(Kind::I32, value))
 }
 
 /// 1 node.
@@ -118,7 +116,7 @@ fn called(rt: &impl Abort, alloc: Global) -> Stmt {
         &mut arguments,
         Expr::Part {
             from: 2,
-            count: 1,
+            access: NUMBER,
             whole,
         },
     );
@@ -132,6 +130,7 @@ fn counts(alloc: Global, params: u32, objects: Vec<Object>, body: Vec<Stmt>) -> 
     let func = Func {
         name: Vec::new(alloc),
         params,
+        result: None,
         objects,
         body: Stmt::Block(body),
     };
@@ -141,17 +140,9 @@ fn counts(alloc: Global, params: u32, objects: Vec<Object>, body: Vec<Stmt>) -> 
 /// `struct triple *p; char n; struct triple t;`: 3 objects, of 4, 1 and 12 bytes.
 fn three_objects(rt: &impl Abort, alloc: Global) -> Vec<Object> {
     let mut objects = Vec::new(alloc);
-    push(rt, &mut objects, pointer(rt, alloc, b"p", CType::Struct(0)));
-    push(
-        rt,
-        &mut objects,
-        object(rt, alloc, b"n", CType::Integer(Integer::Char), 1),
-    );
-    push(
-        rt,
-        &mut objects,
-        object(rt, alloc, b"t", CType::Struct(0), 12),
-    );
+    push(rt, &mut objects, object(rt, alloc, b"p", 4));
+    push(rt, &mut objects, object(rt, alloc, b"n", 1));
+    push(rt, &mut objects, object(rt, alloc, b"t", 12));
     objects
 }
 
@@ -182,11 +173,15 @@ fn counter(rt: &impl Abort, alloc: Global) -> Box<Expr> {
 /// `i == 3 && !f(1, i)`: the and, 4 nodes of the comparison, and 5 of the not.
 fn condition(rt: &impl Abort, alloc: Global) -> Expr {
     let mut arguments = Vec::new(alloc);
-    push(rt, &mut arguments, Expr::Number(1));
+    push(rt, &mut arguments, Expr::Number(Kind::I32, 1));
     push(rt, &mut arguments, Expr::Read(NUMBER, local(rt, alloc, 0)));
     let not = Expr::Not(boxed(rt, alloc, Expr::Call(0, arguments)));
     let (i, three) = (counter(rt, alloc), number(rt, alloc, 3));
-    let equal = boxed(rt, alloc, Expr::Compare(Comparison::Equal, i, three));
+    let equal = boxed(
+        rt,
+        alloc,
+        Expr::Compare(Comparison::Equal, Kind::I32, i, three),
+    );
     Expr::And(equal, boxed(rt, alloc, not))
 }
 
@@ -218,7 +213,12 @@ fn counted_loop(rt: &impl Abort, alloc: Global) -> Stmt {
     };
     Stmt::For {
         first,
-        test: Expr::Compare(Comparison::Less, counter(rt, alloc), number(rt, alloc, 10)),
+        test: Expr::Compare(
+            Comparison::Less,
+            Kind::I32,
+            counter(rt, alloc),
+            number(rt, alloc, 10),
+        ),
         step: Expr::Increment {
             place: local(rt, alloc, 0),
             change,
@@ -257,11 +257,7 @@ fn choice(rt: &impl Abort, alloc: Global) -> Stmt {
 fn statements(rt: HostRuntime) {
     let alloc = rt.alloc();
     let mut objects = Vec::new(alloc);
-    push(
-        &rt,
-        &mut objects,
-        object(&rt, alloc, b"i", CType::Integer(Integer::Int), 4),
-    );
+    push(&rt, &mut objects, object(&rt, alloc, b"i", 4));
     let mut body = Vec::new(alloc);
     push(&rt, &mut body, Stmt::Forget(0));
     push(&rt, &mut body, counted_loop(&rt, alloc));
@@ -301,7 +297,11 @@ fn stored(rt: &impl Abort, alloc: Global) -> Expr {
 /// cast, the comma, 11 of its left side, and 3 of its right side.
 fn pointer_loop(rt: &impl Abort, alloc: Global) -> Stmt {
     let (p, q) = (value(rt, alloc, POINTER, 0), value(rt, alloc, POINTER, 1));
-    let differ = boxed(rt, alloc, Expr::Compare(Comparison::NotEqual, p, q));
+    let differ = boxed(
+        rt,
+        alloc,
+        Expr::Compare(Comparison::NotEqual, Kind::Ptr, p, q),
+    );
     let total = Expr::Read(SHORT, boxed(rt, alloc, Place::Static(0)));
     let test = Expr::Or(differ, boxed(rt, alloc, total));
     let change = Change::Move {
@@ -351,20 +351,43 @@ fn distance(rt: &impl Abort, alloc: Global) -> Stmt {
 fn pointers(rt: HostRuntime) {
     let alloc = rt.alloc();
     let mut objects = Vec::new(alloc);
-    push(
-        &rt,
-        &mut objects,
-        pointer(&rt, alloc, b"p", CType::Integer(Integer::Short)),
-    );
-    push(
-        &rt,
-        &mut objects,
-        pointer(&rt, alloc, b"q", CType::Integer(Integer::Short)),
-    );
+    push(&rt, &mut objects, object(&rt, alloc, b"p", 4));
+    push(&rt, &mut objects, object(&rt, alloc, b"q", 4));
     let mut body = Vec::new(alloc);
     push(&rt, &mut body, pointer_loop(&rt, alloc));
     push(&rt, &mut body, distance(&rt, alloc));
     let counts = counts(alloc, 2, objects, body);
     // 2 objects, the block, 26 of the loop, and 14 of the return; 16 + 12 * 43 + 8 + 8
     assert_eq!(rt; counts, (43, 548));
+}
+
+fn frame(rt: &impl Abort, alloc: Global, name: &[u8], size: u32) -> Frame {
+    let name = name.to_vec(alloc).expect(rt, "memory");
+    Frame { name, size }
+}
+
+#[test]
+fn frame_tables(rt: HostRuntime) {
+    let alloc = rt.alloc();
+    let mut frames = Vec::new(alloc);
+    push(&rt, &mut frames, frame(&rt, alloc, b"main", 8));
+    push(&rt, &mut frames, frame(&rt, alloc, b"f", 16));
+    let table = Frames { frames };
+    let mut funcs = Vec::new(alloc);
+    push(
+        &rt,
+        &mut funcs,
+        Func {
+            name: b"f".to_vec(alloc).expect(&rt, "memory"),
+            params: 0,
+            result: None,
+            objects: Vec::new(alloc),
+            body: Stmt::Block(Vec::new(alloc)),
+        },
+    );
+    let sizes = table.sizes(alloc, &funcs).expect(&rt, "memory");
+    assert_eq!(rt; sizes.len(), 1);
+    assert_eq!(rt; sizes[0], 16);
+    assert_eq!(rt; table.size(b"main"), 8);
+    assert_eq!(rt; table.size(b"g"), 0);
 }

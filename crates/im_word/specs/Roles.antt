@@ -3,7 +3,7 @@ use Rattle.im_tok.specs.declared.keyword.Keyword.{Keyword}
 use Rattle.im_tok.specs.declared.keyword.Keyword.TheVariants.{If, While, For, Do, Switch, Case, Default, Sizeof, Else}
 use Rattle.im_tok.specs.declared.punctuator.Punctuator.{Punctuator}
 use Rattle.im_tok.specs.declared.punctuator.Punctuator.TheVariants.{OpenBracket, CloseBracket, OpenParen, CloseParen, OpenBrace, CloseBrace, Semicolon, Colon, Ellipsis, Comma, Question}
-use Rattle.im_word.specs.Words.{Word, name, keyword, number, character, text, mark}
+use Rattle.im_word.specs.Words.{Word, name, keyword, number, character, text, mark, unknown}
 use Rattle.im_word.specs.declared.role.Role.{Role}
 use Rattle.im_word.specs.declared.role.Role.TheVariants as role
 
@@ -40,3 +40,4 @@ role_of (name n) = role.Neutral
 role_of (number n) = role.Neutral
 role_of (character c) = role.Neutral
 role_of (text s) = role.Neutral
+role_of unknown = role.Neutral

@@ -6,12 +6,19 @@ use Rattle.im_tok.specs.Numbers.{IsNumeral}
 use Rattle.im_tok.specs.Literals.{IsCharacter, IsText}
 use Rattle.im_tok.specs.declared.token.TokenKind.{TokenKind}
 use Rattle.im_tok.specs.declared.token.TokenKind.TheVariants as kind
-use Rattle.im_word.specs.Words.{Word, name, keyword, number, character, text, mark}
+use Rattle.im_word.specs.Words.{Word, name, keyword, number, character, text, mark, unknown}
 
+-- a token of this kind and text has this word
+abbrev pub IsKnownWord : TokenKind → List ℕ → Word → Type 0
+IsKnownWord k bytes (name n) = (k ≡ kind.Name) × (n ≡ bytes)
+IsKnownWord k bytes (keyword x) = (k ≡ kind.Keyword) × (bytes ≡ keyword_text x)
+IsKnownWord k bytes (number n) = (k ≡ kind.Number) × IsNumeral bytes n
+IsKnownWord k bytes (character c) = (k ≡ kind.Character) × IsCharacter bytes c
+IsKnownWord k bytes (text s) = (k ≡ kind.Text) × IsText bytes s
+IsKnownWord k bytes (mark m) = (k ≡ kind.Punctuator) × (bytes ≡ punctuator_text m)
+IsKnownWord k bytes unknown = ⊥
+
+-- the word of a token, which is unknown where there is none
 abbrev pub IsWordOf : TokenKind → List ℕ → Word → Type 0
-IsWordOf k bytes (name n) = (k ≡ kind.Name) × (n ≡ bytes)
-IsWordOf k bytes (keyword x) = (k ≡ kind.Keyword) × (bytes ≡ keyword_text x)
-IsWordOf k bytes (number n) = (k ≡ kind.Number) × IsNumeral bytes n
-IsWordOf k bytes (character c) = (k ≡ kind.Character) × IsCharacter bytes c
-IsWordOf k bytes (text s) = (k ≡ kind.Text) × IsText bytes s
-IsWordOf k bytes (mark m) = (k ≡ kind.Punctuator) × (bytes ≡ punctuator_text m)
+IsWordOf k bytes unknown = (word : Word) → IsKnownWord k bytes word → ⊥
+IsWordOf k bytes word = IsKnownWord k bytes word

@@ -15,3 +15,5 @@ pub data Word : Type 0 where
   character : ℕ → Word
   text : Name → Word
   mark : Punctuator → Word
+  -- a token whose text isn't of its kind; no line of the grammar has it
+  unknown : Word

@@ -1,4 +1,4 @@
-// What the grammar sees of tokens: words, and how deep they are nested.
+//! From tokens to words: what the grammar sees of tokens, and how deep they are nested.
 #![tactic(auto)]
 
 mod nesting;

@@ -83,28 +83,28 @@ fn words_of_tokens(rt: HostRuntime) -> Result<(), Fail> {
         line: 1,
     };
     let found = word_of(alloc, source, &token)?;
-    assert!(rt; matches!(found, Some(Word::Name(_))));
+    assert!(rt; matches!(found, Word::Name(_)));
     let token = Token {
         kind: TokenKind::Number,
         span: (0, 1),
         line: 1,
     };
     let found = word_of(alloc, source, &token)?;
-    assert!(rt; matches!(found, None));
+    assert!(rt; matches!(found, Word::Unknown));
     let token = Token {
         kind: TokenKind::Keyword,
         span: (0, 2),
         line: 1,
     };
     let found = word_of(alloc, b"do", &token)?;
-    assert!(rt; matches!(found, Some(Word::Keyword(Keyword::Do))));
+    assert!(rt; matches!(found, Word::Keyword(Keyword::Do)));
     let token = Token {
         kind: TokenKind::Punctuator,
         span: (0, 2),
         line: 1,
     };
     let found = word_of(alloc, b">>=", &token)?;
-    assert!(rt; matches!(found, Some(Word::Mark(Punctuator::ShiftRight))));
+    assert!(rt; matches!(found, Word::Mark(Punctuator::ShiftRight)));
     let token = Token {
         kind: TokenKind::Number,
         span: (0, 5),
@@ -115,13 +115,13 @@ fn words_of_tokens(rt: HostRuntime) -> Result<(), Fail> {
         value: 31,
         number_type: NumberType::UnsignedInt,
     };
-    assert!(rt; matches!(found, Some(Word::Number(n)) if n == number));
+    assert!(rt; matches!(found, Word::Number(n) if n == number));
     let token = Token {
         kind: TokenKind::Character,
         span: (0, 4),
         line: 1,
     };
     let found = word_of(alloc, b"'\\n'", &token)?;
-    assert!(rt; matches!(found, Some(Word::Character(10))));
+    assert!(rt; matches!(found, Word::Character(10)));
     Ok(())
 }

@@ -5,7 +5,7 @@ use Rattle.im_cmd.proofs.running.run_image.Goals as goal
 pub returns-in-Ok-shown_variables : goal.returns-in-Ok-shown_variables
 returns-in-Ok-shown_variables g c =
     ran _ _ _ _ _ _ _ _ _ _ c.in-Ok.ensures (rw c.deref.ensures.value at c.in-Ok-load.ensures) c.in-Ok-read_periods.ensures
-    c.run.ensures.machine c.run.ensures.objects c.in-Ok-shown_variables.ensures
+    c.run.ensures.device c.run.ensures.image c.in-Ok-shown_variables.ensures
 
 pub returns-in-Err-read_periods : goal.returns-in-Err-read_periods
 returns-in-Err-read_periods g c =

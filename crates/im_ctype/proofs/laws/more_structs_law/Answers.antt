@@ -1,4 +1,4 @@
-use Rattle.im_ctype.proofs.Growing.{layout-more}
+use Rattle.im_ctype.proofs.CellLists.{layout-more}
 use Rattle.im_ctype.proofs.laws.more_structs_law.Goals as goal
 
 pub returns : goal.returns

@@ -1,5 +1,5 @@
 use Rattle.std.proofs.Common.{arith}
-use Rattle.im_ctype.proofs.Growing.{rounded-least, rounded-multiple}
+use Rattle.im_ctype.proofs.Rounded.{rounded-least, rounded-multiple}
 use Rattle.im_ctype.proofs.laws.round_up_law.Goals as goal
 
 pub returns-clause-reaches : goal.returns-clause-reaches

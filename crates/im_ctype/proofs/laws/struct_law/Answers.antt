@@ -1,4 +1,4 @@
-use Rattle.im_ctype.proofs.Growing.{struct-as-listed}
+use Rattle.im_ctype.proofs.CellLists.{struct-as-listed}
 use Rattle.im_ctype.proofs.laws.struct_law.Goals as goal
 
 pub returns : goal.returns

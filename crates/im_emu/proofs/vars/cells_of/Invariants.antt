@@ -1,6 +1,6 @@
 use Rattle.std.proofs.Common.{◌≡◌, take}
 use Rattle.std.specs.List.{flat_map}
-use Rattle.im_emu.specs.Variables.{run_cells}
+use Rattle.im_device.specs.Variables.{run_cells}
 use Rattle.im_emu.proofs.vars.cells_of.Given as goal
 
 abbrev pub invariant-loop-run : goal.invariant-loop-run

@@ -1,7 +1,7 @@
 use Rattle.std.proofs.Common.{◌≤◌, ◌-◌, ◌∙◌, sym, ap, subst, if◌then◌else◌, arith}
 use Rattle.im_num.specs.declared.values.CellValue.TheVariants.{Inside, Local}
 use Rattle.im_image.specs.Contents.{ObjectValue}
-use Rattle.im_emu.specs.Variables.{reaches}
+use Rattle.im_device.specs.Variables.{reaches}
 use Rattle.im_emu.proofs.Layouts.{none_begun, last_begun}
 use Rattle.im_emu.proofs.vars.place_among.Goals as goal
 

@@ -1,6 +1,6 @@
 use Rattle.std.proofs.Common.{◌≡◌, ◌+◌, ◌*◌, ◌++◌}
 use Rattle.im_num.specs.Kinds.{kind_size}
-use Rattle.im_emu.specs.Variables.{cells_from}
+use Rattle.im_device.specs.Variables.{cells_from}
 use Rattle.im_emu.proofs.vars.put_cells.Given as goal
 
 abbrev pub invariant-loop : goal.invariant-loop

@@ -1,5 +1,6 @@
 use Rattle.std.proofs.Common.{◌+◌, ◌≤◌, None, sym, subst, arith}
-use Rattle.im_image.specs.Contents.{ObjectValue, AreRuns, statics_start}
+use Rattle.im_mem.specs.Map.{statics_start}
+use Rattle.im_image.specs.Contents.{ObjectValue, AreRuns}
 use Rattle.im_emu.proofs.Layouts.{object_there}
 use Rattle.im_emu.proofs.vars.variables.Goals as goal
 

@@ -1,6 +1,9 @@
 use Rattle.std.proofs.Common.{◌≡◌, ◌-◌, ◌^◌, min, sum_by, take}
+use Rattle.im_ctype.specs.Table.{Table}
+use Rattle.im_typed.specs.ProgramOf.{expr_of}
 use Rattle.im_typed.specs.Counts.{expr_nodes}
 use Rattle.im_typed.proofs.counts.+nodes.Given as goal
 
 abbrev pub invariant-count_arguments-loop-expression : goal.invariant-count_arguments-loop-expression
-invariant-count_arguments-loop-expression l = l.total ≡ min (sum_by expr_nodes (take l.expression-index l.expressions)) (2 ^ 64 - 1)
+invariant-count_arguments-loop-expression l =
+    (types : Table) → l.total ≡ min (sum_by (λ e. expr_nodes (expr_of types e)) (take l.expression-index l.expressions)) (2 ^ 64 - 1)

@@ -1,5 +1,5 @@
-use Rattle.im_typed.proofs.Whole.{statics-shape}
+use Rattle.im_typed.proofs.Whole.{statics-shown}
 use Rattle.im_typed.proofs.laws.statics_law.Goals as goal
 
 pub returns : goal.returns
-returns c = λ g input fuel. statics-shape g input fuel
+returns c = λ g input fuel. statics-shown g input fuel

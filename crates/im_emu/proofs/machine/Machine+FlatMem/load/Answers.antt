@@ -1,5 +1,5 @@
 use Rattle.std.proofs.Common.{◌∙◌, sym, subst, arith}
-use Rattle.im_emu.specs.Variables.{AreLaidOut}
+use Rattle.im_emu.specs.Layouts.{AreLaidOut}
 use Rattle.im_emu.proofs.Layouts.{laid_out}
 use Rattle.im_emu.proofs.machine.Machine+FlatMem.load.Goals as goal
 

@@ -1,21 +1,34 @@
 use Rattle.std.proofs.Common.{◌≡◌, ◌∙◌, suc, ◌+◌, ◌-◌, sym, ap, arith}
-use Rattle.im_power.specs.Power.{powered, repeated}
-use Rattle.im_emu.specs.State.{state_of, unless_over}
-use Rattle.im_emu.proofs.Periods.{repeat_first}
+use Rattle.im_device.specs.Periods.{powered, repeated}
+use Rattle.im_emu.specs.State.{counted, device_of}
+use Rattle.im_emu.proofs.Periods.{repeat_first, repeat_over}
+use Rattle.im_emu.proofs.Stretches.{over_by}
 use Rattle.im_emu.proofs.machine.Machine.power.Goals as goal
+
+pub returns-in-Halted : goal.returns-in-Halted
+returns-in-Halted g c =
+    let now = device_of g.M.Memory.bytes c.repeats.self in
+    let i = c.repeats.invariant in
+    record {
+      device = repeat_over (c.args.period.count - c.repeats.counter) c.args.period now (over_by now.went c.repeats.went i.went c.in-Halted.is) i.steps i.commits ∙ i.rest;
+      went = i.went;
+      image = i.image;
+    }
 
 pub repeats-preserved : goal.repeats-preserved
 repeats-preserved g c =
-    let bytes = g.M.Memory.bytes in
-    let one = powered c.args.period.n c.args.period.junk in
-    let s = state_of bytes c.repeats.self in
-    let left : c.args.period.count - c.repeats.counter ≡ suc (c.args.period.count - (c.repeats.counter + 1)) = omega arith in
+    let p = c.args.period in
+    let next = powered p.n p.junk p.mask in
+    let now = device_of g.M.Memory.bytes c.repeats.self in
+    let left : p.count - c.repeats.counter ≡ suc (p.count - (c.repeats.counter + 1)) = omega arith in
+    let i = c.repeats.invariant in
+    let same = c.run_once-went.ensures.image in
     record {
-      went = c.run_period-went.ensures.went;
-      steps = c.run_period-went.ensures.steps;
-      commits = c.run_period-went.ensures.commits;
-      rest = repeat_first (c.args.period.count - (c.repeats.counter + 1)) one s (state_of bytes c.run_period-went.new.self) (sym c.repeats.invariant.went ∙ c.in-On.is) c.run_period-went.ensures.machine
-          ∙ ap (λ k. unless_over s.went s (repeated k one s.mem)) (sym left)
-          ∙ c.repeats.invariant.rest;
-      objects = c.run_period-went.ensures.objects ∙ c.repeats.invariant.objects;
+      went = c.run_once-went.ensures.went;
+      steps = c.run_once-went.ensures.steps;
+      commits = c.run_once-went.ensures.commits;
+      rest = repeat_first (p.count - (c.repeats.counter + 1)) p now (device_of g.M.Memory.bytes c.run_once-went.new.self) c.run_once-went.ensures.device
+          ∙ ap (λ k. counted (repeated k next now)) (sym left)
+          ∙ i.rest;
+      image = record { version = same.version ∙ i.image.version; form = same.form ∙ i.image.form; objects = same.objects ∙ i.image.objects };
     }

@@ -1,0 +1,7 @@
+pub mod Words
+pub mod Cost
+pub mod Twins
+pub mod Bytes
+pub mod Sections
+pub mod Flows
+pub mod Stores

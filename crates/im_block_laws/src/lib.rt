@@ -1,0 +1,6 @@
+//! Further laws of block code: what further cuts leave as it was.
+#![tactic(auto)]
+
+mod laws;
+
+pub use laws::cuts_keep_code_law;

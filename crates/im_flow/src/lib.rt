@@ -1,0 +1,9 @@
+//! From the static flow of code to its runs: K bounds the sections of a run, also where power fails.
+#![tactic(auto)]
+
+mod laws;
+
+pub use laws::{
+    along_law, gap_law, long_periods_law, loop_gap_law, loop_placed_law, loop_progresses_law,
+    one_gap_law, step_law,
+};

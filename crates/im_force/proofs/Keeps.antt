@@ -1,0 +1,283 @@
+-- What forced cuts change, and that sections are right with them.
+use Rattle.std.proofs.Common.{◌≡◌, ℕ, zero, suc, ◌+◌, List, [], ◌∷◌, ◌++◌, Bool, true, false, Option, Some, None, refl, sym, ap, ◌∙◌, subst, arith, inl, inr, ⊎_elim, ◌⊎◌, eq-eqb, ◌<◌, length, take, drop, get_or}
+use Rattle.std.specs.Prelude.{slice_get, slice_set, if◌then◌else◌}
+use Rattle.std.proofs.lemmas.Bool.{ne_eqb}
+use Rattle.im_num.specs.declared.values.Cause.{Cause}
+use Rattle.im_num.specs.declared.values.Cause.TheVariants.{Entry, Return as Back, Dep}
+use Rattle.im_block.specs.declared.access.Tags.{Tags}
+use Rattle.im_block.specs.declared.code.Line.{Line}
+use Rattle.im_block.specs.declared.code.Line.TheVariants.{Write, Spill, Cut, Call, GetChar, PutChar}
+use Rattle.im_block.specs.declared.code.Exit.{Exit}
+use Rattle.im_block.specs.declared.code.Exit.TheVariants.{Jump, Turn, Branch, Return}
+use Rattle.im_block.specs.declared.code.Block.{Block}
+use Rattle.im_block.specs.declared.unit.Function.{Function}
+use Rattle.im_block.specs.declared.unit.Unit.{Unit as Code}
+use Rattle.im_block.specs.Meaning.{Site, Spot}
+use Rattle.im_block.specs.Uncut.{WithCuts, Empty, Same, Added, SameBlock, SameBlocks, SameFunction, SameFunctions, SameButCuts}
+use Rattle.im_block.specs.Paths.{Step, WriteStep, steps_of, Open, IsCut, spot, Path, Here, Along, Across, IsEntry, AfterCut, Begins, AllSectioned}
+use Rattle.im_block.specs.Forced.{StartsWithCut, EndsWithCut, CutAfterCalls, CutAtTurn, IsForced, AllForced}
+use Rattle.im_force.specs.Force.{due_before, due_behind, due_at, cut_of, forced_lines, ForcesBlock, due_first, ForcesBlocks, ForcesFunction, ForcesFunctions, Forces}
+
+-- cuts are added, and nothing else
+
+cut_added : (due : Option Cause) → WithCuts [] (cut_of due)
+cut_added None = Empty
+cut_added (Some cause) = Added cause [] [] Empty
+
+due_added : (due : Option Cause) (old new : List Line) → WithCuts old new → WithCuts old (cut_of due ++ new)
+due_added None old new h = h
+due_added (Some cause) old new h = Added cause old new h
+
+lines_same : (exit : Exit) (due : Option Cause) (lines : List Line) → WithCuts lines (forced_lines exit due lines)
+lines_same exit due [] = cut_added (due_at due exit)
+lines_same exit due (line ∷ lines) =
+    due_added (due_before due line) (line ∷ lines) (line ∷ forced_lines exit (due_behind line) lines)
+    (Same line lines (forced_lines exit (due_behind line) lines) (lines_same exit (due_behind line) lines))
+
+block_same : (due : Option Cause) (x y : Block) → ForcesBlock due x y → SameBlock x y
+block_same due x y h = record { lines = subst (WithCuts x.lines.items) (sym h.lines) (lines_same x.exit due x.lines.items); exit = h.exit }
+
+blocks_same : (entry n : ℕ) (xs ys : List Block) → ForcesBlocks entry n xs ys → SameBlocks xs ys
+blocks_same entry n [] [] h = tt
+blocks_same entry n [] (y ∷ ys) h = absurd h
+blocks_same entry n (x ∷ xs) [] h = absurd h
+blocks_same entry n (x ∷ xs) (y ∷ ys) h = (block_same (due_first entry n) x y h.0, blocks_same entry (suc n) xs ys h.1)
+
+function_same : (f g : Function) → ForcesFunction f g → SameFunction f g
+function_same f g h = record { blocks = blocks_same f.entry 0 f.blocks.items g.blocks.items h.blocks; rest = h.rest }
+
+functions_same : (fs gs : List Function) → ForcesFunctions fs gs → SameFunctions fs gs
+functions_same [] [] h = tt
+functions_same [] (g ∷ gs) h = absurd h
+functions_same (f ∷ fs) [] h = absurd h
+functions_same (f ∷ fs) (g ∷ gs) h = (function_same f g h.0, functions_same fs gs h.1)
+
+pub same : (old new : Code) → Forces old new → SameButCuts old new
+same old new h = record { functions = functions_same old.functions.items new.functions.items h.functions; rest = h.rest }
+
+-- each cut that must stand does
+
+starts : (exit : Exit) (cause : Cause) (lines : List Line) → StartsWithCut (forced_lines exit (Some cause) lines)
+starts exit cause [] = tt
+starts exit cause (line ∷ lines) = tt
+
+behind_due : (due : Option Cause) (lines : List Line) → CutAfterCalls lines → CutAfterCalls (cut_of due ++ lines)
+behind_due None lines h = h
+behind_due (Some cause) lines h = h
+
+only_due : (due : Option Cause) → CutAfterCalls (cut_of due)
+only_due None = tt
+only_due (Some cause) = tt
+
+behind_call : (exit : Exit) (line : Line) (lines : List Line) → CutAfterCalls (forced_lines exit (due_behind line) lines) → CutAfterCalls (line ∷ forced_lines exit (due_behind line) lines)
+behind_call exit (Call to i first count) lines h = (starts exit Back lines, h)
+behind_call exit (GetChar to) lines h = (starts exit Back lines, h)
+behind_call exit (PutChar to from) lines h = (starts exit Back lines, h)
+behind_call exit line lines h = h
+
+calls : (exit : Exit) (due : Option Cause) (lines : List Line) → CutAfterCalls (forced_lines exit due lines)
+calls exit due [] = only_due (due_at due exit)
+calls exit due (line ∷ lines) =
+    behind_due (due_before due line) (line ∷ forced_lines exit (due_behind line) lines) (behind_call exit line lines (calls exit (due_behind line) lines))
+
+ends_more : (line : Line) (lines : List Line) → EndsWithCut lines → EndsWithCut (line ∷ lines)
+ends_more line [] h = absurd h
+ends_more line (next ∷ lines) h = h
+
+ends_due : (due : Option Cause) (lines : List Line) → EndsWithCut lines → EndsWithCut (cut_of due ++ lines)
+ends_due None lines h = h
+ends_due (Some cause) lines h = ends_more (Cut cause) lines h
+
+turn : (b : ℕ) (due : Option Cause) (lines : List Line) → EndsWithCut (forced_lines (Turn b) due lines)
+turn b None [] = tt
+turn b (Some cause) [] = tt
+turn b due (line ∷ lines) =
+    ends_due (due_before due line) (line ∷ forced_lines (Turn b) (due_behind line) lines) (ends_more line (forced_lines (Turn b) (due_behind line) lines) (turn b (due_behind line) lines))
+
+turns : (exit : Exit) (due : Option Cause) (lines : List Line) → CutAtTurn exit (forced_lines exit due lines)
+turns (Jump b) due lines = tt
+turns (Turn b) due lines = turn b due lines
+turns (Branch on x y) due lines = tt
+turns (Return from) due lines = tt
+
+-- a block of the new code, and the old one that it is made of
+record Made (entry n : ℕ) (xs : List Block) (y : Block) : Type 0 where
+  old : Block
+  number : ℕ
+  is : number ≡ n
+  forces : ForcesBlock (due_first entry number) old y
+
+made : (entry n : ℕ) (xs ys : List Block) (i : ℕ) (y : Block) → ForcesBlocks entry n xs ys → slice_get ys i ≡ Some y → Made entry (n + i) xs y
+made entry n [] [] i y h e = cc
+made entry n [] (z ∷ ys) i y h e = absurd h
+made entry n (x ∷ xs) [] i y h e = absurd h
+made entry n (x ∷ xs) (z ∷ ys) zero y h e =
+    let one : z ≡ y = cc in
+    record { old = x; number = n; is = omega arith; forces = subst (ForcesBlock (due_first entry n) x) one h.0 }
+made entry n (x ∷ xs) (z ∷ ys) (suc i) y h e =
+    let m = made entry (suc n) xs ys i y h.1 e in
+    record { old = m.old; number = m.number; is = m.is ∙ omega arith; forces = m.forces }
+
+pub first_due : (entry n : ℕ) → n ≡ entry → due_first entry n ≡ Some Entry
+first_due entry n e = ap (λ b. if b then Some Entry else None) (eq-eqb n entry e)
+
+pub other_due : (entry n : ℕ) → (n ≡ entry → ⊥) → due_first entry n ≡ None
+other_due entry n ne = ap (λ b. if b then Some Entry else None) (ne_eqb n entry ne)
+
+function_forced : (f g : Function) → ForcesFunction f g → IsForced g
+function_forced f g h = record {
+  entry = λ block at.
+      let m = made f.entry 0 f.blocks.items g.blocks.items g.entry block h.blocks at in
+      let entry : g.entry ≡ f.entry = ap (λ (k : Function). k.entry) h.rest in
+      let due = first_due f.entry m.number (m.is ∙ omega arith) in
+      subst StartsWithCut (sym m.forces.lines) (subst (λ d. StartsWithCut (forced_lines m.old.exit d m.old.lines.items)) (sym due) (starts m.old.exit Entry m.old.lines.items));
+  calls = λ b block at.
+      let m = made f.entry 0 f.blocks.items g.blocks.items b block h.blocks at in
+      subst CutAfterCalls (sym m.forces.lines) (calls m.old.exit (due_first f.entry m.number) m.old.lines.items);
+  turns = λ b block at.
+      let m = made f.entry 0 f.blocks.items g.blocks.items b block h.blocks at in
+      subst (λ l. CutAtTurn block.exit l) (sym m.forces.lines) (subst (λ e. CutAtTurn e (forced_lines m.old.exit (due_first f.entry m.number) m.old.lines.items)) (sym m.forces.exit) (turns m.old.exit (due_first f.entry m.number) m.old.lines.items));
+}
+
+record OfOld (fs : List Function) (g : Function) : Type 0 where
+  old : Function
+  forces : ForcesFunction old g
+
+of_old : (fs gs : List Function) (i : ℕ) (g : Function) → ForcesFunctions fs gs → slice_get gs i ≡ Some g → OfOld fs g
+of_old [] [] i g h e = cc
+of_old [] (k ∷ gs) i g h e = absurd h
+of_old (f ∷ fs) [] i g h e = absurd h
+of_old (f ∷ fs) (k ∷ gs) zero g h e =
+    let one : k ≡ g = cc in
+    record { old = f; forces = subst (ForcesFunction f) one h.0 }
+of_old (f ∷ fs) (k ∷ gs) (suc i) g h e = let o = of_old fs gs i g h.1 e in record { old = o.old; forces = o.forces }
+
+pub forced : (old new : Code) → Forces old new → AllForced new
+forced old new h = record {
+  each = λ i g at. let o = of_old old.functions.items new.functions.items i g h.functions at in function_forced o.old g o.forces;
+}
+
+-- a write stands directly behind a cut, so no path of a section has a read before it
+
+abbrev cuts : Line → Bool
+cuts (Cut cause) = true
+cuts line = false
+
+-- fresh: a cut stands before the first line
+abbrev WritesCut : Bool → List Line → Type 0
+WritesCut fresh [] = Unit {0}
+WritesCut fresh (line ∷ lines) = ((w : Site) → steps_of line ≡ WriteStep w ∷ [] → fresh ≡ true) × WritesCut (cuts line) lines
+
+fresher : (fresh : Bool) (lines : List Line) → WritesCut false lines → WritesCut fresh lines
+fresher true [] h = tt
+fresher true (line ∷ lines) h = (λ w e. refl, h.1)
+fresher false lines h = h
+
+after_cut : (cause : Cause) (lines : List Line) → WritesCut true lines → WritesCut false (Cut cause ∷ lines)
+after_cut cause lines h = (λ w e. cc, h)
+
+line_cut : (due : Option Cause) (line : Line) (lines : List Line) → WritesCut (cuts line) lines → WritesCut false (cut_of (due_before due line) ++ line ∷ lines)
+line_cut (Some cause) line lines h = after_cut cause (line ∷ lines) (λ w e. refl, h)
+line_cut None (Write place kind from access) lines h = after_cut (Dep access access) (Write place kind from access ∷ lines) (λ w e. refl, h)
+line_cut None (Spill slot from access) lines h = after_cut (Dep access access) (Spill slot from access ∷ lines) (λ w e. refl, h)
+line_cut None line lines h = (λ w e. cc, h)
+
+only_cut : (due : Option Cause) → WritesCut false (cut_of due)
+only_cut None = tt
+only_cut (Some cause) = after_cut cause [] tt
+
+lines_cut : (exit : Exit) (due : Option Cause) (lines : List Line) → WritesCut false (forced_lines exit due lines)
+lines_cut exit due [] = only_cut (due_at due exit)
+lines_cut exit due (line ∷ lines) =
+    line_cut due line (forced_lines exit (due_behind line) lines) (fresher (cuts line) (forced_lines exit (due_behind line) lines) (lines_cut exit (due_behind line) lines))
+
+-- what is left of lines
+left_cut : (fresh : Bool) (before rest : List Line) (line : Line) → WritesCut fresh (before ++ line ∷ rest) → WritesCut (cuts line) rest
+left_cut fresh [] rest line h = h.1
+left_cut fresh (x ∷ before) rest line h = left_cut (cuts x) before rest line h.1
+
+uncut_is : (line : Line) → (IsCut line → ⊥) → cuts line ≡ false
+uncut_is (Cut cause) h = absurd (h tt)
+uncut_is line h = refl
+
+module _ (f : Function) (all : (b : ℕ) (block : Block) → slice_get f.blocks.items b ≡ Some block → WritesCut false block.lines.items) where
+  -- a path that has come further than its start stands before no write
+  record Knows (path : List Step) (s : Spot) : Type 0 where
+    fresh : Bool
+    left : WritesCut fresh s.rest
+    first : (path ≡ []) ⊎ (fresh ≡ false)
+
+  begun : (start : Spot) → Begins f start → Knows [] start
+  begun start from =
+      ⊎_elim
+      (λ (e : IsEntry f start).
+      record { fresh = false; left = subst (λ (s : Spot). WritesCut false s.rest) (sym e.is) (all f.entry e.block e.at); first = inl refl })
+      (λ (a : AfterCut f.blocks.items start).
+      record { fresh = cuts a.cut; left = left_cut false a.before start.rest a.cut (subst (WritesCut false) a.lines (all start.block a.block a.at)); first = inl refl })
+      from
+
+  knows : (start : Spot) → Begins f start → (path : List Step) (s : Spot) → Path f.blocks.items start path s → Knows path s
+  knows start from path s Here = begun start from
+  knows start from path s (Along p b line rest exit uncut q) =
+      let k = knows start from p (spot b (line ∷ rest) exit) q in
+      record { fresh = cuts line; left = k.left.1; first = inr (uncut_is line uncut) }
+  knows start from path s (Across p b exit c block edge at q) =
+      let k = knows start from p (spot b [] exit) q in
+      record { fresh = false; left = all c block at; first = inr refl }
+
+  never : (start : Spot) → Begins f start → (path : List Step) (b : ℕ) (line : Line) (rest : List Line) (exit : Exit) → Path f.blocks.items start path (spot b (line ∷ rest) exit) → (tags : Tags) (w r : Site) → steps_of line ≡ WriteStep w ∷ [] → Open tags path r → ⊥
+  never start from path b line rest exit p tags w r is opened =
+      let k = knows start from path (spot b (line ∷ rest) exit) p in
+      ⊎_elim
+      (λ (e : path ≡ []). subst (λ q. Open tags q r) e opened)
+      (λ (e : k.fresh ≡ false). let t : k.fresh ≡ true = k.left.0 w is in cc)
+      k.first
+
+pub sectioned : (old new : Code) (tags : Tags) → Forces old new → AllSectioned tags new
+sectioned old new tags h = record {
+  each = λ i g at. record {
+    each = λ start from path b line rest exit p w r is opened meet.
+        let o = of_old old.functions.items new.functions.items i g h.functions at in
+        let all = λ (b : ℕ) (block : Block) (there : slice_get g.blocks.items b ≡ Some block).
+        let m = made o.old.entry 0 o.old.blocks.items g.blocks.items b block o.forces.blocks there in
+        subst (WritesCut false) (sym m.forces.lines) (lines_cut m.old.exit (due_first o.old.entry m.number) m.old.lines.items) in
+        never g all start from path b line rest exit p tags w r is opened;
+  };
+}
+
+-- one more of a list has its cuts
+
+pub record BlocksMore (entry n j : ℕ) (xs ys : List Block) : Type 0 where
+  pub done : ForcesBlocks entry n (take j xs) (take j ys)
+  pub left : drop j ys ≡ drop j xs
+
+pub blocks_more : (entry n i : ℕ) (xs ys : List Block) (d y : Block) → i < length ys → ForcesBlocks entry n (take i xs) (take i ys) → drop i ys ≡ drop i xs → ForcesBlock (due_first entry (n + i)) (get_or ys i d) y → BlocksMore entry n (suc i) xs (slice_set ys i y)
+blocks_more entry n zero xs [] d y lt done left one = absurd (omega arith)
+blocks_more entry n zero [] (b ∷ ys) d y lt done left one = cc
+blocks_more entry n zero (a ∷ xs) (b ∷ ys) d y lt done left one =
+    let same : a ≡ b = cc in
+    let rest : ys ≡ xs = cc in
+    let first : ForcesBlock (due_first entry n) a y = subst (λ z. ForcesBlock (due_first entry n) z y) (sym same) (subst (λ k. ForcesBlock (due_first entry k) b y) (omega arith) one) in
+    record { done = (first, tt); left = rest }
+blocks_more entry n (suc i) xs [] d y lt done left one = absurd (omega arith)
+blocks_more entry n (suc i) [] (b ∷ ys) d y lt done left one = absurd done
+blocks_more entry n (suc i) (a ∷ xs) (b ∷ ys) d y lt done left one =
+    let m = blocks_more entry (suc n) i xs ys d y (omega arith) done.1 left (subst (λ k. ForcesBlock (due_first entry k) (get_or ys i d) y) (omega arith) one) in
+    record { done = (done.0, m.done); left = m.left }
+
+pub record FunctionsMore (j : ℕ) (fs gs : List Function) : Type 0 where
+  pub done : ForcesFunctions (take j fs) (take j gs)
+  pub left : drop j gs ≡ drop j fs
+
+pub functions_more : (i : ℕ) (xs ys : List Function) (d y : Function) → i < length ys → ForcesFunctions (take i xs) (take i ys) → drop i ys ≡ drop i xs → ForcesFunction (get_or ys i d) y → FunctionsMore (suc i) xs (slice_set ys i y)
+functions_more zero xs [] d y lt done left one = absurd (omega arith)
+functions_more zero [] (b ∷ ys) d y lt done left one = cc
+functions_more zero (a ∷ xs) (b ∷ ys) d y lt done left one =
+    let same : a ≡ b = cc in
+    let rest : ys ≡ xs = cc in
+    record { done = (subst (λ z. ForcesFunction z y) (sym same) one, tt); left = rest }
+functions_more (suc i) xs [] d y lt done left one = absurd (omega arith)
+functions_more (suc i) [] (b ∷ ys) d y lt done left one = absurd done
+functions_more (suc i) (a ∷ xs) (b ∷ ys) d y lt done left one =
+    let m = functions_more i xs ys d y (omega arith) done.1 left one in
+    record { done = (done.0, m.done); left = m.left }

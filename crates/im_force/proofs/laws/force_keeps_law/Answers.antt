@@ -1,0 +1,5 @@
+use Rattle.im_force.proofs.Keeps.{same, forced, sectioned}
+use Rattle.im_force.proofs.laws.force_keeps_law.Goals as goal
+
+pub returns : goal.returns
+returns c = record { same = same; forced = forced; sectioned = sectioned }

@@ -1,0 +1,69 @@
+-- Block code with its forced cuts: at the entry of each function, behind each call, on each loop edge, before each write;
+-- nowhere else.
+use Rattle.std.specs.Prelude.{◌≡◌, ℕ, ◌==◌, if◌then◌else◌, List, [], ◌∷◌, ◌++◌, Option, Some, None, suc}
+use Rattle.im_num.specs.declared.values.Cause.{Cause}
+use Rattle.im_num.specs.declared.values.Cause.TheVariants.{Entry, Return as Back, Loop, Dep}
+use Rattle.im_block.specs.declared.code.Line.{Line}
+use Rattle.im_block.specs.declared.code.Line.TheVariants.{Write, Spill, Cut, Call, GetChar, PutChar}
+use Rattle.im_block.specs.declared.code.Exit.{Exit}
+use Rattle.im_block.specs.declared.code.Exit.TheVariants.{Jump, Turn, Branch, Return}
+use Rattle.im_block.specs.declared.code.Block.{Block}
+use Rattle.im_block.specs.declared.unit.Function.{Function}
+use Rattle.im_block.specs.declared.unit.Unit.{Unit as Code}
+
+-- why a cut stands before a line: for what was before, or for the write that the line is
+abbrev pub due_before : Option Cause → Line → Option Cause
+due_before (Some cause) line = Some cause
+due_before None (Write place kind from access) = Some (Dep access access)
+due_before None (Spill slot from access) = Some (Dep access access)
+due_before None line = None
+
+abbrev pub due_behind : Line → Option Cause
+due_behind (Call to function first count) = Some Back
+due_behind (GetChar to) = Some Back
+due_behind (PutChar to from) = Some Back
+due_behind line = None
+
+abbrev pub due_at : Option Cause → Exit → Option Cause
+due_at (Some cause) exit = Some cause
+due_at None (Jump b) = None
+due_at None (Turn b) = Some Loop
+due_at None (Branch on x y) = None
+due_at None (Return from) = None
+
+abbrev pub cut_of : Option Cause → List Line
+cut_of None = []
+cut_of (Some cause) = Cut cause ∷ []
+
+-- the lines of a block with that exit; due: why a cut stands before the first of them
+abbrev pub forced_lines : Exit → Option Cause → List Line → List Line
+forced_lines exit due [] = cut_of (due_at due exit)
+forced_lines exit due (line ∷ lines) = cut_of (due_before due line) ++ line ∷ forced_lines exit (due_behind line) lines
+
+pub record ForcesBlock (due : Option Cause) (old new : Block) : Type 0 where
+  pub lines : new.lines.items ≡ forced_lines old.exit due old.lines.items
+  pub exit : new.exit ≡ old.exit
+
+abbrev pub due_first : ℕ → ℕ → Option Cause
+due_first entry b = if b == entry then Some Entry else None
+
+-- block by block, the first one being the n-th
+abbrev pub ForcesBlocks : ℕ → ℕ → List Block → List Block → Type 0
+ForcesBlocks entry n [] [] = Unit {0}
+ForcesBlocks entry n (x ∷ xs) (y ∷ ys) = ForcesBlock (due_first entry n) x y × ForcesBlocks entry (suc n) xs ys
+ForcesBlocks entry n [] (y ∷ ys) = ⊥
+ForcesBlocks entry n (x ∷ xs) [] = ⊥
+
+pub record ForcesFunction (old new : Function) : Type 0 where
+  pub blocks : ForcesBlocks old.entry 0 old.blocks.items new.blocks.items
+  pub rest : new ≡ record old { blocks = new.blocks }
+
+abbrev pub ForcesFunctions : List Function → List Function → Type 0
+ForcesFunctions [] [] = Unit {0}
+ForcesFunctions (f ∷ fs) (g ∷ gs) = ForcesFunction f g × ForcesFunctions fs gs
+ForcesFunctions [] (g ∷ gs) = ⊥
+ForcesFunctions (f ∷ fs) [] = ⊥
+
+pub record Forces (old new : Code) : Type 0 where
+  pub functions : ForcesFunctions old.functions.items new.functions.items
+  pub rest : new ≡ record old { functions = new.functions }

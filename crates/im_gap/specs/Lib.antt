@@ -1,0 +1,4 @@
+pub mod Flow
+pub mod Gap
+pub mod Laws
+pub mod Table

@@ -1,0 +1,12 @@
+-- What is proved of the headline's definition.
+use Rattle.std.specs.Prelude.{ℕ, List}
+use Rattle.im_image.specs.Contents.{ImageValue}
+use Rattle.im_store.specs.Outcomes.{Refines}
+use Rattle.im_keeps.specs.Keeps.{Meaning, Keeps}
+
+-- the target's meaning is the source's, wherever that is defined
+abbrev pub RefinesMeaning : Meaning → Meaning → Type 0
+RefinesMeaning target source = (input : List ℕ) (fuel : ℕ) → Refines (target input fuel) (source input fuel)
+
+abbrev pub RefinedLaw : Type 0
+RefinedLaw = (source target : Meaning) (image : ImageValue) (gap : ℕ) → RefinesMeaning target source → Keeps target image gap → Keeps source image gap

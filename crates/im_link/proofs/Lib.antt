@@ -1,0 +1,7 @@
+pub mod Joining
+pub mod Placing
+pub mod Accessing
+pub mod Cutting
+pub mod Laying
+pub mod Whole
+pub mod Checking

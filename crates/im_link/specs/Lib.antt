@@ -1,0 +1,6 @@
+pub mod Parts
+pub mod Links
+pub mod Cuts
+pub mod Code
+pub mod Laws
+pub mod State

@@ -1,0 +1,16 @@
+//! From parts, lines of instructions with labels, to code in its place.
+#![tactic(auto)]
+
+mod aim;
+mod cuts;
+mod fault;
+mod laws;
+mod linking;
+mod places;
+#[cfg(test)]
+mod tests;
+mod words;
+
+pub use fault::LinkFault;
+pub use laws::laid_law;
+pub use linking::link;

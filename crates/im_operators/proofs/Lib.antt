@@ -1,0 +1,4 @@
+pub mod Words
+pub mod Arithmetic
+pub mod Division
+pub mod Comparisons

@@ -1,0 +1,2 @@
+//! From C's operators on integers to the machine's on words.
+#![tactic(auto)]

@@ -1,0 +1,16 @@
+ghost use Rattle.im_passes.specs.Laws.{PassesKeepLaw};
+
+use im_block::{added_cuts_law, each_line_law, section_law};
+use im_block_laws::cuts_keep_code_law;
+use im_force::force_keeps_law;
+
+/// From the passes' promises alone: the written image keeps its program's meaning.
+pub fn passes_keep_law()
+    ensures { PassesKeepLaw }
+{
+    each_line_law();
+    added_cuts_law();
+    section_law();
+    cuts_keep_code_law();
+    force_keeps_law();
+}

@@ -1,3 +1,0 @@
-pub mod Endless
-pub mod Rows
-pub mod Turns

@@ -1,9 +1,0 @@
-use Rattle.std.proofs.Common.{refl}
-use Rattle.im_typed.specs.Programs.{meaning}
-use Rattle.im_typed.specs.Numbers.{apply, apply_one}
-use Rattle.im_num.specs.Kinds.{wrap, word}
-use Rattle.im_plain_eval.proofs.examples.zero_divisor.Goals as goal
-
-pub returns : goal.returns
-unfolding meaning wrap word apply apply_one
-returns c = λ memory input fuel. refl

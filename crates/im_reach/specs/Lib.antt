@@ -1,0 +1,6 @@
+pub mod Touches
+pub mod Shown
+pub mod Reach
+pub mod Instructions
+pub mod Routines
+pub mod Laws

@@ -1,0 +1,12 @@
+ghost use Rattle.im_select.specs.Law.{SelectKeeps};
+ghost use Rattle.im_select.specs.Symbolic.{LinesLaw};
+
+/// Where placed code is selected and linked, the machine follows it: the same outcome, the same accesses.
+pub fn select_keeps_law()
+    ensures { SelectKeeps }
+{}
+
+/// Lines that are selected, once laid at their places, are what the law of selection asks for.
+pub fn lines_law()
+    ensures { LinesLaw }
+{}

@@ -1,4 +1,0 @@
-pub mod Lifetimes
-pub mod Rows
-pub mod Sizes
-pub mod Steps

@@ -1,6 +1,0 @@
-use Rattle.im_typed.specs.Objects.{number_in, number}
-use Rattle.im_num.specs.Kinds.{wrap}
-use Rattle.im_state.proofs.operand.converted.Goals as goal
-
-pub returns-in-Err : goal.returns-in-Err
-returns-in-Err c = λ s r h. c.in-Err.ensures s r h (λ vs. λ v. number_in v (λ z. number (wrap c.args.kind z)))

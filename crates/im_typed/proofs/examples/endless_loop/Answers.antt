@@ -1,0 +1,10 @@
+use Rattle.std.proofs.Common.{refl}
+use Rattle.im_typed.proofs.Endless.{turns-for-ever}
+use Rattle.im_typed.specs.Programs.{meaning}
+use Rattle.im_store.specs.Numbers.{apply, apply_one}
+use Rattle.im_num.specs.Kinds.{wrap, word}
+use Rattle.im_typed.proofs.examples.endless_loop.Goals as goal
+
+pub returns : goal.returns
+unfolding meaning wrap word apply apply_one
+returns c = λ input fuel. rw (turns-for-ever fuel _ fuel) refl

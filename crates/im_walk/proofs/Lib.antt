@@ -1,0 +1,5 @@
+pub mod Heights
+pub mod States
+pub mod Visiting
+pub mod Several
+pub mod Cursors

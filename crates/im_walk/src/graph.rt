@@ -1,0 +1,40 @@
+ghost use Rattle.std.specs.Prelude.{◌≡◌, ◌≤◌};
+ghost use Rattle.im_walk.specs.Graph.{successors_of, weight_of, IsGraph};
+
+/// A node leads to the targets from `first` on, up to `end`; it counts in the cost of a walk or not.
+#[derive(Clone, Copy, Debug)]
+pub struct Node {
+    pub first: usize,
+    pub end: usize,
+    pub counts: bool,
+}
+
+/// A graph by its edges: the targets of all nodes, those of one node side by side.
+#[derive(Debug, Drop)]
+pub struct Graph {
+    pub nodes: Vec<Node>,
+    pub targets: Vec<usize>,
+}
+
+impl Graph {
+    pub(crate) fn successors(&self, v: usize) -> &[usize]
+        requires { IsGraph self.now }
+        ensures { result.now ≡ successors_of self.now v }
+    {
+        match self.nodes.get(v) {
+            None => &[],
+            Some(node) => &self.targets[node.first..node.end],
+        }
+    }
+
+    /// 1 where the node counts, 0 where it doesn't.
+    pub(crate) fn weight(&self, v: usize) -> u32
+        ensures value { result ≡ weight_of self.now v }
+        ensures small { result ≤ 1 }
+    {
+        match self.nodes.get(v) {
+            None => 0,
+            Some(node) => u32::from(node.counts),
+        }
+    }
+}
