@@ -103,7 +103,7 @@ module _ {R : Type 0} (next : R → Mem → Next R) (tear : ℕ → R → Mem �
     | inr n ↦ fixed_mixed (start flip t) m k.mixed a h ∙ sym (unwritten flip wr mem a (λ v. u.writes v a (u.fixed_outside a h)) t n)
   ]
 
-  agrees : (t : ℕ) (m : Mem) → Tracks t m → Agrees rd mem fixed t m
+  pub agrees : (t : ℕ) (m : Mem) → Tracks t m → Agrees rd mem fixed t m
   agrees t m k = record { reads = read_same t m k; fixes = fixed_same t m k }
 
   patched_same : (t : ℕ) (m : Mem) (a : ℕ) → buf a ≡ false → m a ≡ mem t a → patched (wr t) m a ≡ mem (suc t) a
@@ -203,7 +203,7 @@ module _ {R : Type 0} (next : R → Mem → Next R) (tear : ℕ → R → Mem �
   ]
 
   -- recovery has led to the place where the section resumes
-  awake : (x : Moment R) (w : Wakes x) → w.i ≡ wake → Goes_on (resume w.s) x
+  pub awake : (x : Moment R) (w : Wakes x) → w.i ≡ wake → Goes_on (resume w.s) x
   awake x w q =
       let r : like (resume w.s) (waking wake w.junk x.mem) x.mem = u.woken w.s w.junk x.mem w.begins w.lives (fixed_mixed w.s x.mem w.mixed) in
       let same = u.resumes w.s w.begins in

@@ -1,13 +1,15 @@
 -- The theorem over the device, from that over the abstract machine.
-use Rattle.std.proofs.Common.{◌≡◌, ◌≢◌, inl, inr, ℕ, ◌+◌, ◌%◌, ◌<◌, true, false, List, sym, ap, ◌∙◌, subst, arith}
+use Rattle.std.proofs.Common.{◌≡◌, ◌≢◌, inl, inr, ℕ, ◌+◌, ◌-◌, ◌%◌, ◌<◌, true, false, List, sym, ap, ◌∙◌, subst, arith, ◌≤◌, refl}
 use Rattle.im_mem.specs.Memory.{Mem}
-use Rattle.im_rv.specs.declared.step.Went.TheVariants.{On}
+use Rattle.im_rv.specs.declared.step.Went.{Went}
+use Rattle.im_rv.specs.declared.step.Went.TheVariants.{On, Halted, Faulted}
+use Rattle.im_path.proofs.Times.{order}
 use Rattle.im_rv.specs.Steps.{Cpu}
 use Rattle.im_power.specs.declared.period.Period.{Period}
 use Rattle.im_device.specs.Run.{Moment, index_of}
 use Rattle.im_path.specs.Path.{Moment as PathMoment}
 use Rattle.im_path.specs.Sections.{Mixed}
-use Rattle.im_ckpt.specs.Runs.{State, flip, memory, writes}
+use Rattle.im_ckpt.specs.Runs.{State, flip, ends, memory, writes}
 use Rattle.im_ckpt.specs.Buffers.{is_buffer}
 use Rattle.im_ckpt.proofs.Resume.{resuming_is}
 use Rattle.im_replay.specs.Sections.{IsLive}
@@ -15,13 +17,16 @@ use Rattle.im_replay.specs.Uninterrupted.{uninterrupted}
 use Rattle.im_replay.specs.Compiled.{IsCompiled}
 use Rattle.im_replay.specs.Replays.{after, within, and_then, StandsAt, Goes, Recovers, Executes, IsOver, EndsAs, Replays, GapAtMost, Progresses}
 use Rattle.im_replay.specs.Output.{Extends, SameOutput, NeverShrinks}
-use Rattle.im_replay.specs.Laws.{ReplayLaw, OutputLaw, ProgressLaw}
+use Rattle.im_replay.specs.Laws.{ReplayLaw, OutputLaw, ProgressLaw, KeepsLaw}
 use Rattle.im_replay.proofs.Machine.{Stands_at, Runs, Ended_as, Replays_path, Never_shrinks_path, powered, within as path_within}
 use Rattle.im_replay.proofs.Machine.Runs.{Recovers as Path_recovers, Executes as Path_executes, Is_over as Path_over}
 use Rattle.im_replay.proofs.Bridge.{path_of, written_out, after_same, within_same, more_same, long_same, on_of, going_of, over_of, off_of}
 use Rattle.im_replay.proofs.Images.{can_resume, first_mem, owed_of}
 use Rattle.im_replay.proofs.Owing.{sound}
-use Rattle.im_replay.proofs.Following.{replays}
+use Rattle.im_replay.proofs.Following.{replays, after_end}
+use Rattle.im_replay.proofs.Safe.{never_faults}
+use Rattle.im_replay.proofs.Shows.{grows_on, same_extends, extends_self}
+use Rattle.im_replay.proofs.Sound.{IsSound}
 use Rattle.im_replay.proofs.Growing.{never_shrinks}
 
 module _ (run : ℕ → State) (m : Mem) (index_zero : index_of (run 0).mem ≡ 0) where
@@ -60,6 +65,7 @@ module _ (run : ℕ → State) (m : Mem) (index_zero : index_of (run 0).mem ≡ 
           stands_by (path_within (written_out ps) n junk m) (within ps n junk m).mem (within ps n junk m).commits (ap (λ (z : PathMoment Cpu). z.mem) e) (ap (λ (z : PathMoment Cpu). z.commits) e) q.0,
           goes_of (r.after_periods (written_out ps)).s n (within ps n junk m) (subst (λ z. Runs run (r.after_periods (written_out ps)).s n z) e q.1),
         ));
+    no_fault = never_faults run m r;
     at_end = λ ps over. (let s = after_same ps m in ends_by (powered (written_out ps) m) (after ps m).mem (after ps m).commits s.mem s.commits (r.at_end (written_out ps) (off_now ps over)));
   }
 
@@ -96,6 +102,16 @@ module _ (m : Mem) (code : ℕ) (c : IsCompiled m code) where
   path_replays : Replays_path (uninterrupted m) m
   path_replays = replays (uninterrupted m) code (sound (uninterrupted m) code (owed_of m code c)) m (first_mem m (can_resume m code c))
 
+  is_sound : IsSound (uninterrupted m) code
+  is_sound = sound (uninterrupted m) code (owed_of m code c)
+
+  -- the run is the same at each time from its end on
+  same_end : (s t : ℕ) → ends (uninterrupted m) s ≡ true → s ≤ t → uninterrupted m t ≡ uninterrupted m s
+  same_end s t h l = let q : s + (t - s) ≡ t = omega arith in ap (uninterrupted m) (sym q) ∙ after_end (uninterrupted m) code is_sound s (t - s) h
+
+  one_end : (s t : ℕ) → ends (uninterrupted m) s ≡ true → ends (uninterrupted m) t ≡ true → uninterrupted m s ≡ uninterrupted m t
+  one_end s t h k = elim (order s t) [ inl l ↦ sym (same_end s t h (omega arith)) | inr l ↦ same_end t s k l ]
+
 pub replay_law : ReplayLaw
 replay_law m code c = replays_on (uninterrupted m) m (index_first m code c) (path_replays m code c)
 
@@ -104,3 +120,26 @@ progress_law m code k c gap = progresses_on (uninterrupted m) m (index_first m c
 
 pub output_law : OutputLaw
 output_law m code c shows = output_on (uninterrupted m) m (index_first m code c) (never_shrinks (uninterrupted m) code (sound (uninterrupted m) code (owed_of m code c)) shows m (first_mem m (can_resume m code c)))
+
+halted_of : (w : Went) → w ≢ On → ((at : ℕ) → w ≢ Faulted at) → w ≡ Halted
+halted_of On h k = absurd (h refl)
+halted_of Halted h k = refl
+halted_of (Faulted at) h k = absurd (k at refl)
+
+pub keeps_law : KeepsLaw
+keeps_law m code k c time compiled shows gap ended most =
+    let run = uninterrupted m in
+    let r = replay_law m code compiled in
+    let p = progress_law m code k compiled gap in
+    let o = output_law m code compiled shows in
+    record {
+      always = λ ps. (let s = o.shows ps in
+          elim (order s.0 time) [
+            | inl l ↦ same_extends (after ps m).mem (run s.0).mem (run time).mem (run time).mem s.1 (grows_on run code (is_sound m code compiled) shows s.0 time (omega arith)) (record { size = refl; bytes = λ i g. refl })
+            | inr l ↦ same_extends (after ps m).mem (run s.0).mem (run time).mem (run time).mem s.1 (subst (λ (z : State). Extends (run s.0).mem z.mem) (same_end m code compiled time s.0 ended l) (extends_self (run s.0).mem)) (record { size = refl; bytes = λ i g. refl })
+          ]);
+      exact = λ ps h a out. (let e = r.at_end ps (λ on. let bad : Halted ≡ On = sym h ∙ on in cc) in
+          e.bytes a out ∙ ap (λ (z : State). z.mem a) (one_end m code compiled e.time time e.ended ended));
+      halts = λ ps l. halted_of (after ps m).went (p.all c most ps l) (r.no_fault ps);
+      safe = λ ps at h. r.no_fault ps at h;
+    }

@@ -14,7 +14,7 @@ use Rattle.im_ckpt.specs.Laws.{CanResume}
 use Rattle.im_ckpt.proofs.Resume.{cpu_after, resuming_is}
 use Rattle.im_replay.specs.Uninterrupted.{state_of, uninterrupted}
 
-on_or_over : (w : Went) → (w ≡ On) ⊎ (w ≢ On)
+pub on_or_over : (w : Went) → (w ≡ On) ⊎ (w ≢ On)
 on_or_over On = inl refl
 on_or_over Halted = inr (λ q. cc)
 on_or_over (Faulted at) = inr (λ q. cc)

@@ -1,4 +1,6 @@
 -- The replay theorem of the machine, from the abstract one.
+use Rattle.im_ckpt.proofs.Resume.{recovery_walks}
+use Rattle.im_ckpt.proofs.Slots.{saves_of}
 use Rattle.std.proofs.Common.{◌≡◌, ◌≢◌, ◌<◌, ◌≤◌, inl, inr, ◌+◌, ◌-◌, ◌%◌, ℕ, zero, suc, Bool, true, false, cond, List, [], Option, Some, None, refl, sym, ap, ◌∙◌, subst, arith}
 use Rattle.std.specs.Prelude.{not, nat_eq}
 use Rattle.std.proofs.lemmas.Bool.Decides.{nat_tests}
@@ -7,23 +9,23 @@ use Rattle.im_num.specs.Bytes.{bytes_of}
 use Rattle.im_mem.specs.Memory.{Mem, loaded, is_place}
 use Rattle.im_rv.specs.declared.effect.Effect.{Effect}
 use Rattle.im_rv.specs.declared.effect.Effect.TheVariants.{Puts, Goes, Loads, Stores, Stops}
-use Rattle.im_rv.specs.declared.step.Went.TheVariants.{Halted, Faulted}
+use Rattle.im_rv.specs.declared.step.Went.TheVariants.{Halted, Faulted, On}
 use Rattle.im_rv.specs.Steps.{Cpu, Stepped, effected, loads}
 use Rattle.im_rv.specs.Decode.{step_of}
 use Rattle.im_device.specs.Run.{boot, index_of}
 use Rattle.im_path.specs.Path.{Moment, Spell, long_periods}
 use Rattle.im_path.specs.Sections.{Mixed, start, flips}
-use Rattle.im_path.proofs.Times.{truth, start_start}
-use Rattle.im_path.proofs.Replay.{fixed_mixed, Place, Fails, Left, Failed, Ended, In_recovery, In_section, At_end, left_fails, replay, replay_within, flips-start, progress, halts, ended_same}
+use Rattle.im_path.proofs.Times.{truth, start_start, order}
+use Rattle.im_path.proofs.Replay.{fixed_mixed, Place, Fails, Left, Failed, Ended, In_recovery, In_section, At_end, left_fails, replay, replay_within, flips-start, progress, halts, ended_same, Goes_on, Wakes, awake, agrees}
 use Rattle.im_rv.specs.Effects.{effect, writes_by}
 use Rattle.im_replay.proofs.Machine.{next_of, powered, switched_on, Stands_at, Runs, Recovers, Executes, Is_over, within, Ended_as, Replays_path, waking}
 use Rattle.im_rv.specs.Torn.{torn_of}
-use Rattle.im_ckpt.specs.Runs.{State, stepped, is_on, is_end, flip, ends, memory, writes, reads}
-use Rattle.im_ckpt.specs.Buffers.{is_buffer, is_fixed}
+use Rattle.im_ckpt.specs.Runs.{State, stepped, is_on, is_end, flip, ends, memory, writes, reads, effect_at}
+use Rattle.im_ckpt.specs.Buffers.{is_buffer, is_fixed, saves_by}
 use Rattle.im_replay.specs.Sections.{resume, IsLive}
 use Rattle.im_replay.proofs.Sound.{IsLike, IsSound}
 use Rattle.im_rv.proofs.Locality.{step_effected, saved_at}
-use Rattle.im_replay.proofs.Steps.{effect_is}
+use Rattle.im_replay.proofs.Steps.{effect_is, paces_plain, paces_save}
 use Rattle.im_replay.proofs.Buffers.{index_calm}
 use Rattle.im_replay.proofs.Instance.{followed, wake, can_of}
 
@@ -121,6 +123,34 @@ module _ (run : ℕ → State) (code : ℕ) (u : IsSound run code) where
   none_left : (t v a : ℕ) → ends run t ≡ true → t ≤ v → writes run v a ≡ None
   none_left t v a h l = let q : t + (v - t) ≡ v = omega arith in end_writes v a (ap (ends run) (sym q) ∙ ended_on t (v - t) h)
 
+  -- at and behind the end the run stays as it is
+  pub after_end : (t n : ℕ) → ends run t ≡ true → run (t + n) ≡ run t
+  after_end t zero h = ap run (let q : t + 0 ≡ t = omega arith in q)
+  after_end t (suc n) h = ap run (let q : t + suc n ≡ suc (t + n) = omega arith in q) ∙ end_stays (t + n) (ended_on t n h) ∙ after_end t n h
+
+  -- the next step doesn't fault
+  section_safe : (t : ℕ) (x : Moment Cpu) → Goes_on next_of torn_of boot index_of (memory run) (writes run) (reads run) (flip run) (ends run) is_buffer (is_fixed code) (IsLike run) (IsLive run) resume 33 waking (followed run code u) t x → (at : ℕ) → (step_of x.regs x.mem).went ≢ Faulted at
+  section_safe t x g at h =
+      let a = agrees next_of torn_of boot index_of (memory run) (writes run) (reads run) (flip run) (ends run) is_buffer (is_fixed code) (IsLike run) (IsLive run) resume 33 waking (followed run code u) t x.mem g.tracks in
+      elim (truth (saves_by (effect_at (run t)))) [
+        | inl s ↦ u.no_fault t at (sym (paces_save run code u t x.regs x.mem (saves_of (run t) (u.line t).rs2 (u.saves t s)) g.regs a.fixes).went ∙ h)
+        | inr s ↦ u.no_fault t at (sym (paces_plain run code u t x.regs x.mem s g.regs a.reads a.fixes).went ∙ h)
+      ]
+
+  wakes_safe : (x : Moment Cpu) (w : Wakes next_of torn_of boot index_of (memory run) (writes run) (reads run) (flip run) (ends run) is_buffer (is_fixed code) (IsLike run) (IsLive run) resume 33 waking (followed run code u) x) → (at : ℕ) → (step_of x.regs x.mem).went ≢ Faulted at
+  wakes_safe x w at h = elim (order w.i 33) [
+    | inl l ↦ (
+        let can = can_of run code u w.s x.mem (wake run code u w.s x.mem w.begins w.lives (fixed_mixed next_of torn_of boot index_of (memory run) (writes run) (reads run) (flip run) (ends run) is_buffer (is_fixed code) (IsLike run) (IsLive run) resume 33 waking (followed run code u) w.s x.mem w.mixed)) in
+        let e : On ≡ Faulted at = sym (ap (λ (z : Stepped). z.went) (recovery_walks x.mem w.junk can w.i l)) ∙ ap (λ c. (step_of c x.mem).went) (sym w.at) ∙ h in
+        absurd (cc))
+    | inr l ↦ (let z : w.i ≡ 33 = (let v = w.within in omega arith) in section_safe (resume w.s) x (awake next_of torn_of boot index_of (memory run) (writes run) (reads run) (flip run) (ends run) is_buffer (is_fixed code) (IsLike run) (IsLive run) resume 33 waking (followed run code u) x w z) at h)
+  ]
+
+  place_safe : (s n : ℕ) (x : Moment Cpu) → There s n x → x.over ≡ false → (at : ℕ) → (step_of x.regs x.mem).went ≢ Faulted at
+  place_safe s n x (In_recovery w ws wi) g at h = wakes_safe x w at h
+  place_safe s n x (In_section t age r) g at h = section_safe t x r at h
+  place_safe s n x (At_end e) g at h = absurd (let bad : true ≡ false = sym e.over ∙ g in cc)
+
   ended : (x : Moment Cpu) → Stays x → x.over ≡ true → Ended_as run x
   ended x (Failed f g) o = absurd (let bad : true ≡ false = sym o ∙ g in cc)
   ended x (Ended e) o = record { time = e.t; ended = e.stopped; commits = e.count; bytes = ended_same next_of torn_of boot index_of (memory run) (writes run) (reads run) (flip run) (ends run) is_buffer (is_fixed code) (IsLike run) (IsLive run) resume 33 waking (followed run code u) x e (λ t a l. none_left e.t t a e.stopped l) }
@@ -134,6 +164,7 @@ module _ (run : ℕ → State) (code : ℕ) (u : IsSound run code) where
         after_periods = λ ps. stands (powered ps m) (left_fails next_of torn_of boot index_of (memory run) (writes run) (reads run) (flip run) (ends run) is_buffer (is_fixed code) (IsLike run) (IsLive run) resume 33 waking (followed run code u) (powered ps m) (all ps));
         in_period = λ ps n junk on. placed (left_fails next_of torn_of boot index_of (memory run) (writes run) (reads run) (flip run) (ends run) is_buffer (is_fixed code) (IsLike run) (IsLive run) resume 33 waking (followed run code u) (powered ps m) (all ps)).s n (within ps n junk m) (replay_within next_of torn_of boot index_of (memory run) (writes run) (reads run) (flip run) (ends run) is_buffer (is_fixed code) (IsLike run) (IsLive run) resume 33 waking (followed run code u) ps n junk (switched_on m) (sym e) refl l refl on);
         at_end = λ ps o. ended (powered ps m) (all ps) o;
+        safe = λ ps n junk on g. place_safe (left_fails next_of torn_of boot index_of (memory run) (writes run) (reads run) (flip run) (ends run) is_buffer (is_fixed code) (IsLike run) (IsLive run) resume 33 waking (followed run code u) (powered ps m) (all ps)).s n (within ps n junk m) (replay_within next_of torn_of boot index_of (memory run) (writes run) (reads run) (flip run) (ends run) is_buffer (is_fixed code) (IsLike run) (IsLive run) resume 33 waking (followed run code u) ps n junk (switched_on m) (sym e) refl l refl on) g;
         progress = λ k gap ps p le o. progress next_of torn_of boot index_of (memory run) (writes run) (reads run) (flip run) (ends run) is_buffer (is_fixed code) (IsLike run) (IsLive run) resume 33 waking (followed run code u) k p (powered ps m) gap le o (all ps);
         halts = λ c k gap most ps q. halts next_of torn_of boot index_of (memory run) (writes run) (reads run) (flip run) (ends run) is_buffer (is_fixed code) (IsLike run) (IsLive run) resume 33 waking (followed run code u) c k gap most ps (switched_on m) (all []) (let r : c < 0 + long_periods k ps = omega arith in r);
       }

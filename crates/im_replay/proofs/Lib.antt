@@ -8,6 +8,7 @@ pub mod Images
 pub mod Instance
 pub mod Machine
 pub mod Owing
+pub mod Safe
 pub mod Shows
 pub mod Sound
 pub mod Steps

@@ -1,5 +1,5 @@
 -- The machine as the abstract theorem sees it, and what that theorem gives.
-use Rattle.std.specs.Prelude.{◌≡◌, ℕ, ◌+◌, ◌%◌, ◌<◌, ◌≤◌, ◌⊎◌, true, false, List}
+use Rattle.std.specs.Prelude.{◌≡◌, ◌≢◌, ℕ, ◌+◌, ◌%◌, ◌<◌, ◌≤◌, ◌⊎◌, true, false, List}
 use Rattle.im_mem.specs.Memory.{Mem}
 use Rattle.im_rv.specs.declared.step.Went.{Went}
 use Rattle.im_rv.specs.declared.step.Went.TheVariants.{On, Halted, Faulted}
@@ -80,6 +80,8 @@ pub record Replays_path (run : ℕ → State) (m : Mem) : Type 0 where
   pub in_period : (ps : List Spell) (n junk : ℕ) → (powered ps m).over ≡ false → Stands_at run (within ps n junk m) × Runs run (after_periods ps).s n (within ps n junk m)
   -- where it is over
   pub at_end : (ps : List Spell) → (powered ps m).over ≡ true → Ended_as run (powered ps m)
+  -- no step faults
+  pub safe : (ps : List Spell) (n junk : ℕ) → (powered ps m).over ≡ false → (within ps n junk m).over ≡ false → (at : ℕ) → (step_of (within ps n junk m).regs (within ps n junk m).mem).went ≢ Faulted at
   -- a period of at least k instructions commits or ends the run
   pub progress : (k : ℕ) → GapAtMost run k → (ps : List Spell) (p : Spell) → k ≤ p.n → (powered ps m).over ≡ false → ((powered ps m).commits < (and_then p (powered ps m)).commits) ⊎ ((and_then p (powered ps m)).over ≡ true)
   -- where the uninterrupted run has at most c commits, more than c such periods end the run

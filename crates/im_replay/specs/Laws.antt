@@ -1,10 +1,15 @@
 -- The theorem of crash consistency, over the device's definitions.
-use Rattle.std.specs.Prelude.{ℕ}
+use Rattle.std.specs.Prelude.{◌≡◌, ℕ, ◌<◌, ◌≤◌, true, false, List}
+use Rattle.im_rv.specs.declared.step.Went.TheVariants.{Halted, Faulted}
+use Rattle.im_power.specs.declared.period.Period.{Period}
+use Rattle.im_path.specs.Sections.{flips}
+use Rattle.im_ckpt.specs.Runs.{State, flip, ends}
+use Rattle.im_ckpt.specs.Buffers.{is_buffer}
 use Rattle.im_mem.specs.Memory.{Mem}
 use Rattle.im_replay.specs.Uninterrupted.{uninterrupted}
 use Rattle.im_replay.specs.Compiled.{IsCompiled}
-use Rattle.im_replay.specs.Replays.{Replays, GapAtMost, Progresses}
-use Rattle.im_replay.specs.Output.{ShowsSafely, NeverShrinks}
+use Rattle.im_replay.specs.Replays.{after, Replays, GapAtMost, long_periods, Progresses}
+use Rattle.im_replay.specs.Output.{Extends, ShowsSafely, NeverShrinks}
 
 -- at every moment of every list of periods
 abbrev pub ReplayLaw : Type 0
@@ -15,3 +20,17 @@ OutputLaw = (m : Mem) (code : ℕ) → IsCompiled m code → ShowsSafely (uninte
 
 abbrev pub ProgressLaw : Type 0
 ProgressLaw = (m : Mem) (code k : ℕ) → IsCompiled m code → GapAtMost (uninterrupted m) k → Progresses (uninterrupted m) m k
+
+-- the uninterrupted run ends at this time, after at most c commits: so do all runs, and show no other output before
+pub record KeepsEnd (run : ℕ → State) (m : Mem) (k c time : ℕ) : Type 0 where
+  -- the output is always a prefix of that at the end
+  pub always : (ps : List Period) → Extends (after ps m).mem (run time).mem
+  -- at a halt each byte outside the buffers is that of the uninterrupted run at its end
+  pub exact : (ps : List Period) → (after ps m).went ≡ Halted → (a : ℕ) → is_buffer a ≡ false → (after ps m).mem a ≡ (run time).mem a
+  -- more than c periods of at least k instructions, with any others among them, reach the halt
+  pub halts : (ps : List Period) → c < long_periods k ps → (after ps m).went ≡ Halted
+  pub safe : (ps : List Period) (at : ℕ) → (after ps m).went ≡ Faulted at → ⊥
+
+abbrev pub KeepsLaw : Type 0
+KeepsLaw = (m : Mem) (code k c time : ℕ) → IsCompiled m code → ShowsSafely (uninterrupted m) → GapAtMost (uninterrupted m) k → ends (uninterrupted m) time ≡ true
+    → ((t : ℕ) → flips (flip (uninterrupted m)) t ≤ c) → KeepsEnd (uninterrupted m) m k c time

@@ -1,7 +1,7 @@
 -- What is promised of a device whose power fails: at each moment it stands where the run that never loses power stood.
 use Rattle.std.specs.Prelude.{◌≡◌, ◌≢◌, ℕ, ◌+◌, ◌%◌, ◌<◌, ◌≤◌, ◌⊎◌, cond, nat_le, true, false, List, [], ◌∷◌, ◌++◌}
 use Rattle.im_mem.specs.Memory.{Mem}
-use Rattle.im_rv.specs.declared.step.Went.TheVariants.{On}
+use Rattle.im_rv.specs.declared.step.Went.TheVariants.{On, Faulted}
 use Rattle.im_power.specs.declared.period.Period.{Period}
 use Rattle.im_device.specs.Run.{Moment, index_of, run as steps}
 use Rattle.im_device.specs.Periods.{Device, fresh, power_up, power}
@@ -50,6 +50,8 @@ pub record Replays (run : ℕ → State) (m : Mem) : Type 0 where
   -- after every list of periods, the torn store at its end included, and at every moment of a further one
   pub after_periods : (ps : List Period) → StandsAt run (after ps m).mem (after ps m).commits
   pub in_period : (ps : List Period) (n junk : ℕ) → (after ps m).went ≡ On → StandsAt run (within ps n junk m).mem (within ps n junk m).commits × Goes run (after_periods ps).s n (within ps n junk m)
+  -- no step faults
+  pub no_fault : (ps : List Period) (at : ℕ) → (after ps m).went ≢ Faulted at
   -- where it is over
   pub at_end : (ps : List Period) → (after ps m).went ≢ On → EndsAs run (after ps m).mem (after ps m).commits
 

@@ -1,4 +1,4 @@
-ghost use Rattle.im_replay.specs.Laws.{OutputLaw, ProgressLaw, ReplayLaw};
+ghost use Rattle.im_replay.specs.Laws.{KeepsLaw, OutputLaw, ProgressLaw, ReplayLaw};
 
 /// A run whose power fails, between two instructions or within a store, follows the run that never
 /// loses power, where the code has what the compiler owes.
@@ -16,4 +16,10 @@ pub fn output_law()
 /// commits or ends the run; more than c of them end a run of c commits.
 pub fn progress_law()
     ensures { ProgressLaw }
+{}
+
+/// Where the run that never loses power ends, all runs show prefixes of its output, end as it does,
+/// and do so within as many periods of K instructions as it has commits, and one.
+pub fn keeps_law()
+    ensures { KeepsLaw }
 {}
