@@ -1,6 +1,18 @@
 ghost use Rattle.im_block_laws.specs.Laws.{CutsKeepCodeLaw};
+ghost use Rattle.im_block_laws.specs.Row.{RowLaw};
+ghost use Rattle.im_block_laws.specs.Sample.{SampleLaw};
 
 /// Cuts that are added leave the cuts that must stand, the costs, and what is known of the code.
 pub fn cuts_keep_code_law()
     ensures { CutsKeepCodeLaw }
+{}
+
+/// A unit made by hand, run by its meaning.
+pub fn sample_law()
+    ensures { SampleLaw }
+{}
+
+/// Five accesses by hand: which reads are exposed, and by which writes they are met.
+pub fn row_law()
+    ensures { RowLaw }
 {}
