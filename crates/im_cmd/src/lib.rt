@@ -13,6 +13,7 @@ mod status;
 mod stored;
 mod straight;
 mod telling;
+mod upgrading;
 #[cfg(test)]
 mod tests;
 
