@@ -13,8 +13,8 @@ mod status;
 mod stored;
 mod straight;
 mod telling;
-mod upgrading;
 #[cfg(test)]
 mod tests;
+mod upgrading;
 
 pub use entry::top;

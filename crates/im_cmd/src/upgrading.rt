@@ -19,7 +19,7 @@ pub fn upgrade_image<'a, H: Shelf>(
 ) -> Result<Version, Refusal<'a>>
     ensures { MatchResult result
         (λ version. (image : ImageValue) × (version ≡ image.version)
-            × Upgrades old.now new.now image (H.state shelf.old) (H.state shelf.new))
+        × Upgrades old.now new.now image (H.state shelf.old) (H.state shelf.new))
         (λ refusal. RefusesUpgrade (refused_of refusal) old.now new.now (H.state shelf.old) (H.state shelf.new)) }
 {
     let image = match read_stored(alloc, shelf, old) {

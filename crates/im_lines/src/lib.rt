@@ -8,9 +8,9 @@ mod instruction;
 mod numerals;
 mod refusal;
 mod runs;
-mod upgrades;
 #[cfg(test)]
 mod tests;
+mod upgrades;
 mod variables;
 
 pub use builds::send_build_lines;
