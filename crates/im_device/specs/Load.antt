@@ -1,5 +1,5 @@
 -- The memory that an image and an input load.
-use Rattle.std.specs.Prelude.{ℕ, ◌+◌, ◌-◌, List, [], ◌∷◌, length, replicate}
+use Rattle.std.specs.Prelude.{ℕ, ◌+◌, ◌-◌, List, [], ◌∷◌, length}
 use Rattle.std.specs.List.{flat_map}
 use Rattle.im_num.specs.Bytes.{word_bytes}
 use Rattle.im_mem.specs.Map.{out_cap_at, in_len_at, stack_lim_at, buffer0_start, code_start, statics_start, stack_end, input_start}
@@ -27,7 +27,3 @@ laid m (piece ∷ others) = laid (written m piece.0 piece.1) others
 -- all else is 0
 abbrev pub memory_of : ImageValue → List ℕ → Mem
 memory_of image input = laid zeroed (pieces image input)
-
--- the words of a register buffer from which recovery goes to a place in the code with this stack pointer, x2, and other registers 0
-abbrev pub boot_buffer : ℕ → ℕ → List ℕ
-boot_buffer start sp = start ∷ 0 ∷ sp ∷ replicate 29 0

@@ -9,7 +9,7 @@ use Rattle.im_mem.specs.Memory.{Mem, little, written, zeroed}
 use Rattle.im_mem.proofs.Words.{little-alike, little-same, written-above, written-below}
 use Rattle.im_image.specs.Contents.{ImageValue, IsImage}
 use Rattle.im_device.specs.Load.{memory_of}
-use Rattle.im_device.specs.Laws.{LoadedLaw, BootLaw}
+use Rattle.im_device_laws.specs.Laws.{LoadedLaw, BootLaw}
 
 -- ---- bytes
 
