@@ -1,5 +1,11 @@
 -- What the table's matches say of the command that the words name.
-use Rattle.std.proofs.Common.{ap, refl, sym, true, List, Option, Some, [], ◌≡◌, ◌∙◌}
+use Rattle.std.proofs.Common.{ap, refl, sym, true, false, inl, inr, ℕ, suc, arith, length, List, Option, Some, None, [], ◌∷◌, ◌≡◌, ◌≢◌, ◌∙◌}
+use Rattle.std.specs.Prelude.{◌==◌}
+use Rattle.std.proofs.lemmas.Bool.Decides.{nat_tests}
+use Rattle.clap.specs.Kinds.{HasKind, Kinds}
+use Rattle.clap.specs.Values.{kind_of}
+use Rattle.clap.specs.declared.error.Error.{Error}
+use Rattle.clap.specs.declared.error.kind.ErrorKind.TheVariants as kind
 use Rattle.clap.specs.Words.{App, Row, Text, fault_of, is_simple, is_simple_and_free, subcommand_of}
 use Rattle.clap.specs.Walk.{is_empty}
 use Rattle.clap.proofs.OnLiterals.{clap_on_literals}
@@ -21,3 +27,17 @@ named_where_faultless table table_is words found what fault found_is asks =
     let faultless : is_faultless words ≡ true = ap is_empty (ap (λ (a : App). fault_of a words) (sym table_is) ∙ fault) in
     let same : found ≡ subcommand_of command_line words = found_is ∙ ap (λ (a : App). subcommand_of a words) table_is in
     rw (faultless, ← same) asks
+
+not_zero : (n : ℕ) → (suc n == 0) ≡ false
+not_zero n = grind (arith, nat_tests)
+
+some_fault : (kinds : Kinds) (error : Error) → HasKind kinds error → kind_of error ≢ kind.OutOfMemory → is_empty kinds ≡ false
+some_fault [] error (inl starved) other = absurd (other starved)
+some_fault [] error (inr among) other = absurd among
+some_fault (first ∷ kinds) error has other = not_zero (length kinds)
+
+-- where clap's fault isn't want of memory, the words name nothing
+pub none_where_faulty : (table : App) → table ≡ command_line → (words : List Text) (error : Error) → HasKind (fault_of table words) error → kind_of error ≢ kind.OutOfMemory → named words ≡ None
+none_where_faulty table table_is words error has other =
+    let faulty : is_faultless words ≡ false = ap is_empty (ap (λ (a : App). fault_of a words) (sym table_is)) ∙ some_fault (fault_of table words) error has other in
+    rw faulty refl

@@ -11,7 +11,7 @@ use Rattle.clap.proofs.FaultLemmas.{stopped_fault}
 use Rattle.clap.proofs.WalkLemmas.{walk_stopped}
 use Rattle.clap.proofs.OnLiterals.{clap_on_literals}
 use Rattle.im_cli.specs.Table.{command_line}
-use Rattle.im_cli.specs.Named.{Asked, asked, build_asked, builds, default_options, dump_asked, dumps, exec_asked, executes, is_option, named, run_asked, runs}
+use Rattle.im_cli.specs.Named.{Asked, asked, build_asked, builds, default_options, dump_asked, dumps, exec_asked, executes, is_option, named, run_asked, runs, upgrade_asked, upgrades}
 
 -- ---- one word
 
@@ -144,6 +144,12 @@ exec_named program rest =
     name_answer (codes "exec") rest refl refl program
     ∙ ap (λ (k : Kinds). if is_empty k then exec_asked (rows_after (command_shape 2).rules [] rest) else None) (last_fault (level_fault (command_shape 2) [] nothing_held rest false []))
 
+pub upgrade_named : (program : Text) (rest : List Text) → named (program ∷ codes "upgrade" ∷ rest) ≡ asked_of upgrade_asked (command_shape 4) rest
+unfolding clap_on_literals
+upgrade_named program rest =
+    name_answer (codes "upgrade") rest refl refl program
+    ∙ ap (λ (k : Kinds). if is_empty k then upgrade_asked (rows_after (command_shape 4).rules [] rest) else None) (last_fault (level_fault (command_shape 4) [] nothing_held rest false []))
+
 -- ---- the words after it
 
 -- what the end of the walk and its fault ask for
@@ -196,6 +202,11 @@ pub run_files : (program source image : Text) → is_option source ≡ false →
 unfolding clap_on_literals
 run_files program source image plain also = run_named program (source ∷ image ∷ []) ∙ two_files run_asked (command_shape 1) source image plain also refl refl
 
+pub upgrade_files : (program old new : Text) → is_option old ≡ false → is_option new ≡ false
+    → named (program ∷ codes "upgrade" ∷ old ∷ new ∷ []) ≡ Some (upgrades old new)
+unfolding clap_on_literals
+upgrade_files program old new plain also = upgrade_named program (old ∷ new ∷ []) ∙ two_files upgrade_asked (command_shape 4) old new plain also refl refl
+
 -- what clap finds, and its fault, at each command
 
 pub build_fault : (program : Text) (rest : List Text) → fault_of command_line (program ∷ codes "build" ∷ rest) ≡ level_fault (command_shape 0) [] nothing_held rest false []
@@ -229,3 +240,11 @@ dump_fault program rest = name_fault (codes "dump") rest refl refl program ∙ l
 pub dump_found : (program : Text) (rest : List Text) → subcommand_of command_line (program ∷ codes "dump" ∷ rest) ≡ Some (codes "dump", rows_after (command_shape 3).rules [] rest)
 unfolding clap_on_literals
 dump_found program rest = name_found (codes "dump") rest refl refl program
+
+pub upgrade_fault : (program : Text) (rest : List Text) → fault_of command_line (program ∷ codes "upgrade" ∷ rest) ≡ level_fault (command_shape 4) [] nothing_held rest false []
+unfolding clap_on_literals
+upgrade_fault program rest = name_fault (codes "upgrade") rest refl refl program ∙ last_fault (level_fault (command_shape 4) [] nothing_held rest false [])
+
+pub upgrade_found : (program : Text) (rest : List Text) → subcommand_of command_line (program ∷ codes "upgrade" ∷ rest) ≡ Some (codes "upgrade", rows_after (command_shape 4).rules [] rest)
+unfolding clap_on_literals
+upgrade_found program rest = name_found (codes "upgrade") rest refl refl program

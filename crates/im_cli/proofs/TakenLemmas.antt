@@ -17,8 +17,8 @@ use Rattle.clap.proofs.SimpleLemmas.{is_nil}
 use Rattle.im_cli.specs.Table.{command_line}
 use Rattle.clap.proofs.WalkLemmas.{both}
 use Rattle.im_cli.specs.Numbers.{is_numeral, plain_number, starts_plainly}
-use Rattle.im_cli.specs.Named.{Asked, build_asked, builds, dump_asked, dumps, exec_asked, executes, is_faultless, is_set, named, run_asked, runs, steps_found}
-use Rattle.im_cli.proofs.OperandLemmas.{asked_of, build_fault, build_found, build_named, command_shape, dump_fault, dump_found, dump_named, exec_fault, exec_found, exec_named, run_fault, run_found, run_named}
+use Rattle.im_cli.specs.Named.{Asked, build_asked, builds, dump_asked, dumps, exec_asked, executes, is_faultless, is_set, named, run_asked, runs, steps_found, upgrade_asked, upgrades}
+use Rattle.im_cli.proofs.OperandLemmas.{asked_of, build_fault, build_found, build_named, command_shape, dump_fault, dump_found, dump_named, exec_fault, exec_found, exec_named, run_fault, run_found, run_named, upgrade_fault, upgrade_found, upgrade_named}
 use Rattle.im_cli.proofs.FirstWordLemmas.{dashes_refused, first_refused, help_refused, name_refused, no_command, nothing_refused, stray_kind}
 use Rattle.im_cli.proofs.OptionLemmas.{first_apart, reads}
 use Rattle.im_cli.proofs.RowLemmas.{AllGood, AllSound, Fits, Holds, Sets, Sound, defaults_give, first_good, fits, given_holds, kinds_accept, level_good, no_kind, none_first, none_then, set_sound, text_fit}
@@ -121,6 +121,17 @@ dump_sound = (
   (λ again values rows e g. g, refl, tt),
 )
 
+upgrade_sound : AllSound (command_shape 4).rules
+upgrade_sound = (
+  text_sound (rule_at 4 0) (λ values rows. refl) refl (λ again rows e. no_kind _ _ e),
+  refl,
+  (
+    text_sound (rule_at 4 1) (λ values rows. refl) refl (λ again rows e. no_kind _ _ e),
+    refl,
+    (λ again values rows e g. g, refl, tt),
+  ),
+)
+
 -- ---- a level of the table without a fault
 
 level_facts : (s : Shape) → AllSound s.rules → (words : List Text) → level_fault s [] nothing_held words false [] ≡ []
@@ -164,6 +175,14 @@ dump_read words e =
     let facts = level_facts (command_shape 3) dump_sound words e in
     let image = given_holds (codes "IMG") (rows_at 3 words) facts.0 (required_one _ facts.1) in
     ap (λ o. is_some (option_map dumps o)) image.is_first
+
+upgrade_read : (words : List Text) → IsRead 4 words → is_some (upgrade_asked (rows_at 4 words)) ≡ true
+upgrade_read words e =
+    let facts = level_facts (command_shape 4) upgrade_sound words e in
+    let given = required_two _ _ facts.1 in
+    let old = given_holds (codes "IN") (rows_at 4 words) facts.0 given.0 in
+    let new = given_holds (codes "OUT") (rows_at 4 words) facts.0 given.1 in
+    (λ i. is_some (option_and_then (λ o. option_map (λ n. upgrades o n) (new.is_first i)) (old.is_first i)))
 
 -- the number that the rows hold for --steps
 number_of : (rows : List Row) → Holds (codes "steps") rows → Plainly (first_of (codes "steps") rows)
@@ -234,28 +253,33 @@ dump_taken : (program : Text) (rest : List Text) → Taken (program ∷ codes "d
 dump_taken program rest = row_taken dump_asked (codes "dump") 3 (program ∷ codes "dump" ∷ rest) rest
     (dump_named program rest) (dump_fault program rest) (dump_found program rest) (λ e plain. dump_read rest e)
 
+upgrade_taken : (program : Text) (rest : List Text) → Taken (program ∷ codes "upgrade" ∷ rest)
+upgrade_taken program rest = row_taken upgrade_asked (codes "upgrade") 4 (program ∷ codes "upgrade" ∷ rest) rest
+    (upgrade_named program rest) (upgrade_fault program rest) (upgrade_found program rest) (λ e plain. upgrade_read rest e)
+
 -- a first word that is this text
 same_taken : (text name program : Text) (rest : List Text) → bytes_eq text name ≡ true → Taken (program ∷ text ∷ rest) → Taken (program ∷ name ∷ rest)
 same_taken text name program rest same taken = subst (λ (n : Text). Taken (program ∷ n ∷ rest)) ((bytes_eq-Decides text name).0 same) taken
 
 other_taken : (name program : Text) (rest : List Text) → bytes_eq (codes "build") name ≡ false → bytes_eq (codes "run") name ≡ false → bytes_eq (codes "exec") name ≡ false
-    → bytes_eq (codes "dump") name ≡ false → bytes_eq (codes "help") name ≡ false → (b : Bool) → bytes_eq name (codes "--") ≡ b → Taken (program ∷ name ∷ rest)
-other_taken name program rest b r x d h true t =
+    → bytes_eq (codes "dump") name ≡ false → bytes_eq (codes "upgrade") name ≡ false → bytes_eq (codes "help") name ≡ false → (b : Bool) → bytes_eq name (codes "--") ≡ b → Taken (program ∷ name ∷ rest)
+other_taken name program rest b r x d u h true t =
     subst (λ (n : Text). Taken (program ∷ n ∷ rest)) (sym ((bytes_eq-Decides name (codes "--")).0 t)) (λ faultless plain. absurd (dashes_refused program rest faultless))
-other_taken name program rest b r x d h false t = λ faultless plain. absurd (first_refused program name rest (stray_kind name (no_command name b r x d h) t) faultless)
+other_taken name program rest b r x d u h false t = λ faultless plain. absurd (first_refused program name rest (stray_kind name (no_command name b r x d u h) t) faultless)
 
-word_taken : (name program : Text) (rest : List Text) (b r x d h : Bool) → bytes_eq (codes "build") name ≡ b → bytes_eq (codes "run") name ≡ r
-    → bytes_eq (codes "exec") name ≡ x → bytes_eq (codes "dump") name ≡ d → bytes_eq (codes "help") name ≡ h → Taken (program ∷ name ∷ rest)
-word_taken name program rest true r x d h bt rt xt dt ht = same_taken (codes "build") name program rest bt (build_taken program rest)
-word_taken name program rest false true x d h bt rt xt dt ht = same_taken (codes "run") name program rest rt (run_taken program rest)
-word_taken name program rest false false true d h bt rt xt dt ht = same_taken (codes "exec") name program rest xt (exec_taken program rest)
-word_taken name program rest false false false true h bt rt xt dt ht = same_taken (codes "dump") name program rest dt (dump_taken program rest)
-word_taken name program rest false false false false true bt rt xt dt ht =
+word_taken : (name program : Text) (rest : List Text) (b r x d u h : Bool) → bytes_eq (codes "build") name ≡ b → bytes_eq (codes "run") name ≡ r
+    → bytes_eq (codes "exec") name ≡ x → bytes_eq (codes "dump") name ≡ d → bytes_eq (codes "upgrade") name ≡ u → bytes_eq (codes "help") name ≡ h → Taken (program ∷ name ∷ rest)
+word_taken name program rest true r x d u h bt rt xt dt ut ht = same_taken (codes "build") name program rest bt (build_taken program rest)
+word_taken name program rest false true x d u h bt rt xt dt ut ht = same_taken (codes "run") name program rest rt (run_taken program rest)
+word_taken name program rest false false true d u h bt rt xt dt ut ht = same_taken (codes "exec") name program rest xt (exec_taken program rest)
+word_taken name program rest false false false true u h bt rt xt dt ut ht = same_taken (codes "dump") name program rest dt (dump_taken program rest)
+word_taken name program rest false false false false true h bt rt xt dt ut ht = same_taken (codes "upgrade") name program rest ut (upgrade_taken program rest)
+word_taken name program rest false false false false false true bt rt xt dt ut ht =
     same_taken (codes "help") name program rest ht (λ faultless plain. absurd (help_refused program rest faultless))
-word_taken name program rest false false false false false bt rt xt dt ht =
-    other_taken name program rest bt rt xt dt ht (bytes_eq name (codes "--")) refl
+word_taken name program rest false false false false false false bt rt xt dt ut ht =
+    other_taken name program rest bt rt xt dt ut ht (bytes_eq name (codes "--")) refl
 
 pub faultless_taken : (words : List Text) → is_faultless words ≡ true → IfSome (steps_found words) (λ text. starts_plainly text ≡ true) → is_some (named words) ≡ true
 faultless_taken [] e plain = absurd (nothing_refused e)
 faultless_taken (program ∷ []) e plain = absurd (name_refused program e)
-faultless_taken (program ∷ name ∷ rest) e plain = word_taken name program rest _ _ _ _ _ refl refl refl refl refl e plain
+faultless_taken (program ∷ name ∷ rest) e plain = word_taken name program rest _ _ _ _ _ _ refl refl refl refl refl refl e plain

@@ -49,6 +49,7 @@ pub data Asked : Type 0 where
   runs : Text → Text → Options → Asked
   executes : Text → Options → Asked
   dumps : Text → Asked
+  upgrades : Text → Text → Asked
 
 -- SRC and IMG
 abbrev pub pair_asked : (Text → Text → Asked) → List Row → Option Asked
@@ -81,12 +82,18 @@ exec_asked rows = option_and_then (λ options. option_map (λ image. executes im
 abbrev pub dump_asked : List Row → Option Asked
 dump_asked rows = option_map dumps (first_of (codes "IMG") rows)
 
+-- IN and OUT
+abbrev pub upgrade_asked : List Row → Option Asked
+upgrade_asked rows = option_and_then (λ old. option_map (λ new. upgrades old new)
+    (first_of (codes "OUT") rows)) (first_of (codes "IN") rows)
+
 -- what the command of this name asks for, by what was found for the words after it
 abbrev pub asked_by : Text → List Row → Option Asked
 asked_by name rows = if bytes_eq name (codes "build") then build_asked rows
     else (if bytes_eq name (codes "run") then run_asked rows
     else (if bytes_eq name (codes "exec") then exec_asked rows
-    else (if bytes_eq name (codes "dump") then dump_asked rows else None)))
+    else (if bytes_eq name (codes "dump") then dump_asked rows
+    else (if bytes_eq name (codes "upgrade") then upgrade_asked rows else None))))
 
 abbrev pub asked : Option (Text × List Row) → Option Asked
 asked = option_and_then (λ found. asked_by found.0 found.1)
@@ -120,6 +127,7 @@ meaning (command.Build source image) = builds source.now image.now
 meaning (command.Run source image options) = runs source.now image.now (options_meaning options)
 meaning (command.Exec image options) = executes image.now (options_meaning options)
 meaning (command.Dump image) = dumps image.now
+meaning (command.Upgrade old new) = upgrades old.now new.now
 
 abbrev pub IsUsage : WordsFault → Type 0
 IsUsage (fault.Usage text) = ⊤

@@ -59,9 +59,13 @@ exec_row = row (codes "exec") (operand (codes "IMG") ∷ run_options)
 abbrev pub dump_row : Shape
 dump_row = row (codes "dump") (operand (codes "IMG") ∷ [])
 
+-- upgrade IN OUT
+abbrev pub upgrade_row : Shape
+upgrade_row = row (codes "upgrade") (operand (codes "IN") ∷ operand (codes "OUT") ∷ [])
+
 -- the program's own name, and then one of the commands
 abbrev pub command_line : App
 command_line = record {
   top = record (new_shape (codes "intermit")) { is_leaf = false; subcommand_required = true };
-  subs = build_row ∷ run_row ∷ exec_row ∷ dump_row ∷ [];
+  subs = build_row ∷ run_row ∷ exec_row ∷ dump_row ∷ upgrade_row ∷ [];
 }

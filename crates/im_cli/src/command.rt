@@ -21,6 +21,11 @@ pub enum Command<'a> {
     Dump {
         image: &'a str,
     },
+    /// Store the image of the first name under the second, in version 2.
+    Upgrade {
+        old: &'a str,
+        new: &'a str,
+    },
 }
 
 /// How an image is run.

@@ -2,7 +2,7 @@ ghost use Rattle.std.specs.Prelude.{◌≡◌, ℕ, ◌∷◌, [], Bool, IfSome,
 ghost use Rattle.std.specs.Prelude.{List, false, is_some, true, unwrap_or};
 ghost use Rattle.clap.specs.Words.{Text};
 ghost use Rattle.im_cli.specs.Named.{builds, default_options, dumps, executes, is_faultless, is_option};
-ghost use Rattle.im_cli.specs.Named.{named, option_words, runs, steps_found};
+ghost use Rattle.im_cli.specs.Named.{named, option_words, runs, steps_found, upgrades};
 ghost use Rattle.im_cli.specs.Numbers.{plain_number, starts_plainly};
 
 /// Words that name a command, one line for each.
@@ -18,6 +18,8 @@ pub fn words_taken_law()
         (record { input = Some (codes "f"); trace = None; steps = 7; vars = true })) }
     ensures dump { named (codes "intermit" ∷ codes "dump"
         ∷ codes "b" ∷ []) ≡ Some (dumps (codes "b")) }
+    ensures upgrade { named (codes "intermit" ∷ codes "upgrade" ∷ codes "a" ∷ codes "b" ∷ [])
+        ≡ Some (upgrades (codes "a") (codes "b")) }
 {}
 
 /// Each command takes its files by their places, whatever their names are but options.
@@ -32,6 +34,9 @@ pub fn files_law()
         → named (program ∷ codes "exec" ∷ image ∷ []) ≡ Some (executes image default_options) }
     ensures dump { (program image : Text) → is_option image ≡ false
         → named (program ∷ codes "dump" ∷ image ∷ []) ≡ Some (dumps image) }
+    ensures upgrade { (program old new : Text) → is_option old ≡ false
+        → is_option new ≡ false → named (program ∷ codes "upgrade" ∷ old ∷ new ∷ [])
+        ≡ Some (upgrades old new) }
 {}
 
 /// A run's options, each given or not, after the files.

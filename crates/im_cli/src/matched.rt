@@ -1,6 +1,6 @@
 ghost use Rattle.std.specs.Prelude.{◌≡◌, option_map};
 ghost use Rattle.clap.specs.Words.{first_of, found_of, rows_of, subcommand_rows_of};
-ghost use Rattle.im_cli.specs.Named.{asked, asked_by, build_asked, dump_asked, exec_asked, is_set};
+ghost use Rattle.im_cli.specs.Named.{asked, asked_by, build_asked, dump_asked, exec_asked, is_set, upgrade_asked};
 ghost use Rattle.im_cli.specs.Named.{meaning, options_asked, options_meaning, run_asked};
 
 use crate::number::plain_number;
@@ -69,6 +69,14 @@ fn dump_command<'a>(found: &ArgMatches<'a>) -> Option<Command<'a>>
     Some(Command::Dump { image })
 }
 
+fn upgrade_command<'a>(found: &ArgMatches<'a>) -> Option<Command<'a>>
+    ensures { option_map meaning result ≡ upgrade_asked (rows_of (found_of found.now)) }
+{
+    let old = value_of(found, "IN")?;
+    let new = value_of(found, "OUT")?;
+    Some(Command::Upgrade { old, new })
+}
+
 /// The command of this name, with what was found for the words after it.
 fn command_of<'a>(name: &str, found: &ArgMatches<'a>) -> Option<Command<'a>>
     ensures { option_map meaning result ≡ asked_by name.now (rows_of (found_of found.now)) }
@@ -78,6 +86,7 @@ fn command_of<'a>(name: &str, found: &ArgMatches<'a>) -> Option<Command<'a>>
         "run" => run_command(found),
         "exec" => exec_command(found),
         "dump" => dump_command(found),
+        "upgrade" => upgrade_command(found),
         _ => None,
     }
 }

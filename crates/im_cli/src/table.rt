@@ -1,7 +1,7 @@
 ghost use Rattle.std.specs.Prelude.{◌≡◌, IfOk, false};
 ghost use Rattle.clap.specs.Words.{app_of, rule_of, shape_of};
 ghost use Rattle.clap.specs.declared.builder.command.Command.TheViews.{out-Command};
-ghost use Rattle.im_cli.specs.Table.{build_row, command_line, dump_row, exec_row, file_options};
+ghost use Rattle.im_cli.specs.Table.{build_row, command_line, dump_row, exec_row, file_options, upgrade_row};
 ghost use Rattle.im_cli.specs.Table.{flag, numbered, operand, run_row, step_options, valued};
 ghost use Rattle.im_cli.specs.Table.{with_rules};
 
@@ -103,6 +103,15 @@ fn dump_row<'a>(alloc: Global) -> Result<clap::Command<'a>, AllocError>
     clap::Command::new(alloc, "dump").arg(operand(alloc, "IMG"))
 }
 
+fn upgrade_row<'a>(alloc: Global) -> Result<clap::Command<'a>, AllocError>
+    ensures row { IfOk result (λ c. shape_of c ≡ upgrade_row) }
+    ensures local { IfOk result (λ c. (out-Command c).has_globals ≡ false) }
+{
+    clap::Command::new(alloc, "upgrade")
+        .arg(operand(alloc, "IN"))?
+        .arg(operand(alloc, "OUT"))
+}
+
 /// The table of commands, as clap reads it.
 pub(crate) fn command_table<'a>(alloc: Global) -> Result<clap::Command<'a>, AllocError>
     ensures { IfOk result (λ c. app_of c ≡ command_line) }
@@ -112,5 +121,6 @@ pub(crate) fn command_table<'a>(alloc: Global) -> Result<clap::Command<'a>, Allo
         .subcommand(build_row(alloc)?)?
         .subcommand(run_row(alloc)?)?
         .subcommand(exec_row(alloc)?)?
-        .subcommand(dump_row(alloc)?)
+        .subcommand(dump_row(alloc)?)?
+        .subcommand(upgrade_row(alloc)?)
 }

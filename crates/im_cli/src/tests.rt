@@ -66,6 +66,12 @@ fn names_the_command(rt: HostRuntime) -> Result<(), Fail> {
     assert!(rt; read_words(alloc, line.as_slice())? == expected);
     let line = words(alloc, &["intermit", "dump", "a.img"])?;
     assert!(rt; read_words(alloc, line.as_slice())? == Command::Dump { image: "a.img" });
+    let line = words(alloc, &["intermit", "upgrade", "a.img", "b.img"])?;
+    let expected = Command::Upgrade {
+        old: "a.img",
+        new: "b.img",
+    };
+    assert!(rt; read_words(alloc, line.as_slice())? == expected);
     Ok(())
 }
 

@@ -5,7 +5,7 @@ use Rattle.im_io.specs.Whole.{HoldsText}
 use Rattle.im_io.proofs.Files.{told_then, told_as, same_counts, then_faulted}
 use Rattle.im_image.specs.Contents.{ImageValue}
 use Rattle.im_image.specs.Text.{image_text}
-use Rattle.im_lines.specs.Refusals.{Refused, CannotRead, SourceTooLong, NotCompiled, NotAnImage, CannotWrite, InputTooLong, FileTooLong, NotATrace, NoMemory}
+use Rattle.im_lines.specs.Refusals.{Refused, CannotRead, SourceTooLong, NotCompiled, NotAnImage, CannotWrite, InputTooLong, FileTooLong, NotATrace, TornStores, NoMemory}
 use Rattle.im_cmd.specs.Source.{Printing}
 use Rattle.im_cmd.specs.Files.{Unchanged}
 use Rattle.im_cmd.specs.Builds.{IsBuilt, Compiles, HalfCompiles, Builds, RefusesBuild}
@@ -41,6 +41,7 @@ program_refused (CannotWrite other) source name a b h = absurd h
 program_refused (InputTooLong count most) source name a b h = absurd h
 program_refused (FileTooLong other most) source name a b h = absurd h
 program_refused (NotATrace other fault) source name a b h = absurd h
+program_refused TornStores source name a b h = absurd h
 
 pub store_refused : (r : Refused) (source name : List ℕ) (p : Printing) (image : ImageValue) (a b c : ShelfState) → IsBuilt p image (length image.words + 68) → ReadsProgram source p a b → RefusesStore r name (image_text image) b c → RefusesBuild r source name a c
 store_refused (CannotWrite other) source name p image a b c built read h = (
@@ -64,6 +65,7 @@ store_refused (NotAnImage other fault) source name p image a b c built read h = 
 store_refused (InputTooLong count most) source name p image a b c built read h = absurd h
 store_refused (FileTooLong other most) source name p image a b c built read h = absurd h
 store_refused (NotATrace other fault) source name p image a b c built read h = absurd h
+store_refused TornStores source name p image a b c built read h = absurd h
 
 pub builds : (source name : List ℕ) (p : Printing) (image : ImageValue) (gap : ℕ) (a b c : ShelfState) → IsBuilt p image (length image.words + 68) → gap ≡ length image.words + 68 → ReadsProgram source p a b → StoresText name (image_text image) b c → Builds source name image gap a c
 builds source name p image gap a b c built is read h = record {

@@ -7,7 +7,7 @@ use Rattle.im_image.specs.Contents.{ImageValue, IsImage}
 use Rattle.im_image.specs.Text.{image_text}
 use Rattle.im_image.specs.Faults.{fault_of}
 use Rattle.im_image.specs.declared.fault.ImageFault.{ImageFault}
-use Rattle.im_lines.specs.Refusals.{Refused, CannotRead, SourceTooLong, NotCompiled, NotAnImage, CannotWrite, InputTooLong, FileTooLong, NotATrace, NoMemory}
+use Rattle.im_lines.specs.Refusals.{Refused, CannotRead, SourceTooLong, NotCompiled, NotAnImage, CannotWrite, InputTooLong, FileTooLong, NotATrace, TornStores, NoMemory}
 use Rattle.im_cmd.specs.Files.{ReadsFile, RefusesFile}
 use Rattle.im_cmd.specs.Images.{HoldsImage, HoldsNoImage, ReadsImage, RefusesImage, image_limit}
 
@@ -33,3 +33,4 @@ image_file_refused (NotAnImage other fault) name a b h = absurd h
 image_file_refused (CannotWrite other) name a b h = absurd h
 image_file_refused (InputTooLong count most) name a b h = absurd h
 image_file_refused (NotATrace other fault) name a b h = absurd h
+image_file_refused TornStores name a b h = absurd h

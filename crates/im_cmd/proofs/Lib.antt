@@ -10,6 +10,7 @@ pub mod Texts
 pub mod Built
 pub mod Builds
 pub mod Images
+pub mod Upgrades
 pub mod Bounds
 pub mod Counts
 pub mod Refusing

@@ -1,5 +1,5 @@
 -- An image is run: the stages put together.
-use Rattle.std.proofs.Common.{◌≡◌, ◌<◌, ℕ, suc, inl, inr, Option, Some, None, List, ◌∷◌, [], Ok, Err, refl, sym, ap, ◌∙◌, subst}
+use Rattle.std.proofs.Common.{◌≡◌, ◌<◌, ℕ, suc, true, false, inl, inr, Option, Some, None, List, ◌∷◌, [], Ok, Err, refl, sym, ap, ◌∙◌, subst}
 use Rattle.im_io.specs.Shelf.{Files, ShelfState, Told, WhereTold, SameFiles, NotThere}
 use Rattle.im_io.specs.Whole.{HasWhole, IsLonger}
 use Rattle.std.specs.Prelude.{All, slice_index}
@@ -15,9 +15,9 @@ use Rattle.im_device.specs.Periods.{fresh, power}
 use Rattle.im_emu.specs.State.{Held, SameImage, counted, device_of}
 use Rattle.im_num.specs.Variables.{Variable}
 use Rattle.im_cli.specs.Named.{Options}
-use Rattle.im_lines.specs.Refusals.{Refused, CannotRead, SourceTooLong, NotCompiled, NotAnImage, CannotWrite, InputTooLong, FileTooLong, NotATrace, NoMemory}
+use Rattle.im_lines.specs.Refusals.{Refused, CannotRead, SourceTooLong, NotCompiled, NotAnImage, CannotWrite, InputTooLong, FileTooLong, NotATrace, TornStores, NoMemory}
 use Rattle.im_cmd.specs.Files.{Unchanged, ReadsFile, RefusesFile, Unreadable, failed, absent, IsOver}
-use Rattle.im_cmd.specs.Runs.{IsFile, Holds, IsInput, ArePeriods, TakesInput, IsNext, RefusesRun, run_file_limit}
+use Rattle.im_cmd.specs.Runs.{IsFile, Holds, IsInput, ArePeriods, TakesInput, IsNext, RefusesRun, needs_form, run_file_limit}
 use Rattle.im_cmd.specs.Outcome.{shown}
 use Rattle.im_cmd.specs.Stages.{ReadsInput, RefusesInput, Loads, RefusesLoad, ReadsTrace, IsNoTrace, RefusesTrace, ReadsPeriods, RefusesPeriods, Ran, ended_of}
 use Rattle.im_cmd.proofs.Bounds.{trace_is}
@@ -74,6 +74,7 @@ input_refused (NotAnImage other fault) options name a b e h = absurd h
 input_refused (CannotWrite other) options name a b e h = absurd h
 input_refused (InputTooLong count most) options name a b e h = absurd h
 input_refused (NotATrace other fault) options name a b e h = absurd h
+input_refused TornStores options name a b e h = absurd h
 
 -- ---- the periods
 
@@ -104,6 +105,7 @@ trace_file_refused (NotAnImage other fault) name a b h = absurd h
 trace_file_refused (CannotWrite other) name a b h = absurd h
 trace_file_refused (InputTooLong count most) name a b h = absurd h
 trace_file_refused (NotATrace other fault) name a b h = absurd h
+trace_file_refused TornStores name a b h = absurd h
 
 pub periods_named : (options : Options) (name : List ℕ) (periods : List Period) (a b : ShelfState) → options.trace ≡ Some name → ReadsTrace name periods a b → ReadsPeriods options periods a b
 periods_named options name periods a b e h =
@@ -118,6 +120,7 @@ pub trace_refused : (r : Refused) (options : Options) (name : List ℕ) (a b : S
 trace_refused (CannotRead other) options name a b e h = (e ∙ ap Some (sym h.0), subst (λ n. Unreadable n a b) (sym h.0) h.1)
 trace_refused (FileTooLong other most) options name a b e h = (e ∙ ap Some (sym h.0), h.1, subst (λ n. IsOver n run_file_limit a b) (sym h.0) h.2)
 trace_refused (NotATrace other fault) options name a b e h = (e ∙ ap Some (sym h.0), subst (λ n. IsNoTrace n fault a b) (sym h.0) h.1)
+trace_refused TornStores options name a b e h = absurd h
 trace_refused NoMemory options name a b e h = h
 trace_refused (SourceTooLong other) options name a b e h = absurd h
 trace_refused (NotCompiled other) options name a b e h = absurd h
@@ -127,19 +130,20 @@ trace_refused (InputTooLong count most) options name a b e h = absurd h
 
 -- ---- the run
 
-pub run_input_refused : (r : Refused) (options : Options) (a b : ShelfState) → RefusesInput r options a b → RefusesRun r options a b
-run_input_refused (CannotRead name) options a b h = (inl h.0, h.1)
-run_input_refused (FileTooLong name most) options a b h = (inl h.0, h.1, h.2)
-run_input_refused NoMemory options a b h = h
-run_input_refused (SourceTooLong name) options a b h = absurd h
-run_input_refused (NotCompiled name) options a b h = absurd h
-run_input_refused (NotAnImage name fault) options a b h = absurd h
-run_input_refused (CannotWrite name) options a b h = absurd h
-run_input_refused (InputTooLong count most) options a b h = absurd h
-run_input_refused (NotATrace name fault) options a b h = absurd h
+pub run_input_refused : (r : Refused) (image : ImageValue) (options : Options) (a b : ShelfState) → RefusesInput r options a b → RefusesRun r image options a b
+run_input_refused (CannotRead name) image options a b h = (inl h.0, h.1)
+run_input_refused (FileTooLong name most) image options a b h = (inl h.0, h.1, h.2)
+run_input_refused NoMemory image options a b h = h
+run_input_refused (SourceTooLong name) image options a b h = absurd h
+run_input_refused (NotCompiled name) image options a b h = absurd h
+run_input_refused (NotAnImage name fault) image options a b h = absurd h
+run_input_refused (CannotWrite name) image options a b h = absurd h
+run_input_refused (InputTooLong count most) image options a b h = absurd h
+run_input_refused (NotATrace name fault) image options a b h = absurd h
+run_input_refused TornStores image options a b h = absurd h
 
-pub run_load_refused : (r : Refused) (options : Options) (input : List ℕ) (a b : ShelfState) → ReadsInput options input a b → RefusesLoad r input → RefusesRun r options a b
-run_load_refused (InputTooLong count most) options input a b read h = record {
+pub run_load_refused : (r : Refused) (image : ImageValue) (options : Options) (input : List ℕ) (a b : ShelfState) → ReadsInput options input a b → RefusesLoad r input → RefusesRun r image options a b
+run_load_refused (InputTooLong count most) image options input a b read h = record {
   unchanged = read.unchanged;
   input = input;
   is_input = read.is_input;
@@ -147,14 +151,15 @@ run_load_refused (InputTooLong count most) options input a b read h = record {
   limit_is = h.1;
   over = h.2;
 }
-run_load_refused NoMemory options input a b read h = read.unchanged
-run_load_refused (CannotRead name) options input a b read h = absurd h
-run_load_refused (SourceTooLong name) options input a b read h = absurd h
-run_load_refused (NotCompiled name) options input a b read h = absurd h
-run_load_refused (NotAnImage name fault) options input a b read h = absurd h
-run_load_refused (CannotWrite name) options input a b read h = absurd h
-run_load_refused (FileTooLong name most) options input a b read h = absurd h
-run_load_refused (NotATrace name fault) options input a b read h = absurd h
+run_load_refused NoMemory image options input a b read h = read.unchanged
+run_load_refused (CannotRead name) image options input a b read h = absurd h
+run_load_refused (SourceTooLong name) image options input a b read h = absurd h
+run_load_refused (NotCompiled name) image options input a b read h = absurd h
+run_load_refused (NotAnImage name fault) image options input a b read h = absurd h
+run_load_refused (CannotWrite name) image options input a b read h = absurd h
+run_load_refused (FileTooLong name most) image options input a b read h = absurd h
+run_load_refused (NotATrace name fault) image options input a b read h = absurd h
+run_load_refused TornStores image options input a b read h = absurd h
 
 named_next : (name : List ℕ) (options : Options) (input : List ℕ) (told : Option Told) → options.trace ≡ Some name → TakesInput options input told → IsNext name options told
 named_next name options input told e h = inr (e, (input, h))
@@ -166,7 +171,7 @@ told_unread name a b (absent counts files) = told_as (NotThere name) SameFiles a
 told_over : (name : List ℕ) (limit : ℕ) (a b : ShelfState) → IsOver name limit a b → WhereTold a.told b.told SameFiles
 told_over name limit a b h = told_as (IsLonger name limit) SameFiles a.told b.told (λ x y k. record { files = k.files }) h.files
 
-pub run_periods_refused : (r : Refused) (options : Options) (image : ImageValue) (input : List ℕ) (loaded : Held (List ℕ)) (a b c : ShelfState) → ReadsInput options input a b → Loads image input loaded → RefusesPeriods r options b c → RefusesRun r options a c
+pub run_periods_refused : (r : Refused) (options : Options) (image : ImageValue) (input : List ℕ) (loaded : Held (List ℕ)) (a b c : ShelfState) → ReadsInput options input a b → Loads image input loaded → RefusesPeriods r options b c → RefusesRun r image options a c
 run_periods_refused (CannotRead name) options image input loaded a b c read l h =
     (named_next name options input c.told h.0 (takes options image input loaded a b c.told read l (told_unread name b c h.1)), unreadable_then name a b c read.unchanged h.1)
 run_periods_refused (FileTooLong name most) options image input loaded a b c read l h =
@@ -179,6 +184,7 @@ run_periods_refused (NotATrace name fault) options image input loaded a b c read
   held = h.1.held;
   faulty = h.1.faulty;
 }
+run_periods_refused TornStores options image input loaded a b c read l h = absurd h
 run_periods_refused NoMemory options image input loaded a b c read l h = unchanged_then a b c read.unchanged h
 run_periods_refused (SourceTooLong name) options image input loaded a b c read l h = absurd h
 run_periods_refused (NotCompiled name) options image input loaded a b c read l h = absurd h
@@ -186,14 +192,24 @@ run_periods_refused (NotAnImage name fault) options image input loaded a b c rea
 run_periods_refused (CannotWrite name) options image input loaded a b c read l h = absurd h
 run_periods_refused (InputTooLong count most) options image input loaded a b c read l h = absurd h
 
+-- the periods are refused for the image's form
+pub run_torn : (options : Options) (image : ImageValue) (input : List ℕ) (periods : List Period) (loaded : Held (List ℕ)) (a b c : ShelfState) → ReadsInput options input a b → Loads image input loaded → ReadsPeriods options periods b c → needs_form loaded.form periods ≡ true → RefusesRun TornStores image options a c
+run_torn options image input periods loaded a b c read l h needs = record {
+  unchanged = unchanged_then a b c read.unchanged h.unchanged;
+  before = (input, takes options image input loaded a b c.told read l h.unchanged.files);
+  periods = periods;
+  are_periods = h.are_periods;
+  needs = ap (λ form. needs_form form periods) (sym l.of_image.form) ∙ needs;
+}
+
 pub run_starved : (options : Options) (input : List ℕ) (periods : List Period) (a b c : ShelfState) → ReadsInput options input a b → ReadsPeriods options periods b c → Unchanged a c
 run_starved options input periods a b c read h = unchanged_then a b c read.unchanged h.unchanged
 
 pub ran : (options : Options) (image : ImageValue) (input : List ℕ) (periods : List Period) (loaded run : Held (List ℕ)) (variables : Option (List Variable)) (a b c : ShelfState) →
-    ReadsInput options input a b → Loads image input loaded → ReadsPeriods options periods b c →
+    ReadsInput options input a b → Loads image input loaded → ReadsPeriods options periods b c → needs_form loaded.form periods ≡ false →
     device_of view run ≡ counted (power periods (device_of view loaded)) → SameImage loaded run →
     variables ≡ shown options.vars run.objects (view run.memory) → Ran options image run.form (ended_of run) variables a c
-ran options image input periods loaded run variables a b c read l h e same vars =
+ran options image input periods loaded run variables a b c read l h allowed e same vars =
     let m = memory_of image input in
     let whole : device_of view run ≡ counted (power periods (fresh m)) = e ∙ ap (λ d. counted (power periods d)) l.made in
     record {
@@ -203,6 +219,7 @@ ran options image input periods loaded run variables a b c read l h e same vars 
         takes = takes options image input loaded a b c.told read l h.unchanged.files;
         periods = periods;
         are_periods = h.are_periods;
+        allowed = ap (λ form. needs_form form periods) (sym l.of_image.form) ∙ allowed;
         run = trace_run periods m (device_of view run) h.is_trace whole;
       };
       form_is = same.form ∙ l.of_image.form;

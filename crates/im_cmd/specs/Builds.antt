@@ -4,7 +4,7 @@ use Rattle.im_io.specs.Shelf.{ShelfState, Told, WhereTold, SameCounts, WriteFaul
 use Rattle.im_io.specs.Whole.{HoldsFirst, HoldsText}
 use Rattle.im_image.specs.Contents.{ImageValue, IsImage}
 use Rattle.im_image.specs.Text.{image_text}
-use Rattle.im_lines.specs.Refusals.{Refused, CannotRead, SourceTooLong, NotCompiled, NotAnImage, CannotWrite, InputTooLong, FileTooLong, NotATrace, NoMemory}
+use Rattle.im_lines.specs.Refusals.{Refused, CannotRead, SourceTooLong, NotCompiled, NotAnImage, CannotWrite, InputTooLong, FileTooLong, NotATrace, TornStores, NoMemory}
 use Rattle.im_cmd.specs.Source.{Printing, IsPrinting, IsSource}
 use Rattle.im_cmd.specs.Compiled.{IsCompiled}
 use Rattle.im_cmd.specs.Keeps.{Keeps}
@@ -80,3 +80,4 @@ RefusesBuild (NotAnImage name fault) source image_name old new = ⊥
 RefusesBuild (InputTooLong count most) source image_name old new = ⊥
 RefusesBuild (FileTooLong name most) source image_name old new = ⊥
 RefusesBuild (NotATrace name fault) source image_name old new = ⊥
+RefusesBuild TornStores source image_name old new = ⊥

@@ -2,7 +2,7 @@
 use Rattle.std.specs.Prelude.{◌≡◌, ℕ, ◌≤◌, List, length}
 use Rattle.im_io.specs.Shelf.{ShelfState, WhereTold, SameCounts, ReadFaulted, WasAbsent, SameFiles, NotThere}
 use Rattle.im_io.specs.Whole.{HasWhole, IsLonger}
-use Rattle.im_lines.specs.Refusals.{Refused, CannotRead, SourceTooLong, NotCompiled, NotAnImage, CannotWrite, InputTooLong, FileTooLong, NotATrace, NoMemory}
+use Rattle.im_lines.specs.Refusals.{Refused, CannotRead, SourceTooLong, NotCompiled, NotAnImage, CannotWrite, InputTooLong, FileTooLong, NotATrace, TornStores, NoMemory}
 
 -- no count rose, and no file changed
 pub record Unchanged (old new : ShelfState) : Type 0 where
@@ -36,3 +36,4 @@ RefusesFile (NotAnImage other fault) name limit old new = ⊥
 RefusesFile (CannotWrite other) name limit old new = ⊥
 RefusesFile (InputTooLong count most) name limit old new = ⊥
 RefusesFile (NotATrace other fault) name limit old new = ⊥
+RefusesFile TornStores name limit old new = ⊥

@@ -5,7 +5,7 @@ use Rattle.im_image.specs.Contents.{ImageValue, IsImage}
 use Rattle.im_image.specs.Text.{image_text}
 use Rattle.im_image.specs.Faults.{fault_of}
 use Rattle.im_image.specs.declared.fault.ImageFault.{ImageFault}
-use Rattle.im_lines.specs.Refusals.{Refused, CannotRead, SourceTooLong, NotCompiled, NotAnImage, CannotWrite, InputTooLong, FileTooLong, NotATrace, NoMemory}
+use Rattle.im_lines.specs.Refusals.{Refused, CannotRead, SourceTooLong, NotCompiled, NotAnImage, CannotWrite, InputTooLong, FileTooLong, NotATrace, TornStores, NoMemory}
 use Rattle.im_cmd.specs.Files.{Unchanged, Unreadable, IsOver}
 
 -- bytes of an image's file
@@ -46,3 +46,4 @@ RefusesImage (NotCompiled other) name old new = ⊥
 RefusesImage (CannotWrite other) name old new = ⊥
 RefusesImage (InputTooLong count limit) name old new = ⊥
 RefusesImage (NotATrace other fault) name old new = ⊥
+RefusesImage TornStores name old new = ⊥

@@ -6,6 +6,7 @@ pub mod Keeps
 pub mod Files
 pub mod Builds
 pub mod Images
+pub mod Upgrades
 pub mod Runs
 pub mod Outcome
 pub mod Answers

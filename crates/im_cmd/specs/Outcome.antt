@@ -14,7 +14,7 @@ use Rattle.im_lines.specs.declared.ending.Ending.TheVariants.{Returned, StackExh
 use Rattle.im_lines.specs.Builds.{build_lines}
 use Rattle.im_lines.specs.Runs.{ending_of, run_lines}
 use Rattle.im_lines.specs.Variables.{variable_lines}
-use Rattle.im_lines.specs.Refusals.{Refused, CannotRead, SourceTooLong, NotCompiled, NotAnImage, CannotWrite, InputTooLong, FileTooLong, NotATrace, NoMemory, refusal_line}
+use Rattle.im_lines.specs.Refusals.{Refused, CannotRead, SourceTooLong, NotCompiled, NotAnImage, CannotWrite, InputTooLong, FileTooLong, NotATrace, TornStores, NoMemory, refusal_line}
 
 -- ---- exit statuses
 
@@ -27,6 +27,7 @@ refusal_status (CannotWrite name) = 8
 refusal_status (InputTooLong count limit) = 13
 refusal_status (FileTooLong name limit) = 14
 refusal_status (NotATrace name fault) = 6
+refusal_status TornStores = 16
 refusal_status NoMemory = 9
 
 abbrev pub ending_status : Ending → ℕ

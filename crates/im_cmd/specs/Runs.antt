@@ -1,6 +1,9 @@
 -- An image is run, with the input and under the periods that the options name.
-use Rattle.std.specs.Prelude.{◌≡◌, ℕ, ◌≤◌, ◌<◌, ◌⊎◌, List, [], ◌∷◌, length, All, Option, Some, None, Ok, Err, IfSome}
+use Rattle.std.specs.List.{list_any}
+use Rattle.std.specs.Prelude.{◌≡◌, ℕ, ◌==◌, not, Bool, true, false, ◌≤◌, ◌<◌, ◌⊎◌, List, [], ◌∷◌, length, All, Option, Some, None, Ok, Err, IfSome}
 use Rattle.im_io.specs.Shelf.{ShelfState, Told}
+use Rattle.im_image.specs.declared.form.Form.{Form}
+use Rattle.im_image.specs.declared.form.Form.TheVariants.{OneLength, TwoLengths}
 use Rattle.im_image.specs.Contents.{ImageValue}
 use Rattle.im_power.specs.declared.period.Period.{Period}
 use Rattle.im_power.specs.declared.fault.TraceFault.{TraceFault}
@@ -9,7 +12,7 @@ use Rattle.im_mem.specs.Map.{input_capacity}
 use Rattle.im_device.specs.Periods.{Device, fresh, power}
 use Rattle.im_device.specs.Load.{memory_of}
 use Rattle.im_cli.specs.Named.{Options}
-use Rattle.im_lines.specs.Refusals.{Refused, CannotRead, SourceTooLong, NotCompiled, NotAnImage, CannotWrite, InputTooLong, FileTooLong, NotATrace, NoMemory}
+use Rattle.im_lines.specs.Refusals.{Refused, CannotRead, SourceTooLong, NotCompiled, NotAnImage, CannotWrite, InputTooLong, FileTooLong, NotATrace, TornStores, NoMemory}
 use Rattle.im_cmd.specs.Files.{Unchanged, Unreadable, IsOver}
 
 -- bytes of an input's or a trace's file
@@ -47,6 +50,15 @@ pub record TakesInput (options : Options) (input : List ℕ) (told : Option Told
   pub fits : length input ≤ input_capacity
   pub bytes : All (λ byte. byte < 256) input
 
+-- some period ends within a store
+abbrev pub has_torn : List Period → Bool
+has_torn periods = list_any (λ period. not (period.mask == 0)) periods
+
+-- only form 1 shows an output that no torn store spoils
+abbrev pub needs_form : Form → List Period → Bool
+needs_form OneLength periods = has_torn periods
+needs_form TwoLengths periods = false
+
 -- the run of an image, nothing having failed outside
 pub record RunsImage (options : Options) (image : ImageValue) (ended : Device) (old new : ShelfState) : Type 0 where
   pub unchanged : Unchanged old new
@@ -54,6 +66,7 @@ pub record RunsImage (options : Options) (image : ImageValue) (ended : Device) (
   pub takes : TakesInput options input new.told
   pub periods : List Period
   pub are_periods : ArePeriods options.trace options.steps periods new.told
+  pub allowed : needs_form image.form periods ≡ false
   pub run : ended ≡ power periods (fresh (memory_of image input))
 
 -- ---- why an image isn't run, and what that leaves outside
@@ -84,13 +97,22 @@ pub record HasNoTrace (name : List ℕ) (fault : TraceFault) (options : Options)
   pub held : Holds name text new.told
   pub faulty : trace_of text ≡ Err fault
 
-abbrev pub RefusesRun : Refused → Options → ShelfState → ShelfState → Type 0
-RefusesRun (CannotRead name) options old new = IsNext name options new.told × Unreadable name old new
-RefusesRun (FileTooLong name limit) options old new = IsNext name options new.told × (limit ≡ run_file_limit) × IsOver name run_file_limit old new
-RefusesRun (InputTooLong count limit) options old new = HasLongInput count limit options old new
-RefusesRun (NotATrace name fault) options old new = HasNoTrace name fault options old new
-RefusesRun NoMemory options old new = Unchanged old new
-RefusesRun (SourceTooLong name) options old new = ⊥
-RefusesRun (NotCompiled name) options old new = ⊥
-RefusesRun (NotAnImage name fault) options old new = ⊥
-RefusesRun (CannotWrite name) options old new = ⊥
+-- an input and periods were taken, of which one ends within a store, and the image's form is 0
+pub record HasTornStores (image : ImageValue) (options : Options) (old new : ShelfState) : Type 0 where
+  pub unchanged : Unchanged old new
+  pub before : HasInput options new.told
+  pub periods : List Period
+  pub are_periods : ArePeriods options.trace options.steps periods new.told
+  pub needs : needs_form image.form periods ≡ true
+
+abbrev pub RefusesRun : Refused → ImageValue → Options → ShelfState → ShelfState → Type 0
+RefusesRun (CannotRead name) image options old new = IsNext name options new.told × Unreadable name old new
+RefusesRun (FileTooLong name limit) image options old new = IsNext name options new.told × (limit ≡ run_file_limit) × IsOver name run_file_limit old new
+RefusesRun (InputTooLong count limit) image options old new = HasLongInput count limit options old new
+RefusesRun (NotATrace name fault) image options old new = HasNoTrace name fault options old new
+RefusesRun TornStores image options old new = HasTornStores image options old new
+RefusesRun NoMemory image options old new = Unchanged old new
+RefusesRun (SourceTooLong name) image options old new = ⊥
+RefusesRun (NotCompiled name) image options old new = ⊥
+RefusesRun (NotAnImage name fault) image options old new = ⊥
+RefusesRun (CannotWrite name) image options old new = ⊥

@@ -18,7 +18,7 @@ use Rattle.im_num.specs.Variables.{Variable, variable_of}
 use Rattle.im_cli.specs.declared.fault.WordsFault.{WordsFault}
 use Rattle.im_cli.specs.declared.fault.WordsFault.TheVariants as fault
 use Rattle.im_cli.specs.Named.{Options}
-use Rattle.im_lines.specs.Refusals.{Refused, CannotRead, SourceTooLong, NotCompiled, NotAnImage, CannotWrite, InputTooLong, FileTooLong, NotATrace, NoMemory, refusal_line}
+use Rattle.im_lines.specs.Refusals.{Refused, CannotRead, SourceTooLong, NotCompiled, NotAnImage, CannotWrite, InputTooLong, FileTooLong, NotATrace, TornStores, NoMemory, refusal_line}
 use Rattle.im_cmd.specs.Source.{Printing}
 use Rattle.im_cmd.specs.Files.{Unchanged, Unreadable, IsOver}
 use Rattle.im_cmd.specs.Builds.{Spells, NotOfTheForm, source_limit}
@@ -53,6 +53,7 @@ RefusesProgram (CannotWrite name) source old new = ⊥
 RefusesProgram (InputTooLong count limit) source old new = ⊥
 RefusesProgram (FileTooLong name limit) source old new = ⊥
 RefusesProgram (NotATrace name fault) source old new = ⊥
+RefusesProgram TornStores source old new = ⊥
 
 -- ---- writing an image's text to its file
 
@@ -77,6 +78,7 @@ RefusesStore (NotAnImage other fault) name text old new = ⊥
 RefusesStore (InputTooLong count limit) name text old new = ⊥
 RefusesStore (FileTooLong other limit) name text old new = ⊥
 RefusesStore (NotATrace other fault) name text old new = ⊥
+RefusesStore TornStores name text old new = ⊥
 
 -- ---- running an image
 
@@ -94,6 +96,7 @@ RefusesInput (NotAnImage name fault) options old new = ⊥
 RefusesInput (CannotWrite name) options old new = ⊥
 RefusesInput (InputTooLong count limit) options old new = ⊥
 RefusesInput (NotATrace name fault) options old new = ⊥
+RefusesInput TornStores options old new = ⊥
 
 -- a machine on which nothing was run
 pub record Loads (image : ImageValue) (input : List ℕ) (machine : Held (List ℕ)) : Type 0 where
@@ -112,6 +115,7 @@ RefusesLoad (NotAnImage name fault) input = ⊥
 RefusesLoad (CannotWrite name) input = ⊥
 RefusesLoad (FileTooLong name limit) input = ⊥
 RefusesLoad (NotATrace name fault) input = ⊥
+RefusesLoad TornStores input = ⊥
 
 -- each period has fewer instructions than a word can count
 abbrev pub AreShort : List Period → Type 0
@@ -138,6 +142,7 @@ abbrev pub RefusesTrace : Refused → List ℕ → ShelfState → ShelfState →
 RefusesTrace (CannotRead other) name old new = (other ≡ name) × Unreadable name old new
 RefusesTrace (FileTooLong other limit) name old new = (other ≡ name) × (limit ≡ run_file_limit) × IsOver name run_file_limit old new
 RefusesTrace (NotATrace other fault) name old new = (other ≡ name) × IsNoTrace name fault old new
+RefusesTrace TornStores name old new = ⊥
 RefusesTrace NoMemory name old new = Unchanged old new
 RefusesTrace (SourceTooLong other) name old new = ⊥
 RefusesTrace (NotCompiled other) name old new = ⊥
@@ -154,6 +159,7 @@ abbrev pub RefusesPeriods : Refused → Options → ShelfState → ShelfState �
 RefusesPeriods (CannotRead name) options old new = (options.trace ≡ Some name) × Unreadable name old new
 RefusesPeriods (FileTooLong name limit) options old new = (options.trace ≡ Some name) × (limit ≡ run_file_limit) × IsOver name run_file_limit old new
 RefusesPeriods (NotATrace name fault) options old new = (options.trace ≡ Some name) × IsNoTrace name fault old new
+RefusesPeriods TornStores options old new = ⊥
 RefusesPeriods NoMemory options old new = Unchanged old new
 RefusesPeriods (SourceTooLong name) options old new = ⊥
 RefusesPeriods (NotCompiled name) options old new = ⊥

@@ -48,8 +48,8 @@ fn program_of<'a, H: Shelf>(
     }
 }
 
-// Writes an image's text to its file.
-fn store_image<'a, H: Shelf>(
+/// Writes an image's text to its file.
+pub fn store_image<'a, H: Shelf>(
     alloc: Global,
     shelf: &mut H,
     name: &'a str,

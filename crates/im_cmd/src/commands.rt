@@ -1,13 +1,14 @@
 ghost use Rattle.im_cli.specs.Named.{options_meaning};
-ghost use Rattle.im_cmd.specs.Answers.{BuildAnswers, RunAnswers, ExecAnswers, DumpAnswers};
+ghost use Rattle.im_cmd.specs.Answers.{BuildAnswers, RunAnswers, ExecAnswers, DumpAnswers, UpgradeAnswers};
 
 use crate::building::build;
 use crate::running::run_image;
 use crate::stored::read_stored;
 use crate::telling::{finish, tell_refusal, tell_run, word_count};
+use crate::upgrading::upgrade_image;
 use im_cli::RunOptions;
 use im_io::{Shelf, Sink};
-use im_lines::{send_build_lines, send_dump_lines};
+use im_lines::{send_build_lines, send_dump_lines, send_upgrade_line};
 use std::alloc::Global;
 
 /// Builds a source and stores its image. `out` gets the lines of the build.
@@ -87,6 +88,26 @@ pub fn dump<H: Shelf, O: Sink, E: Sink>(
     match read_stored(alloc, shelf, image_name) {
         Ok(image) => {
             let sent = send_dump_lines(out, &image);
+            finish(err, sent)
+        }
+        Err(refusal) => tell_refusal(err, &refusal),
+    }
+}
+
+/// Stores an image in version 2 under another name. `out` gets the line of the upgrade.
+pub fn upgrade<H: Shelf, O: Sink, E: Sink>(
+    alloc: Global,
+    shelf: &mut H,
+    out: &mut O,
+    err: &mut E,
+    old: &str,
+    new: &str,
+) -> u8
+    ensures { UpgradeAnswers old.now new.now (H.state shelf.old) (H.state shelf.new) (O.state out.old) (O.state out.new) (E.state err.old) (E.state err.new) result }
+{
+    match upgrade_image(alloc, shelf, old, new) {
+        Ok(version) => {
+            let sent = send_upgrade_line(out, version);
             finish(err, sent)
         }
         Err(refusal) => tell_refusal(err, &refusal),

@@ -4,7 +4,7 @@ ghost use Rattle.im_cli.specs.Named.{meaning};
 ghost use Rattle.im_cmd.specs.Stages.{TellsFault};
 ghost use Rattle.im_cmd.specs.Answers.{Answers, CarriesOut};
 
-use crate::commands::{build_source, dump, execute, run_source};
+use crate::commands::{build_source, dump, execute, run_source, upgrade};
 use crate::status::USAGE;
 use crate::telling::tell_refusal;
 use im_cli::{Command, WordsFault, read_words};
@@ -23,7 +23,7 @@ use std::alloc::Global;
 /// | 2 | the words name no command, or ask for help |
 /// | 3 | the source is longer than 4194304 bytes, or isn't of the form that is compiled |
 /// | 4 | a run neither halted nor faulted in the periods of power that it had |
-/// | 5 | the file that is to be run or shown holds no image |
+/// | 5 | the file that is to be run, shown or upgraded holds no image |
 /// | 6 | the text of the trace's file is no trace's |
 /// | 7 | a file can't be read |
 /// | 8 | the image, the output or the report can't be written |
@@ -31,6 +31,7 @@ use std::alloc::Global;
 /// | 10 | a run ended by a machine fault |
 /// | 13 | the input is longer than 1048576 bytes |
 /// | 14 | another file is longer than files of its kind may be |
+/// | 16 | a period of the trace ends within a store, and the image's form is 0 |
 pub fn top<H: Shelf, O: Sink, E: Sink>(
     alloc: Global,
     words: &[String],
@@ -76,5 +77,6 @@ fn carry_out<H: Shelf, O: Sink, E: Sink>(
         } => run_source(alloc, shelf, out, err, source, image, options),
         Command::Exec { image, options } => execute(alloc, shelf, out, err, image, options),
         Command::Dump { image } => dump(alloc, shelf, out, err, image),
+        Command::Upgrade { old, new } => upgrade(alloc, shelf, out, err, old, new),
     }
 }

@@ -15,5 +15,6 @@ mod straight;
 mod telling;
 #[cfg(test)]
 mod tests;
+mod upgrading;
 
 pub use entry::top;

@@ -2,14 +2,14 @@ ghost use Rattle.std.specs.Prelude.{◌≡◌, ◌∷◌, [], IfOk, MatchResult}
 ghost use Rattle.im_mem.specs.Memory.{view};
 ghost use Rattle.im_cli.specs.Named.{options_meaning};
 ghost use Rattle.im_lines.specs.Refusals.{refused_of};
-ghost use Rattle.im_cmd.specs.Runs.{RefusesRun};
+ghost use Rattle.im_cmd.specs.Runs.{RefusesRun, has_torn, needs_form};
 ghost use Rattle.im_cmd.specs.Outcome.{shown};
 ghost use Rattle.im_cmd.specs.Stages.{ended_of, variables_of, ReadsInput, RefusesInput, Loads, RefusesLoad, ReadsTrace, RefusesTrace, ReadsPeriods, RefusesPeriods, Ran};
 
 use crate::files::read_file;
 use im_cli::RunOptions;
 use im_emu::{LoadFault, Machine};
-use im_image::Image;
+use im_image::{Form, Image};
 use im_io::Shelf;
 use im_lines::Refusal;
 use im_mem::FlatMem;
@@ -113,6 +113,23 @@ fn read_periods<'a, H: Shelf>(
     }
 }
 
+// Whether some period ends within a store.
+fn has_torn(periods: &[Period]) -> bool
+    ensures { result ≡ has_torn periods.now }
+{
+    periods.iter().any(|period| period.mask != 0)
+}
+
+// Whether the form doesn't allow what some period does.
+fn needs_form(form: Form, trace: &Trace) -> bool
+    ensures { result ≡ needs_form form trace.now }
+{
+    match form {
+        Form::OneLength => has_torn(trace.as_slice()),
+        Form::TwoLengths => false,
+    }
+}
+
 // The variables of a machine's image, where they are to be shown.
 fn shown_variables(
     alloc: Global,
@@ -136,7 +153,7 @@ pub fn run_image<'a, H: Shelf>(
     options: RunOptions<'a>,
 ) -> Result<Run, Refusal<'a>>
     ensures { MatchResult result (λ run. Ran (options_meaning options.entry) image.now run.machine.form (ended_of run.machine) (variables_of (λ vars. vars.items) run.variables) (H.state shelf.old) (H.state shelf.new))
-        (λ refusal. RefusesRun (refused_of refusal) (options_meaning options.entry) (H.state shelf.old) (H.state shelf.new)) }
+        (λ refusal. RefusesRun (refused_of refusal) image.now (options_meaning options.entry) (H.state shelf.old) (H.state shelf.new)) }
 {
     let input = match read_input(alloc, shelf, options) {
         Ok(input) => input,
@@ -150,6 +167,9 @@ pub fn run_image<'a, H: Shelf>(
         Ok(trace) => trace,
         Err(refusal) => return Err(refusal),
     };
+    if needs_form(machine.form(), &trace) {
+        return Err(Refusal::TornStores);
+    }
     machine.run(&trace);
     match shown_variables(alloc, &machine, options.vars) {
         Ok(variables) => Ok(Run { machine, variables }),

@@ -40,6 +40,9 @@ pub const INPUT_TOO_LONG: u8 = 13;
 /// Another file is longer than files of its kind may be.
 pub const FILE_TOO_LONG: u8 = 14;
 
+/// A period ends within a store, which the image's form doesn't allow.
+pub const TORN_STORES: u8 = 16;
+
 /// The exit status of a command that is refused.
 pub fn status_of_refusal(refusal: &Refusal) -> u8
     ensures { result ≡ refusal_status (refused_of refusal.now) }
@@ -52,6 +55,7 @@ pub fn status_of_refusal(refusal: &Refusal) -> u8
         Refusal::InputTooLong(_, _) => INPUT_TOO_LONG,
         Refusal::FileTooLong(_, _) => FILE_TOO_LONG,
         Refusal::NotATrace(_, _) => REFUSED_TRACE,
+        Refusal::TornStores => TORN_STORES,
         Refusal::OutOfMemory => STARVED,
     }
 }

@@ -1,6 +1,7 @@
 pub mod Numerals
 pub mod Builds
 pub mod Runs
+pub mod Upgrades
 pub mod Dumps
 pub mod Refusals
 pub mod Variables

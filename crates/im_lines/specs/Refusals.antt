@@ -18,6 +18,8 @@ pub data Refused : Type 0 where
   InputTooLong : ℕ → ℕ → Refused
   FileTooLong : List ℕ → ℕ → Refused
   NotATrace : List ℕ → TraceFault → Refused
+  -- a period ends within a store, and the image's form is 0
+  TornStores : Refused
   NoMemory : Refused
 
 abbrev pub image_fault_text : ImageFault → List ℕ
@@ -43,6 +45,7 @@ refusal_text (CannotWrite name) = codes "cannot write " ++ name
 refusal_text (InputTooLong count limit) = codes "input of " ++ decimal count ++ codes " bytes over " ++ decimal limit
 refusal_text (FileTooLong name limit) = name ++ codes " over " ++ decimal limit ++ codes " bytes"
 refusal_text (NotATrace name fault) = name ++ codes ": " ++ trace_fault_text fault
+refusal_text TornStores = codes "torn stores need form 1"
 refusal_text NoMemory = codes "no memory"
 
 -- behind the program's name
@@ -59,4 +62,5 @@ refused_of (refusal.CannotWrite name) = CannotWrite name.now
 refused_of (refusal.InputTooLong count limit) = InputTooLong count limit
 refused_of (refusal.FileTooLong name limit) = FileTooLong name.now limit
 refused_of (refusal.NotATrace name fault) = NotATrace name.now fault
+refused_of refusal.TornStores = TornStores
 refused_of refusal.OutOfMemory = NoMemory

@@ -10,6 +10,7 @@ mod refusal;
 mod runs;
 #[cfg(test)]
 mod tests;
+mod upgrades;
 mod variables;
 
 pub use builds::send_build_lines;
@@ -17,4 +18,5 @@ pub use dumps::send_dump_lines;
 pub use ending::Ending;
 pub use refusal::{Refusal, send_refusal_line};
 pub use runs::send_run_lines;
+pub use upgrades::send_upgrade_line;
 pub use variables::send_variable_lines;

@@ -21,6 +21,8 @@ pub enum Refusal<'a> {
     /// The most bytes that the file may have.
     FileTooLong(&'a str, u64),
     NotATrace(&'a str, TraceFault),
+    /// A period ends within a store, and the image's form is 0.
+    TornStores,
     OutOfMemory,
 }
 
@@ -140,6 +142,7 @@ pub fn send_refusal_line<S: Sink>(sink: &mut S, refusal: &Refusal) -> Result<(),
         Refusal::InputTooLong(count, limit) => send_input_too_long(sink, *count, *limit),
         Refusal::FileTooLong(name, limit) => send_file_too_long(sink, name, *limit),
         Refusal::NotATrace(name, fault) => send_trace_fault(sink, name, fault),
+        Refusal::TornStores => send(sink, b"intermit: torn stores need form 1\n"),
         Refusal::OutOfMemory => send(sink, b"intermit: no memory\n"),
     }
 }

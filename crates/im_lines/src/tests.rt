@@ -103,7 +103,7 @@ fn runs(rt: HostRuntime) -> Result<(), Fail> {
 
 #[test]
 fn refusals(rt: HostRuntime) -> Result<(), Fail> {
-    let rows: [(Refusal, &str); 17] = [
+    let rows: [(Refusal, &str); 18] = [
         (Refusal::CannotRead("a.c"), "cannot read a.c"),
         (
             Refusal::SourceTooLong("a.c"),
@@ -152,6 +152,7 @@ fn refusals(rt: HostRuntime) -> Result<(), Fail> {
             Refusal::NotATrace("t", TraceFault::TooMany(1000001)),
             "t: too many periods 1000001",
         ),
+        (Refusal::TornStores, "torn stores need form 1"),
         (
             Refusal::NotATrace("t", TraceFault::OutOfMemory),
             "t: no memory",

@@ -1,4 +1,4 @@
-use Rattle.im_cli.proofs.OperandLemmas.{build_files, dump_files, exec_files, run_files}
+use Rattle.im_cli.proofs.OperandLemmas.{build_files, dump_files, exec_files, run_files, upgrade_files}
 use Rattle.im_cli.proofs.laws.files_law.Goals as goal
 
 pub returns-clause-build : goal.returns-clause-build
@@ -12,3 +12,6 @@ returns-clause-exec c = exec_files
 
 pub returns-clause-dump : goal.returns-clause-dump
 returns-clause-dump c = dump_files
+
+pub returns-clause-upgrade : goal.returns-clause-upgrade
+returns-clause-upgrade c = upgrade_files

@@ -17,3 +17,7 @@ returns-clause-exec c = refl
 pub returns-clause-dump : goal.returns-clause-dump
 unfolding clap_on_literals
 returns-clause-dump c = refl
+
+pub returns-clause-upgrade : goal.returns-clause-upgrade
+unfolding clap_on_literals
+returns-clause-upgrade c = refl

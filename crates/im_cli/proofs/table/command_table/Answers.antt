@@ -1,7 +1,7 @@
 use Rattle.std.proofs.Common.{◌≡◌, ◌∙◌, [], ap₂, rules, true}
 use Rattle.std.proofs.lemmas.Result.{IfOk-weaker}
 use Rattle.clap.specs.Words.{App, app_of, with_subcommand}
-use Rattle.im_cli.specs.Table.{build_row, command_line, exec_row, run_row}
+use Rattle.im_cli.specs.Table.{build_row, command_line, dump_row, exec_row, run_row}
 use Rattle.im_cli.proofs.table.command_table.Goals as goal
 
 abbrev empty : App
@@ -16,5 +16,7 @@ returns c =
     c.in_ok-subcommand-2.ensures.shape c.in_ok-run_row.ensures.local ∙ ap₂ with_subcommand one c.in_ok-run_row.ensures.row in
     let three : app_of c.in_ok-subcommand-3.field-0 ≡ with_subcommand (with_subcommand (with_subcommand empty build_row) run_row) exec_row =
     c.in_ok-subcommand-3.ensures.shape c.in_ok-exec_row.ensures.local ∙ ap₂ with_subcommand two c.in_ok-exec_row.ensures.row in
-    IfOk-weaker c.subcommand-4.result _ _ (λ m h. h.shape c.in_ok-dump_row.ensures.local
-    ∙ ap₂ with_subcommand three c.in_ok-dump_row.ensures.row) c.subcommand-4.ensures
+    let four : app_of c.in_ok-subcommand-4.field-0 ≡ with_subcommand (with_subcommand (with_subcommand (with_subcommand empty build_row) run_row) exec_row) dump_row =
+    c.in_ok-subcommand-4.ensures.shape c.in_ok-dump_row.ensures.local ∙ ap₂ with_subcommand three c.in_ok-dump_row.ensures.row in
+    IfOk-weaker c.subcommand-5.result _ _ (λ m h. h.shape c.in_ok-upgrade_row.ensures.local
+    ∙ ap₂ with_subcommand four c.in_ok-upgrade_row.ensures.row) c.subcommand-5.ensures

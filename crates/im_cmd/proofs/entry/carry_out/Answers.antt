@@ -11,3 +11,6 @@ returns-in-Exec g c = rw c.in-Exec.is c.execute.ensures
 
 pub returns-in-Dump : goal.returns-in-Dump
 returns-in-Dump g c = rw c.in-Dump.is c.dump.ensures
+
+pub returns-in-Upgrade : goal.returns-in-Upgrade
+returns-in-Upgrade g c = rw c.in-Upgrade.is c.upgrade.ensures

@@ -1,11 +1,18 @@
+use Rattle.std.proofs.Common.{sym, ◌∙◌}
 use Rattle.im_lines.specs.Refusals.{refused_of}
-use Rattle.im_cmd.proofs.Stages.{ran, run_periods_refused}
+use Rattle.im_cmd.proofs.Stages.{ran, run_torn, run_periods_refused}
 use Rattle.im_cmd.proofs.running.run_image.Goals as goal
 
 pub returns-in-Ok-shown_variables : goal.returns-in-Ok-shown_variables
 returns-in-Ok-shown_variables g c =
     ran _ _ _ _ _ _ _ _ _ _ c.in-Ok.ensures (rw c.deref.ensures.value at c.in-Ok-load.ensures) c.in-Ok-read_periods.ensures
+    (sym (rw c.form.ensures at c.needs_form.ensures) ∙ c.if-needs_form.false)
     c.run.ensures.device c.run.ensures.image c.in-Ok-shown_variables.ensures
+
+pub returns-then-needs_form : goal.returns-then-needs_form
+returns-then-needs_form g c =
+    run_torn _ _ _ _ _ _ _ _ c.in-Ok.ensures (rw c.deref.ensures.value at c.in-Ok-load.ensures) c.in-Ok-read_periods.ensures
+    (sym (rw c.form.ensures at c.needs_form.ensures) ∙ c.if-needs_form.true)
 
 pub returns-in-Err-read_periods : goal.returns-in-Err-read_periods
 returns-in-Err-read_periods g c =
