@@ -1,0 +1,4 @@
+//! From the typed program to block code.
+#![tactic(auto)]
+
+mod laws;
