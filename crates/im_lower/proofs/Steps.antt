@@ -75,3 +75,24 @@ module _ (u : Code) (g : Setting) where
     pub joined : {A : Type 0} {next : Point} {b : State} {w : World} {P : World → A → Type 0} {Q : A → typed.State → (ℕ → Value) → Store → Type 0} {r : Answer A} → IsRight p.statics w P r → Does u g p home next b Q r
         → Does u g p home next b (λ a t registers store. IsSoundWorld p.statics t.world × Keeps w t.world × P t.world a × Q a t registers store) r
     joined {next = next} {b = b} {w = w} {P = P} {Q = Q} {r = r} h k = record { by = joined-at next b w P Q r h.by k.by }
+
+    weaker-at : {A : Type 0} (next : Point) (b : State) (P Q : A → typed.State → (ℕ → Value) → Store → Type 0) (r : Answer A) → ((a : A) (t : typed.State) (registers : ℕ → Value) (store : Store) → P a t registers store → Q a t registers store) → DoesAt u g p home next b P r → DoesAt u g p home next b Q r
+    weaker-at next b P Q (Gives a t) k h = record { block = h.block; registers = h.registers; store = h.store; leads = h.leads; is = k a t h.registers h.store h.is }
+    weaker-at next b P Q (Stops (Fails why)) k h = tt
+    weaker-at next b P Q (Stops (Starves output)) k h = h
+    weaker-at next b P Q (Stops (Exhausts output store)) k h = h
+
+    pub does-weaker : {A : Type 0} {next : Point} {b : State} {P Q : A → typed.State → (ℕ → Value) → Store → Type 0} {r : Answer A} → ((a : A) (t : typed.State) (registers : ℕ → Value) (store : Store) → P a t registers store → Q a t registers store) → Does u g p home next b P r → Does u g p home next b Q r
+    does-weaker {next = next} {b = b} {P = P} {Q = Q} {r = r} k h = record { by = weaker-at next b P Q r k h.by }
+
+    -- from where it has come, steps lead to another point
+    moved-at : {A : Type 0} (middle next : Point) (b : State) (P : A → typed.State → (ℕ → Value) → Store → Type 0) (r : Answer A) → ((n : ℕ) (registers : ℕ → Value) (store : Store) (t : typed.State) → (j : ℕ) × Reaches u g (at home n middle registers store t) (at home j next registers store t)) → DoesAt u g p home middle b P r → DoesAt u g p home next b P r
+    moved-at middle next b P (Gives a t) k h =
+        let x = k h.block h.registers h.store t in
+        record { block = x.0; registers = h.registers; store = h.store; leads = further h.leads x.1; is = h.is }
+    moved-at middle next b P (Stops (Fails why)) k h = tt
+    moved-at middle next b P (Stops (Starves output)) k h = h
+    moved-at middle next b P (Stops (Exhausts output store)) k h = h
+
+    pub does-moved : {A : Type 0} {middle next : Point} {b : State} {P : A → typed.State → (ℕ → Value) → Store → Type 0} {r : Answer A} → ((n : ℕ) (registers : ℕ → Value) (store : Store) (t : typed.State) → (j : ℕ) × Reaches u g (at home n middle registers store t) (at home j next registers store t)) → Does u g p home middle b P r → Does u g p home next b P r
+    does-moved {middle = middle} {next = next} {b = b} {P = P} {r = r} k h = record { by = moved-at middle next b P r k h.by }
