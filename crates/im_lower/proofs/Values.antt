@@ -178,6 +178,24 @@ module _ (u : Code) (g : Setting) (p : q.Prog) (f : q.Func) (c : Around) (calls 
       does-checked u g p home (taken s.world.store v) s _ (λ a e.
       write-line o place kind access to free n next base registers store v vs s finds came.agrees fits.0 came.has came.kept)
 
+  -- the operand that decides `&&` and `||` where the first one doesn't: it is negated twice
+  second-truth : (to free j x : ℕ) (more next : Point) (base after : ℕ → Value) (left : Store) (w : typed.State) (kind : Kind) (r : Answer Values) → to < free → Begins blocks j next
+      → ((i : ℕ) → i < free → (i ≡ to → ⊥) → after i ≡ base i)
+      → Does u g p home (before (Not free free) (before (Not to free) (ends (Jump j)))) (at home x more after left w) (Took p.statics w.world kind after free (free + 1)) (typed.goes_on r used)
+      → Does u g p home next (at home x more after left w) (Came base to free) (typed.goes_on (typed.goes_on r used) (λ y. truth (holds y)))
+  second-truth to free j x more next base after left w kind r lt begins kept does =
+      does-bind u g p home does (λ y z n₂ after₂ left₂ took₂.
+      let none : Value = Number (if not (holds y) then pos 1 else pos 0) in
+      let rs : ℕ → Value = with_register after₂ free none in
+      does-line u g p home fn is (Not free free) (before (Not to free) (ends (Jump j))) n₂ after₂ left₂ z free (m.as_truth (m.negation left₂ (after₂ free))) none refl
+      (negated left₂ (after₂ free) (holds y) (ap (condition left₂) took₂.has ∙ condition-of z.world.activations z.world.store left₂ kind y took₂.agrees took₂.value took₂.taken))
+      (does-line u g p home fn is (Not to free) (ends (Jump j)) n₂ rs left₂ z to (m.as_truth (m.negation left₂ (rs free))) (Number (if holds y then pos 1 else pos 0)) refl
+      (negated left₂ (rs free) (not (holds y)) (ap (condition left₂) (register-same after₂ free none) ∙ truth-condition left₂ (not (holds y)))
+      ∙ ap (λ i. Fine (Number (if i then pos 1 else pos 0))) (not-not (holds y)))
+      (does-jump u g p home fn is j next n₂ (with_register rs to (Number (if holds y then pos 1 else pos 0))) left₂ z begins
+      (arrived u g p home fn is next j base rs to free (Number (if holds y then pos 1 else pos 0)) left₂ z took₂.agrees
+      (λ i l ne. register-other after₂ free i none (λ e. omega arith) ∙ took₂.kept i (omega arith) (λ e. omega arith) ∙ kept i l ne)))))
+
   mutual
     pub lowered : (e : q.Expr) (to free : ℕ) (entry next : Point) (n : ℕ) (registers : ℕ → Value) (store : Store) (s : typed.State) → to < free → IsServed e → IsTyped p f e → Codes p c.first blocks e to free entry next
         → IsSoundWorld p.statics s.world → IsHere f c s.world → Agrees s.world.store store → Does u g p home next (at home n entry registers store s) (Came registers to free) (value_of c e s)
@@ -293,4 +311,51 @@ module _ (u : Code) (g : Setting) (p : q.Prog) (f : q.Func) (c : Around) (calls 
         (joined u g p home (at-shape p t.3 (right-value p f c calls e s t.2 sane at_home))
         (lowered e to free codes.0 (before (Write (Local (c.first + o) 0) kind to codes.1) next) n registers store s lt served.2 t.2 codes.3 sane at_home agrees))
         (λ vs v n₁ after left k. assigned (local c o) (Local (c.first + o) 0) kind codes.1 to free n₁ next registers after left vs v (λ _ _. refl) k.2 k.3))
-    lowered e to free entry next n registers store s lt served t codes sane at_home agrees = ?
+    lowered (q.And a b) to free entry next n registers store s lt served t codes sane at_home agrees =
+        let ka = scalar-shape (shape_of p a) t.2 in
+        let kb = scalar-shape (shape_of p b) t.3 in
+        does-bind u g p home
+        (does-used u g p home fn is (at-shape p ka.1 (right-value p f c calls a s t.0 sane at_home))
+        (lowered a free (free + 1) entry (ends (Branch free codes.1 codes.2)) n registers store s (omega arith) served.0 t.0 codes.7 sane at_home agrees))
+        (λ v w n₁ after left took.
+        does-branch u g p home fn is free codes.1 codes.2 codes.3 (before (Put to (pos 0)) (ends (Jump codes.0))) n₁ after left w _ _ (holds v) codes.5 codes.6
+        (ap (condition left) took.has ∙ condition-of w.world.activations w.world.store left ka.0 v took.agrees took.value took.taken)
+        (second-truth to free codes.0 codes.1 codes.3 next registers after left w kb.0 (value_of c b w) lt codes.4
+        (λ i l ne. took.kept i (omega arith) (λ e. omega arith))
+        (does-used u g p home fn is (at-shape p kb.1 (right-value p f c calls b w t.1 took.sane (here-kept took.keeps at_home)))
+        (lowered b free (free + 1) codes.3 (before (Not free free) (before (Not to free) (ends (Jump codes.0)))) codes.1 after left w (omega arith) served.1 t.1 codes.8 took.sane (here-kept took.keeps at_home) took.agrees)))
+        (does-line u g p home fn is (Put to (pos 0)) (ends (Jump codes.0)) codes.2 after left w to (Fine (Number (pos 0))) (Number (pos 0)) refl refl
+        (does-jump u g p home fn is codes.0 next codes.2 (with_register after to (Number (pos 0))) left w codes.4
+        (arrived u g p home fn is next codes.0 registers after to free (Number (pos 0)) left w took.agrees
+        (λ i l ne. took.kept i (omega arith) (λ e. omega arith))))))
+    lowered (q.Or a b) to free entry next n registers store s lt served t codes sane at_home agrees =
+        let ka = scalar-shape (shape_of p a) t.2 in
+        let kb = scalar-shape (shape_of p b) t.3 in
+        does-bind u g p home
+        (does-used u g p home fn is (at-shape p ka.1 (right-value p f c calls a s t.0 sane at_home))
+        (lowered a free (free + 1) entry (ends (Branch free codes.2 codes.1)) n registers store s (omega arith) served.0 t.0 codes.7 sane at_home agrees))
+        (λ v w n₁ after left took.
+        does-branch u g p home fn is free codes.2 codes.1 (before (Put to (pos 1)) (ends (Jump codes.0))) codes.3 n₁ after left w _ _ (holds v) codes.6 codes.5
+        (ap (condition left) took.has ∙ condition-of w.world.activations w.world.store left ka.0 v took.agrees took.value took.taken)
+        (does-line u g p home fn is (Put to (pos 1)) (ends (Jump codes.0)) codes.2 after left w to (Fine (Number (pos 1))) (Number (pos 1)) refl refl
+        (does-jump u g p home fn is codes.0 next codes.2 (with_register after to (Number (pos 1))) left w codes.4
+        (arrived u g p home fn is next codes.0 registers after to free (Number (pos 1)) left w took.agrees
+        (λ i l ne. took.kept i (omega arith) (λ e. omega arith)))))
+        (second-truth to free codes.0 codes.1 codes.3 next registers after left w kb.0 (value_of c b w) lt codes.4
+        (λ i l ne. took.kept i (omega arith) (λ e. omega arith))
+        (does-used u g p home fn is (at-shape p kb.1 (right-value p f c calls b w t.1 took.sane (here-kept took.keeps at_home)))
+        (lowered b free (free + 1) codes.3 (before (Not free free) (before (Not to free) (ends (Jump codes.0)))) codes.1 after left w (omega arith) served.1 t.1 codes.8 took.sane (here-kept took.keeps at_home) took.agrees))))
+    lowered q.NullPointer to free entry next n registers store s lt served t codes sane at_home agrees = absurd served
+    lowered (q.Address a) to free entry next n registers store s lt served t codes sane at_home agrees = absurd served
+    lowered (q.Move size back a b) to free entry next n registers store s lt served t codes sane at_home agrees = absurd served
+    lowered (q.MoveBy size a b) to free entry next n registers store s lt served t codes sane at_home agrees = absurd served
+    lowered (q.Distance size a b) to free entry next n registers store s lt served t codes sane at_home agrees = absurd served
+    lowered (q.Assign (q.Scalar kind) (q.Target a) e) to free entry next n registers store s lt served t codes sane at_home agrees = absurd served.1
+    lowered (q.Assign (q.Scalar kind) (q.Member a d) e) to free entry next n registers store s lt served t codes sane at_home agrees = absurd served.1
+    lowered (q.Assign (q.Struct count cells) a e) to free entry next n registers store s lt served t codes sane at_home agrees = absurd served.0
+    lowered (q.Update a change e) to free entry next n registers store s lt served t codes sane at_home agrees = absurd served
+    lowered (q.Increment a change old) to free entry next n registers store s lt served t codes sane at_home agrees = absurd served
+    lowered (q.Part from x e) to free entry next n registers store s lt served t codes sane at_home agrees = absurd served
+    lowered (q.Call m es) to free entry next n registers store s lt served t codes sane at_home agrees = absurd served
+    lowered q.Getchar to free entry next n registers store s lt served t codes sane at_home agrees = absurd served
+    lowered (q.Putchar e) to free entry next n registers store s lt served t codes sane at_home agrees = absurd served
