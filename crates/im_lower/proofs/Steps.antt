@@ -1,18 +1,17 @@
 -- Steps of block code one after another, and answers that block code does as.
-use Rattle.std.proofs.Common.{◌≡◌, ℕ, zero, suc, ◌+◌, ◌<◌, ◌≤◌, List, [], ◌∷◌, ◌++◌, Bool, true, false, refl, sym, ap, ◌∙◌, subst, arith, append_assoc, append-nil}
-use Rattle.std.specs.Prelude.{Option, Some, None, ℤ, pos}
+use Rattle.std.proofs.Common.{◌≡◌, ℕ, suc, List, [], ◌++◌, refl, sym, ap, ◌∙◌, append_assoc, append-nil}
 use Rattle.im_store.specs.Checks.{Checked, Fine, Bad}
 use Rattle.im_store.specs.Objects.{Value, Store}
-use Rattle.im_store.specs.Outcomes.{Outcome, More, End, variables}
+use Rattle.im_store.specs.Outcomes.{Outcome}
 use Rattle.im_typed.specs.Program.{Prog}
 use Rattle.im_typed.specs.Runs.{World, Fails, Starves, Exhausts, Answer, Gives, Stops, Run, checked}
 use Rattle.im_typed.specs.Runs as typed
 use Rattle.im_typed.specs.Sound.{IsSoundWorld, Keeps, IsRightAt, IsRight}
 use Rattle.im_block.specs.declared.unit.Unit.{Unit as Code}
-use Rattle.im_block.specs.Meaning.{Setting, Event, State, Next, Goes, Stops as Ends, step}
-use Rattle.im_block.specs.Runs.{Ran, Over, exec, goes_on}
+use Rattle.im_block.specs.Meaning.{Setting, Event, State, Goes, Stops as Ends, step}
+use Rattle.im_block.specs.Runs.{Over, exec, goes_on}
 use Rattle.im_lower.specs.Codes.{Point}
-use Rattle.im_lower.specs.Agrees.{Home, at, Reaches, Finishes, Arrives, DoesAt, Does}
+use Rattle.im_lower.specs.Agrees.{Home, at, Reaches, Finishes, DoesAt, Does}
 
 module _ (u : Code) (g : Setting) where
   pub here : (s : State) → Reaches u g s s

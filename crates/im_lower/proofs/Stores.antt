@@ -1,5 +1,5 @@
 -- What agreement of stores gives, and numbers in 32 bits.
-use Rattle.std.proofs.Common.{◌≡◌, ◌≢◌, ℕ, zero, suc, ◌+◌, ◌-◌, ◌%◌, ◌<◌, ◌≤◌, ◌^◌, ◌==◌, ◌&&◌, List, [], ◌∷◌, Bool, true, false, refl, sym, ap, ◌∙◌, subst, arith}
+use Rattle.std.proofs.Common.{◌≡◌, ℕ, ◌-◌, ◌%◌, ◌<◌, ◌==◌, ◌&&◌, Bool, true, false, refl, sym, ap, ◌∙◌, subst, arith}
 use Rattle.std.specs.Prelude.{Option, Some, None, ℤ, pos, negsuc, not, if◌then◌else◌}
 use Rattle.std.specs.Ordering.{int_eq}
 use Rattle.std.proofs.lemmas.Int.{ints}
@@ -8,11 +8,10 @@ use Rattle.std.proofs.Math.Nat.{mod-eq_of_lt}
 use Rattle.std.proofs.lemmas.Bool.Decides.{Decides-int_eq}
 use Rattle.im_num.specs.declared.kind.Kind.{Kind}
 use Rattle.im_num.specs.declared.kind.Kind.TheVariants.{I8, U8, I16, U16, I32, U32, Ptr}
-use Rattle.im_num.specs.Kinds.{IsOfKind, wrap, word}
-use Rattle.im_num.proofs.Wrapping.{wrap-same}
+use Rattle.im_num.specs.Kinds.{IsOfKind, word}
 use Rattle.im_store.specs.Checks.{Checked, Fine, Bad, unless}
-use Rattle.im_store.specs.Objects.{Object, Value, Number, Null, Pointer, Unset, Shape, Store, same_kind, same_object, is_there, lives}
-use Rattle.im_store.specs.Access.{is_of_kind, has_cell, stands, taken, read_cell, write_cell, with_value}
+use Rattle.im_store.specs.Objects.{Object, Value, Number, Null, Pointer, Unset, Shape, Store, same_object, is_there, lives}
+use Rattle.im_store.specs.Access.{has_cell, stands, taken, read_cell, write_cell, with_value}
 use Rattle.im_lower.specs.Agrees.{Same, Agrees}
 
 module _ (store blocks : Store) (agrees : Agrees store blocks) where

@@ -1,14 +1,13 @@
 -- Lines and exits of block code, and values that are used.
-use Rattle.std.proofs.Common.{◌≡◌, ◌≢◌, ℕ, zero, suc, ◌+◌, ◌<◌, ◌≤◌, ◌==◌, List, [], ◌∷◌, Bool, true, false, refl, sym, ap, ◌∙◌, subst, arith}
-use Rattle.std.specs.Prelude.{Option, Some, None, ℤ, pos, negsuc, not, if◌then◌else◌, slice_get}
+use Rattle.std.proofs.Common.{◌≡◌, ℕ, ◌<◌, ◌==◌, List, [], ◌∷◌, Bool, true, false, refl, sym, ap, ◌∙◌, subst}
+use Rattle.std.specs.Prelude.{Some, ℤ, if◌then◌else◌, slice_get}
 use Rattle.std.proofs.lemmas.Bool.{eqb-true, eq-eqb}
 use Rattle.im_num.specs.declared.kind.Kind.{Kind}
-use Rattle.im_num.specs.declared.kind.Kind.TheVariants.{I8, U8, I16, U16, I32, U32, Ptr}
-use Rattle.im_num.specs.Kinds.{IsOfKind, wrap, word}
-use Rattle.im_num.proofs.Wrapping.{wrap-same}
+use Rattle.im_num.specs.declared.kind.Kind.TheVariants.{Ptr}
+use Rattle.im_num.specs.Kinds.{IsOfKind}
 use Rattle.im_store.specs.declared.undefined.Undefined.TheVariants.{DeadPointerRead}
-use Rattle.im_store.specs.Checks.{Checked, Fine, Bad, then_, unless}
-use Rattle.im_store.specs.Objects.{Object, Value, Number, Null, Pointer, Unset, Store, same_kind, lives}
+use Rattle.im_store.specs.Checks.{Checked, Fine, Bad, unless}
+use Rattle.im_store.specs.Objects.{Value, Number, Null, Pointer, Unset, Store, lives}
 use Rattle.im_store.specs.Access.{taken}
 use Rattle.im_store.specs.Pointers.{holds}
 use Rattle.im_typed.specs.Program.{Prog, Scalar}
@@ -24,8 +23,8 @@ use Rattle.im_block.specs.declared.unit.Unit.{Unit as Code}
 use Rattle.im_block.specs.Meaning as m
 use Rattle.im_block.specs.Meaning.{Setting, Event, State, Goes, step, with_register, condition, computes}
 use Rattle.im_lower.specs.Codes.{Point, before, ends, Begins}
-use Rattle.im_lower.specs.Agrees.{Same, Agrees, Home, at, Reaches, Arrives, Does, HasOne, Came}
-use Rattle.im_lower.proofs.Steps.{here, stepped, does-later, does-bind, does-checked, joined, does-moved}
+use Rattle.im_lower.specs.Agrees.{Agrees, Home, at, Does, Came}
+use Rattle.im_lower.proofs.Steps.{here, stepped, does-later, does-bind, joined, does-moved}
 use Rattle.im_lower.proofs.Stores.{agree-lives, test-same}
 
 -- registers

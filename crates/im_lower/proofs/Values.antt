@@ -1,32 +1,29 @@
 -- Block code of an expression on integers gives the expression's value.
-use Rattle.std.proofs.Common.{◌≡◌, ◌≢◌, ℕ, zero, suc, ◌+◌, ◌<◌, ◌≤◌, ◌==◌, List, [], ◌∷◌, ◌++◌, Bool, true, false, length, refl, sym, ap, ◌∙◌, subst, arith}
-use Rattle.std.specs.Prelude.{Option, Some, None, ℤ, pos, negsuc, not, nat_abs, nat_lt, if◌then◌else◌, slice_get}
+use Rattle.std.proofs.Common.{◌≡◌, ℕ, ◌+◌, ◌<◌, List, [], ◌∷◌, Bool, true, false, refl, sym, ap, ◌∙◌, subst, arith}
+use Rattle.std.specs.Prelude.{Option, Some, None, ℤ, pos, not, if◌then◌else◌, slice_get}
 use Rattle.im_num.specs.declared.kind.Kind.{Kind}
 use Rattle.im_num.specs.declared.kind.Kind.TheVariants.{I8, U8, I16, U16, I32, U32, Ptr}
 use Rattle.im_num.specs.Kinds.{IsOfKind, wrap, word}
-use Rattle.im_num.proofs.Wrapping.{wrap-same, wrap-of_kind}
-use Rattle.im_ctype.specs.declared.cell.Cell.{Cell}
+use Rattle.im_num.proofs.Wrapping.{wrap-same}
 use Rattle.im_store.specs.declared.operators.BinaryOp.{BinaryOp}
 use Rattle.im_store.specs.declared.operators.BinaryOp.TheVariants.{Add, Subtract, Multiply, Divide, Remainder, BitAnd, BitOr, BitXor, ShiftLeft, ShiftRight}
 use Rattle.im_store.specs.declared.operators.Comparison.{Comparison}
 use Rattle.im_store.specs.declared.undefined.Undefined.TheVariants.{MissingResult}
 use Rattle.im_store.specs.Checks.{Checked, Fine, Bad, then_, unless}
 use Rattle.im_store.specs.Numbers.{apply, apply_one, compares}
-use Rattle.im_store.specs.Objects.{Named, Object, static, Value, Number, Null, Pointer, Unset, Store, same_kind}
-use Rattle.im_store.specs.Access.{taken, read_cell, read_cells, write_cell, write_cells}
+use Rattle.im_store.specs.Objects.{Object, static, Value, Number, Null, Pointer, Unset, Store, same_kind}
+use Rattle.im_store.specs.Access.{taken, read_cell, write_cell}
 use Rattle.im_store.specs.Pointers.{holds, compare_values}
-use Rattle.im_store.proofs.OfKind.{apply-of_kind}
 use Rattle.im_typed.specs.Program as q
 use Rattle.im_typed.specs.Runs.{World, Answer, Gives, Stops, Run, checked, either}
 use Rattle.im_typed.specs.Runs as typed
-use Rattle.im_typed.specs.Values.{Values, used, number_of, read_at, write_at, truth}
-use Rattle.im_typed.specs.Meaning.{Around, local, place_of, value_of}
+use Rattle.im_typed.specs.Values.{Values, used, read_at, write_at, truth}
+use Rattle.im_typed.specs.Meaning.{Around, local, value_of}
 use Rattle.im_typed.specs.Typing.{IsInteger, IsIntegerShape, IsScalarShape, IsRightShape, shape_of, IsTyped}
-use Rattle.im_typed.specs.Sound.{IsValue, IsSoundWorld, IsHere, Keeps, Fits, IsRight}
-use Rattle.im_typed.proofs.Sounds.{here-kept, keeps-trans, right-value_in}
+use Rattle.im_typed.specs.Sound.{IsValue, IsSoundWorld, IsHere, Fits}
+use Rattle.im_typed.proofs.Sounds.{here-kept}
 use Rattle.im_typed.proofs.SoundExprs.{RightCalls, at-shape, right-value}
-use Rattle.im_block.specs.declared.code.Place.TheVariants.{Static, Local, Through}
-use Rattle.im_block.specs.declared.code.Line.{Line}
+use Rattle.im_block.specs.declared.code.Place.TheVariants.{Static, Local}
 use Rattle.im_block.specs.declared.code.Line.TheVariants.{Put, Convert, Unary, Not, Compute, Compare, Read, Write}
 use Rattle.im_block.specs.declared.code.Exit.TheVariants.{Jump, Branch}
 use Rattle.im_block.specs.declared.code.Place.{Place}
@@ -35,11 +32,11 @@ use Rattle.im_block.specs.declared.unit.Function.{Function}
 use Rattle.im_block.specs.declared.unit.Unit.{Unit as Code}
 use Rattle.im_block.specs.Meaning as m
 use Rattle.im_block.specs.Meaning.{Setting, Frame, Event, State, Goes, step, with_register, condition, computes}
-use Rattle.im_lower.specs.Codes.{Point, before, ends, Begins, where_of, above, CodesPlace, Codes}
-use Rattle.im_lower.specs.Agrees.{Same, Agrees, Home, at, Reaches, Arrives, Does, HasOne, Came}
+use Rattle.im_lower.specs.Codes.{Point, before, ends, Begins, Codes}
+use Rattle.im_lower.specs.Agrees.{Agrees, Home, at, Does, Came}
 use Rattle.im_lower.specs.Served.{IsServed}
-use Rattle.im_lower.proofs.Steps.{here, stepped, does-later, does-bind, does-checked, does-weaker, joined}
-use Rattle.im_lower.proofs.Stores.{agree-lives, test-same, agree-read, agree-write}
+use Rattle.im_lower.proofs.Steps.{stepped, does-later, does-bind, does-checked, does-weaker, joined}
+use Rattle.im_lower.proofs.Stores.{agree-read, agree-write}
 use Rattle.im_lower.proofs.Uses.{register-same, register-other, number-value, condition-of, Took, does-line, does-jump, does-arm, does-branch, arrived, stands, does-used, does-number}
 
 -- operands that are of their kind need no conversion

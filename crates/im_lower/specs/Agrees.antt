@@ -1,14 +1,14 @@
 -- Block code that does as the typed program: how its states stand for those of a typed run, and what a part of the code does.
-use Rattle.std.specs.Prelude.{◌≡◌, ℕ, ◌<◌, ℤ, pos, List, [], ◌∷◌, ◌++◌, Option, Some}
+use Rattle.std.specs.Prelude.{◌≡◌, ℕ, ◌<◌, pos, List, [], ◌∷◌, ◌++◌, Some}
 use Rattle.im_store.specs.Objects.{Object, Value, Number, Null, Pointer, Unset, Shape, Store}
-use Rattle.im_store.specs.Outcomes.{Outcome, Undef, More, End, variables}
+use Rattle.im_store.specs.Outcomes.{Outcome, More, End, variables}
 use Rattle.im_typed.specs.Program.{Prog}
 use Rattle.im_typed.specs.Runs.{Fails, Starves, Exhausts, Answer, Gives, Stops}
 use Rattle.im_typed.specs.Runs as typed
 use Rattle.im_typed.specs.Values.{Values}
 use Rattle.im_block.specs.declared.unit.Unit.{Unit as Code}
-use Rattle.im_block.specs.Meaning.{Setting, Active, Event, Spot, Frame, State}
-use Rattle.im_block.specs.Runs.{Ran, Over, exec}
+use Rattle.im_block.specs.Meaning.{Setting, Active, Event, Frame, State}
+use Rattle.im_block.specs.Runs.{Over, exec}
 use Rattle.im_lower.specs.Codes.{Point}
 
 -- a value of the typed store, and that of block code: what is uninitialised may be anything
