@@ -1,6 +1,6 @@
 -- Expressions and statements, where what calls do is related.
-use Rattle.std.proofs.Common.{ℕ, zero, suc, ◌+◌, ◌≤◌, List, [], ◌∷◌, true, false, length, take, drop, arith}
-use Rattle.std.specs.Prelude.{Option, Some, None, ℤ, pos, not, nat_abs, if◌then◌else◌}
+use Rattle.std.proofs.Common.{ℕ, zero, suc, ◌+◌, ◌≤◌, List, [], ◌∷◌, false, length, take, drop, arith}
+use Rattle.std.specs.Prelude.{Option, Some, None, pos, nat_abs}
 use Rattle.im_num.specs.declared.kind.Kind.TheVariants.{U8}
 use Rattle.im_num.specs.Kinds.{wrap}
 use Rattle.im_store.specs.Numbers.{apply, apply_one}
@@ -11,7 +11,7 @@ use Rattle.im_store.specs.Pointers.{moved_by, bytes_moved, member_at, distance, 
 use Rattle.im_typed.specs.Program.{Place, Static, Local, Target, Member, Expr, Constant, NullPointer, Read, Address, Convert, Unary, Binary, Move, MoveBy, Distance, Compare, Not, And, Or, Choose, Comma, Discard, Assign, Update, Increment, Part, Call, Getchar, Putchar, Exprs, no_exprs, more_exprs, Piece, Stmt, Do, Forget, Initialise, Block, If, While, DoWhile, For, Switch, Break, Continue, Return, Stmts, no_stmts, more_stmts}
 use Rattle.im_typed.specs.Runs.{Run, ◌>>=◌, give, starve, with_fuel, either}
 use Rattle.im_typed.specs.Values.{Values, cells_of, used, value_in}
-use Rattle.im_typed.specs.Meaning.{Around, Calls, local, Flow, Next, Broke, Continued, Returned, after_turn, place_of, value_of, values_of, turns, decides, entered, out_of_switch, forgotten, cleared, given_offsets, initialise, returned, does, does_from}
+use Rattle.im_typed.specs.Meaning.{Around, Calls, Flow, Next, Broke, Continued, Returned, after_turn, place_of, value_of, values_of, turns, decides, entered, out_of_switch, forgotten, cleared, given_offsets, initialise, returned, does, does_from}
 use Rattle.im_typed.proofs.Related.{Related, Tame, tame-bind, tame-give, tame-undefined, tame-starve, tame-paid, tame-either, tame-in_store, rel-bind, rel-give, rel-look, rel-checked, rel-in_store, rel-either, rel-paid, rel-paid-zero, rel-paid-suc, rel-down}
 use Rattle.im_typed.proofs.Parts.{rel-change_store, rel-used, rel-value_in, rel-number_in, rel-read_at, rel-write_at, rel-update, rel-next_byte, rel-put_byte, rel-after, rel-after_turn, rel-decides}
 

@@ -1,12 +1,12 @@
 mod RowCounts
 mod Endless
-mod Related
-mod Parts
-mod Induction
-mod Whole
-mod Sounds
-mod SoundCells
-mod SoundExprs
-mod SoundStmts
-mod SoundCalls
-mod SoundRuns
+pub mod Related
+pub mod Parts
+pub mod Induction
+pub mod Whole
+pub mod Sounds
+pub mod SoundCells
+pub mod SoundExprs
+pub mod SoundStmts
+pub mod SoundCalls
+pub mod SoundRuns

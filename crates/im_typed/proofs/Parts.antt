@@ -1,16 +1,16 @@
 -- What each step of the meaning keeps.
-use Rattle.std.proofs.Common.{◌≡◌, ℕ, List, [], ◌∷◌, ◌++◌, Bool, true, false, length, refl}
+use Rattle.std.proofs.Common.{ℕ, List, [], ◌∷◌, ◌++◌, Bool, length, refl}
 use Rattle.std.specs.Prelude.{ℤ, pos, negsuc, nat_lt}
 use Rattle.im_store.specs.declared.undefined.Undefined.TheVariants.{MissingResult}
 use Rattle.im_store.specs.Objects.{Value, Number, Store}
 use Rattle.im_store.specs.Access.{taken, read_cells, write_cells, at_place}
 use Rattle.im_typed.specs.declared.expression.Change.{Change}
 use Rattle.im_typed.specs.Program.{Access, Scalar}
-use Rattle.im_typed.specs.Runs.{World, Run, ◌>>=◌, give, change, leave_store}
-use Rattle.im_typed.specs.Values.{Values, scalar, truth, used, value_in, number_of, number_in, cells_of, read_at, write_at, changed_kind, changed, update}
+use Rattle.im_typed.specs.Runs.{Run, leave_store}
+use Rattle.im_typed.specs.Values.{Values, used, value_in, number_of, number_in, cells_of, read_at, write_at, changed_kind, changed, update}
 use Rattle.im_typed.specs.Meaning.{Flow, Next, Broke, Continued, Returned, after, after_turn, decides, next_byte, put_byte, change_store}
 use Rattle.im_store.specs.Pointers.{holds}
-use Rattle.im_typed.proofs.Related.{begins_self, Related, Benign, rel-bind, rel-give, rel-undefined, rel-look, rel-checked, rel-in_store, rel-change, rel-either}
+use Rattle.im_typed.proofs.Related.{begins_self, Related, rel-bind, rel-give, rel-undefined, rel-look, rel-checked, rel-in_store, rel-change, rel-either}
 
 pub rel-change_store : {k b : ℕ} (f : Store → Store) → Related k b (change_store f) (change_store f)
 rel-change_store f = rel-change (λ w. record w { store = f w.store }) (record { grown = λ w. begins_self w.output })

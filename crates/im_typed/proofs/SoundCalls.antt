@@ -1,28 +1,23 @@
 -- Calls of well-typed functions.
-use Rattle.std.proofs.Common.{◌≡◌, ◌≢◌, ◌⊎◌, inl, inr, ℕ, zero, suc, ◌+◌, ◌-◌, ◌<◌, ◌≤◌, ◌==◌, List, [], ◌∷◌, Bool, true, false, ◌&&◌, length, take, refl, sym, ap, ◌∙◌, subst, arith}
-use Rattle.std.specs.Prelude.{Option, Some, None, ℤ, pos, nat_le, if◌then◌else◌, slice_get}
+use Rattle.std.proofs.Common.{◌≡◌, inl, inr, ℕ, zero, suc, ◌+◌, ◌-◌, ◌<◌, ◌≤◌, ◌==◌, List, [], ◌∷◌, Bool, true, false, ◌&&◌, take, refl, sym, ap, ◌∙◌, subst, arith}
+use Rattle.std.specs.Prelude.{Option, Some, None, pos, nat_le, if◌then◌else◌, slice_get}
 use Rattle.std.specs.Option.{option_map}
 use Rattle.std.proofs.lemmas.Int.{ints}
 use Rattle.std.proofs.lemmas.Bool.{eqb-true, eq-eqb}
 use Rattle.std.proofs.lemmas.Bool.Decides.{eqb_tells, leb_tells}
 use Rattle.im_num.specs.declared.kind.Kind.{Kind}
-use Rattle.im_num.specs.declared.kind.Kind.TheVariants.{I32, Ptr}
+use Rattle.im_num.specs.declared.kind.Kind.TheVariants.{I32}
 use Rattle.im_num.specs.Kinds.{IsOfKind}
-use Rattle.im_ctype.specs.declared.cell.Cell.{Cell}
-use Rattle.im_store.specs.Objects.{Name, Named, Slot, Link, Object, static, Value, Number, Null, Pointer, Unset, Shape, shape_of as object_shape, kind_at, Store, same_object, begins, ends}
+use Rattle.im_store.specs.Objects.{Name, Named, Slot, Link, Object, static, Value, Number, Null, Pointer, Unset, Shape, shape_of as object_shape, kind_at, Store, same_object, ends}
 use Rattle.im_store.specs.Statics.{StaticObject}
-use Rattle.im_store.specs.Access.{with_value}
 use Rattle.im_store.proofs.Same.{same_object-is, both-true}
-use Rattle.im_typed.specs.Program.{Access, Scalar, Struct, LocalObject, Func, Prog}
-use Rattle.im_typed.specs.Runs.{World, State, Fails, Starves, Exhausts, Answer, Gives, Stops, goes_on, starve}
+use Rattle.im_typed.specs.Program.{Scalar, LocalObject, Func}
+use Rattle.im_typed.specs.Runs.{World}
 use Rattle.im_typed.specs.Values.{Values, cells_of}
-use Rattle.im_typed.specs.Meaning.{Around, Calls, local, Flow, Next, Broke, Continued, Returned, does}
-use Rattle.im_typed.specs.Programs.{Setting, first_object, shape_in, shapes_of, with_arguments, with_objects, entering, leaving, call_result, around, frame_of, body_of, enters, called, calls_of}
-use Rattle.im_typed.specs.Typing.{Each, IsObject, kinds_of, parameters, result_shape, IsTypedFunc, IsMain, IsWellTyped}
-use Rattle.im_typed.specs.Sound.{IsInside, IsValue, IsCellValue, IsSound, IsSoundWorld, IsHere, Fits, FitsResult, FlowFits, ArgumentsFit, Keeps, IsRightAt, IsRight}
-use Rattle.im_typed.proofs.Sounds.{right-fails, right-paid, right-either}
-use Rattle.im_typed.proofs.SoundExprs.{RightCalls}
-use Rattle.im_typed.proofs.SoundStmts.{right-does}
+use Rattle.im_typed.specs.Meaning.{Flow, Next, Broke, Continued, Returned}
+use Rattle.im_typed.specs.Programs.{shape_in, shapes_of, with_arguments, with_objects, leaving, call_result}
+use Rattle.im_typed.specs.Typing.{Each, IsObject}
+use Rattle.im_typed.specs.Sound.{IsInside, IsValue, IsCellValue, IsSound, IsSoundWorld, Fits, FitsResult, FlowFits, ArgumentsFit}
 
 -- tests of numbers, and what a choice is
 

@@ -1,18 +1,17 @@
 -- Reading, storing and pointers in a sound store.
-use Rattle.std.proofs.Common.{◌≡◌, ℕ, zero, suc, ◌+◌, ◌<◌, ◌≤◌, List, [], ◌∷◌, Bool, true, false, ◌&&◌, ◌==◌, refl, sym, ap, ◌∙◌, subst, arith, map}
-use Rattle.std.specs.Prelude.{Option, Some, None, ℤ, pos, negsuc, ◌+ℤ◌, ◌-ℤ◌, int_div, int_rem, not, nat_le, if◌then◌else◌, slice_get}
+use Rattle.std.proofs.Common.{◌≡◌, ℕ, ◌+◌, ◌<◌, ◌≤◌, List, [], ◌∷◌, Bool, true, false, ◌&&◌, ◌==◌, refl, sym, ap, ◌∙◌, subst, arith}
+use Rattle.std.specs.Prelude.{Option, Some, None, ℤ, pos, negsuc, ◌+ℤ◌, ◌-ℤ◌, int_div, int_rem, if◌then◌else◌}
 use Rattle.std.specs.Ordering.{int_eq}
-use Rattle.std.proofs.lemmas.Int.{ints}
 use Rattle.std.proofs.lemmas.Bool.{eqb-true}
-use Rattle.std.proofs.lemmas.Bool.Decides.{leb_tells, nat_tests}
+use Rattle.std.proofs.lemmas.Bool.Decides.{nat_tests}
 use Rattle.im_num.specs.declared.kind.Kind.{Kind}
 use Rattle.im_num.specs.declared.kind.Kind.TheVariants.{I32, Ptr}
 use Rattle.im_num.specs.Kinds.{IsOfKind, wrap}
 use Rattle.im_num.proofs.Wrapping.{wrap-of_kind}
 use Rattle.im_ctype.specs.declared.cell.Cell.{Cell}
-use Rattle.im_store.specs.Checks.{Checked, Fine, Bad, then_, unless}
+use Rattle.im_store.specs.Checks.{Checked, Fine, Bad, then_}
 use Rattle.im_store.specs.Numbers.{apply}
-use Rattle.im_store.specs.Objects.{Object, static, Value, Number, Null, Pointer, Unset, Shape, shape_of, Store, same_object, lives}
+use Rattle.im_store.specs.Objects.{Object, Value, Number, Null, Pointer, Unset, Shape, Store, same_object, lives}
 use Rattle.im_store.specs.Statics.{StaticObject}
 use Rattle.im_store.specs.Access.{taken, stands, read_cell, read_cells, write_cell, write_cells, with_value, at_place}
 use Rattle.im_store.specs.Pointers.{reaches, within, moved_by, bytes_moved, member_at, distance}
@@ -21,11 +20,11 @@ use Rattle.im_store.proofs.OfKind.{distance-of_kind}
 use Rattle.im_typed.specs.declared.expression.Change.{Change}
 use Rattle.im_typed.specs.declared.expression.Change.TheVariants.{Number as NumberBy, Move as PointerBy}
 use Rattle.im_typed.specs.Program.{Access, Scalar, Struct}
-use Rattle.im_typed.specs.Runs.{World, State, Answer, Gives, Stops}
+use Rattle.im_typed.specs.Runs.{World, State, Gives}
 use Rattle.im_typed.specs.Values.{Values, cells_of, read_at, write_at, number_of, changed_kind, changed}
-use Rattle.im_typed.specs.Typing.{IsInteger, IsStep, kinds_of}
-use Rattle.im_typed.specs.Sound.{IsInside, IsValue, IsCellValue, IsSound, IsSoundWorld, AreValues, Fits, Keeps, IsRight}
-use Rattle.im_typed.proofs.Sounds.{keeps-self, then-fine, unless-fine, right-bind, right-give, right-fails, right-checked}
+use Rattle.im_typed.specs.Typing.{IsStep, kinds_of}
+use Rattle.im_typed.specs.Sound.{IsInside, IsValue, IsCellValue, IsSound, IsSoundWorld, AreValues, Fits, IsRight}
+use Rattle.im_typed.proofs.Sounds.{then-fine, unless-fine, right-bind, right-checked}
 
 -- reading
 

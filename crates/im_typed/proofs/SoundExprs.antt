@@ -1,5 +1,5 @@
 -- Well-typed places and expressions, where calls are right.
-use Rattle.std.proofs.Common.{◌≡◌, ℕ, zero, suc, ◌+◌, ◌<◌, ◌≤◌, List, [], ◌∷◌, ◌++◌, Bool, true, false, length, take, drop, refl, sym, ap, ◌∙◌, subst, arith}
+use Rattle.std.proofs.Common.{◌≡◌, ℕ, zero, suc, ◌<◌, List, [], ◌∷◌, Bool, true, false, length, take, drop, refl, sym, subst, arith}
 use Rattle.std.specs.Prelude.{Option, Some, None, ℤ, pos, negsuc, nat_abs, nat_lt, not, if◌then◌else◌, slice_get}
 use Rattle.std.proofs.lemmas.Int.{ints}
 use Rattle.im_num.specs.declared.kind.Kind.{Kind}
@@ -9,19 +9,18 @@ use Rattle.im_num.proofs.Wrapping.{wrap-of_kind}
 use Rattle.im_ctype.specs.declared.cell.Cell.{Cell}
 use Rattle.im_store.specs.declared.operators.BinaryOp.{BinaryOp}
 use Rattle.im_store.specs.declared.operators.BinaryOp.TheVariants.{ShiftLeft, ShiftRight}
-use Rattle.im_store.specs.Checks.{Checked, Fine}
-use Rattle.im_store.specs.Numbers.{apply, apply_one}
-use Rattle.im_store.specs.Objects.{Object, static, Value, Number, Null, Pointer, Store, shape_of as object_shape}
+use Rattle.im_store.specs.Numbers.{apply}
+use Rattle.im_store.specs.Objects.{static, Value, Store, shape_of as object_shape}
 use Rattle.im_store.specs.Statics.{StaticObject}
 use Rattle.im_store.specs.Pointers.{moved_by, bytes_moved, member_at, distance, compare_values, holds}
 use Rattle.im_store.proofs.OfKind.{IsOperand, apply-of_kind, apply_one-of_kind}
 use Rattle.im_typed.specs.declared.expression.Change.{Change}
 use Rattle.im_typed.specs.declared.expression.Change.TheVariants.{Number as NumberBy, Move as PointerBy}
 use Rattle.im_typed.specs.Program.{Access, Scalar, Struct, Place, Static, Local, Target, Member, Expr, Constant, NullPointer, Read, Address, Convert, Unary, Binary, Move, MoveBy, Distance, Compare, Not, And, Or, Choose, Comma, Discard, Assign, Update, Increment, Part, Call, Getchar, Putchar, Exprs, no_exprs, more_exprs, LocalObject, Func, Prog}
-use Rattle.im_typed.specs.Runs.{World, State, Answer, Gives, Run, goes_on, checked}
+use Rattle.im_typed.specs.Runs.{World, State, Answer, Run, goes_on, checked}
 use Rattle.im_typed.specs.Values.{Values, used, number_of, number_in, cells_of, update, changed, changed_kind}
 use Rattle.im_typed.specs.Meaning.{Around, Calls, local, place_of, value_of, values_of, next_byte, put_byte}
-use Rattle.im_typed.specs.Typing.{Each, IsInteger, IsIntegerShape, IsScalarShape, IsPointerShape, IsRightShape, IsChange, IsStep, IsPart, TakesArgument, kinds_of, parameters, result_shape, shape_of, IsTypedPlace, IsTyped, AreArguments}
+use Rattle.im_typed.specs.Typing.{Each, IsRightShape, IsChange, IsStep, IsPart, TakesArgument, kinds_of, parameters, result_shape, shape_of, IsTypedPlace, IsTyped, AreArguments}
 use Rattle.im_typed.specs.Sound.{IsValue, IsSoundWorld, IsHere, AreValues, Fits, ArgumentsFit, Keeps, IsRight}
 use Rattle.im_typed.proofs.Sounds.{keeps-trans, value-kept, here-kept, right-bind, right-give, right-weaker, right-checked, right-paid, right-either, right-used_values, right-value_in, right-scalar, right-number_in, right-integer}
 use Rattle.im_typed.proofs.SoundCells.{inside-object, moved-value, member-value, changed-value, distance-value, fits-of_values, right-read, right-write}

@@ -1,27 +1,25 @@
 -- Runs of whole well-typed programs.
-use Rattle.std.proofs.Common.{◌≡◌, ℕ, zero, suc, ◌+◌, ◌<◌, ◌≤◌, ◌==◌, List, [], ◌∷◌, Bool, true, false, map, length, take, refl, sym, ap, ◌∙◌, subst, arith}
-use Rattle.std.specs.Prelude.{Option, Some, None, ℤ, pos, nat_le, if◌then◌else◌, slice_get}
+use Rattle.std.proofs.Common.{◌≡◌, ℕ, zero, suc, ◌+◌, ◌<◌, ◌≤◌, ◌==◌, List, [], ◌∷◌, Bool, true, false, take, refl, sym, ap, ◌∙◌, subst, arith}
+use Rattle.std.specs.Prelude.{Option, Some, None, nat_le, if◌then◌else◌, slice_get}
 use Rattle.std.specs.Option.{option_map}
-use Rattle.std.proofs.lemmas.Int.{ints}
 use Rattle.std.proofs.lemmas.Bool.{eqb-true, eq-eqb}
 use Rattle.im_num.specs.declared.kind.Kind.{Kind}
 use Rattle.im_num.specs.declared.kind.Kind.TheVariants.{I8, U8, I16, U16, I32, U32, Ptr}
-use Rattle.im_num.specs.declared.values.CellValue.{CellValue}
 use Rattle.im_num.specs.Kinds.{IsOfKind, kind_size}
 use Rattle.im_ctype.specs.declared.cell.Cell.{Cell}
 use Rattle.im_store.specs.declared.undefined.Undefined.TheVariants.{MissingResult}
 use Rattle.im_store.specs.Objects.{Name, Named, Slot, Link, Object, static, Value, Number, Null, Pointer, Unset, Shape, shape_of as object_shape, kind_at, Store}
-use Rattle.im_store.specs.Statics.{StaticObject, value_at, static_shapes, first_value, static_values, with_statics}
+use Rattle.im_store.specs.Statics.{StaticObject, value_at, static_shapes, first_value, with_statics}
 use Rattle.im_store.specs.Outcomes.{cell_shown, cells_shown, place_shown, variables_from}
-use Rattle.im_typed.specs.Program.{Scalar, LocalObject, Func, Prog}
-use Rattle.im_typed.specs.Runs.{World, State, Fails, Starves, Exhausts, Answer, Gives, Stops, Run, goes_on, starve}
+use Rattle.im_typed.specs.Program.{Scalar, Func}
+use Rattle.im_typed.specs.Runs.{World, State, Fails, Starves, Exhausts, Answer, Gives, Stops, goes_on, starve}
 use Rattle.im_typed.specs.Values.{Values}
-use Rattle.im_typed.specs.Meaning.{Around, Calls, local, Flow, does}
-use Rattle.im_typed.specs.Programs.{Setting, first_object, with_objects, entering, leaving, call_result, around, frame_of, body_of, enters, called, calls_of, start, run_of_main, status_of, outcome_of, meaning}
-use Rattle.im_typed.specs.Typing.{Each, IsObject, AreLaidOut, parameters, result_shape, IsStaticPlace, HasPlace, IsFirstValue, AreFirstValues, IsTypedStatic, IsTypedFunc, IsMain, IsWellTyped}
-use Rattle.im_typed.specs.Sound.{IsInside, IsValue, IsCellValue, IsSound, IsSoundWorld, IsHere, Fits, FlowFits, ArgumentsFit, Keeps, IsRightAt, IsRight, IsShown, AreShown, ShowEach, EndsRight}
+use Rattle.im_typed.specs.Meaning.{Around, Calls, Flow, does}
+use Rattle.im_typed.specs.Programs.{Setting, first_object, entering, leaving, call_result, around, frame_of, body_of, enters, called, calls_of, start, run_of_main, status_of, outcome_of, meaning}
+use Rattle.im_typed.specs.Typing.{Each, AreLaidOut, parameters, result_shape, IsStaticPlace, HasPlace, IsFirstValue, AreFirstValues, IsTypedStatic, IsTypedFunc, IsMain, IsWellTyped}
+use Rattle.im_typed.specs.Sound.{IsInside, IsCellValue, IsSound, IsSoundWorld, IsHere, Fits, FlowFits, ArgumentsFit, IsRightAt, IsRight, IsShown, AreShown, ShowEach, EndsRight}
 use Rattle.im_typed.proofs.Sounds.{right-fails, right-paid, right-either}
-use Rattle.im_typed.proofs.SoundExprs.{RightCalls, there}
+use Rattle.im_typed.proofs.SoundExprs.{RightCalls}
 use Rattle.im_typed.proofs.SoundStmts.{right-does}
 use Rattle.im_typed.proofs.SoundCalls.{differs, if-true, if-false, if-some, by-test, each-at, same-some, new-shape, begun-sound, ended-sound, given-fits, old-shape, zero-of_kind}
 

@@ -1,22 +1,21 @@
 -- Well-typed statements, where calls are right.
-use Rattle.std.proofs.Common.{◌≡◌, ℕ, zero, suc, ◌+◌, ◌<◌, ◌≤◌, List, [], ◌∷◌, Bool, true, false, refl, sym, ap, ◌∙◌, subst, arith}
-use Rattle.std.specs.Prelude.{Option, Some, None, ℤ, pos, if◌then◌else◌, slice_get}
+use Rattle.std.proofs.Common.{◌≡◌, ℕ, zero, suc, ◌<◌, List, [], ◌∷◌, Bool, true, false, refl, sym, ap, ◌∙◌, subst, arith}
+use Rattle.std.specs.Prelude.{Option, Some, None, if◌then◌else◌, slice_get}
 use Rattle.std.specs.Option.{option_map}
 use Rattle.std.proofs.lemmas.Int.{ints}
 use Rattle.im_num.specs.declared.kind.Kind.{Kind}
 use Rattle.im_num.specs.declared.kind.Kind.TheVariants.{I8, U8, I16, U16, I32, U32, Ptr}
-use Rattle.im_num.specs.Kinds.{IsOfKind}
 use Rattle.im_ctype.specs.declared.cell.Cell.{Cell}
-use Rattle.im_store.specs.Objects.{Object, Value, Number, Null, Pointer, Unset, Shape, Store, same_object}
+use Rattle.im_store.specs.Objects.{Object, Value, Pointer, Unset, Store, same_object}
 use Rattle.im_store.specs.Statics.{StaticObject}
 use Rattle.im_store.specs.Pointers.{holds}
 use Rattle.im_store.proofs.Same.{same_object-is}
-use Rattle.im_typed.specs.Program.{Access, Scalar, Struct, Expr, Piece, Stmt, Do, Forget, Initialise, Block, If, While, DoWhile, For, Switch, Break, Continue, Return, Stmts, no_stmts, more_stmts, Func, Prog}
-use Rattle.im_typed.specs.Runs.{World, State, Answer, Gives, Run, goes_on, with_fuel, starve}
-use Rattle.im_typed.specs.Values.{Values, used, value_in}
+use Rattle.im_typed.specs.Program.{Access, Scalar, Expr, Piece, Stmt, Do, Forget, Initialise, Block, If, While, DoWhile, For, Switch, Break, Continue, Return, Stmts, no_stmts, more_stmts, Func, Prog}
+use Rattle.im_typed.specs.Runs.{World, State, Run, with_fuel, starve}
+use Rattle.im_typed.specs.Values.{Values}
 use Rattle.im_typed.specs.Meaning.{Around, local, Flow, Next, Broke, Continued, Returned, after, after_turn, out_of_switch, turns, entered, forgotten, cleared, zero_or, kind_of_cell, is_among, given_offsets, change_store, initialise, returned, value_of, does, does_from}
-use Rattle.im_typed.specs.Typing.{Each, IsInteger, IsScalarShape, shape_of, IsTyped, IsPieceOf, IsReturned, IsTypedStmt, AreTyped, cells_at}
-use Rattle.im_typed.specs.Sound.{IsValue, IsCellValue, IsSound, IsSoundWorld, IsHere, Fits, FitsResult, FlowFits, IsRight}
+use Rattle.im_typed.specs.Typing.{Each, IsScalarShape, shape_of, IsTyped, IsPieceOf, IsReturned, IsTypedStmt, AreTyped, cells_at}
+use Rattle.im_typed.specs.Sound.{IsCellValue, IsSound, IsSoundWorld, IsHere, Fits, FitsResult, FlowFits, IsRight}
 use Rattle.im_typed.proofs.Sounds.{here-kept, right-bind, right-give, right-paid, right-either, right-used_values, right-value_in, right-scalar, right-integer}
 use Rattle.im_typed.proofs.SoundCells.{right-write}
 use Rattle.im_typed.proofs.SoundExprs.{RightCalls, at-shape, right-value}

@@ -1,20 +1,18 @@
 -- Answers of runs that keep a world sound, and the words of the meaning that say nothing of cells.
-use Rattle.std.proofs.Common.{◌≡◌, ℕ, zero, suc, ◌+◌, ◌<◌, ◌≤◌, List, [], ◌∷◌, Bool, true, false, refl, sym, ap, ◌∙◌, subst, arith}
-use Rattle.std.specs.Prelude.{Option, Some, None, ℤ, pos, negsuc, if◌then◌else◌}
-use Rattle.std.proofs.lemmas.Int.{ints}
+use Rattle.std.proofs.Common.{◌≡◌, ℕ, zero, suc, ◌≤◌, List, [], ◌∷◌, Bool, true, false, refl, sym, ◌∙◌, subst, arith}
+use Rattle.std.specs.Prelude.{Option, Some, None, ℤ}
 use Rattle.im_num.specs.declared.kind.Kind.{Kind}
-use Rattle.im_num.specs.declared.kind.Kind.TheVariants.{I32, Ptr}
 use Rattle.im_num.specs.Kinds.{IsOfKind}
 use Rattle.im_store.specs.declared.undefined.Undefined.{Undefined}
 use Rattle.im_store.specs.Checks.{Checked, Fine, Bad, then_, unless}
-use Rattle.im_store.specs.Objects.{Object, Value, Number, Null, Pointer, Unset, Store, lives}
+use Rattle.im_store.specs.Objects.{Value, Number, Null, Pointer, Unset, Store, lives}
 use Rattle.im_store.specs.Statics.{StaticObject}
 use Rattle.im_store.specs.Access.{taken}
 use Rattle.im_typed.specs.Program.{Access, Scalar, Struct, Func}
-use Rattle.im_typed.specs.Runs.{World, State, Fails, Starves, Exhausts, Answer, Gives, Stops, Run, goes_on, ◌>>=◌, give, pay, with_fuel, either, checked, in_store}
-use Rattle.im_typed.specs.Values.{Values, used, value_in, number_of, number_in, cells_of}
+use Rattle.im_typed.specs.Runs.{World, State, Fails, Starves, Exhausts, Answer, Gives, Stops, Run, goes_on, pay, either, checked}
+use Rattle.im_typed.specs.Values.{Values, used, number_of, cells_of}
 use Rattle.im_typed.specs.Meaning.{Around}
-use Rattle.im_typed.specs.Typing.{IsInteger, IsIntegerShape, IsScalarShape, kinds_of}
+use Rattle.im_typed.specs.Typing.{IsIntegerShape, IsScalarShape, kinds_of}
 use Rattle.im_typed.specs.Sound.{IsInside, IsValue, IsSoundWorld, IsHere, AreValues, Fits, Keeps, IsRightAt, IsRight}
 
 -- what is kept

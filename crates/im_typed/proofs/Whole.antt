@@ -4,13 +4,13 @@ use Rattle.std.specs.Prelude.{Option, Some, None, nat_le, slice_get}
 use Rattle.std.proofs.lemmas.List.{length-map}
 use Rattle.im_num.specs.Variables.{Variable}
 use Rattle.im_store.specs.declared.undefined.Undefined.TheVariants.{MissingResult}
-use Rattle.im_store.specs.Objects.{Value, Store, static}
+use Rattle.im_store.specs.Objects.{Value, Store}
 use Rattle.im_store.specs.Statics.{StaticObject}
-use Rattle.im_store.specs.Outcomes.{cells_shown, variables_from}
+use Rattle.im_store.specs.Outcomes.{variables_from}
 use Rattle.im_typed.specs.Program.{Func}
 use Rattle.im_typed.specs.Runs.{World, State, Fails, Starves, Exhausts, Answer, Gives, Stops}
 use Rattle.im_typed.specs.Values.{Values}
-use Rattle.im_typed.specs.Meaning.{Calls, Flow}
+use Rattle.im_typed.specs.Meaning.{Calls}
 use Rattle.im_typed.specs.Programs.{Setting, first_object, call_result, entering, leaving, frame_of, body_of, enters, called, calls_of, start, run_of_main, outcome_of, meaning}
 use Rattle.im_typed.specs.Laws.{GoesOnFrom, Extends, FuelAtMost, ShowsStatics}
 use Rattle.im_typed.proofs.Related.{begins_self, Keeps, Tame, Grown, Linked, Related, Benign, tame-starve, rel-bind, rel-give, rel-undefined, rel-look, rel-exhaust, rel-either, rel-change, rel-paid-zero, rel-paid-suc}

@@ -1,5 +1,5 @@
 -- How many nodes a function has, and the bytes that its frame may need.
-use Rattle.std.specs.Prelude.{ℕ, ◌+◌, ◌*◌, ◌/◌, List, [], ◌∷◌, length, sum_by, Option, Some, None, if◌then◌else◌}
+use Rattle.std.specs.Prelude.{ℕ, ◌+◌, ◌*◌, ◌/◌, length, sum_by, Option, Some, None, if◌then◌else◌}
 use Rattle.im_store.specs.Objects.{same_kind}
 use Rattle.im_typed.specs.declared.expression.Change.{Change}
 use Rattle.im_typed.specs.declared.expression.Change.TheVariants.{Number as NumberBy, Move as PointerBy}

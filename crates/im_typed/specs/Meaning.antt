@@ -10,7 +10,7 @@ use Rattle.im_store.specs.Objects.{Named, Object, static, Value, Number, Null, P
 use Rattle.im_store.specs.Pointers.{moved_by, bytes_moved, member_at, distance, compare_values, holds}
 use Rattle.im_typed.specs.declared.statement.Case.{Case}
 use Rattle.im_typed.specs.Program.{Place, Static, Local, Target, Member, Expr, Constant, NullPointer, Read, Address, Convert, Unary, Binary, Move, MoveBy, Distance, Compare, Not, And, Or, Choose, Comma, Discard, Assign, Update, Increment, Part, Call, Getchar, Putchar, Exprs, no_exprs, more_exprs, Piece, Stmt, Do, Forget, Initialise, Block, If, While, DoWhile, For, Switch, Break, Continue, Return, Stmts, no_stmts, more_stmts}
-use Rattle.im_typed.specs.Runs.{World, Run, ◌>>=◌, give, starve, look, change, with_fuel, either, checked, in_store, leave_store}
+use Rattle.im_typed.specs.Runs.{Run, ◌>>=◌, give, starve, look, change, with_fuel, either, checked, in_store}
 use Rattle.im_typed.specs.Values.{Values, scalar, number, truth, used, value_in, number_in, cells_of, read_at, write_at, update}
 
 -- what a call does, by the number of the function and the arguments

@@ -1,5 +1,5 @@
 -- The program that a Rust value stands for. Its table of types has the cells of structs and objects.
-use Rattle.std.specs.Prelude.{ℕ, List, [], ◌∷◌, map, Option, Some, None}
+use Rattle.std.specs.Prelude.{map}
 use Rattle.std.specs.Option.{option_map}
 use Rattle.im_ctype.specs.Layout.{layouts, layout_at}
 use Rattle.im_ctype.specs.Table.{Table, structs_of, layout_of}

@@ -1,5 +1,5 @@
 -- What a program does on an input: its statics, calls, and what main returns (C11 5.1.2.2.3, 6.2.4, 6.5.2.2, 6.9.1).
-use Rattle.std.specs.Prelude.{ℕ, zero, suc, ◌+◌, ◌-◌, ◌==◌, length, take, sum_by, Bool, true, false, List, [], ◌∷◌, map, ℤ, pos, Option, Some, None, nat_le, slice_get, slice_index_or, if◌then◌else◌}
+use Rattle.std.specs.Prelude.{ℕ, zero, suc, ◌+◌, ◌-◌, ◌==◌, length, take, sum_by, Bool, true, false, List, [], ◌∷◌, ℤ, pos, Option, Some, None, nat_le, slice_get, slice_index_or, if◌then◌else◌}
 use Rattle.im_store.specs.declared.undefined.Undefined.TheVariants.{MissingResult}
 use Rattle.im_store.specs.Objects.{Name, Named, Slot, Link, Object, Value, Number, Shape, shape_of, Store, begins, ends}
 use Rattle.im_store.specs.Statics.{with_statics}
@@ -8,7 +8,7 @@ use Rattle.im_store.specs.Outcomes.{Outcome, Undef, More, End, variables}
 use Rattle.im_typed.specs.Program.{LocalObject, Func, Prog}
 use Rattle.im_typed.specs.Runs.{World, State, Fails, Starves, Exhausts, Answer, Gives, Stops, Run, ◌>>=◌, give, undefined, starve, exhaust, look, change, with_fuel, either}
 use Rattle.im_typed.specs.Values.{Values}
-use Rattle.im_typed.specs.Meaning.{Around, Calls, Flow, Next, Broke, Continued, Returned, local, does}
+use Rattle.im_typed.specs.Meaning.{Around, Calls, Flow, Returned, does}
 
 -- a program, the size of each function's frame in bytes, the size of the stack in bytes, and the capacity of the output in bytes
 pub record Setting : Type 0 where

@@ -1,6 +1,5 @@
 -- What holds all along the runs of a well-typed program: who lives, and which values there are.
-use Rattle.std.specs.Prelude.{◌≡◌, ℕ, zero, suc, ◌<◌, ◌≤◌, List, [], ◌∷◌, ℤ, Option, Some, None, slice_get}
-use Rattle.std.specs.Option.{option_map}
+use Rattle.std.specs.Prelude.{◌≡◌, ℕ, zero, suc, ◌<◌, ◌≤◌, List, [], ◌∷◌, Option, Some, None, slice_get}
 use Rattle.im_num.specs.declared.kind.Kind.{Kind}
 use Rattle.im_num.specs.declared.kind.Kind.TheVariants.{I32, Ptr}
 use Rattle.im_num.specs.declared.values.CellValue.{CellValue}
@@ -12,7 +11,7 @@ use Rattle.im_store.specs.Objects.{Object, static, Value, Number, Null, Pointer,
 use Rattle.im_store.specs.Statics.{StaticObject}
 use Rattle.im_store.specs.Outcomes.{Outcome, Undef, More, End}
 use Rattle.im_typed.specs.Program.{Access, Scalar, Struct, LocalObject, Func}
-use Rattle.im_typed.specs.Runs.{World, State, Fails, Starves, Exhausts, Answer, Gives, Stops}
+use Rattle.im_typed.specs.Runs.{World, Fails, Starves, Exhausts, Answer, Gives, Stops}
 use Rattle.im_typed.specs.Values.{Values, cells_of}
 use Rattle.im_typed.specs.Meaning.{Around, local, Flow, Next, Broke, Continued, Returned}
 use Rattle.im_typed.specs.Typing.{Each, IsInteger, kinds_of, HasPlace}

@@ -1,5 +1,5 @@
 -- The values that expressions give, and what it is to use one (C11 6.5, 6.9.1); reading and storing at a place.
-use Rattle.std.specs.Prelude.{ℕ, Bool, true, false, List, [], ◌∷◌, ℤ, pos, if◌then◌else◌}
+use Rattle.std.specs.Prelude.{Bool, List, [], ◌∷◌, ℤ, pos, if◌then◌else◌}
 use Rattle.im_num.specs.declared.kind.Kind.{Kind}
 use Rattle.im_num.specs.declared.kind.Kind.TheVariants.{Ptr}
 use Rattle.im_num.specs.Kinds.{wrap}
@@ -13,7 +13,7 @@ use Rattle.im_store.specs.Pointers.{moved_by, bytes_moved}
 use Rattle.im_typed.specs.declared.expression.Change.{Change}
 use Rattle.im_typed.specs.declared.expression.Change.TheVariants.{Number as NumberBy, Move as PointerBy}
 use Rattle.im_typed.specs.Program.{Access, Scalar, Struct}
-use Rattle.im_typed.specs.Runs.{Run, ◌>>=◌, give, undefined, look, checked, in_store, leave_store}
+use Rattle.im_typed.specs.Runs.{Run, ◌>>=◌, give, undefined, checked, in_store, leave_store}
 
 -- one value of a scalar, each cell's of a struct, none of void and of a missing result
 abbrev pub Values : Type 0

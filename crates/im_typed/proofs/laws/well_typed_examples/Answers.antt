@@ -1,4 +1,4 @@
-use Rattle.std.proofs.Common.{◌≡◌, ℕ, ◌<◌, ◌^◌, rules, refl, arith, lit<, lit≤, pos}
+use Rattle.std.proofs.Common.{ℕ, ◌<◌, rules, refl, arith, pos}
 use Rattle.std.proofs.lemmas.Int.{ints}
 use Rattle.im_num.specs.declared.kind.Kind.TheVariants.{I32, U8}
 use Rattle.im_num.specs.Kinds.{IsOfKind}

@@ -1,0 +1,85 @@
+-- Block code that does as the typed program: how its states stand for those of a typed run, and what a part of the code does.
+use Rattle.std.specs.Prelude.{◌≡◌, ℕ, ◌<◌, pos, List, [], ◌∷◌, ◌++◌, Some}
+use Rattle.im_store.specs.Objects.{Object, Value, Number, Null, Pointer, Unset, Shape, Store}
+use Rattle.im_store.specs.Outcomes.{Outcome, More, End, variables}
+use Rattle.im_typed.specs.Program.{Prog}
+use Rattle.im_typed.specs.Runs.{Fails, Starves, Exhausts, Answer, Gives, Stops}
+use Rattle.im_typed.specs.Runs as typed
+use Rattle.im_typed.specs.Values.{Values}
+use Rattle.im_block.specs.declared.unit.Unit.{Unit as Code}
+use Rattle.im_block.specs.Meaning.{Setting, Active, Event, Frame, State}
+use Rattle.im_block.specs.Runs.{Over, exec}
+use Rattle.im_lower.specs.Codes.{Point}
+
+-- a value of the typed store, and that of block code: what is uninitialised may be anything
+abbrev pub Same : Value → Value → Type 0
+Same (Number z) w = w ≡ Number z
+Same Null w = w ≡ Null
+Same (Pointer o offset) w = w ≡ Pointer o offset
+Same Unset w = Unit {0}
+
+-- who lives in the typed store lives in block code's with the same cells, which have the same values
+pub record Agrees (store blocks : Store) : Type 0 where
+  pub shapes : (o : Object) (s : Shape) → store.shape o ≡ Some s → blocks.shape o ≡ Some s
+  pub values : (o : Object) (offset : ℕ) → Same (store.values o offset) (blocks.values o offset)
+
+-- an activation of block code, but for where it is and what its registers have
+pub record Home : Type 0 where
+  pub function : ℕ
+  pub active : Active
+  pub to : ℕ
+  pub callers : List Frame
+
+-- the state of block code at a point, for a state of a typed run
+abbrev pub at : Home → ℕ → Point → (ℕ → Value) → Store → typed.State → State
+at home block point registers store s =
+    record {
+      frame = record { function = home.function; spot = record { block = block; rest = point.rest; exit = point.exit }; active = home.active; registers = registers; to = home.to };
+      callers = home.callers;
+      store = store;
+      begun = s.world.activations;
+      input = s.world.input;
+      output = s.world.output;
+      fuel = s.fuel;
+    }
+
+module _ (u : Code) (g : Setting) where
+  -- some steps lead from one state to another
+  pub record Reaches (s t : State) : Type 0 where
+    pub events : List Event
+    pub by : (k : ℕ) → (j : ℕ) × ((before : List Event) → exec u g j s before ≡ exec u g k t (before ++ events))
+
+  -- some steps end the run
+  pub record Finishes (s : State) (o : Outcome) : Type 0 where
+    pub events : List Event
+    pub steps : ℕ
+    pub is : (before : List Event) → exec u g steps s before ≡ Over o (before ++ events)
+
+  -- block code has come to a point, with this property of the value, the typed state, the registers and the store
+  pub record Arrives {A : Type 0} (home : Home) (next : Point) (b : State) (P : A → typed.State → (ℕ → Value) → Store → Type 0) (a : A) (t : typed.State) : Type 0 where
+    pub block : ℕ
+    pub registers : ℕ → Value
+    pub store : Store
+    pub leads : Reaches b (at home block next registers store t)
+    pub is : P a t registers store
+
+  -- from a state block code does as a typed run answers
+  abbrev pub DoesAt : {A : Type 0} → Prog → Home → Point → State → (A → typed.State → (ℕ → Value) → Store → Type 0) → Answer A → Type 0
+  DoesAt p home next b P (Gives a t) = Arrives home next b P a t
+  DoesAt p home next b P (Stops (Fails why)) = Unit {0}
+  DoesAt p home next b P (Stops (Starves output)) = Finishes b (More output)
+  DoesAt p home next b P (Stops (Exhausts output store)) = Finishes b (End 1 (pos 0) output (variables p.statics store))
+
+  pub record Does {A : Type 0} (p : Prog) (home : Home) (next : Point) (b : State) (P : A → typed.State → (ℕ → Value) → Store → Type 0) (answer : Answer A) : Type 0 where
+    pub by : DoesAt p home next b P answer
+
+-- a register has the one value of an expression; of void and of a missing result nothing is asked
+abbrev pub HasOne : Values → Value → Type 0
+HasOne [] w = Unit {0}
+HasOne (v ∷ vs) w = w ≡ v
+
+-- behind an expression: the stores agree, the registers below free are as they were, but for the one that takes the value
+pub record Came (registers : ℕ → Value) (to free : ℕ) (vs : Values) (t : typed.State) (after : ℕ → Value) (store : Store) : Type 0 where
+  pub agrees : Agrees t.world.store store
+  pub kept : (q : ℕ) → q < free → (q ≡ to → ⊥) → after q ≡ registers q
+  pub has : HasOne vs (after to)

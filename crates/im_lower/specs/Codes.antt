@@ -1,0 +1,162 @@
+-- What places and expressions become. Each relation is between two points of a function's code: at which lines a part
+-- begins, and with which it goes on. A struct's value is the address of its place.
+use Rattle.std.specs.Prelude.{◌≡◌, ℕ, suc, ◌+◌, true, false, List, [], ◌∷◌, length, pos, Option, Some, None, slice_get}
+use Rattle.im_num.specs.declared.kind.Kind.TheVariants.{Ptr}
+use Rattle.im_ctype.specs.declared.cell.Cell.{Cell}
+use Rattle.im_typed.specs.declared.expression.Change.TheVariants.{Number as NumberBy, Move as PointerBy}
+use Rattle.im_typed.specs.Program as p
+use Rattle.im_typed.specs.Typing.{shape_of}
+use Rattle.im_block.specs.declared.code.Place.{Place}
+use Rattle.im_block.specs.declared.code.Place.TheVariants.{Static, Local, Through}
+use Rattle.im_block.specs.declared.code.Line.{Line}
+use Rattle.im_block.specs.declared.code.Line.TheVariants.{Put, PutNull, Convert, Unary, Not, Compute, Compare, Move, Distance, Address, Read, Write, Call, GetChar, PutChar}
+use Rattle.im_block.specs.declared.code.Exit.{Exit}
+use Rattle.im_block.specs.declared.code.Exit.TheVariants.{Jump, Branch}
+use Rattle.im_block.specs.declared.code.Block.{Block}
+
+-- a point of the code: the lines that are left of a block, and its exit
+pub record Point : Type 0 where
+  pub rest : List Line
+  pub exit : Exit
+
+abbrev pub before : Line → Point → Point
+before line s = record s { rest = line ∷ s.rest }
+
+abbrev pub ends : Exit → Point
+ends exit = record { rest = []; exit = exit }
+
+-- the block of a number begins at a point
+pub record Begins (blocks : List Block) (b : ℕ) (s : Point) : Type 0 where
+  pub block : Block
+  pub there : slice_get blocks b ≡ Some block
+  pub lines : block.lines.items ≡ s.rest
+  pub exit : block.exit ≡ s.exit
+
+abbrev pub further_in : Place → ℕ → Place
+further_in (Local object offset) d = Local object (offset + d)
+further_in (Static object offset) d = Static object (offset + d)
+further_in (Through pointer offset) d = Through pointer (offset + d)
+
+-- the first register that a place leaves free: a pointer is kept in one
+abbrev pub above : p.Place → ℕ → ℕ
+above (p.Static n) free = free
+above (p.Local n) free = free
+above (p.Target e) free = free + 1
+above (p.Member a d) free = above a free
+
+-- the cells that a struct's value has, and the offset of one of them
+abbrev pub cells_of_shape : Option p.Access → List Cell
+cells_of_shape None = []
+cells_of_shape (Some (p.Scalar kind)) = []
+cells_of_shape (Some (p.Struct count cells)) = cells
+
+abbrev pub offset_in : Option Cell → ℕ
+offset_in None = 0
+offset_in (Some c) = c.offset
+
+-- a struct is copied: all cells are read before the first is written; the numbers of these accesses come from two lists
+abbrev pub reads_of : ℕ → ℕ → List Cell → List ℕ → Point → Point
+reads_of pointer to [] ns t = t
+reads_of pointer to (c ∷ cs) [] t = t
+reads_of pointer to (c ∷ cs) (n ∷ ns) t = before (Read to (Through pointer c.offset) c.kind n) (reads_of pointer (suc to) cs ns t)
+
+abbrev pub writes_of : Place → ℕ → List Cell → List ℕ → Point → Point
+writes_of place from [] ns t = t
+writes_of place from (c ∷ cs) [] t = t
+writes_of place from (c ∷ cs) (n ∷ ns) t = before (Write (further_in place c.offset) c.kind from n) (writes_of place (suc from) cs ns t)
+
+abbrev pub count_of : p.Exprs → ℕ
+count_of p.no_exprs = 0
+count_of (p.more_exprs e rest) = suc (count_of rest)
+
+module _ (g : p.Prog) (first : ℕ) (blocks : List Block) where
+  -- where a place is: in a named object, or behind the pointer in the register free
+  abbrev pub where_of : p.Place → ℕ → Place
+  where_of (p.Static n) free = Static n 0
+  where_of (p.Local n) free = Local (first + n) 0
+  where_of (p.Target e) free = Through free 0
+  where_of (p.Member a d) free = further_in (where_of a free) d
+
+  abbrev mutual
+    -- the register from which on they are free, the point of entry, and the one that follows
+    pub CodesPlace : p.Place → ℕ → Point → Point → Type 0
+    CodesPlace (p.Static n) free s t = s ≡ t
+    CodesPlace (p.Local n) free s t = s ≡ t
+    CodesPlace (p.Target e) free s t = Codes e free (free + 1) s t
+    CodesPlace (p.Member a d) free s t = CodesPlace a free s t
+
+    -- the register that takes the value, the one from which on they are free, the point of entry, and the one that follows
+    pub Codes : p.Expr → ℕ → ℕ → Point → Point → Type 0
+    Codes (p.Constant kind z) to free s t = s ≡ before (Put to z) t
+    Codes p.NullPointer to free s t = s ≡ before (PutNull to) t
+    Codes (p.Read (p.Scalar kind) a) to free s t = (n : ℕ) × CodesPlace a free s (before (Read to (where_of a free) kind n) t)
+    Codes (p.Read (p.Struct count cells) a) to free s t = CodesPlace a free s (before (Address to (where_of a free)) t)
+    Codes (p.Address a) to free s t = CodesPlace a free s (before (Address to (where_of a free)) t)
+    Codes (p.Convert kind e) to free s t = Codes e free (free + 1) s (before (Convert to kind free) t)
+    Codes (p.Unary op kind e) to free s t = Codes e free (free + 1) s (before (Unary to op kind free) t)
+    Codes (p.Binary op kind a b) to free s t =
+        (m : Point) × Codes a free (free + 1) s m × Codes b (free + 1) (free + 2) m (before (Compute to op kind free (free + 1)) t)
+    Codes (p.Move size back a b) to free s t =
+        (m : Point) × Codes a free (free + 1) s m × Codes b (free + 1) (free + 2) m (before (Move to size back free (free + 1)) t)
+    Codes (p.MoveBy size a b) to free s t =
+        (m : Point) × Codes a free (free + 1) s m × Codes b (free + 1) (free + 2) m (before (Move to size false (free + 1) free) t)
+    Codes (p.Distance size a b) to free s t =
+        (m : Point) × Codes a free (free + 1) s m × Codes b (free + 1) (free + 2) m (before (Distance to size free (free + 1)) t)
+    Codes (p.Compare op kind a b) to free s t =
+        (m : Point) × Codes a free (free + 1) s m × Codes b (free + 1) (free + 2) m (before (Compare to op kind free (free + 1)) t)
+    Codes (p.Not a) to free s t = Codes a free (free + 1) s (before (Not to free) t)
+    Codes (p.And a b) to free s t =
+        (j x y : ℕ) × (more : Point) × Begins blocks j t × Begins blocks x more × Begins blocks y (before (Put to (pos 0)) (ends (Jump j)))
+        × Codes a free (free + 1) s (ends (Branch free x y))
+        × Codes b free (free + 1) more (before (Not free free) (before (Not to free) (ends (Jump j))))
+    Codes (p.Or a b) to free s t =
+        (j x y : ℕ) × (more : Point) × Begins blocks j t × Begins blocks x more × Begins blocks y (before (Put to (pos 1)) (ends (Jump j)))
+        × Codes a free (free + 1) s (ends (Branch free y x))
+        × Codes b free (free + 1) more (before (Not free free) (before (Not to free) (ends (Jump j))))
+    Codes (p.Choose q a b) to free s t =
+        (j x y : ℕ) × (one other : Point) × Begins blocks j t × Begins blocks x one × Begins blocks y other
+        × Codes q free (free + 1) s (ends (Branch free x y)) × Codes a to free one (ends (Jump j)) × Codes b to free other (ends (Jump j))
+    Codes (p.Comma a b) to free s t = (m : Point) × Codes a free (free + 1) s m × Codes b to free m t
+    Codes (p.Discard a) to free s t = Codes a to free s t
+    Codes (p.Assign (p.Scalar kind) a e) to free s t =
+        (m : Point) × (n : ℕ) × CodesPlace a free s m × Codes e to (above a free) m (before (Write (where_of a free) kind to n) t)
+    Codes (p.Assign (p.Struct count cells) a e) to free s t =
+        (m : Point) × (ns ks : List ℕ) × (length ns ≡ length cells) × (length ks ≡ length cells)
+        × CodesPlace a free s m × Codes e (above a free) (above a free + 1) m
+        (reads_of (above a free) (above a free + 1) cells ns (writes_of (where_of a free) (above a free + 1) cells ks (before (Address to (where_of a free)) t)))
+    Codes (p.Update a (NumberBy kind op at) e) to free s t =
+        (m : Point) × (n k : ℕ) × CodesPlace a free s (before (Read to (where_of a free) kind n) m)
+        × Codes e (above a free) (above a free + 1) m
+        (before (Compute to op at to (above a free)) (before (Convert to kind to) (before (Write (where_of a free) kind to k) t)))
+    Codes (p.Update a (PointerBy size back) e) to free s t =
+        (m : Point) × (n k : ℕ) × CodesPlace a free s (before (Read to (where_of a free) Ptr n) m)
+        × Codes e (above a free) (above a free + 1) m
+        (before (Move to size back to (above a free)) (before (Write (where_of a free) Ptr to k) t))
+    Codes (p.Increment a (NumberBy kind op at) false) to free s t =
+        (n k : ℕ) × CodesPlace a free s
+        (before (Read to (where_of a free) kind n) (before (Put (above a free) (pos 1))
+        (before (Compute to op at to (above a free)) (before (Convert to kind to) (before (Write (where_of a free) kind to k) t)))))
+    Codes (p.Increment a (NumberBy kind op at) true) to free s t =
+        (n k : ℕ) × CodesPlace a free s
+        (before (Read to (where_of a free) kind n) (before (Put (above a free) (pos 1))
+        (before (Compute (above a free) op at to (above a free)) (before (Convert (above a free) kind (above a free)) (before (Write (where_of a free) kind (above a free) k) t)))))
+    Codes (p.Increment a (PointerBy size back) false) to free s t =
+        (n k : ℕ) × CodesPlace a free s
+        (before (Read to (where_of a free) Ptr n) (before (Put (above a free) (pos 1))
+        (before (Move to size back to (above a free)) (before (Write (where_of a free) Ptr to k) t))))
+    Codes (p.Increment a (PointerBy size back) true) to free s t =
+        (n k : ℕ) × CodesPlace a free s
+        (before (Read to (where_of a free) Ptr n) (before (Put (above a free) (pos 1))
+        (before (Move (above a free) size back to (above a free)) (before (Write (where_of a free) Ptr (above a free) k) t))))
+    Codes (p.Part from (p.Scalar kind) e) to free s t =
+        (n : ℕ) × Codes e free (free + 1) s (before (Read to (Through free (offset_in (slice_get (cells_of_shape (shape_of g e)) from))) kind n) t)
+    Codes (p.Part from (p.Struct count cells) e) to free s t =
+        Codes e free (free + 1) s (before (Address to (Through free (offset_in (slice_get (cells_of_shape (shape_of g e)) from)))) t)
+    Codes (p.Call n es) to free s t = CodesArguments es free s (before (Call to n free (count_of es)) t)
+    Codes p.Getchar to free s t = s ≡ before (GetChar to) t
+    Codes (p.Putchar e) to free s t = Codes e free (free + 1) s (before (PutChar to free) t)
+
+    -- arguments stand side by side
+    pub CodesArguments : p.Exprs → ℕ → Point → Point → Type 0
+    CodesArguments p.no_exprs free s t = s ≡ t
+    CodesArguments (p.more_exprs e rest) free s t = (m : Point) × Codes e free (free + 1) s m × CodesArguments rest (free + 1) m t

@@ -1,0 +1,4 @@
+pub mod Codes
+pub mod Agrees
+pub mod Served
+pub mod Laws
