@@ -1,4 +1,5 @@
 ghost use Rattle.im_block_laws.specs.Laws.{CutsKeepCodeLaw};
+ghost use Rattle.im_block_laws.specs.PointsTo.{PointsLaw};
 ghost use Rattle.im_block_laws.specs.Row.{RowLaw};
 ghost use Rattle.im_block_laws.specs.Sample.{SampleLaw};
 
@@ -15,4 +16,9 @@ pub fn sample_law()
 /// Five accesses by hand: which reads are exposed, and by which writes they are met.
 pub fn row_law()
     ensures { RowLaw }
+{}
+
+/// The tags of a closed points-to assignment are sound.
+pub fn points_law()
+    ensures { PointsLaw }
 {}

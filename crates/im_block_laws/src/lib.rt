@@ -3,4 +3,4 @@
 
 mod laws;
 
-pub use laws::{cuts_keep_code_law, row_law, sample_law};
+pub use laws::{cuts_keep_code_law, points_law, row_law, sample_law};
