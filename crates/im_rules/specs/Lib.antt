@@ -1,3 +1,6 @@
+pub mod Constants
+pub mod Conversions
 pub mod Rules
 pub mod Scopes
+pub mod Terms
 pub mod TypeTests
