@@ -1,6 +1,11 @@
 pub mod Constants
+pub mod Context
 pub mod Conversions
+pub mod Declared
+pub mod Demands
 pub mod Rules
 pub mod Scopes
+pub mod Strings
 pub mod Terms
+pub mod Typed
 pub mod TypeTests
