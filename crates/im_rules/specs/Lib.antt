@@ -1,3 +1,4 @@
+pub mod Breaks
 pub mod Constants
 pub mod Context
 pub mod Conversions
