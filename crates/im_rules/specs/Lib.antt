@@ -4,6 +4,7 @@ pub mod Context
 pub mod Conversions
 pub mod Declared
 pub mod Demands
+pub mod Laws
 pub mod Rules
 pub mod Scopes
 pub mod Strings
