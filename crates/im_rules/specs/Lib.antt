@@ -4,9 +4,11 @@ pub mod Context
 pub mod Conversions
 pub mod Declared
 pub mod Demands
+pub mod Initialisers
 pub mod Laws
 pub mod Rules
 pub mod Scopes
+pub mod Statements
 pub mod Strings
 pub mod Terms
 pub mod Typed
