@@ -1,3 +1,4 @@
+pub mod BodyBreaks
 pub mod Breaks
 pub mod Constants
 pub mod Context
