@@ -72,7 +72,6 @@ pub data BodyNode : Type 0 where
   some_locals : Qualified → t.InitDeclarators → BodyNode
   a_declaration : t.Declaration → BodyNode
   a_beginning : t.ForInit → BodyNode
-  a_test : t.MaybeExpression → BodyNode
   a_statement : t.Statement → BodyNode
   an_else : t.MaybeStatement → BodyNode
   some_items : t.BlockItems → BodyNode
@@ -85,7 +84,6 @@ pub data BodyBreaks (s : Site) (r : ℕ) : BodyNode → Type 0 where
       → Declares s.context q d y
       → Refuses r (local_asks s y (completed y.type i) (is_initialised i))
       → BodyBreaks s r (some_locals q (t.more_init_declarators d i ds))
-  at_test : {e : t.Expression} {x : Term} → Typed s.context e x → Refuses r (condition_asks x) → BodyBreaks s r (a_test (t.an_expression e))
   at_if : {at : ℕ} {e : t.Expression} {a : t.Statement} {b : t.MaybeStatement} {x : Term} → Typed s.context e x → Refuses r (condition_asks x) → BodyBreaks s r (a_statement (t.if_statement at e a b))
   at_while : {at : ℕ} {e : t.Expression} {a : t.Statement} {x : Term} → Typed s.context e x → Refuses r (condition_asks x) → BodyBreaks s r (a_statement (t.while_statement at e a))
   at_do : {at : ℕ} {e : t.Expression} {a : t.Statement} {x : Term} {u : Stmt} {m : Added}
@@ -93,6 +91,11 @@ pub data BodyBreaks (s : Site) (r : ℕ) : BodyNode → Type 0 where
       → Typed (past m s).context e x
       → Refuses r (condition_asks x)
       → BodyBreaks s r (a_statement (t.do_statement at a e))
+  at_for : {e : Site} {at : ℕ} {i : t.ForInit} {c : t.Expression} {n : t.MaybeExpression} {a : t.Statement} {f : Stmt} {x : Term} {m : Added}
+      → Begins (in_block s) i f m e
+      → Typed e.context c x
+      → Refuses r (condition_asks x)
+      → BodyBreaks s r (a_statement (t.for_statement at i (t.an_expression c) n a))
   at_switch : {at : ℕ} {e : t.Expression} {b : t.Block} {x : Term} → Typed s.context e x → Refuses r (switch_asks x) → BodyBreaks s r (a_statement (t.switch_statement at e b))
   at_break : {at : ℕ} → Refuses r (asks 34 (rule_34_break s.position) ∷ []) → BodyBreaks s r (a_statement (t.break_statement at))
   at_continue : {at : ℕ} → Refuses r (asks 34 (rule_34_continue s.position) ∷ []) → BodyBreaks s r (a_statement (t.continue_statement at))
@@ -114,7 +117,6 @@ pub data InnerPart : Site → BodyNode → Context → Node → Type 0 where
   local_declarator : {s : Site} {q : Qualified} {d : t.Declarator} {i : t.MaybeInitializer} {ds : t.InitDeclarators} → InnerPart s (some_locals q (t.more_init_declarators d i ds)) s.context (a_declarator q d)
   declared_specifiers : {s : Site} {x : t.Specifiers} {ds : t.InitDeclarators} → InnerPart s (a_declaration (t.declaration x ds)) s.context (some_specifiers x)
   begun : {s : Site} {e : t.Expression} → InnerPart s (a_beginning (t.for_expression (t.an_expression e))) s.context (an_expression e)
-  tested : {s : Site} {e : t.Expression} → InnerPart s (a_test (t.an_expression e)) s.context (an_expression e)
   evaluated : {s : Site} {at : ℕ} {e : t.Expression} → InnerPart s (a_statement (t.expression_statement at (t.an_expression e))) s.context (an_expression e)
   if_condition : {s : Site} {at : ℕ} {e : t.Expression} {a : t.Statement} {b : t.MaybeStatement} → InnerPart s (a_statement (t.if_statement at e a b)) s.context (an_expression e)
   while_condition : {s : Site} {at : ℕ} {e : t.Expression} {a : t.Statement} → InnerPart s (a_statement (t.while_statement at e a)) s.context (an_expression e)
@@ -123,8 +125,11 @@ pub data InnerPart : Site → BodyNode → Context → Node → Type 0 where
   returned : {s : Site} {at : ℕ} {e : t.Expression} → InnerPart s (a_statement (t.return_statement at (t.an_expression e))) s.context (an_expression e)
   case_constant : {s : Site} {i : Integer} {n at : ℕ} {before : Labels} {e : t.Expression} {a : t.Statement} → InnerPart s (a_labelled i n before (t.case_statement at e a)) s.context (an_expression e)
 
--- the last expression of a `for` is evaluated behind what stands before it
+-- the condition and the last expression of a `for` stand behind what it begins with
 pub data StepPart : Site → BodyNode → Context → Node → Type 0 where
+  for_condition : {s e : Site} {at : ℕ} {i : t.ForInit} {c : t.Expression} {n : t.MaybeExpression} {a : t.Statement} {f : Stmt} {m : Added}
+      → Begins (in_block s) i f m e
+      → StepPart s (a_statement (t.for_statement at i (t.an_expression c) n a)) e.context (an_expression c)
   for_step : {s e : Site} {at : ℕ} {i : t.ForInit} {c : t.MaybeExpression} {n : t.Expression} {a : t.Statement} {f : Stmt} {m : Added}
       → Begins (in_block s) i f m e
       → StepPart s (a_statement (t.for_statement at i c (t.an_expression n) a)) (past_maybe c e).context (an_expression n)
@@ -147,7 +152,6 @@ pub data BodyPart : Site → BodyNode → Site → BodyNode → Type 0 where
   while_body : {s : Site} {at : ℕ} {e : t.Expression} {a : t.Statement} → BodyPart s (a_statement (t.while_statement at e a)) (in_loop (past_expression e s)) (a_statement a)
   do_body : {s : Site} {at : ℕ} {e : t.Expression} {a : t.Statement} → BodyPart s (a_statement (t.do_statement at a e)) (in_loop s) (a_statement a)
   for_beginning : {s : Site} {at : ℕ} {i : t.ForInit} {c n : t.MaybeExpression} {a : t.Statement} → BodyPart s (a_statement (t.for_statement at i c n a)) (in_block s) (a_beginning i)
-  for_test : {s e : Site} {at : ℕ} {i : t.ForInit} {c n : t.MaybeExpression} {a : t.Statement} {f : Stmt} {m : Added} → Begins (in_block s) i f m e → BodyPart s (a_statement (t.for_statement at i c n a)) e (a_test c)
   for_body : {s e : Site} {at : ℕ} {i : t.ForInit} {c n : t.MaybeExpression} {a : t.Statement} {f : Stmt} {m : Added} → Begins (in_block s) i f m e → BodyPart s (a_statement (t.for_statement at i c n a)) (in_loop (past_maybe n (past_maybe c e))) (a_statement a)
   switch_block : {s : Site} {at at' : ℕ} {e : t.Expression} {is : t.BlockItems} {x : Term}
       → Typed s.context e x
@@ -187,10 +191,8 @@ statement_token (t.break_statement at) = at
 statement_token (t.continue_statement at) = at
 statement_token (t.return_statement at e) = at
 
--- the node of a `for`'s condition is the condition
 abbrev pub body_token : BodyNode → ℕ
 body_token (some_locals q (t.more_init_declarators d i ds)) = declarator_token d
-body_token (a_test (t.an_expression e)) = first_token e
 body_token (a_statement a) = statement_token a
 body_token (a_labelled i n before a) = statement_token a
 body_token n = 0
