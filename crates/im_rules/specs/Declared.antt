@@ -190,4 +190,3 @@ unnamed q = record { name = None; constant = q.constant; type = q.type }
 
 abbrev pub called : Name → Qualified → Declared
 called x q = record { name = Some x; constant = q.constant; type = q.type }
-

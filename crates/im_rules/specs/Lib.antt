@@ -8,6 +8,7 @@ pub mod Demands
 pub mod Initialisers
 pub mod Laws
 pub mod Rules
+pub mod Samples
 pub mod Scopes
 pub mod Statements
 pub mod Strings
