@@ -1,18 +1,17 @@
 -- No initialiser and no statement is typed to two things.
-use Rattle.std.proofs.Common.{◌≡◌, ℕ, ◌+◌, ℤ, [], ◌∷◌, Bool, true, false, List, length, Option, refl, ap, sym, ◌∙◌, subst}
-use Rattle.im_word.specs.Words.{Name}
+use Rattle.std.proofs.Common.{◌≡◌, ℕ, ◌+◌, [], List, Option, refl, sym, subst}
 use Rattle.im_ctree.specs.Tree as t
 use Rattle.im_ctype.specs.declared.integer.Integer.{Integer}
 use Rattle.im_ctype.specs.declared.member.MemberPlace.{MemberPlace}
 use Rattle.im_ctype.specs.Types.{CType, Member}
 use Rattle.im_typed.specs.declared.statement.Case.{Case}
 use Rattle.im_typed.specs.Program.{Expr, Stmt, Stmts}
-use Rattle.im_rules.specs.Context.{Context, behind_strings}
-use Rattle.im_rules.specs.Terms.{Term, constant_in}
-use Rattle.im_rules.specs.Declared.{Qualified, Declared, behind_specifiers, type_of_specifiers}
+use Rattle.im_rules.specs.Context.{Context}
+use Rattle.im_rules.specs.Terms.{constant_in}
+use Rattle.im_rules.specs.Declared.{Qualified, Declared}
 use Rattle.im_rules.specs.Typed.{Typed}
 use Rattle.im_rules.specs.Initialisers.{Shape, Item, completed, Initialised, initialised, Shaped, of_one, of_bytes, of_elements, of_members, Elements, no_element, an_element, InMembers, no_member, a_member}
-use Rattle.im_rules.specs.Statements.{Site, Added, past, past_expression, in_loop, in_switch, in_block, with_local, behind_initializer, in_context, MayInitialise, forgets, initialises, AreLocals, no_local, a_local, TypedDeclaration, of_declaration, Labels, Cases, switch_type, value_in, label_value, with_constant, with_default, count_stmts, past_maybe, MayTest, no_test, a_test, MayStep, no_step, a_step, Begins, by_declaration, by_nothing, by_expression, TypedStatement, of_block, of_nothing, of_expression, of_if, of_while, of_do, of_for, of_switch, of_break, of_continue, of_return, of_return_value, MayBeTyped, no_else, an_else, TypedItems, no_item, a_declaration, a_statement, TypedCases, no_case, between_cases, a_labelled, Labelled, no_label, of_case, of_default}
+use Rattle.im_rules.specs.Statements.{Site, Added, past, past_expression, in_loop, in_switch, in_block, with_local, behind_initializer, MayInitialise, forgets, initialises, AreLocals, no_local, a_local, TypedDeclaration, of_declaration, Labels, Cases, switch_type, value_in, label_value, with_constant, count_stmts, past_maybe, MayTest, no_test, a_test, MayStep, no_step, a_step, Begins, by_declaration, by_nothing, by_expression, TypedStatement, of_block, of_nothing, of_expression, of_if, of_while, of_do, of_for, of_switch, of_break, of_continue, of_return, of_return_value, MayBeTyped, no_else, an_else, TypedItems, no_item, a_declaration, a_statement, TypedCases, no_case, between_cases, a_labelled, Labelled, no_label, of_case, of_default}
 use Rattle.im_rules.proofs.Once.{once, declares_once}
 
 mutual

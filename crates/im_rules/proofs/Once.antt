@@ -1,6 +1,5 @@
 -- No node is typed to two things.
-use Rattle.std.proofs.Common.{◌≡◌, ℕ, ◌+◌, [], ◌∷◌, Bool, true, false, List, refl, ap, sym, ◌∙◌, subst}
-use Rattle.im_word.specs.Words.{Name}
+use Rattle.std.proofs.Common.{◌≡◌, ℕ, ◌+◌, List, refl, sym, subst}
 use Rattle.im_ctree.specs.Tree as t
 use Rattle.im_rules.specs.Context.{Context, behind_may}
 use Rattle.im_rules.specs.Terms.{Term}

@@ -1,14 +1,13 @@
 -- The parts of a node that is typed are typed, and it breaks no rule.
-use Rattle.std.proofs.Common.{◌≡◌, ◌⊎◌, inl, inr, ℕ, ◌+◌, [], ◌∷◌, Bool, true, false, List, refl, ap, sym, ◌∙◌, subst}
-use Rattle.im_word.specs.Words.{Name}
+use Rattle.std.proofs.Common.{◌≡◌, inl, inr, ℕ, ◌+◌, [], ◌∷◌, List, ap, subst}
 use Rattle.im_ctree.specs.Tree as t
 use Rattle.im_rules.specs.Context.{Context, behind_may}
 use Rattle.im_rules.specs.Terms.{Term, type_in, constant_in}
 use Rattle.im_rules.specs.Demands.{Demand, asks, Meets, Refuses, name_asks, index_asks, call_asks, dot_asks, arrow_asks, step_asks, unary_asks, size_asks, cast_asks, binary_asks, conditional_asks, assign_asks, callee_of}
-use Rattle.im_rules.specs.Declared.{Qualified, Declared, specifiers_ask, behind_specifiers, type_of_specifiers, stars_ask, element_asks, length_asks, parameter, with_parameter, parameter_asks, parameters_of, function_asks, is_sized}
-use Rattle.im_rules.specs.Typed.{Typed, of_identifier, of_number, of_character, of_string, of_index, of_call, of_member, of_arrow, of_post_step, of_pre_step, of_unary, of_size, of_type_size, of_cast, of_binary, of_conditional, of_assign, of_comma, AreTyped, no_argument, an_argument, Names, of_type_name, Declares, of_declarator, DeclaresIn, of_nothing, of_name, of_inner, Suffixed, no_suffix, of_array, of_open_array, of_function, AreParameters, no_parameter, a_parameter, MayDeclare, of_no_declarator, of_a_declarator}
+use Rattle.im_rules.specs.Declared.{Qualified, Declared, specifiers_ask, behind_specifiers, stars_ask, element_asks, length_asks, parameter, with_parameter, parameter_asks, parameters_of, function_asks, is_sized}
+use Rattle.im_rules.specs.Typed.{Typed, of_identifier, of_index, of_call, of_member, of_arrow, of_post_step, of_pre_step, of_unary, of_size, of_type_size, of_cast, of_binary, of_conditional, of_assign, of_comma, AreTyped, an_argument, Names, of_type_name, Declares, of_declarator, DeclaresIn, of_inner, Suffixed, of_array, of_open_array, of_function, AreParameters, a_parameter, MayDeclare, of_a_declarator}
 use Rattle.im_rules.specs.Breaks.{Node, an_expression, some_expressions, some_specifiers, a_type_name, a_declarator, a_core, some_suffixes, some_parameters, maybe_declarator, Breaks, at_identifier, at_index, at_call, at_callee, at_member, at_arrow, at_post_step, at_pre_step, at_unary, at_size, at_type_size, at_cast, at_binary, at_conditional, at_assign, at_specifiers, at_type_name, at_stars, at_array, at_open_array, at_function, at_parameter, Part, indexed, subscript, callee, arguments, whole, pointer_to_whole, post_stepped, pre_stepped, operand, measured_expression, measured_type, cast_type, cast_operand, left_operand, right_operand, condition, first_arm, second_arm, left_side, right_side, before_comma, behind_comma, first_argument, other_arguments, name_specifiers, name_declarator, suffixes_part, core_part, inner_part, behind_length, behind_no_length, length_part, behind_function, parameters_part, parameter_specifiers, parameter_declarator, parameters_behind, declarator_part, Broken, here, within}
-use Rattle.im_rules.proofs.Once.{once, all_once, names_once, declares_once, core_once, suffixed_once, parameters_once, may_once}
+use Rattle.im_rules.proofs.Once.{once, all_once, names_once, suffixed_once, parameters_once, may_once}
 
 -- the node is typed
 pub data IsTyped (c : Context) : Node → Type 0 where

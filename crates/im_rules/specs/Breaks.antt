@@ -1,11 +1,10 @@
 -- Which node breaks which rule: its parts are typed, and something that the rule asks of it isn't so.
-use Rattle.std.specs.Prelude.{◌≡◌, ℕ, ◌+◌, Bool, true, false, List, [], ◌∷◌}
+use Rattle.std.specs.Prelude.{◌≡◌, ℕ, ◌+◌, true, false, List, [], ◌∷◌}
 use Rattle.im_word.specs.Words.{Name}
 use Rattle.im_ctree.specs.declared.operator.StepOp.{StepOp}
 use Rattle.im_ctree.specs.declared.operator.UnaryOp.{UnaryOp}
 use Rattle.im_ctree.specs.declared.operator.BinaryOp.{BinaryOp}
 use Rattle.im_ctree.specs.declared.operator.AssignOp.{AssignOp}
-use Rattle.im_tok.specs.declared.number.Number.{Number}
 use Rattle.im_ctree.specs.Tree as t
 use Rattle.im_rules.specs.Context.{Context, in_new_scope, behind, behind_name, behind_core, behind_may, behind_parameters}
 use Rattle.im_rules.specs.Terms.{Term, type_in, constant_in}

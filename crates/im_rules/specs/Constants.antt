@@ -1,12 +1,8 @@
 -- Constant expressions (C11 6.6), told by the typed expression: what `sizeof` measures is gone from it, an enumeration
 -- constant is a number there, and the operators are those of the meaning.
-use Rattle.std.specs.Prelude.{ℕ, ℤ, pos, Bool, true, false, not, ◌&&◌, Option, Some, None, if◌then◌else◌}
+use Rattle.std.specs.Prelude.{ℤ, pos, Bool, true, false, not, ◌&&◌, Option, Some, None, if◌then◌else◌}
 use Rattle.std.specs.Ordering.{int_eq}
-use Rattle.im_num.specs.declared.kind.Kind.{Kind}
 use Rattle.im_num.specs.Kinds.{wrap}
-use Rattle.im_store.specs.declared.operators.BinaryOp.{BinaryOp}
-use Rattle.im_store.specs.declared.operators.Comparison.{Comparison}
-use Rattle.im_store.specs.declared.operators.UnaryOp.{UnaryOp}
 use Rattle.im_store.specs.Checks.{Checked, Fine, Bad}
 use Rattle.im_store.specs.Numbers.{apply, apply_one, compares}
 use Rattle.im_typed.specs.Program.{Expr, Constant, Convert, Unary, Binary, Compare, Not, And, Or, Choose}

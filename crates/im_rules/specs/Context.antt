@@ -1,9 +1,9 @@
 -- What is known at a place of the text.
-use Rattle.std.specs.Prelude.{ℕ, ◌+◌, Bool, List, [], ◌∷◌, length, Option, Some, None}
+use Rattle.std.specs.Prelude.{ℕ, ◌+◌, Bool, List, length}
 use Rattle.im_word.specs.Words.{Name}
 use Rattle.im_ctree.specs.Tree as t
-use Rattle.im_ctype.specs.Types.{CType, Structs}
-use Rattle.im_rules.specs.Scopes.{Scopes, opened, named, Entity, an_object, local_object}
+use Rattle.im_ctype.specs.Types.{Structs}
+use Rattle.im_rules.specs.Scopes.{Scopes, opened, named, Entity}
 use Rattle.im_rules.specs.Strings.{strings_in, strings_maybe, strings_named, strings_of_core, strings_of_declarator, strings_may, strings_of_parameters}
 
 -- what names mean, the structs whose member lists have ended, and the number of the static that the next string literal

@@ -1,12 +1,10 @@
 -- What a node becomes where its rules hold: each conversion is written out (C11 6.3, 6.5). These are functions of its
 -- parts' terms; what an ill-typed node would become doesn't matter.
-use Rattle.std.specs.Prelude.{ℕ, ◌+◌, ℤ, pos, Bool, true, false, ◌||◌, ◌&&◌, List, [], ◌∷◌, length, slice_get, Option, Some, None, if◌then◌else◌}
+use Rattle.std.specs.Prelude.{ℕ, ◌+◌, ℤ, pos, Bool, true, false, ◌||◌, ◌&&◌, List, [], ◌∷◌, length, Option, Some, None, if◌then◌else◌}
 use Rattle.im_word.specs.Words.{Name}
-use Rattle.im_num.specs.declared.kind.Kind.{Kind}
-use Rattle.im_num.specs.declared.kind.Kind.TheVariants.{I32, U32, Ptr}
+use Rattle.im_num.specs.declared.kind.Kind.TheVariants.{Ptr}
 use Rattle.im_tok.specs.declared.number.NumberType.{NumberType}
 use Rattle.im_tok.specs.declared.number.NumberType.TheVariants as number
-use Rattle.im_tok.specs.declared.number.Number.{Number}
 use Rattle.im_ctree.specs.declared.operator.StepOp.{StepOp}
 use Rattle.im_ctree.specs.declared.operator.StepOp.TheVariants as step
 use Rattle.im_ctree.specs.declared.operator.UnaryOp.{UnaryOp}
@@ -23,16 +21,16 @@ use Rattle.im_store.specs.declared.operators.UnaryOp as store_unary
 use Rattle.im_store.specs.declared.operators.UnaryOp.TheVariants as u
 use Rattle.im_store.specs.Objects.{same_kind}
 use Rattle.im_ctype.specs.declared.integer.Integer.{Integer}
-use Rattle.im_ctype.specs.declared.integer.Integer.TheVariants.{Char, SignedChar, UnsignedChar, Short, UnsignedShort, Int, UnsignedInt, Long, UnsignedLong}
+use Rattle.im_ctype.specs.declared.integer.Integer.TheVariants.{Char, Int, UnsignedInt, Long, UnsignedLong}
 use Rattle.im_ctype.specs.declared.member.MemberPlace.{MemberPlace}
-use Rattle.im_ctype.specs.Types.{CType, void, integer, pointer, array, struct, CTypes, no_types, more_types, Member, Structs, is_void, is_integer, is_pointer, is_struct, kind_of, members_of}
+use Rattle.im_ctype.specs.Types.{CType, void, integer, pointer, array, struct, CTypes, no_types, more_types, Member, Structs, is_integer, is_pointer, kind_of, members_of}
 use Rattle.im_ctype.specs.Members.{places}
 use Rattle.im_typed.specs.declared.expression.Change.{Change}
 use Rattle.im_typed.specs.declared.expression.Change.TheVariants.{Number as NumberBy, Move as PointerBy}
 use Rattle.im_typed.specs.Program.{Place, Static, Local, Target, Member as MemberAt, Expr, Constant, NullPointer, Address, Convert, Unary, Binary, Move, MoveBy, Distance, Compare, Not, And, Or, Choose, Comma, Discard, Assign, Update, Increment, Part, Call, Getchar, Putchar, Exprs, no_exprs, more_exprs}
 use Rattle.im_rules.specs.TypeTests.{same_name, target_of, target_constant, result_of, parameters_of}
-use Rattle.im_rules.specs.Scopes.{Entity, an_object, a_function, an_enumerator, a_typedef, Storage, static_object, local_object, Callee, a_body, no_body, get_character, put_character}
-use Rattle.im_rules.specs.Terms.{Value, Term, lvalue, value, kind_in, access_of, size_in, value_of, type_in}
+use Rattle.im_rules.specs.Scopes.{Entity, an_object, a_function, an_enumerator, Storage, static_object, local_object, Callee, a_body, no_body, get_character, put_character}
+use Rattle.im_rules.specs.Terms.{Value, Term, lvalue, value, kind_in, access_of, size_in, value_of}
 
 -- a conversion to an integer type is written where the kinds differ (C11 6.3.1.3)
 abbrev pub as_integer : Integer → Value → Expr

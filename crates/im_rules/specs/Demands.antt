@@ -1,6 +1,6 @@
 -- What the rules ask of each form of expression, given the terms of its parts: the index of the rules on expressions.
 -- A node is typed where all of its demands hold; it breaks the rule of each that doesn't.
-use Rattle.std.specs.Prelude.{◌≡◌, ◌⊎◌, ℕ, ℤ, Bool, true, false, ◌&&◌, List, [], ◌∷◌, length, map, Option, Some, None}
+use Rattle.std.specs.Prelude.{◌≡◌, ◌⊎◌, ℕ, Bool, true, false, ◌&&◌, List, [], ◌∷◌, length, Option, Some, None}
 use Rattle.im_word.specs.Words.{Name}
 use Rattle.im_ctree.specs.declared.operator.BinaryOp.{BinaryOp}
 use Rattle.im_ctree.specs.declared.operator.UnaryOp.{UnaryOp}
@@ -9,11 +9,11 @@ use Rattle.im_ctree.specs.declared.operator.AssignOp.{AssignOp}
 use Rattle.im_ctree.specs.Tree as t
 use Rattle.im_ctype.specs.Types.{CType, CTypes, no_types, more_types, Structs}
 use Rattle.im_rules.specs.TypeTests.{parameters_of}
-use Rattle.im_rules.specs.Scopes.{Entity, an_object, a_function, an_enumerator, a_typedef, static_object, local_object, Callee, a_body, no_body, get_character, put_character, Scopes, meaning}
+use Rattle.im_rules.specs.Scopes.{Entity, an_object, a_function, static_object, no_body, Scopes, meaning}
 use Rattle.im_rules.specs.Terms.{Term, operand_of, type_in}
 use Rattle.im_rules.specs.Conversions.{operator_of}
 use Rattle.im_rules.specs.Context.{Context}
-use Rattle.im_rules.specs.Rules.{Operand, rule_12_use, rule_17, rule_18, rule_19, rule_20, rule_21_dot, rule_21_arrow, rule_22, rule_23, rule_24, rule_25_arithmetic, rule_25_condition, rule_30_assign, rule_30_step, rule_31, rule_32, rule_33, rule_of, allows}
+use Rattle.im_rules.specs.Rules.{rule_12_use, rule_17, rule_18, rule_19, rule_20, rule_21_dot, rule_21_arrow, rule_22, rule_23, rule_24, rule_25_arithmetic, rule_25_condition, rule_30_assign, rule_30_step, rule_31, rule_32, rule_33, rule_of, allows}
 
 -- what a rule asks of a node
 pub record Demand : Type 0 where

@@ -1,10 +1,10 @@
 -- Initialisers (C11 6.7.9): from an object's type and the initialiser's shape to what goes where. What has no item is
 -- cleared.
-use Rattle.std.specs.Prelude.{◌≡◌, ℕ, ◌+◌, pos, Bool, true, false, List, [], ◌∷◌, ◌++◌, map, length, Option, Some, None, if◌then◌else◌}
+use Rattle.std.specs.Prelude.{ℕ, ◌+◌, pos, List, [], ◌∷◌, ◌++◌, map, length, if◌then◌else◌}
 use Rattle.im_word.specs.Words.{Name}
 use Rattle.im_ctree.specs.Tree as t
 use Rattle.im_ctype.specs.declared.member.MemberPlace.{MemberPlace}
-use Rattle.im_ctype.specs.Types.{CType, void, integer, pointer, array, unsized, struct, function, Member, Structs, members_of}
+use Rattle.im_ctype.specs.Types.{CType, void, integer, pointer, array, unsized, struct, Member, Structs, members_of}
 use Rattle.im_ctype.specs.Members.{places}
 use Rattle.im_typed.specs.Program.{Constant, Piece}
 use Rattle.im_rules.specs.Rules.{is_string_for, initializer_count, rule_16, rule_17}

@@ -1,6 +1,6 @@
 -- The 34 typing rules, each as what it asks of a node: of the types of its parts, and of the names in scope. `true` says
 -- that the rule has nothing against the node.
-use Rattle.std.specs.Prelude.{ℕ, zero, suc, ◌+◌, ℤ, pos, Bool, true, false, not, ◌&&◌, ◌||◌, List, [], ◌∷◌, ◌++◌, length, Option, Some, None, nat_eq, nat_lt, nat_le, int_lt, int_le, is_none, is_some, if◌then◌else◌, ◌^◌, neg_ℤ, slice_index_or}
+use Rattle.std.specs.Prelude.{ℕ, suc, ◌+◌, ℤ, pos, Bool, true, false, not, ◌&&◌, ◌||◌, List, [], ◌∷◌, ◌++◌, length, Option, Some, None, nat_eq, nat_lt, nat_le, int_lt, int_le, is_none, is_some, if◌then◌else◌, ◌^◌, neg_ℤ, slice_index_or}
 use Rattle.std.specs.Ordering.{int_eq}
 use Rattle.im_word.specs.Words.{Name}
 use Rattle.im_ctree.specs.declared.operator.BinaryOp.{BinaryOp}
@@ -8,11 +8,10 @@ use Rattle.im_ctree.specs.declared.operator.BinaryOp.TheVariants as b
 use Rattle.im_ctree.specs.declared.specifier.SpecifierWord.{SpecifierWord}
 use Rattle.im_ctree.specs.declared.specifier.SpecifierWord.TheVariants as w
 use Rattle.im_ctree.specs.Tree as t
-use Rattle.im_ctype.specs.declared.integer.Integer.{Integer}
 use Rattle.im_ctype.specs.declared.integer.Integer.TheVariants.{Char, SignedChar, UnsignedChar, Short, UnsignedShort, Int, UnsignedInt, Long, UnsignedLong}
-use Rattle.im_ctype.specs.Types.{CType, void, integer, pointer, array, unsized, struct, function, CTypes, no_types, more_types, Member, Structs, members_of, same_bool, same_type, is_void, is_integer, is_character, is_pointer, is_array, is_function, is_struct, is_scalar, are_like_pointers}
+use Rattle.im_ctype.specs.Types.{CType, void, integer, pointer, array, unsized, struct, function, no_types, Member, Structs, members_of, same_bool, same_type, is_void, is_integer, is_character, is_pointer, is_array, is_function, is_struct, is_scalar, are_like_pointers}
 use Rattle.im_rules.specs.TypeTests.{is_complete_in, points_to_complete, members_in, find_member, has_member, decayed, count_types}
-use Rattle.im_rules.specs.Scopes.{Entity, an_object, a_function, an_enumerator, a_typedef, Tag, struct_tag, enum_tag, Scopes, meaning, meaning_here, tag_meaning, at_file_scope}
+use Rattle.im_rules.specs.Scopes.{Entity, an_object, a_function, an_enumerator, a_typedef, Tag, enum_tag, Scopes, tag_meaning, at_file_scope}
 
 -- An expression as the rules see it: whether it is an lvalue (C11 6.3.2.1p1) and const, its type with arrays as they
 -- are, and whether it is null, an integer constant expression of value 0 (C11 6.3.2.3p3).

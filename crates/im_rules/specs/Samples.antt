@@ -1,5 +1,5 @@
 -- Small trees, for the examples.
-use Rattle.std.specs.Prelude.{ℕ, ℤ, pos, Bool, true, false, List, [], ◌∷◌}
+use Rattle.std.specs.Prelude.{ℕ, pos, true, false, [], ◌∷◌}
 use Rattle.im_word.specs.Words.{Name}
 use Rattle.im_num.specs.declared.kind.Kind.TheVariants.{I32, U8}
 use Rattle.im_tok.specs.declared.number.Number.{Number}
@@ -11,7 +11,7 @@ use Rattle.im_store.specs.declared.operators.BinaryOp.TheVariants as s
 use Rattle.im_ctype.specs.declared.integer.Integer.TheVariants.{Char, Int}
 use Rattle.im_ctype.specs.Types.{integer, void}
 use Rattle.im_typed.specs.declared.statement.Case.{Case}
-use Rattle.im_typed.specs.Program.{Scalar, Local, Expr, Constant, Read, Convert, Binary, Stmt, Block, Switch, Break, no_stmts, more_stmts}
+use Rattle.im_typed.specs.Program.{Scalar, Local, Constant, Read, Convert, Binary, Stmt, Block, Switch, Break, no_stmts, more_stmts}
 use Rattle.im_rules.specs.Scopes.{nothing, named, an_object, local_object}
 use Rattle.im_rules.specs.Context.{Context}
 use Rattle.im_rules.specs.Terms.{Term, value}

@@ -1,5 +1,5 @@
 -- What names and tags mean at a place of the text (C11 6.2.1, 6.2.3).
-use Rattle.std.specs.Prelude.{ℕ, ℤ, Bool, true, false, List, [], ◌∷◌, Option, Some, None, if◌then◌else◌}
+use Rattle.std.specs.Prelude.{ℕ, ℤ, Bool, true, false, Option, Some, None, if◌then◌else◌}
 use Rattle.im_word.specs.Words.{Name}
 use Rattle.im_ctype.specs.Types.{CType}
 use Rattle.im_rules.specs.TypeTests.{same_name}

@@ -1,15 +1,15 @@
 -- What statements and blocks are typed to (C11 6.8).
-use Rattle.std.specs.Prelude.{◌≡◌, ℕ, zero, suc, ◌+◌, ℤ, pos, Bool, true, false, List, [], ◌∷◌, ◌++◌, length, Option, Some, None, is_some, if◌then◌else◌}
+use Rattle.std.specs.Prelude.{ℕ, suc, ◌+◌, ℤ, pos, Bool, true, false, List, [], ◌∷◌, ◌++◌, length, Option, Some, None}
 use Rattle.im_word.specs.Words.{Name}
 use Rattle.im_num.specs.declared.kind.Kind.TheVariants.{I32}
 use Rattle.im_num.specs.Kinds.{wrap}
 use Rattle.im_ctree.specs.Tree as t
 use Rattle.im_ctype.specs.declared.integer.Integer.{Integer}
 use Rattle.im_ctype.specs.Types.{CType, Structs, kind_of}
-use Rattle.im_ctype.specs.Layout.{Layout, layout}
+use Rattle.im_ctype.specs.Layout.{layout}
 use Rattle.im_typed.specs.declared.statement.Case.{Case}
 use Rattle.im_typed.specs.Program.{Expr, Constant, Stmt, Do, Forget, Initialise, Block, If, While, DoWhile, For, Switch, Break, Continue, Return, Stmts, no_stmts, more_stmts, LocalObject}
-use Rattle.im_rules.specs.Rules.{Position, rule_2_elsewhere, rule_3, rule_4, rule_5, rule_6_absent, rule_15, rule_17, rule_25_condition, rule_34_break, rule_34_continue, rule_34_constant, rule_34_default, rule_34_switch, rule_34_return}
+use Rattle.im_rules.specs.Rules.{Position, rule_3, rule_4, rule_5, rule_6_absent, rule_15, rule_17, rule_25_condition, rule_34_break, rule_34_continue, rule_34_constant, rule_34_default, rule_34_switch, rule_34_return}
 use Rattle.im_rules.specs.Scopes.{Entity, an_object, local_object, meaning, meaning_here, at_file_scope}
 use Rattle.im_rules.specs.Strings.{strings_in, strings_maybe, strings_of_declarator}
 use Rattle.im_rules.specs.Context.{Context, in_new_scope, with_entity, behind, behind_maybe, behind_strings, behind_declarator}
