@@ -1,0 +1,48 @@
+-- What is known at a place of the text.
+use Rattle.std.specs.Prelude.{ℕ, ◌+◌, Bool, List, length}
+use Rattle.im_word.specs.Words.{Name}
+use Rattle.im_ctree.specs.Tree as t
+use Rattle.im_ctype.specs.Types.{Structs}
+use Rattle.im_rules.specs.Scopes.{Scopes, opened, named, Entity}
+use Rattle.im_rules.specs.Strings.{strings_in, strings_maybe, strings_named, strings_of_core, strings_of_declarator, strings_may, strings_of_parameters}
+
+-- what names mean, the structs whose member lists have ended, and the number of the static that the next string literal
+-- is; of the whole unit: whether a name is defined in it, and the number of the struct that a tag declares at a token
+pub record Context : Type 0 where
+  pub scopes : Scopes
+  pub known : Structs
+  pub next_string : ℕ
+  pub is_defined : Name → Bool
+  pub tag_number : ℕ → Name → ℕ
+
+abbrev pub in_new_scope : Context → Context
+in_new_scope c = record c { scopes = opened c.scopes }
+
+abbrev pub with_entity : Name → Entity → Context → Context
+with_entity x e c = record c { scopes = named x e c.scopes }
+
+-- behind so many string literals
+abbrev pub behind_strings : List Name → Context → Context
+behind_strings ss c = record c { next_string = c.next_string + length ss }
+
+-- behind a part
+abbrev pub behind : t.Expression → Context → Context
+behind e c = behind_strings (strings_in e) c
+
+abbrev pub behind_maybe : t.MaybeExpression → Context → Context
+behind_maybe e c = behind_strings (strings_maybe e) c
+
+abbrev pub behind_name : t.TypeName → Context → Context
+behind_name n c = behind_strings (strings_named n) c
+
+abbrev pub behind_core : t.Core → Context → Context
+behind_core k c = behind_strings (strings_of_core k) c
+
+abbrev pub behind_declarator : t.Declarator → Context → Context
+behind_declarator d c = behind_strings (strings_of_declarator d) c
+
+abbrev pub behind_may : t.MaybeDeclarator → Context → Context
+behind_may m c = behind_strings (strings_may m) c
+
+abbrev pub behind_parameters : t.Parameters → Context → Context
+behind_parameters ps c = behind_strings (strings_of_parameters ps) c

@@ -1,0 +1,17 @@
+pub mod BodyBreaks
+pub mod Breaks
+pub mod Constants
+pub mod Context
+pub mod Conversions
+pub mod Declared
+pub mod Demands
+pub mod Initialisers
+pub mod Laws
+pub mod Rules
+pub mod Samples
+pub mod Scopes
+pub mod Statements
+pub mod Strings
+pub mod Terms
+pub mod Typed
+pub mod TypeTests
