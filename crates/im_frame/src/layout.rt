@@ -40,7 +40,8 @@ fn end_of(start: u64, objects: &[Object]) -> u64
 /// The places of objects that lie one behind the other.
 fn places_of(alloc: Global, start: u64, objects: &[Object]) -> Result<Vec<u32>, FrameFault>
     requires { start + rooms objects.now ≤ 65536 }
-    ensures { IfOk result (λ places. places.items ≡ places_from start objects.now) }
+    ensures gives { IfOk result (λ places. places.items ≡ places_from start objects.now) }
+    ensures faults { IfErr result (λ e. e ≡ FrameFault.OutOfMemory) }
 {
     let mut places = Vec::new(alloc);
     let mut next = start;
@@ -61,7 +62,7 @@ pub fn frame_bytes(function: &Function) -> u64
 }
 
 /// The layout of a function's frame.
-pub fn layout(alloc: Global, function: &Function) -> Result<Layout, FrameFault>
+pub fn lay_out(alloc: Global, function: &Function) -> Result<Layout, FrameFault>
     requires { bytes_of function.now ≤ function.now.need }
     ensures gives { IfOk result (λ l. IsLayout function.now l) }
     ensures faults { IfErr result (λ e. IsFault function.now e) }

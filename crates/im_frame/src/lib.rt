@@ -5,4 +5,4 @@ mod fault;
 mod layout;
 
 pub use fault::FrameFault;
-pub use layout::{frame_bytes, layout, Layout};
+pub use layout::{frame_bytes, lay_out, Layout};
