@@ -3,6 +3,8 @@
 
 mod fault;
 mod layout;
+#[cfg(test)]
+mod tests;
 
 pub use fault::FrameFault;
-pub use layout::{frame_bytes, lay_out, Layout};
+pub use layout::{Layout, frame_bytes, lay_out};
