@@ -1,4 +1,4 @@
-use Rattle.std.proofs.Common.{◌≡◌, ◌+◌, ◌*◌, ap, ◌∙◌, arith}
+use Rattle.std.proofs.Common.{◌≡◌, ◌+◌, ◌*◌, arith}
 use Rattle.std.proofs.lemmas.Grind.{common_steps}
 use Rattle.im_frame.specs.Layout.{places_from}
 use Rattle.im_frame.proofs.Places.{laid}

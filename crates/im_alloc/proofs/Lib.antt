@@ -1,0 +1,4 @@
+pub mod Slots
+pub mod Seen
+pub mod Walks
+pub mod Results
