@@ -2,3 +2,5 @@ pub mod Slots
 pub mod Seen
 pub mod Walks
 pub mod Results
+pub mod Lines
+pub mod Straight
