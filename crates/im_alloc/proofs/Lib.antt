@@ -4,3 +4,4 @@ pub mod Walks
 pub mod Results
 pub mod Lines
 pub mod Straight
+pub mod Calls
