@@ -5,3 +5,4 @@ pub mod Results
 pub mod Lines
 pub mod Straight
 pub mod Calls
+pub mod Whole

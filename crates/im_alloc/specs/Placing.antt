@@ -11,6 +11,7 @@ use Rattle.im_block.specs.declared.unit.Function.{Function}
 use Rattle.im_block.specs.declared.unit.Unit.{Unit as Code}
 use Rattle.im_block.specs.Meaning.{Setting, Site, Event, Reads, Writes, Tests, Saves, Restores, Serves, Cuts}
 use Rattle.im_block.specs.Runs.{Runs, uncut}
+use Rattle.im_block.specs.Wellformed.{IsWellFormed}
 use Rattle.im_alloc.specs.Homes.{Home, InRegister, InSlot, numbers_kept, put_lines, exit_lines, put_exit}
 use Rattle.im_alloc.specs.Live.{lives}
 
@@ -105,7 +106,7 @@ unslotted (Cuts ∷ run) = Cuts ∷ unslotted run
 -- placed code has the outcome of the block code and its events, but for accesses to slots and for more cuts
 abbrev pub PlaceKeeps : Type 0
 PlaceKeeps =
-    (u v : Code) → IsPlaced u v → (g : Setting) (n : ℕ) (o : Outcome) (run : List Event) → IsDefined o → Runs u g n o run →
+    (u v : Code) → IsWellFormed u → IsPlaced u v → (g : Setting) (n : ℕ) (o : Outcome) (run : List Event) → IsDefined o → Runs u g n o run →
     (run' : List Event) × Runs v g n o run' × (uncut (unslotted run') ≡ uncut run)
 
 -- no call has more than eight arguments, and no line is one of placed code

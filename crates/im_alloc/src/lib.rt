@@ -3,4 +3,4 @@
 
 mod laws;
 
-pub use laws::slots_law;
+pub use laws::{placed_law, slots_law};
