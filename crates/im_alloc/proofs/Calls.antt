@@ -216,19 +216,27 @@ entered u v there s i fuel first first' count active registers y y0 z lines exit
     let ev : List Event = Tests ∷ Saves active ∷ [] in
     let st2 : Store = begun_by g active st in
     let s1 : State = enters_at i (at_block f.entry block) active (passed f.first_parameter first count registers) ws (begun_by f active s.store) fuel s in
-    let t1 : State = enters_at i (placed_spot h p.0 f.entry block) active (passed 10 first' count y) xs st2 fuel s in
-    (
+    let t1 : State = enters_at i (placed_spot h p.0 f.entry block) active (passed 10 first' count y) xs st2 fuel s in (
       t1,
       ev,
       ap (λ q. on_checked (found (slice_get g.blocks.items q)) (λ block. activates i g active (passed g.first_parameter first' count y) xs fuel block w)) entry
-      ∙ ap (λ q. on_checked (found q) (λ block. activates i g active (passed g.first_parameter first' count y) xs fuel block w)) p.2
-      ∙ ap (λ q. Goes (enters_at i q active (passed g.first_parameter first' count y) xs st2 fuel s) ev) (spot_is h p.0 block new f.entry g.entry entry pb)
-      ∙ ap (λ q. Goes (enters_at i (placed_spot h p.0 f.entry block) active (passed q first' count y) xs st2 fuel s) ev) ten,
+          ∙ ap (λ q. on_checked (found q) (λ block. activates i g active (passed g.first_parameter first' count y) xs fuel block w)) p.2
+          ∙ ap (λ q. Goes (enters_at i q active (passed g.first_parameter first' count y) xs st2 fuel s) ev) (spot_is h p.0 block new f.entry g.entry entry pb)
+          ∙ ap (λ q. Goes (enters_at i (placed_spot h p.0 f.entry block) active (passed q first' count y) xs st2 fuel s) ev) ten,
       refl,
       record {
-        f = f; g = g; is_f = is_f; is_g = is_g; pf = pf;
-        n = p.0; e = p.0 + numbers_kept * length block.lines.items;
-        y = passed 10 first' count y; z = 0; xs = xs; st = st2; is = refl;
+        f = f;
+        g = g;
+        is_f = is_f;
+        is_g = is_g;
+        pf = pf;
+        n = p.0;
+        e = p.0 + numbers_kept * length block.lines.items;
+        y = passed 10 first' count y;
+        z = 0;
+        xs = xs;
+        st = st2;
+        is = refl;
         valid = pf.valid f.entry block at;
         there = there i f.entry f block is_f at;
         held = entered_held u v s s1 active first first' count registers y ws xs st f g pf _ number many brought out refl refl refl refl refl;
@@ -299,8 +307,14 @@ call_after u v blocks pl g s k n e to i first count rest y z xs st okay valid ta
     let x : Frame = record { function = s.frame.function; spot = record { block = s.frame.spot.block; rest = tail; exit = exit }; active = s.frame.active; registers = kept_by (slice_get v.functions.items s.frame.function) b.y'; to = 10 } in
     let own : kept_by (slice_get u.functions.items s.frame.function) s.frame.registers ≡ s.frame.registers = keeps_own u v s k s.frame.registers in
     let stands : WaitsFor u v st w x = record {
-      f = k.f; g = k.g; is_f = k.is_f; is_g = k.is_g; pf = k.pf;
-      give_number = n + 2; n = n + numbers_kept; e = e;
+      f = k.f;
+      g = k.g;
+      is_f = k.is_f;
+      is_g = k.is_g;
+      pf = k.pf;
+      give_number = n + 2;
+      n = n + numbers_kept;
+      e = e;
       is = ap (λ (q : ℕ → Value). let r : Frame = record { function = s.frame.function; spot = record { block = s.frame.spot.block; rest = tail; exit = exit }; active = s.frame.active; registers = q; to = 10 } in r) (loses_all u v s k b.y');
       valid = valid;
       there = there;
@@ -360,8 +374,20 @@ served_after u v g s k n e to b rest input output fuel t y z xs st okay valid th
       walk = walk_join v g 1 (plus 1 sv.n) (Serves ∷ []) ((Cuts ∷ []) ++ sv.ev) t t1 _ (walk_one v g (Serves ∷ []) t t1 goes) (walk_join v g 1 sv.n (Cuts ∷ []) sv.ev t1 t2 _ (walk_one v g (Cuts ∷ []) t1 t2 refl) sv.walk);
       told = ap (λ q. Serves ∷ q) sv.silent;
       same = record {
-        f = k.f; g = k.g; is_f = k.is_f; is_g = k.is_g; pf = k.pf;
-        n = n + numbers_kept; e = e; y = sv.y'; z = z; xs = xs; st = sv.st'; is = refl; valid = valid; there = there;
+        f = k.f;
+        g = k.g;
+        is_f = k.is_f;
+        is_g = k.is_g;
+        pf = k.pf;
+        n = n + numbers_kept;
+        e = e;
+        y = sv.y';
+        z = z;
+        xs = xs;
+        st = sv.st';
+        is = refl;
+        valid = valid;
+        there = there;
         held = record { agrees = last.agrees; own = last.own; free = last.free; seen = last.seen; unseen = last.unseen; holds = last.holds; callers = last.callers; fresh = last.fresh };
       };
     }

@@ -192,19 +192,31 @@ not_second (InSlot n) free = omega arith
 
 pub place_ready : (u v : Code) (g : Setting) (s : State) (h : ℕ → Home) (after : ℕ → Bool) (place : Place) (access : ℕ) (rest : List Line) (exit : Exit) (y : ℕ → Value) (z : ℕ) (xs : List Frame) (st : Store) → ((q : ℕ) → place_uses place q ≡ true → after q ≡ true) → Held u v s h after y xs st → PlaceReady u v g s h after place (load_place h place access rest) rest exit y z xs st
 place_ready u v g s h after (Static object offset) access rest exit y z xs st used m = record {
-  n = 0; ev = []; y' = y; walk = walk_none v g _; silent = refl;
+  n = 0;
+  ev = [];
+  y' = y;
+  walk = walk_none v g _;
+  silent = refl;
   value = λ y2 same a e. further_refines s.store st offset (Pointer (static object) 0) (Pointer (static object) 0) a (seen_all u v s h after y xs st m) (inr refl) e;
   held = m;
 }
 place_ready u v g s h after (Local object offset) access rest exit y z xs st used m = record {
-  n = 0; ev = []; y' = y; walk = walk_none v g _; silent = refl;
+  n = 0;
+  ev = [];
+  y' = y;
+  walk = walk_none v g _;
+  silent = refl;
   value = λ y2 same a e. further_refines s.store st offset (Pointer (object_of s.frame.active (Named object)) 0) (Pointer (object_of s.frame.active (Named object)) 0) a (seen_all u v s h after y xs st m) (inr refl) e;
   held = m;
 }
 place_ready u v g s h after (Through r offset) access rest exit y z xs st used m =
     let l : Loaded u v g s h after (s.frame.registers r) (load (h r) 28 access rest) rest exit (reg (h r) 28) 28 y z xs st = load_home u v g s h after (s.frame.registers r) (h r) 28 access rest exit y z xs st (λ q i e. (m.free q i e).0) (λ n e. m.own r n e) (m.agrees r (used r (self r))) m in
     record {
-      n = l.n; ev = l.ev; y' = l.y'; walk = l.walk; silent = l.silent;
+      n = l.n;
+      ev = l.ev;
+      y' = l.y';
+      walk = l.walk;
+      silent = l.silent;
       value = λ y2 same a e. further_refines s.store st offset (s.frame.registers r) (y2 (reg (h r) 28)) a (seen_all u v s h after y xs st m) (refines_at (s.frame.registers r) _ (l.y' (reg (h r) 28)) _ refl (same (reg (h r) 28) (not_second (h r) (λ i f. (m.free r i f).1))) l.value) e;
       held = l.held;
     }

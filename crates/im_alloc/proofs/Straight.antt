@@ -114,8 +114,20 @@ write_line u v g s k n e rest place kind from access y z xs st valid there m =
       walk = walk_join v g (plus l.n l2.n) 1 (l.ev ++ l2.ev) more _ t1 _ (walk_join v g l.n l2.n l.ev l2.ev _ _ _ l.walk l2.walk) (walk_one v g more t1 _ (ap (λ o. writes (site_of access kind) o lines t1) w.new));
       told = heard_first (l.ev ++ l2.ev) more (heard_first l.ev l2.ev l.silent ∙ l2.silent);
       same = record {
-        f = k.f; g = k.g; is_f = k.is_f; is_g = k.is_g; pf = k.pf;
-        n = n + numbers_kept; e = e; y = l2.y'; z = z; xs = xs; st = st'; is = refl; valid = valid; there = there;
+        f = k.f;
+        g = k.g;
+        is_f = k.is_f;
+        is_g = k.is_g;
+        pf = k.pf;
+        n = n + numbers_kept;
+        e = e;
+        y = l2.y';
+        z = z;
+        xs = xs;
+        st = st';
+        is = refl;
+        valid = valid;
+        there = there;
         held = held_write u v s h after f.at.object f.at.offset w.b rest l2.y' xs st w.there (held_less u v s h live after l2.y' xs st (λ q t. or_last ((place_uses place q) || (q == from)) (after q) t) l2.held);
       };
     }))
@@ -157,8 +169,20 @@ line_after u v g s k n e (Cut cause) rest y z xs st calls gets puts keeps valid 
   walk = walk_one v g (Cuts ∷ []) _ _ refl;
   told = refl;
   same = record {
-    f = k.f; g = k.g; is_f = k.is_f; is_g = k.is_g; pf = k.pf;
-    n = n + numbers_kept; e = e; y = y; z = z; xs = xs; st = st; is = refl; valid = valid; there = there;
+    f = k.f;
+    g = k.g;
+    is_f = k.is_f;
+    is_g = k.is_g;
+    pf = k.pf;
+    n = n + numbers_kept;
+    e = e;
+    y = y;
+    z = z;
+    xs = xs;
+    st = st;
+    is = refl;
+    valid = valid;
+    there = there;
     held = moved_held (held_less u v s k.pf.home _ (lives k.pf.live rest s.frame.spot.exit) y xs st (λ q t. t) m);
   };
 }

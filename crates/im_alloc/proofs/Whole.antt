@@ -55,17 +55,25 @@ to_both u v there g s k b fuel after lines exit y z xs st le m =
     by (Some block) e =
         let p = placed_block k.pf.home k.pf.first_access k.f.blocks.items k.g.blocks.items b block k.pf.blocks e in
         let t : State = twin s lines exit y z xs st in
-        let less : Held u v s k.pf.home (lives k.pf.live block.lines.items block.exit) y xs st = held_less u v s k.pf.home after (lives k.pf.live block.lines.items block.exit) y xs st (λ q l. le q (k.pf.closed b block q e l)) m in
-        (
+        let less : Held u v s k.pf.home (lives k.pf.live block.lines.items block.exit) y xs st = held_less u v s k.pf.home after (lives k.pf.live block.lines.items block.exit) y xs st (λ q l. le q (k.pf.closed b block q e l)) m in (
           record t { frame = record t.frame { spot = placed_spot k.pf.home p.0 b block }; fuel = fuel },
           [],
           ap (λ q. on_checked (found q) (λ block. Goes (record t { frame = record t.frame { spot = at_block b block }; fuel = fuel }) [])) p.2
-          ∙ ap (λ (q : Spot). Goes (record t { frame = record t.frame { spot = q }; fuel = fuel }) []) (spot_is k.pf.home p.0 block p.1 b b refl p.3),
+              ∙ ap (λ (q : Spot). Goes (record t { frame = record t.frame { spot = q }; fuel = fuel }) []) (spot_is k.pf.home p.0 block p.1 b b refl p.3),
           refl,
           record {
-            f = k.f; g = k.g; is_f = k.is_f; is_g = k.is_g; pf = k.pf;
-            n = p.0; e = p.0 + numbers_kept * length block.lines.items;
-            y = y; z = z; xs = xs; st = st; is = refl;
+            f = k.f;
+            g = k.g;
+            is_f = k.is_f;
+            is_g = k.is_g;
+            pf = k.pf;
+            n = p.0;
+            e = p.0 + numbers_kept * length block.lines.items;
+            y = y;
+            z = z;
+            xs = xs;
+            st = st;
+            is = refl;
             valid = k.pf.valid b block e;
             there = there s.frame.function b k.f block k.is_f e;
             held = record { agrees = less.agrees; own = less.own; free = less.free; seen = less.seen; unseen = less.unseen; holds = less.holds; callers = less.callers; fresh = less.fresh };
@@ -108,8 +116,20 @@ caller_goes u v g s b x w ws f xs t y st k below callers seen unseen holds fresh
       walk = walk_join v g 1 (plus 1 sv.n) (Restores s.frame.active ∷ []) ((Cuts ∷ []) ++ sv.ev) t t1 _ (walk_one v g (Restores s.frame.active ∷ []) t t1 is) (walk_join v g 1 sv.n (Cuts ∷ []) sv.ev t1 t2 _ (walk_one v g (Cuts ∷ []) t1 t2 refl) sv.walk);
       told = ap (λ q. Restores s.frame.active ∷ q) sv.silent;
       same = record {
-        f = k.f; g = k.g; is_f = k.is_f; is_g = k.is_g; pf = k.pf;
-        n = k.n; e = k.e; y = sv.y'; z = 10; xs = xs; st = sv.st'; is = refl; valid = k.valid; there = k.there;
+        f = k.f;
+        g = k.g;
+        is_f = k.is_f;
+        is_g = k.is_g;
+        pf = k.pf;
+        n = k.n;
+        e = k.e;
+        y = sv.y';
+        z = 10;
+        xs = xs;
+        st = sv.st';
+        is = refl;
+        valid = k.valid;
+        there = k.there;
         held = record { agrees = last.agrees; own = last.own; free = last.free; seen = last.seen; unseen = last.unseen; holds = last.holds; callers = last.callers; fresh = last.fresh };
       };
     }
