@@ -1,33 +1,30 @@
 -- Calls: of functions and of the built-in ones.
-use Rattle.std.proofs.Common.{◌≡◌, ◌≢◌, ℕ, zero, suc, ◌+◌, ◌-◌, ◌<◌, ◌≤◌, ◌⊎◌, inl, inr, Bool, true, false, cond, List, [], ◌∷◌, ◌++◌, Option, Some, None, sym, ap, ◌∙◌, subst, refl, arith}
-use Rattle.std.specs.Prelude.{◌*◌, length, ◌==◌, ◌&&◌, ◌||◌, not, nat_lt, nat_le, ℤ, pos, negsuc, nat_abs, slice_get, All}
+use Rattle.std.proofs.Common.{◌≡◌, ◌≢◌, ℕ, zero, suc, ◌+◌, ◌-◌, ◌<◌, ◌≤◌, inl, inr, Bool, true, false, cond, List, [], ◌∷◌, ◌++◌, Option, Some, None, sym, ap, ◌∙◌, subst, refl, arith}
+use Rattle.std.specs.Prelude.{◌*◌, length, ◌==◌, ◌&&◌, not, nat_lt, nat_le, pos, negsuc, nat_abs, slice_get}
 use Rattle.std.proofs.lemmas.Bool.Decides.{nat_tests}
 use Rattle.im_num.specs.declared.kind.Kind.TheVariants.{U8}
 use Rattle.im_num.specs.declared.values.Cause.TheVariants.{Return as ReturnCut}
 use Rattle.im_num.specs.Kinds.{wrap}
 use Rattle.im_ctype.specs.declared.cell.Cell.{Cell}
-use Rattle.im_store.specs.Checks.{Checked, Fine, Bad}
-use Rattle.im_store.specs.Objects.{Name, Named, Slot, Link, Object, static, Value, Number, Unset, Shape, Store, begins}
+use Rattle.im_store.specs.Objects.{Name, Named, Slot, Link, Object, static, Value, Number, Unset, Shape, Store}
 use Rattle.im_store.specs.Statics.{StaticObject}
-use Rattle.im_store.specs.Outcomes.{Outcome, Undef, More, End, cell_shown, cells_shown, variables_from, variables}
+use Rattle.im_store.specs.Outcomes.{Undef, More, End, cell_shown, cells_shown, variables_from, variables}
 use Rattle.im_block.specs.declared.code.Line.{Line}
 use Rattle.im_block.specs.declared.code.Line.TheVariants.{Cut, Call, GetChar, PutChar}
 use Rattle.im_block.specs.declared.code.Exit.{Exit}
 use Rattle.im_block.specs.declared.code.Block.{Block}
-use Rattle.im_block.specs.declared.unit.Registers.{Registers}
-use Rattle.im_block.specs.declared.unit.Registers.TheVariants.{Virtual, Machine}
 use Rattle.im_block.specs.declared.unit.Function.{Function}
 use Rattle.im_block.specs.declared.unit.Unit.{Unit as Code}
-use Rattle.im_block.specs.Wellformed.{Takes, LineThere}
-use Rattle.im_block.specs.Meaning.{Setting, Active, Spot, Event, Tests, Saves, Serves, Cuts, Frame, State, Next, Goes, Stops, on_checked, takes, found, slot_shape, shapes_of, number_of, statics_of, ended, begun_by, passed, kept, kept_by, with_register, with_rest, at_block, activates, next_active, enters, waiting, served, gets, puts, does, step}
+use Rattle.im_block.specs.Wellformed.{Takes}
+use Rattle.im_block.specs.Meaning.{Setting, Active, Spot, Event, Tests, Saves, Serves, Cuts, Frame, State, Next, Goes, Stops, on_checked, takes, found, slot_shape, shapes_of, number_of, statics_of, ended, begun_by, passed, kept, kept_by, with_register, at_block, activates, next_active, enters, waiting, served, gets, puts, does, step}
 use Rattle.im_block.specs.Runs.{goes_on, exec, uncut}
 use Rattle.im_alloc.specs.Homes.{Home, InRegister, InSlot, numbers_kept, into, give, bring, put_line, put_lines, exit_lines, put_exit}
 use Rattle.im_alloc.specs.Live.{lives}
 use Rattle.im_alloc.specs.Placing.{Survives, ValidLine, Valid, PlacedBlock, PlacedBlocks, PlacedFunction, PlacedFunctions, IsPlaced}
 use Rattle.im_alloc.proofs.Seen.{Refines, refines_at, number_refines, is_slot}
-use Rattle.im_alloc.proofs.Walks.{plus, heard, Walk, walk_one, walk_join, twin, own_slot, at_home, AllThere, WaitsFor, Callers, Held, truth, same_register, Loaded, into_home}
-use Rattle.im_alloc.proofs.Results.{two_ways, callers_kept, set, without, is_without, Saved, give_home, Brought, bring_all}
-use Rattle.im_alloc.proofs.Lines.{Twin, Went, Ended, After, after_first, checked_after, held_less, Known, without_live, or_left, self}
+use Rattle.im_alloc.proofs.Walks.{plus, heard, walk_one, walk_join, twin, own_slot, at_home, AllThere, WaitsFor, Callers, Held, truth, same_register, Loaded, into_home}
+use Rattle.im_alloc.proofs.Results.{callers_kept, without, is_without, Saved, give_home, Brought, bring_all}
+use Rattle.im_alloc.proofs.Lines.{Twin, After, after_first, checked_after, held_less, Known, without_live, or_left, self}
 
 -- one step of placed code beside one of block code
 abbrev pub NextRel : Code → Code → Next → Next → Type 0

@@ -1,31 +1,28 @@
 -- Each line that computes, reads or writes.
-use Rattle.std.proofs.Common.{◌≡◌, ◌≢◌, ℕ, zero, suc, ◌+◌, ◌<◌, ◌≤◌, ◌⊎◌, inl, inr, Bool, true, false, cond, List, [], ◌∷◌, ◌++◌, Option, Some, None, sym, ap, ◌∙◌, subst, refl, append_assoc, arith}
+use Rattle.std.proofs.Common.{◌≡◌, ◌≢◌, ℕ, ◌+◌, inl, inr, Bool, true, false, cond, List, [], ◌∷◌, ◌++◌, Some, None, sym, ap, ◌∙◌, subst, refl, append_assoc, arith}
 use Rattle.std.specs.Prelude.{◌==◌, ◌&&◌, ◌||◌, not, slice_get}
-use Rattle.std.proofs.lemmas.List.{append-nil}
 use Rattle.std.proofs.lemmas.Bool.Decides.{nat_tests}
 use Rattle.im_num.specs.declared.kind.Kind.{Kind}
-use Rattle.im_num.specs.Kinds.{kind_size}
 use Rattle.im_store.specs.declared.undefined.Undefined.{Undefined}
 use Rattle.im_store.specs.declared.undefined.Undefined.TheVariants.{NoSuchCell}
 use Rattle.im_store.specs.Checks.{Checked, Fine, Bad, then_, unless}
-use Rattle.im_store.specs.Objects.{Name, Named, Slot, Link, same_name, Object, static, Value, Number, Null, Pointer, Unset, Shape, Store, lives as is_live, same_object}
+use Rattle.im_store.specs.Objects.{Name, Named, Slot, Link, same_name, Object, static, Value, Number, Null, Pointer, Unset, Store, lives as is_live, same_object}
 use Rattle.im_store.specs.Access.{has_cell, stands, taken, read_cell, write_cell, with_value}
 use Rattle.im_store.specs.Outcomes.{Outcome, Undef, More, End}
 use Rattle.im_block.specs.declared.code.Place.{Place}
 use Rattle.im_block.specs.declared.code.Place.TheVariants.{Static, Local, Through}
 use Rattle.im_block.specs.declared.code.Line.{Line}
-use Rattle.im_block.specs.declared.code.Line.TheVariants.{Put, PutNull, Copy, Convert, Unary, Not, Compute, Compare, Move, Distance, Address, Read, Write, Reload, Spill, Cut, Call, GetChar, PutChar}
 use Rattle.im_block.specs.declared.code.Exit.{Exit}
 use Rattle.im_block.specs.declared.unit.Function.{Function}
 use Rattle.im_block.specs.declared.unit.Unit.{Unit as Code}
-use Rattle.im_block.specs.Meaning.{Setting, Active, object_of, Site, site_of, Location, location_of, located, place_of, further, Found, Left, found_in, left_in, read_place, write_place, stored, Event, Reads, Writes, Frame, State, Next, Goes, Stops, on_checked, with_register, with_rest, computes, reads, writes, step}
+use Rattle.im_block.specs.Meaning.{Setting, object_of, Location, location_of, located, place_of, Found, Left, left_in, read_place, write_place, stored, Event, Frame, State, Next, Goes, Stops, on_checked, with_register, with_rest, computes, step}
 use Rattle.im_block.specs.Runs.{Over, exec, uncut}
 use Rattle.im_alloc.specs.Homes.{Home, InRegister, InSlot, numbers_kept, load, reg, save, load_place, on_place, put_lines, exit_lines, put_exit}
 use Rattle.im_alloc.specs.Live.{lives, place_uses}
-use Rattle.im_alloc.specs.Placing.{Keeps, Valid, PlacedFunction, unslotted}
+use Rattle.im_alloc.specs.Placing.{Keeps, Valid, PlacedFunction}
 use Rattle.im_alloc.proofs.Seen.{Refines, refines_at, fine_is, bad_fine, is_slot, Seen, test_seen, unless_seen, lives_seen, then_seen, further_refines}
-use Rattle.im_alloc.proofs.Walks.{plus, heard, heard_append, heard_first, heard_last, Walk, walk_none, walk_one, walk_join, twin, own_slot, at_home, AllThere, Held, truth, seen_all, same_register, other_register, Loaded, load_home}
-use Rattle.im_alloc.proofs.Results.{set, without, Saved, save_home, callers_kept}
+use Rattle.im_alloc.proofs.Walks.{plus, heard, heard_first, heard_last, Walk, walk_none, walk_one, walk_join, twin, own_slot, at_home, AllThere, Held, truth, seen_all, Loaded, load_home}
+use Rattle.im_alloc.proofs.Results.{without, Saved, save_home, callers_kept}
 
 pub record Twin (u v : Code) (s t : State) : Type 0 where
   pub f : Function

@@ -1,13 +1,13 @@
 -- A result goes home; arguments come to x10 and on.
-use Rattle.std.proofs.Common.{◌≡◌, ◌≢◌, ℕ, zero, suc, ◌+◌, ◌<◌, ◌≤◌, ◌⊎◌, inl, inr, Bool, true, false, cond, List, [], ◌∷◌, ◌++◌, Option, Some, sym, ap, ◌∙◌, subst, refl, arith}
+use Rattle.std.proofs.Common.{◌≡◌, ◌≢◌, ℕ, zero, suc, ◌+◌, ◌<◌, ◌≤◌, ◌⊎◌, inl, inr, Bool, true, false, cond, List, [], ◌∷◌, ◌++◌, sym, ap, ◌∙◌, subst, refl, arith}
 use Rattle.std.specs.Prelude.{◌==◌, ◌&&◌, not}
 use Rattle.std.proofs.lemmas.Bool.Decides.{nat_tests}
-use Rattle.im_store.specs.Objects.{Name, Named, Slot, Link, Object, Value, Shape, Store, same_name, same_object}
+use Rattle.im_store.specs.Objects.{Name, Named, Slot, Link, Object, Value, Store, same_name, same_object}
 use Rattle.im_store.specs.Access.{with_value}
 use Rattle.im_block.specs.declared.code.Line.{Line}
 use Rattle.im_block.specs.declared.code.Exit.{Exit}
 use Rattle.im_block.specs.declared.unit.Unit.{Unit as Code}
-use Rattle.im_block.specs.Meaning.{Setting, Active, object_of, slot_site, slot_shape, Event, Writes, Frame, State, with_register}
+use Rattle.im_block.specs.Meaning.{Setting, Active, slot_site, Event, Writes, Frame, State, with_register}
 use Rattle.im_alloc.specs.Homes.{Home, InRegister, InSlot, reg, save, into, give, bring}
 use Rattle.im_alloc.specs.Placing.{Keeps}
 use Rattle.im_alloc.proofs.Seen.{Refines, refines_at, is_slot}

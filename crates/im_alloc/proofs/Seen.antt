@@ -1,19 +1,16 @@
 -- A value that takes the place of another, and a store that block code sees in placed code.
-use Rattle.std.proofs.Common.{◌≡◌, ◌≢◌, ℕ, zero, suc, ◌+◌, ◌⊎◌, inl, inr, Bool, true, false, cond, List, [], ◌∷◌, Option, Some, None, ℤ, pos, negsuc, sym, ap, ◌∙◌, subst, refl}
-use Rattle.std.specs.Prelude.{◌==◌, ◌&&◌, not, map}
+use Rattle.std.proofs.Common.{◌≡◌, ℕ, zero, suc, ◌+◌, ◌⊎◌, inl, inr, Bool, true, false, cond, Option, None, ℤ, pos, negsuc, sym, ap, ◌∙◌, refl}
 use Rattle.im_num.specs.declared.kind.Kind.{Kind}
 use Rattle.im_num.specs.declared.kind.Kind.TheVariants.{Ptr}
-use Rattle.im_ctype.specs.declared.cell.Cell.{Cell}
 use Rattle.im_store.specs.declared.undefined.Undefined.{Undefined}
 use Rattle.im_store.specs.Checks.{Checked, Fine, Bad, then_, unless}
 use Rattle.im_store.specs.declared.operators.BinaryOp.{BinaryOp}
 use Rattle.im_store.specs.declared.operators.UnaryOp.{UnaryOp}
 use Rattle.im_store.specs.declared.operators.Comparison.{Comparison}
 use Rattle.im_store.specs.Objects.{Name, Named, Slot, Link, Object, Value, Number, Null, Pointer, Unset, Shape, Store, same_kind, is_there, lives}
-use Rattle.im_store.specs.Access.{has_cell, stands, taken, read_cell, write_cell, with_value}
-use Rattle.im_store.specs.Pointers.{reaches, within, bytes_moved, moved_by, member_at, distance, compare_places}
-use Rattle.im_store.specs.Numbers.{compares, apply, apply_one}
-use Rattle.im_block.specs.Meaning.{number_of, pointer_of, as_number, as_truth, condition, negation, converted, computed_one, computed, right_of, compared, moved, distance_of, further}
+use Rattle.im_store.specs.Pointers.{reaches, within, bytes_moved, moved_by, member_at, compare_places}
+use Rattle.im_store.specs.Numbers.{compares}
+use Rattle.im_block.specs.Meaning.{number_of, pointer_of, as_number, as_truth, condition, negation, converted, computed_one, computed, compared, moved, distance_of, further}
 
 -- w stands for v: nothing is asked where v is unset
 abbrev pub Refines : Value → Value → Type 0

@@ -1,8 +1,7 @@
 -- Every line but calls.
-use Rattle.std.proofs.Common.{◌≡◌, ◌≢◌, ℕ, zero, suc, ◌+◌, inl, inr, Bool, true, false, List, [], ◌∷◌, ◌++◌, Option, Some, None, sym, ap, ◌∙◌, subst, refl}
-use Rattle.std.specs.Prelude.{◌==◌, ◌&&◌, ◌||◌, not, slice_get}
+use Rattle.std.proofs.Common.{◌≡◌, ℕ, ◌+◌, inr, Bool, true, false, List, [], ◌∷◌, ◌++◌, sym, ap, ◌∙◌, subst, refl}
+use Rattle.std.specs.Prelude.{◌==◌, ◌&&◌, ◌||◌, not}
 use Rattle.im_num.specs.declared.kind.Kind.{Kind}
-use Rattle.im_num.specs.declared.values.Cause.{Cause}
 use Rattle.im_store.specs.Checks.{Checked, Fine}
 use Rattle.im_store.specs.Objects.{Value, Number, Null, Store}
 use Rattle.im_store.specs.Access.{with_value}
@@ -11,14 +10,14 @@ use Rattle.im_block.specs.declared.code.Line.{Line}
 use Rattle.im_block.specs.declared.code.Line.TheVariants.{Put, PutNull, Copy, Convert, Unary, Not, Compute, Compare, Move, Distance, Address, Read, Write, Reload, Spill, Cut, Call, GetChar, PutChar}
 use Rattle.im_block.specs.declared.code.Exit.{Exit}
 use Rattle.im_block.specs.declared.unit.Unit.{Unit as Code}
-use Rattle.im_block.specs.Meaning.{Setting, Found, Left, Event, Reads, Writes, Cuts, Frame, State, Next, Goes, as_number, as_truth, negation, converted, computed_one, computed, compared, moved, distance_of, place_of, read_place, write_place, site_of, with_register, with_rest, computes, reads, writes, does, step}
-use Rattle.im_alloc.specs.Homes.{Home, InRegister, InSlot, numbers_kept, load, reg, save, load_place, on_place, put_line, put_lines, exit_lines, put_exit}
-use Rattle.im_alloc.specs.Live.{lives, uses, place_uses}
+use Rattle.im_block.specs.Meaning.{Setting, Event, Reads, Writes, Cuts, Frame, State, as_number, as_truth, negation, converted, computed_one, computed, compared, moved, distance_of, place_of, read_place, write_place, site_of, with_rest, computes, reads, writes, does, step}
+use Rattle.im_alloc.specs.Homes.{numbers_kept, load, reg, save, load_place, on_place, put_line, put_lines, exit_lines, put_exit}
+use Rattle.im_alloc.specs.Live.{lives, place_uses}
 use Rattle.im_alloc.specs.Placing.{Keeps, ValidLine, Valid}
 use Rattle.im_alloc.proofs.Seen.{Refines, refines_at, fine_is, convert_refines, unary_refines, not_refines, compute_refines, compare_refines, move_refines, distance_refines}
-use Rattle.im_alloc.proofs.Walks.{plus, heard, heard_first, heard_last, heard_append, Walk, walk_none, walk_one, walk_join, twin, AllThere, Held, seen_all, Loaded, load_home}
+use Rattle.im_alloc.proofs.Walks.{plus, heard_first, walk_none, walk_one, walk_join, twin, AllThere, Held, seen_all, Loaded, load_home}
 use Rattle.im_alloc.proofs.Results.{without}
-use Rattle.im_alloc.proofs.Lines.{Twin, Went, After, checked_after, held_less, Known, without_live, or_left, or_right, self, sets_ends, computes_after, PlaceReady, place_ready, not_second, read_refines, Wrote, write_refines, held_write}
+use Rattle.im_alloc.proofs.Lines.{Went, After, checked_after, held_less, Known, without_live, or_left, or_right, self, sets_ends, computes_after, PlaceReady, place_ready, not_second, read_refines, Wrote, write_refines, held_write}
 
 -- a line of one operand
 unary : (u v : Code) (g : Setting) (s : State) (k : Known u v s) (n e : ℕ) (rest : List Line) (line : ℕ → ℕ → Line) (to from : ℕ) (c : Value → Checked Value) (c' : Value → Checked Value) (y : ℕ → Value) (z : ℕ) (xs : List Frame) (st : Store) → Valid k.pf.home k.pf.live rest s.frame.spot.exit → AllThere u rest → Keeps k.pf.home to (lives k.pf.live rest s.frame.spot.exit) → ((a b : ℕ) (y' : ℕ → Value) (tail : List Line) → step v g (twin s (line a b ∷ tail) (put_exit k.pf.home s.frame.spot.exit) y' z xs st) ≡ computes a (c' (y' b)) tail (twin s (line a b ∷ tail) (put_exit k.pf.home s.frame.spot.exit) y' z xs st)) → ((a x b : Value) → Refines a x → c a ≡ Fine b → (w : Value) × (c' x ≡ Fine w) × Refines b w) → Held u v s k.pf.home (λ q. (q == from) || (not (q == to) && lives k.pf.live rest s.frame.spot.exit q)) y xs st → After u v g (twin s (load (k.pf.home from) 28 n (line (reg (k.pf.home to) 30) (reg (k.pf.home from) 28) ∷ save (k.pf.home to) (n + 2) (put_lines k.pf.home (n + numbers_kept) rest (exit_lines k.pf.home e s.frame.spot.exit)))) (put_exit k.pf.home s.frame.spot.exit) y z xs st) (computes to (c (s.frame.registers from)) rest s)

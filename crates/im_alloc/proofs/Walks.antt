@@ -1,6 +1,6 @@
 -- Some steps of placed code, and what they keep.
-use Rattle.std.proofs.Common.{◌≡◌, ◌≢◌, ℕ, zero, suc, ◌+◌, ◌<◌, ◌≤◌, ◌⊎◌, inl, inr, Bool, true, false, cond, List, [], ◌∷◌, ◌++◌, Option, Some, None, sym, ap, ◌∙◌, subst, refl, append_assoc, arith}
-use Rattle.std.specs.Prelude.{◌==◌, ◌&&◌, not, slice_get}
+use Rattle.std.proofs.Common.{◌≡◌, ◌≢◌, ℕ, zero, suc, ◌<◌, ◌≤◌, ◌⊎◌, inl, inr, Bool, true, false, cond, List, [], ◌∷◌, ◌++◌, Option, Some, None, sym, ap, ◌∙◌, refl, append_assoc, arith}
+use Rattle.std.specs.Prelude.{◌==◌, slice_get}
 use Rattle.std.proofs.lemmas.List.{append-nil}
 use Rattle.std.proofs.lemmas.Bool.Decides.{nat_tests}
 use Rattle.im_num.specs.declared.values.Cause.TheVariants.{Return as ReturnCut}
@@ -9,11 +9,11 @@ use Rattle.im_store.specs.declared.undefined.Undefined.TheVariants.{NoSuchCell}
 use Rattle.im_store.specs.Objects.{Slot, Object, Value, Unset, Shape, Store, is_there}
 use Rattle.im_store.specs.Access.{with_value}
 use Rattle.im_block.specs.declared.code.Line.{Line}
-use Rattle.im_block.specs.declared.code.Line.TheVariants.{Copy, Reload, Spill, Cut}
+use Rattle.im_block.specs.declared.code.Line.TheVariants.{Reload, Spill, Cut}
 use Rattle.im_block.specs.declared.code.Exit.{Exit}
 use Rattle.im_block.specs.declared.unit.Function.{Function}
 use Rattle.im_block.specs.declared.unit.Unit.{Unit as Code}
-use Rattle.im_block.specs.Meaning.{Setting, Active, object_of, Site, slot_site, slot_of, slot_shape, Event, Reads, Writes, Tests, Saves, Restores, Serves, Cuts, Frame, State, Next, Goes, found_in, left_in, with_register, reads, writes, step}
+use Rattle.im_block.specs.Meaning.{Setting, Active, object_of, slot_site, slot_of, slot_shape, Event, Reads, Writes, Tests, Saves, Restores, Serves, Cuts, Frame, State, Goes, found_in, left_in, with_register, reads, writes, step}
 use Rattle.im_block.specs.Runs.{goes_on, exec, uncut}
 use Rattle.im_block.specs.Wellformed.{LineThere}
 use Rattle.im_alloc.specs.Homes.{Home, InRegister, InSlot, load, reg, into, give, put_lines, exit_lines, put_exit}

@@ -1,32 +1,31 @@
 -- The ends of blocks, and whole runs.
-use Rattle.std.proofs.Common.{◌≡◌, ◌≢◌, ℕ, zero, suc, ◌+◌, ◌<◌, ◌≤◌, Bool, true, false, cond, inl, inr, List, [], ◌∷◌, ◌++◌, Option, Some, None, sym, ap, ◌∙◌, subst, refl, append_assoc, arith}
-use Rattle.std.specs.Prelude.{◌*◌, length, ◌==◌, ◌&&◌, ◌||◌, ℤ, slice_get, All}
+use Rattle.std.proofs.Common.{◌≡◌, ◌≢◌, ℕ, zero, suc, ◌+◌, ◌<◌, ◌≤◌, Bool, true, false, cond, inl, List, [], ◌∷◌, ◌++◌, Option, Some, None, sym, ap, ◌∙◌, subst, refl, append_assoc, arith}
+use Rattle.std.specs.Prelude.{◌*◌, length, ◌==◌, ◌||◌, slice_get, All}
 use Rattle.std.proofs.lemmas.Bool.Decides.{nat_tests}
 use Rattle.std.proofs.lemmas.Option.{slice_get_within, get_or_from_slice_get}
 use Rattle.std.proofs.lemmas.List.Elements.{All-get_or}
 use Rattle.im_num.specs.declared.kind.Kind.TheVariants.{I32}
 use Rattle.im_num.specs.declared.values.Cause.TheVariants.{Return as ReturnCut}
 use Rattle.im_num.specs.Kinds.{wrap}
-use Rattle.im_store.specs.Checks.{Checked, Fine, Bad}
 use Rattle.im_store.specs.Objects.{Name, Named, Slot, Link, Object, Value, Unset, Shape, Store, ends}
 use Rattle.im_store.specs.Statics.{StaticObject, static_shapes, with_statics}
 use Rattle.im_store.specs.Outcomes.{Outcome, Undef, More, End, IsDefined}
 use Rattle.im_block.specs.declared.code.Line.{Line}
-use Rattle.im_block.specs.declared.code.Line.TheVariants.{Cut, Call, GetChar, PutChar}
+use Rattle.im_block.specs.declared.code.Line.TheVariants.{Cut}
 use Rattle.im_block.specs.declared.code.Exit.{Exit}
 use Rattle.im_block.specs.declared.code.Exit.TheVariants.{Jump, Turn, Branch, Return}
 use Rattle.im_block.specs.declared.code.Block.{Block}
 use Rattle.im_block.specs.declared.unit.Function.{Function}
 use Rattle.im_block.specs.declared.unit.Unit.{Unit as Code}
 use Rattle.im_block.specs.Wellformed.{LineThere, IsBlock, IsFunction, IsWellFormed}
-use Rattle.im_block.specs.Meaning.{Setting, Spot, Event, Restores, Cuts, Frame, State, Next, Goes, Stops, on_checked, found, number_of, condition, statics_of, ended, with_register, at_block, enters, goes_to, returned, back, leaves, step_at, step}
-use Rattle.im_block.specs.Runs.{before, start, Over, goes_on, exec, Runs, uncut}
-use Rattle.im_alloc.specs.Homes.{Home, InRegister, InSlot, numbers_kept, load, reg, into, give, put_lines, exit_lines, put_exit}
+use Rattle.im_block.specs.Meaning.{Setting, Spot, Event, Restores, Cuts, Frame, State, Next, Goes, Stops, on_checked, found, number_of, condition, statics_of, ended, with_register, at_block, enters, goes_to, back, leaves, step_at, step}
+use Rattle.im_block.specs.Runs.{before, start, Over, goes_on, exec, uncut}
+use Rattle.im_alloc.specs.Homes.{Home, numbers_kept, load, reg, into, give, put_lines, exit_lines, put_exit}
 use Rattle.im_alloc.specs.Live.{lives, exit_lives}
-use Rattle.im_alloc.specs.Placing.{ValidLine, Valid, PlacedBlock, IsPlaced, unslotted, PlaceKeeps}
+use Rattle.im_alloc.specs.Placing.{ValidLine, Valid, IsPlaced, PlaceKeeps}
 use Rattle.im_alloc.proofs.Seen.{Refines, refines_at, number_refines, condition_refines, is_slot}
-use Rattle.im_alloc.proofs.Walks.{plus, heard, uncut_append, heard_append, Walk, walk_one, walk_join, twin, own_slot, at_home, AllThere, WaitsFor, Callers, Held, same_register, seen_all, Loaded, load_home, into_home}
-use Rattle.im_alloc.proofs.Results.{callers_kept, set, without, Saved, give_home}
+use Rattle.im_alloc.proofs.Walks.{plus, heard, uncut_append, heard_append, walk_one, walk_join, twin, own_slot, at_home, AllThere, WaitsFor, Callers, Held, same_register, seen_all, Loaded, load_home, into_home}
+use Rattle.im_alloc.proofs.Results.{callers_kept, without, Saved, give_home}
 use Rattle.im_alloc.proofs.Lines.{Twin, Went, Ended, After, after_first, checked_after, held_less, Known, or_left, self}
 use Rattle.im_alloc.proofs.Straight.{line_after}
 use Rattle.im_alloc.proofs.Calls.{NextRel, next_after, next_at, takes_both, placed_block, same_statics, shows, Outer, BlocksThere, placed_spot, spot_is, enters_both, split_without, call_after, get_after, put_after}
