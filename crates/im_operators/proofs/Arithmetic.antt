@@ -1,12 +1,11 @@
 -- Operators on promoted values are operations on their words.
-use Rattle.std.proofs.Common.{◌≡◌, ◌≢◌, ℕ, suc, ◌+◌, ◌-◌, ◌*◌, ◌/◌, ◌%◌, ◌^◌, ◌<◌, ◌≤◌, ◌⊎◌, inl, inr, ℤ, pos, negsuc, ◌+ℤ◌, ◌-ℤ◌, ◌*ℤ◌, ◌≤ℤ◌, ◌<ℤ◌, Bool, true, false, cond, sym, ap, ◌∙◌, subst, refl, arith, lit<}
-use Rattle.std.specs.Prelude.{neg_ℤ, nat_lt, int_lt, ◌==◌, bit_and, bit_or, bit_xor, int_div, int_rem}
-use Rattle.std.specs.Int.{int_wrap, int_div_euclid, cast_signed, cast_unsigned, w32}
+use Rattle.std.proofs.Common.{◌≡◌, ℕ, suc, ◌-◌, ◌*◌, ◌/◌, ◌%◌, ◌^◌, ◌<◌, ◌≤◌, inl, inr, ℤ, pos, negsuc, ◌+ℤ◌, ◌-ℤ◌, ◌*ℤ◌, ◌≤ℤ◌, ◌<ℤ◌, sym, ap, ◌∙◌, arith}
+use Rattle.std.specs.Prelude.{neg_ℤ, nat_lt, int_lt, bit_and, bit_or, bit_xor}
+use Rattle.std.specs.Int.{int_wrap, cast_signed, cast_unsigned, w32}
 use Rattle.std.specs.Int.Bits.{and_lt}
 use Rattle.std.proofs.lemmas.Nat.{or_lt, xor_lt}
 use Rattle.std.proofs.lemmas.Int.{ints, of_z-to_z, wrapping_mul-bits, int_wrap-mul_left, int_wrap-mul_right}
 use Rattle.std.proofs.Math.Pow.{pow-lt}
-use Rattle.std.proofs.lemmas.Bool.Decides.{nat_tests}
 use Rattle.im_num.specs.declared.kind.Kind.{Kind}
 use Rattle.im_num.specs.declared.kind.Kind.TheVariants.{I32, U32}
 use Rattle.im_num.specs.Kinds.{wrap, word}

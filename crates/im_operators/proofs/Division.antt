@@ -1,7 +1,7 @@
 -- Quotients, remainders and shifts down of promoted values; narrow values by two shifts; the complement.
-use Rattle.std.proofs.Common.{◌≡◌, ◌≢◌, ℕ, zero, suc, ◌+◌, ◌-◌, ◌*◌, ◌/◌, ◌%◌, ◌^◌, ◌<◌, ◌≤◌, ◌⊎◌, inl, inr, ℤ, pos, negsuc, ◌+ℤ◌, ◌-ℤ◌, ◌*ℤ◌, ◌≤ℤ◌, ◌<ℤ◌, Bool, true, false, cond, sym, ap, ◌∙◌, subst, refl, arith, lit<}
-use Rattle.std.specs.Prelude.{neg_ℤ, nat_lt, int_lt, ◌==◌, ◌&&◌, bit_and, bit_or, bit_xor, int_div, int_rem}
-use Rattle.std.specs.Int.{int_div_euclid, int_shr, cast_signed, cast_unsigned, w32}
+use Rattle.std.proofs.Common.{◌≡◌, ◌≢◌, ℕ, zero, suc, ◌+◌, ◌-◌, ◌/◌, ◌%◌, ◌^◌, ◌<◌, ◌≤◌, inl, inr, ℤ, pos, negsuc, ◌-ℤ◌, ◌≤ℤ◌, ◌<ℤ◌, Bool, true, false, cond, sym, ap, ◌∙◌, refl, arith}
+use Rattle.std.specs.Prelude.{◌==◌, ◌&&◌, bit_and, bit_xor, int_div, int_rem}
+use Rattle.std.specs.Int.{int_div_euclid, int_shr, cast_unsigned, w32}
 use Rattle.std.specs.Int.Bits.{xor_add_and}
 use Rattle.std.specs.Ordering.{int_eq}
 use Rattle.std.proofs.Math.Nat.{div-le_self, mod-lt}
@@ -9,15 +9,15 @@ use Rattle.std.proofs.lemmas.Nat.{and_mask}
 use Rattle.std.proofs.lemmas.Int.{ints}
 use Rattle.std.proofs.lemmas.Bool.Decides.{nat_tests}
 use Rattle.im_num.specs.declared.kind.Kind.{Kind}
-use Rattle.im_num.specs.declared.kind.Kind.TheVariants.{I8, U8, I16, U16, I32, U32, Ptr}
+use Rattle.im_num.specs.declared.kind.Kind.TheVariants.{I8, U8, I16, U16, I32, U32}
 use Rattle.im_num.specs.Kinds.{is_signed, least, wrap, word}
 use Rattle.im_rv.specs.declared.effect.Extension.TheVariants.{Sign}
-use Rattle.im_rv.specs.Steps.{signed, sum_of, difference_of, extended, overflows, quotient, quotient_unsigned, remainder, remainder_unsigned, shift_left, shift_right, shift_right_signed}
+use Rattle.im_rv.specs.Steps.{signed, difference_of, extended, overflows, quotient, quotient_unsigned, remainder, remainder_unsigned, shift_left, shift_right, shift_right_signed}
 use Rattle.im_store.specs.Checks.{Fine, Bad}
 use Rattle.im_store.specs.declared.undefined.Undefined.TheVariants.{ZeroDivisor, QuotientOverflow}
 use Rattle.im_store.specs.Numbers.{divided}
 use Rattle.im_operators.specs.Tables.{IsPromoted}
-use Rattle.im_operators.proofs.Words.{below_or_not, signed_low, signed_high, extended8, extended16, word_only, word_small, word_of, word_wrap, word_difference, wrap_unsigned, wrap_signed, loaded_wrap}
+use Rattle.im_operators.proofs.Words.{below_or_not, signed_low, signed_high, extended8, extended16, word_only, word_small, word_of, word_wrap, word_difference, loaded_wrap}
 use Rattle.im_operators.proofs.Arithmetic.{word_cast}
 
 fine_is : (a b : ℤ) → Fine a ≡ Fine b → a ≡ b

@@ -1,14 +1,14 @@
 -- Integers modulo 2^32.
-use Rattle.std.proofs.Common.{◌≡◌, ◌≢◌, ℕ, zero, suc, ◌+◌, ◌-◌, ◌*◌, ◌/◌, ◌%◌, ◌^◌, ◌<◌, ◌≤◌, ◌⊎◌, inl, inr, ℤ, pos, negsuc, ◌+ℤ◌, ◌-ℤ◌, ◌*ℤ◌, ◌≤ℤ◌, ◌<ℤ◌, Bool, true, false, cond, sym, ap, ◌∙◌, subst, refl, arith, lit<}
-use Rattle.std.specs.Prelude.{nat_abs, neg_ℤ, nat_lt, int_lt, ◌==◌}
-use Rattle.std.specs.Int.{int_rem_euclid, cast_signed, cast_unsigned, w32}
+use Rattle.std.proofs.Common.{◌≡◌, ℕ, suc, ◌+◌, ◌-◌, ◌*◌, ◌%◌, ◌^◌, ◌<◌, ◌≤◌, ◌⊎◌, inl, inr, ℤ, pos, negsuc, ◌+ℤ◌, ◌-ℤ◌, ◌*ℤ◌, ◌≤ℤ◌, true, false, cond, sym, ap, ◌∙◌, subst, refl, arith}
+use Rattle.std.specs.Prelude.{nat_abs, nat_lt}
+use Rattle.std.specs.Int.{int_rem_euclid}
 use Rattle.std.proofs.lemmas.Int.{ints}
 use Rattle.std.proofs.lemmas.Bool.Decides.{nat_tests}
 use Rattle.im_num.specs.declared.kind.Kind.{Kind}
 use Rattle.im_num.specs.declared.kind.Kind.TheVariants.{I8, U8, I16, U16, I32, U32, Ptr}
-use Rattle.im_num.specs.Kinds.{IsOfKind, kind_size, least, span, wrap, word}
-use Rattle.im_num.proofs.Wrapping.{wrap-of_kind, wrap-modulo, wrap-only, wrap-same}
-use Rattle.im_rv.specs.declared.effect.Extension.TheVariants.{Sign, Zero}
+use Rattle.im_num.specs.Kinds.{kind_size, wrap, word}
+use Rattle.im_num.proofs.Wrapping.{wrap-of_kind, wrap-modulo}
+use Rattle.im_rv.specs.declared.effect.Extension.TheVariants.{Sign}
 use Rattle.im_rv.specs.Steps.{signed, sum_of, difference_of, extended}
 use Rattle.im_operators.specs.Tables.{IsPromoted, extension_of}
 

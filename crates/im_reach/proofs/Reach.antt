@@ -1,5 +1,5 @@
 -- Some steps of the machine, whatever comes behind them, and the steps of one instruction.
-use Rattle.std.proofs.Common.{◌≡◌, ℕ, zero, suc, ◌+◌, ◌-◌, ◌≤◌, ◌⊎◌, inl, inr, Bool, true, cond, List, [], ◌∷◌, ◌++◌, sym, ap, ◌∙◌, subst, refl, append_assoc, arith, length}
+use Rattle.std.proofs.Common.{◌≡◌, ℕ, zero, suc, ◌+◌, ◌-◌, ◌≤◌, ◌⊎◌, inl, inr, true, cond, List, [], ◌∷◌, ◌++◌, sym, ap, ◌∙◌, subst, refl, append_assoc, arith, length}
 use Rattle.std.specs.Prelude.{◌==◌, min}
 use Rattle.im_num.specs.Bytes.{bytes_of}
 use Rattle.std.proofs.lemmas.List.{append-nil}
@@ -13,7 +13,7 @@ use Rattle.im_rv.proofs.Straight.{one_more, halts_here, fetch_is, Fetches, puts_
 use Rattle.im_reach.specs.Touches.{Touch, Loaded, Stored, touch_of, line_touches, word_touches, touches, touched_on, touched}
 use Rattle.im_rv.specs.declared.effect.Extension.{Extension}
 use Rattle.im_image.specs.declared.form.Form.TheVariants.{TwoLengths}
-use Rattle.im_device.specs.Shows.{output_of, output_length}
+use Rattle.im_device.specs.Shows.{output_length}
 use Rattle.im_mem.specs.Map.{out_len0_at, out_len1_at, out_sel_at, output_start, output_capacity, in_len_at, in_pos_at, input_start}
 use Rattle.im_reach.specs.Shown.{shown, left, Begins}
 use Rattle.im_reach.specs.Reach.{plus, Reach, Stopped}

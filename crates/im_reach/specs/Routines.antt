@@ -4,7 +4,6 @@ use Rattle.im_mem.specs.Map.{index_at, status_at, reason_at, out_cap_at, in_len_
 use Rattle.im_mem.specs.Memory.{Mem, little}
 use Rattle.im_image.specs.declared.form.Form.TheVariants.{TwoLengths}
 use Rattle.im_device.specs.Shows.{output_length}
-use Rattle.im_rv.specs.Steps.{Cpu}
 use Rattle.im_reach.specs.Touches.{Flipped, Touch, heard}
 use Rattle.im_reach.specs.Shown.{shown, left}
 use Rattle.im_reach.specs.Reach.{Reach}

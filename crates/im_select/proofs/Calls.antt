@@ -1,10 +1,9 @@
 -- Calls and returns: the prologue, the stack of activations, the saved return addresses.
-use Rattle.std.proofs.Common.{◌≡◌, ◌≢◌, ℕ, suc, ◌+◌, ◌-◌, ◌%◌, ◌^◌, ◌<◌, ◌≤◌, ◌⊎◌, inl, inr, Bool, true, false, cond, List, [], ◌∷◌, Option, Some, None, ℤ, pos, sym, ap, ◌∙◌, subst, refl, arith}
-use Rattle.std.specs.Prelude.{◌==◌, nat_lt, nat_le, slice_get, map}
+use Rattle.std.proofs.Common.{◌≡◌, ℕ, suc, ◌+◌, ◌-◌, ◌%◌, ◌^◌, ◌<◌, ◌≤◌, ◌⊎◌, inl, inr, Bool, true, false, cond, List, [], ◌∷◌, Option, Some, None, ℤ, pos, sym, ap, ◌∙◌, subst, refl, arith}
+use Rattle.std.specs.Prelude.{◌==◌, nat_lt, nat_le, slice_get}
 use Rattle.std.proofs.lemmas.Bool.Decides.{nat_tests}
-use Rattle.im_num.specs.declared.kind.Kind.{Kind}
 use Rattle.im_num.specs.declared.kind.Kind.TheVariants.{I32}
-use Rattle.im_num.specs.Kinds.{kind_size, wrap, word}
+use Rattle.im_num.specs.Kinds.{kind_size, word}
 use Rattle.im_num.specs.Bytes.{bytes_of}
 use Rattle.im_mem.specs.Memory.{Mem, little, is_place, written}
 use Rattle.im_mem.proofs.Words.{little-other, written-above, length-bytes_of}
@@ -13,7 +12,7 @@ use Rattle.im_rv.specs.declared.effect.Effect.TheVariants.{Puts, Loads, Stores}
 use Rattle.im_rv.specs.declared.effect.Extension.TheVariants.{Zero}
 use Rattle.im_rv.specs.Steps.{Cpu, sum_of, with_reg, extended}
 use Rattle.im_rv.proofs.Straight.{same_reg, other_reg}
-use Rattle.im_reach.specs.Touches.{Touch, Loaded, Stored, heard}
+use Rattle.im_reach.specs.Touches.{Loaded, Stored, heard}
 use Rattle.im_reach.specs.Shown.{shown, left}
 use Rattle.im_reach.specs.Reach.{plus, Reach}
 use Rattle.im_reach.specs.Instructions.{Holds, Fixed, with_immediate, storing, jumping}
@@ -22,22 +21,20 @@ use Rattle.im_reach.proofs.Reach.{plus_is, join, puts, leaps, loads, stores, the
 use Rattle.im_operators.specs.Tables.{extension_of, cell_word}
 use Rattle.im_operators.proofs.Words.{word_small, word_of, word_wrap32}
 use Rattle.im_store.specs.Checks.{Fine}
-use Rattle.im_store.specs.Objects.{Name, Slot, Link, Object, Value, Number, Null, Pointer, Unset, Shape, Store, begins, ends as ends_, shape_with, values_with, shape_without}
+use Rattle.im_store.specs.Objects.{Name, Slot, Link, Object, Value, Number, Null, Pointer, Unset, Shape, begins, shape_with, values_with, shape_without}
 use Rattle.im_store.specs.Outcomes.{Undef, More, End, variables}
 use Rattle.im_block.specs.declared.code.Line.{Line}
 use Rattle.im_block.specs.declared.code.Line.TheVariants.{Call}
 use Rattle.im_block.specs.declared.code.Block.{Block}
-use Rattle.im_block.specs.declared.unit.Registers.{Registers}
-use Rattle.im_block.specs.declared.unit.Registers.TheVariants.{Machine}
 use Rattle.im_block.specs.declared.unit.Function.{Function}
 use Rattle.im_block.specs.declared.unit.Unit.{Unit as Code}
-use Rattle.im_block.specs.Meaning.{Setting, Active, object_of, Spot, Frame, State, Next, Goes, Stops, Event, Tests, Saves, Restores, link_shape, slot_shape, shapes_of, statics_of, number_of, passed, kept, kept_by, at_block, activates, next_active, waiting, does, enters, returned, back}
-use Rattle.im_select.specs.Linking.{Linking, pointer_at, frame_of, limit_of, address, Means, LaidOut}
+use Rattle.im_block.specs.Meaning.{Setting, Active, object_of, Frame, State, Next, Goes, Stops, Tests, Saves, Restores, link_shape, slot_shape, shapes_of, statics_of, number_of, passed, kept, kept_by, at_block, waiting, does, enters, returned, back}
+use Rattle.im_select.specs.Linking.{Linking, pointer_at, frame_of, limit_of, address, Means}
 use Rattle.im_select.specs.Selected.{Leaves, InResult, Checked, Prologue, Stands}
-use Rattle.im_select.specs.Linked.{FunctionAt, IsLinked}
+use Rattle.im_select.specs.Linked.{FunctionAt}
 use Rattle.im_select.specs.Law.{Touches, Nothing, Testing, Saving, Restoring}
 use Rattle.im_select.proofs.Registers.{RegsMean, means_at, set_scratch, only_arguments, only_result}
-use Rattle.im_select.proofs.Mapped.{Mark, mark, marks, Mapped, Under, under_more, older_beside, Fresh, Older, origin, closed, base_frame, mapped_enter, mapped_leave}
+use Rattle.im_select.proofs.Mapped.{Mark, mark, marks, Mapped, Under, under_more, older_beside, Fresh, Older, origin, closed, mapped_enter, mapped_leave}
 use Rattle.im_select.proofs.Checks.{found_fine, fine_is}
 use Rattle.im_select.proofs.Cells.{Memory, write_fixed, write_words, heard_load, heard_store}
 use Rattle.im_select.proofs.Shapes.{Premises, StaticsLive, shows_statics}

@@ -1,5 +1,5 @@
 -- Cells of live objects as bytes: what is read, what a write leaves.
-use Rattle.std.proofs.Common.{◌≡◌, ℕ, ◌+◌, ◌*◌, ◌/◌, ◌%◌, ◌^◌, ◌<◌, ◌≤◌, ◌⊎◌, inl, inr, Bool, true, false, cond, List, [], ◌∷◌, Option, Some, sym, ap, ◌∙◌, subst, refl, arith}
+use Rattle.std.proofs.Common.{◌≡◌, ℕ, ◌+◌, ◌*◌, ◌/◌, ◌%◌, ◌^◌, ◌<◌, ◌≤◌, ◌⊎◌, inl, inr, true, false, cond, List, [], ◌∷◌, Option, Some, sym, ap, ◌∙◌, subst, refl, arith}
 use Rattle.std.specs.Prelude.{◌==◌, ◌&&◌, not}
 use Rattle.std.proofs.lemmas.Bool.Decides.{nat_tests}
 use Rattle.im_num.specs.declared.kind.Kind.{Kind}
@@ -8,10 +8,10 @@ use Rattle.im_num.specs.Kinds.{kind_size, wrap, word}
 use Rattle.im_num.specs.Bytes.{bytes_of}
 use Rattle.im_mem.specs.Memory.{Mem, little, is_place, written}
 use Rattle.im_mem.proofs.Words.{little-alike, little-other, written-below, written-small}
-use Rattle.im_rv.specs.Steps.{extended, sum_of}
+use Rattle.im_rv.specs.Steps.{extended}
 use Rattle.im_operators.specs.Tables.{extension_of, cell_word}
 use Rattle.im_operators.proofs.Words.{loaded_wrap}
-use Rattle.im_store.specs.Checks.{Fine, unless}
+use Rattle.im_store.specs.Checks.{Fine}
 use Rattle.im_store.specs.Objects.{Object, Value, Number, Null, Pointer, Unset, Shape, same_kind, same_object}
 use Rattle.im_store.specs.Access.{with_value}
 use Rattle.im_block.specs.Meaning.{stored}

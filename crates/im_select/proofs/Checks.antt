@@ -1,9 +1,7 @@
 -- What checks gave, where they gave something.
-use Rattle.std.proofs.Common.{◌≡◌, ℕ, zero, suc, Bool, true, false, cond, Option, Some, None, sym, ap, ◌∙◌, subst, refl, arith}
-use Rattle.std.specs.Prelude.{◌&&◌}
+use Rattle.std.proofs.Common.{◌≡◌, ℕ, Bool, true, false, cond, Option, Some, None, sym, ap, ◌∙◌, subst, refl}
 use Rattle.im_num.specs.declared.kind.Kind.{Kind}
 use Rattle.im_num.specs.declared.kind.Kind.TheVariants.{I8, U8, I16, U16, I32, U32, Ptr}
-use Rattle.im_store.specs.declared.undefined.Undefined.{Undefined}
 use Rattle.im_store.specs.Checks.{Checked, Fine, Bad, then_, unless}
 use Rattle.im_store.specs.Objects.{Object, Value, Number, Null, Pointer, Unset, Shape, Store, same_kind, is_there, lives}
 use Rattle.im_store.specs.Access.{is_of_kind, has_cell, stands, taken, read_cell, write_cell, with_value}

@@ -1,7 +1,6 @@
 -- The machine's steps for lines that compute.
-use Rattle.std.proofs.Common.{◌≡◌, ◌≢◌, ℕ, zero, suc, ◌+◌, ◌-◌, ◌*◌, ◌%◌, ◌^◌, ◌<◌, ◌≤◌, ◌⊎◌, inl, inr, ℤ, Bool, true, false, cond, List, [], ◌∷◌, sym, ap, ◌∙◌, subst, refl, arith}
-use Rattle.std.specs.Prelude.{nat_lt, not, ◌==◌, bit_xor}
-use Rattle.std.proofs.lemmas.Bool.Decides.{nat_tests}
+use Rattle.std.proofs.Common.{◌≡◌, ◌≢◌, ℕ, ◌+◌, ◌*◌, ◌%◌, ◌^◌, ◌<◌, ◌≤◌, ℤ, Bool, true, false, cond, [], sym, ap, ◌∙◌, refl, arith}
+use Rattle.std.specs.Prelude.{nat_lt, not, bit_xor}
 use Rattle.im_num.specs.declared.kind.Kind.{Kind}
 use Rattle.im_num.specs.declared.kind.Kind.TheVariants.{I8, U8, I16, U16, I32, U32, Ptr}
 use Rattle.im_num.specs.Kinds.{wrap, word}
@@ -13,7 +12,7 @@ use Rattle.im_rv.proofs.Straight.{same_reg, other_reg}
 use Rattle.im_reach.specs.Instructions.{Holds, Fixed, with_immediate, on_registers}
 use Rattle.im_reach.proofs.Reach.{plus_is, join, puts}
 use Rattle.im_reach.specs.Reach.{plus}
-use Rattle.im_operators.specs.Tables.{IsPromoted, by_sign, less_op}
+use Rattle.im_operators.specs.Tables.{by_sign, less_op}
 use Rattle.im_operators.proofs.Words.{word_wrap}
 use Rattle.im_operators.proofs.Division.{narrowed_u8, narrowed_u16, narrowed_i8, narrowed_i16}
 use Rattle.im_operators.proofs.Comparisons.{word_less, outcome, less_row, turned}

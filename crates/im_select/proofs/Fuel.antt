@@ -1,8 +1,6 @@
 -- A step takes one unit of fuel at most, and more is wanted only where none is left.
-use Rattle.std.proofs.Common.{◌≡◌, ℕ, zero, suc, ◌+◌, ◌≤◌, Bool, true, false, cond, List, [], ◌∷◌, Option, Some, None, ℤ, pos, refl, arith}
-use Rattle.std.specs.Prelude.{slice_get, nat_le, nat_lt, nat_abs, length}
-use Rattle.im_num.specs.declared.kind.Kind.TheVariants.{U8}
-use Rattle.im_num.specs.Kinds.{wrap}
+use Rattle.std.proofs.Common.{◌≡◌, ℕ, zero, suc, ◌+◌, ◌≤◌, Bool, true, false, cond, List, [], ◌∷◌, refl, arith}
+use Rattle.std.specs.Prelude.{slice_get, nat_le, nat_lt, length}
 use Rattle.im_store.specs.Checks.{Checked, Fine, Bad}
 use Rattle.im_store.specs.Objects.{Value, Unset}
 use Rattle.im_store.specs.Outcomes.{Undef, More, End}
@@ -13,7 +11,7 @@ use Rattle.im_block.specs.declared.code.Exit.TheVariants.{Jump, Turn, Branch, Re
 use Rattle.im_block.specs.declared.code.Block.{Block}
 use Rattle.im_block.specs.declared.unit.Function.{Function}
 use Rattle.im_block.specs.declared.unit.Unit.{Unit as Code}
-use Rattle.im_block.specs.Meaning.{Setting, Site, Found, Left, Frame, State, Next, Goes, Stops, on_checked, takes, computes, reads, writes, enters, gets, puts, number_of, condition, found, next_active, does, goes_to, back, leaves, step_at, step}
+use Rattle.im_block.specs.Meaning.{Setting, Site, Found, Left, Frame, State, Next, Goes, Stops, on_checked, takes, computes, reads, writes, enters, gets, number_of, condition, found, next_active, does, goes_to, back, leaves, step_at, step}
 use Rattle.im_block.specs.Runs.{before, start}
 
 abbrev pub Paid : ℕ → Next → Type 0

@@ -1,34 +1,31 @@
 -- Lines that put a value into a register, and lines that read and write memory.
-use Rattle.std.proofs.Common.{◌≡◌, ◌≢◌, ℕ, zero, suc, ◌+◌, ◌*◌, ◌%◌, ◌^◌, ◌<◌, ◌≤◌, inl, inr, Bool, true, false, cond, List, [], ◌∷◌, ◌++◌, Option, Some, sym, ap, ◌∙◌, subst, refl, arith}
-use Rattle.std.proofs.lemmas.Bool.Decides.{nat_tests}
+use Rattle.std.proofs.Common.{◌≡◌, ◌≢◌, ℕ, ◌+◌, ◌<◌, ◌≤◌, inl, inr, List, [], ◌∷◌, sym, ap, ◌∙◌, subst, refl, arith}
 use Rattle.im_num.specs.declared.kind.Kind.{Kind}
 use Rattle.im_num.specs.declared.kind.Kind.TheVariants.{I8, U8, I16, U16, I32, U32, Ptr}
 use Rattle.im_num.specs.Kinds.{kind_size}
 use Rattle.im_num.specs.Bytes.{bytes_of}
-use Rattle.im_mem.specs.Memory.{Mem, little, written}
-use Rattle.im_rv.specs.declared.instr.Op.{Op}
+use Rattle.im_mem.specs.Memory.{Mem, written}
 use Rattle.im_rv.specs.declared.effect.Effect.TheVariants.{Puts, Loads, Stores}
-use Rattle.im_rv.specs.Steps.{Cpu, sum_of, with_reg, extended, row}
+use Rattle.im_rv.specs.Steps.{Cpu, sum_of, with_reg, row}
 use Rattle.im_rv.proofs.Straight.{same_reg, other_reg}
 use Rattle.im_rv.specs.Decode.{Line as Instruction}
-use Rattle.im_reach.specs.Touches.{Loaded, Stored, Touch, heard}
+use Rattle.im_reach.specs.Touches.{Loaded, Stored}
 use Rattle.im_reach.specs.Reach.{plus, Reach}
 use Rattle.im_reach.specs.Instructions.{Holds, Fixed, with_immediate, storing}
 use Rattle.im_reach.proofs.Reach.{plus_is, join, puts, loads, stores, output_written, left_written}
 use Rattle.im_operators.specs.Tables.{load_op, store_op, extension_of, cell_word}
 use Rattle.im_store.specs.Checks.{Checked, Fine}
-use Rattle.im_store.specs.Objects.{Name, Link, Object, Value, Pointer, Shape, Store}
-use Rattle.im_store.specs.Access.{with_value}
+use Rattle.im_store.specs.Objects.{Link, Object, Value, Pointer, Store}
 use Rattle.im_block.specs.declared.code.Line.{Line}
 use Rattle.im_block.specs.declared.unit.Unit.{Unit as Code}
-use Rattle.im_block.specs.Meaning.{Setting, Site, Active, Frame, State, Next, Goes, Event, Reads, Writes, Found, Left, with_register, with_rest, computes, reads, writes}
+use Rattle.im_block.specs.Meaning.{Setting, Site, State, Reads, Writes, Found, Left, with_register, with_rest, computes, reads, writes}
 use Rattle.im_select.specs.Linking.{Linking, pointer_at, frame_of, limit_of, address, Means}
 use Rattle.im_select.specs.Selected.{Stands}
 use Rattle.im_select.specs.Law.{Touches, Nothing, Reading, Writing}
 use Rattle.im_select.proofs.Registers.{RegsMean, means_at, two_ways, register_same, register_other, set_home}
-use Rattle.im_select.proofs.Mapped.{mark, marks, Mapped, Cell}
+use Rattle.im_select.proofs.Mapped.{mark}
 use Rattle.im_select.proofs.Checks.{ReadOf, WriteOf}
-use Rattle.im_select.proofs.Cells.{Memory, Room, room, back_word, write_memory, write_fixed, write_words, heard_load, heard_store}
+use Rattle.im_select.proofs.Cells.{Room, room, back_word, write_memory, write_fixed, write_words, heard_load, heard_store}
 use Rattle.im_select.proofs.Places.{Ready}
 use Rattle.im_select.proofs.Relation.{Rel, Advanced, After, checked_after, moved_rel, chain_kept, links_kept}
 

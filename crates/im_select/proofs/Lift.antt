@@ -1,5 +1,5 @@
 -- From lines of a list to lines at their places.
-use Rattle.std.proofs.Common.{◌≡◌, ℕ, zero, suc, ◌+◌, ◌-◌, ◌^◌, ◌<◌, ◌≤◌, List, [], ◌∷◌, Option, Some, None, sym, ap, ◌∙◌, subst, refl, arith}
+use Rattle.std.proofs.Common.{◌≡◌, ℕ, suc, ◌+◌, ◌-◌, ◌%◌, ◌^◌, ◌<◌, ◌≤◌, inl, inr, List, [], ◌∷◌, Option, Some, None, sym, ap, ◌∙◌, subst, arith}
 use Rattle.im_num.specs.declared.kind.Kind.{Kind}
 use Rattle.im_num.specs.declared.values.Cause.{Cause}
 use Rattle.im_rv.specs.declared.instr.Op.{Op}
@@ -13,12 +13,10 @@ use Rattle.im_block.specs.declared.code.Place.{Place}
 use Rattle.im_block.specs.declared.code.Line.{Line}
 use Rattle.im_block.specs.declared.code.Exit.{Exit}
 use Rattle.im_block.specs.declared.code.Exit.TheVariants.{Jump, Turn, Branch, Return}
-use Rattle.im_block.specs.declared.code.Block.{Block}
 use Rattle.im_select.specs.Linking.{Linking, frame_of}
-use Rattle.im_select.specs.Linked.{FunctionAt}
 use Rattle.im_select.specs.Selected.{Constant, Displaced, Based, Adds, Compared, Converted, Selected, Jumps, Tested, Leaves, ExitAt, Stands, Checked, Prologue}
 use Rattle.im_select.specs.Selected as linked
-use Rattle.im_select.specs.Symbolic.{Lines, HasLine, ConstantIn, Small, Large, DisplacedIn, Near, Far, BasedIn, InFrame, InStatic, Behind, AddsIn, Short, Long, ComparedIn, Lesser, Larger, NotLarger, NotLesser, Same, Other, ConvertedIn, Whole, Narrowed, SelectedIn, Numbers, Nulls, Copies, Converts, Negates, Complements, Nots, Computes, Compares, Moves, Measures, Addresses, Fetches, Keeps, Reloads, Spills, Cuts_, Calls, Gets, Puts_, JumpsIn, TestedIn, Reached, Hopped, LeavesIn, ExitIn, StandsIn, CheckedIn, Direct, Around, PrologueIn, IsSelected, IsFramed, spot_of, distance, at_place, IsLaid, LinesLaw}
+use Rattle.im_select.specs.Symbolic.{Lines, HasLine, ConstantIn, Small, Large, DisplacedIn, Near, Far, BasedIn, InFrame, InStatic, Behind, AddsIn, Short, Long, ComparedIn, Lesser, Larger, NotLarger, NotLesser, Same, Other, ConvertedIn, Whole, Narrowed, SelectedIn, Numbers, Nulls, Copies, Converts, Negates, Complements, Nots, Computes, Compares, Moves, Measures, Addresses, Fetches, Keeps, Reloads, Spills, Cuts_, Calls, Gets, Puts_, JumpsIn, TestedIn, Reached, Hopped, LeavesIn, ExitIn, StandsIn, CheckedIn, Direct, Around, PrologueIn, spot_of, distance, IsLaid, LinesLaw, FrameLaw}
 
 lands : (pc target : ℕ) → pc + 4 ≤ 1048576 → target < 2 ^ 32 → sum_of pc (distance pc target) ≡ target
 lands pc target a b = omega arith
@@ -152,4 +150,26 @@ lines p g i f w place starts framed h l = record {
   received = framed.received;
   prologue = prologue p i w place starts l (frame_of g i) f.entry h.prologue;
   blocks = λ b block e. subst (λ z. Stands p i (frame_of g i) z block.lines.items block.exit) (sym (l.starts_at b)) (stands p i w place starts l (frame_of g i) (starts b) block.lines.items block.exit (h.blocks b block e));
+}
+
+pub frame : FrameLaw
+frame p g i f l is agrees e machine received = record {
+  small = (let s = is.small in omega arith);
+  even = (let s = is.even in ap (λ z. z % 4) e ∙ s);
+  layout = record {
+    from = λ a sh h. omega arith;
+    inside = λ a sh h. let k = is.inside a sh h in let q = agrees.at a sh h in omega arith;
+    even = λ a sh h. ap (λ z. z % 4) (agrees.at a sh h) ∙ is.even_places a sh h;
+    sized = agrees.size;
+    apart = λ a sh b th h k.
+        let x = agrees.at a sh h in
+        let y = agrees.at b th k in
+        elim (is.apart a sh b th h k) [
+          | inl same ↦ inl same
+          | inr (inl lower) ↦ inr (inl (omega arith))
+          | inr (inr upper) ↦ inr (inr (omega arith))
+        ];
+  };
+  registers = machine;
+  received = received;
 }

@@ -1,57 +1,56 @@
 -- Each line that passes on to the next, on the machine.
-use Rattle.std.proofs.Common.{◌≡◌, ◌≢◌, ℕ, zero, suc, ◌+◌, ◌*◌, ◌%◌, ◌^◌, ◌<◌, ◌≤◌, ◌⊎◌, inl, inr, ℤ, pos, negsuc, ◌≤ℤ◌, ◌<ℤ◌, Bool, true, false, cond, List, [], ◌∷◌, ◌++◌, length, Option, Some, sym, ap, ◌∙◌, subst, refl, arith}
-use Rattle.std.specs.Prelude.{neg_ℤ, ◌-ℤ◌, nat_lt, nat_abs, not, ◌==◌, slice_get, replicate, bit_xor}
+use Rattle.std.proofs.Common.{◌≡◌, ℕ, zero, suc, ◌+◌, ◌*◌, ◌%◌, ◌^◌, ◌<◌, ◌≤◌, ◌⊎◌, inl, inr, ℤ, pos, negsuc, ◌≤ℤ◌, ◌<ℤ◌, Bool, true, false, cond, List, [], ◌∷◌, ◌++◌, length, Some, sym, ap, ◌∙◌, subst, refl, arith}
+use Rattle.std.specs.Prelude.{neg_ℤ, ◌-ℤ◌, nat_lt, nat_abs, not, slice_get, replicate, bit_xor}
 use Rattle.std.proofs.lemmas.List.{append-nil}
-use Rattle.std.proofs.lemmas.Bool.Decides.{nat_tests}
 use Rattle.std.proofs.lemmas.Int.{ints}
 use Rattle.im_num.specs.declared.kind.Kind.{Kind}
-use Rattle.im_num.specs.declared.kind.Kind.TheVariants.{U8, I32, U32, Ptr}
-use Rattle.im_num.specs.Kinds.{wrap, word, kind_size}
+use Rattle.im_num.specs.declared.kind.Kind.TheVariants.{U8, U32, Ptr}
+use Rattle.im_num.specs.Kinds.{wrap, word}
 use Rattle.im_num.specs.declared.values.Cause.{Cause}
 use Rattle.im_num.proofs.Wrapping.{wrap-of_kind}
-use Rattle.im_mem.specs.Memory.{Mem, little, is_place, bytes_from}
+use Rattle.im_mem.specs.Memory.{Mem, is_place, bytes_from}
 use Rattle.im_rv.specs.declared.instr.Op.TheVariants.{Addi, Sltiu, Xori, Sub}
 use Rattle.im_rv.specs.declared.effect.Effect.TheVariants.{Puts}
-use Rattle.im_rv.specs.Steps.{Cpu, sum_of, difference_of, as_number as number_as, with_reg, row, quotient}
+use Rattle.im_rv.specs.Steps.{Cpu, sum_of, difference_of, as_number as number_as, with_reg, quotient}
 use Rattle.im_rv.proofs.Straight.{same_reg, other_reg}
 use Rattle.im_reach.specs.Touches.{Flipped, Touch, heard}
 use Rattle.im_reach.specs.Shown.{shown, left}
-use Rattle.im_reach.specs.Reach.{plus, Reach}
-use Rattle.im_reach.specs.Instructions.{Holds, Fixed, with_immediate, on_registers, jumping}
-use Rattle.im_reach.specs.Routines.{Runtime, Done, Called, Words, put, put_answer, got, got_answer}
-use Rattle.im_reach.proofs.Reach.{plus_is, join, next_pc, leaps}
-use Rattle.im_operators.specs.Tables.{IsPromoted, operation, less_op}
+use Rattle.im_reach.specs.Reach.{plus}
+use Rattle.im_reach.specs.Instructions.{Holds, with_immediate, on_registers, jumping}
+use Rattle.im_reach.specs.Routines.{Done, Called, put, put_answer, got, got_answer}
+use Rattle.im_reach.proofs.Reach.{join, next_pc, leaps}
+use Rattle.im_operators.specs.Tables.{IsPromoted, operation}
 use Rattle.im_operators.proofs.Words.{word_small, word_of, word_only, loaded_wrap}
 use Rattle.im_operators.proofs.Arithmetic.{negated_word}
 use Rattle.im_operators.proofs.Division.{complemented_word}
 use Rattle.im_operators.proofs.Comparisons.{word_less, outcome, compares_word}
 use Rattle.im_store.specs.declared.operators.UnaryOp.TheVariants.{Negate, Complement}
 use Rattle.im_store.specs.declared.operators.Comparison.{Comparison}
-use Rattle.im_store.specs.Checks.{Checked, Fine, Bad, then_}
+use Rattle.im_store.specs.Checks.{Checked, Fine, then_}
 use Rattle.im_store.specs.Outcomes.{Undef, More, End}
 use Rattle.im_store.specs.Pointers.{compare_places}
 use Rattle.im_store.specs.Numbers.{apply_one, compares}
-use Rattle.im_store.specs.Objects.{Name, Named, Slot, Link, Object, Value, Number, Null, Pointer, Unset, Shape, Store, same_kind}
+use Rattle.im_store.specs.Objects.{Slot, Link, Value, Number, Null, Pointer, Shape, Store, same_kind}
 use Rattle.im_block.specs.declared.code.Line.{Line}
-use Rattle.im_block.specs.declared.code.Line.TheVariants.{Cut, GetChar, PutChar, Reload, Spill}
+use Rattle.im_block.specs.declared.code.Line.TheVariants.{Cut, GetChar, PutChar}
 use Rattle.im_block.specs.declared.unit.Unit.{Unit as Code}
-use Rattle.im_block.specs.Meaning.{Setting, State, Next, Goes, Stops, Event, Serves, Cuts, Active, object_of, with_register, with_rest, kept_by, does, place_of, computed, computed_one, moved, distance_of, negation, condition, compared, converted, pointer_of, slot_of, slot_shape, read_place, write_place, read_slot, write_slot, site_of, slot_site, number_of, Found, Left, Location, as_number, as_truth, served, gets}
-use Rattle.im_select.specs.Linking.{Linking, pointer_at, frame_of, limit_of, runtime, address, base_of, Means}
-use Rattle.im_select.specs.Selected.{IsHome, IsEntry, ones, Selected, Numbers, Nulls, Copies, Converts, Negates, Complements, Nots, Computes, Compares, Moves, Measures, Addresses, Fetches, Keeps, Reloads, Spills, Cuts_, Calls, Gets, Puts_, Stands, Displaced}
+use Rattle.im_block.specs.Meaning.{Setting, State, Next, Goes, Stops, Serves, Cuts, Active, object_of, with_register, with_rest, kept_by, does, place_of, computed, computed_one, moved, distance_of, negation, condition, compared, converted, pointer_of, slot_of, slot_shape, read_place, write_place, read_slot, write_slot, site_of, slot_site, number_of, Location, as_number, as_truth, served, gets}
+use Rattle.im_select.specs.Linking.{Linking, pointer_at, frame_of, runtime, Means}
+use Rattle.im_select.specs.Selected.{IsEntry, ones, Selected, Numbers, Nulls, Copies, Converts, Negates, Complements, Nots, Computes, Compares, Moves, Measures, Addresses, Fetches, Keeps, Reloads, Spills, Cuts_, Calls, Gets, Puts_, Stands, Displaced}
 use Rattle.im_block.specs.Shape.{narrowing, line_weight}
-use Rattle.im_select.specs.Law.{Touches, Nothing, Serving, Cutting, steps_of, steps}
+use Rattle.im_select.specs.Law.{Touches, Nothing, Serving, Cutting, steps}
 use Rattle.im_select.proofs.Registers.{RegsMean, means_at, only_result}
-use Rattle.im_select.proofs.Mapped.{Mark, mark, marks, Mapped, base_frame}
-use Rattle.im_select.proofs.Checks.{fine_is, then_fine, read_place_fine, write_place_fine, read_slot_fine, write_slot_fine, kind_true}
-use Rattle.im_select.proofs.Cells.{memory_same, stored_means, means_word, back_word}
+use Rattle.im_select.proofs.Mapped.{Mark, mark, Mapped, base_frame}
+use Rattle.im_select.proofs.Checks.{fine_is, then_fine, read_place_fine, write_place_fine, read_slot_fine, write_slot_fine}
+use Rattle.im_select.proofs.Cells.{memory_same, stored_means, means_word}
 use Rattle.im_select.proofs.Shapes.{Premises}
 use Rattle.im_select.proofs.Relation.{Rel, Advanced, After, checked_after, takes_after, chain_kept, links_same}
 use Rattle.im_select.proofs.Calls.{number_word, lost_by, word_even, call_after}
-use Rattle.im_select.proofs.Places.{Ready, ReadyAt, means_mod, displaced, based}
+use Rattle.im_select.proofs.Places.{Ready, means_mod, displaced, based}
 use Rattle.im_select.proofs.Operators.{Converts as Converted_, numbers_mean, truths_mean, converted_word, computed_row, condition_word, zero_test}
 use Rattle.im_select.proofs.Pointers.{in_use, places_word, moved_means, moved_word, distance_means}
-use Rattle.im_select.proofs.Computing.{gave_weak, gave_constant, gave_compared, gave_converted, moved_sum, gave_moved, gave_distance}
-use Rattle.im_select.proofs.Gives.{Gave, gave_one, gave_more, computes_after, reads_after, writes_after, Finds, Leaves_}
+use Rattle.im_select.proofs.Computing.{gave_weak, gave_constant, gave_compared, gave_converted, gave_moved, gave_distance}
+use Rattle.im_select.proofs.Gives.{gave_one, gave_more, computes_after, reads_after, writes_after}
 
 pub after_more : (p : Linking) (u : Code) (g : Setting) (words more : ℕ) (c : Cpu) (m : Mem) (next : Next) → words ≤ more → After p u g words c m next → After p u g more c m next
 after_more p u g words more c m (Goes s events) le a = record { n = a.n; some = a.some; few = (let z = a.few in omega arith); d = a.d; k = a.k; ts = a.ts; touches = a.touches; reach = a.reach; rel = a.rel }

@@ -1,32 +1,27 @@
 -- What lines compute of values, the machine computes of their words.
-use Rattle.std.proofs.Common.{◌≡◌, ◌≢◌, ℕ, zero, suc, ◌+◌, ◌-◌, ◌*◌, ◌%◌, ◌^◌, ◌<◌, ◌≤◌, ◌⊎◌, inl, inr, ℤ, pos, negsuc, ◌+ℤ◌, ◌-ℤ◌, ◌*ℤ◌, Bool, true, false, cond, List, sym, ap, ◌∙◌, subst, refl, arith}
-use Rattle.std.specs.Prelude.{neg_ℤ, nat_lt, int_lt, int_le, not, ◌==◌, ◌&&◌, bit_xor, int_div, int_rem}
-use Rattle.std.specs.Ordering.{int_eq}
+use Rattle.std.proofs.Common.{◌≡◌, ◌≢◌, ℕ, zero, suc, ◌*◌, ◌%◌, ◌^◌, ◌<◌, inl, inr, ℤ, pos, negsuc, ◌*ℤ◌, Bool, true, false, cond, List, sym, ap, ◌∙◌, subst, refl, arith}
+use Rattle.std.specs.Prelude.{nat_lt, not, ◌==◌, int_div, int_rem}
 use Rattle.std.specs.Int.{int_div_euclid}
-use Rattle.std.proofs.lemmas.Int.{ints}
 use Rattle.std.proofs.lemmas.Bool.Decides.{nat_tests}
 use Rattle.im_num.specs.declared.kind.Kind.{Kind}
-use Rattle.im_num.specs.declared.kind.Kind.TheVariants.{I8, U8, I16, U16, I32, U32, Ptr}
+use Rattle.im_num.specs.declared.kind.Kind.TheVariants.{I32, U32}
 use Rattle.im_num.specs.Kinds.{wrap, word}
-use Rattle.im_rv.specs.declared.instr.Op.{Op}
 use Rattle.im_rv.specs.declared.effect.Effect.TheVariants.{Puts}
-use Rattle.im_rv.specs.Steps.{sum_of, difference_of, as_number as number_as, row, signed, shift_right, shift_right_signed}
-use Rattle.im_operators.specs.Tables.{IsPromoted, operation, less_op}
-use Rattle.im_operators.proofs.Words.{word_of, word_small, word_wrap, word_sum, wrap_unsigned, wrap_signed}
+use Rattle.im_rv.specs.Steps.{sum_of, as_number as number_as, row, signed, shift_right, shift_right_signed}
+use Rattle.im_operators.specs.Tables.{IsPromoted, operation}
+use Rattle.im_operators.proofs.Words.{word_of, word_small, word_wrap, wrap_unsigned, wrap_signed}
 use Rattle.im_operators.proofs.Arithmetic.{sum_word, difference_word, word_product, and_word, or_word, xor_word, shifted_word}
 use Rattle.im_operators.proofs.Division.{unsigned_quotient, unsigned_remainder, signed_quotient, signed_remainder, signed_shift, unsigned_shift}
-use Rattle.im_store.specs.declared.undefined.Undefined.{Undefined}
 use Rattle.im_store.specs.declared.undefined.Undefined.TheVariants.{ShiftCount}
 use Rattle.im_store.specs.declared.operators.BinaryOp.{BinaryOp}
 use Rattle.im_store.specs.declared.operators.BinaryOp.TheVariants.{Add, Subtract, Multiply, Divide, Remainder, BitAnd, BitOr, BitXor, ShiftLeft, ShiftRight}
-use Rattle.im_store.specs.Checks.{Checked, Fine, Bad, then_}
+use Rattle.im_store.specs.Checks.{Checked, Fine, Bad}
 use Rattle.im_store.specs.Numbers.{apply, shifted, divided}
-use Rattle.im_store.specs.Objects.{Object, Value, Number, Null, Pointer, Unset, Shape, Store, lives}
+use Rattle.im_store.specs.Objects.{Value, Number, Null, Pointer, Unset, Store, lives}
 use Rattle.im_block.specs.Meaning.{number_of, as_number, as_truth, right_of, converted, computed, condition}
-use Rattle.im_select.specs.Linking.{Linking, Means, address}
-use Rattle.im_select.proofs.Registers.{means_at}
+use Rattle.im_select.specs.Linking.{Linking, Means}
 use Rattle.im_select.proofs.Mapped.{Mark, Mapped}
-use Rattle.im_select.proofs.Values.{Within, live, within_live, no_wrap, unless_fine}
+use Rattle.im_select.proofs.Values.{live, within_live, no_wrap, unless_fine}
 use Rattle.im_select.proofs.Checks.{fine_is, then_fine}
 use Rattle.im_select.proofs.Calls.{number_word}
 

@@ -1,23 +1,20 @@
 -- Places in a register and an immediate.
-use Rattle.std.proofs.Common.{◌≡◌, ◌≢◌, ℕ, zero, suc, ◌+◌, ◌-◌, ◌*◌, ◌%◌, ◌^◌, ◌<◌, ◌≤◌, Bool, true, false, cond, List, [], ◌∷◌, ℤ, pos, sym, ap, ◌∙◌, subst, refl, arith}
-use Rattle.im_num.specs.Kinds.{word}
+use Rattle.std.proofs.Common.{◌≡◌, ◌≢◌, ℕ, zero, suc, ◌+◌, ◌*◌, ◌%◌, ◌^◌, ◌<◌, ◌≤◌, List, [], pos, ◌∙◌, subst, refl, arith}
 use Rattle.im_mem.specs.Memory.{Mem}
 use Rattle.im_rv.specs.declared.instr.Op.TheVariants.{Add}
 use Rattle.im_rv.specs.Steps.{sum_of, with_reg}
 use Rattle.im_rv.proofs.Straight.{same_reg, other_reg}
 use Rattle.im_reach.specs.Reach.{Reach}
-use Rattle.im_reach.specs.Instructions.{Holds, Fixed, on_registers, upper}
+use Rattle.im_reach.specs.Instructions.{Fixed, on_registers, upper}
 use Rattle.im_reach.proofs.Reach.{nothing, join, puts}
 use Rattle.im_operators.proofs.Words.{word_small}
 use Rattle.im_store.specs.Checks.{Fine}
-use Rattle.im_store.specs.Objects.{Named, Object, static, Value, Number, Null, Pointer, Unset, Store}
-use Rattle.im_store.specs.Pointers.{within}
+use Rattle.im_store.specs.Objects.{Named, static, Value, Number, Null, Pointer, Unset, Store}
 use Rattle.im_block.specs.declared.code.Place.{Place}
-use Rattle.im_block.specs.declared.code.Place.TheVariants.{Static, Local, Through}
 use Rattle.im_block.specs.Meaning.{Active, object_of, further, place_of}
 use Rattle.im_select.specs.Linking.{Linking, pointer_at, address, Means}
 use Rattle.im_select.specs.Selected.{Displaced, Near, Far, Based, InFrame, InStatic, Behind}
-use Rattle.im_select.proofs.Registers.{RegsMean, means_at, set_scratch}
+use Rattle.im_select.proofs.Registers.{RegsMean, set_scratch}
 use Rattle.im_select.proofs.Mapped.{Mark, Mapped, base_static, base_frame}
 use Rattle.im_select.proofs.Values.{within_means}
 use Rattle.im_select.proofs.Checks.{fine_is}

@@ -1,21 +1,21 @@
 -- Comparisons, moves and distances of places.
-use Rattle.std.proofs.Common.{◌≡◌, ◌≢◌, ℕ, zero, suc, ◌+◌, ◌-◌, ◌*◌, ◌%◌, ◌^◌, ◌<◌, ◌≤◌, inl, inr, ◌⊎◌, ℤ, pos, negsuc, ◌+ℤ◌, ◌-ℤ◌, ◌*ℤ◌, Bool, true, false, cond, List, Option, Some, sym, ap, ◌∙◌, subst, refl, arith}
+use Rattle.std.proofs.Common.{◌≡◌, ◌≢◌, ℕ, ◌+◌, ◌-◌, ◌*◌, ◌%◌, ◌^◌, ◌<◌, inl, inr, ℤ, pos, ◌+ℤ◌, ◌-ℤ◌, ◌*ℤ◌, Bool, true, false, List, Option, sym, ap, ◌∙◌, subst, arith}
 use Rattle.std.specs.Prelude.{neg_ℤ, nat_lt, not, ◌==◌, ◌&&◌, int_div, int_rem}
 use Rattle.std.specs.Ordering.{int_eq}
 use Rattle.std.proofs.lemmas.Int.{ints}
 use Rattle.std.proofs.lemmas.Bool.Decides.{nat_tests}
 use Rattle.im_num.specs.Kinds.{word}
 use Rattle.im_rv.specs.Steps.{sum_of, difference_of, signed, quotient}
-use Rattle.im_operators.proofs.Words.{as_word, word_small, word_of, word_only, signed_low, signed_high, below_or_not}
+use Rattle.im_operators.proofs.Words.{as_word, word_of, signed_low, signed_high, below_or_not}
 use Rattle.im_operators.proofs.Arithmetic.{word_product}
 use Rattle.im_operators.proofs.Division.{quotient_word}
 use Rattle.im_operators.proofs.Comparisons.{outcome, no_difference, some_difference, compares_shifted}
-use Rattle.im_store.specs.Checks.{Checked, Fine, Bad, then_, unless}
+use Rattle.im_store.specs.Checks.{Fine}
 use Rattle.im_store.specs.declared.operators.Comparison.{Comparison}
 use Rattle.im_store.specs.declared.operators.Comparison.TheVariants.{Less, Greater, LessOrEqual, GreaterOrEqual, Equal, NotEqual}
 use Rattle.im_store.specs.Numbers.{compares}
 use Rattle.im_store.specs.Objects.{Object, Value, Number, Null, Pointer, Unset, Shape, Store, same_object, lives}
-use Rattle.im_store.specs.Pointers.{within, bytes_moved, moved_by, distance, same_place, ordered, compare_places}
+use Rattle.im_store.specs.Pointers.{bytes_moved, moved_by, distance, same_place, ordered, compare_places}
 use Rattle.im_block.specs.Meaning.{pointer_of, number_of, moved, distance_of}
 use Rattle.im_select.specs.Linking.{Linking, Means, address}
 use Rattle.im_select.proofs.Mapped.{Mark, Mapped}

@@ -1,7 +1,6 @@
 -- A state of placed code and a state of the machine that stands for it.
-use Rattle.std.proofs.Common.{◌≡◌, ℕ, zero, suc, ◌+◌, ◌%◌, ◌<◌, ◌≤◌, inl, inr, Bool, true, false, cond, List, [], ◌∷◌, Option, Some, None, sym, ap, ◌∙◌, subst, refl, arith}
-use Rattle.std.specs.Prelude.{◌==◌, slice_get}
-use Rattle.std.proofs.lemmas.Bool.Decides.{nat_tests}
+use Rattle.std.proofs.Common.{◌≡◌, ℕ, zero, suc, ◌+◌, ◌%◌, ◌<◌, ◌≤◌, inl, inr, List, [], ◌∷◌, Option, Some, None, sym, ap, ◌∙◌, subst, refl, arith}
+use Rattle.std.specs.Prelude.{slice_get}
 use Rattle.im_num.specs.declared.kind.Kind.{Kind}
 use Rattle.im_num.specs.Kinds.{kind_size, word}
 use Rattle.im_num.specs.Variables.{Variable}
@@ -15,10 +14,9 @@ use Rattle.im_reach.specs.Shown.{shown, left}
 use Rattle.im_reach.specs.Reach.{Reach, Stopped}
 use Rattle.im_reach.specs.Instructions.{Fixed}
 use Rattle.im_reach.specs.Routines.{Words}
-use Rattle.im_store.specs.declared.undefined.Undefined.{Undefined}
 use Rattle.im_store.specs.Checks.{Checked, Fine, Bad}
-use Rattle.im_store.specs.Objects.{Name, Slot, Link, Object, Value, Unset, Shape}
-use Rattle.im_store.specs.Outcomes.{Outcome, Undef, More, End}
+use Rattle.im_store.specs.Objects.{Slot, Link, Object, Value, Unset, Shape}
+use Rattle.im_store.specs.Outcomes.{Undef, More, End}
 use Rattle.im_block.specs.declared.unit.Function.{Function}
 use Rattle.im_block.specs.declared.unit.Unit.{Unit as Code}
 use Rattle.im_block.specs.Meaning.{Setting, Spot, Frame, State, Event, Next, Goes, Stops, link_shape, slot_shape, statics_of, on_checked, takes}

@@ -1,5 +1,5 @@
 -- Each step keeps sections separate.
-use Rattle.std.proofs.Common.{◌≡◌, ◌≢◌, ℕ, zero, suc, ◌+◌, ◌-◌, ◌<◌, ◌≤◌, inl, inr, Bool, true, false, cond, List, [], ◌∷◌, ◌++◌, length, Option, Some, None, ℤ, sym, ap, ◌∙◌, subst, refl, append_assoc, arith}
+use Rattle.std.proofs.Common.{◌≡◌, ◌≢◌, ℕ, zero, suc, ◌+◌, ◌<◌, ◌≤◌, inl, inr, Bool, true, false, cond, List, [], ◌∷◌, ◌++◌, length, Option, Some, None, sym, ap, ◌∙◌, subst, refl, append_assoc, arith}
 use Rattle.std.specs.Prelude.{◌==◌, nat_lt, nat_le, slice_get}
 use Rattle.std.proofs.lemmas.Bool.Decides.{nat_tests}
 use Rattle.im_num.specs.declared.kind.Kind.{Kind}
@@ -18,7 +18,7 @@ use Rattle.im_block.specs.declared.code.Exit.TheVariants.{Jump, Turn, Branch, Re
 use Rattle.im_block.specs.declared.code.Block.{Block}
 use Rattle.im_block.specs.declared.unit.Function.{Function}
 use Rattle.im_block.specs.declared.unit.Unit.{Unit as Code}
-use Rattle.im_block.specs.Meaning.{Setting, Active, Site, site_of, slot_site, object_of, Found, Left, link_shape, slot_shape, slot_of, shapes_of, statics_of, Frame, State, Next, Goes, Stops, Event, Serves, Cuts, on_checked, takes, found, computes, reads, writes, read_place, write_place, read_slot, write_slot, number_of, condition, returned, next_active, enters, gets, served as serves_, does, back, goes_to, leaves, step_at, step}
+use Rattle.im_block.specs.Meaning.{Setting, Active, Site, site_of, slot_site, object_of, Found, Left, link_shape, slot_shape, slot_of, shapes_of, statics_of, Frame, State, Next, Goes, Stops, Event, Serves, Cuts, on_checked, takes, found, computes, reads, writes, read_place, write_place, read_slot, write_slot, number_of, condition, returned, next_active, enters, gets, does, back, goes_to, leaves, step_at, step}
 use Rattle.im_block.specs.Runs.{Over, goes_on, exec, before, start}
 use Rattle.im_block.specs.Shape.{spot_weight}
 use Rattle.im_block.specs.Sections.{Item, Reader, Writer, Byte, bytes_of, items}
@@ -26,7 +26,7 @@ use Rattle.im_block.specs.Forced.{StartsWithCut, CutAfterCalls, AllForced}
 use Rattle.im_select.specs.Linking.{Linking}
 use Rattle.im_select.specs.Law.{steps}
 use Rattle.im_select.proofs.Mapped.{marks, Mapped, Cell, under_activation}
-use Rattle.im_select.proofs.Checks.{found_fine, ReadOf, WriteOf, read_place_fine, write_place_fine, read_slot_fine, write_slot_fine}
+use Rattle.im_select.proofs.Checks.{found_fine, read_place_fine, write_place_fine, read_slot_fine, write_slot_fine}
 use Rattle.im_select.proofs.Shapes.{Premises}
 use Rattle.im_select.proofs.Relation.{Rel, SlotsShaped, After, Ordered, AllLinked}
 use Rattle.im_select.proofs.Steps.{static_lies, step_after, begin_after, over_is}

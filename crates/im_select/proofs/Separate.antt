@@ -7,7 +7,7 @@ use Rattle.im_reach.specs.Touches.{Flipped, Touch}
 use Rattle.im_store.specs.Objects.{Link, Object, Shape}
 use Rattle.im_store.specs.Outcomes.{Undef, More, End}
 use Rattle.im_block.specs.declared.unit.Unit.{Unit as Code}
-use Rattle.im_block.specs.Meaning.{Setting, Active, object_of, Frame, State, Next, Goes, Stops, Event, Reads, Writes, Tests, Saves, Restores, Serves, Cuts}
+use Rattle.im_block.specs.Meaning.{Setting, object_of, Frame, State, Next, Goes, Stops, Event, Reads, Writes, Tests, Saves, Restores, Serves, Cuts}
 use Rattle.im_block.specs.Sections.{Item, Reader, Writer, Break, Has, Exposed, NoWarAfter, Byte, bytes_of, link_bytes, items}
 use Rattle.im_block.specs.Forced.{StartsWithCut, CutAfterCalls}
 use Rattle.im_select.specs.Linking.{Linking, address}

@@ -1,17 +1,15 @@
 -- The shapes of declared objects have their cells; the statics live throughout, and memory shows them.
-use Rattle.std.proofs.Common.{◌≡◌, ◌≢◌, ℕ, zero, suc, ◌+◌, ◌<◌, ◌≤◌, ◌⊎◌, inl, inr, Bool, true, false, cond, List, [], ◌∷◌, Option, Some, None, sym, ap, ◌∙◌, subst, refl, arith, get_or}
-use Rattle.std.specs.Prelude.{◌==◌, slice_get, map, nat_le, nat_lt, ◌-◌, ◌%◌, All}
+use Rattle.std.proofs.Common.{◌≡◌, ℕ, suc, ◌<◌, ◌≤◌, ◌⊎◌, inl, inr, Bool, true, false, cond, List, [], ◌∷◌, Option, Some, None, sym, ap, ◌∙◌, subst, refl, arith}
+use Rattle.std.specs.Prelude.{◌==◌, slice_get, nat_le, nat_lt, ◌-◌, ◌%◌, All}
 use Rattle.std.proofs.lemmas.Option.{slice_get_within, get_or_from_slice_get}
 use Rattle.std.proofs.lemmas.List.Elements.{All-get_or}
 use Rattle.std.proofs.lemmas.Bool.Decides.{nat_tests}
 use Rattle.im_num.specs.declared.kind.Kind.{Kind}
 use Rattle.im_num.specs.declared.kind.Kind.TheVariants.{U32}
 use Rattle.im_num.specs.Kinds.{kind_size}
-use Rattle.im_num.specs.Variables.{Variable}
 use Rattle.im_mem.specs.Memory.{Mem}
 use Rattle.im_ctype.specs.declared.cell.Cell.{Cell as CellOf}
-use Rattle.im_operators.specs.Tables.{cell_word}
-use Rattle.im_store.specs.Objects.{Name, Named, Slot, Link, Object, static, Value, Shape, Store, kind_at, shape_of}
+use Rattle.im_store.specs.Objects.{Name, Named, Slot, Link, Object, static, Shape, Store, kind_at, shape_of}
 use Rattle.im_store.specs.Statics.{StaticObject, static_shapes, with_statics}
 use Rattle.std.specs.Option.{option_map}
 use Rattle.std.proofs.lemmas.Option.{slice_get-map}
@@ -23,10 +21,10 @@ use Rattle.im_block.specs.declared.unit.Unit.{Unit as Code}
 use Rattle.im_block.specs.Meaning.{Setting, shape_at, slot_shape, link_shape, shapes_of, static_of, statics_of}
 use Rattle.im_block.specs.Wellformed.{IsWellFormed, IsFunction, IsStatic}
 use Rattle.im_block.specs.Wellformed.{HasCells as HasCellsOf}
-use Rattle.im_select.specs.Linking.{Linking, address, HasCells, Means}
+use Rattle.im_select.specs.Linking.{Linking, HasCells}
 use Rattle.im_select.specs.Linked.{IsLinked}
 use Rattle.im_select.specs.Law.{ShowsStatics}
-use Rattle.im_select.proofs.Mapped.{Mark, Mapped, Cell}
+use Rattle.im_select.proofs.Mapped.{Mark, Mapped}
 use Rattle.im_select.proofs.Cells.{Memory, memory_same}
 
 pub all_at : {X : Type 0} (P : X → Type 0) (xs : List X) (i : ℕ) (x : X) → All P xs → slice_get xs i ≡ Some x → P x

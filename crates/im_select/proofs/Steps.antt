@@ -1,10 +1,8 @@
 -- Each step of placed code on the machine, and whole runs.
-use Rattle.std.proofs.Common.{◌≡◌, ◌≢◌, ℕ, zero, suc, ◌+◌, ◌-◌, ◌<◌, ◌≤◌, inl, inr, Bool, true, false, cond, List, [], ◌∷◌, ◌++◌, Option, Some, None, ℤ, sym, ap, ◌∙◌, subst, refl, append_assoc, arith}
-use Rattle.std.specs.Prelude.{◌==◌, ◌&&◌, not, slice_get, replicate}
+use Rattle.std.proofs.Common.{◌≡◌, ◌≢◌, ℕ, zero, suc, ◌+◌, ◌-◌, ◌<◌, ◌≤◌, inl, inr, Bool, true, false, cond, List, [], ◌∷◌, ◌++◌, Some, None, ℤ, sym, ap, ◌∙◌, subst, refl, append_assoc, arith}
+use Rattle.std.specs.Prelude.{◌==◌, not, slice_get, replicate}
 use Rattle.std.proofs.lemmas.Bool.Decides.{nat_tests}
 use Rattle.std.proofs.lemmas.List.{append-nil}
-use Rattle.im_num.specs.declared.kind.Kind.{Kind}
-use Rattle.im_num.specs.Kinds.{word}
 use Rattle.im_num.specs.Variables.{Variable}
 use Rattle.im_mem.specs.Memory.{Mem, little}
 use Rattle.im_rv.specs.declared.effect.Effect.TheVariants.{Puts}
@@ -12,38 +10,35 @@ use Rattle.im_rv.specs.Steps.{Cpu, Stepped, sum_of, with_reg}
 use Rattle.im_rv.specs.Decode.{runs}
 use Rattle.im_rv.proofs.Straight.{same_reg, other_reg}
 use Rattle.im_reach.specs.Touches.{Flipped, Touch, Loaded, Stored, touched, is_system, heard}
-use Rattle.im_reach.specs.Shown.{shown, left, Begins}
+use Rattle.im_reach.specs.Shown.{shown, Begins}
 use Rattle.im_reach.specs.Reach.{plus, Reach}
-use Rattle.im_reach.specs.Instructions.{Fixed, jumping}
+use Rattle.im_reach.specs.Instructions.{jumping}
 use Rattle.im_reach.proofs.Reach.{plus_is, leaps, begins_trans, before_or_after}
 use Rattle.im_operators.specs.Tables.{cell_word}
-use Rattle.im_store.specs.Checks.{Checked, Fine}
-use Rattle.im_store.specs.Objects.{Name, Named, Slot, Link, Object, Value, Unset, Shape, Store}
+use Rattle.im_store.specs.Objects.{Object, Value, Unset, Shape}
 use Rattle.im_store.specs.Outcomes.{Outcome, Undef, More, End, IsDefined}
 use Rattle.im_store.specs.Statics.{static_shapes, static_values, with_statics}
 use Rattle.im_block.specs.declared.code.Line.{Line}
 use Rattle.im_block.specs.declared.code.Exit.{Exit}
 use Rattle.im_block.specs.declared.code.Exit.TheVariants.{Jump, Turn, Branch, Return}
-use Rattle.im_block.specs.declared.unit.Function.{Function}
 use Rattle.im_block.specs.declared.unit.Unit.{Unit as Code}
-use Rattle.im_block.specs.Meaning.{Setting, Active, slot_shape, statics_of, condition, returned, at_block, State, Next, Goes, Stops, Event, Reads, Writes, Tests, Saves, Restores, Serves, Cuts, goes_to, leaves, step_at, step}
+use Rattle.im_block.specs.Meaning.{Setting, statics_of, condition, returned, at_block, State, Next, Goes, Stops, Event, Serves, goes_to, leaves, step_at, step}
 use Rattle.im_block.specs.Runs.{Over, goes_on, exec, before, start}
 use Rattle.im_block.specs.Shape.{spot_weight, next_weight, after, spent, exit_words}
-use Rattle.im_select.specs.Linking.{Linking, pointer_at, frame_of, limit_of, base_of, address, Means}
+use Rattle.im_select.specs.Linking.{Linking, pointer_at, frame_of, address, Means}
 use Rattle.im_select.specs.Selected.{Tested, ExitAt, Stands}
-use Rattle.im_select.specs.Linked.{IsLinked}
 use Rattle.im_select.specs.Law.{Touches, Nothing, Reading, Writing, Testing, Saving, Restoring, Serving, Cutting, ShowsStatics, steps, Shows}
 use Rattle.im_select.proofs.Registers.{RegsMean, means_at}
 use Rattle.im_select.proofs.Mapped.{Mapped, object_is, base_static}
 use Rattle.im_select.proofs.Checks.{found_fine}
 use Rattle.im_select.proofs.Cells.{Memory}
-use Rattle.im_select.proofs.Shapes.{Premises, StaticsLive}
+use Rattle.im_select.proofs.Shapes.{Premises}
 use Rattle.im_select.proofs.Relation.{Rel, SlotsShaped, Advanced, Finished, After, checked_after, takes_after, moved_rel}
 use Rattle.im_select.proofs.Ends.{jumps, tested_yes, tested_no}
 use Rattle.im_select.proofs.Operators.{condition_word}
 use Rattle.im_select.proofs.Calls.{first_after, enter_after, back_after, result_means}
-use Rattle.im_select.proofs.Lines.{line_after, after_more}
-use Rattle.im_select.proofs.Fuel.{Paid, step_paid, start_paid}
+use Rattle.im_select.proofs.Lines.{line_after}
+use Rattle.im_select.proofs.Fuel.{Paid, step_paid}
 
 same_regs : (p : Linking) (registers : ℕ → Value) (sp : ℕ) (x y : ℕ → ℕ) → RegsMean p registers sp x → ((i : ℕ) → y i ≡ x i) → RegsMean p registers sp y
 same_regs p registers sp x y m same = record {

@@ -1,13 +1,12 @@
 -- Values and the words that they are: numbers, places in objects, comparisons of places.
-use Rattle.std.proofs.Common.{◌≡◌, ◌≢◌, ℕ, zero, suc, ◌+◌, ◌-◌, ◌^◌, ◌<◌, ◌≤◌, inl, inr, Bool, true, false, cond, List, Option, Some, None, ℤ, pos, negsuc, sym, ap, ◌∙◌, subst, refl, arith}
-use Rattle.std.specs.Prelude.{◌==◌, ◌&&◌, nat_lt, nat_le, not}
+use Rattle.std.proofs.Common.{◌≡◌, ◌≢◌, ℕ, ◌+◌, ◌^◌, ◌<◌, ◌≤◌, inl, inr, Bool, true, false, List, Option, Some, None, ℤ, pos, negsuc, sym, ap, ◌∙◌, subst, refl, arith}
+use Rattle.std.specs.Prelude.{◌==◌, ◌&&◌, nat_lt, not}
 use Rattle.std.proofs.lemmas.Bool.Decides.{nat_tests}
 use Rattle.im_rv.specs.Steps.{sum_of, difference_of, as_number}
-use Rattle.im_num.specs.Kinds.{word}
-use Rattle.im_operators.proofs.Words.{word_of, word_small}
-use Rattle.im_store.specs.Checks.{Checked, Fine, Bad, unless}
+use Rattle.im_operators.proofs.Words.{word_of}
+use Rattle.im_store.specs.Checks.{Fine, unless}
 use Rattle.im_store.specs.declared.undefined.Undefined.{Undefined}
-use Rattle.im_store.specs.Objects.{Name, Named, Slot, Link, Object, Value, Number, Null, Pointer, Unset, Shape, Store, same_name, same_object, is_there, lives}
+use Rattle.im_store.specs.Objects.{Name, Named, Slot, Link, Object, Value, Number, Pointer, Shape, Store, same_name, same_object, is_there, lives}
 use Rattle.im_store.specs.Pointers.{reaches, within}
 use Rattle.im_select.specs.Linking.{Linking, Means, address}
 use Rattle.im_select.proofs.Registers.{means_at, truth}

@@ -17,7 +17,7 @@ use Rattle.im_block.specs.Shape.{after, spent}
 use Rattle.im_block.specs.Wellformed.{IsWellFormed}
 use Rattle.im_select.specs.Linking.{Linking}
 use Rattle.im_select.specs.Linked.{IsLinked}
-use Rattle.im_select.specs.Law.{Touches, machine_items, steps, Shows, Follows, SelectKeeps}
+use Rattle.im_select.specs.Law.{Touches, steps, Shows, Follows, SelectKeeps}
 use Rattle.im_select.proofs.Shapes.{Premises, function_cells, static_cells}
 use Rattle.im_select.proofs.Separate.{no_war_spotted, no_war_touched}
 use Rattle.im_select.proofs.Sections.{separate}

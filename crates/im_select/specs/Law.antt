@@ -10,7 +10,7 @@ use Rattle.im_rv.specs.Steps.{Cpu, Stepped}
 use Rattle.im_rv.specs.Decode.{runs}
 use Rattle.im_reach.specs.Touches.{Flipped, Touch, Loaded, Stored, touched, heard}
 use Rattle.im_reach.specs.Shown.{shown, Begins}
-use Rattle.im_store.specs.Objects.{Name, Link, Object, static, Store, kind_at}
+use Rattle.im_store.specs.Objects.{Link, Object, static, Store, kind_at}
 use Rattle.im_store.specs.Statics.{StaticObject}
 use Rattle.im_store.specs.Outcomes.{Outcome, Undef, More, End, IsDefined, variables}
 use Rattle.im_block.specs.declared.code.Line.{Line}

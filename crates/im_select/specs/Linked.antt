@@ -1,5 +1,5 @@
 -- Where placed code lies as instructions, by static facts alone: functions, statics, routines, the lines that begin and end.
-use Rattle.std.specs.Prelude.{◌≡◌, ◌≤◌, ℕ, ◌+◌, ◌%◌, List, [], ◌∷◌, Option, Some, slice_get}
+use Rattle.std.specs.Prelude.{◌≡◌, ◌≤◌, ℕ, ◌+◌, ◌%◌, [], Some, slice_get}
 use Rattle.im_num.specs.declared.kind.Kind.{Kind}
 use Rattle.im_mem.specs.Map.{statics_start, statics_capacity, stack_capacity, status_at, reason_at}
 use Rattle.im_rv.specs.declared.instr.Op.TheVariants.{Sw, Addi, Ebreak}

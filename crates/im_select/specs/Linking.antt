@@ -1,13 +1,10 @@
 -- Where all lies in memory, and what values are as words.
 use Rattle.std.specs.Prelude.{◌≡◌, ◌<◌, ◌≤◌, ◌⊎◌, ℕ, ◌+◌, ◌-◌, ◌%◌, ◌==◌, if◌then◌else◌, Option, Some, slice_index_or}
 use Rattle.im_num.specs.declared.kind.Kind.{Kind}
-use Rattle.im_num.specs.declared.kind.Kind.TheVariants.{I8, U8, I16, U16, I32, U32, Ptr}
 use Rattle.im_num.specs.Kinds.{kind_size, word}
 use Rattle.im_mem.specs.Map.{stack_end}
-use Rattle.im_mem.specs.Memory.{Mem, little}
-use Rattle.im_rv.specs.declared.effect.Extension.{Extension}
-use Rattle.im_rv.specs.declared.effect.Extension.TheVariants.{Sign, Zero}
-use Rattle.im_rv.specs.Steps.{sum_of, extended}
+use Rattle.im_mem.specs.Memory.{Mem}
+use Rattle.im_rv.specs.Steps.{sum_of}
 use Rattle.im_reach.specs.Routines.{Runtime}
 use Rattle.im_store.specs.Objects.{Name, Object, Value, Number, Null, Pointer, Unset, Shape}
 use Rattle.im_block.specs.Meaning.{Setting}

@@ -1,15 +1,14 @@
 -- What stands in memory for lines, exits and entries, as instructions.
 use Rattle.std.specs.Prelude.{◌≡◌, ◌≢◌, ◌<◌, ◌⊎◌, ℕ, ◌+◌, ◌-◌, ◌*◌, ◌^◌, Bool, true, false, if◌then◌else◌, List, [], ◌∷◌, Option, Some, None}
 use Rattle.im_num.specs.declared.kind.Kind.{Kind}
-use Rattle.im_num.specs.declared.kind.Kind.TheVariants.{I8, U8, I16, U16, I32, U32, Ptr}
+use Rattle.im_num.specs.declared.kind.Kind.TheVariants.{I32, U32, Ptr}
 use Rattle.im_num.specs.declared.values.Cause.{Cause}
-use Rattle.im_num.specs.Kinds.{kind_size, is_signed, word}
+use Rattle.im_num.specs.Kinds.{kind_size, word}
 use Rattle.im_rv.specs.declared.instr.Op.{Op}
-use Rattle.im_rv.specs.declared.instr.Op.TheVariants.{Jalr, Beq, Bne, Bltu, Bgeu, Lb, Lh, Lw, Lbu, Lhu, Sb, Sh, Sw, Addi, Sltiu, Xori, Slli, Srli, Srai, Add as AddOp, Sub, Sll, Slt, Sltu, Xor, Srl, Sra, Or, And, Mul, Div, Divu, Rem, Remu}
+use Rattle.im_rv.specs.declared.instr.Op.TheVariants.{Jalr, Beq, Bne, Bltu, Bgeu, Lw, Sw, Addi, Sltiu, Xori, Slli, Srli, Srai, Add as AddOp, Sub, Sltu, Mul, Div}
 use Rattle.im_rv.specs.Steps.{sum_of}
 use Rattle.im_reach.specs.Instructions.{Holds, Splits, with_immediate, on_registers, storing, branching, upper, jumping}
 use Rattle.im_store.specs.declared.operators.BinaryOp.{BinaryOp}
-use Rattle.im_store.specs.declared.operators.BinaryOp.TheVariants.{Add, Subtract, Multiply, Divide, Remainder, BitAnd, BitOr, BitXor, ShiftLeft, ShiftRight}
 use Rattle.im_operators.specs.Tables.{IsPromoted, by_sign, load_op, store_op, operation, less_op}
 use Rattle.im_store.specs.declared.operators.UnaryOp.TheVariants.{Negate, Complement}
 use Rattle.im_store.specs.declared.operators.Comparison.{Comparison}

@@ -14,7 +14,7 @@ use Rattle.im_store.specs.declared.operators.BinaryOp.{BinaryOp}
 use Rattle.im_store.specs.declared.operators.UnaryOp.TheVariants.{Negate, Complement}
 use Rattle.im_store.specs.declared.operators.Comparison.{Comparison}
 use Rattle.im_store.specs.declared.operators.Comparison.TheVariants.{Less, Greater, LessOrEqual, GreaterOrEqual, Equal, NotEqual}
-use Rattle.im_store.specs.Objects.{Name, Named, Slot}
+use Rattle.im_store.specs.Objects.{Name, Named, Slot, Shape}
 use Rattle.im_block.specs.declared.code.Place.{Place}
 use Rattle.im_block.specs.declared.code.Place.TheVariants.{Static, Local, Through}
 use Rattle.im_block.specs.declared.code.Line.{Line}
@@ -25,6 +25,8 @@ use Rattle.im_block.specs.declared.code.Block.{Block}
 use Rattle.im_block.specs.declared.unit.Registers.TheVariants.{Machine}
 use Rattle.im_block.specs.declared.unit.Function.{Function}
 use Rattle.im_block.specs.Meaning.{Setting, shapes_of}
+use Rattle.im_frame.specs.declared.layout.Layout.{Layout}
+use Rattle.im_frame.specs.Layout.{place_of as place_in, IsLayout}
 use Rattle.im_select.specs.Linking.{Linking, LaidOut, frame_of}
 use Rattle.im_select.specs.Linked.{FunctionAt}
 use Rattle.im_select.specs.Selected.{IsHome, IsEntry, InResult, ones, unused_bits}
@@ -203,3 +205,13 @@ abbrev pub LinesLaw : Type 0
 LinesLaw =
     (p : Linking) (g : Setting) (i : ℕ) (f : Function) (w : Lines) (place starts : ℕ → ℕ) →
     IsFramed p g i f → IsSelected w (frame_of g i) f starts → IsLaid p i w place starts → FunctionAt p g i f
+
+-- a layout puts a function's objects where the linking has them
+pub record Agrees (p : Linking) (f : Function) (l : Layout) : Type 0 where
+  pub at : (a : Name) (sh : Shape) → shapes_of f a ≡ Some sh → p.at a ≡ place_in f l a
+  pub size : (a : Name) (sh : Shape) → shapes_of f a ≡ Some sh → p.size a ≡ sh.size
+
+abbrev pub FrameLaw : Type 0
+FrameLaw =
+    (p : Linking) (g : Setting) (i : ℕ) (f : Function) (l : Layout) →
+    IsLayout f l → Agrees p f l → frame_of g i ≡ l.frame → f.registers ≡ Machine → f.first_parameter ≡ 10 → IsFramed p g i f

@@ -1,5 +1,5 @@
 ghost use Rattle.im_select.specs.Law.{SelectKeeps};
-ghost use Rattle.im_select.specs.Symbolic.{LinesLaw};
+ghost use Rattle.im_select.specs.Symbolic.{FrameLaw, LinesLaw};
 
 /// Where placed code is selected and linked, the machine follows it: the same outcome, the same accesses.
 pub fn select_keeps_law()
@@ -9,4 +9,9 @@ pub fn select_keeps_law()
 /// Lines that are selected, once laid at their places, are what the law of selection asks for.
 pub fn lines_law()
     ensures { LinesLaw }
+{}
+
+/// The layout of a frame is what the law of selection asks for, where the linking has its places.
+pub fn frame_law()
+    ensures { FrameLaw }
 {}

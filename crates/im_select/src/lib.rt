@@ -3,4 +3,4 @@
 
 mod laws;
 
-pub use laws::{lines_law, select_keeps_law};
+pub use laws::{frame_law, lines_law, select_keeps_law};
