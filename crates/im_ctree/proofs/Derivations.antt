@@ -1,15 +1,16 @@
 -- Derivations of the samples.
-use Rattle.std.proofs.Common.{◌≡◌, ℕ, zero, suc, ◌<◌, true, List, [], ◌∷◌, subst, ap, refl, arith, codes}
+use Rattle.std.proofs.Common.{◌≡◌, ℕ, zero, suc, ◌<◌, Bool, true, false, List, [], ◌∷◌, subst, ap, refl, arith, codes}
 use Rattle.std.proofs.lemmas.List.{append-nil}
 use Rattle.std.specs.List.{Contains}
 use Rattle.im_tok.specs.declared.number.Number.{Number}
+use Rattle.im_tok.specs.declared.punctuator.Punctuator.{Punctuator}
 use Rattle.im_tok.specs.declared.punctuator.Punctuator.TheVariants.{OpenParen, CloseParen, Semicolon}
 use Rattle.im_word.specs.Words.{Name, Word, name, number, mark}
 use Rattle.im_ctree.specs.Tree as tree
 use Rattle.im_ctree.specs.Operators as operators
 use Rattle.im_ctree.specs.Grammar as grammar
 use Rattle.im_ctree.specs.Units as units
-use Rattle.im_ctree.specs.Samples.{int_constant, program_words, program_tree, name_statement, else_words, else_tree, do_words, do_tree, typedef_specifiers, sizeof_words, sizeof_type_tree, sizeof_expression_tree, cast_words, cast_tree, call_tree, parameter_words, int_specifiers, parameter_tree}
+use Rattle.im_ctree.specs.Samples.{int_constant, program_words, program_tree, name_statement, else_words, else_tree, do_words, do_tree, typedef_specifiers, sizeof_words, sizeof_type_tree, sizeof_expression_tree, cast_words, cast_tree, call_tree, parameter_words, int_specifiers, parameter_tree, scope_words, scope_tree, nothing_words, nothing_tree, grouped_words, grouped_tree}
 
 -- a level without operators
 looser : {T : List Name} (n : ℕ) {p : ℕ} {t : tree.Expression} {w : List Word} → n < 10 → grammar.IsBinary T (suc n) p t w → grammar.IsBinary T n p t w
@@ -106,3 +107,25 @@ program_derived =
     (units.a_block (units.next_statement
     (units.computes (units.something (expression_of (grammar.uncast (grammar.postfix (grammar.primary (grammar.an_identifier (codes "putchar") putchar_free) (one_argument (number_of (int_constant 72)))))))))
     (units.next_statement (units.returns (units.something (expression_of (number_of (int_constant 7))))) units.no_item))))
+
+-- a name without suffixes
+name_declarator : {T : List Name} {p : ℕ} (x : Name) → units.IsInitDeclarators T p (tree.more_init_declarators (tree.declarator p [] (tree.name_core x) tree.no_suffixes) tree.no_initializer tree.no_init_declarators) (name x ∷ [])
+name_declarator x = units.last_declarator (grammar.a_name x grammar.no_star grammar.no_suffix) units.not_initialized
+
+pub scope_derived : (T : List Name) (t x : Name) → units.IsBlock T 0 (scope_tree t x) (scope_words t x)
+scope_derived T t x =
+    units.a_block (units.next_declaration
+    (units.declares (grammar.first_specifier (grammar.a_word operators.typedef) (grammar.next_specifier (grammar.a_word operators.int) grammar.last_specifier)) typed_ends (name_declarator t))
+    (units.next_declaration (units.declares (typedef_of (zero, omega arith, refl)) typed_ends (name_declarator x)) units.no_item))
+
+pub nothing_derived : (T : List Name) (t : Name) → Contains T t → units.IsDeclaration T 0 (nothing_tree t) (nothing_words t)
+nothing_derived T t is = units.declares_none (grammar.first_specifier (grammar.a_word operators.const) (grammar.next_specifier (grammar.its_typedef_name t is) grammar.last_specifier))
+
+-- no punctuator goes on with specifiers
+mark_ends : {T : List Name} {b : Bool} {m : Punctuator} {w : List Word} → grammar.GoesOnSpecifiers T b (mark m ∷ w) → ⊥
+mark_ends h = elim h [ ]
+
+pub grouped_derived : (T : List Name) (t : Name) → units.IsDeclaration T 0 (grouped_tree t) (grouped_words t)
+grouped_derived T t =
+    units.declares (grammar.first_specifier (grammar.a_word operators.const) grammar.last_specifier) mark_ends
+    (units.last_declarator (grammar.an_inner grammar.no_star (grammar.a_name t grammar.no_star grammar.no_suffix) (λ e. absurd (let h : false ≡ true = e in cc)) grammar.no_suffix) units.not_initialized)

@@ -2,11 +2,11 @@
 use Rattle.std.specs.Prelude.{ℕ, List, [], ◌∷◌, codes}
 use Rattle.im_tok.specs.declared.number.Number.{Number}
 use Rattle.im_tok.specs.declared.number.NumberType.TheVariants as number_type
-use Rattle.im_tok.specs.declared.keyword.Keyword.TheVariants.{Int, Void, Return, If, Else, Do, While, Sizeof}
+use Rattle.im_tok.specs.declared.keyword.Keyword.TheVariants.{Int, Typedef, Const, Void, Return, If, Else, Do, While, Sizeof}
 use Rattle.im_tok.specs.declared.punctuator.Punctuator.TheVariants.{OpenParen, CloseParen, OpenBrace, CloseBrace, Question, Colon, Semicolon, Assign}
 use Rattle.im_word.specs.Words.{Name, Word, name, keyword, number, mark}
 use Rattle.im_ctree.specs.declared.specifier.SpecifierWord.TheVariants as word
-use Rattle.im_ctree.specs.Tree.{Expression, identifier, integer_constant, call, size_of_expression, size_of_type, cast, no_expressions, more_expressions, an_expression, Specifiers, specifiers, no_specifiers, more_specifiers, word_specifier, typedef_specifier, declarator, absent_core, name_core, no_suffixes, function_suffix, no_declarator, MaybeDeclarator, a_declarator, no_parameters, more_parameters, type_name, Statement, expression_statement, if_statement, do_statement, return_statement, no_statement, a_statement, block, no_items, statement_item, function_definition, Tree, no_externals, more_externals}
+use Rattle.im_ctree.specs.Tree.{Expression, identifier, integer_constant, call, size_of_expression, size_of_type, cast, no_expressions, more_expressions, an_expression, Specifiers, specifiers, no_specifiers, more_specifiers, word_specifier, typedef_specifier, declarator, absent_core, name_core, no_suffixes, function_suffix, no_declarator, MaybeDeclarator, a_declarator, no_parameters, more_parameters, type_name, Statement, expression_statement, if_statement, do_statement, return_statement, no_statement, a_statement, Block, block, no_items, statement_item, declaration_item, Declaration, declaration, no_initializer, more_init_declarators, no_init_declarators, function_definition, Tree, no_externals, more_externals}
 
 -- an integer constant of type int
 abbrev pub int_constant : ℕ → Number
@@ -82,3 +82,30 @@ parameter_tree t = a_declarator (declarator 1 [] absent_core (function_suffix 1 
 -- a = b ? c : d = e
 abbrev pub assignment_words : Name → Name → Name → Name → Name → List Word
 assignment_words a b c d e = name a ∷ mark Assign ∷ name b ∷ mark Question ∷ name c ∷ mark Colon ∷ name d ∷ mark Assign ∷ name e ∷ []
+
+-- the declaration of one name without an initialiser
+abbrev pub name_declaration : Specifiers → ℕ → Name → Declaration
+name_declaration s p x = declaration s (more_init_declarators (declarator p [] (name_core x) no_suffixes) no_initializer no_init_declarators)
+
+-- { typedef int t ; t x ; }
+abbrev pub scope_words : Name → Name → List Word
+scope_words t x = mark OpenBrace ∷ keyword Typedef ∷ keyword Int ∷ name t ∷ mark Semicolon ∷ name t ∷ name x ∷ mark Semicolon ∷ mark CloseBrace ∷ []
+
+abbrev pub scope_tree : Name → Name → Block
+scope_tree t x =
+    let typedef_int = specifiers 1 (more_specifiers (word_specifier 1 word.Typedef) (more_specifiers (word_specifier 2 word.Int) no_specifiers)) in
+    block 0 (declaration_item (name_declaration typedef_int 3 t) (declaration_item (name_declaration (typedef_specifiers 5 t) 6 x) no_items))
+
+-- const t ;
+abbrev pub nothing_words : Name → List Word
+nothing_words t = keyword Const ∷ name t ∷ mark Semicolon ∷ []
+
+abbrev pub nothing_tree : Name → Declaration
+nothing_tree t = declaration (specifiers 0 (more_specifiers (word_specifier 0 word.Const) (more_specifiers (typedef_specifier 1 t) no_specifiers))) no_init_declarators
+
+-- const ( t ) ;
+abbrev pub grouped_words : Name → List Word
+grouped_words t = keyword Const ∷ mark OpenParen ∷ name t ∷ mark CloseParen ∷ mark Semicolon ∷ []
+
+abbrev pub grouped_tree : Name → Declaration
+grouped_tree t = name_declaration (specifiers 0 (more_specifiers (word_specifier 0 word.Const) no_specifiers)) 1 t

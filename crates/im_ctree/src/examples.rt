@@ -1,12 +1,13 @@
 //! Derivations of words that stand for what is peculiar to the grammar. These laws have no body.
 
-ghost use Rattle.std.specs.Prelude.{ℕ, List};
+ghost use Rattle.std.specs.Prelude.{◌≡◌, ◌∷◌, ℕ, List};
 ghost use Rattle.std.specs.List.{Contains};
 ghost use Rattle.im_word.specs.Words.{Name};
 ghost use Rattle.im_ctree.specs.Tree as tree;
 ghost use Rattle.im_ctree.specs.Grammar.{IsExpression, IsParameter};
-ghost use Rattle.im_ctree.specs.Units.{IsStatement, Spells};
-ghost use Rattle.im_ctree.specs.Samples.{program_words, program_tree, else_words, else_tree, do_words, do_tree, sizeof_words, sizeof_type_tree, sizeof_expression_tree, cast_words, cast_tree, call_tree, parameter_words, int_specifiers, parameter_tree, assignment_words};
+ghost use Rattle.im_ctree.specs.Units.{IsDeclaration, IsBlock, IsStatement, Spells};
+ghost use Rattle.im_ctree.specs.Typedefs.{names_behind_block};
+ghost use Rattle.im_ctree.specs.Samples.{program_words, program_tree, else_words, else_tree, do_words, do_tree, sizeof_words, sizeof_type_tree, sizeof_expression_tree, cast_words, cast_tree, call_tree, parameter_words, int_specifiers, parameter_tree, scope_words, scope_tree, nothing_words, nothing_tree, grouped_words, grouped_tree, assignment_words};
 
 /// `int main ( void ) { putchar ( 72 ) ; return 7 ; }` is a unit.
 pub fn program_example()
@@ -40,4 +41,16 @@ pub fn parameter_example()
 /// `a = b ? c : d = e` is no expression, whatever its names are: the left side of an assignment is unary (C11 6.5.16).
 pub fn assignment_example()
     ensures { (names : List Name) (a b c d e : Name) (p : ℕ) (expression : tree.Expression) → IsExpression names p expression (assignment_words a b c d e) → ⊥ }
+{}
+
+/// In `{ typedef int t ; t x ; }` the second t is the type of x (C11 6.7.8), and t is a typedef name behind the block too.
+pub fn scope_example()
+    ensures derived { (names : List Name) (t x : Name) → IsBlock names 0 (scope_tree t x) (scope_words t x) }
+    ensures behind { (names : List Name) (t x : Name) → names_behind_block names (scope_tree t x) ≡ t ∷ names }
+{}
+
+/// `const t ;` declares nothing where t is a typedef name, and `const ( t ) ;` declares t (C11 6.7p3).
+pub fn declaration_examples()
+    ensures nothing { (names : List Name) (t : Name) → Contains names t → IsDeclaration names 0 (nothing_tree t) (nothing_words t) }
+    ensures grouped { (names : List Name) (t : Name) → IsDeclaration names 0 (grouped_tree t) (grouped_words t) }
 {}

@@ -14,8 +14,8 @@ mod unit;
 pub use declaration::{Declaration, InitDeclarator, Initializer};
 pub use declarator::{Core, Declarator, Parameter, Star, Suffix, SuffixKind, TypeName};
 pub use examples::{
-    assignment_example, cast_examples, parameter_example, program_example, sizeof_examples,
-    statement_examples,
+    assignment_example, cast_examples, declaration_examples, parameter_example, program_example,
+    scope_example, sizeof_examples, statement_examples,
 };
 pub use expression::{Expression, ExpressionKind};
 pub use laws::{

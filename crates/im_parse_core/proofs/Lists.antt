@@ -1,12 +1,10 @@
 -- Lists that a loop reads into a vector: what was read stands before what is still to be read.
-use Rattle.std.proofs.Common.{◌≡◌, ℕ, suc, ◌+◌, List, [], ◌∷◌, ◌++◌, length, drop, sym, refl, ap, ◌∙◌, subst, append_assoc, arith, length-append}
-use Rattle.std.specs.Prelude.{Option, Some, None}
+use Rattle.std.proofs.Common.{◌≡◌, ℕ, suc, ◌+◌, List, [], ◌∷◌, ◌++◌, length, sym, refl, ap, subst, append_assoc, arith, length-append}
 use Rattle.im_word.specs.Words.{Word}
-use Rattle.im_parse_core.specs.Reads.{Family, Ending, head, Reads, Refuses, Within}
-use Rattle.im_parse_core.specs.Parts.{Both, both, After, after, Made, made, Done, done}
-use Rattle.im_parse_core.specs.Places.{IsAt}
+use Rattle.im_parse_core.specs.Reads.{Family, Ending, Within}
+use Rattle.im_parse_core.specs.Parts.{Both, both, After, after, Made, made}
 use Rattle.im_parse_core.specs.Lists.{before}
-use Rattle.im_parse_core.proofs.Steps.{Apart, Into, Back, line, first_line, first_line_at, flat_done, flat_after, word, part}
+use Rattle.im_parse_core.proofs.Steps.{Into, line, flat_after}
 
 pub before_more : {A B : Type 0} (cons : A → B → B) (xs : List A) (a : A) (b : B) → before cons (xs ++ a ∷ []) b ≡ before cons xs (cons a b)
 before_more cons [] a b = refl

@@ -1,6 +1,6 @@
 -- Step by step through a line of the grammar: how what is read of its parts gives what is read of the whole.
-use Rattle.std.proofs.Common.{◌≡◌, ℕ, suc, ◌+◌, ◌<◌, List, [], ◌∷◌, ◌++◌, length, drop, sym, refl, ap, ◌∙◌, subst, append_assoc, arith, length-append, inl, inr}
-use Rattle.std.specs.Prelude.{Option, Some, None, ◌⊎◌}
+use Rattle.std.proofs.Common.{◌≡◌, ℕ, suc, ◌+◌, List, [], ◌∷◌, ◌++◌, length, drop, sym, refl, ap, ◌∙◌, subst, append_assoc, arith, length-append, inl, inr}
+use Rattle.std.specs.Prelude.{Some, ◌⊎◌}
 use Rattle.std.proofs.lemmas.List.{append_cancel_left, append-nil}
 use Rattle.im_word.specs.Words.{Word}
 use Rattle.im_parse_core.specs.Reads.{Family, Ending, head, Reads, Refuses, Within}

@@ -1,8 +1,6 @@
 -- The same by places in the words of a text: the words from place i on.
-use Rattle.std.specs.Prelude.{ℕ, suc, ◌≡◌, ◌<◌, List, ◌∷◌, drop, length, map}
-use Rattle.im_word.specs.Words.{Word, Name}
-use Rattle.im_word.specs.Shown.{shown}
-use Rattle.im_word.specs.declared.word.Word as w
+use Rattle.std.specs.Prelude.{ℕ, suc, ◌≡◌, ◌<◌, List, ◌∷◌, drop, length}
+use Rattle.im_word.specs.Words.{Word}
 use Rattle.im_parse_core.specs.declared.stop.Stop.{Stop}
 use Rattle.im_parse_core.specs.declared.stop.Stop.TheVariants.{Syntax, Memory}
 use Rattle.im_parse_core.specs.Reads.{Family, Ending, Reads, Refuses}

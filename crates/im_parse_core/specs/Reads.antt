@@ -1,7 +1,7 @@
 -- What a function finds that reads one nonterminal from the front of the words, for any nonterminal. A family D says
 -- which words, of which the first has number p, are derived with which tree; an ending E, what stands behind such a
 -- tree wherever the grammar lets it stand.
-use Rattle.std.specs.Prelude.{ℕ, suc, ◌+◌, ◌≡◌, List, [], ◌∷◌, ◌++◌, length, Option, Some, None}
+use Rattle.std.specs.Prelude.{ℕ, ◌+◌, ◌≡◌, List, [], ◌∷◌, ◌++◌, length, Option, Some, None}
 use Rattle.im_word.specs.Words.{Word}
 
 abbrev pub Family : Type 0 → Type 1
