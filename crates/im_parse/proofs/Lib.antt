@@ -1,0 +1,11 @@
+pub mod Operators
+pub mod Exits
+pub mod Some
+pub mod ExpressionLines
+pub mod BinaryLines
+pub mod UnaryLines
+pub mod AssignLines
+pub mod PostfixLines
+pub mod ArgumentLines
+pub mod Rows
+pub mod TextLines
