@@ -1,3 +1,4 @@
 pub mod Kept
 pub mod Pointing
 pub mod Points
+pub mod Premises

@@ -28,6 +28,8 @@ use Rattle.im_block.specs.declared.unit.Registers.TheVariants.{Virtual}
 use Rattle.im_block.specs.declared.unit.Function.{Function}
 use Rattle.im_block.specs.declared.unit.Unit.{Unit as Code}
 use Rattle.im_block.specs.Meaning.{Setting}
+use Rattle.im_block.specs.Shape.{AllOrdered}
+use Rattle.im_block.specs.Wellformed.{IsWellFormed}
 use Rattle.im_block.specs.Runs.{Ran, Over, At, goes_on, exec, start}
 
 abbrev pub pair_cells : List Cell
@@ -142,5 +144,10 @@ pub record SampleRuns (memory : Global) : Type 0 where
   pub wants : sampled memory 48 4 80 ≡ Some (More [])
   pub exhausted : sampled memory 47 5 80 ≡ Some (End 1 (pos 0) [] (shown 5 7 0))
 
+-- what is asked of code, elsewhere as a premise, is met by it
+pub record SampleIsCode (memory : Global) : Type 0 where
+  pub ordered : AllOrdered (sample memory)
+  pub well_formed : IsWellFormed (sample memory)
+
 abbrev pub SampleLaw : Type 0
-SampleLaw = (memory : Global) → SampleRuns memory
+SampleLaw = (memory : Global) → SampleIsCode memory × SampleRuns memory
