@@ -10,7 +10,8 @@ use im_parse_core::Stop;
 use im_word::Word;
 use std::alloc::Global;
 
-/// A type name and the parenthesis that closes it (C11 6.7.7), and the place behind both.
+/// A type name and the parenthesis that closes it (C11 6.7.7), and the place behind both. Type names
+/// aren't read yet: the answer is always want of memory.
 pub fn closed_type_name(
     alloc: Global,
     words: &[Word],
