@@ -2,6 +2,7 @@ mod images;
 mod limits;
 mod runs;
 mod sources;
+mod upgrades;
 
 use crate::top;
 use im_io::{MemShelf, MemSink};
