@@ -29,7 +29,12 @@ fn an_image_is_upgraded(rt: HostRuntime) -> Result<(), Fail> {
     let table: [(&str, u8, &[u8], &[u8]); 8] = [
         ("upgrade old.img new.img", 0, b"version 1 to 2\n", b""),
         ("upgrade new.img again.img", 0, b"version 2 to 2\n", b""),
-        ("exec new.img", 0, b"", b"status 0\ncommits 0\ninstructions 1\n"),
+        (
+            "exec new.img",
+            0,
+            b"",
+            b"status 0\ncommits 0\ninstructions 1\n",
+        ),
         (
             "dump new.img",
             0,
