@@ -112,7 +112,7 @@ module _ (u : Code) (g : Setting) (p : q.Prog) (f : q.Func) (c : Around) (bound 
         (arrived u g p home next b registers after to free (Number (wrap kind z)) left v took.agrees
         (λ x l ne. took.kept x (omega arith) (λ e. omega arith))))
     lowered (q.Unary op kind e) to free entry next lt served t codes n registers store s ready =
-        does-number u g p home t.0
+        does-number u g p home t.0.0
         (does-used u g p home (right-as e s t.2 t.1 ready)
         (lowered e free (free + 1) entry (before (Unary to op kind free) next) (omega arith) served t.1 codes n registers store s ready))
         (λ z v b after left h took.
@@ -121,8 +121,8 @@ module _ (u : Code) (g : Setting) (p : q.Prog) (f : q.Func) (c : Around) (bound 
         (arrived u g p home next b registers after to free (Number (apply_one op kind z)) left v took.agrees
         (λ x l ne. took.kept x (omega arith) (λ e. omega arith))))
     lowered (q.Binary op kind a b) to free entry next lt served t codes n registers store s ready =
-        let r = right-kind op kind (shape_of p b) t.0 t.4 in
-        does-number u g p home t.0
+        let r = right-kind op kind (shape_of p b) t.0.0 t.4 in
+        does-number u g p home t.0.0
         (does-used u g p home (right-as a s t.3 t.1 ready)
         (lowered a free (free + 1) entry codes.0 (omega arith) served.0 t.1 codes.1 n registers store s ready))
         (λ x v n₁ after left hx took.
@@ -238,7 +238,7 @@ module _ (u : Code) (g : Setting) (p : q.Prog) (f : q.Func) (c : Around) (bound 
     lowered (q.Assign (q.Struct count cells) a e) to free entry next lt served t codes n registers store s ready = absurd served.0
     lowered (q.Update a (NumberBy kind op at_kind) e) to free entry next lt served t codes n registers store s ready =
         let more = above-more a free in
-        let r = right-kind op at_kind (shape_of p e) t.2.1 t.2.2 in
+        let r = right-kind op at_kind (shape_of p e) t.2.1.0 t.2.2 in
         let top = above a free in
         let place = where_of p c.first blocks a free in
         does-bind u g p home
@@ -281,7 +281,7 @@ module _ (u : Code) (g : Setting) (p : q.Prog) (f : q.Func) (c : Around) (bound 
         (change-lines u g p home v place kind op at_kind false codes.1 to to top free n₂ next registers rs left₂ first num.0 (pos 1) x t.1.0 num.1
         (λ i j. designates c p blocks a free v _ left₂ (place-kept c a free v after _
         (λ z ge l. register-other (with_register rs to i) to z j (λ e. omega arith) ∙ register-other rs to z i (λ e. omega arith) ∙ register-other after₂ top z (Number (pos 1)) (λ e. omega arith) ∙ took.kept z l (λ e. omega arith)) stood.1.is))
-        took.agrees (register-other after₂ top to (Number (pos 1)) (λ e. omega arith) ∙ took.has) (register-same after₂ top (Number (pos 1))) (right-same op at_kind (pos 1) (one-of_kind at_kind t.1.1))
+        took.agrees (register-other after₂ top to (Number (pos 1)) (λ e. omega arith) ∙ took.has) (register-same after₂ top (Number (pos 1))) (right-same op at_kind (pos 1) (one-of_kind at_kind t.1.1.0))
         (λ z l ne. register-other after₂ top z (Number (pos 1)) (λ e. omega arith) ∙ took.kept z (omega arith) ne ∙ stood.1.kept z l)
         (λ z l ne. ne)
         (λ i j. register-same (with_register rs to i) to j))))
@@ -303,7 +303,7 @@ module _ (u : Code) (g : Setting) (p : q.Prog) (f : q.Func) (c : Around) (bound 
         (change-lines u g p home v place kind op at_kind true codes.1 top to top free n₂ next registers rs left₂ first num.0 (pos 1) x t.1.0 num.1
         (λ i j. designates c p blocks a free v _ left₂ (place-kept c a free v after _
         (λ z ge l. register-other (with_register rs top i) top z j (λ e. omega arith) ∙ register-other rs top z i (λ e. omega arith) ∙ register-other after₂ top z (Number (pos 1)) (λ e. omega arith) ∙ took.kept z l (λ e. omega arith)) stood.1.is))
-        took.agrees (register-other after₂ top to (Number (pos 1)) (λ e. omega arith) ∙ took.has) (register-same after₂ top (Number (pos 1))) (right-same op at_kind (pos 1) (one-of_kind at_kind t.1.1))
+        took.agrees (register-other after₂ top to (Number (pos 1)) (λ e. omega arith) ∙ took.has) (register-same after₂ top (Number (pos 1))) (right-same op at_kind (pos 1) (one-of_kind at_kind t.1.1.0))
         (λ z l ne. register-other after₂ top z (Number (pos 1)) (λ e. omega arith) ∙ took.kept z (omega arith) ne ∙ stood.1.kept z l)
         (λ z l ne e. omega arith)
         (λ i j. register-other (with_register rs top i) top to j (λ e. omega arith) ∙ register-other rs top to i (λ e. omega arith) ∙ register-other after₂ top to (Number (pos 1)) (λ e. omega arith) ∙ took.has))))
