@@ -107,7 +107,7 @@ commuted a d k n (w ∷ ws) values v o i lt =
     let same = parameter-number a d k n o (same_object-is o (parameter a d k) is.0) (same_object-is o (parameter a d n) other.0) in
     omega arith)
 
-values-agree : (store blocks : Store) (values : Object → ℕ → Value) → ((o : Object) (i : ℕ) → values o i ≡ store.values o i) → Agrees store blocks → Agrees (record store { values = values }) blocks
+pub values-agree : (store blocks : Store) (values : Object → ℕ → Value) → ((o : Object) (i : ℕ) → values o i ≡ store.values o i) → Agrees store blocks → Agrees (record store { values = values }) blocks
 values-agree store blocks values same agrees = record {
   shapes = agrees.shapes;
   values = λ o i. subst (λ v. Same v (blocks.values o i)) (sym (same o i)) (agrees.values o i);

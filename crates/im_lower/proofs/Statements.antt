@@ -2,20 +2,20 @@
 use Rattle.std.proofs.Common.{◌≡◌, ℕ, zero, suc, ◌+◌, ◌<◌, ◌≤◌, List, [], ◌∷◌, Bool, true, refl, sym, ap, ◌∙◌, subst, arith, ⊎_elim}
 use Rattle.std.specs.Prelude.{Option, Some, None, IsTrue, slice_get}
 use Rattle.im_num.specs.declared.kind.Kind.{Kind}
-use Rattle.im_ctype.specs.declared.cell.Cell.{Cell}
 use Rattle.im_store.specs.Checks.{Fine}
-use Rattle.im_store.specs.Objects.{Value, Pointer, Store}
+use Rattle.im_store.specs.Objects.{Value, Pointer, shape_of as object_shape, Store}
 use Rattle.im_store.specs.Access.{taken}
 use Rattle.im_store.specs.Pointers.{holds}
 use Rattle.im_typed.specs.Program as q
 use Rattle.im_typed.specs.Runs.{World, Answer, Gives, Run, ◌>>=◌, give, starve, with_fuel}
 use Rattle.im_typed.specs.Runs as typed
-use Rattle.im_typed.specs.Values.{Values, used, write_at}
-use Rattle.im_typed.specs.Meaning.{Around, is_among, local, Flow, Next, Broke, Continued, Returned, after_turn, turns, entered, given_offsets, forgotten, cleared, change_store, initialise, value_of, does, does_from}
-use Rattle.im_typed.specs.Typing.{Each, IsScalarShape, AreLabels, shape_of, statements_in, IsTyped, IsPieceOf, IsTypedStmt, AreTyped, cells_at}
+use Rattle.im_typed.specs.Values.{Values, used, cells_of, write_at}
+use Rattle.im_typed.specs.Meaning.{Around, local, Flow, Next, Broke, Continued, Returned, after_turn, turns, entered, given_offsets, forgotten, cleared, initialise, value_of, does, does_from}
+use Rattle.im_typed.specs.Typing.{Each, IsScalarShape, AreLabels, shape_of, statements_in, AreLaidOut, IsObject, StandAmong, IsTyped, IsPieceOf, IsTypedStmt, AreTyped, cells_at}
 use Rattle.im_typed.specs.Sound.{IsSoundWorld, AreValues, Fits, FlowFits}
 use Rattle.im_typed.proofs.Sounds.{right-give}
 use Rattle.im_typed.proofs.SoundExprs.{there}
+use Rattle.im_typed.proofs.SoundCalls.{each-at}
 use Rattle.im_typed.proofs.SoundCells.{right-write}
 use Rattle.im_typed.proofs.SoundStmts.{right-does}
 use Rattle.im_typed.proofs.Related.{rel-give}
@@ -31,7 +31,7 @@ use Rattle.im_block.specs.declared.unit.Unit.{Unit as Code}
 use Rattle.im_block.specs.Meaning as m
 use Rattle.im_block.specs.Meaning.{Setting, Frame, State, condition}
 use Rattle.im_lower.specs.Codes.{Point, before, ends, Begins, Codes}
-use Rattle.im_lower.specs.Statements.{start_at, kind_in, Passes, CodesCases, CodesPiece, CodesPieces, CodesStatement, CodesStatements}
+use Rattle.im_lower.specs.Statements.{start_at, kind_in, Passes, CodesCases, CodesPiece, CodesPieces, CodesRest, CodesStatement, CodesStatements}
 use Rattle.im_lower.specs.Agrees.{Agrees, Home, Mark, moved, at, Follows, Does, HasOne, Came}
 use Rattle.im_lower.specs.Served.{IsCell, IsServed, IsServedPiece, IsServedStatement, AreServedStatements}
 use Rattle.im_lower.proofs.Steps.{Right, does-later, does-bind, does-checked, joined, does-weaker}
@@ -41,13 +41,14 @@ use Rattle.im_lower.proofs.Cells.{write-line}
 use Rattle.im_lower.proofs.Ready.{Ready, Works, ready-known, ready-took, right-of, right-at}
 use Rattle.im_lower.proofs.Values.{home, lowered}
 use Rattle.im_lower.proofs.Flows.{end_of, Left, flow-arm, followed, turned, switched}
-use Rattle.im_lower.proofs.Cases.{cases-lead, forgotten-agrees, cleared-agrees, rest-none}
+use Rattle.im_lower.proofs.Cases.{cases-lead, forgotten-agrees}
+use Rattle.im_lower.proofs.Cleared.{cell-inside, cells-found, cells-inside, local-place, empties, zeroed-agrees}
 
 start-same : (s : Point) (qs : List Point) → start_at s qs 0 ≡ s
 start-same s [] = refl
 start-same s (q ∷ qs) = refl
 
-module _ (u : Code) (g : Setting) (p : q.Prog) (f : q.Func) (c : Around) (bound : ℕ) (works : Works u g p c bound) (k : ℕ) (callers : List Frame) (fn : Function) (is : slice_get u.functions.items k ≡ Some fn) (virtual : fn.registers ≡ Virtual) (low : ℕ) where
+module _ (u : Code) (g : Setting) (p : q.Prog) (f : q.Func) (c : Around) (bound : ℕ) (works : Works u g p c bound) (k : ℕ) (callers : List Frame) (fn : Function) (is : slice_get u.functions.items k ≡ Some fn) (virtual : fn.registers ≡ Virtual) (low : ℕ) (objects : Each {A = q.LocalObject} (λ o. IsObject o.size o.cells) f.objects) where
   abbrev h : Home
   h = home u g p f c bound works k callers fn is virtual
 
@@ -141,15 +142,15 @@ module _ (u : Code) (g : Setting) (p : q.Prog) (f : q.Func) (c : Around) (bound 
 
   -- a value that is used is written to a local, and what comes then
   stored : {A : Type 0} {P : A → typed.State → (ℕ → Value) → Store → Type 0} (next : A → Point) (x offset access : ℕ) (kind : Kind) (t : Point) (vs : Values) (then : Values → Run A) (n : Mark) (registers : ℕ → Value) (store : Store) (s : typed.State)
-      → offset ≡ 0 → Fits (Some (q.Scalar kind)) s.world vs → HasOne vs (registers low) → IsReady s store
+      → (o : q.LocalObject) → slice_get f.objects x ≡ Some o → offset ≤ o.size → Fits (Some (q.Scalar kind)) s.world vs → HasOne vs (registers low) → IsReady s store
       → ((ws : Values) (v : typed.State) (i : Mark) (rs : ℕ → Value) (left : Store) → IsReady v left → Follows u g p h next (at h i t rs left v) P (then ws v))
       → Follows u g p h next (at h n (before (Write (Local (c.first + x) offset) kind low access) t) registers store s) P
       (typed.goes_on (used vs s) (λ _. write_at (q.Scalar kind) (Pointer (local c x) offset) vs >>= then))
-  stored next x offset access kind t [] then n registers store s zero_offset fits has ready go = record { by = tt }
-  stored next x offset access kind t (w ∷ ws) then n registers store s zero_offset fits has ready go =
+  stored next x offset access kind t [] then n registers store s o found inside fits has ready go = record { by = tt }
+  stored next x offset access kind t (w ∷ ws) then n registers store s o found inside fits has ready go =
       does-checked u g p h (taken s.world.store w) s _ (λ a e.
       let is : m.place_of (Local (c.first + x) offset) h.active registers store ≡ Fine (Pointer (local c x) offset) =
-      ap (λ i. m.place_of (Local (c.first + x) i) h.active registers store) zero_offset ∙ ap (λ i. Fine (Pointer (local c x) i)) (sym zero_offset) in
+      local-place store (local c x) (object_shape o.size o.cells) offset (ready.agrees.shapes (local c x) (object_shape o.size o.cells) (ready.here.live x o found)) inside in
       does-bind u g p h
       (joined u g p h (right-writing (Pointer (local c x) offset) kind w ws s fits ready.sane)
       (write-line u g p h (Pointer (local c x) offset) (Local (c.first + x) offset) kind access low n t registers store w ws s is ready.agrees fits.0 has))
@@ -163,30 +164,30 @@ module _ (u : Code) (g : Setting) (p : q.Prog) (f : q.Func) (c : Around) (bound 
 
   -- one expression of an initialiser, and what comes then
   piece : {A : Type 0} {P : A → typed.State → (ℕ → Value) → Store → Type 0} (next : A → Point) (x offset : ℕ) (access : q.Access) (e : q.Expr) (entry t : Point) (then : Values → Run A) (n : Mark) (registers : ℕ → Value) (store : Store) (s : typed.State)
-      → IsCell access → offset ≡ 0 → IsServed e → IsTyped p f e → shape_of p e ≡ Some access → CodesPiece p c.first low f.objects blocks (c.first + x) offset access e entry t → IsReady s store
+      → (o : q.LocalObject) → slice_get f.objects x ≡ Some o → AreLaidOut 0 o.size o.cells → IsCell access → StandAmong o.cells offset (cells_of access) → IsServed e → IsTyped p f e → shape_of p e ≡ Some access → CodesPiece p c.first low f.objects blocks (c.first + x) offset access e entry t → IsReady s store
       → ((ws : Values) (v : typed.State) (i : Mark) (rs : ℕ → Value) (left : Store) → IsReady v left → Follows u g p h next (at h i t rs left v) P (then ws v))
       → Follows u g p h next (at h n entry registers store s) P (typed.goes_on (value_of c e s) (λ vs. used vs >>= (λ _. write_at access (Pointer (local c x) offset) vs >>= then)))
-  piece next x offset (q.Scalar kind) e entry t then n registers store s cell zero_offset served typed_one shape codes ready go =
+  piece next x offset (q.Scalar kind) e entry t then n registers store s o found laid cell among served typed_one shape codes ready go =
       does-bind u g p h
       (joined u g p h (right-as e s shape typed_one ready)
       (value e entry (before (Write (Local (c.first + x) offset) kind low codes.0) t) served typed_one codes.1 n registers store s ready))
       (λ vs v n₁ after left k.
-      stored next x offset codes.0 kind t vs then n₁ after left v zero_offset k.0.fits k.1.has (ready-known p f c bound ready k.0 k.1.agrees) go)
-  piece next x offset (q.Struct count cells) e entry t then n registers store s cell zero_offset served typed_one shape codes ready go = absurd cell
+      stored next x offset codes.0 kind t vs then n₁ after left v o found (let inside = cell-inside 0 o.size o.cells (offset + 0) kind laid among.0 in omega arith) k.0.fits k.1.has (ready-known p f c bound ready k.0 k.1.agrees) go)
+  piece next x offset (q.Struct count cells) e entry t then n registers store s o found laid cell among served typed_one shape codes ready go = absurd cell
 
   -- an initialiser's expressions
-  pieces : (x : ℕ) (cells : List Cell) (ps : List q.Piece) (entry next : Point) → Each IsServedPiece ps → Each (IsPieceOf p f cells) ps → CodesPieces p c.first low f.objects blocks (c.first + x) ps entry next
+  pieces : (x : ℕ) (o : q.LocalObject) (ps : List q.Piece) (entry next : Point) → slice_get f.objects x ≡ Some o → AreLaidOut 0 o.size o.cells → Each IsServedPiece ps → Each (IsPieceOf p f o.cells) ps → CodesPieces p c.first low f.objects blocks (c.first + x) ps entry next
       → (n : Mark) (registers : ℕ → Value) (store : Store) (s : typed.State) → IsReady s store → Does u g p h next (at h n entry registers store s) (λ (a : Unit {0}) v rs left. IsReady v left) (initialise c (local c x) ps s)
-  pieces x cells [] entry next served t codes n registers store s ready =
+  pieces x o [] entry next found laid served t codes n registers store s ready =
       subst (λ y. Does u g p h next (at h n y registers store s) (λ (a : Unit {0}) v rs left. IsReady v left) (initialise c (local c x) [] s)) (sym codes)
       (stands u g p h (λ _. next) n registers store s tt ready)
-  pieces x cells (r ∷ rs) entry next served t codes n registers store s ready =
-      piece (λ _. next) x r.offset r.access r.value entry codes.0 (λ _. initialise c (local c x) rs) n registers store s served.0.0 served.0.1 served.0.2 t.0.1 t.0.2 codes.1 ready
-      (λ ws v i after left one. pieces x cells rs codes.0 next served.1 t.1 codes.2 i after left v one)
+  pieces x o (r ∷ rs) entry next found laid served t codes n registers store s ready =
+      piece (λ _. next) x r.offset r.access r.value entry codes.0 (λ _. initialise c (local c x) rs) n registers store s o found laid served.0.0 t.0.3 served.0.1 t.0.1 t.0.2 codes.1 ready
+      (λ ws v i after left one. pieces x o rs codes.0 next found laid served.1 t.1 codes.2 i after left v one)
 
   mutual
     pub statement : (st : q.Stmt) (breaks continues : Bool) (b d : ℕ) (out again entry next : Point) → (IsTrue breaks → Begins blocks b out) → (IsTrue continues → Begins blocks d again)
-        → IsServedStatement f.objects st → IsTypedStmt p f breaks continues st → CodesStatement p c.first low f.objects blocks st b d entry next
+        → IsServedStatement st → IsTypedStmt p f breaks continues st → CodesStatement p c.first low f.objects blocks st b d entry next
         → (n : Mark) (registers : ℕ → Value) (store : Store) (s : typed.State) → IsReady s store
         → Follows u g p h (end_of low next out again) (at h n entry registers store s) (Left low) (does c bound st s)
     statement (q.Do e) breaks continues b d out again entry next bb bd served t codes n registers store s ready =
@@ -197,17 +198,20 @@ module _ (u : Code) (g : Setting) (p : q.Prog) (f : q.Func) (c : Around) (bound 
         subst (λ y. Follows u g p h (end_of low next out again) (at h n y registers store s) (Left low) (does c bound (q.Forget x) s)) (sym codes)
         (stands u g p h (end_of low next out again) n registers store v Next (record { agrees = forgotten-agrees s.world.store store (local c x) ready.agrees; has = tt }))
     statement (q.Initialise x count ps) breaks continues b d out again entry next bb bd served t codes n registers store s ready =
-        let object = there f.objects x t.0 in
-        let same : cells_at (slice_get f.objects x) ≡ object.0.cells = ap cells_at object.1 in
-        does-bind u g p h (pieces x (cells_at (slice_get f.objects x)) ps entry codes.0 served.0 t.2 codes.1 n registers store s ready)
+        let found = there f.objects x t.0 in
+        let o : q.LocalObject = found.0 in
+        let same : cells_at (slice_get f.objects x) ≡ o.cells = ap cells_at found.1 in
+        let laid : AreLaidOut 0 o.size o.cells = (each-at (λ (i : q.LocalObject). IsObject i.size i.cells) f.objects x o objects found.1).1 in
+        let given : List ℕ = given_offsets ps in
+        let rest : CodesRest low (c.first + x) given o.cells codes.0 next = subst (λ l. CodesRest low (c.first + x) given l codes.0 next) same codes.2 in
+        does-bind u g p h (pieces x o ps entry codes.0 found.1 laid served (subst (λ l. Each (IsPieceOf p f l) ps) same t.2) codes.1 n registers store s ready)
         (λ _ v n₁ after left one.
-        let w : typed.State = record { world = record v.world { store = cleared (given_offsets ps) (local c x) v.world.store }; fuel = v.fuel } in
-        subst (λ y. Follows u g p h (end_of low next out again) (at h n₁ y after left v) (Left low) (typed.goes_on (change_store (cleared (given_offsets ps) (local c x)) v) (λ _. give Next))) (sym (rest-none low (c.first + x) (given_offsets ps) (cells_at (slice_get f.objects x)) codes.0 next served.1 codes.2))
-        (stands u g p h (end_of low next out again) n₁ after left w Next
-        (record {
-          agrees = cleared-agrees v.world.store left (local c x) (given_offsets ps) object.0.size object.0.cells (one.here.live x object.0 object.1) (subst (λ l. Each {A = Cell} (λ i. is_among i.offset (given_offsets ps) ≡ true) l) same served.1) one.agrees;
-          has = tt;
-        })))
+        let w : typed.State = record { world = record v.world { store = cleared given (local c x) v.world.store }; fuel = v.fuel } in
+        let shape = one.here.live x o found.1 in
+        let done = empties u g p h n₁ v low (c.first + x) o.size given o.cells o.cells codes.0 next after v.world.store left (cells-found 0 o.size o.cells laid) (cells-inside 0 o.size o.cells laid) shape rest one.agrees in
+        does-later u g p h done.leads
+        (stands u g p h (end_of low next out again) n₁ done.registers done.left w Next
+        (record { agrees = zeroed-agrees v.world.store done.left given (local c x) o.size o.cells laid shape done.agrees; has = tt })))
     statement (q.Block ss) breaks continues b d out again entry next bb bd served t codes n registers store s ready =
         subst (λ y. Follows u g p h (end_of low next out again) (at h n y registers store s) (Left low) (does_from c bound 0 ss s)) (start-same entry codes.0)
         (statements 0 ss breaks continues b d out again entry codes.0 next bb bd served t codes.1 n registers store s ready)
@@ -289,7 +293,7 @@ module _ (u : Code) (g : Setting) (p : q.Prog) (f : q.Func) (c : Around) (bound 
 
     -- the statements of a block, from the i-th on
     statements : (i : ℕ) (ss : q.Stmts) (breaks continues : Bool) (b d : ℕ) (out again entry : Point) (qs : List Point) (next : Point) → (IsTrue breaks → Begins blocks b out) → (IsTrue continues → Begins blocks d again)
-        → AreServedStatements f.objects ss → AreTyped p f breaks continues ss → CodesStatements p c.first low f.objects blocks ss b d entry qs next
+        → AreServedStatements ss → AreTyped p f breaks continues ss → CodesStatements p c.first low f.objects blocks ss b d entry qs next
         → (n : Mark) (registers : ℕ → Value) (store : Store) (s : typed.State) → IsReady s store
         → Follows u g p h (end_of low next out again) (at h n (start_at entry qs i) registers store s) (Left low) (does_from c bound i ss s)
     statements i q.no_stmts breaks continues b d out again entry [] next bb bd served t codes n registers store s ready =

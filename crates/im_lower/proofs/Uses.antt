@@ -111,6 +111,12 @@ module _ (u : Code) (g : Setting) (p : Prog) (home : Home) where
     by = record { mark = n; registers = registers; store = store; leads = here u g (at home n (next a) registers store s); is = h };
   }
 
+  -- what is checked last
+  pub checks : {A : Type 0} {P : A → typed.State → (ℕ → Value) → Store → Type 0} (next : Point) (n : Mark) (registers : ℕ → Value) (store : Store) (s : typed.State) (r : Checked A) → ((a : A) → r ≡ Fine a → P a s registers store)
+      → Does u g p home next (at home n next registers store s) P (checked r s)
+  checks next n registers store s (Fine a) h = stands (λ _. next) n registers store s a (h a refl)
+  checks next n registers store s (Bad why) h = record { by = tt }
+
   -- a value of the expression has come into its register
   pub arrived : (t : Point) (n : Mark) (base registers : ℕ → Value) (to free : ℕ) (v : Value) (store : Store) (s : typed.State) → Agrees s.world.store store
       → ((q : ℕ) → q < free → (q ≡ to → ⊥) → registers q ≡ base q) → Does u g p home t (at home n t (with_register registers to v) store s) (Came base to free) (Gives (v ∷ []) s)
