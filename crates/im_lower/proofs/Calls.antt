@@ -127,7 +127,7 @@ module _ (ts : Setting) (u : Code) (input : List ℕ) (typed_program : IsWellTyp
       (begins w.store a d (shapes_of first f.objects)) (begins blocks a d (m.shapes_of code)) fit has
       (subst (λ x. CodesParameters x 0 (take f.params f.objects) func.start func.body) func.first_object func.passed)
       (λ j o e. new-shape p.statics f args w d first sane j o (taken-at f.params f.objects j o e))
-      (begun-agrees w.store blocks a d first f.objects code func.first_object func.objects agrees) in
+      (begun-agrees w.store blocks a d first f.objects code func.first_object func.objects t.1 agrees) in
       let ready : Ready p f c n s got.left = record {
         sane = record { store = begun-sound p.statics f args w d first sane t.1 fit; input = sane.input };
         here = record { later = omega arith; began = omega arith; live = λ j o e. new-shape p.statics f args w d first sane j o e };

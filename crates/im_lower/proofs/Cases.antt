@@ -79,6 +79,7 @@ forgotten-same false v w h = h
 
 pub forgotten-agrees : (store blocks : Store) (o : Object) → Agrees store blocks → Agrees (forgotten o store) blocks
 forgotten-agrees store blocks o agrees = record {
+  inside = agrees.inside;
   shapes = agrees.shapes;
   values = λ p i. forgotten-same (same_object p o) (store.values p i) (blocks.values p i) (agrees.values p i);
 }

@@ -38,7 +38,7 @@ member-none store (Number z) v e = absurd (cc)
 member-none store Null v e = absurd (cc)
 member-none store Unset v e = absurd (cc)
 
-further-none : (store : Store) (d : ℕ) (w v : Value) → member_at store d w ≡ Fine v → m.further store d w ≡ Fine v
+pub further-none : (store : Store) (d : ℕ) (w v : Value) → member_at store d w ≡ Fine v → m.further store d w ≡ Fine v
 further-none store zero w v e = ap Fine (member-none store w v e)
 further-none store (suc d) w v e = e
 
@@ -60,7 +60,7 @@ further-more store (suc k) d x w v e h =
     let next : suc k + d ≡ suc (k + d) = omega arith in
     ap (λ j. m.further store j x) next ∙ ap (λ j. member_at store j x) (sym next) ∙ members-add store (suc k) d x w v e h
 
-further-in : (place : Place) (by : Active) (registers : ℕ → Value) (store : Store) (d : ℕ) (w v : Value) → m.place_of place by registers store ≡ Fine w → member_at store d w ≡ Fine v → m.place_of (further_in place d) by registers store ≡ Fine v
+pub further-in : (place : Place) (by : Active) (registers : ℕ → Value) (store : Store) (d : ℕ) (w v : Value) → m.place_of place by registers store ≡ Fine w → member_at store d w ≡ Fine v → m.place_of (further_in place d) by registers store ≡ Fine v
 further-in (Static o offset) by registers store d w v e h = further-more store offset d _ w v e h
 further-in (Local o offset) by registers store d w v e h = further-more store offset d _ w v e h
 further-in (Through r offset) by registers store d w v e h = further-more store offset d _ w v e h

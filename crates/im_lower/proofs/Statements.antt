@@ -32,17 +32,18 @@ use Rattle.im_block.specs.Meaning as m
 use Rattle.im_block.specs.Meaning.{Setting, Frame, State, condition}
 use Rattle.im_lower.specs.Codes.{Point, before, ends, Begins, Codes}
 use Rattle.im_lower.specs.Statements.{start_at, kind_in, Passes, CodesCases, CodesPiece, CodesPieces, CodesRest, CodesStatement, CodesStatements}
-use Rattle.im_lower.specs.Agrees.{Agrees, Home, Mark, moved, at, Follows, Does, HasOne, Came}
+use Rattle.im_lower.specs.Agrees.{Agrees, Home, Mark, moved, at, Follows, Does, HasOne, CameAs}
 use Rattle.im_lower.specs.Served.{IsCell, IsServed, IsServedPiece, IsServedStatement, AreServedStatements}
 use Rattle.im_lower.proofs.Steps.{Right, does-later, does-bind, does-checked, joined, does-weaker}
 use Rattle.im_lower.proofs.Uses.{condition-of, does-jump, does-arm, does-branch, does-turn, stands, does-used, does-number}
 use Rattle.im_lower.proofs.Operands.{integer-shape, scalar-shape}
 use Rattle.im_lower.proofs.Cells.{write-line}
 use Rattle.im_lower.proofs.Ready.{Ready, Works, ready-known, ready-took, right-of, right-at}
-use Rattle.im_lower.proofs.Values.{home, lowered}
+use Rattle.im_lower.proofs.Values.{home, used-as, as-shape, lowered}
 use Rattle.im_lower.proofs.Flows.{end_of, Left, flow-arm, followed, turned, switched}
 use Rattle.im_lower.proofs.Cases.{cases-lead, forgotten-agrees}
-use Rattle.im_lower.proofs.Cleared.{cell-inside, cells-found, cells-inside, local-place, empties, zeroed-agrees}
+use Rattle.im_lower.proofs.Layouts.{cell-inside, cells-found, cells-inside, local-place}
+use Rattle.im_lower.proofs.Cleared.{empties, zeroed-agrees}
 
 start-same : (s : Point) (qs : List Point) → start_at s qs 0 ≡ s
 start-same s [] = refl
@@ -60,7 +61,7 @@ module _ (u : Code) (g : Setting) (p : q.Prog) (f : q.Func) (c : Around) (bound 
 
   -- an expression, into the first register
   value : (e : q.Expr) (entry next : Point) → IsServed e → IsTyped p f e → Codes p c.first blocks e low (low + 1) entry next
-      → (n : Mark) (registers : ℕ → Value) (store : Store) (s : typed.State) → IsReady s store → Does u g p h next (at h n entry registers store s) (Came registers low (low + 1)) (value_of c e s)
+      → (n : Mark) (registers : ℕ → Value) (store : Store) (s : typed.State) → IsReady s store → Does u g p h next (at h n entry registers store s) (CameAs (shape_of p e) registers low (low + 1)) (value_of c e s)
   value e entry next served t codes n registers store s ready =
       lowered u g p f c bound works k callers fn is virtual e low (low + 1) entry next (omega arith) served t codes n registers store s ready
 
@@ -85,7 +86,7 @@ module _ (u : Code) (g : Setting) (p : q.Prog) (f : q.Func) (c : Around) (bound 
   decided e x y entry one other n registers store s a b served t scalar codes begins_one begins_other ready held failed =
       let kind = scalar-shape (shape_of p e) scalar in
       does-bind u g p h
-      (does-used u g p h (right-as e s kind.1 t ready) (value e entry (ends (Branch low x y)) served t codes n registers store s ready))
+      (used-as u g p f c bound works k callers fn is virtual e s kind.1 t ready (value e entry (ends (Branch low x y)) served t codes n registers store s ready))
       (λ v w n₁ after left took.
       does-branch u g p h fn is low x y one other n₁ after left w a b (holds v) begins_one begins_other
       (ap (condition left) took.has ∙ condition-of w.world.activations w.world.store left kind.0 v took.agrees took.value took.taken)
@@ -170,7 +171,7 @@ module _ (u : Code) (g : Setting) (p : q.Prog) (f : q.Func) (c : Around) (bound 
   piece next x offset (q.Scalar kind) e entry t then n registers store s o found laid cell among served typed_one shape codes ready go =
       does-bind u g p h
       (joined u g p h (right-as e s shape typed_one ready)
-      (value e entry (before (Write (Local (c.first + x) offset) kind low codes.0) t) served typed_one codes.1 n registers store s ready))
+      (as-shape u g p f c bound works k callers fn is virtual shape (value e entry (before (Write (Local (c.first + x) offset) kind low codes.0) t) served typed_one codes.1 n registers store s ready)))
       (λ vs v n₁ after left k.
       stored next x offset codes.0 kind t vs then n₁ after left v o found (let inside = cell-inside 0 o.size o.cells (offset + 0) kind laid among.0 in omega arith) k.0.fits k.1.has (ready-known p f c bound ready k.0 k.1.agrees) go)
   piece next x offset (q.Struct count cells) e entry t then n registers store s o found laid cell among served typed_one shape codes ready go = absurd cell
@@ -266,7 +267,7 @@ module _ (u : Code) (g : Setting) (p : q.Prog) (f : q.Func) (c : Around) (bound 
     statement (q.Switch e ks otherwise ss) breaks continues b d out again entry next bb bd served t codes n registers store s ready =
         let i = integer-shape (shape_of p e) t.1 in
         does-number u g p h i.2
-        (does-used u g p h (right-as e s i.1 t.0 ready) (value e entry codes.1 served.0 t.0 codes.5 n registers store s ready))
+        (used-as u g p f c bound works k callers fn is virtual e s i.1 t.0 ready (value e entry codes.1 served.0 t.0 codes.5 n registers store s ready))
         (λ z v n₁ after left hz took.
         let cases : CodesCases low blocks i.0 ks otherwise codes.2 codes.3 codes.1 = subst (λ x. CodesCases low blocks x ks otherwise codes.2 codes.3 codes.1) (ap kind_in i.1) codes.6 in
         let comes = cases-lead u g p h fn is low i.0 ks otherwise (statements_in ss) codes.2 codes.3 codes.1 z n₁ after left v i.2 hz took.has (subst (λ x. AreLabels x (statements_in ss) ks) i.1 t.2) cases in
@@ -288,7 +289,7 @@ module _ (u : Code) (g : Setting) (p : q.Prog) (f : q.Func) (c : Around) (bound 
     statement (q.Return (Some e)) breaks continues b d out again entry next bb bd served t codes n registers store s ready =
         let kind = scalar-shape (shape_of p e) t.1 in
         does-bind u g p h
-        (does-used u g p h (right-as e s kind.1 t.0 ready) (value e entry (ends (Return (Some low))) served t.0 codes n registers store s ready))
+        (used-as u g p f c bound works k callers fn is virtual e s kind.1 t.0 ready (value e entry (ends (Return (Some low))) served t.0 codes n registers store s ready))
         (λ v w n₁ after left took. stands u g p h (end_of low next out again) n₁ after left w (Returned (v ∷ [])) (record { agrees = took.agrees; has = took.has }))
 
     -- the statements of a block, from the i-th on

@@ -105,6 +105,7 @@ module _ (store blocks : Store) (agrees : Agrees store blocks) where
   -- the same value is stored in both
   pub agree-stored : (o : Object) (offset : ℕ) (v : Value) → Agrees (record store { values = with_value store.values o offset v }) (record blocks { values = with_value blocks.values o offset v })
   agree-stored o offset v = record {
+    inside = agrees.inside;
     shapes = agrees.shapes;
     values = λ q i. with-same (same_object q o && i == offset) v (store.values q i) (blocks.values q i) (agrees.values q i);
   }

@@ -70,7 +70,7 @@ condition-of begun store blocks kind (Pointer o offset) agrees h e =
     if-true (lives blocks o) (Fine true) _ (agree-lives store blocks agrees o (if-fine (lives store o) (Pointer o offset) (Pointer o offset) _ e))
 condition-of begun store blocks kind Unset agrees h e = absurd h
 
-taken-same : (store : Store) (v a : Value) → taken store v ≡ Fine a → (v ≡ a) × (taken store a ≡ Fine a)
+pub taken-same : (store : Store) (v a : Value) → taken store v ≡ Fine a → (v ≡ a) × (taken store a ≡ Fine a)
 taken-same store (Number z) a e = let same : Number z ≡ a = cc in (same, ap (taken store) (sym same) ∙ e)
 taken-same store Null a e = let same : Null ≡ a = cc in (same, ap (taken store) (sym same) ∙ e)
 taken-same store (Pointer o offset) a e = by_test (lives store o) e

@@ -1,6 +1,7 @@
 -- Block code of an expression gives the expression's value.
 use Rattle.std.proofs.Common.{◌≡◌, ℕ, suc, ◌+◌, ◌<◌, List, [], ◌∷◌, length, true, false, refl, sym, ap, ◌∙◌, subst, arith}
-use Rattle.std.specs.Prelude.{Option, Some, pos, not, if◌then◌else◌, slice_get}
+use Rattle.std.specs.Prelude.{Option, Some, None, pos, not, if◌then◌else◌, slice_get}
+use Rattle.std.specs.Option.{option_map}
 use Rattle.im_num.specs.declared.kind.Kind.{Kind}
 use Rattle.im_num.specs.declared.kind.Kind.TheVariants.{I32, Ptr}
 use Rattle.im_num.specs.Kinds.{wrap}
@@ -14,7 +15,7 @@ use Rattle.im_typed.specs.Runs.{World, Answer, Gives, Stops, Run, checked, eithe
 use Rattle.im_typed.specs.Runs as typed
 use Rattle.im_typed.specs.Values.{Values, used, truth}
 use Rattle.im_typed.specs.Meaning.{Around, place_of, value_of, values_of}
-use Rattle.im_typed.specs.Typing.{shape_of, IsTypedPlace, IsTyped, AreArguments, parameters}
+use Rattle.im_typed.specs.Typing.{shape_of, result_shape, IsTypedPlace, IsTyped, AreArguments, parameters}
 use Rattle.im_typed.specs.Sound.{IsValue, Fits}
 use Rattle.im_typed.proofs.Sounds.{value-kept}
 use Rattle.im_typed.proofs.SoundExprs.{takes-kind}
@@ -27,7 +28,7 @@ use Rattle.im_block.specs.declared.unit.Unit.{Unit as Code}
 use Rattle.im_block.specs.Meaning as m
 use Rattle.im_block.specs.Meaning.{Setting, Frame, State, with_register, condition}
 use Rattle.im_lower.specs.Codes.{Point, before, ends, Begins, above, count_of, where_of, CodesPlace, Codes, CodesArguments}
-use Rattle.im_lower.specs.Agrees.{Agrees, Home, Mark, moved, at, Does, Came}
+use Rattle.im_lower.specs.Agrees.{Agrees, Home, Mark, moved, at, Does, HasOne, Holds, Came, CameAs}
 use Rattle.im_lower.specs.Served.{IsServedPlace, IsServed, AreServed}
 use Rattle.im_lower.proofs.Steps.{Right, does-bind, does-checked, does-weaker, joined}
 use Rattle.im_lower.proofs.Stores.{agree-moved, agree-pointer, taken-kept}
@@ -37,6 +38,15 @@ use Rattle.im_lower.proofs.Places.{above-more, Stood, place-kept, designates}
 use Rattle.im_lower.proofs.Cells.{read-line, right-reading, assigned, change-lines, move-lines}
 use Rattle.im_lower.proofs.Ready.{HasArguments, Ready, Works, ready-known, ready-took, right-of, right-at, right-placed, right-arguments}
 use Rattle.im_lower.proofs.Bytes.{get-line, put-line}
+
+-- a function's result is a scalar
+holds-kind : (r : Option Kind) (vs : Values) (store : Store) (w : Value) → HasOne vs w → Holds (option_map q.Scalar r) vs store w
+holds-kind None vs store w h = tt
+holds-kind (Some kind) vs store w h = h
+
+holds-result : (r : Option q.Func) (vs : Values) (store : Store) (w : Value) → HasOne vs w → Holds (result_shape r) vs store w
+holds-result None vs store w h = tt
+holds-result (Some f) vs store w h = holds-kind f.result vs store w h
 
 -- behind arguments: they stand side by side
 pub record Passed (registers : ℕ → Value) (free many : ℕ) (vs : List Value) (t : typed.State) (after : ℕ → Value) (store : Store) : Type 0 where
@@ -57,6 +67,14 @@ module _ (u : Code) (g : Setting) (p : q.Prog) (f : q.Func) (c : Around) (bound 
 
   right-as : {store : Store} {shape : Option q.Access} (e : q.Expr) (s : typed.State) → shape_of p e ≡ shape → IsTyped p f e → Ready p f c bound s store → Right p.statics s (Fits shape) (value_of c e s)
   right-as e s same t r = right-at p f c bound works.right works.tame e s same t r
+
+  pub as-shape : {shape other : Option q.Access} {next : Point} {b : State} {registers : ℕ → Value} {to free : ℕ} {r : Answer Values} → shape ≡ other → Does u g p home next b (CameAs shape registers to free) r → Does u g p home next b (CameAs other registers to free) r
+  as-shape {next = next} {b = b} {registers = registers} {to = to} {free = free} {r = r} same h = subst (λ x. Does u g p home next b (CameAs x registers to free) r) same h
+
+  -- the value of a scalar expression is used
+  pub used-as : {store : Store} {kind : Kind} {next : Point} {b : State} {registers : ℕ → Value} {to free : ℕ} (e : q.Expr) (s : typed.State) → shape_of p e ≡ Some (q.Scalar kind) → IsTyped p f e → Ready p f c bound s store
+      → Does u g p home next b (CameAs (shape_of p e) registers to free) (value_of c e s) → Does u g p home next b (Took p.statics s kind registers to free) (typed.goes_on (value_of c e s) used)
+  used-as {kind = kind} e s same t r h = does-used u g p home {kind = kind} (right-as e s same t r) (as-shape same h)
 
   -- the operand that decides `&&` and `||` where the first one doesn't: it is negated twice
   second-truth : (to free j x : ℕ) (more next : Point) (base after : ℕ → Value) (left : Store) (n : Mark) (w : typed.State) (kind : Kind) (r : Answer Values) → to < free → Begins blocks j next
@@ -79,7 +97,7 @@ module _ (u : Code) (g : Setting) (p : q.Prog) (f : q.Func) (c : Around) (bound 
   -- the values of an expression
   abbrev Gains : q.Expr → (to free : ℕ) → (entry next : Point) → Type 0
   Gains e to free entry next =
-      (n : Mark) (registers : ℕ → Value) (store : Store) (s : typed.State) → Ready p f c bound s store → Does u g p home next (at home n entry registers store s) (Came registers to free) (value_of c e s)
+      (n : Mark) (registers : ℕ → Value) (store : Store) (s : typed.State) → Ready p f c bound s store → Does u g p home next (at home n entry registers store s) (CameAs (shape_of p e) registers to free) (value_of c e s)
 
   mutual
     placed : (a : q.Place) (free : ℕ) (entry next : Point) → IsServedPlace a → IsTypedPlace p f a → CodesPlace p c.first blocks a free entry next
@@ -92,7 +110,7 @@ module _ (u : Code) (g : Setting) (p : q.Prog) (f : q.Func) (c : Around) (bound 
         (stands u g p home (λ _. next) n registers store s _ (record { agrees = ready.agrees; kept = λ x lt. refl; is = refl }))
     placed (q.Target e) free entry next served t codes n registers store s ready =
         does-weaker u g p home (λ v w after left took. record { agrees = took.agrees; kept = λ x l. took.kept x (omega arith) (λ e. omega arith); is = took.has })
-        (does-used u g p home {kind = Ptr} (right-as e s t.1 t.0 ready)
+        (used-as {kind = Ptr} e s t.1 t.0 ready
         (lowered e free (free + 1) entry next (omega arith) served t.0 codes n registers store s ready))
     placed (q.Member a d) free entry next served t codes n registers store s ready =
         does-bind u g p home (placed a free entry next served t.0 codes n registers store s ready)
@@ -113,7 +131,7 @@ module _ (u : Code) (g : Setting) (p : q.Prog) (f : q.Func) (c : Around) (bound 
     lowered (q.Convert kind e) to free entry next lt served t codes n registers store s ready =
         let i = integer-shape (shape_of p e) t.2 in
         does-number u g p home i.2
-        (does-used u g p home (right-as e s i.1 t.1 ready)
+        (used-as e s i.1 t.1 ready
         (lowered e free (free + 1) entry (before (Convert to kind free) next) (omega arith) served t.1 codes n registers store s ready))
         (λ z v b after left h took.
         does-line u g p home (Convert to kind free) next b after left v to (m.as_number (m.converted kind (after free))) (Number (wrap kind z)) refl
@@ -122,7 +140,7 @@ module _ (u : Code) (g : Setting) (p : q.Prog) (f : q.Func) (c : Around) (bound 
         (λ x l ne. took.kept x (omega arith) (λ e. omega arith))))
     lowered (q.Unary op kind e) to free entry next lt served t codes n registers store s ready =
         does-number u g p home t.0.0
-        (does-used u g p home (right-as e s t.2 t.1 ready)
+        (used-as e s t.2 t.1 ready
         (lowered e free (free + 1) entry (before (Unary to op kind free) next) (omega arith) served t.1 codes n registers store s ready))
         (λ z v b after left h took.
         does-line u g p home (Unary to op kind free) next b after left v to (m.as_number (m.computed_one op kind (after free))) (Number (apply_one op kind z)) refl
@@ -132,11 +150,11 @@ module _ (u : Code) (g : Setting) (p : q.Prog) (f : q.Func) (c : Around) (bound 
     lowered (q.Binary op kind a b) to free entry next lt served t codes n registers store s ready =
         let r = right-kind op kind (shape_of p b) t.0.0 t.4 in
         does-number u g p home t.0.0
-        (does-used u g p home (right-as a s t.3 t.1 ready)
+        (used-as a s t.3 t.1 ready
         (lowered a free (free + 1) entry codes.0 (omega arith) served.0 t.1 codes.1 n registers store s ready))
         (λ x v n₁ after left hx took.
         does-number u g p home r.2
-        (does-used u g p home (right-as b v r.1 t.2 (ready-took p f c bound ready took))
+        (used-as b v r.1 t.2 (ready-took p f c bound ready took)
         (lowered b (free + 1) (free + 2) codes.0 (before (Compute to op kind free (free + 1)) next) (omega arith) served.1 t.2 codes.2 n₁ after left v (ready-took p f c bound ready took)))
         (λ y w n₂ after₂ left₂ hy took₂.
         does-checked u g p home (apply op kind x y) w _ (λ z e.
@@ -146,11 +164,11 @@ module _ (u : Code) (g : Setting) (p : q.Prog) (f : q.Func) (c : Around) (bound 
         (λ i l ne. took₂.kept i (omega arith) (λ e. omega arith) ∙ took.kept i (omega arith) (λ e. omega arith))))))
     lowered (q.Compare op kind a b) to free entry next lt served t codes n registers store s ready =
         does-bind u g p home
-        (does-used u g p home (right-as a s t.2 t.0 ready)
+        (used-as a s t.2 t.0 ready
         (lowered a free (free + 1) entry codes.0 (omega arith) served.0 t.0 codes.1 n registers store s ready))
         (λ vx v n₁ after left took.
         does-bind u g p home
-        (does-used u g p home (right-as b v t.3 t.1 (ready-took p f c bound ready took))
+        (used-as b v t.3 t.1 (ready-took p f c bound ready took)
         (lowered b (free + 1) (free + 2) codes.0 (before (Compare to op kind free (free + 1)) next) (omega arith) served.1 t.1 codes.2 n₁ after left v (ready-took p f c bound ready took)))
         (λ vy w n₂ after₂ left₂ took₂.
         does-checked u g p home (compare_values op vx vy) w _ (λ answer e.
@@ -163,7 +181,7 @@ module _ (u : Code) (g : Setting) (p : q.Prog) (f : q.Func) (c : Around) (bound 
     lowered (q.Not a) to free entry next lt served t codes n registers store s ready =
         let k = scalar-shape (shape_of p a) t.1 in
         does-bind u g p home
-        (does-used u g p home (right-as a s k.1 t.0 ready)
+        (used-as a s k.1 t.0 ready
         (lowered a free (free + 1) entry (before (Not to free) next) (omega arith) served t.0 codes n registers store s ready))
         (λ x v n₁ after left took.
         does-line u g p home (Not to free) next n₁ after left v to (m.as_truth (m.negation left (after free))) (Number (if not (holds x) then pos 1 else pos 0)) refl
@@ -183,7 +201,7 @@ module _ (u : Code) (g : Setting) (p : q.Prog) (f : q.Func) (c : Around) (bound 
     lowered (q.Choose x a b) to free entry next lt served t codes n registers store s ready =
         let k = scalar-shape (shape_of p x) t.3 in
         does-bind u g p home
-        (does-used u g p home (right-as x s k.1 t.0 ready)
+        (used-as x s k.1 t.0 ready
         (lowered x free (free + 1) entry (ends (Branch free codes.1 codes.2)) (omega arith) served.0 t.0 codes.8 n registers store s ready))
         (λ v w n₁ after left took.
         does-branch u g p home fn is free codes.1 codes.2 codes.3 codes.4 n₁ after left w _ _ (holds v) codes.6 codes.7
@@ -193,19 +211,19 @@ module _ (u : Code) (g : Setting) (p : q.Prog) (f : q.Func) (c : Around) (bound 
         (lowered a to free codes.3 (ends (Jump codes.0)) lt served.1 t.1 codes.9 (moved n₁ codes.1) after left w (ready-took p f c bound ready took))))
         (does-arm u g p home fn is codes.0 next codes.5
         (does-weaker u g p home (λ ws y after₂ left₂ came. record { agrees = came.agrees; kept = λ i l ne. came.kept i l ne ∙ took.kept i (omega arith) (λ e. omega arith); has = came.has })
-        (lowered b to free codes.4 (ends (Jump codes.0)) lt served.2 t.2 codes.10 (moved n₁ codes.2) after left w (ready-took p f c bound ready took)))))
+        (as-shape (sym t.4) (lowered b to free codes.4 (ends (Jump codes.0)) lt served.2 t.2 codes.10 (moved n₁ codes.2) after left w (ready-took p f c bound ready took))))))
     lowered (q.And a b) to free entry next lt served t codes n registers store s ready =
         let ka = scalar-shape (shape_of p a) t.2 in
         let kb = scalar-shape (shape_of p b) t.3 in
         does-bind u g p home
-        (does-used u g p home (right-as a s ka.1 t.0 ready)
+        (used-as a s ka.1 t.0 ready
         (lowered a free (free + 1) entry (ends (Branch free codes.1 codes.2)) (omega arith) served.0 t.0 codes.7 n registers store s ready))
         (λ v w n₁ after left took.
         does-branch u g p home fn is free codes.1 codes.2 codes.3 (before (Put to (pos 0)) (ends (Jump codes.0))) n₁ after left w _ _ (holds v) codes.5 codes.6
         (ap (condition left) took.has ∙ condition-of w.world.activations w.world.store left ka.0 v took.agrees took.value took.taken)
         (second-truth to free codes.0 codes.1 codes.3 next registers after left n₁ w kb.0 (value_of c b w) lt codes.4
         (λ i l ne. took.kept i (omega arith) (λ e. omega arith))
-        (does-used u g p home (right-as b w kb.1 t.1 (ready-took p f c bound ready took))
+        (used-as b w kb.1 t.1 (ready-took p f c bound ready took)
         (lowered b free (free + 1) codes.3 (before (Not free free) (before (Not to free) (ends (Jump codes.0)))) (omega arith) served.1 t.1 codes.8 (moved n₁ codes.1) after left w (ready-took p f c bound ready took))))
         (does-line u g p home (Put to (pos 0)) (ends (Jump codes.0)) (moved n₁ codes.2) after left w to (Fine (Number (pos 0))) (Number (pos 0)) refl refl
         (does-jump u g p home fn is codes.0 next (moved n₁ codes.2) (with_register after to (Number (pos 0))) left w codes.4
@@ -215,7 +233,7 @@ module _ (u : Code) (g : Setting) (p : q.Prog) (f : q.Func) (c : Around) (bound 
         let ka = scalar-shape (shape_of p a) t.2 in
         let kb = scalar-shape (shape_of p b) t.3 in
         does-bind u g p home
-        (does-used u g p home (right-as a s ka.1 t.0 ready)
+        (used-as a s ka.1 t.0 ready
         (lowered a free (free + 1) entry (ends (Branch free codes.2 codes.1)) (omega arith) served.0 t.0 codes.7 n registers store s ready))
         (λ v w n₁ after left took.
         does-branch u g p home fn is free codes.2 codes.1 (before (Put to (pos 1)) (ends (Jump codes.0))) codes.3 n₁ after left w _ _ (holds v) codes.6 codes.5
@@ -226,7 +244,7 @@ module _ (u : Code) (g : Setting) (p : q.Prog) (f : q.Func) (c : Around) (bound 
         (λ i l ne. took.kept i (omega arith) (λ e. omega arith)))))
         (second-truth to free codes.0 codes.1 codes.3 next registers after left n₁ w kb.0 (value_of c b w) lt codes.4
         (λ i l ne. took.kept i (omega arith) (λ e. omega arith))
-        (does-used u g p home (right-as b w kb.1 t.1 (ready-took p f c bound ready took))
+        (used-as b w kb.1 t.1 (ready-took p f c bound ready took)
         (lowered b free (free + 1) codes.3 (before (Not free free) (before (Not to free) (ends (Jump codes.0)))) (omega arith) served.1 t.1 codes.8 (moved n₁ codes.1) after left w (ready-took p f c bound ready took)))))
     lowered (q.Assign (q.Scalar kind) a e) to free entry next lt served t codes n registers store s ready =
         let more = above-more a free in
@@ -235,7 +253,7 @@ module _ (u : Code) (g : Setting) (p : q.Prog) (f : q.Func) (c : Around) (bound 
         (λ v w n₁ after left stood.
         does-bind u g p home
         (joined u g p home (right-as e w t.3 t.2 (ready-known p f c bound ready stood.0 stood.1.agrees))
-        (lowered e to (above a free) codes.0 (before (Write (where_of p c.first blocks a free) kind to codes.1) next) (omega arith) served.2 t.2 codes.3 n₁ after left w (ready-known p f c bound ready stood.0 stood.1.agrees)))
+        (as-shape t.3 (lowered e to (above a free) codes.0 (before (Write (where_of p c.first blocks a free) kind to codes.1) next) (omega arith) served.2 t.2 codes.3 n₁ after left w (ready-known p f c bound ready stood.0 stood.1.agrees))))
         (λ vs x n₂ after₂ left₂ k.
         assigned u g p home v (where_of p c.first blocks a free) kind codes.1 to free n₂ next registers after₂ left₂ vs x
         (designates c p blocks a free v x.world.store left₂ after₂ k.1.agrees (place-kept c a free v w.world.store x.world.store after after₂ k.0.keeps.same (λ i ge l. k.1.kept i l (λ e. omega arith)) stood.1.is))
@@ -258,7 +276,7 @@ module _ (u : Code) (g : Setting) (p : q.Prog) (f : q.Func) (c : Around) (bound 
         let two = ready-took p f c bound one took in
         let num = number-value x.world.activations x.world.store kind first t.2.0 took.value in
         does-number u g p home r.2
-        (does-used u g p home (right-as e x r.1 t.1 two)
+        (used-as e x r.1 t.1 two
         (lowered e top (top + 1) codes.0 (before (Compute to op at_kind to top) (before (Convert to kind to) (before (Write place kind to codes.2) next))) (omega arith) served.1 t.1 codes.4 n₂ after₂ left₂ x two))
         (λ by y n₃ after₃ left₃ hb took₃.
         change-lines u g p home v place kind op at_kind false codes.2 to to top free n₃ next registers after₃ left₃ first num.0 by y t.2.0 num.1
@@ -283,7 +301,7 @@ module _ (u : Code) (g : Setting) (p : q.Prog) (f : q.Func) (c : Around) (bound 
         (λ first x n₂ after₂ left₂ took.
         let two = ready-took p f c bound one took in
         does-number u g p home r.2
-        (does-used u g p home (right-as e x r.1 t.1 two)
+        (used-as e x r.1 t.1 two
         (lowered e top (top + 1) codes.0 (before (Move to size back to top) (before (Write place Ptr to codes.2) next)) (omega arith) served.1 t.1 codes.4 n₂ after₂ left₂ x two))
         (λ by y n₃ after₃ left₃ hb took₃.
         move-lines u g p home v place size back false codes.2 to to top free n₃ next registers after₃ left₃ first by y took₃.sane
@@ -385,14 +403,14 @@ module _ (u : Code) (g : Setting) (p : q.Prog) (f : q.Func) (c : Around) (bound 
         (arguments es (parameters (slice_get p.funcs i)) free entry (before (Call to i free (count_of es)) next) served t.1 codes n registers store s ready))
         (λ vs v n₁ after left k.
         let one = ready-known p f c bound ready k.0 k.1.agrees in
-        does-weaker u g p home (λ ws w after₂ left₂ came. record { agrees = came.agrees; kept = λ j l ne. came.kept j l ne ∙ k.1.kept j l; has = came.has })
+        does-weaker u g p home (λ ws w after₂ left₂ came. record { agrees = came.agrees; kept = λ j l ne. came.kept j l ne ∙ k.1.kept j l; has = holds-result (slice_get p.funcs i) ws w.world.store (after₂ to) came.has })
         (works.calls.by i (count_of es) vs v home fn n₁ next after left to free lt is virtual k.1.count k.1.has k.0.fits one.sane one.agrees one.depth one.fuel))
     lowered q.Getchar to free entry next lt served t codes n registers store s ready =
         subst (λ x. Does u g p home next (at home n x registers store s) (Came registers to free) (value_of c q.Getchar s)) (sym codes)
         (get-line u g p home fn is virtual to free n next registers store s.world s.fuel ready.agrees)
     lowered (q.Putchar e) to free entry next lt served t codes n registers store s ready =
         does-number u g p home {kind = I32} tt
-        (does-used u g p home (right-as e s t.1 t.0 ready)
+        (used-as e s t.1 t.0 ready
         (lowered e free (free + 1) entry (before (PutChar to free) next) (omega arith) served t.0 codes n registers store s ready))
         (λ z v b after left h took.
         put-line u g p home fn is virtual to free b next after left registers (λ x l ne. took.kept x (omega arith) (λ e. omega arith)) free z c.capacity v.world v.fuel works.capacity took.has took.agrees)
@@ -410,11 +428,11 @@ module _ (u : Code) (g : Setting) (p : q.Prog) (f : q.Func) (c : Around) (bound 
     lowered (q.Move size back a b) to free entry next lt served t codes n registers store s ready =
         let r = integer-shape (shape_of p b) t.4 in
         does-bind u g p home
-        (does-used u g p home {kind = Ptr} (right-as a s t.3 t.1 ready)
+        (used-as {kind = Ptr} a s t.3 t.1 ready
         (lowered a free (free + 1) entry codes.0 (omega arith) served.0 t.1 codes.1 n registers store s ready))
         (λ x v n₁ after left took.
         does-number u g p home r.2
-        (does-used u g p home (right-as b v r.1 t.2 (ready-took p f c bound ready took))
+        (used-as b v r.1 t.2 (ready-took p f c bound ready took)
         (lowered b (free + 1) (free + 2) codes.0 (before (Move to size back free (free + 1)) next) (omega arith) served.1 t.2 codes.2 n₁ after left v (ready-took p f c bound ready took)))
         (λ y w n₂ after₂ left₂ hy took₂.
         does-checked u g p home (moved_by w.world.store (bytes_moved size back y) x) w _ (λ z e.
@@ -426,11 +444,11 @@ module _ (u : Code) (g : Setting) (p : q.Prog) (f : q.Func) (c : Around) (bound 
     lowered (q.MoveBy size a b) to free entry next lt served t codes n registers store s ready =
         let r = integer-shape (shape_of p a) t.3 in
         does-number u g p home r.2
-        (does-used u g p home (right-as a s r.1 t.1 ready)
+        (used-as a s r.1 t.1 ready
         (lowered a free (free + 1) entry codes.0 (omega arith) served.0 t.1 codes.1 n registers store s ready))
         (λ y v n₁ after left hy took.
         does-bind u g p home
-        (does-used u g p home {kind = Ptr} (right-as b v t.4 t.2 (ready-took p f c bound ready took))
+        (used-as {kind = Ptr} b v t.4 t.2 (ready-took p f c bound ready took)
         (lowered b (free + 1) (free + 2) codes.0 (before (Move to size false (free + 1) free) next) (omega arith) served.1 t.2 codes.2 n₁ after left v (ready-took p f c bound ready took)))
         (λ x w n₂ after₂ left₂ took₂.
         does-checked u g p home (moved_by w.world.store (bytes_moved size false y) x) w _ (λ z e.
@@ -441,11 +459,11 @@ module _ (u : Code) (g : Setting) (p : q.Prog) (f : q.Func) (c : Around) (bound 
         (λ i l ne. took₂.kept i (omega arith) (λ e. omega arith) ∙ took.kept i (omega arith) (λ e. omega arith))))))
     lowered (q.Distance size a b) to free entry next lt served t codes n registers store s ready =
         does-bind u g p home
-        (does-used u g p home {kind = Ptr} (right-as a s t.3 t.1 ready)
+        (used-as {kind = Ptr} a s t.3 t.1 ready
         (lowered a free (free + 1) entry codes.0 (omega arith) served.0 t.1 codes.1 n registers store s ready))
         (λ x v n₁ after left took.
         does-bind u g p home
-        (does-used u g p home {kind = Ptr} (right-as b v t.4 t.2 (ready-took p f c bound ready took))
+        (used-as {kind = Ptr} b v t.4 t.2 (ready-took p f c bound ready took)
         (lowered b (free + 1) (free + 2) codes.0 (before (Distance to size free (free + 1)) next) (omega arith) served.1 t.2 codes.2 n₁ after left v (ready-took p f c bound ready took)))
         (λ y w n₂ after₂ left₂ took₂.
         does-checked u g p home (distance size x y) w _ (λ z e.
@@ -466,7 +484,7 @@ module _ (u : Code) (g : Setting) (p : q.Prog) (f : q.Func) (c : Around) (bound 
     arguments (q.more_exprs e rest) (o ∷ os) free entry next served t codes n registers store s ready =
         let k = takes-kind (shape_of p e) o.cells t.1 in
         does-bind u g p home
-        (does-used u g p home (right-as e s k.1 t.0 ready)
+        (used-as e s k.1 t.0 ready
         (lowered e free (free + 1) entry codes.0 (omega arith) served.0 t.0 codes.1 n registers store s ready))
         (λ v w n₁ after left took.
         does-bind u g p home
