@@ -142,7 +142,7 @@ module _ (ts : Setting) (u : Code) (input : List ℕ) (typed_program : IsWellTyp
       })
       (does-later u g p (within i w callers) got.leads
       (statement u g p f c n works i callers code ec func.registers f.params t.1 f.body false false 0 0 (stop f i) (stop f i) func.body (stop f i) (λ x. let e : false ≡ true = x in absurd (cc)) (λ x. let e : false ≡ true = x in absurd (cc))
-      (each-at (λ (x : q.Func). IsServedStatement x.body) p.funcs i f served.functions ef) t.3
+      (each-at (λ (x : q.Func). IsServedStatement p x.body) p.funcs i f served.functions ef) t.3
       (subst (λ x. CodesStatement p x f.params f.objects code.blocks.items f.body 0 0 func.body (stop f i)) func.first_object func.does)
       (entry_mark code) registers got.left s ready))
 

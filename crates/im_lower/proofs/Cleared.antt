@@ -1,16 +1,14 @@
 -- Cells of an object that become zero one after another, and all at once.
-use Rattle.std.proofs.Common.{◌≡◌, ℕ, zero, suc, ◌+◌, ◌<◌, ◌≤◌, ◌==◌, ◌&&◌, List, [], ◌∷◌, Bool, true, false, refl, sym, ap, ◌∙◌, subst, arith, le-leb}
-use Rattle.std.specs.Prelude.{Some, None, pos, nat_le, if◌then◌else◌}
+use Rattle.std.proofs.Common.{◌≡◌, ℕ, ◌+◌, ◌<◌, ◌≤◌, ◌==◌, ◌&&◌, List, [], ◌∷◌, Bool, true, false, refl, sym, ap, ◌∙◌, subst, arith}
+use Rattle.std.specs.Prelude.{Some, pos, if◌then◌else◌}
 use Rattle.std.proofs.lemmas.Int.{ints}
 use Rattle.std.proofs.lemmas.Bool.{eqb-true, eq-eqb}
 use Rattle.im_num.specs.declared.kind.Kind.{Kind}
 use Rattle.im_num.specs.declared.kind.Kind.TheVariants.{I8, U8, I16, U16, I32, U32, Ptr}
 use Rattle.im_num.specs.Kinds.{kind_size}
 use Rattle.im_ctype.specs.declared.cell.Cell.{Cell}
-use Rattle.im_store.specs.Checks.{Fine, Bad, then_, unless}
-use Rattle.im_store.specs.Objects.{Named, Object, Value, Number, Null, Pointer, Shape, Store, same_object, kind_at, shape_of}
-use Rattle.im_store.specs.declared.undefined.Undefined.TheVariants.{OutsideObject}
-use Rattle.im_store.specs.Pointers.{reaches, within}
+use Rattle.im_store.specs.Checks.{Fine, then_}
+use Rattle.im_store.specs.Objects.{Named, Object, Value, Number, Null, Store, same_object, kind_at, shape_of}
 use Rattle.im_store.specs.Access.{is_of_kind, has_cell, stands, write_cell, with_value}
 use Rattle.im_store.proofs.Same.{same_kind-self, same_object-is}
 use Rattle.im_typed.specs.Program as q
@@ -18,7 +16,7 @@ use Rattle.im_typed.specs.Runs as typed
 use Rattle.im_typed.specs.Meaning.{zero_or, kind_of_cell, is_among, cleared}
 use Rattle.im_typed.specs.Typing.{Each, AreLaidOut}
 use Rattle.im_typed.specs.Sound.{IsValue}
-use Rattle.im_typed.proofs.SoundCalls.{by-test, if-true, if-false, differs}
+use Rattle.im_typed.proofs.SoundCalls.{by-test, if-true, if-false}
 use Rattle.im_block.specs.declared.code.Place.TheVariants.{Local}
 use Rattle.im_block.specs.declared.code.Line.TheVariants.{Put, PutNull, Write}
 use Rattle.im_block.specs.declared.unit.Unit.{Unit as Code}

@@ -1,6 +1,6 @@
 -- Cells that are laid out in an object.
-use Rattle.std.proofs.Common.{◌≡◌, ℕ, zero, suc, ◌+◌, ◌<◌, ◌≤◌, ◌==◌, List, [], ◌∷◌, true, false, refl, sym, ap, ◌∙◌, arith, le-leb}
-use Rattle.std.specs.Prelude.{Option, Some, None, pos, nat_le, if◌then◌else◌}
+use Rattle.std.proofs.Common.{◌≡◌, ℕ, zero, suc, ◌+◌, ◌<◌, ◌≤◌, ◌==◌, List, [], ◌∷◌, false, refl, sym, ap, ◌∙◌, arith, le-leb}
+use Rattle.std.specs.Prelude.{Some, None, pos, nat_le}
 use Rattle.std.proofs.lemmas.Bool.{eqb-true, eq-eqb}
 use Rattle.im_num.specs.declared.kind.Kind.{Kind}
 use Rattle.im_num.specs.declared.kind.Kind.TheVariants.{I8, U8, I16, U16, I32, U32, Ptr}

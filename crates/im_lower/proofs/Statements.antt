@@ -1,7 +1,8 @@
 -- Block code of a statement does what the statement does.
-use Rattle.std.proofs.Common.{◌≡◌, ℕ, zero, suc, ◌+◌, ◌<◌, ◌≤◌, List, [], ◌∷◌, Bool, true, refl, sym, ap, ◌∙◌, subst, arith, ⊎_elim}
+use Rattle.std.proofs.Common.{◌≡◌, ℕ, zero, suc, ◌+◌, ◌<◌, ◌≤◌, List, [], ◌∷◌, length, Bool, true, refl, sym, ap, ◌∙◌, subst, arith, ⊎_elim}
 use Rattle.std.specs.Prelude.{Option, Some, None, IsTrue, slice_get}
 use Rattle.im_num.specs.declared.kind.Kind.{Kind}
+use Rattle.im_ctype.specs.declared.cell.Cell.{Cell}
 use Rattle.im_store.specs.Checks.{Fine}
 use Rattle.im_store.specs.Objects.{Value, Pointer, shape_of as object_shape, Store}
 use Rattle.im_store.specs.Access.{taken}
@@ -11,7 +12,7 @@ use Rattle.im_typed.specs.Runs.{World, Answer, Gives, Run, ◌>>=◌, give, star
 use Rattle.im_typed.specs.Runs as typed
 use Rattle.im_typed.specs.Values.{Values, used, cells_of, write_at}
 use Rattle.im_typed.specs.Meaning.{Around, local, Flow, Next, Broke, Continued, Returned, after_turn, turns, entered, given_offsets, forgotten, cleared, initialise, value_of, does, does_from}
-use Rattle.im_typed.specs.Typing.{Each, IsScalarShape, AreLabels, shape_of, statements_in, AreLaidOut, IsObject, StandAmong, IsTyped, IsPieceOf, IsTypedStmt, AreTyped, cells_at}
+use Rattle.im_typed.specs.Typing.{Each, IsAccess, IsScalarShape, AreLabels, shape_of, statements_in, AreLaidOut, IsObject, StandAmong, IsTyped, IsPieceOf, IsTypedStmt, AreTyped, cells_at}
 use Rattle.im_typed.specs.Sound.{IsSoundWorld, AreValues, Fits, FlowFits}
 use Rattle.im_typed.proofs.Sounds.{right-give}
 use Rattle.im_typed.proofs.SoundExprs.{there}
@@ -30,20 +31,26 @@ use Rattle.im_block.specs.declared.unit.Function.{Function}
 use Rattle.im_block.specs.declared.unit.Unit.{Unit as Code}
 use Rattle.im_block.specs.Meaning as m
 use Rattle.im_block.specs.Meaning.{Setting, Frame, State, condition}
-use Rattle.im_lower.specs.Codes.{Point, before, ends, Begins, Codes}
+use Rattle.im_lower.specs.Codes.{Point, before, ends, Begins, reads_of, writes_of, Codes}
 use Rattle.im_lower.specs.Statements.{start_at, kind_in, Passes, CodesCases, CodesPiece, CodesPieces, CodesRest, CodesStatement, CodesStatements}
 use Rattle.im_lower.specs.Agrees.{Agrees, Home, Mark, moved, at, Follows, Does, HasOne, CameAs}
-use Rattle.im_lower.specs.Served.{IsCell, IsServed, IsServedPiece, IsServedStatement, AreServedStatements}
+use Rattle.im_lower.specs.Served.{IsServed, IsServedPiece, IsServedStatement, AreServedStatements}
 use Rattle.im_lower.proofs.Steps.{Right, does-later, does-bind, does-checked, joined, does-weaker}
-use Rattle.im_lower.proofs.Uses.{condition-of, does-jump, does-arm, does-branch, does-turn, stands, does-used, does-number}
+use Rattle.im_lower.proofs.Uses.{condition-of, does-jump, does-arm, does-branch, does-turn, stands, does-number}
 use Rattle.im_lower.proofs.Operands.{integer-shape, scalar-shape}
 use Rattle.im_lower.proofs.Cells.{write-line}
 use Rattle.im_lower.proofs.Ready.{Ready, Works, ready-known, ready-took, right-of, right-at}
+use Rattle.im_lower.proofs.Structs.{copy-lines, if-used}
 use Rattle.im_lower.proofs.Values.{home, used-as, as-shape, lowered}
 use Rattle.im_lower.proofs.Flows.{end_of, Left, flow-arm, followed, turned, switched}
 use Rattle.im_lower.proofs.Cases.{cases-lead, forgotten-agrees}
 use Rattle.im_lower.proofs.Layouts.{cell-inside, cells-found, cells-inside, local-place}
 use Rattle.im_lower.proofs.Cleared.{empties, zeroed-agrees}
+
+-- an object has room where some of its cells stand
+among-inside : (whole : List Cell) (offset size : ℕ) (cells : List Cell) → 0 < length cells → StandAmong whole offset cells → AreLaidOut 0 size whole → offset ≤ size
+among-inside whole offset size [] some among laid = absurd (omega arith)
+among-inside whole offset size (c ∷ cs) some among laid = let le = cell-inside 0 size whole (offset + c.offset) c.kind laid among.0 in omega arith
 
 start-same : (s : Point) (qs : List Point) → start_at s qs 0 ≡ s
 start-same s [] = refl
@@ -60,7 +67,7 @@ module _ (u : Code) (g : Setting) (p : q.Prog) (f : q.Func) (c : Around) (bound 
   IsReady s store = Ready p f c bound s store
 
   -- an expression, into the first register
-  value : (e : q.Expr) (entry next : Point) → IsServed e → IsTyped p f e → Codes p c.first blocks e low (low + 1) entry next
+  value : (e : q.Expr) (entry next : Point) → IsServed p e → IsTyped p f e → Codes p c.first blocks e low (low + 1) entry next
       → (n : Mark) (registers : ℕ → Value) (store : Store) (s : typed.State) → IsReady s store → Does u g p h next (at h n entry registers store s) (CameAs (shape_of p e) registers low (low + 1)) (value_of c e s)
   value e entry next served t codes n registers store s ready =
       lowered u g p f c bound works k callers fn is virtual e low (low + 1) entry next (omega arith) served t codes n registers store s ready
@@ -79,7 +86,7 @@ module _ (u : Code) (g : Setting) (p : q.Prog) (f : q.Func) (c : Around) (bound 
 
   -- a test decides which of two blocks is next
   decided : {P : Flow → typed.State → (ℕ → Value) → Store → Type 0} {next : Flow → Point} (e : q.Expr) (x y : ℕ) (entry one other : Point) (n : Mark) (registers : ℕ → Value) (store : Store) (s : typed.State) (a b : Run Flow)
-      → IsServed e → IsTyped p f e → IsScalarShape (shape_of p e) → Codes p c.first blocks e low (low + 1) entry (ends (Branch low x y)) → Begins blocks x one → Begins blocks y other → IsReady s store
+      → IsServed p e → IsTyped p f e → IsScalarShape (shape_of p e) → Codes p c.first blocks e low (low + 1) entry (ends (Branch low x y)) → Begins blocks x one → Begins blocks y other → IsReady s store
       → ((i : Mark) (rs : ℕ → Value) (left : Store) (t : typed.State) → IsReady t left → t.fuel ≤ s.fuel → Follows u g p h next (at h i one rs left t) P (a t))
       → ((i : Mark) (rs : ℕ → Value) (left : Store) (t : typed.State) → IsReady t left → t.fuel ≤ s.fuel → Follows u g p h next (at h i other rs left t) P (b t))
       → Follows u g p h next (at h n entry registers store s) P (typed.goes_on (typed.goes_on (value_of c e s) used) (λ v. typed.either (holds v) a b))
@@ -95,7 +102,7 @@ module _ (u : Code) (g : Setting) (p : q.Prog) (f : q.Func) (c : Around) (bound 
 
   -- a loop from its test on. inner is where a `continue` goes on, t what follows
   module _ (e : q.Expr) (turn l b : ℕ) (j : ℕ) (test inner body t out again : Point) (step : Run Values) (run : Run Flow) (P : World → Values → Type 0)
-      (served : IsServed e) (typed_test : IsTyped p f e) (scalar : IsScalarShape (shape_of p e)) (codes : Codes p c.first blocks e low (low + 1) test (ends (Branch low turn j)))
+      (served : IsServed p e) (typed_test : IsTyped p f e) (scalar : IsScalarShape (shape_of p e)) (codes : Codes p c.first blocks e low (low + 1) test (ends (Branch low turn j)))
       (begins_next : Begins blocks j t) (begins_turn : Begins blocks turn (ends (Turn b))) (begins_body : Begins blocks b body) (begins_inner : Begins blocks l inner)
       (right_body : (store : Store) (s : typed.State) → IsReady s store → Right p.statics s (FlowFits f.result) (run s))
       (does_body : (n : Mark) (registers : ℕ → Value) (store : Store) (s : typed.State) → IsReady s store → Follows u g p h (end_of low (ends (Jump l)) t inner) (at h n body registers store s) (Left low) (run s))
@@ -165,7 +172,7 @@ module _ (u : Code) (g : Setting) (p : q.Prog) (f : q.Func) (c : Around) (bound 
 
   -- one expression of an initialiser, and what comes then
   piece : {A : Type 0} {P : A → typed.State → (ℕ → Value) → Store → Type 0} (next : A → Point) (x offset : ℕ) (access : q.Access) (e : q.Expr) (entry t : Point) (then : Values → Run A) (n : Mark) (registers : ℕ → Value) (store : Store) (s : typed.State)
-      → (o : q.LocalObject) → slice_get f.objects x ≡ Some o → AreLaidOut 0 o.size o.cells → IsCell access → StandAmong o.cells offset (cells_of access) → IsServed e → IsTyped p f e → shape_of p e ≡ Some access → CodesPiece p c.first low f.objects blocks (c.first + x) offset access e entry t → IsReady s store
+      → (o : q.LocalObject) → slice_get f.objects x ≡ Some o → AreLaidOut 0 o.size o.cells → IsAccess access → StandAmong o.cells offset (cells_of access) → IsServed p e → IsTyped p f e → shape_of p e ≡ Some access → CodesPiece p c.first low f.objects blocks (c.first + x) offset access e entry t → IsReady s store
       → ((ws : Values) (v : typed.State) (i : Mark) (rs : ℕ → Value) (left : Store) → IsReady v left → Follows u g p h next (at h i t rs left v) P (then ws v))
       → Follows u g p h next (at h n entry registers store s) P (typed.goes_on (value_of c e s) (λ vs. used vs >>= (λ _. write_at access (Pointer (local c x) offset) vs >>= then)))
   piece next x offset (q.Scalar kind) e entry t then n registers store s o found laid cell among served typed_one shape codes ready go =
@@ -174,21 +181,42 @@ module _ (u : Code) (g : Setting) (p : q.Prog) (f : q.Func) (c : Around) (bound 
       (as-shape u g p f c bound works k callers fn is virtual shape (value e entry (before (Write (Local (c.first + x) offset) kind low codes.0) t) served typed_one codes.1 n registers store s ready)))
       (λ vs v n₁ after left k.
       stored next x offset codes.0 kind t vs then n₁ after left v o found (let inside = cell-inside 0 o.size o.cells (offset + 0) kind laid among.0 in omega arith) k.0.fits k.1.has (ready-known p f c bound ready k.0 k.1.agrees) go)
-  piece next x offset (q.Struct count cells) e entry t then n registers store s o found laid cell among served typed_one shape codes ready go = absurd cell
+  piece {P = P} next x offset (q.Struct count cells) e entry t then n registers store s o found laid access among served typed_one shape codes ready go =
+      let place = Local (c.first + x) offset in
+      let many = access.0 in
+      let some = access.1 in
+      let inside = among-inside o.cells offset o.size cells (omega arith) among laid in
+      does-bind u g p h
+      (joined u g p h (right-as e s shape typed_one ready)
+      (as-shape u g p f c bound works k callers fn is virtual shape (value e entry (reads_of low (low + 1) cells codes.0 (writes_of place (low + 1) cells codes.1 t)) served typed_one codes.4 n registers store s ready)))
+      (λ vs v n₁ after left k.
+      let one = ready-known p f c bound ready k.0 k.1.agrees in
+      if-used vs v (write_at (q.Struct count cells) (Pointer (local c x) offset) vs >>= then)
+      (λ r. Follows u g p h next (at h n₁ (reads_of low (low + 1) cells codes.0 (writes_of place (low + 1) cells codes.1 t)) after left v) P r) (λ why. record { by = tt })
+      (does-bind u g p h
+      (joined u g p h
+      (record {
+        right = right-write p.statics (q.Struct count cells) (Pointer (local c x) offset) vs v one.sane k.0.fits;
+        spends = (rel-write_at {k = 0} {b = 0} (q.Struct count cells) (Pointer (local c x) offset) vs).tame.by v;
+      })
+      (copy-lines u g p h n₁ v (Pointer (local c x) offset) place count 1048576 cells codes.0 codes.1 vs low (low + 1) t after left
+      (λ mid lf rs same kept ag. local-place lf (local c x) (object_shape o.size o.cells) offset (ag.shapes (local c x) (object_shape o.size o.cells) (same (local c x) ∙ one.here.live x o found)) inside)
+      one.agrees access.2 codes.2 codes.3 (omega arith) k.1.has k.0.fits))
+      (λ ws y i rs left₂ z. go ws y i rs left₂ (ready-known p f c bound one z.0 z.1.agrees))))
 
   -- an initialiser's expressions
-  pieces : (x : ℕ) (o : q.LocalObject) (ps : List q.Piece) (entry next : Point) → slice_get f.objects x ≡ Some o → AreLaidOut 0 o.size o.cells → Each IsServedPiece ps → Each (IsPieceOf p f o.cells) ps → CodesPieces p c.first low f.objects blocks (c.first + x) ps entry next
+  pieces : (x : ℕ) (o : q.LocalObject) (ps : List q.Piece) (entry next : Point) → slice_get f.objects x ≡ Some o → AreLaidOut 0 o.size o.cells → Each (IsServedPiece p) ps → Each (IsPieceOf p f o.cells) ps → CodesPieces p c.first low f.objects blocks (c.first + x) ps entry next
       → (n : Mark) (registers : ℕ → Value) (store : Store) (s : typed.State) → IsReady s store → Does u g p h next (at h n entry registers store s) (λ (a : Unit {0}) v rs left. IsReady v left) (initialise c (local c x) ps s)
   pieces x o [] entry next found laid served t codes n registers store s ready =
       subst (λ y. Does u g p h next (at h n y registers store s) (λ (a : Unit {0}) v rs left. IsReady v left) (initialise c (local c x) [] s)) (sym codes)
       (stands u g p h (λ _. next) n registers store s tt ready)
   pieces x o (r ∷ rs) entry next found laid served t codes n registers store s ready =
-      piece (λ _. next) x r.offset r.access r.value entry codes.0 (λ _. initialise c (local c x) rs) n registers store s o found laid served.0.0 t.0.3 served.0.1 t.0.1 t.0.2 codes.1 ready
+      piece (λ _. next) x r.offset r.access r.value entry codes.0 (λ _. initialise c (local c x) rs) n registers store s o found laid t.0.0 t.0.3 served.0 t.0.1 t.0.2 codes.1 ready
       (λ ws v i after left one. pieces x o rs codes.0 next found laid served.1 t.1 codes.2 i after left v one)
 
   mutual
     pub statement : (st : q.Stmt) (breaks continues : Bool) (b d : ℕ) (out again entry next : Point) → (IsTrue breaks → Begins blocks b out) → (IsTrue continues → Begins blocks d again)
-        → IsServedStatement st → IsTypedStmt p f breaks continues st → CodesStatement p c.first low f.objects blocks st b d entry next
+        → IsServedStatement p st → IsTypedStmt p f breaks continues st → CodesStatement p c.first low f.objects blocks st b d entry next
         → (n : Mark) (registers : ℕ → Value) (store : Store) (s : typed.State) → IsReady s store
         → Follows u g p h (end_of low next out again) (at h n entry registers store s) (Left low) (does c bound st s)
     statement (q.Do e) breaks continues b d out again entry next bb bd served t codes n registers store s ready =
@@ -294,7 +322,7 @@ module _ (u : Code) (g : Setting) (p : q.Prog) (f : q.Func) (c : Around) (bound 
 
     -- the statements of a block, from the i-th on
     statements : (i : ℕ) (ss : q.Stmts) (breaks continues : Bool) (b d : ℕ) (out again entry : Point) (qs : List Point) (next : Point) → (IsTrue breaks → Begins blocks b out) → (IsTrue continues → Begins blocks d again)
-        → AreServedStatements ss → AreTyped p f breaks continues ss → CodesStatements p c.first low f.objects blocks ss b d entry qs next
+        → AreServedStatements p ss → AreTyped p f breaks continues ss → CodesStatements p c.first low f.objects blocks ss b d entry qs next
         → (n : Mark) (registers : ℕ → Value) (store : Store) (s : typed.State) → IsReady s store
         → Follows u g p h (end_of low next out again) (at h n (start_at entry qs i) registers store s) (Left low) (does_from c bound i ss s)
     statements i q.no_stmts breaks continues b d out again entry [] next bb bd served t codes n registers store s ready =

@@ -1,5 +1,5 @@
 -- Block code of an expression gives the expression's value.
-use Rattle.std.proofs.Common.{◌≡◌, ℕ, suc, ◌+◌, ◌<◌, List, [], ◌∷◌, length, true, false, refl, sym, ap, ◌∙◌, subst, arith}
+use Rattle.std.proofs.Common.{◌≡◌, ℕ, suc, ◌+◌, ◌<◌, List, [], ◌∷◌, length, take, drop, true, false, refl, sym, ap, ◌∙◌, subst, arith}
 use Rattle.std.specs.Prelude.{Option, Some, None, pos, not, if◌then◌else◌, slice_get}
 use Rattle.std.specs.Option.{option_map}
 use Rattle.im_num.specs.declared.kind.Kind.{Kind}
@@ -7,18 +7,20 @@ use Rattle.im_num.specs.declared.kind.Kind.TheVariants.{I32, Ptr}
 use Rattle.im_num.specs.Kinds.{wrap}
 use Rattle.im_store.specs.Checks.{Fine, then_}
 use Rattle.im_store.specs.Numbers.{apply, apply_one}
-use Rattle.im_store.specs.Objects.{Value, Number, Null, Store}
+use Rattle.im_store.specs.Objects.{Value, Number, Null, Pointer, Store}
+use Rattle.im_store.specs.Access.{read_cells}
 use Rattle.im_store.specs.Pointers.{holds, compare_values, bytes_moved, moved_by, member_at, distance}
 use Rattle.im_typed.specs.declared.expression.Change.TheVariants.{Number as NumberBy, Move as PointerBy}
 use Rattle.im_typed.specs.Program as q
 use Rattle.im_typed.specs.Runs.{World, Answer, Gives, Stops, Run, checked, either}
 use Rattle.im_typed.specs.Runs as typed
-use Rattle.im_typed.specs.Values.{Values, used, truth}
+use Rattle.im_typed.specs.Values.{Values, used, write_at, truth}
 use Rattle.im_typed.specs.Meaning.{Around, place_of, value_of, values_of}
-use Rattle.im_typed.specs.Typing.{shape_of, result_shape, IsTypedPlace, IsTyped, AreArguments, parameters}
+use Rattle.im_typed.specs.Typing.{IsPart, shape_of, result_shape, IsTypedPlace, IsTyped, AreArguments, parameters}
 use Rattle.im_typed.specs.Sound.{IsValue, Fits}
 use Rattle.im_typed.proofs.Sounds.{value-kept}
 use Rattle.im_typed.proofs.SoundExprs.{takes-kind}
+use Rattle.im_block.specs.declared.code.Place.TheVariants.{Through}
 use Rattle.im_block.specs.declared.code.Line.TheVariants.{PutNull, Address, Move, Distance, Put, Convert, Unary, Not, Compute, Compare, Read, Write, Call, PutChar}
 use Rattle.im_block.specs.declared.code.Exit.TheVariants.{Jump, Branch}
 use Rattle.im_block.specs.declared.code.Block.{Block}
@@ -27,10 +29,11 @@ use Rattle.im_block.specs.declared.unit.Function.{Function}
 use Rattle.im_block.specs.declared.unit.Unit.{Unit as Code}
 use Rattle.im_block.specs.Meaning as m
 use Rattle.im_block.specs.Meaning.{Setting, Frame, State, with_register, condition}
-use Rattle.im_lower.specs.Codes.{Point, before, ends, Begins, above, count_of, where_of, CodesPlace, Codes, CodesArguments}
+use Rattle.im_lower.specs.Codes.{Point, before, ends, Begins, above, count_of, cells_of_shape, offset_in, reads_of, writes_of, where_of, CodesPlace, Codes, CodesArguments}
 use Rattle.im_lower.specs.Agrees.{Agrees, Home, Mark, moved, at, Does, HasOne, Holds, Came, CameAs}
-use Rattle.im_lower.specs.Served.{IsServedPlace, IsServed, AreServed}
-use Rattle.im_lower.proofs.Steps.{Right, does-bind, does-checked, does-weaker, joined}
+use Rattle.im_lower.proofs.Structs.{struct-line, part-line, copy-lines, part-cell, part-cells, struct-place, part-shape, if-used}
+use Rattle.im_lower.specs.Served.{InPlace, IsServedPlace, IsServed, AreServed}
+use Rattle.im_lower.proofs.Steps.{Right, does-whole, does-bind, does-checked, does-weaker, joined}
 use Rattle.im_lower.proofs.Stores.{agree-moved, agree-pointer, taken-kept}
 use Rattle.im_lower.proofs.Uses.{register-same, register-other, number-value, condition-of, Took, does-line, does-jump, does-arm, does-branch, arrived, stands, does-used, does-number, checks}
 use Rattle.im_lower.proofs.Operands.{converted-same, computed-same, compared-values, moved-same, distance-same, negated, truth-condition, integer-shape, scalar-shape, right-kind, right-same, not-not, one-of_kind}
@@ -100,7 +103,7 @@ module _ (u : Code) (g : Setting) (p : q.Prog) (f : q.Func) (c : Around) (bound 
       (n : Mark) (registers : ℕ → Value) (store : Store) (s : typed.State) → Ready p f c bound s store → Does u g p home next (at home n entry registers store s) (CameAs (shape_of p e) registers to free) (value_of c e s)
 
   mutual
-    placed : (a : q.Place) (free : ℕ) (entry next : Point) → IsServedPlace a → IsTypedPlace p f a → CodesPlace p c.first blocks a free entry next
+    placed : (a : q.Place) (free : ℕ) (entry next : Point) → IsServedPlace p a → IsTypedPlace p f a → CodesPlace p c.first blocks a free entry next
         → (n : Mark) (registers : ℕ → Value) (store : Store) (s : typed.State) → Ready p f c bound s store → Does u g p home next (at home n entry registers store s) (Stood c a free registers) (place_of c a s)
     placed (q.Static o) free entry next served t codes n registers store s ready =
         subst (λ x. Does u g p home next (at home n x registers store s) (Stood c (q.Static o) free registers) (place_of c (q.Static o) s)) (sym codes)
@@ -118,16 +121,20 @@ module _ (u : Code) (g : Setting) (p : q.Prog) (f : q.Func) (c : Around) (bound 
         checks u g p home next n₁ after left w (member_at w.world.store d v)
         (λ x e. record { agrees = stood.agrees; kept = stood.kept; is = (v, stood.is, e) }))
 
-    pub lowered : (e : q.Expr) (to free : ℕ) (entry next : Point) → to < free → IsServed e → IsTyped p f e → Codes p c.first blocks e to free entry next → Gains e to free entry next
+    pub lowered : (e : q.Expr) (to free : ℕ) (entry next : Point) → to < free → IsServed p e → IsTyped p f e → Codes p c.first blocks e to free entry next → Gains e to free entry next
     lowered (q.Constant kind z) to free entry next lt served t codes n registers store s ready =
         subst (λ x. Does u g p home next (at home n x registers store s) (Came registers to free) (value_of c (q.Constant kind z) s)) (sym codes)
         (does-line u g p home (Put to z) next n registers store s to (Fine (Number z)) (Number z) refl refl
         (arrived u g p home next n registers registers to free (Number z) store s ready.agrees (λ _ _ _. refl)))
     lowered (q.Read (q.Scalar kind) a) to free entry next lt served t codes n registers store s ready =
-        does-bind u g p home (placed a free entry (before (Read to (where_of p c.first blocks a free) kind codes.0) next) served.1 t.1 codes.1 n registers store s ready)
+        does-bind u g p home (placed a free entry (before (Read to (where_of p c.first blocks a free) kind codes.0) next) served t.1 codes.1 n registers store s ready)
         (λ v w n₁ after left stood.
         read-line u g p home v (where_of p c.first blocks a free) kind codes.0 to free n₁ next registers after left w (designates c p blocks a free v w.world.store left after stood.agrees stood.is) stood.agrees (λ x l ne. stood.kept x l))
-    lowered (q.Read (q.Struct count cells) a) to free entry next lt served t codes n registers store s ready = absurd served.0
+    lowered (q.Read (q.Struct count cells) a) to free entry next lt served t codes n registers store s ready =
+        let place = where_of p c.first blocks a free in
+        does-bind u g p home (placed a free entry (before (Address to place) next) served t.1 codes n registers store s ready)
+        (λ v w n₁ after left stood.
+        struct-line u g p home v place count cells to free n₁ next registers after left w (designates c p blocks a free v w.world.store left after stood.agrees stood.is) stood.agrees (λ x l ne. stood.kept x l))
     lowered (q.Convert kind e) to free entry next lt served t codes n registers store s ready =
         let i = integer-shape (shape_of p e) t.2 in
         does-number u g p home i.2
@@ -249,17 +256,43 @@ module _ (u : Code) (g : Setting) (p : q.Prog) (f : q.Func) (c : Around) (bound 
     lowered (q.Assign (q.Scalar kind) a e) to free entry next lt served t codes n registers store s ready =
         let more = above-more a free in
         does-bind u g p home
-        (joined u g p home (right-placed p f c bound works.right works.tame a s t.1 ready) (placed a free entry codes.0 served.1 t.1 codes.2 n registers store s ready))
+        (joined u g p home (right-placed p f c bound works.right works.tame a s t.1 ready) (placed a free entry codes.0 served.0 t.1 codes.2 n registers store s ready))
         (λ v w n₁ after left stood.
         does-bind u g p home
         (joined u g p home (right-as e w t.3 t.2 (ready-known p f c bound ready stood.0 stood.1.agrees))
-        (as-shape t.3 (lowered e to (above a free) codes.0 (before (Write (where_of p c.first blocks a free) kind to codes.1) next) (omega arith) served.2 t.2 codes.3 n₁ after left w (ready-known p f c bound ready stood.0 stood.1.agrees))))
+        (as-shape t.3 (lowered e to (above a free) codes.0 (before (Write (where_of p c.first blocks a free) kind to codes.1) next) (omega arith) served.1 t.2 codes.3 n₁ after left w (ready-known p f c bound ready stood.0 stood.1.agrees))))
         (λ vs x n₂ after₂ left₂ k.
         assigned u g p home v (where_of p c.first blocks a free) kind codes.1 to free n₂ next registers after₂ left₂ vs x
         (designates c p blocks a free v x.world.store left₂ after₂ k.1.agrees (place-kept c a free v w.world.store x.world.store after after₂ k.0.keeps.same (λ i ge l. k.1.kept i l (λ e. omega arith)) stood.1.is))
         k.0.fits
         (record { agrees = k.1.agrees; kept = λ i l ne. k.1.kept i (omega arith) ne ∙ stood.1.kept i l; has = k.1.has })))
-    lowered (q.Assign (q.Struct count cells) a e) to free entry next lt served t codes n registers store s ready = absurd served.0
+    lowered (q.Assign (q.Struct count cells) a e) to free entry next lt served t codes n registers store s ready =
+        let more = above-more a free in
+        let top = above a free in
+        let place = where_of p c.first blocks a free in
+        let last = before (Address to place) next in
+        does-bind u g p home
+        (joined u g p home (right-placed p f c bound works.right works.tame a s t.1 ready) (placed a free entry codes.0 served.0 t.1 codes.5 n registers store s ready))
+        (λ v w n₁ after left stood.
+        does-bind u g p home
+        (joined u g p home (right-as e w t.3 t.2 (ready-known p f c bound ready stood.0 stood.1.agrees))
+        (as-shape t.3 (lowered e top (top + 1) codes.0 (reads_of top (top + 1) cells codes.1 (writes_of place (top + 1) cells codes.2 last)) (omega arith) served.1 t.2 codes.6 n₁ after left w (ready-known p f c bound ready stood.0 stood.1.agrees))))
+        (λ vs x n₂ after₂ left₂ k.
+        if-used vs x (write_at (q.Struct count cells) v vs)
+        (λ r. Does u g p home next (at home n₂ (reads_of top (top + 1) cells codes.1 (writes_of place (top + 1) cells codes.2 last)) after₂ left₂ x) (CameAs (Some (q.Struct count cells)) registers to free) r) (λ why. record { by = tt })
+        (does-whole u g p home
+        (does-bind u g p home
+        (copy-lines u g p home n₂ x v place count 1048576 cells codes.1 codes.2 vs top (top + 1) last after₂ left₂
+        (λ mid lf rs same kept ag. designates c p blocks a free v mid lf rs ag (place-kept c a free v w.world.store mid after rs (λ o. same o ∙ k.0.keeps.same o) (λ i ge l. kept i (omega arith) ∙ k.1.kept i (omega arith) (λ e. omega arith)) stood.1.is))
+        k.1.agrees t.0.2 codes.3 codes.4 (omega arith) k.1.has k.0.fits)
+        (λ ws y n₃ after₃ left₃ copied.
+        does-line u g p home (Address to place) next n₃ after₃ left₃ y to (m.place_of place home.active after₃ left₃) v refl
+        (designates c p blocks a free v y.world.store left₃ after₃ copied.agrees (place-kept c a free v w.world.store y.world.store after after₃ (λ o. copied.shapes o ∙ k.0.keeps.same o) (λ i ge l. copied.kept i (omega arith) ∙ k.1.kept i (omega arith) (λ e. omega arith)) stood.1.is))
+        (stands u g p home (λ _. next) n₃ (with_register after₃ to v) left₃ y ws (record {
+          agrees = copied.agrees;
+          kept = λ q l ne. register-other after₃ to q v ne ∙ copied.kept q (omega arith) ∙ k.1.kept q (omega arith) (λ e. omega arith) ∙ stood.1.kept q l;
+          has = (copied.has.0, copied.has.1, register-same after₃ to v ∙ copied.has.2, copied.has.3);
+        })))))))
     lowered (q.Update a (NumberBy kind op at_kind) e) to free entry next lt served t codes n registers store s ready =
         let more = above-more a free in
         let r = right-kind op at_kind (shape_of p e) t.2.1.0 t.2.2 in
@@ -473,9 +506,38 @@ module _ (u : Code) (g : Setting) (p : q.Prog) (f : q.Func) (c : Around) (bound 
         (agree-pointer w.world.store left₂ took₂.agrees w.world.activations y took₂.value took₂.taken) e)
         (arrived u g p home next n₂ registers after₂ to free (Number z) left₂ w took₂.agrees
         (λ i l ne. took₂.kept i (omega arith) (λ e. omega arith) ∙ took.kept i (omega arith) (λ e. omega arith))))))
-    lowered (q.Part from x e) to free entry next lt served t codes n registers store s ready = absurd served
+    lowered (q.Part from (q.Scalar kind) e) to free entry next lt served t codes n registers store s ready =
+        let whole = part-shape from (q.Scalar kind) (shape_of p e) t.2 in
+        let offset = offset_in (slice_get (cells_of_shape (shape_of p e)) from) in
+        does-bind u g p home
+        (as-shape whole.2 (lowered e free (free + 1) entry (before (Read to (Through free offset) kind codes.0) next) (omega arith) served.0 t.1 codes.1 n registers store s ready))
+        (λ vs v n₁ after left came.
+        let o = came.has.0 in
+        let part = part-cell v.world.store o came.has.1 from kind whole.1 vs came.has.3 (subst (IsPart from (q.Scalar kind)) whole.2 t.2) in
+        let same : offset ≡ part.0.offset = ap (λ x. offset_in (slice_get (cells_of_shape x) from)) whole.2 ∙ ap offset_in part.2 in
+        subst (λ ws. Does u g p home next (at home n₁ (before (Read to (Through free offset) kind codes.0) next) after left v) (Came registers to free) (Gives ws v)) (sym part.4)
+        (part-line u g p home o came.has.1 part.0 part.1 kind offset codes.0 to free n₁ next registers after left v same part.3 came.has.2 part.5 came.agrees (λ q l ne. came.kept q (omega arith) (λ e. omega arith))))
+    lowered (q.Part from (q.Struct count cells) e) to free entry next lt served t codes n registers store s ready =
+        let whole = part-shape from (q.Struct count cells) (shape_of p e) t.2 in
+        let base = offset_in (slice_get (cells_of_shape (shape_of p e)) from) in
+        does-bind u g p home
+        (as-shape whole.2 (lowered e free (free + 1) entry (before (Address to (Through free base)) next) (omega arith) served.0 t.1 codes n registers store s ready))
+        (λ vs v n₁ after left came.
+        let o = came.has.0 in
+        let i = came.has.1 in
+        let some = t.0.1 in
+        let many = t.0.0 in
+        let in_place : InPlace base cells (drop from whole.1) = subst (λ x. InPlace base cells (drop from (cells_of_shape x))) whole.2 served.1 in
+        let part : read_cells v.world.store o (i + base) cells ≡ Fine (take (length cells) (drop from vs)) = part-cells v.world.store o i from base cells whole.1 vs in_place came.has.3 in
+        does-line u g p home (Address to (Through free base)) next n₁ after left v to (m.place_of (Through free base) home.active after left) (Pointer o (i + base)) refl
+        (ap (m.further left base) came.has.2 ∙ struct-place v.world.store left came.agrees o i base cells (take (length cells) (drop from vs)) (omega arith) part)
+        (stands u g p home (λ _. next) n₁ (with_register after to (Pointer o (i + base))) left v (take (length cells) (drop from vs)) (record {
+          agrees = came.agrees;
+          kept = λ q l ne. register-other after to q (Pointer o (i + base)) ne ∙ came.kept q (omega arith) (λ e. omega arith);
+          has = (o, i + base, register-same after to (Pointer o (i + base)), part);
+        })))
 
-    pub arguments : (es : q.Exprs) (os : List q.LocalObject) (free : ℕ) (entry next : Point) → AreServed es → AreArguments p f os es → CodesArguments p c.first blocks es free entry next
+    pub arguments : (es : q.Exprs) (os : List q.LocalObject) (free : ℕ) (entry next : Point) → AreServed p es → AreArguments p f os es → CodesArguments p c.first blocks es free entry next
         → (n : Mark) (registers : ℕ → Value) (store : Store) (s : typed.State) → Ready p f c bound s store → Does u g p home next (at home n entry registers store s) (Passed registers free (count_of es)) (values_of c es s)
     arguments q.no_exprs os free entry next served t codes n registers store s ready =
         subst (λ x. Does u g p home next (at home n x registers store s) (Passed registers free 0) (values_of c q.no_exprs s)) (sym codes)
