@@ -1,5 +1,5 @@
 -- What the second cutting changes, and that sections are right with it.
-use Rattle.std.proofs.Common.{◌≡◌, ℕ, zero, suc, ◌+◌, List, [], ◌∷◌, ◌++◌, Bool, true, false, Option, Some, None, refl, sym, ap, ◌∙◌, subst, arith, ◌<◌, length, take, drop, get_or}
+use Rattle.std.proofs.Common.{◌≡◌, ℕ, zero, suc, List, [], ◌∷◌, ◌++◌, Bool, true, false, Option, Some, None, refl, sym, subst, arith, ◌<◌, length, take, drop, get_or}
 use Rattle.std.specs.Prelude.{slice_get, slice_set}
 use Rattle.im_num.specs.declared.values.Cause.{Cause}
 use Rattle.im_block.specs.declared.access.Tags.{Tags}
@@ -10,7 +10,7 @@ use Rattle.im_block.specs.declared.unit.Function.{Function}
 use Rattle.im_block.specs.declared.unit.Unit.{Unit as Code}
 use Rattle.im_block.specs.Uncut.{WithCuts, Empty, Same, Added, SameBlock, SameBlocks, SameFunction, SameFunctions, SameButCuts}
 use Rattle.im_block.specs.Paths.{AllSectioned}
-use Rattle.im_force.proofs.Behind.{cuts, WritesCut, after_cut, never}
+use Rattle.im_force.proofs.Behind.{cuts, WritesCut, never}
 use Rattle.im_recut.specs.Recut.{is_cut, due_before, cut_of, recut_lines, RecutsBlock, RecutsBlocks, RecutsFunction, RecutsFunctions, RecutsTo}
 
 -- cuts are added, and nothing else
