@@ -1,5 +1,6 @@
 -- Behind its end a run owes nothing more.
 use Rattle.std.proofs.Common.{◌≡◌, ◌≢◌, ℕ, zero, suc, ◌+◌, ◌<◌, ◌≤◌, inl, inr, Bool, true, false, not, ◌&&◌, ◌||◌, Option, Some, None, List, refl, sym, ap, ◌∙◌, subst, arith}
+use Rattle.std.proofs.lemmas.Bool.{eqb-true}
 use Rattle.std.specs.Prelude.{◌==◌, ◌%◌}
 use Rattle.im_rv.specs.declared.step.Went.TheVariants.{Faulted}
 use Rattle.im_rv.specs.declared.effect.Effect.{Effect}
@@ -25,8 +26,11 @@ use Rattle.im_until.proofs.Still.{still}
 -- a halt uses x0 alone, and touches no memory
 
 zero_alone : (i : ℕ) (b : Bool) → (i == 0 || (i == 0 && b)) ≡ true → i ≡ 0
-zero_alone zero b h = refl
-zero_alone (suc i) b h = cc
+zero_alone i b h = eqb-true i 0 (held (i == 0) h)
+  where
+    held : (c : Bool) → (c || (c && b)) ≡ true → c ≡ true
+    held true q = refl
+    held false q = q
 
 uses_zero : (s : State) (i : ℕ) → line_at s ≡ Some halt_line → uses s i ≡ true → i ≡ 0
 uses_zero s i line h =

@@ -1,5 +1,5 @@
 -- A run that has ended stays as it is.
-use Rattle.std.proofs.Common.{◌≡◌, ◌≢◌, ℕ, zero, suc, ◌+◌, ◌<◌, ◌≤◌, inl, inr, Bool, true, false, not, cond, refl, sym, ap, ◌∙◌, subst, arith}
+use Rattle.std.proofs.Common.{◌≡◌, ◌≢◌, ℕ, zero, suc, ◌+◌, ◌<◌, ◌≤◌, inl, inr, Bool, true, false, not, cond, refl, sym, ap, ◌∙◌, subst, arith, eq-eqb}
 use Rattle.std.specs.Prelude.{nat_eq}
 use Rattle.im_rv.specs.Steps.{Cpu}
 use Rattle.im_mem.specs.Memory.{Mem}
@@ -12,8 +12,7 @@ use Rattle.im_ckpt.specs.Runs.{State, stepped, is_end, IsRun, flip, ends}
 use Rattle.im_replay.proofs.Bridge.{off_of}
 
 itself : (n : ℕ) → nat_eq n n ≡ true
-itself zero = refl
-itself (suc n) = itself n
+itself n = eq-eqb n n refl
 
 module _ (run : ℕ → State) (steps : IsRun run) where
   pub stays : (t : ℕ) → ends run t ≡ true → run (suc t) ≡ run t
