@@ -1,3 +1,5 @@
-pub mod Events
-pub mod Bounds
-pub mod Compose
+mod Events
+mod Bounds
+mod Units
+mod Powered
+mod Compose

@@ -46,7 +46,7 @@ pub record Cuts (old new : Code) : Type 0 where
 -- place: the same outcome; further accesses, each of which its tag holds, are to slots; registers are the machine's
 pub record Places (old new : Code) : Type 0 where
   pub runs : IsWellFormed old → (g : Setting) (n : ℕ) (o : Outcome) (run : List Event) → IsDefined o → Runs old g n o run → (run' : List Event) × Runs new g n o run' × ((statics : ℕ) (tags : Tags) → AllHold statics tags run → AllHold statics tags run')
-  pub statics : new.statics ≡ old.statics
+  pub statics : new.statics.items ≡ old.statics.items
   pub needs : needs_of new ≡ needs_of old
   pub ordered : AllOrdered old → AllOrdered new
   pub forced : AllForced old → AllForced new
@@ -73,7 +73,7 @@ pub record IsSelectable (code : Code) : Type 0 where
 
 -- select and link: the machine follows the code, which has these frames; a word is paid for each word
 pub record Selects (code : Code) (frames : List ℕ) (image : ImageValue) : Type 0 where
-  pub frames : (i : ℕ) (f : Function) → slice_get code.functions.items i ≡ Some f → slice_index_or frames i 0 ≡ frame_bytes f
+  pub frames_are : (i : ℕ) (f : Function) → slice_get code.functions.items i ≡ Some f → slice_index_or frames i 0 ≡ frame_bytes f
   pub written : IsWritten image
   pub loaded : (input : List ℕ) → IsInput input → IsLoaded image input
   pub executes : IsSelectable code → (input : List ℕ) → IsInput input → Executes code (setting frames image input) image input
