@@ -15,7 +15,9 @@ use Rattle.im_ckpt.specs.Buffers.{buffer}
 use Rattle.im_ckpt.specs.Laws.{CanResume}
 use Rattle.im_replay.specs.Compiled.{IsCompiled}
 use Rattle.im_replay.specs.Replays.{GapAtMost}
+use Rattle.im_replay.specs.Owed.{IsOwed}
 use Rattle.im_replay.proofs.Endless.{is_run}
+use Rattle.im_replay.proofs.Owing.{sound}
 use Rattle.im_replay.proofs.Images.{can_resume, owed_of, first_mem, first_place}
 use Rattle.im_gap.specs.Gap.{recovery_steps}
 use Rattle.im_flow.specs.Flows.{IsPlaced}
@@ -45,11 +47,14 @@ use Rattle.im_until.specs.Until.{OwesUntil}
 use Rattle.im_until.specs.Laws.{Owes, OwesAlways, UntilLaw}
 use Rattle.im_until.proofs.Still.{still, flips_still, flips_more}
 use Rattle.im_passes.specs.Source.{Source, IsRightSource}
-use Rattle.im_passes.specs.Machine.{powered, code_end, IsLoaded, ShowsAfter}
+use Rattle.im_written.specs.Written.{code_end, IsLoaded}
+use Rattle.im_written.specs.Laws.{WrittenLaw}
+use Rattle.im_passes.specs.Machine.{powered, stores_before, ShowsAfter}
 use Rattle.im_passes.specs.Passes.{needs_of, setting, IsSelectable, Passes}
 use Rattle.im_passes.specs.Laws.{meaning_of, KeepsUninterrupted, PassesKeep}
 use Rattle.im_passes.proofs.Events.{still_hold}
 use Rattle.im_passes.proofs.Bounds.{few_enough, soon_enough, sums_same}
+use Rattle.im_passes.proofs.Commits.{flips_stored}
 use Rattle.im_passes.proofs.Units.{statics_kept, needs_kept, frames_fit}
 use Rattle.im_passes.proofs.Powered.{ShowsAt, shows_at, halted_at}
 
@@ -66,6 +71,7 @@ pub record Laws : Type 0 where
   pub code : CutsKeepCodeLaw
   pub places : CutsKeepPlacesLaw
   pub force : ForceKeepsLaw
+  pub written : WrittenLaw
   pub until : UntilLaw
   pub along : AlongLaw
   pub gap : GapLaw
@@ -156,8 +162,8 @@ module _ (laws : Laws) (source : Source) (frames : List ℕ) (image : ImageValue
     abbrev r : ℕ → State
     r = run_of image input
 
-    abbrev loaded : IsLoaded image input
-    loaded = p.select.loaded input fits
+    loaded : IsLoaded image input
+    loaded = laws.written.loaded image input p.select.written fits
 
     abbrev output_at : ℕ → List ℕ
     output_at t = output_of image.form (r t).mem
@@ -168,7 +174,7 @@ module _ (laws : Laws) (source : Source) (frames : List ℕ) (image : ImageValue
       soon : (g : ℕ) → 33 ≤ g → 34 + j ≤ (2 * n + 2) * length image.words * g
       grows : (i : ℕ) → i ≤ j → Begins (output_at i) (output_at j)
       owes : OwesUntil image.words (code_end image) r j
-      commits : flips (flip r) j ≤ (2 * n + 1) * length image.words
+      commits : stores_before r j ≤ (2 * n + 1) * length image.words
 
     shown : (n : ℕ) → IsDefined (mean input n) → Shown n (mean input n)
     shown n right =
@@ -189,7 +195,7 @@ module _ (laws : Laws) (source : Source) (frames : List ℕ) (image : ImageValue
           soon = λ k le. soon_enough n (total x.steps p.sectioned) (34 + x.around) (length image.words) k _ (34 + f.j) steps x.few_steps le (omega arith);
           grows = f.grows;
           owes = f.owes safe;
-          commits = few_enough n (total x.cuts p.sectioned) (length image.words) _ (flips (flip r) f.j) commits x.few_cuts (f.commits safe);
+          commits = few_enough n (total x.cuts p.sectioned) (length image.words) _ (stores_before r f.j) commits x.few_cuts f.commits;
         }
 
     shown_at : (n : ℕ) (o : Outcome) → IsDefined o → mean input n ≡ o → Shown n o
@@ -203,7 +209,7 @@ module _ (laws : Laws) (source : Source) (frames : List ℕ) (image : ImageValue
         index = loaded.index;
         start_even = loaded.start_even;
         start_outside = loaded.start_outside;
-        long = p.select.written.long;
+        long = laws.written.long image p.select.written;
         recovery = loaded.recovery;
         checkpoint = loaded.checkpoint;
         runs = always.safely;
@@ -213,11 +219,11 @@ module _ (laws : Laws) (source : Source) (frames : List ℕ) (image : ImageValue
       can = can_resume (memory_of image input) (code_end image) compiled
 
       ready : IsReady image input (code_end image)
-      ready = record { form = p.select.written.form; objects = p.select.written.objects; compiled = compiled; shows = always.shows }
+      ready = record { form = p.select.written.form; objects = laws.written.high image p.select.written; compiled = compiled; shows = always.shows }
 
       placed : IsPlaced image.words image.entry (code_end image) r
       placed = record {
-        few = p.select.written.few;
+        few = laws.written.few image p.select.written;
         size = refl;
         first = subst (λ (m : Mem). Stands m 4096 image.words) (sym (first_mem (memory_of image input) can)) loaded.code;
         entered = first_place (memory_of image input) can ∙ ap (λ z. little (memory_of image input) (buffer z) 4) loaded.index ∙ loaded.entered;
@@ -225,9 +231,15 @@ module _ (laws : Laws) (source : Source) (frames : List ℕ) (image : ImageValue
         cuts = always.cuts;
       }
 
+      owed : IsOwed r (code_end image)
+      owed = owed_of (memory_of image input) (code_end image) compiled
+
       gaps : GapAtMost r gap
       gaps =
-          laws.gap image.words image.entry gap r (laws.along image.words image.entry (code_end image) r (owed_of (memory_of image input) (code_end image) compiled) placed) p.measure
+          laws.gap image.words image.entry gap r (laws.along image.words image.entry (code_end image) r owed placed) p.measure
+
+      few_flips : (t : ℕ) → flips (flip r) t ≤ stores_before r t
+      few_flips t = flips_stored r (sound r (code_end image) owed) t
 
       shows_in : (n : ℕ) → ShowsAt (memory_of image input) can always.safely.no_fault n
       shows_in n = shows_at (memory_of image input) can always.safely.no_fault n
@@ -243,14 +255,6 @@ module _ (laws : Laws) (source : Source) (frames : List ℕ) (image : ImageValue
         | inr le ↦ begins_same (output_at t) output (ap (λ (s : State). output_of image.form s.mem) (later t le) ∙ f.shows.1.same_output)
       ]
 
-      commits_at : (t : ℕ) → flips (flip r) t ≤ (2 * n + 1) * length image.words
-      commits_at t =
-          let most = f.commits in
-          elim (order t f.j) [
-            | inl lt ↦ (let h = flips_more (flip r) t f.j (omega arith) in omega arith)
-            | inr le ↦ (let h = flips_still r (is_run (memory_of image input)) f.j f.shows.0 t le in omega arith)
-          ]
-
       owes_at : (t : ℕ) → Owes image.words (code_end image) r t
       owes_at t = record {
         j = t;
@@ -260,6 +264,15 @@ module _ (laws : Laws) (source : Source) (frames : List ℕ) (image : ImageValue
 
       end_always : OwesAlways image.words (code_end image) r
       end_always = laws.until.always image.words (code_end image) r owes_at
+
+      commits_at : (t : ℕ) → flips (flip r) t ≤ (2 * n + 1) * length image.words
+      commits_at t =
+          let most = f.commits in
+          let stored = few_flips end_always f.j in
+          elim (order t f.j) [
+            | inl lt ↦ (let h = flips_more (flip r) t f.j (omega arith) in omega arith)
+            | inr le ↦ (let h = flips_still r (is_run (memory_of image input)) f.j f.shows.0 t le in omega arith)
+          ]
 
       keeps_end : KeepsEnd image gap input n reason status output variables
       keeps_end =

@@ -1,5 +1,6 @@
 mod Events
 mod Bounds
 mod Units
+mod Commits
 mod Powered
 mod Compose

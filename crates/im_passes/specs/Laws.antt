@@ -9,7 +9,8 @@ use Rattle.im_replay.specs.Compiled.{RunsSafely}
 use Rattle.im_keeps.specs.Keeps.{Meaning, IsInput, IsRightFor, Begins, Shows, output_in, Keeps}
 use Rattle.im_kept.specs.Laws.{run_of}
 use Rattle.im_passes.specs.Source.{Source, IsRightSource}
-use Rattle.im_passes.specs.Machine.{powered, code_end}
+use Rattle.im_written.specs.Written.{code_end}
+use Rattle.im_passes.specs.Machine.{powered}
 use Rattle.im_passes.specs.Passes.{setting, Passes}
 
 -- the program's meaning with these frames and with the image's stack and capacity

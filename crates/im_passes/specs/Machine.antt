@@ -1,19 +1,14 @@
 -- The device's own run of an image that never loses power, and what it has to be for a run of placed code. Times are
 -- counted from the end of recovery on: time t is 33 + t instructions after power came.
-use Rattle.std.specs.Prelude.{◌≡◌, ℕ, ◌+◌, ◌*◌, ◌<◌, ◌≤◌, ◌%◌, true, false, List, length}
-use Rattle.im_mem.specs.Memory.{Mem, little, Stands}
-use Rattle.im_mem.specs.Map.{buffer0_start, code_start}
-use Rattle.im_rv.specs.Code.{address}
-use Rattle.im_image.specs.declared.form.Form.TheVariants.{TwoLengths}
+use Rattle.std.specs.Prelude.{◌≡◌, ℕ, zero, suc, ◌+◌, ◌*◌, ◌<◌, ◌≤◌, cond, true, false, List, length}
+use Rattle.im_mem.specs.Map.{index_at}
+use Rattle.im_rv.specs.Effects.{stores_word}
 use Rattle.im_image.specs.Contents.{ImageValue}
 use Rattle.im_device.specs.Load.{memory_of}
-use Rattle.im_device.specs.Run.{Moment, index_of}
+use Rattle.im_device.specs.Run.{Moment}
 use Rattle.im_device.specs.Shows.{output_of}
-use Rattle.im_path.specs.Sections.{flips}
-use Rattle.im_ckpt.specs.Runs.{State, flip, ends}
-use Rattle.im_ckpt.specs.Recovery.{recovery_words}
-use Rattle.im_ckpt.specs.Checkpoint.{checkpoint_words, checkpoint_start, checkpoint_end}
-use Rattle.im_ckpt.specs.Laws.{is_runtime, resuming}
+use Rattle.im_ckpt.specs.Runs.{State, effect_at, ends}
+use Rattle.im_ckpt.specs.Laws.{resuming}
 use Rattle.im_store.specs.Outcomes.{Outcome, Undef, More, End, IsDefined}
 use Rattle.im_typed.specs.Sound.{EndsRight}
 use Rattle.im_block.specs.declared.unit.Unit.{Unit as Code}
@@ -22,34 +17,18 @@ use Rattle.im_block.specs.Runs.{Runs, start}
 use Rattle.im_block.specs.Sections.{NoWar, items}
 use Rattle.im_block.specs.Shape.{Weights, total, spent, after}
 use Rattle.im_keeps.specs.Keeps.{Begins, Shows}
-use Rattle.im_kept.specs.Laws.{run_of, AreHigh}
+use Rattle.im_kept.specs.Laws.{run_of}
 use Rattle.im_until.specs.Until.{OwesUntil}
+use Rattle.im_written.specs.Written.{code_end}
 
 -- one period of power: so many instructions after power came, with 0 in all registers
 abbrev pub powered : ImageValue → List ℕ → ℕ → Moment
 powered image input n = resuming n 0 (memory_of image input)
 
--- the code ends before this address
-abbrev pub code_end : ImageValue → ℕ
-code_end image = address (length image.words)
-
--- the image is of form 1, and begins with recovery and the checkpoint routine; its objects stand behind the buffers
-pub record IsWritten (image : ImageValue) : Type 0 where
-  pub form : image.form ≡ TwoLengths
-  pub objects : AreHigh image.objects
-  pub few : length image.words ≤ 261120
-  pub long : checkpoint_end ≤ code_end image
-
--- what is in memory as power comes first
-pub record IsLoaded (image : ImageValue) (input : List ℕ) : Type 0 where
-  pub small : (a : ℕ) → memory_of image input a < 256
-  pub index : index_of (memory_of image input) ≡ 0
-  pub start_even : little (memory_of image input) buffer0_start 4 % 2 ≡ 0
-  pub start_outside : is_runtime (little (memory_of image input) buffer0_start 4) ≡ false
-  pub recovery : Stands (memory_of image input) code_start recovery_words
-  pub checkpoint : Stands (memory_of image input) checkpoint_start checkpoint_words
-  pub code : Stands (memory_of image input) code_start image.words
-  pub entered : little (memory_of image input) buffer0_start 4 ≡ image.entry
+-- how many of the first j steps store a word at INDEX, as a commit does
+abbrev pub stores_before : (ℕ → State) → ℕ → ℕ
+stores_before run zero = 0
+stores_before run (suc j) = cond (stores_word (effect_at (run j)) index_at) 1 0 + stores_before run j
 
 -- how a run with n fuel has ended at time j, or that it goes on, each unit of fuel being worth a step
 abbrev pub ShowsAfter : ImageValue → (ℕ → State) → Outcome → ℕ → ℕ → Type 0
@@ -64,9 +43,9 @@ pub record Follows (image : ImageValue) (input : List ℕ) (code : Code) (g : Se
   pub shows : ShowsAfter image (run_of image input) o n j
   pub soon : j ≤ around + after (start code g n) (spent code g steps k)
   pub grows : (i : ℕ) → i ≤ j → Begins (output_of image.form (run_of image input i).mem) (output_of image.form (run_of image input j).mem)
+  pub commits : stores_before (run_of image input) j ≤ after (start code g n) (spent code g cuts k)
   -- where the code's run writes no exposed byte of its section, the machine's run does what survival asks
   pub owes : NoWar (items run) → OwesUntil image.words (code_end image) (run_of image input) j
-  pub commits : NoWar (items run) → flips (flip (run_of image input)) j ≤ after (start code g n) (spent code g cuts k)
 
 -- The machine follows each run of the placed code that is defined. Weights bound the steps and the commits of lines; around
 -- are the steps that belong to none, and 34 those of recovery and of the halt

@@ -20,7 +20,8 @@ use Rattle.im_force.specs.Force.{Forces}
 use Rattle.im_gap.specs.Gap.{IsGap}
 use Rattle.im_keeps.specs.Keeps.{IsInput}
 use Rattle.im_passes.specs.Source.{Source}
-use Rattle.im_passes.specs.Machine.{IsWritten, IsLoaded, Executes}
+use Rattle.im_written.specs.Written.{IsWritten}
+use Rattle.im_passes.specs.Machine.{Executes}
 
 -- the bytes that the frame of each function may need
 abbrev pub needs_of : Code → List ℕ
@@ -75,7 +76,6 @@ pub record IsSelectable (code : Code) : Type 0 where
 pub record Selects (code : Code) (frames : List ℕ) (image : ImageValue) : Type 0 where
   pub frames_are : (i : ℕ) (f : Function) → slice_get code.functions.items i ≡ Some f → slice_index_or frames i 0 ≡ frame_bytes f
   pub written : IsWritten image
-  pub loaded : (input : List ℕ) → IsInput input → IsLoaded image input
   pub executes : IsSelectable code → (input : List ℕ) → IsInput input → Executes code (setting frames image input) image input
   pub small : IsSelectable code → length image.words ≤ 1024 + sum_of placed_cost code.functions.items
 

@@ -7,6 +7,7 @@ use im_force::force_keeps_law;
 use im_kept::{end_kept_law, run_kept_law};
 use im_placed::cuts_keep_places_law;
 use im_until::until_law;
+use im_written::written_law;
 
 /// From the passes' promises alone: the written image keeps its program's meaning.
 pub fn passes_keep_law()
@@ -18,6 +19,7 @@ pub fn passes_keep_law()
     cuts_keep_code_law();
     cuts_keep_places_law();
     force_keeps_law();
+    written_law();
     until_law();
     along_law();
     gap_law();

@@ -9,6 +9,7 @@ returns c = composed (record {
   code = c.cuts_keep_code_law.ensures;
   places = c.cuts_keep_places_law.ensures;
   force = c.force_keeps_law.ensures;
+  written = c.written_law.ensures;
   until = c.until_law.ensures;
   along = c.along_law.ensures;
   gap = c.gap_law.ensures;
