@@ -9,7 +9,7 @@ use Rattle.im_num.specs.Variables.{Variable}
 use Rattle.im_mem.specs.Memory.{Mem}
 use Rattle.im_rv.specs.declared.step.Went.TheVariants.{On, Halted}
 use Rattle.im_rv.specs.Steps.{Stepped}
-use Rattle.im_rv.specs.Decode.{runs}
+use Rattle.im_rv.specs.Runs.{runs}
 use Rattle.im_reach.specs.Shown.{shown}
 use Rattle.im_image.specs.Contents.{ImageValue}
 use Rattle.im_device.specs.Load.{memory_of}

@@ -4,7 +4,7 @@ use Rattle.im_mem.specs.Memory.{Mem}
 use Rattle.im_rv.specs.declared.step.Went.{Went}
 use Rattle.im_rv.specs.declared.step.Went.TheVariants.{On, Halted, Faulted}
 use Rattle.im_rv.specs.Steps.{Cpu, Stepped}
-use Rattle.im_rv.specs.Decode.{step_of, go_on, runs}
+use Rattle.im_rv.specs.Runs.{step_of, go_on, runs}
 use Rattle.im_ckpt.specs.Runs.{State, IsRun, ends}
 use Rattle.im_replay.proofs.Bridge.{going_of, over_of}
 use Rattle.im_until.proofs.Still.{still, over_still}

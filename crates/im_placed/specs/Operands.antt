@@ -14,9 +14,9 @@ IsHome r = (6 < r) × (r < 32)
 abbrev pub IsPromoted : Kind → Type 0
 IsPromoted kind = (kind ≡ I32) ⊎ (kind ≡ U32)
 
--- the bytes of the greatest object, and the greatest offset in one
-abbrev pub greatest_object : ℕ
-greatest_object = 1048576
+-- the greatest offset: that of a place in the greatest object, and of a cell in another
+abbrev pub greatest_offset : ℕ
+greatest_offset = 2097152
 
 -- an object of the function, by its number in the unit
 abbrev pub HasObject : Function → ℕ → Type 0
@@ -24,9 +24,9 @@ HasObject f n = (f.first_object ≤ n) × (n < f.first_object + length f.objects
 
 -- statics: how many there are
 abbrev pub PlaceExists : ℕ → Function → Place → Type 0
-PlaceExists statics f (Static object offset) = (object < statics) × (offset ≤ greatest_object)
-PlaceExists statics f (Local object offset) = HasObject f object × (offset ≤ greatest_object)
-PlaceExists statics f (Through pointer offset) = offset ≤ greatest_object
+PlaceExists statics f (Static object offset) = (object < statics) × (offset ≤ greatest_offset)
+PlaceExists statics f (Local object offset) = HasObject f object × (offset ≤ greatest_offset)
+PlaceExists statics f (Through pointer offset) = offset ≤ greatest_offset
 
 -- the register of a place is a home
 abbrev pub PlaceAtHome : Place → Type 0

@@ -5,7 +5,8 @@ use Rattle.std.specs.Prelude.{◌==◌, ◌%◌}
 use Rattle.im_rv.specs.declared.step.Went.TheVariants.{Faulted}
 use Rattle.im_rv.specs.declared.effect.Effect.{Effect}
 use Rattle.im_rv.specs.declared.effect.Effect.TheVariants.{Stops}
-use Rattle.im_rv.specs.Decode.{Line, step_of}
+use Rattle.im_rv.specs.Decode.{Line}
+use Rattle.im_rv.specs.Runs.{step_of}
 use Rattle.im_rv.specs.Effects.{effect_by, rs1_of, rs2_of, writes_by, reads_by}
 use Rattle.im_rv.specs.Code.{address, instruction_at}
 use Rattle.im_mem.specs.Map.{code_start}

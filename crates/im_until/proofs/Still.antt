@@ -3,7 +3,7 @@ use Rattle.std.proofs.Common.{◌≡◌, ◌≢◌, ℕ, zero, suc, ◌+◌, ◌
 use Rattle.std.specs.Prelude.{nat_eq}
 use Rattle.im_rv.specs.Steps.{Cpu}
 use Rattle.im_mem.specs.Memory.{Mem}
-use Rattle.im_rv.specs.Decode.{step_of}
+use Rattle.im_rv.specs.Runs.{step_of}
 use Rattle.im_rv.proofs.Changes.{ends_calm}
 use Rattle.im_device.specs.Run.{index_of}
 use Rattle.im_path.specs.Sections.{start, flips}

@@ -3,7 +3,8 @@ use Rattle.std.specs.Prelude.{◌≡◌, ◌≢◌, ℕ, suc, ◌+◌, ◌<◌, 
 use Rattle.im_mem.specs.Map.{code_start, out_len0_at, out_len1_at, out_sel_at}
 use Rattle.im_rv.specs.declared.instr.Op.TheVariants.{Ebreak}
 use Rattle.im_rv.specs.declared.step.Went.TheVariants.{Faulted}
-use Rattle.im_rv.specs.Decode.{Line, step_of}
+use Rattle.im_rv.specs.Decode.{Line}
+use Rattle.im_rv.specs.Runs.{step_of}
 use Rattle.im_rv.specs.Code.{instruction_at}
 use Rattle.im_path.specs.Sections.{start, wrote}
 use Rattle.im_ckpt.specs.Runs.{State, line_at, sets, flip, ends, writes, reads}
