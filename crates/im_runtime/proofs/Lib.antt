@@ -1,2 +1,9 @@
+pub mod Chain
+pub mod Cutting
+pub mod Ends
+pub mod Getting
+pub mod Putting
 pub mod Ran
 pub mod Saving
+pub mod Serving
+pub mod Showing

@@ -1,7 +1,9 @@
 -- Runs in parts, with what is seen of what they touch.
 use Rattle.std.proofs.Common.{◌≡◌, ◌≢◌, ℕ, zero, suc, ◌+◌, ◌*◌, ◌%◌, ◌^◌, ◌<◌, ◌≤◌, ◌⊎◌, inl, inr, Bool, true, false, cond, List, [], ◌∷◌, ◌++◌, refl, sym, ap, ◌∙◌, subst, arith}
-use Rattle.std.specs.Prelude.{◌==◌, ◌||◌, nat_lt, nat_le}
+use Rattle.std.specs.Prelude.{◌==◌, ◌&&◌, ◌||◌, nat_lt, nat_le}
 use Rattle.std.proofs.lemmas.Bool.Decides.{nat_tests}
+use Rattle.std.proofs.lemmas.List.{append-nil}
+use Rattle.std.proofs.Math.Nat.{mod-one}
 use Rattle.im_num.specs.Bytes.{bytes_of}
 use Rattle.im_mem.specs.Memory.{Mem, little, is_place, written}
 use Rattle.im_rv.specs.declared.step.Went.TheVariants.{On}
@@ -9,14 +11,15 @@ use Rattle.im_rv.specs.declared.effect.Effect.TheVariants.{Puts, Goes, Loads, St
 use Rattle.im_rv.specs.declared.effect.Extension.TheVariants.{Zero}
 use Rattle.im_rv.specs.declared.step.Went.TheVariants.{Halted}
 use Rattle.im_rv.specs.Steps.{Cpu, Stepped, sum_of, with_reg, row}
-use Rattle.im_rv.specs.Decode.{Line, step_of, runs}
+use Rattle.im_rv.specs.Decode.{Line}
+use Rattle.im_rv.specs.Runs.{step_of, runs}
 use Rattle.im_rv.proofs.Straight.{one_more, fetch_is, Fetches, stores_step}
 use Rattle.im_ckpt.specs.Buffers.{is_buffer}
 use Rattle.im_reach.specs.Touches.{Touch, Loaded, Stored, Flipped, touched_on, touched, touches, is_system, heard, touch_of, line_touches, word_touches}
 use Rattle.im_reach.specs.Shown.{shown, Begins}
 use Rattle.im_reach.specs.Reach.{plus, Reach}
 use Rattle.im_reach.specs.Instructions.{Holds, Fixed}
-use Rattle.im_reach.proofs.Reach.{join, nothing, puts, leaps, passes, loads, stores, fetches, next_pc, begins_same}
+use Rattle.im_reach.proofs.Reach.{join, nothing, puts, leaps, passes, loads, stores, fetches, next_pc}
 use Rattle.im_runtime.specs.Seen.{is_checkpoints, seen}
 
 loaded_append : (b : Bool) (t : Touch) (z w us : List Touch) → z ≡ w ++ us → cond b z (t ∷ z) ≡ cond b w (t ∷ w) ++ us
@@ -100,6 +103,28 @@ go_step image m pc x l target fixed h e = record { ts = []; reach = passes image
 -- a load of a whole word, or of a byte as it is
 pub load_step : (image m : Mem) (pc : ℕ) (x : ℕ → ℕ) (l : Line) (a n : ℕ) → Fixed image m → Holds image pc l → row l.op pc (x l.rs1) (x l.rs2) l.imm ≡ Loads a n Zero → is_place a n ≡ true → Ran 1 (seen (Loaded a n ∷ [])) (at pc x) m (at (pc + 4) (with_reg x l.rd (little m a n))) m
 load_step image m pc x l a n fixed h e ok = record { ts = Loaded a n ∷ []; reach = loads image m pc x l a n Zero fixed h e ok; saw = refl }
+
+pub begins_same : (a b : List ℕ) → b ≡ a → Begins a b
+begins_same a b e = ([], e ∙ sym (append-nil a))
+
+-- an address behind the register buffers is no checkpoint's
+pub no_index : (a : ℕ) → 384 ≤ a → (a == 0) ≡ false
+no_index a h = grind (arith, nat_tests)
+
+pub no_buffer : (a : ℕ) → 384 ≤ a → is_buffer a ≡ false
+no_buffer a h = grind (arith, nat_tests)
+
+pub byte_stored : (a : ℕ) → 384 ≤ a → seen (Stored a 1 ∷ []) ≡ Stored a 1 ∷ []
+byte_stored a h = ap (λ b. cond b (Flipped ∷ []) (cond (is_buffer a) [] (Stored a 1 ∷ []))) (no_index a h) ∙ ap (λ b. cond b [] (Stored a 1 ∷ [])) (no_buffer a h)
+
+pub byte_loaded : (a : ℕ) → 384 ≤ a → seen (Loaded a 1 ∷ []) ≡ Loaded a 1 ∷ []
+byte_loaded a h = ap (λ b. cond (b || is_buffer a) [] (Loaded a 1 ∷ [])) (no_index a h) ∙ ap (λ b. cond b [] (Loaded a 1 ∷ [])) (no_buffer a h)
+
+in_memory : (a : ℕ) → a < 5242880 → nat_le (a + 1) 5242880 ≡ true
+in_memory a l = grind (arith, nat_tests)
+
+pub byte_place : (a : ℕ) → a < 5242880 → is_place a 1 ≡ true
+byte_place a l = ap (λ z. z == 0 && nat_le (a + 1) 5242880) (mod-one a) ∙ in_memory a l
 
 -- one step after which more is shown
 grown : (ts : List Touch) (c d : Cpu) (m k : Mem) → step_of c m ≡ record { went = On; cpu = d; mem = k } → touches c m ≡ ts → Begins (shown m) (shown k) → Reach 1 ts c m d k

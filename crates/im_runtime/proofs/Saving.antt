@@ -21,9 +21,9 @@ use Rattle.im_reach.specs.Touches.{Touch, Stored, Flipped}
 use Rattle.im_reach.specs.Reach.{plus}
 use Rattle.im_reach.specs.Shown.{shown, Begins}
 use Rattle.im_reach.specs.Instructions.{Holds, Fixed}
-use Rattle.im_reach.proofs.Reach.{plus_is, Quiet, shown_same, begins_same}
+use Rattle.im_reach.proofs.Reach.{plus_is, Quiet, shown_same}
 use Rattle.im_runtime.specs.Seen.{seen}
-use Rattle.im_runtime.proofs.Ran.{Ran, at, no_step, follow, put_step, leap_step, load_step, store_step}
+use Rattle.im_runtime.proofs.Ran.{Ran, at, begins_same, no_step, follow, put_step, leap_step, load_step, store_step}
 
 -- memory is as it was, the register buffers and perhaps INDEX aside
 pub record Kept (m k : Mem) : Type 0 where
