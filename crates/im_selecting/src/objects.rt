@@ -1,0 +1,50 @@
+ghost use Rattle.std.specs.Prelude.{◌≡◌, ◌<◌, ◌≤◌, ◌+◌, length};
+ghost use Rattle.im_store.specs.Objects.{Named, Slot};
+ghost use Rattle.im_placed.specs.Operands.{HasObject};
+ghost use Rattle.im_selecting.specs.Emitted.{place_at};
+ghost use Rattle.im_selecting.specs.Selects.{HasPlaces};
+
+use im_block::Function;
+use im_frame::Layout;
+
+/// Where the objects lie that a function names.
+pub struct Objects<'a> {
+    /// The address of each static of the unit.
+    pub statics: &'a [u32],
+    pub function: &'a Function,
+    /// The layout of the function's frame.
+    pub layout: &'a Layout,
+}
+
+/// The address of a static.
+pub(crate) fn static_place(objects: &Objects, number: u32) -> u32
+    requires places { HasPlaces objects.now.statics.now objects.now.function.now objects.now.layout.now }
+    requires there { number < length objects.now.statics.now }
+    ensures value { result ≡ place_at objects.now.statics.now objects.now.function.now.first_object
+        objects.now.layout.now.places.items (Named number) }
+    ensures low { result < 2097152 }
+{
+    objects.statics[number as usize]
+}
+
+/// The place of an object in the frame.
+pub(crate) fn local_place(objects: &Objects, number: u32) -> u32
+    requires places { HasPlaces objects.now.statics.now objects.now.function.now objects.now.layout.now }
+    requires there { HasObject objects.now.function.now number }
+    ensures value { result ≡ place_at objects.now.statics.now objects.now.function.now.first_object
+        objects.now.layout.now.places.items (Named number) }
+    ensures low { result < 65536 }
+{
+    objects.layout.places[(number - objects.function.first_object) as usize]
+}
+
+/// The place of a slot in the frame.
+pub(crate) fn slot_place(objects: &Objects, slot: u32) -> u32
+    requires places { HasPlaces objects.now.statics.now objects.now.function.now objects.now.layout.now }
+    requires there { slot < objects.now.function.now.slots }
+    ensures value { result ≡ place_at objects.now.statics.now objects.now.function.now.first_object
+        objects.now.layout.now.places.items (Slot slot) }
+    ensures low { result < 65536 }
+{
+    8 + 8 * slot
+}
