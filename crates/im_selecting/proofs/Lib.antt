@@ -1,0 +1,5 @@
+pub mod Lists
+pub mod Standing
+pub mod Splitting
+pub mod Selecting
+pub mod Low

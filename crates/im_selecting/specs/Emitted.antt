@@ -1,20 +1,20 @@
 -- For private contracts: the very lines that are put for each line of placed code.
-use Rattle.std.specs.Prelude.{ℕ, zero, suc, ◌+◌, ◌-◌, ◌*◌, ◌/◌, ◌%◌, ◌^◌, ◌==◌, nat_lt, Bool, if◌then◌else◌, List, [], ◌∷◌, ◌++◌, Option, Some, None, length, slice_index}
+use Rattle.std.specs.Prelude.{ℕ, suc, ◌+◌, ◌-◌, ◌/◌, ◌%◌, ◌^◌, ◌==◌, nat_lt, Bool, true, false, if◌then◌else◌, List, [], ◌∷◌, ◌++◌, Some}
 use Rattle.im_num.specs.declared.kind.Kind.{Kind}
 use Rattle.im_num.specs.declared.kind.Kind.TheVariants.{I8, U8, I16, U16, I32, U32, Ptr}
 use Rattle.im_num.specs.declared.values.Cause.{Cause}
 use Rattle.im_num.specs.Kinds.{word}
 use Rattle.im_rv.specs.declared.instr.Op.{Op}
 use Rattle.im_rv.specs.declared.instr.Op.TheVariants.{Jalr, Beq, Bgeu, Lw, Sw, Addi, Sltiu, Xori, Slli, Srli, Srai, Add as AddOp, Sub, Sltu, Mul, Div}
-use Rattle.im_rv.specs.Decode.{Line as Instruction}
 use Rattle.im_rv.specs.Lines.{CodeLine, plain_line}
 use Rattle.im_reach.specs.Instructions.{with_immediate, on_registers, storing, branching, upper, jumping}
-use Rattle.im_operators.specs.Tables.{by_sign, load_op, store_op, operation, less_op}
+use Rattle.im_operators.specs.Tables.{load_op, store_op, operation, less_op}
+use Rattle.im_store.specs.declared.operators.BinaryOp.{BinaryOp}
 use Rattle.im_store.specs.declared.operators.UnaryOp.{UnaryOp}
 use Rattle.im_store.specs.declared.operators.UnaryOp.TheVariants.{Negate, Complement}
 use Rattle.im_store.specs.declared.operators.Comparison.{Comparison}
 use Rattle.im_store.specs.declared.operators.Comparison.TheVariants.{Less, Greater, LessOrEqual, GreaterOrEqual, Equal, NotEqual}
-use Rattle.im_store.specs.Objects.{Name, Named, Slot, Link}
+use Rattle.im_store.specs.Objects.{Name, Named, Slot}
 use Rattle.im_block.specs.declared.code.Place.{Place}
 use Rattle.im_block.specs.declared.code.Place.TheVariants.{Static, Local, Through}
 use Rattle.im_block.specs.declared.code.Line.{Line}
@@ -22,14 +22,8 @@ use Rattle.im_block.specs.declared.code.Line.TheVariants.{Put, PutNull, Copy, Co
 use Rattle.im_block.specs.declared.code.Exit.{Exit}
 use Rattle.im_block.specs.declared.code.Exit.TheVariants.{Jump, Turn, Branch, Return}
 use Rattle.im_block.specs.declared.code.Block.{Block}
-use Rattle.im_select.specs.Selected.{ones, unused_bits}
+use Rattle.im_select.specs.Selected.{ones}
 use Rattle.im_rtlib.specs.Routines.{getchar_label, putchar_label, stack_label, aimed, numbered}
-
--- the place of an object, by its name: a static's in memory, another's in the frame
-abbrev pub place_at : List ℕ → ℕ → List ℕ → Name → ℕ
-place_at statics first places (Named n) = if nat_lt n (length statics) then slice_index statics n else slice_index places (n - first)
-place_at statics first places (Slot n) = 8 + 8 * n
-place_at statics first places Link = 0
 
 -- the labels of functions; those below 64 are the runtime's
 abbrev pub entry_label : ℕ → ℕ
@@ -46,7 +40,7 @@ unfoldable pub high_of : ℕ → ℕ
 high_of n = (n + 2048) / 4096 % 2 ^ 20
 
 unfoldable pub low_of : ℕ → ℕ
-low_of n = if nat_lt (n % 4096) 2048 then n % 4096 else n % 4096 + (2 ^ 32 - 4096)
+low_of n = if nat_lt (n % 4096) 2048 then n % 4096 else n % 4096 + 4294963200
 
 abbrev pub constant_by : Bool → ℕ → ℕ → ℕ → List CodeLine
 constant_by small rd hi lo = if small then plain_line (with_immediate Addi rd 0 lo) ∷ [] else plain_line (upper rd hi) ∷ plain_line (with_immediate Addi rd rd lo) ∷ []
@@ -79,8 +73,11 @@ place_number at (Static object offset) = at (Named object) + offset
 place_number at (Local object offset) = at (Named object) + offset
 place_number at (Through r offset) = offset
 
+abbrev pub static_code : ℕ → List CodeLine
+static_code address = plain_line (upper 5 (high_of address)) ∷ []
+
 abbrev pub place_code : (Name → ℕ) → Place → List CodeLine
-place_code at (Static object offset) = plain_line (upper 5 (high_of (at (Named object) + offset))) ∷ []
+place_code at (Static object offset) = static_code (at (Named object) + offset)
 place_code at (Local object offset) = displaced_code 2 (at (Named object) + offset)
 place_code at (Through r offset) = displaced_code r offset
 
@@ -97,14 +94,15 @@ place_low at place = low_of (place_number at place)
 abbrev pub moved_code : ℕ → ℕ → List CodeLine
 moved_code to from = plain_line (with_immediate Addi to from 0) ∷ []
 
-abbrev pub narrowed_code : ℕ → Kind → ℕ → List CodeLine
-narrowed_code to kind from = plain_line (with_immediate Slli to from (unused_bits kind)) ∷ plain_line (with_immediate (by_sign kind Srai Srli) to to (unused_bits kind)) ∷ []
+-- shifted up, and down again
+abbrev pub shifted_code : ℕ → ℕ → Bool → ℕ → List CodeLine
+shifted_code to bits signed from = plain_line (with_immediate Slli to from bits) ∷ plain_line (with_immediate (if signed then Srai else Srli) to to bits) ∷ []
 
 abbrev pub converted_code : ℕ → Kind → ℕ → List CodeLine
-converted_code to I8 from = narrowed_code to I8 from
-converted_code to U8 from = narrowed_code to U8 from
-converted_code to I16 from = narrowed_code to I16 from
-converted_code to U16 from = narrowed_code to U16 from
+converted_code to I8 from = shifted_code to 24 true from
+converted_code to U8 from = shifted_code to 24 false from
+converted_code to I16 from = shifted_code to 16 true from
+converted_code to U16 from = shifted_code to 16 false from
 converted_code to I32 from = moved_code to from
 converted_code to U32 from = moved_code to from
 converted_code to Ptr from = moved_code to from
@@ -113,11 +111,23 @@ abbrev pub unary_code : ℕ → UnaryOp → ℕ → List CodeLine
 unary_code to Negate from = plain_line (on_registers Sub to 0 from) ∷ []
 unary_code to Complement from = plain_line (with_immediate Xori to from ones) ∷ []
 
+abbrev pub not_code : ℕ → ℕ → List CodeLine
+not_code to from = plain_line (with_immediate Sltiu to from 1) ∷ []
+
+abbrev pub computed_code : ℕ → BinaryOp → Kind → ℕ → ℕ → List CodeLine
+computed_code to op kind left right = plain_line (on_registers (operation op kind) to left right) ∷ []
+
+abbrev pub less_code : ℕ → Op → ℕ → ℕ → List CodeLine
+less_code to less left right = plain_line (on_registers less to left right) ∷ []
+
+abbrev pub not_less_code : ℕ → Op → ℕ → ℕ → List CodeLine
+not_less_code to less left right = plain_line (on_registers less to left right) ∷ plain_line (with_immediate Xori to to 1) ∷ []
+
 abbrev pub compared_code : ℕ → Op → ℕ → ℕ → Comparison → List CodeLine
-compared_code to less left right Less = plain_line (on_registers less to left right) ∷ []
-compared_code to less left right Greater = plain_line (on_registers less to right left) ∷ []
-compared_code to less left right LessOrEqual = plain_line (on_registers less to right left) ∷ plain_line (with_immediate Xori to to 1) ∷ []
-compared_code to less left right GreaterOrEqual = plain_line (on_registers less to left right) ∷ plain_line (with_immediate Xori to to 1) ∷ []
+compared_code to less left right Less = less_code to less left right
+compared_code to less left right Greater = less_code to less right left
+compared_code to less left right LessOrEqual = not_less_code to less right left
+compared_code to less left right GreaterOrEqual = not_less_code to less left right
 compared_code to less left right Equal = plain_line (on_registers Sub 5 left right) ∷ plain_line (with_immediate Sltiu to 5 1) ∷ []
 compared_code to less left right NotEqual = plain_line (on_registers Sub 5 left right) ∷ plain_line (on_registers Sltu to 0 5) ∷ []
 
@@ -139,6 +149,9 @@ call_code rd label = aimed label (jumping rd 0) ∷ []
 abbrev pub cut_code : Cause → List CodeLine
 cut_code cause = record (plain_line (jumping 3 0)) { target = Some checkpoint_label; cause = Some cause } ∷ []
 
+abbrev pub address_code : (Name → ℕ) → ℕ → Place → List CodeLine
+address_code at to place = place_code at place ++ plain_line (with_immediate Addi to (place_base at place) (place_low at place)) ∷ []
+
 abbrev pub fetch_code : (Name → ℕ) → ℕ → Place → Kind → ℕ → List CodeLine
 fetch_code at to place kind access = place_code at place ++ numbered access (with_immediate (load_op kind) to (place_base at place) (place_low at place)) ∷ []
 
@@ -157,12 +170,12 @@ line_code at (PutNull to) = moved_code to 0
 line_code at (Copy to from) = moved_code to from
 line_code at (Convert to kind from) = converted_code to kind from
 line_code at (Unary to op kind from) = unary_code to op from
-line_code at (Not to from) = plain_line (with_immediate Sltiu to from 1) ∷ []
-line_code at (Compute to op kind left right) = plain_line (on_registers (operation op kind) to left right) ∷ []
+line_code at (Not to from) = not_code to from
+line_code at (Compute to op kind left right) = computed_code to op kind left right
 line_code at (Compare to op kind left right) = compared_code to (less_op kind) left right op
 line_code at (Move to size back pointer by) = pointer_code to size back pointer by
 line_code at (Distance to size left right) = distance_code to size left right
-line_code at (Address to place) = place_code at place ++ plain_line (with_immediate Addi to (place_base at place) (place_low at place)) ∷ []
+line_code at (Address to place) = address_code at to place
 line_code at (Read to place kind access) = fetch_code at to place kind access
 line_code at (Write place kind from access) = keep_code at place kind from access
 line_code at (Reload to slot access) = reload_code to (at (Slot slot)) access

@@ -1,6 +1,8 @@
 //! From placed code over objects to lines of RISC-V with labels.
 #![tactic(auto)]
 
+mod computing;
+mod memory;
 mod objects;
 mod push;
 mod words;

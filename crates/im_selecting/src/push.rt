@@ -1,8 +1,6 @@
-ghost use Rattle.std.specs.Prelude.{◌≡◌, ◌<◌, ◌++◌, ◌∷◌, [], OnOk, IsTrue, pos, map};
+ghost use Rattle.std.specs.Prelude.{◌≡◌, ◌<◌, ◌++◌, ◌∷◌, [], OnOk, IsTrue, pos};
 ghost use Rattle.im_rv.specs.Fits.{fits};
-ghost use Rattle.im_rv.specs.Formats.{format_of};
 ghost use Rattle.im_rv.specs.Steps.{word};
-ghost use Rattle.im_rv.specs.declared.format.Format.TheVariants.{Register, Immediate, Store};
 ghost use Rattle.im_rv.specs.Lines.{code_lines, line_of, plain_line, instruction};
 ghost use Rattle.im_rtlib.specs.Routines.{aimed, numbered};
 ghost use Rattle.im_selecting.specs.Emitted.{call_code, cut_code};
@@ -60,8 +58,7 @@ pub(crate) fn push_cut(lines: &mut Vec<Line>, cause: Cause) -> Result<(), NoMemo
 
 /// An operation on registers.
 pub(crate) fn on_registers(op: Op, rd: u8, rs1: u8, rs2: u8) -> Instr
-    requires form { format_of op ≡ Register }
-    requires fits { IsTrue (fits op rd rs1 rs2 (pos 0)) }
+    requires { IsTrue (fits op rd rs1 rs2 (pos 0)) }
     ensures { line_of result ≡ instruction op rd rs1 rs2 0 }
 {
     Instr {

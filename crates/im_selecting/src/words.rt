@@ -4,6 +4,7 @@ ghost use Rattle.im_rv.specs.Fits.{in_bits, in_signed};
 ghost use Rattle.im_rv.specs.Steps as steps;
 ghost use Rattle.im_rv.specs.Lines.{code_lines};
 ghost use Rattle.im_selecting.specs.Emitted.{high_of, low_of, constant_code, displaced_code, displaced_base, adds_code};
+ghost use Rattle.im_selecting.specs.Places.{IsDisplaced};
 
 use crate::push::push;
 use im_num::NoMemory;
@@ -11,9 +12,18 @@ use im_rv::Line;
 use im_rv::assembler::{add, addi, lui};
 
 /// An address: a register plus an offset of 12 bits with its sign.
+#[derive(Clone, Copy)]
 pub(crate) struct Displaced {
     pub base: u8,
     pub low: i32,
+}
+
+/// A register of the machine.
+pub(crate) fn register(number: u32) -> u8
+    requires { number < 32 }
+    ensures { result ≡ number }
+{
+    number as u8
 }
 
 /// The 32 bits of a number.
@@ -64,10 +74,7 @@ pub(crate) fn push_displaced(lines: &mut Vec<Line>, register: u8, word: u32) -> 
     requires { register < 32 }
     ensures grows { OnOk result (code_lines lines.new.items
         ≡ code_lines lines.old.items ++ displaced_code register word) }
-    ensures base { IfOk result (λ d. d.base ≡ displaced_base register word) }
-    ensures register { IfOk result (λ d. d.base < 32) }
-    ensures low { IfOk result (λ d. steps.word d.low ≡ low_of word) }
-    ensures bits { IfOk result (λ d. IsTrue (in_signed 11 d.low)) }
+    ensures gives { IfOk result (λ d. IsDisplaced d (displaced_base register word) word) }
 {
     let high = high_part(word);
     let low = low_part(word);
