@@ -3,3 +3,4 @@ pub mod Standing
 pub mod Splitting
 pub mod Selecting
 pub mod Low
+pub mod Blocks

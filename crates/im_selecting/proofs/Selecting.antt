@@ -26,13 +26,10 @@ use Rattle.im_placed.specs.Operands.{PlaceAtHome}
 use Rattle.im_placed.specs.Placed.{IsPlacedLine, IsPlacedExit, IsResult}
 use Rattle.im_select.specs.Selected.{InResult}
 use Rattle.im_select.specs.Symbolic.{Lines, HasLine, Plain, ConstantIn, Small, Large, DisplacedIn, Near, Far, BasedIn, InFrame, InStatic, Behind, AddsIn, Short, Long, ComparedIn, Lesser, Larger, NotLarger, NotLesser, Same, Other, ConvertedIn, Whole, Narrowed, SelectedIn, Numbers, Nulls, Copies, Converts, Negates, Complements, Nots, Computes, Compares, Moves, Measures, Addresses, Fetches, Keeps, Reloads, Spills, Cuts_, Calls, Gets, Puts_, TestedIn, Hopped, LeavesIn, ExitIn, StandsIn, CheckedIn, Around, PrologueIn}
-use Rattle.im_selecting.specs.Emitted.{entry_label, high_of, low_of, constant_by, constant_code, displaced_by, displaced_code, displaced_base, adds_by, adds_code, place_number, place_code, place_base, place_low, line_code, lines_code, leave_code, exit_code, enter_code, prologue_code}
+use Rattle.im_selecting.specs.Emitted.{entry_label, high_of, low_of, constant_by, constant_code, displaced_by, displaced_code, displaced_base, adds_by, adds_code, place_number, place_code, place_base, line_code, lines_code, leave_code, exit_code, enter_code, prologue_code}
+use Rattle.im_selecting.specs.Selects.{named}
 use Rattle.im_selecting.proofs.Standing.{At, after, after_append, at_left, at_right}
 use Rattle.im_selecting.proofs.Splitting.{splits, low_whole}
-
--- the labels that lines are given: block b of the function has first + b
-abbrev pub named : (Name → ℕ) → ℕ → List CodeLine → Lines
-named at first lines = record { lines = lines; at = at; block = λ b. first + b; entry = entry_label; full = 35; checkpoint = λ m. m; puts = 33; gets = 32 }
 
 is_zero : (a : ℕ) → (a == 0) ≡ true → a ≡ 0
 is_zero a h = grind (arith, nat_tests)
@@ -62,7 +59,7 @@ adds_in w k rd n small = by (high_of n == 0) refl
         subst (AddsIn w k rd n) (sym (after_append k (constant_code 5 n) (last ∷ [])))
         (Long (after k (constant_code 5 n)) (constant_in w k 5 n small (at_left w k (constant_code 5 n) (last ∷ []) a)) r.0)
 
-pub based_in : (w : Lines) (k : ℕ) (place : Place) → place_number w.at place < 2 ^ 32 → PlaceAtHome place → At w k (place_code w.at place) → BasedIn w k place (place_base w.at place) (place_low w.at place) (after k (place_code w.at place))
+pub based_in : (w : Lines) (k : ℕ) (place : Place) → place_number w.at place < 2 ^ 32 → PlaceAtHome place → At w k (place_code place (place_number w.at place)) → BasedIn w k place (place_base place (place_number w.at place)) (low_of (place_number w.at place)) (after k (place_code place (place_number w.at place)))
 based_in w k (Static object offset) small home a = InStatic object offset (high_of (w.at (Named object) + offset)) (low_of (w.at (Named object) + offset)) (splits (w.at (Named object) + offset) small) a.0
 based_in w k (Local object offset) small home a = InFrame object offset _ _ _ (displaced_in w k 2 (w.at (Named object) + offset) small a)
 based_in w k (Through r offset) small home a = Behind r offset _ _ _ home (displaced_in w k r offset small a)
@@ -110,19 +107,19 @@ selected_in at first ls k statics f (Distance to size left right) h s a =
     (Measures to size left right (after (suc k) (constant_code 6 size)) h.0 h.1 h.2 h.3 h.4 a.0 (constant_in w (suc k) 6 size small (at_left w (suc k) (constant_code 6 size) _ a.1)) r.0)
 selected_in at first ls k statics f (Address to place) h s a =
     let w = named at first ls in
-    let r = at_right w k (place_code at place) _ a in
-    subst (SelectedIn w k (Address to place)) (sym (after_append k (place_code at place) _))
-    (Addresses to place _ _ (after k (place_code at place)) h.0 (based_in w k place s h.1 (at_left w k (place_code at place) _ a)) r.0)
+    let r = at_right w k (place_code place (place_number at place)) _ a in
+    subst (SelectedIn w k (Address to place)) (sym (after_append k (place_code place (place_number at place)) _))
+    (Addresses to place _ _ (after k (place_code place (place_number at place))) h.0 (based_in w k place s h.1 (at_left w k (place_code place (place_number at place)) _ a)) r.0)
 selected_in at first ls k statics f (Read to place kind access) h s a =
     let w = named at first ls in
-    let r = at_right w k (place_code at place) _ a in
-    subst (SelectedIn w k (Read to place kind access)) (sym (after_append k (place_code at place) _))
-    (Fetches to place kind access _ _ (after k (place_code at place)) h.0 (based_in w k place s h.1 (at_left w k (place_code at place) _ a)) r.0)
+    let r = at_right w k (place_code place (place_number at place)) _ a in
+    subst (SelectedIn w k (Read to place kind access)) (sym (after_append k (place_code place (place_number at place)) _))
+    (Fetches to place kind access _ _ (after k (place_code place (place_number at place))) h.0 (based_in w k place s h.1 (at_left w k (place_code place (place_number at place)) _ a)) r.0)
 selected_in at first ls k statics f (Write place kind from access) h s a =
     let w = named at first ls in
-    let r = at_right w k (place_code at place) _ a in
-    subst (SelectedIn w k (Write place kind from access)) (sym (after_append k (place_code at place) _))
-    (Keeps place kind from access _ _ (after k (place_code at place)) h.0 (based_in w k place s h.1 (at_left w k (place_code at place) _ a)) r.0)
+    let r = at_right w k (place_code place (place_number at place)) _ a in
+    subst (SelectedIn w k (Write place kind from access)) (sym (after_append k (place_code place (place_number at place)) _))
+    (Keeps place kind from access _ _ (after k (place_code place (place_number at place))) h.0 (based_in w k place s h.1 (at_left w k (place_code place (place_number at place)) _ a)) r.0)
 selected_in at first ls k statics f (Reload to slot access) h s a =
     let w = named at first ls in
     let code = displaced_code 2 (at (Slot slot)) in

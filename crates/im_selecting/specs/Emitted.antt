@@ -76,18 +76,16 @@ place_number at (Through r offset) = offset
 abbrev pub static_code : ℕ → List CodeLine
 static_code address = plain_line (upper 5 (high_of address)) ∷ []
 
-abbrev pub place_code : (Name → ℕ) → Place → List CodeLine
-place_code at (Static object offset) = static_code (at (Named object) + offset)
-place_code at (Local object offset) = displaced_code 2 (at (Named object) + offset)
-place_code at (Through r offset) = displaced_code r offset
+-- with the number of the place
+abbrev pub place_code : Place → ℕ → List CodeLine
+place_code (Static object offset) n = static_code n
+place_code (Local object offset) n = displaced_code 2 n
+place_code (Through r offset) n = displaced_code r n
 
-abbrev pub place_base : (Name → ℕ) → Place → ℕ
-place_base at (Static object offset) = 5
-place_base at (Local object offset) = displaced_base 2 (at (Named object) + offset)
-place_base at (Through r offset) = displaced_base r offset
-
-abbrev pub place_low : (Name → ℕ) → Place → ℕ
-place_low at place = low_of (place_number at place)
+abbrev pub place_base : Place → ℕ → ℕ
+place_base (Static object offset) n = 5
+place_base (Local object offset) n = displaced_base 2 n
+place_base (Through r offset) n = displaced_base r n
 
 -- ---- operators
 
@@ -149,14 +147,14 @@ call_code rd label = aimed label (jumping rd 0) ∷ []
 abbrev pub cut_code : Cause → List CodeLine
 cut_code cause = record (plain_line (jumping 3 0)) { target = Some checkpoint_label; cause = Some cause } ∷ []
 
-abbrev pub address_code : (Name → ℕ) → ℕ → Place → List CodeLine
-address_code at to place = place_code at place ++ plain_line (with_immediate Addi to (place_base at place) (place_low at place)) ∷ []
+abbrev pub address_code : ℕ → Place → ℕ → List CodeLine
+address_code to place n = place_code place n ++ plain_line (with_immediate Addi to (place_base place n) (low_of n)) ∷ []
 
-abbrev pub fetch_code : (Name → ℕ) → ℕ → Place → Kind → ℕ → List CodeLine
-fetch_code at to place kind access = place_code at place ++ numbered access (with_immediate (load_op kind) to (place_base at place) (place_low at place)) ∷ []
+abbrev pub fetch_code : ℕ → Place → Kind → ℕ → ℕ → List CodeLine
+fetch_code to place kind access n = place_code place n ++ numbered access (with_immediate (load_op kind) to (place_base place n) (low_of n)) ∷ []
 
-abbrev pub keep_code : (Name → ℕ) → Place → Kind → ℕ → ℕ → List CodeLine
-keep_code at place kind from access = place_code at place ++ numbered access (storing (store_op kind) (place_base at place) from (place_low at place)) ∷ []
+abbrev pub keep_code : Place → Kind → ℕ → ℕ → ℕ → List CodeLine
+keep_code place kind from access n = place_code place n ++ numbered access (storing (store_op kind) (place_base place n) from (low_of n)) ∷ []
 
 abbrev pub reload_code : ℕ → ℕ → ℕ → List CodeLine
 reload_code to place access = displaced_code 2 place ++ numbered access (with_immediate Lw to (displaced_base 2 place) (low_of place)) ∷ []
@@ -175,9 +173,9 @@ line_code at (Compute to op kind left right) = computed_code to op kind left rig
 line_code at (Compare to op kind left right) = compared_code to (less_op kind) left right op
 line_code at (Move to size back pointer by) = pointer_code to size back pointer by
 line_code at (Distance to size left right) = distance_code to size left right
-line_code at (Address to place) = address_code at to place
-line_code at (Read to place kind access) = fetch_code at to place kind access
-line_code at (Write place kind from access) = keep_code at place kind from access
+line_code at (Address to place) = address_code to place (place_number at place)
+line_code at (Read to place kind access) = fetch_code to place kind access (place_number at place)
+line_code at (Write place kind from access) = keep_code place kind from access (place_number at place)
 line_code at (Reload to slot access) = reload_code to (at (Slot slot)) access
 line_code at (Spill slot from access) = spill_code (at (Slot slot)) from access
 line_code at (Cut cause) = cut_code cause
@@ -194,10 +192,14 @@ lines_code at (line ∷ lines) = line_code at line ++ lines_code at lines
 abbrev pub leave_code : ℕ → List CodeLine
 leave_code frame = plain_line (with_immediate Lw 1 2 0) ∷ (adds_code 2 frame ++ plain_line (with_immediate Jalr 0 1 0) ∷ [])
 
+-- by a register, over a jump
+abbrev pub branch_code : ℕ → ℕ → ℕ → List CodeLine
+branch_code on there other = plain_line (branching Beq on 0 8) ∷ aimed there (jumping 0 0) ∷ aimed other (jumping 0 0) ∷ []
+
 abbrev pub exit_code : ℕ → ℕ → Exit → List CodeLine
 exit_code first frame (Jump b) = call_code 0 (first + b)
 exit_code first frame (Turn b) = call_code 0 (first + b)
-exit_code first frame (Branch on x y) = plain_line (branching Beq on 0 8) ∷ aimed (first + x) (jumping 0 0) ∷ aimed (first + y) (jumping 0 0) ∷ []
+exit_code first frame (Branch on x y) = branch_code on (first + x) (first + y)
 exit_code first frame (Return from) = leave_code frame
 
 -- the first line has a label

@@ -1,10 +1,14 @@
 //! From placed code over objects to lines of RISC-V with labels.
 #![tactic(auto)]
 
+mod blocks;
 mod computing;
+mod lines;
 mod memory;
-mod objects;
+mod names;
 mod push;
+mod select;
 mod words;
 
-pub use objects::Objects;
+pub use names::Names;
+pub use select::select;
