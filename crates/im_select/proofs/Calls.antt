@@ -39,7 +39,7 @@ use Rattle.im_select.proofs.Checks.{found_fine, fine_is}
 use Rattle.im_select.proofs.Cells.{Memory, write_fixed, write_words, heard_load, heard_store}
 use Rattle.im_select.proofs.Shapes.{Premises, StaticsLive, shows_statics}
 use Rattle.im_select.proofs.Relation.{SlotsShaped, Ordered, link_of, AllLinked, Back, Chain, Rel, Advanced, Finished, After, checked_after, takes_after, SameLinks, chain_kept, link_place}
-use Rattle.im_select.proofs.Ends.{ends, ends_twice, told, Added, adds, regs_still, Jumped, jumps, Passed, has_room, no_room}
+use Rattle.im_select.proofs.Ends.{ends, told, Added, adds, regs_still, Jumped, jumps, Passed, has_room, no_room}
 
 cond_after : (p : Linking) (u : Code) (g : Setting) (words : ℕ) (c : Cpu) (m : Mem) (b : Bool) (one other : Next) → (b ≡ true → After p u g words c m one) → (b ≡ false → After p u g words c m other) → After p u g words c m (cond b one other)
 cond_after p u g words c m true one other h k = h refl
@@ -177,31 +177,25 @@ slots_left : (shape : Object → Option Shape) (a : ℕ) → SlotsShaped shape �
 slots_left shape a l o n sh e h = l o n sh e (closed shape a o sh h).1
 
 -- the stack is exhausted: the cause is stored, and the run ends
-exhausted : (p : Linking) (u : Code) (g : Setting) → Premises p u g → (s : State) (m : Mem) (x : ℕ → ℕ) (frames : List Mark) → Fixed p.image m → Words (limit_of g) g.capacity m → shown m ≡ s.output → x 0 ≡ 0 → StaticsLive u s.store.shape → Mapped p s.store.shape frames → Memory p s.store.shape s.store.values m → Finished p u 1 (record { pc = p.full; x = x }) m 1 (pos 0) s.output (variables (statics_of u) s.store) []
+exhausted : (p : Linking) (u : Code) (g : Setting) → Premises p u g → (s : State) (m : Mem) (x : ℕ → ℕ) (frames : List Mark) → Fixed p.image m → Words (limit_of g) g.capacity m → shown m ≡ s.output → x 0 ≡ 0 → StaticsLive u s.store.shape → Mapped p s.store.shape frames → Memory p s.store.shape s.store.values m → Finished p u 0 (record { pc = p.full; x = x }) m 1 (pos 0) s.output (variables (statics_of u) s.store) []
 exhausted p u g l s m x frames fixed words seen x0 live mapped memory =
-    let h = l.at.exhausted in
     let a : ℕ = sum_of (x 0) 1 in
     let y : ℕ → ℕ = with_reg x 5 a in
     let e : y 5 ≡ 1 = same_reg x 5 a (omega arith) ∙ (omega arith) in
-    let m1 : Mem = written m 4 (bytes_of 4 (x 0)) in
-    let k : Mem = written m1 8 (bytes_of 4 (y 5)) in
-    let zero_ : sum_of (x 0) 4 ≡ 4 = omega arith in
-    let same : Fixed p.image m1 = (λ b low up. written-above m 4 b (bytes_of 4 (x 0)) (omega (arith, length-bytes_of 4 (x 0))) ∙ fixed b low up) in
+    let k : Mem = written m 8 (bytes_of 4 (y 5)) in
     record {
-      n = 4;
+      n = 3;
       some = omega arith;
       few = omega arith;
-      ts = Stored 4 4 ∷ Stored 8 4 ∷ [];
+      ts = Stored 8 4 ∷ [];
       touches = Nothing;
       k = k;
-      stopped = then_stops 1 3 (Stored 4 4 ∷ []) (Stored 8 4 ∷ []) _ _ m m1 k
-          (stores p.image m p.full x (storing Sw 0 0 4) 4 4 (x 0) fixed h.0 (ap (λ z. Stores z 4 (x 0)) zero_) refl (output_told m 4 4 (x 0) (omega arith)))
-          (then_stops 1 2 [] (Stored 8 4 ∷ []) _ _ m1 m1 k (puts p.image m1 (p.full + 4) x (with_immediate Addi 5 0 1) a same h.1.0 refl)
-          (ends p.image m1 (p.full + 4 + 4) y 5 8 same (other_reg x 5 a 0 (omega arith) ∙ x0) (omega arith) refl h.1.1.0 h.1.1.1.0));
-      reason_is = told m1 8 (y 5) (omega arith) ∙ e;
-      status_is = little-other m1 8 4 (y 5) 4 4 (inl (omega arith)) ∙ told m 4 (x 0) (omega arith) ∙ x0 ∙ sym (word_of 0 (omega arith));
-      output_is = output_told m1 8 4 (y 5) (omega arith) ∙ output_told m 4 4 (x 0) (omega arith) ∙ seen;
-      statics = shows_statics p u s.store frames m k live mapped memory (λ b low high. written-above m1 8 b (bytes_of 4 (y 5)) (omega (arith, length-bytes_of 4 (y 5))) ∙ written-above m 4 b (bytes_of 4 (x 0)) (omega (arith, length-bytes_of 4 (x 0))));
+      stopped = then_stops 1 2 [] (Stored 8 4 ∷ []) _ _ m m k (puts p.image m p.full x (with_immediate Addi 5 0 1) a fixed l.at.one refl)
+          (ends p.image m (p.full + 4) y 5 8 fixed (other_reg x 5 a 0 (omega arith) ∙ x0) (omega arith) refl l.at.cause l.at.stops);
+      reason_is = told m 8 (y 5) (omega arith) ∙ e;
+      status_is = little-other m 8 4 (y 5) 4 4 (inl (omega arith)) ∙ words.status_is ∙ sym (word_of 0 (omega arith));
+      output_is = output_told m 8 4 (y 5) (omega arith) ∙ seen;
+      statics = shows_statics p u s.store frames m k live mapped memory (λ b low high. written-above m 8 b (bytes_of 4 (y 5)) (omega (arith, length-bytes_of 4 (y 5))));
     }
 
 -- the prologue up to its test
@@ -240,7 +234,7 @@ lower p g m pc target x depth size pro fixed words x0 x2 small top =
 enter_full : (p : Linking) (u : Code) (g : Setting) → Premises p u g → (s : State) (m : Mem) (pc mid next : ℕ) (x : ℕ → ℕ) (depth size : ℕ) (frames : List Mark) → Fixed p.image m → Words (limit_of g) g.capacity m → shown m ≡ s.output → StaticsLive u s.store.shape → Mapped p s.store.shape frames → Memory p s.store.shape s.store.values m → (w : Lowered p g m pc mid x depth size) → nat_lt (w.z 6) (w.z 5) ≡ true → Checked p mid next → Finished p u 9 (record { pc = pc; x = x }) m 1 (pos 0) s.output (variables (statics_of u) s.store) (Tests ∷ [])
 enter_full p u g l s m pc mid next x depth size frames fixed words seen live mapped memory w t check =
     let q : Passed m mid w.z p.full = no_room p m mid w.z next fixed t check in
-    let e : Finished p u 1 (record { pc = p.full; x = q.y }) m 1 (pos 0) s.output (variables (statics_of u) s.store) [] = exhausted p u g l s m q.y frames fixed words seen (q.kept 0 ∙ w.z0) live mapped memory in
+    let e : Finished p u 0 (record { pc = p.full; x = q.y }) m 1 (pos 0) s.output (variables (statics_of u) s.store) [] = exhausted p u g l s m q.y frames fixed words seen (q.kept 0 ∙ w.z0) live mapped memory in
     let some_ : plus w.n (plus q.n e.n) ≡ w.n + (q.n + e.n) = plus_is w.n (plus q.n e.n) ∙ ap (λ z. w.n + z) (plus_is q.n e.n) in
     record {
       n = plus w.n (plus q.n e.n);
@@ -447,7 +441,7 @@ result_means p u g (Some r) registers w h m = subst (λ z. Means p (registers z)
 -- back to a caller, or to the lines that end
 pub back_after : (p : Linking) (u : Code) (g : Setting) → Premises p u g → (s : State) (c : Cpu) (m : Mem) (r : Rel p u g s c m) (callers : List Frame) (v : Value) → Means p v (c.x 10) → Leaves p c.pc (frame_of g s.frame.function) → Mapped p s.store.shape (mark s.frame ∷ marks callers) → Ordered g.stack (mark s.frame ∷ marks callers) → AllLinked s.store.shape (mark s.frame ∷ marks callers) → Chain p u g m s.frame.active.depth (frame_of g s.frame.function) callers → After p u g 7 c m (back u g callers v s)
 back_after p u g l s c m r [] v result leaves mapped ordered linked chain =
-    let t = l.at.returned.0 in
+    let t = l.at.told in
     let depth : ℕ = s.frame.active.depth in
     let size : ℕ = frame_of g s.frame.function in
     let o : Object = object_of s.frame.active Link in
@@ -456,24 +450,23 @@ back_after p u g l s c m r [] v result leaves mapped ordered linked chain =
     let four = (l.at.functions s.frame.function r.f r.is).layout.inside Link link_shape refl in
     let b : Returned p m c.pc c.x o (pointer_at depth) size = returns p m c.pc c.x o (pointer_at depth) size at r.fixed r.regs.zero_reg r.regs.stack (let q = ordered.1 in let k = ordered.0 in omega arith) (let q = chain.1 in let k = ordered.0 in omega arith) (chain_even p.begin (little m (pointer_at depth) 4) chain.0 (word_even (p.begin + 4) t.here)) (let q = chain.0 in let k = t.low in omega arith) leaves in
     checked_after p u g 7 c m _ _ (λ z f.
-    let m1 : Mem = written m 4 (bytes_of 4 (b.y 10)) in
-    let k : Mem = written m1 8 (bytes_of 4 (b.y 0)) in
+    let k : Mem = written m 4 (bytes_of 4 (b.y 10)) in
     let mean : c.x 10 ≡ word z = number_word p v (c.x 10) z f result in
     let y10 : b.y 10 ≡ word z = b.homes 10 (omega arith) ∙ mean in
     let zlow : word z < 2 ^ 32 = word_small z in
     let reach : Reach b.n (Loaded (address p o) 4 ∷ []) c m (record { pc = p.begin + 4; x = b.y }) m = subst (λ q. Reach b.n (Loaded (address p o) 4 ∷ []) c m (record { pc = q; x = b.y }) m) chain.0 b.reach in
     record {
-      n = plus b.n 3;
-      some = (let q = plus_is b.n 3 in omega arith);
-      few = (let q = plus_is b.n 3 in let h = b.few in omega arith);
-      ts = Loaded (address p o) 4 ∷ Stored 4 4 ∷ Stored 8 4 ∷ [];
+      n = plus b.n 2;
+      some = (let q = plus_is b.n 2 in omega arith);
+      few = (let q = plus_is b.n 2 in let h = b.few in omega arith);
+      ts = Loaded (address p o) 4 ∷ Stored 4 4 ∷ [];
       touches = subst (λ q. Touches p (Restores s.frame.active ∷ []) q) (sym (heard_load (address p o) 4 (let y = ordered.0 in omega arith) (let y = chain.1 in let w = l.at.first in let k = ordered.0 in omega arith))) (Restoring s.frame.active [] [] Nothing);
       k = k;
-      stopped = then_stops b.n 3 (Loaded (address p o) 4 ∷ []) (Stored 4 4 ∷ Stored 8 4 ∷ []) _ _ m m k reach (ends_twice p.image m (p.begin + 4) b.y 10 4 0 8 r.fixed b.y0 (omega arith) refl (omega arith) refl t l.at.returned.1.0 l.at.returned.1.1.0);
-      reason_is = told m1 8 (b.y 0) (let q = b.y0 in omega arith) ∙ b.y0;
-      status_is = little-other m1 8 4 (b.y 0) 4 4 (inl (omega arith)) ∙ told m 4 (b.y 10) (omega arith) ∙ y10 ∙ sym (word_wrap32 I32 z refl);
-      output_is = output_told m1 8 4 (b.y 0) (omega arith) ∙ output_told m 4 4 (b.y 10) (omega arith) ∙ r.output;
-      statics = shows_statics p u s.store _ m k r.statics mapped r.memory (λ a low high. written-above m1 8 a (bytes_of 4 (b.y 0)) (omega (arith, length-bytes_of 4 (b.y 0))) ∙ written-above m 4 a (bytes_of 4 (b.y 10)) (omega (arith, length-bytes_of 4 (b.y 10))));
+      stopped = then_stops b.n 2 (Loaded (address p o) 4 ∷ []) (Stored 4 4 ∷ []) _ _ m m k reach (ends p.image m (p.begin + 4) b.y 10 4 r.fixed b.y0 (omega arith) refl l.at.told l.at.ends);
+      reason_is = little-other m 4 4 (b.y 10) 8 4 (inr (omega arith)) ∙ r.words.reason_is;
+      status_is = told m 4 (b.y 10) (omega arith) ∙ y10 ∙ sym (word_wrap32 I32 z refl);
+      output_is = output_told m 4 4 (b.y 10) (omega arith) ∙ r.output;
+      statics = shows_statics p u s.store _ m k r.statics mapped r.memory (λ a low high. written-above m 4 a (bytes_of 4 (b.y 10)) (omega (arith, length-bytes_of 4 (b.y 10))));
     })
   where
     chain_even : (a b : ℕ) → b ≡ a + 4 → (a + 4) % 4 ≡ 0 → b % 4 ≡ 0

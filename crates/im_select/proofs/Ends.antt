@@ -30,16 +30,6 @@ ends image m pc x rs imm fixed x0 less place h k =
     (stores image m pc x (storing Sw 0 rs imm) imm 4 (x rs) fixed h (ap (λ a. Stores a 4 (x rs)) e) place (output_told m imm 4 (x rs) less))
     (halts image m' (pc + 4) x (with_immediate Ebreak 0 0 0) same k refl)
 
--- two words are stored there, and the run ends
-pub ends_twice : (image m : Mem) (pc : ℕ) (x : ℕ → ℕ) (rs imm rt jmm : ℕ) → Fixed image m → x 0 ≡ 0 → imm + 4 ≤ 12 → is_place imm 4 ≡ true → jmm + 4 ≤ 12 → is_place jmm 4 ≡ true → Holds image pc (storing Sw 0 rs imm) → Holds image (pc + 4) (storing Sw 0 rt jmm) → Holds image (pc + 4 + 4) (with_immediate Ebreak 0 0 0) → Stopped 3 (Stored imm 4 ∷ Stored jmm 4 ∷ []) (record { pc = pc; x = x }) m (written (written m imm (bytes_of 4 (x rs))) jmm (bytes_of 4 (x rt)))
-ends_twice image m pc x rs imm rt jmm fixed x0 less place less' place' h i k =
-    let m' : Mem = written m imm (bytes_of 4 (x rs)) in
-    let e : sum_of (x 0) imm ≡ imm = omega arith in
-    let same : Fixed image m' = (λ a l u. written-above m imm a (bytes_of 4 (x rs)) (omega (arith, length-bytes_of 4 (x rs))) ∙ fixed a l u) in
-    then_stops 1 2 (Stored imm 4 ∷ []) (Stored jmm 4 ∷ []) _ _ m m' (written m' jmm (bytes_of 4 (x rt)))
-    (stores image m pc x (storing Sw 0 rs imm) imm 4 (x rs) fixed h (ap (λ a. Stores a 4 (x rs)) e) place (output_told m imm 4 (x rs) less))
-    (ends image m' (pc + 4) x rt jmm same x0 less' place' i k)
-
 -- the words of the low page after such a store
 pub told : (m : Mem) (a w : ℕ) → w < 2 ^ 32 → little (written m a (bytes_of 4 w)) a 4 ≡ w
 told m a w h = little_back m a 4 w (inr (inr refl)) ∙ (let k : w % 2 ^ 32 ≡ w = omega arith in k)

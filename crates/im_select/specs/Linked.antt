@@ -1,13 +1,11 @@
 -- Where placed code lies as instructions, by static facts alone: functions, statics, routines, the lines that begin and end.
-use Rattle.std.specs.Prelude.{◌≡◌, ◌≤◌, ℕ, ◌+◌, ◌%◌, List, [], ◌∷◌, Some, slice_get}
+use Rattle.std.specs.Prelude.{◌≡◌, ◌≤◌, ℕ, ◌+◌, ◌%◌, [], Some, slice_get}
 use Rattle.im_num.specs.declared.kind.Kind.{Kind}
-use Rattle.im_mem.specs.Map.{statics_start, statics_capacity, stack_capacity}
-use Rattle.im_mem.specs.Memory.{Mem}
+use Rattle.im_mem.specs.Map.{statics_start, statics_capacity, stack_capacity, status_at, reason_at}
+use Rattle.im_rv.specs.declared.instr.Op.TheVariants.{Sw, Addi, Ebreak}
 use Rattle.im_rv.specs.Steps.{sum_of}
-use Rattle.im_rv.specs.Lines.{CodeLine}
-use Rattle.im_rtlib.specs.Routines.{exit, stack}
 use Rattle.im_reach.specs.Shown.{shown, left}
-use Rattle.im_reach.specs.Instructions.{Holds, jumping}
+use Rattle.im_reach.specs.Instructions.{Holds, with_immediate, storing, jumping}
 use Rattle.im_reach.specs.Routines.{Words, PutsAt, GetsAt, SavesAt}
 use Rattle.im_store.specs.Objects.{Name, Link, Shape}
 use Rattle.im_block.specs.declared.code.Block.{Block}
@@ -30,12 +28,6 @@ pub record FunctionAt (p : Linking) (g : Setting) (i : ℕ) (f : Function) : Typ
   pub prologue : Prologue p (p.entry i) (frame_of g i) (p.place i f.entry)
   pub blocks : (b : ℕ) (block : Block) → slice_get f.blocks.items b ≡ Some block → Stands p i (frame_of g i) (p.place i b) block.lines.items block.exit
 
--- lines without a target stand from pc on
-abbrev pub StandAt : Mem → ℕ → List CodeLine → Type 0
-StandAt image pc [] = Unit {0}
-StandAt image pc (line ∷ lines) = Holds image pc line.line × StandAt image (pc + 4) lines
-
--- behind the call of main stand the lines that end a run, and at p.full those for an exhausted stack
 pub record IsLinked (p : Linking) (u : Code) (g : Setting) : Type 0 where
   pub functions : (i : ℕ) (f : Function) → slice_get u.functions.items i ≡ Some f → FunctionAt p g i f
   pub first : p.at Link ≡ 0
@@ -51,5 +43,8 @@ pub record IsLinked (p : Linking) (u : Code) (g : Setting) : Type 0 where
   pub call : ℕ
   pub lands : sum_of p.begin call ≡ p.entry u.main
   pub begins : Holds p.image p.begin (jumping 1 call)
-  pub returned : StandAt p.image (p.begin + 4) exit
-  pub exhausted : StandAt p.image p.full stack
+  pub told : Holds p.image (p.begin + 4) (storing Sw 0 10 status_at)
+  pub ends : Holds p.image (p.begin + 4 + 4) (with_immediate Ebreak 0 0 0)
+  pub one : Holds p.image p.full (with_immediate Addi 5 0 1)
+  pub cause : Holds p.image (p.full + 4) (storing Sw 0 5 reason_at)
+  pub stops : Holds p.image (p.full + 4 + 4) (with_immediate Ebreak 0 0 0)
