@@ -3,4 +3,10 @@ pub mod Standing
 pub mod Splitting
 pub mod Selecting
 pub mod Low
-pub mod Blocks
+pub mod Parts
+pub mod Plain
+pub mod Counting
+pub mod Naming
+pub mod Leading
+pub mod Agreeing
+pub mod Whole

@@ -1,7 +1,8 @@
 -- Lists of lines as they grow.
 use Rattle.std.proofs.Common.{◌≡◌, ℕ, zero, suc, ◌+◌, ◌<◌, List, [], ◌∷◌, ◌++◌, length, take, get_or, refl, sym, ap, ◌∙◌, append_assoc, arith}
 use Rattle.std.proofs.lemmas.List.{append-nil}
-use Rattle.im_rv.specs.Lines.{CodeLine}
+use Rattle.im_rv.specs.declared.code.Line.{Line as RustLine}
+use Rattle.im_rv.specs.Lines.{CodeLine, code_line, code_lines}
 use Rattle.im_store.specs.Objects.{Name}
 use Rattle.im_block.specs.declared.code.Line.{Line}
 use Rattle.im_block.specs.declared.code.Block.{Block}
@@ -32,3 +33,7 @@ blocks_grown at first frame old now new xs k d l a b =
     let z0 : k + 0 ≡ k = omega arith in
     b ∙ ap (λ z. z ++ block_code at first frame k (get_or xs k d)) a ∙ append_assoc old (blocks_code at first frame 0 (take k xs)) (block_code at first frame k (get_or xs k d))
     ∙ ap (λ z. old ++ z) (ap (λ z. blocks_code at first frame 0 (take k xs) ++ block_code at first frame z (get_or xs k d)) (sym z0) ∙ sym (blocks_more at first frame 0 xs k d l)) ∙ ap (λ z. old ++ blocks_code at first frame 0 (take z xs)) q
+
+pub lines_append : (xs ys : List RustLine) → code_lines (xs ++ ys) ≡ code_lines xs ++ code_lines ys
+lines_append [] ys = refl
+lines_append (x ∷ xs) ys = ap (λ z. code_line x ∷ z) (lines_append xs ys)

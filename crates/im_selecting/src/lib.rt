@@ -7,8 +7,8 @@ mod lines;
 mod memory;
 mod names;
 mod push;
-mod select;
+mod selection;
 mod words;
 
 pub use names::Names;
-pub use select::select;
+pub use selection::select;

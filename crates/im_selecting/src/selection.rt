@@ -56,5 +56,6 @@ pub fn select(alloc: Global, names: &Names, number: u32) -> Result<Vec<Line>, No
     requires { IsSelectable names.now number }
     ensures { IfOk result (λ lines. IsSelection names.now number (code_lines lines.items)) }
 {
-    function_lines(alloc, names, number)
+    let lines = function_lines(alloc, names, number)?;
+    Ok(lines)
 }
