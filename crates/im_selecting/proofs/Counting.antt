@@ -3,9 +3,11 @@ use Rattle.std.proofs.Common.{◌≡◌, ◌<◌, ◌≤◌, ℕ, zero, suc, ◌
 use Rattle.std.specs.Prelude.{◌==◌, slice_get}
 use Rattle.im_num.specs.declared.kind.Kind.TheVariants.{I8, U8, I16, U16, I32, U32, Ptr}
 use Rattle.im_num.specs.Kinds.{word}
-use Rattle.im_rv.specs.declared.instr.Op.TheVariants.{Jalr}
+use Rattle.im_rv.specs.declared.instr.Op.TheVariants.{Jalr, Lw, Sw, Addi, Add as AddOp, Mul, Div}
 use Rattle.im_rv.specs.Lines.{CodeLine, plain_line}
-use Rattle.im_reach.specs.Instructions.{with_immediate}
+use Rattle.im_reach.specs.Instructions.{with_immediate, on_registers, storing}
+use Rattle.im_operators.specs.Tables.{load_op, store_op}
+use Rattle.im_rtlib.specs.Routines.{numbered}
 use Rattle.im_store.specs.declared.operators.UnaryOp.TheVariants.{Negate, Complement}
 use Rattle.im_store.specs.declared.operators.Comparison.TheVariants.{Less, Greater, LessOrEqual, GreaterOrEqual, Equal, NotEqual}
 use Rattle.im_store.specs.Objects.{Name, Slot}
@@ -20,7 +22,7 @@ use Rattle.im_block.specs.declared.unit.Function.{Function}
 use Rattle.im_block.specs.Forced.{StartsWithCut}
 use Rattle.im_block.specs.Shape.{sum_of, words_of, with_cut, exit_words, placed_block_cost, placed_cost}
 use Rattle.im_placed.specs.Apart.{CutsApart}
-use Rattle.im_selecting.specs.Emitted.{high_of, low_of, constant_by, constant_code, displaced_by, displaced_code, adds_by, adds_code, place_number, place_code, line_code, lines_code, leave_code, exit_code, block_code, blocks_code, enter_code, prologue_code, function_code, labelled, entry_label}
+use Rattle.im_selecting.specs.Emitted.{high_of, low_of, constant_by, constant_code, displaced_by, displaced_code, displaced_base, step_op, adds_by, adds_code, place_number, place_code, place_base, line_code, lines_code, leave_code, exit_code, block_code, blocks_code, enter_code, prologue_code, function_code, labelled, entry_label}
 use Rattle.im_selecting.proofs.Plain.{length_labelled}
 
 constant_few : (rd n : ℕ) → length (constant_code rd n) ≤ 2
@@ -45,7 +47,7 @@ adds_few rd n = by (high_of n == 0)
   where
     by : (b : Bool) → length (adds_by b rd n) ≤ 3
     by true = omega arith
-    by false = then_few (constant_code 5 n) _ 2 1 (constant_few 5 n) (omega arith)
+    by false = let ys : List CodeLine = plain_line (on_registers AddOp rd 2 5) ∷ [] in then_few (constant_code 5 n) ys 2 1 (constant_few 5 n) (omega arith)
 
 place_few : (place : Place) (n : ℕ) → length (place_code place n) ≤ 2
 place_few (Static object offset) n = omega arith
@@ -74,13 +76,13 @@ few at (Compare to LessOrEqual kind left right) h = omega arith
 few at (Compare to GreaterOrEqual kind left right) h = omega arith
 few at (Compare to Equal kind left right) h = omega arith
 few at (Compare to NotEqual kind left right) h = omega arith
-few at (Move to size back pointer by) h = let q = then_few (constant_code 5 size) _ 2 2 (constant_few 5 size) (omega arith) in omega arith
-few at (Distance to size left right) h = let q = then_few (constant_code 6 size) _ 2 1 (constant_few 6 size) (omega arith) in omega arith
-few at (Address to place) h = let q = then_few (place_code place (place_number at place)) _ 2 1 (place_few place (place_number at place)) (omega arith) in omega arith
-few at (Read to place kind access) h = let q = then_few (place_code place (place_number at place)) _ 2 1 (place_few place (place_number at place)) (omega arith) in omega arith
-few at (Write place kind from access) h = let q = then_few (place_code place (place_number at place)) _ 2 1 (place_few place (place_number at place)) (omega arith) in omega arith
-few at (Reload to slot access) h = let q = then_few (displaced_code 2 (at (Slot slot))) _ 2 1 (displaced_few 2 (at (Slot slot))) (omega arith) in omega arith
-few at (Spill slot from access) h = let q = then_few (displaced_code 2 (at (Slot slot))) _ 2 1 (displaced_few 2 (at (Slot slot))) (omega arith) in omega arith
+few at (Move to size back pointer by) h = let ys : List CodeLine = plain_line (on_registers Mul 5 5 by) ∷ plain_line (on_registers (step_op back) to pointer 5) ∷ [] in let q = then_few (constant_code 5 size) ys 2 2 (constant_few 5 size) (omega arith) in omega arith
+few at (Distance to size left right) h = let ys : List CodeLine = plain_line (on_registers Div to 5 6) ∷ [] in let q = then_few (constant_code 6 size) ys 2 1 (constant_few 6 size) (omega arith) in omega arith
+few at (Address to place) h = let ys : List CodeLine = plain_line (with_immediate Addi to (place_base place (place_number at place)) (low_of (place_number at place))) ∷ [] in let q = then_few (place_code place (place_number at place)) ys 2 1 (place_few place (place_number at place)) (omega arith) in omega arith
+few at (Read to place kind access) h = let ys : List CodeLine = numbered access (with_immediate (load_op kind) to (place_base place (place_number at place)) (low_of (place_number at place))) ∷ [] in let q = then_few (place_code place (place_number at place)) ys 2 1 (place_few place (place_number at place)) (omega arith) in omega arith
+few at (Write place kind from access) h = let ys : List CodeLine = numbered access (storing (store_op kind) (place_base place (place_number at place)) from (low_of (place_number at place))) ∷ [] in let q = then_few (place_code place (place_number at place)) ys 2 1 (place_few place (place_number at place)) (omega arith) in omega arith
+few at (Reload to slot access) h = let ys : List CodeLine = numbered access (with_immediate Lw to (displaced_base 2 (at (Slot slot))) (low_of (at (Slot slot)))) ∷ [] in let q = then_few (displaced_code 2 (at (Slot slot))) ys 2 1 (displaced_few 2 (at (Slot slot))) (omega arith) in omega arith
+few at (Spill slot from access) h = let ys : List CodeLine = numbered access (storing Sw (displaced_base 2 (at (Slot slot))) from (low_of (at (Slot slot)))) ∷ [] in let q = then_few (displaced_code 2 (at (Slot slot))) ys 2 1 (displaced_few 2 (at (Slot slot))) (omega arith) in omega arith
 few at (Cut cause) h = absurd (h tt)
 few at (Call to i first count) h = omega arith
 few at (GetChar to) h = omega arith

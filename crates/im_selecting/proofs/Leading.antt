@@ -16,7 +16,7 @@ use Rattle.im_block.specs.declared.code.Exit.TheVariants.{Jump, Turn, Branch, Re
 use Rattle.im_block.specs.declared.code.Block.{Block}
 use Rattle.im_block.specs.Wellformed.{ExitThere}
 use Rattle.im_selecting.specs.declared.names.Names.{Names}
-use Rattle.im_selecting.specs.Emitted.{checkpoint_label, constant_code, displaced_code, adds_code, place_number, place_code, line_code, lines_code, exit_code, block_code, blocks_code, enter_code, prologue_code, function_code, labelled, entry_label}
+use Rattle.im_selecting.specs.Emitted.{checkpoint_label, constant_code, displaced_code, adds_code, place_number, place_code, line_code, lines_code, leave_code, exit_code, block_code, blocks_code, enter_code, prologue_code, function_code, labelled, entry_label}
 use Rattle.im_selecting.specs.Places.{CallsBelow}
 use Rattle.im_selecting.specs.Selects.{HasLabel, IsTarget, LeadsTo, IsClosedBlock}
 use Rattle.im_selecting.proofs.Standing.{after, after_length, after_labelled}
@@ -44,28 +44,28 @@ silent names x a b = ((a, tt), ((λ l e. absurd cc), tt))
 
 line_sound : (names : Names) (at : Name → ℕ) (line : Line) → CallsBelow names.functions line → Sound names (line_code at line)
 line_sound names at (Put to z) h = bare names (constant_code to (word z)) (constant_bare to (word z))
-line_sound names at (PutNull to) h = bare names _ (refl, tt)
-line_sound names at (Copy to from) h = bare names _ (refl, tt)
-line_sound names at (Convert to I8 from) h = bare names _ (refl, (refl, tt))
-line_sound names at (Convert to U8 from) h = bare names _ (refl, (refl, tt))
-line_sound names at (Convert to I16 from) h = bare names _ (refl, (refl, tt))
-line_sound names at (Convert to U16 from) h = bare names _ (refl, (refl, tt))
-line_sound names at (Convert to I32 from) h = bare names _ (refl, tt)
-line_sound names at (Convert to U32 from) h = bare names _ (refl, tt)
-line_sound names at (Convert to Ptr from) h = bare names _ (refl, tt)
-line_sound names at (Unary to Negate kind from) h = bare names _ (refl, tt)
-line_sound names at (Unary to Complement kind from) h = bare names _ (refl, tt)
-line_sound names at (Not to from) h = bare names _ (refl, tt)
-line_sound names at (Compute to op kind left right) h = bare names _ (refl, tt)
-line_sound names at (Compare to Less kind left right) h = bare names _ (refl, tt)
-line_sound names at (Compare to Greater kind left right) h = bare names _ (refl, tt)
-line_sound names at (Compare to LessOrEqual kind left right) h = bare names _ (refl, (refl, tt))
-line_sound names at (Compare to GreaterOrEqual kind left right) h = bare names _ (refl, (refl, tt))
-line_sound names at (Compare to Equal kind left right) h = bare names _ (refl, (refl, tt))
-line_sound names at (Compare to NotEqual kind left right) h = bare names _ (refl, (refl, tt))
-line_sound names at (Move to size back pointer by) h = bare names _ (bare_append (constant_code 5 size) _ (constant_bare 5 size) (refl, (refl, tt)))
-line_sound names at (Distance to size left right) h = bare names _ (refl, bare_append (constant_code 6 size) _ (constant_bare 6 size) (refl, tt))
-line_sound names at (Address to place) h = bare names _ (bare_append (place_code place (place_number at place)) _ (place_bare place (place_number at place)) (refl, tt))
+line_sound names at (PutNull to) h = bare names (line_code at (PutNull to)) (refl, tt)
+line_sound names at (Copy to from) h = bare names (line_code at (Copy to from)) (refl, tt)
+line_sound names at (Convert to I8 from) h = bare names (line_code at (Convert to I8 from)) (refl, (refl, tt))
+line_sound names at (Convert to U8 from) h = bare names (line_code at (Convert to U8 from)) (refl, (refl, tt))
+line_sound names at (Convert to I16 from) h = bare names (line_code at (Convert to I16 from)) (refl, (refl, tt))
+line_sound names at (Convert to U16 from) h = bare names (line_code at (Convert to U16 from)) (refl, (refl, tt))
+line_sound names at (Convert to I32 from) h = bare names (line_code at (Convert to I32 from)) (refl, tt)
+line_sound names at (Convert to U32 from) h = bare names (line_code at (Convert to U32 from)) (refl, tt)
+line_sound names at (Convert to Ptr from) h = bare names (line_code at (Convert to Ptr from)) (refl, tt)
+line_sound names at (Unary to Negate kind from) h = bare names (line_code at (Unary to Negate kind from)) (refl, tt)
+line_sound names at (Unary to Complement kind from) h = bare names (line_code at (Unary to Complement kind from)) (refl, tt)
+line_sound names at (Not to from) h = bare names (line_code at (Not to from)) (refl, tt)
+line_sound names at (Compute to op kind left right) h = bare names (line_code at (Compute to op kind left right)) (refl, tt)
+line_sound names at (Compare to Less kind left right) h = bare names (line_code at (Compare to Less kind left right)) (refl, tt)
+line_sound names at (Compare to Greater kind left right) h = bare names (line_code at (Compare to Greater kind left right)) (refl, tt)
+line_sound names at (Compare to LessOrEqual kind left right) h = bare names (line_code at (Compare to LessOrEqual kind left right)) (refl, (refl, tt))
+line_sound names at (Compare to GreaterOrEqual kind left right) h = bare names (line_code at (Compare to GreaterOrEqual kind left right)) (refl, (refl, tt))
+line_sound names at (Compare to Equal kind left right) h = bare names (line_code at (Compare to Equal kind left right)) (refl, (refl, tt))
+line_sound names at (Compare to NotEqual kind left right) h = bare names (line_code at (Compare to NotEqual kind left right)) (refl, (refl, tt))
+line_sound names at (Move to size back pointer by) h = bare names (line_code at (Move to size back pointer by)) (bare_append (constant_code 5 size) _ (constant_bare 5 size) (refl, (refl, tt)))
+line_sound names at (Distance to size left right) h = bare names (line_code at (Distance to size left right)) (refl, bare_append (constant_code 6 size) _ (constant_bare 6 size) (refl, tt))
+line_sound names at (Address to place) h = bare names (line_code at (Address to place)) (bare_append (place_code place (place_number at place)) _ (place_bare place (place_number at place)) (refl, tt))
 line_sound names at (Read to place kind access) h = both names (place_code place (place_number at place)) _ (bare names (place_code place (place_number at place)) (place_bare place (place_number at place))) (silent names _ refl refl)
 line_sound names at (Write place kind from access) h = both names (place_code place (place_number at place)) _ (bare names (place_code place (place_number at place)) (place_bare place (place_number at place))) (silent names _ refl refl)
 line_sound names at (Reload to slot access) h = both names (displaced_code 2 (at (Slot slot))) _ (bare names (displaced_code 2 (at (Slot slot))) (displaced_bare 2 (at (Slot slot)))) (silent names _ refl refl)
@@ -86,7 +86,7 @@ exit_sound : (names : Names) (frame : ℕ) (exit : Exit) → ExitThere (length n
 exit_sound names frame (Jump b) h = ((refl, tt), ((λ l e. leads names (names.first_block + b) _ refl (block_target names b h) l e), tt))
 exit_sound names frame (Turn b) h = ((refl, tt), ((λ l e. leads names (names.first_block + b) _ refl (block_target names b h) l e), tt))
 exit_sound names frame (Branch on x y) h = ((refl, (refl, (refl, tt))), ((λ l e. absurd cc), ((λ l e. leads names (names.first_block + x) _ refl (block_target names x h.0) l e), ((λ l e. leads names (names.first_block + y) _ refl (block_target names y h.1) l e), tt))))
-exit_sound names frame (Return from) h = bare names _ (refl, bare_append (adds_code 2 frame) _ (adds_bare 2 frame) (refl, tt))
+exit_sound names frame (Return from) h = bare names (leave_code frame) (refl, bare_append (adds_code 2 frame) _ (adds_bare 2 frame) (refl, tt))
 
 -- the body of a block, before it has its label
 abbrev pub body : (Name → ℕ) → ℕ → ℕ → Block → List CodeLine
