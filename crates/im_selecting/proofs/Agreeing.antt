@@ -9,19 +9,19 @@ use Rattle.im_block.specs.declared.code.Line.{Line}
 use Rattle.im_block.specs.declared.code.Line.TheVariants.{Put, PutNull, Copy, Convert, Unary, Not, Compute, Compare, Move, Distance, Address, Read, Write, Reload, Spill, Cut, Call, GetChar, PutChar}
 use Rattle.im_placed.specs.Operands.{PlaceExists}
 use Rattle.im_placed.specs.Placed.{IsPlacedLine}
-use Rattle.im_selecting.specs.declared.names.Names.{Names}
+use Rattle.im_selecting.specs.Given.{Given}
 use Rattle.im_selecting.specs.Emitted.{place_number, address_code, fetch_code, keep_code, reload_code, spill_code, line_code}
 use Rattle.im_selecting.specs.Places.{at_of, HasPlaces}
 use Rattle.im_selecting.specs.Selects.{Agrees}
 use Rattle.im_selecting.proofs.Low.{local_low}
 use Rattle.im_selecting.proofs.Selecting.{Words}
 
-place_same : (names : Names) (at : Name → ℕ) → Agrees at names → (place : Place) → PlaceExists (length names.statics.now) names.function.now place → place_number (at_of names) place ≡ place_number at place
+place_same : (names : Given) (at : Name → ℕ) → Agrees at names → (place : Place) → PlaceExists (length names.statics) names.function place → place_number (at_of names) place ≡ place_number at place
 place_same names at g (Static object offset) h = ap (λ z. z + offset) (sym (g.statics object h.0))
 place_same names at g (Local object offset) h = ap (λ z. z + offset) (sym (g.objects object h.0))
 place_same names at g (Through r offset) h = refl
 
-pub line_same : (names : Names) (at : Name → ℕ) → Agrees at names → (line : Line) → IsPlacedLine (length names.statics.now) names.function.now line → line_code (at_of names) line ≡ line_code at line
+pub line_same : (names : Given) (at : Name → ℕ) → Agrees at names → (line : Line) → IsPlacedLine (length names.statics) names.function line → line_code (at_of names) line ≡ line_code at line
 line_same names at g (Put to z) h = refl
 line_same names at g (PutNull to) h = refl
 line_same names at g (Copy to from) h = refl
@@ -42,31 +42,31 @@ line_same names at g (Call to i first count) h = refl
 line_same names at g (GetChar to) h = refl
 line_same names at g (PutChar to from) h = refl
 
-place_low : (names : Names) → HasPlaces names → (place : Place) → PlaceExists (length names.statics.now) names.function.now place → place_number (at_of names) place < 2 ^ 32
+place_low : (names : Given) → HasPlaces names → (place : Place) → PlaceExists (length names.statics) names.function place → place_number (at_of names) place < 2 ^ 32
 place_low names p (Static object offset) h =
     let l = h.0 in
     let o = h.1 in
-    let test : nat_lt object (length names.statics.now) ≡ true = grind (arith, nat_tests) in
-    let e : at_of names (Named object) ≡ slice_index names.statics.now object = ap (λ b. if b then slice_index names.statics.now object else slice_index names.layout.now.places.items (object - names.function.now.first_object)) test in
+    let test : nat_lt object (length names.statics) ≡ true = grind (arith, nat_tests) in
+    let e : at_of names (Named object) ≡ slice_index names.statics object = ap (λ b. if b then slice_index names.statics object else slice_index names.layout.places.items (object - names.function.first_object)) test in
     let q = p.low object l in
     omega arith
 place_low names p (Local object offset) h =
     let l = h.0.0 in
     let o = h.1 in
     let f = p.first in
-    let test : nat_lt object (length names.statics.now) ≡ false = grind (arith, nat_tests) in
-    let e : at_of names (Named object) ≡ slice_index names.layout.now.places.items (object - names.function.now.first_object) = ap (λ b. if b then slice_index names.statics.now object else slice_index names.layout.now.places.items (object - names.function.now.first_object)) test in
-    let q = local_low names.function.now names.layout.now object 0 p.layout h.0 in
+    let test : nat_lt object (length names.statics) ≡ false = grind (arith, nat_tests) in
+    let e : at_of names (Named object) ≡ slice_index names.layout.places.items (object - names.function.first_object) = ap (λ b. if b then slice_index names.statics object else slice_index names.layout.places.items (object - names.function.first_object)) test in
+    let q = local_low names.function names.layout object 0 p.layout h.0 in
     omega arith
 place_low names p (Through r offset) h = omega arith
 
-slot_low : (names : Names) → HasPlaces names → (slot : ℕ) → slot < names.function.now.slots → 8 + 8 * slot < 2 ^ 32
+slot_low : (names : Given) → HasPlaces names → (slot : ℕ) → slot < names.function.slots → 8 + 8 * slot < 2 ^ 32
 slot_low names p slot h =
     let b = p.layout.bytes in
     let s = p.layout.small in
     omega arith
 
-pub words_in : (names : Names) (at : Name → ℕ) → HasPlaces names → Agrees at names → (line : Line) → IsPlacedLine (length names.statics.now) names.function.now line → Words at line
+pub words_in : (names : Given) (at : Name → ℕ) → HasPlaces names → Agrees at names → (line : Line) → IsPlacedLine (length names.statics) names.function line → Words at line
 words_in names at p g (Put to z) h = tt
 words_in names at p g (PutNull to) h = tt
 words_in names at p g (Copy to from) h = tt

@@ -15,7 +15,7 @@ use Rattle.im_block.specs.declared.code.Exit.{Exit}
 use Rattle.im_block.specs.declared.code.Exit.TheVariants.{Jump, Turn, Branch, Return}
 use Rattle.im_block.specs.declared.code.Block.{Block}
 use Rattle.im_block.specs.Wellformed.{ExitThere}
-use Rattle.im_selecting.specs.declared.names.Names.{Names}
+use Rattle.im_selecting.specs.Given.{Given}
 use Rattle.im_selecting.specs.Emitted.{checkpoint_label, constant_code, displaced_code, adds_code, place_number, place_code, line_code, lines_code, leave_code, exit_code, block_code, blocks_code, enter_code, prologue_code, function_code, labelled, entry_label}
 use Rattle.im_selecting.specs.Places.{CallsBelow}
 use Rattle.im_selecting.specs.Selects.{HasLabel, IsTarget, LeadsTo, IsClosedBlock}
@@ -25,24 +25,24 @@ use Rattle.im_selecting.proofs.Counting.{exit_some}
 use Rattle.im_selecting.proofs.Parts.{starts_from, starts_of}
 
 -- no label, and it leads to where it may
-abbrev pub Sound : Names → List CodeLine → Type 0
+abbrev pub Sound : Given → List CodeLine → Type 0
 Sound names xs = Unlabelled xs × Lead names xs
 
-bare : (names : Names) (xs : List CodeLine) → Bare xs → Sound names xs
+bare : (names : Given) (xs : List CodeLine) → Bare xs → Sound names xs
 bare names xs h = (bare_unlabelled xs h, bare_lead names xs h)
 
-both : (names : Names) (xs ys : List CodeLine) → Sound names xs → Sound names ys → Sound names (xs ++ ys)
+both : (names : Given) (xs ys : List CodeLine) → Sound names xs → Sound names ys → Sound names (xs ++ ys)
 both names xs ys a b = (unlabelled_append xs ys a.0 b.0, lead_append names xs ys a.1 b.1)
 
 -- a jump or a cut
-leads : (names : Names) (label : ℕ) (line : CodeLine) → line.line.op ≡ Jal → IsTarget names label → (l : ℕ) → Some label ≡ Some l → LeadsTo names line l
+leads : (names : Given) (label : ℕ) (line : CodeLine) → line.line.op ≡ Jal → IsTarget names label → (l : ℕ) → Some label ≡ Some l → LeadsTo names line l
 leads names label line far t l e = let same : label ≡ l = cc in record { far = far; to = subst (IsTarget names) same t }
 
 -- a line with an access
-silent : (names : Names) (x : CodeLine) → x.label ≡ None → x.target ≡ None → Sound names (x ∷ [])
+silent : (names : Given) (x : CodeLine) → x.label ≡ None → x.target ≡ None → Sound names (x ∷ [])
 silent names x a b = ((a, tt), ((λ l e. absurd cc), tt))
 
-line_sound : (names : Names) (at : Name → ℕ) (line : Line) → CallsBelow names.functions line → Sound names (line_code at line)
+line_sound : (names : Given) (at : Name → ℕ) (line : Line) → CallsBelow names.functions line → Sound names (line_code at line)
 line_sound names at (Put to z) h = bare names (constant_code to (word z)) (constant_bare to (word z))
 line_sound names at (PutNull to) h = bare names (line_code at (PutNull to)) (refl, tt)
 line_sound names at (Copy to from) h = bare names (line_code at (Copy to from)) (refl, tt)
@@ -75,14 +75,14 @@ line_sound names at (Call to i first count) h = ((refl, tt), ((λ l e. leads nam
 line_sound names at (GetChar to) h = ((refl, tt), ((λ l e. leads names 32 _ refl (inr (inl refl)) l e), tt))
 line_sound names at (PutChar to from) h = ((refl, tt), ((λ l e. leads names 33 _ refl (inr (inr (inl refl))) l e), tt))
 
-lines_sound : (names : Names) (at : Name → ℕ) (lines : List Line) → All (CallsBelow names.functions) lines → Sound names (lines_code at lines)
+lines_sound : (names : Given) (at : Name → ℕ) (lines : List Line) → All (CallsBelow names.functions) lines → Sound names (lines_code at lines)
 lines_sound names at [] h = (tt, tt)
 lines_sound names at (line ∷ lines) h = both names (line_code at line) (lines_code at lines) (line_sound names at line (All-head (CallsBelow names.functions) line lines h)) (lines_sound names at lines (All-tail (CallsBelow names.functions) line lines h))
 
-block_target : (names : Names) (b : ℕ) → b < length names.function.now.blocks.items → IsTarget names (names.first_block + b)
+block_target : (names : Given) (b : ℕ) → b < length names.function.blocks.items → IsTarget names (names.first_block + b)
 block_target names b h = inr (inr (inr (inr (inr (b, h, refl)))))
 
-exit_sound : (names : Names) (frame : ℕ) (exit : Exit) → ExitThere (length names.function.now.blocks.items) exit → Sound names (exit_code names.first_block frame exit)
+exit_sound : (names : Given) (frame : ℕ) (exit : Exit) → ExitThere (length names.function.blocks.items) exit → Sound names (exit_code names.first_block frame exit)
 exit_sound names frame (Jump b) h = ((refl, tt), ((λ l e. leads names (names.first_block + b) _ refl (block_target names b h) l e), tt))
 exit_sound names frame (Turn b) h = ((refl, tt), ((λ l e. leads names (names.first_block + b) _ refl (block_target names b h) l e), tt))
 exit_sound names frame (Branch on x y) h = ((refl, (refl, (refl, tt))), ((λ l e. absurd cc), ((λ l e. leads names (names.first_block + x) _ refl (block_target names x h.0) l e), ((λ l e. leads names (names.first_block + y) _ refl (block_target names y h.1) l e), tt))))
@@ -92,7 +92,7 @@ exit_sound names frame (Return from) h = bare names (leave_code frame) (refl, ba
 abbrev pub body : (Name → ℕ) → ℕ → ℕ → Block → List CodeLine
 body at first frame block = lines_code at block.lines.items ++ exit_code first frame block.exit
 
-body_sound : (names : Names) (at : Name → ℕ) (frame : ℕ) (block : Block) → IsClosedBlock names block → Sound names (body at names.first_block frame block)
+body_sound : (names : Given) (at : Name → ℕ) (frame : ℕ) (block : Block) → IsClosedBlock names block → Sound names (body at names.first_block frame block)
 body_sound names at frame block h = both names (lines_code at block.lines.items) (exit_code names.first_block frame block.exit) (lines_sound names at block.lines.items h.calls) (exit_sound names frame block.exit h.edges)
 
 body_some : (at : Name → ℕ) (first frame : ℕ) (block : Block) → 0 < length (body at first frame block)
@@ -101,23 +101,23 @@ body_some at first frame block =
     let q = exit_some first frame block.exit in
     omega arith
 
-blocks_lead : (names : Names) (at : Name → ℕ) (frame n : ℕ) (blocks : List Block) → All (IsClosedBlock names) blocks → Lead names (blocks_code at names.first_block frame n blocks)
+blocks_lead : (names : Given) (at : Name → ℕ) (frame n : ℕ) (blocks : List Block) → All (IsClosedBlock names) blocks → Lead names (blocks_code at names.first_block frame n blocks)
 blocks_lead names at frame n [] h = tt
 blocks_lead names at frame n (block ∷ blocks) h =
     lead_append names (block_code at names.first_block frame n block) (blocks_code at names.first_block frame (suc n) blocks)
     (lead_labelled names (names.first_block + n) (body at names.first_block frame block) (body_sound names at frame block (All-head (IsClosedBlock names) block blocks h)).1)
     (blocks_lead names at frame (suc n) blocks (All-tail (IsClosedBlock names) block blocks h))
 
-enter_sound : (names : Names) (entry : ℕ) → entry < length names.function.now.blocks.items → Sound names (enter_code (names.first_block + entry))
+enter_sound : (names : Given) (entry : ℕ) → entry < length names.function.blocks.items → Sound names (enter_code (names.first_block + entry))
 enter_sound names entry h =
     ((refl, (refl, (refl, (refl, (refl, (refl, tt)))))),
      ((λ l e. absurd cc), ((λ l e. absurd cc), ((λ l e. leads names 35 _ refl (inr (inr (inr (inl refl)))) l e), ((λ l e. absurd cc), ((λ l e. absurd cc), ((λ l e. leads names (names.first_block + entry) _ refl (block_target names entry h) l e), tt)))))))
 
-prologue_sound : (names : Names) (frame entry : ℕ) → entry < length names.function.now.blocks.items → Sound names (prologue_code frame (names.first_block + entry))
+prologue_sound : (names : Given) (frame entry : ℕ) → entry < length names.function.blocks.items → Sound names (prologue_code frame (names.first_block + entry))
 prologue_sound names frame entry h =
     both names (adds_code 6 (2 ^ 32 - frame)) (enter_code (names.first_block + entry)) (bare names (adds_code 6 (2 ^ 32 - frame)) (adds_bare 6 (2 ^ 32 - frame))) (enter_sound names entry h)
 
-pub function_lead : (names : Names) (at : Name → ℕ) (i frame entry : ℕ) (blocks : List Block) → entry < length names.function.now.blocks.items → All (IsClosedBlock names) blocks → Lead names (function_code at i names.first_block frame entry blocks)
+pub function_lead : (names : Given) (at : Name → ℕ) (i frame entry : ℕ) (blocks : List Block) → entry < length names.function.blocks.items → All (IsClosedBlock names) blocks → Lead names (function_code at i names.first_block frame entry blocks)
 function_lead names at i frame entry blocks h c =
     lead_append names (labelled (entry_label i) (prologue_code frame (names.first_block + entry))) (blocks_code at names.first_block frame 0 blocks)
     (lead_labelled names (entry_label i) (prologue_code frame (names.first_block + entry)) (prologue_sound names frame entry h).1)
@@ -131,7 +131,7 @@ pub record LabelIn (at : Name → ℕ) (first frame k n : ℕ) (blocks : List Bl
   pub line : k + j ≡ starts_from at first frame k n blocks b
   pub label : l ≡ first + (b + n)
 
-blocks_only : (names : Names) (at : Name → ℕ) (frame k n : ℕ) (blocks : List Block) (j l : ℕ) → All (IsClosedBlock names) blocks → HasLabel (blocks_code at names.first_block frame n blocks) j l → LabelIn at names.first_block frame k n blocks j l
+blocks_only : (names : Given) (at : Name → ℕ) (frame k n : ℕ) (blocks : List Block) (j l : ℕ) → All (IsClosedBlock names) blocks → HasLabel (blocks_code at names.first_block frame n blocks) j l → LabelIn at names.first_block frame k n blocks j l
 blocks_only names at frame k n [] j l c h = let e = h.there in absurd cc
 blocks_only names at frame k n (block ∷ blocks) j l c h =
     let first : ℕ = names.first_block in
@@ -179,7 +179,7 @@ blocks_there at first frame k n (block ∷ blocks) (suc b) h =
       line = (let z : k + (length own + r.j) ≡ after k own + r.j = omega arith in z ∙ m);
     }
 
-pub function_only : (names : Names) (at : Name → ℕ) (i frame entry : ℕ) (blocks : List Block) → entry < length names.function.now.blocks.items → All (IsClosedBlock names) blocks → (k l : ℕ) → HasLabel (function_code at i names.first_block frame entry blocks) k l → ((k ≡ 0) × (l ≡ entry_label i)) ⊎ ((b : ℕ) × (b < length blocks) × (k ≡ starts_of at names.first_block frame entry blocks b) × (l ≡ names.first_block + b))
+pub function_only : (names : Given) (at : Name → ℕ) (i frame entry : ℕ) (blocks : List Block) → entry < length names.function.blocks.items → All (IsClosedBlock names) blocks → (k l : ℕ) → HasLabel (function_code at i names.first_block frame entry blocks) k l → ((k ≡ 0) × (l ≡ entry_label i)) ⊎ ((b : ℕ) × (b < length blocks) × (k ≡ starts_of at names.first_block frame entry blocks b) × (l ≡ names.first_block + b))
 function_only names at i frame entry blocks h c k l a =
     let head : List CodeLine = prologue_code frame (names.first_block + entry) in
     let rest : List CodeLine = blocks_code at names.first_block frame 0 blocks in

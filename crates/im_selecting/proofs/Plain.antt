@@ -5,7 +5,7 @@ use Rattle.im_num.specs.declared.values.Cause.{Cause}
 use Rattle.im_rv.specs.Lines.{CodeLine, plain_line}
 use Rattle.im_block.specs.declared.code.Place.{Place}
 use Rattle.im_block.specs.declared.code.Place.TheVariants.{Static, Local, Through}
-use Rattle.im_selecting.specs.declared.names.Names.{Names}
+use Rattle.im_selecting.specs.Given.{Given}
 use Rattle.im_selecting.specs.Emitted.{high_of, low_of, constant_by, constant_code, displaced_by, displaced_code, adds_by, adds_code, place_code, labelled}
 use Rattle.im_selecting.specs.Selects.{if_any, accesses_in, causes_in, HasLabel, LeadsTo}
 
@@ -83,23 +83,23 @@ causes_labelled l (x ∷ xs) = refl
 
 -- ---- targets
 
-abbrev pub Lead : Names → List CodeLine → Type 0
+abbrev pub Lead : Given → List CodeLine → Type 0
 Lead names [] = Unit {0}
 Lead names (x ∷ xs) = ((l : ℕ) → x.target ≡ Some l → LeadsTo names x l) × Lead names xs
 
-pub lead_append : (names : Names) (xs ys : List CodeLine) → Lead names xs → Lead names ys → Lead names (xs ++ ys)
+pub lead_append : (names : Given) (xs ys : List CodeLine) → Lead names xs → Lead names ys → Lead names (xs ++ ys)
 lead_append names [] ys a b = b
 lead_append names (x ∷ xs) ys a b = (a.0, lead_append names xs ys a.1 b)
 
-pub bare_lead : (names : Names) (xs : List CodeLine) → Bare xs → Lead names xs
+pub bare_lead : (names : Given) (xs : List CodeLine) → Bare xs → Lead names xs
 bare_lead names [] h = tt
 bare_lead names (x ∷ xs) h = ((λ l e. let n : x.target ≡ None = ap (λ (z : CodeLine). z.target) h.0 in absurd cc), bare_lead names xs h.1)
 
-pub lead_labelled : (names : Names) (l : ℕ) (xs : List CodeLine) → Lead names xs → Lead names (labelled l xs)
+pub lead_labelled : (names : Given) (l : ℕ) (xs : List CodeLine) → Lead names xs → Lead names (labelled l xs)
 lead_labelled names l [] h = tt
 lead_labelled names l (x ∷ xs) h = ((λ t e. let q = h.0 t e in record { far = q.far; to = q.to }), h.1)
 
-pub lead_at : (names : Names) (xs : List CodeLine) → Lead names xs → (k l : ℕ) (line : CodeLine) → slice_get xs k ≡ Some line → line.target ≡ Some l → LeadsTo names line l
+pub lead_at : (names : Given) (xs : List CodeLine) → Lead names xs → (k l : ℕ) (line : CodeLine) → slice_get xs k ≡ Some line → line.target ≡ Some l → LeadsTo names line l
 lead_at names [] h k l line e t = absurd cc
 lead_at names (x ∷ xs) h zero l line e t = let same : x ≡ line = cc in subst (λ z. LeadsTo names z l) same (h.0 l (ap (λ (z : CodeLine). z.target) same ∙ t))
 lead_at names (x ∷ xs) h (suc k) l line e t = lead_at names xs h.1 k l line e t

@@ -8,7 +8,7 @@ use Rattle.im_block.specs.declared.code.Line.{Line}
 use Rattle.im_block.specs.declared.code.Block.{Block}
 use Rattle.im_block.specs.declared.unit.Function.{Function}
 use Rattle.im_placed.specs.Placed.{IsPlacedLine, IsPlacedBlock}
-use Rattle.im_selecting.specs.declared.names.Names.{Names}
+use Rattle.im_selecting.specs.Given.{Given}
 use Rattle.im_selecting.specs.Emitted.{line_code, function_code}
 use Rattle.im_selecting.specs.Places.{at_of}
 use Rattle.im_selecting.specs.Selects.{named, Agrees, IsSelectable, IsSelection}
@@ -23,23 +23,23 @@ use Rattle.im_selecting.proofs.Agreeing.{line_same, words_in}
 all_at : {X : Type 0} (P : X → Type 0) (xs : List X) (k : ℕ) (x : X) → All P xs → slice_get xs k ≡ Some x → P x
 all_at P xs k x h e = subst P (get_or_from_slice_get xs k x x e) (h k x (slice_get_within xs k x e))
 
-code_of : Names → ℕ → List CodeLine
-code_of names i = function_code (at_of names) i names.first_block names.layout.now.frame names.function.now.entry names.function.now.blocks.items
+code_of : Given → ℕ → List CodeLine
+code_of names i = function_code (at_of names) i names.first_block names.layout.frame names.function.entry names.function.blocks.items
 
-selection_of : (names : Names) (i : ℕ) → IsSelectable names i → IsSelection names i (code_of names i)
+selection_of : (names : Given) (i : ℕ) → IsSelectable names i → IsSelection names i (code_of names i)
 unfolding code_of
 selection_of names i s =
     let at = at_of names in
     let first : ℕ = names.first_block in
-    let frame : ℕ = names.layout.now.frame in
-    let f : Function = names.function.now in
+    let frame : ℕ = names.layout.frame in
+    let f : Function = names.function in
     let some : 0 < frame = (let b = s.places.layout.bytes in omega arith) in
     let small : frame < 4294967296 = (let b = s.places.layout.small in omega arith) in
     record {
       starts = starts_of at first frame f.entry f.blocks.items;
       selected = λ w g.
-          function_in at w first (code_of names i) i frame (length names.statics.now) f some small
-          (λ b block e. all_at (IsPlacedBlock (length names.statics.now) f) f.blocks.items b block s.placed.blocks e)
+          function_in at w first (code_of names i) i frame (length names.statics) f some small
+          (λ b block e. all_at (IsPlacedBlock (length names.statics) f) f.blocks.items b block s.placed.blocks e)
           (λ line h. (line_same names w g line h, words_in names w s.places g line h))
           (at_start (named w first (code_of names i)));
       accesses = function_accesses at i first frame f.entry f.blocks.items;
@@ -51,6 +51,6 @@ selection_of names i s =
       words = λ apart. function_few at i first frame f apart;
     }
 
-pub selection : (names : Names) (i : ℕ) (lines : List CodeLine) → IsSelectable names i → lines ≡ function_code (at_of names) i names.first_block names.layout.now.frame names.function.now.entry names.function.now.blocks.items → IsSelection names i lines
+pub selection : (names : Given) (i : ℕ) (lines : List CodeLine) → IsSelectable names i → lines ≡ function_code (at_of names) i names.first_block names.layout.frame names.function.entry names.function.blocks.items → IsSelection names i lines
 unfolding code_of
 selection names i lines s e = subst (IsSelection names i) (sym e) (selection_of names i s)

@@ -7,23 +7,23 @@ use Rattle.im_store.specs.Objects.{Name, Named, Slot, Link}
 use Rattle.im_block.specs.declared.code.Line.{Line}
 use Rattle.im_block.specs.declared.code.Line.TheVariants.{Call}
 use Rattle.im_frame.specs.Layout.{IsLayout}
-use Rattle.im_selecting.specs.declared.names.Names.{Names}
+use Rattle.im_selecting.specs.Given.{Given}
 use Rattle.im_selecting.specs.declared.words.Displaced.{Displaced}
 use Rattle.im_selecting.specs.Emitted.{low_of, entry_label}
 
 -- the place of an object, by its name: a static's in memory, another's in the frame
-abbrev pub at_of : Names → Name → ℕ
-at_of names (Named n) = if nat_lt n (length names.statics.now) then slice_index names.statics.now n else slice_index names.layout.now.places.items (n - names.function.now.first_object)
+abbrev pub at_of : Given → Name → ℕ
+at_of names (Named n) = if nat_lt n (length names.statics) then slice_index names.statics n else slice_index names.layout.places.items (n - names.function.first_object)
 at_of names (Slot n) = 8 + 8 * n
 at_of names Link = 0
 
 -- the statics lie in their region, the function's objects in its frame; behind the labels of functions come those of blocks
-pub record HasPlaces (names : Names) : Type 0 where
-  pub low : (n : ℕ) → n < length names.statics.now → slice_index names.statics.now n < statics_start + statics_capacity
-  pub first : length names.statics.now ≤ names.function.now.first_object
-  pub layout : IsLayout names.function.now names.layout.now
+pub record HasPlaces (names : Given) : Type 0 where
+  pub low : (n : ℕ) → n < length names.statics → slice_index names.statics n < statics_start + statics_capacity
+  pub first : length names.statics ≤ names.function.first_object
+  pub layout : IsLayout names.function names.layout
   pub entries : entry_label names.functions ≤ names.first_block
-  pub blocks : names.first_block + length names.function.now.blocks.items < 2 ^ 32
+  pub blocks : names.first_block + length names.function.blocks.items < 2 ^ 32
 
 -- the function that is called is one of so many
 abbrev pub CallsBelow : ℕ → Line → Type 0

@@ -15,7 +15,7 @@ use Rattle.im_placed.specs.Placed.{IsPlacedFunction}
 use Rattle.im_placed.specs.Apart.{CutsApart}
 use Rattle.im_select.specs.Symbolic.{Lines, IsSelected}
 use Rattle.im_rtlib.specs.Routines.{getchar_label, putchar_label, stack_label}
-use Rattle.im_selecting.specs.declared.names.Names.{Names}
+use Rattle.im_selecting.specs.Given.{Given}
 use Rattle.im_selecting.specs.Emitted.{entry_label, checkpoint_label}
 use Rattle.im_selecting.specs.Places.{at_of, HasPlaces, CallsBelow}
 
@@ -25,23 +25,23 @@ named at first lines =
     record { lines = lines; at = at; block = λ b. first + b; entry = entry_label; full = stack_label; checkpoint = λ m. m; puts = putchar_label; gets = getchar_label }
 
 -- a map of objects to places has the statics and this function's objects where they are
-pub record Agrees (at : Name → ℕ) (names : Names) : Type 0 where
-  pub statics : (n : ℕ) → n < length names.statics.now → at (Named n) ≡ at_of names (Named n)
-  pub objects : (n : ℕ) → HasObject names.function.now n → at (Named n) ≡ at_of names (Named n)
-  pub slots : (n : ℕ) → n < names.function.now.slots → at (Slot n) ≡ at_of names (Slot n)
+pub record Agrees (at : Name → ℕ) (names : Given) : Type 0 where
+  pub statics : (n : ℕ) → n < length names.statics → at (Named n) ≡ at_of names (Named n)
+  pub objects : (n : ℕ) → HasObject names.function n → at (Named n) ≡ at_of names (Named n)
+  pub slots : (n : ℕ) → n < names.function.slots → at (Slot n) ≡ at_of names (Slot n)
 
 -- the functions that are called are there, the blocks that are gone to too
-pub record IsClosedBlock (names : Names) (block : Block) : Type 0 where
+pub record IsClosedBlock (names : Given) (block : Block) : Type 0 where
   pub calls : All (CallsBelow names.functions) block.lines.items
-  pub edges : ExitThere (length names.function.now.blocks.items) block.exit
+  pub edges : ExitThere (length names.function.blocks.items) block.exit
 
 -- what is asked: placed code, whose names have their places and labels
-pub record IsSelectable (names : Names) (i : ℕ) : Type 0 where
+pub record IsSelectable (names : Given) (i : ℕ) : Type 0 where
   pub places : HasPlaces names
-  pub placed : IsPlacedFunction (length names.statics.now) names.function.now
+  pub placed : IsPlacedFunction (length names.statics) names.function
   pub number : i < names.functions
-  pub entry : names.function.now.entry < length names.function.now.blocks.items
-  pub closed : All (IsClosedBlock names) names.function.now.blocks.items
+  pub entry : names.function.entry < length names.function.blocks.items
+  pub closed : All (IsClosedBlock names) names.function.blocks.items
 
 -- what is taken of an option
 abbrev pub if_any : {A : Type 0} → Option A → List A → List A
@@ -77,25 +77,25 @@ pub record HasLabel (lines : List CodeLine) (k l : ℕ) : Type 0 where
   pub is : line.label ≡ Some l
 
 -- the labels that a function's lines lead to: of the runtime, of functions, of its own blocks
-abbrev pub IsTarget : Names → ℕ → Type 0
+abbrev pub IsTarget : Given → ℕ → Type 0
 IsTarget names l =
     (l ≡ checkpoint_label) ⊎ (l ≡ getchar_label) ⊎ (l ≡ putchar_label) ⊎ (l ≡ stack_label)
     ⊎ ((i : ℕ) × (i < names.functions) × (l ≡ entry_label i))
-    ⊎ ((b : ℕ) × (b < length names.function.now.blocks.items) × (l ≡ names.first_block + b))
+    ⊎ ((b : ℕ) × (b < length names.function.blocks.items) × (l ≡ names.first_block + b))
 
 -- so the distance fits whatever it is
-pub record LeadsTo (names : Names) (line : CodeLine) (l : ℕ) : Type 0 where
+pub record LeadsTo (names : Given) (line : CodeLine) (l : ℕ) : Type 0 where
   pub far : line.line.op ≡ Jal
   pub to : IsTarget names l
 
 -- the lines of function i
-pub record IsSelection (names : Names) (i : ℕ) (lines : List CodeLine) : Type 0 where
+pub record IsSelection (names : Given) (i : ℕ) (lines : List CodeLine) : Type 0 where
   pub starts : ℕ → ℕ
-  pub selected : (at : Name → ℕ) → Agrees at names → IsSelected (named at names.first_block lines) names.layout.now.frame names.function.now starts
-  pub accesses : accesses_in lines ≡ accesses_of_blocks names.function.now.blocks.items
-  pub causes : causes_in lines ≡ causes_of_blocks names.function.now.blocks.items
+  pub selected : (at : Name → ℕ) → Agrees at names → IsSelected (named at names.first_block lines) names.layout.frame names.function starts
+  pub accesses : accesses_in lines ≡ accesses_of_blocks names.function.blocks.items
+  pub causes : causes_in lines ≡ causes_of_blocks names.function.blocks.items
   pub entry : HasLabel lines 0 (entry_label i)
-  pub blocks : (b : ℕ) → b < length names.function.now.blocks.items → HasLabel lines (starts b) (names.first_block + b)
-  pub only : (k l : ℕ) → HasLabel lines k l → ((k ≡ 0) × (l ≡ entry_label i)) ⊎ ((b : ℕ) × (b < length names.function.now.blocks.items) × (k ≡ starts b) × (l ≡ names.first_block + b))
+  pub blocks : (b : ℕ) → b < length names.function.blocks.items → HasLabel lines (starts b) (names.first_block + b)
+  pub only : (k l : ℕ) → HasLabel lines k l → ((k ≡ 0) × (l ≡ entry_label i)) ⊎ ((b : ℕ) × (b < length names.function.blocks.items) × (k ≡ starts b) × (l ≡ names.first_block + b))
   pub targets : (k l : ℕ) (line : CodeLine) → slice_get lines k ≡ Some line → line.target ≡ Some l → LeadsTo names line l
-  pub words : ((b : ℕ) (block : Block) → slice_get names.function.now.blocks.items b ≡ Some block → CutsApart block.lines.items) → length lines ≤ placed_cost names.function.now
+  pub words : ((b : ℕ) (block : Block) → slice_get names.function.blocks.items b ≡ Some block → CutsApart block.lines.items) → length lines ≤ placed_cost names.function

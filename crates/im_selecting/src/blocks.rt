@@ -3,6 +3,7 @@ ghost use Rattle.im_rv.specs.Lines.{code_lines};
 ghost use Rattle.im_block.specs.Wellformed.{ExitThere};
 ghost use Rattle.im_placed.specs.Placed.{IsPlacedExit, IsPlacedBlock};
 ghost use Rattle.im_selecting.specs.Emitted.{labelled, leave_code, branch_code, exit_code, enter_code, prologue_code, block_code};
+ghost use Rattle.im_selecting.specs.Given.{given};
 ghost use Rattle.im_selecting.specs.Places.{at_of, HasPlaces};
 ghost use Rattle.im_selecting.specs.Selects.{IsClosedBlock};
 
@@ -51,7 +52,7 @@ fn push_branch(lines: &mut Vec<Line>, on: u32, holds: u32, fails: u32) -> Result
 
 /// The lines of a block's exit.
 fn push_exit(lines: &mut Vec<Line>, names: &Names, exit: Exit) -> Result<(), NoMemory>
-    requires places { HasPlaces names.now }
+    requires places { HasPlaces (given names.now) }
     requires placed { IsPlacedExit exit }
     requires there { ExitThere (length names.now.function.now.blocks.items) exit }
     ensures { OnOk result (code_lines lines.new.items
@@ -68,12 +69,12 @@ fn push_exit(lines: &mut Vec<Line>, names: &Names, exit: Exit) -> Result<(), NoM
 
 /// The lines of a block, by its number.
 pub(crate) fn block_lines(alloc: Global, names: &Names, number: u32, block: &Block) -> Result<Vec<Line>, NoMemory>
-    requires places { HasPlaces names.now }
+    requires places { HasPlaces (given names.now) }
     requires number { number < length names.now.function.now.blocks.items }
     requires placed { IsPlacedBlock (length names.now.statics.now) names.now.function.now block.now }
-    requires closed { IsClosedBlock names.now block.now }
+    requires closed { IsClosedBlock (given names.now) block.now }
     ensures { IfOk result (λ lines. code_lines lines.items
-        ≡ block_code (at_of names.now) names.now.first_block names.now.layout.now.frame number block.now) }
+        ≡ block_code (at_of (given names.now)) names.now.first_block names.now.layout.now.frame number block.now) }
 {
     let mut lines = Vec::new(alloc);
     push_lines(&mut lines, names, &block.lines)?;

@@ -8,6 +8,8 @@ mod memory;
 mod names;
 mod push;
 mod selection;
+#[cfg(test)]
+mod tests;
 mod words;
 
 pub use names::Names;

@@ -2,6 +2,7 @@ ghost use Rattle.std.specs.Prelude.{◌≡◌, ◌++◌, length, OnOk, All};
 ghost use Rattle.im_rv.specs.Lines.{code_lines};
 ghost use Rattle.im_placed.specs.Placed.{IsPlacedLine};
 ghost use Rattle.im_selecting.specs.Emitted.{line_code, lines_code};
+ghost use Rattle.im_selecting.specs.Given.{given};
 ghost use Rattle.im_selecting.specs.Places.{at_of, HasPlaces, CallsBelow};
 
 use crate::computing::{
@@ -19,11 +20,11 @@ use im_rv::Line;
 
 /// The lines of one line of placed code.
 pub(crate) fn push_line(lines: &mut Vec<Line>, names: &Names, line: Placed) -> Result<(), NoMemory>
-    requires places { HasPlaces names.now }
+    requires places { HasPlaces (given names.now) }
     requires placed { IsPlacedLine (length names.now.statics.now) names.now.function.now line }
     requires called { CallsBelow names.now.functions line }
     ensures { OnOk result (code_lines lines.new.items
-        ≡ code_lines lines.old.items ++ line_code (at_of names.now) line) }
+        ≡ code_lines lines.old.items ++ line_code (at_of (given names.now)) line) }
 {
     match line {
         Placed::Put { to, number } => push_constant(lines, register(to), to_word(number)),
@@ -60,11 +61,11 @@ pub(crate) fn push_line(lines: &mut Vec<Line>, names: &Names, line: Placed) -> R
 
 /// The lines of several, in order.
 pub(crate) fn push_lines(lines: &mut Vec<Line>, names: &Names, placed: &[Placed]) -> Result<(), NoMemory>
-    requires places { HasPlaces names.now }
+    requires places { HasPlaces (given names.now) }
     requires placed { All (IsPlacedLine (length names.now.statics.now) names.now.function.now) placed.now }
     requires called { All (CallsBelow names.now.functions) placed.now }
     ensures { OnOk result (code_lines lines.new.items
-        ≡ code_lines lines.old.items ++ lines_code (at_of names.now) placed.now) }
+        ≡ code_lines lines.old.items ++ lines_code (at_of (given names.now)) placed.now) }
 {
     for line in placed {
         push_line(lines, names, *line)?;

@@ -6,6 +6,7 @@ ghost use Rattle.im_rv.specs.Lines.{code_lines};
 ghost use Rattle.im_store.specs.Objects.{Slot};
 ghost use Rattle.im_placed.specs.Operands.{IsHome, PlaceAtHome, PlaceExists};
 ghost use Rattle.im_selecting.specs.Emitted.{static_code, place_code, place_base, place_number, address_code, fetch_code, keep_code, reload_code, spill_code};
+ghost use Rattle.im_selecting.specs.Given.{given};
 ghost use Rattle.im_selecting.specs.Places.{at_of, HasPlaces, IsDisplaced};
 
 use crate::names::{Names, local_place, slot_place, static_place};
@@ -29,12 +30,12 @@ fn push_static(lines: &mut Vec<Line>, address: u32) -> Result<Displaced, NoMemor
 
 /// A place as an address; x5 may be used.
 fn push_place(lines: &mut Vec<Line>, names: &Names, place: Place) -> Result<Displaced, NoMemory>
-    requires places { HasPlaces names.now }
+    requires places { HasPlaces (given names.now) }
     requires there { PlaceExists (length names.now.statics.now) names.now.function.now place }
     requires home { PlaceAtHome place }
     ensures grows { OnOk result (code_lines lines.new.items
-        ≡ code_lines lines.old.items ++ place_code place (place_number (at_of names.now) place)) }
-    ensures gives { IfOk result (λ d. IsDisplaced d (place_base place (place_number (at_of names.now) place)) (place_number (at_of names.now) place)) }
+        ≡ code_lines lines.old.items ++ place_code place (place_number (at_of (given names.now)) place)) }
+    ensures gives { IfOk result (λ d. IsDisplaced d (place_base place (place_number (at_of (given names.now)) place)) (place_number (at_of (given names.now)) place)) }
 {
     match place {
         Place::Static { object, offset } => {
@@ -50,11 +51,11 @@ fn push_place(lines: &mut Vec<Line>, names: &Names, place: Place) -> Result<Disp
 /// The address of a place comes into a register.
 pub(crate) fn push_address(lines: &mut Vec<Line>, names: &Names, to: u32, place: Place) -> Result<(), NoMemory>
     requires to { IsHome to }
-    requires places { HasPlaces names.now }
+    requires places { HasPlaces (given names.now) }
     requires there { PlaceExists (length names.now.statics.now) names.now.function.now place }
     requires home { PlaceAtHome place }
     ensures { OnOk result (code_lines lines.new.items
-        ≡ code_lines lines.old.items ++ address_code to place (place_number (at_of names.now) place)) }
+        ≡ code_lines lines.old.items ++ address_code to place (place_number (at_of (given names.now)) place)) }
 {
     let at = push_place(lines, names, place)?;
     push(lines, addi(register(to), at.base, at.low))
@@ -89,11 +90,11 @@ fn store_of(kind: Kind) -> Op
 /// The value of a cell comes into a register.
 pub(crate) fn push_read(lines: &mut Vec<Line>, names: &Names, to: u32, place: Place, kind: Kind, access: u64) -> Result<(), NoMemory>
     requires to { IsHome to }
-    requires places { HasPlaces names.now }
+    requires places { HasPlaces (given names.now) }
     requires there { PlaceExists (length names.now.statics.now) names.now.function.now place }
     requires home { PlaceAtHome place }
     ensures { OnOk result (code_lines lines.new.items
-        ≡ code_lines lines.old.items ++ fetch_code to place kind access (place_number (at_of names.now) place)) }
+        ≡ code_lines lines.old.items ++ fetch_code to place kind access (place_number (at_of (given names.now)) place)) }
 {
     let at = push_place(lines, names, place)?;
     push_numbered(lines, access, with_immediate(load_of(kind), register(to), at.base, at.low))
@@ -102,11 +103,11 @@ pub(crate) fn push_read(lines: &mut Vec<Line>, names: &Names, to: u32, place: Pl
 /// A register's value goes into a cell.
 pub(crate) fn push_write(lines: &mut Vec<Line>, names: &Names, place: Place, kind: Kind, from: u32, access: u64) -> Result<(), NoMemory>
     requires from { IsHome from }
-    requires places { HasPlaces names.now }
+    requires places { HasPlaces (given names.now) }
     requires there { PlaceExists (length names.now.statics.now) names.now.function.now place }
     requires home { PlaceAtHome place }
     ensures { OnOk result (code_lines lines.new.items
-        ≡ code_lines lines.old.items ++ keep_code place kind from access (place_number (at_of names.now) place)) }
+        ≡ code_lines lines.old.items ++ keep_code place kind from access (place_number (at_of (given names.now)) place)) }
 {
     let at = push_place(lines, names, place)?;
     push_numbered(lines, access, storing(store_of(kind), at.base, register(from), at.low))
@@ -115,10 +116,10 @@ pub(crate) fn push_write(lines: &mut Vec<Line>, names: &Names, place: Place, kin
 /// A slot's value comes into a register.
 pub(crate) fn push_reload(lines: &mut Vec<Line>, names: &Names, to: u32, slot: u32, access: u64) -> Result<(), NoMemory>
     requires to { IsHome to }
-    requires places { HasPlaces names.now }
+    requires places { HasPlaces (given names.now) }
     requires there { slot < names.now.function.now.slots }
     ensures { OnOk result (code_lines lines.new.items
-        ≡ code_lines lines.old.items ++ reload_code to (at_of names.now (Slot slot)) access) }
+        ≡ code_lines lines.old.items ++ reload_code to (at_of (given names.now) (Slot slot)) access) }
 {
     let at = push_displaced(lines, 2, slot_place(names, slot))?;
     push_numbered(lines, access, lw(register(to), at.low, at.base))
@@ -127,10 +128,10 @@ pub(crate) fn push_reload(lines: &mut Vec<Line>, names: &Names, to: u32, slot: u
 /// A register's value goes into a slot.
 pub(crate) fn push_spill(lines: &mut Vec<Line>, names: &Names, slot: u32, from: u32, access: u64) -> Result<(), NoMemory>
     requires from { IsHome from }
-    requires places { HasPlaces names.now }
+    requires places { HasPlaces (given names.now) }
     requires there { slot < names.now.function.now.slots }
     ensures { OnOk result (code_lines lines.new.items
-        ≡ code_lines lines.old.items ++ spill_code (at_of names.now (Slot slot)) from access) }
+        ≡ code_lines lines.old.items ++ spill_code (at_of (given names.now) (Slot slot)) from access) }
 {
     let at = push_displaced(lines, 2, slot_place(names, slot))?;
     push_numbered(lines, access, sw(register(from), at.low, at.base))

@@ -1,6 +1,7 @@
 ghost use Rattle.std.specs.Prelude.{◌≡◌, ◌<◌, ◌≤◌, ◌+◌, length};
 ghost use Rattle.im_store.specs.Objects.{Named, Slot};
 ghost use Rattle.im_placed.specs.Operands.{HasObject};
+ghost use Rattle.im_selecting.specs.Given.{given};
 ghost use Rattle.im_selecting.specs.Places.{at_of, HasPlaces};
 
 use im_block::Function;
@@ -21,9 +22,9 @@ pub struct Names<'a> {
 
 /// The address of a static.
 pub(crate) fn static_place(names: &Names, number: u32) -> u32
-    requires places { HasPlaces names.now }
+    requires places { HasPlaces (given names.now) }
     requires there { number < length names.now.statics.now }
-    ensures value { result ≡ at_of names.now (Named number) }
+    ensures value { result ≡ at_of (given names.now) (Named number) }
     ensures low { result < 2097152 }
 {
     names.statics[number as usize]
@@ -31,9 +32,9 @@ pub(crate) fn static_place(names: &Names, number: u32) -> u32
 
 /// The place of an object in the frame.
 pub(crate) fn local_place(names: &Names, number: u32) -> u32
-    requires places { HasPlaces names.now }
+    requires places { HasPlaces (given names.now) }
     requires there { HasObject names.now.function.now number }
-    ensures value { result ≡ at_of names.now (Named number) }
+    ensures value { result ≡ at_of (given names.now) (Named number) }
     ensures low { result < 65536 }
 {
     names.layout.places[(number - names.function.first_object) as usize]
@@ -41,9 +42,9 @@ pub(crate) fn local_place(names: &Names, number: u32) -> u32
 
 /// The place of a slot in the frame.
 pub(crate) fn slot_place(names: &Names, slot: u32) -> u32
-    requires places { HasPlaces names.now }
+    requires places { HasPlaces (given names.now) }
     requires there { slot < names.now.function.now.slots }
-    ensures value { result ≡ at_of names.now (Slot slot) }
+    ensures value { result ≡ at_of (given names.now) (Slot slot) }
     ensures low { result < 65536 }
 {
     8 + 8 * slot
