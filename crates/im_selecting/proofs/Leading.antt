@@ -109,9 +109,10 @@ blocks_lead names at frame n (block ∷ blocks) h =
     (blocks_lead names at frame (suc n) blocks (All-tail (IsClosedBlock names) block blocks h))
 
 enter_sound : (names : Given) (entry : ℕ) → entry < length names.function.blocks.items → Sound names (enter_code (names.first_block + entry))
-enter_sound names entry h =
-    ((refl, (refl, (refl, (refl, (refl, (refl, tt)))))),
-     ((λ l e. absurd cc), ((λ l e. absurd cc), ((λ l e. leads names 35 _ refl (inr (inr (inr (inl refl)))) l e), ((λ l e. absurd cc), ((λ l e. absurd cc), ((λ l e. leads names (names.first_block + entry) _ refl (block_target names entry h) l e), tt)))))))
+enter_sound names entry h = (
+  (refl, (refl, (refl, (refl, (refl, (refl, tt)))))),
+  ((λ l e. absurd cc), ((λ l e. absurd cc), ((λ l e. leads names 35 _ refl (inr (inr (inr (inl refl)))) l e), ((λ l e. absurd cc), ((λ l e. absurd cc), ((λ l e. leads names (names.first_block + entry) _ refl (block_target names entry h) l e), tt)))))),
+)
 
 prologue_sound : (names : Given) (frame entry : ℕ) → entry < length names.function.blocks.items → Sound names (prologue_code frame (names.first_block + entry))
 prologue_sound names frame entry h =
@@ -138,18 +139,18 @@ blocks_only names at frame k n (block ∷ blocks) j l c h =
     let own : List CodeLine = block_code at first frame n block in
     elim (label_split own (blocks_code at first frame (suc n) blocks) j l h) [
       | inl a ↦
-        (let o = only_first (body at first frame block) (first + n) j l (body_sound names at frame block (All-head (IsClosedBlock names) block blocks c)).0 a in
-        let o0 = o.0 in
-        let o1 = o.1 in
-        record { b = 0; there = omega arith; line = omega arith; label = omega arith })
+          (let o = only_first (body at first frame block) (first + n) j l (body_sound names at frame block (All-head (IsClosedBlock names) block blocks c)).0 a in
+          let o0 = o.0 in
+          let o1 = o.1 in
+          record { b = 0; there = omega arith; line = omega arith; label = omega arith })
       | inr a ↦
-        (let r = blocks_only names at frame (after k own) (suc n) blocks a.0 l (All-tail (IsClosedBlock names) block blocks c) a.1 in
-        let e = a.2 in
-        let q = after_length k own in
-        let t = r.there in
-        let m = r.line in
-        let g = r.label in
-        record { b = suc r.b; there = omega arith; line = (let z : k + j ≡ after k own + a.0 = omega arith in z ∙ m); label = omega arith })
+          (let r = blocks_only names at frame (after k own) (suc n) blocks a.0 l (All-tail (IsClosedBlock names) block blocks c) a.1 in
+          let e = a.2 in
+          let q = after_length k own in
+          let t = r.there in
+          let m = r.line in
+          let g = r.label in
+          record { b = suc r.b; there = omega arith; line = (let z : k + j ≡ after k own + a.0 = omega arith in z ∙ m); label = omega arith })
     ]
 
 -- the label of block b stands at its start
@@ -186,12 +187,12 @@ function_only names at i frame entry blocks h c k l a =
     elim (label_split (labelled (entry_label i) head) rest k l a) [
       | inl x ↦ inl (only_first head (entry_label i) k l (prologue_sound names frame entry h).0 x)
       | inr x ↦
-        (let r = blocks_only names at frame (after 0 head) 0 blocks x.0 l c x.1 in
-        let e = x.2 in
-        let q = after_length 0 head in
-        let s = length_labelled (entry_label i) head in
-        let g = r.label in
-        inr (r.b, r.there, (let z : k ≡ after 0 head + x.0 = omega arith in z ∙ r.line), omega arith))
+          (let r = blocks_only names at frame (after 0 head) 0 blocks x.0 l c x.1 in
+          let e = x.2 in
+          let q = after_length 0 head in
+          let s = length_labelled (entry_label i) head in
+          let g = r.label in
+          inr (r.b, r.there, (let z : k ≡ after 0 head + x.0 = omega arith in z ∙ r.line), omega arith))
     ]
 
 pub function_entry : (at : Name → ℕ) (i first frame entry : ℕ) (blocks : List Block) → HasLabel (function_code at i first frame entry blocks) 0 (entry_label i)

@@ -48,9 +48,11 @@ stands_in own at first ls k frame statics f (line ∷ lines) exit small h alike 
     let p = All-head (IsPlacedLine statics f) line lines h in
     let same = (alike line p).0 in
     let here : SelectedIn w k line (after k (line_code own line)) =
-        subst (λ z. SelectedIn w k line (after k z)) (sym same) (selected_in at first ls k statics f line p (alike line p).1 (subst (At w k) same (at_left w k (line_code own line) rest b))) in
-    (after k (line_code own line), here,
-     stands_in own at first ls (after k (line_code own line)) frame statics f lines exit small (All-tail (IsPlacedLine statics f) line lines h) alike e (at_right w k (line_code own line) rest b))
+    subst (λ z. SelectedIn w k line (after k z)) (sym same) (selected_in at first ls k statics f line p (alike line p).1 (subst (At w k) same (at_left w k (line_code own line) rest b))) in (
+      after k (line_code own line),
+      here,
+      stands_in own at first ls (after k (line_code own line)) frame statics f lines exit small (All-tail (IsPlacedLine statics f) line lines h) alike e (at_right w k (line_code own line) rest b),
+    )
 
 prologue_in : (at : Name → ℕ) (first : ℕ) (ls : List CodeLine) (frame entry : ℕ) → 0 < frame → At (named at first ls) 0 (prologue_code frame (first + entry)) → PrologueIn (named at first ls) 0 frame (first + entry)
 prologue_in at first ls frame entry some a =

@@ -61,14 +61,24 @@ fn push_exit(lines: &mut Vec<Line>, names: &Names, exit: Exit) -> Result<(), NoM
     match exit {
         Exit::Jump(to) | Exit::Turn(to) => push_jump(lines, 0, names.first_block + to),
         Exit::Branch { on, holds, fails } => {
-            push_branch(lines, on, names.first_block + holds, names.first_block + fails)
+            push_branch(
+                lines,
+                on,
+                names.first_block + holds,
+                names.first_block + fails,
+            )
         }
         Exit::Return(_) => push_leave(lines, names.layout.frame),
     }
 }
 
 /// The lines of a block, by its number.
-pub(crate) fn block_lines(alloc: Global, names: &Names, number: u32, block: &Block) -> Result<Vec<Line>, NoMemory>
+pub(crate) fn block_lines(
+    alloc: Global,
+    names: &Names,
+    number: u32,
+    block: &Block,
+) -> Result<Vec<Line>, NoMemory>
     requires places { HasPlaces (given names.now) }
     requires number { number < length names.now.function.now.blocks.items }
     requires placed { IsPlacedBlock (length names.now.statics.now) names.now.function.now block.now }

@@ -25,7 +25,13 @@ pub(crate) fn push_copy(lines: &mut Vec<Line>, to: u32, from: u32) -> Result<(),
 }
 
 /// Brings a value into a kind of 8 or 16 bits: shifted up, and down again.
-fn push_narrowed(lines: &mut Vec<Line>, to: u32, bits: u8, is_signed: bool, from: u32) -> Result<(), NoMemory>
+fn push_narrowed(
+    lines: &mut Vec<Line>,
+    to: u32,
+    bits: u8,
+    is_signed: bool,
+    from: u32,
+) -> Result<(), NoMemory>
     requires to { to < 32 }
     requires from { from < 32 }
     requires bits { bits < 32 }
@@ -42,7 +48,12 @@ fn push_narrowed(lines: &mut Vec<Line>, to: u32, bits: u8, is_signed: bool, from
 }
 
 /// Brings a value into an integer kind (C11 6.3.1.3).
-pub(crate) fn push_converted(lines: &mut Vec<Line>, to: u32, kind: Kind, from: u32) -> Result<(), NoMemory>
+pub(crate) fn push_converted(
+    lines: &mut Vec<Line>,
+    to: u32,
+    kind: Kind,
+    from: u32,
+) -> Result<(), NoMemory>
     requires to { to < 32 }
     requires from { from < 32 }
     ensures { OnOk result (code_lines lines.new.items
@@ -58,7 +69,12 @@ pub(crate) fn push_converted(lines: &mut Vec<Line>, to: u32, kind: Kind, from: u
 }
 
 /// An operator on one value (C11 6.5.3.3).
-pub(crate) fn push_unary(lines: &mut Vec<Line>, to: u32, op: UnaryOp, from: u32) -> Result<(), NoMemory>
+pub(crate) fn push_unary(
+    lines: &mut Vec<Line>,
+    to: u32,
+    op: UnaryOp,
+    from: u32,
+) -> Result<(), NoMemory>
     requires to { to < 32 }
     requires from { from < 32 }
     ensures { OnOk result (code_lines lines.new.items
@@ -114,29 +130,64 @@ fn operation_of(op: BinaryOp, kind: Kind) -> Op
 }
 
 /// An operator on two values (C11 6.5.5 to 6.5.12).
-pub(crate) fn push_computed(lines: &mut Vec<Line>, to: u32, op: BinaryOp, kind: Kind, left: u32, right: u32) -> Result<(), NoMemory>
+pub(crate) fn push_computed(
+    lines: &mut Vec<Line>,
+    to: u32,
+    op: BinaryOp,
+    kind: Kind,
+    left: u32,
+    right: u32,
+) -> Result<(), NoMemory>
     requires to { to < 32 }
     requires left { left < 32 }
     requires right { right < 32 }
     ensures { OnOk result (code_lines lines.new.items
         ≡ code_lines lines.old.items ++ computed_code to op kind left right) }
 {
-    push(lines, on_registers(operation_of(op, kind), register(to), register(left), register(right)))
+    push(
+        lines,
+        on_registers(
+            operation_of(op, kind),
+            register(to),
+            register(left),
+            register(right),
+        ),
+    )
 }
 
 /// 1 where the first of two registers is less, else 0.
-fn push_less(lines: &mut Vec<Line>, to: u32, kind: Kind, left: u32, right: u32) -> Result<(), NoMemory>
+fn push_less(
+    lines: &mut Vec<Line>,
+    to: u32,
+    kind: Kind,
+    left: u32,
+    right: u32,
+) -> Result<(), NoMemory>
     requires to { to < 32 }
     requires left { left < 32 }
     requires right { right < 32 }
     ensures { OnOk result (code_lines lines.new.items
         ≡ code_lines lines.old.items ++ less_code to (less_op kind) left right) }
 {
-    push(lines, on_registers(by_sign(kind, Op::Slt, Op::Sltu), register(to), register(left), register(right)))
+    push(
+        lines,
+        on_registers(
+            by_sign(kind, Op::Slt, Op::Sltu),
+            register(to),
+            register(left),
+            register(right),
+        ),
+    )
 }
 
 /// 0 where the first of two registers is less, else 1.
-fn push_not_less(lines: &mut Vec<Line>, to: u32, kind: Kind, left: u32, right: u32) -> Result<(), NoMemory>
+fn push_not_less(
+    lines: &mut Vec<Line>,
+    to: u32,
+    kind: Kind,
+    left: u32,
+    right: u32,
+) -> Result<(), NoMemory>
     requires to { to < 32 }
     requires left { left < 32 }
     requires right { right < 32 }
@@ -148,7 +199,14 @@ fn push_not_less(lines: &mut Vec<Line>, to: u32, kind: Kind, left: u32, right: u
 }
 
 /// 1 where two values compare so, else 0 (C11 6.5.8, 6.5.9); x5 is used.
-pub(crate) fn push_compared(lines: &mut Vec<Line>, to: u32, op: Comparison, kind: Kind, left: u32, right: u32) -> Result<(), NoMemory>
+pub(crate) fn push_compared(
+    lines: &mut Vec<Line>,
+    to: u32,
+    op: Comparison,
+    kind: Kind,
+    left: u32,
+    right: u32,
+) -> Result<(), NoMemory>
     requires to { to < 32 }
     requires left { left < 32 }
     requires right { right < 32 }
@@ -172,7 +230,14 @@ pub(crate) fn push_compared(lines: &mut Vec<Line>, to: u32, op: Comparison, kind
 }
 
 /// A pointer moved by elements of `size` bytes (C11 6.5.6); x5 is used.
-pub(crate) fn push_moved(lines: &mut Vec<Line>, to: u32, size: u32, back: bool, pointer: u32, by: u32) -> Result<(), NoMemory>
+pub(crate) fn push_moved(
+    lines: &mut Vec<Line>,
+    to: u32,
+    size: u32,
+    back: bool,
+    pointer: u32,
+    by: u32,
+) -> Result<(), NoMemory>
     requires to { to < 32 }
     requires pointer { pointer < 32 }
     requires by { by < 32 }
@@ -182,11 +247,20 @@ pub(crate) fn push_moved(lines: &mut Vec<Line>, to: u32, size: u32, back: bool, 
     let step = if back { Op::Sub } else { Op::Add };
     push_constant(lines, 5, size)?;
     push(lines, mul(5, 5, register(by)))?;
-    push(lines, on_registers(step, register(to), register(pointer), 5))
+    push(
+        lines,
+        on_registers(step, register(to), register(pointer), 5),
+    )
 }
 
 /// The difference of two pointers, in elements of `size` bytes (C11 6.5.6); x5 and x6 are used.
-pub(crate) fn push_distance(lines: &mut Vec<Line>, to: u32, size: u32, left: u32, right: u32) -> Result<(), NoMemory>
+pub(crate) fn push_distance(
+    lines: &mut Vec<Line>,
+    to: u32,
+    size: u32,
+    left: u32,
+    right: u32,
+) -> Result<(), NoMemory>
     requires to { to < 32 }
     requires left { left < 32 }
     requires right { right < 32 }

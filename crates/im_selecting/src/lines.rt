@@ -33,23 +33,46 @@ pub(crate) fn push_line(lines: &mut Vec<Line>, names: &Names, line: Placed) -> R
         Placed::Convert { to, kind, from } => push_converted(lines, to, kind, from),
         Placed::Unary { to, op, from, .. } => push_unary(lines, to, op, from),
         Placed::Not { to, from } => push_not(lines, to, from),
-        Placed::Compute { to, op, kind, left, right } => {
-            push_computed(lines, to, op, kind, left, right)
-        }
-        Placed::Compare { to, op, kind, left, right } => {
-            push_compared(lines, to, op, kind, left, right)
-        }
-        Placed::Move { to, size, back, pointer, by } => {
-            push_moved(lines, to, size, back, pointer, by)
-        }
-        Placed::Distance { to, size, left, right } => push_distance(lines, to, size, left, right),
+        Placed::Compute {
+            to,
+            op,
+            kind,
+            left,
+            right,
+        } => { push_computed(lines, to, op, kind, left, right) }
+        Placed::Compare {
+            to,
+            op,
+            kind,
+            left,
+            right,
+        } => { push_compared(lines, to, op, kind, left, right) }
+        Placed::Move {
+            to,
+            size,
+            back,
+            pointer,
+            by,
+        } => { push_moved(lines, to, size, back, pointer, by) }
+        Placed::Distance {
+            to,
+            size,
+            left,
+            right,
+        } => push_distance(lines, to, size, left, right),
         Placed::Address { to, place } => push_address(lines, names, to, place),
-        Placed::Read { to, place, kind, access } => {
-            push_read(lines, names, to, place, kind, access)
-        }
-        Placed::Write { place, kind, from, access } => {
-            push_write(lines, names, place, kind, from, access)
-        }
+        Placed::Read {
+            to,
+            place,
+            kind,
+            access,
+        } => { push_read(lines, names, to, place, kind, access) }
+        Placed::Write {
+            place,
+            kind,
+            from,
+            access,
+        } => { push_write(lines, names, place, kind, from, access) }
         Placed::Reload { to, slot, access } => push_reload(lines, names, to, slot, access),
         Placed::Spill { slot, from, access } => push_spill(lines, names, slot, from, access),
         Placed::Cut(cause) => push_cut(lines, cause),
@@ -60,7 +83,11 @@ pub(crate) fn push_line(lines: &mut Vec<Line>, names: &Names, line: Placed) -> R
 }
 
 /// The lines of several, in order.
-pub(crate) fn push_lines(lines: &mut Vec<Line>, names: &Names, placed: &[Placed]) -> Result<(), NoMemory>
+pub(crate) fn push_lines(
+    lines: &mut Vec<Line>,
+    names: &Names,
+    placed: &[Placed],
+) -> Result<(), NoMemory>
     requires places { HasPlaces (given names.now) }
     requires placed { All (IsPlacedLine (length names.now.statics.now) names.now.function.now) placed.now }
     requires called { All (CallsBelow names.now.functions) placed.now }

@@ -49,7 +49,12 @@ fn push_place(lines: &mut Vec<Line>, names: &Names, place: Place) -> Result<Disp
 }
 
 /// The address of a place comes into a register.
-pub(crate) fn push_address(lines: &mut Vec<Line>, names: &Names, to: u32, place: Place) -> Result<(), NoMemory>
+pub(crate) fn push_address(
+    lines: &mut Vec<Line>,
+    names: &Names,
+    to: u32,
+    place: Place,
+) -> Result<(), NoMemory>
     requires to { IsHome to }
     requires places { HasPlaces (given names.now) }
     requires there { PlaceExists (length names.now.statics.now) names.now.function.now place }
@@ -88,7 +93,14 @@ fn store_of(kind: Kind) -> Op
 }
 
 /// The value of a cell comes into a register.
-pub(crate) fn push_read(lines: &mut Vec<Line>, names: &Names, to: u32, place: Place, kind: Kind, access: u64) -> Result<(), NoMemory>
+pub(crate) fn push_read(
+    lines: &mut Vec<Line>,
+    names: &Names,
+    to: u32,
+    place: Place,
+    kind: Kind,
+    access: u64,
+) -> Result<(), NoMemory>
     requires to { IsHome to }
     requires places { HasPlaces (given names.now) }
     requires there { PlaceExists (length names.now.statics.now) names.now.function.now place }
@@ -97,11 +109,22 @@ pub(crate) fn push_read(lines: &mut Vec<Line>, names: &Names, to: u32, place: Pl
         ≡ code_lines lines.old.items ++ fetch_code to place kind access (place_number (at_of (given names.now)) place)) }
 {
     let at = push_place(lines, names, place)?;
-    push_numbered(lines, access, with_immediate(load_of(kind), register(to), at.base, at.low))
+    push_numbered(
+        lines,
+        access,
+        with_immediate(load_of(kind), register(to), at.base, at.low),
+    )
 }
 
 /// A register's value goes into a cell.
-pub(crate) fn push_write(lines: &mut Vec<Line>, names: &Names, place: Place, kind: Kind, from: u32, access: u64) -> Result<(), NoMemory>
+pub(crate) fn push_write(
+    lines: &mut Vec<Line>,
+    names: &Names,
+    place: Place,
+    kind: Kind,
+    from: u32,
+    access: u64,
+) -> Result<(), NoMemory>
     requires from { IsHome from }
     requires places { HasPlaces (given names.now) }
     requires there { PlaceExists (length names.now.statics.now) names.now.function.now place }
@@ -110,11 +133,21 @@ pub(crate) fn push_write(lines: &mut Vec<Line>, names: &Names, place: Place, kin
         ≡ code_lines lines.old.items ++ keep_code place kind from access (place_number (at_of (given names.now)) place)) }
 {
     let at = push_place(lines, names, place)?;
-    push_numbered(lines, access, storing(store_of(kind), at.base, register(from), at.low))
+    push_numbered(
+        lines,
+        access,
+        storing(store_of(kind), at.base, register(from), at.low),
+    )
 }
 
 /// A slot's value comes into a register.
-pub(crate) fn push_reload(lines: &mut Vec<Line>, names: &Names, to: u32, slot: u32, access: u64) -> Result<(), NoMemory>
+pub(crate) fn push_reload(
+    lines: &mut Vec<Line>,
+    names: &Names,
+    to: u32,
+    slot: u32,
+    access: u64,
+) -> Result<(), NoMemory>
     requires to { IsHome to }
     requires places { HasPlaces (given names.now) }
     requires there { slot < names.now.function.now.slots }
@@ -126,7 +159,13 @@ pub(crate) fn push_reload(lines: &mut Vec<Line>, names: &Names, to: u32, slot: u
 }
 
 /// A register's value goes into a slot.
-pub(crate) fn push_spill(lines: &mut Vec<Line>, names: &Names, slot: u32, from: u32, access: u64) -> Result<(), NoMemory>
+pub(crate) fn push_spill(
+    lines: &mut Vec<Line>,
+    names: &Names,
+    slot: u32,
+    from: u32,
+    access: u64,
+) -> Result<(), NoMemory>
     requires from { IsHome from }
     requires places { HasPlaces (given names.now) }
     requires there { slot < names.now.function.now.slots }

@@ -8,6 +8,7 @@ use im_block::Function;
 use im_frame::Layout;
 
 /// What the names in a function's code stand for.
+#[derive(Clone, Copy)]
 pub struct Names<'a> {
     /// The address of each static of the unit.
     pub statics: &'a [u32],

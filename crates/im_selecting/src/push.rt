@@ -22,7 +22,11 @@ pub(crate) fn push(lines: &mut Vec<Line>, instr: Instr) -> Result<(), NoMemory>
 }
 
 /// Adds a load or store that is an access of the code.
-pub(crate) fn push_numbered(lines: &mut Vec<Line>, access: u64, instr: Instr) -> Result<(), NoMemory>
+pub(crate) fn push_numbered(
+    lines: &mut Vec<Line>,
+    access: u64,
+    instr: Instr,
+) -> Result<(), NoMemory>
     ensures { OnOk result (code_lines lines.new.items
         ≡ code_lines lines.old.items ++ numbered access (line_of instr) ∷ []) }
 {

@@ -20,7 +20,11 @@ fn push_entry(lines: &mut Vec<Line>, names: &Names) -> Result<(), NoMemory>
     ensures { OnOk result (code_lines lines.new.items ≡ code_lines lines.old.items
         ++ prologue_code names.now.layout.now.frame (names.now.first_block + names.now.function.now.entry)) }
 {
-    push_prologue(lines, names.layout.frame, names.first_block + names.function.entry)
+    push_prologue(
+        lines,
+        names.layout.frame,
+        names.first_block + names.function.entry,
+    )
 }
 
 /// The lines of all blocks.
@@ -43,7 +47,7 @@ fn function_lines(alloc: Global, names: &Names, number: u32) -> Result<Vec<Line>
     requires { IsSelectable (given names.now) number }
     ensures { IfOk result (λ lines. code_lines lines.items
         ≡ function_code (at_of (given names.now)) number names.now.first_block names.now.layout.now.frame
-            names.now.function.now.entry names.now.function.now.blocks.items) }
+        names.now.function.now.entry names.now.function.now.blocks.items) }
 {
     let mut lines = Vec::new(alloc);
     push_entry(&mut lines, names)?;

@@ -61,26 +61,112 @@ fn lines_are_those_of_the_assembler(rt: HostRuntime) -> Result<(), Fail> {
     let kind = Kind::I32;
     let placed = [
         Line::Put { to: a, number: 5 },
-        Line::Put { to: a, number: 100000 },
-        Line::Put { to: b, number: 2048 },
+        Line::Put {
+            to: a,
+            number: 100000,
+        },
+        Line::Put {
+            to: b,
+            number: 2048,
+        },
         Line::PutNull { to: 12 },
         Line::Copy { to: 12, from: a },
-        Line::Convert { to: 13, kind: Kind::I8, from: a },
-        Line::Unary { to: 13, op: UnaryOp::Negate, kind, from: a },
-        Line::Unary { to: 13, op: UnaryOp::Complement, kind, from: a },
+        Line::Convert {
+            to: 13,
+            kind: Kind::I8,
+            from: a,
+        },
+        Line::Unary {
+            to: 13,
+            op: UnaryOp::Negate,
+            kind,
+            from: a,
+        },
+        Line::Unary {
+            to: 13,
+            op: UnaryOp::Complement,
+            kind,
+            from: a,
+        },
         Line::Not { to: 13, from: a },
-        Line::Compute { to: 14, op: BinaryOp::Divide, kind: Kind::U32, left: a, right: b },
-        Line::Compare { to: 14, op: Comparison::LessOrEqual, kind, left: a, right: b },
-        Line::Move { to: 15, size: 12, back: true, pointer: b, by: 12 },
-        Line::Distance { to: 16, size: 12, left: 15, right: b },
-        Line::Address { to: 17, place: Place::Local { object: 1, offset: 0 } },
-        Line::Read { to: 18, place: Place::Static { object: 0, offset: 4 }, kind: Kind::U16, access: 1 },
-        Line::Write { place: Place::Through { pointer: 17, offset: 0 }, kind, from: 18, access: 2 },
-        Line::Reload { to: 28, slot: 1, access: 3 },
-        Line::Write { place: Place::Through { pointer: 17, offset: 4096 }, kind: Kind::U8, from: 28, access: 4 },
-        Line::Spill { slot: 0, from: 30, access: 5 },
+        Line::Compute {
+            to: 14,
+            op: BinaryOp::Divide,
+            kind: Kind::U32,
+            left: a,
+            right: b,
+        },
+        Line::Compare {
+            to: 14,
+            op: Comparison::LessOrEqual,
+            kind,
+            left: a,
+            right: b,
+        },
+        Line::Move {
+            to: 15,
+            size: 12,
+            back: true,
+            pointer: b,
+            by: 12,
+        },
+        Line::Distance {
+            to: 16,
+            size: 12,
+            left: 15,
+            right: b,
+        },
+        Line::Address {
+            to: 17,
+            place: Place::Local {
+                object: 1,
+                offset: 0,
+            },
+        },
+        Line::Read {
+            to: 18,
+            place: Place::Static {
+                object: 0,
+                offset: 4,
+            },
+            kind: Kind::U16,
+            access: 1,
+        },
+        Line::Write {
+            place: Place::Through {
+                pointer: 17,
+                offset: 0,
+            },
+            kind,
+            from: 18,
+            access: 2,
+        },
+        Line::Reload {
+            to: 28,
+            slot: 1,
+            access: 3,
+        },
+        Line::Write {
+            place: Place::Through {
+                pointer: 17,
+                offset: 4096,
+            },
+            kind: Kind::U8,
+            from: 28,
+            access: 4,
+        },
+        Line::Spill {
+            slot: 0,
+            from: 30,
+            access: 5,
+        },
         Line::Cut(Cause::Return),
-        Line::Call { to: 10, function: 0, first: 10, count: 2 },
+        Line::Call {
+            to: 10,
+            function: 0,
+            first: 10,
+            count: 2,
+        },
     ];
     let mut lines = Vec::new(rt.alloc());
     push_lines(&mut lines, &names, &placed)?;

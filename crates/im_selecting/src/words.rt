@@ -70,7 +70,11 @@ pub(crate) fn push_constant(lines: &mut Vec<Line>, rd: u8, word: u32) -> Result<
 }
 
 /// A register plus a word as an address; x5 may be used.
-pub(crate) fn push_displaced(lines: &mut Vec<Line>, register: u8, word: u32) -> Result<Displaced, NoMemory>
+pub(crate) fn push_displaced(
+    lines: &mut Vec<Line>,
+    register: u8,
+    word: u32,
+) -> Result<Displaced, NoMemory>
     requires { register < 32 }
     ensures grows { OnOk result (code_lines lines.new.items
         ≡ code_lines lines.old.items ++ displaced_code register word) }
