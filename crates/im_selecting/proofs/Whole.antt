@@ -11,7 +11,7 @@ use Rattle.im_placed.specs.Placed.{IsPlacedLine, IsPlacedBlock}
 use Rattle.im_selecting.specs.Given.{Given}
 use Rattle.im_selecting.specs.Emitted.{line_code, function_code}
 use Rattle.im_selecting.specs.Places.{at_of}
-use Rattle.im_selecting.specs.Selects.{named, Agrees, IsSelectable, IsSelection}
+use Rattle.im_selecting.specs.Selects.{IsClosedBlock, IsSelectable, IsSelection}
 use Rattle.im_selecting.proofs.Standing.{At, at_start}
 use Rattle.im_selecting.proofs.Parts.{starts_of, function_in, Alike}
 use Rattle.im_selecting.proofs.Plain.{lead_at}
@@ -37,11 +37,11 @@ selection_of names i s =
     let small : frame < 4294967296 = (let b = s.places.layout.small in omega arith) in
     record {
       starts = starts_of at first frame f.entry f.blocks.items;
-      selected = λ w g.
-          function_in at w first (code_of names i) i frame (length names.statics) f some small
-          (λ b block e. all_at (IsPlacedBlock (length names.statics) f) f.blocks.items b block s.placed.blocks e)
+      selected = λ w e g.
+          function_in w names at i frame g some small s.entry
+          (λ b block e. (all_at (IsPlacedBlock (length names.statics) f) f.blocks.items b block s.placed.blocks e, all_at (IsClosedBlock names) f.blocks.items b block s.closed e))
           (λ line h. (line_same names w g line h, words_in names w s.places g line h))
-          (at_start (named w first (code_of names i)));
+          (subst (At w 0) e (at_start w));
       accesses = function_accesses at i first frame f.entry f.blocks.items;
       causes = function_causes at i first frame f.entry f.blocks.items;
       entry = function_entry at i first frame f.entry f.blocks.items;

@@ -13,17 +13,17 @@ use Rattle.im_selecting.specs.Emitted.{low_of, entry_label}
 
 -- the place of an object, by its name: a static's in memory, another's in the frame
 abbrev pub at_of : Given → Name → ℕ
-at_of names (Named n) = if nat_lt n (length names.statics) then slice_index names.statics n else slice_index names.layout.places.items (n - names.function.first_object)
-at_of names (Slot n) = 8 + 8 * n
-at_of names Link = 0
+at_of given (Named n) = if nat_lt n (length given.statics) then slice_index given.statics n else slice_index given.layout.places.items (n - given.function.first_object)
+at_of given (Slot n) = 8 + 8 * n
+at_of given Link = 0
 
 -- the statics lie in their region, the function's objects in its frame; behind the labels of functions come those of blocks
-pub record HasPlaces (names : Given) : Type 0 where
-  pub low : (n : ℕ) → n < length names.statics → slice_index names.statics n < statics_start + statics_capacity
-  pub first : length names.statics ≤ names.function.first_object
-  pub layout : IsLayout names.function names.layout
-  pub entries : entry_label names.functions ≤ names.first_block
-  pub blocks : names.first_block + length names.function.blocks.items < 2 ^ 32
+pub record HasPlaces (given : Given) : Type 0 where
+  pub low : (n : ℕ) → n < length given.statics → slice_index given.statics n < statics_start + statics_capacity
+  pub first : length given.statics ≤ given.function.first_object
+  pub layout : IsLayout given.function given.layout
+  pub entries : entry_label given.functions ≤ given.first_block
+  pub blocks : given.first_block + length given.function.blocks.items < 2 ^ 32
 
 -- the function that is called is one of so many
 abbrev pub CallsBelow : ℕ → Line → Type 0

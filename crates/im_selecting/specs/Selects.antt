@@ -19,29 +19,30 @@ use Rattle.im_selecting.specs.Given.{Given}
 use Rattle.im_selecting.specs.Emitted.{entry_label, checkpoint_label}
 use Rattle.im_selecting.specs.Places.{at_of, HasPlaces, CallsBelow}
 
--- block b of the function has the label first + b, function i the label 64 + i, an entry of the checkpoint that of its register
-abbrev pub named : (Name → ℕ) → ℕ → List CodeLine → Lines
-named at first lines =
-    record { lines = lines; at = at; block = λ b. first + b; entry = entry_label; full = stack_label; checkpoint = λ m. m; puts = putchar_label; gets = getchar_label }
-
--- a map of objects to places has the statics and this function's objects where they are
-pub record Agrees (at : Name → ℕ) (names : Given) : Type 0 where
-  pub statics : (n : ℕ) → n < length names.statics → at (Named n) ≡ at_of names (Named n)
-  pub objects : (n : ℕ) → HasObject names.function n → at (Named n) ≡ at_of names (Named n)
-  pub slots : (n : ℕ) → n < names.function.slots → at (Slot n) ≡ at_of names (Slot n)
+-- places and labels are read so: where this function's objects and blocks are and what it calls, the rest may be anything
+pub record Agrees (w : Lines) (given : Given) : Type 0 where
+  pub statics : (n : ℕ) → n < length given.statics → w.at (Named n) ≡ at_of given (Named n)
+  pub objects : (n : ℕ) → HasObject given.function n → w.at (Named n) ≡ at_of given (Named n)
+  pub slots : (n : ℕ) → n < given.function.slots → w.at (Slot n) ≡ at_of given (Slot n)
+  pub blocks : (b : ℕ) → b < length given.function.blocks.items → w.block b ≡ given.first_block + b
+  pub entries : (i : ℕ) → i < given.functions → w.entry i ≡ entry_label i
+  pub checkpoint : w.checkpoint checkpoint_label ≡ checkpoint_label
+  pub full : w.full ≡ stack_label
+  pub puts : w.puts ≡ putchar_label
+  pub gets : w.gets ≡ getchar_label
 
 -- the functions that are called are there, the blocks that are gone to too
-pub record IsClosedBlock (names : Given) (block : Block) : Type 0 where
-  pub calls : All (CallsBelow names.functions) block.lines.items
-  pub edges : ExitThere (length names.function.blocks.items) block.exit
+pub record IsClosedBlock (given : Given) (block : Block) : Type 0 where
+  pub calls : All (CallsBelow given.functions) block.lines.items
+  pub edges : ExitThere (length given.function.blocks.items) block.exit
 
--- what is asked: placed code, whose names have their places and labels
-pub record IsSelectable (names : Given) (i : ℕ) : Type 0 where
-  pub places : HasPlaces names
-  pub placed : IsPlacedFunction (length names.statics) names.function
-  pub number : i < names.functions
-  pub entry : names.function.entry < length names.function.blocks.items
-  pub closed : All (IsClosedBlock names) names.function.blocks.items
+-- what is asked: placed code, whose given have their places and labels
+pub record IsSelectable (given : Given) (i : ℕ) : Type 0 where
+  pub places : HasPlaces given
+  pub placed : IsPlacedFunction (length given.statics) given.function
+  pub number : i < given.functions
+  pub entry : given.function.entry < length given.function.blocks.items
+  pub closed : All (IsClosedBlock given) given.function.blocks.items
 
 -- what is taken of an option
 abbrev pub if_any : {A : Type 0} → Option A → List A → List A
@@ -78,24 +79,24 @@ pub record HasLabel (lines : List CodeLine) (k l : ℕ) : Type 0 where
 
 -- the labels that a function's lines lead to: of the runtime, of functions, of its own blocks
 abbrev pub IsTarget : Given → ℕ → Type 0
-IsTarget names l =
+IsTarget given l =
     (l ≡ checkpoint_label) ⊎ (l ≡ getchar_label) ⊎ (l ≡ putchar_label) ⊎ (l ≡ stack_label)
-    ⊎ ((i : ℕ) × (i < names.functions) × (l ≡ entry_label i))
-    ⊎ ((b : ℕ) × (b < length names.function.blocks.items) × (l ≡ names.first_block + b))
+    ⊎ ((i : ℕ) × (i < given.functions) × (l ≡ entry_label i))
+    ⊎ ((b : ℕ) × (b < length given.function.blocks.items) × (l ≡ given.first_block + b))
 
 -- so the distance fits whatever it is
-pub record LeadsTo (names : Given) (line : CodeLine) (l : ℕ) : Type 0 where
+pub record LeadsTo (given : Given) (line : CodeLine) (l : ℕ) : Type 0 where
   pub far : line.line.op ≡ Jal
-  pub to : IsTarget names l
+  pub to : IsTarget given l
 
 -- the lines of function i
-pub record IsSelection (names : Given) (i : ℕ) (lines : List CodeLine) : Type 0 where
+pub record IsSelection (given : Given) (i : ℕ) (lines : List CodeLine) : Type 0 where
   pub starts : ℕ → ℕ
-  pub selected : (at : Name → ℕ) → Agrees at names → IsSelected (named at names.first_block lines) names.layout.frame names.function starts
-  pub accesses : accesses_in lines ≡ accesses_of_blocks names.function.blocks.items
-  pub causes : causes_in lines ≡ causes_of_blocks names.function.blocks.items
+  pub selected : (w : Lines) → w.lines ≡ lines → Agrees w given → IsSelected w given.layout.frame given.function starts
+  pub accesses : accesses_in lines ≡ accesses_of_blocks given.function.blocks.items
+  pub causes : causes_in lines ≡ causes_of_blocks given.function.blocks.items
   pub entry : HasLabel lines 0 (entry_label i)
-  pub blocks : (b : ℕ) → b < length names.function.blocks.items → HasLabel lines (starts b) (names.first_block + b)
-  pub only : (k l : ℕ) → HasLabel lines k l → ((k ≡ 0) × (l ≡ entry_label i)) ⊎ ((b : ℕ) × (b < length names.function.blocks.items) × (k ≡ starts b) × (l ≡ names.first_block + b))
-  pub targets : (k l : ℕ) (line : CodeLine) → slice_get lines k ≡ Some line → line.target ≡ Some l → LeadsTo names line l
-  pub words : ((b : ℕ) (block : Block) → slice_get names.function.blocks.items b ≡ Some block → CutsApart block.lines.items) → length lines ≤ placed_cost names.function
+  pub blocks : (b : ℕ) → b < length given.function.blocks.items → HasLabel lines (starts b) (given.first_block + b)
+  pub only : (k l : ℕ) → HasLabel lines k l → ((k ≡ 0) × (l ≡ entry_label i)) ⊎ ((b : ℕ) × (b < length given.function.blocks.items) × (k ≡ starts b) × (l ≡ given.first_block + b))
+  pub targets : (k l : ℕ) (line : CodeLine) → slice_get lines k ≡ Some line → line.target ≡ Some l → LeadsTo given line l
+  pub words : ((b : ℕ) (block : Block) → slice_get given.function.blocks.items b ≡ Some block → CutsApart block.lines.items) → length lines ≤ placed_cost given.function
