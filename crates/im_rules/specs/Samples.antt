@@ -27,8 +27,7 @@ char_in_scope =
       scopes = named x (an_object false (integer Char) (local_object 0)) nothing;
       known = [];
       next_string = 0;
-      is_defined = λ n. true;
-      tag_number = λ at n. 0;
+      unit = record { statics = []; bodies = []; lists = [] };
     }
 
 abbrev pub int_number : ℕ → Number
