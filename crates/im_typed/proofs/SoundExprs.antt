@@ -78,7 +78,7 @@ takes-kind (Some (Scalar kind)) cells h = (kind, refl, h)
 takes-kind (Some (Struct count parts)) cells h = absurd h
 
 -- what is promoted is an integer
-promoted-integer : (shape : Option Access) → IsPromotedShape shape → IsIntegerShape shape
+pub promoted-integer : (shape : Option Access) → IsPromotedShape shape → IsIntegerShape shape
 promoted-integer None h = h
 promoted-integer (Some (Scalar kind)) h = h.0
 promoted-integer (Some (Struct count cells)) h = h

@@ -257,7 +257,7 @@ module _ (g : Prog) where
       IsTypedStmt breaks continues (For a t step b) =
           IsTypedStmt breaks continues a × IsCondition t × IsTyped step × IsTypedStmt true true b
       IsTypedStmt breaks continues (Switch e ks otherwise ss) =
-          IsTyped e × IsIntegerShape (shape_of e) × AreLabels (shape_of e) (statements_in ss) ks
+          IsTyped e × IsPromotedShape (shape_of e) × AreLabels (shape_of e) (statements_in ss) ks
           × (otherwise ≤ statements_in ss) × AreTyped true continues ss
       IsTypedStmt breaks continues Break = IsTrue breaks
       IsTypedStmt breaks continues Continue = IsTrue continues
