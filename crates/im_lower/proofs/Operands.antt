@@ -86,7 +86,7 @@ scalar-shape None h = absurd h
 scalar-shape (Some (q.Scalar kind)) h = (kind, refl)
 scalar-shape (Some (q.Struct count cells)) h = absurd h
 
-promoted-shape : (shape : Option q.Access) → IsPromotedShape shape → IsIntegerShape shape
+pub promoted-shape : (shape : Option q.Access) → IsPromotedShape shape → IsIntegerShape shape
 promoted-shape None h = absurd h
 promoted-shape (Some (q.Scalar kind)) h = h.0
 promoted-shape (Some (q.Struct count cells)) h = absurd h
