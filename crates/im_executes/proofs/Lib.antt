@@ -1,3 +1,5 @@
 mod Mirror
 mod Steps
+mod Cuts
+mod Stores
 mod Follow

@@ -1,6 +1,7 @@
 ghost use Rattle.im_executes.specs.Laws.{ExecutesLaw};
 
 use im_select::select_keeps_law;
+use im_written::written_law;
 
 /// Placed code that is selected and linked, and whose image lies in memory, is followed by the
 /// device's own run.
@@ -8,4 +9,5 @@ pub fn executes_law()
     ensures { ExecutesLaw }
 {
     select_keeps_law();
+    written_law();
 }
