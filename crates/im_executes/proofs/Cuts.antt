@@ -10,7 +10,7 @@ use Rattle.im_block.specs.declared.code.Line.TheVariants.{Put, PutNull, Copy, Co
 use Rattle.im_block.specs.declared.code.Exit.{Exit}
 use Rattle.im_block.specs.declared.code.Exit.TheVariants.{Jump, Turn, Branch, Return}
 use Rattle.im_block.specs.declared.unit.Unit.{Unit as Code}
-use Rattle.im_block.specs.Meaning.{Setting, Event, Reads, Writes, Tests, Saves, Restores, Serves, Cuts, Frame, State, Next, Goes, Stops, on_checked, takes, found, number_of, condition, Found, Left, Site, enters, next_active, gets, puts, served, goes_to, back, leaves, does, step_at, step, computes, reads, writes, activates, passed}
+use Rattle.im_block.specs.Meaning.{Setting, Event, Reads, Writes, Tests, Saves, Restores, Serves, Cuts, Frame, State, Next, Goes, Stops, on_checked, takes, found, number_of, condition, Found, Left, Site, enters, waiting, next_active, gets, puts, served, goes_to, back, leaves, does, step_at, step, computes, reads, writes, activates, passed}
 use Rattle.im_store.specs.Objects.{Value, Unset}
 use Rattle.im_block.specs.Runs.{Ran, Over, At, goes_on, exec, Runs, start, before}
 use Rattle.im_block.specs.Shape.{Weights, line_weight, next_weight, spot_weight, after, spent}
@@ -110,33 +110,39 @@ module _ (flips : ℕ) where
     does_few p e (Reload to slot access) rest s = reads_few to _ _ rest s
     does_few p e (Spill slot from access) rest s = writes_few _ _ rest s
     does_few p e (Cut cause) rest s = omega arith
-    does_few p e (Call to i first count) rest s = takes_few s.fuel s.output _ 0 (λ fuel. enters_few i first count _ _ fuel s)
-    does_few p e (GetChar to) rest s = let h = takes_few s.fuel s.output _ flips (λ fuel. gets_few to rest s.input fuel s) in omega arith
+    does_few p e (Call to i first count) rest s = takes_few s.fuel s.output _ 0 (λ fuel. enters_few i first count s.frame.registers (waiting u g s.frame to rest ∷ s.callers) fuel s)
+    does_few p e (GetChar to) rest s =
+        let h : passes (does u g (GetChar to) rest s) ≤ flips = takes_few s.fuel s.output _ flips (λ fuel. gets_few to rest s.input fuel s) in
+        subst (λ n. passes (does u g (GetChar to) rest s) ≤ n) (let q : flips ≡ 0 + p.flips = omega arith in q) h
     does_few p e (PutChar to from) rest s =
-        let h = takes_few s.fuel s.output _ flips (λ fuel. on_few (number_of (s.frame.registers from)) _ flips (λ z. puts_few to rest (nat_abs (wrap U8 z)) fuel s)) in
-        omega arith
+        let h : passes (does u g (PutChar to from) rest s) ≤ flips = takes_few s.fuel s.output _ flips (λ fuel. on_few (number_of (s.frame.registers from)) _ flips (λ z. puts_few to rest (nat_abs (wrap U8 z)) fuel s)) in
+        subst (λ n. passes (does u g (PutChar to from) rest s) ≤ n) (let q : flips ≡ 0 + p.flips = omega arith in q) h
 
     step_few : (p : Linking) → p.flips ≡ flips → (rest : List Line) (s : State) → passes (step_at u g rest s) ≤ next_weight (cuts p) rest s.frame.spot.exit
     step_few p e [] s = leaves_few s.frame.spot.exit s
     step_few p e (line ∷ rest) s = does_few p e line rest s
 
-    exec_few : (p : Linking) → p.flips ≡ flips → (k : ℕ) (s : State) (events : List Event) (o : Outcome) (run : List Event) → exec u g k s events ≡ Over o run → passed_cuts flips run ≤ passed_cuts flips events + spent u g (cuts p) k s
-    next_few : (p : Linking) → p.flips ≡ flips → (k : ℕ) (w : ℕ) (x : Next) (events : List Event) (o : Outcome) (run : List Event) → passes x ≤ w → goes_on x (exec u g k) events ≡ Over o run → passed_cuts flips run ≤ passed_cuts flips events + (w + after x (spent u g (cuts p) k))
-    exec_few p e zero s events o run q = let bad : At s events ≡ Over o run = q in cc
-    exec_few p e (suc k) s events o run q =
-        next_few p e k (spot_weight (cuts p) s.frame.spot) (step u g s) events o run (step_few p e s.frame.spot.rest s) q
-    next_few p e k w (Stops o' more) events o run few q =
+    abbrev Few : Linking → ℕ → Outcome → List Event → Type 0
+    Few p k o run = (s : State) (events : List Event) → exec u g k s events ≡ Over o run → passed_cuts flips run ≤ passed_cuts flips events + spent u g (cuts p) k s
+
+    next_few : (p : Linking) (k w : ℕ) (x : Next) (events : List Event) (o : Outcome) (run : List Event) → Few p k o run → passes x ≤ w → goes_on x (exec u g k) events ≡ Over o run → passed_cuts flips run ≤ passed_cuts flips events + (w + after x (spent u g (cuts p) k))
+    next_few p k w (Stops o' more) events o run rest few q =
         let same : events ++ more ≡ run = cc in
         let h = passed_append flips events more in
         let t = ap (passed_cuts flips) same in
         omega arith
-    next_few p e k w (Goes s more) events o run few q =
-        let h = exec_few p e k s (events ++ more) o run q in
+    next_few p k w (Goes s more) events o run rest few q =
+        let h = rest s (events ++ more) q in
         let a = passed_append flips events more in
         omega arith
+
+    exec_few : (p : Linking) → p.flips ≡ flips → (k : ℕ) (o : Outcome) (run : List Event) → Few p k o run
+    exec_few p e zero o run s events q = let bad : At s events ≡ Over o run = q in cc
+    exec_few p e (suc k) o run s events q =
+        next_few p k (spot_weight (cuts p) s.frame.spot) (step u g s) events o run (exec_few p e k o run) (step_few p e s.frame.spot.rest s) q
 
 pub run_few : (p : Linking) (u : Code) (g : Setting) (n : ℕ) (o : Outcome) (run : List Event) (r : Runs u g n o run) → passed_cuts p.flips run ≤ after (start u g n) (spent u g (cuts p) r.steps)
 run_few p u g n o run r =
     let few = enters_few p.flips u g u.main 0 0 (λ q. Unset) [] n (before u g n) in
-    let h = next_few p.flips u g p refl r.steps 0 (start u g n) [] o run few r.over in
+    let h = next_few p.flips u g p r.steps 0 (start u g n) [] o run (exec_few p.flips u g p refl r.steps o run) few r.over in
     omega arith

@@ -22,6 +22,9 @@ use Rattle.im_select.specs.Linking.{Linking}
 use Rattle.im_select.specs.Law.{Touches, Nothing, Reading, Writing, Testing, Saving, Restoring, Serving, Cutting}
 use Rattle.im_executes.proofs.Cuts.{passed_cuts}
 
+abbrev bit : Bool → ℕ
+bit b = cond b 1 0
+
 -- flips of a list of touches, and those that are heard of one
 abbrev flipped : List Touch → ℕ
 flipped [] = 0
@@ -32,7 +35,7 @@ flipped (Flipped ∷ ts) = 1 + flipped ts
 abbrev hits : List Touch → ℕ
 hits [] = 0
 hits (Loaded a n ∷ ts) = hits ts
-hits (Stored a n ∷ ts) = cond (is_system a) (cond (a == index_at) 1 0) 0 + hits ts
+hits (Stored a n ∷ ts) = cond (is_system a) (bit (a == index_at)) 0 + hits ts
 hits (Flipped ∷ ts) = 1 + hits ts
 
 hits_append : (xs ys : List Touch) → hits (xs ++ ys) ≡ hits xs + hits ys
@@ -41,48 +44,48 @@ hits_append (Loaded a n ∷ xs) ys = hits_append xs ys
 hits_append (Stored a n ∷ xs) ys = let h = hits_append xs ys in omega arith
 hits_append (Flipped ∷ xs) ys = let h = hits_append xs ys in omega arith
 
+heard_load : (b : Bool) (a n : ℕ) (ts : List Touch) → flipped (cond b ts (Loaded a n ∷ ts)) ≡ flipped ts
+heard_load true a n ts = refl
+heard_load false a n ts = refl
+
+heard_store : (b c : Bool) (a n : ℕ) (ts : List Touch) → flipped (cond b (cond c (Flipped ∷ ts) ts) (Stored a n ∷ ts)) ≡ cond b (bit c) 0 + flipped ts
+heard_store true true a n ts = refl
+heard_store true false a n ts = omega arith
+heard_store false c a n ts = omega arith
+
 hits_heard : (ts : List Touch) → flipped (heard ts) ≡ hits ts
 hits_heard [] = refl
-hits_heard (Loaded a n ∷ ts) = by (is_system a)
-  where
-    by : (b : Bool) → flipped (cond b (heard ts) (Loaded a n ∷ heard ts)) ≡ hits ts
-    by true = hits_heard ts
-    by false = hits_heard ts
-hits_heard (Stored a n ∷ ts) = by (is_system a) (a == index_at)
-  where
-    by : (b c : Bool) → flipped (cond b (cond c (Flipped ∷ heard ts) (heard ts)) (Stored a n ∷ heard ts)) ≡ cond b (cond c 1 0) 0 + hits ts
-    by true true = ap suc (hits_heard ts) ∙ (let q : suc (hits ts) ≡ 1 + hits ts = omega arith in q)
-    by true false = hits_heard ts ∙ (let q : hits ts ≡ 0 + hits ts = omega arith in q)
-    by false c = hits_heard ts ∙ (let q : hits ts ≡ 0 + hits ts = omega arith in q)
-hits_heard (Flipped ∷ ts) = let h = hits_heard ts in omega arith
+hits_heard (Loaded a n ∷ ts) = heard_load (is_system a) a n (heard ts) ∙ hits_heard ts
+hits_heard (Stored a n ∷ ts) = heard_store (is_system a) (a == index_at) a n (heard ts) ∙ ap (λ k. cond (is_system a) (bit (a == index_at)) 0 + k) (hits_heard ts)
+hits_heard (Flipped ∷ ts) = ap (λ k. 1 + k) (hits_heard ts)
 
 -- ---- one step
 
 abbrev one : State → ℕ
-one s = cond (stores_word (effect_at s) 0) 1 0
+one s = bit (stores_word (effect_at s) 0)
 
-hit_by : (e : Effect) → cond (stores_word e 0) 1 0 ≤ hits (touch_of e)
+small_bit : (b : Bool) → bit b ≤ 1 + 0
+small_bit true = omega arith
+small_bit false = omega arith
+
+hit_by : (e : Effect) → bit (stores_word e 0) ≤ hits (touch_of e)
 hit_by (Puts v target) = omega arith
 hit_by (Goes target) = omega arith
 hit_by (Loads a n extension) = omega arith
 hit_by (Stores a n v) = by (a == 0) refl
   where
-    by : (b : Bool) → (a == 0) ≡ b → cond (a == 0 && n == 4 && is_place a n) 1 0 ≤ cond (is_system a) (cond (a == 0) 1 0) 0 + 0
+    by : (b : Bool) → (a == 0) ≡ b → bit (a == 0 && n == 4 && is_place a n) ≤ cond (is_system a) (bit (a == 0)) 0 + 0
     by true e =
         let z : a ≡ 0 = eqb-true a 0 e in
-        subst (λ k. cond (k == 0 && n == 4 && is_place k n) 1 0 ≤ cond (is_system k) (cond (k == 0) 1 0) 0 + 0) (sym z) (small (n == 4 && is_place 0 n))
-      where
-        small : (b : Bool) → cond b 1 0 ≤ 1
-        small true = omega arith
-        small false = omega arith
-    by false e = subst (λ b. cond (b && n == 4 && is_place a n) 1 0 ≤ cond (is_system a) (cond b 1 0) 0 + 0) (sym e) (omega arith)
+        subst (λ k. bit (k == 0 && n == 4 && is_place k n) ≤ cond (is_system k) (bit (k == 0)) 0 + 0) (sym z) (small_bit (n == 4 && is_place 0 n))
+    by false e = subst (λ b. bit (b && n == 4 && is_place a n) ≤ cond (is_system a) (bit b) 0 + 0) (sym e) (omega arith)
 hit_by Stops = omega arith
 
-hit_line : (c : Cpu) (o : Option Line) → cond (stores_word (effect_by c o) 0) 1 0 ≤ hits (line_touches c o)
+hit_line : (c : Cpu) (o : Option Line) → bit (stores_word (effect_by c o) 0) ≤ hits (line_touches c o)
 hit_line c None = omega arith
 hit_line c (Some l) = hit_by (effect c l)
 
-hit_word : (c : Cpu) (o : Option ℕ) → cond (stores_word (effect_by c (decoded_word o)) 0) 1 0 ≤ hits (word_touches c o)
+hit_word : (c : Cpu) (o : Option ℕ) → bit (stores_word (effect_by c (decoded_word o)) 0) ≤ hits (word_touches c o)
 hit_word c None = omega arith
 hit_word c (Some w) = hit_line c (decode w)
 
@@ -112,7 +115,7 @@ word_on c m (Some w) h = line_on c m (decode w) h
 none_over : (s : State) → (step_of s.cpu s.mem).went ≢ On → one s ≡ 0
 none_over s over = by (stores_word (effect_at s) 0) refl
   where
-    by : (b : Bool) → stores_word (effect_at s) 0 ≡ b → cond b 1 0 ≡ 0
+    by : (b : Bool) → stores_word (effect_at s) 0 ≡ b → bit b ≡ 0
     by true e = absurd (over (word_on s.cpu s.mem (loaded s.mem s.cpu.pc 4) e))
     by false e = refl
 
@@ -155,8 +158,8 @@ module _ (run : ℕ → State) (steps : IsRun run) where
       let a = hits_append (touches (run t).cpu (run t).mem) (touched j (step_of (run t).cpu (run t).mem).cpu (step_of (run t).cpu (run t).mem).mem) in
       let b = hit (run t) in
       omega arith
-  goes t j Halted e h = still_none t j Halted e (λ q. cc) _
-  goes t j (Faulted at) e h = still_none t j (Faulted at) e (λ q. cc) _
+  goes t j Halted e h = still_none t j Halted e (λ q. cc) (touches (run t).cpu (run t).mem ++ touched_on (touched j) (step_of (run t).cpu (run t).mem).cpu (step_of (run t).cpu (run t).mem).mem Halted)
+  goes t j (Faulted at) e h = still_none t j (Faulted at) e (λ q. cc) (touches (run t).cpu (run t).mem ++ touched_on (touched j) (step_of (run t).cpu (run t).mem).cpu (step_of (run t).cpu (run t).mem).mem (Faulted at))
 
   pub few_stores : (j t : ℕ) → ahead t j ≤ hits (from t j)
   few_stores zero t = omega arith
