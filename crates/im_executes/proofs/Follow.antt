@@ -18,6 +18,8 @@ use Rattle.im_device.specs.Shows.{output_of, reason_of, status_of}
 use Rattle.im_operators.proofs.Words.{wrap_signed}
 use Rattle.im_ckpt.specs.Runs.{State, ends}
 use Rattle.im_replay.proofs.Endless.{is_run}
+use Rattle.im_replay.proofs.Images.{bytes}
+use Rattle.im_statics.specs.Named.{ShownLaw}
 use Rattle.im_store.specs.Outcomes.{Outcome, Undef, More, End, IsDefined}
 use Rattle.im_typed.specs.Sound.{EndsRight}
 use Rattle.im_block.specs.declared.unit.Unit.{Unit as Code}
@@ -31,14 +33,14 @@ use Rattle.im_written.specs.Written.{IsBegun}
 use Rattle.im_written.specs.Laws.{WrittenLaw}
 use Rattle.im_passes.specs.Machine.{ShowsAfter, Follows, Executes}
 use Rattle.im_passes.specs.Passes.{IsSelectable}
-use Rattle.im_executes.specs.Executing.{first_cpu, cuts, IsInImage, Completes}
-use Rattle.im_executes.specs.Laws.{ExecutesLaw}
+use Rattle.im_executes.specs.Executing.{first_cpu, cuts, IsInImage, ShowsObjects, Completes}
+use Rattle.im_executes.specs.Laws.{ExecutesLaw, ObjectsLaw}
 use Rattle.im_executes.proofs.Mirror.{Mirrors, mirrors, stands}
 use Rattle.im_executes.proofs.Cuts.{run_few}
 use Rattle.im_executes.proofs.Stores.{stores_few}
 use Rattle.im_executes.proofs.Steps.{few_steps, few_cuts}
 
-module _ (keeps : SelectKeeps) (written : WrittenLaw) (image : ImageValue) (input : List ℕ) (u : Code) (g : Setting) (p : Linking) (fits : IsInput input) (code : IsSelectable u) (within : IsInImage image input u g p) (rest : Completes image input u g p) where
+module _ (keeps : SelectKeeps) (written : WrittenLaw) (image : ImageValue) (input : List ℕ) (u : Code) (g : Setting) (p : Linking) (fits : IsInput input) (code : IsSelectable u) (within : IsInImage image input u g p) (objects : ShowsObjects image input u p) (rest : Completes image input u g p) where
   abbrev r : ℕ → State
   r = run_of image input
 
@@ -85,7 +87,7 @@ module _ (keeps : SelectKeeps) (written : WrittenLaw) (image : ImageValue) (inpu
           same_reason = sym (ap (λ (m : Mem). reason_of m) (mem_at j)) ∙ s.1;
           same_status = sym (ap (λ (m : Mem). status_of m) (mem_at j)) ∙ ap (λ w. cast_signed w32 w) s.2 ∙ status_same status right.0;
           same_output = output_at j ∙ s.3;
-          same_variables = rest.variables n j reason status output variables run right k over (subst (λ (m : Mem). ShowsStatics p u variables m) (mem_at j) s.4);
+          same_variables = objects.variables j reason status output variables right (subst (λ (m : Mem). ShowsStatics p u variables m) (mem_at j) s.4);
         },
       )
   shows n j (More output) run right k s = (going j s.0, output_at j ∙ s.1, s.2)
@@ -120,4 +122,10 @@ module _ (keeps : SelectKeeps) (written : WrittenLaw) (image : ImageValue) (inpu
   }
 
 pub executes : SelectKeeps → WrittenLaw → ExecutesLaw
-executes keeps written image input u g p fits code within rest = all keeps written image input u g p fits code within rest
+executes keeps written image input u g p fits code within objects rest = all keeps written image input u g p fits code within objects rest
+
+pub named : ShownLaw → WrittenLaw → ObjectsLaw
+named shown_law written image input u g p fits code within numbers are = record {
+  variables = λ j reason status output variables right s.
+      shown_law p u image.objects (run_of image input j).mem variables code.well_formed numbers are (bytes (memory_of image input) (written.loaded image input within.written fits).resumes j) right.1 s;
+}

@@ -1,11 +1,10 @@
 -- What an image owes beside the law of selection, for the device's run to follow its placed code.
-use Rattle.std.specs.Prelude.{◌≡◌, ℕ, ◌+◌, ◌≤◌, true, List, [], ◌∷◌, length, ℤ}
+use Rattle.std.specs.Prelude.{◌≡◌, ℕ, ◌+◌, ◌≤◌, List, [], ◌∷◌, length, ℤ}
 use Rattle.im_num.specs.Variables.{Variable}
 use Rattle.im_rv.specs.Steps.{Cpu}
 use Rattle.im_image.specs.Contents.{ImageValue}
 use Rattle.im_device.specs.Load.{memory_of}
 use Rattle.im_device.specs.Variables.{vars_of}
-use Rattle.im_ckpt.specs.Runs.{ends}
 use Rattle.im_store.specs.Outcomes.{Outcome, End, IsDefined}
 use Rattle.im_typed.specs.Sound.{EndsRight}
 use Rattle.im_block.specs.declared.code.Line.{Line}
@@ -54,9 +53,11 @@ pub record IsInImage (image : ImageValue) (input : List ℕ) (u : Code) (g : Set
   pub flips : p.flips ≤ 3
   pub words : 3 + sum_of function_words u.functions.items ≤ length image.words
 
--- What the law of selection doesn't give yet, of each run that it follows: what survival asks, and that the image's objects
--- are the statics
+-- what the law of selection doesn't give yet, of each run that it follows: what survival asks
 pub record Completes (image : ImageValue) (input : List ℕ) (u : Code) (g : Setting) (p : Linking) : Type 0 where
   pub owes : (n : ℕ) (o : Outcome) (run : List Event) → IsDefined o → (r : Runs u g n o run) → (f : Follows p u g (first_cpu image input) n o run r.steps) → NoWar (items run) → OwesUntil image.words (code_end image) (run_of image input) f.j
-  pub variables : (n j reason : ℕ) (status : ℤ) (output : List ℕ) (shown : List Variable) (run : List Event) → EndsRight (statics_of u) (End reason status output shown) → Runs u g n (End reason status output shown) run
-      → ends (run_of image input) j ≡ true → ShowsStatics p u shown (run_of image input j).mem → vars_of image.objects (run_of image input j).mem ≡ shown
+
+-- the image's objects show the statics at an end
+pub record ShowsObjects (image : ImageValue) (input : List ℕ) (u : Code) (p : Linking) : Type 0 where
+  pub variables : (j reason : ℕ) (status : ℤ) (output : List ℕ) (shown : List Variable) → EndsRight (statics_of u) (End reason status output shown) → ShowsStatics p u shown (run_of image input j).mem
+      → vars_of image.objects (run_of image input j).mem ≡ shown
