@@ -31,7 +31,7 @@ use Rattle.im_keeps.specs.Keeps.{IsInput, Begins}
 use Rattle.im_kept.specs.Laws.{run_of}
 use Rattle.im_written.specs.Written.{IsBegun}
 use Rattle.im_written.specs.Laws.{WrittenLaw}
-use Rattle.im_passes.specs.Machine.{ShowsAfter, Follows, Executes}
+use Rattle.im_passes.specs.Machine.{EndsBefore, ShowsAfter, Follows, Executes}
 use Rattle.im_passes.specs.Passes.{IsSelectable}
 use Rattle.im_executes.specs.Executing.{first_cpu, cuts, IsInImage, ShowsObjects, Completes}
 use Rattle.im_executes.specs.Laws.{ExecutesLaw, ObjectsLaw}
@@ -68,10 +68,11 @@ module _ (keeps : SelectKeeps) (written : WrittenLaw) (image : ImageValue) (inpu
   output_at : (j : ℕ) → output_of image.form (r j).mem ≡ shown (after j).mem
   output_at j = ap (λ f. output_of f (r j).mem) within.written.form ∙ sym (ap (λ (m : Mem). shown m) (mem_at j))
 
-  halted : (j : ℕ) → (after j).went ≡ Halted → ends r j ≡ true
+  halted : (j : ℕ) → (after j).went ≡ Halted → EndsBefore r j
   halted j e =
-      let q : 0 + j ≡ j = omega arith in
-      subst (λ k. ends r k ≡ true) q ((mirrored j).over (λ on. let bad : Halted ≡ On = sym e ∙ on in cc))
+      let o = (mirrored j).over (λ on. let bad : Halted ≡ On = sym e ∙ on in cc) in
+      let q : 0 + o.0 ≡ o.0 = omega arith in
+      record { e = o.0; before = o.1; over = subst (λ k. ends r k ≡ true) q o.2 }
 
   going : (j : ℕ) → (after j).went ≡ On → (t : ℕ) → t < j → ends r t ≡ false
   going j e t lt = let q : 0 + t ≡ t = omega arith in subst (λ k. ends r k ≡ false) q ((mirrored j).on e t lt)
