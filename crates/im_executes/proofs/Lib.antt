@@ -1,5 +1,6 @@
 mod Mirror
 mod Steps
+mod Effects
 mod Cuts
 mod Stores
 mod Follow
