@@ -127,7 +127,7 @@ module _ (ts : Setting) (u : Code) (input : List ℕ) (typed_program : IsWellTyp
       (begins w.store a d (shapes_of first f.objects)) (begins blocks a d (m.shapes_of code)) fit has
       (subst (λ x. CodesParameters x 0 (take f.params f.objects) func.start func.body) func.first_object func.passed)
       (λ j o e. new-shape p.statics f args w d first sane j o (taken-at f.params f.objects j o e))
-      (begun-agrees w.store blocks a d first f.objects code func.first_object func.objects agrees) in
+      (begun-agrees w.store blocks a d first f.objects code func.first_object func.objects t.1 agrees) in
       let ready : Ready p f c n s got.left = record {
         sane = record { store = begun-sound p.statics f args w d first sane t.1 fit; input = sane.input };
         here = record { later = omega arith; began = omega arith; live = λ j o e. new-shape p.statics f args w d first sane j o e };
@@ -141,8 +141,8 @@ module _ (ts : Setting) (u : Code) (input : List ℕ) (typed_program : IsWellTyp
         spends = (rel-does 0 0 c.activation c.depth c.first c.capacity c.calls c.calls works.tame n n (omega arith) (omega arith) f.body).tame.by s;
       })
       (does-later u g p (within i w callers) got.leads
-      (statement u g p f c n works i callers code ec func.registers f.params f.body false false 0 0 (stop f i) (stop f i) func.body (stop f i) (λ x. let e : false ≡ true = x in absurd (cc)) (λ x. let e : false ≡ true = x in absurd (cc))
-      (each-at (λ (x : q.Func). IsServedStatement x.objects x.body) p.funcs i f served.functions ef) t.3
+      (statement u g p f c n works i callers code ec func.registers f.params t.1 f.body false false 0 0 (stop f i) (stop f i) func.body (stop f i) (λ x. let e : false ≡ true = x in absurd (cc)) (λ x. let e : false ≡ true = x in absurd (cc))
+      (each-at (λ (x : q.Func). IsServedStatement p x.body) p.funcs i f served.functions ef) t.3
       (subst (λ x. CodesStatement p x f.params f.objects code.blocks.items f.body 0 0 func.body (stop f i)) func.first_object func.does)
       (entry_mark code) registers got.left s ready))
 

@@ -1,29 +1,25 @@
--- The labels of a switch, initialisers, and cells that lose their values.
-use Rattle.std.proofs.Common.{◌≡◌, ℕ, ◌+◌, ◌==◌, List, [], ◌∷◌, Bool, true, false, refl, sym, ap, ◌∙◌, subst, arith}
-use Rattle.std.specs.Prelude.{Option, Some, None, ℤ, pos, if◌then◌else◌, slice_get}
+-- The labels of a switch, and an object that loses its values.
+use Rattle.std.proofs.Common.{◌≡◌, ℕ, ◌+◌, List, [], ◌∷◌, Bool, true, false, refl, sym, ap, ◌∙◌, subst, arith}
+use Rattle.std.specs.Prelude.{Some, ℤ, pos, if◌then◌else◌, slice_get}
 use Rattle.std.specs.Ordering.{int_eq}
-use Rattle.std.proofs.lemmas.Bool.{eqb-true}
 use Rattle.im_num.specs.declared.kind.Kind.{Kind}
 use Rattle.im_num.specs.Kinds.{IsOfKind}
-use Rattle.im_ctype.specs.declared.cell.Cell.{Cell}
 use Rattle.im_store.specs.declared.operators.Comparison.TheVariants.{Equal}
 use Rattle.im_store.specs.Checks.{Fine}
-use Rattle.im_store.specs.Objects.{Object, Value, Number, Unset, Store, same_object, kind_at}
-use Rattle.im_store.proofs.Same.{same_object-is}
+use Rattle.im_store.specs.Objects.{Object, Value, Number, Unset, Store, same_object}
 use Rattle.im_typed.specs.declared.statement.Case.{Case}
 use Rattle.im_typed.specs.Program as q
 use Rattle.im_typed.specs.Runs as typed
-use Rattle.im_typed.specs.Meaning.{entered, forgotten, cleared, zero_or, kind_of_cell, is_among}
-use Rattle.im_typed.specs.Typing.{Each, IsInteger, AreLabels}
-use Rattle.im_block.specs.declared.code.Place.TheVariants.{Local}
-use Rattle.im_block.specs.declared.code.Line.TheVariants.{Put, Compare, Write}
+use Rattle.im_typed.specs.Meaning.{entered, forgotten}
+use Rattle.im_typed.specs.Typing.{IsInteger, AreLabels}
+use Rattle.im_block.specs.declared.code.Line.TheVariants.{Put, Compare}
 use Rattle.im_block.specs.declared.code.Exit.TheVariants.{Branch}
 use Rattle.im_block.specs.declared.unit.Function.{Function}
 use Rattle.im_block.specs.declared.unit.Unit.{Unit as Code}
 use Rattle.im_block.specs.Meaning as m
 use Rattle.im_block.specs.Meaning.{Setting, with_register}
 use Rattle.im_lower.specs.Codes.{Point, before, ends}
-use Rattle.im_lower.specs.Statements.{start_at, zero_line, CodesCases, CodesRest}
+use Rattle.im_lower.specs.Statements.{start_at, CodesCases}
 use Rattle.im_lower.specs.Agrees.{Same, Agrees, Home, Mark, moved, at, Reaches}
 use Rattle.im_lower.proofs.Steps.{further}
 use Rattle.im_lower.proofs.Uses.{register-same, register-other, line-goes, jumps, branches}
@@ -83,41 +79,7 @@ forgotten-same false v w h = h
 
 pub forgotten-agrees : (store blocks : Store) (o : Object) → Agrees store blocks → Agrees (forgotten o store) blocks
 forgotten-agrees store blocks o agrees = record {
+  inside = agrees.inside;
   shapes = agrees.shapes;
   values = λ p i. forgotten-same (same_object p o) (store.values p i) (blocks.values p i) (agrees.values p i);
 }
-
--- where each cell is given, nothing is cleared
-
-kind-given : (given : List ℕ) (cells : List Cell) (offset : ℕ) (kind : Kind) → Each {A = Cell} (λ c. is_among c.offset given ≡ true) cells → kind_at cells offset ≡ Some kind → is_among offset given ≡ true
-kind-given given [] offset kind all e = absurd (cc)
-kind-given given (c ∷ cs) offset kind all e = by-test (kind-given given cs offset kind all.1) (c.offset == offset) refl e
-  where
-    by-test : (kind_at cs offset ≡ Some kind → is_among offset given ≡ true) → (b : Bool) → (c.offset == offset) ≡ b → (if b then Some c.kind else kind_at cs offset) ≡ Some kind → is_among offset given ≡ true
-    by-test rest true same h = subst (λ i. is_among i given ≡ true) (eqb-true c.offset offset same) all.0
-    by-test rest false same h = rest h
-
-cleared-same : (c d : Bool) (found : Option Kind) (v w : Value) → (c ≡ true → (kind : Kind) → found ≡ Some kind → d ≡ true) → Same v w → Same (if c then (if d then v else zero_or found v) else v) w
-cleared-same false d found v w h same = same
-cleared-same true true found v w h same = same
-cleared-same true false None v w h same = same
-cleared-same true false (Some kind) v w h same = absurd (let e = h refl kind refl in cc)
-
-pub cleared-agrees : (store blocks : Store) (o : Object) (given : List ℕ) (size : ℕ) (cells : List Cell) → store.shape o ≡ Some (record { size = size; cells = kind_at cells }) → Each {A = Cell} (λ c. is_among c.offset given ≡ true) cells
-    → Agrees store blocks → Agrees (cleared given o store) blocks
-cleared-agrees store blocks o given size cells shape all agrees = record {
-  shapes = agrees.shapes;
-  values = λ p i. cleared-same (same_object p o) (is_among i given) (kind_of_cell (store.shape p) i) (store.values p i) (blocks.values p i)
-      (λ e kind found. kind-given given cells i kind all (sym (ap (λ r. kind_of_cell r i) (ap store.shape (same_object-is p o e) ∙ shape)) ∙ found))
-      (agrees.values p i);
-}
-
-chosen : (b : Bool) (x y : Point) → b ≡ true → (if b then x else y) ≡ x
-chosen true x y e = refl
-chosen false x y e = absurd (cc)
-
--- and no line is there for it
-pub rest-none : (low object : ℕ) (given : List ℕ) (cells : List Cell) (s t : Point) → Each {A = Cell} (λ c. is_among c.offset given ≡ true) cells → CodesRest low object given cells s t → s ≡ t
-rest-none low object given [] s t all codes = codes
-rest-none low object given (c ∷ cs) s t all codes =
-    codes.3 ∙ chosen (is_among c.offset given) codes.0 (before (zero_line low c.kind) (before (Write (Local object c.offset) c.kind low codes.1) codes.0)) all.0 ∙ rest-none low object given cs codes.0 t all.1 codes.2

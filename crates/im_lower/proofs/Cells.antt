@@ -2,14 +2,16 @@
 use Rattle.std.proofs.Common.{◌≡◌, ℕ, ◌+◌, ◌<◌, [], ◌∷◌, Bool, refl, sym, ap, ◌∙◌, subst, arith}
 use Rattle.std.specs.Prelude.{Some, ℤ, if◌then◌else◌}
 use Rattle.im_num.specs.declared.kind.Kind.{Kind}
+use Rattle.im_num.specs.declared.kind.Kind.TheVariants.{Ptr}
 use Rattle.im_num.specs.Kinds.{wrap}
 use Rattle.im_num.proofs.Wrapping.{wrap-of_kind}
 use Rattle.im_store.specs.declared.operators.BinaryOp.{BinaryOp}
 use Rattle.im_store.specs.Checks.{Checked, Fine, Bad, then_}
 use Rattle.im_store.specs.Numbers.{apply}
 use Rattle.im_store.specs.Objects.{Object, Value, Number, Null, Pointer, Unset, Store}
+use Rattle.im_store.specs.Pointers.{bytes_moved}
 use Rattle.im_store.specs.Access.{taken, read_cell, write_cell}
-use Rattle.im_typed.specs.declared.expression.Change.TheVariants.{Number as NumberBy}
+use Rattle.im_typed.specs.declared.expression.Change.TheVariants.{Number as NumberBy, Move as PointerBy}
 use Rattle.im_typed.specs.Program.{Prog, Scalar}
 use Rattle.im_typed.specs.Runs.{Answer, Run, ◌>>=◌, checked}
 use Rattle.im_typed.specs.Runs as typed
@@ -17,19 +19,19 @@ use Rattle.im_typed.specs.Values.{Values, used, read_at, write_at, changed, scal
 use Rattle.im_typed.specs.Typing.{IsInteger}
 use Rattle.im_typed.specs.Sound.{IsValue, IsSoundWorld, Fits}
 use Rattle.im_typed.proofs.Parts.{rel-read_at}
-use Rattle.im_typed.proofs.SoundCells.{right-read}
+use Rattle.im_typed.proofs.SoundCells.{right-read, moved-value}
 use Rattle.im_typed.proofs.Sounds.{then-fine}
 use Rattle.im_block.specs.declared.code.Place.{Place}
-use Rattle.im_block.specs.declared.code.Line.TheVariants.{Convert, Compute, Read, Write}
+use Rattle.im_block.specs.declared.code.Line.TheVariants.{Move, Convert, Compute, Read, Write}
 use Rattle.im_block.specs.declared.unit.Unit.{Unit as Code}
 use Rattle.im_block.specs.Meaning as m
 use Rattle.im_block.specs.Meaning.{Setting, Event, State, with_register}
 use Rattle.im_lower.specs.Codes.{Point, before}
 use Rattle.im_lower.specs.Agrees.{Agrees, Home, Mark, at, Does, HasOne, Came}
 use Rattle.im_lower.proofs.Steps.{Right, stepped, does-later, does-bind, does-checked, does-weaker}
-use Rattle.im_lower.proofs.Stores.{agree-read, agree-write}
+use Rattle.im_lower.proofs.Stores.{agree-read, agree-write, agree-moved}
 use Rattle.im_lower.proofs.Uses.{register-same, register-other, does-line, arrived, stands}
-use Rattle.im_lower.proofs.Operands.{stored-same}
+use Rattle.im_lower.proofs.Operands.{stored-same, moved-same}
 
 then-cell : (r : Checked Store) (after : Store) → then_ r (λ x. Fine x) ≡ Fine after → r ≡ Fine after
 then-cell (Fine x) after e = e
@@ -155,3 +157,25 @@ module _ (u : Code) (g : Setting) (p : Prog) (home : Home) where
         kept = λ q lt ne. h.kept q ∙ register-other one into q y (apart q lt ne) ∙ register-other registers into q x (apart q lt ne) ∙ kept q lt ne;
         has = h.kept to ∙ shows x y ∙ ap (λ z. if old then first else z) (sym now);
       })))))
+
+  -- the lines that move a pointer
+  pub move-lines : (v : Value) (place : Place) (size : ℕ) (back old : Bool) (access into to by free : ℕ) (n : Mark) (next : Point) (base registers : ℕ → Value) (store : Store) (first : Value) (b : ℤ) (s : typed.State)
+      → IsSoundWorld p.statics s.world → ((x : Value) → Designates place v (with_register registers into x) store) → Agrees s.world.store store
+      → registers to ≡ first → registers by ≡ Number b
+      → ((x : ℕ) → x < free → (x ≡ to → ⊥) → registers x ≡ base x) → ((x : ℕ) → x < free → (x ≡ to → ⊥) → x ≡ into → ⊥)
+      → ((x : Value) → with_register registers into x to ≡ (if old then first else x))
+      → Does u g p home next (at home n (before (Move into size back to by) (before (Write place Ptr into access) next)) registers store s) (Came base to free)
+      (typed.goes_on (checked (changed (PointerBy size back) first b s.world.store) s) (λ after. write_at (Scalar Ptr) v (after ∷ []) >>= (λ _. scalar (if old then first else after))))
+  move-lines v place size back old access into to by free n next base registers store first b s sane designates agrees has has_by kept apart shows =
+      does-checked u g p home (changed (PointerBy size back) first b s.world.store) s _ (λ after e.
+      let one : ℕ → Value = with_register registers into after in
+      does-line u g p home (Move into size back to by) (before (Write place Ptr into access) next) n registers store s into (m.moved store size back (registers to) (registers by)) after refl
+      (moved-same store size back (registers to) (registers by) first after b has has_by (agree-moved s.world.store store agrees (bytes_moved size back b) first after e))
+      (does-bind u g p home
+      (write-line v place Ptr access into n next one store after [] s (designates after) agrees (moved-value p.statics s.world.activations s.world.store sane.store (bytes_moved size back b) first after e) (register-same registers into after))
+      (λ vs t m₁ regs left h.
+      stands u g p home (λ _. next) m₁ regs left t ((if old then first else after) ∷ []) (record {
+        agrees = h.agrees;
+        kept = λ q lt ne. h.kept q ∙ register-other registers into q after (apart q lt ne) ∙ kept q lt ne;
+        has = h.kept to ∙ shows after;
+      }))))

@@ -16,9 +16,9 @@ use Rattle.im_typed.specs.Runs.{World}
 use Rattle.im_typed.specs.Runs as typed
 use Rattle.im_typed.specs.Values.{cells_of}
 use Rattle.im_typed.specs.Programs.{shape_in, shapes_of, with_arguments}
-use Rattle.im_typed.specs.Typing.{Each}
+use Rattle.im_typed.specs.Typing.{Each, IsObject}
 use Rattle.im_typed.specs.Sound.{IsCellValue, IsSound, ArgumentsFit}
-use Rattle.im_typed.proofs.SoundCalls.{by-test, if-true, if-false}
+use Rattle.im_typed.proofs.SoundCalls.{if-none, if-some, same-some, each-at, by-test, if-true, if-false}
 use Rattle.im_block.specs.declared.code.Place.TheVariants.{Local}
 use Rattle.im_block.specs.declared.code.Line.TheVariants.{Write}
 use Rattle.im_block.specs.declared.unit.Object.{Object as Declared}
@@ -33,6 +33,7 @@ use Rattle.im_lower.proofs.Steps.{here, stepped, further}
 use Rattle.im_lower.proofs.Stores.{agree-write}
 use Rattle.im_lower.proofs.Operands.{stored-same}
 use Rattle.im_lower.proofs.Ready.{HasArguments}
+use Rattle.im_lower.proofs.Layouts.{cell-inside}
 
 -- the objects of a function
 
@@ -50,6 +51,20 @@ named-same first objects code (Named number) s same h e =
 named-same first objects code (Slot number) s same h e = absurd (cc)
 named-same first objects code Link s same h e = absurd (cc)
 
+-- cells lie within the objects of a function
+object-inside : (r : Option LocalObject) (s : Shape) (i : ℕ) (kind : Kind) → ((o : LocalObject) → r ≡ Some o → IsObject o.size o.cells) → shape_in r ≡ Some s → s.cells i ≡ Some kind → i ≤ s.size
+object-inside None s i kind h e k = absurd (cc)
+object-inside (Some o) s i kind h e k =
+    let same : shape_of o.size o.cells ≡ s = same-some (shape_of o.size o.cells) s e in
+    subst (λ (x : Shape). i ≤ x.size) same (cell-inside 0 o.size o.cells i kind (h o refl).1 (ap (λ (x : Shape). x.cells i) same ∙ k))
+
+named-inside : (first : ℕ) (objects : List LocalObject) (name : Name) (s : Shape) (i : ℕ) (kind : Kind) → Each {A = LocalObject} (λ o. IsObject o.size o.cells) objects → shapes_of first objects name ≡ Some s → s.cells i ≡ Some kind → i ≤ s.size
+named-inside first objects (Named number) s i kind all e k =
+    object-inside (slice_get objects (number - first)) s i kind (λ o f. each-at (λ (x : LocalObject). IsObject x.size x.cells) objects (number - first) o all f)
+    (if-some (nat_le first number) (shape_in (slice_get objects (number - first))) s e).1 k
+named-inside first objects (Slot number) s i kind all e k = absurd (cc)
+named-inside first objects Link s i kind all e k = absurd (cc)
+
 begun-shape : (c d : Bool) (x y r q : Option Shape) (s : Shape) → (x ≡ Some s → y ≡ Some s) → (r ≡ Some s → q ≡ Some s) → (if c then (if d then x else None) else r) ≡ Some s → (if c then (if d then y else None) else q) ≡ Some s
 begun-shape true true x y r q s h k e = h e
 begun-shape true false x y r q s h k e = absurd (cc)
@@ -59,9 +74,15 @@ unset-same : (c : Bool) (v w : Value) → Same v w → Same (if c then Unset els
 unset-same true v w h = tt
 unset-same false v w h = h
 
-pub begun-agrees : (store blocks : Store) (a d first : ℕ) (objects : List LocalObject) (code : Function) → code.first_object ≡ first → AreObjects objects code.objects.items → Agrees store blocks
+pub begun-agrees : (store blocks : Store) (a d first : ℕ) (objects : List LocalObject) (code : Function) → code.first_object ≡ first → AreObjects objects code.objects.items → Each {A = LocalObject} (λ o. IsObject o.size o.cells) objects → Agrees store blocks
     → Agrees (begins store a d (shapes_of first objects)) (begins blocks a d (m.shapes_of code))
-begun-agrees store blocks a d first objects code same h agrees = record {
+begun-agrees store blocks a d first objects code same h typed_objects agrees = record {
+  inside = λ o s i kind e k.
+      by-test {P = i ≤ s.size} (o.activation == a)
+      (λ t.
+      let own = if-some (o.depth == d) (shapes_of first objects o.name) s (sym (if-true (o.activation == a) (if o.depth == d then shapes_of first objects o.name else None) (store.shape o) t) ∙ e) in
+      named-inside first objects o.name s i kind typed_objects own.1 k)
+      (λ t. agrees.inside o s i kind (sym (if-false (o.activation == a) (if o.depth == d then shapes_of first objects o.name else None) (store.shape o) t) ∙ e) k);
   shapes = λ o s e. begun-shape (o.activation == a) (o.depth == d) (shapes_of first objects o.name) (m.shapes_of code o.name) (store.shape o) (blocks.shape o) s (named-same first objects code o.name s same h) (agrees.shapes o s) e;
   values = λ o i. unset-same (o.activation == a) (store.values o i) (blocks.values o i) (agrees.values o i);
 }
@@ -72,6 +93,7 @@ ended-shape false r q s k e = k e
 
 pub ended-agrees : (store blocks : Store) (a : ℕ) → Agrees store blocks → Agrees (ends store a) (ends blocks a)
 ended-agrees store blocks a agrees = record {
+  inside = λ o s i kind e k. agrees.inside o s i kind (if-none (o.activation == a) (store.shape o) s e).1 k;
   shapes = λ o s e. ended-shape (o.activation == a) (store.shape o) (blocks.shape o) s (agrees.shapes o s) e;
   values = agrees.values;
 }
@@ -107,8 +129,9 @@ commuted a d k n (w ∷ ws) values v o i lt =
     let same = parameter-number a d k n o (same_object-is o (parameter a d k) is.0) (same_object-is o (parameter a d n) other.0) in
     omega arith)
 
-values-agree : (store blocks : Store) (values : Object → ℕ → Value) → ((o : Object) (i : ℕ) → values o i ≡ store.values o i) → Agrees store blocks → Agrees (record store { values = values }) blocks
+pub values-agree : (store blocks : Store) (values : Object → ℕ → Value) → ((o : Object) (i : ℕ) → values o i ≡ store.values o i) → Agrees store blocks → Agrees (record store { values = values }) blocks
 values-agree store blocks values same agrees = record {
+  inside = agrees.inside;
   shapes = agrees.shapes;
   values = λ o i. subst (λ v. Same v (blocks.values o i)) (sym (same o i)) (agrees.values o i);
 }

@@ -1,5 +1,5 @@
 -- Operators, conversions and truth values in block code, on operands of their kinds.
-use Rattle.std.proofs.Common.{◌≡◌, ℕ, Bool, true, false, refl, ap, ◌∙◌, arith}
+use Rattle.std.proofs.Common.{◌≡◌, ℕ, Bool, true, false, refl, sym, ap, ◌∙◌, arith}
 use Rattle.std.specs.Prelude.{Option, Some, None, ℤ, pos, not, if◌then◌else◌}
 use Rattle.std.proofs.lemmas.Int.{ints}
 use Rattle.im_num.specs.declared.kind.Kind.{Kind}
@@ -13,11 +13,13 @@ use Rattle.im_store.specs.declared.undefined.Undefined.TheVariants.{MissingResul
 use Rattle.im_store.specs.Checks.{Fine, then_, unless}
 use Rattle.im_store.specs.Numbers.{apply, compares}
 use Rattle.im_store.specs.Objects.{Value, Number, Null, Pointer, Unset, Store, same_kind}
+use Rattle.im_store.specs.Pointers.{moved_by, bytes_moved, distance, compare_places, compare_values}
 use Rattle.im_typed.specs.Program as q
 use Rattle.im_typed.specs.Typing.{IsInteger, IsIntegerShape, IsPromotedShape, IsScalarShape, IsRightShape}
 use Rattle.im_typed.specs.Sound.{IsValue}
 use Rattle.im_block.specs.Meaning as m
 use Rattle.im_block.specs.Meaning.{condition}
+use Rattle.im_lower.proofs.Uses.{number-value}
 
 -- operands that are of their kind need no conversion
 
@@ -84,7 +86,7 @@ scalar-shape None h = absurd h
 scalar-shape (Some (q.Scalar kind)) h = (kind, refl)
 scalar-shape (Some (q.Struct count cells)) h = absurd h
 
-promoted-shape : (shape : Option q.Access) → IsPromotedShape shape → IsIntegerShape shape
+pub promoted-shape : (shape : Option q.Access) → IsPromotedShape shape → IsIntegerShape shape
 promoted-shape None h = absurd h
 promoted-shape (Some (q.Scalar kind)) h = h.0
 promoted-shape (Some (q.Struct count cells)) h = absurd h
@@ -116,3 +118,42 @@ one-of_kind U16 h = record { low = omega (arith, ints); high = omega (arith, int
 one-of_kind I32 h = record { low = omega (arith, ints); high = omega (arith, ints) }
 one-of_kind U32 h = record { low = omega (arith, ints); high = omega (arith, ints) }
 one-of_kind Ptr h = absurd h
+
+-- pointers
+
+pub moved-same : (blocks : Store) (size : ℕ) (back : Bool) (v w p at : Value) (z : ℤ) → v ≡ p → w ≡ Number z → moved_by blocks (bytes_moved size back z) p ≡ Fine at → m.moved blocks size back v w ≡ Fine at
+moved-same blocks size back v w p at z ev ew e =
+    ap (λ r. m.moved blocks size back r w) ev
+    ∙ ap (λ r. then_ (m.number_of r) (λ i. moved_by blocks (bytes_moved size back i) p)) ew ∙ e
+
+pub distance-same : (blocks : Store) (size : ℕ) (v w p q : Value) (z : ℤ) → v ≡ p → w ≡ q → m.pointer_of blocks p ≡ Fine p → m.pointer_of blocks q ≡ Fine q → distance size p q ≡ Fine z → m.as_number (m.distance_of blocks size v w) ≡ Fine (Number z)
+distance-same blocks size v w p q z ev ew ep eq e =
+    ap (λ r. m.as_number (m.distance_of blocks size r w)) ev ∙ ap (λ r. m.as_number (m.distance_of blocks size p r)) ew
+    ∙ ap (λ r. m.as_number (then_ r (λ a. then_ (m.pointer_of blocks q) (λ b. distance size a b)))) ep
+    ∙ ap (λ r. m.as_number (then_ r (λ b. distance size p b))) eq ∙ ap m.as_number e
+
+places-compared : (begun : ℕ) (store : Store) (op : Comparison) (x y : Value) → IsValue begun store Ptr x → compare_values op x y ≡ compare_places op x y
+places-compared begun store op (Number z) y h = absurd h.0
+places-compared begun store op Null y h = refl
+places-compared begun store op (Pointer o i) y h = refl
+places-compared begun store op Unset y h = absurd h
+
+compared-numbers : (begun : ℕ) (store blocks : Store) (op : Comparison) (kind : Kind) (v w vx vy : Value) (answer : Bool) → IsInteger kind → v ≡ vx → w ≡ vy → IsValue begun store kind vx → IsValue begun store kind vy → compare_values op vx vy ≡ Fine answer
+    → m.as_truth (m.compared blocks op kind v w) ≡ Fine (Number (if answer then pos 1 else pos 0))
+compared-numbers begun store blocks op kind v w vx vy answer i ev ew hx hy e =
+    let x = number-value begun store kind vx i hx in
+    let y = number-value begun store kind vy i hy in
+    let same : compare_values op vx vy ≡ Fine (compares op x.0 y.0) = ap (λ r. compare_values op r vy) x.1 ∙ ap (compare_values op (Number x.0)) y.1 in
+    let answers : compares op x.0 y.0 ≡ answer = cc in
+    compared-same blocks op kind v w x.0 y.0 i (ev ∙ x.1) (ew ∙ y.1) x.2 y.2 ∙ ap (λ r. Fine (Number (if r then pos 1 else pos 0))) answers
+
+-- two values of a kind are compared
+pub compared-values : (begun : ℕ) (store blocks : Store) (op : Comparison) (kind : Kind) (v w vx vy : Value) (answer : Bool) → v ≡ vx → w ≡ vy → IsValue begun store kind vx → IsValue begun store kind vy
+    → (kind ≡ Ptr → m.pointer_of blocks vx ≡ Fine vx) → (kind ≡ Ptr → m.pointer_of blocks vy ≡ Fine vy) → compare_values op vx vy ≡ Fine answer
+    → m.as_truth (m.compared blocks op kind v w) ≡ Fine (Number (if answer then pos 1 else pos 0))
+compared-values begun store blocks op Ptr v w vx vy answer ev ew hx hy px py e =
+    ap (λ r. m.as_truth (m.compared blocks op Ptr r w)) ev ∙ ap (λ r. m.as_truth (m.compared blocks op Ptr vx r)) ew
+    ∙ ap (λ r. m.as_truth (then_ r (λ a. then_ (m.pointer_of blocks vy) (λ b. compare_places op a b)))) (px refl)
+    ∙ ap (λ r. m.as_truth (then_ r (λ b. compare_places op vx b))) (py refl) ∙ ap m.as_truth (sym (places-compared begun store op vx vy hx) ∙ e)
+compared-values begun store blocks op kind v w vx vy answer ev ew hx hy px py e =
+    compared-numbers begun store blocks op kind v w vx vy answer tt ev ew hx hy e

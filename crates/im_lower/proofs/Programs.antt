@@ -1,12 +1,13 @@
 -- A program runs in block code as it does.
-use Rattle.std.proofs.Common.{◌≡◌, ℕ, suc, ◌+◌, ◌<◌, ◌==◌, List, [], ◌∷◌, ◌++◌, take, Bool, true, false, refl, sym, ap, ◌∙◌, subst, arith}
+use Rattle.std.proofs.Common.{◌≡◌, ℕ, suc, ◌+◌, ◌<◌, ◌≤◌, ◌==◌, List, [], ◌∷◌, ◌++◌, take, Bool, true, false, refl, sym, ap, ◌∙◌, subst, arith}
 use Rattle.std.specs.Prelude.{Option, Some, None, ℤ, pos, nat_le, slice_get}
 use Rattle.std.proofs.lemmas.Bool.{eq-eqb}
+use Rattle.im_num.specs.declared.kind.Kind.{Kind}
 use Rattle.im_num.specs.declared.kind.Kind.TheVariants.{I32}
 use Rattle.im_num.specs.Kinds.{IsOfKind}
 use Rattle.im_num.proofs.Wrapping.{wrap-same}
 use Rattle.im_num.specs.Variables.{Variable}
-use Rattle.im_store.specs.Objects.{static, Value, Number, Null, Pointer, Unset, Store, begins, ends}
+use Rattle.im_store.specs.Objects.{static, Object, Shape, shape_of as object_shape, Value, Number, Null, Pointer, Unset, Store, begins, ends}
 use Rattle.im_store.specs.Outcomes.{Outcome, End, IsDefined, cells_shown, variables_from, variables}
 use Rattle.im_store.specs.Statics.{StaticObject, with_statics}
 use Rattle.im_typed.specs.Program as q
@@ -15,10 +16,11 @@ use Rattle.im_typed.specs.Runs as typed
 use Rattle.im_typed.specs.Values.{Values}
 use Rattle.im_typed.specs.Meaning.{Flow, Next, Broke, Continued, Returned, does}
 use Rattle.im_typed.specs.Programs.{Setting, leaving, call_result, status_of, frame_of, body_of, enters, calls_of, start, outcome_of, meaning}
-use Rattle.im_typed.specs.Typing.{Each, IsWellTyped, IsMain}
+use Rattle.im_typed.specs.Typing.{Each, IsTypedStatic, IsWellTyped, IsMain}
 use Rattle.im_typed.specs.Sound.{IsValue, IsSoundWorld, FlowFits, ArgumentsFit}
 use Rattle.im_typed.proofs.SoundRuns.{start-sound}
-use Rattle.im_typed.proofs.SoundCalls.{zero-of_kind}
+use Rattle.im_typed.proofs.SoundCalls.{zero-of_kind, each-at, same-some}
+use Rattle.im_lower.proofs.Layouts.{cell-inside}
 use Rattle.im_block.specs.declared.code.Exit.TheVariants.{Return}
 use Rattle.im_block.specs.declared.unit.Unit.{Unit as Code}
 use Rattle.im_block.specs.Meaning as m
@@ -40,9 +42,6 @@ same-self (Number z) = refl
 same-self Null = refl
 same-self (Pointer o offset) = refl
 same-self Unset = tt
-
-agrees-self : (store : Store) → Agrees store store
-agrees-self store = record { shapes = λ o s e. e; values = λ o i. same-self (store.values o i) }
 
 -- what main gives is a number
 record Status (flow : Flow) : Type 0 where
@@ -136,9 +135,20 @@ module _ (ts : Setting) (u : Code) (input : List ℕ) (typed_program : IsWellTyp
   abbrev sane : Each (λ byte. byte < 256) input → IsSoundWorld p.statics world
   sane bytes = record { store = start-sound p.statics typed_program.statics; input = bytes }
 
+  -- cells lie within the statics
+  start-inside : (o : Object) (s : Shape) (i : ℕ) (kind : Kind) → world.store.shape o ≡ Some s → s.cells i ≡ Some kind → i ≤ s.size
+  start-inside o s i kind e k =
+      let sound = start-sound p.statics typed_program.statics in
+      let le = sound.began o s e in
+      let l = sound.only o s e (omega arith) in
+      let x : StaticObject = l.1 in
+      let same : object_shape x.size x.cells ≡ s = same-some (object_shape x.size x.cells) s (sym (sound.live l.0 x l.3) ∙ sym (ap world.store.shape l.2) ∙ e) in
+      let t = each-at (IsTypedStatic p.statics) p.statics l.0 x typed_program.statics l.3 in
+      subst (λ (y : Shape). i ≤ y.size) same (cell-inside 0 x.size x.cells i kind t.0.1 (ap (λ (y : Shape). y.cells i) same ∙ k))
+
   -- the statics are the program's
   start-agrees : Agrees world.store (with_statics (m.statics_of u))
-  start-agrees = subst (λ l. Agrees world.store (with_statics l)) (sym is.statics) (agrees-self world.store)
+  start-agrees = subst (λ l. Agrees world.store (with_statics l)) (sym is.statics) (record { inside = start-inside; shapes = λ o s e. e; values = λ o i. same-self (world.store.values o i) })
 
   main-room : (fuel : ℕ) (f : q.Func) → Each (λ byte. byte < 256) input → slice_get p.funcs main ≡ Some f → f.params ≡ 0 → f.result ≡ Some I32 → nat_le (world.depth + frame_of ts main) g.stack ≡ true
       → IsDefined (outcome_of ts (body_of ts (calls_of ts fuel) fuel main f [] world (start ts input fuel)))

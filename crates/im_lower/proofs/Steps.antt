@@ -98,6 +98,15 @@ module _ (u : Code) (g : Setting) where
     does-moved {middle = middle} {next = next} {b = b} {P = P} {r = r} k h = record { by = moved-at middle next b P r k h.by }
 
   module _ (p : Prog) (home : Home) where
+    whole-at : {A : Type 0} (next : A → Point) (b : State) (P : A → typed.State → (ℕ → Value) → Store → Type 0) (r : Answer A) → FollowsAt u g p home next b P (typed.goes_on r typed.give) → FollowsAt u g p home next b P r
+    whole-at next b P (Gives a t) h = h
+    whole-at next b P (Stops why) h = h
+
+    -- a run behind which nothing comes
+    pub does-whole : {A : Type 0} {next : A → Point} {b : State} {P : A → typed.State → (ℕ → Value) → Store → Type 0} {r : Answer A} → Follows u g p home next b P (typed.goes_on r typed.give) → Follows u g p home next b P r
+    does-whole {next = next} {b = b} {P = P} {r = r} h = record { by = whole-at next b P r h.by }
+
+  module _ (p : Prog) (home : Home) where
     bound-at : {A B : Type 0} (behind : Home) (middle : A → Point) (next : B → Point) (b : State) (P : A → typed.State → (ℕ → Value) → Store → Type 0) (Q : B → typed.State → (ℕ → Value) → Store → Type 0) (r : Answer A) (then : A → Run B) → FollowsAt u g p home middle b P r
         → ((a : A) (t : typed.State) (n : Mark) (registers : ℕ → Value) (store : Store) → P a t registers store → Follows u g p behind next (at home n (middle a) registers store t) Q (then a t)) → FollowsAt u g p behind next b Q (typed.goes_on r then)
     bound-at behind middle next b P Q (Gives a t) then h k = later-at p behind next b (at home h.mark (middle a) h.registers h.store t) Q (then a t) h.leads (k a t h.mark h.registers h.store h.is).by

@@ -70,7 +70,7 @@ condition-of begun store blocks kind (Pointer o offset) agrees h e =
     if-true (lives blocks o) (Fine true) _ (agree-lives store blocks agrees o (if-fine (lives store o) (Pointer o offset) (Pointer o offset) _ e))
 condition-of begun store blocks kind Unset agrees h e = absurd h
 
-taken-same : (store : Store) (v a : Value) → taken store v ≡ Fine a → (v ≡ a) × (taken store a ≡ Fine a)
+pub taken-same : (store : Store) (v a : Value) → taken store v ≡ Fine a → (v ≡ a) × (taken store a ≡ Fine a)
 taken-same store (Number z) a e = let same : Number z ≡ a = cc in (same, ap (taken store) (sym same) ∙ e)
 taken-same store Null a e = let same : Null ≡ a = cc in (same, ap (taken store) (sym same) ∙ e)
 taken-same store (Pointer o offset) a e = by_test (lives store o) e
@@ -110,6 +110,12 @@ module _ (u : Code) (g : Setting) (p : Prog) (home : Home) where
   stands next n registers store s a h = record {
     by = record { mark = n; registers = registers; store = store; leads = here u g (at home n (next a) registers store s); is = h };
   }
+
+  -- what is checked last
+  pub checks : {A : Type 0} {P : A → typed.State → (ℕ → Value) → Store → Type 0} (next : Point) (n : Mark) (registers : ℕ → Value) (store : Store) (s : typed.State) (r : Checked A) → ((a : A) → r ≡ Fine a → P a s registers store)
+      → Does u g p home next (at home n next registers store s) P (checked r s)
+  checks next n registers store s (Fine a) h = stands (λ _. next) n registers store s a (h a refl)
+  checks next n registers store s (Bad why) h = record { by = tt }
 
   -- a value of the expression has come into its register
   pub arrived : (t : Point) (n : Mark) (base registers : ℕ → Value) (to free : ℕ) (v : Value) (store : Store) (s : typed.State) → Agrees s.world.store store

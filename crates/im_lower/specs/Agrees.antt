@@ -1,8 +1,12 @@
 -- Block code that does as the typed program: how its states stand for those of a typed run, and what a part of the code does.
-use Rattle.std.specs.Prelude.{◌≡◌, ℕ, ◌<◌, pos, List, [], ◌∷◌, ◌++◌, Some}
+use Rattle.std.specs.Prelude.{◌≡◌, ℕ, ◌<◌, ◌≤◌, pos, Option, None, List, [], ◌∷◌, ◌++◌, Some}
+use Rattle.im_num.specs.declared.kind.Kind.{Kind}
+use Rattle.im_ctype.specs.declared.cell.Cell.{Cell}
 use Rattle.im_store.specs.Objects.{Object, Value, Number, Null, Pointer, Unset, Shape, Store}
 use Rattle.im_store.specs.Outcomes.{Outcome, More, End, variables}
-use Rattle.im_typed.specs.Program.{Prog}
+use Rattle.im_store.specs.Checks.{Fine}
+use Rattle.im_store.specs.Access.{read_cells}
+use Rattle.im_typed.specs.Program.{Access, Scalar, Struct, Prog}
 use Rattle.im_typed.specs.Runs.{Fails, Starves, Exhausts, Answer, Gives, Stops}
 use Rattle.im_typed.specs.Runs as typed
 use Rattle.im_typed.specs.Values.{Values}
@@ -18,8 +22,10 @@ Same Null w = w ≡ Null
 Same (Pointer o offset) w = w ≡ Pointer o offset
 Same Unset w = Unit {0}
 
--- who lives in the typed store lives in block code's with the same cells, which have the same values
+-- who lives in the typed store lives in block code's with the same cells, which have the same values; cells lie within
+-- their objects
 pub record Agrees (store blocks : Store) : Type 0 where
+  pub inside : (o : Object) (s : Shape) (i : ℕ) (kind : Kind) → store.shape o ≡ Some s → s.cells i ≡ Some kind → i ≤ s.size
   pub shapes : (o : Object) (s : Shape) → store.shape o ≡ Some s → blocks.shape o ≡ Some s
   pub values : (o : Object) (offset : ℕ) → Same (store.values o offset) (blocks.values o offset)
 
@@ -89,8 +95,23 @@ abbrev pub HasOne : Values → Value → Type 0
 HasOne [] w = Unit {0}
 HasOne (v ∷ vs) w = w ≡ v
 
+-- a struct's value is the address of cells that have its values
+abbrev pub HasCellsOf : List Cell → Values → Store → Value → Type 0
+HasCellsOf cells vs store w = (o : Object) × (offset : ℕ) × (w ≡ Pointer o offset) × (read_cells store o offset cells ≡ Fine vs)
+
+abbrev pub Holds : Option Access → Values → Store → Value → Type 0
+Holds None vs store w = Unit {0}
+Holds (Some (Scalar kind)) vs store w = HasOne vs w
+Holds (Some (Struct count cells)) vs store w = HasCellsOf cells vs store w
+
 -- behind an expression: the stores agree, the registers below free are as they were, but for the one that takes the value
-pub record Came (registers : ℕ → Value) (to free : ℕ) (vs : Values) (t : typed.State) (after : ℕ → Value) (store : Store) : Type 0 where
+pub record CameWith (H : Values → Store → Value → Type 0) (registers : ℕ → Value) (to free : ℕ) (vs : Values) (t : typed.State) (after : ℕ → Value) (store : Store) : Type 0 where
   pub agrees : Agrees t.world.store store
   pub kept : (q : ℕ) → q < free → (q ≡ to → ⊥) → after q ≡ registers q
-  pub has : HasOne vs (after to)
+  pub has : H vs t.world.store (after to)
+
+abbrev pub Came : (ℕ → Value) → (to free : ℕ) → Values → typed.State → (ℕ → Value) → Store → Type 0
+Came registers to free vs t after store = CameWith (λ ws s w. HasOne ws w) registers to free vs t after store
+
+abbrev pub CameAs : Option Access → (ℕ → Value) → (to free : ℕ) → Values → typed.State → (ℕ → Value) → Store → Type 0
+CameAs shape registers to free vs t after store = CameWith (Holds shape) registers to free vs t after store
