@@ -1,0 +1,4 @@
+pub mod Standing
+pub mod Runtimes
+pub mod Functions
+pub mod Whole
