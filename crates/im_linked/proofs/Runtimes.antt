@@ -81,18 +81,18 @@ entries_count (suc n) = let e = length-append (entries n) (entry_code (n + 4)) i
 
 entry_there : (n j m : ℕ) → j < n → m ≡ j + 4 → HasLabel (entries n) (5 * j) m
 entry_there zero j m h e = absurd (omega arith)
-entry_there (suc n) j m h e = by (nat_lt j n) refl
+entry_there (suc n) j m h e = by (nat_lt j n) refl (λ l. entry_there n j m l e)
   where
-    by : (b : Bool) → nat_lt j n ≡ b → HasLabel (entries (suc n)) (5 * j) m
-    by true t = label_left (entries n) (entry_code (n + 4)) (5 * j) m (entry_there n j m (grind (arith, nat_tests)) e)
-    by false t =
+    by : (b : Bool) → nat_lt j n ≡ b → (j < n → HasLabel (entries n) (5 * j) m) → HasLabel (entries (suc n)) (5 * j) m
+    by true t r = label_left (entries n) (entry_code (n + 4)) (5 * j) m (r (grind (arith, nat_tests)))
+    by false t r =
         let same : j ≡ n = (let q : n ≤ j = grind (arith, nat_tests) in omega arith) in
         let c = entries_count n in
         let k : 5 * j ≡ length (entries n) + 0 = omega arith in
         let l : n + 4 ≡ m = omega arith in
         label_right (entries n) (entry_code (n + 4)) 0 (5 * j) m k (subst (λ z. HasLabel (entry_code (n + 4)) 0 z) l (record { line = _; there = refl; is = refl }))
 
-saved_there : (m : ℕ) → 4 ≤ m → m ≤ 31 → HasLabel checkpoint_code (5 * (m - 4)) m
+pub saved_there : (m : ℕ) → 4 ≤ m → m ≤ 31 → HasLabel checkpoint_code (5 * (m - 4)) m
 saved_there m low high = label_left (entries 28) (map plain_line ladder) (5 * (m - 4)) m (entry_there 28 (m - 4) m (omega arith) (omega arith))
 
 -- ---- all of them

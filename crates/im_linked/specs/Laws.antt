@@ -1,6 +1,8 @@
 -- What linked parts are in memory.
 use Rattle.std.specs.Prelude.{◌≡◌, ◌≤◌, ◌<◌, ℕ, ◌+◌, ◌^◌, List, [], length, Some, slice_get, slice_index}
 use Rattle.im_num.specs.declared.kind.Kind.{Kind}
+use Rattle.im_num.specs.declared.values.Cause.{Cause}
+use Rattle.im_num.specs.declared.values.Cause.TheVariants.{Dep}
 use Rattle.im_mem.specs.Map.{code_start, statics_start, statics_capacity, stack_capacity}
 use Rattle.im_mem.specs.Memory.{Mem, Stands}
 use Rattle.im_rv.specs.declared.code.Part.{Part}
@@ -18,6 +20,8 @@ use Rattle.im_operators.specs.Tables.{cell_word}
 use Rattle.im_block.specs.declared.unit.Function.{Function}
 use Rattle.im_block.specs.declared.unit.Unit.{Unit as Code}
 use Rattle.im_block.specs.Meaning.{Setting, shapes_of, statics_of}
+use Rattle.im_block.specs.Wellformed.{accesses_of_blocks}
+use Rattle.im_selecting.specs.Selects.{causes_of_blocks}
 use Rattle.im_select.specs.Linking.{Linking, LaidOut, Means, frame_of, limit_of}
 use Rattle.im_select.specs.Linked.{IsLinked}
 use Rattle.im_select.specs.Symbolic.{Agrees as HasFrame}
@@ -52,3 +56,18 @@ LinkedLaw =
     (u : Code) (statics : List ℕ) (parts : List Part) (program : IsProgram u statics parts) (code : Linked) (place : ℕ → ℕ) (image : Mem) (g : Setting) (at size : Name → ℕ) →
     IsLinkable parts → IsLinkedCode parts code → ArePlaces parts place → IsLoaded image g code → HasObjects u statics parts program (linking_of u.functions.items place code image at size) g →
     IsLinked (linking_of u.functions.items place code image at size) u g
+
+-- a number in a list
+abbrev pub Within : List ℕ → ℕ → Type 0
+Within xs n = (k : ℕ) × (slice_get xs k ≡ Some n)
+
+-- the accesses that a dependence names are those of lines of its function
+abbrev pub NamesOwn : List Cause → List ℕ → Type 0
+NamesOwn causes accesses = (k read write : ℕ) → slice_get causes k ≡ Some (Dep read write) → Within accesses read × Within accesses write
+
+pub record NamesAccesses (u : Code) : Type 0 where
+  pub each : (i : ℕ) (f : Function) → slice_get u.functions.items i ≡ Some f → NamesOwn (causes_of_blocks f.blocks.items) (accesses_of_blocks f.blocks.items)
+
+-- so linking may be asked for its parts
+abbrev pub LinkableLaw : Type 0
+LinkableLaw = (u : Code) (statics : List ℕ) (parts : List Part) → IsProgram u statics parts → NamesAccesses u → IsLinkable parts

@@ -1,9 +1,15 @@
-ghost use Rattle.im_linked.specs.Laws.{LinkedLaw, StandLaw};
+ghost use Rattle.im_linked.specs.Laws.{LinkableLaw, LinkedLaw, StandLaw};
 
 /// The lines of each part of linked code stand one after another, and lead to where their labels
 /// are.
 pub fn stand_law()
     ensures { StandLaw }
+{}
+
+/// The parts of a program may be linked: no label stands twice, each that is used is within reach,
+/// and the accesses that a cause names are there.
+pub fn linkable_law()
+    ensures { LinkableLaw }
 {}
 
 /// The parts of a program, linked, with their code in memory, are what the law of selection asks
