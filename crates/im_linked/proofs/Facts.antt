@@ -1,8 +1,7 @@
 -- What linking asks, part by part.
-use Rattle.std.proofs.Common.{◌≡◌, ◌<◌, ◌≤◌, ◌⊎◌, inl, inr, ℕ, zero, suc, ◌+◌, ◌-◌, ◌*◌, true, List, [], ◌∷◌, ◌++◌, Option, Some, None, map, length, refl, sym, ap, ◌∙◌, subst, arith}
-use Rattle.std.specs.Prelude.{◌==◌, nat_lt, if◌then◌else◌, slice_get}
+use Rattle.std.proofs.Common.{◌≡◌, ◌<◌, ◌≤◌, ◌⊎◌, inl, inr, ℕ, zero, suc, ◌+◌, ◌-◌, ◌*◌, true, List, [], Some, map, length, refl, sym, ap, ◌∙◌, subst, arith}
+use Rattle.std.specs.Prelude.{◌==◌, if◌then◌else◌, slice_get}
 use Rattle.std.proofs.lemmas.Option.{slice_get_cases, slice_get_within}
-use Rattle.im_num.specs.declared.values.Cause.{Cause}
 use Rattle.im_num.specs.declared.values.Cause.TheVariants.{Length, Dep}
 use Rattle.im_rv.specs.declared.instr.Op.{Op}
 use Rattle.im_rv.specs.declared.instr.Op.TheVariants.{Jal}
@@ -17,11 +16,11 @@ use Rattle.im_reach.specs.Instructions.{jumping}
 use Rattle.im_block.specs.declared.unit.Function.{Function}
 use Rattle.im_block.specs.declared.unit.Unit.{Unit as Code}
 use Rattle.im_selecting.specs.Emitted.{entry_label}
-use Rattle.im_selecting.specs.Selects.{accesses_in, causes_in, causes_of_blocks, HasLabel, IsTarget}
-use Rattle.im_linked.specs.Program.{HasCode, IsFunctionPart, IsProgram, part_of, start_code, given_at}
+use Rattle.im_selecting.specs.Selects.{accesses_in, causes_in, HasLabel, IsTarget}
+use Rattle.im_linked.specs.Program.{HasCode, IsProgram, part_of, start_code, given_at}
 use Rattle.im_linked.specs.Laws.{Within, NamesOwn, NamesAccesses}
 use Rattle.im_linked.proofs.Runtimes.{saved_there}
-use Rattle.im_linked.proofs.Owning.{key_of, part_for, Owner, Low, Entry, Own, label_check, Known, known, target_check, Aim, ToCheckpoint, Within as Close, aims}
+use Rattle.im_linked.proofs.Owning.{part_for, Owner, Low, Entry, Own, label_check, known, target_check, Aim, ToCheckpoint, Within as Close, aims}
 
 pub data Goal (parts : List Part) (code : List CodeLine) (k l : ℕ) (op : Op) : Type 0 where
   Elsewhere : (q m : ℕ) (other : List CodeLine) → HasCode parts q other → HasLabel other m l → op ≡ Jal → Goal parts code k l op
@@ -114,9 +113,9 @@ module _ (u : Code) (statics : List ℕ) (parts : List Part) (program : IsProgra
   target i f e code k l op far (inr (inr (inl a))) = Elsewhere 3 0 putchar program.puts (subst (HasLabel putchar 0) (sym a) (record { line = _; there = refl; is = refl })) far
   target i f e code k l op far (inr (inr (inr (inl a)))) = Elsewhere 4 0 stack program.stops (subst (HasLabel stack 0) (sym a) (record { line = _; there = refl; is = refl })) far
   target i f e code k l op far (inr (inr (inr (inr (inl a))))) = elim (slice_get_cases u.functions.items a.0).1 [
-      | inl c ↦ (let other = program.functions a.0 c.0 c.2 in Elsewhere (part_of a.0) 0 other.code other.there (subst (HasLabel other.code 0) (sym a.2) other.selection.entry) far)
-      | inr c ↦ (let le = c.0 in let less = a.1 in absurd (omega arith))
-    ]
+    | inl c ↦ (let other = program.functions a.0 c.0 c.2 in Elsewhere (part_of a.0) 0 other.code other.there (subst (HasLabel other.code 0) (sym a.2) other.selection.entry) far)
+    | inr c ↦ (let le = c.0 in let less = a.1 in absurd (omega arith))
+  ]
   target i f e code k l op far (inr (inr (inr (inr (inr b))))) =
       let own = program.functions i f e in
       Elsewhere (part_of i) (own.selection.starts b.0) own.code own.there (subst (HasLabel own.code (own.selection.starts b.0)) (sym b.2) (own.selection.blocks b.0 b.1)) far
@@ -133,10 +132,13 @@ module _ (u : Code) (statics : List ℕ) (parts : List Part) (program : IsProgra
         one = λ k m l h g. elim (sel.only k l h) [
           | inl a ↦ elim (sel.only m l g) [
             | inl b ↦ a.0 ∙ sym b.0
-            | inr b ↦ (let x = a.1 in let y = b.3 in absurd (omega arith)) ]
+            | inr b ↦ (let x = a.1 in let y = b.3 in absurd (omega arith))
+          ]
           | inr a ↦ elim (sel.only m l g) [
             | inl b ↦ (let x = b.1 in let y = a.3 in absurd (omega arith))
-            | inr b ↦ (let x = a.3 in let y = b.3 in let same : a.0 ≡ b.0 = omega arith in a.2 ∙ ap sel.starts same ∙ sym b.2) ] ];
+            | inr b ↦ (let x = a.3 in let y = b.3 in let same : a.0 ≡ b.0 = omega arith in a.2 ∙ ap sel.starts same ∙ sym b.2)
+          ]
+        ];
         leads = λ k l x g t. let r = sel.targets k l x g t in target i f e own.code k l x.line.op r.far r.to;
         named = λ k read write g.
             let n = names.each i f e k read write (ap (λ z. slice_get z k) (sym sel.causes) ∙ g) in
@@ -147,7 +149,7 @@ module _ (u : Code) (statics : List ℕ) (parts : List Part) (program : IsProgra
 
   start_leads : (k l : ℕ) (x : CodeLine) → slice_get (start_code u.main) k ≡ Some x → x.target ≡ Some l → Goal parts (start_code u.main) k l x.line.op
   start_leads zero l x e t = elim (slice_get_cases u.functions.items u.main).1 [
-      | inl c ↦
+    | inl c ↦
         (let other = program.functions u.main c.0 c.2 in
         let first : CodeLine = aimed (entry_label u.main) (jumping 1 0) in
         let same : first ≡ x = cc in
@@ -155,8 +157,8 @@ module _ (u : Code) (statics : List ℕ) (parts : List Part) (program : IsProgra
         let is : entry_label u.main ≡ l = cc in
         let far : Jal ≡ x.line.op = ap (λ (z : CodeLine). z.line.op) same in
         Elsewhere (part_of u.main) 0 other.code other.there (subst (HasLabel other.code 0) is other.selection.entry) (sym far))
-      | inr c ↦ (let le = c.0 in let less = program.main in absurd (omega arith))
-    ]
+    | inr c ↦ (let le = c.0 in let less = program.main in absurd (omega arith))
+  ]
   start_leads (suc k) l x e t = goal_of parts (start_code u.main) (suc k) (1 + k) l x.line.op program.saves (omega arith) (aims checkpoint_at (start_code u.main) 1 exit refl k l x e t)
 
   begins : Facts u.functions.items parts (part_of (length u.functions.items))

@@ -1,9 +1,8 @@
 -- A function's part is what the law of selection asks of a function.
-use Rattle.std.proofs.Common.{◌≡◌, ◌<◌, ◌≤◌, ℕ, zero, suc, ◌+◌, ◌-◌, ◌*◌, ◌^◌, Bool, true, false, List, [], ◌∷◌, Option, Some, None, inl, inr, length, refl, sym, ap, ◌∙◌, subst, arith}
+use Rattle.std.proofs.Common.{◌≡◌, ◌<◌, ℕ, zero, suc, ◌+◌, ◌-◌, ◌*◌, Bool, true, false, List, Option, Some, None, inl, inr, length, refl, sym, ap, ◌∙◌, subst, arith}
 use Rattle.std.specs.Prelude.{nat_lt, nat_le, if◌then◌else◌, slice_get, slice_index}
 use Rattle.std.proofs.lemmas.Bool.Decides.{nat_tests}
 use Rattle.std.proofs.lemmas.Option.{slice_get_cases, slice_get_within}
-use Rattle.im_num.specs.declared.values.Cause.{Cause}
 use Rattle.im_mem.specs.Memory.{Mem, Stands}
 use Rattle.im_rv.specs.declared.code.Part.{Part}
 use Rattle.im_rv.specs.declared.code.Code.{Code as Linked}
@@ -14,7 +13,7 @@ use Rattle.im_reach.specs.Instructions.{Holds}
 use Rattle.im_link.specs.Parts.{first_of}
 use Rattle.im_link.specs.Code.{IsLinkable, IsLinked as IsLinkedCode}
 use Rattle.im_rtlib.specs.Routines.{getchar_label, putchar_label, stack_label}
-use Rattle.im_runtime.specs.Standing.{aimed_at, StandFrom}
+use Rattle.im_runtime.specs.Standing.{aimed_at}
 use Rattle.im_store.specs.Objects.{Name, Named, Slot, Shape, shape_of}
 use Rattle.im_block.specs.declared.unit.Function.{Function}
 use Rattle.im_block.specs.declared.unit.Unit.{Unit as Code}
@@ -22,13 +21,11 @@ use Rattle.im_block.specs.Meaning.{Setting, shapes_of, shape_at, slot_shape}
 use Rattle.im_placed.specs.Operands.{HasObject}
 use Rattle.im_select.specs.Linking.{Linking, frame_of}
 use Rattle.im_select.specs.Linked.{FunctionAt}
-use Rattle.im_select.specs.Symbolic.{Lines, HasLine, StandsIn, IsSelected, IsLaid, spot_of, at_place}
+use Rattle.im_select.specs.Symbolic.{Lines, StandsIn, IsSelected, IsLaid, spot_of, at_place}
 use Rattle.im_select.proofs.Lift.{lines, frame}
 use Rattle.im_selecting.specs.Emitted.{entry_label}
-use Rattle.im_selecting.specs.Given.{Given}
-use Rattle.im_selecting.specs.Places.{at_of}
 use Rattle.im_selecting.specs.Selects.{Agrees}
-use Rattle.im_linked.specs.Program.{HasCode, IsFunctionPart, IsProgram, part_of, first_label, given_at}
+use Rattle.im_linked.specs.Program.{IsProgram, part_of, first_label, given_at}
 use Rattle.im_linked.specs.Linking.{ArePlaces, entry_of, blocks_in, block_of, save_of, linking_of}
 use Rattle.im_linked.specs.Laws.{HasObjects}
 use Rattle.im_linked.proofs.Standing.{climb, climb_is, stand_get}
@@ -107,24 +104,24 @@ function_at u statics parts program linked place image g at size linkable is_lin
     let was : IsSelected w part.layout.frame f sel.starts = sel.selected w refl (agrees u statics parts program p g objects i f e) in
     let start_is : (b : ℕ) → b < length f.blocks.items → sel.starts b ≡ starts b = (λ b h. sym (ap (λ t. if t then sel.starts b else 0) (below b count (omega arith)))) in
     let selected : IsSelected w (frame_of g i) f starts =
-        subst (λ (z : ℕ). IsSelected w z f starts) (sym (objects.sizes i f e))
-        (record { prologue = was.prologue; blocks = λ b block t. subst (λ (z : ℕ). StandsIn w part.layout.frame z block.lines.items block.exit) (start_is b (slice_get_within f.blocks.items b block t)) (was.blocks b block t) }) in
+    subst (λ (z : ℕ). IsSelected w z f starts) (sym (objects.sizes i f e))
+    (record { prologue = was.prologue; blocks = λ b block t. subst (λ (z : ℕ). StandsIn w part.layout.frame z block.lines.items block.exit) (start_is b (slice_get_within f.blocks.items b block t)) (was.blocks b block t) }) in
     let there = code_stands image parts linked place linkable is_linked places s (part_of i) part.code part.there in
     let laid : IsLaid p i w place starts = record {
-        each = λ k l target access cause h.
-            let x : CodeLine = record { label = h.label; line = l; target = target; access = access; cause = cause } in
-            let q : climb (address first) k ≡ spot_of (place (entry_of fs i)) k = (let a = climb_is (address first) k in let b = spot_is (place (entry_of fs i)) k in omega arith) in
-            let held : Holds image (climb (address first) k) (aimed_at place (climb (address first) k) l target) = stand_get image place (address first) part.code k x there h.there in
-            subst (λ (z : ℕ). Holds image z (at_place place z l target)) q (subst (Holds image (climb (address first) k)) (same_aim place (climb (address first) k) l target) held);
-        small = places.small;
-        starts_at = λ b. start_at b (nat_lt b count) refl;
-        at = refl;
-        block = λ b. refl;
-        entry = λ n. refl;
-        full = refl;
-        checkpoint = λ m. refl;
-        puts = refl;
-        gets = refl;
+      each = λ k l target access cause h.
+          let x : CodeLine = record { label = h.label; line = l; target = target; access = access; cause = cause } in
+          let q : climb (address first) k ≡ spot_of (place (entry_of fs i)) k = (let a = climb_is (address first) k in let b = spot_is (place (entry_of fs i)) k in omega arith) in
+          let held : Holds image (climb (address first) k) (aimed_at place (climb (address first) k) l target) = stand_get image place (address first) part.code k x there h.there in
+          subst (λ (z : ℕ). Holds image z (at_place place z l target)) q (subst (Holds image (climb (address first) k)) (same_aim place (climb (address first) k) l target) held);
+      small = places.small;
+      starts_at = λ b. start_at b (nat_lt b count) refl;
+      at = refl;
+      block = λ b. refl;
+      entry = λ n. refl;
+      full = refl;
+      checkpoint = λ m. refl;
+      puts = refl;
+      gets = refl;
     } in
     lines p g i f w place starts framed selected laid
   where

@@ -1,5 +1,5 @@
 -- The parts of a program may be linked.
-use Rattle.std.proofs.Common.{◌≡◌, ◌<◌, ◌≤◌, ◌⊎◌, inl, inr, ℕ, zero, suc, ◌+◌, ◌-◌, List, [], ◌∷◌, ◌++◌, Option, Some, None, length, take, refl, sym, ap, ◌∙◌, subst, arith}
+use Rattle.std.proofs.Common.{◌≡◌, ◌<◌, ◌⊎◌, inl, inr, ℕ, zero, suc, ◌+◌, List, [], ◌∷◌, ◌++◌, Option, Some, None, length, take, refl, sym, ap, ◌∙◌, subst, arith}
 use Rattle.std.specs.Prelude.{slice_get}
 use Rattle.std.proofs.lemmas.List.Sums.{sum_by-cons}
 use Rattle.std.proofs.lemmas.Option.{slice_get_within}
@@ -7,20 +7,18 @@ use Rattle.im_num.specs.declared.values.Cause.{Cause}
 use Rattle.im_num.specs.declared.values.Cause.TheVariants.{Dep}
 use Rattle.im_rv.specs.declared.code.Line.{Line}
 use Rattle.im_rv.specs.declared.code.Part.{Part}
-use Rattle.im_rv.specs.declared.instr.Op.{Op}
 use Rattle.im_rv.specs.Formats.{format_of}
 use Rattle.im_rv.specs.Lines.{CodeLine, code_line, code_lines}
 use Rattle.im_link.specs.Parts.{IsPart, lines_of, first_of, part_size, last_of, HasLastLine}
 use Rattle.im_link.specs.Links.{StandsAt, Reaches, AreLabelsApart, AreTargetsNear}
 use Rattle.im_link.specs.Cuts.{IsAccessAt, HasAccesses}
-use Rattle.im_link.specs.Code.{IsLinkable, AreDependencesNamed}
-use Rattle.im_link.proofs.Joining.{line_in, get_kept, get_behind}
-use Rattle.im_block.specs.declared.unit.Function.{Function}
+use Rattle.im_link.specs.Code.{AreDependencesNamed}
+use Rattle.im_link.proofs.Joining.{line_in}
 use Rattle.im_block.specs.declared.unit.Unit.{Unit as Code}
 use Rattle.im_selecting.specs.Selects.{if_any, accesses_in, causes_in, HasLabel}
 use Rattle.im_linked.specs.Program.{HasCode, IsProgram, part_of, start_code}
 use Rattle.im_linked.specs.Laws.{Within, NamesAccesses, LinkableLaw}
-use Rattle.im_linked.proofs.Standing.{Behind, behind}
+use Rattle.im_linked.proofs.Standing.{behind}
 use Rattle.im_linked.proofs.Owning.{owner_one}
 use Rattle.im_linked.proofs.Facts.{Goal, Elsewhere, Near, Facts, facts_of}
 
@@ -44,14 +42,14 @@ in_first (x ∷ xs) ys (suc i) line e = elim (in_first xs ys i line e) [ inl a �
 located : (parts : List Part) (i : ℕ) (line : Line) → slice_get (lines_of parts) i ≡ Some line → Located parts i line
 located [] i line e = absurd cc
 located (x ∷ xs) i line e = elim (in_first x.lines.items (lines_of xs) i line e) [
-    | inl a ↦ record { p = 0; k = i; part = x; is_part = refl; there = a; at = (let z : first_of (x ∷ xs) 0 ≡ 0 = refl in omega arith) }
-    | inr b ↦
+  | inl a ↦ record { p = 0; k = i; part = x; is_part = refl; there = a; at = (let z : first_of (x ∷ xs) 0 ≡ 0 = refl in omega arith) }
+  | inr b ↦
       (let r = located xs b.0 line b.2 in
       let f = first_on x xs r.p in
       let q = b.1 in
       let t = r.at in
       record { p = suc r.p; k = r.k; part = r.part; is_part = r.is_part; there = r.there; at = omega arith })
-  ]
+]
 
 -- a line of a part is one of its code
 code_get : (xs : List Line) (k : ℕ) (line : Line) → slice_get xs k ≡ Some line → slice_get (code_lines xs) k ≡ Some (code_line line)

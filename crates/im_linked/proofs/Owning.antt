@@ -25,7 +25,6 @@ pub data Owner (functions : List Function) (p l : ℕ) : Type 0 where
   Entry : (i : ℕ) → i < length functions → p ≡ part_of i → l ≡ entry_label i → Owner functions p l
   Own : (i b : ℕ) (f : Function) → slice_get functions i ≡ Some f → b < length f.blocks.items → p ≡ part_of i → l ≡ first_label functions i + b → Owner functions p l
 
-
 sum_step : {X : Type 0} (w : X → ℕ) (xs : List X) (i j : ℕ) (x : X) → slice_get xs i ≡ Some x → i < j → sum_of w (take i xs) + w x ≤ sum_of w (take j xs)
 sum_step w [] i j x e h = absurd cc
 sum_step w (y ∷ ys) i zero x e h = absurd (omega arith)
@@ -45,9 +44,9 @@ apart functions i j b c f e h less same = let s = sum_step (λ (z : Function). l
 
 own_one : (functions : List Function) (i j b c : ℕ) (f h : Function) → slice_get functions i ≡ Some f → b < length f.blocks.items → slice_get functions j ≡ Some h → c < length h.blocks.items → first_label functions i + b ≡ first_label functions j + c → i ≡ j
 own_one functions i j b c f h e s d t same = elim (tri i j) [
-    | inl less ↦ absurd (apart functions i j b c f e s less same)
-    | inr r ↦ elim r [ inl q ↦ q | inr more ↦ absurd (apart functions j i c b h d t more (sym same)) ]
-  ]
+  | inl less ↦ absurd (apart functions i j b c f e s less same)
+  | inr r ↦ elim r [ inl q ↦ q | inr more ↦ absurd (apart functions j i c b h d t more (sym same)) ]
+]
 
 pub owner_one : (functions : List Function) (p q l : ℕ) → Owner functions p l → Owner functions q l → p ≡ q
 owner_one functions p q l (Low a e) (Low b g) = e ∙ sym g
@@ -160,15 +159,15 @@ either false b h = inr h
 
 ok_aim : (at : ℕ → ℕ) (code : List CodeLine) (k l : ℕ) (op : Op) → target_ok at code k op (Some l) ≡ true → Aim code k l op
 ok_aim at code k l op h = elim (either (l == 10 && is_jump op) _ h) [
-    | inl a ↦ (let b = both (l == 10) (is_jump op) a in ToCheckpoint (same_number l 10 b.0) (jump_is op b.1))
-    | inr a ↦
+  | inl a ↦ (let b = both (l == 10) (is_jump op) a in ToCheckpoint (same_number l 10 b.0) (jump_is op b.1))
+  | inr a ↦
       (let b = both (label_at code (at l) l) _ a in
       let c = both (is_jump op || is_branch op) _ b.1 in
       let d = both (nat_le (at l) (k + 1023)) (nat_le k (at l + 1024)) c.1 in
       let d0 = d.0 in
       let d1 = d.1 in
       Within (at l) (label_there code (at l) l b.0) (elim (either (is_jump op) (is_branch op) c.0) [ inl j ↦ inl (jump_is op j) | inr j ↦ inr (branch_is op j) ]) (grind (arith, nat_tests)) (grind (arith, nat_tests)))
-  ]
+]
 
 pub aims : (at : ℕ → ℕ) (code : List CodeLine) (k : ℕ) (xs : List CodeLine) → target_check at code k xs ≡ true → (j l : ℕ) (x : CodeLine) → slice_get xs j ≡ Some x → x.target ≡ Some l → Aim code (k + j) l x.line.op
 aims at code k [] h j l x e t = absurd cc

@@ -2,7 +2,7 @@
 use Rattle.std.proofs.Common.{◌≡◌, ◌<◌, ◌≤◌, ℕ, zero, suc, ◌+◌, ◌-◌, ◌*◌, ◌^◌, Bool, true, false, List, [], ◌∷◌, ◌++◌, Option, Some, None, map, length, refl, sym, ap, ◌∙◌, subst, length-append, arith}
 use Rattle.std.specs.Prelude.{nat_lt, slice_get}
 use Rattle.std.proofs.lemmas.Bool.Decides.{nat_tests}
-use Rattle.im_mem.specs.Memory.{Mem, little, Stands}
+use Rattle.im_mem.specs.Memory.{Mem, Stands}
 use Rattle.im_mem.proofs.Words.{word-small}
 use Rattle.im_rv.specs.declared.code.Line.{Line}
 use Rattle.im_rv.specs.declared.code.Part.{Part}
@@ -13,11 +13,11 @@ use Rattle.im_rv.specs.Lines.{CodeLine, code_lines, plain_line}
 use Rattle.im_rv.specs.Code.{address}
 use Rattle.im_reach.specs.Instructions.{Holds}
 use Rattle.im_rv.proofs.Decoding.{encoded-decoded}
-use Rattle.im_link.specs.Parts.{IsPart, lines_of, first_of, part_size}
+use Rattle.im_link.specs.Parts.{first_of}
 use Rattle.im_link.specs.Code.{IsLinkable, IsLinked}
 use Rattle.im_link.proofs.Joining.{line_in, first_more}
 use Rattle.im_ckpt.specs.Recovery.{recovery}
-use Rattle.im_ckpt.specs.Checkpoint.{checkpoint_start, checkpoint_words, checkpoint_code, entry_at, entry_code, entries, ladder}
+use Rattle.im_ckpt.specs.Checkpoint.{checkpoint_start, checkpoint_code, entry_code, entries, ladder}
 use Rattle.im_rtlib.specs.Routines.{getchar, putchar, exit, stack, getchar_label, putchar_label, exit_label, stack_label}
 use Rattle.im_runtime.specs.Standing.{aimed_at, StandFrom, HasRoutines}
 use Rattle.im_block.specs.declared.unit.Unit.{Unit as Code}
@@ -25,7 +25,7 @@ use Rattle.im_selecting.specs.Selects.{HasLabel}
 use Rattle.im_selecting.proofs.Plain.{label_left, label_right}
 use Rattle.im_linked.specs.Program.{HasCode, IsProgram, part_of, start_code}
 use Rattle.im_linked.specs.Linking.{ArePlaces}
-use Rattle.im_linked.proofs.Standing.{Behind, behind, stand}
+use Rattle.im_linked.proofs.Standing.{behind, stand}
 
 -- ---- parts
 

@@ -1,21 +1,19 @@
 -- Linked lines stand in memory.
-use Rattle.std.proofs.Common.{◌≡◌, ◌<◌, ◌≤◌, ◌⊎◌, inl, inr, ℕ, zero, suc, ◌+◌, ◌-◌, ◌*◌, ◌%◌, ◌^◌, Bool, true, List, [], ◌∷◌, Option, Some, None, length, refl, sym, ap, ◌∙◌, subst, arith}
+use Rattle.std.proofs.Common.{◌≡◌, ◌<◌, ◌≤◌, inl, inr, ℕ, zero, suc, ◌+◌, ◌*◌, ◌%◌, true, List, [], ◌∷◌, Option, Some, None, length, refl, sym, ap, ◌∙◌, subst, arith}
 use Rattle.std.specs.Prelude.{◌==◌, ◌&&◌, nat_le, slice_get}
 use Rattle.std.proofs.lemmas.Bool.Decides.{nat_tests}
-use Rattle.std.proofs.lemmas.Option.{slice_get_cases, slice_get_within}
+use Rattle.std.proofs.lemmas.Option.{slice_get_cases}
 use Rattle.im_mem.specs.Map.{memory_size}
 use Rattle.im_mem.specs.Memory.{Mem, little, is_place, Stands}
 use Rattle.im_rv.specs.declared.code.Line.{Line}
 use Rattle.im_rv.specs.declared.code.Part.{Part}
 use Rattle.im_rv.specs.declared.code.Code.{Code as Linked}
-use Rattle.im_rv.specs.Decode.{Line as Instruction, decode}
+use Rattle.im_rv.specs.Decode.{Line as Instruction}
 use Rattle.im_rv.specs.Effects.{decoded_word}
-use Rattle.im_rv.specs.Encode.{encoded}
 use Rattle.im_rv.specs.Lines.{CodeLine, code_line, code_lines, line_of}
 use Rattle.im_rv.specs.Code.{address, instruction_at}
 use Rattle.im_reach.specs.Instructions.{Holds}
 use Rattle.im_link.specs.Parts.{IsPart, lines_of, first_of}
-use Rattle.im_link.specs.Links.{StandsAt}
 use Rattle.im_link.specs.Code.{IsLinkable, IsLinked}
 use Rattle.im_link.specs.Laws.{distance}
 use Rattle.im_link.proofs.Joining.{line_in}
@@ -45,7 +43,7 @@ place_there i h =
 
 holds_at : (image : Mem) (words : List ℕ) (i : ℕ) (l : Instruction) → Stands image 4096 words → length words ≤ 261120 → instruction_at words i ≡ Some l → Holds image (address i) l
 holds_at image words i l s few e = elim (slice_get_cases words i).1 [
-    | inl c ↦
+  | inl c ↦
       (let below = c.1 in
       let at : little image (climb 4096 i) 4 ≡ c.0 = word_at image 4096 words i c.0 s c.2 in
       record {
@@ -56,8 +54,8 @@ holds_at image words i l s few e = elim (slice_get_cases words i).1 [
         above = omega arith;
         low = omega arith;
       })
-    | inr c ↦ (let n : None ≡ Some l = ap decoded_word (sym c.1) ∙ e in absurd cc)
-  ]
+  | inr c ↦ (let n : None ≡ Some l = ap decoded_word (sym c.1) ∙ e in absurd cc)
+]
 
 -- lines from a place on, one by one
 stand_each : (image : Mem) (place : ℕ → ℕ) (pc : ℕ) (xs : List CodeLine) → ((k : ℕ) (x : CodeLine) → slice_get xs k ≡ Some x → Holds image (climb pc k) (aimed_at place (climb pc k) x.line x.target) × IsPlaceOf place (climb pc k) x.label) → StandFrom image place pc xs
@@ -101,9 +99,9 @@ pub stand : StandLaw
 stand image parts code place linkable linked places s p part is_part =
     let first : ℕ = first_of parts p in
     stand_each image place (address first) (code_lines part.lines.items) (λ k x e.
-        let b = behind part.lines.items k x e in
-        let q : climb (address first) k ≡ address (first + k) = (let z = climb_is (address first) k in omega arith) in
-        let here : Holds image (address (first + k)) (aimed_at place (address (first + k)) (line_of b.line.instr) b.line.target) = line_stands image parts code place linkable linked places s p k part b.line is_part b.there b.line.target refl in
-        let label : IsPlaceOf place (address (first + k)) b.line.label = placed_label parts place (first + k) b.line places (line_in parts p k part b.line is_part b.there) b.line.label refl in
-        subst (λ (z : CodeLine). Holds image (climb (address first) k) (aimed_at place (climb (address first) k) z.line z.target) × IsPlaceOf place (climb (address first) k) z.label) b.is
-        (subst (λ (z : ℕ). Holds image z (aimed_at place z (line_of b.line.instr) b.line.target) × IsPlaceOf place z b.line.label) (sym q) (here, label)))
+    let b = behind part.lines.items k x e in
+    let q : climb (address first) k ≡ address (first + k) = (let z = climb_is (address first) k in omega arith) in
+    let here : Holds image (address (first + k)) (aimed_at place (address (first + k)) (line_of b.line.instr) b.line.target) = line_stands image parts code place linkable linked places s p k part b.line is_part b.there b.line.target refl in
+    let label : IsPlaceOf place (address (first + k)) b.line.label = placed_label parts place (first + k) b.line places (line_in parts p k part b.line is_part b.there) b.line.label refl in
+    subst (λ (z : CodeLine). Holds image (climb (address first) k) (aimed_at place (climb (address first) k) z.line z.target) × IsPlaceOf place (climb (address first) k) z.label) b.is
+    (subst (λ (z : ℕ). Holds image z (aimed_at place z (line_of b.line.instr) b.line.target) × IsPlaceOf place z b.line.label) (sym q) (here, label)))

@@ -1,14 +1,12 @@
 -- A linked program is what the law of selection asks for.
-use Rattle.std.proofs.Common.{◌≡◌, ◌<◌, ◌≤◌, ℕ, ◌+◌, ◌-◌, ◌^◌, true, List, length, refl, sym, ap, ◌∙◌, subst, arith}
+use Rattle.std.proofs.Common.{◌≡◌, ◌<◌, ℕ, ◌^◌, true, List, length, sym, ap, ◌∙◌, subst, arith}
 use Rattle.std.specs.Prelude.{nat_lt, if◌then◌else◌}
 use Rattle.std.proofs.lemmas.Bool.Decides.{nat_tests}
-use Rattle.im_mem.specs.Memory.{Mem}
 use Rattle.im_rv.specs.Steps.{sum_of}
 use Rattle.im_rv.specs.Code.{address}
-use Rattle.im_reach.specs.Instructions.{Holds, jumping}
 use Rattle.im_reach.specs.Routines.{SavesAt}
 use Rattle.im_link.specs.Parts.{first_of, last_of}
-use Rattle.im_rtlib.specs.Routines.{stack_label, stack}
+use Rattle.im_rtlib.specs.Routines.{stack_label}
 use Rattle.im_runtime.specs.Standing.{StandFrom, distance}
 use Rattle.im_runtime.specs.Laws.{Serves}
 use Rattle.im_runtime.proofs.Assumed.{serves_law}

@@ -1,5 +1,5 @@
 -- What linked parts are in memory.
-use Rattle.std.specs.Prelude.{◌≡◌, ◌≤◌, ◌<◌, ℕ, ◌+◌, ◌^◌, List, [], length, Some, slice_get, slice_index}
+use Rattle.std.specs.Prelude.{◌≡◌, ◌≤◌, ◌<◌, ℕ, ◌+◌, List, [], length, Some, slice_get, slice_index}
 use Rattle.im_num.specs.declared.kind.Kind.{Kind}
 use Rattle.im_num.specs.declared.values.Cause.{Cause}
 use Rattle.im_num.specs.declared.values.Cause.TheVariants.{Dep}
@@ -19,7 +19,7 @@ use Rattle.im_store.specs.Statics.{static_shapes, static_values}
 use Rattle.im_operators.specs.Tables.{cell_word}
 use Rattle.im_block.specs.declared.unit.Function.{Function}
 use Rattle.im_block.specs.declared.unit.Unit.{Unit as Code}
-use Rattle.im_block.specs.Meaning.{Setting, shapes_of, statics_of}
+use Rattle.im_block.specs.Meaning.{Setting, statics_of}
 use Rattle.im_block.specs.Wellformed.{accesses_of_blocks}
 use Rattle.im_selecting.specs.Selects.{causes_of_blocks}
 use Rattle.im_select.specs.Linking.{Linking, LaidOut, Means, frame_of, limit_of}

@@ -1,5 +1,5 @@
 -- The parts of a program's code, in order: recovery, the checkpoint, the routines, the functions, and the lines that begin.
-use Rattle.std.specs.Prelude.{◌≡◌, ◌<◌, ℕ, ◌+◌, List, [], ◌∷◌, map, length, take, Some, slice_get}
+use Rattle.std.specs.Prelude.{◌≡◌, ◌<◌, ℕ, ◌+◌, List, ◌∷◌, map, length, take, Some, slice_get}
 use Rattle.im_rv.specs.declared.code.Part.{Part}
 use Rattle.im_rv.specs.Lines.{CodeLine, code_lines, plain_line}
 use Rattle.im_link.specs.Parts.{IsPart}

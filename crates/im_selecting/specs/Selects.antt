@@ -3,11 +3,10 @@ use Rattle.std.specs.Prelude.{◌≡◌, ◌⊎◌, ◌<◌, ◌≤◌, ℕ, ◌
 use Rattle.im_num.specs.declared.values.Cause.{Cause}
 use Rattle.im_rv.specs.declared.instr.Op.TheVariants.{Jal}
 use Rattle.im_rv.specs.Lines.{CodeLine}
-use Rattle.im_store.specs.Objects.{Name, Named, Slot}
+use Rattle.im_store.specs.Objects.{Named, Slot}
 use Rattle.im_block.specs.declared.code.Line.{Line}
 use Rattle.im_block.specs.declared.code.Line.TheVariants.{Cut}
 use Rattle.im_block.specs.declared.code.Block.{Block}
-use Rattle.im_block.specs.declared.unit.Function.{Function}
 use Rattle.im_block.specs.Shape.{placed_cost}
 use Rattle.im_block.specs.Wellformed.{accesses_of_blocks, ExitThere}
 use Rattle.im_placed.specs.Operands.{HasObject}
