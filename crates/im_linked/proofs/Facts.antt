@@ -17,6 +17,7 @@ use Rattle.im_block.specs.declared.unit.Function.{Function}
 use Rattle.im_block.specs.declared.unit.Unit.{Unit as Code}
 use Rattle.im_selecting.specs.Emitted.{entry_label}
 use Rattle.im_selecting.specs.Selects.{accesses_in, causes_in, HasLabel, IsTarget}
+use Rattle.im_frame.specs.declared.layout.Layout.{Layout}
 use Rattle.im_linked.specs.Program.{HasCode, IsProgram, part_of, start_code, given_at}
 use Rattle.im_linked.specs.Laws.{Within, NamesOwn, NamesAccesses}
 use Rattle.im_linked.proofs.Runtimes.{saved_there}
@@ -90,7 +91,7 @@ putchar_names (suc (suc zero)) read write e = absurd (no e)
     no q = cc
 putchar_names (suc (suc (suc k))) read write e = absurd cc
 
-module _ (u : Code) (statics : List ℕ) (parts : List Part) (program : IsProgram u statics parts) where
+module _ (u : Code) (statics : List ℕ) (layouts : List Layout) (parts : List Part) (program : IsProgram u statics layouts parts) where
   recovers : Facts u.functions.items parts 0
   recovers = known_facts u.functions.items parts 0 0 checkpoint_at (map plain_line recovery) program.saves program.recovers refl refl refl (no_causes [])
 

@@ -25,6 +25,7 @@ use Rattle.im_select.specs.Symbolic.{Lines, StandsIn, IsSelected, IsLaid, spot_o
 use Rattle.im_select.proofs.Lift.{lines, frame}
 use Rattle.im_selecting.specs.Emitted.{entry_label}
 use Rattle.im_selecting.specs.Selects.{Agrees}
+use Rattle.im_frame.specs.declared.layout.Layout.{Layout}
 use Rattle.im_linked.specs.Program.{IsProgram, part_of, first_label, given_at}
 use Rattle.im_linked.specs.Linking.{ArePlaces, entry_of, blocks_in, block_of, save_of, linking_of}
 use Rattle.im_linked.specs.Laws.{HasObjects}
@@ -65,11 +66,11 @@ object_there f n h =
       | inr c ↦ (let le = c.0 in absurd (omega arith))
     ]
 
-agrees : (u : Code) (statics : List ℕ) (parts : List Part) (program : IsProgram u statics parts) (p : Linking) (g : Setting) → HasObjects u statics parts program p g → (i : ℕ) (f : Function) (e : slice_get u.functions.items i ≡ Some f) → Agrees (lines_at u.functions.items i (program.functions i f e).code p.at) (given_at u.functions.items statics i f (program.functions i f e).layout)
-agrees u statics parts program p g objects i f e =
+agrees : (u : Code) (statics : List ℕ) (layouts : List Layout) (parts : List Part) (program : IsProgram u statics layouts parts) (p : Linking) (g : Setting) → HasObjects u statics layouts p g → (i : ℕ) (f : Function) (e : slice_get u.functions.items i ≡ Some f) → Agrees (lines_at u.functions.items i (program.functions i f e).code p.at) (given_at u.functions.items statics i f (program.functions i f e).layout)
+agrees u statics layouts parts program p g objects i f e =
     let part = program.functions i f e in
     let places = part.selectable.places in
-    let has = objects.frames i f e in
+    let has = objects.frames i f part.layout e part.is_layout in
     record {
       statics = λ n h. objects.addresses n h ∙ sym (ap (λ b. if b then slice_index statics n else slice_index part.layout.places.items (n - f.first_object)) (below n (length statics) h));
       objects = λ n h.
@@ -87,8 +88,8 @@ agrees u statics parts program p g objects i f e =
       gets = refl;
     }
 
-pub function_at : (u : Code) (statics : List ℕ) (parts : List Part) (program : IsProgram u statics parts) (linked : Linked) (place : ℕ → ℕ) (image : Mem) (g : Setting) (at size : Name → ℕ) → IsLinkable parts → IsLinkedCode parts linked → ArePlaces parts place → Stands image 4096 linked.words.items → HasObjects u statics parts program (linking_of u.functions.items place linked image at size) g → (i : ℕ) (f : Function) → slice_get u.functions.items i ≡ Some f → FunctionAt (linking_of u.functions.items place linked image at size) g i f
-function_at u statics parts program linked place image g at size linkable is_linked places s objects i f e =
+pub function_at : (u : Code) (statics : List ℕ) (layouts : List Layout) (parts : List Part) (program : IsProgram u statics layouts parts) (linked : Linked) (place : ℕ → ℕ) (image : Mem) (g : Setting) (at size : Name → ℕ) → IsLinkable parts → IsLinkedCode parts linked → ArePlaces parts place → Stands image 4096 linked.words.items → HasObjects u statics layouts (linking_of u.functions.items place linked image at size) g → (i : ℕ) (f : Function) → slice_get u.functions.items i ≡ Some f → FunctionAt (linking_of u.functions.items place linked image at size) g i f
+function_at u statics layouts parts program linked place image g at size linkable is_linked places s objects i f e =
     let fs : List Function = u.functions.items in
     let p : Linking = linking_of fs place linked image at size in
     let part = program.functions i f e in
@@ -100,11 +101,11 @@ function_at u statics parts program linked place image g at size linkable is_lin
     let first : ℕ = first_of parts (part_of i) in
     let within : i < length fs = slice_get_within fs i f e in
     let base : place (entry_of fs i) ≡ address first = ap place (entry_in fs i within) ∙ label_place parts place (part_of i) 0 (entry_label i) part.code places part.there sel.entry ∙ (omega arith) in
-    let framed = frame p g i f part.layout part.selectable.places.layout (objects.frames i f e) (objects.sizes i f e) part.selectable.placed.registers part.selectable.placed.received in
-    let was : IsSelected w part.layout.frame f sel.starts = sel.selected w refl (agrees u statics parts program p g objects i f e) in
+    let framed = frame p g i f part.layout part.selectable.places.layout (objects.frames i f part.layout e part.is_layout) (objects.sizes i part.layout part.is_layout) part.selectable.placed.registers part.selectable.placed.received in
+    let was : IsSelected w part.layout.frame f sel.starts = sel.selected w refl (agrees u statics layouts parts program p g objects i f e) in
     let start_is : (b : ℕ) → b < length f.blocks.items → sel.starts b ≡ starts b = (λ b h. sym (ap (λ t. if t then sel.starts b else 0) (below b count (omega arith)))) in
     let selected : IsSelected w (frame_of g i) f starts =
-    subst (λ (z : ℕ). IsSelected w z f starts) (sym (objects.sizes i f e))
+    subst (λ (z : ℕ). IsSelected w z f starts) (sym (objects.sizes i part.layout part.is_layout))
     (record { prologue = was.prologue; blocks = λ b block t. subst (λ (z : ℕ). StandsIn w part.layout.frame z block.lines.items block.exit) (start_is b (slice_get_within f.blocks.items b block t)) (was.blocks b block t) }) in
     let there = code_stands image parts linked place linkable is_linked places s (part_of i) part.code part.there in
     let laid : IsLaid p i w place starts = record {

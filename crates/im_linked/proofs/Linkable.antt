@@ -16,6 +16,7 @@ use Rattle.im_link.specs.Code.{AreDependencesNamed}
 use Rattle.im_link.proofs.Joining.{line_in}
 use Rattle.im_block.specs.declared.unit.Unit.{Unit as Code}
 use Rattle.im_selecting.specs.Selects.{if_any, accesses_in, causes_in, HasLabel}
+use Rattle.im_frame.specs.declared.layout.Layout.{Layout}
 use Rattle.im_linked.specs.Program.{HasCode, IsProgram, part_of, start_code}
 use Rattle.im_linked.specs.Laws.{Within, NamesAccesses, LinkableLaw}
 use Rattle.im_linked.proofs.Standing.{behind}
@@ -105,9 +106,9 @@ cause_in (y ∷ xs) (suc k) x c e g = by y.cause (cause_in xs k x c e g)
     by None r = r
     by (Some d) r = (suc r.0, r.1)
 
-module _ (u : Code) (statics : List ℕ) (parts : List Part) (program : IsProgram u statics parts) (names : NamesAccesses u) where
+module _ (u : Code) (statics : List ℕ) (layouts : List Layout) (parts : List Part) (program : IsProgram u statics layouts parts) (names : NamesAccesses u) where
   facts : (p : ℕ) (part : Part) → IsPart parts p part → Facts u.functions.items parts p
-  facts p part e = facts_of u statics parts program names p (slice_get_within parts p part e)
+  facts p part e = facts_of u statics layouts parts program names p (slice_get_within parts p part e)
 
   labels : AreLabelsApart (lines_of parts)
   labels l i j a b =
@@ -170,9 +171,9 @@ module _ (u : Code) (statics : List ℕ) (parts : List Part) (program : IsProgra
       some (x ∷ xs) e = omega arith
 
 pub linkable : LinkableLaw
-linkable u statics parts program names = record {
-  last = last u statics parts program names;
-  labels = labels u statics parts program names;
-  targets = targets u statics parts program names;
-  dependences = dependences u statics parts program names;
+linkable u statics layouts parts program names = record {
+  last = last u statics layouts parts program names;
+  labels = labels u statics layouts parts program names;
+  targets = targets u statics layouts parts program names;
+  dependences = dependences u statics layouts parts program names;
 }

@@ -23,6 +23,7 @@ use Rattle.im_runtime.specs.Standing.{aimed_at, StandFrom, HasRoutines}
 use Rattle.im_block.specs.declared.unit.Unit.{Unit as Code}
 use Rattle.im_selecting.specs.Selects.{HasLabel}
 use Rattle.im_selecting.proofs.Plain.{label_left, label_right}
+use Rattle.im_frame.specs.declared.layout.Layout.{Layout}
 use Rattle.im_linked.specs.Program.{HasCode, IsProgram, part_of, start_code}
 use Rattle.im_linked.specs.Linking.{ArePlaces}
 use Rattle.im_linked.proofs.Standing.{behind, stand}
@@ -100,8 +101,8 @@ saved_there m low high = label_left (entries 28) (map plain_line ladder) (5 * (m
 first_zero : (parts : List Part) → first_of parts 0 ≡ 0
 first_zero parts = refl
 
-pub routines : (u : Code) (statics : List ℕ) (parts : List Part) (linked : Linked) (place : ℕ → ℕ) (image : Mem) → IsProgram u statics parts → IsLinkable parts → IsLinked parts linked → ArePlaces parts place → Stands image 4096 linked.words.items → ((a : ℕ) → image a < 256) → HasRoutines image place
-routines u statics parts linked place image program a b places s small =
+pub routines : (u : Code) (statics : List ℕ) (layouts : List Layout) (parts : List Part) (linked : Linked) (place : ℕ → ℕ) (image : Mem) → IsProgram u statics layouts parts → IsLinkable parts → IsLinked parts linked → ArePlaces parts place → Stands image 4096 linked.words.items → ((a : ℕ) → image a < 256) → HasRoutines image place
+routines u statics layouts parts linked place image program a b places s small =
     let recovered : first_of parts 1 ≡ 64 = size_of parts 0 (map plain_line recovery) program.recovers in
     let ckpt = code_stands image parts linked place a b places s 1 checkpoint_code program.saves in
     let at_ckpt : address (first_of parts 1) ≡ checkpoint_start = ap address recovered in

@@ -26,18 +26,18 @@ saved : (m : ℕ) → m < 32 → save_of m ≡ m
 saved m h = let t : nat_lt m 32 ≡ true = grind (arith, nat_tests) in ap (λ b. if b then m else stack_label) t
 
 pub linked : LinkedLaw
-linked u statics parts program code place image g at size linkable is_linked places loaded objects =
+linked u statics layouts parts program code place image g at size linkable is_linked places loaded objects =
     let fs : List Function = u.functions.items in
     let p : Linking = linking_of fs place code image at size in
     let n : ℕ = part_of (length fs) in
-    let rs = routines u statics parts code place image program linkable is_linked places loaded.code_there loaded.words.bytes in
+    let rs = routines u statics layouts parts code place image program linkable is_linked places loaded.code_there loaded.words.bytes in
     let serves : Serves (runtime p g) place = serves_law (runtime p g) place rs (omega arith) (omega arith) in
     let last : last_of parts ≡ n = (let c = program.count in omega arith) in
     let at_begin : address (first_of parts n) ≡ code.entry = ap (λ z. address (first_of parts z)) (sym last) ∙ sym is_linked.entry in
     let start : StandFrom image place code.entry (start_code u.main) = subst (λ z. StandFrom image place z (start_code u.main)) at_begin (code_stands image parts code place linkable is_linked places loaded.code_there n (start_code u.main) program.begins) in
     let low : code.entry < 4294967296 = (let a = is_linked.entry in let b = is_linked.inside in let c = is_linked.size in let d = is_linked.fits in omega arith) in
     record {
-      functions = λ i f e. function_at u statics parts program code place image g at size linkable is_linked places loaded.code_there objects i f e;
+      functions = λ i f e. function_at u statics layouts parts program code place image g at size linkable is_linked places loaded.code_there objects i f e;
       first = objects.first;
       statics = objects.statics_there;
       initial = objects.initial;

@@ -22,6 +22,7 @@ use Rattle.im_block.specs.declared.unit.Unit.{Unit as Code}
 use Rattle.im_block.specs.Meaning.{Setting, statics_of}
 use Rattle.im_block.specs.Wellformed.{accesses_of_blocks}
 use Rattle.im_selecting.specs.Selects.{causes_of_blocks}
+use Rattle.im_frame.specs.declared.layout.Layout.{Layout}
 use Rattle.im_select.specs.Linking.{Linking, LaidOut, Means, frame_of, limit_of}
 use Rattle.im_select.specs.Linked.{IsLinked}
 use Rattle.im_select.specs.Symbolic.{Agrees as HasFrame}
@@ -35,9 +36,9 @@ StandLaw =
     (p : ℕ) (part : Part) → IsPart parts p part → StandFrom image place (address (first_of parts p)) (code_lines part.lines.items)
 
 -- the objects of a unit: those of each function in its frame, the statics in memory with their first values
-pub record HasObjects (u : Code) (statics : List ℕ) (parts : List Part) (program : IsProgram u statics parts) (p : Linking) (g : Setting) : Type 0 where
-  pub frames : (i : ℕ) (f : Function) (e : slice_get u.functions.items i ≡ Some f) → HasFrame p f (program.functions i f e).layout
-  pub sizes : (i : ℕ) (f : Function) (e : slice_get u.functions.items i ≡ Some f) → frame_of g i ≡ (program.functions i f e).layout.frame
+pub record HasObjects (u : Code) (statics : List ℕ) (layouts : List Layout) (p : Linking) (g : Setting) : Type 0 where
+  pub frames : (i : ℕ) (f : Function) (l : Layout) → slice_get u.functions.items i ≡ Some f → slice_get layouts i ≡ Some l → HasFrame p f l
+  pub sizes : (i : ℕ) (l : Layout) → slice_get layouts i ≡ Some l → frame_of g i ≡ l.frame
   pub first : p.at Link ≡ 0
   pub addresses : (n : ℕ) → n < length statics → p.at (Named n) ≡ slice_index statics n
   pub statics_there : LaidOut p (static_shapes (statics_of u)) statics_start (statics_start + statics_capacity)
@@ -53,8 +54,8 @@ pub record IsLoaded (image : Mem) (g : Setting) (code : Linked) : Type 0 where
 
 abbrev pub LinkedLaw : Type 0
 LinkedLaw =
-    (u : Code) (statics : List ℕ) (parts : List Part) (program : IsProgram u statics parts) (code : Linked) (place : ℕ → ℕ) (image : Mem) (g : Setting) (at size : Name → ℕ) →
-    IsLinkable parts → IsLinkedCode parts code → ArePlaces parts place → IsLoaded image g code → HasObjects u statics parts program (linking_of u.functions.items place code image at size) g →
+    (u : Code) (statics : List ℕ) (layouts : List Layout) (parts : List Part) → IsProgram u statics layouts parts → (code : Linked) (place : ℕ → ℕ) (image : Mem) (g : Setting) (at size : Name → ℕ) →
+    IsLinkable parts → IsLinkedCode parts code → ArePlaces parts place → IsLoaded image g code → HasObjects u statics layouts (linking_of u.functions.items place code image at size) g →
     IsLinked (linking_of u.functions.items place code image at size) u g
 
 -- a number in a list
@@ -70,4 +71,4 @@ pub record NamesAccesses (u : Code) : Type 0 where
 
 -- so linking may be asked for its parts
 abbrev pub LinkableLaw : Type 0
-LinkableLaw = (u : Code) (statics : List ℕ) (parts : List Part) → IsProgram u statics parts → NamesAccesses u → IsLinkable parts
+LinkableLaw = (u : Code) (statics : List ℕ) (layouts : List Layout) (parts : List Part) → IsProgram u statics layouts parts → NamesAccesses u → IsLinkable parts

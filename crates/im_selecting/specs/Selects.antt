@@ -35,7 +35,7 @@ pub record IsClosedBlock (given : Given) (block : Block) : Type 0 where
   pub calls : All (CallsBelow given.functions) block.lines.items
   pub edges : ExitThere (length given.function.blocks.items) block.exit
 
--- what is asked: placed code, whose given have their places and labels
+-- what is asked: placed code, whose names have their places and labels
 pub record IsSelectable (given : Given) (i : ℕ) : Type 0 where
   pub places : HasPlaces given
   pub placed : IsPlacedFunction (length given.statics) given.function
