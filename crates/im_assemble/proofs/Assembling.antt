@@ -1,10 +1,10 @@
 -- The parts of a unit's functions are those of a program.
-use Rattle.std.proofs.Common.{◌≡◌, ◌<◌, ◌≤◌, ◌⊎◌, inl, inr, ℕ, zero, suc, ◌+◌, ◌^◌, Bool, true, false, List, [], ◌∷◌, ◌++◌, Option, Some, None, length, take, get_or, refl, sym, ap, ◌∙◌, subst, arith}
+use Rattle.std.proofs.Common.{◌≡◌, ◌<◌, ◌≤◌, inl, inr, ℕ, zero, suc, ◌+◌, Bool, true, false, List, [], ◌∷◌, Some, length, take, get_or, refl, sym, ap, ◌∙◌, subst, arith}
 use Rattle.std.specs.Prelude.{nat_lt, slice_get, All}
 use Rattle.std.proofs.lemmas.Bool.Decides.{nat_tests}
 use Rattle.std.proofs.lemmas.Option.{slice_get_cases, slice_get_within, get_or_from_slice_get}
 use Rattle.im_rv.specs.declared.code.Part.{Part}
-use Rattle.im_rv.specs.Lines.{CodeLine, code_lines}
+use Rattle.im_rv.specs.Lines.{CodeLine}
 use Rattle.im_block.specs.declared.code.Line.{Line}
 use Rattle.im_block.specs.declared.code.Line.TheVariants.{Call}
 use Rattle.im_block.specs.declared.code.Block.{Block}
@@ -14,14 +14,13 @@ use Rattle.im_block.specs.Shape.{sum_of}
 use Rattle.im_block.specs.Wellformed.{Takes, LineThere, IsBlock, IsFunction}
 use Rattle.im_frame.specs.declared.layout.Layout.{Layout}
 use Rattle.im_placed.specs.Placed.{IsPlacedFunction}
-use Rattle.im_selecting.specs.Emitted.{entry_label}
 use Rattle.im_selecting.specs.Given.{Given}
 use Rattle.im_selecting.specs.Places.{CallsBelow}
 use Rattle.im_selecting.specs.Selects.{IsClosedBlock, IsSelectable, IsSelection}
-use Rattle.im_linked.specs.Program.{HasCode, IsFunctionPart, IsProgram, part_of, first_label, given_at, start_code}
+use Rattle.im_linked.specs.Program.{IsFunctionPart, IsProgram, part_of, first_label, start_code}
 use Rattle.im_assemble.specs.declared.program.Program.{Program}
 use Rattle.im_assemble.specs.Assembled.{IsAssemblable, Adds, IsRuntime, IsNextLabel, AddsFunction, AddsFunctions}
-use Rattle.im_assemble.proofs.Parts.{kept, newest, longer, code_kept, code_new, adds_kept}
+use Rattle.im_assemble.proofs.Parts.{kept, longer, code_kept, code_new, adds_kept}
 
 all_at : {X : Type 0} (P : X → Type 0) (xs : List X) (k : ℕ) (x : X) → All P xs → slice_get xs k ≡ Some x → P x
 all_at P xs k x h e = subst P (get_or_from_slice_get xs k x x e) (h k x (slice_get_within xs k x e))
@@ -40,9 +39,9 @@ label_more functions i f e =
 
 takes_below : (functions : List Function) (i count : ℕ) → Takes (slice_get functions i) count → i < length functions
 takes_below functions i count h = elim (slice_get_cases functions i).1 [
-    | inl c ↦ c.1
-    | inr c ↦ absurd (subst (λ o. Takes o count) c.1 h)
-  ]
+  | inl c ↦ c.1
+  | inr c ↦ absurd (subst (λ o. Takes o count) c.1 h)
+]
 
 calls_below : (functions : List Function) (line : Line) → LineThere functions line → CallsBelow (length functions) line
 calls_below functions (Call to function first count) h = takes_below functions function count h

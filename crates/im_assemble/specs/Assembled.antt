@@ -1,5 +1,5 @@
 -- What is asked of a unit whose parts are assembled; and, for private contracts, how parts grow.
-use Rattle.std.specs.Prelude.{◌≡◌, ◌<◌, ◌≤◌, ℕ, ◌+◌, ◌^◌, List, [], ◌∷◌, ◌++◌, map, length, Some, slice_get, slice_index}
+use Rattle.std.specs.Prelude.{◌≡◌, ◌<◌, ℕ, ◌+◌, ◌^◌, List, [], ◌∷◌, ◌++◌, map, length, Some, slice_get, slice_index}
 use Rattle.im_mem.specs.Map.{statics_start, statics_capacity}
 use Rattle.im_rv.specs.declared.code.Part.{Part}
 use Rattle.im_rv.specs.Lines.{CodeLine, code_lines, plain_line}
@@ -11,7 +11,6 @@ use Rattle.im_block.specs.Wellformed.{IsWellFormed}
 use Rattle.im_frame.specs.declared.layout.Layout.{Layout}
 use Rattle.im_frame.specs.Layout.{IsLayout}
 use Rattle.im_placed.specs.Placed.{IsPlacedCode}
-use Rattle.im_selecting.specs.Selects.{IsSelectable, IsSelection}
 use Rattle.im_linked.specs.Program.{HasCode, IsFunctionPart, first_label}
 use Rattle.im_assemble.specs.declared.program.Program.{Program}
 

@@ -23,7 +23,14 @@ fn label_behind(label: u32, blocks: usize) -> Result<u32, NoMemory>
 }
 
 /// Adds a function's part. `first_block` is the label of its block 0.
-fn push_function(alloc: Global, parts: &mut Vec<Part>, program: &Program, functions: u32, number: u32, first_block: u32) -> Result<(), NoMemory>
+fn push_function(
+    alloc: Global,
+    parts: &mut Vec<Part>,
+    program: &Program,
+    functions: u32,
+    number: u32,
+    first_block: u32,
+) -> Result<(), NoMemory>
     requires assemblable { IsAssemblable program.now }
     requires functions { functions ≡ length program.now.unit.now.functions.items }
     requires number { number < functions }
@@ -44,7 +51,11 @@ fn push_function(alloc: Global, parts: &mut Vec<Part>, program: &Program, functi
 }
 
 /// Adds the parts of all functions.
-pub(crate) fn push_functions(alloc: Global, parts: &mut Vec<Part>, program: &Program) -> Result<(), NoMemory>
+pub(crate) fn push_functions(
+    alloc: Global,
+    parts: &mut Vec<Part>,
+    program: &Program,
+) -> Result<(), NoMemory>
     requires { IsAssemblable program.now }
     ensures adds { OnOk result (AddsFunctions program.now (length program.now.unit.now.functions.items) parts.old.items parts.new.items) }
     ensures labels { OnOk result (entry_label (length program.now.unit.now.functions.items) < 2 ^ 32) }
@@ -52,7 +63,10 @@ pub(crate) fn push_functions(alloc: Global, parts: &mut Vec<Part>, program: &Pro
     let mut first_block = label_behind(FIRST_FREE, program.unit.functions.len())?;
     let functions = first_block - FIRST_FREE;
     for number in 0..functions {
-        let next = label_behind(first_block, program.unit.functions[number as usize].blocks.len())?;
+        let next = label_behind(
+            first_block,
+            program.unit.functions[number as usize].blocks.len(),
+        )?;
         push_function(alloc, parts, program, functions, number, first_block)?;
         first_block = next;
     }

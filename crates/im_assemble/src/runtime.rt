@@ -12,7 +12,12 @@ use im_rv::{Line, Part, plain};
 use std::alloc::Global;
 
 /// Adds a part.
-pub(crate) fn push_part(alloc: Global, parts: &mut Vec<Part>, name: &str, lines: Vec<Line>) -> Result<(), NoMemory>
+pub(crate) fn push_part(
+    alloc: Global,
+    parts: &mut Vec<Part>,
+    name: &str,
+    lines: Vec<Line>,
+) -> Result<(), NoMemory>
     ensures { OnOk result (Adds parts.old.items parts.new.items (code_lines lines.items)) }
 {
     let name = String::from_str(alloc, name)?;

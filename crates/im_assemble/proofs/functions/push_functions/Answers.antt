@@ -1,7 +1,6 @@
-use Rattle.std.proofs.Common.{◌≡◌, ◌<◌, ◌+◌, Some, length, refl, arith}
+use Rattle.std.proofs.Common.{◌≡◌, ◌<◌, Some, length, refl, arith}
 use Rattle.std.specs.Prelude.{slice_get}
 use Rattle.std.proofs.lemmas.Option.{slice_get_read}
-use Rattle.im_linked.specs.Program.{first_label}
 use Rattle.im_assemble.proofs.Assembling.{label_more, functions_on}
 use Rattle.im_assemble.proofs.functions.push_functions.Goals as goal
 

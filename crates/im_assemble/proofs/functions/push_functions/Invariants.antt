@@ -1,4 +1,4 @@
-use Rattle.std.proofs.Common.{◌≡◌, ◌<◌}
+use Rattle.std.proofs.Common.{◌≡◌}
 use Rattle.im_linked.specs.Program.{first_label}
 use Rattle.im_assemble.specs.Assembled.{AddsFunctions}
 use Rattle.im_assemble.proofs.functions.push_functions.Given as goal
