@@ -5,3 +5,4 @@ pub mod Whole
 pub mod Owning
 pub mod Facts
 pub mod Linkable
+pub mod Counting

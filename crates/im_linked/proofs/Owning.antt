@@ -25,7 +25,7 @@ pub data Owner (functions : List Function) (p l : ℕ) : Type 0 where
   Entry : (i : ℕ) → i < length functions → p ≡ part_of i → l ≡ entry_label i → Owner functions p l
   Own : (i b : ℕ) (f : Function) → slice_get functions i ≡ Some f → b < length f.blocks.items → p ≡ part_of i → l ≡ first_label functions i + b → Owner functions p l
 
-sum_step : {X : Type 0} (w : X → ℕ) (xs : List X) (i j : ℕ) (x : X) → slice_get xs i ≡ Some x → i < j → sum_of w (take i xs) + w x ≤ sum_of w (take j xs)
+pub sum_step : {X : Type 0} (w : X → ℕ) (xs : List X) (i j : ℕ) (x : X) → slice_get xs i ≡ Some x → i < j → sum_of w (take i xs) + w x ≤ sum_of w (take j xs)
 sum_step w [] i j x e h = absurd cc
 sum_step w (y ∷ ys) i zero x e h = absurd (omega arith)
 sum_step w (y ∷ ys) zero (suc j) x e h = let same : y ≡ x = cc in let q : w y ≡ w x = ap w same in omega arith

@@ -39,7 +39,7 @@ label_place parts place p k l code places c h =
 pub code_stands : (image : Mem) (parts : List Part) (linked : Linked) (place : ℕ → ℕ) → IsLinkable parts → IsLinked parts linked → ArePlaces parts place → Stands image 4096 linked.words.items → (p : ℕ) (code : List CodeLine) → HasCode parts p code → StandFrom image place (address (first_of parts p)) code
 code_stands image parts linked place a b c d p code h = subst (StandFrom image place (address (first_of parts p))) h.lines (stand image parts linked place a b c d p h.part h.is_part)
 
-size_of : (parts : List Part) (p : ℕ) (code : List CodeLine) → HasCode parts p code → first_of parts (p + 1) ≡ first_of parts p + length code
+pub size_of : (parts : List Part) (p : ℕ) (code : List CodeLine) → HasCode parts p code → first_of parts (p + 1) ≡ first_of parts p + length code
 size_of parts p code h = first_more parts p h.part h.is_part ∙ ap (λ z. first_of parts p + z) (sym (counts h.part.lines.items) ∙ ap (length {A = CodeLine}) h.lines)
   where
     counts : (xs : List Line) → length (code_lines xs) ≡ length xs

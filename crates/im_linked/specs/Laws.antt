@@ -11,7 +11,7 @@ use Rattle.im_rv.specs.Lines.{code_lines}
 use Rattle.im_rv.specs.Code.{address}
 use Rattle.im_reach.specs.Shown.{shown, left}
 use Rattle.im_reach.specs.Routines.{Words}
-use Rattle.im_link.specs.Parts.{IsPart, first_of}
+use Rattle.im_link.specs.Parts.{IsPart, first_of, word_count}
 use Rattle.im_link.specs.Code.{IsLinkable, IsLinked as IsLinkedCode}
 use Rattle.im_runtime.specs.Standing.{StandFrom}
 use Rattle.im_store.specs.Objects.{Name, Named, Link, Shape}
@@ -20,9 +20,11 @@ use Rattle.im_operators.specs.Tables.{cell_word}
 use Rattle.im_block.specs.declared.unit.Function.{Function}
 use Rattle.im_block.specs.declared.unit.Unit.{Unit as Code}
 use Rattle.im_block.specs.Meaning.{Setting, statics_of}
+use Rattle.im_block.specs.Shape.{sum_of, placed_cost}
 use Rattle.im_block.specs.Wellformed.{accesses_of_blocks}
 use Rattle.im_selecting.specs.Selects.{causes_of_blocks}
 use Rattle.im_frame.specs.declared.layout.Layout.{Layout}
+use Rattle.im_placed.specs.Apart.{AllApart}
 use Rattle.im_select.specs.Linking.{Linking, LaidOut, Means, frame_of, limit_of}
 use Rattle.im_select.specs.Linked.{IsLinked}
 use Rattle.im_select.specs.Symbolic.{Agrees as HasFrame}
@@ -72,3 +74,7 @@ pub record NamesAccesses (u : Code) : Type 0 where
 -- so linking may be asked for its parts
 abbrev pub LinkableLaw : Type 0
 LinkableLaw = (u : Code) (statics : List ℕ) (layouts : List Layout) (parts : List Part) → IsProgram u statics layouts parts → NamesAccesses u → IsLinkable parts
+
+-- the words of a program are paid for: 300 for the runtime, and what its functions cost
+abbrev pub WordsLaw : Type 0
+WordsLaw = (u : Code) (statics : List ℕ) (layouts : List Layout) (parts : List Part) → IsProgram u statics layouts parts → AllApart u → word_count parts ≤ 300 + sum_of placed_cost u.functions.items

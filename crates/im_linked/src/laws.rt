@@ -1,4 +1,4 @@
-ghost use Rattle.im_linked.specs.Laws.{LinkableLaw, LinkedLaw, StandLaw};
+ghost use Rattle.im_linked.specs.Laws.{LinkableLaw, LinkedLaw, StandLaw, WordsLaw};
 
 /// The lines of each part of linked code stand one after another, and lead to where their labels
 /// are.
@@ -16,4 +16,10 @@ pub fn linkable_law()
 /// for.
 pub fn linked_law()
     ensures { LinkedLaw }
+{}
+
+/// Where no two cuts stand side by side, a program has at most 300 words more than its functions
+/// cost.
+pub fn words_law()
+    ensures { WordsLaw }
 {}
