@@ -1,0 +1,4 @@
+pub mod Made
+pub mod Make
+pub mod MakeEach
+pub mod MakeStatement
