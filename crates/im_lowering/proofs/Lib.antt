@@ -1,1 +1,3 @@
 pub mod StructCells
+pub mod Rows
+pub mod Growth

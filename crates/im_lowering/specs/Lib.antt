@@ -2,3 +2,4 @@ pub mod Made
 pub mod Make
 pub mod MakeEach
 pub mod MakeStatement
+pub mod MakeUnit

@@ -1,6 +1,6 @@
 -- What the parts of an expression put before the open block, as a function from the code so far. Private contracts alone
 -- speak of this; that it is what the relation asks is proved.
-use Rattle.std.specs.Prelude.{ℕ, suc, ◌+◌, true, false, Bool, List, [], ◌∷◌, length, pos, Option, Some, None, slice_get}
+use Rattle.std.specs.Prelude.{ℕ, suc, ◌+◌, true, false, Bool, List, [], ◌∷◌, length, ℤ, pos, Option, Some, None, slice_get}
 use Rattle.im_num.specs.declared.kind.Kind.{Kind}
 use Rattle.im_num.specs.declared.kind.Kind.TheVariants.{Ptr}
 use Rattle.im_ctype.specs.declared.cell.Cell.{Cell}
@@ -68,29 +68,28 @@ put_copy to pointer place cells m =
 abbrev pub part_offset : p.Prog → ℕ → p.Expr → ℕ
 part_offset g from e = offset_in (slice_get (cells_of_shape (shape_of g e)) from)
 
--- what an expression puts, by the register that takes its value and the one from which on they are free
-abbrev pub Maker : Type 0
-Maker = ℕ → ℕ → Made → Made
+-- the line of an expression that has one behind those of its operands, which are in the register free and the next one
+abbrev pub put_operator : p.Expr → ℕ → ℕ → Made → Made
+put_operator (p.Constant kind z) to free m = put (Put to z) m
+put_operator p.NullPointer to free m = put (PutNull to) m
+put_operator (p.Convert kind e) to free m = put (Convert to kind free) m
+put_operator (p.Unary op kind e) to free m = put (Unary to op kind free) m
+put_operator (p.Binary op kind a b) to free m = put (Compute to op kind free (free + 1)) m
+put_operator (p.Move size back a b) to free m = put (Move to size back free (free + 1)) m
+put_operator (p.MoveBy size a b) to free m = put (Move to size false (free + 1) free) m
+put_operator (p.Distance size a b) to free m = put (Distance to size free (free + 1)) m
+put_operator (p.Compare op kind a b) to free m = put (Compare to op kind free (free + 1)) m
+put_operator (p.Not a) to free m = put (Not to free) m
+put_operator p.Getchar to free m = put (GetChar to) m
+put_operator (p.Putchar e) to free m = put (PutChar to free) m
+put_operator e to free m = m
 
--- two operands, into a register and the next one
-abbrev pub two_made : Maker → Maker → ℕ → Made → Made
-two_made a b free m = a free (free + 1) (b (free + 1) (free + 1 + 1) m)
+-- `&&` and `||`: a block for what follows, and one for the value that is known; then the right operand's truth
+abbrev pub known_made : ℤ → ℕ → Made → Made
+known_made z to m = put (Put to z) (close m)
 
--- `&&` and `||`: a block for what follows, one for the value that is known, and one for the right operand
-abbrev pub right_made : Maker → ℕ → ℕ → ℕ → Made → Made
-right_made b to free join m = b free (free + 1) (put (Not free free) (put (Not to free) (start (Jump join) m)))
-
-abbrev pub and_made : Maker → Maker → ℕ → ℕ → Made → Made
-and_made a b to free m =
-    let short = put (Put to (pos 0)) (close m) in
-    let rest = right_made b to free (length m.blocks) (close short) in
-    a free (free + 1) (start (Branch free (length rest.blocks) (length short.blocks)) (close rest))
-
-abbrev pub or_made : Maker → Maker → ℕ → ℕ → Made → Made
-or_made a b to free m =
-    let short = put (Put to (pos 1)) (close m) in
-    let rest = right_made b to free (length m.blocks) (close short) in
-    a free (free + 1) (start (Branch free (length short.blocks) (length rest.blocks)) (close rest))
+abbrev pub put_known : ℤ → ℕ → ℕ → Made → Made
+put_known z to free m = put (Not free free) (put (Not to free) (start (Jump (length m.blocks)) (close (known_made z to m))))
 
 module _ (g : p.Prog) (first : ℕ) where
   abbrev mutual
@@ -107,14 +106,23 @@ module _ (g : p.Prog) (first : ℕ) where
     make (p.Address a) to free m = make_place a free (put (Address to (place_at first a free)) m)
     make (p.Convert kind e) to free m = make e free (free + 1) (put (Convert to kind free) m)
     make (p.Unary op kind e) to free m = make e free (free + 1) (put (Unary to op kind free) m)
-    make (p.Binary op kind a b) to free m = two_made (make a) (make b) free (put (Compute to op kind free (free + 1)) m)
-    make (p.Move size back a b) to free m = two_made (make a) (make b) free (put (Move to size back free (free + 1)) m)
-    make (p.MoveBy size a b) to free m = two_made (make a) (make b) free (put (Move to size false (free + 1) free) m)
-    make (p.Distance size a b) to free m = two_made (make a) (make b) free (put (Distance to size free (free + 1)) m)
-    make (p.Compare op kind a b) to free m = two_made (make a) (make b) free (put (Compare to op kind free (free + 1)) m)
+    make (p.Binary op kind a b) to free m =
+        make a free (free + 1) (make b (free + 1) (free + 1 + 1) (put (Compute to op kind free (free + 1)) m))
+    make (p.Move size back a b) to free m =
+        make a free (free + 1) (make b (free + 1) (free + 1 + 1) (put (Move to size back free (free + 1)) m))
+    make (p.MoveBy size a b) to free m =
+        make a free (free + 1) (make b (free + 1) (free + 1 + 1) (put (Move to size false (free + 1) free) m))
+    make (p.Distance size a b) to free m =
+        make a free (free + 1) (make b (free + 1) (free + 1 + 1) (put (Distance to size free (free + 1)) m))
+    make (p.Compare op kind a b) to free m =
+        make a free (free + 1) (make b (free + 1) (free + 1 + 1) (put (Compare to op kind free (free + 1)) m))
     make (p.Not a) to free m = make a free (free + 1) (put (Not to free) m)
-    make (p.And a b) to free m = and_made (make a) (make b) to free m
-    make (p.Or a b) to free m = or_made (make a) (make b) to free m
+    make (p.And a b) to free m =
+        let rest = make b free (free + 1) (put_known (pos 0) to free m) in
+        make a free (free + 1) (start (Branch free (length rest.blocks) (length (known_made (pos 0) to m).blocks)) (close rest))
+    make (p.Or a b) to free m =
+        let rest = make b free (free + 1) (put_known (pos 1) to free m) in
+        make a free (free + 1) (start (Branch free (length (known_made (pos 1) to m).blocks) (length rest.blocks)) (close rest))
     make (p.Choose q a b) to free m =
         let joined = close m in
         let other = make b to free joined in

@@ -1,6 +1,7 @@
-ghost use Rattle.std.specs.Prelude.{◌≡◌, ◌+◌, max, [], length, IfOk, OnOk};
+ghost use Rattle.std.specs.Prelude.{◌≡◌, ◌+◌, max, map, [], length, IfOk, OnOk};
+ghost use Rattle.im_block.specs.declared.code.Block.{Block};
 ghost use Rattle.im_lower.specs.Codes.{ends};
-ghost use Rattle.im_lowering.specs.Made.{Made, above_exit, above_line, above_place, close, put, put_read, put_write, start, turn};
+ghost use Rattle.im_lowering.specs.Made.{Made, above_exit, above_line, above_place, close, point_of, put, put_read, put_write, start, turn};
 
 use im_block::{Block, Exit, Line, Place};
 use im_num::{Kind, NoMemory};
@@ -17,6 +18,15 @@ pub(crate) struct Builder {
     exit: Exit,
     accesses: u64,
     registers: u32,
+}
+
+/// The blocks of a function, the number of the access that follows those in it, and how many
+/// registers it uses.
+#[derive(Drop)]
+pub(crate) struct Finished {
+    pub(crate) blocks: Vec<Block>,
+    pub(crate) accesses: u64,
+    pub(crate) registers: u32,
 }
 
 impl std::marker::Model for Builder {
@@ -122,6 +132,19 @@ impl Builder {
         self.lines.clear();
         self.exit = exit;
         Ok(())
+    }
+
+    /// The code, when all is made.
+    pub(crate) fn finish(self) -> Finished
+        ensures blocks { map {A = Block} point_of result.blocks.items ≡ self.blocks }
+        ensures accesses { result.accesses ≡ self.accesses }
+        ensures registers { result.registers ≡ self.registers }
+    {
+        Finished {
+            blocks: self.blocks,
+            accesses: self.accesses,
+            registers: self.registers,
+        }
     }
 
     /// Makes a block, which was made before the loop's body, the loop edge to that body.

@@ -2,6 +2,7 @@ ghost use Rattle.std.specs.Prelude.{◌≡◌, ◌++◌, IfOk, OnOk};
 ghost use Rattle.im_ctype.specs.Layout.{layout_at, layouts, moved};
 ghost use Rattle.im_ctype.specs.Table.{structs_of};
 
+use im_ctype::laws::member_law;
 use im_ctype::{Cell, TypeTable, cells, size_of};
 use im_num::NoMemory;
 use std::alloc::Global;
@@ -14,6 +15,7 @@ pub(crate) fn struct_cells(
 ) -> Result<Vec<Cell>, NoMemory>
     ensures { IfOk result (λ found. found.items ≡ (layout_at (layouts (structs_of types.now)) number).cells) }
 {
+    member_law();
     let mut found = Vec::new(alloc);
     let members = types.members(number);
     let places = types.places(number);

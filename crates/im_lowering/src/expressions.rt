@@ -1,15 +1,36 @@
 ghost use Rattle.std.specs.Prelude.{◌≡◌, ◌+◌, IfOk, OnOk};
 ghost use Rattle.im_typed.specs.ProgramOf.{access_of, expr_of, place_of, program_of};
-ghost use Rattle.im_lowering.specs.Make.{and_made, make, make_place, or_made, part_offset, two_made};
+ghost use Rattle.im_lowering.specs.Make.{make, make_place, part_offset};
 ghost use Rattle.im_lowering.specs.MakeEach.{make_each};
 
 use crate::builder::{Builder, next};
 use crate::cells::struct_cells;
 use crate::lines::{put_change, put_copy, put_increment, put_load, register_at, small};
+use crate::operators::{put_known, put_operator};
 use crate::places::{behind, changed_kind, place_at, shape_of};
 use im_block::{Exit, Line};
 use im_num::NoMemory;
 use im_typed::{Access, Expr, Place, Prog};
+
+/// What the code of a function stands on: the number of the function's first object, and the
+/// register in which statements put values. Registers behind it are free.
+#[derive(Clone, Copy)]
+pub(crate) struct Base {
+    pub(crate) first: u32,
+    pub(crate) low: u32,
+}
+
+/// Puts the code of an expression whose value a statement wants.
+pub(crate) fn lower_value(
+    code: &mut Builder,
+    value: &Expr,
+    prog: &Prog,
+    base: Base,
+) -> Result<(), NoMemory>
+    ensures { OnOk result (code.new ≡ make (program_of prog.now) base.first (expr_of prog.now.types value.now) base.low (base.low + 1) code.old) }
+{
+    lower_expression(code, value, base.low, next(base.low)?, prog, base.first)
+}
 
 /// Puts what designates a place: its pointer, if it has one, into the register `free`.
 #[cycle(expressions)]
@@ -46,104 +67,62 @@ pub(crate) fn lower_expression(
 {
     let above = next(free)?;
     match expression {
-        Expr::Number(_, number) => code.put(Line::Put {
-            to,
-            number: *number,
-        }),
-        Expr::Null => code.put(Line::PutNull { to }),
-        Expr::Getchar => code.put(Line::GetChar { to }),
+        Expr::Number(_, _) | Expr::Null | Expr::Getchar => put_operator(code, expression, to, free),
+        Expr::Convert(_, operand)
+        | Expr::Unary(_, _, operand)
+        | Expr::Not(operand)
+        | Expr::Putchar(operand) => {
+            put_operator(code, expression, to, free)?;
+            lower_expression(code, operand, free, above, prog, first)
+        }
+        Expr::Binary(_, _, left, right)
+        | Expr::Move {
+            pointer: left,
+            by: right,
+            ..
+        }
+        | Expr::MoveBy {
+            by: left,
+            pointer: right,
+            ..
+        }
+        | Expr::Distance { left, right, .. }
+        | Expr::Compare(_, _, left, right) => {
+            put_operator(code, expression, to, free)?;
+            lower_expression(code, right, above, next(above)?, prog, first)?;
+            lower_expression(code, left, free, above, prog, first)
+        }
         Expr::Read(access, place) => {
             put_load(code, *access, to, place_at(place, free, first)?)?;
             lower_place(code, place, free, prog, first)
         }
         Expr::Address(place) => {
-            code.put(Line::Address {
-                to,
-                place: place_at(place, free, first)?,
-            })?;
+            let at = place_at(place, free, first)?;
+            code.put(Line::Address { to, place: at })?;
             lower_place(code, place, free, prog, first)
         }
-        Expr::Convert(kind, operand) => {
-            code.put(Line::Convert {
-                to,
-                kind: *kind,
-                from: free,
+        Expr::And(left, right) => {
+            let fails = put_known(code, 0, to, free)?;
+            lower_expression(code, right, free, above, prog, first)?;
+            let holds = code.close()?;
+            code.start(Exit::Branch {
+                on: free,
+                holds,
+                fails,
             })?;
-            lower_expression(code, operand, free, above, prog, first)
+            lower_expression(code, left, free, above, prog, first)
         }
-        Expr::Unary(op, kind, operand) => {
-            code.put(Line::Unary {
-                to,
-                op: *op,
-                kind: *kind,
-                from: free,
+        Expr::Or(left, right) => {
+            let holds = put_known(code, 1, to, free)?;
+            lower_expression(code, right, free, above, prog, first)?;
+            let fails = code.close()?;
+            code.start(Exit::Branch {
+                on: free,
+                holds,
+                fails,
             })?;
-            lower_expression(code, operand, free, above, prog, first)
+            lower_expression(code, left, free, above, prog, first)
         }
-        Expr::Not(operand) => {
-            code.put(Line::Not { to, from: free })?;
-            lower_expression(code, operand, free, above, prog, first)
-        }
-        Expr::Putchar(operand) => {
-            code.put(Line::PutChar { to, from: free })?;
-            lower_expression(code, operand, free, above, prog, first)
-        }
-        Expr::Binary(op, kind, left, right) => {
-            code.put(Line::Compute {
-                to,
-                op: *op,
-                kind: *kind,
-                left: free,
-                right: above,
-            })?;
-            lower_two(code, left, right, free, prog, first)
-        }
-        Expr::Compare(op, kind, left, right) => {
-            code.put(Line::Compare {
-                to,
-                op: *op,
-                kind: *kind,
-                left: free,
-                right: above,
-            })?;
-            lower_two(code, left, right, free, prog, first)
-        }
-        Expr::Move {
-            size,
-            back,
-            pointer,
-            by,
-        } => {
-            code.put(Line::Move {
-                to,
-                size: *size,
-                back: *back,
-                pointer: free,
-                by: above,
-            })?;
-            lower_two(code, pointer, by, free, prog, first)
-        }
-        Expr::MoveBy { size, by, pointer } => {
-            code.put(Line::Move {
-                to,
-                size: *size,
-                back: false,
-                pointer: above,
-                by: free,
-            })?;
-            lower_two(code, by, pointer, free, prog, first)
-        }
-        Expr::Distance { size, left, right } => {
-            code.put(Line::Distance {
-                to,
-                size: *size,
-                left: free,
-                right: above,
-            })?;
-            lower_two(code, left, right, free, prog, first)
-        }
-        Expr::And(left, right) => lower_and(code, left, right, to, free, prog, first),
-        Expr::Or(left, right) => lower_or(code, left, right, to, free, prog, first),
         Expr::Choose(test, one, other) => {
             let join = code.close()?;
             lower_expression(code, other, to, free, prog, first)?;
@@ -215,89 +194,6 @@ pub(crate) fn lower_expression(
             lower_arguments(code, arguments, free, prog, first)
         }
     }
-}
-
-/// Puts the code of two operands, into the register `free` and the next one.
-#[cycle(expressions)]
-fn lower_two(
-    code: &mut Builder,
-    left: &Expr,
-    right: &Expr,
-    free: u32,
-    prog: &Prog,
-    first: u32,
-) -> Result<(), NoMemory>
-    ensures { OnOk result (code.new ≡ two_made (make (program_of prog.now) first (expr_of prog.now.types left.now)) (make (program_of prog.now) first (expr_of prog.now.types right.now)) free code.old) }
-{
-    let second = next(free)?;
-    lower_expression(code, right, second, next(second)?, prog, first)?;
-    lower_expression(code, left, free, second, prog, first)
-}
-
-/// Puts `left && right`: what follows is a block, so is the 0, and so is the right operand.
-#[cycle(expressions)]
-fn lower_and(
-    code: &mut Builder,
-    left: &Expr,
-    right: &Expr,
-    to: u32,
-    free: u32,
-    prog: &Prog,
-    first: u32,
-) -> Result<(), NoMemory>
-    ensures { OnOk result (code.new ≡ and_made (make (program_of prog.now) first (expr_of prog.now.types left.now)) (make (program_of prog.now) first (expr_of prog.now.types right.now)) to free code.old) }
-{
-    let above = next(free)?;
-    let join = code.close()?;
-    code.put(Line::Put { to, number: 0 })?;
-    let fails = code.close()?;
-    code.start(Exit::Jump(join))?;
-    code.put(Line::Not { to, from: free })?;
-    code.put(Line::Not {
-        to: free,
-        from: free,
-    })?;
-    lower_expression(code, right, free, above, prog, first)?;
-    let holds = code.close()?;
-    code.start(Exit::Branch {
-        on: free,
-        holds,
-        fails,
-    })?;
-    lower_expression(code, left, free, above, prog, first)
-}
-
-/// Puts `left || right`: what follows is a block, so is the 1, and so is the right operand.
-#[cycle(expressions)]
-fn lower_or(
-    code: &mut Builder,
-    left: &Expr,
-    right: &Expr,
-    to: u32,
-    free: u32,
-    prog: &Prog,
-    first: u32,
-) -> Result<(), NoMemory>
-    ensures { OnOk result (code.new ≡ or_made (make (program_of prog.now) first (expr_of prog.now.types left.now)) (make (program_of prog.now) first (expr_of prog.now.types right.now)) to free code.old) }
-{
-    let above = next(free)?;
-    let join = code.close()?;
-    code.put(Line::Put { to, number: 1 })?;
-    let holds = code.close()?;
-    code.start(Exit::Jump(join))?;
-    code.put(Line::Not { to, from: free })?;
-    code.put(Line::Not {
-        to: free,
-        from: free,
-    })?;
-    lower_expression(code, right, free, above, prog, first)?;
-    let fails = code.close()?;
-    code.start(Exit::Branch {
-        on: free,
-        holds,
-        fails,
-    })?;
-    lower_expression(code, left, free, above, prog, first)
 }
 
 /// Puts the code of arguments, into registers side by side from `free` on.

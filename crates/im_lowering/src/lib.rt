@@ -5,4 +5,5 @@ mod builder;
 mod cells;
 mod expressions;
 mod lines;
+mod operators;
 mod places;
