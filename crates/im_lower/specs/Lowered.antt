@@ -34,7 +34,7 @@ abbrev pub kind_of_one : List Cell → Kind
 kind_of_one [] = I32
 kind_of_one (c ∷ cs) = c.kind
 
--- each parameter is written to its object, from the object of a number and the register of a number on
+-- each parameter is written to its object first of all, from the object of a number and the register of a number on
 abbrev pub CodesParameters : ℕ → ℕ → List p.LocalObject → Point → Point → Type 0
 CodesParameters object from [] s t = s ≡ t
 CodesParameters object from (o ∷ os) s t =
@@ -42,9 +42,9 @@ CodesParameters object from (o ∷ os) s t =
     × (s ≡ before (Write (Local object 0) (kind_of_one o.cells) from n) m)
 
 -- the brace of a function: 0 from main, and no value from another one (C11 5.1.2.2.3, 6.9.1)
-abbrev pub brace : (is_main : Bool) → Point
-brace true = before (Put 0 (pos 0)) (ends (Return (Some 0)))
-brace false = ends (Return None)
+abbrev pub brace : (low : ℕ) → (is_main : Bool) → Point
+brace low true = before (Put low (pos 0)) (ends (Return (Some low)))
+brace low false = ends (Return None)
 
 -- the k-th function
 pub record CodesFunction (g : p.Prog) (k : ℕ) (f : p.Func) (code : Function) : Type 0 where
@@ -53,13 +53,14 @@ pub record CodesFunction (g : p.Prog) (k : ℕ) (f : p.Func) (code : Function) :
   pub registers : code.registers ≡ Virtual
   pub slots : code.slots ≡ 0
   pub parameters : code.parameters ≡ f.params
+  pub first_parameter : code.first_parameter ≡ 0
   pub first_object : code.first_object ≡ first_object g k
   pub objects : AreObjects f.objects code.objects.items
   pub start : Point
   pub body : Point
   pub entry : Begins code.blocks.items code.entry start
-  pub passed : CodesParameters code.first_object code.first_parameter (take f.params f.objects) start body
-  pub does : CodesStatement g code.first_object f.objects code.blocks.items f.body 0 0 body (brace (k == g.main))
+  pub passed : CodesParameters code.first_object 0 (take f.params f.objects) start body
+  pub does : CodesStatement g code.first_object f.params f.objects code.blocks.items f.body 0 0 body (brace f.params (k == g.main))
 
 -- a unit that means what the program means
 pub record IsLowered (g : p.Prog) (u : Code) : Type 0 where
@@ -104,7 +105,7 @@ pub record IsSized (g : p.Prog) (f : p.Func) (code : Function) : Type 0 where
   pub exits_there : All (λ (b : Block). ExitThere (length code.blocks.items) b.exit) code.blocks.items
   pub lines_within : All (λ (b : Block). All (LineWithin code.register_count) b.lines.items) code.blocks.items
   pub exits_within : All (λ (b : Block). ExitWithin code.register_count b.exit) code.blocks.items
-  pub received : code.first_parameter + code.parameters ≤ code.register_count
+  pub received : code.parameters ≤ code.register_count
   pub few_registers : code.register_count ≤ func_nodes f
   pub few_turns : loop_edges code ≤ loops_in f.body
   pub small_lines : All (λ (b : Block). All (λ (line : Line). cost line ≤ 50) b.lines.items) code.blocks.items
