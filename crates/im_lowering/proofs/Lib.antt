@@ -1,3 +1,2 @@
 pub mod StructCells
 pub mod Rows
-pub mod Growth

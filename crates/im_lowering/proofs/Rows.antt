@@ -13,9 +13,9 @@ use Rattle.im_block.specs.declared.unit.Object.{Object}
 use Rattle.im_block.specs.declared.code.Line.TheVariants as line
 use Rattle.im_lower.specs.Codes.{count_of}
 use Rattle.im_lower.specs.Statements.{kind_in}
-use Rattle.im_lowering.specs.Made.{Made, put, close}
-use Rattle.im_lowering.specs.Make.{make, make_arguments}
-use Rattle.im_lowering.specs.MakeStatement.{make_statement, make_block, make_labelled, labels_of, put_cases}
+use Rattle.im_made.specs.Made.{Made, put, close}
+use Rattle.im_made.specs.Make.{make, make_arguments}
+use Rattle.im_made.specs.MakeStatement.{make_statement, make_block, make_labelled, labels_of, put_cases}
 use Rattle.im_lowering.specs.MakeEach.{make_each, make_in_order, make_marked, marks_of}
 
 abbrev row_of : Expr → (n : Count) × Row_of-Expr n
@@ -51,12 +51,12 @@ module _ (g : Prog) (first : ℕ) (types : Table) where
 
     labelled_row : (n : _) (row : Row_of-Stmt n) (m : Made) → make_labelled g first low os (stmts_of types row) breaks continues m ≡ make_marked g first types low os breaks continues (items-the_row-Stmt n row) m
     labelled_row n end_of-Stmt m = refl
-    labelled_row n (more_of-Stmt s rest) m = ap (λ x. close (make_statement g first low os (stmt_of types s) breaks continues x)) (labelled_row _ rest m)
+    labelled_row n (more_of-Stmt s rest) m = ap (λ x. make_statement g first low os (stmt_of types s) breaks continues (close x)) (labelled_row _ rest m)
 
     labels_row : (n : _) (row : Row_of-Stmt n) (m : Made) → labels_of g first low os (stmts_of types row) breaks continues m ≡ marks_of g first types low os breaks continues (items-the_row-Stmt n row) m
     labels_row n end_of-Stmt m = refl
     labels_row n (more_of-Stmt s rest) m =
-        let one = λ (x : Made). length (make_statement g first low os (stmt_of types s) breaks continues x).blocks in
+        let one = λ (x : Made). length (make_statement g first low os (stmt_of types s) breaks continues (close x)).blocks in
         ap (λ x. one x ∷ labels_of g first low os (stmts_of types rest) breaks continues m) (labelled_row _ rest m)
         ∙ ap (λ x. one (make_marked g first types low os breaks continues (items-the_row-Stmt _ rest) m) ∷ x) (labels_row _ rest m)
 
@@ -72,11 +72,11 @@ module _ (g : Prog) (first : ℕ) (types : Table) where
     switch_from e ks otherwise labels m =
         make g first (expr_of types e) low (low + 1) (put_cases low (kind_in (shape_of g (expr_of types e))) ks.items otherwise labels m)
 
-    pub switch_made : (e : Expr) (ks : Vec Case Global) (otherwise : ℕ) (ss : Vec Stmt Global) (breaks continues : ℕ) (m : Made) → make_statement g first low os (stmt_of types (rs.Switch e ks otherwise ss)) breaks continues m ≡ switch_from e ks otherwise (marks_of g first types low os (length m.blocks) continues ss.items (close m)) (make_marked g first types low os (length m.blocks) continues ss.items (close m))
+    pub switch_made : (e : Expr) (ks : Vec Case Global) (otherwise : ℕ) (ss : Vec Stmt Global) (breaks continues : ℕ) (m : Made) → make_statement g first low os (stmt_of types (rs.Switch e ks otherwise ss)) breaks continues m ≡ switch_from e ks otherwise (marks_of g first types low os (length m.blocks) continues ss.items (close m)) (close (make_marked g first types low os (length m.blocks) continues ss.items (close m)))
     switch_made e ks otherwise ss breaks continues m =
         let row = block_of (Block ss) in
         let same = items_hidden-the_row-Stmt-0 ss in
         let labels = labels_row low os (length m.blocks) continues row.0 row.1 (close m) ∙ ap (λ x. marks_of g first types low os (length m.blocks) continues x (close m)) same in
         let code = labelled_row low os (length m.blocks) continues row.0 row.1 (close m) ∙ ap (λ x. make_marked g first types low os (length m.blocks) continues x (close m)) same in
-        ap (λ x. switch_from e ks otherwise x (make_labelled g first low os (stmts_of types row.1) (length m.blocks) continues (close m))) labels
-        ∙ ap (λ x. switch_from e ks otherwise (marks_of g first types low os (length m.blocks) continues ss.items (close m)) x) code
+        ap (λ x. switch_from e ks otherwise x (close (make_labelled g first low os (stmts_of types row.1) (length m.blocks) continues (close m)))) labels
+        ∙ ap (λ x. switch_from e ks otherwise (marks_of g first types low os (length m.blocks) continues ss.items (close m)) (close x)) code

@@ -1,6 +1,7 @@
 -- The cells of a struct, from its members as the table has them.
 use Rattle.std.proofs.Common.{◌≡◌, ℕ, zero, suc, ◌≤◌, List, [], ◌∷◌, ◌++◌, map, drop, length, refl, sym, ap, ◌∙◌, subst, Option, Some, None, slice_get}
 use Rattle.std.proofs.Math.ListN.{drop_of_length-le}
+use Rattle.std.proofs.lemmas.List.{append-nil}
 use Rattle.im_ctype.specs.declared.cell.Cell.{Cell}
 use Rattle.im_ctype.specs.declared.member.Member.{Member}
 use Rattle.im_ctype.specs.declared.member.MemberPlace.{MemberPlace}
@@ -30,16 +31,9 @@ module _ (types : Table) where
   no-places [] = refl
   no-places (m ∷ ms) = refl
 
-  drop-none : {X : Type 0} (i : ℕ) → drop {A = X} i [] ≡ []
-  drop-none zero = refl
-  drop-none (suc i) = refl
-
-  -- behind the last place there are no cells
-  pub none_left : (ms : List Member) (ps : List MemberPlace) (i : ℕ) → slice_get ps i ≡ None → row_cells types (drop i ms) (drop i ps) ≡ []
-  none_left ms [] i e = ap (λ ps. row_cells types (drop i ms) ps) (drop-none i) ∙ no-places (drop i ms)
-  none_left ms (p ∷ ps) zero e = absurd (cc)
-  none_left [] (p ∷ ps) (suc i) e = refl
-  none_left (m ∷ ms) (p ∷ ps) (suc i) e = none_left ms ps i e
+  -- behind the last place, and behind the last member, there are no cells
+  pub none_left : (ms : List Member) (ps : List MemberPlace) (i : ℕ) → length ps ≤ i → row_cells types (drop i ms) (drop i ps) ≡ []
+  none_left ms ps i h = ap (λ x. row_cells types (drop i ms) x) (drop_of_length-le ps h) ∙ no-places (drop i ms)
 
   pub no_more : (ms : List Member) (ps : List MemberPlace) (i : ℕ) → length ms ≤ i → row_cells types (drop i ms) (drop i ps) ≡ []
   no_more ms ps i h = ap (λ x. row_cells types x (drop i ps)) (drop_of_length-le ms h)
@@ -50,3 +44,9 @@ module _ (types : Table) where
       rows (members_at types n) (places (structs_of types) n)
       ∙ ap (λ ms. member_cells (layouts (structs_of types)) ms (places (structs_of types) n)) (sym (got-in types.structs n))
       ∙ sym law
+
+  -- all of them are found
+  pub finished : (n : ℕ) (found : List Cell) (ms : List Member) (ps : List MemberPlace) (i : ℕ) → found ++ row_cells types (drop i ms) (drop i ps) ≡ row_cells types ms ps → row_cells types (drop i ms) (drop i ps) ≡ [] → ms ≡ members_at types n → ps ≡ places (structs_of types) n → (layout (structs_of types) (struct n)).cells ≡ member_cells (layouts (structs_of types)) (members_of (structs_of types) n) (places (structs_of types) n) → found ≡ (layout_at (layouts (structs_of types)) n).cells
+  finished n found ms ps i so_far none em ep law =
+      sym (append-nil found) ∙ ap (λ cs. found ++ cs) (sym none) ∙ so_far
+      ∙ ap (λ x. row_cells types x ps) em ∙ ap (λ x. row_cells types (members_at types n) x) ep ∙ all_cells n law

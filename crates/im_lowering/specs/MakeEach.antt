@@ -6,9 +6,9 @@ use Rattle.im_typed.specs.declared.statement.Stmt.{Stmt}
 use Rattle.im_typed.specs.Program.{Prog}
 use Rattle.im_typed.specs.ProgramOf.{expr_of, stmt_of}
 use Rattle.im_block.specs.declared.unit.Object.{Object}
-use Rattle.im_lowering.specs.Made.{Made, close}
-use Rattle.im_lowering.specs.Make.{make}
-use Rattle.im_lowering.specs.MakeStatement.{make_statement}
+use Rattle.im_made.specs.Made.{Made, close}
+use Rattle.im_made.specs.Make.{make}
+use Rattle.im_made.specs.MakeStatement.{make_statement}
 
 module _ (g : Prog) (first : ℕ) (types : Table) where
   -- arguments, side by side from a register on
@@ -22,13 +22,12 @@ module _ (g : Prog) (first : ℕ) (types : Table) where
     make_in_order [] m = m
     make_in_order (s ∷ ss) m = make_statement g first low os (stmt_of types s) breaks continues (make_in_order ss m)
 
-    -- each begins a block, and so does what is behind them
+    -- each begins a block, and so does what is behind them; the first one's is open
     abbrev pub make_marked : List Stmt → Made → Made
-    make_marked [] m = close m
-    make_marked (s ∷ ss) m = close (make_statement g first low os (stmt_of types s) breaks continues (make_marked ss m))
+    make_marked [] m = m
+    make_marked (s ∷ ss) m = make_statement g first low os (stmt_of types s) breaks continues (close (make_marked ss m))
 
     -- the numbers of these blocks
     abbrev pub marks_of : List Stmt → Made → List ℕ
     marks_of [] m = length m.blocks ∷ []
-    marks_of (s ∷ ss) m =
-        length (make_statement g first low os (stmt_of types s) breaks continues (make_marked ss m)).blocks ∷ marks_of ss m
+    marks_of (s ∷ ss) m = length (make_marked (s ∷ ss) m).blocks ∷ marks_of ss m

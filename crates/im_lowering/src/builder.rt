@@ -1,7 +1,7 @@
 ghost use Rattle.std.specs.Prelude.{◌≡◌, ◌+◌, max, map, [], length, IfOk, OnOk};
 ghost use Rattle.im_block.specs.declared.code.Block.{Block};
 ghost use Rattle.im_lower.specs.Codes.{ends};
-ghost use Rattle.im_lowering.specs.Made.{Made, above_exit, above_line, above_place, close, point_of, put, put_read, put_write, start, turn};
+ghost use Rattle.im_made.specs.Made.{Made, above_exit, above_line, above_place, close, point_of, put, put_read, put_write, start, turn};
 
 use im_block::{Block, Exit, Line, Place};
 use im_num::{Kind, NoMemory};
@@ -30,13 +30,13 @@ pub(crate) struct Finished {
 }
 
 impl std::marker::Model for Builder {
-    ghost use Rattle.im_lowering.specs.Made.{Made};
+    ghost use Rattle.im_made.specs.Made.{Made};
 
     ghost Value = { Made };
 
     ghost use Rattle.std.specs.Prelude.{map, reverse};
     ghost use Rattle.im_block.specs.declared.code.Block.{Block};
-    ghost use Rattle.im_lowering.specs.Made.{point_of};
+    ghost use Rattle.im_made.specs.Made.{point_of};
 
     ghost view = { λ b. record { blocks = map {A = Block} point_of b.blocks.items; point = record { rest = reverse b.lines.items; exit = b.exit }; accesses = b.accesses; registers = b.registers } };
 }
@@ -62,7 +62,7 @@ impl Builder {
     }
 
     /// Puts a line before the open block.
-    #[tactic(auto, unfolding(crate::specs::Made::put))]
+    #[tactic(auto, unfolding(im_made::specs::Made::put))]
     pub(crate) fn put(&mut self, line: Line) -> Result<(), NoMemory>
         ensures { OnOk result (self.new ≡ put line self.old) }
     {
@@ -73,7 +73,7 @@ impl Builder {
     }
 
     /// Puts a read of a cell before the open block.
-    #[tactic(auto, unfolding(crate::specs::Made::put_read))]
+    #[tactic(auto, unfolding(im_made::specs::Made::put_read))]
     pub(crate) fn put_read(&mut self, to: u32, place: Place, kind: Kind) -> Result<(), NoMemory>
         ensures { OnOk result (self.new ≡ put_read to place kind self.old) }
     {
@@ -88,7 +88,7 @@ impl Builder {
     }
 
     /// Puts a write of a cell before the open block.
-    #[tactic(auto, unfolding(crate::specs::Made::put_write))]
+    #[tactic(auto, unfolding(im_made::specs::Made::put_write))]
     pub(crate) fn put_write(&mut self, place: Place, kind: Kind, from: u32) -> Result<(), NoMemory>
         ensures { OnOk result (self.new ≡ put_write place kind from self.old) }
     {
@@ -104,7 +104,7 @@ impl Builder {
 
     /// Makes the open block one of the function's, and gives its number. What is open then is a
     /// jump to it.
-    #[tactic(auto, unfolding(crate::specs::Made::close))]
+    #[tactic(auto, unfolding(im_made::specs::Made::close))]
     pub(crate) fn close(&mut self) -> Result<u32, NoMemory>
         ensures number { IfOk result (λ n. n ≡ length self.old.blocks) }
         ensures closed { OnOk result (self.new ≡ close self.old) }
@@ -123,7 +123,7 @@ impl Builder {
     }
 
     /// Drops the open block, and opens one without lines that ends so.
-    #[tactic(auto, unfolding(crate::specs::Made::start))]
+    #[tactic(auto, unfolding(im_made::specs::Made::start))]
     pub(crate) fn start(&mut self, exit: Exit) -> Result<(), NoMemory>
         ensures { OnOk result (self.new ≡ start exit self.old) }
     {
@@ -148,7 +148,7 @@ impl Builder {
     }
 
     /// Makes a block, which was made before the loop's body, the loop edge to that body.
-    #[tactic(auto, unfolding(crate::specs::Made::turn))]
+    #[tactic(auto, unfolding(im_made::specs::Made::turn))]
     pub(crate) fn turn(&mut self, block: u32, body: u32)
         ensures { self.new ≡ turn block body self.old }
     {

@@ -20,12 +20,12 @@ pub(crate) fn struct_cells(
     let members = types.members(number);
     let places = types.places(number);
     for (index, member) in members.iter().enumerate() {
-        let Some(place) = places.get(index) else {
+        if index >= places.len() {
             return Ok(found);
-        };
+        }
         let _size = size_of(member.ty, types);
         let part = cells(alloc, member.ty, types)?;
-        push_moved(&mut found, place.offset, &part)?;
+        push_moved(&mut found, places[index].offset, &part)?;
     }
     Ok(found)
 }

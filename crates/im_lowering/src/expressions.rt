@@ -1,6 +1,6 @@
 ghost use Rattle.std.specs.Prelude.{◌≡◌, ◌+◌, IfOk, OnOk};
 ghost use Rattle.im_typed.specs.ProgramOf.{access_of, expr_of, place_of, program_of};
-ghost use Rattle.im_lowering.specs.Make.{make, make_place, part_offset};
+ghost use Rattle.im_made.specs.Make.{make, make_place, part_offset};
 ghost use Rattle.im_lowering.specs.MakeEach.{make_each};
 
 use crate::builder::{Builder, next};

@@ -4,6 +4,14 @@
 mod builder;
 mod cells;
 mod expressions;
+mod functions;
+mod initialise;
 mod lines;
+mod lower;
 mod operators;
 mod places;
+mod statements;
+mod statics;
+mod switch;
+
+pub use lower::lower;

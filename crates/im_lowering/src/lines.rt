@@ -1,7 +1,7 @@
 ghost use Rattle.std.specs.Prelude.{◌≡◌, ◌+◌, IfOk, OnOk};
 ghost use Rattle.im_typed.specs.ProgramOf.{access_of};
 ghost use Rattle.im_ctype.specs.Table.{Table};
-ghost use Rattle.im_lowering.specs.Make.{put_change, put_copy, put_increment, put_load, put_reads, put_writes};
+ghost use Rattle.im_made.specs.Make.{put_change, put_copy, put_increment, put_load, put_reads, put_writes};
 
 use crate::builder::{Builder, next, sum};
 use crate::places::{changed_kind, further_in};

@@ -1,7 +1,7 @@
 ghost use Rattle.std.specs.Prelude.{◌≡◌, IfOk, OnOk, length};
 ghost use Rattle.im_ctype.specs.Table.{Table};
 ghost use Rattle.im_typed.specs.ProgramOf.{expr_of};
-ghost use Rattle.im_lowering.specs.Make.{known_made, put_known, put_operator};
+ghost use Rattle.im_made.specs.Make.{known_made, put_known, put_operator};
 
 use crate::builder::{Builder, next};
 use im_block::{Exit, Line};

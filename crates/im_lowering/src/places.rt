@@ -5,7 +5,7 @@ ghost use Rattle.im_lower.specs.Codes.{further_in};
 ghost use Rattle.im_typed.specs.ProgramOf.{access_of, expr_of, place_of, program_of};
 ghost use Rattle.im_typed.specs.Typing.{result_shape, shape_of};
 ghost use Rattle.im_typed.specs.Values.{changed_kind};
-ghost use Rattle.im_lowering.specs.Make.{behind, place_at};
+ghost use Rattle.im_made.specs.Make.{behind, place_at};
 
 use crate::builder::{next, sum};
 use im_num::{Kind, NoMemory};

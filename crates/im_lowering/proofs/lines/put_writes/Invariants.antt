@@ -1,5 +1,5 @@
 use Rattle.std.proofs.Common.{◌≡◌, ◌+◌, drop}
-use Rattle.im_lowering.specs.Make.{put_writes}
+use Rattle.im_made.specs.Make.{put_writes}
 use Rattle.im_lowering.proofs.lines.put_writes.Given as goal
 
 -- the writes of the cells from the index on stand

@@ -12,9 +12,9 @@ use Rattle.im_block.specs.declared.code.Place.TheVariants.{Through}
 use Rattle.im_block.specs.declared.code.Line.TheVariants.{Put, PutNull, Convert, Unary, Not, Compute, Compare, Move, Distance, Address, Call, GetChar, PutChar}
 use Rattle.im_block.specs.declared.code.Exit.TheVariants.{Jump, Branch}
 use Rattle.im_lower.specs.Codes.{further_in, count_of}
-use Rattle.im_lowering.specs.Made.{Made, put, put_read, put_write, close, start}
-use Rattle.im_lowering.specs.Make.{place_at, behind, put_load, put_reads, put_writes, put_copy, put_change, changed_in, put_increment, part_offset, known_made, put_known, make_place, make, make_arguments}
-use Rattle.im_lowering.proofs.Growth.{Grows, stays, grows_on, grows_put, grows_read, grows_write, grows_close, grows_start}
+use Rattle.im_made.specs.Made.{Made, put, put_read, put_write, close, start}
+use Rattle.im_made.specs.Make.{place_at, behind, put_load, put_reads, put_writes, put_copy, put_change, changed_in, put_increment, part_offset, known_made, put_known, make_place, make, make_arguments}
+use Rattle.im_made.proofs.Growth.{Grows, stays, grows_on, grows_put, grows_read, grows_write, grows_close, grows_start}
 
 pub load_grows : {m n : Made} (x : p.Access) (to : ℕ) (place : Place) → Grows m n → Grows m (put_load x to place n)
 load_grows (p.Scalar kind) to place h = grows_read to place kind h

@@ -14,7 +14,7 @@ use Rattle.im_block.specs.declared.code.Place.TheVariants.{Static, Local, Throug
 use Rattle.im_block.specs.declared.code.Line.TheVariants.{Put, PutNull, Convert, Unary, Not, Compute, Compare, Move, Distance, Address, Call, GetChar, PutChar}
 use Rattle.im_block.specs.declared.code.Exit.TheVariants.{Jump, Branch}
 use Rattle.im_lower.specs.Codes.{further_in, cells_of_shape, offset_in, count_of}
-use Rattle.im_lowering.specs.Made.{Made, put, put_read, put_write, close, start}
+use Rattle.im_made.specs.Made.{Made, put, put_read, put_write, close, start}
 
 -- where a place is: in a named object, or behind the pointer in the register free
 abbrev pub place_at : ℕ → p.Place → ℕ → Place

@@ -9,7 +9,7 @@ use Rattle.im_block.specs.declared.code.Exit.TheVariants.{Jump, Turn}
 use Rattle.im_block.specs.declared.code.Block.{Block}
 use Rattle.im_num.specs.declared.kind.Kind.{Kind}
 use Rattle.im_lower.specs.Codes.{Point, ends, Begins}
-use Rattle.im_lowering.specs.Made.{Made, point_of, put, put_read, put_write, close, start, turn}
+use Rattle.im_made.specs.Made.{Made, point_of, put, put_read, put_write, close, start, turn}
 
 -- lists
 

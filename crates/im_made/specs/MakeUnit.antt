@@ -11,10 +11,12 @@ use Rattle.im_block.specs.declared.code.Block.{Block}
 use Rattle.im_block.specs.declared.code.Exit.TheVariants.{Return}
 use Rattle.im_block.specs.declared.unit.Registers.TheVariants.{Virtual}
 use Rattle.im_block.specs.declared.unit.Function.{Function}
+use Rattle.im_block.specs.declared.unit.Unit.{Unit as Code}
+use Rattle.im_block.specs.Meaning.{statics_of}
 use Rattle.im_lower.specs.Codes.{ends}
 use Rattle.im_lower.specs.Lowered.{AreObjects}
-use Rattle.im_lowering.specs.Made.{Made, point_of, close}
-use Rattle.im_lowering.specs.MakeStatement.{make_function}
+use Rattle.im_made.specs.Made.{Made, point_of, close}
+use Rattle.im_made.specs.MakeStatement.{make_function}
 
 abbrev pub HasTypes : Table → List TypedObject → Type 0
 HasTypes types objects = All (λ (o : TypedObject). IsIn types o.ty) objects
@@ -40,7 +42,7 @@ pub record FunctionMade (g : Prog) (f : Func) (is_main : Bool) (first accesses :
   pub objects : AreObjects (map (object_of g.types) f.objects.items) made.objects.items
   pub blocks : map {A = Block} point_of made.blocks.items ≡ (close (code_made g f is_main first accesses made)).blocks
   pub register_count : made.register_count ≡ (close (code_made g f is_main first accesses made)).registers
-  pub accesses : next ≡ (close (code_made g f is_main first accesses made)).accesses
+  pub following : next ≡ (close (code_made g f is_main first accesses made)).accesses
   pub entry : made.entry ≡ length (code_made g f is_main first accesses made).blocks
 
 -- how many objects functions have
@@ -61,6 +63,11 @@ FunctionsMade g k first accesses last (f ∷ fs) (c ∷ cs) =
 pub record AllMade (g : Prog) (functions : List Function) : Type 0 where
   pub last : ℕ
   pub each : FunctionsMade g 0 (length g.statics.items) 0 last g.funcs.items functions
+
+pub record UnitMade (g : Prog) (u : Code) : Type 0 where
+  pub statics : statics_of u ≡ (program_of g).statics
+  pub main : u.main ≡ g.main
+  pub functions : AllMade g u.functions.items
 
 -- the types of a program's objects are in its table
 pub record KnowsTypes (g : Prog) : Type 0 where

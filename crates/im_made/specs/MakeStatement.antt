@@ -1,7 +1,6 @@
 -- What statements, the parameters and a whole function put before the open block. Private contracts alone speak of this.
 use Rattle.std.specs.Prelude.{ℕ, suc, ◌+◌, ◌-◌, min, Bool, true, false, if◌then◌else◌, List, [], ◌∷◌, length, map, take, pos, Option, Some, None, slice_get, slice_index_or}
 use Rattle.im_num.specs.declared.kind.Kind.{Kind}
-use Rattle.im_num.specs.declared.kind.Kind.TheVariants.{Ptr}
 use Rattle.im_ctype.specs.declared.cell.Cell.{Cell}
 use Rattle.im_store.specs.declared.operators.Comparison.TheVariants.{Equal}
 use Rattle.im_typed.specs.declared.statement.Case.{Case}
@@ -11,24 +10,18 @@ use Rattle.im_typed.specs.Typing.{shape_of}
 use Rattle.im_typed.specs.Values.{cells_of}
 use Rattle.im_block.specs.declared.unit.Object.{Object}
 use Rattle.im_block.specs.declared.code.Place.TheVariants.{Local}
-use Rattle.im_block.specs.declared.code.Line.{Line}
-use Rattle.im_block.specs.declared.code.Line.TheVariants.{Put, PutNull, Compare}
+use Rattle.im_block.specs.declared.code.Line.TheVariants.{Put, Compare}
 use Rattle.im_block.specs.declared.code.Exit.TheVariants.{Jump, Turn, Branch, Return}
-use Rattle.im_lower.specs.Statements.{kind_in}
+use Rattle.im_lower.specs.Statements.{zero_line, kind_in}
 use Rattle.im_lower.specs.Lowered.{kind_of_one}
-use Rattle.im_lowering.specs.Made.{Made, put, put_write, close, start, turn}
-use Rattle.im_lowering.specs.Make.{put_reads, put_writes, make}
+use Rattle.im_made.specs.Made.{Made, put, put_write, close, start, turn}
+use Rattle.im_made.specs.Make.{put_reads, put_writes, make}
 
 -- each of these has the register in which statements put values; the next ones are free
 
--- zero or null, into a register
-abbrev pub zero_into : ℕ → Kind → Line
-zero_into low Ptr = PutNull low
-zero_into low kind = Put low (pos 0)
-
 -- zero or null into a cell
 abbrev pub put_zero : ℕ → ℕ → Cell → Made → Made
-put_zero low object c m = put (zero_into low c.kind) (put_write (Local object c.offset) c.kind low m)
+put_zero low object c m = put (zero_line low c.kind) (put_write (Local object c.offset) c.kind low m)
 
 -- the cells of an object that no expression of its initialiser gives
 abbrev pub put_rest : ℕ → ℕ → List ℕ → List Cell → Made → Made
@@ -127,7 +120,8 @@ module _ (g : p.Prog) (first low : ℕ) (os : List Object) where
         (start (Jump (length test.blocks)) (turn (length (close m).blocks) (length turns.blocks) (close turns)))
     make_statement (p.Switch e ks otherwise ss) breaks continues m =
         let labelled = make_labelled ss (length m.blocks) continues (close m) in
-        make g first e low (low + 1) (put_cases low (kind_in (shape_of g e)) ks otherwise (labels_of ss (length m.blocks) continues (close m)) labelled)
+        make g first e low (low + 1)
+        (put_cases low (kind_in (shape_of g e)) ks otherwise (labels_of ss (length m.blocks) continues (close m)) (close labelled))
     make_statement p.Break breaks continues m = start (Jump breaks) m
     make_statement p.Continue breaks continues m = start (Jump continues) m
     make_statement (p.Return e) breaks continues m = make_return g first low e m
@@ -137,17 +131,17 @@ module _ (g : p.Prog) (first low : ℕ) (os : List Object) where
     make_block p.no_stmts breaks continues m = m
     make_block (p.more_stmts a rest) breaks continues m = make_statement a breaks continues (make_block rest breaks continues m)
 
-    -- statements in order, each of which begins a block, and so does what is behind them
+    -- statements in order, each of which begins a block, and so does what is behind them; the first one's is open
     pub make_labelled : p.Stmts → ℕ → ℕ → Made → Made
-    make_labelled p.no_stmts breaks continues m = close m
+    make_labelled p.no_stmts breaks continues m = m
     make_labelled (p.more_stmts a rest) breaks continues m =
-        close (make_statement a breaks continues (make_labelled rest breaks continues m))
+        make_statement a breaks continues (close (make_labelled rest breaks continues m))
 
     -- the numbers of these blocks
     pub labels_of : p.Stmts → ℕ → ℕ → Made → List ℕ
     labels_of p.no_stmts breaks continues m = length m.blocks ∷ []
     labels_of (p.more_stmts a rest) breaks continues m =
-        length (make_statement a breaks continues (make_labelled rest breaks continues m)).blocks ∷ labels_of rest breaks continues m
+        length (make_statement a breaks continues (close (make_labelled rest breaks continues m))).blocks ∷ labels_of rest breaks continues m
 
   -- a function's body, and before it its parameters
   abbrev pub make_function : Bool → ℕ → p.Stmt → Made → Made

@@ -14,10 +14,10 @@ use Rattle.im_block.specs.declared.code.Line.TheVariants.{Put, PutNull, Convert,
 use Rattle.im_block.specs.declared.code.Exit.TheVariants.{Jump, Branch}
 use Rattle.im_block.specs.declared.code.Block.{Block}
 use Rattle.im_lower.specs.Codes.{Point, before, ends, Begins, further_in, above, where_of, reads_of, writes_of, count_of, Codes, CodesPlace, CodesArguments}
-use Rattle.im_lowering.specs.Made.{Made, put, put_read, put_write, close, start}
-use Rattle.im_lowering.specs.Make.{place_at, behind, put_load, put_reads, put_writes, put_copy, put_change, put_increment, part_offset, known_made, put_known, make_place, make, make_arguments}
-use Rattle.im_lowering.proofs.Growth.{Grows, stays, grows_on, grows_put, grows_read, grows_write, grows_close, grows_start, Later, later_before, closed_begins}
-use Rattle.im_lowering.proofs.Grown.{place_grows, grows, arguments_grow, change_grows, reads_grow, writes_grow, known_grows, put_known_grows}
+use Rattle.im_made.specs.Made.{Made, put, put_read, put_write, close, start}
+use Rattle.im_made.specs.Make.{place_at, behind, put_load, put_reads, put_writes, put_copy, put_change, put_increment, part_offset, known_made, put_known, make_place, make, make_arguments}
+use Rattle.im_made.proofs.Growth.{Grows, stays, grows_on, grows_put, grows_read, grows_write, grows_close, grows_start, Later, later_before, closed_begins}
+use Rattle.im_made.proofs.Grown.{place_grows, grows, arguments_grow, change_grows, reads_grow, writes_grow, known_grows, put_known_grows}
 
 -- the numbers of the accesses of a copy
 
@@ -126,6 +126,7 @@ module _ (g : p.Prog) (first : ℕ) (later : List Block) where
       }
 
   mutual
+    unfolding put put_read put_write close start
     pub place_coded : (a : p.Place) (free : ℕ) (m : Made) (low : ℕ) → low ≤ length m.blocks → Later low (make_place g first a free m) later → CodesPlace g first later a free (make_place g first a free m).point m.point
     place_coded (p.Static n) free m low le l = refl
     place_coded (p.Local n) free m low le l = refl
@@ -133,7 +134,6 @@ module _ (g : p.Prog) (first : ℕ) (later : List Block) where
     place_coded (p.Member a d) free m low le l = place_coded a free m low le l
 
     pub coded : (e : p.Expr) → Coded e
-    unfolding put put_read put_write close start
     coded (p.Constant kind z) to free m low le l = refl
     coded p.NullPointer to free m low le l = refl
     coded (p.Read (p.Scalar kind) a) to free m low le l =
@@ -189,14 +189,19 @@ module _ (g : p.Prog) (first : ℕ) (later : List Block) where
         let to_begun : Grows m begun = grows_start (Jump (length m.blocks)) (grows_close to_other) in
         let to_one : Grows m one = grows g first a to free to_begun in
         let to_split : Grows m split = grows_start (Branch free (length one.blocks) (length other.blocks)) (grows_close to_one) in
-        let joined : Grows m (close m) = grows_close (stays m) in
-        (length m.blocks, length one.blocks, length other.blocks, one.point, other.point,
-        closed_begins m le (later_before (grows_on begin (grows_on middle last)) l),
-        closed_begins one (further_on low le to_one) (later_before last l),
-        closed_begins other (further_on low le to_other) (later_before (grows_on middle last) l),
-        coded q free (free + 1) split low (further_on low le to_split) l,
-        coded a to free begun low (further_on low le to_begun) (later_before (grows_on (grows_close (stays one)) last) l),
-        coded b to free (close m) low (further_on low le joined) (later_before (grows_on (grows_close (stays other)) (grows_on middle last)) l))
+        let joined : Grows m (close m) = grows_close (stays m) in (
+          length m.blocks,
+          length one.blocks,
+          length other.blocks,
+          one.point,
+          other.point,
+          closed_begins m le (later_before (grows_on begin (grows_on middle last)) l),
+          closed_begins one (further_on low le to_one) (later_before last l),
+          closed_begins other (further_on low le to_other) (later_before (grows_on middle last) l),
+          coded q free (free + 1) split low (further_on low le to_split) l,
+          coded a to free begun low (further_on low le to_begun) (later_before (grows_on (grows_close (stays one)) last) l),
+          coded b to free (close m) low (further_on low le joined) (later_before (grows_on (grows_close (stays other)) (grows_on middle last)) l),
+        )
     coded (p.Comma a b) to free m low le l =
         let n = make g first b to free m in
         let grown : Grows m n = grows g first b to free (stays m) in
@@ -206,9 +211,12 @@ module _ (g : p.Prog) (first : ℕ) (later : List Block) where
         let stored = put_write (place_at first a free) kind to m in
         let n = make g first e to (behind a free) stored in
         let s = (make g first (p.Assign (p.Scalar kind) a e) to free m).point in
-        let P = λ (w : Place) (q : ℕ). Codes g first later e to q n.point (before (Write w kind to m.accesses) m.point) in
-        (n.point, m.accesses, place_coded a free n low (further_on low le (grows g first e to (behind a free) (grows_write (place_at first a free) kind to (stays m)))) l,
-        carry P a free (coded e to (behind a free) stored low le (later_before (place_grows g first a free (stays n)) l)))
+        let P = λ (w : Place) (q : ℕ). Codes g first later e to q n.point (before (Write w kind to m.accesses) m.point) in (
+          n.point,
+          m.accesses,
+          place_coded a free n low (further_on low le (grows g first e to (behind a free) (grows_write (place_at first a free) kind to (stays m)))) l,
+          carry P a free (coded e to (behind a free) stored low le (later_before (place_grows g first a free (stays n)) l)),
+        )
     coded (p.Assign (p.Struct count cells) a e) to free m low le l =
         let at = place_at first a free in
         let from = behind a free in
@@ -220,10 +228,15 @@ module _ (g : p.Prog) (first : ℕ) (later : List Block) where
         let r = reads_point from (from + 1) cells stored in
         let grown : Grows m copied = reads_grow from (from + 1) cells (writes_grow at (from + 1) cells (grows_put (Address to at) (stays m))) in
         let same : copied.point ≡ reads_of from (from + 1) cells r.numbers (writes_of at (from + 1) cells w.numbers (before (Address to at) m.point)) = r.point ∙ ap (λ q. reads_of from (from + 1) cells r.numbers q) w.point in
-        let P = λ (w' : Place) (q : ℕ). Codes g first later e q (q + 1) n.point (reads_of q (q + 1) cells r.numbers (writes_of w' (q + 1) cells w.numbers (before (Address to w') m.point))) in
-        (n.point, r.numbers, w.numbers, r.count, w.count,
-        place_coded a free n low (further_on low le (grows g first e from (from + 1) grown)) l,
-        carry P a free (subst (λ q. Codes g first later e from (from + 1) n.point q) same (coded e from (from + 1) copied low (further_on low le grown) (later_before (place_grows g first a free (stays n)) l))))
+        let P = λ (w' : Place) (q : ℕ). Codes g first later e q (q + 1) n.point (reads_of q (q + 1) cells r.numbers (writes_of w' (q + 1) cells w.numbers (before (Address to w') m.point))) in (
+          n.point,
+          r.numbers,
+          w.numbers,
+          r.count,
+          w.count,
+          place_coded a free n low (further_on low le (grows g first e from (from + 1) grown)) l,
+          carry P a free (subst (λ q. Codes g first later e from (from + 1) n.point q) same (coded e from (from + 1) copied low (further_on low le grown) (later_before (place_grows g first a free (stays n)) l))),
+        )
     coded (p.Update a (NumberBy kind op at) e) to free m low le l =
         let place = place_at first a free in
         let from = behind a free in
@@ -233,9 +246,13 @@ module _ (g : p.Prog) (first : ℕ) (later : List Block) where
         let read = put_read to place kind n in
         let s = (make_place g first a free read).point in
         let P = λ (w : Place) (q : ℕ). CodesPlace g first later a free s (before (Read to w kind n.accesses) n.point) in
-        let Q = λ (w : Place) (q : ℕ). Codes g first later e q (q + 1) n.point (before (Compute to op at to q) (before (Convert to kind to) (before (Write w kind to m.accesses) m.point))) in
-        (n.point, n.accesses, m.accesses, carry P a free (place_coded a free read low (further_on low le (grows_read to place kind grown)) l),
-        carry Q a free (coded e from (from + 1) stored low le (later_before (place_grows g first a free (grows_read to place kind (stays n))) l)))
+        let Q = λ (w : Place) (q : ℕ). Codes g first later e q (q + 1) n.point (before (Compute to op at to q) (before (Convert to kind to) (before (Write w kind to m.accesses) m.point))) in (
+          n.point,
+          n.accesses,
+          m.accesses,
+          carry P a free (place_coded a free read low (further_on low le (grows_read to place kind grown)) l),
+          carry Q a free (coded e from (from + 1) stored low le (later_before (place_grows g first a free (grows_read to place kind (stays n))) l)),
+        )
     coded (p.Update a (PointerBy size back) e) to free m low le l =
         let place = place_at first a free in
         let from = behind a free in
@@ -245,9 +262,13 @@ module _ (g : p.Prog) (first : ℕ) (later : List Block) where
         let read = put_read to place Ptr n in
         let s = (make_place g first a free read).point in
         let P = λ (w : Place) (q : ℕ). CodesPlace g first later a free s (before (Read to w Ptr n.accesses) n.point) in
-        let Q = λ (w : Place) (q : ℕ). Codes g first later e q (q + 1) n.point (before (Move to size back to q) (before (Write w Ptr to m.accesses) m.point)) in
-        (n.point, n.accesses, m.accesses, carry P a free (place_coded a free read low (further_on low le (grows_read to place Ptr grown)) l),
-        carry Q a free (coded e from (from + 1) stored low le (later_before (place_grows g first a free (grows_read to place Ptr (stays n))) l)))
+        let Q = λ (w : Place) (q : ℕ). Codes g first later e q (q + 1) n.point (before (Move to size back to q) (before (Write w Ptr to m.accesses) m.point)) in (
+          n.point,
+          n.accesses,
+          m.accesses,
+          carry P a free (place_coded a free read low (further_on low le (grows_read to place Ptr grown)) l),
+          carry Q a free (coded e from (from + 1) stored low le (later_before (place_grows g first a free (grows_read to place Ptr (stays n))) l)),
+        )
     coded (p.Increment a (NumberBy kind op at) false) to free m low le l =
         let made = put_increment (NumberBy kind op at) false to (behind a free) (place_at first a free) m in
         let s = (make_place g first a free made).point in
@@ -279,6 +300,8 @@ module _ (g : p.Prog) (first : ℕ) (later : List Block) where
     pub arguments_coded : (es : p.Exprs) (free : ℕ) (m : Made) (low : ℕ) → low ≤ length m.blocks → Later low (make_arguments g first es free m) later → CodesArguments g first later es free (make_arguments g first es free m).point m.point
     arguments_coded p.no_exprs free m low le l = refl
     arguments_coded (p.more_exprs e rest) free m low le l =
-        let n = make_arguments g first rest (free + 1) m in
-        (n.point, coded e free (free + 1) n low (further_on low le (arguments_grow g first rest (free + 1) (stays m))) l,
-        arguments_coded rest (free + 1) m low le (later_before (grows g first e free (free + 1) (stays n)) l))
+        let n = make_arguments g first rest (free + 1) m in (
+          n.point,
+          coded e free (free + 1) n low (further_on low le (arguments_grow g first rest (free + 1) (stays m))) l,
+          arguments_coded rest (free + 1) m low le (later_before (grows g first e free (free + 1) (stays n)) l),
+        )
