@@ -7,11 +7,11 @@ mod expressions;
 mod functions;
 mod initialise;
 mod lines;
-mod lower;
 mod operators;
 mod places;
+mod program;
 mod statements;
 mod statics;
 mod switch;
 
-pub use lower::lower;
+pub use program::lower;

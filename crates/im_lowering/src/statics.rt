@@ -2,7 +2,7 @@ ghost use Rattle.std.specs.Prelude.{◌≡◌, All, IfOk, map};
 ghost use Rattle.im_block.specs.Meaning.{constant, static_of};
 ghost use Rattle.im_block.specs.declared.unit.Constant.{Constant as BlockConstant};
 ghost use Rattle.im_block.specs.declared.unit.Static.{Static as BlockStatic};
-ghost use Rattle.im_ctype.specs.Table.{IsIn};
+ghost use Rattle.im_ctype.specs.Table.{IsIn, Table};
 ghost use Rattle.im_typed.specs.ProgramOf as typed;
 ghost use Rattle.im_typed.specs.declared.program.Constant.{Constant as TypedConstant};
 ghost use Rattle.im_typed.specs.declared.program.Static.{Static as TypedStatic};
@@ -45,7 +45,7 @@ fn lower_static(
 }
 
 fn lower_values(alloc: Global, values: &[Constant]) -> Result<Vec<im_block::Constant>, NoMemory>
-    ensures { IfOk result (λ found. map {A = BlockConstant} constant found.items ≡ map {A = TypedConstant} typed.first_of values.now) }
+    ensures { (types : Table) → IfOk result (λ found. map {A = BlockConstant} constant found.items ≡ map {A = TypedConstant} (typed.first_of types) values.now) }
 {
     let mut found = Vec::new(alloc);
     for value in values {
@@ -55,7 +55,7 @@ fn lower_values(alloc: Global, values: &[Constant]) -> Result<Vec<im_block::Cons
 }
 
 fn lower_value(value: Constant) -> im_block::Constant
-    ensures { constant result ≡ typed.first_of value }
+    ensures { (types : Table) → constant result ≡ typed.first_of types value }
 {
     match value {
         Constant::Number(number) => im_block::Constant::Number(number),

@@ -1,6 +1,6 @@
 use Rattle.std.proofs.Common.{◌≡◌, ◌+◌, length, take}
 use Rattle.im_made.specs.MakeUnit.{FunctionsMade, objects_of}
-use Rattle.im_lowering.proofs.lower.lower_functions.Given as goal
+use Rattle.im_lowering.proofs.program.lower_functions.Given as goal
 
 -- the functions before the number are made
 abbrev pub invariant-loop-number : goal.invariant-loop-number
