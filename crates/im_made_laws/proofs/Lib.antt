@@ -1,2 +1,6 @@
 pub mod Counting
 pub mod Steps
+pub mod LineSteps
+pub mod ExpressionSteps
+pub mod Given
+pub mod StatementSteps
