@@ -1,2 +1,4 @@
 pub mod StructCells
 pub mod Rows
+pub mod Taken
+pub mod FunctionsMore

@@ -67,7 +67,12 @@ pub(crate) fn lower_expression(
 {
     let above = next(free)?;
     match expression {
-        Expr::Number(_, _) | Expr::Null | Expr::Getchar => put_operator(code, expression, to, free),
+        Expr::Number(_, number) => code.put(Line::Put {
+            to,
+            number: *number,
+        }),
+        Expr::Null => code.put(Line::PutNull { to }),
+        Expr::Getchar => code.put(Line::GetChar { to }),
         Expr::Convert(_, operand)
         | Expr::Unary(_, _, operand)
         | Expr::Not(operand)

@@ -20,12 +20,6 @@ pub(crate) fn put_operator(
 {
     let above = next(free)?;
     match expression {
-        Expr::Number(_, number) => code.put(Line::Put {
-            to,
-            number: *number,
-        }),
-        Expr::Null => code.put(Line::PutNull { to }),
-        Expr::Getchar => code.put(Line::GetChar { to }),
         Expr::Convert(kind, _) => code.put(Line::Convert {
             to,
             kind: *kind,
@@ -73,7 +67,10 @@ pub(crate) fn put_operator(
             left: free,
             right: above,
         }),
-        Expr::Read(_, _)
+        Expr::Number(_, _)
+        | Expr::Null
+        | Expr::Getchar
+        | Expr::Read(_, _)
         | Expr::Address(_)
         | Expr::And(_, _)
         | Expr::Or(_, _)

@@ -78,12 +78,12 @@ function_lowered g k f first accesses made next h e =
 
 -- the function of a number
 
-record Place (g : Prog) (k first : ℕ) (f : Func) (c : Function) : Type 0 where
-  accesses : ℕ
-  next : ℕ
-  made : FunctionMade g f (k == g.main) first accesses c next
+pub record Place (g : Prog) (k first : ℕ) (f : Func) (c : Function) : Type 0 where
+  pub accesses : ℕ
+  pub next : ℕ
+  pub made : FunctionMade g f (k == g.main) first accesses c next
 
-placed : (g : Prog) (k first accesses last : ℕ) (fs : List Func) (cs : List Function) → FunctionsMade g k first accesses last fs cs → (i : ℕ) (f : Func) (c : Function) → slice_get fs i ≡ Some f → slice_get cs i ≡ Some c → Place g (k + i) (first + objects_of (take i fs)) f c
+pub placed : (g : Prog) (k first accesses last : ℕ) (fs : List Func) (cs : List Function) → FunctionsMade g k first accesses last fs cs → (i : ℕ) (f : Func) (c : Function) → slice_get fs i ≡ Some f → slice_get cs i ≡ Some c → Place g (k + i) (first + objects_of (take i fs)) f c
 placed g k first accesses last [] cs h i f c ef ec = absurd (cc)
 placed g k first accesses last (x ∷ xs) [] h i f c ef ec = absurd (cc)
 placed g k first accesses last (x ∷ xs) (y ∷ ys) h zero f c ef ec =
@@ -117,12 +117,12 @@ module _ (types : Table) where
       ∙ ap (λ n. length (map {A = TypedObject} (object_of types) f.objects.items) + n) (sums fs k)
       ∙ ap (λ n. n + objects_of (take k fs)) (length-map f.objects.items (object_of types))
 
-  record Before (fs : List Func) (k : ℕ) (f : p.Func) : Type 0 where
-    was : Func
-    there : slice_get fs k ≡ Some was
-    same : func_of types was ≡ f
+  pub record Before (fs : List Func) (k : ℕ) (f : p.Func) : Type 0 where
+    pub was : Func
+    pub there : slice_get fs k ≡ Some was
+    pub same : func_of types was ≡ f
 
-  was_there : (fs : List Func) (k : ℕ) (f : p.Func) → slice_get (map {A = Func} (func_of types) fs) k ≡ Some f → Before fs k f
+  pub was_there : (fs : List Func) (k : ℕ) (f : p.Func) → slice_get (map {A = Func} (func_of types) fs) k ≡ Some f → Before fs k f
   was_there [] k f e = absurd (cc)
   was_there (x ∷ xs) zero f e = record { was = x; there = refl; same = cc }
   was_there (x ∷ xs) (suc k) f e =

@@ -70,8 +70,6 @@ part_offset g from e = offset_in (slice_get (cells_of_shape (shape_of g e)) from
 
 -- the line of an expression that has one behind those of its operands, which are in the register free and the next one
 abbrev pub put_operator : p.Expr → ℕ → ℕ → Made → Made
-put_operator (p.Constant kind z) to free m = put (Put to z) m
-put_operator p.NullPointer to free m = put (PutNull to) m
 put_operator (p.Convert kind e) to free m = put (Convert to kind free) m
 put_operator (p.Unary op kind e) to free m = put (Unary to op kind free) m
 put_operator (p.Binary op kind a b) to free m = put (Compute to op kind free (free + 1)) m
@@ -80,7 +78,6 @@ put_operator (p.MoveBy size a b) to free m = put (Move to size false (free + 1) 
 put_operator (p.Distance size a b) to free m = put (Distance to size free (free + 1)) m
 put_operator (p.Compare op kind a b) to free m = put (Compare to op kind free (free + 1)) m
 put_operator (p.Not a) to free m = put (Not to free) m
-put_operator p.Getchar to free m = put (GetChar to) m
 put_operator (p.Putchar e) to free m = put (PutChar to free) m
 put_operator e to free m = m
 

@@ -1,12 +1,12 @@
 -- What code that is being made weighs: its cost in words, its loop edges, and how often it has an access of a number.
 use Rattle.std.proofs.Common.{◌≡◌, ℕ, zero, suc, ◌+◌, ◌<◌, ◌≤◌, ◌==◌, List, [], ◌∷◌, ◌++◌, length, refl, ap, sym, ◌∙◌, subst, arith}
-use Rattle.std.specs.Prelude.{if◌then◌else◌, Some, slice_get, slice_set}
+use Rattle.std.specs.Prelude.{if◌then◌else◌, Some, None, slice_get, slice_set}
 use Rattle.im_num.specs.declared.kind.Kind.{Kind}
 use Rattle.im_block.specs.declared.code.Line.{Line}
 use Rattle.im_block.specs.declared.code.Line.TheVariants.{Read, Write}
 use Rattle.im_block.specs.declared.code.Place.{Place}
 use Rattle.im_block.specs.declared.code.Exit.{Exit}
-use Rattle.im_block.specs.declared.code.Exit.TheVariants.{Jump, Turn}
+use Rattle.im_block.specs.declared.code.Exit.TheVariants.{Jump, Turn, Branch, Return}
 use Rattle.im_block.specs.Shape.{sum_of, turns_of, cost, exit_cost}
 use Rattle.im_block.specs.Wellformed.{accesses_of_line, accesses_of_lines}
 use Rattle.im_lower.specs.Codes.{Point, ends}
@@ -73,7 +73,8 @@ unfolding turn
 turn_total f k body old m e same = ap (λ n. n + f m.point) (sum_set f m.blocks k (ends (Turn old)) (ends (Turn body)) e same)
 
 pub exit_costs : (exit : Exit) → 2 ≤ exit_cost exit
-exit_costs exit = at_least exit
-  where
-    at_least : (exit : Exit) → 2 ≤ exit_cost exit
-    at_least exit = omega arith
+exit_costs (Jump b) = omega arith
+exit_costs (Turn b) = omega arith
+exit_costs (Branch on x y) = omega arith
+exit_costs (Return None) = omega arith
+exit_costs (Return (Some r)) = omega arith

@@ -343,7 +343,7 @@ module _ (g : p.Prog) (f : p.Func) (first low limit : ℕ) (premises : Premises 
         (adds e ty.0 (c + 11) t m _ free (free + 1) lf (omega arith) (omega arith) (omega arith)
         (adds_putchar g low limit to free (register to lt t1) (register free lf (omega arith)) h))
 
-    pub arguments_add : (os : List p.LocalObject) (es : p.Exprs) → AreArguments g f os es → (c t : ℕ) (m n : Made) (free : ℕ) → low ≤ free → free + exprs_nodes es ≤ limit → Step g low limit c t m n → Step g low limit (c + 64 * exprs_nodes es) t m (make_arguments g first es free n)
+    pub arguments_add : (os : List p.LocalObject) (es : p.Exprs) → AreArguments g f os es → (c t : ℕ) (m n : Made) (free : ℕ) → low ≤ free → free + 1 + exprs_nodes es ≤ limit → Step g low limit c t m n → Step g low limit (c + 64 * exprs_nodes es) t m (make_arguments g first es free n)
     arguments_add os p.no_exprs ty c t m n free lf le h = at_most g low limit (c + 64 * 0) t (omega arith) (omega arith) h
     arguments_add [] (p.more_exprs e rest) ty c t m n free lf le h = absurd ty
     arguments_add (o ∷ os) (p.more_exprs e rest) ty c t m n free lf le h =

@@ -4,3 +4,4 @@ pub mod LineSteps
 pub mod ExpressionSteps
 pub mod Given
 pub mod StatementSteps
+pub mod Sized

@@ -56,6 +56,10 @@ each_more : (xs : List ℕ) (n k : ℕ) → n ≤ k → Each (λ x. x < n) xs �
 each_more [] n k le h = tt
 each_more (x ∷ xs) n k le h = let one = h.0 in (omega arith, each_more xs n k le h.1)
 
+turned_length : (k body : ℕ) (last : Made) → length (turn k body last).blocks ≡ length last.blocks
+unfolding turn
+turned_length k body last = length-set last.blocks k (ends (Turn body))
+
 -- the words of a statement, two of which are left for a jump
 abbrev pub words_of : p.Stmt → ℕ
 words_of a = 64 * stmt_nodes a - 2
@@ -192,10 +196,6 @@ module _ (g : p.Prog) (f : p.Func) (first low limit : ℕ) (premises : Premises 
       let same : length (turn (length (close n).blocks) entry last).blocks ≡ length last.blocks = turned_length (length (close n).blocks) entry last in
       let there_too : h < length (turn (length (close n).blocks) entry last).blocks = omega arith in
       step_start g low limit (Jump h) 0 0 there_too there_too tt (omega arith) (omega arith) (omega arith) set
-    where
-      turned_length : (k body : ℕ) (last : Made) → length (turn k body last).blocks ≡ length last.blocks
-      unfolding turn
-      turned_length k body last = length-set last.blocks k (ends (Turn body))
 
   module _ (os : List Object) (are : AreObjects f.objects os) where
     abbrev Statement : p.Stmt → ℕ → ℕ → Made → Made

@@ -301,6 +301,14 @@ numbered_turn from k body before m was h =
       old = λ a lt. let e : total (point_times a) (turn k body m) ≡ total (point_times a) m = times a in let o = h.old a lt in omega arith;
     }
 
+close_few : (limit : ℕ) (n : Made) → n.registers ≤ limit → (close n).registers ≤ limit
+unfolding close
+close_few limit n le = le
+
+turn_few : (limit k body : ℕ) (n : Made) → n.registers ≤ limit → (turn k body n).registers ≤ limit
+unfolding turn
+turn_few limit k body n le = le
+
 -- a part of the code: words, loop edges, from and to; registers below a number
 module _ (g : p.Prog) (low limit : ℕ) where
   pub record Step (words edges : ℕ) (m n : Made) : Type 0 where
@@ -379,13 +387,9 @@ module _ (g : p.Prog) (low limit : ℕ) where
         good = λ good. good_close g low n (h.good good);
         cost = omega arith;
         turns = omega arith;
-        few = λ few. close_few n (h.few few);
+        few = λ few. close_few limit n (h.few few);
         numbered = λ from k. numbered_close from n (h.numbered from k);
       }
-    where
-      close_few : (n : Made) → n.registers ≤ limit → (close n).registers ≤ limit
-      unfolding close
-      close_few n le = le
 
   pub step_start : {c t : ℕ} {m n : Made} (exit : Exit) (words edges : ℕ) → Descends exit (length n.blocks) → ExitThere (length n.blocks) exit → ExitFrom low exit → above_exit exit ≤ limit → exit_cost exit ≤ words + 2 → turns_of exit ≤ edges → Step c t m n → Step (c + words) (t + edges) m (start exit n)
   unfolding start
@@ -415,10 +419,6 @@ module _ (g : p.Prog) (low limit : ℕ) where
         good = λ good. good_turn g low k body n there (h.good good);
         cost = omega arith;
         turns = omega arith;
-        few = λ few. turn_few n (h.few few);
+        few = λ few. turn_few limit k body n (h.few few);
         numbered = λ from o. numbered_turn from k body before n was (h.numbered from o);
       }
-    where
-      turn_few : (n : Made) → n.registers ≤ limit → (turn k body n).registers ≤ limit
-      unfolding turn
-      turn_few n le = le

@@ -3,8 +3,8 @@ use Rattle.im_ctype.specs.Table.{structs_of}
 use Rattle.im_lowering.proofs.StructCells.{none_left, no_more, finished}
 use Rattle.im_lowering.proofs.cells.struct_cells.Goals as goal
 
-pub returns-then-index-len : goal.returns-then-index-len
-returns-then-index-len c =
+pub returns-then-index-places : goal.returns-then-index-len
+returns-then-index-places c =
     let l = c.loop-index in
     let ms = c.members-members.result.now in
     let ps = c.places-places.result.now in

@@ -1,7 +1,7 @@
-use Rattle.std.proofs.Common.{◌≡◌, rules, ap, subst, sym, refl}
+use Rattle.std.proofs.Common.{rules, ap}
 use Rattle.im_typed.specs.declared.expression.Expr.{Expr}
 use Rattle.im_typed.specs.ProgramOf.{expr_of, program_of}
-use Rattle.im_made.specs.Make.{make, put_operator}
+use Rattle.im_made.specs.Make.{make}
 use Rattle.im_lowering.proofs.Rows.{call_made}
 use Rattle.im_lowering.proofs.expressions.+expressions.Goals as goal
 
@@ -12,12 +12,3 @@ lower_expression-returns-in_ok-put-in-Call t c =
     let same = ap (λ (e : Expr). make g c.args.first (expr_of types e) c.args.to c.args.free c.args.code.now) c.in-Call.is in
     let counted = call_made g c.args.first types c.in-Call.function c.in-Call.arguments c.args.to c.args.free c.args.code.now in
     search (rules, same, counted)
-
-pub lower_expression-returns-in-Number : goal.lower_expression-returns-in-Number
-lower_expression-returns-in-Number t c =
-    let g = program_of c.args.prog.now in
-    let types = c.args.prog.now.types in
-    let P = λ (e : Expr). put_operator (expr_of types e) c.args.to c.args.free c.args.code.now ≡ make g c.args.first (expr_of types e) c.args.to c.args.free c.args.code.now in
-    let same : P c.args.expression.now = subst P (sym c.in-Number.is) refl in
-    let h = c.put_operator.ensures types in
-    search (rules, same, h)
