@@ -2,3 +2,4 @@ pub mod StructCells
 pub mod Rows
 pub mod Taken
 pub mod FunctionsMore
+pub mod StaticParts

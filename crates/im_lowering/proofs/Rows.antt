@@ -1,6 +1,7 @@
 -- What rows of expressions and statements put, as lists.
 use Rattle.std.proofs.Common.{◌≡◌, ℕ, suc, ◌+◌, List, ◌∷◌, length, refl, ap, sym, ◌∙◌, Vec, Global}
 use mathlib.Core.Former.{Count}
+use Rattle.im_num.specs.declared.kind.Kind.{Kind}
 use Rattle.im_ctype.specs.Table.{Table}
 use Rattle.im_typed.specs.declared.expression.Expr.{Expr, Call, Call', Row_of-Expr, end_of-Expr, more_of-Expr, items-the_row-Expr, items_hidden-the_row-Expr-0}
 use Rattle.im_typed.specs.declared.statement.Stmt.{Stmt, Block, Block', Row_of-Stmt, end_of-Stmt, more_of-Stmt, items-the_row-Stmt, items_hidden-the_row-Stmt-0}
@@ -80,3 +81,20 @@ module _ (g : Prog) (first : ℕ) (types : Table) where
         let code = labelled_row low os (length m.blocks) continues row.0 row.1 (close m) ∙ ap (λ x. make_marked g first types low os (length m.blocks) continues x (close m)) same in
         ap (λ x. switch_from e ks otherwise x (close (make_labelled g first low os (stmts_of types row.1) (length m.blocks) continues (close m)))) labels
         ∙ ap (λ x. switch_from e ks otherwise (marks_of g first types low os (length m.blocks) continues ss.items (close m)) (close x)) code
+
+    -- a switch, from what each call gave
+    pub switch_done : (e : Expr) (ks : Vec Case Global) (otherwise : ℕ) (ss : Vec Stmt Global) (breaks continues : ℕ) (m : Made) (join : ℕ) (closed marked done : Made) (block : List Stmt) (cases : List Case) (labels given : List ℕ) (kind : Kind) → join ≡ length m.blocks → closed ≡ close m → block ≡ ss.items → marked ≡ close (make_marked g first types low os join continues block closed) → labels ≡ marks_of g first types low os join continues block closed → given ≡ labels → cases ≡ ks.items → kind ≡ kind_in (shape_of g (expr_of types e)) → done ≡ put_cases low kind cases otherwise given marked → make g first (expr_of types e) low (low + 1) done ≡ make_statement g first low os (stmt_of types (rs.Switch e ks otherwise ss)) breaks continues m
+    switch_done e ks otherwise ss breaks continues m join closed marked done block cases labels given kind ej ec eb em el eg ek ekind ed =
+        let V = λ (x : Made). make g first (expr_of types e) low (low + 1) x in
+        let K = kind_in (shape_of g (expr_of types e)) in
+        let code = λ (j : ℕ) (b : List Stmt) (x : Made). close (make_marked g first types low os j continues b x) in
+        let marks = λ (j : ℕ) (b : List Stmt) (x : Made). marks_of g first types low os j continues b x in
+        ap V ed
+        ∙ ap (λ (k : Kind). V (put_cases low k cases otherwise given marked)) ekind
+        ∙ ap (λ (cs : List Case). V (put_cases low K cs otherwise given marked)) ek
+        ∙ ap (λ (ls : List ℕ). V (put_cases low K ks.items otherwise ls marked)) (eg ∙ el)
+        ∙ ap (λ (x : Made). V (put_cases low K ks.items otherwise (marks join block closed) x)) em
+        ∙ ap (λ (b : List Stmt). V (put_cases low K ks.items otherwise (marks join b closed) (code join b closed))) eb
+        ∙ ap (λ (x : Made). V (put_cases low K ks.items otherwise (marks join ss.items x) (code join ss.items x))) ec
+        ∙ ap (λ (j : ℕ). V (put_cases low K ks.items otherwise (marks j ss.items (close m)) (code j ss.items (close m)))) ej
+        ∙ sym (switch_made e ks otherwise ss breaks continues m)

@@ -28,6 +28,10 @@ pub(crate) fn lower_function(
     requires { HasTypes prog.now.types func.now.objects.items }
     ensures { IfOk result (λ made. FunctionMade prog.now func.now is_main first accesses made.0 made.1) }
 {
+    let bytes = need(func);
+    if bytes == u64::MAX {
+        return Err(NoMemory::OutOfMemory);
+    }
     let objects = lower_objects(alloc, &func.objects, &prog.types)?;
     let base = Base {
         first,
@@ -42,7 +46,7 @@ pub(crate) fn lower_function(
     Ok((
         Function {
             nodes: nodes(func),
-            need: need(func),
+            need: bytes,
             registers: Registers::Virtual,
             register_count: made.registers,
             parameters: func.params,

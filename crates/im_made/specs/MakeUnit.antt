@@ -1,5 +1,5 @@
 -- What the body makes of a function and of all functions. Private contracts alone speak of this.
-use Rattle.std.specs.Prelude.{◌≡◌, ℕ, suc, ◌+◌, ◌-◌, ◌^◌, ◌==◌, min, Bool, List, [], ◌∷◌, None, map, length, All}
+use Rattle.std.specs.Prelude.{◌≡◌, ℕ, suc, ◌+◌, ◌-◌, ◌^◌, ◌<◌, ◌==◌, min, Bool, List, [], ◌∷◌, None, map, length, All}
 use Rattle.im_ctype.specs.Table.{Table, IsIn}
 use Rattle.im_typed.specs.declared.program.Object.{Object as TypedObject}
 use Rattle.im_typed.specs.declared.program.Static.{Static as TypedStatic}
@@ -34,6 +34,7 @@ code_made g f is_main first accesses made =
 pub record FunctionMade (g : Prog) (f : Func) (is_main : Bool) (first accesses : ℕ) (made : Function) (next : ℕ) : Type 0 where
   pub nodes : made.nodes ≡ min (func_nodes (func_of g.types f)) (2 ^ 64 - 1)
   pub need : made.need ≡ min (func_need (func_of g.types f)) (2 ^ 64 - 1)
+  pub small : made.need < 2 ^ 64 - 1
   pub registers : made.registers ≡ Virtual
   pub slots : made.slots ≡ 0
   pub parameters : made.parameters ≡ f.params

@@ -3,7 +3,7 @@ use Rattle.im_ctype.specs.Table.{structs_of}
 use Rattle.im_lowering.proofs.StructCells.{none_left, no_more, finished}
 use Rattle.im_lowering.proofs.cells.struct_cells.Goals as goal
 
-pub returns-then-index-places : goal.returns-then-index-len
+pub returns-then-index-places : goal.returns-then-index-places
 returns-then-index-places c =
     let l = c.loop-index in
     let ms = c.members-members.result.now in

@@ -9,5 +9,4 @@ invariant-loop-number l =
     record {
       first : l.first ≡ length l.prog.statics.items + objects_of done;
       each : FunctionsMade l.prog 0 (length l.prog.statics.items) 0 l.accesses done l.made.items;
-      main : l.main ≡ l.prog.main;
     }
