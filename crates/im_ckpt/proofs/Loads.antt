@@ -8,7 +8,8 @@ use Rattle.im_rv.specs.declared.effect.Effect.TheVariants.{Loads}
 use Rattle.im_rv.specs.declared.effect.Extension.TheVariants.{Zero}
 use Rattle.im_rv.specs.declared.step.Went.TheVariants.{On}
 use Rattle.im_rv.specs.Steps.{Cpu, sum_of, with_reg, word}
-use Rattle.im_rv.specs.Decode.{decode, step_of}
+use Rattle.im_rv.specs.Decode.{decode}
+use Rattle.im_rv.specs.Runs.{step_of}
 use Rattle.im_rv.specs.Encode.{encoded}
 use Rattle.im_rv.specs.Fits.{fits}
 use Rattle.im_rv.specs.Lines.{instruction}

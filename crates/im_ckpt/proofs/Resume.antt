@@ -9,7 +9,7 @@ use Rattle.im_rv.specs.declared.instr.Op.TheVariants.{Bne}
 use Rattle.im_rv.specs.declared.effect.Effect.TheVariants.{Goes, Puts}
 use Rattle.im_rv.specs.declared.step.Went.TheVariants.{On}
 use Rattle.im_rv.specs.Steps.{Cpu, Stepped, sum_of, with_reg}
-use Rattle.im_rv.specs.Decode.{step_of}
+use Rattle.im_rv.specs.Runs.{step_of}
 use Rattle.im_rv.specs.Encode.{encoded}
 use Rattle.im_rv.specs.Lines.{instruction}
 use Rattle.im_rv.proofs.Straight.{puts_step, goes_step}

@@ -6,7 +6,7 @@ use Rattle.std.proofs.lemmas.Bool.{ltb-true, ltb-false}
 use Rattle.std.proofs.lemmas.List.Sums.{sum_by-cons}
 use Rattle.im_rv.specs.declared.step.Went.{Went}
 use Rattle.im_rv.specs.declared.step.Went.TheVariants.{On, Halted, Faulted}
-use Rattle.im_rv.specs.Decode.{step_of}
+use Rattle.im_rv.specs.Runs.{step_of}
 use Rattle.im_rv.specs.Torn.{torn_of}
 use Rattle.im_power.specs.declared.period.Period.{Period}
 use Rattle.im_power.specs.declared.line.Line.{Line}

@@ -7,7 +7,8 @@ use Rattle.std.proofs.lemmas.List.{append-nil}
 use Rattle.im_rv.specs.declared.step.Went.TheVariants.{On, Halted, Faulted}
 use Rattle.im_mem.specs.Memory.{Mem, little, bytes_from, is_place}
 use Rattle.im_rv.specs.Steps.{Cpu, Stepped, sum_of, with_reg}
-use Rattle.im_rv.specs.Decode.{Line, step_of}
+use Rattle.im_rv.specs.Decode.{Line}
+use Rattle.im_rv.specs.Runs.{step_of}
 use Rattle.im_image.specs.declared.form.Form.TheVariants.{TwoLengths}
 use Rattle.im_device.specs.Run.{Moment, run, after_step, counting}
 use Rattle.im_device.specs.Shows.{output_length, output_of, status_of, reason_of}

@@ -5,7 +5,8 @@ use Rattle.std.specs.Prelude.{◌==◌, nat_le, ◌&&◌}
 use Rattle.im_rv.specs.declared.step.Went.TheVariants.{On, Halted}
 use Rattle.im_mem.specs.Memory.{Mem, little, is_place, stored}
 use Rattle.im_rv.specs.Steps.{Cpu, sum_of, with_reg, faulted, done_by}
-use Rattle.im_rv.specs.Decode.{Line, decode, decoded, fetched, step_of}
+use Rattle.im_rv.specs.Decode.{Line, decode}
+use Rattle.im_rv.specs.Runs.{decoded, fetched, step_of}
 use Rattle.im_cmd.specs.Straight.{addi, lui, sb, sw, ebreak}
 use Rattle.im_cmd.proofs.Stores.{with_byte, with_word, little_same}
 

@@ -6,7 +6,7 @@ ghost use Rattle.im_cmd.specs.Straight.{addi, lui, sb, sw, ebreak, call_lines, r
 ghost use Rattle.im_cmd.specs.Compiled.{StandFor};
 
 use im_rv::encode::encode;
-use im_rv::instr::{Instr, Op};
+use im_rv::{Instr, Op};
 
 fn add_immediate(rd: u8, rs1: u8, imm: i32) -> Instr
     requires rd { rd < 32 }

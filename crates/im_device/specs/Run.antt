@@ -5,7 +5,7 @@ use Rattle.im_mem.specs.Map.{index_at, code_start}
 use Rattle.im_rv.specs.declared.step.Went.{Went}
 use Rattle.im_rv.specs.declared.step.Went.TheVariants.{On, Halted, Faulted}
 use Rattle.im_rv.specs.Steps.{Cpu, Stepped, regs_of}
-use Rattle.im_rv.specs.Decode.{step_of}
+use Rattle.im_rv.specs.Runs.{step_of}
 use Rattle.im_rv.specs.Torn.{torn_of}
 
 -- how the run has gone, the processor, the memory, how many steps were made, and how many of them changed INDEX

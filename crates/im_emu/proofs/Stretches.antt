@@ -5,7 +5,7 @@ use Rattle.im_mem.specs.Memory.{Mem, little}
 use Rattle.im_rv.specs.declared.step.Went.{Went}
 use Rattle.im_rv.specs.declared.step.Went.TheVariants.{On, Halted, Faulted}
 use Rattle.im_rv.specs.Steps.{Cpu}
-use Rattle.im_rv.specs.Decode.{step_of}
+use Rattle.im_rv.specs.Runs.{step_of}
 use Rattle.im_rv.specs.Torn.{torn_of}
 use Rattle.im_device.specs.Run.{Moment, one_step, run, torn, counting, index_of}
 use Rattle.im_device.specs.Periods.{Device, fresh, power_up, power_down, powered}

@@ -11,7 +11,8 @@ use Rattle.im_rv.specs.declared.effect.Effect.{Effect}
 use Rattle.im_rv.specs.declared.effect.Effect.TheVariants.{Puts as Gives, Loads, Stores, Stops as Ends}
 use Rattle.im_rv.specs.declared.effect.Extension.TheVariants.{Zero}
 use Rattle.im_rv.specs.Steps.{Stepped, sum_of, row, effected}
-use Rattle.im_rv.specs.Decode.{Line, decoded as done_line, step_of}
+use Rattle.im_rv.specs.Decode.{Line}
+use Rattle.im_rv.specs.Runs.{decoded as done_line, step_of}
 use Rattle.im_path.specs.Sections.{start}
 use Rattle.im_path.proofs.Times.{truth, start_le, start-flip}
 use Rattle.im_rv.specs.Code.{address, instruction_at}

@@ -12,7 +12,8 @@ use Rattle.im_rv.specs.declared.effect.Effect.{Effect}
 use Rattle.im_rv.specs.declared.effect.Extension.{Extension}
 use Rattle.im_rv.specs.declared.effect.Effect.TheVariants.{Puts as Gives, Goes as Leaps, Loads, Stores, Stops as Ends}
 use Rattle.im_rv.specs.Steps.{Cpu, Stepped, sum_of, row, less_signed, effected, loads, faulted}
-use Rattle.im_rv.specs.Decode.{Line, decode, fetched, decoded as done_line, step_of}
+use Rattle.im_rv.specs.Decode.{Line, decode}
+use Rattle.im_rv.specs.Runs.{fetched, decoded as done_line, step_of}
 use Rattle.im_gap.specs.declared.flow.Turn.{Turn}
 use Rattle.im_gap.specs.declared.flow.Turn.TheVariants.{Passes, Jumps, Branches, Returns, Stops}
 use Rattle.im_rv.specs.Code.{address, instruction_at}

@@ -4,7 +4,7 @@ use Rattle.im_mem.specs.Memory.{Mem, Stands}
 use Rattle.im_mem.specs.Map.{code_start}
 use Rattle.im_rv.specs.declared.step.Went.TheVariants.{On}
 use Rattle.im_rv.specs.Steps.{Cpu}
-use Rattle.im_rv.specs.Decode.{step_of}
+use Rattle.im_rv.specs.Runs.{step_of}
 use Rattle.im_rv.specs.Code.{address, instruction_at}
 use Rattle.im_gap.specs.declared.flow.Turn.TheVariants.{Returns, Stops}
 use Rattle.im_gap.specs.Flow.{turn_of, Flow}

@@ -27,14 +27,21 @@ pub record Agrees (store blocks : Store) : Type 0 where
 pub record Home : Type 0 where
   pub function : ℕ
   pub active : Active
-  pub to : ℕ
   pub callers : List Frame
 
+-- which block it is in, and which register took the result of its last call
+pub record Mark : Type 0 where
+  pub block : ℕ
+  pub waits : ℕ
+
+abbrev pub moved : Mark → ℕ → Mark
+moved n b = record { block = b; waits = n.waits }
+
 -- the state of block code at a point, for a state of a typed run
-abbrev pub at : Home → ℕ → Point → (ℕ → Value) → Store → typed.State → State
-at home block point registers store s =
+abbrev pub at : Home → Mark → Point → (ℕ → Value) → Store → typed.State → State
+at home n point registers store s =
     record {
-      frame = record { function = home.function; spot = record { block = block; rest = point.rest; exit = point.exit }; active = home.active; registers = registers; to = home.to };
+      frame = record { function = home.function; spot = record { block = n.block; rest = point.rest; exit = point.exit }; active = home.active; registers = registers; to = n.waits };
       callers = home.callers;
       store = store;
       begun = s.world.activations;
@@ -56,22 +63,26 @@ module _ (u : Code) (g : Setting) where
     pub is : (before : List Event) → exec u g steps s before ≡ Over o (before ++ events)
 
   -- block code has come to a point, with this property of the value, the typed state, the registers and the store
-  pub record Arrives {A : Type 0} (home : Home) (next : Point) (b : State) (P : A → typed.State → (ℕ → Value) → Store → Type 0) (a : A) (t : typed.State) : Type 0 where
-    pub block : ℕ
+  pub record Arrives {A : Type 0} (home : Home) (next : A → Point) (b : State) (P : A → typed.State → (ℕ → Value) → Store → Type 0) (a : A) (t : typed.State) : Type 0 where
+    pub mark : Mark
     pub registers : ℕ → Value
     pub store : Store
-    pub leads : Reaches b (at home block next registers store t)
+    pub leads : Reaches b (at home mark (next a) registers store t)
     pub is : P a t registers store
 
-  -- from a state block code does as a typed run answers
-  abbrev pub DoesAt : {A : Type 0} → Prog → Home → Point → State → (A → typed.State → (ℕ → Value) → Store → Type 0) → Answer A → Type 0
-  DoesAt p home next b P (Gives a t) = Arrives home next b P a t
-  DoesAt p home next b P (Stops (Fails why)) = Unit {0}
-  DoesAt p home next b P (Stops (Starves output)) = Finishes b (More output)
-  DoesAt p home next b P (Stops (Exhausts output store)) = Finishes b (End 1 (pos 0) output (variables p.statics store))
+  abbrev pub FollowsAt : {A : Type 0} → Prog → Home → (A → Point) → State → (A → typed.State → (ℕ → Value) → Store → Type 0) → Answer A → Type 0
+  FollowsAt p home next b P (Gives a t) = Arrives home next b P a t
+  FollowsAt p home next b P (Stops (Fails why)) = Unit {0}
+  FollowsAt p home next b P (Stops (Starves output)) = Finishes b (More output)
+  FollowsAt p home next b P (Stops (Exhausts output store)) = Finishes b (End 1 (pos 0) output (variables p.statics store))
 
-  pub record Does {A : Type 0} (p : Prog) (home : Home) (next : Point) (b : State) (P : A → typed.State → (ℕ → Value) → Store → Type 0) (answer : Answer A) : Type 0 where
-    pub by : DoesAt p home next b P answer
+  -- from a state block code does as a typed run answers; where it comes to depends on what that gives
+  pub record Follows {A : Type 0} (p : Prog) (home : Home) (next : A → Point) (b : State) (P : A → typed.State → (ℕ → Value) → Store → Type 0) (answer : Answer A) : Type 0 where
+    pub by : FollowsAt p home next b P answer
+
+  -- it comes to one point
+  abbrev pub Does : {A : Type 0} → Prog → Home → Point → State → (A → typed.State → (ℕ → Value) → Store → Type 0) → Answer A → Type 0
+  Does p home next b P answer = Follows p home (λ _. next) b P answer
 
 -- a register has the one value of an expression; of void and of a missing result nothing is asked
 abbrev pub HasOne : Values → Value → Type 0

@@ -1,7 +1,7 @@
 -- What statements become. Nothing lives in a register from one statement to the next: each begins with the same register,
 -- here low, and those below it are the parameters'. What follows a `return`, a `break` or a `continue` is a point that
 -- nothing leads to.
-use Rattle.std.specs.Prelude.{◌≡◌, ◌⊎◌, ℕ, zero, suc, ◌+◌, Bool, true, false, if◌then◌else◌, List, [], ◌∷◌, length, pos, Option, Some, None, slice_get}
+use Rattle.std.specs.Prelude.{◌≡◌, ◌⊎◌, ℕ, zero, suc, ◌+◌, if◌then◌else◌, List, [], ◌∷◌, length, pos, Option, Some, None, slice_get}
 use Rattle.im_num.specs.declared.kind.Kind.{Kind}
 use Rattle.im_num.specs.declared.kind.Kind.TheVariants.{I32, Ptr}
 use Rattle.im_ctype.specs.declared.cell.Cell.{Cell}

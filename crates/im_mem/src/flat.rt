@@ -18,16 +18,18 @@ pub struct FlatMem {
 
 impl Model for FlatMem {
     ghost use Rattle.std.specs.Prelude.{◌≡◌, ℕ, List, length};
+    ghost use Rattle.im_mem.specs.Map.{memory_size};
 
     ghost Value = { List ℕ };
 
     ghost view = { λ m. m.bytes.items };
 
-    ghost invariant = { λ m. length m.bytes.items ≡ 5242880 };
+    ghost invariant = { λ m. length m.bytes.items ≡ memory_size };
 }
 
 impl FlatMem {
     ghost use Rattle.std.specs.Prelude.{◌≡◌, ◌≤◌, ◌+◌, length, IfOk};
+    ghost use Rattle.im_mem.specs.Map.{memory_size};
     ghost use Rattle.im_mem.specs.Memory.{view, written, zeroed, bytes_from};
 
     /// Memory whose bytes are all 0.
@@ -41,7 +43,7 @@ impl FlatMem {
 
     /// Writes bytes from an address on.
     pub fn fill(&mut self, at: u32, bytes: &[u8])
-        requires { at + length bytes.now ≤ 5242880 }
+        requires { at + length bytes.now ≤ memory_size }
         ensures { view self.new ≡ written (view self.old) at bytes.now }
     {
         fill(&mut self.bytes, at as usize, bytes);
@@ -49,7 +51,7 @@ impl FlatMem {
 
     /// The `count` bytes from an address on.
     pub fn bytes_at(&self, at: u32, count: u32) -> &[u8]
-        requires { at + count ≤ 5242880 }
+        requires { at + count ≤ memory_size }
         ensures { result.now ≡ bytes_from (view self.now) at count }
     {
         let first = at as usize;

@@ -2,3 +2,4 @@ pub mod Words
 pub mod Arithmetic
 pub mod Division
 pub mod Comparisons
+pub mod Agreement

@@ -8,7 +8,8 @@ use Rattle.im_mem.proofs.Words.{little-alike, little-other, written-above, writt
 use Rattle.im_rv.specs.declared.step.Went.TheVariants.{On, Halted}
 use Rattle.im_rv.specs.declared.effect.Effect.TheVariants.{Puts, Goes, Loads, Stores, Stops}
 use Rattle.im_rv.specs.Steps.{Cpu, Stepped, sum_of, with_reg, extended, row}
-use Rattle.im_rv.specs.Decode.{Line, step_of, runs}
+use Rattle.im_rv.specs.Decode.{Line}
+use Rattle.im_rv.specs.Runs.{step_of, runs}
 use Rattle.im_rv.proofs.Straight.{one_more, halts_here, fetch_is, Fetches, puts_step, goes_step, loads_step, stores_step, stops_step}
 use Rattle.im_reach.specs.Touches.{Touch, Loaded, Stored, touch_of, line_touches, word_touches, touches, touched_on, touched}
 use Rattle.im_rv.specs.declared.effect.Extension.{Extension}

@@ -3,7 +3,7 @@ use Rattle.std.specs.Prelude.{◌≡◌, ◌≤◌, ℕ, zero, suc, List, ◌++�
 use Rattle.im_mem.specs.Memory.{Mem}
 use Rattle.im_rv.specs.declared.step.Went.TheVariants.{Halted}
 use Rattle.im_rv.specs.Steps.{Cpu}
-use Rattle.im_rv.specs.Decode.{runs}
+use Rattle.im_rv.specs.Runs.{runs}
 use Rattle.im_reach.specs.Touches.{Touch, touched}
 use Rattle.im_reach.specs.Shown.{shown, Begins}
 

@@ -7,7 +7,8 @@ use Rattle.im_rv.specs.declared.step.Went.TheVariants.{On, Halted, Faulted}
 use Rattle.im_rv.specs.declared.effect.Effect.{Effect}
 use Rattle.im_rv.specs.declared.effect.Effect.TheVariants.{Puts, Goes, Loads, Stores, Stops}
 use Rattle.im_rv.specs.Steps.{Cpu, row}
-use Rattle.im_rv.specs.Decode.{Line, decode, step_of}
+use Rattle.im_rv.specs.Decode.{Line, decode}
+use Rattle.im_rv.specs.Runs.{step_of}
 
 -- an access to so many bytes from an address on; a store of INDEX, as a flip of the register buffers
 pub data Touch : Type 0 where

@@ -4,7 +4,7 @@ use Rattle.im_mem.specs.Memory.{Mem}
 use Rattle.im_rv.specs.declared.step.Went.{Went}
 use Rattle.im_rv.specs.declared.step.Went.TheVariants.{On, Halted, Faulted}
 use Rattle.im_rv.specs.Steps.{Stepped}
-use Rattle.im_rv.specs.Decode.{step_of}
+use Rattle.im_rv.specs.Runs.{step_of}
 use Rattle.im_rv.proofs.Changes.{ends_calm}
 use Rattle.im_device.specs.Run.{Moment, boot, unless_over, one_step, run}
 use Rattle.im_device.specs.Periods.{fresh, power_up}

@@ -2,7 +2,8 @@
 use Rattle.std.proofs.Common.{◌≡◌, ◌≢◌, ℕ, zero, suc, ◌+◌, ◌*◌, ◌%◌, ◌^◌, ◌<◌, Option, Some, None, refl, sym, ap, ◌∙◌, subst, arith}
 use Rattle.im_mem.specs.Memory.{Mem, little, loaded, Stands}
 use Rattle.im_rv.specs.Steps.{Cpu, Stepped}
-use Rattle.im_rv.specs.Decode.{Line, decoded}
+use Rattle.im_rv.specs.Decode.{Line}
+use Rattle.im_rv.specs.Runs.{decoded}
 use Rattle.im_rv.specs.Effects.{effect_of}
 use Rattle.im_rv.proofs.Changes.{zero_stays}
 use Rattle.im_rv.proofs.Locality.{decoded_line}

@@ -11,7 +11,7 @@ use Rattle.im_rv.specs.declared.step.Went.TheVariants.{On, Halted, Faulted}
 use Rattle.im_rv.specs.declared.effect.Effect.{Effect}
 use Rattle.im_rv.specs.declared.effect.Effect.TheVariants.{Puts, Goes, Loads, Stores, Stops}
 use Rattle.im_rv.specs.Steps.{Cpu, Stepped, effected, loads}
-use Rattle.im_rv.specs.Decode.{step_of}
+use Rattle.im_rv.specs.Runs.{step_of}
 use Rattle.im_device.specs.Run.{boot, index_of}
 use Rattle.im_ckpt.specs.Buffers.{buffer, is_buffer, is_fixed, slot, idle, saves_by, saves_reg, saved}
 use Rattle.im_ckpt.specs.Recovery.{recovery_words}

@@ -4,7 +4,7 @@ use Rattle.im_mem.specs.Memory.{Mem}
 use Rattle.im_rv.specs.declared.step.Went.{Went}
 use Rattle.im_rv.specs.declared.step.Went.TheVariants.{On, Halted, Faulted}
 use Rattle.im_rv.specs.Steps.{Cpu, Stepped}
-use Rattle.im_rv.specs.Decode.{step_of}
+use Rattle.im_rv.specs.Runs.{step_of}
 use Rattle.im_rv.specs.Torn.{torn_of}
 use Rattle.im_device.specs.Run.{boot, index_of}
 use Rattle.im_path.specs.Path.{Next, Moment, Spell, steps, period, power, long_periods}

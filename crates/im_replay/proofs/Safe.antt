@@ -3,7 +3,7 @@ use Rattle.std.proofs.Common.{◌≡◌, ◌≢◌, inl, inr, ℕ, zero, suc, �
 use Rattle.im_mem.specs.Memory.{Mem}
 use Rattle.im_rv.specs.declared.step.Went.{Went}
 use Rattle.im_rv.specs.declared.step.Went.TheVariants.{On, Halted, Faulted}
-use Rattle.im_rv.specs.Decode.{step_of}
+use Rattle.im_rv.specs.Runs.{step_of}
 use Rattle.im_power.specs.declared.period.Period.{Period}
 use Rattle.im_device.specs.Run.{Moment, unless_over, one_step, run as steps, after_tear}
 use Rattle.im_device.specs.Periods.{Device, fresh, power_up, powered, repeated, power}

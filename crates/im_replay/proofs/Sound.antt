@@ -3,7 +3,8 @@ use Rattle.std.specs.Prelude.{◌≡◌, ◌≢◌, ℕ, suc, ◌+◌, ◌%◌, 
 use Rattle.im_mem.specs.Memory.{Mem, little, Stands}
 use Rattle.im_rv.specs.declared.step.Went.TheVariants.{Faulted}
 use Rattle.im_rv.specs.Steps.{Cpu}
-use Rattle.im_rv.specs.Decode.{Line, step_of}
+use Rattle.im_rv.specs.Decode.{Line}
+use Rattle.im_rv.specs.Runs.{step_of}
 use Rattle.im_rv.specs.Effects.{stores_word}
 use Rattle.im_device.specs.Run.{index_of}
 use Rattle.im_path.specs.Sections.{start, NoWar}

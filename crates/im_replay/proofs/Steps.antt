@@ -9,7 +9,7 @@ use Rattle.im_rv.specs.declared.step.Went.TheVariants.{Faulted}
 use Rattle.im_rv.specs.declared.effect.Effect.{Effect}
 use Rattle.im_rv.specs.declared.effect.Effect.TheVariants.{Stores}
 use Rattle.im_rv.specs.Steps.{Cpu, Stepped, row, effected}
-use Rattle.im_rv.specs.Decode.{step_of}
+use Rattle.im_rv.specs.Runs.{step_of}
 use Rattle.im_rv.specs.Effects.{fetched_line, effect, effect_by, effect_of, rd_of, rs1_of, rs2_of, writes_by, reads_by, sets_by}
 use Rattle.im_device.specs.Run.{index_of}
 use Rattle.im_ckpt.specs.Runs.{State, line_at, effect_at, sets, writes, reads}

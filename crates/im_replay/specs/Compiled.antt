@@ -3,7 +3,7 @@ use Rattle.std.specs.Prelude.{◌≡◌, ◌≢◌, ℕ, suc, ◌+◌, ◌%◌, 
 use Rattle.im_mem.specs.Memory.{Mem, little, Stands}
 use Rattle.im_mem.specs.Map.{buffer0_start, code_start}
 use Rattle.im_rv.specs.declared.step.Went.TheVariants.{Faulted}
-use Rattle.im_rv.specs.Decode.{step_of}
+use Rattle.im_rv.specs.Runs.{step_of}
 use Rattle.im_device.specs.Run.{index_of}
 use Rattle.im_path.specs.Sections.{start, wrote}
 use Rattle.im_ckpt.specs.Runs.{State, flip, writes, reads}

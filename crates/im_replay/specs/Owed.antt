@@ -2,7 +2,8 @@
 use Rattle.std.specs.Prelude.{◌≡◌, ◌≢◌, ℕ, suc, ◌+◌, ◌%◌, ◌^◌, ◌<◌, ◌≤◌, true, false, ◌||◌, Some, None}
 use Rattle.im_mem.specs.Map.{code_start}
 use Rattle.im_rv.specs.declared.step.Went.TheVariants.{Faulted}
-use Rattle.im_rv.specs.Decode.{Line, step_of}
+use Rattle.im_rv.specs.Decode.{Line}
+use Rattle.im_rv.specs.Runs.{step_of}
 use Rattle.im_device.specs.Run.{index_of}
 use Rattle.im_path.specs.Sections.{start, wrote}
 use Rattle.im_ckpt.specs.Runs.{State, line_at, flip, writes, reads}

@@ -133,21 +133,19 @@ selector_lines =
 abbrev pub putchar : List CodeLine
 putchar = byte_lines ++ (length_lines ++ selector_lines)
 
--- ---- the two ends
+-- ---- the two ends. A memory is loaded with STATUS 0 and REASON 0, and nothing else stores there, so each end stores one of them.
 
--- the program has returned x10: STATUS is that, REASON 0
+-- the program has returned x10: STATUS is that
 abbrev pub exit : List CodeLine
 exit =
     labelled exit_label (instruction Sw 0 0 10 status_at)
-    ∷ plain_line (instruction Sw 0 0 0 reason_at)
     ∷ plain_line (instruction Ebreak 0 0 0 0)
     ∷ []
 
--- the stack is exhausted: STATUS is 0, REASON 1
+-- the stack is exhausted: REASON is 1
 abbrev pub stack : List CodeLine
 stack =
-    labelled stack_label (instruction Sw 0 0 0 status_at)
-    ∷ plain_line (instruction Addi 5 0 0 1)
+    labelled stack_label (instruction Addi 5 0 0 1)
     ∷ plain_line (instruction Sw 0 0 5 reason_at)
     ∷ plain_line (instruction Ebreak 0 0 0 0)
     ∷ []

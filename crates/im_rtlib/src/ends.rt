@@ -9,25 +9,25 @@ use im_rv::assembler::{addi, ebreak, sw};
 use im_rv::{Line, plain};
 use std::alloc::Global;
 
-/// The end of a program that has returned: the status is x10, the reason 0.
+/// The end of a program that has returned: the status is x10. The reason is 0 since the memory was
+/// loaded.
 pub fn exit_lines(alloc: Global) -> Result<Vec<Line>, NoMemory>
     ensures { IfOk result (λ lines. code_lines lines.items ≡ exit) }
 {
     let lines = [
         labelled(EXIT, sw(10, 4, 0)),
-        plain(sw(0, 8, 0)),
         plain(ebreak()),
     ];
     Ok(Vec::from_slice(alloc, &lines)?)
 }
 
-/// The end of a program whose stack is exhausted: the status is 0, the reason 1.
+/// The end of a program whose stack is exhausted: the reason is 1. The status is 0 since the memory
+/// was loaded.
 pub fn stack_lines(alloc: Global) -> Result<Vec<Line>, NoMemory>
     ensures { IfOk result (λ lines. code_lines lines.items ≡ stack) }
 {
     let lines = [
-        labelled(STACK, sw(0, 4, 0)),
-        plain(addi(5, 0, 1)),
+        labelled(STACK, addi(5, 0, 1)),
         plain(sw(5, 8, 0)),
         plain(ebreak()),
     ];

@@ -1,9 +1,12 @@
 -- Each row has words of its own.
-use Rattle.std.proofs.Common.{◌≡◌, ℕ, ◌<◌, ◌%◌, true, cond, Some, sym, ap, ◌∙◌, arith, refl}
+use Rattle.std.proofs.Common.{◌≡◌, ℕ, ℤ, FitsSigned, ◌<◌, ◌%◌, true, cond, Some, sym, ap, ◌∙◌, arith, refl}
+use Rattle.std.specs.Int.{cast_signed, w32}
+use Rattle.std.proofs.lemmas.Int.{to_z-of_z}
 use Rattle.im_rv.specs.declared.instr.Op.{Op}
 use Rattle.im_rv.specs.declared.instr.Op.TheVariants.{Lui, Auipc, Jal, Jalr, Beq, Bne, Blt, Bge, Bltu, Bgeu, Lb, Lh, Lw, Lbu, Lhu, Sb, Sh, Sw, Addi, Slti, Sltiu, Xori, Ori, Andi, Slli, Srli, Srai, Add, Sub, Sll, Slt, Sltu, Xor, Srl, Sra, Or, And, Mul, Mulh, Mulhsu, Mulhu, Div, Divu, Rem, Remu, Fence, Ebreak}
 use Rattle.im_rv.specs.Decode.{bits, op_of, op_in}
-use Rattle.im_rv.specs.Laws.{is_word_of, RowsApart, RowsReached}
+use Rattle.im_rv.specs.Steps.{word}
+use Rattle.im_rv.specs.Laws.{is_word_of, LinesApart, RowsApart, RowsReached}
 use Rattle.im_rv.proofs.Encoding.{is_same, op_found}
 use Rattle.im_rv.proofs.Decoding.{three}
 
@@ -111,3 +114,10 @@ rows_reached Rem = (0x02006033, omega arith, refl)
 rows_reached Remu = (0x02007033, omega arith, refl)
 rows_reached Fence = (0x0000000F, omega arith, refl)
 rows_reached Ebreak = (0x00100073, omega arith, refl)
+
+-- an immediate of 32 bits is back from its word
+immediate_apart : (i j : ℤ) → FitsSigned w32 i → FitsSigned w32 j → word i ≡ word j → i ≡ j
+immediate_apart i j f g h = sym (to_z-of_z w32 i f) ∙ ap (cast_signed w32) h ∙ to_z-of_z w32 j g
+
+pub lines_apart : LinesApart
+lines_apart i j f g h = (ap (λ l. l.op) h, ap (λ l. l.rd) h, ap (λ l. l.rs1) h, ap (λ l. l.rs2) h, immediate_apart i.imm j.imm f g (ap (λ l. l.imm) h))

@@ -12,7 +12,8 @@ use Rattle.im_num.specs.Bytes.{bytes_of}
 use Rattle.im_mem.specs.Memory.{Mem, loaded, stored, written, is_place}
 use Rattle.im_rv.specs.Formats.{format_of}
 use Rattle.im_rv.specs.Steps.{Cpu, Stepped, effected, loads, faulted, row, sum_of}
-use Rattle.im_rv.specs.Decode.{Line, decode, decoded, fetched}
+use Rattle.im_rv.specs.Decode.{Line, decode}
+use Rattle.im_rv.specs.Runs.{decoded, fetched}
 use Rattle.im_rv.specs.Laws.{EndsCalm, ZeroStays, OneRegister, Stored, OnlyStores, store_size}
 use Rattle.im_rv.proofs.Straight.{zero_reg, other_reg}
 

@@ -10,7 +10,8 @@ use Rattle.im_rv.specs.declared.effect.Extension.{Extension}
 use Rattle.im_rv.specs.declared.effect.Effect.{Effect}
 use Rattle.im_rv.specs.declared.effect.Effect.TheVariants.{Puts, Goes, Loads, Stores, Stops}
 use Rattle.im_rv.specs.Steps.{Cpu, Stepped, row, loads, effected, sum_of}
-use Rattle.im_rv.specs.Decode.{Line, decoded, step_of}
+use Rattle.im_rv.specs.Decode.{Line}
+use Rattle.im_rv.specs.Runs.{decoded, step_of}
 use Rattle.im_rv.specs.Effects.{fetched_line, effect, effect_by, effect_of, patch, writes_by}
 use Rattle.im_rv.specs.Torn.{torn_of}
 use Rattle.im_rv.specs.Laws.{BytesStay, TornBetween}

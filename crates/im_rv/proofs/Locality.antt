@@ -10,7 +10,8 @@ use Rattle.im_rv.specs.declared.effect.Extension.{Extension}
 use Rattle.im_rv.specs.declared.effect.Effect.{Effect}
 use Rattle.im_rv.specs.declared.effect.Effect.TheVariants.{Puts, Goes, Loads, Stores, Stops}
 use Rattle.im_rv.specs.Steps.{Cpu, Stepped, sum_of, with_reg, loads, effected, faulted, extended}
-use Rattle.im_rv.specs.Decode.{Line, decoded, fetched, step_of}
+use Rattle.im_rv.specs.Decode.{Line}
+use Rattle.im_rv.specs.Runs.{decoded, fetched, step_of}
 use Rattle.im_rv.proofs.Decoding.{truth}
 use Rattle.im_rv.specs.Effects.{decoded_word, fetched_line, effect, patch, writes_by, reads_by, sets_by}
 

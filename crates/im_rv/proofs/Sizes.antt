@@ -18,7 +18,8 @@ use Rattle.im_rv.specs.declared.effect.Extension.TheVariants.{Sign, Zero}
 use Rattle.im_rv.specs.declared.effect.Effect.{Effect}
 use Rattle.im_rv.specs.declared.effect.Effect.TheVariants.{Puts, Goes, Loads, Stores, Stops}
 use Rattle.im_rv.specs.Formats.{format_of}
-use Rattle.im_rv.specs.Decode.{fields, bits, line_at, op_in, decoded, fetched}
+use Rattle.im_rv.specs.Decode.{fields, bits, line_at, op_in}
+use Rattle.im_rv.specs.Runs.{decoded, fetched}
 use Rattle.im_rv.specs.Laws.{WordsStay}
 use Rattle.im_rv.proofs.Locality.{saved_at}
 use Rattle.im_rv.specs.Steps.{Cpu, with_reg, signed_bits, extended, sign_extended, loads, effected, word, signed, row, as_number, overflows, upper_word}

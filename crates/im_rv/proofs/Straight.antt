@@ -7,7 +7,8 @@ use Rattle.im_rv.specs.declared.step.Went.TheVariants.{On, Halted}
 use Rattle.im_rv.specs.declared.effect.Extension.{Extension}
 use Rattle.im_rv.specs.declared.effect.Effect.TheVariants.{Puts, Goes, Loads, Stores, Stops}
 use Rattle.im_rv.specs.Steps.{Cpu, Stepped, sum_of, with_reg, extended, loads, effected, faulted, row}
-use Rattle.im_rv.specs.Decode.{Line, decode, decoded, fetched, step_of, go_on, runs}
+use Rattle.im_rv.specs.Decode.{Line, decode}
+use Rattle.im_rv.specs.Runs.{decoded, fetched, step_of, go_on, runs}
 
 -- a step that goes on is one less to run
 pub one_more : (n : ℕ) (c d : Cpu) (m k : Mem) → step_of c m ≡ record { went = On; cpu = d; mem = k } → runs (suc n) c m ≡ runs n d k

@@ -1,14 +1,18 @@
 -- What follows from the table of operations, in the manual's terms.
-use Rattle.std.specs.Prelude.{◌≡◌, ◌≢◌, ◌<◌, ◌⊎◌, ◌^◌, ℕ, Bool, true, Some, ◌==◌}
+use Rattle.std.specs.Prelude.{◌≡◌, ◌≢◌, ◌<◌, ◌⊎◌, ◌^◌, ℕ, Bool, true, Some, ◌==◌, FitsSigned}
 use Rattle.im_rv.specs.declared.format.Format.TheVariants.{Store}
+use Rattle.im_rv.specs.declared.instr.Instr.{Instr}
 use Rattle.im_rv.specs.declared.instr.Op.{Op}
 use Rattle.im_rv.specs.declared.instr.Op.TheVariants.{Sb, Sh, Sw, Ebreak}
 use Rattle.im_rv.specs.declared.step.Went.TheVariants.{On}
+use Rattle.std.specs.Int.{w32}
 use Rattle.im_mem.specs.Memory.{Mem, loaded, stored}
 use Rattle.im_rv.specs.Formats.{format_of}
 use Rattle.im_rv.specs.Steps.{Cpu, sum_of}
+use Rattle.im_rv.specs.Lines.{line_of}
 use Rattle.im_rv.specs.Torn.{torn_of}
-use Rattle.im_rv.specs.Decode.{Line, bits, is_coded, op_in, decode, step_of}
+use Rattle.im_rv.specs.Decode.{Line, bits, is_coded, op_in, decode}
+use Rattle.im_rv.specs.Runs.{step_of}
 
 -- the word has the code numbers of the operation
 abbrev pub is_word_of : Op → ℕ → Bool
@@ -22,6 +26,12 @@ RowsApart = (w : ℕ) (p q : Op) → is_word_of p w ≡ true → is_word_of q w 
 -- each row is reached
 abbrev pub RowsReached : Type 0
 RowsReached = (op : Op) → (w : ℕ) × (w < 2 ^ 32) × (op_in w ≡ Some op)
+
+-- two instructions that the definitions see as one have the same fields: their immediates are of 32 bits
+abbrev pub LinesApart : Type 0
+LinesApart =
+    (i j : Instr) → FitsSigned w32 i.imm → FitsSigned w32 j.imm → line_of i ≡ line_of j →
+    (i.op ≡ j.op) × (i.rd ≡ j.rd) × (i.rs1 ≡ j.rs1) × (i.rs2 ≡ j.rs2) × (i.imm ≡ j.imm)
 
 -- reading x0 gives 0 after any step
 abbrev pub ZeroStays : Type 0

@@ -7,5 +7,5 @@ pub mod Torn
 pub mod Steps
 pub mod Lines
 pub mod Code
-pub mod PowerUp
+pub mod Runs
 pub mod Laws

@@ -1,4 +1,4 @@
-ghost use Rattle.im_rv.specs.Laws.{RowsApart, RowsReached, ZeroStays, OneRegister, OnlyStores, WordsStay, BytesStay, TornBetween, EndsCalm};
+ghost use Rattle.im_rv.specs.Laws.{RowsApart, RowsReached, LinesApart, ZeroStays, OneRegister, OnlyStores, WordsStay, BytesStay, TornBetween, EndsCalm};
 
 /// No word stands for two operations, so the order of the table is no matter.
 pub fn rows_apart_law()
@@ -8,6 +8,11 @@ pub fn rows_apart_law()
 /// Each of the 47 operations has a word.
 pub fn rows_reached_law()
     ensures { RowsReached }
+{}
+
+/// Two instructions with the same fields and the same immediate as a word are the same, so decoding undoes encoding.
+pub fn lines_apart_law()
+    ensures { LinesApart }
 {}
 
 /// x0 reads as 0 after any step (RISC-V Unprivileged ISA, 2.1).

@@ -8,9 +8,9 @@ mod computation;
 pub mod decode;
 mod effect;
 pub mod encode;
-pub mod format;
-pub mod instr;
-pub mod laws;
+mod format;
+mod instr;
+mod laws;
 mod operands;
 mod rows;
 pub mod step;
@@ -23,5 +23,9 @@ pub use code::{Code, Cut, Line, Part, plain};
 pub use effect::{Effect, Extension};
 pub use format::Format;
 pub use instr::{Instr, Op};
+pub use laws::{
+    bytes_stay_law, ends_calm_law, lines_apart_law, one_register_law, only_stores_law,
+    rows_apart_law, rows_reached_law, torn_between_law, words_stay_law, zero_stays_law,
+};
 pub use step::{Regs, Went};
 pub use torn::tear;

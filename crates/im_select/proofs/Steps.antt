@@ -7,7 +7,7 @@ use Rattle.im_num.specs.Variables.{Variable}
 use Rattle.im_mem.specs.Memory.{Mem, little}
 use Rattle.im_rv.specs.declared.effect.Effect.TheVariants.{Puts}
 use Rattle.im_rv.specs.Steps.{Cpu, Stepped, sum_of, with_reg}
-use Rattle.im_rv.specs.Decode.{runs}
+use Rattle.im_rv.specs.Runs.{runs}
 use Rattle.im_rv.proofs.Straight.{same_reg, other_reg}
 use Rattle.im_reach.specs.Touches.{Flipped, Touch, Loaded, Stored, touched, is_system, heard}
 use Rattle.im_reach.specs.Shown.{shown, Begins}

@@ -4,7 +4,7 @@ use Rattle.im_mem.specs.Memory.{Mem}
 use Rattle.im_rv.specs.declared.step.Went.{Went}
 use Rattle.im_rv.specs.declared.step.Went.TheVariants.{On, Halted, Faulted}
 use Rattle.im_rv.specs.Steps.{Cpu, Stepped}
-use Rattle.im_rv.specs.Decode.{step_of, go_on, runs}
+use Rattle.im_rv.specs.Runs.{step_of, go_on, runs}
 use Rattle.im_reach.specs.Touches.{heard, Touch, touches, touched_on, touched}
 use Rattle.im_reach.specs.Reach.{plus}
 use Rattle.im_reach.proofs.Reach.{plus_is}

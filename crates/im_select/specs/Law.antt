@@ -7,7 +7,7 @@ use Rattle.im_mem.specs.Map.{status_at, reason_at, stack_end}
 use Rattle.im_mem.specs.Memory.{Mem, little}
 use Rattle.im_rv.specs.declared.step.Went.TheVariants.{On, Halted, Faulted}
 use Rattle.im_rv.specs.Steps.{Cpu, Stepped}
-use Rattle.im_rv.specs.Decode.{runs}
+use Rattle.im_rv.specs.Runs.{runs}
 use Rattle.im_reach.specs.Touches.{Flipped, Touch, Loaded, Stored, touched, heard}
 use Rattle.im_reach.specs.Shown.{shown, Begins}
 use Rattle.im_store.specs.Objects.{Link, Object, static, Store, kind_at}

@@ -10,7 +10,8 @@ use Rattle.im_rv.specs.declared.effect.Effect.{Effect}
 use Rattle.im_rv.specs.declared.effect.Effect.TheVariants.{Puts, Loads, Stores}
 use Rattle.im_rv.specs.declared.step.Went.TheVariants.{On, Faulted}
 use Rattle.im_rv.specs.Steps.{Cpu, Stepped, effected, sum_of, with_reg}
-use Rattle.im_rv.specs.Decode.{Line, decode, step_of}
+use Rattle.im_rv.specs.Decode.{Line, decode}
+use Rattle.im_rv.specs.Runs.{step_of}
 use Rattle.im_rv.specs.Encode.{encoded}
 use Rattle.im_num.specs.Bytes.{bytes_of}
 use Rattle.im_path.proofs.Times.{order}

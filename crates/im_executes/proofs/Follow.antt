@@ -1,0 +1,110 @@
+-- What the machine follows by the law of selection, as the record of passes says it.
+use Rattle.std.proofs.Common.{◌≡◌, ◌≢◌, ℕ, ◌+◌, ◌<◌, ◌≤◌, true, false, List, ◌++◌, length, refl, sym, ap, ◌∙◌, subst, arith}
+use Rattle.std.specs.Prelude.{ℤ}
+use Rattle.std.specs.Int.{cast_signed, w32}
+use Rattle.im_num.specs.declared.kind.Kind.TheVariants.{I32}
+use Rattle.im_num.specs.Kinds.{IsOfKind, word}
+use Rattle.im_num.proofs.Wrapping.{wrap-same}
+use Rattle.im_num.specs.Variables.{Variable}
+use Rattle.im_mem.specs.Memory.{Mem}
+use Rattle.im_rv.specs.declared.step.Went.TheVariants.{On, Halted}
+use Rattle.im_rv.specs.Steps.{Stepped}
+use Rattle.im_rv.specs.Runs.{runs}
+use Rattle.im_reach.specs.Shown.{shown}
+use Rattle.im_image.specs.Contents.{ImageValue}
+use Rattle.im_device.specs.Load.{memory_of}
+use Rattle.im_device.specs.Shows.{output_of, reason_of, status_of}
+use Rattle.im_operators.proofs.Words.{wrap_signed}
+use Rattle.im_ckpt.specs.Runs.{State, ends}
+use Rattle.im_replay.proofs.Endless.{is_run}
+use Rattle.im_replay.proofs.Images.{first_mem}
+use Rattle.im_store.specs.Outcomes.{Outcome, Undef, More, End, IsDefined}
+use Rattle.im_typed.specs.Sound.{EndsRight}
+use Rattle.im_block.specs.declared.unit.Unit.{Unit as Code}
+use Rattle.im_block.specs.Meaning.{Setting, Event, statics_of}
+use Rattle.im_block.specs.Runs.{Runs}
+use Rattle.im_select.specs.Linking.{Linking}
+use Rattle.im_select.specs.Law.{ShowsStatics, steps, Shows as Selected_shows, Follows as Selected_follows, SelectKeeps}
+use Rattle.im_keeps.specs.Keeps.{Begins}
+use Rattle.im_kept.specs.Laws.{run_of}
+use Rattle.im_passes.specs.Machine.{ShowsAfter, Follows, Executes}
+use Rattle.im_passes.specs.Passes.{IsSelectable}
+use Rattle.im_executes.specs.Executing.{first_cpu, cuts, IsInImage, Completes}
+use Rattle.im_executes.specs.Laws.{ExecutesLaw}
+use Rattle.im_executes.proofs.Mirror.{Mirrors, mirrors, stands}
+use Rattle.im_executes.proofs.Steps.{few_steps, few_cuts}
+
+module _ (keeps : SelectKeeps) (image : ImageValue) (input : List ℕ) (u : Code) (g : Setting) (p : Linking) (code : IsSelectable u) (within : IsInImage image input u g p) (rest : Completes image input u g p) where
+  abbrev r : ℕ → State
+  r = run_of image input
+
+  abbrev after : ℕ → Stepped
+  after j = runs j (first_cpu image input) p.image
+
+  memory : p.image ≡ (r 0).mem
+  memory = within.memory ∙ sym (first_mem (memory_of image input) within.resumes)
+
+  mirrored : (j : ℕ) → Mirrors r (is_run (memory_of image input)) 0 j (after j)
+  mirrored j = subst (λ (m : Mem). Mirrors r (is_run (memory_of image input)) 0 j (runs j (first_cpu image input) m)) (sym memory) (mirrors r (is_run (memory_of image input)) j 0)
+
+  at : (j : ℕ) → stands (after j) ≡ r j
+  at j = let q : 0 + j ≡ j = omega arith in (mirrored j).same ∙ ap r q
+
+  mem_at : (j : ℕ) → (after j).mem ≡ (r j).mem
+  mem_at j = ap (λ (s : State). s.mem) (at j)
+
+  output_at : (j : ℕ) → output_of image.form (r j).mem ≡ shown (after j).mem
+  output_at j = ap (λ f. output_of f (r j).mem) within.form ∙ sym (ap (λ (m : Mem). shown m) (mem_at j))
+
+  halted : (j : ℕ) → (after j).went ≡ Halted → ends r j ≡ true
+  halted j e =
+      let q : 0 + j ≡ j = omega arith in
+      subst (λ k. ends r k ≡ true) q ((mirrored j).over (λ on. let bad : Halted ≡ On = sym e ∙ on in cc))
+
+  going : (j : ℕ) → (after j).went ≡ On → (t : ℕ) → t < j → ends r t ≡ false
+  going j e t lt = let q : 0 + t ≡ t = omega arith in subst (λ k. ends r k ≡ false) q ((mirrored j).on e t lt)
+
+  status_same : (status : ℤ) → IsOfKind I32 status → cast_signed w32 (word status) ≡ status
+  status_same status kind = sym (wrap_signed status) ∙ wrap-same I32 status kind
+
+  shows : (n j : ℕ) (o : Outcome) (run : List Event) → EndsRight (statics_of u) o → Runs u g n o run → Selected_shows p u o n j (after j) → ShowsAfter image r o n j
+  shows n j (End reason status output variables) run right k s =
+      let over = halted j s.0 in (
+        over,
+        record {
+          same_reason = sym (ap (λ (m : Mem). reason_of m) (mem_at j)) ∙ s.1;
+          same_status = sym (ap (λ (m : Mem). status_of m) (mem_at j)) ∙ ap (λ w. cast_signed w32 w) s.2 ∙ status_same status right.0;
+          same_output = output_at j ∙ s.3;
+          same_variables = rest.variables n j reason status output variables run right k over (subst (λ (m : Mem). ShowsStatics p u variables m) (mem_at j) s.4);
+        },
+      )
+  shows n j (More output) run right k s = (going j s.0, output_at j ∙ s.1, s.2)
+  shows n j (Undef why) run right k s = absurd s
+
+  follows : (n : ℕ) (o : Outcome) (run : List Event) → IsDefined o → EndsRight (statics_of u) o → (k : Runs u g n o run) → Follows image input u g (steps p) (cuts p) 15 n o run k.steps
+  follows n o run defined right k =
+      let f : Selected_follows p u g (first_cpu image input) n o run k.steps = keeps p u g (first_cpu image input) code.well_formed within.linked within.begun n o run defined k in
+      let soon = f.soon in
+      record {
+        j = f.j;
+        shows = shows n f.j o run right k f.shows;
+        soon = omega arith;
+        grows = λ i le.
+            let b = f.grows i le in
+            (b.0, ap (λ l. l ++ b.0) (output_at i) ∙ sym b.1 ∙ sym (output_at f.j));
+        owes = rest.owes n o run defined k f;
+        commits = rest.commits n o run defined k f;
+      }
+
+  all : Executes u g image input
+  all = record {
+    steps = steps p;
+    cuts = cuts p;
+    around = 15;
+    few_steps = few_steps p within.longest u (length image.words) code.apart within.words;
+    few_cuts = few_cuts p u (length image.words) within.flips within.words;
+    follows = follows;
+  }
+
+pub executes : SelectKeeps → ExecutesLaw
+executes keeps image input u g p code within rest = all keeps image input u g p code within rest

@@ -1,0 +1,3 @@
+mod Mirror
+mod Steps
+mod Follow

@@ -1,0 +1,11 @@
+pub mod Assumed
+pub mod Chain
+pub mod Cutting
+pub mod Ends
+pub mod Getting
+pub mod Putting
+pub mod Ran
+pub mod Reading
+pub mod Saving
+pub mod Serving
+pub mod Showing

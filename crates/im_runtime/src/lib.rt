@@ -1,0 +1,6 @@
+//! From the lines of the runtime's routines to what they do on the machine, and what they touch.
+#![tactic(auto)]
+
+mod laws;
+
+pub use laws::{exit_law, getchar_law, putchar_law, serves_law, stack_law};
