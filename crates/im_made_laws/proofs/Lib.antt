@@ -5,3 +5,4 @@ pub mod ExpressionSteps
 pub mod Given
 pub mod StatementSteps
 pub mod Sized
+pub mod Placing

@@ -26,6 +26,9 @@ use Rattle.im_block.specs.declared.unit.Function.{Function}
 use Rattle.im_block.specs.declared.unit.Unit.{Unit as Code}
 use Rattle.im_block.specs.Shape.{sum_of, cost, exit_cost, block_cost, function_cost, loop_edges, turns_of}
 use Rattle.im_block.specs.Wellformed.{PlaceWithin, LineWithin, ExitWithin, ExitThere, accesses_of_lines, accesses_of_blocks, accesses_of_functions, AreApart}
+use Rattle.im_placed.specs.Operands.{PlaceFrom}
+use Rattle.im_placed.specs.Placeable.{LineFrom, ExitFrom, Receives, IsPlaceableLine, IsPlaceableFunction, IsPlaceable, object_need, first_free}
+use Rattle.im_placed.specs.Apart.{IsNoCut, AllUncut}
 use Rattle.im_lower.specs.Codes.{Point, ends}
 use Rattle.im_lower.specs.Lowered.{AreObjects, CallsRightly, kind_of_one, loops_in, IsSized, AreSized}
 use Rattle.im_made.specs.Made.{Made, point_of, above_place, above_line, above_exit, put, put_write, close, start}
@@ -34,9 +37,9 @@ use Rattle.im_made.specs.MakeUnit.{nothing_made, code_made, FunctionMade, Functi
 use Rattle.im_made.specs.MakeUnit.{objects_of}
 use Rattle.im_made.proofs.Units.{placed, was_there}
 use Rattle.im_made_laws.proofs.Counting.{total, point_cost, point_turns, point_times, occurs, occurs_more}
-use Rattle.im_made_laws.proofs.Steps.{PlaceFrom, LineFrom, ExitFrom, Fits, GoodExit, GoodLine, GoodPoint, Good, Numbered, Step, no_step, at_most, step_close, step_start}
+use Rattle.im_made_laws.proofs.Steps.{IsUncut, Fits, GoodExit, GoodLine, GoodPoint, Good, Numbered, Step, no_step, at_most, step_close, step_start}
 use Rattle.im_made_laws.proofs.LineSteps.{Good_register, GoodPlace, adds_put, adds_write}
-use Rattle.im_made_laws.proofs.ExpressionSteps.{Premises}
+use Rattle.im_made_laws.proofs.ExpressionSteps.{Premises, HasObjects}
 use Rattle.im_made_laws.proofs.StatementSteps.{words_of, statement_positive, statement_adds}
 
 -- registers from 0 on are all
@@ -111,10 +114,10 @@ exit_within n (Return (Some r)) h = omega arith
 
 -- facts of each element
 
-all_of : {X : Type 0} (P : X → Type 0) (xs : List X) → ((i : ℕ) (x : X) → slice_get xs i ≡ Some x → P x) → All P xs
+pub all_of : {X : Type 0} (P : X → Type 0) (xs : List X) → ((i : ℕ) (x : X) → slice_get xs i ≡ Some x → P x) → All P xs
 all_of P xs h = λ k d lt. h k (slice_index_or xs k d) (slice_get-get_or xs k d lt)
 
-each_all : {X : Type 0} (P Q : X → Type 0) (xs : List X) → ((x : X) → P x → Q x) → Each P xs → All Q xs
+pub each_all : {X : Type 0} (P Q : X → Type 0) (xs : List X) → ((x : X) → P x → Q x) → Each P xs → All Q xs
 each_all {X = X} P Q xs f h = all_of Q xs (λ i x e. f x (got xs i x h e))
   where
     got : (xs : List X) (i : ℕ) (x : X) → Each P xs → slice_get xs i ≡ Some x → P x
@@ -122,7 +125,7 @@ each_all {X = X} P Q xs f h = all_of Q xs (λ i x e. f x (got xs i x h e))
     got (y ∷ ys) zero x h e = let same : y ≡ x = cc in subst P same h.0
     got (y ∷ ys) (suc i) x h e = got ys i x h.1 e
 
-got_point : (bs : List Block) (b : ℕ) (block : Block) → slice_get bs b ≡ Some block → slice_get (map {A = Block} point_of bs) b ≡ Some (point_of block)
+pub got_point : (bs : List Block) (b : ℕ) (block : Block) → slice_get bs b ≡ Some block → slice_get (map {A = Block} point_of bs) b ≡ Some (point_of block)
 got_point [] b block e = absurd (cc)
 got_point (x ∷ xs) zero block e = let same : x ≡ block = cc in ap (λ z. Some (point_of z)) same
 got_point (x ∷ xs) (suc b) block e = got_point xs b block e
@@ -179,8 +182,8 @@ apart_of (x ∷ xs) once (suc i) (suc j) a ei ej =
 
 -- before the code
 
-nothing_good : (g : p.Prog) (low accesses : ℕ) → Good g low (nothing_made accesses)
-nothing_good g low accesses =
+pub nothing_good : (g : p.Prog) (code : Function) (low accesses : ℕ) → Good g code low (nothing_made accesses)
+nothing_good g code low accesses =
     record {
       blocks = λ b p e. absurd (cc);
       point = record { lines = tt; exit = record { descends = tt; there = tt; within = omega arith; from = tt } };
@@ -190,35 +193,38 @@ nothing_numbered : (accesses : ℕ) → Numbered accesses (nothing_made accesses
 nothing_numbered accesses =
     record { begun = omega arith; once = λ a. omega arith; new = λ a le. refl; old = λ a lt. refl }
 
-lines_from_zero : (g : p.Prog) (low registers : ℕ) (lines : List Line) → Each (GoodLine g low registers) lines → Each (GoodLine g 0 registers) lines
-lines_from_zero g low registers [] h = tt
-lines_from_zero g low registers (line ∷ lines) h =
+pub lines_from_zero : (g : p.Prog) (code : Function) (low registers : ℕ) (lines : List Line) → Each (GoodLine g code low registers) lines → Each (GoodLine g code 0 registers) lines
+lines_from_zero g code low registers [] h = tt
+lines_from_zero g code low registers (line ∷ lines) h =
     let one = h.0 in
     let fits = one.fits in
-    (record { fits = record { small = fits.small; calls = fits.calls; from = from_zero low line fits.from; uncut = fits.uncut }; within = one.within }, lines_from_zero g low registers lines h.1)
+    (record { fits = record { small = fits.small; calls = fits.calls; from = from_zero low line fits.from; uncut = fits.uncut; placeable = fits.placeable }; within = one.within }, lines_from_zero g code low registers lines h.1)
 
-point_from_zero : (g : p.Prog) (low blocks registers b : ℕ) (q : Point) → GoodPoint g low blocks registers b q → GoodPoint g 0 blocks registers b q
-point_from_zero g low blocks registers b q h =
+pub point_from_zero : (g : p.Prog) (code : Function) (low blocks registers b : ℕ) (q : Point) → GoodPoint g code low blocks registers b q → GoodPoint g code 0 blocks registers b q
+point_from_zero g code low blocks registers b q h =
     let exit = h.exit in
     record {
-      lines = lines_from_zero g low registers q.rest h.lines;
+      lines = lines_from_zero g code low registers q.rest h.lines;
       exit = record { descends = exit.descends; there = exit.there; within = exit.within; from = exit_from_zero low q.exit exit.from };
     }
 
-good_from_zero : (g : p.Prog) (low : ℕ) (m : Made) → Good g low m → Good g 0 m
-good_from_zero g low m h =
+pub good_from_zero : (g : p.Prog) (code : Function) (low : ℕ) (m : Made) → Good g code low m → Good g code 0 m
+good_from_zero g code low m h =
     record {
-      blocks = λ b q e. point_from_zero g low (length m.blocks) m.registers b q (h.blocks b q e);
-      point = point_from_zero g low (length m.blocks) m.registers (length m.blocks) m.point h.point;
+      blocks = λ b q e. point_from_zero g code low (length m.blocks) m.registers b q (h.blocks b q e);
+      point = point_from_zero g code low (length m.blocks) m.registers (length m.blocks) m.point h.point;
     }
 
-parameters_add : (g : p.Prog) (limit object from : ℕ) (os : List Object) (c t : ℕ) (m n : Made) → from + length os ≤ limit → Step g 0 limit c t m n → Step g 0 limit (c + 12 * length os) t m (put_parameters object from os n)
-parameters_add g limit object from [] c t m n le h = at_most g 0 limit (c + 12 * 0) t (omega arith) (omega arith) h
-parameters_add g limit object from (o ∷ os) c t m n le h =
+pub parameters_add : (g : p.Prog) (code : Function) (limit object from : ℕ) (os : List Object) (c t : ℕ) (m n : Made) → code.first_object ≤ object → object + length os ≤ code.first_object + length code.objects.items → from + length os ≤ limit → Step g code 0 limit c t m n → Step g code 0 limit (c + 12 * length os) t m (put_parameters object from os n)
+parameters_add g code limit object from [] c t m n low high le h = at_most g code 0 limit (c + 12 * 0) t (omega arith) (omega arith) h
+parameters_add g code limit object from (o ∷ os) c t m n low high le h =
     let r : Good_register 0 limit from = record { from = omega arith; below = omega arith } in
-    let place : GoodPlace 0 limit (Local object 0) = record { from = tt; below = omega arith; one = omega arith } in
-    at_most g 0 limit (c + 12 * length (o ∷ os)) t (omega arith) (omega arith)
-    (adds_write g 0 limit (Local object 0) (kind_of_one o.cells.items) from r place (parameters_add g limit (object + 1) (from + 1) os c t m n (omega arith) h))
+    let next : code.first_object ≤ object + 1 = omega arith in
+    let rest : object + 1 + length os ≤ code.first_object + length code.objects.items = omega arith in
+    let here : object < code.first_object + length code.objects.items = omega arith in
+    let place : GoodPlace (length g.statics) code 0 limit (Local object 0) = record { from = tt; below = omega arith; one = omega arith; exists = ((low, here), omega arith) } in
+    at_most g code 0 limit (c + 12 * length (o ∷ os)) t (omega arith) (omega arith)
+    (adds_write g code 0 limit (Local object 0) (kind_of_one o.cells.items) from r place (parameters_add g code limit (object + 1) (from + 1) os c t m n next rest (omega arith) h))
 
 -- parameters have registers
 received : (object from : ℕ) (o : Object) (os : List Object) (n : Made) → from + length (o ∷ os) ≤ (put_parameters object from (o ∷ os) n).registers
@@ -246,30 +252,30 @@ close_times : (a : ℕ) (m : Made) → total (point_times a) (close m) ≡ sum_o
 unfolding close
 close_times a m = omega arith
 
-brace_adds : (g : p.Prog) (low limit : ℕ) (is_main : Bool) (m : Made) → low + 1 ≤ limit → Step g low limit 17 0 m (make_brace low is_main m)
-brace_adds g low limit true m le =
+pub brace_adds : (g : p.Prog) (code : Function) (low limit : ℕ) (is_main : Bool) (m : Made) → low + 1 ≤ limit → Step g code low limit 17 0 m (make_brace low is_main m)
+brace_adds g code low limit true m le =
     let r : Good_register low limit low = record { from = omega arith; below = le } in
-    at_most g low limit 17 0 (omega arith) (omega arith)
-    (adds_put g low limit low (pos 0) r (step_start g low limit (Return (Some low)) 10 0 tt tt (omega arith) (omega arith) (omega arith) (omega arith) (no_step g low limit m)))
-brace_adds g low limit false m le =
-    at_most g low limit 17 0 (omega arith) (omega arith)
-    (step_start g low limit (Return None) 10 0 tt tt tt (omega arith) (omega arith) (omega arith) (no_step g low limit m))
+    at_most g code low limit 17 0 (omega arith) (omega arith)
+    (adds_put g code low limit low (pos 0) r (step_start g code low limit (Return (Some low)) 10 0 tt tt (omega arith) (omega arith) (omega arith) (omega arith) (no_step g code low limit m)))
+brace_adds g code low limit false m le =
+    at_most g code low limit 17 0 (omega arith) (omega arith)
+    (step_start g code low limit (Return None) 10 0 tt tt tt (omega arith) (omega arith) (omega arith) (no_step g code low limit m))
 
-objects_length : (xs : List p.LocalObject) (os : List Object) → AreObjects xs os → length os ≡ length xs
+pub objects_length : (xs : List p.LocalObject) (os : List Object) → AreObjects xs os → length os ≡ length xs
 objects_length [] [] are = refl
 objects_length [] (o ∷ os) are = absurd are
 objects_length (x ∷ xs) [] are = absurd are
 objects_length (x ∷ xs) (o ∷ os) are = ap suc (objects_length xs os are.2)
 
 -- a function, with the numbers of its accesses
-record FunctionSized (g : p.Prog) (f : p.Func) (accesses : ℕ) (made : Function) (next : ℕ) : Type 0 where
-  sized : IsSized g f made
+pub record FunctionSized (g : p.Prog) (f : p.Func) (accesses : ℕ) (made : Function) (next : ℕ) : Type 0 where
+  pub sized : IsSized g f made
   begun : accesses ≤ next
   once : (a : ℕ) → occurs a (accesses_of_blocks made.blocks.items) ≤ 1
   old : (a : ℕ) → a < accesses → occurs a (accesses_of_blocks made.blocks.items) ≡ 0
   new : (a : ℕ) → next ≤ a → occurs a (accesses_of_blocks made.blocks.items) ≡ 0
 
-function_sized : (g : Prog) (f : Func) (is_main : Bool) (first accesses : ℕ) (made : Function) (next : ℕ) → FunctionMade g f is_main first accesses made next → Premises (program_of g) → IsTypedFunc (program_of g) (func_of g.types f) → FunctionSized (program_of g) (func_of g.types f) accesses made next
+pub function_sized : (g : Prog) (f : Func) (is_main : Bool) (first accesses : ℕ) (made : Function) (next : ℕ) → FunctionMade g f is_main first accesses made next → Premises (program_of g) → IsTypedFunc (program_of g) (func_of g.types f) → FunctionSized (program_of g) (func_of g.types f) accesses made next
 function_sized g f is_main first accesses made next h premises typed =
     let G = program_of g in
     let F = func_of g.types f in
@@ -286,10 +292,13 @@ function_sized g f is_main first accesses made next h premises typed =
     let positive = statement_positive body in
     let there = objects_length F.objects os h.objects in
     let taken = length-take low os in
-    let brace_step = brace_adds G low limit is_main begin (omega arith) in
-    let body_step = statement_adds G F first low limit premises os h.objects body false false 0 0 17 0 begin braced typed.3 (λ x. absurd (cc)) (λ x. absurd (cc)) (omega arith) brace_step in
-    let end_step = step_close G 0 limit (parameters_add G limit first 0 (take low os) 0 0 done done (omega arith) (no_step G 0 limit done)) in
-    let good : Good G 0 last = end_step.good (good_from_zero G low done (body_step.good (nothing_good G low accesses))) in
+    let begun = h.first_object in
+    let objects : HasObjects F made first = record { begun = h.first_object; count = there } in
+    let laid = typed.1 in
+    let brace_step = brace_adds G made low limit is_main begin (omega arith) in
+    let body_step = statement_adds G F made first low limit premises objects laid os h.objects body false false 0 0 17 0 begin braced typed.3 (λ x. absurd (cc)) (λ x. absurd (cc)) (omega arith) brace_step in
+    let end_step = step_close G made 0 limit (parameters_add G made limit first 0 (take low os) 0 0 done done (omega arith) (omega arith) (omega arith) (no_step G made 0 limit done)) in
+    let good : Good G made 0 last = end_step.good (good_from_zero G made low done (body_step.good (nothing_good G made low accesses))) in
     let numbered : Numbered accesses last = end_step.numbered accesses (body_step.numbered accesses (nothing_numbered accesses)) in
     let body_cost = body_step.cost in
     let end_cost = end_step.cost in
@@ -310,14 +319,14 @@ function_sized g f is_main first accesses made next h premises typed =
       sized = record {
         ordered = record { each = λ b block e. (point b block e).exit.descends };
         exits_there = all_of (λ (b : Block). ExitThere (length made.blocks.items) b.exit) made.blocks.items (λ b block e. subst (λ n. ExitThere n block.exit) (sym length_is) (point b block e).exit.there);
-        lines_within = all_of (λ (b : Block). All (LineWithin made.register_count) b.lines.items) made.blocks.items (λ b block e. each_all (GoodLine G 0 last.registers) (LineWithin made.register_count) block.lines.items (λ line good. let within = good.within in line_within made.register_count line (omega arith)) (point b block e).lines);
+        lines_within = all_of (λ (b : Block). All (LineWithin made.register_count) b.lines.items) made.blocks.items (λ b block e. each_all (GoodLine G made 0 last.registers) (LineWithin made.register_count) block.lines.items (λ line good. let within = good.within in line_within made.register_count line (omega arith)) (point b block e).lines);
         exits_within = all_of (λ (b : Block). ExitWithin made.register_count b.exit) made.blocks.items (λ b block e. let within = (point b block e).exit.within in exit_within made.register_count block.exit (omega arith));
         received = let same = h.parameters in omega arith;
         few_registers = omega arith;
         few_turns = omega arith;
-        small_lines = all_of (λ (b : Block). All (λ (line : Line). cost line ≤ 50) b.lines.items) made.blocks.items (λ b block e. each_all (GoodLine G 0 last.registers) (λ (line : Line). cost line ≤ 50) block.lines.items (λ line good. good.fits.small) (point b block e).lines);
+        small_lines = all_of (λ (b : Block). All (λ (line : Line). cost line ≤ 50) b.lines.items) made.blocks.items (λ b block e. each_all (GoodLine G made 0 last.registers) (λ (line : Line). cost line ≤ 50) block.lines.items (λ line good. good.fits.small) (point b block e).lines);
         small = omega arith;
-        calls = λ typed. all_of (λ (b : Block). All (CallsRightly G) b.lines.items) made.blocks.items (λ b block e. each_all (GoodLine G 0 last.registers) (CallsRightly G) block.lines.items (λ line good. good.fits.calls) (point b block e).lines);
+        calls = λ typed. all_of (λ (b : Block). All (CallsRightly G) b.lines.items) made.blocks.items (λ b block e. each_all (GoodLine G made 0 last.registers) (CallsRightly G) block.lines.items (λ line good. good.fits.calls) (point b block e).lines);
       };
       begun = let from = numbered.begun in omega arith;
       once = λ a. let e = times a in let o = numbered.once a in omega arith;
@@ -382,7 +391,7 @@ functions_numbered g premises k first accesses last (f ∷ fs) (c ∷ cs) typed 
         let y = rest.once a in
         omega arith
 
-each_was : (P : p.Func → Type 0) (fs : List p.Func) (k : ℕ) (f : p.Func) → Each P fs → slice_get fs k ≡ Some f → P f
+pub each_was : (P : p.Func → Type 0) (fs : List p.Func) (k : ℕ) (f : p.Func) → Each P fs → slice_get fs k ≡ Some f → P f
 each_was P [] k f h e = absurd (cc)
 each_was P (x ∷ xs) zero f h e = let same : x ≡ f = cc in subst P same h.0
 each_was P (x ∷ xs) (suc k) f h e = each_was P xs k f h.1 e

@@ -12,6 +12,8 @@ use Rattle.im_block.specs.declared.code.Exit.{Exit}
 use Rattle.im_block.specs.declared.code.Exit.TheVariants.{Jump, Turn, Branch, Return}
 use Rattle.im_block.specs.Shape.{Descends, sum_of, turns_of, cost, exit_cost}
 use Rattle.im_block.specs.Wellformed.{ExitThere, accesses_of_line, accesses_of_lines}
+use Rattle.im_block.specs.declared.unit.Function.{Function}
+use Rattle.im_placed.specs.Placeable.{IsPlaceableLine, LineFrom, ExitFrom}
 use Rattle.im_lower.specs.Codes.{Point, ends}
 use Rattle.im_lower.specs.Lowered.{CallsRightly}
 use Rattle.im_typed.specs.Program as p
@@ -22,50 +24,16 @@ use Rattle.im_made.specs.Made.{Made, above_line, above_exit, put, put_read, put_
 use Rattle.im_made.proofs.Growth.{Grows, stays, grows_same, grows_put, grows_close, grows_start, grows_turn, close_length, close_blocks, start_blocks, turn_blocks, got_other, got_same}
 use Rattle.im_made_laws.proofs.Counting.{total, point_cost, point_turns, point_times, occurs, put_cost, put_turns, put_times, close_total, start_total, turn_total, exit_costs}
 
--- the registers that a line uses and sets are those from a number on
-
-abbrev pub PlaceFrom : ℕ → Place → Type 0
-PlaceFrom n (Static object offset) = Unit {0}
-PlaceFrom n (Local object offset) = Unit {0}
-PlaceFrom n (Through pointer offset) = n ≤ pointer
-
-abbrev pub LineFrom : ℕ → Line → Type 0
-LineFrom n (Put to z) = n ≤ to
-LineFrom n (PutNull to) = n ≤ to
-LineFrom n (Copy to from) = (n ≤ to) × (n ≤ from)
-LineFrom n (Convert to kind from) = (n ≤ to) × (n ≤ from)
-LineFrom n (Unary to op kind from) = (n ≤ to) × (n ≤ from)
-LineFrom n (Not to from) = (n ≤ to) × (n ≤ from)
-LineFrom n (Compute to op kind left right) = (n ≤ to) × (n ≤ left) × (n ≤ right)
-LineFrom n (Compare to op kind left right) = (n ≤ to) × (n ≤ left) × (n ≤ right)
-LineFrom n (Move to size back pointer by) = (n ≤ to) × (n ≤ pointer) × (n ≤ by)
-LineFrom n (Distance to size left right) = (n ≤ to) × (n ≤ left) × (n ≤ right)
-LineFrom n (Address to place) = (n ≤ to) × PlaceFrom n place
-LineFrom n (Read to place kind access) = (n ≤ to) × PlaceFrom n place
-LineFrom n (Write place kind from access) = PlaceFrom n place × (n ≤ from)
-LineFrom n (Reload to slot access) = n ≤ to
-LineFrom n (Spill slot from access) = n ≤ from
-LineFrom n (Cut cause) = Unit {0}
-LineFrom n (Call to i first count) = (n ≤ to) × (n ≤ first)
-LineFrom n (GetChar to) = n ≤ to
-LineFrom n (PutChar to from) = (n ≤ to) × (n ≤ from)
-
 abbrev pub IsUncut : Line → Type 0
 IsUncut (Cut cause) = ⊥
 IsUncut line = Unit {0}
 
-pub record Fits (g : p.Prog) (low : ℕ) (line : Line) : Type 0 where
+pub record Fits (g : p.Prog) (code : Function) (low : ℕ) (line : Line) : Type 0 where
   pub small : cost line ≤ 50
   pub calls : CallsRightly g line
   pub from : LineFrom low line
   pub uncut : IsUncut line
-
-abbrev pub ExitFrom : ℕ → Exit → Type 0
-ExitFrom low (Jump b) = Unit {0}
-ExitFrom low (Turn b) = Unit {0}
-ExitFrom low (Branch on x y) = low ≤ on
-ExitFrom low (Return None) = Unit {0}
-ExitFrom low (Return (Some r)) = low ≤ r
+  pub placeable : IsPlaceableLine (length g.statics) code line
 
 -- an exit of the block of a number, where there are so many blocks and registers
 pub record GoodExit (low blocks registers b : ℕ) (exit : Exit) : Type 0 where
@@ -85,10 +53,10 @@ exit_more {low} {blocks} {registers} {b} {exit} n k le more h =
     let within = h.within in
     record { descends = h.descends; there = there_more blocks n exit le h.there; within = omega arith; from = h.from }
 
-abbrev IsAtEnd : List Point → Point → ℕ → Point → Type 0
+abbrev pub IsAtEnd : List Point → Point → ℕ → Point → Type 0
 IsAtEnd xs y b p = ((b ≡ length xs) × (y ≡ p)) ⊎ (slice_get xs b ≡ Some p)
 
-at_end : (xs : List Point) (y : Point) (b : ℕ) (p : Point) → slice_get (xs ++ y ∷ []) b ≡ Some p → IsAtEnd xs y b p
+pub at_end : (xs : List Point) (y : Point) (b : ℕ) (p : Point) → slice_get (xs ++ y ∷ []) b ≡ Some p → IsAtEnd xs y b p
 at_end [] y zero p e = inl (refl, cc)
 at_end [] y (suc b) p e = absurd (cc)
 at_end (x ∷ xs) y zero p e = inr e
@@ -118,9 +86,9 @@ same_or (suc n) (suc a) = next (same_or n a)
     next (inl e) = inl (ap suc e)
     next (inr ne) = inr (λ e. ne (let f : n ≡ a = omega arith in f))
 
-module _ (g : p.Prog) (low : ℕ) where
+module _ (g : p.Prog) (code : Function) (low : ℕ) where
   pub record GoodLine (registers : ℕ) (line : Line) : Type 0 where
-    pub fits : Fits g low line
+    pub fits : Fits g code low line
     pub within : above_line line ≤ registers
 
   pub record GoodPoint (blocks registers b : ℕ) (p : Point) : Type 0 where
@@ -142,7 +110,7 @@ module _ (g : p.Prog) (low : ℕ) where
   point_more {blocks} {registers} {b} {p} n k le more h =
       record { lines = lines_more registers k p.rest more h.lines; exit = exit_more n k le more h.exit }
 
-  good_put : (line : Line) (m : Made) → Fits g low line → Good m → Good (put line m)
+  good_put : (line : Line) (m : Made) → Fits g code low line → Good m → Good (put line m)
   unfolding put
   good_put line m fits h =
       let registers = max m.registers (above_line line) in
@@ -310,10 +278,10 @@ unfolding turn
 turn_few limit k body n le = le
 
 -- a part of the code: words, loop edges, from and to; registers below a number
-module _ (g : p.Prog) (low limit : ℕ) where
+module _ (g : p.Prog) (code : Function) (low limit : ℕ) where
   pub record Step (words edges : ℕ) (m n : Made) : Type 0 where
     pub grows : Grows m n
-    pub good : Good g low m → Good g low n
+    pub good : Good g code low m → Good g code low n
     pub cost : total point_cost n ≤ total point_cost m + words
     pub turns : total point_turns n ≤ total point_turns m + edges
     pub few : m.registers ≤ limit → n.registers ≤ limit
@@ -343,7 +311,7 @@ module _ (g : p.Prog) (low limit : ℕ) where
         numbered = h.numbered;
       }
 
-  pub step_put : {c t : ℕ} {m n : Made} (line : Line) (words : ℕ) → Fits g low line → accesses_of_line line ≡ [] → above_line line ≤ limit → cost line ≤ words → Step c t m n → Step (c + words) t m (put line n)
+  pub step_put : {c t : ℕ} {m n : Made} (line : Line) (words : ℕ) → Fits g code low line → accesses_of_line line ≡ [] → above_line line ≤ limit → cost line ≤ words → Step c t m n → Step (c + words) t m (put line n)
   unfolding put
   step_put {c} {t} {m} {n} line words fits none within le h =
       let cost_n = h.cost in
@@ -352,14 +320,14 @@ module _ (g : p.Prog) (low limit : ℕ) where
       let kept = put_turns line n in
       record {
         grows = grows_put line h.grows;
-        good = λ good. good_put g low line n fits (h.good good);
+        good = λ good. good_put g code low line n fits (h.good good);
         cost = omega arith;
         turns = omega arith;
         few = λ few. let f = h.few few in omega arith;
         numbered = λ from k. numbered_put from line n none (h.numbered from k);
       }
 
-  pub step_access : {c t : ℕ} {m n : Made} (line : Line) (words : ℕ) → Fits g low line → accesses_of_line line ≡ n.accesses ∷ [] → above_line line ≤ limit → cost line ≤ words → Step c t m n → Step (c + words) t m (put line (record n { accesses = n.accesses + 1 }))
+  pub step_access : {c t : ℕ} {m n : Made} (line : Line) (words : ℕ) → Fits g code low line → accesses_of_line line ≡ n.accesses ∷ [] → above_line line ≤ limit → cost line ≤ words → Step c t m n → Step (c + words) t m (put line (record n { accesses = n.accesses + 1 }))
   unfolding put
   step_access {c} {t} {m} {n} line words fits one within le h =
       let cost_n = h.cost in
@@ -369,7 +337,7 @@ module _ (g : p.Prog) (low limit : ℕ) where
       let kept = put_turns line counted in
       record {
         grows = grows_same (put line counted) refl h.grows;
-        good = λ good. good_put g low line counted fits (good_counted g low n (n.accesses + 1) (h.good good));
+        good = λ good. good_put g code low line counted fits (good_counted g code low n (n.accesses + 1) (h.good good));
         cost = omega arith;
         turns = omega arith;
         few = λ few. let f = h.few few in omega arith;
@@ -384,7 +352,7 @@ module _ (g : p.Prog) (low limit : ℕ) where
       let kept : total point_turns (close n) ≡ total point_turns n + 0 = close_total point_turns n in
       record {
         grows = grows_close h.grows;
-        good = λ good. good_close g low n (h.good good);
+        good = λ good. good_close g code low n (h.good good);
         cost = omega arith;
         turns = omega arith;
         few = λ few. close_few limit n (h.few few);
@@ -401,7 +369,7 @@ module _ (g : p.Prog) (low limit : ℕ) where
       let least = exit_costs n.point.exit in
       record {
         grows = grows_start exit h.grows;
-        good = λ good. good_start g low exit n descends there from (h.good good);
+        good = λ good. good_start g code low exit n descends there from (h.good good);
         cost = omega arith;
         turns = omega arith;
         few = λ few. let f = h.few few in omega arith;
@@ -416,7 +384,7 @@ module _ (g : p.Prog) (low limit : ℕ) where
       let kept : total point_turns (turn k body n) ≡ total point_turns n = turn_total point_turns k body before n was refl in
       record {
         grows = grows_turn k body late h.grows;
-        good = λ good. good_turn g low k body n there (h.good good);
+        good = λ good. good_turn g code low k body n there (h.good good);
         cost = omega arith;
         turns = omega arith;
         few = λ few. turn_few limit k body n (h.few few);
