@@ -13,5 +13,7 @@ mod program;
 mod statements;
 mod statics;
 mod switch;
+#[cfg(test)]
+mod tests;
 
 pub use program::lower;

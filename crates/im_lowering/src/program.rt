@@ -1,5 +1,8 @@
 ghost use Rattle.std.specs.Prelude.{IfOk};
-ghost use Rattle.im_lower.specs.Lowered.{IsLowered};
+ghost use Rattle.im_lower.specs.Lowered.{AreSized, IsLowered};
+ghost use Rattle.im_lowering.specs.Small.{IsSmall};
+ghost use Rattle.im_placed.specs.Apart.{AllUncut};
+ghost use Rattle.im_placed.specs.Placeable.{IsPlaceable};
 ghost use Rattle.im_typed.specs.ProgramOf.{program_of};
 ghost use Rattle.im_made.specs.MakeUnit.{AllMade, KnowsTypes};
 
@@ -9,6 +12,7 @@ use crate::lines::small;
 use crate::statics::lower_statics;
 use im_block::{Function, Unit};
 use im_made::made_law;
+use im_made_laws::sized_law;
 use im_num::NoMemory;
 use im_typed::{Func, Prog};
 use std::alloc::Global;
@@ -17,9 +21,13 @@ use std::alloc::Global;
 /// a register, a block or an access that is too large for its type counts as want of memory.
 pub fn lower(alloc: Global, prog: &Prog) -> Result<Unit, NoMemory>
     requires { KnowsTypes prog.now }
-    ensures { IfOk result (λ unit. IsLowered (program_of prog.now) unit) }
+    ensures gives { IfOk result (λ unit. IsLowered (program_of prog.now) unit) }
+    ensures sized { IfOk result (λ unit. IsSmall (program_of prog.now) → AreSized (program_of prog.now) unit) }
+    ensures placeable { IfOk result (λ unit. IsSmall (program_of prog.now) → IsPlaceable unit) }
+    ensures uncut { IfOk result (λ unit. IsSmall (program_of prog.now) → AllUncut unit) }
 {
     made_law();
+    sized_law();
     let statics = lower_statics(alloc, &prog.statics, &prog.types)?;
     let functions = lower_functions(alloc, prog)?;
     Ok(Unit {

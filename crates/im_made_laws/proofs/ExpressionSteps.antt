@@ -10,6 +10,7 @@ use Rattle.im_block.specs.declared.unit.Function.{Function}
 use Rattle.im_placed.specs.Operands.{IsPromoted, HasObject}
 use Rattle.im_ctype.specs.declared.cell.Cell.{Cell}
 use Rattle.im_typed.specs.declared.expression.Change.{Change}
+use Rattle.im_typed.specs.declared.expression.Change.TheVariants.{Number as NumberBy, Move as PointerBy}
 use Rattle.im_typed.specs.Program as p
 use Rattle.im_typed.specs.Typing.{Each, IsInteger, IsPromoted as TypedPromoted, IsCompared, IsElement, IsChange, IsStep, IsAccess, AreLaidOut, IsTyped, IsTypedPlace, AreArguments, IsTypedFunc, members_offset, parameters, result_shape, shape_of}
 use Rattle.im_typed.specs.Values.{changed_kind}
