@@ -1,3 +1,5 @@
 pub mod PlacesAt
 pub mod Steps
 pub mod Lists
+pub mod Repeats
+pub mod Conditions
