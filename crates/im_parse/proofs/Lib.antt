@@ -9,3 +9,7 @@ pub mod PostfixLines
 pub mod ArgumentLines
 pub mod Rows
 pub mod TextLines
+pub mod DeclaringRows
+pub mod NextWord
+pub mod StarLines
+pub mod CoreFacts

@@ -3,3 +3,4 @@ pub mod Steps
 pub mod Lists
 pub mod Repeats
 pub mod Conditions
+pub mod SeparatedLists

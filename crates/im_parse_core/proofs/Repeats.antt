@@ -25,14 +25,14 @@ next_into X step cons nil Y xs s q t _ (both {a = a} {u = u} d (both {a = b} {u 
     subst (Rest X step cons nil Y xs s q t) (append_assoc u v w)
     (both (one_more d rest) (subst (λ k. Y (before cons xs (cons a b)) k t w) (omega (arith, length-append u v)) (subst (λ z. Y z (q + length u + length v) t w) (before_more cons xs a b) y)))
 
-next_back : {S A B C : Type 0} (X : S → Family A) (step : S → A → S) (cons : A → B → B) (nil : B) (Y : B → Family C) (F : Ending C) (xs : List A) (s : S) (q : ℕ) (m : List Word) → ((b : B) (k : ℕ) (t : C) (u r : List Word) → head (u ++ r) ≡ head m → Y b k t u → F t r → ⊥) → (t : C) (u r : List Word) → head (u ++ r) ≡ head m → Rest X step cons nil Y xs s q t u → F t r → Next X step cons nil Y xs s q t u
-next_back X step cons nil Y F xs s q m other t _ r eq (both {v = w} no_more y) f = absurd (other (before cons xs nil) (q + 0) t w r eq y f)
+next_back : {S A B C : Type 0} (X : S → Family A) (step : S → A → S) (cons : A → B → B) (nil : B) (Y : B → Family C) (F : Ending C) (xs : List A) (s : S) (q : ℕ) (m : List Word) → ((k : ℕ) (t : C) (u r : List Word) → head (u ++ r) ≡ head m → Y (before cons xs nil) k t u → F t r → ⊥) → (t : C) (u r : List Word) → head (u ++ r) ≡ head m → Rest X step cons nil Y xs s q t u → F t r → Next X step cons nil Y xs s q t u
+next_back X step cons nil Y F xs s q m other t _ r eq (both {v = w} no_more y) f = absurd (other (q + 0) t w r eq y f)
 next_back X step cons nil Y F xs s q m other t _ r eq (both {v = w} (one_more {a = a} {b = b} {u = u} {v = v} d rest) y) f =
     subst (Next X step cons nil Y xs s q t) (sym (append_assoc u v w))
     (both d (both rest (subst (λ z. Y z (q + length u + length v) t w) (sym (before_more cons xs a b)) (subst (λ k. Y (before cons xs (cons a b)) k t w) (omega (arith, length-append u v)) y))))
 
 -- an item stands next, since nothing that may stand behind them does
-pub one : {S A B C D' : Type 0} {D : Family D'} {E : Ending D'} {p : ℕ} {w : List Word} {X : S → Family A} {step : S → A → S} {cons : A → B → B} {nil : B} {F : Ending C} {q : ℕ} {m : List Word} {put : C → D'} {s : S} (Y : B → Family C) (xs : List A) → ((b : B) (k : ℕ) (t : C) (u r : List Word) → head (u ++ r) ≡ head m → Y b k t u → F t r → ⊥) → Within D E p w (Rest X step cons nil Y xs s) F q m put → Within D E p w (Next X step cons nil Y xs s) F q m put
+pub one : {S A B C D' : Type 0} {D : Family D'} {E : Ending D'} {p : ℕ} {w : List Word} {X : S → Family A} {step : S → A → S} {cons : A → B → B} {nil : B} {F : Ending C} {q : ℕ} {m : List Word} {put : C → D'} {s : S} (Y : B → Family C) (xs : List A) → ((k : ℕ) (t : C) (u r : List Word) → head (u ++ r) ≡ head m → Y (before cons xs nil) k t u → F t r → ⊥) → Within D E p w (Rest X step cons nil Y xs s) F q m put → Within D E p w (Next X step cons nil Y xs s) F q m put
 one {X = X} {step = step} {cons = cons} {nil = nil} {F = F} {q = q} {m = m} {s = s} Y xs other from =
     line (Next X step cons nil Y xs s) (next_into X step cons nil Y xs s q) (λ t u r e d f. next_back X step cons nil Y F xs s q m other t u r e d f) from
 
@@ -65,10 +65,10 @@ pub apart_item : {S A B C : Type 0} {X : S → Family A} {step : S → A → S} 
 apart_item {X = X} {step = step} {cons = cons} {nil = nil} Y {F = F} G xs s starts ends a q t v r d f = apart_case {X = X} {step = step} {cons = cons} {nil = nil} Y {F = F} G xs (step s a) a (starts a) (ends a) q t v r d f
 
 -- it can be completed
-pub completes_item : {S A B C : Type 0} {X : S → Family A} {step : S → A → S} {cons : A → B → B} {nil : B} {Y : B → Family C} (xs : List A) (s : S)
+pub completes_item : {S A B C : Type 0} {X : S → Family A} {step : S → A → S} {cons : A → B → B} {nil : B} (Y : B → Family C) (xs : List A) (s : S)
     → ((b : B) (k : ℕ) → (t : C) × (v : List Word) × Y b k t v)
     → Completes (λ a. Rest X step cons nil Y (xs ++ a ∷ []) (step s a))
-completes_item {cons = cons} {nil = nil} xs s some a q =
+completes_item {cons = cons} {nil = nil} Y xs s some a q =
     let y = some (before cons (xs ++ a ∷ []) nil) (q + 0) in
     (y.0, y.1, both no_more y.2)
 
