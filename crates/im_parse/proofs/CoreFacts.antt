@@ -45,8 +45,8 @@ abstract_unstarred m h v other e (abstract_inner star) = other (sym e ∙ star)
 
 -- the answers of the function
 pub stops_inside : {T : List Name} {f : Form} (unstarred : Bool) {words : List Word} {i k : ℕ} {stop : Stop} → IsAt (mark OpenParen) words i k → (stop ≡ Syntax k) × (f ≡ Guarded) × g.OpensParameters T (drop k words) → StopsCore T f unstarred words i stop
-stops_inside {T = T} {f = f} unstarred {words = words} {i = i} at h =
-    subst (λ z. StopsCore T f unstarred words i z) (sym h.0) (subst (λ z. IsCoreless T z unstarred words i _) (sym h.1) (inside at h.2))
+stops_inside {T = T} {f = f} unstarred {words = words} {i = i} {k = k} at h =
+    subst (λ z. StopsCore T f unstarred words i z) (sym h.0) (subst (λ z. IsCoreless T z unstarred words i k) (sym h.1) (inside at h.2))
 
 paren_name : {words : List Word} {i k : ℕ} → IsAt (mark OpenParen) words i k → (n : Name) → head (drop i words) ≡ Some (name n) → ⊥
 paren_name at n e = let h : Some (mark OpenParen) ≡ Some (name n) = sym (ap head at.here) ∙ e in cc

@@ -13,3 +13,12 @@ pub mod DeclaringRows
 pub mod NextWord
 pub mod StarLines
 pub mod CoreFacts
+pub mod SpecifierLines
+pub mod TagLines
+pub mod AroundFacts
+pub mod MemberLines
+pub mod EnumeratorLines
+pub mod SuffixLines
+pub mod ParameterLines
+pub mod DeclaratorForms
+pub mod DeclaratorLines

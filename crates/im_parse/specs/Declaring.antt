@@ -52,16 +52,18 @@ Unbraced s r = head_brace r ≡ 0
 abbrev pub AfterSpecifiers : List Name → Ending t.Specifiers
 AfterSpecifiers T s r = SpecifierEnds T (has_type s) r
 
--- what may stand behind `struct` and behind `enum`, which is word s
-pub data IsStructRest (T : List Name) (s : ℕ) : ℕ → t.Specifier → List Word → Type 0 where
-  untagged_struct : {p : ℕ} {ms : t.Members} {u : List Word} → g.IsMembers T (suc p) ms u → IsStructRest T s p (t.struct_specifier s None ms) (mark OpenBrace ∷ (u ++ (mark CloseBrace ∷ [])))
-  tagged_struct : {p : ℕ} (n : Name) {ms : t.Members} {u : List Word} → g.IsMembers T (suc (suc p)) ms u → IsStructRest T s p (t.struct_specifier s (Some n) ms) (name n ∷ mark OpenBrace ∷ (u ++ (mark CloseBrace ∷ [])))
-  its_struct_tag : {p : ℕ} (n : Name) → IsStructRest T s p (t.struct_tag s n) (name n ∷ [])
+-- what may stand behind `struct` or `enum`: a tag, a list in braces, or both
+pub data IsBraced {A : Type 0} (M : Family A) (full : Option Name → A → t.Specifier) (tag : Name → t.Specifier) : ℕ → t.Specifier → List Word → Type 0 where
+  untagged : {p : ℕ} {a : A} {u : List Word} → M (suc p) a u → IsBraced M full tag p (full None a) (mark OpenBrace ∷ (u ++ (mark CloseBrace ∷ [])))
+  tagged : {p : ℕ} (n : Name) {a : A} {u : List Word} → M (suc (suc p)) a u → IsBraced M full tag p (full (Some n) a) (name n ∷ mark OpenBrace ∷ (u ++ (mark CloseBrace ∷ [])))
+  tag_alone : {p : ℕ} (n : Name) → IsBraced M full tag p (tag n) (name n ∷ [])
 
-pub data IsEnumRest (T : List Name) (s : ℕ) : ℕ → t.Specifier → List Word → Type 0 where
-  untagged_enum : {p : ℕ} {es : t.Enumerators} {u : List Word} → g.IsEnumerators T (suc p) es u → IsEnumRest T s p (t.enum_specifier s None es) (mark OpenBrace ∷ (u ++ (mark CloseBrace ∷ [])))
-  tagged_enum : {p : ℕ} (n : Name) {es : t.Enumerators} {u : List Word} → g.IsEnumerators T (suc (suc p)) es u → IsEnumRest T s p (t.enum_specifier s (Some n) es) (name n ∷ mark OpenBrace ∷ (u ++ (mark CloseBrace ∷ [])))
-  its_enum_tag : {p : ℕ} (n : Name) → IsEnumRest T s p (t.enum_tag s n) (name n ∷ [])
+-- behind `struct`, and behind `enum`, which is word s
+abbrev pub IsStructRest : List Name → ℕ → Family t.Specifier
+IsStructRest T s = IsBraced (g.IsMembers T) (t.struct_specifier s) (t.struct_tag s)
+
+abbrev pub IsEnumRest : List Name → ℕ → Family t.Specifier
+IsEnumRest T s = IsBraced (g.IsEnumerators T) (t.enum_specifier s) (t.enum_tag s)
 
 -- declarator { "," declarator }
 pub data IsDeclarators (T : List Name) : ℕ → t.Declarators → List Word → Type 0 where
@@ -111,10 +113,10 @@ pub data IsEnumerator (T : List Name) : ℕ → EnumeratorTree → List Word →
 -- which declarators are read: those that declare a name; in a parameter, those with a name in parentheses, and those
 -- with a name or without one; and those without a name
 abbrev pub IsForm : List Name → Form → Family t.Declarator
-IsForm T Declared p d u = g.IsDeclarator T false p d u
-IsForm T Guarded p d u = g.IsDeclarator T true p d u
-IsForm T Either p d u = g.IsDeclarator T true p d u ⊎ g.IsAbstract T p d u
-IsForm T Abstract p d u = g.IsAbstract T p d u
+IsForm T Declared = g.IsDeclarator T false
+IsForm T Guarded = g.IsDeclarator T true
+IsForm T Either = λ p d u. g.IsDeclarator T true p d u ⊎ g.IsAbstract T p d u
+IsForm T Abstract = g.IsAbstract T
 
 abbrev pub head_named : List Word → ℕ
 head_named (name n ∷ v) = 1
@@ -243,3 +245,7 @@ pub data BeginsForm : Form → Option Word → Type 0 where
   by_suffix : {f : Form} {o : Option Word} → BeginsSuffix o → BeginsForm f o
   by_star : {f : Form} → BeginsForm f (Some (mark punctuator.Star))
   by_its_name : {f : Form} {n : Name} → HasName f → BeginsForm f (Some (name n))
+
+-- a declarator whose parentheses aren't kept
+abbrev pub joined : ℕ → List ℕ → t.Declarator → t.Suffixes → t.Declarator
+joined p ns (t.declarator q ms c ts) us = t.declarator p (ns ++ ms) c (t.append_suffixes ts us)

@@ -6,7 +6,7 @@ ghost use Rattle.im_parse.specs.Parsing.{Parses, Below, Anything, names_of};
 ghost use Rattle.im_parse.specs.Declaring.{IsForm, IsMaybeForm, IsSuffix, AfterDeclarator, AfterParameter, maybe_tree, suffix_tree, suffixes_tree};
 
 use super::ahead::{declarator_ahead, suffix_ahead};
-use super::around::around;
+use super::around::{around, unstarred};
 use super::core_start::{CoreStart, core_at};
 use super::expression::conditional;
 use super::form::Form;
@@ -52,7 +52,7 @@ pub fn declarator(
     ensures { Parses declarator_of (IsForm (names_of names.now) form) AfterDeclarator (map shown words.now) at result }
 {
     let (stars, next) = stars(alloc, words, at)?;
-    match core_at(words, names, form, stars.is_empty(), next)? {
+    match core_at(words, names, form, unstarred(&stars), next)? {
         CoreStart::Name(name, behind) => {
             let (suffixes, end) = suffixes(alloc, words, names, behind)?;
             let tree = make::named(alloc, at, stars, name, suffixes)?;

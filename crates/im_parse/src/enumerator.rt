@@ -49,7 +49,7 @@ fn enumerator(
     at: u32,
 ) -> Result<(Enumerator, u32), Stop>
     requires { length words.now < 2 ^ 32 }
-    ensures { Parses enumerator_tree (IsEnumerator (names_of names.now)) (Below 3) (map shown words.now) at result }
+    ensures { Parses enumerator_tree (IsEnumerator (names_of names.now)) (Below 2) (map shown words.now) at result }
 {
     let (name, next) = expect_name(words, at)?;
     match after_mark(words, next, Punctuator::Assign) {

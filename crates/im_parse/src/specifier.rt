@@ -85,7 +85,10 @@ fn single_specifier(
     }
     match name_at(words, at) {
         Some((name, next)) => {
-            if typed || !is_typedef_name(names, name) {
+            if typed {
+                return Err(Stop::Syntax(at));
+            }
+            if !is_typedef_name(names, name) {
                 return Err(Stop::Syntax(at));
             }
             let tree = make::typedef_name(alloc, at, name)?;

@@ -34,8 +34,8 @@ IntoWhere {A} L D C q = (t : A) (u : List Word) → C (head u) → L q t u → D
 back_sole : {A : Type 0} (L X : Family A) {F : Ending A} {q : ℕ} {m : List Word} (P : A → List Word → Type 0) (f rest : List Word) → m ≡ f ++ rest → Back L X F q m → ((others u r : List Word) (t : A) → head others ≡ head rest → f ++ others ≡ u ++ r → L q t u → F t r → P t u) → (others u r : List Word) (t : A) → head others ≡ head rest → f ++ others ≡ u ++ r → X q t u → F t r → P t u
 back_sole L X P f rest cut back sole others u r t next eq d e = sole others u r t next eq (back t u r (ap head (sym eq) ∙ head_front f rest others cut next) d e) e
 
-where_front : (C : Option Word → Type 0) (w f m : List Word) → C None → C (head w) → w ≡ f ++ m → C (head f)
-where_front C w [] m none here cut = none
+where_front : (C : Option Word → Type 0) (w f m : List Word) → (f ≡ [] → C None) → C (head w) → w ≡ f ++ m → C (head f)
+where_front C w [] m none here cut = none refl
 where_front C w (x ∷ f) m none here cut = subst C (ap head cut) here
 
 -- something of a line, whose first word is so
@@ -50,13 +50,13 @@ where_begun X C w [] m more whole into here some cut d = (some.words, some.tree,
 where_begun X C w (x ∷ f) m more whole into here some cut d = (more, whole, into whole ((x ∷ f) ++ more) (subst C (ap head cut) here) d)
 
 -- the next word is so, and the end of all words too
-pub line_where : {A B : Type 0} {D : Family A} {E : Ending A} {p : ℕ} {w : List Word} {X : Family B} {F : Ending B} {q : ℕ} {m : List Word} {put : B → A} (L : Family B) (C : Option Word → Type 0) → IntoWhere L X C q → Back L X F q m → C None → C (head m) → SomeWhere L C q → Within D E p w X F q m put → Within D E p w L F q m put
-line_where {X = X} {m = m} L C into back none here some from = record {
+pub line_where : {A B : Type 0} {D : Family A} {E : Ending A} {p : ℕ} {w : List Word} {X : Family B} {F : Ending B} {q : ℕ} {m : List Word} {put : B → A} (L : Family B) (C : Option Word → Type 0) → IntoWhere L X C q → Back L X F q m → ((t : B) → L q t [] → C None) → C (head m) → SomeWhere L C q → Within D E p w X F q m put → Within D E p w L F q m put
+line_where {X = X} {q = q} {m = m} L C into back none here some from = record {
   reads = λ t n rest h. from.reads t n rest (record {
     front = h.front;
     cut = h.cut;
     place = h.place;
-    derived = into t h.front (where_front C m h.front rest none here h.cut) h.derived;
+    derived = into t h.front (where_front C m h.front rest (λ e. none t (subst (L q t) e h.derived)) here h.cut) h.derived;
     sole = back_sole L X (λ t' u. (t' ≡ t) × (u ≡ h.front)) h.front rest h.cut back h.sole;
   });
   refuses = λ n rest h. let b = where_begun X C m h.front rest h.more h.whole into here some h.cut h.begun in from.refuses n rest (record {

@@ -4,3 +4,4 @@ pub mod Lists
 pub mod Repeats
 pub mod Conditions
 pub mod SeparatedLists
+pub mod TrailingLists

@@ -28,7 +28,7 @@ Behind X cons nil between close xs = Rest (λ (s : Unit {0}). After between X) (
 abbrev pub Before : {A B : Type 0} → Family A → (A → B → B) → B → Word → Word → List A → Family B
 Before X cons nil between close xs = Both X (λ a. Behind X cons nil between close (xs ++ a ∷ []))
 
-closed_apart : {B : Type 0} (close : Word) → Apart {A = B} (λ t. After close (Done t)) Whatever (λ t r. head r ≡ Some close)
+pub closed_apart : {B : Type 0} (close : Word) → Apart {A = B} (λ t. After close (Done t)) Whatever (λ t r. head r ≡ Some close)
 closed_apart close a q t _ r (after d) e = refl
 
 -- the list begins with an item
