@@ -1,10 +1,11 @@
 ghost use Rattle.std.specs.Prelude.{◌≡◌, Some, None};
 ghost use Rattle.im_ctree.specs.Tree as t;
-ghost use Rattle.im_ctree.specs.Shape.{specifiers_of, declarator_of, type_name_of, optional_expression_of};
+ghost use Rattle.im_ctree.specs.Shape.{specifiers_of, declarator_of, type_name_of, optional_expression_of, initializer_of};
+ghost use Rattle.im_parse.specs.Initializing.{initializers_tree};
 ghost use Rattle.im_parse.specs.Declaring.{Makes, specifier_tree, specifier_list, member_tree, members_tree, declarators_tree, enumerator_tree, enumerators_tree, stars_tree, suffix_tree, suffixes_tree, one_array, one_function, parameter_tree, parameters_tree, maybe_tree};
 
 use im_ctree::{
-    Core, Declarator, Enumerator, Expression, Member, Parameter, Specifier, SpecifierKind,
+    Core, Declarator, Enumerator, Expression, Initializer, Member, Parameter, Specifier, SpecifierKind,
     Specifiers, Star, Suffix, SuffixKind, TypeName,
 };
 use im_parse_core::Stop;
@@ -169,4 +170,10 @@ pub fn type_name(
         Some(declarator) => Some(Box::new(alloc, declarator)?),
     };
     Ok(TypeName { specifiers, declarator })
+}
+
+pub fn braced(at: u32, items: Vec<Initializer>) -> Initializer
+    ensures { initializer_of result ≡ t.braced_initializer at (initializers_tree items) }
+{
+    Initializer::List(at, items)
 }

@@ -91,10 +91,10 @@ abbrev pub decreases-specifier::enum_specifier : goal.decreases-specifier::enum_
 decreases-specifier::enum_specifier l = 32 * (length (map shown l.words.now) - l.behind) + 0
 
 abbrev pub decreases-member::closed_members : goal.decreases-member::closed_members
-decreases-member::closed_members l = 32 * (length (map shown l.words.now) - l.at) + 4
+decreases-member::closed_members l = 32 * (length (map shown l.words.now) - l.at) + 7
 
 abbrev pub decreases-member::member : goal.decreases-member::member
-decreases-member::member l = 32 * (length (map shown l.words.now) - l.at) + 3
+decreases-member::member l = 32 * (length (map shown l.words.now) - l.at) + 6
 
 abbrev pub decreases-member::closed_declarators : goal.decreases-member::closed_declarators
 decreases-member::closed_declarators l = 32 * (length (map shown l.words.now) - l.at) + 5
@@ -118,13 +118,13 @@ abbrev pub decreases-declarator::suffix : goal.decreases-declarator::suffix
 decreases-declarator::suffix l = 32 * (length (map shown l.words.now) - l.at) + 1
 
 abbrev pub decreases-parameter::closed_parameters : goal.decreases-parameter::closed_parameters
-decreases-parameter::closed_parameters l = 32 * (length (map shown l.words.now) - l.at) + 4
+decreases-parameter::closed_parameters l = 32 * (length (map shown l.words.now) - l.at) + 7
 
 abbrev pub decreases-parameter::parameter : goal.decreases-parameter::parameter
-decreases-parameter::parameter l = 32 * (length (map shown l.words.now) - l.at) + 3
+decreases-parameter::parameter l = 32 * (length (map shown l.words.now) - l.at) + 6
 
 abbrev pub decreases-type_name::closed_type_name : goal.decreases-type_name::closed_type_name
-decreases-type_name::closed_type_name l = 32 * (length (map shown l.words.now) - l.at) + 3
+decreases-type_name::closed_type_name l = 32 * (length (map shown l.words.now) - l.at) + 6
 
 abbrev pub invariant-specifier::specifiers-loop-alloc :
     goal.invariant-specifier::specifiers-loop-alloc
