@@ -11,38 +11,50 @@ use Rattle.im_rv.specs.declared.step.Went.TheVariants.{On, Halted}
 use Rattle.im_rv.specs.Steps.{Stepped}
 use Rattle.im_rv.specs.Runs.{runs}
 use Rattle.im_reach.specs.Shown.{shown}
+use Rattle.im_reach.specs.Touches.{touched, heard}
 use Rattle.im_image.specs.Contents.{ImageValue}
 use Rattle.im_device.specs.Load.{memory_of}
 use Rattle.im_device.specs.Shows.{output_of, reason_of, status_of}
 use Rattle.im_operators.proofs.Words.{wrap_signed}
 use Rattle.im_ckpt.specs.Runs.{State, ends}
 use Rattle.im_replay.proofs.Endless.{is_run}
-use Rattle.im_replay.proofs.Images.{first_mem}
+use Rattle.im_replay.proofs.Images.{bytes}
+use Rattle.im_statics.specs.Named.{ShownLaw}
 use Rattle.im_store.specs.Outcomes.{Outcome, Undef, More, End, IsDefined}
 use Rattle.im_typed.specs.Sound.{EndsRight}
 use Rattle.im_block.specs.declared.unit.Unit.{Unit as Code}
 use Rattle.im_block.specs.Meaning.{Setting, Event, statics_of}
 use Rattle.im_block.specs.Runs.{Runs}
 use Rattle.im_select.specs.Linking.{Linking}
-use Rattle.im_select.specs.Law.{ShowsStatics, steps, Shows as Selected_shows, Follows as Selected_follows, SelectKeeps}
-use Rattle.im_keeps.specs.Keeps.{Begins}
+use Rattle.im_select.specs.Law.{Touches, Begun, ShowsStatics, steps, Shows as Selected_shows, Follows as Selected_follows, SelectKeeps}
+use Rattle.im_keeps.specs.Keeps.{IsInput, Begins}
 use Rattle.im_kept.specs.Laws.{run_of}
-use Rattle.im_passes.specs.Machine.{ShowsAfter, Follows, Executes}
+use Rattle.im_written.specs.Written.{IsBegun}
+use Rattle.im_written.specs.Laws.{WrittenLaw}
+use Rattle.im_passes.specs.Machine.{EndsBefore, ShowsAfter, Follows, Executes}
 use Rattle.im_passes.specs.Passes.{IsSelectable}
-use Rattle.im_executes.specs.Executing.{first_cpu, cuts, IsInImage, Completes}
-use Rattle.im_executes.specs.Laws.{ExecutesLaw}
+use Rattle.im_executes.specs.Executing.{first_cpu, cuts, IsInImage, ShowsObjects, Completes}
+use Rattle.im_executes.specs.Laws.{ExecutesLaw, ObjectsLaw}
 use Rattle.im_executes.proofs.Mirror.{Mirrors, mirrors, stands}
+use Rattle.im_executes.proofs.Cuts.{run_few}
+use Rattle.im_executes.proofs.Stores.{stores_few}
 use Rattle.im_executes.proofs.Steps.{few_steps, few_cuts}
 
-module _ (keeps : SelectKeeps) (image : ImageValue) (input : List ℕ) (u : Code) (g : Setting) (p : Linking) (code : IsSelectable u) (within : IsInImage image input u g p) (rest : Completes image input u g p) where
+module _ (keeps : SelectKeeps) (written : WrittenLaw) (image : ImageValue) (input : List ℕ) (u : Code) (g : Setting) (p : Linking) (fits : IsInput input) (code : IsSelectable u) (within : IsInImage image input u g p) (objects : ShowsObjects image input u p) (rest : Completes image input u g p) where
   abbrev r : ℕ → State
   r = run_of image input
 
   abbrev after : ℕ → Stepped
   after j = runs j (first_cpu image input) p.image
 
+  first : IsBegun image input
+  first = written.begun image input (written.loaded image input within.written fits) within.written
+
   memory : p.image ≡ (r 0).mem
-  memory = within.memory ∙ sym (first_mem (memory_of image input) within.resumes)
+  memory = within.memory ∙ sym first.mem
+
+  begun : Begun p (first_cpu image input)
+  begun = record { pc = first.pc ∙ sym within.entry; zero_reg = first.zero_reg; sp = first.sp }
 
   mirrored : (j : ℕ) → Mirrors r (is_run (memory_of image input)) 0 j (after j)
   mirrored j = subst (λ (m : Mem). Mirrors r (is_run (memory_of image input)) 0 j (runs j (first_cpu image input) m)) (sym memory) (mirrors r (is_run (memory_of image input)) j 0)
@@ -54,12 +66,13 @@ module _ (keeps : SelectKeeps) (image : ImageValue) (input : List ℕ) (u : Code
   mem_at j = ap (λ (s : State). s.mem) (at j)
 
   output_at : (j : ℕ) → output_of image.form (r j).mem ≡ shown (after j).mem
-  output_at j = ap (λ f. output_of f (r j).mem) within.form ∙ sym (ap (λ (m : Mem). shown m) (mem_at j))
+  output_at j = ap (λ f. output_of f (r j).mem) within.written.form ∙ sym (ap (λ (m : Mem). shown m) (mem_at j))
 
-  halted : (j : ℕ) → (after j).went ≡ Halted → ends r j ≡ true
+  halted : (j : ℕ) → (after j).went ≡ Halted → EndsBefore r j
   halted j e =
-      let q : 0 + j ≡ j = omega arith in
-      subst (λ k. ends r k ≡ true) q ((mirrored j).over (λ on. let bad : Halted ≡ On = sym e ∙ on in cc))
+      let o = (mirrored j).over (λ on. let bad : Halted ≡ On = sym e ∙ on in cc) in
+      let q : 0 + o.0 ≡ o.0 = omega arith in
+      record { e = o.0; before = o.1; over = subst (λ k. ends r k ≡ true) q o.2 }
 
   going : (j : ℕ) → (after j).went ≡ On → (t : ℕ) → t < j → ends r t ≡ false
   going j e t lt = let q : 0 + t ≡ t = omega arith in subst (λ k. ends r k ≡ false) q ((mirrored j).on e t lt)
@@ -75,7 +88,7 @@ module _ (keeps : SelectKeeps) (image : ImageValue) (input : List ℕ) (u : Code
           same_reason = sym (ap (λ (m : Mem). reason_of m) (mem_at j)) ∙ s.1;
           same_status = sym (ap (λ (m : Mem). status_of m) (mem_at j)) ∙ ap (λ w. cast_signed w32 w) s.2 ∙ status_same status right.0;
           same_output = output_at j ∙ s.3;
-          same_variables = rest.variables n j reason status output variables run right k over (subst (λ (m : Mem). ShowsStatics p u variables m) (mem_at j) s.4);
+          same_variables = objects.variables j reason status output variables right (subst (λ (m : Mem). ShowsStatics p u variables m) (mem_at j) s.4);
         },
       )
   shows n j (More output) run right k s = (going j s.0, output_at j ∙ s.1, s.2)
@@ -83,7 +96,7 @@ module _ (keeps : SelectKeeps) (image : ImageValue) (input : List ℕ) (u : Code
 
   follows : (n : ℕ) (o : Outcome) (run : List Event) → IsDefined o → EndsRight (statics_of u) o → (k : Runs u g n o run) → Follows image input u g (steps p) (cuts p) 15 n o run k.steps
   follows n o run defined right k =
-      let f : Selected_follows p u g (first_cpu image input) n o run k.steps = keeps p u g (first_cpu image input) code.well_formed within.linked within.begun n o run defined k in
+      let f : Selected_follows p u g (first_cpu image input) n o run k.steps = keeps p u g (first_cpu image input) code.well_formed within.linked begun n o run defined k in
       let soon = f.soon in
       record {
         j = f.j;
@@ -92,8 +105,11 @@ module _ (keeps : SelectKeeps) (image : ImageValue) (input : List ℕ) (u : Code
         grows = λ i le.
             let b = f.grows i le in
             (b.0, ap (λ l. l ++ b.0) (output_at i) ∙ sym b.1 ∙ sym (output_at f.j));
+        commits =
+            let few = run_few p u g n o run k in
+            let stores = stores_few r (is_run (memory_of image input)) p run f.j (subst (λ (m : Mem). Touches p run (heard (touched f.j (first_cpu image input) m))) memory f.touches) in
+            omega arith;
         owes = rest.owes n o run defined k f;
-        commits = rest.commits n o run defined k f;
       }
 
   all : Executes u g image input
@@ -106,5 +122,11 @@ module _ (keeps : SelectKeeps) (image : ImageValue) (input : List ℕ) (u : Code
     follows = follows;
   }
 
-pub executes : SelectKeeps → ExecutesLaw
-executes keeps image input u g p code within rest = all keeps image input u g p code within rest
+pub executes : SelectKeeps → WrittenLaw → ExecutesLaw
+executes keeps written image input u g p fits code within objects rest = all keeps written image input u g p fits code within objects rest
+
+pub named : ShownLaw → WrittenLaw → ObjectsLaw
+named shown_law written image input u g p fits code within numbers are = record {
+  variables = λ j reason status output variables right s.
+      shown_law p u image.objects (run_of image input j).mem variables code.well_formed numbers are (bytes (memory_of image input) (written.loaded image input within.written fits).resumes j) right.1 s;
+}

@@ -1,3 +1,6 @@
 mod Mirror
 mod Steps
+mod Effects
+mod Cuts
+mod Stores
 mod Follow

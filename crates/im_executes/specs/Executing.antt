@@ -1,14 +1,10 @@
 -- What an image owes beside the law of selection, for the device's run to follow its placed code.
-use Rattle.std.specs.Prelude.{◌≡◌, ℕ, ◌+◌, ◌≤◌, true, List, [], ◌∷◌, length, ℤ}
+use Rattle.std.specs.Prelude.{◌≡◌, ℕ, ◌+◌, ◌≤◌, List, [], ◌∷◌, length, ℤ}
 use Rattle.im_num.specs.Variables.{Variable}
 use Rattle.im_rv.specs.Steps.{Cpu}
-use Rattle.im_image.specs.declared.form.Form.TheVariants.{TwoLengths}
 use Rattle.im_image.specs.Contents.{ImageValue}
 use Rattle.im_device.specs.Load.{memory_of}
 use Rattle.im_device.specs.Variables.{vars_of}
-use Rattle.im_path.specs.Sections.{flips}
-use Rattle.im_ckpt.specs.Runs.{flip, ends}
-use Rattle.im_ckpt.specs.Laws.{CanResume}
 use Rattle.im_store.specs.Outcomes.{Outcome, End, IsDefined}
 use Rattle.im_typed.specs.Sound.{EndsRight}
 use Rattle.im_block.specs.declared.code.Line.{Line}
@@ -17,15 +13,15 @@ use Rattle.im_block.specs.declared.code.Block.{Block}
 use Rattle.im_block.specs.declared.unit.Function.{Function}
 use Rattle.im_block.specs.declared.unit.Unit.{Unit as Code}
 use Rattle.im_block.specs.Meaning.{Setting, Event, statics_of}
-use Rattle.im_block.specs.Runs.{Runs, start}
+use Rattle.im_block.specs.Runs.{Runs}
 use Rattle.im_block.specs.Sections.{NoWar, items}
-use Rattle.im_block.specs.Shape.{Weights, sum_of, spent, after}
+use Rattle.im_block.specs.Shape.{Weights, sum_of}
 use Rattle.im_select.specs.Linking.{Linking}
 use Rattle.im_select.specs.Linked.{IsLinked}
-use Rattle.im_select.specs.Law.{Begun, ShowsStatics, Follows}
+use Rattle.im_select.specs.Law.{ShowsStatics, Follows}
 use Rattle.im_kept.specs.Laws.{run_of}
 use Rattle.im_until.specs.Until.{OwesUntil}
-use Rattle.im_passes.specs.Machine.{code_end}
+use Rattle.im_written.specs.Written.{IsWritten, code_end}
 
 -- the processor behind the first recovery
 abbrev pub first_cpu : ImageValue → List ℕ → Cpu
@@ -46,22 +42,22 @@ cuts_in line = 0
 abbrev pub cuts : Linking → Weights
 cuts p = record { line = cuts_in; exit = λ exit. 0; entry = 0; routine = p.flips }
 
--- the code is linked in the memory that the image loads, and the first recovery leads to its beginning
+-- the code is linked in the memory that the image loads, and begins where the image does
 pub record IsInImage (image : ImageValue) (input : List ℕ) (u : Code) (g : Setting) (p : Linking) : Type 0 where
+  pub written : IsWritten image
   pub linked : IsLinked p u g
-  pub form : image.form ≡ TwoLengths
   pub memory : p.image ≡ memory_of image input
-  pub resumes : CanResume (memory_of image input)
-  pub begun : Begun p (first_cpu image input)
+  pub entry : p.begin ≡ image.entry
   -- steps and flips of a routine at most, and the words that the image has
   pub longest : p.longest ≤ 120
   pub flips : p.flips ≤ 3
   pub words : 3 + sum_of function_words u.functions.items ≤ length image.words
 
--- What the law of selection doesn't give yet, of each run that it follows: what survival asks, that commits are those of
--- the cuts passed, and that the image's objects are the statics
+-- what the law of selection doesn't give yet, of each run that it follows: what survival asks
 pub record Completes (image : ImageValue) (input : List ℕ) (u : Code) (g : Setting) (p : Linking) : Type 0 where
   pub owes : (n : ℕ) (o : Outcome) (run : List Event) → IsDefined o → (r : Runs u g n o run) → (f : Follows p u g (first_cpu image input) n o run r.steps) → NoWar (items run) → OwesUntil image.words (code_end image) (run_of image input) f.j
-  pub commits : (n : ℕ) (o : Outcome) (run : List Event) → IsDefined o → (r : Runs u g n o run) → (f : Follows p u g (first_cpu image input) n o run r.steps) → NoWar (items run) → flips (flip (run_of image input)) f.j ≤ after (start u g n) (spent u g (cuts p) r.steps)
-  pub variables : (n j reason : ℕ) (status : ℤ) (output : List ℕ) (shown : List Variable) (run : List Event) → EndsRight (statics_of u) (End reason status output shown) → Runs u g n (End reason status output shown) run
-      → ends (run_of image input) j ≡ true → ShowsStatics p u shown (run_of image input j).mem → vars_of image.objects (run_of image input j).mem ≡ shown
+
+-- the image's objects show the statics at an end
+pub record ShowsObjects (image : ImageValue) (input : List ℕ) (u : Code) (p : Linking) : Type 0 where
+  pub variables : (j reason : ℕ) (status : ℤ) (output : List ℕ) (shown : List Variable) → EndsRight (statics_of u) (End reason status output shown) → ShowsStatics p u shown (run_of image input j).mem
+      → vars_of image.objects (run_of image input j).mem ≡ shown

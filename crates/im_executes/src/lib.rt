@@ -3,4 +3,4 @@
 
 mod laws;
 
-pub use laws::executes_law;
+pub use laws::{executes_law, objects_law};

@@ -1,5 +1,5 @@
 -- The parts of a program's code, in order: recovery, the checkpoint, the routines, the functions, and the lines that begin.
-use Rattle.std.specs.Prelude.{◌≡◌, ◌<◌, ℕ, ◌+◌, List, [], ◌∷◌, map, length, take, Some, slice_get}
+use Rattle.std.specs.Prelude.{◌≡◌, ◌<◌, ℕ, ◌+◌, List, ◌∷◌, map, length, take, Some, slice_get}
 use Rattle.im_rv.specs.declared.code.Part.{Part}
 use Rattle.im_rv.specs.Lines.{CodeLine, code_lines, plain_line}
 use Rattle.im_link.specs.Parts.{IsPart}
@@ -38,20 +38,21 @@ abbrev pub start_code : ℕ → List CodeLine
 start_code main = aimed (entry_label main) (jumping 1 0) ∷ exit
 
 -- function i is selected, with its frame
-pub record IsFunctionPart (functions : List Function) (statics : List ℕ) (parts : List Part) (i : ℕ) (f : Function) : Type 0 where
+pub record IsFunctionPart (functions : List Function) (statics : List ℕ) (layouts : List Layout) (parts : List Part) (i : ℕ) (f : Function) : Type 0 where
   pub layout : Layout
+  pub is_layout : slice_get layouts i ≡ Some layout
   pub code : List CodeLine
   pub selectable : IsSelectable (given_at functions statics i f layout) i
   pub selection : IsSelection (given_at functions statics i f layout) i code
   pub there : HasCode parts (part_of i) code
 
-pub record IsProgram (u : Code) (statics : List ℕ) (parts : List Part) : Type 0 where
+pub record IsProgram (u : Code) (statics : List ℕ) (layouts : List Layout) (parts : List Part) : Type 0 where
   pub count : length parts ≡ 6 + length u.functions.items
   pub recovers : HasCode parts 0 (map plain_line recovery)
   pub saves : HasCode parts 1 checkpoint_code
   pub gets : HasCode parts 2 getchar
   pub puts : HasCode parts 3 putchar
   pub stops : HasCode parts 4 stack
-  pub functions : (i : ℕ) (f : Function) → slice_get u.functions.items i ≡ Some f → IsFunctionPart u.functions.items statics parts i f
+  pub functions : (i : ℕ) (f : Function) → slice_get u.functions.items i ≡ Some f → IsFunctionPart u.functions.items statics layouts parts i f
   pub begins : HasCode parts (part_of (length u.functions.items)) (start_code u.main)
   pub main : u.main < length u.functions.items

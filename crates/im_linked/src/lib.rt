@@ -3,4 +3,4 @@
 
 mod laws;
 
-pub use laws::{linked_law, stand_law};
+pub use laws::{linkable_law, linked_law, stand_law, words_law};

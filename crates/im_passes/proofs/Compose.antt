@@ -45,7 +45,7 @@ use Rattle.im_keeps.specs.Keeps.{IsInput, IsRightFor, Begins, Shows, output_in, 
 use Rattle.im_kept.specs.Laws.{run_of, IsReady, EndKeptLaw, RunKeptLaw}
 use Rattle.im_until.specs.Until.{OwesUntil}
 use Rattle.im_until.specs.Laws.{Owes, OwesAlways, UntilLaw}
-use Rattle.im_until.proofs.Still.{still, flips_still, flips_more}
+use Rattle.im_until.proofs.Still.{still, over_still, flips_still, flips_more}
 use Rattle.im_passes.specs.Source.{Source, IsRightSource}
 use Rattle.im_written.specs.Written.{code_end, IsLoaded}
 use Rattle.im_written.specs.Laws.{WrittenLaw}
@@ -246,8 +246,11 @@ module _ (laws : Laws) (source : Source) (frames : List ℕ) (image : ImageValue
 
     -- the program ends
     module _ (n reason : ℕ) (status : ℤ) (output : List ℕ) (variables : List Variable) (f : Shown n (End reason status output variables)) where
+      over : ends r f.j ≡ true
+      over = let e = f.shows.0 in let before = e.before in over_still r (is_run (memory_of image input)) e.e e.over f.j (omega arith)
+
       later : (t : ℕ) → f.j ≤ t → r t ≡ r f.j
-      later t le = still r (is_run (memory_of image input)) f.j f.shows.0 t le
+      later t le = still r (is_run (memory_of image input)) f.j over t le
 
       begins_at : (t : ℕ) → Begins (output_at t) output
       begins_at t = elim (order t f.j) [
@@ -257,9 +260,9 @@ module _ (laws : Laws) (source : Source) (frames : List ℕ) (image : ImageValue
 
       owes_at : (t : ℕ) → Owes image.words (code_end image) r t
       owes_at t = record {
-        j = t;
+        j = t + 1;
         later = omega arith;
-        owes = laws.until.ended image.words (code_end image) r f.j (is_run (memory_of image input)) f.shows.0 f.owes t;
+        owes = laws.until.ended image.words (code_end image) r f.shows.0.e f.j (is_run (memory_of image input)) f.shows.0.before f.shows.0.over f.owes (t + 1);
       }
 
       end_always : OwesAlways image.words (code_end image) r
@@ -271,20 +274,20 @@ module _ (laws : Laws) (source : Source) (frames : List ℕ) (image : ImageValue
           let stored = few_flips end_always f.j in
           elim (order t f.j) [
             | inl lt ↦ (let h = flips_more (flip r) t f.j (omega arith) in omega arith)
-            | inr le ↦ (let h = flips_still r (is_run (memory_of image input)) f.j f.shows.0 t le in omega arith)
+            | inr le ↦ (let h = flips_still r (is_run (memory_of image input)) f.j over t le in omega arith)
           ]
 
       keeps_end : KeepsEnd image gap input n reason status output variables
       keeps_end =
           laws.end_kept image input (code_end image) gap n f.j ((2 * n + 1) * length image.words) reason status output variables (ready end_always) (gaps end_always)
-          (record { ended = f.shows.0; commits = commits_at; shown = f.shows.1 })
+          (record { ended = over; commits = commits_at; shown = f.shows.1 })
           (omega arith)
 
       keeps_uninterrupted : KeepsUninterrupted image gap input n reason status output variables
       keeps_uninterrupted = record {
         halts = λ k long.
             let soon = f.soon gap gap_long in
-            let h = halted_at (memory_of image input) (can end_always) end_always.safely.no_fault f.j k f.shows.0 (omega arith) in
+            let h = halted_at (memory_of image input) (can end_always) end_always.safely.no_fault f.j k over (omega arith) in
             (h.0, subst (λ (m : Mem). Shows image m reason status output variables) (sym h.1) f.shows.1);
         begins = λ k.
             let s = shows_in end_always k in
@@ -302,7 +305,7 @@ module _ (laws : Laws) (source : Source) (frames : List ℕ) (image : ImageValue
     said_at n t (More output) le f = let few = f.shows.2 in subst (Begins (output_at t)) f.shows.1 (f.grows t (omega arith))
     said_at n t (Undef why) le f = absurd f.shows
 
-    owes_on : (n t : ℕ) (o : Outcome) → t ≤ n → Shown n o → Owes image.words (code_end image) r t
+    owes_on : (n t : ℕ) (o : Outcome) → t < n → Shown n o → Owes image.words (code_end image) r t
     owes_on n t (End reason status output variables) le f = owes_at n reason status output variables f t
     owes_on n t (More output) le f = let few = f.shows.2 in record { j = f.j; later = omega arith; owes = f.owes }
     owes_on n t (Undef why) le f = absurd f.shows
@@ -317,7 +320,7 @@ module _ (laws : Laws) (source : Source) (frames : List ℕ) (image : ImageValue
 
     module _ (right : IsRightFor (meaning_of source frames image) input) where
       right_always : OwesAlways image.words (code_end image) r
-      right_always = laws.until.always image.words (code_end image) r (λ t. owes_on t t (mean input t) (omega arith) (shown t (right t)))
+      right_always = laws.until.always image.words (code_end image) r (λ t. owes_on (t + 1) t (mean input (t + 1)) (omega arith) (shown (t + 1) (right (t + 1))))
 
       within : (t : ℕ) → Begins (output_at t) (output_in (mean input (t + 1)))
       within t = said_at (t + 1) t (mean input (t + 1)) (omega arith) (shown (t + 1) (right (t + 1)))

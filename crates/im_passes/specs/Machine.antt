@@ -30,9 +30,15 @@ abbrev pub stores_before : (ℕ → State) → ℕ → ℕ
 stores_before run zero = 0
 stores_before run (suc j) = cond (stores_word (effect_at (run j)) index_at) 1 0 + stores_before run j
 
+-- one of the first j steps ends the run
+pub record EndsBefore (run : ℕ → State) (j : ℕ) : Type 0 where
+  pub e : ℕ
+  pub before : e < j
+  pub over : ends run e ≡ true
+
 -- how a run with n fuel has ended at time j, or that it goes on, each unit of fuel being worth a step
 abbrev pub ShowsAfter : ImageValue → (ℕ → State) → Outcome → ℕ → ℕ → Type 0
-ShowsAfter image run (End reason status output variables) n j = (ends run j ≡ true) × Shows image (run j).mem reason status output variables
+ShowsAfter image run (End reason status output variables) n j = EndsBefore run j × Shows image (run j).mem reason status output variables
 ShowsAfter image run (More output) n j =
     ((t : ℕ) → t < j → ends run t ≡ false) × (output_of image.form (run j).mem ≡ output) × (n ≤ j)
 ShowsAfter image run (Undef why) n j = ⊥
@@ -44,7 +50,7 @@ pub record Follows (image : ImageValue) (input : List ℕ) (code : Code) (g : Se
   pub soon : j ≤ around + after (start code g n) (spent code g steps k)
   pub grows : (i : ℕ) → i ≤ j → Begins (output_of image.form (run_of image input i).mem) (output_of image.form (run_of image input j).mem)
   pub commits : stores_before (run_of image input) j ≤ after (start code g n) (spent code g cuts k)
-  -- where the code's run writes no exposed byte of its section, the machine's run does what survival asks
+  -- where the code's run writes no exposed byte of its section, the machine's steps do what survival asks
   pub owes : NoWar (items run) → OwesUntil image.words (code_end image) (run_of image input) j
 
 -- The machine follows each run of the placed code that is defined. Weights bound the steps and the commits of lines; around

@@ -57,7 +57,12 @@ fn push_plain(lines: &mut Vec<Line>, homes: Homes, number: u64, line: Line) -> R
 }
 
 /// What a line becomes. It takes its numbers from those that `number` begins.
-pub(crate) fn push_line(lines: &mut Vec<Line>, homes: Homes, number: u64, line: Line) -> Result<(), NoMemory>
+pub(crate) fn push_line(
+    lines: &mut Vec<Line>,
+    homes: Homes,
+    number: u64,
+    line: Line,
+) -> Result<(), NoMemory>
     requires fits { Fits homes.count line }
     requires room { number + 16 < 2 ^ 64 }
     ensures { OnOk result

@@ -22,17 +22,27 @@ fn values_come_and_go_home(rt: HostRuntime) -> Result<(), Fail> {
     push_line(&mut lines, HOMES, 0, Line::Put { to: 1, number: 7 })?;
     push_line(&mut lines, HOMES, 16, Line::PutNull { to: 2 })?;
     push_line(&mut lines, HOMES, 32, Line::Copy { to: 3, from: 0 })?;
-    push_line(&mut lines, HOMES, 48, Line::Convert {
-        to: 1,
-        kind: Kind::U8,
-        from: 3,
-    })?;
-    push_line(&mut lines, HOMES, 64, Line::Unary {
-        to: 4,
-        op: UnaryOp::Negate,
-        kind: Kind::I32,
-        from: 1,
-    })?;
+    push_line(
+        &mut lines,
+        HOMES,
+        48,
+        Line::Convert {
+            to: 1,
+            kind: Kind::U8,
+            from: 3,
+        },
+    )?;
+    push_line(
+        &mut lines,
+        HOMES,
+        64,
+        Line::Unary {
+            to: 4,
+            op: UnaryOp::Negate,
+            kind: Kind::I32,
+            from: 1,
+        },
+    )?;
     push_line(&mut lines, HOMES, 80, Line::Not { to: 5, from: 0 })?;
     let want = [
         Line::Put { to: 30, number: 7 },
@@ -66,33 +76,53 @@ fn values_come_and_go_home(rt: HostRuntime) -> Result<(), Fail> {
 #[test]
 fn two_operands_come(rt: HostRuntime) -> Result<(), Fail> {
     let mut lines = Vec::new(rt.alloc());
-    push_line(&mut lines, HOMES, 0, Line::Compute {
-        to: 2,
-        op: BinaryOp::Add,
-        kind: Kind::I32,
-        left: 0,
-        right: 1,
-    })?;
-    push_line(&mut lines, HOMES, 16, Line::Compare {
-        to: 4,
-        op: Comparison::Less,
-        kind: Kind::U32,
-        left: 1,
-        right: 2,
-    })?;
-    push_line(&mut lines, HOMES, 32, Line::Move {
-        to: 5,
-        size: 4,
-        back: true,
-        pointer: 2,
-        by: 1,
-    })?;
-    push_line(&mut lines, HOMES, 48, Line::Distance {
-        to: 6,
-        size: 4,
-        left: 5,
-        right: 2,
-    })?;
+    push_line(
+        &mut lines,
+        HOMES,
+        0,
+        Line::Compute {
+            to: 2,
+            op: BinaryOp::Add,
+            kind: Kind::I32,
+            left: 0,
+            right: 1,
+        },
+    )?;
+    push_line(
+        &mut lines,
+        HOMES,
+        16,
+        Line::Compare {
+            to: 4,
+            op: Comparison::Less,
+            kind: Kind::U32,
+            left: 1,
+            right: 2,
+        },
+    )?;
+    push_line(
+        &mut lines,
+        HOMES,
+        32,
+        Line::Move {
+            to: 5,
+            size: 4,
+            back: true,
+            pointer: 2,
+            by: 1,
+        },
+    )?;
+    push_line(
+        &mut lines,
+        HOMES,
+        48,
+        Line::Distance {
+            to: 6,
+            size: 4,
+            left: 5,
+            right: 2,
+        },
+    )?;
     let want = [
         reload(29, 1, 1),
         Line::Compute {
@@ -145,25 +175,48 @@ fn places_are_over_registers(rt: HostRuntime) -> Result<(), Fail> {
         offset: 0,
     };
     let kind = Kind::I32;
-    push_line(&mut lines, HOMES, 16, Line::Address { to: 5, place: local })?;
-    push_line(&mut lines, HOMES, 32, Line::Read {
-        to: 6,
-        place: behind(5),
-        kind,
-        access: 1,
-    })?;
-    push_line(&mut lines, HOMES, 48, Line::Write {
-        place: behind(5),
-        kind,
-        from: 6,
-        access: 2,
-    })?;
-    push_line(&mut lines, HOMES, 64, Line::Write {
-        place: local,
-        kind,
-        from: 0,
-        access: 3,
-    })?;
+    push_line(
+        &mut lines,
+        HOMES,
+        16,
+        Line::Address {
+            to: 5,
+            place: local,
+        },
+    )?;
+    push_line(
+        &mut lines,
+        HOMES,
+        32,
+        Line::Read {
+            to: 6,
+            place: behind(5),
+            kind,
+            access: 1,
+        },
+    )?;
+    push_line(
+        &mut lines,
+        HOMES,
+        48,
+        Line::Write {
+            place: behind(5),
+            kind,
+            from: 6,
+            access: 2,
+        },
+    )?;
+    push_line(
+        &mut lines,
+        HOMES,
+        64,
+        Line::Write {
+            place: local,
+            kind,
+            from: 0,
+            access: 3,
+        },
+    )?;
     let want = [
         Line::Address {
             to: 30,
@@ -201,12 +254,17 @@ fn places_are_over_registers(rt: HostRuntime) -> Result<(), Fail> {
 fn calls_have_their_arguments_in_order(rt: HostRuntime) -> Result<(), Fail> {
     let mut lines = Vec::new(rt.alloc());
     push_line(&mut lines, HOMES, 0, Line::Cut(Cause::Entry))?;
-    push_line(&mut lines, HOMES, 16, Line::Call {
-        to: 7,
-        function: 1,
-        first: 3,
-        count: 2,
-    })?;
+    push_line(
+        &mut lines,
+        HOMES,
+        16,
+        Line::Call {
+            to: 7,
+            function: 1,
+            first: 3,
+            count: 2,
+        },
+    )?;
     push_line(&mut lines, HOMES, 32, Line::GetChar { to: 1 })?;
     push_line(&mut lines, HOMES, 48, Line::PutChar { to: 2, from: 1 })?;
     let want = [
@@ -237,29 +295,36 @@ fn calls_have_their_arguments_in_order(rt: HostRuntime) -> Result<(), Fail> {
 fn sample(alloc: Global) -> Result<Unit, Fail>
     ensures { IfOk result (λ unit. IsTaken unit) }
 {
-    let lines = vec![in alloc; Line::Read {
-        to: 0,
-        place: Place::Local { object: 0, offset: 0 },
-        kind: Kind::I32,
-        access: 5,
-    }]?;
+    let lines = vec![in alloc;
+        Line::Read {
+            to: 0,
+            place: Place::Local {
+                object: 0,
+                offset: 0
+            },
+            kind: Kind::I32,
+            access: 5,
+        },
+    ]?;
     let exit = Exit::Return(Some(0));
     let blocks = vec![in alloc; Block { lines, exit }]?;
     let cells = Vec::new(alloc);
     let objects = vec![in alloc; Object { size: 4, cells }]?;
-    let functions = vec![in alloc; Function {
-        nodes: 4,
-        need: 100,
-        registers: Registers::Virtual,
-        register_count: 1,
-        parameters: 0,
-        first_parameter: 0,
-        first_object: 0,
-        objects,
-        slots: 0,
-        blocks,
-        entry: 0,
-    }]?;
+    let functions = vec![in alloc;
+        Function {
+            nodes: 4,
+            need: 100,
+            registers: Registers::Virtual,
+            register_count: 1,
+            parameters: 0,
+            first_parameter: 0,
+            first_object: 0,
+            objects,
+            slots: 0,
+            blocks,
+            entry: 0,
+        },
+    ]?;
     Ok(Unit {
         statics: Vec::new(alloc),
         functions,

@@ -1,8 +1,8 @@
 -- What is put for a line depends on the places of the objects that the line names alone.
-use Rattle.std.proofs.Common.{◌≡◌, ◌<◌, ◌≤◌, ℕ, ◌+◌, ◌-◌, ◌*◌, ◌^◌, Bool, true, false, Some, length, refl, sym, ap, ◌∙◌, subst, arith}
+use Rattle.std.proofs.Common.{◌≡◌, ◌<◌, ℕ, ◌+◌, ◌-◌, ◌*◌, ◌^◌, true, false, length, refl, sym, ap, subst, arith}
 use Rattle.std.specs.Prelude.{nat_lt, if◌then◌else◌, slice_index}
 use Rattle.std.proofs.lemmas.Bool.Decides.{nat_tests}
-use Rattle.im_store.specs.Objects.{Named, Slot}
+use Rattle.im_store.specs.Objects.{Named}
 use Rattle.im_block.specs.declared.code.Place.{Place}
 use Rattle.im_block.specs.declared.code.Place.TheVariants.{Static, Local, Through}
 use Rattle.im_block.specs.declared.code.Line.{Line}

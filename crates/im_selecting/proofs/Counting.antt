@@ -1,5 +1,5 @@
 -- How many lines stand for a line, an exit, a function: at most what these cost.
-use Rattle.std.proofs.Common.{◌≡◌, ◌<◌, ◌≤◌, ℕ, zero, suc, ◌+◌, ◌-◌, ◌^◌, Bool, true, false, List, [], ◌∷◌, ◌++◌, Option, Some, None, length, refl, sym, ap, ◌∙◌, length-append, arith}
+use Rattle.std.proofs.Common.{◌≡◌, ◌<◌, ◌≤◌, ℕ, suc, ◌+◌, ◌-◌, ◌^◌, Bool, true, false, List, [], ◌∷◌, ◌++◌, Some, length, refl, length-append, arith}
 use Rattle.std.specs.Prelude.{◌==◌, slice_get}
 use Rattle.im_num.specs.declared.kind.Kind.TheVariants.{I8, U8, I16, U16, I32, U32, Ptr}
 use Rattle.im_num.specs.Kinds.{word}
@@ -20,9 +20,9 @@ use Rattle.im_block.specs.declared.code.Exit.TheVariants.{Jump, Turn, Branch, Re
 use Rattle.im_block.specs.declared.code.Block.{Block}
 use Rattle.im_block.specs.declared.unit.Function.{Function}
 use Rattle.im_block.specs.Forced.{StartsWithCut}
-use Rattle.im_block.specs.Shape.{sum_of, words_of, with_cut, exit_words, placed_block_cost, placed_cost}
+use Rattle.im_block.specs.Shape.{sum_of, with_cut, exit_words, placed_block_cost, placed_cost}
 use Rattle.im_placed.specs.Apart.{CutsApart}
-use Rattle.im_selecting.specs.Emitted.{high_of, low_of, constant_by, constant_code, displaced_by, displaced_code, displaced_base, step_op, adds_by, adds_code, place_number, place_code, place_base, line_code, lines_code, leave_code, exit_code, block_code, blocks_code, enter_code, prologue_code, function_code, labelled, entry_label}
+use Rattle.im_selecting.specs.Emitted.{high_of, low_of, constant_by, constant_code, displaced_by, displaced_code, displaced_base, step_op, adds_by, adds_code, place_number, place_code, place_base, line_code, lines_code, exit_code, block_code, blocks_code, enter_code, prologue_code, function_code, labelled, entry_label}
 use Rattle.im_selecting.proofs.Plain.{length_labelled}
 
 constant_few : (rd n : ℕ) → length (constant_code rd n) ≤ 2

@@ -1,6 +1,6 @@
 -- Labels of a function's lines, and where its lines lead to.
-use Rattle.std.proofs.Common.{◌≡◌, ◌<◌, ◌≤◌, ◌⊎◌, inl, inr, ℕ, zero, suc, ◌+◌, ◌-◌, ◌^◌, List, [], ◌∷◌, ◌++◌, Option, Some, None, length, refl, sym, ap, ◌∙◌, subst, length-append, arith}
-use Rattle.std.specs.Prelude.{slice_get, All}
+use Rattle.std.proofs.Common.{◌≡◌, ◌<◌, ◌⊎◌, inl, inr, ℕ, zero, suc, ◌+◌, ◌-◌, ◌^◌, List, [], ◌∷◌, ◌++◌, Some, None, length, refl, sym, ◌∙◌, subst, length-append, arith}
+use Rattle.std.specs.Prelude.{All}
 use Rattle.std.proofs.lemmas.List.Elements.{All-head, All-tail}
 use Rattle.im_num.specs.declared.kind.Kind.TheVariants.{I8, U8, I16, U16, I32, U32, Ptr}
 use Rattle.im_num.specs.Kinds.{word}
@@ -19,7 +19,7 @@ use Rattle.im_selecting.specs.Given.{Given}
 use Rattle.im_selecting.specs.Emitted.{checkpoint_label, constant_code, displaced_code, adds_code, place_number, place_code, line_code, lines_code, leave_code, exit_code, block_code, blocks_code, enter_code, prologue_code, function_code, labelled, entry_label}
 use Rattle.im_selecting.specs.Places.{CallsBelow}
 use Rattle.im_selecting.specs.Selects.{HasLabel, IsTarget, LeadsTo, IsClosedBlock}
-use Rattle.im_selecting.proofs.Standing.{after, after_length, after_labelled}
+use Rattle.im_selecting.proofs.Standing.{after, after_length}
 use Rattle.im_selecting.proofs.Plain.{Bare, constant_bare, displaced_bare, adds_bare, place_bare, bare_append, Lead, lead_append, bare_lead, lead_labelled, Unlabelled, unlabelled_append, bare_unlabelled, only_first, first_has, label_left, label_right, label_split, length_labelled}
 use Rattle.im_selecting.proofs.Counting.{exit_some}
 use Rattle.im_selecting.proofs.Parts.{starts_from, starts_of}

@@ -1,8 +1,7 @@
 -- Accesses and causes of lines are those of the placed code, in order.
-use Rattle.std.proofs.Common.{◌≡◌, ℕ, suc, ◌+◌, ◌-◌, ◌^◌, List, [], ◌∷◌, ◌++◌, refl, sym, ap, ◌∙◌, append_assoc}
+use Rattle.std.proofs.Common.{◌≡◌, ℕ, suc, ◌+◌, ◌-◌, ◌^◌, List, [], ◌∷◌, ◌++◌, refl, ap, ◌∙◌}
 use Rattle.std.proofs.lemmas.List.{append-nil}
 use Rattle.im_num.specs.declared.kind.Kind.TheVariants.{I8, U8, I16, U16, I32, U32, Ptr}
-use Rattle.im_num.specs.declared.values.Cause.{Cause}
 use Rattle.im_num.specs.Kinds.{word}
 use Rattle.im_rv.specs.Lines.{CodeLine}
 use Rattle.im_store.specs.declared.operators.UnaryOp.TheVariants.{Negate, Complement}
@@ -13,11 +12,10 @@ use Rattle.im_block.specs.declared.code.Line.TheVariants.{Put, PutNull, Copy, Co
 use Rattle.im_block.specs.declared.code.Exit.{Exit}
 use Rattle.im_block.specs.declared.code.Exit.TheVariants.{Jump, Turn, Branch, Return}
 use Rattle.im_block.specs.declared.code.Block.{Block}
-use Rattle.im_block.specs.declared.unit.Function.{Function}
 use Rattle.im_block.specs.Wellformed.{accesses_of_line, accesses_of_lines, accesses_of_blocks}
 use Rattle.im_selecting.specs.Emitted.{constant_code, displaced_code, adds_code, place_number, place_code, line_code, lines_code, exit_code, block_code, blocks_code, enter_code, prologue_code, function_code, labelled, entry_label}
 use Rattle.im_selecting.specs.Selects.{accesses_in, causes_in, causes_of_line, causes_of_lines, causes_of_blocks}
-use Rattle.im_selecting.proofs.Plain.{Bare, constant_bare, displaced_bare, adds_bare, place_bare, bare_append, accesses_append, causes_append, bare_accesses, bare_causes, accesses_behind, causes_behind, accesses_labelled, causes_labelled}
+use Rattle.im_selecting.proofs.Plain.{constant_bare, displaced_bare, adds_bare, place_bare, accesses_append, causes_append, bare_accesses, bare_causes, accesses_behind, causes_behind, accesses_labelled, causes_labelled}
 
 line_accesses : (at : Name → ℕ) (line : Line) → accesses_in (line_code at line) ≡ accesses_of_line line
 line_accesses at (Put to z) = bare_accesses (constant_code to (word z)) (constant_bare to (word z))

@@ -1,8 +1,8 @@
 -- Blocks, exits and the prologue: what is put for them is what may stand for them.
-use Rattle.std.proofs.Common.{◌≡◌, ◌<◌, ◌≤◌, ℕ, zero, suc, ◌+◌, ◌-◌, ◌^◌, List, [], ◌∷◌, ◌++◌, Option, Some, None, length, refl, sym, ap, ◌∙◌, subst, append_assoc, arith}
+use Rattle.std.proofs.Common.{◌≡◌, ◌<◌, ℕ, zero, suc, ◌+◌, ◌-◌, ◌^◌, List, [], ◌∷◌, ◌++◌, Option, Some, None, length, sym, subst, append_assoc, arith}
 use Rattle.std.specs.Prelude.{slice_get, All}
 use Rattle.std.proofs.lemmas.List.Elements.{All-head, All-tail}
-use Rattle.im_rv.specs.declared.instr.Op.TheVariants.{Jalr, Lw}
+use Rattle.im_rv.specs.declared.instr.Op.TheVariants.{Jalr}
 use Rattle.im_rv.specs.Lines.{CodeLine, plain_line}
 use Rattle.im_reach.specs.Instructions.{with_immediate, jumping}
 use Rattle.im_store.specs.Objects.{Name}
@@ -19,7 +19,7 @@ use Rattle.im_selecting.specs.Emitted.{adds_code, leave_code, exit_code, line_co
 use Rattle.im_selecting.specs.Given.{Given}
 use Rattle.im_selecting.specs.Places.{CallsBelow}
 use Rattle.im_selecting.specs.Selects.{Agrees, IsClosedBlock}
-use Rattle.im_selecting.proofs.Standing.{At, after, after_append, after_labelled, at_left, at_right, at_labelled}
+use Rattle.im_selecting.proofs.Standing.{At, after, after_labelled, at_left, at_right, at_labelled}
 use Rattle.im_selecting.proofs.Selecting.{Words, adds_in, selected_in}
 
 result_in : (from : Option ℕ) → IsResult from → InResult from
@@ -56,9 +56,11 @@ stands_in w given own k frame (line ∷ lines) exit g small h c alike e t a =
     let q = All-head (CallsBelow given.functions) line lines c in
     let same = (alike line p).0 in
     let here : SelectedIn w k line (after k (line_code own line)) =
-        subst (λ z. SelectedIn w k line (after k z)) (sym same) (selected_in w given k g line p q (alike line p).1 (subst (At w k) same (at_left w k (line_code own line) rest b))) in
-    (after k (line_code own line), here,
-     stands_in w given own (after k (line_code own line)) frame lines exit g small (All-tail (IsPlacedLine statics f) line lines h) (All-tail (CallsBelow given.functions) line lines c) alike e t (at_right w k (line_code own line) rest b))
+    subst (λ z. SelectedIn w k line (after k z)) (sym same) (selected_in w given k g line p q (alike line p).1 (subst (At w k) same (at_left w k (line_code own line) rest b))) in (
+      after k (line_code own line),
+      here,
+      stands_in w given own (after k (line_code own line)) frame lines exit g small (All-tail (IsPlacedLine statics f) line lines h) (All-tail (CallsBelow given.functions) line lines c) alike e t (at_right w k (line_code own line) rest b),
+    )
 
 prologue_in : (w : Lines) (given : Given) (frame entry : ℕ) → Agrees w given → 0 < frame → entry < length given.function.blocks.items → At w 0 (prologue_code frame (given.first_block + entry)) → PrologueIn w 0 frame (w.block entry)
 prologue_in w given frame entry g some t a =

@@ -1,32 +1,24 @@
 -- What is put for a line is what may stand for it.
-use Rattle.std.proofs.Common.{◌≡◌, ◌≢◌, ◌<◌, ◌≤◌, ℕ, zero, suc, ◌+◌, ◌^◌, Bool, true, false, List, [], ◌∷◌, ◌++◌, Some, None, length, inl, inr, refl, sym, ap, ◌∙◌, subst, append_assoc, arith}
-use Rattle.std.specs.Prelude.{◌==◌, if◌then◌else◌, slice_get, All}
+use Rattle.std.proofs.Common.{◌≡◌, ◌<◌, ℕ, suc, ◌+◌, ◌^◌, Bool, true, false, [], ◌∷◌, Some, None, length, inl, inr, refl, sym, subst, arith}
+use Rattle.std.specs.Prelude.{◌==◌, if◌then◌else◌}
 use Rattle.std.proofs.lemmas.Bool.Decides.{nat_tests}
-use Rattle.im_num.specs.declared.kind.Kind.{Kind}
 use Rattle.im_num.specs.declared.kind.Kind.TheVariants.{I8, U8, I16, U16, I32, U32, Ptr}
 use Rattle.im_num.specs.Kinds.{word}
-use Rattle.im_rv.specs.declared.instr.Op.{Op}
-use Rattle.im_rv.specs.declared.instr.Op.TheVariants.{Lw, Sw, Addi, Add as AddOp}
+use Rattle.im_rv.specs.declared.instr.Op.TheVariants.{Addi, Add as AddOp}
 use Rattle.im_rv.specs.Lines.{CodeLine, plain_line}
-use Rattle.im_reach.specs.Instructions.{with_immediate, on_registers, upper, jumping}
-use Rattle.im_operators.specs.Tables.{less_op}
+use Rattle.im_reach.specs.Instructions.{with_immediate, on_registers, jumping}
 use Rattle.im_operators.proofs.Words.{word_small}
 use Rattle.im_store.specs.declared.operators.UnaryOp.TheVariants.{Negate, Complement}
-use Rattle.im_store.specs.declared.operators.Comparison.{Comparison}
 use Rattle.im_store.specs.declared.operators.Comparison.TheVariants.{Less as LessThan, Greater, LessOrEqual, GreaterOrEqual, Equal, NotEqual}
 use Rattle.im_store.specs.Objects.{Name, Named, Slot}
 use Rattle.im_block.specs.declared.code.Place.{Place}
 use Rattle.im_block.specs.declared.code.Place.TheVariants.{Static, Local, Through}
 use Rattle.im_block.specs.declared.code.Line.{Line}
 use Rattle.im_block.specs.declared.code.Line.TheVariants.{Put, PutNull, Copy, Convert, Unary, Not, Compute, Compare, Move, Distance, Address, Read, Write, Reload, Spill, Cut, Call, GetChar, PutChar}
-use Rattle.im_block.specs.declared.code.Exit.{Exit}
-use Rattle.im_block.specs.declared.code.Exit.TheVariants.{Jump, Turn, Branch, Return}
-use Rattle.im_block.specs.declared.unit.Function.{Function}
 use Rattle.im_placed.specs.Operands.{PlaceAtHome}
-use Rattle.im_placed.specs.Placed.{IsPlacedLine, IsPlacedExit, IsResult}
-use Rattle.im_select.specs.Selected.{InResult}
-use Rattle.im_select.specs.Symbolic.{Lines, HasLine, Plain, Aimed, ConstantIn, Small, Large, DisplacedIn, Near, Far, BasedIn, InFrame, InStatic, Behind, AddsIn, Short, Long, ComparedIn, Lesser, Larger, NotLarger, NotLesser, Same, Other, ConvertedIn, Whole, Narrowed, SelectedIn, Numbers, Nulls, Copies, Converts, Negates, Complements, Nots, Computes, Compares, Moves, Measures, Addresses, Fetches, Keeps, Reloads, Spills, Cuts_, Calls, Gets, Puts_, TestedIn, Hopped, LeavesIn, ExitIn, StandsIn, CheckedIn, Around, PrologueIn}
-use Rattle.im_selecting.specs.Emitted.{entry_label, high_of, low_of, constant_by, constant_code, displaced_by, displaced_code, displaced_base, adds_by, adds_code, place_number, place_code, place_base, line_code, lines_code, leave_code, exit_code, enter_code, prologue_code}
+use Rattle.im_placed.specs.Placed.{IsPlacedLine}
+use Rattle.im_select.specs.Symbolic.{Lines, HasLine, Plain, Aimed, ConstantIn, Small, Large, DisplacedIn, Near, Far, BasedIn, InFrame, InStatic, Behind, AddsIn, Short, Long, Lesser, Larger, NotLarger, NotLesser, Same, Other, Whole, Narrowed, SelectedIn, Numbers, Nulls, Copies, Converts, Negates, Complements, Nots, Computes, Compares, Moves, Measures, Addresses, Fetches, Keeps, Reloads, Spills, Cuts_, Calls, Gets, Puts_}
+use Rattle.im_selecting.specs.Emitted.{high_of, low_of, constant_by, constant_code, displaced_by, displaced_code, displaced_base, adds_by, adds_code, place_number, place_code, place_base, line_code}
 use Rattle.im_selecting.specs.Given.{Given}
 use Rattle.im_selecting.specs.Places.{CallsBelow}
 use Rattle.im_selecting.specs.Selects.{Agrees}

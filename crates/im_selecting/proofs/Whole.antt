@@ -1,19 +1,16 @@
 -- The lines of a function are a selection of it.
-use Rattle.std.proofs.Common.{◌≡◌, ◌<◌, ◌≤◌, ℕ, ◌+◌, ◌*◌, List, Some, length, get_or, sym, ap, ◌∙◌, subst, arith}
+use Rattle.std.proofs.Common.{◌≡◌, ◌<◌, ℕ, List, Some, length, sym, subst, arith}
 use Rattle.std.specs.Prelude.{slice_get, All}
 use Rattle.std.proofs.lemmas.Option.{slice_get_within, get_or_from_slice_get}
 use Rattle.im_rv.specs.Lines.{CodeLine}
-use Rattle.im_store.specs.Objects.{Name}
-use Rattle.im_block.specs.declared.code.Line.{Line}
-use Rattle.im_block.specs.declared.code.Block.{Block}
 use Rattle.im_block.specs.declared.unit.Function.{Function}
-use Rattle.im_placed.specs.Placed.{IsPlacedLine, IsPlacedBlock}
+use Rattle.im_placed.specs.Placed.{IsPlacedBlock}
 use Rattle.im_selecting.specs.Given.{Given}
-use Rattle.im_selecting.specs.Emitted.{line_code, function_code}
+use Rattle.im_selecting.specs.Emitted.{function_code}
 use Rattle.im_selecting.specs.Places.{at_of}
 use Rattle.im_selecting.specs.Selects.{IsClosedBlock, IsSelectable, IsSelection}
 use Rattle.im_selecting.proofs.Standing.{At, at_start}
-use Rattle.im_selecting.proofs.Parts.{starts_of, function_in, Alike}
+use Rattle.im_selecting.proofs.Parts.{starts_of, function_in}
 use Rattle.im_selecting.proofs.Plain.{lead_at}
 use Rattle.im_selecting.proofs.Counting.{function_few}
 use Rattle.im_selecting.proofs.Naming.{function_accesses, function_causes}

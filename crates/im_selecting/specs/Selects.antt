@@ -3,11 +3,10 @@ use Rattle.std.specs.Prelude.{◌≡◌, ◌⊎◌, ◌<◌, ◌≤◌, ℕ, ◌
 use Rattle.im_num.specs.declared.values.Cause.{Cause}
 use Rattle.im_rv.specs.declared.instr.Op.TheVariants.{Jal}
 use Rattle.im_rv.specs.Lines.{CodeLine}
-use Rattle.im_store.specs.Objects.{Name, Named, Slot}
+use Rattle.im_store.specs.Objects.{Named, Slot}
 use Rattle.im_block.specs.declared.code.Line.{Line}
 use Rattle.im_block.specs.declared.code.Line.TheVariants.{Cut}
 use Rattle.im_block.specs.declared.code.Block.{Block}
-use Rattle.im_block.specs.declared.unit.Function.{Function}
 use Rattle.im_block.specs.Shape.{placed_cost}
 use Rattle.im_block.specs.Wellformed.{accesses_of_blocks, ExitThere}
 use Rattle.im_placed.specs.Operands.{HasObject}
@@ -36,7 +35,7 @@ pub record IsClosedBlock (given : Given) (block : Block) : Type 0 where
   pub calls : All (CallsBelow given.functions) block.lines.items
   pub edges : ExitThere (length given.function.blocks.items) block.exit
 
--- what is asked: placed code, whose given have their places and labels
+-- what is asked: placed code, whose names have their places and labels
 pub record IsSelectable (given : Given) (i : ℕ) : Type 0 where
   pub places : HasPlaces given
   pub placed : IsPlacedFunction (length given.statics) given.function

@@ -1,5 +1,5 @@
 -- What holds up to times as late as one likes holds for ever.
-use Rattle.std.proofs.Common.{◌≡◌, ◌≤◌, ℕ, suc, ◌+◌, List, arith}
+use Rattle.std.proofs.Common.{◌≡◌, ◌<◌, ℕ, suc, ◌+◌, List, arith}
 use Rattle.im_ckpt.specs.Runs.{State}
 use Rattle.im_until.specs.Laws.{Owes, OwesAlways}
 
@@ -20,7 +20,7 @@ always words code run h = record {
     one_store = λ t u a v w same.
         let o = h (t + u) in
         let late = o.later in
-        o.owes.shows.one_store t u a v w (let q : t ≤ o.j = omega arith in q) (let q : u ≤ o.j = omega arith in q) same;
+        o.owes.shows.one_store t u a v w (let q : t < o.j = omega arith in q) (let q : u < o.j = omega arith in q) same;
     first_length = λ t a v. (h t).owes.shows.first_length t a v (h t).later;
     second_length = λ t a v. (h t).owes.shows.second_length t a v (h t).later;
   };

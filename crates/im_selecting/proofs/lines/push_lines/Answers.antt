@@ -1,4 +1,4 @@
-use Rattle.std.proofs.Common.{get_or, pos}
+use Rattle.std.proofs.Common.{pos}
 use Rattle.im_rv.specs.Lines.{code_lines}
 use Rattle.im_block.specs.declared.code.Line.TheVariants.{Put}
 use Rattle.im_selecting.specs.Given.{given}

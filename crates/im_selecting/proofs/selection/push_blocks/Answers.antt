@@ -1,4 +1,4 @@
-use Rattle.std.proofs.Common.{◌≡◌, ◌<◌, ◌++◌, length, get_or, ap, ◌∙◌, arith}
+use Rattle.std.proofs.Common.{◌<◌, ◌++◌, length, ap, ◌∙◌, arith}
 use Rattle.im_rv.specs.Lines.{code_lines}
 use Rattle.im_selecting.specs.Emitted.{block_code}
 use Rattle.im_selecting.specs.Given.{given}

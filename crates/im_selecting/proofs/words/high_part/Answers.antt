@@ -1,4 +1,4 @@
-use Rattle.std.proofs.Common.{◌≡◌, ℕ, ◌+◌, ◌*◌, ◌/◌, ◌%◌, pos, to_z, w32, ap, sym, ◌∙◌, arith}
+use Rattle.std.proofs.Common.{◌≡◌, ℕ, ◌+◌, ◌/◌, ◌%◌, to_z, w32, ap, sym, ◌∙◌, arith}
 use Rattle.std.proofs.lemmas.Int.{of_z-to_z}
 use Rattle.im_rv.specs.Steps as steps
 use Rattle.im_selecting.specs.Emitted.{high_of}

@@ -1,6 +1,5 @@
-use Rattle.std.proofs.Common.{◌≡◌, ℕ, ◌+◌, ◌%◌, pos, to_z, w32, inl, inr, ap, sym, ◌∙◌, arith}
+use Rattle.std.proofs.Common.{◌%◌, w32, inl, inr, sym, ◌∙◌, arith}
 use Rattle.std.proofs.lemmas.Int.{ints, of_z-to_z}
-use Rattle.im_selecting.specs.Emitted.{low_of}
 use Rattle.im_selecting.proofs.Splitting.{low_cases}
 use Rattle.im_selecting.proofs.words.low_part.Goals as goal
 

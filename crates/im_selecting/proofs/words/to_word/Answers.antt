@@ -1,4 +1,4 @@
-use Rattle.std.proofs.Common.{◌≡◌, pos, ap, sym, ◌∙◌, arith}
+use Rattle.std.proofs.Common.{pos, ap, ◌∙◌, arith}
 use Rattle.std.specs.Prelude.{nat_abs}
 use Rattle.std.specs.Int.{int_rem_euclid, w128}
 use Rattle.std.proofs.lemmas.Int.{ints, to_z-of_z}
