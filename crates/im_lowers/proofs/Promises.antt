@@ -44,11 +44,11 @@ costs-small (f ∷ fs) (c ∷ cs) many h =
     omega arith
 
 pub promises : LowerKeepsLaw → LoweredFormLaw → LowersLaw
-promises keeps form prog code typed limits served fits lowered sized placeable uncut =
+promises keeps form prog code typed limits fits lowered sized placeable uncut =
     let formed = form prog code typed limits lowered sized in
     record {
       runs = λ g n input defined.
-          keeps (record { prog = prog; frames = g.frames; stack = g.stack; capacity = g.capacity }) code typed served lowered g.input n (each_of (λ byte. byte < 256) g.input input.bytes) defined;
+          keeps (record { prog = prog; frames = g.frames; stack = g.stack; capacity = g.capacity }) code typed lowered g.input n (each_of (λ byte. byte < 256) g.input input.bytes) defined;
       statics = lowered.statics;
       needs = needs-same prog.funcs code.functions.items lowered.count fits.functions (λ i f c e k. (lowered.functions i f c e k).need);
       ordered = formed.1;

@@ -8,7 +8,6 @@ use Rattle.im_block.specs.declared.unit.Unit.{Unit as Code}
 use Rattle.im_placed.specs.Placeable.{IsPlaceable}
 use Rattle.im_placed.specs.Apart.{AllUncut}
 use Rattle.im_lower.specs.Lowered.{IsLowered, AreSized}
-use Rattle.im_lower.specs.Served.{IsServedProgram}
 use Rattle.im_passes.specs.Passes.{Lowers}
 use Rattle.im_source.specs.Source.{source_of}
 
@@ -18,5 +17,5 @@ pub record NeedsFit (prog : Prog) : Type 0 where
 
 abbrev pub LowersLaw : Type 0
 LowersLaw =
-    (prog : Prog) (code : Code) → IsWellTyped prog → IsWithinLimits prog → IsServedProgram prog → NeedsFit prog
+    (prog : Prog) (code : Code) → IsWellTyped prog → IsWithinLimits prog → NeedsFit prog
     → IsLowered prog code → AreSized prog code → IsPlaceable code → AllUncut code → Lowers (source_of prog) code
