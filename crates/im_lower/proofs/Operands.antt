@@ -15,8 +15,9 @@ use Rattle.im_store.specs.Numbers.{apply, compares}
 use Rattle.im_store.specs.Objects.{Value, Number, Null, Pointer, Unset, Store, same_kind}
 use Rattle.im_store.specs.Pointers.{moved_by, bytes_moved, distance, compare_places, compare_values}
 use Rattle.im_typed.specs.Program as q
-use Rattle.im_typed.specs.Typing.{IsInteger, IsIntegerShape, IsPromotedShape, IsScalarShape, IsRightShape}
+use Rattle.im_typed.specs.Typing.{IsInteger, IsIntegerShape, IsScalarShape, IsRightShape}
 use Rattle.im_typed.specs.Sound.{IsValue}
+use Rattle.im_typed.proofs.SoundExprs.{promoted-integer}
 use Rattle.im_block.specs.Meaning as m
 use Rattle.im_block.specs.Meaning.{condition}
 use Rattle.im_lower.proofs.Uses.{number-value}
@@ -86,15 +87,10 @@ scalar-shape None h = absurd h
 scalar-shape (Some (q.Scalar kind)) h = (kind, refl)
 scalar-shape (Some (q.Struct count cells)) h = absurd h
 
-pub promoted-shape : (shape : Option q.Access) → IsPromotedShape shape → IsIntegerShape shape
-promoted-shape None h = absurd h
-promoted-shape (Some (q.Scalar kind)) h = h.0
-promoted-shape (Some (q.Struct count cells)) h = absurd h
-
 -- a right operand's kind
 pub right-kind : (op : BinaryOp) (kind : Kind) (shape : Option q.Access) → IsInteger kind → IsRightShape op kind shape → (other : Kind) × (shape ≡ Some (q.Scalar other)) × IsInteger other × ((y : ℤ) → IsOfKind other y → m.right_of op kind y ≡ y)
-right-kind ShiftLeft kind shape i h = let s = integer-shape shape (promoted-shape shape h) in (s.0, s.1, s.2, λ y k. refl)
-right-kind ShiftRight kind shape i h = let s = integer-shape shape (promoted-shape shape h) in (s.0, s.1, s.2, λ y k. refl)
+right-kind ShiftLeft kind shape i h = let s = integer-shape shape (promoted-integer shape h) in (s.0, s.1, s.2, λ y k. refl)
+right-kind ShiftRight kind shape i h = let s = integer-shape shape (promoted-integer shape h) in (s.0, s.1, s.2, λ y k. refl)
 right-kind op kind shape i h = (kind, h, i, λ y k. right-same op kind y k)
 
 pub not-not : (b : Bool) → not (not b) ≡ b

@@ -1,13 +1,12 @@
 -- Lowered code keeps what the record of passes asks.
-use Rattle.std.proofs.Common.{◌≡◌, ℕ, zero, suc, ◌+◌, ◌*◌, ◌<◌, ◌≤◌, ◌^◌, List, [], ◌∷◌, length, map, min, refl, sym, ap, ◌∙◌, subst, arith}
+use Rattle.std.proofs.Common.{◌≡◌, ℕ, suc, ◌+◌, ◌-◌, ◌*◌, ◌<◌, ◌≤◌, ◌^◌, List, [], ◌∷◌, length, map, min, refl, ap, ◌∙◌, arith}
 use Rattle.std.specs.Prelude.{All, Some, slice_get, sum_by}
 use Rattle.std.proofs.lemmas.List.Elements.{All-head, All-tail}
 use Rattle.std.proofs.lemmas.List.Sums.{sum_by-cons}
-use Rattle.im_typed.specs.Program.{Func, Prog}
+use Rattle.im_typed.specs.Program.{Func}
 use Rattle.im_typed.specs.Counts.{func_nodes, func_need}
 use Rattle.im_typed.specs.Typing.{Each}
 use Rattle.im_block.specs.declared.unit.Function.{Function}
-use Rattle.im_block.specs.declared.unit.Unit.{Unit as Code}
 use Rattle.im_block.specs.Shape.{sum_of, function_cost}
 use Rattle.im_lower.specs.Laws.{LowerKeepsLaw, LoweredFormLaw}
 use Rattle.im_lowers.specs.Laws.{LowersLaw}
