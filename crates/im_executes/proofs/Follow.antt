@@ -45,6 +45,7 @@ use Rattle.im_executes.proofs.Mirror.{Mirrors, mirrors, stands}
 use Rattle.im_executes.proofs.Cuts.{run_few}
 use Rattle.im_executes.proofs.Stores.{stores_few}
 use Rattle.im_executes.proofs.Effects.{touches_same, writes_none, reads_apart, extends_shown, halt_is}
+use Rattle.im_executes.proofs.Fetches.{fetches}
 use Rattle.im_executes.proofs.Steps.{few_steps, few_cuts}
 
 halted_one : (w : Went) → w ≢ On → ((at : ℕ) → w ≢ Faulted at) → w ≡ Halted
@@ -130,12 +131,15 @@ module _ (keeps : SelectKeeps) (written : WrittenLaw) (image : ImageValue) (inpu
     grows_at t lt =
         subst (λ (m : Mem). Extends (r t).mem m) (sym (ap (λ (s : State). s.mem) (is_run (memory_of image input) t))) (extends_shown (r t).mem (step_of (r t).cpu (r t).mem).mem (plain_at t lt).grows)
 
-    owes : RestUntil image.words (code_end image) r f.j → OwesUntil image.words (code_end image) r f.j
+    beyond_at : (a : ℕ) → code_end image ≤ a → a < 1048576 → (r 0).mem a ≡ 0
+    beyond_at a low high = ap (λ (m : Mem). m a) first.mem ∙ written.beyond image input a low high
+
+    owes : RestUntil image.words r f.j → OwesUntil image.words (code_end image) r f.j
     owes x = record {
       safely = record {
         no_fault = λ t a lt. calm_at t a lt;
         halts = halts_at;
-        fetches = λ t lt. ((plain_at t lt).inside.0, x.fetches t lt);
+        fetches = λ t lt. ((plain_at t lt).inside.0, fetches r (is_run (memory_of image input)) f.j (length image.words) plain_at calm_at beyond_at t lt);
         writes_plain = λ t a lt out there. writes_none (code_end image) a (effect_at (r t)) code_low (allowed_at t lt out) there;
         reads_plain = λ t a lt out there. reads_apart a (effect_at (r t)) (allowed_at t lt out) there;
         cuts = x.cuts;

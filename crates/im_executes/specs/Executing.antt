@@ -26,7 +26,7 @@ use Rattle.im_select.specs.Linked.{IsLinked}
 use Rattle.im_select.specs.Law.{ShowsStatics, Follows}
 use Rattle.im_kept.specs.Laws.{run_of}
 use Rattle.im_until.specs.Until.{IsUsedAt, FlowsUntil}
-use Rattle.im_written.specs.Written.{IsWritten, code_end}
+use Rattle.im_written.specs.Written.{IsWritten}
 
 -- the processor behind the first recovery
 abbrev pub first_cpu : ImageValue → List ℕ → Cpu
@@ -59,8 +59,7 @@ pub record IsInImage (image : ImageValue) (input : List ℕ) (u : Code) (g : Set
   pub words : 3 + sum_of function_words u.functions.items ≤ length image.words
 
 -- what survival asks of the first j steps (`OwesUntil`, where each clause is told) beside what each plain step keeps
-pub record RestUntil (words : List ℕ) (code : ℕ) (run : ℕ → State) (j : ℕ) : Type 0 where
-  pub fetches : (t : ℕ) → t < j → (run t).cpu.pc + 4 ≤ code
+pub record RestUntil (words : List ℕ) (run : ℕ → State) (j : ℕ) : Type 0 where
   pub cuts : (t : ℕ) → t < j → is_runtime (run t).cpu.pc ≡ false → is_runtime (run (suc t)).cpu.pc ≡ true → (k : ℕ) × IsCut run t k
   pub needs : (t k i time : ℕ) → time < j → IsCut run t k → IsUsedAt run (t + k + 8) i time → (i ≤ k) × (i ≢ 3) × (i ≢ 4)
   pub needs_first : (i time : ℕ) → time < j → IsUsedAt run 0 i time → (i ≢ 3) × (i ≢ 4) × (i < 32)
@@ -73,7 +72,7 @@ pub record RestUntil (words : List ℕ) (code : ℕ) (run : ℕ → State) (j : 
 
 -- what the law of selection doesn't give yet, of each run that it follows
 pub record Completes (image : ImageValue) (input : List ℕ) (u : Code) (g : Setting) (p : Linking) : Type 0 where
-  pub rest : (n : ℕ) (o : Outcome) (run : List Event) → IsDefined o → (r : Runs u g n o run) → (f : Follows p u g (first_cpu image input) n o run r.steps) → NoWar (items run) → RestUntil image.words (code_end image) (run_of image input) f.j
+  pub rest : (n : ℕ) (o : Outcome) (run : List Event) → IsDefined o → (r : Runs u g n o run) → (f : Follows p u g (first_cpu image input) n o run r.steps) → NoWar (items run) → RestUntil image.words (run_of image input) f.j
 
 -- the image's objects show the statics at an end
 pub record ShowsObjects (image : ImageValue) (input : List ℕ) (u : Code) (p : Linking) : Type 0 where
