@@ -1,6 +1,6 @@
 -- Order, forced cuts, and costs.
-use Rattle.std.proofs.Common.{◌≡◌, ℕ, ◌+◌, ◌*◌, List, [], ◌∷◌, ◌++◌, Some, None, sym, ap, subst, length}
-use Rattle.std.specs.Prelude.{slice_get}
+use Rattle.std.proofs.Common.{◌≡◌, ℕ, ◌+◌, ◌*◌, List, [], ◌∷◌, ◌++◌, Some, None, refl, sym, ap, subst, length}
+use Rattle.std.specs.Prelude.{map, slice_get}
 use Rattle.im_block.specs.declared.code.Line.{Line}
 use Rattle.im_block.specs.declared.code.Line.TheVariants.{Cut, Call, GetChar, PutChar}
 use Rattle.im_block.specs.declared.code.Exit.{Exit}
@@ -12,7 +12,7 @@ use Rattle.im_block.specs.Shape.{Descends, IsOrdered, AllOrdered}
 use Rattle.im_block.specs.Paths.{IsCut}
 use Rattle.im_block.specs.Forced.{StartsWithCut, EndsWithCut, CutAfterCalls, CutAtTurn, IsForced, AllForced}
 use Rattle.im_alloc.specs.Homes.{Home, InRegister, InSlot, numbers_kept, give, put_line, put_lines, exit_lines, put_exit}
-use Rattle.im_alloc.specs.Placing.{PlacedBlocks, PlacedFunction, IsPlaced}
+use Rattle.im_alloc.specs.Placing.{PlacedBlocks, PlacedFunction, PlacedFunctions, IsPlaced}
 use Rattle.im_alloc_laws.proofs.Carried.{IsPlain, Carries, carried, carried_load, carried_into}
 use Rattle.im_alloc_laws.proofs.Pieces.{put_app, made, of_old}
 
@@ -37,6 +37,20 @@ ordered u v p o = record {
       let f = of_old u.functions.items v.functions.items i g p.functions at in
       blocks_ordered f.placed.home f.placed.first_access f.old.blocks.items g.blocks.items f.placed.blocks (o.each i f.old f.at);
 }
+
+-- what frames may need
+
+functions_need : (fs gs : List Function) → PlacedFunctions fs gs → map (λ (f : Function). f.need) gs ≡ map (λ (f : Function). f.need) fs
+functions_need [] [] p = refl
+functions_need [] (g ∷ gs) p = absurd p
+functions_need (f ∷ fs) [] p = absurd p
+functions_need (f ∷ fs) (g ∷ gs) p =
+    let one : g.need ≡ f.need = ap (λ (k : Function). k.need) p.0.rest in
+    let rest = functions_need fs gs p.1 in
+    cc
+
+pub needs : (u v : Code) → IsPlaced u v → map (λ (f : Function). f.need) v.functions.items ≡ map (λ (f : Function). f.need) u.functions.items
+needs u v p = functions_need u.functions.items v.functions.items p.functions
 
 -- cuts
 

@@ -1,7 +1,8 @@
 -- What placed code keeps of block code.
-use Rattle.std.specs.Prelude.{◌≡◌, ℕ, ◌≤◌, List, length}
+use Rattle.std.specs.Prelude.{◌≡◌, ℕ, ◌≤◌, List, map}
 use Rattle.im_store.specs.Outcomes.{Outcome, IsDefined}
 use Rattle.im_block.specs.declared.access.Tags.{Tags}
+use Rattle.im_block.specs.declared.unit.Function.{Function}
 use Rattle.im_block.specs.declared.unit.Unit.{Unit as Code}
 use Rattle.im_block.specs.Meaning.{Setting, Event}
 use Rattle.im_block.specs.Runs.{Runs}
@@ -23,7 +24,8 @@ RunsAs u v =
 
 pub record PlacedCodeLaw : Type 0 where
   pub runs : (u v : Code) → IsWellFormed u → IsPlaced u v → RunsAs u v
-  pub statics : (u v : Code) → IsPlaced u v → length v.statics.items ≡ length u.statics.items
+  pub statics : (u v : Code) → IsPlaced u v → v.statics.items ≡ u.statics.items
+  pub needs : (u v : Code) → IsPlaced u v → map (λ (f : Function). f.need) v.functions.items ≡ map (λ (f : Function). f.need) u.functions.items
   pub ordered : (u v : Code) → IsPlaced u v → AllOrdered u → AllOrdered v
   pub forced : (u v : Code) → IsPlaced u v → AllForced u → AllForced v
   pub apart : (u v : Code) → IsPlaced u v → AllApart u → AllApart v

@@ -4,6 +4,7 @@ use Rattle.im_num.specs.declared.kind.Kind.{Kind}
 use Rattle.im_num.specs.declared.kind.Kind.TheVariants.{I32, U32, Ptr}
 use Rattle.im_num.specs.declared.values.Cause.{Cause}
 use Rattle.im_num.specs.Kinds.{word}
+use Rattle.im_mem.specs.Map.{stack_lim_at}
 use Rattle.im_rv.specs.declared.instr.Op.{Op}
 use Rattle.im_rv.specs.declared.instr.Op.TheVariants.{Jalr, Beq, Bne, Bltu, Bgeu, Lw, Sw, Addi, Sltiu, Xori, Slli, Srli, Srai, Add as AddOp, Sub, Sltu, Mul, Div}
 use Rattle.im_rv.specs.Decode.{Line as Instruction}
@@ -154,7 +155,7 @@ pub record PrologueIn (w : Lines) (k frame target : ℕ) : Type 0 where
   pub a : ℕ
   pub b : ℕ
   pub lowered : AddsIn w k 6 (2 ^ 32 - frame) a
-  pub bound : Plain w a (with_immediate Lw 5 0 28)
+  pub bound : Plain w a (with_immediate Lw 5 0 stack_lim_at)
   pub checked : CheckedIn w (suc a) b
   pub taken : Plain w b (with_immediate Addi 2 6 0)
   pub saved : Plain w (suc b) (storing Sw 2 1 0)

@@ -69,7 +69,10 @@ fn put_words(text: &mut Vec<u8>, words: &[u32]) -> Result<(), Fail> {
 fn image_of(alloc: Global, words: &[u32], entry: u32) -> Result<Image, Fail> {
     let mut text = Vec::new(alloc);
     let count = u32::try_from(words.len()).ok().ok_or("few words")?;
-    put_words(&mut text, &[0x5652_4d49, 2, count, 8, 256, 8192, entry, 1, 1])?;
+    put_words(
+        &mut text,
+        &[0x5652_4d49, 2, count, 8, 256, 8192, entry, 1, 1],
+    )?;
     put_words(&mut text, words)?;
     put_words(&mut text, &[0, 0, 0x10_0000, 4, 1, 1])?;
     text.push(b'n')?;
@@ -104,7 +107,9 @@ fn a_loop_commits_in_each_period_of_its_gap(rt: HostRuntime) -> Result<(), Fail>
     let image = loop_image(rt.alloc())?;
     for (lines, commits, instructions) in rows {
         let trace = read_trace(rt.alloc(), lines).ok().ok_or("a trace")?;
-        let mut machine = Machine::load(rt.alloc(), &image, &[]).ok().ok_or("a machine")?;
+        let mut machine = Machine::load(rt.alloc(), &image, &[])
+            .ok()
+            .ok_or("a machine")?;
         assert!(rt; machine.run(&trace) == Went::On);
         assert_eq!(rt; machine.commits(), commits, "at {instructions}");
         assert_eq!(rt; machine.instructions(), instructions);
@@ -136,7 +141,9 @@ fn letters(alloc: Global, machine: &Machine<FlatMem>) -> Result<Option<CellValue
 fn power_fails_at_the_beginning_and_at_the_end(rt: HostRuntime) -> Result<(), Fail> {
     let image = image_of(rt.alloc(), &WORDS, 0x1494)?;
     for n in [0, 17, 33, 35, 36, 60, 165, 170, 175, 176, 177] {
-        let mut machine = Machine::load(rt.alloc(), &image, b"a").ok().ok_or("a machine")?;
+        let mut machine = Machine::load(rt.alloc(), &image, b"a")
+            .ok()
+            .ok_or("a machine")?;
         machine.power(period(n, 5));
         machine.power(period(AGAIN[(n % 5) as usize], 15));
         assert!(rt; machine.power(period(1000, 0)) == Went::Halted, "after {n}");
@@ -164,7 +171,9 @@ fn texts(alloc: Global, count: usize) -> Result<(Vec<u8>, Vec<u8>), Fail> {
 fn power_fails_in_each_section_with_each_mask(rt: HostRuntime) -> Result<(), Fail> {
     let image = image_of(rt.alloc(), &WORDS, 0x1494)?;
     let (text, capitals) = texts(rt.alloc(), 8000)?;
-    let mut machine = Machine::load(rt.alloc(), &image, &text).ok().ok_or("a machine")?;
+    let mut machine = Machine::load(rt.alloc(), &image, &text)
+        .ok()
+        .ok_or("a machine")?;
     for mask in 0..16 {
         for n in 33..70 {
             for round in 0..16 {
@@ -178,6 +187,9 @@ fn power_fails_in_each_section_with_each_mask(rt: HostRuntime) -> Result<(), Fai
     assert!(rt; machine.power(period(10_000_000, 0)) == Went::Halted);
     assert_eq!(rt; machine.output(), capitals.as_slice());
     assert_eq!(rt; machine.status(), 4000);
-    assert_eq!(rt; letters(rt.alloc(), &machine)?, Some(CellValue::Number(4000)));
+    assert_eq!(rt;
+        letters(rt.alloc(), &machine)?,
+        Some(CellValue::Number(4000))
+    );
     Ok(())
 }

@@ -68,7 +68,7 @@ part-fits statics w from x None vs p h = absurd p
 part-fits statics w from x (Some (Scalar kind)) vs p h = absurd p
 part-fits statics w from x (Some (Struct count cells)) vs p h =
     fits-of_values statics w x (take (length (cells_of x)) (drop from vs))
-    (subst (λ ks. AreValues w.activations w.store ks (take (length (cells_of x)) (drop from vs))) p
+    (subst (λ ks. AreValues w.activations w.store ks (take (length (cells_of x)) (drop from vs))) p.0
     (values-part w.activations w.store (length (cells_of x)) from cells vs h))
 
 -- what an argument is
@@ -78,7 +78,7 @@ takes-kind (Some (Scalar kind)) cells h = (kind, refl, h)
 takes-kind (Some (Struct count parts)) cells h = absurd h
 
 -- what is promoted is an integer
-promoted-integer : (shape : Option Access) → IsPromotedShape shape → IsIntegerShape shape
+pub promoted-integer : (shape : Option Access) → IsPromotedShape shape → IsIntegerShape shape
 promoted-integer None h = h
 promoted-integer (Some (Scalar kind)) h = h.0
 promoted-integer (Some (Struct count cells)) h = h

@@ -80,11 +80,23 @@ IsStep (PointerBy size back) = IsElement size
 abbrev pub kinds_of : List Cell → List Kind
 kinds_of cells = map {A = Cell} (λ c. c.kind) cells
 
--- a part has kinds that stand in the whole, from that cell on
+abbrev pub cell_offset : Option Cell → ℕ
+cell_offset None = 0
+cell_offset (Some c) = c.offset
+
+-- a part's cells stand in the whole where the part's offsets say, from its first byte on
+abbrev pub InPlace : ℕ → List Cell → List Cell → Type 0
+InPlace base [] cells = Unit {0}
+InPlace base (d ∷ ds) [] = ⊥
+InPlace base (d ∷ ds) (c ∷ cs) = (c.offset ≡ base + d.offset) × (c.kind ≡ d.kind) × InPlace base ds cs
+
+-- a part has the cells of the whole from that cell on
 abbrev pub IsPart : ℕ → Access → Option Access → Type 0
 IsPart from x None = ⊥
 IsPart from x (Some (Scalar kind)) = ⊥
-IsPart from x (Some (Struct count cells)) = kinds_of (take (length (cells_of x)) (drop from cells)) ≡ kinds_of (cells_of x)
+IsPart from x (Some (Struct count cells)) =
+    (kinds_of (take (length (cells_of x)) (drop from cells)) ≡ kinds_of (cells_of x))
+    × InPlace (cell_offset (slice_get cells from)) (cells_of x) (drop from cells)
 
 -- cells from a place on to the end of an object: each at a multiple of its size, in order, and apart
 abbrev pub AreLaidOut : ℕ → ℕ → List Cell → Type 0
@@ -257,7 +269,7 @@ module _ (g : Prog) where
       IsTypedStmt breaks continues (For a t step b) =
           IsTypedStmt breaks continues a × IsCondition t × IsTyped step × IsTypedStmt true true b
       IsTypedStmt breaks continues (Switch e ks otherwise ss) =
-          IsTyped e × IsIntegerShape (shape_of e) × AreLabels (shape_of e) (statements_in ss) ks
+          IsTyped e × IsPromotedShape (shape_of e) × AreLabels (shape_of e) (statements_in ss) ks
           × (otherwise ≤ statements_in ss) × AreTyped true continues ss
       IsTypedStmt breaks continues Break = IsTrue breaks
       IsTypedStmt breaks continues Continue = IsTrue continues

@@ -11,6 +11,22 @@ use Rattle.im_word.specs.Shown.{shown}
 use Rattle.std.proofs.Common.{[], arith}
 use Rattle.std.proofs.lemmas.Result.{err_from_is_err_and}
 use Rattle.std.specs.Prelude.{map}
+use Rattle.std.proofs.Common.{refl, sym, ap, ◌∙◌}
+use Rattle.im_ctree.specs.Shape.{declarator_of}
+use Rattle.im_parse.specs.Declaring.{specifier_tree, member_tree, enumerator_tree, suffix_tree, parameter_tree}
+use Rattle.im_parse.proofs.Exits.{shorter}
+use Rattle.im_parse.proofs.NextWord.{isnt_so}
+use Rattle.im_parse.proofs.SpecifierLines.{specifiers_start, refuses_specifier, specifiers_next, specifiers_go, specifiers_item, specifier_advances, typed_next, typed_stop, specifiers_done, specifiers_stop, struct_start, enum_start}
+use Rattle.im_parse.proofs.TagLines.{no_braced, untagged_start, refuses_list, reads_list, tag_start, reads_tag, tagged_start}
+use Rattle.im_parse.proofs.MemberLines.{members_start, members_more, refuses_member, members_next, members_item, member_advances, reads_members, member_start, after_specifiers, refuses_its_specifiers, declarators_start, refuses_declarator, declarators_next, declarators_more, misses_semicolon, reads_declarators, declarators_item}
+use Rattle.im_parse.proofs.MemberLines as ml
+use Rattle.im_parse.proofs.EnumeratorLines.{enumerators_start, enumerators_comma, enumerators_more, refuses_enumerator, enumerators_next, enumerators_item, reads_trailing, reads_enumerators, enumerator_named, no_enumerator, reads_unvalued, value_start}
+use Rattle.im_parse.proofs.EnumeratorLines as el
+use Rattle.im_parse.proofs.ParameterLines.{parameters_start, refuses_parameter, parameters_next, parameters_more, reads_parameters, parameters_item, parameter_start, parameter_declared, refuses_parameter_specifiers, type_start, type_declared, refuses_type_specifiers, refuses_type_declarator, misses_type_end, reads_type}
+use Rattle.im_parse.proofs.ParameterLines as pl
+use Rattle.im_parse.proofs.SuffixLines.{suffixes_start, suffixes_more, refuses_suffix, suffixes_next, suffixes_item, suffix_advances, suffixes_done, function_start, array_start, no_suffix_here, refuses_parameters, reads_function, reads_unsized, refuses_length, misses_length_end, reads_sized_array}
+use Rattle.im_parse.proofs.SuffixLines as sl
+use Rattle.im_parse.proofs.DeclaratorLines.{declarator_ahead, reads_no_declarator, after_stars, refuses_stars, core_stops, is_name, is_inner, is_nothing, named_core, inner_core, refuses_inner, misses_inner_end, inner_suffixes, nameless_core}
 use Rattle.im_ctree.specs.Tree as tree
 use Rattle.im_parse.proofs.+expression.Goals as goal
 
@@ -208,3 +224,264 @@ postfix::closed_arguments-returns-in_err-end t c = let p = err_from_is_err_and c
 
 pub postfix::closed_arguments-returns : goal.postfix::closed_arguments-returns
 postfix::closed_arguments-returns t c = reads_arguments (map shown c.args.words.now) c.loop-behind.items.items c.in_default-after_mark.ensures c.loop-behind.invariant.0 c.in_ok-end.ensures
+
+pub specifier::specifiers-returns-in_err-first-clause-parses : goal.specifier::specifiers-returns-in_err-first-clause-parses
+specifier::specifiers-returns-in_err-first-clause-parses t c = let p = err_from_is_err_and c.from_residual.result c.from_residual.ensures.1 in rw (p.1, p.2) (stopped (map shown c.args.words.now) (λ n h. refuses_specifier (map shown c.args.words.now) [] (specifiers_start (map shown c.args.words.now) (names_of c.args.names.now) c.args.at) h) _ c.in_err-first.ensures)
+
+pub specifier::specifiers-loop-alloc-init : goal.specifier::specifiers-loop-alloc-init
+specifier::specifiers-loop-alloc-init t c = (rw (c.in_ok-push.ensures.items, specifiers_item, c.new-items.ensures.items) (specifiers_next (map shown c.args.words.now) [] refl (specifiers_start (map shown c.args.words.now) (names_of c.args.names.now) c.args.at) c.in_ok-first.ensures), omega (arith, c.in_ok-first.ensures.place), rw (c.in_ok-push.ensures.items, specifiers_item, c.new-items.ensures.items) c.adds_type-typed.ensures)
+
+pub specifier::specifiers-returns-in_err-item-clause-parses : goal.specifier::specifiers-returns-in_err-item-clause-parses
+specifier::specifiers-returns-in_err-item-clause-parses t c = let p = err_from_is_err_and c.from_residual-in_err-item.result c.from_residual-in_err-item.ensures.1 in rw (p.1, p.2) (stopped (map shown c.args.words.now) (λ n h. refuses_specifier (map shown c.args.words.now) (map specifier_tree c.loop-alloc.items.items) (specifiers_go (map shown c.args.words.now) (map specifier_tree c.loop-alloc.items.items) c.loop-alloc.invariant.2 (c.specifier_ahead.ensures.0 c.loop-alloc-test.true) c.loop-alloc.invariant.0) h) _ c.in_err-item.ensures)
+
+pub specifier::specifiers-loop-alloc-smaller : goal.specifier::specifiers-loop-alloc-smaller
+specifier::specifiers-loop-alloc-smaller t c = shorter (map shown c.args.words.now) c.in_ok-item.ensures (specifier_advances c.in_ok-item.ensures)
+
+pub specifier::specifiers-loop-alloc-preserved : goal.specifier::specifiers-loop-alloc-preserved
+specifier::specifiers-loop-alloc-preserved t c = (rw (c.in_ok-push-2.ensures.items, specifiers_item) (specifiers_next (map shown c.args.words.now) (map specifier_tree c.loop-alloc.items.items) c.loop-alloc.invariant.2 (specifiers_go (map shown c.args.words.now) (map specifier_tree c.loop-alloc.items.items) c.loop-alloc.invariant.2 (c.specifier_ahead.ensures.0 c.loop-alloc-test.true) c.loop-alloc.invariant.0) c.in_ok-item.ensures), omega (arith, c.in_ok-item.ensures.place), rw (c.in_ok-push-2.ensures.items, specifiers_item) (typed_next (map specifier_tree c.loop-alloc.items.items) _ c.adds_type-typed-in-loop-alloc.ensures c.loop-alloc.invariant.2))
+
+pub specifier::specifiers-returns-clause-parses : goal.specifier::specifiers-returns-clause-parses
+specifier::specifiers-returns-clause-parses t c = rw c.specifiers.ensures (specifiers_done (map shown c.args.words.now) (map specifier_tree c.loop-alloc.items.items) (typed_stop c.loop-alloc.invariant.2 (isnt_so c.specifier_ahead.ensures c.loop-alloc-test.false)) c.loop-alloc.invariant.0)
+
+pub specifier::specifiers-returns-clause-behind : goal.specifier::specifiers-returns-clause-behind
+specifier::specifiers-returns-clause-behind t c = rw c.specifiers.ensures (specifiers_stop c.args.at (map specifier_tree c.loop-alloc.items.items) c.loop-alloc.invariant.2 (isnt_so c.specifier_ahead.ensures c.loop-alloc-test.false))
+
+pub specifier::specifier-returns-in-Some : goal.specifier::specifier-returns-in-Some
+specifier::specifier-returns-in-Some t c = handed specifier_tree (map shown c.args.words.now) (struct_start (map shown c.args.words.now) c.in-Some.ensures) c.struct_specifier.result c.struct_specifier.ensures
+
+pub specifier::specifier-returns-in-Some-after_keyword : goal.specifier::specifier-returns-in-Some-after_keyword
+specifier::specifier-returns-in-Some-after_keyword t c = handed specifier_tree (map shown c.args.words.now) (enum_start (map shown c.args.words.now) c.in-Some-after_keyword.ensures) c.enum_specifier.result c.enum_specifier.ensures
+
+pub specifier::struct_specifier-returns-in_err-inside-in-None : goal.specifier::struct_specifier-returns-in_err-inside-in-None
+specifier::struct_specifier-returns-in_err-inside-in-None t c = let p = err_from_is_err_and c.from_residual.result c.from_residual.ensures.1 in rw (p.1, p.2, c.in_err-inside-in-None.ensures.0) (no_braced (map shown c.args.words.now) c.in_err-inside-in-None.ensures.1 c.in-None.ensures)
+
+pub specifier::struct_specifier-returns-in_err-members-in-None : goal.specifier::struct_specifier-returns-in_err-members-in-None
+specifier::struct_specifier-returns-in_err-members-in-None t c = let p = err_from_is_err_and c.from_residual-in_err-members-in-None.result c.from_residual-in_err-members-in-None.ensures.1 in rw (p.1, p.2) (stopped (map shown c.args.words.now) (λ n h. refuses_list (map shown c.args.words.now) (untagged_start (map shown c.args.words.now) c.in_ok-inside-in-None.ensures) h) _ c.in_err-members-in-None.ensures)
+
+pub specifier::struct_specifier-returns-in_ok-members-in-None : goal.specifier::struct_specifier-returns-in_ok-members-in-None
+specifier::struct_specifier-returns-in_ok-members-in-None t c = rw c.struct_specifier.ensures (reads_list (map shown c.args.words.now) (untagged_start (map shown c.args.words.now) c.in_ok-inside-in-None.ensures) c.in_ok-members-in-None.ensures)
+
+pub specifier::struct_specifier-returns-in_ok-tree-in-None-after_mark : goal.specifier::struct_specifier-returns-in_ok-tree-in-None-after_mark
+specifier::struct_specifier-returns-in_ok-tree-in-None-after_mark t c = rw c.in_ok-tree-in-None-after_mark.ensures (reads_tag (map shown c.args.words.now) c.in-None-after_mark.ensures (tag_start (map shown c.args.words.now) c.in-Some.ensures))
+
+pub specifier::struct_specifier-returns-in_err-members-in-Some-after_mark : goal.specifier::struct_specifier-returns-in_err-members-in-Some-after_mark
+specifier::struct_specifier-returns-in_err-members-in-Some-after_mark t c = let p = err_from_is_err_and c.from_residual-in_err-members-in-Some-after_mark.result c.from_residual-in_err-members-in-Some-after_mark.ensures.1 in rw (p.1, p.2) (stopped (map shown c.args.words.now) (λ n h. refuses_list (map shown c.args.words.now) (tagged_start (map shown c.args.words.now) c.in-Some-after_mark.ensures (tag_start (map shown c.args.words.now) c.in-Some.ensures)) h) _ c.in_err-members-in-Some-after_mark.ensures)
+
+pub specifier::struct_specifier-returns-in_ok-tree-in-Some-after_mark : goal.specifier::struct_specifier-returns-in_ok-tree-in-Some-after_mark
+specifier::struct_specifier-returns-in_ok-tree-in-Some-after_mark t c = rw c.in_ok-tree-in-Some-after_mark.ensures (reads_list (map shown c.args.words.now) (tagged_start (map shown c.args.words.now) c.in-Some-after_mark.ensures (tag_start (map shown c.args.words.now) c.in-Some.ensures)) c.in_ok-members-in-Some-after_mark.ensures)
+
+pub specifier::enum_specifier-returns-in_err-inside-in-None : goal.specifier::enum_specifier-returns-in_err-inside-in-None
+specifier::enum_specifier-returns-in_err-inside-in-None t c = let p = err_from_is_err_and c.from_residual.result c.from_residual.ensures.1 in rw (p.1, p.2, c.in_err-inside-in-None.ensures.0) (no_braced (map shown c.args.words.now) c.in_err-inside-in-None.ensures.1 c.in-None.ensures)
+
+pub specifier::enum_specifier-returns-in_err-enumerators-in-None : goal.specifier::enum_specifier-returns-in_err-enumerators-in-None
+specifier::enum_specifier-returns-in_err-enumerators-in-None t c = let p = err_from_is_err_and c.from_residual-in_err-enumerators-in-None.result c.from_residual-in_err-enumerators-in-None.ensures.1 in rw (p.1, p.2) (stopped (map shown c.args.words.now) (λ n h. refuses_list (map shown c.args.words.now) (untagged_start (map shown c.args.words.now) c.in_ok-inside-in-None.ensures) h) _ c.in_err-enumerators-in-None.ensures)
+
+pub specifier::enum_specifier-returns-in_ok-enumerators-in-None : goal.specifier::enum_specifier-returns-in_ok-enumerators-in-None
+specifier::enum_specifier-returns-in_ok-enumerators-in-None t c = rw c.enum_specifier.ensures (reads_list (map shown c.args.words.now) (untagged_start (map shown c.args.words.now) c.in_ok-inside-in-None.ensures) c.in_ok-enumerators-in-None.ensures)
+
+pub specifier::enum_specifier-returns-in_ok-tree-in-None-after_mark : goal.specifier::enum_specifier-returns-in_ok-tree-in-None-after_mark
+specifier::enum_specifier-returns-in_ok-tree-in-None-after_mark t c = rw c.in_ok-tree-in-None-after_mark.ensures (reads_tag (map shown c.args.words.now) c.in-None-after_mark.ensures (tag_start (map shown c.args.words.now) c.in-Some.ensures))
+
+pub specifier::enum_specifier-returns-in_err-enumerators-in-Some-after_mark : goal.specifier::enum_specifier-returns-in_err-enumerators-in-Some-after_mark
+specifier::enum_specifier-returns-in_err-enumerators-in-Some-after_mark t c = let p = err_from_is_err_and c.from_residual-in_err-enumerators-in-Some-after_mark.result c.from_residual-in_err-enumerators-in-Some-after_mark.ensures.1 in rw (p.1, p.2) (stopped (map shown c.args.words.now) (λ n h. refuses_list (map shown c.args.words.now) (tagged_start (map shown c.args.words.now) c.in-Some-after_mark.ensures (tag_start (map shown c.args.words.now) c.in-Some.ensures)) h) _ c.in_err-enumerators-in-Some-after_mark.ensures)
+
+pub specifier::enum_specifier-returns-in_ok-tree-in-Some-after_mark : goal.specifier::enum_specifier-returns-in_ok-tree-in-Some-after_mark
+specifier::enum_specifier-returns-in_ok-tree-in-Some-after_mark t c = rw c.in_ok-tree-in-Some-after_mark.ensures (reads_list (map shown c.args.words.now) (tagged_start (map shown c.args.words.now) c.in-Some-after_mark.ensures (tag_start (map shown c.args.words.now) c.in-Some.ensures)) c.in_ok-enumerators-in-Some-after_mark.ensures)
+
+pub member::closed_members-returns-in_err-first : goal.member::closed_members-returns-in_err-first
+member::closed_members-returns-in_err-first t c = let p = err_from_is_err_and c.from_residual.result c.from_residual.ensures.1 in rw (p.1, p.2) (stopped (map shown c.args.words.now) (λ n h. refuses_member (map shown c.args.words.now) [] (members_start (map shown c.args.words.now) (names_of c.args.names.now) c.args.at) h) _ c.in_err-first.ensures)
+
+pub member::closed_members-loop-alloc-init : goal.member::closed_members-loop-alloc-init
+member::closed_members-loop-alloc-init t c = (rw (c.in_ok-push.ensures.items, members_item, c.new-items.ensures.items) (members_next (map shown c.args.words.now) [] (members_start (map shown c.args.words.now) (names_of c.args.names.now) c.args.at) c.in_ok-first.ensures), omega (arith, c.in_ok-first.ensures.place))
+
+pub member::closed_members-returns-in_err-item : goal.member::closed_members-returns-in_err-item
+member::closed_members-returns-in_err-item t c = let p = err_from_is_err_and c.from_residual-in_err-item.result c.from_residual-in_err-item.ensures.1 in rw (p.1, p.2) (stopped (map shown c.args.words.now) (λ n h. refuses_member (map shown c.args.words.now) (map member_tree c.loop-alloc.items.items) (members_more (map shown c.args.words.now) (map member_tree c.loop-alloc.items.items) (c.begins_specifiers.ensures.0 c.loop-alloc-test.true) c.loop-alloc.invariant.0) h) _ c.in_err-item.ensures)
+
+pub member::closed_members-loop-alloc-smaller : goal.member::closed_members-loop-alloc-smaller
+member::closed_members-loop-alloc-smaller t c = shorter (map shown c.args.words.now) c.in_ok-item.ensures (member_advances c.in_ok-item.ensures)
+
+pub member::closed_members-loop-alloc-preserved : goal.member::closed_members-loop-alloc-preserved
+member::closed_members-loop-alloc-preserved t c = (rw (c.in_ok-push-2.ensures.items, members_item) (members_next (map shown c.args.words.now) (map member_tree c.loop-alloc.items.items) (members_more (map shown c.args.words.now) (map member_tree c.loop-alloc.items.items) (c.begins_specifiers.ensures.0 c.loop-alloc-test.true) c.loop-alloc.invariant.0) c.in_ok-item.ensures), omega (arith, c.in_ok-item.ensures.place))
+
+pub member::closed_members-returns-in_err-end : goal.member::closed_members-returns-in_err-end
+member::closed_members-returns-in_err-end t c = let p = err_from_is_err_and c.from_residual-in_err-end.result c.from_residual-in_err-end.ensures.1 in rw (p.1, p.2, c.in_err-end.ensures.0) (ml.misses_brace (map shown c.args.words.now) (map member_tree c.loop-alloc.items.items) (isnt_so c.begins_specifiers.ensures c.loop-alloc-test.false) c.loop-alloc.invariant.0 c.in_err-end.ensures.1)
+
+pub member::closed_members-returns : goal.member::closed_members-returns
+member::closed_members-returns t c = reads_members (map shown c.args.words.now) (map member_tree c.loop-alloc.items.items) (isnt_so c.begins_specifiers.ensures c.loop-alloc-test.false) c.loop-alloc.invariant.0 c.in_ok-end.ensures
+
+pub member::member-returns-in_err-specifiers : goal.member::member-returns-in_err-specifiers
+member::member-returns-in_err-specifiers t c = let p = err_from_is_err_and c.from_residual.result c.from_residual.ensures.1 in rw (p.1, p.2) (stopped (map shown c.args.words.now) (λ n h. refuses_its_specifiers (map shown c.args.words.now) (member_start (map shown c.args.words.now) (names_of c.args.names.now) c.args.at) h) _ c.in_err-specifiers.ensures.parses)
+
+pub member::member-returns-in_err-declarators : goal.member::member-returns-in_err-declarators
+member::member-returns-in_err-declarators t c = let p = err_from_is_err_and c.from_residual-in_err-declarators.result c.from_residual-in_err-declarators.ensures.1 in rw (p.1, p.2) (stopped (map shown c.args.words.now) (λ n h. last_refused h (after_specifiers (map shown c.args.words.now) (member_start (map shown c.args.words.now) (names_of c.args.names.now) c.args.at) c.in_ok-specifiers.ensures.parses c.in_ok-specifiers.ensures.behind)) _ c.in_err-declarators.ensures)
+
+pub member::member-returns : goal.member::member-returns
+member::member-returns t c = rw c.member.ensures (last c.in_ok-declarators.ensures (after_specifiers (map shown c.args.words.now) (member_start (map shown c.args.words.now) (names_of c.args.names.now) c.args.at) c.in_ok-specifiers.ensures.parses c.in_ok-specifiers.ensures.behind))
+
+pub member::closed_declarators-returns-in_err-first : goal.member::closed_declarators-returns-in_err-first
+member::closed_declarators-returns-in_err-first t c = let p = err_from_is_err_and c.from_residual.result c.from_residual.ensures.1 in rw (p.1, p.2) (stopped (map shown c.args.words.now) (λ n h. refuses_declarator (map shown c.args.words.now) [] (declarators_start (map shown c.args.words.now) (names_of c.args.names.now) c.args.at) h) _ c.in_err-first.ensures)
+
+pub member::closed_declarators-loop-behind-init : goal.member::closed_declarators-loop-behind-init
+member::closed_declarators-loop-behind-init t c = (rw (c.in_ok-push.ensures.items, declarators_item, c.new-items.ensures.items) (declarators_next (map shown c.args.words.now) [] (declarators_start (map shown c.args.words.now) (names_of c.args.names.now) c.args.at) c.in_ok-first.ensures), omega (arith, c.in_ok-first.ensures.place))
+
+pub member::closed_declarators-returns-in_err-item : goal.member::closed_declarators-returns-in_err-item
+member::closed_declarators-returns-in_err-item t c = let p = err_from_is_err_and c.from_residual-in_err-item.result c.from_residual-in_err-item.ensures.1 in rw (p.1, p.2) (stopped (map shown c.args.words.now) (λ n h. refuses_declarator (map shown c.args.words.now) (map declarator_of c.loop-behind.items.items) (declarators_more (map shown c.args.words.now) (map declarator_of c.loop-behind.items.items) c.in-Some.ensures c.loop-behind.invariant.0) h) _ c.in_err-item.ensures)
+
+pub member::closed_declarators-loop-behind-preserved : goal.member::closed_declarators-loop-behind-preserved
+member::closed_declarators-loop-behind-preserved t c = (rw (c.in_ok-push-2.ensures.items, declarators_item) (declarators_next (map shown c.args.words.now) (map declarator_of c.loop-behind.items.items) (declarators_more (map shown c.args.words.now) (map declarator_of c.loop-behind.items.items) c.in-Some.ensures c.loop-behind.invariant.0) c.in_ok-item.ensures), omega (arith, c.in-Some.ensures, c.in_ok-item.ensures.place))
+
+pub member::closed_declarators-returns-in_err-end : goal.member::closed_declarators-returns-in_err-end
+member::closed_declarators-returns-in_err-end t c = let p = err_from_is_err_and c.from_residual-in_err-end.result c.from_residual-in_err-end.ensures.1 in rw (p.1, p.2, c.in_err-end.ensures.0) (misses_semicolon (map shown c.args.words.now) (map declarator_of c.loop-behind.items.items) c.in_default.ensures c.loop-behind.invariant.0 c.in_err-end.ensures.1)
+
+pub member::closed_declarators-returns : goal.member::closed_declarators-returns
+member::closed_declarators-returns t c = reads_declarators (map shown c.args.words.now) (map declarator_of c.loop-behind.items.items) c.in_default.ensures c.loop-behind.invariant.0 c.in_ok-end.ensures
+
+pub parameter::closed_parameters-returns-in-Some : goal.parameter::closed_parameters-returns-in-Some
+parameter::closed_parameters-returns-in-Some t c = rw c.new-items.ensures.items (pl.reads_none (map shown c.args.words.now) c.in-Some.ensures)
+
+pub parameter::closed_parameters-returns-in_err-first : goal.parameter::closed_parameters-returns-in_err-first
+parameter::closed_parameters-returns-in_err-first t c = let p = err_from_is_err_and c.from_residual.result c.from_residual.ensures.1 in rw (p.1, p.2) (stopped (map shown c.args.words.now) (λ n h. refuses_parameter (map shown c.args.words.now) [] (parameters_start (map shown c.args.words.now) c.in_default.ensures) h) _ c.in_err-first.ensures)
+
+pub parameter::closed_parameters-loop-behind-init : goal.parameter::closed_parameters-loop-behind-init
+parameter::closed_parameters-loop-behind-init t c = (rw (c.in_ok-push.ensures.items, parameters_item, c.new-items.ensures.items) (parameters_next (map shown c.args.words.now) [] (parameters_start (map shown c.args.words.now) c.in_default.ensures) c.in_ok-first.ensures), omega (arith, c.in_ok-first.ensures.place))
+
+pub parameter::closed_parameters-returns-in_err-item : goal.parameter::closed_parameters-returns-in_err-item
+parameter::closed_parameters-returns-in_err-item t c = let p = err_from_is_err_and c.from_residual-in_err-item.result c.from_residual-in_err-item.ensures.1 in rw (p.1, p.2) (stopped (map shown c.args.words.now) (λ n h. refuses_parameter (map shown c.args.words.now) (map parameter_tree c.loop-behind.items.items) (parameters_more (map shown c.args.words.now) (map parameter_tree c.loop-behind.items.items) c.in-Some-after_mark.ensures c.loop-behind.invariant.0) h) _ c.in_err-item.ensures)
+
+pub parameter::closed_parameters-loop-behind-preserved : goal.parameter::closed_parameters-loop-behind-preserved
+parameter::closed_parameters-loop-behind-preserved t c = (rw (c.in_ok-push-2.ensures.items, parameters_item) (parameters_next (map shown c.args.words.now) (map parameter_tree c.loop-behind.items.items) (parameters_more (map shown c.args.words.now) (map parameter_tree c.loop-behind.items.items) c.in-Some-after_mark.ensures c.loop-behind.invariant.0) c.in_ok-item.ensures), omega (arith, c.in-Some-after_mark.ensures, c.in_ok-item.ensures.place))
+
+pub parameter::closed_parameters-returns-in_err-end : goal.parameter::closed_parameters-returns-in_err-end
+parameter::closed_parameters-returns-in_err-end t c = let p = err_from_is_err_and c.from_residual-in_err-end.result c.from_residual-in_err-end.ensures.1 in rw (p.1, p.2, c.in_err-end.ensures.0) (pl.misses_paren (map shown c.args.words.now) (map parameter_tree c.loop-behind.items.items) c.in_default-after_mark.ensures c.loop-behind.invariant.0 c.in_err-end.ensures.1)
+
+pub parameter::closed_parameters-returns : goal.parameter::closed_parameters-returns
+parameter::closed_parameters-returns t c = reads_parameters (map shown c.args.words.now) (map parameter_tree c.loop-behind.items.items) c.in_default-after_mark.ensures c.loop-behind.invariant.0 c.in_ok-end.ensures
+
+pub parameter::parameter-returns-in_err-specifiers : goal.parameter::parameter-returns-in_err-specifiers
+parameter::parameter-returns-in_err-specifiers t c = let p = err_from_is_err_and c.from_residual.result c.from_residual.ensures.1 in rw (p.1, p.2) (stopped (map shown c.args.words.now) (λ n h. refuses_parameter_specifiers (map shown c.args.words.now) (parameter_start (map shown c.args.words.now) (names_of c.args.names.now) c.args.at) h) _ c.in_err-specifiers.ensures.parses)
+
+pub parameter::parameter-returns-in_err-declarator : goal.parameter::parameter-returns-in_err-declarator
+parameter::parameter-returns-in_err-declarator t c = let p = err_from_is_err_and c.from_residual-in_err-declarator.result c.from_residual-in_err-declarator.ensures.1 in rw (p.1, p.2) (stopped (map shown c.args.words.now) (λ n h. last_refused h (parameter_declared (map shown c.args.words.now) (parameter_start (map shown c.args.words.now) (names_of c.args.names.now) c.args.at) c.in_ok-specifiers.ensures.parses c.in_ok-specifiers.ensures.behind)) _ c.in_err-declarator.ensures)
+
+pub parameter::parameter-returns : goal.parameter::parameter-returns
+parameter::parameter-returns t c = rw c.in_ok-tree.ensures (last c.in_ok-declarator.ensures (parameter_declared (map shown c.args.words.now) (parameter_start (map shown c.args.words.now) (names_of c.args.names.now) c.args.at) c.in_ok-specifiers.ensures.parses c.in_ok-specifiers.ensures.behind))
+
+pub type_name::closed_type_name-returns-in_err-specifiers : goal.type_name::closed_type_name-returns-in_err-specifiers
+type_name::closed_type_name-returns-in_err-specifiers t c = let p = err_from_is_err_and c.from_residual.result c.from_residual.ensures.1 in rw (p.1, p.2) (stopped (map shown c.args.words.now) (λ n h. refuses_type_specifiers (map shown c.args.words.now) (type_start (map shown c.args.words.now) (names_of c.args.names.now) c.args.at) h) _ c.in_err-specifiers.ensures.parses)
+
+pub type_name::closed_type_name-returns-in_err-declarator : goal.type_name::closed_type_name-returns-in_err-declarator
+type_name::closed_type_name-returns-in_err-declarator t c = let p = err_from_is_err_and c.from_residual-in_err-declarator.result c.from_residual-in_err-declarator.ensures.1 in rw (p.1, p.2) (stopped (map shown c.args.words.now) (λ n h. refuses_type_declarator (map shown c.args.words.now) (type_declared (map shown c.args.words.now) (type_start (map shown c.args.words.now) (names_of c.args.names.now) c.args.at) c.in_ok-specifiers.ensures.parses) h) _ c.in_err-declarator.ensures)
+
+pub type_name::closed_type_name-returns-in_err-end : goal.type_name::closed_type_name-returns-in_err-end
+type_name::closed_type_name-returns-in_err-end t c = let p = err_from_is_err_and c.from_residual-in_err-end.result c.from_residual-in_err-end.ensures.1 in rw (p.1, p.2, c.in_err-end.ensures.0) (misses_type_end (map shown c.args.words.now) (type_declared (map shown c.args.words.now) (type_start (map shown c.args.words.now) (names_of c.args.names.now) c.args.at) c.in_ok-specifiers.ensures.parses) c.in_ok-declarator.ensures c.in_err-end.ensures.1)
+
+pub type_name::closed_type_name-returns : goal.type_name::closed_type_name-returns
+type_name::closed_type_name-returns t c = rw c.in_ok-tree.ensures (reads_type (map shown c.args.words.now) (type_declared (map shown c.args.words.now) (type_start (map shown c.args.words.now) (names_of c.args.names.now) c.args.at) c.in_ok-specifiers.ensures.parses) c.in_ok-declarator.ensures c.in_ok-end.ensures)
+
+pub enumerator::closed_enumerators-returns-in_err-first : goal.enumerator::closed_enumerators-returns-in_err-first
+enumerator::closed_enumerators-returns-in_err-first t c = let p = err_from_is_err_and c.from_residual.result c.from_residual.ensures.1 in rw (p.1, p.2) (stopped (map shown c.args.words.now) (λ n h. refuses_enumerator (map shown c.args.words.now) [] (enumerators_start (map shown c.args.words.now) (names_of c.args.names.now) c.args.at) h) _ c.in_err-first.ensures)
+
+pub enumerator::closed_enumerators-loop-behind-init : goal.enumerator::closed_enumerators-loop-behind-init
+enumerator::closed_enumerators-loop-behind-init t c = (rw (c.in_ok-push.ensures.items, enumerators_item, c.new-items.ensures.items) (enumerators_next (map shown c.args.words.now) [] (enumerators_start (map shown c.args.words.now) (names_of c.args.names.now) c.args.at) c.in_ok-first.ensures), omega (arith, c.in_ok-first.ensures.place))
+
+pub enumerator::closed_enumerators-returns-in-Some-after_mark : goal.enumerator::closed_enumerators-returns-in-Some-after_mark
+enumerator::closed_enumerators-returns-in-Some-after_mark t c = reads_trailing (map shown c.args.words.now) (map enumerator_tree c.loop-behind.items.items) c.in-Some-after_mark.ensures (enumerators_comma (map shown c.args.words.now) (map enumerator_tree c.loop-behind.items.items) c.in-Some.ensures c.loop-behind.invariant.0)
+
+pub enumerator::closed_enumerators-returns-in_err-item : goal.enumerator::closed_enumerators-returns-in_err-item
+enumerator::closed_enumerators-returns-in_err-item t c = let p = err_from_is_err_and c.from_residual-in_err-item.result c.from_residual-in_err-item.ensures.1 in rw (p.1, p.2) (stopped (map shown c.args.words.now) (λ n h. refuses_enumerator (map shown c.args.words.now) (map enumerator_tree c.loop-behind.items.items) (enumerators_more (map shown c.args.words.now) (map enumerator_tree c.loop-behind.items.items) c.in_default-after_mark.ensures (enumerators_comma (map shown c.args.words.now) (map enumerator_tree c.loop-behind.items.items) c.in-Some.ensures c.loop-behind.invariant.0)) h) _ c.in_err-item.ensures)
+
+pub enumerator::closed_enumerators-loop-behind-preserved : goal.enumerator::closed_enumerators-loop-behind-preserved
+enumerator::closed_enumerators-loop-behind-preserved t c = (rw (c.in_ok-push-2.ensures.items, enumerators_item) (enumerators_next (map shown c.args.words.now) (map enumerator_tree c.loop-behind.items.items) (enumerators_more (map shown c.args.words.now) (map enumerator_tree c.loop-behind.items.items) c.in_default-after_mark.ensures (enumerators_comma (map shown c.args.words.now) (map enumerator_tree c.loop-behind.items.items) c.in-Some.ensures c.loop-behind.invariant.0)) c.in_ok-item.ensures), omega (arith, c.in-Some.ensures, c.in_ok-item.ensures.place))
+
+pub enumerator::closed_enumerators-returns-in_err-end : goal.enumerator::closed_enumerators-returns-in_err-end
+enumerator::closed_enumerators-returns-in_err-end t c = let p = err_from_is_err_and c.from_residual-in_err-end.result c.from_residual-in_err-end.ensures.1 in rw (p.1, p.2, c.in_err-end.ensures.0) (el.misses_brace (map shown c.args.words.now) (map enumerator_tree c.loop-behind.items.items) c.in_default.ensures c.loop-behind.invariant.0 c.in_err-end.ensures.1)
+
+pub enumerator::closed_enumerators-returns : goal.enumerator::closed_enumerators-returns
+enumerator::closed_enumerators-returns t c = reads_enumerators (map shown c.args.words.now) (map enumerator_tree c.loop-behind.items.items) c.in_default.ensures c.loop-behind.invariant.0 c.in_ok-end.ensures
+
+pub enumerator::enumerator-returns-in_err-name : goal.enumerator::enumerator-returns-in_err-name
+enumerator::enumerator-returns-in_err-name t c = let p = err_from_is_err_and c.from_residual.result c.from_residual.ensures.1 in rw (p.1, p.2, c.in_err-name.ensures.0) (no_enumerator (map shown c.args.words.now) (names_of c.args.names.now) c.in_err-name.ensures.1)
+
+pub enumerator::enumerator-returns-in_ok-tree-in-None : goal.enumerator::enumerator-returns-in_ok-tree-in-None
+enumerator::enumerator-returns-in_ok-tree-in-None t c = rw c.in_ok-tree-in-None.ensures (reads_unvalued (map shown c.args.words.now) c.in-None.ensures (enumerator_named (map shown c.args.words.now) (names_of c.args.names.now) c.in_ok-name.ensures))
+
+pub enumerator::enumerator-returns-in_err-value-in-Some : goal.enumerator::enumerator-returns-in_err-value-in-Some
+enumerator::enumerator-returns-in_err-value-in-Some t c = let p = err_from_is_err_and c.from_residual-in_err-value-in-Some.result c.from_residual-in_err-value-in-Some.ensures.1 in rw (p.1, p.2) (stopped (map shown c.args.words.now) (λ n h. last_refused h (value_start (map shown c.args.words.now) c.in-Some.ensures (enumerator_named (map shown c.args.words.now) (names_of c.args.names.now) c.in_ok-name.ensures))) _ c.in_err-value-in-Some.ensures)
+
+pub enumerator::enumerator-returns-in_ok-tree-in-Some : goal.enumerator::enumerator-returns-in_ok-tree-in-Some
+enumerator::enumerator-returns-in_ok-tree-in-Some t c = rw c.in_ok-tree-in-Some.ensures (last c.in_ok-value-in-Some.ensures (value_start (map shown c.args.words.now) c.in-Some.ensures (enumerator_named (map shown c.args.words.now) (names_of c.args.names.now) c.in_ok-name.ensures)))
+
+pub declarator::maybe_declarator-returns-then-not-declarator_ahead : goal.declarator::maybe_declarator-returns-then-not-declarator_ahead
+declarator::maybe_declarator-returns-then-not-declarator_ahead t c = reads_no_declarator (map shown c.args.words.now) (names_of c.args.names.now) c.args.form c.args.at (isnt_so c.declarator_ahead.ensures c.if-not-declarator_ahead.true)
+
+pub declarator::maybe_declarator-returns-in_err-tree : goal.declarator::maybe_declarator-returns-in_err-tree
+declarator::maybe_declarator-returns-in_err-tree t c = let p = err_from_is_err_and c.from_residual.result c.from_residual.ensures.1 in rw (p.1, p.2) (stopped (map shown c.args.words.now) (λ n h. last_refused h (declarator_ahead (map shown c.args.words.now) (names_of c.args.names.now) c.args.form c.args.at (c.declarator_ahead.ensures.0 c.if-not-declarator_ahead.false))) _ c.in_err-tree.ensures)
+
+pub declarator::maybe_declarator-returns : goal.declarator::maybe_declarator-returns
+declarator::maybe_declarator-returns t c = last c.in_ok-tree.ensures (declarator_ahead (map shown c.args.words.now) (names_of c.args.names.now) c.args.form c.args.at (c.declarator_ahead.ensures.0 c.if-not-declarator_ahead.false))
+
+pub declarator::declarator-returns-in_err-stars : goal.declarator::declarator-returns-in_err-stars
+declarator::declarator-returns-in_err-stars t c = let p = err_from_is_err_and c.from_residual.result c.from_residual.ensures.1 in rw (p.1, p.2) (stopped (map shown c.args.words.now) (λ n h. refuses_stars (map shown c.args.words.now) (names_of c.args.names.now) c.args.form h) _ c.in_err-stars.ensures)
+
+pub declarator::declarator-returns-in_err-name : goal.declarator::declarator-returns-in_err-name
+declarator::declarator-returns-in_err-name t c = let p = err_from_is_err_and c.from_residual-in_err-name.result c.from_residual-in_err-name.ensures.1 in rw (p.1, p.2) (core_stops (map shown c.args.words.now) c.unstarred.result (ap (λ z. tree.unstarred (map (λ star. star.consts) z)) (sym c.deref.ensures.value) ∙ sym c.unstarred.ensures) (after_stars (map shown c.args.words.now) (names_of c.args.names.now) c.args.form c.in_ok-stars.ensures) _ c.in_err-name.ensures)
+
+pub declarator::declarator-returns-in_err-suffixes-in-Name : goal.declarator::declarator-returns-in_err-suffixes-in-Name
+declarator::declarator-returns-in_err-suffixes-in-Name t c = let p = err_from_is_err_and c.from_residual-in_err-suffixes-in-Name.result c.from_residual-in_err-suffixes-in-Name.ensures.1 in rw (p.1, p.2) (stopped (map shown c.args.words.now) (λ n h. last_refused h (named_core (map shown c.args.words.now) (is_name (names_of c.args.names.now) c.unstarred.result c.in-Name.is c.in_ok-name.ensures).0 (is_name (names_of c.args.names.now) c.unstarred.result c.in-Name.is c.in_ok-name.ensures).1 (after_stars (map shown c.args.words.now) (names_of c.args.names.now) c.args.form c.in_ok-stars.ensures))) _ c.in_err-suffixes-in-Name.ensures)
+
+pub declarator::declarator-returns-in_ok-tree-in-Name : goal.declarator::declarator-returns-in_ok-tree-in-Name
+declarator::declarator-returns-in_ok-tree-in-Name t c = rw c.in_ok-tree-in-Name.ensures (last c.in_ok-suffixes-in-Name.ensures (named_core (map shown c.args.words.now) (is_name (names_of c.args.names.now) c.unstarred.result c.in-Name.is c.in_ok-name.ensures).0 (is_name (names_of c.args.names.now) c.unstarred.result c.in-Name.is c.in_ok-name.ensures).1 (after_stars (map shown c.args.words.now) (names_of c.args.names.now) c.args.form c.in_ok-stars.ensures)))
+
+pub declarator::declarator-returns-in_err-core-in-Inner : goal.declarator::declarator-returns-in_err-core-in-Inner
+declarator::declarator-returns-in_err-core-in-Inner t c = let p = err_from_is_err_and c.from_residual-in_err-core-in-Inner.result c.from_residual-in_err-core-in-Inner.ensures.1 in rw (p.1, p.2) (stopped (map shown c.args.words.now) (λ n h. refuses_inner (map shown c.args.words.now) c.args.form c.in-Inner.inner (inner_core (map shown c.args.words.now) (is_inner (names_of c.args.names.now) c.unstarred.result c.in-Inner.is c.in_ok-name.ensures).0 (is_inner (names_of c.args.names.now) c.unstarred.result c.in-Inner.is c.in_ok-name.ensures).1 (after_stars (map shown c.args.words.now) (names_of c.args.names.now) c.args.form c.in_ok-stars.ensures)) h) _ c.in_err-core-in-Inner.ensures)
+
+pub declarator::declarator-returns-in_err-behind-in-Inner : goal.declarator::declarator-returns-in_err-behind-in-Inner
+declarator::declarator-returns-in_err-behind-in-Inner t c = let p = err_from_is_err_and c.from_residual-in_err-behind-in-Inner.result c.from_residual-in_err-behind-in-Inner.ensures.1 in rw (p.1, p.2, c.in_err-behind-in-Inner.ensures.0) (misses_inner_end (map shown c.args.words.now) c.args.form c.in-Inner.inner (inner_core (map shown c.args.words.now) (is_inner (names_of c.args.names.now) c.unstarred.result c.in-Inner.is c.in_ok-name.ensures).0 (is_inner (names_of c.args.names.now) c.unstarred.result c.in-Inner.is c.in_ok-name.ensures).1 (after_stars (map shown c.args.words.now) (names_of c.args.names.now) c.args.form c.in_ok-stars.ensures)) c.in_ok-core-in-Inner.ensures c.in_err-behind-in-Inner.ensures.1)
+
+pub declarator::declarator-returns-in_err-suffixes-in-Inner : goal.declarator::declarator-returns-in_err-suffixes-in-Inner
+declarator::declarator-returns-in_err-suffixes-in-Inner t c = let p = err_from_is_err_and c.from_residual-in_err-suffixes-in-Inner.result c.from_residual-in_err-suffixes-in-Inner.ensures.1 in rw (p.1, p.2) (stopped (map shown c.args.words.now) (λ n h. last_refused h (inner_suffixes (map shown c.args.words.now) c.args.form c.in-Inner.inner (inner_core (map shown c.args.words.now) (is_inner (names_of c.args.names.now) c.unstarred.result c.in-Inner.is c.in_ok-name.ensures).0 (is_inner (names_of c.args.names.now) c.unstarred.result c.in-Inner.is c.in_ok-name.ensures).1 (after_stars (map shown c.args.words.now) (names_of c.args.names.now) c.args.form c.in_ok-stars.ensures)) c.in_ok-core-in-Inner.ensures c.in_ok-behind-in-Inner.ensures)) _ c.in_err-suffixes-in-Inner.ensures)
+
+pub declarator::declarator-returns-in_ok-tree-in-Inner : goal.declarator::declarator-returns-in_ok-tree-in-Inner
+declarator::declarator-returns-in_ok-tree-in-Inner t c = rw c.in_ok-tree-in-Inner.ensures (last c.in_ok-suffixes-in-Inner.ensures (inner_suffixes (map shown c.args.words.now) c.args.form c.in-Inner.inner (inner_core (map shown c.args.words.now) (is_inner (names_of c.args.names.now) c.unstarred.result c.in-Inner.is c.in_ok-name.ensures).0 (is_inner (names_of c.args.names.now) c.unstarred.result c.in-Inner.is c.in_ok-name.ensures).1 (after_stars (map shown c.args.words.now) (names_of c.args.names.now) c.args.form c.in_ok-stars.ensures)) c.in_ok-core-in-Inner.ensures c.in_ok-behind-in-Inner.ensures))
+
+pub declarator::declarator-returns-in_err-suffixes-in-Nothing : goal.declarator::declarator-returns-in_err-suffixes-in-Nothing
+declarator::declarator-returns-in_err-suffixes-in-Nothing t c = let p = err_from_is_err_and c.from_residual-in_err-suffixes-in-Nothing.result c.from_residual-in_err-suffixes-in-Nothing.ensures.1 in rw (p.1, p.2) (stopped (map shown c.args.words.now) (λ n h. last_refused h (nameless_core (map shown c.args.words.now) (is_nothing c.in-Nothing.is (ap (λ z. tree.unstarred (map (λ star. star.consts) z)) (sym c.deref.ensures.value) ∙ sym c.unstarred.ensures) c.in_ok-name.ensures) (after_stars (map shown c.args.words.now) (names_of c.args.names.now) c.args.form c.in_ok-stars.ensures))) _ c.in_err-suffixes-in-Nothing.ensures)
+
+pub declarator::declarator-returns-in_ok-suffixes-in-Nothing : goal.declarator::declarator-returns-in_ok-suffixes-in-Nothing
+declarator::declarator-returns-in_ok-suffixes-in-Nothing t c = rw c.nameless.ensures (last c.in_ok-suffixes-in-Nothing.ensures (nameless_core (map shown c.args.words.now) (is_nothing c.in-Nothing.is (ap (λ z. tree.unstarred (map (λ star. star.consts) z)) (sym c.deref.ensures.value) ∙ sym c.unstarred.ensures) c.in_ok-name.ensures) (after_stars (map shown c.args.words.now) (names_of c.args.names.now) c.args.form c.in_ok-stars.ensures)))
+
+pub declarator::suffixes-loop-alloc-init : goal.declarator::suffixes-loop-alloc-init
+declarator::suffixes-loop-alloc-init t c = (rw c.new-items.ensures.items (suffixes_start (map shown c.args.words.now) (names_of c.args.names.now) c.args.at), omega arith)
+
+pub declarator::suffixes-returns-in_err-item : goal.declarator::suffixes-returns-in_err-item
+declarator::suffixes-returns-in_err-item t c = let p = err_from_is_err_and c.from_residual.result c.from_residual.ensures.1 in rw (p.1, p.2) (stopped (map shown c.args.words.now) (λ n h. refuses_suffix (map shown c.args.words.now) (map suffix_tree c.loop-alloc.items.items) (suffixes_more (map shown c.args.words.now) (map suffix_tree c.loop-alloc.items.items) (c.suffix_ahead.ensures.0 c.loop-alloc-test.true) c.loop-alloc.invariant.0) h) _ c.in_err-item.ensures)
+
+pub declarator::suffixes-loop-alloc-smaller : goal.declarator::suffixes-loop-alloc-smaller
+declarator::suffixes-loop-alloc-smaller t c = shorter (map shown c.args.words.now) c.in_ok-item.ensures (suffix_advances c.in_ok-item.ensures)
+
+pub declarator::suffixes-loop-alloc-preserved : goal.declarator::suffixes-loop-alloc-preserved
+declarator::suffixes-loop-alloc-preserved t c = (rw (c.in_ok-push.ensures.items, suffixes_item) (suffixes_next (map shown c.args.words.now) (map suffix_tree c.loop-alloc.items.items) (suffixes_more (map shown c.args.words.now) (map suffix_tree c.loop-alloc.items.items) (c.suffix_ahead.ensures.0 c.loop-alloc-test.true) c.loop-alloc.invariant.0) c.in_ok-item.ensures), omega (arith, c.in_ok-item.ensures.place))
+
+pub declarator::suffixes-returns : goal.declarator::suffixes-returns
+declarator::suffixes-returns t c = suffixes_done (map shown c.args.words.now) (map suffix_tree c.loop-alloc.items.items) (isnt_so c.suffix_ahead.ensures c.loop-alloc-test.false) c.loop-alloc.invariant.0
+
+pub declarator::suffix-returns-in_err-first : goal.declarator::suffix-returns-in_err-first
+declarator::suffix-returns-in_err-first t c = let p = err_from_is_err_and c.from_residual.result c.from_residual.ensures.1 in rw (p.1, p.2, c.in_err-first.ensures.0) (no_suffix_here (map shown c.args.words.now) c.in_default.ensures c.in_err-first.ensures.1)
+
+pub declarator::suffix-returns-in_err-parameters : goal.declarator::suffix-returns-in_err-parameters
+declarator::suffix-returns-in_err-parameters t c = let p = err_from_is_err_and c.from_residual-in_err-parameters.result c.from_residual-in_err-parameters.ensures.1 in rw (p.1, p.2) (stopped (map shown c.args.words.now) (λ n h. refuses_parameters (map shown c.args.words.now) (function_start (map shown c.args.words.now) c.in_ok-first.ensures) h) _ c.in_err-parameters.ensures)
+
+pub declarator::suffix-returns-in_default : goal.declarator::suffix-returns-in_default
+declarator::suffix-returns-in_default t c = rw c.function.ensures (reads_function (map shown c.args.words.now) (function_start (map shown c.args.words.now) c.in_ok-first.ensures) c.in_ok-parameters.ensures)
+
+pub declarator::suffix-returns-in-Some-after_mark : goal.declarator::suffix-returns-in-Some-after_mark
+declarator::suffix-returns-in-Some-after_mark t c = rw c.array.ensures (reads_unsized (map shown c.args.words.now) c.in-Some-after_mark.ensures (array_start (map shown c.args.words.now) c.in-Some.ensures))
+
+pub declarator::suffix-returns-in_err-length : goal.declarator::suffix-returns-in_err-length
+declarator::suffix-returns-in_err-length t c = let p = err_from_is_err_and c.from_residual-in_err-length.result c.from_residual-in_err-length.ensures.1 in rw (p.1, p.2) (stopped (map shown c.args.words.now) (λ n h. refuses_length (map shown c.args.words.now) (sl.sized_start (map shown c.args.words.now) c.in_default-after_mark.ensures (array_start (map shown c.args.words.now) c.in-Some.ensures)) h) _ c.in_err-length.ensures)
+
+pub declarator::suffix-returns-in_err-end : goal.declarator::suffix-returns-in_err-end
+declarator::suffix-returns-in_err-end t c = let p = err_from_is_err_and c.from_residual-in_err-end.result c.from_residual-in_err-end.ensures.1 in rw (p.1, p.2, c.in_err-end.ensures.0) (misses_length_end (map shown c.args.words.now) (sl.sized_start (map shown c.args.words.now) c.in_default-after_mark.ensures (array_start (map shown c.args.words.now) c.in-Some.ensures)) c.in_ok-length.ensures c.in_err-end.ensures.1)
+
+pub declarator::suffix-returns : goal.declarator::suffix-returns
+declarator::suffix-returns t c = rw c.in_ok-tree.ensures (reads_sized_array (map shown c.args.words.now) (sl.sized_start (map shown c.args.words.now) c.in_default-after_mark.ensures (array_start (map shown c.args.words.now) c.in-Some.ensures)) c.in_ok-length.ensures c.in_ok-end.ensures)

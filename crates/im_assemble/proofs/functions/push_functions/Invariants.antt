@@ -1,0 +1,10 @@
+use Rattle.std.proofs.Common.{◌≡◌}
+use Rattle.im_linked.specs.Program.{first_label}
+use Rattle.im_assemble.specs.Assembled.{AddsFunctions}
+use Rattle.im_assemble.proofs.functions.push_functions.Given as goal
+
+abbrev pub invariant-loop-number : goal.invariant-loop-number
+invariant-loop-number l = record {
+  label : l.first_block ≡ first_label l.program.unit.now.functions.items l.number;
+  added : AddsFunctions l.program l.number l.initial.parts.items l.parts.items;
+}

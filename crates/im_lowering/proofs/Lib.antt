@@ -1,0 +1,5 @@
+pub mod StructCells
+pub mod Rows
+pub mod Taken
+pub mod FunctionsMore
+pub mod StaticParts

@@ -1,0 +1,2 @@
+pub mod MakeEach
+pub mod Small

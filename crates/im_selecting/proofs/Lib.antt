@@ -1,0 +1,12 @@
+pub mod Lists
+pub mod Standing
+pub mod Splitting
+pub mod Selecting
+pub mod Low
+pub mod Parts
+pub mod Plain
+pub mod Counting
+pub mod Naming
+pub mod Leading
+pub mod Agreeing
+pub mod Whole

@@ -1,0 +1,4 @@
+pub mod Emitted
+pub mod Given
+pub mod Places
+pub mod Selects

@@ -1,0 +1,16 @@
+//! From placed code over objects to lines of RISC-V with labels.
+#![tactic(auto)]
+
+mod blocks;
+mod computing;
+mod lines;
+mod memory;
+mod names;
+mod push;
+mod selection;
+#[cfg(test)]
+mod tests;
+mod words;
+
+pub use names::Names;
+pub use selection::select;

@@ -1,0 +1,178 @@
+ghost use Rattle.std.specs.Prelude.{◌≡◌, ◌≤◌, [], length, IfOk};
+ghost use Rattle.im_frame.specs.Layout.{bytes_of};
+
+use crate::lines::push_lines;
+use crate::names::Names;
+use im_block::{Function, Line, Object, Place, Registers};
+use im_frame::lay_out;
+use im_num::{Cause, Kind};
+use im_rv::encode::encode;
+use im_store::{BinaryOp, Comparison, UnaryOp};
+use std::alloc::Global;
+use std::test::Fail;
+
+// A function with two slots and an object of 4 bytes: a frame of 32 bytes, the object at 24.
+fn sample(alloc: Global) -> Result<Function, Fail>
+    ensures frame { IfOk result (λ f. bytes_of f ≤ f.need) }
+    ensures first { IfOk result (λ f. f.first_object ≡ 1) }
+    ensures slots { IfOk result (λ f. f.slots ≡ 2) }
+    ensures objects { IfOk result (λ f. length f.objects.items ≡ 1) }
+    ensures blocks { IfOk result (λ f. f.blocks.items ≡ []) }
+{
+    let object = Object {
+        size: 4,
+        cells: Vec::new(alloc),
+    };
+    Ok(Function {
+        nodes: 1,
+        need: 100,
+        registers: Registers::Machine,
+        register_count: 32,
+        parameters: 0,
+        first_parameter: 10,
+        first_object: 1,
+        objects: vec![in alloc; object]?,
+        slots: 2,
+        blocks: Vec::new(alloc),
+        entry: 0,
+    })
+}
+
+// By llvm-mc.
+const WORDS: [u32; 32] = [
+    0x00500513, 0x00018537, 0x6a050513, 0x000015b7, 0x80058593, 0x00000613, 0x00050613, 0x01851693,
+    0x4186d693, 0x40a006b3, 0xfff54693, 0x00153693, 0x02b55733, 0x00a5a733, 0x00174713, 0x00c00293,
+    0x02c282b3, 0x405587b3, 0x40b782b3, 0x00c00313, 0x0262c833, 0x01810893, 0x001002b7, 0x0042d903,
+    0x0128a023, 0x01012e03, 0x000012b7, 0x011282b3, 0x01c28023, 0x01e12423, 0x000001ef, 0x000000ef,
+];
+
+#[test]
+fn lines_are_those_of_the_assembler(rt: HostRuntime) -> Result<(), Fail> {
+    let function = sample(rt.alloc())?;
+    let layout = lay_out(rt.alloc(), &function)?;
+    let names = Names {
+        statics: &[0x100000],
+        functions: 1,
+        function: &function,
+        layout: &layout,
+        first_block: 65,
+    };
+    let (a, b) = (10, 11);
+    let kind = Kind::I32;
+    let placed = [
+        Line::Put { to: a, number: 5 },
+        Line::Put {
+            to: a,
+            number: 100000,
+        },
+        Line::Put {
+            to: b,
+            number: 2048,
+        },
+        Line::PutNull { to: 12 },
+        Line::Copy { to: 12, from: a },
+        Line::Convert {
+            to: 13,
+            kind: Kind::I8,
+            from: a,
+        },
+        Line::Unary {
+            to: 13,
+            op: UnaryOp::Negate,
+            kind,
+            from: a,
+        },
+        Line::Unary {
+            to: 13,
+            op: UnaryOp::Complement,
+            kind,
+            from: a,
+        },
+        Line::Not { to: 13, from: a },
+        Line::Compute {
+            to: 14,
+            op: BinaryOp::Divide,
+            kind: Kind::U32,
+            left: a,
+            right: b,
+        },
+        Line::Compare {
+            to: 14,
+            op: Comparison::LessOrEqual,
+            kind,
+            left: a,
+            right: b,
+        },
+        Line::Move {
+            to: 15,
+            size: 12,
+            back: true,
+            pointer: b,
+            by: 12,
+        },
+        Line::Distance {
+            to: 16,
+            size: 12,
+            left: 15,
+            right: b,
+        },
+        Line::Address {
+            to: 17,
+            place: Place::Local {
+                object: 1,
+                offset: 0,
+            },
+        },
+        Line::Read {
+            to: 18,
+            place: Place::Static {
+                object: 0,
+                offset: 4,
+            },
+            kind: Kind::U16,
+            access: 1,
+        },
+        Line::Write {
+            place: Place::Through {
+                pointer: 17,
+                offset: 0,
+            },
+            kind,
+            from: 18,
+            access: 2,
+        },
+        Line::Reload {
+            to: 28,
+            slot: 1,
+            access: 3,
+        },
+        Line::Write {
+            place: Place::Through {
+                pointer: 17,
+                offset: 4096,
+            },
+            kind: Kind::U8,
+            from: 28,
+            access: 4,
+        },
+        Line::Spill {
+            slot: 0,
+            from: 30,
+            access: 5,
+        },
+        Line::Cut(Cause::Return),
+        Line::Call {
+            to: 10,
+            function: 0,
+            first: 10,
+            count: 2,
+        },
+    ];
+    let mut lines = Vec::new(rt.alloc());
+    push_lines(&mut lines, &names, &placed)?;
+    assert_eq!(rt; lines.len(), WORDS.len());
+    for (line, word) in lines.iter().zip(&WORDS) {
+        assert_eq!(rt; encode(line.instr), *word);
+    }
+    Ok(())
+}
