@@ -29,7 +29,6 @@ use Rattle.im_lower.specs.Codes.{Point, before, ends as ends_with, Begins}
 use Rattle.im_lower.specs.Statements.{CodesStatement}
 use Rattle.im_lower.specs.Lowered.{CodesParameters, brace, CodesFunction, IsLowered}
 use Rattle.im_lower.specs.Agrees.{Agrees, Home, Mark, at, Reaches, Follows, Does, HasOne, Came}
-use Rattle.im_lower.specs.Served.{IsServedStatement, IsServedProgram}
 use Rattle.im_lower.specs.Laws.{setting_of}
 use Rattle.im_lower.proofs.Steps.{Known, here, stepped, further, finished, does-later, does-bind, joined}
 use Rattle.im_lower.proofs.Uses.{register-same, register-other, line-goes, stands}
@@ -83,7 +82,7 @@ module _ (u : Code) (g : m.Setting) (p : q.Prog) (home : Home) (low : ℕ) (n : 
   comes-back is_main (Returned []) left = record { mark = n; registers = registers; from = None; leads = here u g _; has = tt }
   comes-back is_main (Returned (v ∷ vs)) left = record { mark = n; registers = registers; from = Some low; leads = here u g _; has = left.has }
 
-module _ (ts : Setting) (u : Code) (input : List ℕ) (typed_program : IsWellTyped ts.prog) (served : IsServedProgram ts.prog) (is : IsLowered ts.prog u) where
+module _ (ts : Setting) (u : Code) (input : List ℕ) (typed_program : IsWellTyped ts.prog) (is : IsLowered ts.prog u) where
   abbrev g : m.Setting
   g = setting_of ts input
 
@@ -142,7 +141,7 @@ module _ (ts : Setting) (u : Code) (input : List ℕ) (typed_program : IsWellTyp
       })
       (does-later u g p (within i w callers) got.leads
       (statement u g p f c n works i callers code ec func.registers f.params t.1 f.body false false 0 0 (stop f i) (stop f i) func.body (stop f i) (λ x. let e : false ≡ true = x in absurd (cc)) (λ x. let e : false ≡ true = x in absurd (cc))
-      (each-at (λ (x : q.Func). IsServedStatement p x.body) p.funcs i f served.functions ef) t.3
+      t.3
       (subst (λ x. CodesStatement p x f.params f.objects code.blocks.items f.body 0 0 func.body (stop f i)) func.first_object func.does)
       (entry_mark code) registers got.left s ready))
 

@@ -30,7 +30,6 @@ use Rattle.im_block.specs.Runs.{Runs, Over, exec}
 use Rattle.im_lower.specs.Codes.{ends as ends_with}
 use Rattle.im_lower.specs.Lowered.{IsLowered}
 use Rattle.im_lower.specs.Agrees.{Same, Agrees, Home, at, Finishes, Arrives, FollowsAt, HasOne}
-use Rattle.im_lower.specs.Served.{IsServedProgram}
 use Rattle.im_lower.specs.Laws.{setting_of}
 use Rattle.im_lower.proofs.Steps.{Known, finished, ends-later}
 use Rattle.im_lower.proofs.Flows.{end_of, Left}
@@ -75,7 +74,7 @@ ended-shown n [] store a = refl
 ended-shown n (s ∷ ss) store a =
     ap (λ xs. (let v : Variable = record { name = s.name; cells = cells_shown (store.values (static n)) s.cells } in v) ∷ xs) (ended-shown (suc n) ss store a)
 
-module _ (ts : Setting) (u : Code) (input : List ℕ) (typed_program : IsWellTyped ts.prog) (served : IsServedProgram ts.prog) (is : IsLowered ts.prog u) where
+module _ (ts : Setting) (u : Code) (input : List ℕ) (typed_program : IsWellTyped ts.prog) (is : IsLowered ts.prog u) where
   abbrev g : m.Setting
   g = setting_of ts input
 
@@ -91,11 +90,11 @@ module _ (ts : Setting) (u : Code) (input : List ℕ) (typed_program : IsWellTyp
 
   -- the return of main ends the run
   main-returns : (f : q.Func) (w : World) (s t : typed.State) (b : State) (flow : Flow) → f.result ≡ Some I32
-      → Arrives u g (within ts u input typed_program served is main w []) (end_of f.params (stop ts u input typed_program served is f main) (stop ts u input typed_program served is f main) (stop ts u input typed_program served is f main)) b
+      → Arrives u g (within ts u input typed_program is main w []) (end_of f.params (stop ts u input typed_program is f main) (stop ts u input typed_program is f main) (stop ts u input typed_program is f main)) b
       (λ flow t rs store. Known p.statics s (FlowFits f.result) flow t × Left f.params flow t rs store) flow t
       → Finishes u g b (outcome_of ts (given w flow t))
   main-returns f w s t b flow result come =
-      let home : Home = within ts u input typed_program served is main w [] in
+      let home : Home = within ts u input typed_program is main w [] in
       let back = comes-back u g p home f.params come.mark come.registers come.store t (main == main) flow come.is.1 in
       let one : (main == main) ≡ true = eq-eqb main main refl in
       let st = status t.world flow (subst (λ x. FlowFits x t.world flow) result come.is.0.fits) in
@@ -112,7 +111,7 @@ module _ (ts : Setting) (u : Code) (input : List ℕ) (typed_program : IsWellTyp
       ∙ ap (λ x. m.Stops (End 0 (status_of (call_result (main == main) flow)) t.world.output x) (Restores home.active ∷ [])) shown)))
 
   main-ends : (f : q.Func) (w : World) (s : typed.State) (b : State) (answer : Answer Flow) → f.result ≡ Some I32
-      → FollowsAt u g p (within ts u input typed_program served is main w []) (end_of f.params (stop ts u input typed_program served is f main) (stop ts u input typed_program served is f main) (stop ts u input typed_program served is f main)) b
+      → FollowsAt u g p (within ts u input typed_program is main w []) (end_of f.params (stop ts u input typed_program is f main) (stop ts u input typed_program is f main) (stop ts u input typed_program is f main)) b
       (λ flow t rs store. Known p.statics s (FlowFits f.result) flow t × Left f.params flow t rs store) answer
       → IsDefined (outcome_of ts (typed.goes_on answer (given w))) → Finishes u g b (outcome_of ts (typed.goes_on answer (given w)))
   main-ends f w s b (Gives flow t) result h defined = main-returns f w s t b flow result h
@@ -154,32 +153,32 @@ module _ (ts : Setting) (u : Code) (input : List ℕ) (typed_program : IsWellTyp
       → IsDefined (outcome_of ts (body_of ts (calls_of ts fuel) fuel main f [] world (start ts input fuel)))
       → (run : List Event) × Runs u g fuel (outcome_of ts (body_of ts (calls_of ts fuel) fuel main f [] world (start ts input fuel))) run
   main-room fuel f bytes ef none result room defined =
-      let code = code-of ts u input typed_program served is main f ef in
+      let code = code-of ts u input typed_program is main f ef in
       let func = code.2 in
-      let act = active-same ts u input typed_program served is main (first fuel) world refl refl in
-      let home : Home = within ts u input typed_program served is main world [] in
+      let act = active-same ts u input typed_program is main (first fuel) world refl refl in
+      let home : Home = within ts u input typed_program is main world [] in
       let registers : ℕ → Value = m.passed 0 0 0 (λ r. Unset) in
       let d : ℕ = world.depth + frame_of ts main in
-      let s : typed.State = at_entry ts u input typed_program served is world main f [] fuel in
+      let s : typed.State = at_entry ts u input typed_program is world main f [] fuel in
       let room_now : nat_le (m.next_active u g main (first fuel)).depth g.stack ≡ true = ap (λ (x : Active). nat_le x.depth g.stack) act ∙ room in
-      let b : State = at home (entry_mark ts u input typed_program served is code.0) func.start registers (begins (with_statics (m.statics_of u)) 1 d (m.shapes_of code.0)) s in
+      let b : State = at home (entry_mark ts u input typed_program is code.0) func.start registers (begins (with_statics (m.statics_of u)) 1 d (m.shapes_of code.0)) s in
       let fit : ArgumentsFit (take f.params f.objects) world [] = subst (λ n. ArgumentsFit (take n f.objects) world []) (sym none) tt in
-      let follows = body-follows ts u input typed_program served is fuel (calls-do ts u input typed_program served is fuel) main f code.0 func world fuel [] [] registers (with_statics (m.statics_of u)) ef code.1 (sane bytes) fit tt start-agrees (omega arith) in
-      begins-with fuel b _ (Tests ∷ Saves (own ts u input typed_program served is world main) ∷ [])
+      let follows = body-follows ts u input typed_program is fuel (calls-do ts u input typed_program is fuel) main f code.0 func world fuel [] [] registers (with_statics (m.statics_of u)) ef code.1 (sane bytes) fit tt start-agrees (omega arith) in
+      begins-with fuel b _ (Tests ∷ Saves (own ts u input typed_program is world main) ∷ [])
       (ap (λ i. m.enters u g i 0 0 (λ r. Unset) [] fuel (first fuel)) is.main
-      ∙ enters-room ts u input typed_program served is main 0 0 (λ r. Unset) [] fuel (first fuel) code.0 code.1 func.start func.first_parameter func.entry room_now
-      ∙ ap (begun ts u input typed_program served is code.0 func.start main registers [] fuel (first fuel)) act)
-      (main-ends f world s b (does (inside ts u input typed_program served is fuel world main) fuel f.body s) result follows.by defined)
+      ∙ enters-room ts u input typed_program is main 0 0 (λ r. Unset) [] fuel (first fuel) code.0 code.1 func.start func.first_parameter func.entry room_now
+      ∙ ap (begun ts u input typed_program is code.0 func.start main registers [] fuel (first fuel)) act)
+      (main-ends f world s b (does (inside ts u input typed_program is fuel world main) fuel f.body s) result follows.by defined)
 
   main-full : (fuel : ℕ) (f : q.Func) → Each (λ byte. byte < 256) input → slice_get p.funcs main ≡ Some f → nat_le (world.depth + frame_of ts main) g.stack ≡ false
       → (run : List Event) × Runs u g fuel (outcome_of ts (exhaust {A = Values} (start ts input fuel))) run
   main-full fuel f bytes ef full =
-      let code = code-of ts u input typed_program served is main f ef in
-      let act = active-same ts u input typed_program served is main (first fuel) world refl refl in
+      let code = code-of ts u input typed_program is main f ef in
+      let act = active-same ts u input typed_program is main (first fuel) world refl refl in
       let full_now : nat_le (m.next_active u g main (first fuel)).depth g.stack ≡ false = ap (λ (x : Active). nat_le x.depth g.stack) act ∙ full in
       stops-with fuel _ (Tests ∷ [])
       (ap (λ i. m.enters u g i 0 0 (λ r. Unset) [] fuel (first fuel)) is.main
-      ∙ enters-full ts u input typed_program served is main 0 0 (λ r. Unset) [] fuel (first fuel) code.0 code.1 full_now
+      ∙ enters-full ts u input typed_program is main 0 0 (λ r. Unset) [] fuel (first fuel) code.0 code.1 full_now
       ∙ ap (λ x. m.Stops (End 1 (pos 0) [] x) (Tests ∷ [])) (ap (λ l. variables l (with_statics (m.statics_of u))) is.statics
       ∙ variables-same p.statics 0 world.store (with_statics (m.statics_of u)) (sane bytes).store start-agrees))
 

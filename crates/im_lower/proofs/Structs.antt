@@ -16,7 +16,7 @@ use Rattle.im_typed.specs.Program.{Prog, Access, Scalar, Struct}
 use Rattle.im_typed.specs.Runs.{Answer, Run, Stops, Fails, checked}
 use Rattle.im_typed.specs.Runs as typed
 use Rattle.im_typed.specs.Values.{Values, used, read_at, write_at}
-use Rattle.im_typed.specs.Typing.{Each, AreLaidOut, IsPart, kinds_of}
+use Rattle.im_typed.specs.Typing.{Each, AreLaidOut, InPlace, IsPart, kinds_of}
 use Rattle.im_typed.specs.Sound.{AreValues}
 use Rattle.im_typed.proofs.Sounds.{then-fine, unless-fine}
 use Rattle.im_typed.proofs.SoundCalls.{if-true, if-false, differs}
@@ -28,7 +28,6 @@ use Rattle.im_block.specs.Meaning as m
 use Rattle.im_block.specs.Meaning.{Setting, State, with_register}
 use Rattle.im_lower.specs.Codes.{Point, before, further_in, reads_of, writes_of}
 use Rattle.im_lower.specs.Agrees.{Agrees, Home, Mark, at, Reaches, Does, HasCellsOf, Came, CameAs}
-use Rattle.im_lower.specs.Served.{InPlace}
 use Rattle.im_lower.proofs.Steps.{here, stepped, further, does-later, does-checked}
 use Rattle.im_lower.proofs.Stores.{agree-read, agree-write, taken-kept}
 use Rattle.im_lower.proofs.Uses.{taken-same, register-same, register-other, line-goes, checks, arrived, stands as stands_there}

@@ -16,7 +16,7 @@ use Rattle.im_typed.specs.Runs.{World, Answer, Gives, Stops, Run, checked, eithe
 use Rattle.im_typed.specs.Runs as typed
 use Rattle.im_typed.specs.Values.{Values, used, write_at, truth}
 use Rattle.im_typed.specs.Meaning.{Around, place_of, value_of, values_of}
-use Rattle.im_typed.specs.Typing.{IsPart, shape_of, result_shape, IsTypedPlace, IsTyped, AreArguments, parameters}
+use Rattle.im_typed.specs.Typing.{InPlace, IsPart, shape_of, result_shape, IsTypedPlace, IsTyped, AreArguments, parameters}
 use Rattle.im_typed.specs.Sound.{IsValue, Fits}
 use Rattle.im_typed.proofs.Sounds.{value-kept}
 use Rattle.im_typed.proofs.SoundExprs.{takes-kind}
@@ -32,7 +32,6 @@ use Rattle.im_block.specs.Meaning.{Setting, Frame, State, with_register, conditi
 use Rattle.im_lower.specs.Codes.{Point, before, ends, Begins, above, count_of, cells_of_shape, offset_in, reads_of, writes_of, where_of, CodesPlace, Codes, CodesArguments}
 use Rattle.im_lower.specs.Agrees.{Agrees, Home, Mark, moved, at, Does, HasOne, Holds, Came, CameAs}
 use Rattle.im_lower.proofs.Structs.{struct-line, part-line, copy-lines, part-cell, part-cells, struct-place, part-shape, if-used}
-use Rattle.im_lower.specs.Served.{InPlace, IsServedPlace, IsServed, AreServed}
 use Rattle.im_lower.proofs.Steps.{Right, does-whole, does-bind, does-checked, does-weaker, joined}
 use Rattle.im_lower.proofs.Stores.{agree-moved, agree-pointer, taken-kept}
 use Rattle.im_lower.proofs.Uses.{register-same, register-other, number-value, condition-of, Took, does-line, does-jump, does-arm, does-branch, arrived, stands, does-used, does-number, checks}
@@ -103,80 +102,80 @@ module _ (u : Code) (g : Setting) (p : q.Prog) (f : q.Func) (c : Around) (bound 
       (n : Mark) (registers : ℕ → Value) (store : Store) (s : typed.State) → Ready p f c bound s store → Does u g p home next (at home n entry registers store s) (CameAs (shape_of p e) registers to free) (value_of c e s)
 
   mutual
-    placed : (a : q.Place) (free : ℕ) (entry next : Point) → IsServedPlace p a → IsTypedPlace p f a → CodesPlace p c.first blocks a free entry next
+    placed : (a : q.Place) (free : ℕ) (entry next : Point) → IsTypedPlace p f a → CodesPlace p c.first blocks a free entry next
         → (n : Mark) (registers : ℕ → Value) (store : Store) (s : typed.State) → Ready p f c bound s store → Does u g p home next (at home n entry registers store s) (Stood c a free registers) (place_of c a s)
-    placed (q.Static o) free entry next served t codes n registers store s ready =
+    placed (q.Static o) free entry next t codes n registers store s ready =
         subst (λ x. Does u g p home next (at home n x registers store s) (Stood c (q.Static o) free registers) (place_of c (q.Static o) s)) (sym codes)
         (stands u g p home (λ _. next) n registers store s _ (record { agrees = ready.agrees; kept = λ x lt. refl; is = refl }))
-    placed (q.Local o) free entry next served t codes n registers store s ready =
+    placed (q.Local o) free entry next t codes n registers store s ready =
         subst (λ x. Does u g p home next (at home n x registers store s) (Stood c (q.Local o) free registers) (place_of c (q.Local o) s)) (sym codes)
         (stands u g p home (λ _. next) n registers store s _ (record { agrees = ready.agrees; kept = λ x lt. refl; is = refl }))
-    placed (q.Target e) free entry next served t codes n registers store s ready =
+    placed (q.Target e) free entry next t codes n registers store s ready =
         does-weaker u g p home (λ v w after left took. record { agrees = took.agrees; kept = λ x l. took.kept x (omega arith) (λ e. omega arith); is = took.has })
         (used-as {kind = Ptr} e s t.1 t.0 ready
-        (lowered e free (free + 1) entry next (omega arith) served t.0 codes n registers store s ready))
-    placed (q.Member a d) free entry next served t codes n registers store s ready =
-        does-bind u g p home (placed a free entry next served t.0 codes n registers store s ready)
+        (lowered e free (free + 1) entry next (omega arith) t.0 codes n registers store s ready))
+    placed (q.Member a d) free entry next t codes n registers store s ready =
+        does-bind u g p home (placed a free entry next t.0 codes n registers store s ready)
         (λ v w n₁ after left stood.
         checks u g p home next n₁ after left w (member_at w.world.store d v)
         (λ x e. record { agrees = stood.agrees; kept = stood.kept; is = (v, stood.is, e) }))
 
-    pub lowered : (e : q.Expr) (to free : ℕ) (entry next : Point) → to < free → IsServed p e → IsTyped p f e → Codes p c.first blocks e to free entry next → Gains e to free entry next
-    lowered (q.Constant kind z) to free entry next lt served t codes n registers store s ready =
+    pub lowered : (e : q.Expr) (to free : ℕ) (entry next : Point) → to < free → IsTyped p f e → Codes p c.first blocks e to free entry next → Gains e to free entry next
+    lowered (q.Constant kind z) to free entry next lt t codes n registers store s ready =
         subst (λ x. Does u g p home next (at home n x registers store s) (Came registers to free) (value_of c (q.Constant kind z) s)) (sym codes)
         (does-line u g p home (Put to z) next n registers store s to (Fine (Number z)) (Number z) refl refl
         (arrived u g p home next n registers registers to free (Number z) store s ready.agrees (λ _ _ _. refl)))
-    lowered (q.Read (q.Scalar kind) a) to free entry next lt served t codes n registers store s ready =
-        does-bind u g p home (placed a free entry (before (Read to (where_of p c.first blocks a free) kind codes.0) next) served t.1 codes.1 n registers store s ready)
+    lowered (q.Read (q.Scalar kind) a) to free entry next lt t codes n registers store s ready =
+        does-bind u g p home (placed a free entry (before (Read to (where_of p c.first blocks a free) kind codes.0) next) t.1 codes.1 n registers store s ready)
         (λ v w n₁ after left stood.
         read-line u g p home v (where_of p c.first blocks a free) kind codes.0 to free n₁ next registers after left w (designates c p blocks a free v w.world.store left after stood.agrees stood.is) stood.agrees (λ x l ne. stood.kept x l))
-    lowered (q.Read (q.Struct count cells) a) to free entry next lt served t codes n registers store s ready =
+    lowered (q.Read (q.Struct count cells) a) to free entry next lt t codes n registers store s ready =
         let place = where_of p c.first blocks a free in
-        does-bind u g p home (placed a free entry (before (Address to place) next) served t.1 codes n registers store s ready)
+        does-bind u g p home (placed a free entry (before (Address to place) next) t.1 codes n registers store s ready)
         (λ v w n₁ after left stood.
         struct-line u g p home v place count cells to free n₁ next registers after left w (designates c p blocks a free v w.world.store left after stood.agrees stood.is) stood.agrees (λ x l ne. stood.kept x l))
-    lowered (q.Convert kind e) to free entry next lt served t codes n registers store s ready =
+    lowered (q.Convert kind e) to free entry next lt t codes n registers store s ready =
         let i = integer-shape (shape_of p e) t.2 in
         does-number u g p home i.2
         (used-as e s i.1 t.1 ready
-        (lowered e free (free + 1) entry (before (Convert to kind free) next) (omega arith) served t.1 codes n registers store s ready))
+        (lowered e free (free + 1) entry (before (Convert to kind free) next) (omega arith) t.1 codes n registers store s ready))
         (λ z v b after left h took.
         does-line u g p home (Convert to kind free) next b after left v to (m.as_number (m.converted kind (after free))) (Number (wrap kind z)) refl
         (ap (λ x. m.as_number (m.converted kind x)) took.has)
         (arrived u g p home next b registers after to free (Number (wrap kind z)) left v took.agrees
         (λ x l ne. took.kept x (omega arith) (λ e. omega arith))))
-    lowered (q.Unary op kind e) to free entry next lt served t codes n registers store s ready =
+    lowered (q.Unary op kind e) to free entry next lt t codes n registers store s ready =
         does-number u g p home t.0.0
         (used-as e s t.2 t.1 ready
-        (lowered e free (free + 1) entry (before (Unary to op kind free) next) (omega arith) served t.1 codes n registers store s ready))
+        (lowered e free (free + 1) entry (before (Unary to op kind free) next) (omega arith) t.1 codes n registers store s ready))
         (λ z v b after left h took.
         does-line u g p home (Unary to op kind free) next b after left v to (m.as_number (m.computed_one op kind (after free))) (Number (apply_one op kind z)) refl
         (ap (λ r. m.as_number (then_ r (λ a. Fine (apply_one op kind a)))) (converted-same kind (after free) z took.has h))
         (arrived u g p home next b registers after to free (Number (apply_one op kind z)) left v took.agrees
         (λ x l ne. took.kept x (omega arith) (λ e. omega arith))))
-    lowered (q.Binary op kind a b) to free entry next lt served t codes n registers store s ready =
+    lowered (q.Binary op kind a b) to free entry next lt t codes n registers store s ready =
         let r = right-kind op kind (shape_of p b) t.0.0 t.4 in
         does-number u g p home t.0.0
         (used-as a s t.3 t.1 ready
-        (lowered a free (free + 1) entry codes.0 (omega arith) served.0 t.1 codes.1 n registers store s ready))
+        (lowered a free (free + 1) entry codes.0 (omega arith) t.1 codes.1 n registers store s ready))
         (λ x v n₁ after left hx took.
         does-number u g p home r.2
         (used-as b v r.1 t.2 (ready-took p f c bound ready took)
-        (lowered b (free + 1) (free + 2) codes.0 (before (Compute to op kind free (free + 1)) next) (omega arith) served.1 t.2 codes.2 n₁ after left v (ready-took p f c bound ready took)))
+        (lowered b (free + 1) (free + 2) codes.0 (before (Compute to op kind free (free + 1)) next) (omega arith) t.2 codes.2 n₁ after left v (ready-took p f c bound ready took)))
         (λ y w n₂ after₂ left₂ hy took₂.
         does-checked u g p home (apply op kind x y) w _ (λ z e.
         does-line u g p home (Compute to op kind free (free + 1)) next n₂ after₂ left₂ w to (m.as_number (m.computed op kind (after₂ free) (after₂ (free + 1)))) (Number z) refl
         (computed-same op kind (after₂ free) (after₂ (free + 1)) x y z (took₂.kept free (omega arith) (λ e. omega arith) ∙ took.has) took₂.has hx (r.3 y hy) e)
         (arrived u g p home next n₂ registers after₂ to free (Number z) left₂ w took₂.agrees
         (λ i l ne. took₂.kept i (omega arith) (λ e. omega arith) ∙ took.kept i (omega arith) (λ e. omega arith))))))
-    lowered (q.Compare op kind a b) to free entry next lt served t codes n registers store s ready =
+    lowered (q.Compare op kind a b) to free entry next lt t codes n registers store s ready =
         does-bind u g p home
         (used-as a s t.2 t.0 ready
-        (lowered a free (free + 1) entry codes.0 (omega arith) served.0 t.0 codes.1 n registers store s ready))
+        (lowered a free (free + 1) entry codes.0 (omega arith) t.0 codes.1 n registers store s ready))
         (λ vx v n₁ after left took.
         does-bind u g p home
         (used-as b v t.3 t.1 (ready-took p f c bound ready took)
-        (lowered b (free + 1) (free + 2) codes.0 (before (Compare to op kind free (free + 1)) next) (omega arith) served.1 t.1 codes.2 n₁ after left v (ready-took p f c bound ready took)))
+        (lowered b (free + 1) (free + 2) codes.0 (before (Compare to op kind free (free + 1)) next) (omega arith) t.1 codes.2 n₁ after left v (ready-took p f c bound ready took)))
         (λ vy w n₂ after₂ left₂ took₂.
         does-checked u g p home (compare_values op vx vy) w _ (λ answer e.
         does-line u g p home (Compare to op kind free (free + 1)) next n₂ after₂ left₂ w to (m.as_truth (m.compared left₂ op kind (after₂ free) (after₂ (free + 1)))) (Number (if answer then pos 1 else pos 0)) refl
@@ -185,63 +184,63 @@ module _ (u : Code) (g : Setting) (p : q.Prog) (f : q.Func) (c : Around) (bound 
         (λ k. agree-pointer w.world.store left₂ took₂.agrees w.world.activations vy (subst (λ x. IsValue w.world.activations w.world.store x vy) k took₂.value) took₂.taken) e)
         (arrived u g p home next n₂ registers after₂ to free (Number (if answer then pos 1 else pos 0)) left₂ w took₂.agrees
         (λ i l ne. took₂.kept i (omega arith) (λ e. omega arith) ∙ took.kept i (omega arith) (λ e. omega arith))))))
-    lowered (q.Not a) to free entry next lt served t codes n registers store s ready =
+    lowered (q.Not a) to free entry next lt t codes n registers store s ready =
         let k = scalar-shape (shape_of p a) t.1 in
         does-bind u g p home
         (used-as a s k.1 t.0 ready
-        (lowered a free (free + 1) entry (before (Not to free) next) (omega arith) served t.0 codes n registers store s ready))
+        (lowered a free (free + 1) entry (before (Not to free) next) (omega arith) t.0 codes n registers store s ready))
         (λ x v n₁ after left took.
         does-line u g p home (Not to free) next n₁ after left v to (m.as_truth (m.negation left (after free))) (Number (if not (holds x) then pos 1 else pos 0)) refl
         (negated left (after free) (holds x) (ap (condition left) took.has ∙ condition-of v.world.activations v.world.store left k.0 x took.agrees took.value took.taken))
         (arrived u g p home next n₁ registers after to free (Number (if not (holds x) then pos 1 else pos 0)) left v took.agrees
         (λ i l ne. took.kept i (omega arith) (λ e. omega arith))))
-    lowered (q.Comma a b) to free entry next lt served t codes n registers store s ready =
+    lowered (q.Comma a b) to free entry next lt t codes n registers store s ready =
         does-bind u g p home
         (joined u g p home (right a s t.0 ready)
-        (lowered a free (free + 1) entry codes.0 (omega arith) served.0 t.0 codes.1 n registers store s ready))
+        (lowered a free (free + 1) entry codes.0 (omega arith) t.0 codes.1 n registers store s ready))
         (λ vs v n₁ after left k.
         does-weaker u g p home (λ ws w after₂ left₂ came. record { agrees = came.agrees; kept = λ i l ne. came.kept i l ne ∙ k.1.kept i (omega arith) (λ e. omega arith); has = came.has })
-        (lowered b to free codes.0 next lt served.1 t.1 codes.2 n₁ after left v (ready-known p f c bound ready k.0 k.1.agrees)))
-    lowered (q.Discard a) to free entry next lt served t codes n registers store s ready =
-        does-bind u g p home (lowered a to free entry next lt served t codes n registers store s ready)
+        (lowered b to free codes.0 next lt t.1 codes.2 n₁ after left v (ready-known p f c bound ready k.0 k.1.agrees)))
+    lowered (q.Discard a) to free entry next lt t codes n registers store s ready =
+        does-bind u g p home (lowered a to free entry next lt t codes n registers store s ready)
         (λ vs v n₁ after left came. stands u g p home (λ _. next) n₁ after left v [] (record { agrees = came.agrees; kept = came.kept; has = tt }))
-    lowered (q.Choose x a b) to free entry next lt served t codes n registers store s ready =
+    lowered (q.Choose x a b) to free entry next lt t codes n registers store s ready =
         let k = scalar-shape (shape_of p x) t.3 in
         does-bind u g p home
         (used-as x s k.1 t.0 ready
-        (lowered x free (free + 1) entry (ends (Branch free codes.1 codes.2)) (omega arith) served.0 t.0 codes.8 n registers store s ready))
+        (lowered x free (free + 1) entry (ends (Branch free codes.1 codes.2)) (omega arith) t.0 codes.8 n registers store s ready))
         (λ v w n₁ after left took.
         does-branch u g p home fn is free codes.1 codes.2 codes.3 codes.4 n₁ after left w _ _ (holds v) codes.6 codes.7
         (ap (condition left) took.has ∙ condition-of w.world.activations w.world.store left k.0 v took.agrees took.value took.taken)
         (does-arm u g p home fn is codes.0 next codes.5
         (does-weaker u g p home (λ ws y after₂ left₂ came. record { agrees = came.agrees; kept = λ i l ne. came.kept i l ne ∙ took.kept i (omega arith) (λ e. omega arith); has = came.has })
-        (lowered a to free codes.3 (ends (Jump codes.0)) lt served.1 t.1 codes.9 (moved n₁ codes.1) after left w (ready-took p f c bound ready took))))
+        (lowered a to free codes.3 (ends (Jump codes.0)) lt t.1 codes.9 (moved n₁ codes.1) after left w (ready-took p f c bound ready took))))
         (does-arm u g p home fn is codes.0 next codes.5
         (does-weaker u g p home (λ ws y after₂ left₂ came. record { agrees = came.agrees; kept = λ i l ne. came.kept i l ne ∙ took.kept i (omega arith) (λ e. omega arith); has = came.has })
-        (as-shape (sym t.4) (lowered b to free codes.4 (ends (Jump codes.0)) lt served.2 t.2 codes.10 (moved n₁ codes.2) after left w (ready-took p f c bound ready took))))))
-    lowered (q.And a b) to free entry next lt served t codes n registers store s ready =
+        (as-shape (sym t.4) (lowered b to free codes.4 (ends (Jump codes.0)) lt t.2 codes.10 (moved n₁ codes.2) after left w (ready-took p f c bound ready took))))))
+    lowered (q.And a b) to free entry next lt t codes n registers store s ready =
         let ka = scalar-shape (shape_of p a) t.2 in
         let kb = scalar-shape (shape_of p b) t.3 in
         does-bind u g p home
         (used-as a s ka.1 t.0 ready
-        (lowered a free (free + 1) entry (ends (Branch free codes.1 codes.2)) (omega arith) served.0 t.0 codes.7 n registers store s ready))
+        (lowered a free (free + 1) entry (ends (Branch free codes.1 codes.2)) (omega arith) t.0 codes.7 n registers store s ready))
         (λ v w n₁ after left took.
         does-branch u g p home fn is free codes.1 codes.2 codes.3 (before (Put to (pos 0)) (ends (Jump codes.0))) n₁ after left w _ _ (holds v) codes.5 codes.6
         (ap (condition left) took.has ∙ condition-of w.world.activations w.world.store left ka.0 v took.agrees took.value took.taken)
         (second-truth to free codes.0 codes.1 codes.3 next registers after left n₁ w kb.0 (value_of c b w) lt codes.4
         (λ i l ne. took.kept i (omega arith) (λ e. omega arith))
         (used-as b w kb.1 t.1 (ready-took p f c bound ready took)
-        (lowered b free (free + 1) codes.3 (before (Not free free) (before (Not to free) (ends (Jump codes.0)))) (omega arith) served.1 t.1 codes.8 (moved n₁ codes.1) after left w (ready-took p f c bound ready took))))
+        (lowered b free (free + 1) codes.3 (before (Not free free) (before (Not to free) (ends (Jump codes.0)))) (omega arith) t.1 codes.8 (moved n₁ codes.1) after left w (ready-took p f c bound ready took))))
         (does-line u g p home (Put to (pos 0)) (ends (Jump codes.0)) (moved n₁ codes.2) after left w to (Fine (Number (pos 0))) (Number (pos 0)) refl refl
         (does-jump u g p home fn is codes.0 next (moved n₁ codes.2) (with_register after to (Number (pos 0))) left w codes.4
         (arrived u g p home next (moved n₁ codes.0) registers after to free (Number (pos 0)) left w took.agrees
         (λ i l ne. took.kept i (omega arith) (λ e. omega arith))))))
-    lowered (q.Or a b) to free entry next lt served t codes n registers store s ready =
+    lowered (q.Or a b) to free entry next lt t codes n registers store s ready =
         let ka = scalar-shape (shape_of p a) t.2 in
         let kb = scalar-shape (shape_of p b) t.3 in
         does-bind u g p home
         (used-as a s ka.1 t.0 ready
-        (lowered a free (free + 1) entry (ends (Branch free codes.2 codes.1)) (omega arith) served.0 t.0 codes.7 n registers store s ready))
+        (lowered a free (free + 1) entry (ends (Branch free codes.2 codes.1)) (omega arith) t.0 codes.7 n registers store s ready))
         (λ v w n₁ after left took.
         does-branch u g p home fn is free codes.2 codes.1 (before (Put to (pos 1)) (ends (Jump codes.0))) codes.3 n₁ after left w _ _ (holds v) codes.6 codes.5
         (ap (condition left) took.has ∙ condition-of w.world.activations w.world.store left ka.0 v took.agrees took.value took.taken)
@@ -252,31 +251,31 @@ module _ (u : Code) (g : Setting) (p : q.Prog) (f : q.Func) (c : Around) (bound 
         (second-truth to free codes.0 codes.1 codes.3 next registers after left n₁ w kb.0 (value_of c b w) lt codes.4
         (λ i l ne. took.kept i (omega arith) (λ e. omega arith))
         (used-as b w kb.1 t.1 (ready-took p f c bound ready took)
-        (lowered b free (free + 1) codes.3 (before (Not free free) (before (Not to free) (ends (Jump codes.0)))) (omega arith) served.1 t.1 codes.8 (moved n₁ codes.1) after left w (ready-took p f c bound ready took)))))
-    lowered (q.Assign (q.Scalar kind) a e) to free entry next lt served t codes n registers store s ready =
+        (lowered b free (free + 1) codes.3 (before (Not free free) (before (Not to free) (ends (Jump codes.0)))) (omega arith) t.1 codes.8 (moved n₁ codes.1) after left w (ready-took p f c bound ready took)))))
+    lowered (q.Assign (q.Scalar kind) a e) to free entry next lt t codes n registers store s ready =
         let more = above-more a free in
         does-bind u g p home
-        (joined u g p home (right-placed p f c bound works.right works.tame a s t.1 ready) (placed a free entry codes.0 served.0 t.1 codes.2 n registers store s ready))
+        (joined u g p home (right-placed p f c bound works.right works.tame a s t.1 ready) (placed a free entry codes.0 t.1 codes.2 n registers store s ready))
         (λ v w n₁ after left stood.
         does-bind u g p home
         (joined u g p home (right-as e w t.3 t.2 (ready-known p f c bound ready stood.0 stood.1.agrees))
-        (as-shape t.3 (lowered e to (above a free) codes.0 (before (Write (where_of p c.first blocks a free) kind to codes.1) next) (omega arith) served.1 t.2 codes.3 n₁ after left w (ready-known p f c bound ready stood.0 stood.1.agrees))))
+        (as-shape t.3 (lowered e to (above a free) codes.0 (before (Write (where_of p c.first blocks a free) kind to codes.1) next) (omega arith) t.2 codes.3 n₁ after left w (ready-known p f c bound ready stood.0 stood.1.agrees))))
         (λ vs x n₂ after₂ left₂ k.
         assigned u g p home v (where_of p c.first blocks a free) kind codes.1 to free n₂ next registers after₂ left₂ vs x
         (designates c p blocks a free v x.world.store left₂ after₂ k.1.agrees (place-kept c a free v w.world.store x.world.store after after₂ k.0.keeps.same (λ i ge l. k.1.kept i l (λ e. omega arith)) stood.1.is))
         k.0.fits
         (record { agrees = k.1.agrees; kept = λ i l ne. k.1.kept i (omega arith) ne ∙ stood.1.kept i l; has = k.1.has })))
-    lowered (q.Assign (q.Struct count cells) a e) to free entry next lt served t codes n registers store s ready =
+    lowered (q.Assign (q.Struct count cells) a e) to free entry next lt t codes n registers store s ready =
         let more = above-more a free in
         let top = above a free in
         let place = where_of p c.first blocks a free in
         let last = before (Address to place) next in
         does-bind u g p home
-        (joined u g p home (right-placed p f c bound works.right works.tame a s t.1 ready) (placed a free entry codes.0 served.0 t.1 codes.5 n registers store s ready))
+        (joined u g p home (right-placed p f c bound works.right works.tame a s t.1 ready) (placed a free entry codes.0 t.1 codes.5 n registers store s ready))
         (λ v w n₁ after left stood.
         does-bind u g p home
         (joined u g p home (right-as e w t.3 t.2 (ready-known p f c bound ready stood.0 stood.1.agrees))
-        (as-shape t.3 (lowered e top (top + 1) codes.0 (reads_of top (top + 1) cells codes.1 (writes_of place (top + 1) cells codes.2 last)) (omega arith) served.1 t.2 codes.6 n₁ after left w (ready-known p f c bound ready stood.0 stood.1.agrees))))
+        (as-shape t.3 (lowered e top (top + 1) codes.0 (reads_of top (top + 1) cells codes.1 (writes_of place (top + 1) cells codes.2 last)) (omega arith) t.2 codes.6 n₁ after left w (ready-known p f c bound ready stood.0 stood.1.agrees))))
         (λ vs x n₂ after₂ left₂ k.
         if-used vs x (write_at (q.Struct count cells) v vs)
         (λ r. Does u g p home next (at home n₂ (reads_of top (top + 1) cells codes.1 (writes_of place (top + 1) cells codes.2 last)) after₂ left₂ x) (CameAs (Some (q.Struct count cells)) registers to free) r) (λ why. record { by = tt })
@@ -293,13 +292,13 @@ module _ (u : Code) (g : Setting) (p : q.Prog) (f : q.Func) (c : Around) (bound 
           kept = λ q l ne. register-other after₃ to q v ne ∙ copied.kept q (omega arith) ∙ k.1.kept q (omega arith) (λ e. omega arith) ∙ stood.1.kept q l;
           has = (copied.has.0, copied.has.1, register-same after₃ to v ∙ copied.has.2, copied.has.3);
         })))))))
-    lowered (q.Update a (NumberBy kind op at_kind) e) to free entry next lt served t codes n registers store s ready =
+    lowered (q.Update a (NumberBy kind op at_kind) e) to free entry next lt t codes n registers store s ready =
         let more = above-more a free in
         let r = right-kind op at_kind (shape_of p e) t.2.1.0 t.2.2 in
         let top = above a free in
         let place = where_of p c.first blocks a free in
         does-bind u g p home
-        (joined u g p home (right-placed p f c bound works.right works.tame a s t.0 ready) (placed a free entry (before (Read to place kind codes.1) codes.0) served.0 t.0 codes.3 n registers store s ready))
+        (joined u g p home (right-placed p f c bound works.right works.tame a s t.0 ready) (placed a free entry (before (Read to place kind codes.1) codes.0) t.0 codes.3 n registers store s ready))
         (λ v w n₁ after left stood.
         let one = ready-known p f c bound ready stood.0 stood.1.agrees in
         does-bind u g p home
@@ -310,7 +309,7 @@ module _ (u : Code) (g : Setting) (p : q.Prog) (f : q.Func) (c : Around) (bound 
         let num = number-value x.world.activations x.world.store kind first t.2.0 took.value in
         does-number u g p home r.2
         (used-as e x r.1 t.1 two
-        (lowered e top (top + 1) codes.0 (before (Compute to op at_kind to top) (before (Convert to kind to) (before (Write place kind to codes.2) next))) (omega arith) served.1 t.1 codes.4 n₂ after₂ left₂ x two))
+        (lowered e top (top + 1) codes.0 (before (Compute to op at_kind to top) (before (Convert to kind to) (before (Write place kind to codes.2) next))) (omega arith) t.1 codes.4 n₂ after₂ left₂ x two))
         (λ by y n₃ after₃ left₃ hb took₃.
         change-lines u g p home v place kind op at_kind false codes.2 to to top free n₃ next registers after₃ left₃ first num.0 by y t.2.0 num.1
         (λ i j. designates c p blocks a free v y.world.store left₃ _ took₃.agrees (place-kept c a free v w.world.store y.world.store after _ (λ o. took₃.keeps.same o ∙ took.keeps.same o)
@@ -319,13 +318,13 @@ module _ (u : Code) (g : Setting) (p : q.Prog) (f : q.Func) (c : Around) (bound 
         (λ z l ne. took₃.kept z (omega arith) (λ e. omega arith) ∙ took.kept z (omega arith) ne ∙ stood.1.kept z l)
         (λ z l ne. ne)
         (λ i j. register-same (with_register after₃ to i) to j))))
-    lowered (q.Update a (PointerBy size back) e) to free entry next lt served t codes n registers store s ready =
+    lowered (q.Update a (PointerBy size back) e) to free entry next lt t codes n registers store s ready =
         let more = above-more a free in
         let r = integer-shape (shape_of p e) t.2.1 in
         let top = above a free in
         let place = where_of p c.first blocks a free in
         does-bind u g p home
-        (joined u g p home (right-placed p f c bound works.right works.tame a s t.0 ready) (placed a free entry (before (Read to place Ptr codes.1) codes.0) served.0 t.0 codes.3 n registers store s ready))
+        (joined u g p home (right-placed p f c bound works.right works.tame a s t.0 ready) (placed a free entry (before (Read to place Ptr codes.1) codes.0) t.0 codes.3 n registers store s ready))
         (λ v w n₁ after left stood.
         let one = ready-known p f c bound ready stood.0 stood.1.agrees in
         does-bind u g p home
@@ -335,7 +334,7 @@ module _ (u : Code) (g : Setting) (p : q.Prog) (f : q.Func) (c : Around) (bound 
         let two = ready-took p f c bound one took in
         does-number u g p home r.2
         (used-as e x r.1 t.1 two
-        (lowered e top (top + 1) codes.0 (before (Move to size back to top) (before (Write place Ptr to codes.2) next)) (omega arith) served.1 t.1 codes.4 n₂ after₂ left₂ x two))
+        (lowered e top (top + 1) codes.0 (before (Move to size back to top) (before (Write place Ptr to codes.2) next)) (omega arith) t.1 codes.4 n₂ after₂ left₂ x two))
         (λ by y n₃ after₃ left₃ hb took₃.
         move-lines u g p home v place size back false codes.2 to to top free n₃ next registers after₃ left₃ first by y took₃.sane
         (λ i. designates c p blocks a free v y.world.store left₃ _ took₃.agrees (place-kept c a free v w.world.store y.world.store after _ (λ o. took₃.keeps.same o ∙ took.keeps.same o)
@@ -344,13 +343,13 @@ module _ (u : Code) (g : Setting) (p : q.Prog) (f : q.Func) (c : Around) (bound 
         (λ z l ne. took₃.kept z (omega arith) (λ e. omega arith) ∙ took.kept z (omega arith) ne ∙ stood.1.kept z l)
         (λ z l ne. ne)
         (λ i. register-same after₃ to i))))
-    lowered (q.Increment a (NumberBy kind op at_kind) false) to free entry next lt served t codes n registers store s ready =
+    lowered (q.Increment a (NumberBy kind op at_kind) false) to free entry next lt t codes n registers store s ready =
         let more = above-more a free in
         let top = above a free in
         let place = where_of p c.first blocks a free in
         does-bind u g p home
         (joined u g p home (right-placed p f c bound works.right works.tame a s t.0 ready)
-        (placed a free entry (before (Read to place kind codes.0) (before (Put top (pos 1)) (before (Compute to op at_kind to top) (before (Convert to kind to) (before (Write place kind to codes.1) next))))) served t.0 codes.2 n registers store s ready))
+        (placed a free entry (before (Read to place kind codes.0) (before (Put top (pos 1)) (before (Compute to op at_kind to top) (before (Convert to kind to) (before (Write place kind to codes.1) next))))) t.0 codes.2 n registers store s ready))
         (λ v w n₁ after left stood.
         does-bind u g p home
         (does-used u g p home (right-reading u g p home v kind w stood.0.sane)
@@ -366,13 +365,13 @@ module _ (u : Code) (g : Setting) (p : q.Prog) (f : q.Func) (c : Around) (bound 
         (λ z l ne. register-other after₂ top z (Number (pos 1)) (λ e. omega arith) ∙ took.kept z (omega arith) ne ∙ stood.1.kept z l)
         (λ z l ne. ne)
         (λ i j. register-same (with_register rs to i) to j))))
-    lowered (q.Increment a (NumberBy kind op at_kind) true) to free entry next lt served t codes n registers store s ready =
+    lowered (q.Increment a (NumberBy kind op at_kind) true) to free entry next lt t codes n registers store s ready =
         let more = above-more a free in
         let top = above a free in
         let place = where_of p c.first blocks a free in
         does-bind u g p home
         (joined u g p home (right-placed p f c bound works.right works.tame a s t.0 ready)
-        (placed a free entry (before (Read to place kind codes.0) (before (Put top (pos 1)) (before (Compute top op at_kind to top) (before (Convert top kind top) (before (Write place kind top codes.1) next))))) served t.0 codes.2 n registers store s ready))
+        (placed a free entry (before (Read to place kind codes.0) (before (Put top (pos 1)) (before (Compute top op at_kind to top) (before (Convert top kind top) (before (Write place kind top codes.1) next))))) t.0 codes.2 n registers store s ready))
         (λ v w n₁ after left stood.
         does-bind u g p home
         (does-used u g p home (right-reading u g p home v kind w stood.0.sane)
@@ -388,13 +387,13 @@ module _ (u : Code) (g : Setting) (p : q.Prog) (f : q.Func) (c : Around) (bound 
         (λ z l ne. register-other after₂ top z (Number (pos 1)) (λ e. omega arith) ∙ took.kept z (omega arith) ne ∙ stood.1.kept z l)
         (λ z l ne e. omega arith)
         (λ i j. register-other (with_register rs top i) top to j (λ e. omega arith) ∙ register-other rs top to i (λ e. omega arith) ∙ register-other after₂ top to (Number (pos 1)) (λ e. omega arith) ∙ took.has))))
-    lowered (q.Increment a (PointerBy size back) false) to free entry next lt served t codes n registers store s ready =
+    lowered (q.Increment a (PointerBy size back) false) to free entry next lt t codes n registers store s ready =
         let more = above-more a free in
         let top = above a free in
         let place = where_of p c.first blocks a free in
         does-bind u g p home
         (joined u g p home (right-placed p f c bound works.right works.tame a s t.0 ready)
-        (placed a free entry (before (Read to place Ptr codes.0) (before (Put top (pos 1)) (before (Move to size back to top) (before (Write place Ptr to codes.1) next)))) served t.0 codes.2 n registers store s ready))
+        (placed a free entry (before (Read to place Ptr codes.0) (before (Put top (pos 1)) (before (Move to size back to top) (before (Write place Ptr to codes.1) next)))) t.0 codes.2 n registers store s ready))
         (λ v w n₁ after left stood.
         does-bind u g p home
         (does-used u g p home {kind = Ptr} (right-reading u g p home v Ptr w stood.0.sane)
@@ -409,13 +408,13 @@ module _ (u : Code) (g : Setting) (p : q.Prog) (f : q.Func) (c : Around) (bound 
         (λ z l ne. register-other after₂ top z (Number (pos 1)) (λ e. omega arith) ∙ took.kept z (omega arith) ne ∙ stood.1.kept z l)
         (λ z l ne. ne)
         (λ i. register-same rs to i))))
-    lowered (q.Increment a (PointerBy size back) true) to free entry next lt served t codes n registers store s ready =
+    lowered (q.Increment a (PointerBy size back) true) to free entry next lt t codes n registers store s ready =
         let more = above-more a free in
         let top = above a free in
         let place = where_of p c.first blocks a free in
         does-bind u g p home
         (joined u g p home (right-placed p f c bound works.right works.tame a s t.0 ready)
-        (placed a free entry (before (Read to place Ptr codes.0) (before (Put top (pos 1)) (before (Move top size back to top) (before (Write place Ptr top codes.1) next)))) served t.0 codes.2 n registers store s ready))
+        (placed a free entry (before (Read to place Ptr codes.0) (before (Put top (pos 1)) (before (Move top size back to top) (before (Write place Ptr top codes.1) next)))) t.0 codes.2 n registers store s ready))
         (λ v w n₁ after left stood.
         does-bind u g p home
         (does-used u g p home {kind = Ptr} (right-reading u g p home v Ptr w stood.0.sane)
@@ -430,43 +429,43 @@ module _ (u : Code) (g : Setting) (p : q.Prog) (f : q.Func) (c : Around) (bound 
         (λ z l ne. register-other after₂ top z (Number (pos 1)) (λ e. omega arith) ∙ took.kept z (omega arith) ne ∙ stood.1.kept z l)
         (λ z l ne e. omega arith)
         (λ i. register-other rs top to i (λ e. omega arith) ∙ register-other after₂ top to (Number (pos 1)) (λ e. omega arith) ∙ took.has))))
-    lowered (q.Call i es) to free entry next lt served t codes n registers store s ready =
+    lowered (q.Call i es) to free entry next lt t codes n registers store s ready =
         does-bind u g p home
         (joined u g p home (right-arguments p f c bound works.right works.tame es (parameters (slice_get p.funcs i)) s t.1 ready)
-        (arguments es (parameters (slice_get p.funcs i)) free entry (before (Call to i free (count_of es)) next) served t.1 codes n registers store s ready))
+        (arguments es (parameters (slice_get p.funcs i)) free entry (before (Call to i free (count_of es)) next) t.1 codes n registers store s ready))
         (λ vs v n₁ after left k.
         let one = ready-known p f c bound ready k.0 k.1.agrees in
         does-weaker u g p home (λ ws w after₂ left₂ came. record { agrees = came.agrees; kept = λ j l ne. came.kept j l ne ∙ k.1.kept j l; has = holds-result (slice_get p.funcs i) ws w.world.store (after₂ to) came.has })
         (works.calls.by i (count_of es) vs v home fn n₁ next after left to free lt is virtual k.1.count k.1.has k.0.fits one.sane one.agrees one.depth one.fuel))
-    lowered q.Getchar to free entry next lt served t codes n registers store s ready =
+    lowered q.Getchar to free entry next lt t codes n registers store s ready =
         subst (λ x. Does u g p home next (at home n x registers store s) (Came registers to free) (value_of c q.Getchar s)) (sym codes)
         (get-line u g p home fn is virtual to free n next registers store s.world s.fuel ready.agrees)
-    lowered (q.Putchar e) to free entry next lt served t codes n registers store s ready =
+    lowered (q.Putchar e) to free entry next lt t codes n registers store s ready =
         does-number u g p home {kind = I32} tt
         (used-as e s t.1 t.0 ready
-        (lowered e free (free + 1) entry (before (PutChar to free) next) (omega arith) served t.0 codes n registers store s ready))
+        (lowered e free (free + 1) entry (before (PutChar to free) next) (omega arith) t.0 codes n registers store s ready))
         (λ z v b after left h took.
         put-line u g p home fn is virtual to free b next after left registers (λ x l ne. took.kept x (omega arith) (λ e. omega arith)) free z c.capacity v.world v.fuel works.capacity took.has took.agrees)
-    lowered q.NullPointer to free entry next lt served t codes n registers store s ready =
+    lowered q.NullPointer to free entry next lt t codes n registers store s ready =
         subst (λ x. Does u g p home next (at home n x registers store s) (Came registers to free) (value_of c q.NullPointer s)) (sym codes)
         (does-line u g p home (PutNull to) next n registers store s to (Fine Null) Null refl refl
         (arrived u g p home next n registers registers to free Null store s ready.agrees (λ _ _ _. refl)))
-    lowered (q.Address a) to free entry next lt served t codes n registers store s ready =
+    lowered (q.Address a) to free entry next lt t codes n registers store s ready =
         let place = where_of p c.first blocks a free in
-        does-bind u g p home (placed a free entry (before (Address to place) next) served t codes n registers store s ready)
+        does-bind u g p home (placed a free entry (before (Address to place) next) t codes n registers store s ready)
         (λ v w n₁ after left stood.
         does-line u g p home (Address to place) next n₁ after left w to (m.place_of place home.active after left) v refl
         (designates c p blocks a free v w.world.store left after stood.agrees stood.is)
         (arrived u g p home next n₁ registers after to free v left w stood.agrees (λ x l ne. stood.kept x l)))
-    lowered (q.Move size back a b) to free entry next lt served t codes n registers store s ready =
+    lowered (q.Move size back a b) to free entry next lt t codes n registers store s ready =
         let r = integer-shape (shape_of p b) t.4 in
         does-bind u g p home
         (used-as {kind = Ptr} a s t.3 t.1 ready
-        (lowered a free (free + 1) entry codes.0 (omega arith) served.0 t.1 codes.1 n registers store s ready))
+        (lowered a free (free + 1) entry codes.0 (omega arith) t.1 codes.1 n registers store s ready))
         (λ x v n₁ after left took.
         does-number u g p home r.2
         (used-as b v r.1 t.2 (ready-took p f c bound ready took)
-        (lowered b (free + 1) (free + 2) codes.0 (before (Move to size back free (free + 1)) next) (omega arith) served.1 t.2 codes.2 n₁ after left v (ready-took p f c bound ready took)))
+        (lowered b (free + 1) (free + 2) codes.0 (before (Move to size back free (free + 1)) next) (omega arith) t.2 codes.2 n₁ after left v (ready-took p f c bound ready took)))
         (λ y w n₂ after₂ left₂ hy took₂.
         does-checked u g p home (moved_by w.world.store (bytes_moved size back y) x) w _ (λ z e.
         does-line u g p home (Move to size back free (free + 1)) next n₂ after₂ left₂ w to (m.moved left₂ size back (after₂ free) (after₂ (free + 1))) z refl
@@ -474,15 +473,15 @@ module _ (u : Code) (g : Setting) (p : q.Prog) (f : q.Func) (c : Around) (bound 
         (agree-moved w.world.store left₂ took₂.agrees (bytes_moved size back y) x z e))
         (arrived u g p home next n₂ registers after₂ to free z left₂ w took₂.agrees
         (λ i l ne. took₂.kept i (omega arith) (λ e. omega arith) ∙ took.kept i (omega arith) (λ e. omega arith))))))
-    lowered (q.MoveBy size a b) to free entry next lt served t codes n registers store s ready =
+    lowered (q.MoveBy size a b) to free entry next lt t codes n registers store s ready =
         let r = integer-shape (shape_of p a) t.3 in
         does-number u g p home r.2
         (used-as a s r.1 t.1 ready
-        (lowered a free (free + 1) entry codes.0 (omega arith) served.0 t.1 codes.1 n registers store s ready))
+        (lowered a free (free + 1) entry codes.0 (omega arith) t.1 codes.1 n registers store s ready))
         (λ y v n₁ after left hy took.
         does-bind u g p home
         (used-as {kind = Ptr} b v t.4 t.2 (ready-took p f c bound ready took)
-        (lowered b (free + 1) (free + 2) codes.0 (before (Move to size false (free + 1) free) next) (omega arith) served.1 t.2 codes.2 n₁ after left v (ready-took p f c bound ready took)))
+        (lowered b (free + 1) (free + 2) codes.0 (before (Move to size false (free + 1) free) next) (omega arith) t.2 codes.2 n₁ after left v (ready-took p f c bound ready took)))
         (λ x w n₂ after₂ left₂ took₂.
         does-checked u g p home (moved_by w.world.store (bytes_moved size false y) x) w _ (λ z e.
         does-line u g p home (Move to size false (free + 1) free) next n₂ after₂ left₂ w to (m.moved left₂ size false (after₂ (free + 1)) (after₂ free)) z refl
@@ -490,14 +489,14 @@ module _ (u : Code) (g : Setting) (p : q.Prog) (f : q.Func) (c : Around) (bound 
         (agree-moved w.world.store left₂ took₂.agrees (bytes_moved size false y) x z e))
         (arrived u g p home next n₂ registers after₂ to free z left₂ w took₂.agrees
         (λ i l ne. took₂.kept i (omega arith) (λ e. omega arith) ∙ took.kept i (omega arith) (λ e. omega arith))))))
-    lowered (q.Distance size a b) to free entry next lt served t codes n registers store s ready =
+    lowered (q.Distance size a b) to free entry next lt t codes n registers store s ready =
         does-bind u g p home
         (used-as {kind = Ptr} a s t.3 t.1 ready
-        (lowered a free (free + 1) entry codes.0 (omega arith) served.0 t.1 codes.1 n registers store s ready))
+        (lowered a free (free + 1) entry codes.0 (omega arith) t.1 codes.1 n registers store s ready))
         (λ x v n₁ after left took.
         does-bind u g p home
         (used-as {kind = Ptr} b v t.4 t.2 (ready-took p f c bound ready took)
-        (lowered b (free + 1) (free + 2) codes.0 (before (Distance to size free (free + 1)) next) (omega arith) served.1 t.2 codes.2 n₁ after left v (ready-took p f c bound ready took)))
+        (lowered b (free + 1) (free + 2) codes.0 (before (Distance to size free (free + 1)) next) (omega arith) t.2 codes.2 n₁ after left v (ready-took p f c bound ready took)))
         (λ y w n₂ after₂ left₂ took₂.
         does-checked u g p home (distance size x y) w _ (λ z e.
         does-line u g p home (Distance to size free (free + 1)) next n₂ after₂ left₂ w to (m.as_number (m.distance_of left₂ size (after₂ free) (after₂ (free + 1)))) (Number z) refl
@@ -506,28 +505,29 @@ module _ (u : Code) (g : Setting) (p : q.Prog) (f : q.Func) (c : Around) (bound 
         (agree-pointer w.world.store left₂ took₂.agrees w.world.activations y took₂.value took₂.taken) e)
         (arrived u g p home next n₂ registers after₂ to free (Number z) left₂ w took₂.agrees
         (λ i l ne. took₂.kept i (omega arith) (λ e. omega arith) ∙ took.kept i (omega arith) (λ e. omega arith))))))
-    lowered (q.Part from (q.Scalar kind) e) to free entry next lt served t codes n registers store s ready =
+    lowered (q.Part from (q.Scalar kind) e) to free entry next lt t codes n registers store s ready =
         let whole = part-shape from (q.Scalar kind) (shape_of p e) t.2 in
         let offset = offset_in (slice_get (cells_of_shape (shape_of p e)) from) in
         does-bind u g p home
-        (as-shape whole.2 (lowered e free (free + 1) entry (before (Read to (Through free offset) kind codes.0) next) (omega arith) served.0 t.1 codes.1 n registers store s ready))
+        (as-shape whole.2 (lowered e free (free + 1) entry (before (Read to (Through free offset) kind codes.0) next) (omega arith) t.1 codes.1 n registers store s ready))
         (λ vs v n₁ after left came.
         let o = came.has.0 in
-        let part = part-cell v.world.store o came.has.1 from kind whole.1 vs came.has.3 (subst (IsPart from (q.Scalar kind)) whole.2 t.2) in
+        let part = part-cell v.world.store o came.has.1 from kind whole.1 vs came.has.3 (subst (IsPart from (q.Scalar kind)) whole.2 t.2).0 in
         let same : offset ≡ part.0.offset = ap (λ x. offset_in (slice_get (cells_of_shape x) from)) whole.2 ∙ ap offset_in part.2 in
         subst (λ ws. Does u g p home next (at home n₁ (before (Read to (Through free offset) kind codes.0) next) after left v) (Came registers to free) (Gives ws v)) (sym part.4)
         (part-line u g p home o came.has.1 part.0 part.1 kind offset codes.0 to free n₁ next registers after left v same part.3 came.has.2 part.5 came.agrees (λ q l ne. came.kept q (omega arith) (λ e. omega arith))))
-    lowered (q.Part from (q.Struct count cells) e) to free entry next lt served t codes n registers store s ready =
+    lowered (q.Part from (q.Struct count cells) e) to free entry next lt t codes n registers store s ready =
         let whole = part-shape from (q.Struct count cells) (shape_of p e) t.2 in
         let base = offset_in (slice_get (cells_of_shape (shape_of p e)) from) in
         does-bind u g p home
-        (as-shape whole.2 (lowered e free (free + 1) entry (before (Address to (Through free base)) next) (omega arith) served.0 t.1 codes n registers store s ready))
+        (as-shape whole.2 (lowered e free (free + 1) entry (before (Address to (Through free base)) next) (omega arith) t.1 codes n registers store s ready))
         (λ vs v n₁ after left came.
         let o = came.has.0 in
         let i = came.has.1 in
         let some = t.0.1 in
         let many = t.0.0 in
-        let in_place : InPlace base cells (drop from whole.1) = subst (λ x. InPlace base cells (drop from (cells_of_shape x))) whole.2 served.1 in
+        let same : base ≡ offset_in (slice_get whole.1 from) = ap (λ x. offset_in (slice_get (cells_of_shape x) from)) whole.2 in
+        let in_place : InPlace base cells (drop from whole.1) = subst (λ i. InPlace i cells (drop from whole.1)) (sym same) (subst (IsPart from (q.Struct count cells)) whole.2 t.2).1 in
         let part : read_cells v.world.store o (i + base) cells ≡ Fine (take (length cells) (drop from vs)) = part-cells v.world.store o i from base cells whole.1 vs in_place came.has.3 in
         does-line u g p home (Address to (Through free base)) next n₁ after left v to (m.place_of (Through free base) home.active after left) (Pointer o (i + base)) refl
         (ap (m.further left base) came.has.2 ∙ struct-place v.world.store left came.agrees o i base cells (take (length cells) (drop from vs)) (omega arith) part)
@@ -537,20 +537,20 @@ module _ (u : Code) (g : Setting) (p : q.Prog) (f : q.Func) (c : Around) (bound 
           has = (o, i + base, register-same after to (Pointer o (i + base)), part);
         })))
 
-    pub arguments : (es : q.Exprs) (os : List q.LocalObject) (free : ℕ) (entry next : Point) → AreServed p es → AreArguments p f os es → CodesArguments p c.first blocks es free entry next
+    pub arguments : (es : q.Exprs) (os : List q.LocalObject) (free : ℕ) (entry next : Point) → AreArguments p f os es → CodesArguments p c.first blocks es free entry next
         → (n : Mark) (registers : ℕ → Value) (store : Store) (s : typed.State) → Ready p f c bound s store → Does u g p home next (at home n entry registers store s) (Passed registers free (count_of es)) (values_of c es s)
-    arguments q.no_exprs os free entry next served t codes n registers store s ready =
+    arguments q.no_exprs os free entry next t codes n registers store s ready =
         subst (λ x. Does u g p home next (at home n x registers store s) (Passed registers free 0) (values_of c q.no_exprs s)) (sym codes)
         (stands u g p home (λ _. next) n registers store s [] (record { agrees = ready.agrees; kept = λ x l. refl; count = refl; has = tt }))
-    arguments (q.more_exprs e rest) [] free entry next served t codes n registers store s ready = absurd t
-    arguments (q.more_exprs e rest) (o ∷ os) free entry next served t codes n registers store s ready =
+    arguments (q.more_exprs e rest) [] free entry next t codes n registers store s ready = absurd t
+    arguments (q.more_exprs e rest) (o ∷ os) free entry next t codes n registers store s ready =
         let k = takes-kind (shape_of p e) o.cells t.1 in
         does-bind u g p home
         (used-as e s k.1 t.0 ready
-        (lowered e free (free + 1) entry codes.0 (omega arith) served.0 t.0 codes.1 n registers store s ready))
+        (lowered e free (free + 1) entry codes.0 (omega arith) t.0 codes.1 n registers store s ready))
         (λ v w n₁ after left took.
         does-bind u g p home
-        (arguments rest os (free + 1) codes.0 next served.1 t.2 codes.2 n₁ after left w (ready-took p f c bound ready took))
+        (arguments rest os (free + 1) codes.0 next t.2 codes.2 n₁ after left w (ready-took p f c bound ready took))
         (λ vs x n₂ after₂ left₂ passed.
         let next_one : free + 1 ≡ suc free = omega arith in
         stands u g p home (λ _. next) n₂ after₂ left₂ x (v ∷ vs) (record {

@@ -12,7 +12,6 @@ use Rattle.im_block.specs.Runs.{Runs}
 use Rattle.im_block.specs.Shape.{AllOrdered}
 use Rattle.im_block.specs.Wellformed.{IsWellFormed}
 use Rattle.im_lower.specs.Lowered.{IsLowered, AreSized}
-use Rattle.im_lower.specs.Served.{IsServedProgram}
 
 -- what surrounds a run of block code is what surrounds the program's
 abbrev pub setting_of : Setting → List ℕ → m.Setting
@@ -21,7 +20,7 @@ setting_of g input = record { frames = g.frames; stack = g.stack; capacity = g.c
 -- wherever the program's meaning is defined, block code has the same outcome with as much fuel
 abbrev pub LowerKeepsLaw : Type 0
 LowerKeepsLaw =
-    (g : Setting) (u : Code) → IsWellTyped g.prog → IsServedProgram g.prog → IsLowered g.prog u → (input : List ℕ) (fuel : ℕ)
+    (g : Setting) (u : Code) → IsWellTyped g.prog → IsLowered g.prog u → (input : List ℕ) (fuel : ℕ)
     → Each (λ byte. byte < 256) input → IsDefined (meaning g input fuel)
     → (run : List Event) × Runs u (setting_of g input) fuel (meaning g input fuel) run
 

@@ -2,5 +2,4 @@ pub mod Codes
 pub mod Statements
 pub mod Lowered
 pub mod Agrees
-pub mod Served
 pub mod Laws
