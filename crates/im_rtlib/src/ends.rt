@@ -14,10 +14,7 @@ use std::alloc::Global;
 pub fn exit_lines(alloc: Global) -> Result<Vec<Line>, NoMemory>
     ensures { IfOk result (λ lines. code_lines lines.items ≡ exit) }
 {
-    let lines = [
-        labelled(EXIT, sw(10, 4, 0)),
-        plain(ebreak()),
-    ];
+    let lines = [labelled(EXIT, sw(10, 4, 0)), plain(ebreak())];
     Ok(Vec::from_slice(alloc, &lines)?)
 }
 

@@ -4,12 +4,14 @@
 mod ends;
 mod getchar;
 mod labels;
+mod laws;
 mod lines;
 mod putchar;
 
 pub use ends::{exit_lines, stack_lines};
 pub use getchar::getchar_lines;
 pub use labels::{EXIT, FIRST_FREE, GETCHAR, PUTCHAR, STACK};
+pub use laws::lines_law;
 pub use putchar::putchar_lines;
 
 #[cfg(test)]

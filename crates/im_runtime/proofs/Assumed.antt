@@ -34,26 +34,29 @@ kept_words limit capacity m k w kept index bytes =
 
 saves : (r : Runtime) (place : ℕ → ℕ) → HasRoutines r.image place → 38 ≤ r.longest → 1 ≤ r.flips → (e : ℕ) → 4 ≤ e → e ≤ 31 → SavesAt r (entry_at e)
 saves r place has few flips e low high m x call =
-    let s = saving r.image m x e (routine_of r.image has.checkpoint) low high call.fixed call.zero_reg call.even call.low call.words.index_small call.words.bytes in
-    (record {
-      n = e + 7;
-      some = omega arith;
-      few = omega arith;
-      ts = s.ran.ts;
-      y = s.y;
-      k = s.k;
-      reach = s.ran.reach;
-      flips = 1;
-      flips_few = flips;
-      system = heard_seen s.ran.ts ∙ ap heard s.ran.saw;
-      fixed = kept_fixed r.image m s.k s.kept call.fixed;
-      words = kept_words r.limit r.capacity m s.k call.words s.kept s.index s.bytes;
-      data_same = λ a from to. s.kept.high a (omega arith);
-      output_is = kept_shown m s.k s.kept;
-      input_is = left_same m s.k (kept_quiet m s.k s.kept);
-      zero_reg = s.regs 0 (omega arith) ∙ call.zero_reg;
-      stack = s.regs 2 (omega arith);
-    }, refl, λ i three four. s.regs i four)
+    let s = saving r.image m x e (routine_of r.image has.checkpoint) low high call.fixed call.zero_reg call.even call.low call.words.index_small call.words.bytes in (
+      record {
+        n = e + 7;
+        some = omega arith;
+        few = omega arith;
+        ts = s.ran.ts;
+        y = s.y;
+        k = s.k;
+        reach = s.ran.reach;
+        flips = 1;
+        flips_few = flips;
+        system = heard_seen s.ran.ts ∙ ap heard s.ran.saw;
+        fixed = kept_fixed r.image m s.k s.kept call.fixed;
+        words = kept_words r.limit r.capacity m s.k call.words s.kept s.index s.bytes;
+        data_same = λ a from to. s.kept.high a (omega arith);
+        output_is = kept_shown m s.k s.kept;
+        input_is = left_same m s.k (kept_quiet m s.k s.kept);
+        zero_reg = s.regs 0 (omega arith) ∙ call.zero_reg;
+        stack = s.regs 2 (omega arith);
+      },
+      refl,
+      λ i three four. s.regs i four,
+    )
 
 pub serves_law : ServesLaw
 serves_law r place has few flips = record {

@@ -121,10 +121,10 @@ module _ (r : Runtime) (place : ℕ → ℕ) (has : HasRoutines r.image place) (
       let input : little w 20 4 ≡ little m 20 4 = little-other k 24 4 (suc n) 20 4 (inl (omega arith)) ∙ kept_word m k s.kept 20 (omega arith) (omega arith) in
       let e : left m ≡ m (3145728 + n) ∷ bytes_from m (3145728 + n + 1) rest = some_left m n rest refl (omega arith) in
       let after : left w ≡ bytes_from m (3145728 + n + 1) rest =
-          ap (λ z. bytes_from w (3145728 + z) (little w 20 4 - z)) position
-          ∙ ap (λ z. bytes_from w (3145728 + suc n) (z - suc n)) input
-          ∙ ap (λ z. bytes_from w z rest) (let q : 3145728 + suc n ≡ 3145728 + n + 1 = omega arith in q)
-          ∙ bytes_alike m w (3145728 + n + 1) rest (λ i from to. above i (omega arith)) in
+      ap (λ z. bytes_from w (3145728 + z) (little w 20 4 - z)) position
+      ∙ ap (λ z. bytes_from w (3145728 + suc n) (z - suc n)) input
+      ∙ ap (λ z. bytes_from w z rest) (let q : 3145728 + suc n ≡ 3145728 + n + 1 = omega arith in q)
+      ∙ bytes_alike m w (3145728 + n + 1) rest (λ i from to. above i (omega arith)) in
       let quiet : shown w ≡ shown m = shown_alike m w long refl (out_after m k n s.kept) (omega arith) (λ i from to. above i (omega arith)) in
       record {
         done = record {
