@@ -293,11 +293,7 @@ module _ (u : Code) (g : Setting) (p : q.Prog) (f : q.Func) (c : Around) (bound 
         (λ i rs left v r. does-arm u g p h fn is codes.2 codes.5 codes.10 (does-weaker u g p h (λ vs w after₂ left₂ came. came.agrees) (value step codes.6 (ends (Jump codes.2)) t.2 codes.15 i rs left v r)))
         bound (moved n₁ codes.2) after left v (ready-known p f c bound ready k.0 k.1.agrees).fuel (ready-known p f c bound ready k.0 k.1.agrees))))
     statement (q.Switch e ks otherwise ss) breaks continues b d out again entry next bb bd t codes n registers store s ready =
-<<<<<<< HEAD
         let i = integer-shape (shape_of p e) (promoted-shape (shape_of p e) t.1) in
-=======
-        let i = integer-shape (shape_of p e) (promoted-integer (shape_of p e) t.1) in
->>>>>>> ref-lowering
         does-number u g p h i.2
         (used-as u g p f c bound works k callers fn is virtual e s i.1 t.0 ready (value e entry codes.1 t.0 codes.5 n registers store s ready))
         (λ z v n₁ after left hz took.
