@@ -4,5 +4,7 @@
 mod functions;
 mod program;
 mod runtime;
+#[cfg(test)]
+mod tests;
 
 pub use program::{Program, assemble};

@@ -51,7 +51,7 @@ patch_none a (b ∷ bs) k (inr h) =
     let t : (k == a) ≡ false = (let q : a < k = omega arith in grind (arith, nat_tests)) in
     ap (λ z. cond z (Some b) (patch (a + 1) bs k)) t ∙ patch_none (a + 1) bs k (inr (omega arith))
 
-place_none : (b : Bool) (a : ℕ) (bs : List ℕ) (k : ℕ) → (k < a) ⊎ (a + length bs ≤ k) → cond b (patch a bs k) None ≡ None
+pub place_none : (b : Bool) (a : ℕ) (bs : List ℕ) (k : ℕ) → (k < a) ⊎ (a + length bs ≤ k) → cond b (patch a bs k) None ≡ None
 place_none true a bs k h = patch_none a bs k h
 place_none false a bs k h = refl
 

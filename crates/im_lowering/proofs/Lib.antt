@@ -3,3 +3,4 @@ pub mod Rows
 pub mod Taken
 pub mod FunctionsMore
 pub mod StaticParts
+pub mod MarkLists

@@ -1,2 +1,3 @@
 pub mod MakeEach
+pub mod Marks
 pub mod Small

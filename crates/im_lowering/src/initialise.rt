@@ -1,9 +1,10 @@
-ghost use Rattle.std.specs.Prelude.{◌≡◌, ◌+◌, ◌++◌, IfOk, OnOk, map, slice_get};
+ghost use Rattle.std.specs.Prelude.{◌≡◌, ◌+◌, ◌++◌, IfOk, OnOk, map, slice_get, slice_set, true};
 ghost use Rattle.im_ctype.specs.Table.{Table};
 ghost use Rattle.im_typed.specs.Meaning.{given_offsets, is_among};
 ghost use Rattle.im_typed.specs.ProgramOf.{access_of, expr_of, piece_of, program_of};
 ghost use Rattle.im_made.specs.MakeStatement.{cell_offsets, cells_there, make_pieces, offsets_of, put_piece, put_rest, put_zero};
 ghost use Rattle.im_lower.specs.Statements.{zero_line};
+ghost use Rattle.im_lowering.specs.Marks.{AreMarks};
 
 use crate::builder::{Builder, next, sum};
 use crate::cells::struct_cells;
@@ -28,7 +29,10 @@ pub(crate) fn lower_initialiser(
     let object = sum(base.first, local)?;
     let given = given_offsets(code, pieces, prog)?;
     match objects.get(local as usize) {
-        Some(found) => put_rest(code, base.low, object, &given, &found.cells)?,
+        Some(found) => {
+            let marks = marks_of(code, &given, found.size)?;
+            put_rest(code, base.low, object, &given, &marks, &found.cells)?;
+        }
         None => {}
     }
     lower_pieces(code, object, pieces, prog, base)
@@ -76,23 +80,62 @@ fn push_cell_offsets(found: &mut Vec<u64>, offset: u32, cells: &[Cell]) -> Resul
     Ok(())
 }
 
+/// For each byte of an object, whether an expression of its initialiser gives a cell there.
+fn marks_of(code: &Builder, given: &[u64], size: u32) -> Result<Vec<bool>, NoMemory>
+    ensures { IfOk result (λ marks. AreMarks given.now marks.items) }
+{
+    let mut marks = Vec::new(code.alloc());
+    for _ in 0..size {
+        marks.push(false)?;
+    }
+    for at in given {
+        mark(&mut marks, *at);
+    }
+    Ok(marks)
+}
+
+/// Marks a byte that is there.
+fn mark(marks: &mut Vec<bool>, at: u64)
+    ensures { marks.new.items ≡ slice_set marks.old.items at true }
+{
+    let index = at as usize;
+    if index < marks.len() {
+        marks[index] = true;
+    }
+}
+
 /// Puts zero or null into the cells at offsets that aren't given.
 fn put_rest(
     code: &mut Builder,
     low: u32,
     object: u32,
     given: &[u64],
+    marks: &[bool],
     cells: &[Cell],
 ) -> Result<(), NoMemory>
+    requires { AreMarks given.now marks.now }
     ensures { OnOk result (code.new ≡ put_rest low object given.now cells.now code.old) }
 {
     for index in (0..cells.len()).rev() {
         let cell = cells[index];
-        if !is_among(cell.offset, given) {
+        if !is_given(cell.offset, given, marks) {
             put_zero(code, low, object, cell)?;
         }
     }
     Ok(())
+}
+
+/// Whether a cell's offset is given. A cell of an object lies within its bytes.
+fn is_given(offset: u64, given: &[u64], marks: &[bool]) -> bool
+    requires { AreMarks given.now marks.now }
+    ensures { result ≡ is_among offset given.now }
+{
+    let index = offset as usize;
+    if index < marks.len() {
+        marks[index]
+    } else {
+        is_among(offset, given)
+    }
 }
 
 fn is_among(offset: u64, given: &[u64]) -> bool

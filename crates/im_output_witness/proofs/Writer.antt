@@ -123,7 +123,7 @@ module _ (run : ℕ → State) (steps : IsRun run) (image : WriterImage (run 0).
   pub based : HasRuntime run 5076
   based = record { steps = steps; long = omega arith; recovery = image.recovery; checkpoint = image.checkpoint }
 
-  own_at : (t k : ℕ) → IsIntact run 5076 t → k < 8 → (run t).cpu.pc ≡ 5044 + 4 * k → line_at (run t) ≡ Some (own k)
+  pub own_at : (t k : ℕ) → IsIntact run 5076 t → k < 8 → (run t).cpu.pc ≡ 5044 + 4 * k → line_at (run t) ≡ Some (own k)
   own_at t k h l e =
       let pc : ℕ = 5044 + 4 * k in
       ap (λ z. decoded_word (loaded (run t).mem z 4)) e
@@ -149,7 +149,7 @@ module _ (run : ℕ → State) (steps : IsRun run) (image : WriterImage (run 0).
 
   -- ---- one step of the program
 
-  puts_next : (t : ℕ) (l : Line) (v target : ℕ) → line_at (run t) ≡ Some l → effect (run t).cpu l ≡ Puts v target → run (suc t) ≡ record { cpu = record { pc = target; x = with_reg (run t).cpu.x l.rd v }; mem = (run t).mem }
+  pub puts_next : (t : ℕ) (l : Line) (v target : ℕ) → line_at (run t) ≡ Some l → effect (run t).cpu l ≡ Puts v target → run (suc t) ≡ record { cpu = record { pc = target; x = with_reg (run t).cpu.x l.rd v }; mem = (run t).mem }
   puts_next t l v target e f = next_is run 5076 based t l e ∙ ap (λ z. record { cpu = (effected (run t).cpu (run t).mem l.rd z).cpu; mem = (effected (run t).cpu (run t).mem l.rd z).mem }) f
 
   put_fine : (t : ℕ) (l : Line) (v target : ℕ) → IsIntact run 5076 t → v < 2 ^ 32 → run (suc t) ≡ record { cpu = record { pc = target; x = with_reg (run t).cpu.x l.rd v }; mem = (run t).mem } → IsIntact run 5076 (suc t)
@@ -162,7 +162,7 @@ module _ (run : ℕ → State) (steps : IsRun run) (image : WriterImage (run 0).
         words = λ i. subst (λ (s : State). s.cpu.x i < 2 ^ 32) (sym next) (one_word d.x l.rd v h.words small i);
       }
 
-  store_cpu : (t : ℕ) (l : Line) (a n v : ℕ) → line_at (run t) ≡ Some l → effect (run t).cpu l ≡ Stores a n v → is_place a n ≡ true → (run (suc t)).cpu ≡ record { pc = sum_of (run t).cpu.pc 4; x = (run t).cpu.x }
+  pub store_cpu : (t : ℕ) (l : Line) (a n v : ℕ) → line_at (run t) ≡ Some l → effect (run t).cpu l ≡ Stores a n v → is_place a n ≡ true → (run (suc t)).cpu ≡ record { pc = sum_of (run t).cpu.pc 4; x = (run t).cpu.x }
   store_cpu t l a n v e f ok = ap (λ (s : State). s.cpu) (next_is run 5076 based t l e) ∙ ap (λ z. (effected (run t).cpu (run t).mem l.rd z).cpu) f ∙ ap (λ b. (saved_at b (run t).cpu (run t).mem a (bytes_of n v)).cpu) ok
 
   stored_kept : (t : ℕ) (l : Line) (a n v i : ℕ) → line_at (run t) ≡ Some l → effect (run t).cpu l ≡ Stores a n v → (i < a) ⊎ (a + n ≤ i) → (run (suc t)).mem i ≡ (run t).mem i

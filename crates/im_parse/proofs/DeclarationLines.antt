@@ -17,12 +17,13 @@ use Rattle.im_parse_core.specs.Parts.{Both, both, After, after, Made, made, Done
 use Rattle.im_parse_core.specs.Places.{IsAt}
 use Rattle.im_parse_core.specs.Lists.{before}
 use Rattle.im_parse_core.specs.Repeats.{Repeated, no_more, one_more}
-use Rattle.im_parse_core.proofs.Steps.{Apart, Completes, Into, cons_of, start, line, line_at, word, missing, part, refused, node, all, last, last_refused}
+use Rattle.im_parse_core.proofs.Steps.{Apart, Completes, Into, cons_of, start, line, line_at, word, missing, part, refused, node, all, last, last_refused, first_line}
 use Rattle.im_parse_core.proofs.Conditions.{ends, line_where, SomeWhere, IntoWhere}
-use Rattle.im_parse_core.proofs.SeparatedLists.{Others, Behind, Before, opened, refuses_listed, listed, another, no_other}
+use Rattle.im_parse_core.proofs.SeparatedLists.{Others, Behind, Before, opened, refuses_listed, listed, another, no_other, closed_apart, item_apart, item_completes}
+use Rattle.im_parse_core.proofs.Repeats.{first}
 use Rattle.im_parse.specs.Parsing.{Anything, Closed, Below}
 use Rattle.im_parse.specs.Declaring.{GoesOn, by_name, AfterSpecifiers, AfterDeclarator, AfterParameter}
-use Rattle.im_parse.specs.Initializing.{InitDeclaratorTree, IsInitDeclarator, an_init_declarator, add_init_declarator, init_declarator_tree}
+use Rattle.im_parse.specs.Initializing.{InitDeclaratorTree, IsInitDeclarator, an_init_declarator, add_init_declarator, init_declarator_tree, InitTail, last_init, next_init, InitsBehind, inits_behind}
 use Rattle.im_parse.proofs.DeclaratorForms.{separated_after}
 use Rattle.im_parse.proofs.MemberLines.{some_declarator, goes_front, goes_list, declarator_goes, none_goes, star_stops}
 
@@ -83,11 +84,11 @@ Row T = Others (IsInitDeclarator T) add_init_declarator tree.no_init_declarators
 more_words : (u v w : List Word) → u ++ (v ++ (mark Comma ∷ w)) ≡ (u ++ v) ++ (mark Comma ∷ w)
 more_words u v w = sym (append_assoc u v (mark Comma ∷ w))
 
-list_of : {T : List Name} {p : ℕ} {a : InitDeclaratorTree} {b : tree.InitDeclarators} {u v : List Word} → IsInitDeclarator T p a u → Row T (p + length u) b v → units.IsInitDeclarators T p (add_init_declarator a b) (u ++ v)
-list_of {T = T} {p = p} (an_init_declarator {d = d'} {i = i'} {u = u} {v = v} d i) no_more = subst (units.IsInitDeclarators T p (tree.more_init_declarators d' i' tree.no_init_declarators)) (sym (append-nil (u ++ v))) (units.last_declarator d i)
-list_of {T = T} {p = p} (an_init_declarator {d = d'} {i = i'} {u = u} {v = v} d i) (one_more {a = a} {b = b} {v = z} (after {u = w} x) rest) =
+list_of : {T : List Name} {p k : ℕ} {a : InitDeclaratorTree} {b : tree.InitDeclarators} {u v : List Word} → IsInitDeclarator T p a u → Row T k b v → k ≡ p + length u → units.IsInitDeclarators T p (add_init_declarator a b) (u ++ v)
+list_of {T = T} {p = p} (an_init_declarator {d = d'} {i = i'} {u = u} {v = v} d i) no_more e = subst (units.IsInitDeclarators T p (tree.more_init_declarators d' i' tree.no_init_declarators)) (sym (append-nil (u ++ v))) (units.last_declarator d i)
+list_of {T = T} {p = p} (an_init_declarator {d = d'} {i = i'} {u = u} {v = v} d i) (one_more {a = a} {b = b} {v = z} (after {u = w} x) rest) e =
     subst (units.IsInitDeclarators T p (tree.more_init_declarators d' i' (add_init_declarator a b))) (more_words u v (w ++ z))
-    (units.next_declarator d i (list_of (subst (λ k. IsInitDeclarator T k a w) (omega (arith, length-append u v)) x) (subst (λ k. Row T k b z) (omega (arith, length-append u v)) rest)))
+    (units.next_declarator d i (list_of (subst (λ k. IsInitDeclarator T k a w) (omega (arith, e, length-append u v)) x) rest (omega (arith, e, length-append u v))))
 
 row_of : {T : List Name} {p q : ℕ} {d : tree.Declarator} {i : tree.MaybeInitializer} {t : tree.InitDeclarators} {w : List Word} → Both (IsInitDeclarator T) (λ a. Made (add_init_declarator a) (Row T)) p t w → p ≡ suc q → Made (tree.more_init_declarators d i) (Row T) q (tree.more_init_declarators d i t) (mark Comma ∷ w)
 row_of {T = T} {q = q} (both {a = a} {u = u} {v = v} x (made {t = b} rest)) e = made (one_more (after (subst (λ k. IsInitDeclarator T k a u) e x)) (subst (λ k. Row T k b v) (omega (arith, e)) rest))
@@ -100,15 +101,15 @@ of_list {T = T} {p = p} (units.next_declarator {d = d'} {i = i'} {ds = ds'} {u =
     (both (an_init_declarator d i) (row_of (of_list ds) (omega (arith, length-append u v))))
 
 list_into : (T : List Name) (q : ℕ) → Into (Both (IsInitDeclarator T) (λ a. Made (add_init_declarator a) (Row T))) (units.IsInitDeclarators T) q
-list_into T q t _ (both x (made rest)) = list_of x rest
+list_into T q t _ (both x (made rest)) = list_of x rest refl
 
-abbrev pub NextInit : List Name → List Word → ℕ → List InitDeclaratorTree → ℕ → Type 0
-NextInit T words p xs q = Within (Closed Semicolon (units.IsInitDeclarators T)) Anything p (drop p words) (Before (IsInitDeclarator T) add_init_declarator tree.no_init_declarators (mark Comma) (mark Semicolon) xs) Anything q (drop q words) (λ t. t)
+abbrev pub NextInit : Family tree.InitDeclarators → List Name → List Word → ℕ → List InitDeclaratorTree → ℕ → Type 0
+NextInit D T words p xs q = Within (Closed Semicolon D) Anything p (drop p words) (Before (IsInitDeclarator T) add_init_declarator tree.no_init_declarators (mark Comma) (mark Semicolon) xs) Anything q (drop q words) (λ t. t)
 
-abbrev pub InInits : List Name → List Word → ℕ → List InitDeclaratorTree → ℕ → Type 0
-InInits T words p xs q = Within (Closed Semicolon (units.IsInitDeclarators T)) Anything p (drop p words) (Behind (IsInitDeclarator T) add_init_declarator tree.no_init_declarators (mark Comma) (mark Semicolon) xs) Anything q (drop q words) (λ t. t)
+abbrev pub InInits : Family tree.InitDeclarators → List Name → List Word → ℕ → List InitDeclaratorTree → ℕ → Type 0
+InInits D T words p xs q = Within (Closed Semicolon D) Anything p (drop p words) (Behind (IsInitDeclarator T) add_init_declarator tree.no_init_declarators (mark Comma) (mark Semicolon) xs) Anything q (drop q words) (λ t. t)
 
-pub inits_start : (words : List Word) (T : List Name) (p : ℕ) → NextInit T words p [] p
+pub inits_start : (words : List Word) (T : List Name) (p : ℕ) → NextInit (units.IsInitDeclarators T) T words p [] p
 inits_start words T p = opened (units.IsInitDeclarators T) (IsInitDeclarator T) add_init_declarator tree.no_init_declarators (mark Comma) (mark Semicolon) (list_into T p) (λ t u r e d f. of_list d) (start (Closed Semicolon (units.IsInitDeclarators T)) Anything p (drop p words))
 
 comma_ends : (a : InitDeclaratorTree) (z : List Word) → AfterParameter a (mark Comma ∷ z)
@@ -117,19 +118,19 @@ comma_ends a z = at_comma
 semicolon_ends : (a : InitDeclaratorTree) (z : List Word) → AfterParameter a (mark Semicolon ∷ z)
 semicolon_ends a z = closes close_declaration
 
-pub refuses_init : (words : List Word) (xs : List InitDeclaratorTree) {T : List Name} {p q n : ℕ} → NextInit T words p xs q → Refuses (IsInitDeclarator T) AfterParameter q (drop q words) n (drop n words) → Refuses (Closed Semicolon (units.IsInitDeclarators T)) Anything p (drop p words) n (drop n words)
+pub refuses_init : (words : List Word) (xs : List InitDeclaratorTree) {D : Family tree.InitDeclarators} {T : List Name} {p q n : ℕ} → NextInit D T words p xs q → Refuses (IsInitDeclarator T) AfterParameter q (drop q words) n (drop n words) → Refuses (Closed Semicolon D) Anything p (drop p words) n (drop n words)
 refuses_init words xs from one' = refuses_listed AfterParameter xs comma_ends semicolon_ends from one'
 
-pub inits_next : (words : List Word) (xs : List InitDeclaratorTree) {T : List Name} {p q n : ℕ} {a : InitDeclaratorTree} → NextInit T words p xs q → Reads (IsInitDeclarator T) AfterParameter q (drop q words) a n (drop n words) → InInits T words p (xs ++ a ∷ []) n
+pub inits_next : (words : List Word) (xs : List InitDeclaratorTree) {D : Family tree.InitDeclarators} {T : List Name} {p q n : ℕ} {a : InitDeclaratorTree} → NextInit D T words p xs q → Reads (IsInitDeclarator T) AfterParameter q (drop q words) a n (drop n words) → InInits D T words p (xs ++ a ∷ []) n
 inits_next words xs from one' = listed AfterParameter xs comma_ends semicolon_ends from one'
 
-pub inits_more : (words : List Word) (xs : List InitDeclaratorTree) {T : List Name} {p q n : ℕ} → IsAt (mark Comma) words q n → InInits T words p xs q → NextInit T words p xs n
+pub inits_more : (words : List Word) (xs : List InitDeclaratorTree) {D : Family tree.InitDeclarators} {T : List Name} {p q n : ℕ} → IsAt (mark Comma) words q n → InInits D T words p xs q → NextInit D T words p xs n
 inits_more words xs at from = another xs (λ e. cc e) at from
 
-pub misses_semicolon : (words : List Word) (xs : List InitDeclaratorTree) {T : List Name} {p q : ℕ} → (head (drop q words) ≡ Some (mark Comma) → ⊥) → InInits T words p xs q → (head (drop q words) ≡ Some (mark Semicolon) → ⊥) → Refuses (Closed Semicolon (units.IsInitDeclarators T)) Anything p (drop p words) q (drop q words)
+pub misses_semicolon : (words : List Word) (xs : List InitDeclaratorTree) {D : Family tree.InitDeclarators} {T : List Name} {p q : ℕ} → (head (drop q words) ≡ Some (mark Comma) → ⊥) → InInits D T words p xs q → (head (drop q words) ≡ Some (mark Semicolon) → ⊥) → Refuses (Closed Semicolon D) Anything p (drop p words) q (drop q words)
 misses_semicolon words xs comma from other = missing (λ q. (before add_init_declarator xs tree.no_init_declarators, [], done)) other (no_other xs comma from)
 
-pub reads_inits : (words : List Word) (xs : List InitDeclaratorTree) {T : List Name} {p q n : ℕ} → (head (drop q words) ≡ Some (mark Comma) → ⊥) → InInits T words p xs q → IsAt (mark Semicolon) words q n → Reads (Closed Semicolon (units.IsInitDeclarators T)) Anything p (drop p words) (before add_init_declarator xs tree.no_init_declarators) n (drop n words)
+pub reads_inits : (words : List Word) (xs : List InitDeclaratorTree) {D : Family tree.InitDeclarators} {T : List Name} {p q n : ℕ} → (head (drop q words) ≡ Some (mark Comma) → ⊥) → InInits D T words p xs q → IsAt (mark Semicolon) words q n → Reads (Closed Semicolon D) Anything p (drop p words) (before add_init_declarator xs tree.no_init_declarators) n (drop n words)
 reads_inits words xs comma from at = all (word at (no_other xs comma from))
 
 pub inits_item : (items : List InitDeclarator) (x : InitDeclarator) → map init_declarator_tree (items ++ x ∷ []) ≡ map init_declarator_tree items ++ init_declarator_tree x ∷ []
@@ -212,3 +213,39 @@ inits_some T s q = record {
 pub declared_inits : (words : List Word) {T : List Name} {p q : ℕ} {s : tree.Specifiers} → ADeclaration T words p → Reads (g.IsSpecifiers T) (AfterSpecifiers T) p (drop p words) s q (drop q words) → (GoesOn T (has_type s) (head (drop q words)) → ⊥) → (head (drop q words) ≡ Some (mark Semicolon) → ⊥) → Within (units.IsDeclaration T) Anything p (drop p words) (Closed Semicolon (units.IsInitDeclarators T)) Anything q (drop q words) (tree.declaration s)
 declared_inits words {T = T} {q = q} {s = s} from one' goes other =
     node (line_where (InitsOf T s) (λ o. GoesOn T (has_type s) o → ⊥) (inits_into T s q) (λ t u r e d f. inits_back T s q (drop q words) other t u r e d) (λ t d. none_goes) goes (inits_some T s q) (part (declaration_ends T) one' from))
+
+-- behind the first declarator
+row_tail : {T : List Name} {p : ℕ} {t : tree.InitDeclarators} {u : List Word} → Row T p t u → InitTail T p t u
+row_tail no_more = last_init
+row_tail {T = T} (one_more {a = a} {b = b} {v = v} (after {u = u} x) rest) = next_init (list_of x rest (omega arith))
+
+row_again : {T : List Name} {q : ℕ} {t : tree.InitDeclarators} {w : List Word} → Both (IsInitDeclarator T) (λ a. Made (add_init_declarator a) (Row T)) (suc q) t w → Row T q t (mark Comma ∷ w)
+row_again {T = T} (both {v = v} x (made {t = b} rest)) = one_more (after x) (subst (λ k. Row T k b v) (omega arith) rest)
+
+tail_row : {T : List Name} {p : ℕ} {t : tree.InitDeclarators} {u : List Word} → InitTail T p t u → Row T p t u
+tail_row last_init = no_more
+tail_row (next_init ds) = row_again (of_list ds)
+
+abbrev InitialAnd : List Name → tree.Declarator → Family tree.InitDeclarators
+InitialAnd T d = Both (units.IsMaybeInitializer T) (λ i. Made (tree.more_init_declarators d i) (Row T))
+
+behind_into : (T : List Name) (d : tree.Declarator) (q : ℕ) → Into (InitialAnd T d) (InitsBehind T d) q
+behind_into T d q t _ (both i (made rest)) = inits_behind i (row_tail rest)
+
+behind_back : (T : List Name) (d : tree.Declarator) (q : ℕ) → Into (InitsBehind T d) (InitialAnd T d) q
+behind_back T d q t _ (inits_behind i rest) = both i (made (tail_row rest))
+
+abbrev pub ABehind : List Name → List Word → ℕ → tree.Declarator → Type 0
+ABehind T words p d = Within (Closed Semicolon (InitsBehind T d)) Anything p (drop p words) (Both (units.IsMaybeInitializer T) (λ i. Behind (IsInitDeclarator T) add_init_declarator tree.no_init_declarators (mark Comma) (mark Semicolon) (let x : InitDeclaratorTree = (d, i) in x ∷ []))) Anything p (drop p words) (λ t. t)
+
+pub behind_start : (words : List Word) (T : List Name) (p : ℕ) (d : tree.Declarator) → ABehind T words p d
+behind_start words T p d = first (λ b. After (mark Semicolon) (Done b)) (first_line {G = λ t r. head r ≡ Some (mark Semicolon)} (InitialAnd T d) (closed_apart (mark Semicolon)) (behind_into T d p) (λ t u r e x f. behind_back T d p t u x) (start (Closed Semicolon (InitsBehind T d)) Anything p (drop p words)))
+
+pair_ends : (T : List Name) (d : tree.Declarator) → Apart (λ i. Behind (IsInitDeclarator T) add_init_declarator tree.no_init_declarators (mark Comma) (mark Semicolon) (let x : InitDeclaratorTree = (d, i) in x ∷ [])) Anything (Below 2)
+pair_ends T d i q t v r x e = item_apart {X = IsInitDeclarator T} {cons = add_init_declarator} {nil = tree.no_init_declarators} {between = mark Comma} {close = mark Semicolon} (Below 2) [] (λ a z. omega arith) (λ a z. omega arith) (d, i) q t v r x e
+
+pub refuses_first : (words : List Word) {T : List Name} {p n : ℕ} {d : tree.Declarator} → ABehind T words p d → Refuses (units.IsMaybeInitializer T) (Below 2) p (drop p words) n (drop n words) → Refuses (Closed Semicolon (InitsBehind T d)) Anything p (drop p words) n (drop n words)
+refuses_first words {T = T} {d = d} from one' = refused (λ i q. item_completes {X = IsInitDeclarator T} {cons = add_init_declarator} {nil = tree.no_init_declarators} {between = mark Comma} {close = mark Semicolon} [] (d, i) q) (pair_ends T d) one' from
+
+pub first_next : (words : List Word) {T : List Name} {p n : ℕ} {d : tree.Declarator} {i : tree.MaybeInitializer} → ABehind T words p d → Reads (units.IsMaybeInitializer T) (Below 2) p (drop p words) i n (drop n words) → InInits (InitsBehind T d) T words p (let x : InitDeclaratorTree = (d, i) in x ∷ []) n
+first_next words {T = T} {d = d} from one' = part (pair_ends T d) one' from

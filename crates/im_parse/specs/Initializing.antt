@@ -1,7 +1,8 @@
--- What the parsing functions of initialisers and declarations promise, for their private contracts.
-use Rattle.std.specs.Prelude.{ℕ, ◌+◌, false, List, [], ◌∷◌, ◌++◌, length, map, Option, Some, None}
+-- What the parsing functions of initialisers and declarations promise.
+use Rattle.std.specs.Prelude.{ℕ, suc, ◌+◌, false, List, [], ◌∷◌, ◌++◌, length, map, Option, Some, None}
 use Rattle.std.specs.declared.vec.Vec.{Vec}
-use Rattle.im_word.specs.Words.{Name, Word}
+use Rattle.im_tok.specs.declared.punctuator.Punctuator.TheVariants.{Comma}
+use Rattle.im_word.specs.Words.{Name, Word, mark}
 use Rattle.im_ctree.specs.Tree as t
 use Rattle.im_ctree.specs.Grammar as g
 use Rattle.im_ctree.specs.Units as u'
@@ -36,3 +37,12 @@ init_declarators_tree items = before add_init_declarator (map init_declarator_tr
 -- declarator [ "=" init ]
 pub data IsInitDeclarator (T : List Name) : ℕ → InitDeclaratorTree → List Word → Type 0 where
   an_init_declarator : {p : ℕ} {d : t.Declarator} {i : t.MaybeInitializer} {u v : List Word} → g.IsDeclarator T false p d u → u'.IsMaybeInitializer T (p + length u) i v → IsInitDeclarator T p (d, i) (u ++ v)
+
+-- { "," initdecl }
+pub data InitTail (T : List Name) : ℕ → t.InitDeclarators → List Word → Type 0 where
+  last_init : {p : ℕ} → InitTail T p t.no_init_declarators []
+  next_init : {p : ℕ} {ds : t.InitDeclarators} {u : List Word} → u'.IsInitDeclarators T (suc p) ds u → InitTail T p ds (mark Comma ∷ u)
+
+-- what stands behind the first declarator of a declaration: [ "=" init ] { "," initdecl }
+pub data InitsBehind (T : List Name) (d : t.Declarator) : ℕ → t.InitDeclarators → List Word → Type 0 where
+  inits_behind : {p : ℕ} {i : t.MaybeInitializer} {ds : t.InitDeclarators} {u v : List Word} → u'.IsMaybeInitializer T p i u → InitTail T (p + length u) ds v → InitsBehind T d p (t.more_init_declarators d i ds) (u ++ v)

@@ -5,7 +5,7 @@ ghost use Rattle.im_ctree.specs.Grammar.{IsMembers};
 ghost use Rattle.im_parse.specs.Parsing.{Parses, Anything, Closed, names_of};
 ghost use Rattle.im_parse.specs.Declaring.{IsMember, IsDeclarators, member_tree, members_tree, declarators_tree};
 
-use super::declarator::declarator;
+use super::declarators::declarator;
 use super::form::Form;
 use super::look::{begins_specifiers, expect_mark};
 use super::make;

@@ -4,9 +4,10 @@ use Rattle.std.specs.Prelude.{◌&&◌, nat_le, nat_lt, ◌==◌}
 use Rattle.std.specs.List.{flat_map}
 use Rattle.std.proofs.lemmas.Bool.{leb-true, eqb-true, and_parts}
 use Rattle.std.proofs.lemmas.Bool.Decides.{nat_tests}
+use Rattle.std.proofs.lemmas.List.{length-append}
 use Rattle.im_num.specs.Bytes.{word_bytes}
 use Rattle.im_mem.specs.Memory.{Mem, little, written, zeroed, Stands}
-use Rattle.im_mem.proofs.Words.{little-alike, written-below, stands-alike}
+use Rattle.im_mem.proofs.Words.{little-alike, written-below, written-above, stands-alike}
 use Rattle.im_image.specs.Contents.{ImageValue, ObjectValue, AreObjects, IsImage}
 use Rattle.im_device.specs.Load.{memory_of}
 use Rattle.im_device.specs.Run.{index_of, boot}
@@ -82,6 +83,24 @@ code_stands image input is =
     stands-alike (coded image input) (memory_of image input) image.words 4096 (λ k p q. sym (below_statics image input k (omega arith)))
     (words_stand image.words (buffered image input) 4096 (indexed image.words is.words))
 
+bytes_length : (ws : List ℕ) → length (flat_map word_bytes ws) ≡ 4 * length ws
+bytes_length [] = refl
+bytes_length (w ∷ ws) =
+    let h = bytes_length ws in
+    let q = length-append (word_bytes w) (flat_map word_bytes ws) in
+    omega arith
+
+beyond : (image : ImageValue) (input : List ℕ) (a : ℕ) → code_end image ≤ a → a < 1048576 → memory_of image input a ≡ 0
+beyond image input a above below =
+    let bytes = bytes_length image.words in
+    below_statics image input a below
+    ∙ written-above (buffered image input) 4096 a (flat_map word_bytes image.words) (omega arith)
+    ∙ written-above (written (limited image input) 128 (word_bytes image.entry)) 136 a (word_bytes 3145728) (omega arith)
+    ∙ written-above (limited image input) 128 a (word_bytes image.entry) (omega arith)
+    ∙ written-above (written (written zeroed 16 (word_bytes image.out_cap)) 20 (word_bytes (length input))) 28 a (word_bytes (3145728 - image.stack)) (omega arith)
+    ∙ written-above (written zeroed 16 (word_bytes image.out_cap)) 20 a (word_bytes (length input)) (omega arith)
+    ∙ written-above zeroed 16 a (word_bytes image.out_cap) (omega arith)
+
 outside : (pc : ℕ) → 5044 ≤ pc → is_runtime pc ≡ false
 outside pc l = grind (arith, nat_tests)
 
@@ -133,5 +152,6 @@ module _ (small_law : LoadedLaw) (boot_law : BootLaw) where
     long = long;
     high = high;
     loaded = loaded;
+    beyond = beyond;
     begun = begun;
   }

@@ -30,128 +30,128 @@ use Rattle.im_parse.proofs.DeclaratorLines.{declarator_ahead, reads_no_declarato
 use Rattle.im_ctree.specs.Tree as tree
 use Rattle.im_parse.proofs.+expression.Goals as goal
 
-pub expression::expression-returns-in_err-tree : goal.expression::expression-returns-in_err-tree
-expression::expression-returns-in_err-tree t c = let p = err_from_is_err_and c.from_residual.result c.from_residual.ensures.1 in rw (p.1, p.2) (stopped (map shown c.args.words.now) (λ n h. refuses_expression (map shown c.args.words.now) h) _ c.in_err-tree.ensures)
+pub expressions::expression-returns-in_err-tree : goal.expressions::expression-returns-in_err-tree
+expressions::expression-returns-in_err-tree t c = let p = err_from_is_err_and c.from_residual.result c.from_residual.ensures.1 in rw (p.1, p.2) (stopped (map shown c.args.words.now) (λ n h. refuses_expression (map shown c.args.words.now) h) _ c.in_err-tree.ensures)
 
-pub expression::expression-loop-behind-init : goal.expression::expression-loop-behind-init
-expression::expression-loop-behind-init t c = (commas_start (map shown c.args.words.now) c.in_ok-tree.ensures, omega (arith, c.in_ok-tree.ensures.place))
+pub expressions::expression-loop-behind-init : goal.expressions::expression-loop-behind-init
+expressions::expression-loop-behind-init t c = (commas_start (map shown c.args.words.now) c.in_ok-tree.ensures, omega (arith, c.in_ok-tree.ensures.place))
 
-pub expression::expression-returns-in_err-right : goal.expression::expression-returns-in_err-right
-expression::expression-returns-in_err-right t c = let p = err_from_is_err_and c.from_residual-in_err-right.result c.from_residual-in_err-right.ensures.1 in rw (p.1, p.2) (stopped (map shown c.args.words.now) (λ n h. refuses_comma (map shown c.args.words.now) (commas_more (map shown c.args.words.now) c.in-Some.ensures c.loop-behind.invariant.0) h) _ c.in_err-right.ensures)
+pub expressions::expression-returns-in_err-right : goal.expressions::expression-returns-in_err-right
+expressions::expression-returns-in_err-right t c = let p = err_from_is_err_and c.from_residual-in_err-right.result c.from_residual-in_err-right.ensures.1 in rw (p.1, p.2) (stopped (map shown c.args.words.now) (λ n h. refuses_comma (map shown c.args.words.now) (commas_more (map shown c.args.words.now) c.in-Some.ensures c.loop-behind.invariant.0) h) _ c.in_err-right.ensures)
 
-pub expression::expression-loop-behind-preserved : goal.expression::expression-loop-behind-preserved
-expression::expression-loop-behind-preserved t c = (rw c.in_ok-tree-2.ensures (commas_next (map shown c.args.words.now) (commas_more (map shown c.args.words.now) c.in-Some.ensures c.loop-behind.invariant.0) c.in_ok-right.ensures), omega (arith, c.in-Some.ensures, c.in_ok-right.ensures.place))
+pub expressions::expression-loop-behind-preserved : goal.expressions::expression-loop-behind-preserved
+expressions::expression-loop-behind-preserved t c = (rw c.in_ok-tree-2.ensures (commas_next (map shown c.args.words.now) (commas_more (map shown c.args.words.now) c.in-Some.ensures c.loop-behind.invariant.0) c.in_ok-right.ensures), omega (arith, c.in-Some.ensures, c.in_ok-right.ensures.place))
 
-pub expression::expression-loop-behind-smaller : goal.expression::expression-loop-behind-smaller
-expression::expression-loop-behind-smaller t c = omega (arith, c.in-Some.ensures, c.in_ok-right.ensures.place)
+pub expressions::expression-loop-behind-smaller : goal.expressions::expression-loop-behind-smaller
+expressions::expression-loop-behind-smaller t c = omega (arith, c.in-Some.ensures, c.in_ok-right.ensures.place)
 
-pub expression::expression-returns : goal.expression::expression-returns
-expression::expression-returns t c = commas_done (map shown c.args.words.now) c.in_default.ensures c.loop-behind.invariant.0
+pub expressions::expression-returns : goal.expressions::expression-returns
+expressions::expression-returns t c = commas_done (map shown c.args.words.now) c.in_default.ensures c.loop-behind.invariant.0
 
-pub expression::assignment-returns-in_err-left : goal.expression::assignment-returns-in_err-left
-expression::assignment-returns-in_err-left t c = let p = err_from_is_err_and c.from_residual.result c.from_residual.ensures.1 in rw (p.1, p.2) (stopped (map shown c.args.words.now) (λ n h. refuses_left (map shown c.args.words.now) h) _ c.in_err-left.ensures)
+pub expressions::assignment-returns-in_err-left : goal.expressions::assignment-returns-in_err-left
+expressions::assignment-returns-in_err-left t c = let p = err_from_is_err_and c.from_residual.result c.from_residual.ensures.1 in rw (p.1, p.2) (stopped (map shown c.args.words.now) (λ n h. refuses_left (map shown c.args.words.now) h) _ c.in_err-left.ensures)
 
-pub expression::assignment-returns-in-None : goal.expression::assignment-returns-in-None
-expression::assignment-returns-in-None t c = reads_left (map shown c.args.words.now) c.in-None.ensures c.in_ok-left.ensures
+pub expressions::assignment-returns-in-None : goal.expressions::assignment-returns-in-None
+expressions::assignment-returns-in-None t c = reads_left (map shown c.args.words.now) c.in-None.ensures c.in_ok-left.ensures
 
-pub expression::assignment-returns-then-not-is_unary : goal.expression::assignment-returns-then-not-is_unary
-expression::assignment-returns-then-not-is_unary t c = refuses_loose (map shown c.args.words.now) c.in-Some.ensures (isnt c.is_unary.result c.if-not-is_unary.true c.is_unary.ensures) c.in_ok-left.ensures
+pub expressions::assignment-returns-then-not-is_unary : goal.expressions::assignment-returns-then-not-is_unary
+expressions::assignment-returns-then-not-is_unary t c = refuses_loose (map shown c.args.words.now) c.in-Some.ensures (isnt c.is_unary.result c.if-not-is_unary.true c.is_unary.ensures) c.in_ok-left.ensures
 
-pub expression::assignment-returns-in_err-right-in-Some : goal.expression::assignment-returns-in_err-right-in-Some
-expression::assignment-returns-in_err-right-in-Some t c = let p = err_from_is_err_and c.from_residual-in_err-right-in-Some.result c.from_residual-in_err-right-in-Some.ensures.1 in rw (p.1, p.2) (stopped (map shown c.args.words.now) (λ n h. last_refused h (right (map shown c.args.words.now) c.in-Some.ensures (itis c.is_unary.result c.if-not-is_unary.false c.is_unary.ensures) c.in_ok-left.ensures)) _ c.in_err-right-in-Some.ensures)
+pub expressions::assignment-returns-in_err-right-in-Some : goal.expressions::assignment-returns-in_err-right-in-Some
+expressions::assignment-returns-in_err-right-in-Some t c = let p = err_from_is_err_and c.from_residual-in_err-right-in-Some.result c.from_residual-in_err-right-in-Some.ensures.1 in rw (p.1, p.2) (stopped (map shown c.args.words.now) (λ n h. last_refused h (right (map shown c.args.words.now) c.in-Some.ensures (itis c.is_unary.result c.if-not-is_unary.false c.is_unary.ensures) c.in_ok-left.ensures)) _ c.in_err-right-in-Some.ensures)
 
-pub expression::assignment-returns-in_ok-tree-in-Some : goal.expression::assignment-returns-in_ok-tree-in-Some
-expression::assignment-returns-in_ok-tree-in-Some t c = rw c.in_ok-tree-in-Some.ensures (last c.in_ok-right-in-Some.ensures (right (map shown c.args.words.now) c.in-Some.ensures (itis c.is_unary.result c.if-not-is_unary.false c.is_unary.ensures) c.in_ok-left.ensures))
+pub expressions::assignment-returns-in_ok-tree-in-Some : goal.expressions::assignment-returns-in_ok-tree-in-Some
+expressions::assignment-returns-in_ok-tree-in-Some t c = rw c.in_ok-tree-in-Some.ensures (last c.in_ok-right-in-Some.ensures (right (map shown c.args.words.now) c.in-Some.ensures (itis c.is_unary.result c.if-not-is_unary.false c.is_unary.ensures) c.in_ok-left.ensures))
 
-pub expression::conditional-returns-in_err-condition : goal.expression::conditional-returns-in_err-condition
-expression::conditional-returns-in_err-condition t c = let p = err_from_is_err_and c.from_residual.result c.from_residual.ensures.1 in rw (p.1, p.2) (stopped (map shown c.args.words.now) (λ n h. refuses_condition (map shown c.args.words.now) h) _ c.in_err-condition.ensures)
+pub expressions::conditional-returns-in_err-condition : goal.expressions::conditional-returns-in_err-condition
+expressions::conditional-returns-in_err-condition t c = let p = err_from_is_err_and c.from_residual.result c.from_residual.ensures.1 in rw (p.1, p.2) (stopped (map shown c.args.words.now) (λ n h. refuses_condition (map shown c.args.words.now) h) _ c.in_err-condition.ensures)
 
-pub expression::conditional-returns-in-None : goal.expression::conditional-returns-in-None
-expression::conditional-returns-in-None t c = reads_condition (map shown c.args.words.now) c.in-None.ensures c.in_ok-condition.ensures
+pub expressions::conditional-returns-in-None : goal.expressions::conditional-returns-in-None
+expressions::conditional-returns-in-None t c = reads_condition (map shown c.args.words.now) c.in-None.ensures c.in_ok-condition.ensures
 
-pub expression::conditional-returns-in_err-chosen-in-Some : goal.expression::conditional-returns-in_err-chosen-in-Some
-expression::conditional-returns-in_err-chosen-in-Some t c = let p = err_from_is_err_and c.from_residual-in_err-chosen-in-Some.result c.from_residual-in_err-chosen-in-Some.ensures.1 in rw (p.1, p.2) (stopped (map shown c.args.words.now) (λ n h. refuses_chosen (map shown c.args.words.now) (chosen_start (map shown c.args.words.now) c.in-Some.ensures c.in_ok-condition.ensures) h) _ c.in_err-chosen-in-Some.ensures)
+pub expressions::conditional-returns-in_err-chosen-in-Some : goal.expressions::conditional-returns-in_err-chosen-in-Some
+expressions::conditional-returns-in_err-chosen-in-Some t c = let p = err_from_is_err_and c.from_residual-in_err-chosen-in-Some.result c.from_residual-in_err-chosen-in-Some.ensures.1 in rw (p.1, p.2) (stopped (map shown c.args.words.now) (λ n h. refuses_chosen (map shown c.args.words.now) (chosen_start (map shown c.args.words.now) c.in-Some.ensures c.in_ok-condition.ensures) h) _ c.in_err-chosen-in-Some.ensures)
 
-pub expression::conditional-returns-in_err-last-in-Some : goal.expression::conditional-returns-in_err-last-in-Some
-expression::conditional-returns-in_err-last-in-Some t c = let p = err_from_is_err_and c.from_residual-in_err-last-in-Some.result c.from_residual-in_err-last-in-Some.ensures.1 in rw (p.1, p.2, c.in_err-last-in-Some.ensures.0) (misses_colon (map shown c.args.words.now) (alternative (map shown c.args.words.now) (chosen_start (map shown c.args.words.now) c.in-Some.ensures c.in_ok-condition.ensures) c.in_ok-chosen-in-Some.ensures) c.in_err-last-in-Some.ensures.1)
+pub expressions::conditional-returns-in_err-last-in-Some : goal.expressions::conditional-returns-in_err-last-in-Some
+expressions::conditional-returns-in_err-last-in-Some t c = let p = err_from_is_err_and c.from_residual-in_err-last-in-Some.result c.from_residual-in_err-last-in-Some.ensures.1 in rw (p.1, p.2, c.in_err-last-in-Some.ensures.0) (misses_colon (map shown c.args.words.now) (alternative (map shown c.args.words.now) (chosen_start (map shown c.args.words.now) c.in-Some.ensures c.in_ok-condition.ensures) c.in_ok-chosen-in-Some.ensures) c.in_err-last-in-Some.ensures.1)
 
-pub expression::conditional-returns-in_err-other-in-Some : goal.expression::conditional-returns-in_err-other-in-Some
-expression::conditional-returns-in_err-other-in-Some t c = let p = err_from_is_err_and c.from_residual-in_err-other-in-Some.result c.from_residual-in_err-other-in-Some.ensures.1 in rw (p.1, p.2) (stopped (map shown c.args.words.now) (λ n h. refuses_other (map shown c.args.words.now) (alternative (map shown c.args.words.now) (chosen_start (map shown c.args.words.now) c.in-Some.ensures c.in_ok-condition.ensures) c.in_ok-chosen-in-Some.ensures) c.in_ok-last-in-Some.ensures h) _ c.in_err-other-in-Some.ensures)
+pub expressions::conditional-returns-in_err-other-in-Some : goal.expressions::conditional-returns-in_err-other-in-Some
+expressions::conditional-returns-in_err-other-in-Some t c = let p = err_from_is_err_and c.from_residual-in_err-other-in-Some.result c.from_residual-in_err-other-in-Some.ensures.1 in rw (p.1, p.2) (stopped (map shown c.args.words.now) (λ n h. refuses_other (map shown c.args.words.now) (alternative (map shown c.args.words.now) (chosen_start (map shown c.args.words.now) c.in-Some.ensures c.in_ok-condition.ensures) c.in_ok-chosen-in-Some.ensures) c.in_ok-last-in-Some.ensures h) _ c.in_err-other-in-Some.ensures)
 
-pub expression::conditional-returns-in_ok-tree-in-Some : goal.expression::conditional-returns-in_ok-tree-in-Some
-expression::conditional-returns-in_ok-tree-in-Some t c = rw c.in_ok-tree-in-Some.ensures (reads_choice (map shown c.args.words.now) (alternative (map shown c.args.words.now) (chosen_start (map shown c.args.words.now) c.in-Some.ensures c.in_ok-condition.ensures) c.in_ok-chosen-in-Some.ensures) c.in_ok-last-in-Some.ensures c.in_ok-other-in-Some.ensures)
+pub expressions::conditional-returns-in_ok-tree-in-Some : goal.expressions::conditional-returns-in_ok-tree-in-Some
+expressions::conditional-returns-in_ok-tree-in-Some t c = rw c.in_ok-tree-in-Some.ensures (reads_choice (map shown c.args.words.now) (alternative (map shown c.args.words.now) (chosen_start (map shown c.args.words.now) c.in-Some.ensures c.in_ok-condition.ensures) c.in_ok-chosen-in-Some.ensures) c.in_ok-last-in-Some.ensures c.in_ok-other-in-Some.ensures)
 
-pub expression::binary-returns-then-level-eq10 : goal.expression::binary-returns-then-level-eq10
-expression::binary-returns-then-level-eq10 t c = as_cast tree_of (names_of c.args.names.now) (map shown c.args.words.now) c.args.at c.args.level c.if-level-eq10.true c.cast.result c.cast.ensures
+pub expressions::binary-returns-then-level-eq10 : goal.expressions::binary-returns-then-level-eq10
+expressions::binary-returns-then-level-eq10 t c = as_cast tree_of (names_of c.args.names.now) (map shown c.args.words.now) c.args.at c.args.level c.if-level-eq10.true c.cast.result c.cast.ensures
 
-pub expression::binary-returns-in_err-tree : goal.expression::binary-returns-in_err-tree
-expression::binary-returns-in_err-tree t c = let p = err_from_is_err_and c.from_residual.result c.from_residual.ensures.1 in rw (p.1, p.2) (stopped (map shown c.args.words.now) (λ n h. refuses_level (map shown c.args.words.now) (omega arith) h) _ c.in_err-tree.ensures)
+pub expressions::binary-returns-in_err-tree : goal.expressions::binary-returns-in_err-tree
+expressions::binary-returns-in_err-tree t c = let p = err_from_is_err_and c.from_residual.result c.from_residual.ensures.1 in rw (p.1, p.2) (stopped (map shown c.args.words.now) (λ n h. refuses_level (map shown c.args.words.now) (omega arith) h) _ c.in_err-tree.ensures)
 
-pub expression::binary-loop-operator-init : goal.expression::binary-loop-operator-init
-expression::binary-loop-operator-init t c = (tails_start (map shown c.args.words.now) (omega arith) c.in_ok-tree.ensures, omega (arith, c.in_ok-tree.ensures.place))
+pub expressions::binary-loop-operator-init : goal.expressions::binary-loop-operator-init
+expressions::binary-loop-operator-init t c = (tails_start (map shown c.args.words.now) (omega arith) c.in_ok-tree.ensures, omega (arith, c.in_ok-tree.ensures.place))
 
-pub expression::binary-returns-in_err-right : goal.expression::binary-returns-in_err-right
-expression::binary-returns-in_err-right t c = let p = err_from_is_err_and c.from_residual-in_err-right.result c.from_residual-in_err-right.ensures.1 in rw (p.1, p.2) (stopped (map shown c.args.words.now) (λ n h. refuses_operand (map shown c.args.words.now) (after_operator (map shown c.args.words.now) c.in-Some.ensures c.loop-operator.invariant.0) h) _ c.in_err-right.ensures)
+pub expressions::binary-returns-in_err-right : goal.expressions::binary-returns-in_err-right
+expressions::binary-returns-in_err-right t c = let p = err_from_is_err_and c.from_residual-in_err-right.result c.from_residual-in_err-right.ensures.1 in rw (p.1, p.2) (stopped (map shown c.args.words.now) (λ n h. refuses_operand (map shown c.args.words.now) (after_operator (map shown c.args.words.now) c.in-Some.ensures c.loop-operator.invariant.0) h) _ c.in_err-right.ensures)
 
-pub expression::binary-loop-operator-preserved : goal.expression::binary-loop-operator-preserved
-expression::binary-loop-operator-preserved t c = (rw c.in_ok-tree-2.ensures (tails_more (map shown c.args.words.now) (after_operator (map shown c.args.words.now) c.in-Some.ensures c.loop-operator.invariant.0) c.in_ok-right.ensures), omega (arith, c.in-Some.ensures.at, c.in_ok-right.ensures.place))
+pub expressions::binary-loop-operator-preserved : goal.expressions::binary-loop-operator-preserved
+expressions::binary-loop-operator-preserved t c = (rw c.in_ok-tree-2.ensures (tails_more (map shown c.args.words.now) (after_operator (map shown c.args.words.now) c.in-Some.ensures c.loop-operator.invariant.0) c.in_ok-right.ensures), omega (arith, c.in-Some.ensures.at, c.in_ok-right.ensures.place))
 
-pub expression::binary-loop-operator-smaller : goal.expression::binary-loop-operator-smaller
-expression::binary-loop-operator-smaller t c = omega (arith, c.in-Some.ensures.at, c.in_ok-right.ensures.place)
+pub expressions::binary-loop-operator-smaller : goal.expressions::binary-loop-operator-smaller
+expressions::binary-loop-operator-smaller t c = omega (arith, c.in-Some.ensures.at, c.in_ok-right.ensures.place)
 
-pub expression::binary-returns : goal.expression::binary-returns
-expression::binary-returns t c = tails_done (map shown c.args.words.now) c.in_default.ensures c.loop-operator.invariant.0
+pub expressions::binary-returns : goal.expressions::binary-returns
+expressions::binary-returns t c = tails_done (map shown c.args.words.now) c.in_default.ensures c.loop-operator.invariant.0
 
-pub expression::cast-returns-in-None : goal.expression::cast-returns-in-None
-expression::cast-returns-in-None t c = unparenthesised tree_of (names_of c.args.names.now) (map shown c.args.words.now) c.args.at c.in-None.ensures c.unary.result c.unary.ensures
+pub expressions::cast-returns-in-None : goal.expressions::cast-returns-in-None
+expressions::cast-returns-in-None t c = unparenthesised tree_of (names_of c.args.names.now) (map shown c.args.words.now) c.args.at c.in-None.ensures c.unary.result c.unary.ensures
 
-pub expression::cast-returns-then-not-begins_specifiers : goal.expression::cast-returns-then-not-begins_specifiers
-expression::cast-returns-then-not-begins_specifiers t c = untyped tree_of (names_of c.args.names.now) (map shown c.args.words.now) c.args.at c.in-Some.ensures (isnt c.begins_specifiers.result c.if-not-begins_specifiers.true c.begins_specifiers.ensures) c.unary-then-not-begins_specifiers.result c.unary-then-not-begins_specifiers.ensures
+pub expressions::cast-returns-then-not-begins_specifiers : goal.expressions::cast-returns-then-not-begins_specifiers
+expressions::cast-returns-then-not-begins_specifiers t c = untyped tree_of (names_of c.args.names.now) (map shown c.args.words.now) c.args.at c.in-Some.ensures (isnt c.begins_specifiers.result c.if-not-begins_specifiers.true c.begins_specifiers.ensures) c.unary-then-not-begins_specifiers.result c.unary-then-not-begins_specifiers.ensures
 
-pub expression::cast-returns-in_err-name-in-Some : goal.expression::cast-returns-in_err-name-in-Some
-expression::cast-returns-in_err-name-in-Some t c = let p = err_from_is_err_and c.from_residual.result c.from_residual.ensures.1 in rw (p.1, p.2) (stopped (map shown c.args.words.now) (λ n h. refuses_type (map shown c.args.words.now) (cast_start (map shown c.args.words.now) c.in-Some.ensures (itis c.begins_specifiers.result c.if-not-begins_specifiers.false c.begins_specifiers.ensures)) h) _ c.in_err-name-in-Some.ensures)
+pub expressions::cast-returns-in_err-name-in-Some : goal.expressions::cast-returns-in_err-name-in-Some
+expressions::cast-returns-in_err-name-in-Some t c = let p = err_from_is_err_and c.from_residual.result c.from_residual.ensures.1 in rw (p.1, p.2) (stopped (map shown c.args.words.now) (λ n h. refuses_type (map shown c.args.words.now) (cast_start (map shown c.args.words.now) c.in-Some.ensures (itis c.begins_specifiers.result c.if-not-begins_specifiers.false c.begins_specifiers.ensures)) h) _ c.in_err-name-in-Some.ensures)
 
-pub expression::cast-returns-in_err-operand-in-Some : goal.expression::cast-returns-in_err-operand-in-Some
-expression::cast-returns-in_err-operand-in-Some t c = let p = err_from_is_err_and c.from_residual-in_err-operand-in-Some.result c.from_residual-in_err-operand-in-Some.ensures.1 in rw (p.1, p.2) (stopped (map shown c.args.words.now) (λ n h. refuses_cast (map shown c.args.words.now) (cast_start (map shown c.args.words.now) c.in-Some.ensures (itis c.begins_specifiers.result c.if-not-begins_specifiers.false c.begins_specifiers.ensures)) c.in_ok-name-in-Some.ensures h) _ c.in_err-operand-in-Some.ensures)
+pub expressions::cast-returns-in_err-operand-in-Some : goal.expressions::cast-returns-in_err-operand-in-Some
+expressions::cast-returns-in_err-operand-in-Some t c = let p = err_from_is_err_and c.from_residual-in_err-operand-in-Some.result c.from_residual-in_err-operand-in-Some.ensures.1 in rw (p.1, p.2) (stopped (map shown c.args.words.now) (λ n h. refuses_cast (map shown c.args.words.now) (cast_start (map shown c.args.words.now) c.in-Some.ensures (itis c.begins_specifiers.result c.if-not-begins_specifiers.false c.begins_specifiers.ensures)) c.in_ok-name-in-Some.ensures h) _ c.in_err-operand-in-Some.ensures)
 
-pub expression::cast-returns-in_ok-tree-in-Some : goal.expression::cast-returns-in_ok-tree-in-Some
-expression::cast-returns-in_ok-tree-in-Some t c = rw c.in_ok-tree-in-Some.ensures (reads_cast (map shown c.args.words.now) (cast_start (map shown c.args.words.now) c.in-Some.ensures (itis c.begins_specifiers.result c.if-not-begins_specifiers.false c.begins_specifiers.ensures)) c.in_ok-name-in-Some.ensures c.in_ok-operand-in-Some.ensures)
+pub expressions::cast-returns-in_ok-tree-in-Some : goal.expressions::cast-returns-in_ok-tree-in-Some
+expressions::cast-returns-in_ok-tree-in-Some t c = rw c.in_ok-tree-in-Some.ensures (reads_cast (map shown c.args.words.now) (cast_start (map shown c.args.words.now) c.in-Some.ensures (itis c.begins_specifiers.result c.if-not-begins_specifiers.false c.begins_specifiers.ensures)) c.in_ok-name-in-Some.ensures c.in_ok-operand-in-Some.ensures)
 
-pub expression::unary-returns-in_err-operand : goal.expression::unary-returns-in_err-operand
-expression::unary-returns-in_err-operand t c = let p = err_from_is_err_and c.from_residual.result c.from_residual.ensures.1 in rw (p.1, p.2) (stopped (map shown c.args.words.now) (λ n h. last_refused h (step_start (map shown c.args.words.now) c.in-Some.ensures)) _ c.in_err-operand.ensures)
+pub expressions::unary-returns-in_err-operand : goal.expressions::unary-returns-in_err-operand
+expressions::unary-returns-in_err-operand t c = let p = err_from_is_err_and c.from_residual.result c.from_residual.ensures.1 in rw (p.1, p.2) (stopped (map shown c.args.words.now) (λ n h. last_refused h (step_start (map shown c.args.words.now) c.in-Some.ensures)) _ c.in_err-operand.ensures)
 
-pub expression::unary-returns-in-Some : goal.expression::unary-returns-in-Some
-expression::unary-returns-in-Some t c = rw c.in_ok-tree.ensures (last c.in_ok-operand.ensures (step_start (map shown c.args.words.now) c.in-Some.ensures))
+pub expressions::unary-returns-in-Some : goal.expressions::unary-returns-in-Some
+expressions::unary-returns-in-Some t c = rw c.in_ok-tree.ensures (last c.in_ok-operand.ensures (step_start (map shown c.args.words.now) c.in-Some.ensures))
 
-pub expression::unary-returns-in_err-operand-2 : goal.expression::unary-returns-in_err-operand-2
-expression::unary-returns-in_err-operand-2 t c = let p = err_from_is_err_and c.from_residual-in_err-operand-2.result c.from_residual-in_err-operand-2.ensures.1 in rw (p.1, p.2) (stopped (map shown c.args.words.now) (λ n h. last_refused h (prefix_start (map shown c.args.words.now) c.in-Some-prefix_at.ensures)) _ c.in_err-operand-2.ensures)
+pub expressions::unary-returns-in_err-operand-2 : goal.expressions::unary-returns-in_err-operand-2
+expressions::unary-returns-in_err-operand-2 t c = let p = err_from_is_err_and c.from_residual-in_err-operand-2.result c.from_residual-in_err-operand-2.ensures.1 in rw (p.1, p.2) (stopped (map shown c.args.words.now) (λ n h. last_refused h (prefix_start (map shown c.args.words.now) c.in-Some-prefix_at.ensures)) _ c.in_err-operand-2.ensures)
 
-pub expression::unary-returns-in-Some-prefix_at : goal.expression::unary-returns-in-Some-prefix_at
-expression::unary-returns-in-Some-prefix_at t c = rw c.in_ok-tree-2.ensures (last c.in_ok-operand-2.ensures (prefix_start (map shown c.args.words.now) c.in-Some-prefix_at.ensures))
+pub expressions::unary-returns-in-Some-prefix_at : goal.expressions::unary-returns-in-Some-prefix_at
+expressions::unary-returns-in-Some-prefix_at t c = rw c.in_ok-tree-2.ensures (last c.in_ok-operand-2.ensures (prefix_start (map shown c.args.words.now) c.in-Some-prefix_at.ensures))
 
-pub expression::unary-returns-in-None : goal.expression::unary-returns-in-None
-expression::unary-returns-in-None t c = as_postfix tree_of (names_of c.args.names.now) (map shown c.args.words.now) c.args.at c.in_default.ensures c.in_default-prefix_at.ensures c.in-None.ensures c.postfix.result c.postfix.ensures
+pub expressions::unary-returns-in-None : goal.expressions::unary-returns-in-None
+expressions::unary-returns-in-None t c = as_postfix tree_of (names_of c.args.names.now) (map shown c.args.words.now) c.args.at c.in_default.ensures c.in_default-prefix_at.ensures c.in-None.ensures c.postfix.result c.postfix.ensures
 
-pub expression::unary-returns-in-Some-after_keyword : goal.expression::unary-returns-in-Some-after_keyword
-expression::unary-returns-in-Some-after_keyword t c = handed tree_of (map shown c.args.words.now) (sizeof_start (map shown c.args.words.now) c.in-Some-after_keyword.ensures) c.sized.result c.sized.ensures
+pub expressions::unary-returns-in-Some-after_keyword : goal.expressions::unary-returns-in-Some-after_keyword
+expressions::unary-returns-in-Some-after_keyword t c = handed tree_of (map shown c.args.words.now) (sizeof_start (map shown c.args.words.now) c.in-Some-after_keyword.ensures) c.sized.result c.sized.ensures
 
-pub expression::sized-returns-in-None : goal.expression::sized-returns-in-None
-expression::sized-returns-in-None t c = sized_other tree_of (names_of c.args.names.now) (map shown c.args.words.now) c.args.behind c.args.at c.in-None.ensures c.sized_operand.result c.sized_operand.ensures
+pub expressions::sized-returns-in-None : goal.expressions::sized-returns-in-None
+expressions::sized-returns-in-None t c = sized_other tree_of (names_of c.args.names.now) (map shown c.args.words.now) c.args.behind c.args.at c.in-None.ensures c.sized_operand.result c.sized_operand.ensures
 
-pub expression::sized-returns-then-not-begins_specifiers : goal.expression::sized-returns-then-not-begins_specifiers
-expression::sized-returns-then-not-begins_specifiers t c = sized_untyped tree_of (names_of c.args.names.now) (map shown c.args.words.now) c.args.behind c.args.at c.in-Some.ensures (isnt c.begins_specifiers.result c.if-not-begins_specifiers.true c.begins_specifiers.ensures) c.sized_operand-then-not-begins_specifiers.result c.sized_operand-then-not-begins_specifiers.ensures
+pub expressions::sized-returns-then-not-begins_specifiers : goal.expressions::sized-returns-then-not-begins_specifiers
+expressions::sized-returns-then-not-begins_specifiers t c = sized_untyped tree_of (names_of c.args.names.now) (map shown c.args.words.now) c.args.behind c.args.at c.in-Some.ensures (isnt c.begins_specifiers.result c.if-not-begins_specifiers.true c.begins_specifiers.ensures) c.sized_operand-then-not-begins_specifiers.result c.sized_operand-then-not-begins_specifiers.ensures
 
-pub expression::sized-returns-in_err-name-in-Some : goal.expression::sized-returns-in_err-name-in-Some
-expression::sized-returns-in_err-name-in-Some t c = let p = err_from_is_err_and c.from_residual.result c.from_residual.ensures.1 in rw (p.1, p.2) (stopped (map shown c.args.words.now) (λ n h. refuses_sized (map shown c.args.words.now) (sized_start (map shown c.args.words.now) c.in-Some.ensures (itis c.begins_specifiers.result c.if-not-begins_specifiers.false c.begins_specifiers.ensures)) h) _ c.in_err-name-in-Some.ensures)
+pub expressions::sized-returns-in_err-name-in-Some : goal.expressions::sized-returns-in_err-name-in-Some
+expressions::sized-returns-in_err-name-in-Some t c = let p = err_from_is_err_and c.from_residual.result c.from_residual.ensures.1 in rw (p.1, p.2) (stopped (map shown c.args.words.now) (λ n h. refuses_sized (map shown c.args.words.now) (sized_start (map shown c.args.words.now) c.in-Some.ensures (itis c.begins_specifiers.result c.if-not-begins_specifiers.false c.begins_specifiers.ensures)) h) _ c.in_err-name-in-Some.ensures)
 
-pub expression::sized-returns-in_ok-tree-in-Some : goal.expression::sized-returns-in_ok-tree-in-Some
-expression::sized-returns-in_ok-tree-in-Some t c = rw c.in_ok-tree-in-Some.ensures (reads_sized (map shown c.args.words.now) (sized_start (map shown c.args.words.now) c.in-Some.ensures (itis c.begins_specifiers.result c.if-not-begins_specifiers.false c.begins_specifiers.ensures)) c.in_ok-name-in-Some.ensures)
+pub expressions::sized-returns-in_ok-tree-in-Some : goal.expressions::sized-returns-in_ok-tree-in-Some
+expressions::sized-returns-in_ok-tree-in-Some t c = rw c.in_ok-tree-in-Some.ensures (reads_sized (map shown c.args.words.now) (sized_start (map shown c.args.words.now) c.in-Some.ensures (itis c.begins_specifiers.result c.if-not-begins_specifiers.false c.begins_specifiers.ensures)) c.in_ok-name-in-Some.ensures)
 
-pub expression::sized_operand-returns-in_err-operand : goal.expression::sized_operand-returns-in_err-operand
-expression::sized_operand-returns-in_err-operand t c = let p = err_from_is_err_and c.from_residual.result c.from_residual.ensures.1 in rw (p.1, p.2) (stopped (map shown c.args.words.now) (λ n h. refuses_made (map shown c.args.words.now) h) _ c.in_err-operand.ensures)
+pub expressions::sized_operand-returns-in_err-operand : goal.expressions::sized_operand-returns-in_err-operand
+expressions::sized_operand-returns-in_err-operand t c = let p = err_from_is_err_and c.from_residual.result c.from_residual.ensures.1 in rw (p.1, p.2) (stopped (map shown c.args.words.now) (λ n h. refuses_made (map shown c.args.words.now) h) _ c.in_err-operand.ensures)
 
-pub expression::sized_operand-returns : goal.expression::sized_operand-returns
-expression::sized_operand-returns t c = rw c.in_ok-tree.ensures (reads_made (map shown c.args.words.now) c.in_ok-operand.ensures)
+pub expressions::sized_operand-returns : goal.expressions::sized_operand-returns
+expressions::sized_operand-returns t c = rw c.in_ok-tree.ensures (reads_made (map shown c.args.words.now) c.in_ok-operand.ensures)
 
 pub postfix::postfix-returns-in_err-tree : goal.postfix::postfix-returns-in_err-tree
 postfix::postfix-returns-in_err-tree t c = let p = err_from_is_err_and c.from_residual.result c.from_residual.ensures.1 in rw (p.1, p.2) (stopped (map shown c.args.words.now) (λ n h. refuses_primary (map shown c.args.words.now) h) _ c.in_err-tree.ensures)
@@ -411,77 +411,77 @@ enumerator::enumerator-returns-in_err-value-in-Some t c = let p = err_from_is_er
 pub enumerator::enumerator-returns-in_ok-tree-in-Some : goal.enumerator::enumerator-returns-in_ok-tree-in-Some
 enumerator::enumerator-returns-in_ok-tree-in-Some t c = rw c.in_ok-tree-in-Some.ensures (last c.in_ok-value-in-Some.ensures (value_start (map shown c.args.words.now) c.in-Some.ensures (enumerator_named (map shown c.args.words.now) (names_of c.args.names.now) c.in_ok-name.ensures)))
 
-pub declarator::maybe_declarator-returns-then-not-declarator_ahead : goal.declarator::maybe_declarator-returns-then-not-declarator_ahead
-declarator::maybe_declarator-returns-then-not-declarator_ahead t c = reads_no_declarator (map shown c.args.words.now) (names_of c.args.names.now) c.args.form c.args.at (isnt_so c.declarator_ahead.ensures c.if-not-declarator_ahead.true)
+pub declarators::maybe_declarator-returns-then-not-declarator_ahead : goal.declarators::maybe_declarator-returns-then-not-declarator_ahead
+declarators::maybe_declarator-returns-then-not-declarator_ahead t c = reads_no_declarator (map shown c.args.words.now) (names_of c.args.names.now) c.args.form c.args.at (isnt_so c.declarator_ahead.ensures c.if-not-declarator_ahead.true)
 
-pub declarator::maybe_declarator-returns-in_err-tree : goal.declarator::maybe_declarator-returns-in_err-tree
-declarator::maybe_declarator-returns-in_err-tree t c = let p = err_from_is_err_and c.from_residual.result c.from_residual.ensures.1 in rw (p.1, p.2) (stopped (map shown c.args.words.now) (λ n h. last_refused h (declarator_ahead (map shown c.args.words.now) (names_of c.args.names.now) c.args.form c.args.at (c.declarator_ahead.ensures.0 c.if-not-declarator_ahead.false))) _ c.in_err-tree.ensures)
+pub declarators::maybe_declarator-returns-in_err-tree : goal.declarators::maybe_declarator-returns-in_err-tree
+declarators::maybe_declarator-returns-in_err-tree t c = let p = err_from_is_err_and c.from_residual.result c.from_residual.ensures.1 in rw (p.1, p.2) (stopped (map shown c.args.words.now) (λ n h. last_refused h (declarator_ahead (map shown c.args.words.now) (names_of c.args.names.now) c.args.form c.args.at (c.declarator_ahead.ensures.0 c.if-not-declarator_ahead.false))) _ c.in_err-tree.ensures)
 
-pub declarator::maybe_declarator-returns : goal.declarator::maybe_declarator-returns
-declarator::maybe_declarator-returns t c = last c.in_ok-tree.ensures (declarator_ahead (map shown c.args.words.now) (names_of c.args.names.now) c.args.form c.args.at (c.declarator_ahead.ensures.0 c.if-not-declarator_ahead.false))
+pub declarators::maybe_declarator-returns : goal.declarators::maybe_declarator-returns
+declarators::maybe_declarator-returns t c = last c.in_ok-tree.ensures (declarator_ahead (map shown c.args.words.now) (names_of c.args.names.now) c.args.form c.args.at (c.declarator_ahead.ensures.0 c.if-not-declarator_ahead.false))
 
-pub declarator::declarator-returns-in_err-stars : goal.declarator::declarator-returns-in_err-stars
-declarator::declarator-returns-in_err-stars t c = let p = err_from_is_err_and c.from_residual.result c.from_residual.ensures.1 in rw (p.1, p.2) (stopped (map shown c.args.words.now) (λ n h. refuses_stars (map shown c.args.words.now) (names_of c.args.names.now) c.args.form h) _ c.in_err-stars.ensures)
+pub declarators::declarator-returns-in_err-stars : goal.declarators::declarator-returns-in_err-stars
+declarators::declarator-returns-in_err-stars t c = let p = err_from_is_err_and c.from_residual.result c.from_residual.ensures.1 in rw (p.1, p.2) (stopped (map shown c.args.words.now) (λ n h. refuses_stars (map shown c.args.words.now) (names_of c.args.names.now) c.args.form h) _ c.in_err-stars.ensures)
 
-pub declarator::declarator-returns-in_err-name : goal.declarator::declarator-returns-in_err-name
-declarator::declarator-returns-in_err-name t c = let p = err_from_is_err_and c.from_residual-in_err-name.result c.from_residual-in_err-name.ensures.1 in rw (p.1, p.2) (core_stops (map shown c.args.words.now) c.unstarred.result (ap (λ z. tree.unstarred (map (λ star. star.consts) z)) (sym c.deref.ensures.value) ∙ sym c.unstarred.ensures) (after_stars (map shown c.args.words.now) (names_of c.args.names.now) c.args.form c.in_ok-stars.ensures) _ c.in_err-name.ensures)
+pub declarators::declarator-returns-in_err-name : goal.declarators::declarator-returns-in_err-name
+declarators::declarator-returns-in_err-name t c = let p = err_from_is_err_and c.from_residual-in_err-name.result c.from_residual-in_err-name.ensures.1 in rw (p.1, p.2) (core_stops (map shown c.args.words.now) c.unstarred.result (ap (λ z. tree.unstarred (map (λ star. star.consts) z)) (sym c.deref.ensures.value) ∙ sym c.unstarred.ensures) (after_stars (map shown c.args.words.now) (names_of c.args.names.now) c.args.form c.in_ok-stars.ensures) _ c.in_err-name.ensures)
 
-pub declarator::declarator-returns-in_err-suffixes-in-Name : goal.declarator::declarator-returns-in_err-suffixes-in-Name
-declarator::declarator-returns-in_err-suffixes-in-Name t c = let p = err_from_is_err_and c.from_residual-in_err-suffixes-in-Name.result c.from_residual-in_err-suffixes-in-Name.ensures.1 in rw (p.1, p.2) (stopped (map shown c.args.words.now) (λ n h. last_refused h (named_core (map shown c.args.words.now) (is_name (names_of c.args.names.now) c.unstarred.result c.in-Name.is c.in_ok-name.ensures).0 (is_name (names_of c.args.names.now) c.unstarred.result c.in-Name.is c.in_ok-name.ensures).1 (after_stars (map shown c.args.words.now) (names_of c.args.names.now) c.args.form c.in_ok-stars.ensures))) _ c.in_err-suffixes-in-Name.ensures)
+pub declarators::declarator-returns-in_err-suffixes-in-Name : goal.declarators::declarator-returns-in_err-suffixes-in-Name
+declarators::declarator-returns-in_err-suffixes-in-Name t c = let p = err_from_is_err_and c.from_residual-in_err-suffixes-in-Name.result c.from_residual-in_err-suffixes-in-Name.ensures.1 in rw (p.1, p.2) (stopped (map shown c.args.words.now) (λ n h. last_refused h (named_core (map shown c.args.words.now) (is_name (names_of c.args.names.now) c.unstarred.result c.in-Name.is c.in_ok-name.ensures).0 (is_name (names_of c.args.names.now) c.unstarred.result c.in-Name.is c.in_ok-name.ensures).1 (after_stars (map shown c.args.words.now) (names_of c.args.names.now) c.args.form c.in_ok-stars.ensures))) _ c.in_err-suffixes-in-Name.ensures)
 
-pub declarator::declarator-returns-in_ok-tree-in-Name : goal.declarator::declarator-returns-in_ok-tree-in-Name
-declarator::declarator-returns-in_ok-tree-in-Name t c = rw c.in_ok-tree-in-Name.ensures (last c.in_ok-suffixes-in-Name.ensures (named_core (map shown c.args.words.now) (is_name (names_of c.args.names.now) c.unstarred.result c.in-Name.is c.in_ok-name.ensures).0 (is_name (names_of c.args.names.now) c.unstarred.result c.in-Name.is c.in_ok-name.ensures).1 (after_stars (map shown c.args.words.now) (names_of c.args.names.now) c.args.form c.in_ok-stars.ensures)))
+pub declarators::declarator-returns-in_ok-tree-in-Name : goal.declarators::declarator-returns-in_ok-tree-in-Name
+declarators::declarator-returns-in_ok-tree-in-Name t c = rw c.in_ok-tree-in-Name.ensures (last c.in_ok-suffixes-in-Name.ensures (named_core (map shown c.args.words.now) (is_name (names_of c.args.names.now) c.unstarred.result c.in-Name.is c.in_ok-name.ensures).0 (is_name (names_of c.args.names.now) c.unstarred.result c.in-Name.is c.in_ok-name.ensures).1 (after_stars (map shown c.args.words.now) (names_of c.args.names.now) c.args.form c.in_ok-stars.ensures)))
 
-pub declarator::declarator-returns-in_err-core-in-Inner : goal.declarator::declarator-returns-in_err-core-in-Inner
-declarator::declarator-returns-in_err-core-in-Inner t c = let p = err_from_is_err_and c.from_residual-in_err-core-in-Inner.result c.from_residual-in_err-core-in-Inner.ensures.1 in rw (p.1, p.2) (stopped (map shown c.args.words.now) (λ n h. refuses_inner (map shown c.args.words.now) c.args.form c.in-Inner.inner (inner_core (map shown c.args.words.now) (is_inner (names_of c.args.names.now) c.unstarred.result c.in-Inner.is c.in_ok-name.ensures).0 (is_inner (names_of c.args.names.now) c.unstarred.result c.in-Inner.is c.in_ok-name.ensures).1 (after_stars (map shown c.args.words.now) (names_of c.args.names.now) c.args.form c.in_ok-stars.ensures)) h) _ c.in_err-core-in-Inner.ensures)
+pub declarators::declarator-returns-in_err-core-in-Inner : goal.declarators::declarator-returns-in_err-core-in-Inner
+declarators::declarator-returns-in_err-core-in-Inner t c = let p = err_from_is_err_and c.from_residual-in_err-core-in-Inner.result c.from_residual-in_err-core-in-Inner.ensures.1 in rw (p.1, p.2) (stopped (map shown c.args.words.now) (λ n h. refuses_inner (map shown c.args.words.now) c.args.form c.in-Inner.inner (inner_core (map shown c.args.words.now) (is_inner (names_of c.args.names.now) c.unstarred.result c.in-Inner.is c.in_ok-name.ensures).0 (is_inner (names_of c.args.names.now) c.unstarred.result c.in-Inner.is c.in_ok-name.ensures).1 (after_stars (map shown c.args.words.now) (names_of c.args.names.now) c.args.form c.in_ok-stars.ensures)) h) _ c.in_err-core-in-Inner.ensures)
 
-pub declarator::declarator-returns-in_err-behind-in-Inner : goal.declarator::declarator-returns-in_err-behind-in-Inner
-declarator::declarator-returns-in_err-behind-in-Inner t c = let p = err_from_is_err_and c.from_residual-in_err-behind-in-Inner.result c.from_residual-in_err-behind-in-Inner.ensures.1 in rw (p.1, p.2, c.in_err-behind-in-Inner.ensures.0) (misses_inner_end (map shown c.args.words.now) c.args.form c.in-Inner.inner (inner_core (map shown c.args.words.now) (is_inner (names_of c.args.names.now) c.unstarred.result c.in-Inner.is c.in_ok-name.ensures).0 (is_inner (names_of c.args.names.now) c.unstarred.result c.in-Inner.is c.in_ok-name.ensures).1 (after_stars (map shown c.args.words.now) (names_of c.args.names.now) c.args.form c.in_ok-stars.ensures)) c.in_ok-core-in-Inner.ensures c.in_err-behind-in-Inner.ensures.1)
+pub declarators::declarator-returns-in_err-behind-in-Inner : goal.declarators::declarator-returns-in_err-behind-in-Inner
+declarators::declarator-returns-in_err-behind-in-Inner t c = let p = err_from_is_err_and c.from_residual-in_err-behind-in-Inner.result c.from_residual-in_err-behind-in-Inner.ensures.1 in rw (p.1, p.2, c.in_err-behind-in-Inner.ensures.0) (misses_inner_end (map shown c.args.words.now) c.args.form c.in-Inner.inner (inner_core (map shown c.args.words.now) (is_inner (names_of c.args.names.now) c.unstarred.result c.in-Inner.is c.in_ok-name.ensures).0 (is_inner (names_of c.args.names.now) c.unstarred.result c.in-Inner.is c.in_ok-name.ensures).1 (after_stars (map shown c.args.words.now) (names_of c.args.names.now) c.args.form c.in_ok-stars.ensures)) c.in_ok-core-in-Inner.ensures c.in_err-behind-in-Inner.ensures.1)
 
-pub declarator::declarator-returns-in_err-suffixes-in-Inner : goal.declarator::declarator-returns-in_err-suffixes-in-Inner
-declarator::declarator-returns-in_err-suffixes-in-Inner t c = let p = err_from_is_err_and c.from_residual-in_err-suffixes-in-Inner.result c.from_residual-in_err-suffixes-in-Inner.ensures.1 in rw (p.1, p.2) (stopped (map shown c.args.words.now) (λ n h. last_refused h (inner_suffixes (map shown c.args.words.now) c.args.form c.in-Inner.inner (inner_core (map shown c.args.words.now) (is_inner (names_of c.args.names.now) c.unstarred.result c.in-Inner.is c.in_ok-name.ensures).0 (is_inner (names_of c.args.names.now) c.unstarred.result c.in-Inner.is c.in_ok-name.ensures).1 (after_stars (map shown c.args.words.now) (names_of c.args.names.now) c.args.form c.in_ok-stars.ensures)) c.in_ok-core-in-Inner.ensures c.in_ok-behind-in-Inner.ensures)) _ c.in_err-suffixes-in-Inner.ensures)
+pub declarators::declarator-returns-in_err-suffixes-in-Inner : goal.declarators::declarator-returns-in_err-suffixes-in-Inner
+declarators::declarator-returns-in_err-suffixes-in-Inner t c = let p = err_from_is_err_and c.from_residual-in_err-suffixes-in-Inner.result c.from_residual-in_err-suffixes-in-Inner.ensures.1 in rw (p.1, p.2) (stopped (map shown c.args.words.now) (λ n h. last_refused h (inner_suffixes (map shown c.args.words.now) c.args.form c.in-Inner.inner (inner_core (map shown c.args.words.now) (is_inner (names_of c.args.names.now) c.unstarred.result c.in-Inner.is c.in_ok-name.ensures).0 (is_inner (names_of c.args.names.now) c.unstarred.result c.in-Inner.is c.in_ok-name.ensures).1 (after_stars (map shown c.args.words.now) (names_of c.args.names.now) c.args.form c.in_ok-stars.ensures)) c.in_ok-core-in-Inner.ensures c.in_ok-behind-in-Inner.ensures)) _ c.in_err-suffixes-in-Inner.ensures)
 
-pub declarator::declarator-returns-in_ok-tree-in-Inner : goal.declarator::declarator-returns-in_ok-tree-in-Inner
-declarator::declarator-returns-in_ok-tree-in-Inner t c = rw c.in_ok-tree-in-Inner.ensures (last c.in_ok-suffixes-in-Inner.ensures (inner_suffixes (map shown c.args.words.now) c.args.form c.in-Inner.inner (inner_core (map shown c.args.words.now) (is_inner (names_of c.args.names.now) c.unstarred.result c.in-Inner.is c.in_ok-name.ensures).0 (is_inner (names_of c.args.names.now) c.unstarred.result c.in-Inner.is c.in_ok-name.ensures).1 (after_stars (map shown c.args.words.now) (names_of c.args.names.now) c.args.form c.in_ok-stars.ensures)) c.in_ok-core-in-Inner.ensures c.in_ok-behind-in-Inner.ensures))
+pub declarators::declarator-returns-in_ok-tree-in-Inner : goal.declarators::declarator-returns-in_ok-tree-in-Inner
+declarators::declarator-returns-in_ok-tree-in-Inner t c = rw c.in_ok-tree-in-Inner.ensures (last c.in_ok-suffixes-in-Inner.ensures (inner_suffixes (map shown c.args.words.now) c.args.form c.in-Inner.inner (inner_core (map shown c.args.words.now) (is_inner (names_of c.args.names.now) c.unstarred.result c.in-Inner.is c.in_ok-name.ensures).0 (is_inner (names_of c.args.names.now) c.unstarred.result c.in-Inner.is c.in_ok-name.ensures).1 (after_stars (map shown c.args.words.now) (names_of c.args.names.now) c.args.form c.in_ok-stars.ensures)) c.in_ok-core-in-Inner.ensures c.in_ok-behind-in-Inner.ensures))
 
-pub declarator::declarator-returns-in_err-suffixes-in-Nothing : goal.declarator::declarator-returns-in_err-suffixes-in-Nothing
-declarator::declarator-returns-in_err-suffixes-in-Nothing t c = let p = err_from_is_err_and c.from_residual-in_err-suffixes-in-Nothing.result c.from_residual-in_err-suffixes-in-Nothing.ensures.1 in rw (p.1, p.2) (stopped (map shown c.args.words.now) (λ n h. last_refused h (nameless_core (map shown c.args.words.now) (is_nothing c.in-Nothing.is (ap (λ z. tree.unstarred (map (λ star. star.consts) z)) (sym c.deref.ensures.value) ∙ sym c.unstarred.ensures) c.in_ok-name.ensures) (after_stars (map shown c.args.words.now) (names_of c.args.names.now) c.args.form c.in_ok-stars.ensures))) _ c.in_err-suffixes-in-Nothing.ensures)
+pub declarators::declarator-returns-in_err-suffixes-in-Nothing : goal.declarators::declarator-returns-in_err-suffixes-in-Nothing
+declarators::declarator-returns-in_err-suffixes-in-Nothing t c = let p = err_from_is_err_and c.from_residual-in_err-suffixes-in-Nothing.result c.from_residual-in_err-suffixes-in-Nothing.ensures.1 in rw (p.1, p.2) (stopped (map shown c.args.words.now) (λ n h. last_refused h (nameless_core (map shown c.args.words.now) (is_nothing c.in-Nothing.is (ap (λ z. tree.unstarred (map (λ star. star.consts) z)) (sym c.deref.ensures.value) ∙ sym c.unstarred.ensures) c.in_ok-name.ensures) (after_stars (map shown c.args.words.now) (names_of c.args.names.now) c.args.form c.in_ok-stars.ensures))) _ c.in_err-suffixes-in-Nothing.ensures)
 
-pub declarator::declarator-returns-in_ok-suffixes-in-Nothing : goal.declarator::declarator-returns-in_ok-suffixes-in-Nothing
-declarator::declarator-returns-in_ok-suffixes-in-Nothing t c = rw c.nameless.ensures (last c.in_ok-suffixes-in-Nothing.ensures (nameless_core (map shown c.args.words.now) (is_nothing c.in-Nothing.is (ap (λ z. tree.unstarred (map (λ star. star.consts) z)) (sym c.deref.ensures.value) ∙ sym c.unstarred.ensures) c.in_ok-name.ensures) (after_stars (map shown c.args.words.now) (names_of c.args.names.now) c.args.form c.in_ok-stars.ensures)))
+pub declarators::declarator-returns-in_ok-suffixes-in-Nothing : goal.declarators::declarator-returns-in_ok-suffixes-in-Nothing
+declarators::declarator-returns-in_ok-suffixes-in-Nothing t c = rw c.nameless.ensures (last c.in_ok-suffixes-in-Nothing.ensures (nameless_core (map shown c.args.words.now) (is_nothing c.in-Nothing.is (ap (λ z. tree.unstarred (map (λ star. star.consts) z)) (sym c.deref.ensures.value) ∙ sym c.unstarred.ensures) c.in_ok-name.ensures) (after_stars (map shown c.args.words.now) (names_of c.args.names.now) c.args.form c.in_ok-stars.ensures)))
 
-pub declarator::suffixes-loop-alloc-init : goal.declarator::suffixes-loop-alloc-init
-declarator::suffixes-loop-alloc-init t c = (rw c.new-items.ensures.items (suffixes_start (map shown c.args.words.now) (names_of c.args.names.now) c.args.at), omega arith)
+pub declarators::suffixes-loop-alloc-init : goal.declarators::suffixes-loop-alloc-init
+declarators::suffixes-loop-alloc-init t c = (rw c.new-items.ensures.items (suffixes_start (map shown c.args.words.now) (names_of c.args.names.now) c.args.at), omega arith)
 
-pub declarator::suffixes-returns-in_err-item : goal.declarator::suffixes-returns-in_err-item
-declarator::suffixes-returns-in_err-item t c = let p = err_from_is_err_and c.from_residual.result c.from_residual.ensures.1 in rw (p.1, p.2) (stopped (map shown c.args.words.now) (λ n h. refuses_suffix (map shown c.args.words.now) (map suffix_tree c.loop-alloc.items.items) (suffixes_more (map shown c.args.words.now) (map suffix_tree c.loop-alloc.items.items) (c.suffix_ahead.ensures.0 c.loop-alloc-test.true) c.loop-alloc.invariant.0) h) _ c.in_err-item.ensures)
+pub declarators::suffixes-returns-in_err-item : goal.declarators::suffixes-returns-in_err-item
+declarators::suffixes-returns-in_err-item t c = let p = err_from_is_err_and c.from_residual.result c.from_residual.ensures.1 in rw (p.1, p.2) (stopped (map shown c.args.words.now) (λ n h. refuses_suffix (map shown c.args.words.now) (map suffix_tree c.loop-alloc.items.items) (suffixes_more (map shown c.args.words.now) (map suffix_tree c.loop-alloc.items.items) (c.suffix_ahead.ensures.0 c.loop-alloc-test.true) c.loop-alloc.invariant.0) h) _ c.in_err-item.ensures)
 
-pub declarator::suffixes-loop-alloc-smaller : goal.declarator::suffixes-loop-alloc-smaller
-declarator::suffixes-loop-alloc-smaller t c = shorter (map shown c.args.words.now) c.in_ok-item.ensures (suffix_advances c.in_ok-item.ensures)
+pub declarators::suffixes-loop-alloc-smaller : goal.declarators::suffixes-loop-alloc-smaller
+declarators::suffixes-loop-alloc-smaller t c = shorter (map shown c.args.words.now) c.in_ok-item.ensures (suffix_advances c.in_ok-item.ensures)
 
-pub declarator::suffixes-loop-alloc-preserved : goal.declarator::suffixes-loop-alloc-preserved
-declarator::suffixes-loop-alloc-preserved t c = (rw (c.in_ok-push.ensures.items, suffixes_item) (suffixes_next (map shown c.args.words.now) (map suffix_tree c.loop-alloc.items.items) (suffixes_more (map shown c.args.words.now) (map suffix_tree c.loop-alloc.items.items) (c.suffix_ahead.ensures.0 c.loop-alloc-test.true) c.loop-alloc.invariant.0) c.in_ok-item.ensures), omega (arith, c.in_ok-item.ensures.place))
+pub declarators::suffixes-loop-alloc-preserved : goal.declarators::suffixes-loop-alloc-preserved
+declarators::suffixes-loop-alloc-preserved t c = (rw (c.in_ok-push.ensures.items, suffixes_item) (suffixes_next (map shown c.args.words.now) (map suffix_tree c.loop-alloc.items.items) (suffixes_more (map shown c.args.words.now) (map suffix_tree c.loop-alloc.items.items) (c.suffix_ahead.ensures.0 c.loop-alloc-test.true) c.loop-alloc.invariant.0) c.in_ok-item.ensures), omega (arith, c.in_ok-item.ensures.place))
 
-pub declarator::suffixes-returns : goal.declarator::suffixes-returns
-declarator::suffixes-returns t c = suffixes_done (map shown c.args.words.now) (map suffix_tree c.loop-alloc.items.items) (isnt_so c.suffix_ahead.ensures c.loop-alloc-test.false) c.loop-alloc.invariant.0
+pub declarators::suffixes-returns : goal.declarators::suffixes-returns
+declarators::suffixes-returns t c = suffixes_done (map shown c.args.words.now) (map suffix_tree c.loop-alloc.items.items) (isnt_so c.suffix_ahead.ensures c.loop-alloc-test.false) c.loop-alloc.invariant.0
 
-pub declarator::suffix-returns-in_err-first : goal.declarator::suffix-returns-in_err-first
-declarator::suffix-returns-in_err-first t c = let p = err_from_is_err_and c.from_residual.result c.from_residual.ensures.1 in rw (p.1, p.2, c.in_err-first.ensures.0) (no_suffix_here (map shown c.args.words.now) c.in_default.ensures c.in_err-first.ensures.1)
+pub declarators::suffix-returns-in_err-first : goal.declarators::suffix-returns-in_err-first
+declarators::suffix-returns-in_err-first t c = let p = err_from_is_err_and c.from_residual.result c.from_residual.ensures.1 in rw (p.1, p.2, c.in_err-first.ensures.0) (no_suffix_here (map shown c.args.words.now) c.in_default.ensures c.in_err-first.ensures.1)
 
-pub declarator::suffix-returns-in_err-parameters : goal.declarator::suffix-returns-in_err-parameters
-declarator::suffix-returns-in_err-parameters t c = let p = err_from_is_err_and c.from_residual-in_err-parameters.result c.from_residual-in_err-parameters.ensures.1 in rw (p.1, p.2) (stopped (map shown c.args.words.now) (λ n h. refuses_parameters (map shown c.args.words.now) (function_start (map shown c.args.words.now) c.in_ok-first.ensures) h) _ c.in_err-parameters.ensures)
+pub declarators::suffix-returns-in_err-parameters : goal.declarators::suffix-returns-in_err-parameters
+declarators::suffix-returns-in_err-parameters t c = let p = err_from_is_err_and c.from_residual-in_err-parameters.result c.from_residual-in_err-parameters.ensures.1 in rw (p.1, p.2) (stopped (map shown c.args.words.now) (λ n h. refuses_parameters (map shown c.args.words.now) (function_start (map shown c.args.words.now) c.in_ok-first.ensures) h) _ c.in_err-parameters.ensures)
 
-pub declarator::suffix-returns-in_default : goal.declarator::suffix-returns-in_default
-declarator::suffix-returns-in_default t c = rw c.function.ensures (reads_function (map shown c.args.words.now) (function_start (map shown c.args.words.now) c.in_ok-first.ensures) c.in_ok-parameters.ensures)
+pub declarators::suffix-returns-in_default : goal.declarators::suffix-returns-in_default
+declarators::suffix-returns-in_default t c = rw c.function.ensures (reads_function (map shown c.args.words.now) (function_start (map shown c.args.words.now) c.in_ok-first.ensures) c.in_ok-parameters.ensures)
 
-pub declarator::suffix-returns-in-Some-after_mark : goal.declarator::suffix-returns-in-Some-after_mark
-declarator::suffix-returns-in-Some-after_mark t c = rw c.array.ensures (reads_unsized (map shown c.args.words.now) c.in-Some-after_mark.ensures (array_start (map shown c.args.words.now) c.in-Some.ensures))
+pub declarators::suffix-returns-in-Some-after_mark : goal.declarators::suffix-returns-in-Some-after_mark
+declarators::suffix-returns-in-Some-after_mark t c = rw c.array.ensures (reads_unsized (map shown c.args.words.now) c.in-Some-after_mark.ensures (array_start (map shown c.args.words.now) c.in-Some.ensures))
 
-pub declarator::suffix-returns-in_err-length : goal.declarator::suffix-returns-in_err-length
-declarator::suffix-returns-in_err-length t c = let p = err_from_is_err_and c.from_residual-in_err-length.result c.from_residual-in_err-length.ensures.1 in rw (p.1, p.2) (stopped (map shown c.args.words.now) (λ n h. refuses_length (map shown c.args.words.now) (sl.sized_start (map shown c.args.words.now) c.in_default-after_mark.ensures (array_start (map shown c.args.words.now) c.in-Some.ensures)) h) _ c.in_err-length.ensures)
+pub declarators::suffix-returns-in_err-length : goal.declarators::suffix-returns-in_err-length
+declarators::suffix-returns-in_err-length t c = let p = err_from_is_err_and c.from_residual-in_err-length.result c.from_residual-in_err-length.ensures.1 in rw (p.1, p.2) (stopped (map shown c.args.words.now) (λ n h. refuses_length (map shown c.args.words.now) (sl.sized_start (map shown c.args.words.now) c.in_default-after_mark.ensures (array_start (map shown c.args.words.now) c.in-Some.ensures)) h) _ c.in_err-length.ensures)
 
-pub declarator::suffix-returns-in_err-end : goal.declarator::suffix-returns-in_err-end
-declarator::suffix-returns-in_err-end t c = let p = err_from_is_err_and c.from_residual-in_err-end.result c.from_residual-in_err-end.ensures.1 in rw (p.1, p.2, c.in_err-end.ensures.0) (misses_length_end (map shown c.args.words.now) (sl.sized_start (map shown c.args.words.now) c.in_default-after_mark.ensures (array_start (map shown c.args.words.now) c.in-Some.ensures)) c.in_ok-length.ensures c.in_err-end.ensures.1)
+pub declarators::suffix-returns-in_err-end : goal.declarators::suffix-returns-in_err-end
+declarators::suffix-returns-in_err-end t c = let p = err_from_is_err_and c.from_residual-in_err-end.result c.from_residual-in_err-end.ensures.1 in rw (p.1, p.2, c.in_err-end.ensures.0) (misses_length_end (map shown c.args.words.now) (sl.sized_start (map shown c.args.words.now) c.in_default-after_mark.ensures (array_start (map shown c.args.words.now) c.in-Some.ensures)) c.in_ok-length.ensures c.in_err-end.ensures.1)
 
-pub declarator::suffix-returns : goal.declarator::suffix-returns
-declarator::suffix-returns t c = rw c.in_ok-tree.ensures (reads_sized_array (map shown c.args.words.now) (sl.sized_start (map shown c.args.words.now) c.in_default-after_mark.ensures (array_start (map shown c.args.words.now) c.in-Some.ensures)) c.in_ok-length.ensures c.in_ok-end.ensures)
+pub declarators::suffix-returns : goal.declarators::suffix-returns
+declarators::suffix-returns t c = rw c.in_ok-tree.ensures (reads_sized_array (map shown c.args.words.now) (sl.sized_start (map shown c.args.words.now) c.in_default-after_mark.ensures (array_start (map shown c.args.words.now) c.in-Some.ensures)) c.in_ok-length.ensures c.in_ok-end.ensures)

@@ -6,7 +6,7 @@ use Rattle.im_parse_core.proofs.Steps.{last, last_refused}
 use Rattle.im_parse.specs.Parsing.{names_of}
 use Rattle.im_parse.proofs.Exits.{stopped}
 use Rattle.im_parse.proofs.DeclarationLines.{init_start, reads_uninitialized}
-use Rattle.im_parse.proofs.declaration.maybe_initializer.Goals as goal
+use Rattle.im_parse.proofs.declarations.maybe_initializer.Goals as goal
 
 pub returns-in-None : goal.returns-in-None
 returns-in-None c = reads_uninitialized (map shown c.args.words.now) (names_of c.args.names.now) c.in-None.ensures

@@ -7,7 +7,7 @@ use Rattle.im_parse.specs.Parsing.{names_of}
 use Rattle.im_parse.proofs.Exits.{stopped}
 use Rattle.im_parse.proofs.DeclaringRows.{inits_before}
 use Rattle.im_parse.proofs.DeclarationLines.{declaration_start, declared_inits, refuses_declaration, reads_nothing}
-use Rattle.im_parse.proofs.declaration.declaration.Goals as goal
+use Rattle.im_parse.proofs.declarations.declaration.Goals as goal
 
 pub returns-in_err-specifiers : goal.returns-in_err-specifiers
 returns-in_err-specifiers c = let p = err_from_is_err_and c.from_residual.result c.from_residual.ensures.1 in rw (p.1, p.2) (stopped (map shown c.args.words.now) (λ n h. refuses_declaration (map shown c.args.words.now) (declaration_start (map shown c.args.words.now) (names_of c.args.names.now) c.args.at) h) _ c.in_err-specifiers.ensures.parses)

@@ -6,7 +6,7 @@ ghost use Rattle.im_ctree.specs.Units.{IsInitializer};
 ghost use Rattle.im_parse.specs.Parsing.{Parses, Below, Anything, Closed, names_of};
 ghost use Rattle.im_parse.specs.Initializing.{IsInitializers, initializers_tree};
 
-use super::expression::assignment;
+use super::expressions::assignment;
 use super::look::expect_mark;
 use super::make;
 use im_ctree::Initializer;

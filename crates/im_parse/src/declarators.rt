@@ -8,7 +8,7 @@ ghost use Rattle.im_parse.specs.Declaring.{IsForm, IsMaybeForm, IsSuffix, AfterD
 use super::ahead::{declarator_ahead, suffix_ahead};
 use super::around::{around, unstarred};
 use super::core_start::{CoreStart, core_at};
-use super::expression::conditional;
+use super::expressions::conditional;
 use super::form::Form;
 use super::look::expect_mark;
 use super::make;

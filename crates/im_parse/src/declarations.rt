@@ -1,18 +1,18 @@
 ghost use Rattle.std.specs.Prelude.{◌<◌, ◌^◌, length, map};
 ghost use Rattle.im_tok.specs.declared.punctuator.Punctuator.TheVariants.{Semicolon};
 ghost use Rattle.im_word.specs.Shown.{shown};
-ghost use Rattle.im_ctree.specs.Shape.{declaration_of};
+ghost use Rattle.im_ctree.specs.Shape.{declaration_of, declarator_of};
 ghost use Rattle.im_ctree.specs.Units.{IsDeclaration, IsInitDeclarators, IsMaybeInitializer};
 ghost use Rattle.im_parse.specs.Parsing.{Parses, Below, Anything, Closed, names_of};
 ghost use Rattle.im_parse.specs.Declaring.{AfterParameter};
-ghost use Rattle.im_parse.specs.Initializing.{IsInitDeclarator, init_declarator_tree, init_declarators_tree, maybe_initializer_tree};
+ghost use Rattle.im_parse.specs.Initializing.{InitsBehind, IsInitDeclarator, init_declarator_tree, init_declarators_tree, maybe_initializer_tree};
 
-use super::declarator::declarator;
+use super::declarators::declarator;
 use super::form::Form;
-use super::initializer::initializer;
+use super::initializers::initializer;
 use super::look::expect_mark;
 use super::specifier::specifiers;
-use im_ctree::{Declaration, InitDeclarator, Initializer};
+use im_ctree::{Declaration, Declarator, InitDeclarator, Initializer};
 use im_parse_core::{Stop, after_mark};
 use im_tok::Punctuator;
 use im_word::Word;
@@ -50,6 +50,29 @@ pub fn closed_init_declarators(
     let mut items = Vec::new(alloc);
     let (first, mut next) = init_declarator(alloc, words, names, at)?;
     items.push(first)?;
+    while let Some(behind) = after_mark(words, next, Punctuator::Comma) {
+        let (item, end) = init_declarator(alloc, words, names, behind)?;
+        items.push(item)?;
+        next = end;
+    }
+    let end = expect_mark(words, next, Punctuator::Semicolon)?;
+    Ok((items, end))
+}
+
+/// What stands behind the first declarator of a declaration, to the semicolon (C11 6.7), and the place behind it.
+pub fn closed_inits_behind(
+    alloc: Global,
+    words: &[Word],
+    names: &[&[u8]],
+    first: Declarator,
+    at: u32,
+) -> Result<(Vec<InitDeclarator>, u32), Stop>
+    requires { length words.now < 2 ^ 32 }
+    ensures { Parses init_declarators_tree (Closed Semicolon (InitsBehind (names_of names.now) (declarator_of first))) Anything (map shown words.now) at result }
+{
+    let mut items = Vec::new(alloc);
+    let (initializer, mut next) = maybe_initializer(alloc, words, names, at)?;
+    items.push(InitDeclarator { declarator: first, initializer })?;
     while let Some(behind) = after_mark(words, next, Punctuator::Comma) {
         let (item, end) = init_declarator(alloc, words, names, behind)?;
         items.push(item)?;

@@ -6,7 +6,7 @@ use Rattle.im_parse_core.proofs.Steps.{last, last_refused}
 use Rattle.im_parse.specs.Parsing.{names_of}
 use Rattle.im_parse.proofs.Exits.{stopped}
 use Rattle.im_parse.proofs.DeclarationLines.{pair_start, its_initializer, refuses_its_declarator}
-use Rattle.im_parse.proofs.declaration.init_declarator.Goals as goal
+use Rattle.im_parse.proofs.declarations.init_declarator.Goals as goal
 
 pub returns-in_err-declarator : goal.returns-in_err-declarator
 returns-in_err-declarator c = let p = err_from_is_err_and c.from_residual.result c.from_residual.ensures.1 in rw (p.1, p.2) (stopped (map shown c.args.words.now) (λ n h. refuses_its_declarator (map shown c.args.words.now) (pair_start (map shown c.args.words.now) (names_of c.args.names.now) c.args.at) h) _ c.in_err-declarator.ensures)
