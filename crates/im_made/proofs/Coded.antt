@@ -1,21 +1,19 @@
 -- What the body puts for an expression is what the relation asks.
-use Rattle.std.proofs.Common.{◌≡◌, ℕ, suc, ◌+◌, ◌≤◌, Bool, true, false, List, [], ◌∷◌, length, refl, ap, sym, ◌∙◌, subst, add-one, arith}
+use Rattle.std.proofs.Common.{◌≡◌, ℕ, suc, ◌+◌, ◌≤◌, true, false, List, [], ◌∷◌, length, refl, ap, ◌∙◌, subst, add-one, arith}
 use Rattle.std.specs.Prelude.{pos, ℤ}
 use Rattle.im_num.specs.declared.kind.Kind.TheVariants.{Ptr}
 use Rattle.im_ctype.specs.declared.cell.Cell.{Cell}
-use Rattle.im_typed.specs.declared.expression.Change.{Change}
 use Rattle.im_typed.specs.declared.expression.Change.TheVariants.{Number as NumberBy, Move as PointerBy}
 use Rattle.im_typed.specs.Program as p
-use Rattle.im_typed.specs.Values.{changed_kind}
 use Rattle.im_block.specs.declared.code.Place.{Place}
 use Rattle.im_block.specs.declared.code.Place.TheVariants.{Through}
 use Rattle.im_block.specs.declared.code.Line.{Line}
-use Rattle.im_block.specs.declared.code.Line.TheVariants.{Put, PutNull, Convert, Unary, Not, Compute, Compare, Move, Distance, Address, Read, Write, Call, GetChar, PutChar}
+use Rattle.im_block.specs.declared.code.Line.TheVariants.{Put, Convert, Unary, Not, Compute, Compare, Move, Distance, Address, Read, Write, Call, PutChar}
 use Rattle.im_block.specs.declared.code.Exit.TheVariants.{Jump, Branch}
 use Rattle.im_block.specs.declared.code.Block.{Block}
 use Rattle.im_lower.specs.Codes.{Point, before, ends, Begins, further_in, above, where_of, reads_of, writes_of, count_of, Codes, CodesPlace, CodesArguments}
 use Rattle.im_made.specs.Made.{Made, put, put_read, put_write, close, start}
-use Rattle.im_made.specs.Make.{place_at, behind, put_load, put_reads, put_writes, put_copy, put_change, put_increment, part_offset, known_made, put_known, make_place, make, make_arguments}
+use Rattle.im_made.specs.Make.{place_at, behind, put_reads, put_writes, put_change, put_increment, part_offset, known_made, put_known, make_place, make, make_arguments}
 use Rattle.im_made.proofs.Growth.{Grows, stays, grows_on, grows_put, grows_read, grows_write, grows_close, grows_start, Later, later_before, closed_begins}
 use Rattle.im_made.proofs.Grown.{place_grows, grows, arguments_grow, change_grows, reads_grow, writes_grow, known_grows, put_known_grows}
 
@@ -127,6 +125,7 @@ module _ (g : p.Prog) (first : ℕ) (later : List Block) where
 
   mutual
     unfolding put put_read put_write close start
+
     pub place_coded : (a : p.Place) (free : ℕ) (m : Made) (low : ℕ) → low ≤ length m.blocks → Later low (make_place g first a free m) later → CodesPlace g first later a free (make_place g first a free m).point m.point
     place_coded (p.Static n) free m low le l = refl
     place_coded (p.Local n) free m low le l = refl

@@ -1,7 +1,6 @@
 -- What the body puts for statements is what the relation asks.
-use Rattle.std.proofs.Common.{◌≡◌, ◌⊎◌, inl, inr, ℕ, zero, suc, ◌+◌, ◌-◌, ◌<◌, ◌≤◌, min, Bool, true, false, List, [], ◌∷◌, length, refl, ap, sym, ◌∙◌, subst, arith}
-use Rattle.std.specs.Prelude.{pos, if◌then◌else◌, Option, Some, None, slice_get, slice_set, slice_index_or}
-use Rattle.std.proofs.lemmas.Option.{slice_get_within}
+use Rattle.std.proofs.Common.{◌≡◌, inl, inr, ℕ, zero, suc, ◌+◌, ◌-◌, ◌<◌, ◌≤◌, min, Bool, true, false, List, [], ◌∷◌, length, refl, ap, sym, ◌∙◌, subst, arith}
+use Rattle.std.specs.Prelude.{if◌then◌else◌, Option, Some, None, slice_get, slice_index_or}
 use Rattle.im_num.specs.declared.kind.Kind.{Kind}
 use Rattle.im_ctype.specs.declared.cell.Cell.{Cell}
 use Rattle.im_store.specs.declared.operators.Comparison.TheVariants.{Equal}
@@ -15,15 +14,15 @@ use Rattle.im_block.specs.declared.code.Line.TheVariants.{Put, Compare, Write}
 use Rattle.im_block.specs.declared.code.Exit.TheVariants.{Jump, Turn, Branch, Return}
 use Rattle.im_block.specs.declared.code.Block.{Block}
 use Rattle.im_lower.specs.Codes.{Point, before, ends, Begins, reads_of, writes_of, Codes}
-use Rattle.im_lower.specs.Statements.{zero_line, kind_in, start_at, CodesRest, Passes, CodesCases, CodesPiece, CodesPieces, CodesReturn, CodesStatement, CodesStatements}
+use Rattle.im_lower.specs.Statements.{zero_line, kind_in, start_at, CodesRest, CodesCases, CodesPiece, CodesPieces, CodesReturn, CodesStatement, CodesStatements}
 use Rattle.im_lower.specs.Lowered.{AreObjects, CodesParameters, kind_of_one, brace}
 use Rattle.im_made.specs.Made.{Made, put, put_read, put_write, close, start, turn}
 use Rattle.im_made.specs.Make.{put_reads, put_writes, make}
 use Rattle.im_made.specs.MakeStatement.{put_zero, put_rest, put_piece, put_parameters, label_at, put_case, put_cases, make_brace, make_piece, make_pieces, make_return, test_made, cells_there, make_statement, make_block, make_labelled, labels_of}
-use Rattle.im_made.proofs.Growth.{Grows, stays, grows_on, grows_put, grows_write, grows_close, grows_start, grows_turn, close_length, close_blocks, turn_blocks, got_last, got_other, got_same, Later, later_from, later_before, closed_begins}
+use Rattle.im_made.proofs.Growth.{Grows, stays, grows_on, grows_put, grows_close, grows_start, grows_turn, close_length, turn_blocks, got_last, got_other, got_same, Later, later_before, closed_begins}
 use Rattle.im_made.proofs.Grown.{grows, reads_grow, writes_grow}
-use Rattle.im_made.proofs.Coded.{Reads, reads_point, Writes, writes_point, further_on, coded}
-use Rattle.im_made.proofs.GrownStatements.{rest_grows, piece_grows, cases_grow, pieces_grow, return_grows, test_grows, statement_grows, block_grows, labelled_grows}
+use Rattle.im_made.proofs.Coded.{reads_point, writes_point, further_on, coded}
+use Rattle.im_made.proofs.GrownStatements.{rest_grows, piece_grows, cases_grow, pieces_grow, test_grows, statement_grows, block_grows, labelled_grows}
 
 -- the block that was closed last
 closed_at : (m : Made) → slice_get (close m).blocks (length m.blocks) ≡ Some m.point
@@ -232,6 +231,7 @@ module _ (g : p.Prog) (first low : ℕ) (os : List Object) (objects : List p.Loc
 
   mutual
     unfolding close start
+
     pub statement_coded : (a : p.Stmt) (breaks continues : ℕ) (m : Made) (bottom : ℕ) → bottom ≤ length m.blocks → Later bottom (make_statement g first low os a breaks continues m) later → CodesStatement g first low objects later a breaks continues (make_statement g first low os a breaks continues m).point m.point
     statement_coded (p.Do e) breaks continues m bottom le l = coded g first later e low (low + 1) m bottom le l
     statement_coded (p.Forget x) breaks continues m bottom le l = refl

@@ -1,5 +1,5 @@
 -- Expressions add blocks, and change none.
-use Rattle.std.proofs.Common.{◌≡◌, ℕ, ◌+◌, Bool, false, List, [], ◌∷◌, length}
+use Rattle.std.proofs.Common.{ℕ, ◌+◌, false, List, [], ◌∷◌, length}
 use Rattle.std.specs.Prelude.{pos, ℤ}
 use Rattle.im_ctype.specs.declared.cell.Cell.{Cell}
 use Rattle.im_typed.specs.declared.expression.Change.{Change}
@@ -10,11 +10,11 @@ use Rattle.im_num.specs.declared.kind.Kind.TheVariants.{Ptr}
 use Rattle.im_block.specs.declared.code.Place.{Place}
 use Rattle.im_block.specs.declared.code.Place.TheVariants.{Through}
 use Rattle.im_block.specs.declared.code.Line.TheVariants.{Put, PutNull, Convert, Unary, Not, Compute, Compare, Move, Distance, Address, Call, GetChar, PutChar}
-use Rattle.im_block.specs.declared.code.Exit.TheVariants.{Jump, Branch}
+use Rattle.im_block.specs.declared.code.Exit.TheVariants.{Jump}
 use Rattle.im_lower.specs.Codes.{further_in, count_of}
-use Rattle.im_made.specs.Made.{Made, put, put_read, put_write, close, start}
-use Rattle.im_made.specs.Make.{place_at, behind, put_load, put_reads, put_writes, put_copy, put_change, changed_in, put_increment, part_offset, known_made, put_known, make_place, make, make_arguments}
-use Rattle.im_made.proofs.Growth.{Grows, stays, grows_on, grows_put, grows_read, grows_write, grows_close, grows_start}
+use Rattle.im_made.specs.Made.{Made}
+use Rattle.im_made.specs.Make.{place_at, behind, put_load, put_reads, put_writes, put_change, changed_in, part_offset, known_made, put_known, make_place, make, make_arguments}
+use Rattle.im_made.proofs.Growth.{Grows, grows_put, grows_read, grows_write, grows_close, grows_start}
 
 pub load_grows : {m n : Made} (x : p.Access) (to : ℕ) (place : Place) → Grows m n → Grows m (put_load x to place n)
 load_grows (p.Scalar kind) to place h = grows_read to place kind h

@@ -1,6 +1,6 @@
 -- Statements add blocks, and change none but the loop edges among these.
-use Rattle.std.proofs.Common.{◌≡◌, ℕ, ◌+◌, ◌≤◌, Bool, true, false, List, [], ◌∷◌, length, arith}
-use Rattle.std.specs.Prelude.{pos, if◌then◌else◌, Option, Some, None, slice_get}
+use Rattle.std.proofs.Common.{ℕ, ◌+◌, ◌≤◌, Bool, true, false, List, [], ◌∷◌, length, arith}
+use Rattle.std.specs.Prelude.{if◌then◌else◌, Option, Some, None, slice_get}
 use Rattle.im_num.specs.declared.kind.Kind.{Kind}
 use Rattle.im_ctype.specs.declared.cell.Cell.{Cell}
 use Rattle.im_store.specs.declared.operators.Comparison.TheVariants.{Equal}
@@ -13,10 +13,9 @@ use Rattle.im_block.specs.declared.code.Place.TheVariants.{Local}
 use Rattle.im_block.specs.declared.code.Line.TheVariants.{Put, Compare}
 use Rattle.im_block.specs.declared.code.Exit.TheVariants.{Jump, Turn, Branch, Return}
 use Rattle.im_lower.specs.Statements.{zero_line, kind_in}
-use Rattle.im_made.specs.Made.{Made, put, put_write, close, start, turn}
-use Rattle.im_made.specs.Make.{make}
-use Rattle.im_made.specs.MakeStatement.{put_zero, put_rest, put_piece, label_at, put_case, put_cases, make_piece, make_pieces, make_return, test_made, cells_there, make_statement, make_block, make_labelled, labels_of}
-use Rattle.im_made.proofs.Growth.{Grows, stays, grows_on, grows_put, grows_write, grows_close, grows_start, grows_turn, close_length}
+use Rattle.im_made.specs.Made.{Made, close}
+use Rattle.im_made.specs.MakeStatement.{put_rest, put_piece, label_at, put_cases, make_pieces, make_return, test_made, cells_there, make_statement, make_block, make_labelled}
+use Rattle.im_made.proofs.Growth.{Grows, grows_put, grows_write, grows_close, grows_start, grows_turn, close_length}
 use Rattle.im_made.proofs.Grown.{grows, reads_grow, writes_grow}
 
 if_grows : {m a b : Made} (c : Bool) → Grows m a → Grows m b → Grows m (if c then a else b)

@@ -1,5 +1,5 @@
 -- Blocks that are made stay as they are while more are made, but for those of loop edges, which are set once.
-use Rattle.std.proofs.Common.{◌≡◌, ◌≢◌, ℕ, zero, suc, ◌+◌, ◌<◌, ◌≤◌, List, [], ◌∷◌, ◌++◌, length, map, refl, ap, sym, ◌∙◌, subst, Some, None, slice_get, slice_set, arith}
+use Rattle.std.proofs.Common.{◌≡◌, ℕ, zero, suc, ◌+◌, ◌<◌, ◌≤◌, List, [], ◌∷◌, ◌++◌, length, refl, ap, sym, ◌∙◌, subst, Some, slice_get, slice_set, arith}
 use Rattle.std.proofs.lemmas.List.{length-append, length-set}
 use Rattle.std.proofs.lemmas.Option.{slice_get_within}
 use Rattle.im_block.specs.declared.code.Line.{Line}
@@ -9,7 +9,7 @@ use Rattle.im_block.specs.declared.code.Exit.TheVariants.{Jump, Turn}
 use Rattle.im_block.specs.declared.code.Block.{Block}
 use Rattle.im_num.specs.declared.kind.Kind.{Kind}
 use Rattle.im_lower.specs.Codes.{Point, ends, Begins}
-use Rattle.im_made.specs.Made.{Made, point_of, put, put_read, put_write, close, start, turn}
+use Rattle.im_made.specs.Made.{Made, put, put_read, put_write, close, start, turn}
 
 -- lists
 

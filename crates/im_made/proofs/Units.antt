@@ -1,6 +1,6 @@
 -- A unit that is made is what the relation asks.
-use Rattle.std.proofs.Common.{◌≡◌, ℕ, zero, suc, ◌+◌, ◌≤◌, ◌==◌, Bool, List, [], ◌∷◌, length, map, take, sum_by, refl, ap, sym, ◌∙◌, subst, arith}
-use Rattle.std.specs.Prelude.{Some, None, slice_get}
+use Rattle.std.proofs.Common.{◌≡◌, ℕ, zero, suc, ◌+◌, ◌==◌, List, [], ◌∷◌, length, map, take, sum_by, refl, ap, sym, ◌∙◌, subst, arith}
+use Rattle.std.specs.Prelude.{Some, slice_get}
 use Rattle.std.proofs.lemmas.List.{length-map}
 use Rattle.std.proofs.lemmas.List.Sums.{sum_by-cons}
 use Rattle.im_ctype.specs.Table.{Table}
@@ -21,7 +21,7 @@ use Rattle.im_lower.specs.Statements.{CodesStatement}
 use Rattle.im_lower.specs.Lowered.{AreObjects, CodesParameters, kind_of_one, brace, CodesFunction, IsLowered}
 use Rattle.im_made.specs.Made.{Made, point_of, close}
 use Rattle.im_made.specs.MakeStatement.{put_parameters, make_brace, make_statement}
-use Rattle.im_made.specs.MakeUnit.{nothing_made, code_made, FunctionMade, FunctionsMade, AllMade, UnitMade, objects_of}
+use Rattle.im_made.specs.MakeUnit.{nothing_made, FunctionMade, FunctionsMade, UnitMade, objects_of}
 use Rattle.im_made.proofs.Growth.{Grows, stays, grows_write, grows_close, Later, later_before, closed_begins}
 use Rattle.im_made.proofs.CodedStatements.{parameters_coded, brace_coded, statement_coded}
 

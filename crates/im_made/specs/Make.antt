@@ -1,7 +1,6 @@
 -- What the parts of an expression put before the open block, as a function from the code so far. Private contracts alone
 -- speak of this; that it is what the relation asks is proved.
-use Rattle.std.specs.Prelude.{ℕ, suc, ◌+◌, true, false, Bool, List, [], ◌∷◌, length, ℤ, pos, Option, Some, None, slice_get}
-use Rattle.im_num.specs.declared.kind.Kind.{Kind}
+use Rattle.std.specs.Prelude.{ℕ, ◌+◌, true, false, Bool, List, [], ◌∷◌, length, ℤ, pos, slice_get}
 use Rattle.im_num.specs.declared.kind.Kind.TheVariants.{Ptr}
 use Rattle.im_ctype.specs.declared.cell.Cell.{Cell}
 use Rattle.im_typed.specs.declared.expression.Change.{Change}
