@@ -1,7 +1,7 @@
 -- The cuts that a run passes, and the built-in functions that it calls, are among those that its lines weigh.
-use Rattle.std.proofs.Common.{◌≡◌, ℕ, zero, suc, ◌+◌, ◌≤◌, Bool, true, false, List, [], ◌∷◌, ◌++◌, Option, Some, None, refl, sym, ap, ◌∙◌, subst, arith}
-use Rattle.std.specs.Prelude.{if◌then◌else◌, pos, nat_le, nat_lt, nat_abs, length, slice_get}
-use Rattle.im_num.specs.declared.kind.Kind.TheVariants.{U8, I32}
+use Rattle.std.proofs.Common.{◌≡◌, ℕ, zero, suc, ◌+◌, ◌≤◌, Bool, true, false, List, [], ◌∷◌, ◌++◌, Some, None, refl, ap, subst, arith}
+use Rattle.std.specs.Prelude.{if◌then◌else◌, nat_le, nat_lt, nat_abs, length, slice_get}
+use Rattle.im_num.specs.declared.kind.Kind.TheVariants.{U8}
 use Rattle.im_num.specs.Kinds.{wrap}
 use Rattle.im_store.specs.Checks.{Checked, Fine, Bad}
 use Rattle.im_store.specs.Outcomes.{Outcome}
@@ -10,12 +10,12 @@ use Rattle.im_block.specs.declared.code.Line.TheVariants.{Put, PutNull, Copy, Co
 use Rattle.im_block.specs.declared.code.Exit.{Exit}
 use Rattle.im_block.specs.declared.code.Exit.TheVariants.{Jump, Turn, Branch, Return}
 use Rattle.im_block.specs.declared.unit.Unit.{Unit as Code}
-use Rattle.im_block.specs.Meaning.{Setting, Event, Reads, Writes, Tests, Saves, Restores, Serves, Cuts, Frame, State, Next, Goes, Stops, on_checked, takes, found, number_of, condition, Found, Left, Site, enters, waiting, next_active, gets, puts, served, goes_to, back, leaves, does, step_at, step, computes, reads, writes, activates, passed}
+use Rattle.im_block.specs.Meaning.{Setting, Event, Reads, Writes, Tests, Saves, Restores, Serves, Cuts, Frame, State, Next, Goes, Stops, on_checked, takes, found, number_of, condition, Found, Left, Site, enters, waiting, next_active, gets, puts, goes_to, back, leaves, does, step_at, step, computes, reads, writes}
 use Rattle.im_store.specs.Objects.{Value, Unset}
-use Rattle.im_block.specs.Runs.{Ran, Over, At, goes_on, exec, Runs, start, before}
-use Rattle.im_block.specs.Shape.{Weights, line_weight, next_weight, spot_weight, after, spent}
+use Rattle.im_block.specs.Runs.{Over, At, goes_on, exec, Runs, start, before}
+use Rattle.im_block.specs.Shape.{line_weight, next_weight, spot_weight, after, spent}
 use Rattle.im_select.specs.Linking.{Linking}
-use Rattle.im_executes.specs.Executing.{cuts_in, cuts}
+use Rattle.im_executes.specs.Executing.{cuts}
 
 -- a cut, and so many within a built-in function
 abbrev pub passed_cuts : ℕ → List Event → ℕ

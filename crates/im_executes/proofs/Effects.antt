@@ -1,5 +1,5 @@
 -- What a plain step writes, reads, shows, and how it ends.
-use Rattle.std.proofs.Common.{◌≡◌, ◌≢◌, ℕ, zero, suc, ◌+◌, ◌<◌, ◌≤◌, ◌⊎◌, inl, inr, Bool, true, false, cond, List, [], ◌∷◌, ◌++◌, length, Option, Some, None, refl, sym, ap, ◌∙◌, subst, arith}
+use Rattle.std.proofs.Common.{◌≡◌, ℕ, zero, suc, ◌+◌, ◌<◌, ◌≤◌, ◌⊎◌, inl, inr, Bool, true, false, cond, List, [], ◌∷◌, ◌++◌, length, Option, Some, None, refl, sym, ap, ◌∙◌, subst, arith}
 use Rattle.std.specs.Prelude.{◌==◌, ◌&&◌, ◌||◌, nat_le, nat_lt}
 use Rattle.std.proofs.lemmas.Bool.Decides.{nat_tests}
 use Rattle.std.proofs.lemmas.List.{length-append}
@@ -14,12 +14,12 @@ use Rattle.im_rv.specs.declared.step.Went.TheVariants.{On, Halted, Faulted}
 use Rattle.im_rv.specs.declared.effect.Extension.{Extension}
 use Rattle.im_rv.specs.declared.effect.Effect.{Effect}
 use Rattle.im_rv.specs.declared.effect.Effect.TheVariants.{Puts, Goes, Loads, Stores, Stops}
-use Rattle.im_rv.specs.Steps.{Cpu, Stepped, row, sum_of, faulted, loads, effected}
+use Rattle.im_rv.specs.Steps.{Cpu, row, sum_of, faulted, loads, effected}
 use Rattle.im_rv.specs.Decode.{Line, fields, line_at, op_in, decode}
 use Rattle.im_rv.specs.Formats.{format_of}
 use Rattle.im_rv.specs.Runs.{decoded, fetched, step_of}
 use Rattle.im_rv.specs.Effects.{decoded_word, fetched_line, effect, effect_by, effect_of, patch, writes_by, reads_by}
-use Rattle.im_reach.specs.Touches.{Touch, touch_of, line_touches, word_touches, touches}
+use Rattle.im_reach.specs.Touches.{touch_of, line_touches, word_touches, touches}
 use Rattle.im_reach.specs.Shown.{shown, Begins}
 use Rattle.im_reach.specs.Plain.{may_load, may_store, AreAllowed}
 use Rattle.im_reach.proofs.Reach.{length_output}

@@ -1,21 +1,20 @@
 -- A run of plain steps without a fault fetches from the code alone: behind it memory is 0, and 0 is no instruction.
-use Rattle.std.proofs.Common.{◌≡◌, ◌≢◌, ℕ, zero, suc, ◌+◌, ◌*◌, ◌%◌, ◌<◌, ◌≤◌, ◌⊎◌, inl, inr, Bool, true, false, cond, length, Option, Some, None, refl, sym, ap, ◌∙◌, subst, arith}
-use Rattle.std.specs.Prelude.{unwrap_or, ◌&&◌, ◌||◌, ◌==◌, nat_le}
+use Rattle.std.proofs.Common.{◌≡◌, ◌≢◌, ℕ, zero, suc, ◌+◌, ◌*◌, ◌%◌, ◌<◌, ◌≤◌, ◌⊎◌, inl, inr, Bool, true, false, cond, Option, Some, None, refl, sym, ap, ◌∙◌, subst, arith}
+use Rattle.std.specs.Prelude.{unwrap_or}
 use Rattle.std.proofs.lemmas.Bool.{and_parts}
 use Rattle.std.proofs.lemmas.Bool.Decides.{nat_tests}
 use Rattle.im_num.specs.Bytes.{bytes_of}
-use Rattle.im_mem.specs.Memory.{Mem, little, is_place, loaded, zeroed}
+use Rattle.im_mem.specs.Memory.{little, is_place, loaded, zeroed}
 use Rattle.im_mem.proofs.Words.{little-alike, length-bytes_of}
 use Rattle.im_rv.specs.declared.step.Went.TheVariants.{Faulted}
 use Rattle.im_rv.specs.declared.effect.Effect.{Effect}
 use Rattle.im_rv.specs.declared.effect.Effect.TheVariants.{Puts, Goes, Loads, Stores, Stops}
-use Rattle.im_rv.specs.Steps.{Cpu}
 use Rattle.im_rv.specs.Runs.{fetched, step_of}
 use Rattle.im_rv.specs.Effects.{effect_of, writes_by}
 use Rattle.im_rv.proofs.Effecting.{step_mem}
-use Rattle.im_path.proofs.Times.{order, truth}
-use Rattle.im_reach.specs.Touches.{touch_of, touches}
-use Rattle.im_reach.specs.Plain.{in_runtime, is_data, may_store, AreAllowed, IsPlain}
+use Rattle.im_path.proofs.Times.{order}
+use Rattle.im_reach.specs.Touches.{touch_of}
+use Rattle.im_reach.specs.Plain.{in_runtime, is_data, AreAllowed, IsPlain}
 use Rattle.im_ckpt.specs.Runs.{State, IsRun}
 use Rattle.im_executes.proofs.Effects.{touches_same, place_none}
 

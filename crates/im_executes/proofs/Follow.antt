@@ -5,7 +5,6 @@ use Rattle.std.specs.Int.{cast_signed, w32}
 use Rattle.im_num.specs.declared.kind.Kind.TheVariants.{I32}
 use Rattle.im_num.specs.Kinds.{IsOfKind, word}
 use Rattle.im_num.proofs.Wrapping.{wrap-same}
-use Rattle.im_num.specs.Variables.{Variable}
 use Rattle.im_mem.specs.Memory.{Mem}
 use Rattle.im_rv.specs.declared.step.Went.{Went}
 use Rattle.im_rv.specs.declared.step.Went.TheVariants.{On, Halted, Faulted}
@@ -32,7 +31,7 @@ use Rattle.im_block.specs.Meaning.{Setting, Event, statics_of}
 use Rattle.im_block.specs.Runs.{Runs}
 use Rattle.im_select.specs.Linking.{Linking}
 use Rattle.im_select.specs.Law.{Touches, Begun, ShowsStatics, steps, Shows as Selected_shows, Follows as Selected_follows, SelectKeeps}
-use Rattle.im_keeps.specs.Keeps.{IsInput, Begins}
+use Rattle.im_keeps.specs.Keeps.{IsInput}
 use Rattle.im_kept.specs.Laws.{run_of}
 use Rattle.im_until.specs.Until.{halt_line, OwesUntil}
 use Rattle.im_written.specs.Written.{code_end, IsBegun}

@@ -1,9 +1,8 @@
 -- So many steps of the machine, and the run by its times.
-use Rattle.std.proofs.Common.{◌≡◌, ◌≢◌, ℕ, zero, suc, ◌+◌, ◌<◌, ◌≤◌, true, false, refl, sym, ap, ◌∙◌, subst, arith}
-use Rattle.im_mem.specs.Memory.{Mem}
+use Rattle.std.proofs.Common.{◌≡◌, ◌≢◌, ℕ, zero, suc, ◌+◌, ◌<◌, true, false, refl, sym, ap, ◌∙◌, subst, arith}
 use Rattle.im_rv.specs.declared.step.Went.{Went}
 use Rattle.im_rv.specs.declared.step.Went.TheVariants.{On, Halted, Faulted}
-use Rattle.im_rv.specs.Steps.{Cpu, Stepped}
+use Rattle.im_rv.specs.Steps.{Stepped}
 use Rattle.im_rv.specs.Runs.{step_of, go_on, runs}
 use Rattle.im_ckpt.specs.Runs.{State, IsRun, ends}
 use Rattle.im_replay.proofs.Bridge.{going_of, over_of}

@@ -1,5 +1,5 @@
 -- What an image owes beside the law of selection, for the device's run to follow its placed code.
-use Rattle.std.specs.Prelude.{◌≡◌, ◌≢◌, ℕ, suc, ◌+◌, ◌<◌, ◌≤◌, true, false, Some, None, List, [], ◌∷◌, length, ℤ}
+use Rattle.std.specs.Prelude.{◌≡◌, ◌≢◌, ℕ, suc, ◌+◌, ◌<◌, ◌≤◌, true, false, Some, None, List, length, ℤ}
 use Rattle.im_mem.specs.Map.{out_len0_at, out_len1_at, out_sel_at}
 use Rattle.im_path.specs.Sections.{start, wrote}
 use Rattle.im_ckpt.specs.Runs.{State, flip, writes, reads}

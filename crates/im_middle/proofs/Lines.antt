@@ -1,7 +1,6 @@
 -- Each relation keeps its line.
 use Rattle.std.proofs.Common.{◌≡◌, ℕ, List, [], ◌∷◌, map, length, Option, Some, None, refl, ap, ◌∙◌, subst, sym}
 use Rattle.std.specs.Prelude.{slice_get}
-use Rattle.im_image.specs.Contents.{ImageValue}
 use Rattle.im_block.specs.declared.access.Tag.{Tag}
 use Rattle.im_block.specs.declared.access.Tags.{Tags}
 use Rattle.im_block.specs.declared.code.Line.{Line}
@@ -11,15 +10,14 @@ use Rattle.im_block.specs.declared.unit.Unit.{Unit as Code}
 use Rattle.im_store.specs.Objects.{Object}
 use Rattle.im_block.specs.Meaning.{Active, Event, Reads, Writes, Tests, Saves, Restores, Serves, Cuts as ACut}
 use Rattle.im_block.specs.Tagged.{HoldsAt, AllHold, IsSound}
-use Rattle.im_block.specs.Uncut.{WithCuts, Empty, Same, SameBlock, SameBlocks, SameFunction, SameFunctions, SameButCuts}
+use Rattle.im_block.specs.Uncut.{WithCuts, Empty, Same, SameBlocks, SameFunctions, SameButCuts}
 use Rattle.im_alloc.specs.Placing.{PlacedFunctions}
 use Rattle.im_alloc_laws.specs.Numbered.{IsWellPlaced}
 use Rattle.im_alloc_laws.specs.Laws.{PlacedCodeLaw}
 use Rattle.im_recut.specs.Recut.{RecutsTo}
 use Rattle.im_recut.specs.Laws.{RecutKeepsLaw}
-use Rattle.im_passes.specs.Source.{Source}
-use Rattle.im_passes.specs.Passes.{needs_of, Cuts, Places, Recuts, Passes}
-use Rattle.im_middle.specs.Middle.{Chain, AreNoTags}
+use Rattle.im_passes.specs.Passes.{Cuts, Places, Recuts}
+use Rattle.im_middle.specs.Middle.{AreNoTags}
 use Rattle.im_middle.specs.Laws.{MiddleLaw}
 
 -- no tags

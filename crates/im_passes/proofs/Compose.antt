@@ -1,10 +1,9 @@
 -- The compiler's promise, from the passes' promises alone.
-use Rattle.std.proofs.Common.{◌≡◌, ◌≢◌, ℕ, ◌+◌, ◌*◌, ◌<◌, ◌≤◌, Bool, true, false, inl, inr, List, [], length, map, refl, sym, ap, ◌∙◌, subst, arith}
+use Rattle.std.proofs.Common.{◌≡◌, ℕ, ◌+◌, ◌*◌, ◌<◌, ◌≤◌, true, false, inl, inr, List, [], length, map, refl, sym, ap, ◌∙◌, subst, arith}
 use Rattle.std.specs.Prelude.{ℤ, slice_get}
 use Rattle.std.proofs.lemmas.List.{append-nil}
 use Rattle.im_num.specs.Variables.{Variable}
 use Rattle.im_mem.specs.Memory.{Mem, little, Stands}
-use Rattle.im_rv.specs.declared.step.Went.TheVariants.{Halted}
 use Rattle.im_image.specs.Contents.{ImageValue}
 use Rattle.im_device.specs.Load.{memory_of}
 use Rattle.im_device.specs.Shows.{output_of}
@@ -19,7 +18,6 @@ use Rattle.im_replay.specs.Owed.{IsOwed}
 use Rattle.im_replay.proofs.Endless.{is_run}
 use Rattle.im_replay.proofs.Owing.{sound}
 use Rattle.im_replay.proofs.Images.{can_resume, owed_of, first_mem, first_place}
-use Rattle.im_gap.specs.Gap.{recovery_steps}
 use Rattle.im_flow.specs.Flows.{IsPlaced}
 use Rattle.im_flow.specs.Laws.{AlongLaw, GapLaw}
 use Rattle.im_store.specs.Outcomes.{Outcome, Undef, More, End, IsDefined}
@@ -31,14 +29,11 @@ use Rattle.im_block.specs.Runs.{Runs}
 use Rattle.im_block.specs.Sections.{NoWar, items}
 use Rattle.im_block.specs.Tagged.{AllHold}
 use Rattle.im_block.specs.Shape.{AllOrdered, sum_of, total, function_cost, placed_cost}
-use Rattle.im_block.specs.Forced.{AllForced}
 use Rattle.im_block.specs.Uncut.{SameButCuts}
 use Rattle.im_block.specs.Wellformed.{IsWellFormed}
 use Rattle.im_block.specs.Laws.{EachLineLaw, AddedCutsLaw, SectionLaw}
 use Rattle.im_block_laws.specs.Laws.{CutsKeepCodeLaw}
 use Rattle.im_placed.specs.Placeable.{IsPlaceable}
-use Rattle.im_placed.specs.Placed.{IsPlacedCode}
-use Rattle.im_placed.specs.Apart.{AllApart}
 use Rattle.im_placed.specs.Laws.{CutsKeepPlacesLaw}
 use Rattle.im_force.specs.Laws.{ForceKeepsLaw}
 use Rattle.im_keeps.specs.Keeps.{IsInput, IsRightFor, Begins, Shows, output_in, KeepsEnd, KeepsOn, EndsOn}
@@ -49,7 +44,7 @@ use Rattle.im_until.proofs.Still.{still, over_still, flips_still, flips_more}
 use Rattle.im_passes.specs.Source.{Source, IsRightSource}
 use Rattle.im_written.specs.Written.{code_end, IsLoaded}
 use Rattle.im_written.specs.Laws.{WrittenLaw}
-use Rattle.im_passes.specs.Machine.{powered, stores_before, ShowsAfter}
+use Rattle.im_passes.specs.Machine.{stores_before, ShowsAfter}
 use Rattle.im_passes.specs.Passes.{needs_of, setting, IsSelectable, Passes}
 use Rattle.im_passes.specs.Laws.{meaning_of, KeepsUninterrupted, PassesKeep}
 use Rattle.im_passes.proofs.Events.{still_hold}

@@ -1,5 +1,5 @@
 -- What follows from the passes' promises alone.
-use Rattle.std.specs.Prelude.{◌≡◌, ℕ, ◌+◌, ◌*◌, ◌<◌, ◌≤◌, List, length, ℤ, Some, slice_get, slice_index_or}
+use Rattle.std.specs.Prelude.{◌≡◌, ℕ, ◌+◌, ◌*◌, ◌≤◌, List, length, ℤ, Some, slice_get, slice_index_or}
 use Rattle.im_num.specs.Variables.{Variable}
 use Rattle.im_rv.specs.declared.step.Went.TheVariants.{Halted}
 use Rattle.im_image.specs.Contents.{ImageValue}

@@ -1,5 +1,5 @@
 -- The two ends.
-use Rattle.std.proofs.Common.{◌≡◌, ℕ, suc, ◌+◌, ◌%◌, ◌^◌, ◌<◌, ◌≤◌, [], ◌∷◌, ap, ◌∙◌, refl, arith}
+use Rattle.std.proofs.Common.{ℕ, ◌+◌, ◌≤◌, [], ◌∷◌, ap, ◌∙◌, refl, arith}
 use Rattle.im_num.specs.Bytes.{bytes_of}
 use Rattle.im_mem.specs.Memory.{Mem, written}
 use Rattle.im_mem.proofs.Words.{written-above, length-bytes_of}
@@ -8,10 +8,8 @@ use Rattle.im_rv.specs.declared.effect.Effect.TheVariants.{Puts, Stores}
 use Rattle.im_rv.specs.Steps.{sum_of, with_reg}
 use Rattle.im_rv.specs.Lines.{instruction}
 use Rattle.im_reach.specs.Touches.{Stored}
-use Rattle.im_reach.specs.Reach.{Stopped}
 use Rattle.im_reach.specs.Instructions.{Fixed}
 use Rattle.im_reach.proofs.Reach.{puts, stores, halts, then_stops, output_told}
-use Rattle.im_runtime.specs.Standing.{HasRoutines}
 use Rattle.im_runtime.specs.Laws.{ExitLaw, StackLaw}
 
 told_fixed : (image m : Mem) (a v : ℕ) → a + 4 ≤ 4096 → Fixed image m → Fixed image (written m a (bytes_of 4 v))

@@ -1,28 +1,26 @@
 -- getchar: it reads the position, and stores the next in a section of its own.
-use Rattle.std.proofs.Common.{◌≡◌, ◌≢◌, ℕ, zero, suc, ◌+◌, ◌-◌, ◌*◌, ◌%◌, ◌^◌, ◌<◌, ◌≤◌, ◌⊎◌, inl, inr, Bool, true, false, cond, Some, List, [], ◌∷◌, ◌++◌, refl, sym, ap, ◌∙◌, subst, arith, length}
-use Rattle.std.specs.Prelude.{◌==◌, ◌&&◌, ◌||◌, nat_lt, nat_le}
-use Rattle.std.proofs.lemmas.Bool.Decides.{nat_tests}
+use Rattle.std.proofs.Common.{◌≡◌, ℕ, suc, ◌+◌, ◌%◌, ◌<◌, ◌≤◌, inl, inr, true, false, cond, [], ◌∷◌, refl, ap, ◌∙◌, subst, arith}
+use Rattle.std.specs.Prelude.{◌==◌, nat_lt}
 use Rattle.im_num.specs.Bytes.{bytes_of}
-use Rattle.im_mem.specs.Memory.{Mem, little, is_place, written}
-use Rattle.im_mem.proofs.Words.{little-other, written-above, written-small, length-bytes_of}
+use Rattle.im_mem.specs.Memory.{Mem, little, written}
+use Rattle.im_mem.proofs.Words.{little-other, written-above, length-bytes_of}
 use Rattle.im_rv.specs.declared.instr.Op.TheVariants.{Lui, Jal, Jalr, Bgeu, Lw, Lbu, Sw, Addi, Add}
 use Rattle.im_rv.specs.declared.effect.Effect.TheVariants.{Puts, Loads, Stores}
 use Rattle.im_rv.specs.declared.effect.Extension.TheVariants.{Zero}
 use Rattle.im_rv.specs.Steps.{sum_of, with_reg}
-use Rattle.im_rv.specs.Decode.{Line}
 use Rattle.im_rv.specs.Lines.{instruction}
 use Rattle.im_image.specs.declared.form.Form.TheVariants.{TwoLengths}
 use Rattle.im_device.specs.Shows.{output_length}
 use Rattle.im_reach.specs.Plain.{in_runtime}
 use Rattle.im_reach.proofs.Reach.{data_load}
-use Rattle.im_reach.specs.Touches.{Touch, Loaded, Stored, Flipped}
+use Rattle.im_reach.specs.Touches.{Loaded, Stored, Flipped}
 use Rattle.im_reach.specs.Shown.{shown}
 use Rattle.im_reach.specs.Instructions.{Holds, Fixed}
 use Rattle.im_rtlib.specs.Routines.{getchar_label}
 use Rattle.im_runtime.specs.Standing.{HasRoutines, distance}
 use Rattle.im_runtime.specs.Seen.{seen}
 use Rattle.im_runtime.proofs.Ran.{Ran, at, begins_same, byte_loaded, byte_place, follow, put_step, load_step, store_step}
-use Rattle.im_runtime.proofs.Saving.{Kept, none_reg, kept_fixed, kept_word, kept_shown}
+use Rattle.im_runtime.proofs.Saving.{Kept, none_reg, kept_fixed, kept_word}
 use Rattle.im_runtime.proofs.Showing.{byte_is, shown_alike}
 use Rattle.im_runtime.proofs.Cutting.{spot, less_on, full_to, return, Committed, commit}
 

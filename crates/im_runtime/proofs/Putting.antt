@@ -1,25 +1,23 @@
 -- putchar, part by part: it reads the length, stores the byte, the other length, the selector.
-use Rattle.std.proofs.Common.{◌≡◌, ◌≢◌, ℕ, zero, suc, ◌+◌, ◌-◌, ◌*◌, ◌%◌, ◌^◌, ◌<◌, ◌≤◌, ◌⊎◌, inl, inr, Bool, true, false, cond, Some, List, [], ◌∷◌, ◌++◌, refl, sym, ap, ◌∙◌, subst, arith, length}
-use Rattle.std.specs.Prelude.{◌==◌, ◌&&◌, nat_lt, nat_le, bit_and}
+use Rattle.std.proofs.Common.{◌≡◌, ℕ, suc, ◌+◌, ◌%◌, ◌<◌, ◌≤◌, ◌⊎◌, inl, inr, Bool, true, false, cond, List, [], ◌∷◌, refl, sym, ap, ◌∙◌, subst, arith}
+use Rattle.std.specs.Prelude.{◌==◌, nat_lt, bit_and}
 use Rattle.std.proofs.lemmas.Bool.Decides.{nat_tests}
 use Rattle.std.proofs.lemmas.Grind.{and_numeral}
 use Rattle.im_num.specs.Bytes.{bytes_of}
-use Rattle.im_mem.specs.Memory.{Mem, little, is_place, written}
-use Rattle.im_mem.proofs.Words.{little-alike, little-same, little-other, written-above, written-below, written-small, length-bytes_of}
+use Rattle.im_mem.specs.Memory.{Mem, little, written}
+use Rattle.im_mem.proofs.Words.{little-other, written-above, written-below, written-small, length-bytes_of}
 use Rattle.im_rv.specs.declared.instr.Op.TheVariants.{Lui, Jal, Jalr, Bne, Bgeu, Lw, Lbu, Sb, Sw, Addi, Sltiu, Andi, Add}
 use Rattle.im_rv.specs.declared.effect.Effect.TheVariants.{Puts, Loads, Stores}
 use Rattle.im_rv.specs.declared.effect.Extension.TheVariants.{Zero}
 use Rattle.im_rv.specs.Steps.{sum_of, with_reg, as_number}
 use Rattle.im_rv.specs.Decode.{Line}
 use Rattle.im_rv.specs.Lines.{instruction}
-use Rattle.im_rv.proofs.Straight.{same_reg, other_reg}
 use Rattle.im_image.specs.declared.form.Form.TheVariants.{TwoLengths}
 use Rattle.im_device.specs.Shows.{output_length}
 use Rattle.im_reach.specs.Plain.{in_runtime}
 use Rattle.im_reach.proofs.Reach.{data_store}
 use Rattle.im_reach.specs.Touches.{Touch, Loaded, Stored, Flipped}
 use Rattle.im_reach.specs.Shown.{shown, Begins}
-use Rattle.im_reach.specs.Reach.{plus}
 use Rattle.im_reach.specs.Instructions.{Holds, Fixed}
 use Rattle.im_reach.proofs.Reach.{length_same}
 use Rattle.im_rtlib.specs.Routines.{putchar_label}
@@ -28,7 +26,7 @@ use Rattle.im_runtime.specs.Seen.{seen}
 use Rattle.im_runtime.proofs.Ran.{Ran, at, begins_same, byte_stored, byte_place, follow, put_step, load_step, store_step}
 use Rattle.im_runtime.proofs.Saving.{Kept, none_reg, kept_fixed, kept_shown, kept_quiet}
 use Rattle.im_runtime.proofs.Showing.{byte_is, selected, other, length_by, shown_alike}
-use Rattle.im_runtime.proofs.Cutting.{spot, leads, jump, same_on, apart_to, less_on, full_to, return, Committed, commit}
+use Rattle.im_runtime.proofs.Cutting.{spot, jump, same_on, apart_to, less_on, full_to, return, Committed, commit}
 
 -- the lines, from a place on
 pub record PutLines (image : Mem) (place : ℕ → ℕ) (p : ℕ) : Type 0 where

@@ -1,6 +1,6 @@
 -- Runs in parts, with what is seen of what they touch.
-use Rattle.std.proofs.Common.{◌≡◌, ◌≢◌, ℕ, zero, suc, ◌+◌, ◌*◌, ◌%◌, ◌^◌, ◌<◌, ◌≤◌, ◌⊎◌, inl, inr, Bool, true, false, cond, List, [], ◌∷◌, ◌++◌, refl, sym, ap, ◌∙◌, subst, arith}
-use Rattle.std.specs.Prelude.{◌==◌, ◌&&◌, ◌||◌, nat_lt, nat_le}
+use Rattle.std.proofs.Common.{◌≡◌, ℕ, zero, suc, ◌+◌, ◌<◌, ◌≤◌, Bool, true, false, cond, List, [], ◌∷◌, ◌++◌, refl, sym, ap, ◌∙◌, arith}
+use Rattle.std.specs.Prelude.{◌==◌, ◌&&◌, ◌||◌, nat_le}
 use Rattle.std.proofs.lemmas.Bool.Decides.{nat_tests}
 use Rattle.std.proofs.lemmas.List.{append-nil}
 use Rattle.std.proofs.Math.Nat.{mod-one}
@@ -9,7 +9,6 @@ use Rattle.im_mem.specs.Memory.{Mem, little, is_place, written}
 use Rattle.im_rv.specs.declared.step.Went.TheVariants.{On}
 use Rattle.im_rv.specs.declared.effect.Effect.TheVariants.{Puts, Goes, Loads, Stores}
 use Rattle.im_rv.specs.declared.effect.Extension.TheVariants.{Zero}
-use Rattle.im_rv.specs.declared.step.Went.TheVariants.{Halted}
 use Rattle.im_rv.specs.Steps.{Cpu, Stepped, sum_of, with_reg, row}
 use Rattle.im_rv.specs.Decode.{Line}
 use Rattle.im_rv.specs.Runs.{step_of, runs}
@@ -20,7 +19,7 @@ use Rattle.im_reach.specs.Shown.{shown, Begins}
 use Rattle.im_reach.specs.Reach.{plus, Reach}
 use Rattle.im_reach.specs.Instructions.{Holds, Fixed}
 use Rattle.im_reach.specs.Plain.{in_runtime, may_load, may_store, AreAllowed}
-use Rattle.im_reach.proofs.Reach.{plain_one, join, nothing, puts, leaps, passes, loads, stores, fetches, next_pc}
+use Rattle.im_reach.proofs.Reach.{plain_one, join, nothing, puts, leaps, passes, loads, fetches, next_pc}
 use Rattle.im_runtime.specs.Seen.{is_checkpoints, seen}
 
 loaded_append : (b : Bool) (t : Touch) (z w us : List Touch) → z ≡ w ++ us → cond b z (t ∷ z) ≡ cond b w (t ∷ w) ++ us

@@ -1,11 +1,10 @@
 -- The checkpoint: from an entry through its ladder, the flip and the return.
-use Rattle.std.proofs.Common.{◌≡◌, ◌≢◌, ℕ, zero, suc, ◌+◌, ◌-◌, ◌*◌, ◌%◌, ◌^◌, ◌<◌, ◌≤◌, ◌⊎◌, inl, inr, Bool, true, false, cond, Some, List, [], ◌∷◌, ◌++◌, refl, sym, ap, ◌∙◌, subst, arith}
+use Rattle.std.proofs.Common.{◌≡◌, ◌≢◌, ℕ, zero, suc, ◌+◌, ◌-◌, ◌*◌, ◌%◌, ◌^◌, ◌<◌, ◌≤◌, ◌⊎◌, inl, inr, Bool, true, false, cond, Some, [], ◌∷◌, refl, sym, ap, ◌∙◌, subst, arith}
 use Rattle.std.specs.Prelude.{◌==◌, ◌&&◌, ◌||◌, nat_lt, nat_le, bit_xor}
 use Rattle.std.proofs.lemmas.Bool.Decides.{nat_tests}
 use Rattle.im_num.specs.Bytes.{bytes_of}
 use Rattle.im_mem.specs.Memory.{Mem, little, is_place, written}
 use Rattle.im_mem.proofs.Words.{little-alike, little-same, written-above, written-below, written-small, length-bytes_of}
-use Rattle.im_rv.specs.declared.instr.Op.TheVariants.{Sw}
 use Rattle.im_rv.specs.declared.effect.Effect.TheVariants.{Puts, Loads, Stores}
 use Rattle.im_rv.specs.declared.effect.Extension.TheVariants.{Zero}
 use Rattle.im_rv.specs.Steps.{sum_of, with_reg, shift_left, shift_right}
@@ -18,9 +17,9 @@ use Rattle.im_ckpt.specs.Checkpoint.{entry_at, ladder_at, store_line, shift_line
 use Rattle.im_ckpt.proofs.Rungs.{Routine, entry_line, ladder_reg, ladder_line, entry_back, reg_named, ladder_store, store_back, shift_back, flip_back, return_back}
 use Rattle.im_ckpt.proofs.Phases.{slot_place, slot_small}
 use Rattle.im_reach.specs.Plain.{in_runtime, may_store}
-use Rattle.im_reach.specs.Touches.{Touch, Stored, Flipped}
+use Rattle.im_reach.specs.Touches.{Stored, Flipped}
 use Rattle.im_reach.specs.Reach.{plus}
-use Rattle.im_reach.specs.Shown.{shown, Begins}
+use Rattle.im_reach.specs.Shown.{shown}
 use Rattle.im_reach.specs.Instructions.{Holds, Fixed}
 use Rattle.im_reach.proofs.Reach.{plus_is, Quiet, shown_same}
 use Rattle.im_runtime.specs.Seen.{seen}

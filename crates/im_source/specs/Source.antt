@@ -1,5 +1,5 @@
 -- A typed program as the passes see it.
-use Rattle.std.specs.Prelude.{ℕ, List, map}
+use Rattle.std.specs.Prelude.{ℕ, map}
 use Rattle.im_store.specs.Outcomes.{Outcome}
 use Rattle.im_typed.specs.Program.{Func, Prog}
 use Rattle.im_typed.specs.Programs.{meaning}

@@ -1,5 +1,5 @@
 -- What the image's objects show, cell by cell.
-use Rattle.std.proofs.Common.{◌≡◌, ◌≢◌, ℕ, zero, suc, ◌+◌, ◌<◌, ◌≤◌, Bool, true, false, List, [], ◌∷◌, ◌++◌, map, length, Option, Some, None, refl, sym, ap, ◌∙◌, subst, arith}
+use Rattle.std.proofs.Common.{◌≡◌, ℕ, zero, suc, ◌+◌, ◌<◌, ◌≤◌, Bool, true, false, List, [], ◌∷◌, ◌++◌, map, Option, Some, None, refl, sym, ap, ◌∙◌, subst, arith}
 use Rattle.std.specs.Prelude.{slice_get, if◌then◌else◌, ◌==◌, All}
 use Rattle.std.specs.List.{flat_map}
 use Rattle.std.proofs.lemmas.Bool.{eq-eqb}
@@ -13,20 +13,18 @@ use Rattle.im_num.specs.Variables.{Variable}
 use Rattle.im_mem.specs.Memory.{Mem}
 use Rattle.im_image.specs.declared.object.CellRun.{CellRun}
 use Rattle.im_image.specs.Contents.{ObjectValue}
-use Rattle.im_device.specs.Variables.{cell_of, cells_from, run_cells, variable, vars_of}
+use Rattle.im_device.specs.Variables.{cell_of, cells_from, run_cells, variable}
 use Rattle.im_operators.specs.Tables.{cell_word}
 use Rattle.im_ctype.specs.declared.cell.Cell.{Cell}
-use Rattle.im_store.specs.Objects.{Named, Object, static, Value, Store, kind_at}
+use Rattle.im_store.specs.Objects.{static, Value, Store, kind_at}
 use Rattle.im_store.specs.Statics.{StaticObject}
 use Rattle.im_store.specs.Outcomes.{cell_shown, cells_shown, variables_from}
 use Rattle.im_typed.specs.Sound.{AreShown, ShowEach}
 use Rattle.im_block.specs.declared.unit.Static.{Static as StaticOf}
-use Rattle.im_block.specs.declared.unit.Unit.{Unit as Code}
 use Rattle.im_block.specs.Meaning.{static_of, statics_of}
-use Rattle.im_block.specs.Wellformed.{HasCells, IsStatic, IsWellFormed}
+use Rattle.im_block.specs.Wellformed.{IsStatic}
 use Rattle.im_select.specs.Linking.{Linking, Means, address}
-use Rattle.im_select.specs.Law.{ShowsStatics}
-use Rattle.im_statics.specs.Named.{cells_along, cells_of_run, IsNamed, AreNamed, AreNumbers, HaveNumbers, ShownLaw}
+use Rattle.im_statics.specs.Named.{cells_along, cells_of_run, AreNamed, AreNumbers, HaveNumbers, ShownLaw}
 use Rattle.im_statics.proofs.Values.{cell_same}
 
 -- runs of cells
@@ -118,9 +116,9 @@ module _ (p : Linking) (objects : List ObjectValue) (statics : List StaticObject
       let is = named.0 in
       let place : o.at ≡ address p (static n) = (let q = is.at in omega arith) in
       let cells : flat_map (run_cells objects m o.at) o.runs ≡ cells_shown (store.values (static n)) s.cells =
-        in_runs objects m o.at o.runs ∙ ap (map (value_in objects m o.at)) is.cells ∙ cells_same o.at (address p (static n)) (store.values (static n)) s.cells place numbers.0 shown.1 means.0 in
+      in_runs objects m o.at o.runs ∙ ap (map (value_in objects m o.at)) is.cells ∙ cells_same o.at (address p (static n)) (store.values (static n)) s.cells place numbers.0 shown.1 means.0 in
       let one : variable objects m o ≡ record { name = s.name; cells = cells_shown (store.values (static n)) s.cells } =
-        ap (λ c. record { name = o.name; cells = c }) cells ∙ ap (λ z. record { name = z; cells = cells_shown (store.values (static n)) s.cells }) is.name in
+      ap (λ c. record { name = o.name; cells = c }) cells ∙ ap (λ z. record { name = z; cells = cells_shown (store.values (static n)) s.cells }) is.name in
       ap (λ (v : Variable). v ∷ map (variable objects m) os) one
       ∙ ap (λ vs. record { name = s.name; cells = cells_shown (store.values (static n)) s.cells } ∷ vs) (each_same store (suc n) ss os numbers.1 named.1 shown.2 means.1)
 
@@ -129,9 +127,9 @@ module _ (p : Linking) (objects : List ObjectValue) (statics : List StaticObject
       → AllMean store n ss
   all_mean store n [] apart h = tt
   all_mean store n (s ∷ ss) apart h = (
-      each_cell _ s.cells (λ i c e. let q : n + 0 ≡ n = omega arith in subst (λ k. Means p (store.values (static k) c.offset) (cell_word m c.kind (address p (static k) + c.offset))) q (h 0 s c.offset c.kind refl (own_kind s.cells (apart 0 s refl) i c e))),
-      all_mean store (suc n) ss (λ i. apart (suc i)) (λ i t offset k e f. let q : n + suc i ≡ suc n + i = omega arith in subst (λ j. Means p (store.values (static j) offset) (cell_word m k (address p (static j) + offset))) q (h (suc i) t offset k e f)),
-    )
+    each_cell _ s.cells (λ i c e. let q : n + 0 ≡ n = omega arith in subst (λ k. Means p (store.values (static k) c.offset) (cell_word m c.kind (address p (static k) + c.offset))) q (h 0 s c.offset c.kind refl (own_kind s.cells (apart 0 s refl) i c e))),
+    all_mean store (suc n) ss (λ i. apart (suc i)) (λ i t offset k e f. let q : n + suc i ≡ suc n + i = omega arith in subst (λ j. Means p (store.values (static j) offset) (cell_word m k (address p (static j) + offset))) q (h (suc i) t offset k e f)),
+  )
 
 -- cells of a unit's statics are apart
 static_apart : (all statics : List StaticOf) → All (IsStatic all) statics → (i : ℕ) (s : StaticObject) → slice_get (map static_of statics) i ≡ Some s → AreApart s.cells

@@ -1,11 +1,10 @@
 -- A cell's word and the value that is shown of it.
-use Rattle.std.proofs.Common.{◌≡◌, ◌≢◌, ℕ, zero, suc, ◌+◌, ◌*◌, ◌-◌, ◌%◌, ◌^◌, ◌<◌, ◌≤◌, Bool, true, false, refl, sym, ap, ◌∙◌, subst, arith}
-use Rattle.std.specs.Prelude.{ℤ, pos, ◌+ℤ◌, ◌*ℤ◌, if◌then◌else◌, ◌==◌, List}
+use Rattle.std.proofs.Common.{◌≡◌, ◌≢◌, ℕ, ◌+◌, ◌*◌, ◌%◌, ◌^◌, ◌<◌, Bool, true, false, refl, sym, ap, ◌∙◌, arith}
+use Rattle.std.specs.Prelude.{ℤ, pos, if◌then◌else◌, ◌==◌, List}
 use Rattle.std.proofs.lemmas.Int.{ints}
 use Rattle.im_num.specs.declared.kind.Kind.{Kind}
 use Rattle.im_num.specs.declared.kind.Kind.TheVariants.{I8, U8, I16, U16, I32, U32, Ptr}
-use Rattle.im_num.specs.declared.values.CellValue.{CellValue}
-use Rattle.im_num.specs.declared.values.CellValue.TheVariants.{Number as ANumber, Null as ANull, Inside, Local}
+use Rattle.im_num.specs.declared.values.CellValue.TheVariants.{Number as ANumber, Local}
 use Rattle.im_num.specs.Kinds.{kind_size, wrap, word, IsOfKind}
 use Rattle.im_num.proofs.Wrapping.{wrap-of_kind}
 use Rattle.im_mem.specs.Memory.{Mem, little}
@@ -14,9 +13,9 @@ use Rattle.im_image.specs.Contents.{ObjectValue}
 use Rattle.im_device.specs.Variables.{value_of}
 use Rattle.im_operators.specs.Tables.{extension_of, cell_word}
 use Rattle.im_operators.proofs.Words.{as_word, word_of, loaded_wrap}
-use Rattle.im_store.specs.Objects.{Name, Named, Slot, Link, Object, Value, Number, Null, Pointer, Unset}
+use Rattle.im_store.specs.Objects.{Name, Named, Slot, Link, Value, Number, Null, Pointer, Unset}
 use Rattle.im_store.specs.Statics.{StaticObject}
-use Rattle.im_store.specs.Outcomes.{static_shown, place_shown, cell_shown}
+use Rattle.im_store.specs.Outcomes.{static_shown, cell_shown}
 use Rattle.im_typed.specs.Sound.{IsShown}
 use Rattle.im_select.specs.Linking.{Linking, Means}
 

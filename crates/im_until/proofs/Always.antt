@@ -1,5 +1,5 @@
 -- What holds up to times as late as one likes holds for ever.
-use Rattle.std.proofs.Common.{◌≡◌, ◌<◌, ℕ, suc, ◌+◌, List, arith}
+use Rattle.std.proofs.Common.{◌<◌, ℕ, ◌+◌, List, arith}
 use Rattle.im_ckpt.specs.Runs.{State}
 use Rattle.im_until.specs.Laws.{Owes, OwesAlways}
 

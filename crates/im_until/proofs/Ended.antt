@@ -1,11 +1,9 @@
 -- Behind its end a run owes nothing more.
-use Rattle.std.proofs.Common.{◌≡◌, ◌≢◌, ℕ, zero, suc, ◌+◌, ◌<◌, ◌≤◌, inl, inr, Bool, true, false, not, ◌&&◌, ◌||◌, Option, Some, None, List, refl, sym, ap, ◌∙◌, subst, arith}
+use Rattle.std.proofs.Common.{◌≡◌, ◌≢◌, ℕ, suc, ◌+◌, ◌<◌, ◌≤◌, inl, inr, Bool, true, false, not, ◌&&◌, ◌||◌, Option, Some, None, List, refl, sym, ap, ◌∙◌, subst, arith}
 use Rattle.std.proofs.lemmas.Bool.{eqb-true}
 use Rattle.std.specs.Prelude.{◌==◌, ◌%◌}
 use Rattle.im_rv.specs.declared.step.Went.TheVariants.{Faulted}
-use Rattle.im_rv.specs.declared.effect.Effect.{Effect}
 use Rattle.im_rv.specs.declared.effect.Effect.TheVariants.{Stops}
-use Rattle.im_rv.specs.Decode.{Line}
 use Rattle.im_rv.specs.Runs.{step_of}
 use Rattle.im_rv.specs.Effects.{effect_by, rs1_of, rs2_of, writes_by, reads_by}
 use Rattle.im_rv.specs.Code.{address, instruction_at}

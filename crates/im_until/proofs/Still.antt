@@ -1,14 +1,14 @@
 -- A run that has ended stays as it is.
-use Rattle.std.proofs.Common.{◌≡◌, ◌≢◌, ℕ, zero, suc, ◌+◌, ◌<◌, ◌≤◌, inl, inr, Bool, true, false, not, cond, refl, sym, ap, ◌∙◌, subst, arith, eq-eqb}
+use Rattle.std.proofs.Common.{◌≡◌, ℕ, zero, suc, ◌≤◌, inl, inr, Bool, true, false, not, cond, refl, sym, ap, ◌∙◌, subst, arith, eq-eqb}
 use Rattle.std.specs.Prelude.{nat_eq}
 use Rattle.im_rv.specs.Steps.{Cpu}
 use Rattle.im_mem.specs.Memory.{Mem}
 use Rattle.im_rv.specs.Runs.{step_of}
 use Rattle.im_rv.proofs.Changes.{ends_calm}
 use Rattle.im_device.specs.Run.{index_of}
-use Rattle.im_path.specs.Sections.{start, flips}
-use Rattle.im_path.proofs.Times.{order, start-calm}
-use Rattle.im_ckpt.specs.Runs.{State, stepped, is_end, IsRun, flip, ends}
+use Rattle.im_path.specs.Sections.{flips}
+use Rattle.im_path.proofs.Times.{order}
+use Rattle.im_ckpt.specs.Runs.{State, is_end, IsRun, flip, ends}
 use Rattle.im_replay.proofs.Bridge.{off_of}
 
 itself : (n : ℕ) → nat_eq n n ≡ true

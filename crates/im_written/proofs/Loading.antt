@@ -1,6 +1,5 @@
 -- What a written image loads, and what its run begins with.
-use Rattle.std.proofs.Common.{◌≡◌, ℕ, zero, suc, ◌+◌, ◌-◌, ◌*◌, ◌%◌, ◌^◌, ◌<◌, ◌≤◌, Bool, true, false, List, [], ◌∷◌, ◌++◌, length, refl, sym, ap, ◌∙◌, subst, arith}
-use Rattle.std.specs.Prelude.{◌&&◌, nat_le, nat_lt, ◌==◌}
+use Rattle.std.proofs.Common.{◌≡◌, ℕ, ◌+◌, ◌-◌, ◌*◌, ◌%◌, ◌<◌, ◌≤◌, false, List, [], ◌∷◌, ◌++◌, length, refl, sym, ap, ◌∙◌, subst, arith}
 use Rattle.std.specs.List.{flat_map}
 use Rattle.std.proofs.lemmas.Bool.{leb-true, eqb-true, and_parts}
 use Rattle.std.proofs.lemmas.Bool.Decides.{nat_tests}
@@ -10,13 +9,13 @@ use Rattle.im_mem.specs.Memory.{Mem, little, written, zeroed, Stands}
 use Rattle.im_mem.proofs.Words.{little-alike, written-below, written-above, stands-alike}
 use Rattle.im_image.specs.Contents.{ImageValue, ObjectValue, AreObjects, IsImage}
 use Rattle.im_device.specs.Load.{memory_of}
-use Rattle.im_device.specs.Run.{index_of, boot}
+use Rattle.im_device.specs.Run.{index_of}
 use Rattle.im_device_laws.specs.Laws.{LoadedLaw, BootLaw}
 use Rattle.im_ckpt.specs.Runs.{State}
 use Rattle.im_ckpt.specs.Buffers.{buffer}
 use Rattle.im_ckpt.specs.Recovery.{recovery_words}
 use Rattle.im_ckpt.specs.Checkpoint.{checkpoint_words, checkpoint_end}
-use Rattle.im_ckpt.specs.Laws.{is_runtime, CanResume}
+use Rattle.im_ckpt.specs.Laws.{is_runtime}
 use Rattle.im_ckpt.proofs.Resume.{recovered}
 use Rattle.im_replay.proofs.Endless.{first_state}
 use Rattle.im_replay.proofs.Images.{first_mem}
