@@ -1,16 +1,13 @@
 -- What code that is being made weighs: its cost in words, its loop edges, and how often it has an access of a number.
-use Rattle.std.proofs.Common.{◌≡◌, ℕ, zero, suc, ◌+◌, ◌<◌, ◌≤◌, ◌==◌, List, [], ◌∷◌, ◌++◌, length, refl, ap, sym, ◌∙◌, subst, arith}
+use Rattle.std.proofs.Common.{◌≡◌, ℕ, zero, suc, ◌+◌, ◌≤◌, ◌==◌, List, [], ◌∷◌, ◌++◌, length, refl, ap, sym, ◌∙◌, arith}
 use Rattle.std.specs.Prelude.{if◌then◌else◌, Some, None, slice_get, slice_set}
-use Rattle.im_num.specs.declared.kind.Kind.{Kind}
 use Rattle.im_block.specs.declared.code.Line.{Line}
-use Rattle.im_block.specs.declared.code.Line.TheVariants.{Read, Write}
-use Rattle.im_block.specs.declared.code.Place.{Place}
 use Rattle.im_block.specs.declared.code.Exit.{Exit}
 use Rattle.im_block.specs.declared.code.Exit.TheVariants.{Jump, Turn, Branch, Return}
 use Rattle.im_block.specs.Shape.{sum_of, turns_of, cost, exit_cost}
 use Rattle.im_block.specs.Wellformed.{accesses_of_line, accesses_of_lines}
 use Rattle.im_lower.specs.Codes.{Point, ends}
-use Rattle.im_made.specs.Made.{Made, put, put_read, put_write, close, start, turn}
+use Rattle.im_made.specs.Made.{Made, put, close, start, turn}
 
 pub sum_more : {X : Type 0} (f : X → ℕ) (xs : List X) (y : X) → sum_of f (xs ++ y ∷ []) ≡ sum_of f xs + f y
 sum_more f [] y = omega arith

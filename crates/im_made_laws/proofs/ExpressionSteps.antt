@@ -1,5 +1,5 @@
 -- What the code of an expression adds: at most 64 words for each node, and registers up to as many as it has nodes.
-use Rattle.std.proofs.Common.{◌≡◌, ◌≢◌, ◌⊎◌, inl, inr, ℕ, zero, suc, ◌+◌, ◌*◌, ◌^◌, ◌<◌, ◌≤◌, Bool, true, false, List, [], ◌∷◌, length, take, refl, ap, sym, ◌∙◌, subst, arith}
+use Rattle.std.proofs.Common.{◌≡◌, ◌≢◌, ◌⊎◌, inl, inr, ℕ, zero, suc, ◌+◌, ◌*◌, ◌^◌, ◌<◌, ◌≤◌, false, List, [], ◌∷◌, length, take, refl, ap, sym, ◌∙◌, subst, arith}
 use Rattle.std.specs.Prelude.{Option, Some, None, slice_get, ℤ, pos}
 use Rattle.std.proofs.lemmas.List.{length-take}
 use Rattle.im_num.specs.declared.kind.Kind.{Kind}
@@ -14,15 +14,15 @@ use Rattle.im_typed.specs.declared.expression.Change.TheVariants.{Number as Numb
 use Rattle.im_typed.specs.Program as p
 use Rattle.im_typed.specs.Typing.{Each, IsInteger, IsPromoted as TypedPromoted, IsCompared, IsElement, IsChange, IsStep, IsAccess, AreLaidOut, IsTyped, IsTypedPlace, AreArguments, IsTypedFunc, members_offset, parameters, result_shape, shape_of}
 use Rattle.im_typed.specs.Values.{changed_kind}
-use Rattle.im_typed.specs.Counts.{place_nodes, expr_nodes, exprs_nodes, conversions_in, struct_cells}
+use Rattle.im_typed.specs.Counts.{place_nodes, expr_nodes, exprs_nodes, conversions_in}
 use Rattle.im_block.specs.declared.code.Place.{Place}
 use Rattle.im_block.specs.declared.code.Place.TheVariants.{Static, Local, Through}
 use Rattle.im_block.specs.declared.code.Exit.TheVariants.{Jump, Branch}
 use Rattle.im_lower.specs.Codes.{further_in, cells_of_shape, offset_in, count_of}
 use Rattle.im_lower.specs.Lowered.{HasParameters}
-use Rattle.im_made.specs.Made.{Made, put, put_read, put_write, close, start}
+use Rattle.im_made.specs.Made.{Made, put, close, start}
 use Rattle.im_made.specs.Make.{place_at, behind, part_offset, known_made, put_known, make_place, make, make_arguments}
-use Rattle.im_made.proofs.Growth.{Grows, stays, grows_close, grows_start, close_length}
+use Rattle.im_made.proofs.Growth.{Grows, stays, grows_start, close_length}
 use Rattle.im_made.proofs.Grown.{grows}
 use Rattle.im_made_laws.proofs.Steps.{Step, at_most, step_close, step_start}
 use Rattle.im_made_laws.proofs.LineSteps.{Good_register, GoodPlace, GoodChange, place_offset, further_good, through_good, adds_put, adds_null, adds_getchar, adds_convert, adds_unary, adds_not, adds_putchar, adds_compute, adds_compare, adds_move, adds_distance, adds_address, adds_call, adds_read, adds_write, adds_load, adds_reads, adds_writes, adds_change, adds_increment}

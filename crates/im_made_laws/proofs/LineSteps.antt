@@ -1,6 +1,6 @@
 -- The lines that lowering puts, each with what it adds.
-use Rattle.std.proofs.Common.{◌≡◌, ◌≢◌, ◌⊎◌, ℕ, zero, suc, ◌+◌, ◌*◌, ◌^◌, ◌<◌, ◌≤◌, Bool, true, false, List, [], ◌∷◌, length, refl, ap, sym, ◌∙◌, subst, arith}
-use Rattle.std.specs.Prelude.{Option, Some, None, slice_get, ℤ, pos}
+use Rattle.std.proofs.Common.{◌≡◌, ◌≢◌, ◌⊎◌, ℕ, ◌+◌, ◌*◌, ◌^◌, ◌<◌, ◌≤◌, Bool, true, false, List, [], ◌∷◌, length, refl, arith}
+use Rattle.std.specs.Prelude.{slice_get, ℤ, pos}
 use Rattle.im_num.specs.declared.kind.Kind.{Kind}
 use Rattle.im_num.specs.declared.kind.Kind.TheVariants.{I8, U8, I16, U16, I32, U32, Ptr}
 use Rattle.im_ctype.specs.declared.cell.Cell.{Cell}
@@ -13,17 +13,16 @@ use Rattle.im_typed.specs.Program as p
 use Rattle.im_typed.specs.Values.{changed_kind}
 use Rattle.im_block.specs.declared.code.Place.{Place}
 use Rattle.im_block.specs.declared.code.Place.TheVariants.{Static, Local, Through}
-use Rattle.im_block.specs.declared.code.Line.{Line}
 use Rattle.im_block.specs.declared.code.Line.TheVariants.{Put, PutNull, Convert, Unary, Not, Compute, Compare, Move, Distance, Address, Read, Write, Call, GetChar, PutChar}
-use Rattle.im_block.specs.Shape.{narrowing, place_registers, cost}
+use Rattle.im_block.specs.Shape.{narrowing, place_registers}
 use Rattle.im_block.specs.declared.unit.Function.{Function}
 use Rattle.im_placed.specs.Operands.{IsPromoted, PlaceExists, PlaceFrom}
 use Rattle.im_typed.specs.Typing.{Each}
 use Rattle.im_lower.specs.Codes.{further_in}
 use Rattle.im_lower.specs.Lowered.{HasParameters}
 use Rattle.im_made.specs.Made.{Made, above_place, put, put_read, put_write}
-use Rattle.im_made.specs.Make.{put_load, put_reads, put_writes, put_copy, put_change, changed_in, put_increment}
-use Rattle.im_made_laws.proofs.Steps.{Fits, Step, at_most, step_put, step_access}
+use Rattle.im_made.specs.Make.{put_load, put_reads, put_writes, put_change, changed_in, put_increment}
+use Rattle.im_made_laws.proofs.Steps.{Step, at_most, step_put, step_access}
 
 narrow : (kind : Kind) → narrowing kind ≤ 2
 narrow I8 = omega arith

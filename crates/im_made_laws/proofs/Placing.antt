@@ -1,6 +1,6 @@
 -- Placing can give the registers of the code homes, and no cut stands in it.
-use Rattle.std.proofs.Common.{◌≡◌, ◌≢◌, ◌⊎◌, inl, inr, ℕ, zero, suc, ◌+◌, ◌-◌, ◌*◌, ◌/◌, ◌^◌, ◌<◌, ◌≤◌, ◌==◌, Bool, true, false, List, [], ◌∷◌, ◌++◌, length, map, take, sum_by, refl, ap, sym, ◌∙◌, subst, arith}
-use Rattle.std.specs.Prelude.{Option, Some, None, slice_get, All}
+use Rattle.std.proofs.Common.{◌≡◌, ◌≢◌, inl, inr, ℕ, zero, suc, ◌+◌, ◌*◌, ◌/◌, ◌==◌, Bool, false, List, [], ◌∷◌, length, map, take, sum_by, refl, ap, sym, ◌∙◌, subst, arith}
+use Rattle.std.specs.Prelude.{Some, slice_get, All}
 use Rattle.std.proofs.lemmas.List.{length-map, length-take}
 use Rattle.std.proofs.lemmas.Option.{slice_get_within}
 use Rattle.std.proofs.lemmas.List.Sums.{sum_by-cons}
@@ -10,33 +10,32 @@ use Rattle.im_typed.specs.Program as p
 use Rattle.im_typed.specs.ProgramOf.{stmt_of, func_of, program_of}
 use Rattle.im_typed.specs.Limits.{IsWithinLimits}
 use Rattle.im_typed.specs.Typing.{Each, IsTypedFunc, IsWellTyped}
-use Rattle.im_typed.specs.Counts.{func_nodes, func_need, slot_bytes}
+use Rattle.im_typed.specs.Counts.{func_nodes, slot_bytes}
 use Rattle.im_block.specs.declared.code.Block.{Block}
 use Rattle.im_block.specs.declared.code.Line.{Line}
 use Rattle.im_block.specs.declared.code.Line.TheVariants.{Put, PutNull, Copy, Convert, Unary, Not, Compute, Compare, Move, Distance, Address, Read, Write, Reload, Spill, Cut, Call, GetChar, PutChar}
 use Rattle.im_block.specs.declared.code.Exit.{Exit}
 use Rattle.im_block.specs.declared.code.Exit.TheVariants.{Jump, Turn, Branch, Return}
 use Rattle.im_block.specs.declared.unit.Object.{Object}
-use Rattle.im_block.specs.declared.unit.Static.{Static as BlockStatic}
 use Rattle.im_block.specs.declared.unit.Function.{Function}
 use Rattle.im_block.specs.declared.unit.Unit.{Unit as Code}
 use Rattle.im_block.specs.Meaning.{static_of}
 use Rattle.im_store.specs.Statics.{StaticObject}
 use Rattle.im_block.specs.Shape.{sum_of}
 use Rattle.im_block.specs.Wellformed.{ExitThere}
-use Rattle.im_block.specs.Paths.{IsCut, IsEdge}
+use Rattle.im_block.specs.Paths.{IsEdge}
 use Rattle.im_placed.specs.Placeable.{LineFrom, ExitFrom, Receives, IsPlaceableLine, IsPlaceableFunction, IsPlaceable, object_need, first_free}
 use Rattle.im_placed.specs.Apart.{IsNoCut, AllUncut}
 use Rattle.im_lower.specs.Codes.{Point}
-use Rattle.im_lower.specs.Lowered.{AreObjects, kind_of_one}
+use Rattle.im_lower.specs.Lowered.{AreObjects}
 use Rattle.im_made.specs.Made.{Made, point_of, put, put_write, close}
 use Rattle.im_made.specs.MakeStatement.{put_parameters, make_brace, make_statement}
 use Rattle.im_made.specs.MakeUnit.{nothing_made, FunctionMade, FunctionsMade, UnitMade}
 use Rattle.im_made.proofs.Growth.{close_blocks}
-use Rattle.im_made_laws.proofs.Steps.{IsUncut, Fits, GoodLine, GoodPoint, Good, IsAtEnd, at_end, no_step, step_close}
+use Rattle.im_made_laws.proofs.Steps.{IsUncut, GoodLine, Good, IsAtEnd, at_end, no_step, step_close}
 use Rattle.im_made_laws.proofs.ExpressionSteps.{Premises, HasObjects}
 use Rattle.im_made_laws.proofs.StatementSteps.{statement_positive, statement_adds}
-use Rattle.im_made_laws.proofs.Sized.{all_of, each_all, got_point, good_from_zero, nothing_good, parameters_add, brace_adds, objects_length, FunctionSized, function_sized, each_was}
+use Rattle.im_made_laws.proofs.Sized.{all_of, each_all, got_point, good_from_zero, nothing_good, parameters_add, brace_adds, objects_length, function_sized}
 
 no_cut : (line : Line) → IsUncut line → IsNoCut line
 no_cut (Put to z) h = λ e. absurd e
@@ -188,9 +187,10 @@ functions_ready : (g : Prog) → Premises (program_of g) → (k first accesses l
 functions_ready g premises k first accesses last [] [] typed h = tt
 functions_ready g premises k first accesses last [] (c ∷ cs) typed h = absurd h
 functions_ready g premises k first accesses last (f ∷ fs) [] typed h = absurd h
-functions_ready g premises k first accesses last (f ∷ fs) (c ∷ cs) typed h =
-    (function_placeable g f (k == g.main) first accesses c h.0 h.1 premises typed.0,
-    functions_ready g premises (suc k) (first + length f.objects.items) h.0 last fs cs typed.1 h.2)
+functions_ready g premises k first accesses last (f ∷ fs) (c ∷ cs) typed h = (
+  function_placeable g f (k == g.main) first accesses c h.0 h.1 premises typed.0,
+  functions_ready g premises (suc k) (first + length f.objects.items) h.0 last fs cs typed.1 h.2,
+)
 
 ready_at : (statics : ℕ) (cs : List Function) (i : ℕ) (c : Function) → Each (IsReady statics) cs → slice_get cs i ≡ Some c → FunctionPlaceable statics c
 ready_at statics [] i c h e = absurd (cc)

@@ -1,19 +1,16 @@
 -- The code of a well-typed program within the limits is ordered, names what is there, and is small.
-use Rattle.std.proofs.Common.{◌≡◌, ◌⊎◌, inl, inr, ℕ, zero, suc, ◌+◌, ◌-◌, ◌*◌, ◌<◌, ◌≤◌, ◌==◌, max, Bool, true, false, List, [], ◌∷◌, ◌++◌, length, map, take, refl, ap, sym, ◌∙◌, subst, arith}
-use Rattle.std.specs.Prelude.{if◌then◌else◌, IsTrue, Option, Some, None, slice_get, slice_index_or, pos, All}
-use Rattle.std.proofs.lemmas.Option.{slice_get-get_or, slice_get-map}
+use Rattle.std.proofs.Common.{◌≡◌, ◌⊎◌, inl, inr, ℕ, zero, suc, ◌+◌, ◌*◌, ◌<◌, ◌≤◌, ◌==◌, Bool, true, false, List, [], ◌∷◌, length, map, take, refl, ap, sym, ◌∙◌, subst, arith}
+use Rattle.std.specs.Prelude.{if◌then◌else◌, Some, None, slice_get, slice_index_or, pos, All}
+use Rattle.std.proofs.lemmas.Option.{slice_get-get_or}
 use Rattle.std.proofs.lemmas.List.{length-map, length-take}
-use Rattle.std.proofs.lemmas.Bool.{eqb-true}
 use Rattle.std.proofs.lemmas.Bool.Decides.{nat_tests}
-use Rattle.im_ctype.specs.Table.{Table}
-use Rattle.im_typed.specs.declared.program.Object.{Object as TypedObject}
 use Rattle.im_typed.specs.declared.program.Func.{Func}
 use Rattle.im_typed.specs.declared.program.Prog.{Prog}
 use Rattle.im_typed.specs.Program as p
-use Rattle.im_typed.specs.ProgramOf.{stmt_of, object_of, func_of, program_of}
+use Rattle.im_typed.specs.ProgramOf.{stmt_of, func_of, program_of}
 use Rattle.im_typed.specs.Limits.{IsWithinLimits}
 use Rattle.im_typed.specs.Typing.{Each, IsTypedFunc, IsWellTyped}
-use Rattle.im_typed.specs.Counts.{func_nodes, stmt_nodes}
+use Rattle.im_typed.specs.Counts.{func_nodes}
 use Rattle.im_block.specs.declared.code.Block.{Block}
 use Rattle.im_block.specs.declared.code.Line.{Line}
 use Rattle.im_block.specs.declared.code.Line.TheVariants.{Put, PutNull, Copy, Convert, Unary, Not, Compute, Compare, Move, Distance, Address, Read, Write, Reload, Spill, Cut, Call, GetChar, PutChar}
@@ -24,23 +21,22 @@ use Rattle.im_block.specs.declared.code.Exit.TheVariants.{Jump, Turn, Branch, Re
 use Rattle.im_block.specs.declared.unit.Object.{Object}
 use Rattle.im_block.specs.declared.unit.Function.{Function}
 use Rattle.im_block.specs.declared.unit.Unit.{Unit as Code}
-use Rattle.im_block.specs.Shape.{sum_of, cost, exit_cost, block_cost, function_cost, loop_edges, turns_of}
-use Rattle.im_block.specs.Wellformed.{PlaceWithin, LineWithin, ExitWithin, ExitThere, accesses_of_lines, accesses_of_blocks, accesses_of_functions, AreApart}
+use Rattle.im_block.specs.Shape.{sum_of, cost, block_cost, turns_of}
+use Rattle.im_block.specs.Wellformed.{PlaceWithin, LineWithin, ExitWithin, ExitThere, accesses_of_lines, accesses_of_blocks, accesses_of_functions}
 use Rattle.im_placed.specs.Operands.{PlaceFrom}
-use Rattle.im_placed.specs.Placeable.{LineFrom, ExitFrom, Receives, IsPlaceableLine, IsPlaceableFunction, IsPlaceable, object_need, first_free}
-use Rattle.im_placed.specs.Apart.{IsNoCut, AllUncut}
-use Rattle.im_lower.specs.Codes.{Point, ends}
-use Rattle.im_lower.specs.Lowered.{AreObjects, CallsRightly, kind_of_one, loops_in, IsSized, AreSized}
-use Rattle.im_made.specs.Made.{Made, point_of, above_place, above_line, above_exit, put, put_write, close, start}
+use Rattle.im_placed.specs.Placeable.{LineFrom, ExitFrom}
+use Rattle.im_lower.specs.Codes.{Point}
+use Rattle.im_lower.specs.Lowered.{AreObjects, CallsRightly, kind_of_one, IsSized, AreSized}
+use Rattle.im_made.specs.Made.{Made, point_of, above_place, above_line, above_exit, put, put_write, close}
 use Rattle.im_made.specs.MakeStatement.{put_parameters, make_brace, make_statement}
-use Rattle.im_made.specs.MakeUnit.{nothing_made, code_made, FunctionMade, FunctionsMade, AllMade, UnitMade}
+use Rattle.im_made.specs.MakeUnit.{nothing_made, FunctionMade, FunctionsMade, UnitMade}
 use Rattle.im_made.specs.MakeUnit.{objects_of}
 use Rattle.im_made.proofs.Units.{placed, was_there}
 use Rattle.im_made_laws.proofs.Counting.{total, point_cost, point_turns, point_times, occurs, occurs_more}
-use Rattle.im_made_laws.proofs.Steps.{IsUncut, Fits, GoodExit, GoodLine, GoodPoint, Good, Numbered, Step, no_step, at_most, step_close, step_start}
+use Rattle.im_made_laws.proofs.Steps.{GoodLine, GoodPoint, Good, Numbered, Step, no_step, at_most, step_close, step_start}
 use Rattle.im_made_laws.proofs.LineSteps.{Good_register, GoodPlace, adds_put, adds_write}
 use Rattle.im_made_laws.proofs.ExpressionSteps.{Premises, HasObjects}
-use Rattle.im_made_laws.proofs.StatementSteps.{words_of, statement_positive, statement_adds}
+use Rattle.im_made_laws.proofs.StatementSteps.{statement_positive, statement_adds}
 
 -- registers from 0 on are all
 

@@ -1,5 +1,5 @@
 -- What the code of statements adds: less than 64 words for each node, and one loop edge for each loop.
-use Rattle.std.proofs.Common.{◌≡◌, ℕ, zero, suc, ◌+◌, ◌-◌, ◌*◌, ◌<◌, ◌≤◌, min, Bool, true, false, List, [], ◌∷◌, length, sum_by, refl, ap, sym, ◌∙◌, subst, arith}
+use Rattle.std.proofs.Common.{◌≡◌, ℕ, zero, suc, ◌+◌, ◌-◌, ◌*◌, ◌<◌, ◌≤◌, min, Bool, true, false, List, [], ◌∷◌, length, sum_by, refl, ap, sym, subst, arith}
 use Rattle.std.specs.Prelude.{if◌then◌else◌, IsTrue, Option, Some, None, slice_get, slice_index_or, pos}
 use Rattle.std.proofs.lemmas.List.{length-set}
 use Rattle.std.proofs.lemmas.List.Sums.{sum_by-cons}
@@ -18,7 +18,7 @@ use Rattle.im_block.specs.declared.unit.Function.{Function}
 use Rattle.im_placed.specs.Operands.{IsPromoted, HasObject}
 use Rattle.im_store.specs.Objects.{kind_at}
 use Rattle.std.proofs.lemmas.Bool.{eqb-true}
-use Rattle.std.proofs.Common.{◌==◌, ◌⊎◌, inl, inr}
+use Rattle.std.proofs.Common.{◌==◌, inl}
 use Rattle.im_block.specs.declared.code.Place.TheVariants.{Local}
 use Rattle.im_block.specs.declared.code.Exit.TheVariants.{Jump, Turn, Branch, Return}
 use Rattle.im_lower.specs.Codes.{ends}
@@ -26,8 +26,8 @@ use Rattle.im_lower.specs.Statements.{zero_line, kind_in}
 use Rattle.im_lower.specs.Lowered.{loops_in, loops_among, AreObjects}
 use Rattle.im_made.specs.Made.{Made, put, put_write, close, start, turn}
 use Rattle.im_made.specs.Make.{make}
-use Rattle.im_made.specs.MakeStatement.{put_zero, put_rest, put_piece, label_at, put_case, put_cases, make_pieces, make_return, test_made, cells_there, make_statement, make_block, make_labelled, labels_of}
-use Rattle.im_made.proofs.Growth.{Grows, stays, grows_on, grows_close, grows_start, grows_turn, close_length, close_blocks, start_blocks, start_point, got_last}
+use Rattle.im_made.specs.MakeStatement.{put_zero, put_rest, put_piece, label_at, put_cases, make_pieces, make_return, test_made, cells_there, make_statement, make_block, make_labelled, labels_of}
+use Rattle.im_made.proofs.Growth.{Grows, stays, grows_on, grows_close, grows_start, grows_turn, close_length, start_blocks, got_last}
 use Rattle.im_made.proofs.Grown.{grows}
 use Rattle.im_made.proofs.GrownStatements.{test_grows, statement_grows, block_grows, labelled_grows, cases_grow}
 use Rattle.im_made.proofs.CodedStatements.{cells_same}
@@ -125,6 +125,7 @@ module _ (g : p.Prog) (f : p.Func) (code : Function) (first low limit : ℕ) (pr
     where
       r : Good_register low limit low
       r = record { from = omega arith; below = le }
+
       by_kind : (kind : Kind) → S (c + 7) t m (put (zero_line low kind) n)
       by_kind Ptr = adds_null g code low limit low r h
       by_kind I8 = adds_put g code low limit low (pos 0) r h

@@ -1,17 +1,13 @@
 -- A part of the code that is made: what it keeps, and what it adds.
 use Rattle.std.proofs.Common.{◌≡◌, ℕ, zero, suc, ◌+◌, ◌<◌, ◌≤◌, ◌==◌, max, List, [], ◌∷◌, ◌++◌, length, refl, ap, sym, ◌∙◌, subst, arith}
-use Rattle.std.specs.Prelude.{if◌then◌else◌, Some, None, slice_get, slice_set}
-use Rattle.std.proofs.lemmas.Option.{slice_get_within}
-use Rattle.im_num.specs.declared.kind.Kind.{Kind}
+use Rattle.std.specs.Prelude.{if◌then◌else◌, Some, slice_get, slice_set}
 use Rattle.im_typed.specs.Typing.{Each}
 use Rattle.im_block.specs.declared.code.Line.{Line}
-use Rattle.im_block.specs.declared.code.Line.TheVariants.{Put, PutNull, Copy, Convert, Unary, Not, Compute, Compare, Move, Distance, Address, Read, Write, Reload, Spill, Cut, Call, GetChar, PutChar}
-use Rattle.im_block.specs.declared.code.Place.TheVariants.{Static, Local, Through}
-use Rattle.im_block.specs.declared.code.Place.{Place}
+use Rattle.im_block.specs.declared.code.Line.TheVariants.{Cut}
 use Rattle.im_block.specs.declared.code.Exit.{Exit}
 use Rattle.im_block.specs.declared.code.Exit.TheVariants.{Jump, Turn, Branch, Return}
-use Rattle.im_block.specs.Shape.{Descends, sum_of, turns_of, cost, exit_cost}
-use Rattle.im_block.specs.Wellformed.{ExitThere, accesses_of_line, accesses_of_lines}
+use Rattle.im_block.specs.Shape.{Descends, turns_of, cost, exit_cost}
+use Rattle.im_block.specs.Wellformed.{ExitThere, accesses_of_line}
 use Rattle.im_block.specs.declared.unit.Function.{Function}
 use Rattle.im_placed.specs.Placeable.{IsPlaceableLine, LineFrom, ExitFrom}
 use Rattle.im_lower.specs.Codes.{Point, ends}
@@ -20,8 +16,8 @@ use Rattle.im_typed.specs.Program as p
 use Rattle.std.proofs.lemmas.List.{length-set}
 use Rattle.std.proofs.lemmas.Bool.Decides.{nat_tests}
 use Rattle.std.proofs.Common.{◌⊎◌, inl, inr, Bool, true, false}
-use Rattle.im_made.specs.Made.{Made, above_line, above_exit, put, put_read, put_write, close, start, turn}
-use Rattle.im_made.proofs.Growth.{Grows, stays, grows_same, grows_put, grows_close, grows_start, grows_turn, close_length, close_blocks, start_blocks, turn_blocks, got_other, got_same}
+use Rattle.im_made.specs.Made.{Made, above_line, above_exit, put, close, start, turn}
+use Rattle.im_made.proofs.Growth.{Grows, stays, grows_same, grows_put, grows_close, grows_start, grows_turn, close_length}
 use Rattle.im_made_laws.proofs.Counting.{total, point_cost, point_turns, point_times, occurs, put_cost, put_turns, put_times, close_total, start_total, turn_total, exit_costs}
 
 abbrev pub IsUncut : Line → Type 0
