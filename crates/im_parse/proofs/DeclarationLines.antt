@@ -88,7 +88,7 @@ list_of : {T : List Name} {p k : ℕ} {a : InitDeclaratorTree} {b : tree.InitDec
 list_of {T = T} {p = p} (an_init_declarator {d = d'} {i = i'} {u = u} {v = v} d i) no_more e = subst (units.IsInitDeclarators T p (tree.more_init_declarators d' i' tree.no_init_declarators)) (sym (append-nil (u ++ v))) (units.last_declarator d i)
 list_of {T = T} {p = p} (an_init_declarator {d = d'} {i = i'} {u = u} {v = v} d i) (one_more {a = a} {b = b} {v = z} (after {u = w} x) rest) e =
     subst (units.IsInitDeclarators T p (tree.more_init_declarators d' i' (add_init_declarator a b))) (more_words u v (w ++ z))
-    (units.next_declarator d i (list_of (subst (λ k. IsInitDeclarator T k a w) (omega (arith, e, length-append u v)) x) rest (omega (arith, e, length-append u v))))
+    (units.next_declarator d i (list_of {p = suc (p + length u + length v)} (subst (λ k. IsInitDeclarator T k a w) (omega (arith, e, length-append u v)) x) rest (omega (arith, e, length-append u v))))
 
 row_of : {T : List Name} {p q : ℕ} {d : tree.Declarator} {i : tree.MaybeInitializer} {t : tree.InitDeclarators} {w : List Word} → Both (IsInitDeclarator T) (λ a. Made (add_init_declarator a) (Row T)) p t w → p ≡ suc q → Made (tree.more_init_declarators d i) (Row T) q (tree.more_init_declarators d i t) (mark Comma ∷ w)
 row_of {T = T} {q = q} (both {a = a} {u = u} {v = v} x (made {t = b} rest)) e = made (one_more (after (subst (λ k. IsInitDeclarator T k a u) e x)) (subst (λ k. Row T k b v) (omega (arith, e)) rest))

@@ -412,7 +412,6 @@ pub core_stops : (words : List Word) {T : List Name} {f : Form} {p q : ℕ} {ns 
 core_stops words b e from Memory h = tt
 core_stops words b e from (Syntax k) h = stops_case words b e from h
 
-
 -- how the core begins
 pub is_name : (T : List Name) (b : Bool) {f : Form} {words : List Word} {q : ℕ} {core : cs.CoreStart} {n : Bor Name} {k : ℕ} → core ≡ c.Name n k → IsCore T f b words q core → HasName f × IsAt (name n.now) words q k
 is_name T b {f = f} {words = words} {q = q} e h = subst (IsCore T f b words q) e h

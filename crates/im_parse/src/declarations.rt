@@ -31,10 +31,22 @@ pub fn declaration(
     let (specifiers, next) = specifiers(alloc, words, names, at)?;
     if let Some(end) = after_mark(words, next, Punctuator::Semicolon) {
         let declarators = Vec::new(alloc);
-        return Ok((Declaration { specifiers, declarators }, end));
+        return Ok((
+            Declaration {
+                specifiers,
+                declarators,
+            },
+            end,
+        ));
     }
     let (declarators, end) = closed_init_declarators(alloc, words, names, next)?;
-    Ok((Declaration { specifiers, declarators }, end))
+    Ok((
+        Declaration {
+            specifiers,
+            declarators,
+        },
+        end,
+    ))
 }
 
 /// The declarators of a declaration and the semicolon behind them (C11 6.7), and the place behind all.
@@ -72,7 +84,10 @@ pub fn closed_inits_behind(
 {
     let mut items = Vec::new(alloc);
     let (initializer, mut next) = maybe_initializer(alloc, words, names, at)?;
-    items.push(InitDeclarator { declarator: first, initializer })?;
+    items.push(InitDeclarator {
+        declarator: first,
+        initializer,
+    })?;
     while let Some(behind) = after_mark(words, next, Punctuator::Comma) {
         let (item, end) = init_declarator(alloc, words, names, behind)?;
         items.push(item)?;
@@ -94,7 +109,13 @@ fn init_declarator(
 {
     let (declarator, next) = declarator(alloc, words, names, Form::Declared, at)?;
     let (initializer, end) = maybe_initializer(alloc, words, names, next)?;
-    Ok((InitDeclarator { declarator, initializer }, end))
+    Ok((
+        InitDeclarator {
+            declarator,
+            initializer,
+        },
+        end,
+    ))
 }
 
 /// The initialiser behind a declarator, where one is written (C11 6.7), and the place behind it.

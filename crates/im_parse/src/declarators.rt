@@ -95,12 +95,7 @@ fn suffixes(
 
 /// One suffix of a declarator (C11 6.7.6.2, 6.7.6.3), and the place behind it.
 #[cycle(expression)]
-fn suffix(
-    alloc: Global,
-    words: &[Word],
-    names: &[&[u8]],
-    at: u32,
-) -> Result<(Suffix, u32), Stop>
+fn suffix(alloc: Global, words: &[Word], names: &[&[u8]], at: u32) -> Result<(Suffix, u32), Stop>
     requires { length words.now < 2 ^ 32 }
     ensures { Parses suffix_tree (IsSuffix (names_of names.now)) Anything (map shown words.now) at result }
 {

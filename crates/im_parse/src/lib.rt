@@ -19,10 +19,10 @@ mod postfix;
 mod specifier;
 mod stars;
 mod table;
-mod text;
-mod type_name;
 #[cfg(test)]
 mod tests;
+mod text;
+mod type_name;
 
 pub use declarations::{closed_init_declarators, closed_inits_behind, declaration};
 pub use declarators::declarator;

@@ -41,12 +41,7 @@ pub fn closed_members(
 
 /// A declaration of members (C11 6.7.2.1), and the place behind it.
 #[cycle(expression)]
-fn member(
-    alloc: Global,
-    words: &[Word],
-    names: &[&[u8]],
-    at: u32,
-) -> Result<(Member, u32), Stop>
+fn member(alloc: Global, words: &[Word], names: &[&[u8]], at: u32) -> Result<(Member, u32), Stop>
     requires { length words.now < 2 ^ 32 }
     ensures { Parses member_tree (IsMember (names_of names.now)) Anything (map shown words.now) at result }
 {

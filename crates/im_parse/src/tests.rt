@@ -24,7 +24,10 @@ fn word(letter: u8) -> Word<'static> {
         b's' => Word::Keyword(Keyword::Struct),
         b'e' => Word::Keyword(Keyword::Enum),
         b'z' => Word::Keyword(Keyword::Sizeof),
-        b'1' => Word::Number(Number { value: 1, number_type: NumberType::Int }),
+        b'1' => Word::Number(Number {
+            value: 1,
+            number_type: NumberType::Int,
+        }),
         b't' => Word::Name(b"t"),
         _ => Word::Name(b"x"),
     }
