@@ -1,5 +1,5 @@
 -- Arguments, one behind the other.
-use Rattle.std.proofs.Common.{◌≡◌, ℕ, ◌+◌, ◌<◌, ◌≤◌, List, [], ◌∷◌, ◌++◌, map, length, take, drop, get_or, refl, sym, ap, ◌∙◌, subst, append_assoc, arith, Some, true, Result}
+use Rattle.std.proofs.Common.{◌≡◌, ℕ, ◌+◌, ◌<◌, ◌≤◌, List, [], ◌∷◌, ◌++◌, map, length, drop, get_or, sym, ap, ◌∙◌, subst, append_assoc, Some, true, Result}
 use Rattle.std.proofs.lemmas.List.{drop_more, drop_all, map_push, append-nil}
 use Rattle.im_ctree.specs.declared.expression.Expression.{Expression}
 use Rattle.im_ctree.specs.Tree as t
@@ -17,7 +17,7 @@ use Rattle.im_terms.specs.Shape.{term_of}
 use Rattle.im_names.specs.declared.scope.Scope.{Scope}
 use Rattle.im_terms.specs.Answers.{IsMade}
 use Rattle.im_names.specs.Shape.{context_of, scopes_of}
-use Rattle.im_check_expressions.specs.Checked.{IsFault, IsChecked, Reached, ReachedAt, tree_of, trees_of}
+use Rattle.im_check_expressions.specs.Checked.{IsFault, IsChecked, Reached, tree_of, trees_of}
 use Rattle.im_check_expressions.proofs.Made.{made}
 
 pub next : (es : List Expression) (i : ℕ) (e : Expression) → i < length es → e ≡ get_or es i e → drop i es ≡ e ∷ drop (i + 1) es

@@ -1,10 +1,8 @@
-use Rattle.std.proofs.Common.{◌≡◌, ◌+◌, ◌++◌, ◌∷◌, [], length, ap, ◌∙◌, sym, arith}
+use Rattle.std.proofs.Common.{◌+◌, ap, ◌∙◌, sym}
 use Rattle.std.proofs.lemmas.List.{length_push}
-use Rattle.im_ctype.specs.Types.{CType}
 use Rattle.im_rules.specs.Conversions as cv
 use Rattle.im_rules.specs.Terms as r
 use Rattle.im_terms.specs.Shape.{type_of}
-use Rattle.im_check_expressions.specs.Calls.{exprs_from}
 use Rattle.im_check_expressions.proofs.Counted.{one_more}
 use Rattle.im_check_expressions.proofs.calls.converted.Goals as goal
 
