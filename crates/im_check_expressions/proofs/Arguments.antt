@@ -1,5 +1,5 @@
 -- Arguments, one behind the other.
-use Rattle.std.proofs.Common.{◌≡◌, ℕ, ◌+◌, ◌<◌, ◌≤◌, List, [], ◌∷◌, ◌++◌, map, length, take, drop, get_or, refl, sym, ap, ◌∙◌, subst, append_assoc, arith, Some, true, Result}
+use Rattle.std.proofs.Common.{◌≡◌, ℕ, ◌+◌, ◌<◌, ◌≤◌, List, [], ◌∷◌, ◌++◌, map, length, drop, get_or, sym, ap, ◌∙◌, subst, append_assoc, Some, true, Result}
 use Rattle.std.proofs.lemmas.List.{drop_more, drop_all, map_push, append-nil}
 use Rattle.im_ctree.specs.declared.expression.Expression.{Expression}
 use Rattle.im_ctree.specs.Tree as t
@@ -17,7 +17,7 @@ use Rattle.im_terms.specs.Shape.{term_of}
 use Rattle.im_names.specs.declared.scope.Scope.{Scope}
 use Rattle.im_terms.specs.Answers.{IsMade}
 use Rattle.im_names.specs.Shape.{context_of, scopes_of}
-use Rattle.im_check_expressions.specs.Checked.{IsFault, IsChecked, Reached, ReachedAt, tree_of, trees_of}
+use Rattle.im_check_expressions.specs.Checked.{IsFault, IsChecked, Reached, tree_of, trees_of}
 use Rattle.im_check_expressions.proofs.Made.{made}
 
 pub next : (es : List Expression) (i : ℕ) (e : Expression) → i < length es → e ≡ get_or es i e → drop i es ≡ e ∷ drop (i + 1) es
@@ -40,11 +40,11 @@ reached_more {s = s} {es = es} {i = i} {e = e} xs x at reached typed = λ k.
     record {
       next = j + length (strings_in (tree_of e));
       goes_on = λ ys d.
-        let d₁ : AreTyped (context_of s j) (trees_of (drop i es)) (term_of x ∷ ys) = rw at (an_argument (typed j) d) in
-        subst (λ zs. AreTyped (context_of s k) (trees_of es) zs) (sym (append_assoc (map term_of xs) (term_of x ∷ []) ys) ∙ ap (λ zs. zs ++ ys) (sym (map_push term_of xs x))) (f.goes_on (term_of x ∷ ys) d₁);
+          let d₁ : AreTyped (context_of s j) (trees_of (drop i es)) (term_of x ∷ ys) = rw at (an_argument (typed j) d) in
+          subst (λ zs. AreTyped (context_of s k) (trees_of es) zs) (sym (append_assoc (map term_of xs) (term_of x ∷ []) ys) ∙ ap (λ zs. zs ++ ys) (sym (map_push term_of xs x))) (f.goes_on (term_of x ∷ ys) d₁);
       breaks_on = λ rule token b.
-        let b₁ : Broken (context_of s j) (some_expressions (trees_of (drop i es))) rule token = rw at (within other_arguments b) in
-        f.breaks_on rule token b₁;
+          let b₁ : Broken (context_of s j) (some_expressions (trees_of (drop i es))) rule token = rw at (within other_arguments b) in
+          f.breaks_on rule token b₁;
     }
 
 pub reached_fault : {s : Scope} {es : List Expression} {i : ℕ} {e : Expression} (xs : List Term) (f : Stop)

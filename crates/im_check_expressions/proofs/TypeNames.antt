@@ -1,5 +1,5 @@
 -- Type names without a declarator.
-use Rattle.std.proofs.Common.{◌≡◌, ℕ, true, None, Some, refl, ap, sym, ◌∙◌, subst, Global, Result, Ok, Err, MatchResult}
+use Rattle.std.proofs.Common.{◌≡◌, ℕ, true, None, refl, ap, sym, ◌∙◌, subst, Global, Result, Ok, Err, MatchResult}
 use Rattle.std.specs.declared.vec.Vec.{Vec}
 use Rattle.im_ctree.specs.declared.specifier.Specifier.{Specifier}
 use Rattle.im_ctree.specs.declared.specifier.Specifiers.{Specifiers, Row_of-Specifier, end_of-Specifier, more_of-Specifier, items-the_row-Specifier, items_hidden-the_row-Specifier-6, out-Specifiers, is-Specifiers'}
@@ -7,7 +7,6 @@ use Rattle.im_ctree.specs.declared.declarator.Core.TheBlock.{hidden-the_row-Spec
 use Rattle.im_ctree.specs.declared.declarator.TypeName.{TypeName, TypeName', out-TypeName, Parameter-declarator-None', Parameter-declarator-Some'}
 use Rattle.im_ctree.specs.Tree as t
 use Rattle.im_ctree.specs.Shape.{specifiers_of, specifier_of, specifier_list_of, type_name_of}
-use Rattle.im_rules.specs.Demands.{asks}
 use Rattle.im_rules.specs.Declared.{Qualified, specifiers_ask, type_of_specifiers, is_sized}
 use Rattle.im_rules.specs.Typed.{Names, of_type_name, of_no_declarator}
 use Rattle.im_rules.specs.Breaks.{Broken, within, here, at_specifiers, name_specifiers, some_specifiers, a_type_name}

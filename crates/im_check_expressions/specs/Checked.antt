@@ -1,15 +1,12 @@
 -- What the checker answers of expressions and type names.
-use Rattle.std.specs.Prelude.{◌≡◌, ℕ, List, [], ◌∷◌, ◌++◌, map, drop, MatchResult, Result, Vec}
+use Rattle.std.specs.Prelude.{ℕ, List, [], ◌∷◌, ◌++◌, map, drop, MatchResult, Result, Vec}
 use Rattle.std.specs.Global.{Global}
 use Rattle.im_ctree.specs.Tree as t
 use Rattle.im_ctree.specs.declared.expression.Expression.{Expression}
-use Rattle.im_ctree.specs.Shape.{expression_of, expressions_of}
-use Rattle.im_rules.specs.Context.{Context}
+use Rattle.im_ctree.specs.Shape.{expression_of}
 use Rattle.im_rules.specs.Terms as r
-use Rattle.im_rules.specs.Demands.{Demand, Meets}
-use Rattle.im_rules.specs.Declared.{Qualified}
-use Rattle.im_rules.specs.Typed.{Typed, AreTyped, Names}
-use Rattle.im_rules.specs.Breaks.{Node, an_expression, some_expressions, a_type_name, Broken}
+use Rattle.im_rules.specs.Typed.{Typed, AreTyped}
+use Rattle.im_rules.specs.Breaks.{Node, an_expression, some_expressions, Broken}
 use Rattle.im_terms.specs.declared.stop.Stop.{Stop}
 use Rattle.im_terms.specs.declared.stop.Stop.TheVariants.{Rule, Memory}
 use Rattle.im_terms.specs.declared.term.Term.{Term}

@@ -108,12 +108,7 @@ fn call(function: u32, arguments: Vec<Expr>) -> Expr
     Expr::Call(function, arguments)
 }
 
-fn called(
-    alloc: Global,
-    ty: PlainType,
-    callee: Callee,
-    arguments: Vec<Expr>,
-) -> Result<Value, Stop>
+fn called(alloc: Global, ty: PlainType, callee: Callee, arguments: Vec<Expr>) -> Result<Value, Stop>
     ensures { MatchResult result (λ v. value_from v ≡ record { type = type_of ty; expr = c.call_by (callee_of callee) (exprs_from arguments.items) }) IsNoRule }
 {
     match callee {

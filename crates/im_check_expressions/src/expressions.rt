@@ -18,8 +18,8 @@ use im_ctype::Integer;
 use im_names::{Entity, Scope};
 use im_store::Number;
 use im_terms::{
-    Stop, Storage, Term, assign_term, binary_term, cast_term, comma_term,
-    conditional_term, literal, size_term, step_term, type_in, unary_term,
+    Stop, Storage, Term, assign_term, binary_term, cast_term, comma_term, conditional_term,
+    literal, size_term, step_term, type_in, unary_term,
 };
 use im_tok::NumberType;
 use std::alloc::Global;
@@ -68,7 +68,9 @@ fn name_term(scope: &Scope, at: u32, name: &[u8]) -> Result<Term, Stop>
     ensures { (k : ℕ) → IsMade (d.name_asks (context_of scope.now k) name.now) (c.called (s.meaning (scopes_of scope.now.entries.items) name.now)) at result }
 {
     match scope.find(name) {
-        Some(Entity::Object(constant, ty, storage)) => object_term(scope, at, name, *constant, *ty, *storage),
+        Some(Entity::Object(constant, ty, storage)) => object_term(
+            scope, at, name, *constant, *ty, *storage,
+        ),
         Some(Entity::Enumerator(z)) => Ok(Term::Value(literal(Integer::Int, *z))),
         _ => Err(refused(18, at)),
     }

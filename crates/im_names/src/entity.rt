@@ -1,6 +1,6 @@
+use im_ctype::Integer;
 use im_store::Number;
 use im_terms::{PlainType, Storage};
-use im_ctype::Integer;
 
 /// The body of a function.
 #[derive(Clone, Copy, Debug)]

@@ -1,21 +1,20 @@
 -- No unit is typed to two programs.
-use Rattle.std.proofs.Common.{◌≡◌, ℕ, ℤ, pos, ◌+ℤ◌, List, Option, Some, refl, sym, subst}
+use Rattle.std.proofs.Common.{◌≡◌, ℤ, pos, ◌+ℤ◌, List, Option, refl, sym, subst}
 use Rattle.im_word.specs.Words.{Name}
 use Rattle.im_ctree.specs.declared.specifier.SpecifierWord.{SpecifierWord}
 use Rattle.im_ctree.specs.Tree as t
 use Rattle.im_ctype.specs.Types.{CType, Member}
-use Rattle.im_typed.specs.Program.{Func, Prog, Stmts}
+use Rattle.im_typed.specs.Program.{Func, Prog}
 use Rattle.im_rules.specs.TypeTests.{result_of}
-use Rattle.im_rules.specs.Rules.{named_in, keywords_in}
-use Rattle.im_rules.specs.Strings.{strings_of_declarator, strings_maybe}
+use Rattle.im_rules.specs.Strings.{strings_maybe}
 use Rattle.im_rules.specs.Outline.{nearest}
 use Rattle.im_rules.specs.Context.{Context, in_new_scope}
 use Rattle.im_rules.specs.Declared.{Qualified, Declared, parameters_of}
 use Rattle.im_rules.specs.Typed.{Declares, AreParameters}
 use Rattle.im_rules.specs.Initialisers.{completed}
-use Rattle.im_rules.specs.Statements.{Added, TypedItems, name_of as name_in}
-use Rattle.im_rules.specs.FileScope.{FilePlace, past_strings, Level, of_the_file, number_in, with_enumerator, own_parameters, file_start}
-use Rattle.im_rules.specs.TypedUnit.{IsNumber, counted_on, written, AreEnumerators, no_enumerator, an_enumerator, Specify, of_specifiers, NamesType, no_list, a_struct, an_enum, AreMembers, no_member, some_members, AreFields, no_field, a_field, FirstValues, MayGive, gives_nothing, gives_values, past_declarator, given_strings, AreDeclared, none_declared, one_declared, body_site, past_head, TypedExternal, of_declaration, of_function, AreExternals, no_external, an_external, TypedUnit, of_unit, program}
+use Rattle.im_rules.specs.Statements.{TypedItems, name_of as name_in}
+use Rattle.im_rules.specs.FileScope.{FilePlace, past_strings, Level, number_in, with_enumerator, own_parameters}
+use Rattle.im_rules.specs.TypedUnit.{IsNumber, counted_on, written, AreEnumerators, no_enumerator, an_enumerator, Specify, of_specifiers, NamesType, no_list, a_struct, an_enum, AreMembers, no_member, some_members, AreFields, no_field, a_field, FirstValues, MayGive, gives_nothing, gives_values, past_declarator, given_strings, AreDeclared, none_declared, one_declared, body_site, past_head, TypedExternal, of_declaration, of_function, AreExternals, no_external, an_external, TypedUnit, of_unit}
 use Rattle.im_rules.proofs.Once.{once, declares_once, parameters_once}
 use Rattle.im_rules.proofs.BodiesOnce.{initialised_once, items_once}
 

@@ -1,25 +1,23 @@
 -- The parts of a unit that is typed are typed, and no node in it breaks a rule.
-use Rattle.std.proofs.Common.{◌≡◌, true, inl, inr, ℕ, ℤ, pos, ◌+ℤ◌, [], ◌∷◌, List, Option, Some, refl, sym, ap, subst}
+use Rattle.std.proofs.Common.{◌≡◌, true, ℕ, ℤ, pos, ◌+ℤ◌, List, Option, sym, ap, subst}
 use Rattle.im_word.specs.Words.{Name}
 use Rattle.im_ctree.specs.declared.specifier.SpecifierWord.{SpecifierWord}
 use Rattle.im_ctree.specs.Tree as t
 use Rattle.im_ctype.specs.Types.{CType, Member}
-use Rattle.im_typed.specs.Program.{Func, Prog, Stmts}
+use Rattle.im_typed.specs.Program.{Func, Prog}
 use Rattle.im_rules.specs.TypeTests.{result_of}
-use Rattle.im_rules.specs.Rules.{named_in, keywords_in}
-use Rattle.im_rules.specs.Strings.{strings_of_declarator, strings_maybe}
+use Rattle.im_rules.specs.Strings.{strings_maybe}
 use Rattle.im_rules.specs.Outline.{nearest, is_initialised}
 use Rattle.im_rules.specs.Context.{Context, in_new_scope}
-use Rattle.im_rules.specs.Demands.{Meets, Refuses}
 use Rattle.im_rules.specs.Declared.{Qualified, Declared, specified_asks, parameters_of}
 use Rattle.im_rules.specs.Typed.{Declares, AreParameters}
-use Rattle.im_rules.specs.Breaks.{Node, an_expression, a_declarator}
+use Rattle.im_rules.specs.Breaks.{Node, an_expression}
 use Rattle.im_rules.specs.Initialisers.{Item, Initialised, completed, strings_given}
-use Rattle.im_rules.specs.Statements.{Added, TypedItems, name_of as name_in}
+use Rattle.im_rules.specs.Statements.{TypedItems, name_of as name_in}
 use Rattle.im_rules.specs.BodyBreaks.{an_initialiser}
 use Rattle.im_rules.specs.StaticValues.{constant_asks}
-use Rattle.im_rules.specs.FileScope.{FilePlace, past_strings, file_start, file_asks, own_parameters, body_asks, Level, of_the_file, of_members, level_asks, with_list_begun, struct_asks, member_asks, enum_asks, number_in, enumerator_asks, with_enumerator, main_asks, static_size}
-use Rattle.im_rules.specs.TypedUnit.{IsNumber, counted_on, written, AreEnumerators, no_enumerator, an_enumerator, Specify, of_specifiers, NamesType, no_list, a_struct, an_enum, AreMembers, no_member, some_members, AreFields, no_field, a_field, FirstValues, AreConstants, MayGive, gives_nothing, gives_values, past_declarator, given_strings, AreDeclared, none_declared, one_declared, body_site, past_head, TypedExternal, of_declaration, of_function, AreExternals, no_external, an_external, TypedUnit, of_unit}
+use Rattle.im_rules.specs.FileScope.{FilePlace, past_strings, file_asks, own_parameters, body_asks, Level, of_the_file, level_asks, struct_asks, member_asks, enum_asks, number_in, enumerator_asks, with_enumerator, main_asks, static_size}
+use Rattle.im_rules.specs.TypedUnit.{IsNumber, written, AreEnumerators, an_enumerator, Specify, of_specifiers, NamesType, no_list, a_struct, an_enum, AreMembers, some_members, AreFields, a_field, FirstValues, AreConstants, MayGive, gives_values, past_declarator, given_strings, AreDeclared, one_declared, body_site, past_head, TypedExternal, of_declaration, of_function, AreExternals, an_external, TypedUnit, of_unit}
 use Rattle.im_rules.specs.UnitBreaks.{FileNode, some_externals, an_external as external_node, some_declared, file_specifiers, some_named, some_members as members_node, some_fields, some_enumerators, FileBreaks, at_words, at_name, at_struct, at_enum, at_enumerator, at_field, at_declarator, HeadBreaks, at_head, at_function, RefusedItem, this_item, other_item, FilePart, first_external, other_externals, declaration_specifiers, declared_part, function_specifiers, named_part, struct_members, enum_constants, other_enumerators, member_specifiers, member_fields, other_members, other_fields, other_declared, FileInner, enumerator_value, field_declarator, file_declarator, function_declarator, FileBroken, here_in_file, at_its_head, within_file, in_file_inner, in_static_initialiser, in_static_values, in_body, UnitBroken, in_externals, at_unit}
 use Rattle.im_rules.proofs.Once.{declares_once, parameters_once}
 use Rattle.im_rules.proofs.BodiesOnce.{initialised_once}

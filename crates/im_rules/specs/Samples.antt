@@ -1,5 +1,5 @@
 -- Small trees, for the examples.
-use Rattle.std.specs.Prelude.{ℕ, pos, true, false, List, [], ◌∷◌, Some}
+use Rattle.std.specs.Prelude.{ℕ, pos, false, List, [], ◌∷◌, Some}
 use Rattle.im_word.specs.Words.{Name}
 use Rattle.im_num.specs.declared.kind.Kind.TheVariants.{I32, U8}
 use Rattle.im_tok.specs.declared.number.Number.{Number}
@@ -94,8 +94,8 @@ small_unit =
     (t.more_externals (declares (w.Static ∷ w.Int ∷ []) 5 y (t.an_initializer (t.value_initializer (t.integer_constant 7 (int_number 3)))))
     (t.more_externals (declares (w.Int ∷ []) 12 x t.no_initializer)
     (t.more_externals
-        (t.function_definition (t.specifiers 14 (words (w.Int ∷ []))) (t.declarator 15 [] (t.name_core main_name) (t.function_suffix 16 no_arguments t.no_suffixes))
-        (t.block 19 (t.statement_item (t.return_statement 20 (t.an_expression (t.identifier 21 y))) t.no_items)))
+    (t.function_definition (t.specifiers 14 (words (w.Int ∷ []))) (t.declarator 15 [] (t.name_core main_name) (t.function_suffix 16 no_arguments t.no_suffixes))
+    (t.block 19 (t.statement_item (t.return_statement 20 (t.an_expression (t.identifier 21 y))) t.no_items)))
     t.no_externals)))
 
 abbrev pub static_int : Name → ℕ → StaticObject

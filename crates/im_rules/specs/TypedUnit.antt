@@ -1,12 +1,12 @@
 -- What a unit is typed to (C11 6.9): external declarations one behind the other, each in what stands before it.
-use Rattle.std.specs.Prelude.{ℕ, ◌+◌, ℤ, pos, ◌+ℤ◌, Bool, true, false, List, [], ◌∷◌, ◌++◌, map, length, decimal, codes, Option, Some, None, if◌then◌else◌}
+use Rattle.std.specs.Prelude.{ℕ, ◌+◌, ℤ, pos, ◌+ℤ◌, true, false, List, [], ◌∷◌, ◌++◌, map, length, decimal, codes, Option, Some, None, if◌then◌else◌}
 use Rattle.im_word.specs.Words.{Name}
 use Rattle.im_num.specs.declared.kind.Kind.{Kind}
 use Rattle.im_ctree.specs.declared.specifier.SpecifierWord.{SpecifierWord}
 use Rattle.im_ctree.specs.Tree as t
 use Rattle.im_ctype.specs.declared.cell.Cell.{Cell}
 use Rattle.im_ctype.specs.declared.integer.Integer.TheVariants.{Char, Int}
-use Rattle.im_ctype.specs.Types.{CType, void, integer, array, struct, Member, Structs, is_void}
+use Rattle.im_ctype.specs.Types.{CType, integer, array, struct, Member, Structs, is_void}
 use Rattle.im_ctype.specs.Layout.{Layout, layout, empty_layout}
 use Rattle.im_store.specs.Objects.{Value, Number}
 use Rattle.im_store.specs.Statics.{StaticObject}
@@ -15,7 +15,7 @@ use Rattle.im_rules.specs.TypeTests.{same_name, result_of}
 use Rattle.im_rules.specs.Scopes.{meaning}
 use Rattle.im_rules.specs.Rules.{Position, named_in, keywords_in}
 use Rattle.im_rules.specs.Strings.{strings_of_declarator, strings_maybe}
-use Rattle.im_rules.specs.Outline.{is_in, place_in, nearest, is_initialised}
+use Rattle.im_rules.specs.Outline.{place_in, nearest, is_initialised}
 use Rattle.im_rules.specs.Context.{Context, in_new_scope}
 use Rattle.im_rules.specs.Terms.{Term, kind_in, constant_in}
 use Rattle.im_rules.specs.Demands.{Meets}

@@ -1,25 +1,23 @@
 -- Which node of a unit breaks which rule.
-use Rattle.std.specs.Prelude.{◌≡◌, ℕ, ◌+◌, ℤ, pos, ◌+ℤ◌, Bool, true, false, List, [], ◌∷◌, Option, Some}
+use Rattle.std.specs.Prelude.{◌≡◌, ℕ, ℤ, pos, ◌+ℤ◌, Bool, true, false, List, ◌∷◌, Option}
 use Rattle.im_word.specs.Words.{Name}
-use Rattle.im_ctree.specs.declared.specifier.SpecifierWord.{SpecifierWord}
 use Rattle.im_ctree.specs.Tree as t
-use Rattle.im_ctype.specs.Types.{CType, Member}
+use Rattle.im_ctype.specs.Types.{Member}
 use Rattle.im_typed.specs.Program.{Func}
 use Rattle.im_rules.specs.TypeTests.{result_of}
-use Rattle.im_rules.specs.Rules.{named_in, keywords_in}
+use Rattle.im_rules.specs.Rules.{named_in}
 use Rattle.im_rules.specs.Strings.{strings_of_declarator, strings_maybe}
 use Rattle.im_rules.specs.Outline.{nearest, is_initialised}
 use Rattle.im_rules.specs.Context.{Context, in_new_scope}
 use Rattle.im_rules.specs.Demands.{Meets, Refuses}
 use Rattle.im_rules.specs.Declared.{Qualified, Declared, specified_asks, parameters_of}
 use Rattle.im_rules.specs.Typed.{Declares, AreParameters}
-use Rattle.im_rules.specs.Breaks.{Node, an_expression, a_declarator, some_parameters, Broken}
-use Rattle.im_rules.specs.Initialisers.{Item, Initialised, completed, strings_given}
-use Rattle.im_rules.specs.Statements.{Site}
-use Rattle.im_rules.specs.BodyBreaks.{an_initialiser, GivenBroken, BodyNode, some_items, BodyBroken, declarator_token}
+use Rattle.im_rules.specs.Breaks.{Node, an_expression, a_declarator, Broken}
+use Rattle.im_rules.specs.Initialisers.{Item, Initialised, completed}
+use Rattle.im_rules.specs.BodyBreaks.{an_initialiser, GivenBroken, some_items, BodyBroken, declarator_token}
 use Rattle.im_rules.specs.StaticValues.{constant_asks, item_token}
 use Rattle.im_rules.specs.FileScope.{FilePlace, past_strings, file_start, file_asks, own_parameters, body_asks, Level, of_the_file, of_members, level_asks, with_list_begun, struct_asks, member_asks, enum_asks, number_in, enumerator_asks, with_enumerator, main_asks, static_size}
-use Rattle.im_rules.specs.TypedUnit.{IsNumber, Specify, AreMembers, AreFields, FirstValues, given_strings, past_declarator, AreDeclared, body_site, past_head, TypedExternal, AreExternals}
+use Rattle.im_rules.specs.TypedUnit.{IsNumber, Specify, AreMembers, AreFields, FirstValues, given_strings, past_declarator, body_site, past_head, TypedExternal, AreExternals}
 
 -- nodes at file scope
 pub data FileNode : Type 0 where

@@ -1,11 +1,8 @@
 -- What is answered of specifiers, put together.
-use Rattle.std.proofs.Common.{◌≡◌, ◌≤◌, ◌&&◌, ℕ, Bool, true, false, List, [], ◌∷◌, length, nat_le, eq-eqb, is_some, Option, Some, None, inl, inr, refl, sym, ap, subst, ◌∙◌, arith, Result, Ok, Err}
+use Rattle.std.proofs.Common.{◌≡◌, ◌≤◌, ◌&&◌, ℕ, Bool, true, false, List, [], ◌∷◌, length, eq-eqb, is_some, Some, None, inl, inr, refl, sym, ap, ◌∙◌, arith, Result, Ok, Err}
 use Rattle.std.proofs.lemmas.Bool.{le-leb}
-use Rattle.std.specs.Option.{option_map}
 use Rattle.im_ctree.specs.Tree as t
-use Rattle.im_ctree.specs.declared.specifier.Specifier.{Specifier}
 use Rattle.im_ctree.specs.declared.specifier.SpecifierWord.{SpecifierWord}
-use Rattle.im_ctype.specs.Types.{CType}
 use Rattle.im_rules.specs.Rules.{named_in, keywords_in, storage_in, line_type, lines, rule_1, rule_2_elsewhere}
 use Rattle.im_rules.specs.Context.{Context}
 use Rattle.im_rules.specs.Demands.{Demand, asks, Meets, Refuses}
@@ -15,8 +12,7 @@ use Rattle.im_terms.specs.declared.stop.Stop.{Stop}
 use Rattle.im_terms.specs.declared.stop.Stop.TheVariants.{Rule, Memory}
 use Rattle.im_terms.specs.Shape.{type_of}
 use Rattle.im_specifiers.specs.declared.specified.Specified.{Specified}
-use Rattle.im_specifiers.specs.Lists.{tree_of}
-use Rattle.im_specifiers.specs.Specified.{IsSpecified, qualified_of, file_asks, base_of}
+use Rattle.im_specifiers.specs.Specified.{IsSpecified, file_asks, base_of}
 
 and_true : (b : Bool) → (b && true) ≡ b
 and_true true = refl

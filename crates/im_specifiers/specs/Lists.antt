@@ -1,5 +1,5 @@
 -- Specifiers as lists.
-use Rattle.std.specs.Prelude.{ℕ, ◌+◌, Bool, List, [], ◌∷◌, Option, if◌then◌else◌}
+use Rattle.std.specs.Prelude.{ℕ, Bool, List, [], ◌∷◌, if◌then◌else◌}
 use Rattle.im_ctree.specs.Tree as t
 use Rattle.im_ctree.specs.declared.specifier.Specifier.{Specifier}
 use Rattle.im_ctree.specs.Shape.{specifier_of}

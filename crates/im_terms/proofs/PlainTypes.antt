@@ -1,5 +1,5 @@
 -- What plain types aren't.
-use Rattle.std.proofs.Common.{◌≡◌, Bool, false, ◌||◌, ◌&&◌, true, refl}
+use Rattle.std.proofs.Common.{◌≡◌, Bool, false, ◌&&◌, true, refl}
 use Rattle.im_ctype.specs.Types.{is_pointer}
 use Rattle.im_terms.specs.declared.plain.PlainType.{PlainType}
 use Rattle.im_terms.specs.declared.plain.PlainType.TheVariants.{Void, Integer}

@@ -91,7 +91,11 @@ fn stored(alloc: Global, ty: Integer, storage: Storage, y: Value) -> Result<Valu
 {
     let value = as_integer(alloc, ty, y)?;
     let place = Box::new(alloc, place_of(storage))?;
-    let expr = Expr::Assign(Access::Scalar(ty.kind()), place, Box::new(alloc, value.expr)?);
+    let expr = Expr::Assign(
+        Access::Scalar(ty.kind()),
+        place,
+        Box::new(alloc, value.expr)?,
+    );
     Ok(variable(PlainType::Integer(ty), expr))
 }
 

@@ -6,7 +6,9 @@ ghost use Rattle.im_rules.specs.Constants as c;
 ghost use Rattle.im_terms.specs.Told.{number_in, negated, compared_as};
 
 use im_num::Kind;
-use im_store::{BinaryOp, Comparison, Number, UnaryOp, applied, applied_to_one, compared, converted};
+use im_store::{
+    BinaryOp, Comparison, Number, UnaryOp, applied, applied_to_one, compared, converted,
+};
 
 /// What an expression is as a constant expression (C11 6.6): whether it is one, and its value,
 /// unless its evaluation meets a cause of undefined behaviour.
@@ -155,12 +157,6 @@ pub fn choice_value(
 {
     match test {
         None => None,
-        Some(x) => {
-            if is_true(x) {
-                first
-            } else {
-                second
-            }
-        }
+        Some(x) => { if is_true(x) { first } else { second } }
     }
 }

@@ -1,4 +1,4 @@
-use Rattle.std.proofs.Common.{◌≡◌, length, ap, arith, refl}
+use Rattle.std.proofs.Common.{length, ap, arith, refl}
 use Rattle.im_check_expressions.proofs.calls.function_term.Goals as goal
 
 pub all_fit-requires : goal.all_fit-requires

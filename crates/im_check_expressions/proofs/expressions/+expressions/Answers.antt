@@ -1,15 +1,15 @@
-use Rattle.std.proofs.Common.{◌≡◌, ℕ, ◌+◌, [], map, length, refl, sym, ap, ◌∙◌}
+use Rattle.std.proofs.Common.{◌+◌, [], map, length, refl, ap, ◌∙◌}
 use Rattle.std.proofs.lemmas.Result.{err_from_is_err_and}
 use Rattle.im_ctree.specs.Shape.{type_name_of, expression_of}
 use Rattle.im_rules.specs.Strings.{strings_in, strings_named}
-use Rattle.im_rules.specs.Demands.{name_asks, step_asks, unary_asks, binary_asks, conditional_asks, assign_asks, size_asks, cast_asks, call_asks}
+use Rattle.im_rules.specs.Demands.{name_asks, step_asks, unary_asks, binary_asks, conditional_asks, assign_asks, size_asks, cast_asks}
 use Rattle.im_rules.specs.Typed.{of_identifier, of_number, of_character, of_post_step, of_pre_step, of_unary, of_size, of_type_size, of_cast, of_binary, of_conditional, of_assign, of_comma}
 use Rattle.im_rules.specs.Breaks as b
 use Rattle.im_rules.specs.Breaks.{at_identifier, at_post_step, at_pre_step, at_unary, at_size, at_type_size, at_cast, at_binary, at_conditional, at_assign, post_stepped, pre_stepped, operand, measured_expression, measured_type, cast_type, cast_operand, left_operand, right_operand, condition, first_arm, second_arm, left_side, right_side, before_comma, behind_comma}
 use Rattle.im_rules.specs.Terms.{type_in}
 use Rattle.im_terms.specs.Shape.{term_of, type_of}
 use Rattle.im_names.specs.Shape.{context_of, entity_of}
-use Rattle.im_check_expressions.specs.Checked.{tree_of, trees_of}
+use Rattle.im_check_expressions.specs.Checked.{tree_of}
 use Rattle.im_check_expressions.proofs.Made.{made, made_each, made_plain, first_fault, second_fault, third_fault}
 use Rattle.im_check_expressions.proofs.Arguments.{next, last, reached_none, reached_more, reached_fault, reached_all, call_made}
 use Rattle.im_check_expressions.proofs.Rows.{call_tree}

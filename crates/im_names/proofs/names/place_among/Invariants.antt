@@ -1,4 +1,4 @@
-use Rattle.std.proofs.Common.{◌≡◌, ◌+◌, ◌≤◌, length, map, drop}
+use Rattle.std.proofs.Common.{◌≡◌, ◌+◌, map, drop}
 use Rattle.im_names.specs.Shape.{bytes_of}
 use Rattle.im_rules.specs.Outline.{place_in}
 use Rattle.im_names.proofs.names.place_among.Given as goal

@@ -1,4 +1,4 @@
-use Rattle.std.proofs.Common.{◌≡◌, ap, ◌∙◌}
+use Rattle.std.proofs.Common.{ap, ◌∙◌}
 use Rattle.im_rules.specs.Declared as d
 use Rattle.im_rules.specs.Declared.{Qualified}
 use Rattle.im_specifiers.specs.Lists.{list_from}

@@ -1,4 +1,4 @@
-use Rattle.std.proofs.Common.{◌≡◌, ◌+◌, ◌≤◌, length, drop}
+use Rattle.std.proofs.Common.{◌≡◌, ◌+◌, ◌≤◌, drop}
 use Rattle.im_rules.specs.Rules.{count_word, keywords_in}
 use Rattle.im_specifiers.specs.Lists.{list_from}
 use Rattle.im_specifiers.proofs.words.count.Given as goal

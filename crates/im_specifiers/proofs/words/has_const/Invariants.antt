@@ -1,4 +1,4 @@
-use Rattle.std.proofs.Common.{◌≡◌, ◌+◌, ◌≤◌, length, drop}
+use Rattle.std.proofs.Common.{◌≡◌, drop}
 use Rattle.im_rules.specs.Declared.{has_const}
 use Rattle.im_specifiers.specs.Lists.{list_from}
 use Rattle.im_specifiers.proofs.words.has_const.Given as goal

@@ -1,4 +1,4 @@
-use Rattle.std.proofs.Common.{◌≡◌, ◌+◌, length, drop, ap, arith, List}
+use Rattle.std.proofs.Common.{◌+◌, length, drop, ap, arith, List}
 use Rattle.im_ctree.specs.declared.specifier.Specifier.{Specifier}
 use Rattle.im_rules.specs.Rules.{storage_in}
 use Rattle.im_specifiers.specs.Lists.{list_from}

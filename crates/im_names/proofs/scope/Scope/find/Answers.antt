@@ -1,4 +1,4 @@
-use Rattle.std.proofs.Common.{◌≡◌, ◌-◌, ◌≤◌, length, take, ap, ◌∙◌, arith, Some, None}
+use Rattle.std.proofs.Common.{◌-◌, take, ap, ◌∙◌, arith}
 use Rattle.im_rules.specs.Scopes.{meaning}
 use Rattle.im_names.specs.Shape.{scopes_of}
 use Rattle.im_names.proofs.Entries.{one-more}

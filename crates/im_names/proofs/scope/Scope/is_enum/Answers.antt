@@ -1,4 +1,4 @@
-use Rattle.std.proofs.Common.{◌≡◌, ◌-◌, ◌≤◌, length, take, ap, ◌∙◌, arith, Some, None}
+use Rattle.std.proofs.Common.{◌-◌, take, ap, ◌∙◌, arith}
 use Rattle.im_rules.specs.Scopes.{tag_meaning}
 use Rattle.im_names.specs.Shape.{scopes_of, tag_or}
 use Rattle.im_names.proofs.Entries.{one-more}
@@ -12,7 +12,8 @@ returns-then-tags_it c =
 
 pub loop-i-preserved : goal.loop-i-preserved
 loop-i-preserved c =
-    let es = c.args.self.now.entries.items in
-    (omega arith,
-    c.loop-i.invariant.1 ∙ ap (λ g. tag_meaning g c.args.tag.now) (one-more es c.loop-i.i _ (omega arith) (omega arith) c.index-entry.ensures)
-    ∙ c.tags_it.ensures (scopes_of (take (c.loop-i.i - 1) es)) ∙ ap (λ b. tag_or b (tag_meaning (scopes_of (take (c.loop-i.i - 1) es)) c.args.tag.now)) c.if-tags_it.false)
+    let es = c.args.self.now.entries.items in (
+      omega arith,
+      c.loop-i.invariant.1 ∙ ap (λ g. tag_meaning g c.args.tag.now) (one-more es c.loop-i.i _ (omega arith) (omega arith) c.index-entry.ensures)
+          ∙ c.tags_it.ensures (scopes_of (take (c.loop-i.i - 1) es)) ∙ ap (λ b. tag_or b (tag_meaning (scopes_of (take (c.loop-i.i - 1) es)) c.args.tag.now)) c.if-tags_it.false,
+    )
