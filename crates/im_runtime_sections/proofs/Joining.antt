@@ -1,18 +1,12 @@
 -- Pieces join, since what is in order behind anything is so behind less.
-use Rattle.std.proofs.Common.{◌≡◌, ℕ, zero, suc, ◌+◌, ◌-◌, ◌<◌, ◌≤◌, Bool, true, false, cond, List, [], ◌∷◌, ◌++◌, refl, sym, ap, ◌∙◌, subst, arith, length}
-use Rattle.std.specs.Prelude.{◌==◌, ◌&&◌, ◌||◌, nat_le, nat_lt}
-use Rattle.std.proofs.lemmas.Bool.Decides.{nat_tests}
-use Rattle.im_mem.specs.Memory.{Mem, little, bytes_from}
+use Rattle.std.proofs.Common.{◌≡◌, Bool, true, false, List, [], ◌∷◌, ◌++◌, refl, sym, ap, ◌∙◌, subst}
 use Rattle.im_reach.specs.Touches.{Touch, Loaded, Stored, Flipped}
-use Rattle.im_reach.specs.Shown.{shown, left}
-use Rattle.im_reach.specs.Routines.{Called}
-use Rattle.im_runtime.specs.Seen.{seen, get_touches_by}
-use Rattle.im_runtime.specs.Laws.{PutsByte, GetsByte}
+use Rattle.im_runtime.specs.Seen.{seen}
 use Rattle.im_runtime.proofs.Ran.{seen-append}
-use Rattle.im_runtime_sections.specs.Orderly.{Since, Anything, Nothing, StoresOnly, Selector, Refused, Place, Free, Low, Select, Wrong, may_load, is_free, place_of, loading, storing, flipping, moved, after, is_closed, IsOrderly}
-use Rattle.im_runtime_sections.specs.Laws.{JoinsLaw, RoutinesLaw}
+use Rattle.im_runtime_sections.specs.Orderly.{Since, Anything, Nothing, StoresOnly, Selector, Refused, Place, Free, Low, Select, Wrong, may_load, place_of, loading, storing, moved, after, is_closed}
+use Rattle.im_runtime_sections.specs.Laws.{JoinsLaw}
 
-after-append : (s : Since) (ts us : List Touch) → after s (ts ++ us) ≡ after (after s ts) us
+pub after-append : (s : Since) (ts us : List Touch) → after s (ts ++ us) ≡ after (after s ts) us
 after-append s [] us = refl
 after-append s (t ∷ ts) us = after-append (moved s t) ts us
 

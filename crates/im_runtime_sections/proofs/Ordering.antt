@@ -1,14 +1,12 @@
 -- The routines' touches are in order.
-use Rattle.std.proofs.Common.{◌≡◌, ℕ, zero, suc, ◌+◌, ◌-◌, ◌<◌, ◌≤◌, ◌⊎◌, inl, inr, Bool, true, false, cond, List, [], ◌∷◌, ◌++◌, refl, sym, ap, ◌∙◌, subst, arith, length}
+use Rattle.std.proofs.Common.{◌≡◌, ℕ, ◌+◌, ◌-◌, ◌<◌, ◌≤◌, ◌⊎◌, inl, inr, Bool, true, false, cond, List, [], ◌∷◌, ◌++◌, refl, sym, ap, ◌∙◌, arith, length}
 use Rattle.std.specs.Prelude.{◌==◌, ◌&&◌, ◌||◌, nat_le, nat_lt}
 use Rattle.std.proofs.lemmas.Bool.Decides.{nat_tests}
 use Rattle.im_mem.specs.Memory.{Mem, little, bytes_from}
 use Rattle.im_reach.specs.Touches.{Touch, Loaded, Stored, Flipped}
 use Rattle.im_reach.specs.Shown.{shown, left}
-use Rattle.im_reach.specs.Routines.{Runtime, Called}
-use Rattle.im_runtime.specs.Seen.{seen, put_touches, get_touches_by}
-use Rattle.im_runtime.specs.Laws.{PutsByte, GetsByte}
-use Rattle.im_runtime_sections.specs.Orderly.{Since, Anything, Nothing, StoresOnly, Selector, Refused, Place, Free, Low, Select, Wrong, may_load, is_free, is_low, place_of, loading, storing, after, is_closed, IsOrderly}
+use Rattle.im_runtime.specs.Seen.{get_touches_by}
+use Rattle.im_runtime_sections.specs.Orderly.{Anything, Free, Low, Select, Wrong, may_load, is_free, is_low, loading, storing, after, is_closed}
 use Rattle.im_runtime_sections.specs.Laws.{RoutinesLaw}
 
 or_true : (x : Bool) → (x || true) ≡ true

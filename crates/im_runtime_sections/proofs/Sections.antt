@@ -1,9 +1,9 @@
 -- Runs whose touches are in order.
-use Rattle.std.proofs.Common.{◌≡◌, ◌≢◌, ℕ, zero, suc, ◌+◌, ◌-◌, ◌%◌, ◌<◌, ◌≤◌, ◌⊎◌, inl, inr, Bool, true, false, cond, Option, Some, None, List, [], ◌∷◌, refl, sym, ap, ◌∙◌, subst, arith, length}
+use Rattle.std.proofs.Common.{◌≡◌, ◌≢◌, ℕ, zero, suc, ◌+◌, ◌-◌, ◌%◌, ◌<◌, ◌≤◌, ◌⊎◌, inl, inr, Bool, true, false, cond, Option, Some, None, List, [], ◌∷◌, refl, sym, ap, ◌∙◌, subst, arith}
 use Rattle.std.specs.Prelude.{◌==◌, ◌&&◌, ◌||◌, nat_le, nat_lt, is_some}
 use Rattle.std.proofs.lemmas.Bool.Decides.{nat_tests}
 use Rattle.im_num.specs.Bytes.{bytes_of}
-use Rattle.im_mem.specs.Memory.{Mem, is_place}
+use Rattle.im_mem.specs.Memory.{is_place}
 use Rattle.im_mem.proofs.Words.{length-bytes_of}
 use Rattle.im_rv.specs.declared.effect.Effect.{Effect}
 use Rattle.im_rv.specs.declared.effect.Effect.TheVariants.{Puts, Goes, Loads, Stores, Stops}
@@ -18,7 +18,7 @@ use Rattle.im_replay.proofs.Shows.{wrote_some}
 use Rattle.im_reach.specs.Touches.{Touch, Loaded, Stored, Flipped, touch_of}
 use Rattle.im_runtime.specs.Seen.{is_checkpoints, seen}
 use Rattle.im_runtime_sections.specs.Orderly.{Since, Anything, Nothing, StoresOnly, Selector, Refused, Place, Free, Low, Select, Wrong, may_load, is_free, is_low, place_of, loading, storing, after, since, IsOrderlyRun}
-use Rattle.im_runtime_sections.specs.Laws.{SectionsLaw, SelectsOther}
+use Rattle.im_runtime_sections.specs.Laws.{SectionsLaw}
 
 some_is : (z : Option ℕ) → is_some z ≡ true → (v : ℕ) × (z ≡ Some v)
 some_is None h = absurd (let bad : false ≡ true = h in cc)

@@ -1,14 +1,16 @@
 -- What orderly touches give: the premises of the theorems of replay and of output about the runtime's words.
 use Rattle.std.specs.Prelude.{◌≡◌, ◌≢◌, ℕ, ◌+◌, ◌<◌, ◌≤◌, ◌⊎◌, true, false, Some, None, List, ◌++◌}
 use Rattle.im_mem.specs.Map.{out_len0_at, out_len1_at, out_sel_at, statics_start, stack_end}
+use Rattle.im_rv.specs.declared.step.Went.TheVariants.{On}
+use Rattle.im_rv.specs.Runs.{step_of}
 use Rattle.im_path.specs.Sections.{start}
 use Rattle.im_ckpt.specs.Runs.{State, IsRun, flip, writes, reads}
 use Rattle.im_ckpt.specs.Buffers.{is_buffer}
-use Rattle.im_reach.specs.Touches.{Touch}
+use Rattle.im_reach.specs.Touches.{Touch, touched}
 use Rattle.im_reach.specs.Routines.{Runtime, Called}
 use Rattle.im_mem.specs.Memory.{Mem}
 use Rattle.im_runtime.specs.Laws.{PutsByte, GetsByte}
-use Rattle.im_runtime_sections.specs.Orderly.{IsOrderly, IsOrderlyRun}
+use Rattle.im_runtime_sections.specs.Orderly.{Refused, IsOrderly, since, IsOrderlyRun}
 
 -- pieces join
 abbrev pub JoinsLaw : Type 0
@@ -34,3 +36,9 @@ pub record SectionsLaw : Type 0 where
   -- a length is stored only where OUT_SEL, as the section began, selects the other
   pub first_length : (run : ℕ → State) (j : ℕ) → IsRun run → IsOrderlyRun run j → SelectsOther run j → (t a v : ℕ) → t < j → flip run t ≡ false → out_len0_at ≤ a → a < out_len0_at + 4 → writes run t a ≡ Some v → (run (start (flip run) t)).mem out_sel_at ≢ 0
   pub second_length : (run : ℕ → State) (j : ℕ) → IsRun run → IsOrderlyRun run j → SelectsOther run j → (t a v : ℕ) → t < j → flip run t ≡ false → out_len1_at ≤ a → a < out_len1_at + 4 → writes run t a ≡ Some v → (run (start (flip run) t)).mem out_sel_at ≡ 0
+
+-- where a run goes on for n steps and what it touches is in order, no section of them is refused
+abbrev pub TouchedLaw : Type 0
+TouchedLaw =
+    (run : ℕ → State) → IsRun run → (n : ℕ) → ((k : ℕ) → k < n → (step_of (run k).cpu (run k).mem).went ≡ On) → IsOrderly (touched n (run 0).cpu (run 0).mem) →
+    (t : ℕ) → t ≤ n → since run t ≢ Refused

@@ -1,4 +1,4 @@
-ghost use Rattle.im_runtime_sections.specs.Laws.{JoinsLaw, RoutinesLaw, SectionsLaw};
+ghost use Rattle.im_runtime_sections.specs.Laws.{JoinsLaw, RoutinesLaw, SectionsLaw, TouchedLaw};
 
 /// Touches in order, and then more of them, are in order.
 pub fn joins_law()
@@ -15,4 +15,9 @@ pub fn routines_law()
 /// only where the other is selected.
 pub fn sections_law()
     ensures { SectionsLaw }
+{}
+
+/// A run whose touches are in order has them in order at each time.
+pub fn touched_law()
+    ensures { TouchedLaw }
 {}
