@@ -1,15 +1,13 @@
 -- What the program writes: x5 is 1, and with it go the byte, the length and the selector.
 use Rattle.std.proofs.Common.{◌≡◌, ◌≢◌, ℕ, zero, suc, ◌+◌, ◌*◌, ◌/◌, ◌%◌, ◌^◌, ◌<◌, ◌≤◌, ◌⊎◌, inl, inr, true, false, cond, [], ◌∷◌, refl, sym, ap, ◌∙◌, subst, arith}
 use Rattle.std.specs.Prelude.{◌==◌, min, unwrap_or}
-use Rattle.im_mem.specs.Memory.{Mem, little, bytes_from}
+use Rattle.im_mem.specs.Memory.{little, bytes_from}
 use Rattle.im_image.specs.declared.form.Form.TheVariants.{TwoLengths}
 use Rattle.im_device.specs.Shows.{output_of}
-use Rattle.im_rv.specs.declared.effect.Effect.{Effect}
 use Rattle.im_rv.specs.declared.effect.Effect.TheVariants.{Stores}
 use Rattle.im_rv.specs.Steps.{Cpu, sum_of}
 use Rattle.im_rv.specs.Effects.{writes_by, effect}
 use Rattle.im_ckpt.specs.Runs.{State, IsRun, writes}
-use Rattle.im_ckpt.specs.Buffers.{is_buffer}
 use Rattle.im_ckpt.specs.Laws.{IsIntact}
 use Rattle.im_ckpt.proofs.Phases.{mem_next}
 use Rattle.im_ckpt.proofs.Checkpoints.{checkpoint_law}

@@ -1,26 +1,26 @@
 -- The program stores the selector as the law of output asks.
-use Rattle.std.proofs.Common.{◌≡◌, ◌≢◌, ℕ, zero, suc, ◌+◌, ◌*◌, ◌^◌, ◌<◌, ◌≤◌, ◌⊎◌, inl, inr, Bool, true, false, cond, Some, None, refl, sym, ap, ◌∙◌, subst, arith}
+use Rattle.std.proofs.Common.{◌≡◌, ℕ, zero, suc, ◌+◌, ◌*◌, ◌^◌, ◌<◌, ◌≤◌, ◌⊎◌, inl, inr, true, false, cond, Some, None, refl, sym, ap, ◌∙◌, arith}
 use Rattle.std.specs.Prelude.{◌==◌, ◌||◌, min}
 use Rattle.std.proofs.lemmas.Bool.Decides.{nat_tests}
-use Rattle.im_mem.specs.Memory.{Mem, little}
+use Rattle.im_mem.specs.Memory.{little}
 use Rattle.im_mem.proofs.Words.{little-alike}
 use Rattle.im_rv.specs.declared.effect.Effect.{Effect}
-use Rattle.im_rv.specs.declared.effect.Effect.TheVariants.{Puts, Stores, Stops}
+use Rattle.im_rv.specs.declared.effect.Effect.TheVariants.{Stores}
 use Rattle.im_rv.specs.Steps.{sum_of}
 use Rattle.im_rv.specs.Effects.{writes_by, effect}
 use Rattle.im_device.specs.Run.{index_of}
 use Rattle.im_path.specs.Sections.{start}
 use Rattle.im_path.proofs.Times.{order, start_le, start_past}
-use Rattle.im_ckpt.specs.Runs.{State, IsRun, flip, writes, effect_at}
+use Rattle.im_ckpt.specs.Runs.{State, IsRun, flip, writes}
 use Rattle.im_ckpt.specs.Buffers.{is_buffer, is_fixed}
-use Rattle.im_ckpt.specs.Laws.{is_runtime, IsIntact}
+use Rattle.im_ckpt.specs.Laws.{IsIntact}
 use Rattle.im_ckpt.proofs.Phases.{none_kept, mem_next, low_writes, high_writes, flip_low}
 use Rattle.im_replay.specs.Owed.{IsOwed}
 use Rattle.im_replay.specs.Output.{output_size, Extends, ShowsSafely}
-use Rattle.im_replay.proofs.Owing.{here, doing, Plain, Reads_index, Moves, Saves_reg, Flips, flip_is}
+use Rattle.im_replay.proofs.Owing.{doing, Plain, Reads_index, Moves, Saves_reg, Flips, flip_is}
 use Rattle.im_replay.proofs.Shows.{size_by}
 use Rattle.im_output_witness.specs.Writer.{own}
-use Rattle.im_output_witness.proofs.Writer.{WriterImage, time_of, stored_apart, at, outside, Out, effect_now}
+use Rattle.im_output_witness.proofs.Writer.{WriterImage, time_of, stored_apart, at, outside, effect_now}
 
 sides : (a : ℕ) → is_buffer a ≡ false → (a < 128) ⊎ (384 ≤ a)
 sides a h = grind (arith, nat_tests)

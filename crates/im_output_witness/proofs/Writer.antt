@@ -1,6 +1,6 @@
 -- A program that writes one byte has all that the compiler owes: where its run is at each time.
 use Rattle.std.proofs.Common.{◌≡◌, ◌≢◌, ℕ, zero, suc, ◌+◌, ◌-◌, ◌*◌, ◌%◌, ◌^◌, ◌<◌, ◌≤◌, ◌⊎◌, inl, inr, Bool, true, false, cond, Some, None, refl, sym, ap, ◌∙◌, subst, arith}
-use Rattle.std.specs.Prelude.{◌==◌, ◌&&◌, ◌||◌, not, nat_lt, nat_eq, nat_le}
+use Rattle.std.specs.Prelude.{◌==◌, ◌&&◌, ◌||◌, not, nat_lt, nat_eq}
 use Rattle.std.proofs.lemmas.Bool.Decides.{nat_tests}
 use Rattle.im_num.specs.Bytes.{bytes_of}
 use Rattle.im_mem.specs.Memory.{Mem, little, loaded, is_place, Stands}
@@ -16,16 +16,15 @@ use Rattle.im_rv.specs.Encode.{encoded}
 use Rattle.im_rv.specs.Effects.{decoded_word, effect, rd_of, rs1_of, rs2_of, writes_by, reads_by, sets_by}
 use Rattle.im_rv.proofs.Locality.{step_effected, saved_at, patch_below, patch_above}
 use Rattle.im_device.specs.Run.{index_of}
-use Rattle.im_path.specs.Sections.{start, wrote}
-use Rattle.im_path.proofs.Times.{order, start_le}
+use Rattle.im_path.proofs.Times.{order}
 use Rattle.im_ckpt.specs.Runs.{State, IsRun, flip, writes, reads, line_at, effect_at, sets}
 use Rattle.im_ckpt.specs.Buffers.{is_buffer, is_fixed, idle, slot, saves_by}
 use Rattle.im_ckpt.specs.Recovery.{recovery_words, return_line}
 use Rattle.im_ckpt.specs.Checkpoint.{checkpoint_words, store_line, shift_line, flip_line}
 use Rattle.im_ckpt.specs.Laws.{is_runtime, IsCut, HasRuntime, IsIntact}
 use Rattle.im_ckpt.proofs.Rungs.{entry_line, ladder_reg, shift_back, flip_back, ladder_store, store_back, reg_named}
-use Rattle.im_ckpt.proofs.Slots.{word_outside, saves_if}
-use Rattle.im_ckpt.proofs.Phases.{Entering, Climbing, Returning, none_kept, mem_next, calm_of, next_is, effect_is, entry_line_at, entry_step, ladder_line_at, climb_store, climb_flip, slot_place, climb_on, climb_shift, flip_on, return_on, return_line_at, enters, in_entry, on_ladder, at_return, comes_back, low_writes, high_writes, flip_low}
+use Rattle.im_ckpt.proofs.Slots.{saves_if}
+use Rattle.im_ckpt.proofs.Phases.{Entering, Climbing, Returning, none_kept, mem_next, next_is, effect_is, entry_line_at, entry_step, ladder_line_at, climb_store, climb_flip, slot_place, climb_on, climb_shift, flip_on, return_on, return_line_at, enters, in_entry, on_ladder, at_return, comes_back}
 use Rattle.im_replay.specs.Needed.{uses, Needed}
 use Rattle.im_replay.specs.Sections.{IsLive}
 use Rattle.im_replay.specs.Owed.{IsOwed}
