@@ -1,2 +1,4 @@
 mod Operations
 mod Terms
+mod Changes
+mod Assigns

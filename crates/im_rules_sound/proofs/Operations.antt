@@ -35,7 +35,7 @@ pub by-test : {P : Type 0} (x : Bool) → (x ≡ true → P) → (x ≡ false �
 by-test true h k = h refl
 by-test false h k = k refl
 
-or-false : (x y : Bool) → (x || y) ≡ false → (x ≡ false) × (y ≡ false)
+pub or-false : (x y : Bool) → (x || y) ≡ false → (x ≡ false) × (y ≡ false)
 or-false true y e = absurd (cc)
 or-false false y e = (refl, e)
 
@@ -70,7 +70,7 @@ integer-type (unsized t) h = absurd (cc)
 integer-type (struct n) h = absurd (cc)
 integer-type (function r ps) h = absurd (cc)
 
-pointer-gives : (known : Structs) (t : CType) → is_pointer t ≡ true → gives known t ≡ Some (Scalar Ptr)
+pub pointer-gives : (known : Structs) (t : CType) → is_pointer t ≡ true → gives known t ≡ Some (Scalar Ptr)
 pointer-gives known (pointer d t) h = refl
 pointer-gives known (integer i) h = absurd (cc)
 pointer-gives known void h = absurd (cc)
@@ -131,7 +131,7 @@ rank-kind true false = (tt, omega arith)
 rank-kind false true = (tt, omega arith)
 rank-kind false false = (tt, omega arith)
 
-common-kind : (t u : CType) → IsPromoted (kind_of (common t u))
+pub common-kind : (t u : CType) → IsPromoted (kind_of (common t u))
 common-kind t u =
     rank-kind (is_long (promoted (integer_of t)) || is_long (promoted (integer_of u))) (is_unsigned (promoted (integer_of t)) || is_unsigned (promoted (integer_of u)))
 
@@ -148,7 +148,7 @@ module _ (g : Prog) (f : Func) (known : Structs) where
       let i = integer-type v.type e in
       h.shape ∙ ap (gives known) i.1 ∙ ap (λ t. Some (Scalar (kind_in t))) (sym i.1)
 
-  is-integer-shape : (v : Value) → Sound v → is_integer v.type ≡ true → IsIntegerShape (shape_of g v.expr)
+  pub is-integer-shape : (v : Value) → Sound v → is_integer v.type ≡ true → IsIntegerShape (shape_of g v.expr)
   is-integer-shape v h e =
       let i = integer-type v.type e in
       subst IsIntegerShape (sym (h.shape ∙ ap (gives known) i.1)) (integer-kind i.0)
