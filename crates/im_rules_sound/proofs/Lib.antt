@@ -2,3 +2,4 @@ mod Operations
 mod Terms
 mod Changes
 mod Assigns
+mod Calls

@@ -280,7 +280,7 @@ module _ (g : Prog) (f : Func) (known : Structs) where
       (or-true (is_pointer a && (is_integer b && n)) ((is_integer a && m) && is_pointer b) h))
       (or-true (order_types a b) ((is_pointer a && (is_integer b && n)) || ((is_integer a && m) && is_pointer b)) e)
 
-  sum-sound : (x y : Value) → Sound x → Sound y → MovesWell known x.type → MovesWell known y.type → add_types x.type y.type ≡ true → Sound (sum known x y)
+  pub sum-sound : (x y : Value) → Sound x → Sound y → MovesWell known x.type → MovesWell known y.type → add_types x.type y.type ≡ true → Sound (sum known x y)
   sum-sound x y hx hy mx my e = by-kind (is_pointer x.type || is_pointer y.type) refl
     where
       by-first : (t : Bool) → is_pointer x.type ≡ t → (is_pointer x.type || is_pointer y.type) ≡ true
@@ -329,7 +329,7 @@ module _ (g : Prog) (f : Func) (known : Structs) where
       by-kind false h = by-first (is_pointer x.type) refl h
 
   -- the rules see the types of the values
-  seen : (R : CType → CType → Bool) (x y : Term) → Sound (value_of known x) → Sound (value_of known y) → R (value_type (operand_of x)) (value_type (operand_of y)) ≡ true → R (value_of known x).type (value_of known y).type ≡ true
+  pub seen : (R : CType → CType → Bool) (x y : Term) → Sound (value_of known x) → Sound (value_of known y) → R (value_type (operand_of x)) (value_type (operand_of y)) ≡ true → R (value_of known x).type (value_of known y).type ≡ true
   seen R x y hx hy e =
       ap (λ t. R t (value_of known y).type) (sym (type-seen known x hx.plain)) ∙ ap (R (value_type (operand_of x))) (sym (type-seen known y hy.plain)) ∙ e
 

@@ -46,7 +46,7 @@ module _ (g : Prog) (f : Func) (known : Structs) where
   complete-object (struct n) e = refl
   complete-object (function r ps) e = absurd (cc)
 
-  target-object : (t : CType) → points_to_complete known t ≡ true → (is_void (target_of t) || is_function (target_of t)) ≡ false
+  pub target-object : (t : CType) → points_to_complete known t ≡ true → (is_void (target_of t) || is_function (target_of t)) ≡ false
   target-object (pointer d t) e = complete-object t e
   target-object void e = absurd (cc)
   target-object (integer i) e = absurd (cc)

@@ -1,5 +1,5 @@
 -- What is well typed by the rules.
-use Rattle.std.specs.Prelude.{◌≡◌, Bool, true}
+use Rattle.std.specs.Prelude.{◌≡◌, Bool, true, List, Some}
 use Rattle.im_ctree.specs.declared.operator.BinaryOp.{BinaryOp}
 use Rattle.im_ctree.specs.declared.operator.UnaryOp.{UnaryOp}
 use Rattle.im_ctree.specs.declared.operator.AssignOp.{AssignOp}
@@ -9,9 +9,10 @@ use Rattle.im_typed.specs.Program.{Func, Prog}
 use Rattle.im_rules.specs.Rules.{allows}
 use Rattle.im_rules.specs.Terms.{Term, operand_of, value_of}
 use Rattle.im_rules.specs.TypeTests.{target_of}
-use Rattle.im_rules.specs.Demands.{Meets, unary_asks, cast_asks, conditional_asks, assign_asks, step_asks}
-use Rattle.im_rules.specs.Conversions.{operation, unary_term, casted, joined, chosen, assigned, stepped}
-use Rattle.im_rules_sound.specs.Sound.{IsSoundValue, MovesWell, IsSized, IsSoundTerm}
+use Rattle.im_rules.specs.Scopes.{a_function, Callee}
+use Rattle.im_rules.specs.Demands.{Meets, unary_asks, cast_asks, conditional_asks, assign_asks, step_asks, index_asks, call_asks}
+use Rattle.im_rules.specs.Conversions.{operation, unary_term, casted, joined, chosen, assigned, stepped, pointed, sum, call_of}
+use Rattle.im_rules_sound.specs.Sound.{IsSoundValue, MovesWell, IsSized, IsSoundTerm, AreSound, IsSoundCallee}
 
 -- binary operators (C11 6.5.5 to 6.5.14)
 abbrev pub OperationsLaw : Type 0
@@ -60,3 +61,16 @@ abbrev pub StepsLaw : Type 0
 StepsLaw =
     (g : Prog) (f : Func) (known : Structs) (op : StepOp) (old : Bool) (x : Term) → IsSoundTerm g f known x
     → MovesWell known (value_of known x).type → Meets (step_asks known x) → IsSoundValue g f known (stepped known op old x)
+
+-- subscripts (C11 6.5.2.1), and calls (C11 6.5.2.2)
+abbrev pub SubscriptsLaw : Type 0
+SubscriptsLaw =
+    (g : Prog) (f : Func) (known : Structs) (x y : Term) → IsSoundTerm g f known x → IsSoundTerm g f known y
+    → MovesWell known (value_of known x).type → MovesWell known (value_of known y).type
+    → IsSized known (target_of (sum known (value_of known x) (value_of known y)).type) → Meets (index_asks known x y)
+    → IsSoundTerm g f known (pointed (sum known (value_of known x) (value_of known y)))
+
+abbrev pub CallsLaw : Type 0
+CallsLaw =
+    (g : Prog) (f : Func) (known : Structs) (c : Callee) (t : CType) (xs : List Term) → IsSoundCallee g known c t → AreSound g f known xs
+    → Meets (call_asks (Some (a_function c t)) xs) → IsSoundValue g f known (call_of known (Some (a_function c t)) xs)
