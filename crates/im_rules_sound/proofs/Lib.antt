@@ -1,2 +1,5 @@
 mod Operations
 mod Terms
+mod Changes
+mod Assigns
+mod Calls

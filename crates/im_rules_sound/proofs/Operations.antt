@@ -35,7 +35,7 @@ pub by-test : {P : Type 0} (x : Bool) → (x ≡ true → P) → (x ≡ false �
 by-test true h k = h refl
 by-test false h k = k refl
 
-or-false : (x y : Bool) → (x || y) ≡ false → (x ≡ false) × (y ≡ false)
+pub or-false : (x y : Bool) → (x || y) ≡ false → (x ≡ false) × (y ≡ false)
 or-false true y e = absurd (cc)
 or-false false y e = (refl, e)
 
@@ -70,7 +70,7 @@ integer-type (unsized t) h = absurd (cc)
 integer-type (struct n) h = absurd (cc)
 integer-type (function r ps) h = absurd (cc)
 
-pointer-gives : (known : Structs) (t : CType) → is_pointer t ≡ true → gives known t ≡ Some (Scalar Ptr)
+pub pointer-gives : (known : Structs) (t : CType) → is_pointer t ≡ true → gives known t ≡ Some (Scalar Ptr)
 pointer-gives known (pointer d t) h = refl
 pointer-gives known (integer i) h = absurd (cc)
 pointer-gives known void h = absurd (cc)
@@ -131,7 +131,7 @@ rank-kind true false = (tt, omega arith)
 rank-kind false true = (tt, omega arith)
 rank-kind false false = (tt, omega arith)
 
-common-kind : (t u : CType) → IsPromoted (kind_of (common t u))
+pub common-kind : (t u : CType) → IsPromoted (kind_of (common t u))
 common-kind t u =
     rank-kind (is_long (promoted (integer_of t)) || is_long (promoted (integer_of u))) (is_unsigned (promoted (integer_of t)) || is_unsigned (promoted (integer_of u)))
 
@@ -148,7 +148,7 @@ module _ (g : Prog) (f : Func) (known : Structs) where
       let i = integer-type v.type e in
       h.shape ∙ ap (gives known) i.1 ∙ ap (λ t. Some (Scalar (kind_in t))) (sym i.1)
 
-  is-integer-shape : (v : Value) → Sound v → is_integer v.type ≡ true → IsIntegerShape (shape_of g v.expr)
+  pub is-integer-shape : (v : Value) → Sound v → is_integer v.type ≡ true → IsIntegerShape (shape_of g v.expr)
   is-integer-shape v h e =
       let i = integer-type v.type e in
       subst IsIntegerShape (sym (h.shape ∙ ap (gives known) i.1)) (integer-kind i.0)
@@ -280,7 +280,7 @@ module _ (g : Prog) (f : Func) (known : Structs) where
       (or-true (is_pointer a && (is_integer b && n)) ((is_integer a && m) && is_pointer b) h))
       (or-true (order_types a b) ((is_pointer a && (is_integer b && n)) || ((is_integer a && m) && is_pointer b)) e)
 
-  sum-sound : (x y : Value) → Sound x → Sound y → MovesWell known x.type → MovesWell known y.type → add_types x.type y.type ≡ true → Sound (sum known x y)
+  pub sum-sound : (x y : Value) → Sound x → Sound y → MovesWell known x.type → MovesWell known y.type → add_types x.type y.type ≡ true → Sound (sum known x y)
   sum-sound x y hx hy mx my e = by-kind (is_pointer x.type || is_pointer y.type) refl
     where
       by-first : (t : Bool) → is_pointer x.type ≡ t → (is_pointer x.type || is_pointer y.type) ≡ true
@@ -329,7 +329,7 @@ module _ (g : Prog) (f : Func) (known : Structs) where
       by-kind false h = by-first (is_pointer x.type) refl h
 
   -- the rules see the types of the values
-  seen : (R : CType → CType → Bool) (x y : Term) → Sound (value_of known x) → Sound (value_of known y) → R (value_type (operand_of x)) (value_type (operand_of y)) ≡ true → R (value_of known x).type (value_of known y).type ≡ true
+  pub seen : (R : CType → CType → Bool) (x y : Term) → Sound (value_of known x) → Sound (value_of known y) → R (value_type (operand_of x)) (value_type (operand_of y)) ≡ true → R (value_of known x).type (value_of known y).type ≡ true
   seen R x y hx hy e =
       ap (λ t. R t (value_of known y).type) (sym (type-seen known x hx.plain)) ∙ ap (R (value_type (operand_of x))) (sym (type-seen known y hy.plain)) ∙ e
 

@@ -26,7 +26,7 @@ module _ (g : Prog) (f : Func) (known : Structs) where
   reads (value v) h = h
 
   -- an operand that is an integer, as the rules see it
-  integer-seen : (x : Term) → IsSoundTerm g f known x → is_integer (value_type (operand_of x)) ≡ true → is_integer (value_of known x).type ≡ true
+  pub integer-seen : (x : Term) → IsSoundTerm g f known x → is_integer (value_type (operand_of x)) ≡ true → is_integer (value_of known x).type ≡ true
   integer-seen x h e = ap is_integer (sym (type-seen known x (reads x h).plain)) ∙ e
 
   unary-sound : (op : store_unary.UnaryOp) (x : Term) → IsSoundTerm g f known x → is_integer (value_type (operand_of x)) ≡ true → IsSoundValue g f known (unary_value op (value_of known x))
@@ -46,7 +46,7 @@ module _ (g : Prog) (f : Func) (known : Structs) where
   complete-object (struct n) e = refl
   complete-object (function r ps) e = absurd (cc)
 
-  target-object : (t : CType) → points_to_complete known t ≡ true → (is_void (target_of t) || is_function (target_of t)) ≡ false
+  pub target-object : (t : CType) → points_to_complete known t ≡ true → (is_void (target_of t) || is_function (target_of t)) ≡ false
   target-object (pointer d t) e = complete-object t e
   target-object void e = absurd (cc)
   target-object (integer i) e = absurd (cc)

@@ -1,10 +1,14 @@
 -- Terms whose expressions are well typed, each by what its type asks.
-use Rattle.std.specs.Prelude.{◌≡◌, ◌+◌, ◌≤◌, ◌||◌, true, false, Option, Some, None}
+use Rattle.std.specs.Prelude.{◌≡◌, ◌+◌, ◌<◌, ◌≤◌, ◌||◌, true, false, List, [], ◌∷◌, length, Option, Some, None, slice_get}
 use Rattle.im_num.specs.declared.kind.Kind.TheVariants.{Ptr}
-use Rattle.im_ctype.specs.Types.{CType, void, integer, pointer, array, unsized, struct, function, Structs, kind_of, is_void, is_array, is_pointer, is_struct, is_function}
-use Rattle.im_typed.specs.Program.{Access, Scalar, Place, Func, Prog}
-use Rattle.im_typed.specs.Typing.{shape_of, IsTypedPlace, IsTyped, IsElement, IsAccess, members_offset}
-use Rattle.im_rules.specs.Terms.{Value, Term, lvalue, value, access_of, size_in}
+use Rattle.im_ctype.specs.declared.integer.Integer.TheVariants.{Int}
+use Rattle.im_ctype.specs.Types.{CType, void, integer, pointer, array, unsized, struct, function, CTypes, no_types, more_types, Structs, kind_of, is_void, is_integer, is_array, is_pointer, is_struct, is_function}
+use Rattle.im_typed.specs.Program.{Access, Scalar, Place, LocalObject, Func, Prog}
+use Rattle.im_typed.specs.Values.{cells_of}
+use Rattle.im_typed.specs.Typing.{Each, parameters, result_shape, shape_of, IsTypedPlace, IsTyped, IsElement, IsAccess, members_offset}
+use Rattle.im_rules.specs.TypeTests.{result_of, parameters_of}
+use Rattle.im_rules.specs.Scopes.{Callee, a_body, no_body, get_character, put_character}
+use Rattle.im_rules.specs.Terms.{Value, Term, lvalue, value, kind_in, access_of, size_in}
 use Rattle.im_rules.specs.Conversions.{element_size}
 
 -- what an expression of a type gives
@@ -42,3 +46,22 @@ pub record IsSoundPlace (g : Prog) (f : Func) (known : Structs) (t : CType) (p :
 abbrev pub IsSoundTerm : Prog → Func → Structs → Term → Type 0
 IsSoundTerm g f known (lvalue k t p) = IsSoundPlace g f known t p
 IsSoundTerm g f known (value v) = IsSoundValue g f known v
+
+abbrev pub AreSound : Prog → Func → Structs → List Term → Type 0
+AreSound g f known xs = Each (IsSoundTerm g f known) xs
+
+-- each parameter is one cell of its type, which is an integer or a pointer
+abbrev pub TakeTypes : CTypes → List LocalObject → Type 0
+TakeTypes no_types [] = Unit {0}
+TakeTypes no_types (o ∷ os) = ⊥
+TakeTypes (more_types p ps) [] = ⊥
+TakeTypes (more_types p ps) (o ∷ os) = (o.cells ≡ cells_of (Scalar (kind_in p))) × ((is_integer p || is_pointer p) ≡ true) × TakeTypes ps os
+
+-- what is called is a function of the program, with these parameters and this result, or a built-in function
+abbrev pub IsSoundCallee : Prog → Structs → Callee → CType → Type 0
+IsSoundCallee g known (a_body n) t =
+    (n < length g.funcs) × TakeTypes (parameters_of t) (parameters (slice_get g.funcs n))
+    × (result_shape (slice_get g.funcs n) ≡ gives known (result_of t)) × (is_array (result_of t) ≡ false)
+IsSoundCallee g known no_body t = Unit {0}
+IsSoundCallee g known get_character t = t ≡ function (integer Int) no_types
+IsSoundCallee g known put_character t = t ≡ function (integer Int) (more_types (integer Int) no_types)

@@ -1,5 +1,5 @@
 //! What the typing rules give is well typed. Each law is a function with an empty body, whose contract says it.
-ghost use Rattle.im_rules_sound.specs.Laws.{OperationsLaw, ReadsLaw, UnaryLaw, CastsLaw, CommasLaw};
+ghost use Rattle.im_rules_sound.specs.Laws.{OperationsLaw, ReadsLaw, UnaryLaw, CastsLaw, CommasLaw, ChoicesLaw, AssignsLaw, StepsLaw, SubscriptsLaw, CallsLaw};
 
 /// An operator on well-typed values that its rule allows gives a well-typed value.
 pub fn operations_law()
@@ -21,4 +21,22 @@ pub fn unary_law()
 pub fn casts_law()
     ensures casts { CastsLaw }
     ensures commas { CommasLaw }
+{}
+
+/// `?:` of well-typed terms that its rules allow is well typed.
+pub fn choices_law()
+    ensures { ChoicesLaw }
+{}
+
+/// Assignments, and `++` and `--`, of well-typed terms that their rules allow are well typed, where a pointer's target is
+/// within the limit of sizes.
+pub fn assigns_law()
+    ensures assigns { AssignsLaw }
+    ensures steps { StepsLaw }
+{}
+
+/// Subscripts and calls of well-typed terms that their rules allow are well typed.
+pub fn calls_law()
+    ensures subscripts { SubscriptsLaw }
+    ensures calls { CallsLaw }
 {}

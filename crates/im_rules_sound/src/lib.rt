@@ -3,4 +3,6 @@
 
 mod laws;
 
-pub use laws::{casts_law, operations_law, reads_law, unary_law};
+pub use laws::{
+    assigns_law, calls_law, casts_law, choices_law, operations_law, reads_law, unary_law,
+};
