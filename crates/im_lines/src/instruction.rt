@@ -7,8 +7,7 @@ ghost use Rattle.im_lines.specs.Dumps.{op_name, register_text, instruction_text}
 
 use im_io::{Failed, Sink, send, send_pieces};
 use im_rv::decode::decode;
-use im_rv::Format;
-use im_rv::{Instr, Op};
+use im_rv::{Format, Instr, Op};
 use itoa::Buffer;
 
 // The operation's name in the manual's assembly text.
