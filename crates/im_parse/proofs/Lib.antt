@@ -9,3 +9,16 @@ pub mod PostfixLines
 pub mod ArgumentLines
 pub mod Rows
 pub mod TextLines
+pub mod DeclaringRows
+pub mod NextWord
+pub mod StarLines
+pub mod CoreFacts
+pub mod SpecifierLines
+pub mod TagLines
+pub mod AroundFacts
+pub mod MemberLines
+pub mod EnumeratorLines
+pub mod SuffixLines
+pub mod ParameterLines
+pub mod DeclaratorForms
+pub mod DeclaratorLines

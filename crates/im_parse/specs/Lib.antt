@@ -1,2 +1,4 @@
 pub mod Tables
 pub mod Parsing
+pub mod Declaring
+pub mod Cores

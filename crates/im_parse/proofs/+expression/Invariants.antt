@@ -7,6 +7,15 @@ use Rattle.im_ctree.specs.Tree.{size_of_expression}
 use Rattle.im_parse.proofs.ExpressionLines.{InCommas}
 use Rattle.im_parse.proofs.BinaryLines.{InTails}
 use Rattle.im_parse.proofs.ArgumentLines.{InArguments}
+use Rattle.im_ctree.specs.Typedefs.{adds_type}
+use Rattle.im_ctree.specs.Shape.{declarator_of}
+use Rattle.im_parse_core.specs.Repeats.{moved}
+use Rattle.im_parse.specs.Declaring.{specifier_tree, member_tree, enumerator_tree, suffix_tree, parameter_tree}
+use Rattle.im_parse.proofs.SpecifierLines.{InSpecifiers}
+use Rattle.im_parse.proofs.MemberLines.{InMembers, InDeclarators}
+use Rattle.im_parse.proofs.EnumeratorLines.{InEnumerators}
+use Rattle.im_parse.proofs.SuffixLines.{InSuffixes}
+use Rattle.im_parse.proofs.ParameterLines.{InParameters}
 use Rattle.im_parse.proofs.+expression.Given as goal
 
 abbrev pub decreases-expression::assignment : goal.decreases-expression::assignment
@@ -68,3 +77,99 @@ invariant-postfix::closed_arguments-loop-behind l = InArguments (names_of l.name
 abbrev pub decreases-postfix::closed_arguments-loop-behind :
     goal.decreases-postfix::closed_arguments-loop-behind
 decreases-postfix::closed_arguments-loop-behind l = length (map shown l.words) - l.next
+
+abbrev pub decreases-specifier::specifiers : goal.decreases-specifier::specifiers
+decreases-specifier::specifiers l = 32 * (length (map shown l.words.now) - l.at) + 2
+
+abbrev pub decreases-specifier::specifier : goal.decreases-specifier::specifier
+decreases-specifier::specifier l = 32 * (length (map shown l.words.now) - l.at) + 1
+
+abbrev pub decreases-specifier::struct_specifier : goal.decreases-specifier::struct_specifier
+decreases-specifier::struct_specifier l = 32 * (length (map shown l.words.now) - l.behind) + 0
+
+abbrev pub decreases-specifier::enum_specifier : goal.decreases-specifier::enum_specifier
+decreases-specifier::enum_specifier l = 32 * (length (map shown l.words.now) - l.behind) + 0
+
+abbrev pub decreases-member::closed_members : goal.decreases-member::closed_members
+decreases-member::closed_members l = 32 * (length (map shown l.words.now) - l.at) + 4
+
+abbrev pub decreases-member::member : goal.decreases-member::member
+decreases-member::member l = 32 * (length (map shown l.words.now) - l.at) + 3
+
+abbrev pub decreases-member::closed_declarators : goal.decreases-member::closed_declarators
+decreases-member::closed_declarators l = 32 * (length (map shown l.words.now) - l.at) + 5
+
+abbrev pub decreases-enumerator::closed_enumerators : goal.decreases-enumerator::closed_enumerators
+decreases-enumerator::closed_enumerators l = 32 * (length (map shown l.words.now) - l.at) + 2
+
+abbrev pub decreases-enumerator::enumerator : goal.decreases-enumerator::enumerator
+decreases-enumerator::enumerator l = 32 * (length (map shown l.words.now) - l.at) + 1
+
+abbrev pub decreases-declarator::maybe_declarator : goal.decreases-declarator::maybe_declarator
+decreases-declarator::maybe_declarator l = 32 * (length (map shown l.words.now) - l.at) + 4
+
+abbrev pub decreases-declarator::declarator : goal.decreases-declarator::declarator
+decreases-declarator::declarator l = 32 * (length (map shown l.words.now) - l.at) + 3
+
+abbrev pub decreases-declarator::suffixes : goal.decreases-declarator::suffixes
+decreases-declarator::suffixes l = 32 * (length (map shown l.words.now) - l.at) + 2
+
+abbrev pub decreases-declarator::suffix : goal.decreases-declarator::suffix
+decreases-declarator::suffix l = 32 * (length (map shown l.words.now) - l.at) + 1
+
+abbrev pub decreases-parameter::closed_parameters : goal.decreases-parameter::closed_parameters
+decreases-parameter::closed_parameters l = 32 * (length (map shown l.words.now) - l.at) + 4
+
+abbrev pub decreases-parameter::parameter : goal.decreases-parameter::parameter
+decreases-parameter::parameter l = 32 * (length (map shown l.words.now) - l.at) + 3
+
+abbrev pub decreases-type_name::closed_type_name : goal.decreases-type_name::closed_type_name
+decreases-type_name::closed_type_name l = 32 * (length (map shown l.words.now) - l.at) + 3
+
+abbrev pub invariant-specifier::specifiers-loop-alloc :
+    goal.invariant-specifier::specifiers-loop-alloc
+invariant-specifier::specifiers-loop-alloc l = InSpecifiers (names_of l.names) (map shown l.words) l.at (map specifier_tree l.items.items) l.next × (l.at ≤ l.next) × (l.typed ≡ moved adds_type false (map specifier_tree l.items.items))
+
+abbrev pub decreases-specifier::specifiers-loop-alloc :
+    goal.decreases-specifier::specifiers-loop-alloc
+decreases-specifier::specifiers-loop-alloc l = length (map shown l.words) - l.next
+
+abbrev pub invariant-member::closed_members-loop-alloc :
+    goal.invariant-member::closed_members-loop-alloc
+invariant-member::closed_members-loop-alloc l = InMembers (names_of l.names) (map shown l.words) l.at (map member_tree l.items.items) l.next × (l.at ≤ l.next)
+
+abbrev pub decreases-member::closed_members-loop-alloc :
+    goal.decreases-member::closed_members-loop-alloc
+decreases-member::closed_members-loop-alloc l = length (map shown l.words) - l.next
+
+abbrev pub invariant-member::closed_declarators-loop-behind :
+    goal.invariant-member::closed_declarators-loop-behind
+invariant-member::closed_declarators-loop-behind l = InDeclarators (names_of l.names) (map shown l.words) l.at (map declarator_of l.items.items) l.next × (l.at ≤ l.next)
+
+abbrev pub decreases-member::closed_declarators-loop-behind :
+    goal.decreases-member::closed_declarators-loop-behind
+decreases-member::closed_declarators-loop-behind l = length (map shown l.words) - l.next
+
+abbrev pub invariant-enumerator::closed_enumerators-loop-behind :
+    goal.invariant-enumerator::closed_enumerators-loop-behind
+invariant-enumerator::closed_enumerators-loop-behind l = InEnumerators (names_of l.names) (map shown l.words) l.at (map enumerator_tree l.items.items) l.next × (l.at ≤ l.next)
+
+abbrev pub decreases-enumerator::closed_enumerators-loop-behind :
+    goal.decreases-enumerator::closed_enumerators-loop-behind
+decreases-enumerator::closed_enumerators-loop-behind l = length (map shown l.words) - l.next
+
+abbrev pub invariant-declarator::suffixes-loop-alloc :
+    goal.invariant-declarator::suffixes-loop-alloc
+invariant-declarator::suffixes-loop-alloc l = InSuffixes (names_of l.names) (map shown l.words) l.at (map suffix_tree l.items.items) l.next × (l.at ≤ l.next)
+
+abbrev pub decreases-declarator::suffixes-loop-alloc :
+    goal.decreases-declarator::suffixes-loop-alloc
+decreases-declarator::suffixes-loop-alloc l = length (map shown l.words) - l.next
+
+abbrev pub invariant-parameter::closed_parameters-loop-behind :
+    goal.invariant-parameter::closed_parameters-loop-behind
+invariant-parameter::closed_parameters-loop-behind l = InParameters (names_of l.names) (map shown l.words) l.at (map parameter_tree l.items.items) l.next × (l.at ≤ l.next)
+
+abbrev pub decreases-parameter::closed_parameters-loop-behind :
+    goal.decreases-parameter::closed_parameters-loop-behind
+decreases-parameter::closed_parameters-loop-behind l = length (map shown l.words) - l.next
