@@ -1,5 +1,5 @@
 -- Declarators, part by part.
-use Rattle.std.proofs.Common.{◌≡◌, ℕ, zero, suc, ◌+◌, ◌<◌, List, [], ◌∷◌, ◌++◌, length, drop, sym, refl, ap, ◌∙◌, subst, arith, append_assoc, length-append, inl, inr, Bool, true, false}
+use Rattle.std.proofs.Common.{◌≡◌, ℕ, zero, suc, ◌+◌, ◌<◌, List, [], ◌∷◌, ◌++◌, length, drop, sym, refl, ap, ◌∙◌, subst, arith, append_assoc, length-append, inl, inr, Bool, true, false, Bor}
 use Rattle.std.specs.Prelude.{Option, Some, None, ◌⊎◌}
 use Rattle.im_tok.specs.declared.punctuator.Punctuator.TheVariants.{OpenBracket, CloseBracket, OpenParen, CloseParen, Star}
 use Rattle.im_word.specs.Words.{Name, Word, name, mark}
@@ -19,7 +19,9 @@ use Rattle.im_parse.specs.Parsing.{Below, Anything}
 use Rattle.im_parse.specs.declared.form.Form.{Form}
 use Rattle.im_parse.specs.declared.form.Form.TheVariants.{Declared, Guarded, Either, Abstract}
 use Rattle.im_parse.specs.Declaring.{IsForm, HasName, declared, guarded, either, MayBeNameless, either_nameless, abstract, IsInner, declared_inner, guarded_inner, named_inner, either_inner, abstract_inner, NotEmpty, IsStarred, with_name, with_inner, nameless, Stars, AfterStars, AfterDeclarator, AfterParameter, BeginsForm, by_suffix, BeginsSuffix, by_bracket, by_paren, head_named, IsMaybeForm, no_form, a_form}
-use Rattle.im_parse.specs.Cores.{IsNameless, NoCore, IsCoreless, at_once, inside, StopsCore}
+use Rattle.im_parse.specs.declared.core_start.CoreStart as cs
+use Rattle.im_parse.specs.declared.core_start.CoreStart.TheVariants as c
+use Rattle.im_parse.specs.Cores.{IsCore, IsNameless, NoCore, IsCoreless, at_once, inside, StopsCore}
 use Rattle.im_parse.proofs.DeclaratorForms.{starred_into, starred_back, form_begins, separated_begins, separated_after}
 use Rattle.im_parse.proofs.CoreFacts.{opens_moved, opens_unstarred}
 use Rattle.im_parse.proofs.PostfixLines.{AName, a_name, reads_name}
@@ -410,3 +412,12 @@ pub core_stops : (words : List Word) {T : List Name} {f : Form} {p q : ℕ} {ns 
 core_stops words b e from Memory h = tt
 core_stops words b e from (Syntax k) h = stops_case words b e from h
 
+-- how the core begins
+pub is_name : (T : List Name) (b : Bool) {f : Form} {words : List Word} {q : ℕ} {core : cs.CoreStart} {n : Bor Name} {k : ℕ} → core ≡ c.Name n k → IsCore T f b words q core → HasName f × IsAt (name n.now) words q k
+is_name T b {f = f} {words = words} {q = q} e h = subst (IsCore T f b words q) e h
+
+pub is_inner : (T : List Name) (b : Bool) {f : Form} {words : List Word} {q : ℕ} {core : cs.CoreStart} {h : Form} {k : ℕ} → core ≡ c.Inner h k → IsCore T f b words q core → IsAt (mark OpenParen) words q k × IsInner T f h (drop k words)
+is_inner T b {f = f} {words = words} {q = q} e h = subst (IsCore T f b words q) e h
+
+pub is_nothing : {T : List Name} {f : Form} {b b' : Bool} {words : List Word} {q : ℕ} {core : cs.CoreStart} → core ≡ c.Nothing → b' ≡ b → IsCore T f b words q core → IsNameless T f b' words q
+is_nothing {T = T} {f = f} {b = b} {words = words} {q = q} e same h = subst (λ z. IsNameless T f z words q) (sym same) (subst (IsCore T f b words q) e h)

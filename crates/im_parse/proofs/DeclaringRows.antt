@@ -1,5 +1,5 @@
 -- The rows of specifiers and declarators are the vectors that they were made of.
-use Rattle.std.proofs.Common.{◌≡◌, ℕ, refl, ap, ◌∙◌, map, Global}
+use Rattle.std.proofs.Common.{◌≡◌, ℕ, List, [], ◌∷◌, refl, ap, ◌∙◌, map, Global}
 use Rattle.std.specs.declared.vec.Vec.{Vec}
 use Rattle.im_ctree.specs.declared.specifier.Specifier.{Specifier}
 use Rattle.im_ctree.specs.declared.declarator.Suffix.{Suffix}
@@ -11,8 +11,12 @@ use Rattle.im_ctree.specs.declared.specifier.Enumerator as en
 use Rattle.im_ctree.specs.declared.declarator.Declarator as dc
 use Rattle.im_ctree.specs.declared.declarator.SuffixKind as xk
 use Rattle.im_ctree.specs.declared.declarator.Parameter as pm
+use Rattle.im_ctree.specs.declared.declaration.Initializer as ini
+use Rattle.im_ctree.specs.declared.declaration.Initializer.TheBlock.{hidden-the_row-Initializer-0}
+use Rattle.im_ctree.specs.declared.declaration.InitDeclarator.{InitDeclarator}
+use Rattle.im_parse.specs.Initializing.{initializers_tree, add_init_declarator, init_declarator_tree}
 use Rattle.im_ctree.specs.Tree as t
-use Rattle.im_ctree.specs.Shape.{specifier_of, specifier_list_of, members_of, specifiers_of, declarators_of, declarator_of, enumerators_of, maybe_expression_of, suffixes_of, parameters_of, maybe_declarator_of}
+use Rattle.im_ctree.specs.Shape.{specifier_of, specifier_list_of, members_of, specifiers_of, declarators_of, declarator_of, enumerators_of, maybe_expression_of, suffixes_of, parameters_of, maybe_declarator_of, initializers_of, initializer_of, init_declarators_of, maybe_initializer_of}
 use Rattle.im_parse_core.specs.Lists.{before}
 use Rattle.im_parse.specs.Declaring.{specifier_tree, specifier_list, add_member, member_tree, members_tree, add_enumerator, enumerator_tree, enumerators_tree, declarators_tree, add_suffix, suffix_tree, suffixes_tree, add_parameter, parameter_tree, parameters_tree}
 
@@ -59,3 +63,14 @@ suffixes_made items = suffixes_row _ (hidden-the_row-Suffix-4 items) ∙ ap (λ 
 
 pub parameters_made : (items : Vec pm.Parameter Global) → parameters_of (hidden-the_row-Parameter-0 items) ≡ parameters_tree items
 parameters_made items = parameters_row _ (hidden-the_row-Parameter-0 items) ∙ ap (λ z. before add_parameter (map parameter_tree z) t.no_parameters) (xk.items_hidden-the_row-Parameter-0 items)
+
+pub initializers_row : (n : _) (row : ini.Row_of-Initializer n) → initializers_of row ≡ before t.more_initializers (map initializer_of (ini.items-the_row-Initializer n row)) t.no_initializers
+initializers_row _ ini.end_of-Initializer = refl
+initializers_row _ (ini.more_of-Initializer x xs) = ap (λ z. t.more_initializers (initializer_of x) z) (initializers_row _ xs)
+
+pub initializers_made : (items : Vec ini.Initializer Global) → initializers_of (hidden-the_row-Initializer-0 items) ≡ initializers_tree items
+initializers_made items = initializers_row _ (hidden-the_row-Initializer-0 items) ∙ ap (λ z. before t.more_initializers (map initializer_of z) t.no_initializers) (ini.items_hidden-the_row-Initializer-0 items)
+
+pub inits_before : (items : List InitDeclarator) → init_declarators_of items ≡ before add_init_declarator (map init_declarator_tree items) t.no_init_declarators
+inits_before [] = refl
+inits_before (x ∷ items) = ap (λ z. t.more_init_declarators (declarator_of x.declarator) (maybe_initializer_of x.initializer) z) (inits_before items)

@@ -22,3 +22,5 @@ pub mod SuffixLines
 pub mod ParameterLines
 pub mod DeclaratorForms
 pub mod DeclaratorLines
+pub mod InitializerLines
+pub mod DeclarationLines

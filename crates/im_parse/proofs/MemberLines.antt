@@ -134,7 +134,6 @@ member_start words T p = line (Both (g.IsSpecifiers T) (MemberRest T)) (member_i
 pub refuses_its_specifiers : (words : List Word) {T : List Name} {p n : ℕ} → AMember T words p → Refuses (g.IsSpecifiers T) (AfterSpecifiers T) p (drop p words) n (drop n words) → Refuses (IsMember T) Anything p (drop p words) n (drop n words)
 refuses_its_specifiers words {T = T} from one' = refused (some_rest T) (rest_ends T) one' from
 
-
 abbrev DeclaratorsOf : List Name → tree.Specifiers → Family MemberTree
 DeclaratorsOf T s = Made (λ ds. let m : MemberTree = (s, ds) in m) (Closed Semicolon (IsDeclarators T))
 

@@ -262,3 +262,16 @@ name_case other (by_name is) = other refl is
 -- a name that is no typedef name, or stands behind a type
 pub typed_name : {T : List Name} {words : List Word} {a : Bool} {p k : ℕ} {n : Name} → IsAt (name n) words p k → (a ≡ false → Contains T n → ⊥) → GoesOn T a (head (drop p words)) → ⊥
 typed_name {T = T} {a = a} at other goes = name_case other (subst (GoesOn T a) (ap head at.here) goes)
+
+-- what the loop knows of the type so far
+pub specifiers_go : (words : List Word) (xs : List tree.Specifier) {T : List Name} {p q : ℕ} {a : Bool} → a ≡ moved adds_type false xs → GoesOn T a (head (drop q words)) → InSpecifiers T words p xs q → NextSpecifier T words p xs a q
+specifiers_go words xs {T = T} {p = p} {q = q} same goes from = subst (λ z. NextSpecifier T words p xs z q) (sym same) (specifiers_more words xs (subst (λ z. GoesOn T z (head (drop q words))) same goes) from)
+
+pub typed_next : (xs : List tree.Specifier) (x : tree.Specifier) {a r : Bool} → r ≡ adds_type a x → a ≡ moved adds_type false xs → r ≡ moved adds_type false (xs ++ x ∷ [])
+typed_next xs x e same = e ∙ ap (λ z. adds_type z x) same ∙ sym (moved_more adds_type false xs x)
+
+pub typed_stop : {T : List Name} {a b : Bool} {o : Option Word} → a ≡ b → (GoesOn T a o → ⊥) → GoesOn T b o → ⊥
+typed_stop {T = T} {o = o} same other goes = other (subst (λ z. GoesOn T z o) (sym same) goes)
+
+pub specifiers_stop : {T : List Name} {a : Bool} {o : Option Word} (p : ℕ) (xs : List tree.Specifier) → a ≡ moved adds_type false xs → (GoesOn T a o → ⊥) → GoesOn T (has_type (tree.specifiers p (before tree.more_specifiers xs tree.no_specifiers))) o → ⊥
+specifiers_stop p xs same other = typed_stop (same ∙ sym (has_type_behind p xs)) other

@@ -1,4 +1,4 @@
--- What the parsing functions of specifiers, declarators and type names promise, for their private contracts.
+-- What the parsing functions of specifiers, declarators and type names promise.
 use Rattle.std.specs.Prelude.{ℕ, suc, ◌+◌, ◌<◌, ◌≡◌, ◌⊎◌, Bool, true, false, List, [], ◌∷◌, ◌++◌, length, map, drop, Result, MatchResult, Option, Some, None}
 use Rattle.std.specs.List.{Contains}
 use Rattle.std.specs.declared.vec.Vec.{Vec}

@@ -2,3 +2,4 @@ pub mod Tables
 pub mod Parsing
 pub mod Declaring
 pub mod Cores
+pub mod Initializing

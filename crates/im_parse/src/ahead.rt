@@ -55,7 +55,10 @@ fn is_type_word(word: SpecifierWord) -> bool
 {
     !matches!(
         word,
-        SpecifierWord::Typedef | SpecifierWord::Extern | SpecifierWord::Static | SpecifierWord::Const
+        SpecifierWord::Typedef
+            | SpecifierWord::Extern
+            | SpecifierWord::Static
+            | SpecifierWord::Const
     )
 }
 

@@ -31,10 +31,20 @@ fn merged(
 ) -> Result<Declarator, Stop>
     ensures { Makes declarator_of result (joined at (stars_tree stars) (declarator_of inner) (suffixes_tree suffixes)) }
 {
-    let Declarator { stars: mut more, core, suffixes: mut all, .. } = inner;
+    let Declarator {
+        stars: mut more,
+        core,
+        suffixes: mut all,
+        ..
+    } = inner;
     stars.append(&mut more)?;
     all.append(&mut suffixes)?;
-    Ok(Declarator { at, stars, core, suffixes: all })
+    Ok(Declarator {
+        at,
+        stars,
+        core,
+        suffixes: all,
+    })
 }
 
 /// A declarator in parentheses, with these stars before them and these suffixes behind; the parentheses are kept only
@@ -55,5 +65,10 @@ pub fn around(
         return merged(at, stars, inner, suffixes);
     }
     let core = Core::Inner(Box::new(alloc, inner)?);
-    Ok(Declarator { at, stars, core, suffixes })
+    Ok(Declarator {
+        at,
+        stars,
+        core,
+        suffixes,
+    })
 }

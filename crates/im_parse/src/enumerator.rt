@@ -5,7 +5,7 @@ ghost use Rattle.im_ctree.specs.Grammar.{IsEnumerators};
 ghost use Rattle.im_parse.specs.Parsing.{Parses, Below, Anything, Closed, names_of};
 ghost use Rattle.im_parse.specs.Declaring.{IsEnumerator, enumerator_tree, enumerators_tree};
 
-use super::expression::conditional;
+use super::expressions::conditional;
 use super::look::{expect_mark, expect_name};
 use super::make;
 use im_ctree::Enumerator;

@@ -1,11 +1,12 @@
 ghost use Rattle.std.specs.Prelude.{◌≡◌, Some, None};
 ghost use Rattle.im_ctree.specs.Tree as t;
-ghost use Rattle.im_ctree.specs.Shape.{specifiers_of, declarator_of, type_name_of, optional_expression_of};
+ghost use Rattle.im_ctree.specs.Shape.{specifiers_of, declarator_of, type_name_of, optional_expression_of, initializer_of};
+ghost use Rattle.im_parse.specs.Initializing.{initializers_tree};
 ghost use Rattle.im_parse.specs.Declaring.{Makes, specifier_tree, specifier_list, member_tree, members_tree, declarators_tree, enumerator_tree, enumerators_tree, stars_tree, suffix_tree, suffixes_tree, one_array, one_function, parameter_tree, parameters_tree, maybe_tree};
 
 use im_ctree::{
-    Core, Declarator, Enumerator, Expression, Member, Parameter, Specifier, SpecifierKind,
-    Specifiers, Star, Suffix, SuffixKind, TypeName,
+    Core, Declarator, Enumerator, Expression, Initializer, Member, Parameter, Specifier,
+    SpecifierKind, Specifiers, Star, Suffix, SuffixKind, TypeName,
 };
 use im_parse_core::Stop;
 use std::alloc::Global;
@@ -80,14 +81,21 @@ pub fn named_enum(
 pub fn member(specifiers: Specifiers, declarators: Vec<Declarator>) -> Member
     ensures { member_tree result ≡ (specifiers_of specifiers, declarators_tree declarators) }
 {
-    Member { specifiers, declarators }
+    Member {
+        specifiers,
+        declarators,
+    }
 }
 
 pub fn enumerator(alloc: Global, at: u32, name: &[u8]) -> Result<Enumerator, Stop>
     ensures { Makes enumerator_tree result (at, name.now, t.no_expression) }
 {
     let name = Vec::from_slice(alloc, name)?;
-    Ok(Enumerator { at, name, value: None })
+    Ok(Enumerator {
+        at,
+        name,
+        value: None,
+    })
 }
 
 pub fn valued_enumerator(
@@ -113,13 +121,23 @@ pub fn named(
     ensures { Makes declarator_of result (t.declarator at (stars_tree stars) (t.name_core name.now) (suffixes_tree suffixes)) }
 {
     let core = Core::Name(Vec::from_slice(alloc, name)?);
-    Ok(Declarator { at, stars, core, suffixes })
+    Ok(Declarator {
+        at,
+        stars,
+        core,
+        suffixes,
+    })
 }
 
 pub fn nameless(at: u32, stars: Vec<Star>, suffixes: Vec<Suffix>) -> Declarator
     ensures { declarator_of result ≡ t.declarator at (stars_tree stars) t.absent_core (suffixes_tree suffixes) }
 {
-    Declarator { at, stars, core: Core::Absent, suffixes }
+    Declarator {
+        at,
+        stars,
+        core: Core::Absent,
+        suffixes,
+    }
 }
 
 pub fn array(at: u32) -> Suffix
@@ -154,7 +172,10 @@ pub fn parameter(
         None => None,
         Some(declarator) => Some(Box::new(alloc, declarator)?),
     };
-    Ok(Parameter { specifiers, declarator })
+    Ok(Parameter {
+        specifiers,
+        declarator,
+    })
 }
 
 pub fn type_name(
@@ -168,5 +189,14 @@ pub fn type_name(
         None => None,
         Some(declarator) => Some(Box::new(alloc, declarator)?),
     };
-    Ok(TypeName { specifiers, declarator })
+    Ok(TypeName {
+        specifiers,
+        declarator,
+    })
+}
+
+pub fn braced(at: u32, items: Vec<Initializer>) -> Initializer
+    ensures { initializer_of result ≡ t.braced_initializer at (initializers_tree items) }
+{
+    Initializer::List(at, items)
 }

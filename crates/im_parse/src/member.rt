@@ -5,7 +5,7 @@ ghost use Rattle.im_ctree.specs.Grammar.{IsMembers};
 ghost use Rattle.im_parse.specs.Parsing.{Parses, Anything, Closed, names_of};
 ghost use Rattle.im_parse.specs.Declaring.{IsMember, IsDeclarators, member_tree, members_tree, declarators_tree};
 
-use super::declarator::declarator;
+use super::declarators::declarator;
 use super::form::Form;
 use super::look::{begins_specifiers, expect_mark};
 use super::make;
@@ -41,12 +41,7 @@ pub fn closed_members(
 
 /// A declaration of members (C11 6.7.2.1), and the place behind it.
 #[cycle(expression)]
-fn member(
-    alloc: Global,
-    words: &[Word],
-    names: &[&[u8]],
-    at: u32,
-) -> Result<(Member, u32), Stop>
+fn member(alloc: Global, words: &[Word], names: &[&[u8]], at: u32) -> Result<(Member, u32), Stop>
     requires { length words.now < 2 ^ 32 }
     ensures { Parses member_tree (IsMember (names_of names.now)) Anything (map shown words.now) at result }
 {

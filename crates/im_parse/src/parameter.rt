@@ -5,7 +5,7 @@ ghost use Rattle.im_ctree.specs.Grammar.{IsParameters};
 ghost use Rattle.im_parse.specs.Parsing.{Parses, Anything, Closed, names_of};
 ghost use Rattle.im_parse.specs.Declaring as d;
 
-use super::declarator::maybe_declarator;
+use super::declarators::maybe_declarator;
 use super::form::Form;
 use super::look::expect_mark;
 use super::make;

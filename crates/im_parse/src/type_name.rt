@@ -5,7 +5,7 @@ ghost use Rattle.im_ctree.specs.Shape.{type_name_of};
 ghost use Rattle.im_ctree.specs.Grammar.{IsTypeName};
 ghost use Rattle.im_parse.specs.Parsing.{Parses, Anything, Closed, names_of};
 
-use super::declarator::maybe_declarator;
+use super::declarators::maybe_declarator;
 use super::form::Form;
 use super::look::expect_mark;
 use super::make;

@@ -1,9 +1,9 @@
 -- Lines that hold under a condition on their first word, and endings.
-use Rattle.std.proofs.Common.{◌≡◌, ℕ, ◌+◌, List, [], ◌∷◌, ◌++◌, length, sym, refl, ap, ◌∙◌, subst}
+use Rattle.std.proofs.Common.{◌≡◌, ℕ, List, [], ◌∷◌, ◌++◌, sym, refl, ap, ◌∙◌, subst}
 use Rattle.std.specs.Prelude.{Option, Some, None}
 use Rattle.std.proofs.lemmas.List.{append-nil}
 use Rattle.im_word.specs.Words.{Word}
-use Rattle.im_parse_core.specs.Reads.{Family, Ending, head, Reads, Refuses, Within}
+use Rattle.im_parse_core.specs.Reads.{Family, Ending, head, Within}
 use Rattle.im_parse_core.proofs.Steps.{Back, head_front}
 
 -- what may stand behind it, may stand behind it here

@@ -1,11 +1,11 @@
 -- Repetitions that a loop reads into a vector, item by item, for any kind of item.
-use Rattle.std.proofs.Common.{◌≡◌, ℕ, suc, ◌+◌, List, [], ◌∷◌, ◌++◌, length, sym, refl, ap, ◌∙◌, subst, append_assoc, arith, length-append}
+use Rattle.std.proofs.Common.{◌≡◌, ℕ, ◌+◌, List, [], ◌∷◌, ◌++◌, length, sym, refl, ap, ◌∙◌, subst, append_assoc, arith, length-append}
 use Rattle.im_word.specs.Words.{Word}
-use Rattle.im_parse_core.specs.Reads.{Family, Ending, head, Reads, Refuses, Within}
-use Rattle.im_parse_core.specs.Parts.{Both, both, After, after, Made, made}
+use Rattle.im_parse_core.specs.Reads.{Family, Ending, head, Within}
+use Rattle.im_parse_core.specs.Parts.{Both, both, Made, made}
 use Rattle.im_parse_core.specs.Lists.{before}
 use Rattle.im_parse_core.specs.Repeats.{Repeated, no_more, one_more, moved}
-use Rattle.im_parse_core.proofs.Steps.{Apart, Completes, Into, line, part, refused}
+use Rattle.im_parse_core.proofs.Steps.{Apart, Completes, Into, line}
 use Rattle.im_parse_core.proofs.Lists.{before_more}
 
 pub moved_more : {S A : Type 0} (step : S → A → S) (s : S) (xs : List A) (a : A) → moved step s (xs ++ a ∷ []) ≡ step (moved step s xs) a

@@ -1,14 +1,14 @@
 -- Lists of items with a word between them, that a word closes.
-use Rattle.std.proofs.Common.{◌≡◌, ℕ, suc, ◌+◌, List, [], ◌∷◌, ◌++◌, length, drop, sym, refl, ap, ◌∙◌, subst, append_assoc, arith, length-append}
-use Rattle.std.specs.Prelude.{Option, Some}
+use Rattle.std.proofs.Common.{◌≡◌, ℕ, List, [], ◌∷◌, ◌++◌, drop, sym, refl, ap, ◌∙◌}
+use Rattle.std.specs.Prelude.{Some}
 use Rattle.im_word.specs.Words.{Word}
 use Rattle.im_parse_core.specs.Reads.{Family, Ending, head, Reads, Refuses, Within}
-use Rattle.im_parse_core.specs.Parts.{Both, both, After, after, Made, made, Done, done}
+use Rattle.im_parse_core.specs.Parts.{Both, After, after, Made, Done, done}
 use Rattle.im_parse_core.specs.Places.{IsAt}
 use Rattle.im_parse_core.specs.Lists.{before}
-use Rattle.im_parse_core.specs.Repeats.{Repeated, no_more, one_more}
-use Rattle.im_parse_core.proofs.Steps.{Apart, Completes, Into, start, line, line_at, word, part, refused, flat_after, first_line}
-use Rattle.im_parse_core.proofs.Repeats.{Rest, Next, one, over, apart_item, completes_item, first}
+use Rattle.im_parse_core.specs.Repeats.{Repeated}
+use Rattle.im_parse_core.proofs.Steps.{Apart, Completes, Into, word, part, refused, flat_after, first_line}
+use Rattle.im_parse_core.proofs.Repeats.{Rest, one, over, apart_item, completes_item, first}
 
 -- { separator item } of a list
 abbrev pub Others : {A B : Type 0} → Family A → (A → B → B) → B → Word → Family B

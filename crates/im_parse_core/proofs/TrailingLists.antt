@@ -1,12 +1,12 @@
 -- Lists of items with a word between them, which may stand behind the last one too, and that a word closes.
 use Rattle.std.proofs.Common.{◌≡◌, ℕ, suc, ◌+◌, List, [], ◌∷◌, ◌++◌, length, drop, sym, refl, ap, ◌∙◌, subst, append_assoc, arith, length-append}
-use Rattle.std.specs.Prelude.{Option, Some}
+use Rattle.std.specs.Prelude.{Some}
 use Rattle.im_word.specs.Words.{Word}
 use Rattle.im_parse_core.specs.Reads.{Family, Ending, head, Reads, Refuses, Within}
-use Rattle.im_parse_core.specs.Parts.{Both, both, After, after, Made, made, Done, done}
+use Rattle.im_parse_core.specs.Parts.{Both, both, After, after, Made, Done, done}
 use Rattle.im_parse_core.specs.Places.{IsAt}
 use Rattle.im_parse_core.specs.Lists.{before}
-use Rattle.im_parse_core.proofs.Steps.{Apart, Completes, Into, start, line, line_at, word, part, refused, all, flat_done, first_line}
+use Rattle.im_parse_core.proofs.Steps.{Apart, Completes, Into, line, line_at, word, part, refused, all, flat_done, first_line}
 use Rattle.im_parse_core.proofs.Lists.{before_more}
 use Rattle.im_parse_core.proofs.Repeats.{first}
 use Rattle.im_parse_core.proofs.SeparatedLists.{Whatever, ClosedBy, closed_apart}

@@ -18,29 +18,29 @@ use Rattle.im_parse.proofs.SuffixLines.{InSuffixes}
 use Rattle.im_parse.proofs.ParameterLines.{InParameters}
 use Rattle.im_parse.proofs.+expression.Given as goal
 
-abbrev pub decreases-expression::assignment : goal.decreases-expression::assignment
-decreases-expression::assignment l = 32 * (length (map shown l.words.now) - l.at) + 19
+abbrev pub decreases-expressions::assignment : goal.decreases-expressions::assignment
+decreases-expressions::assignment l = 32 * (length (map shown l.words.now) - l.at) + 19
 
-abbrev pub decreases-expression::binary : goal.decreases-expression::binary
-decreases-expression::binary l = 32 * (length (map shown l.words.now) - l.at) + (6 + (11 - l.level))
+abbrev pub decreases-expressions::binary : goal.decreases-expressions::binary
+decreases-expressions::binary l = 32 * (length (map shown l.words.now) - l.at) + (6 + (11 - l.level))
 
-abbrev pub decreases-expression::cast : goal.decreases-expression::cast
-decreases-expression::cast l = 32 * (length (map shown l.words.now) - l.at) + 6
+abbrev pub decreases-expressions::cast : goal.decreases-expressions::cast
+decreases-expressions::cast l = 32 * (length (map shown l.words.now) - l.at) + 6
 
-abbrev pub decreases-expression::conditional : goal.decreases-expression::conditional
-decreases-expression::conditional l = 32 * (length (map shown l.words.now) - l.at) + 18
+abbrev pub decreases-expressions::conditional : goal.decreases-expressions::conditional
+decreases-expressions::conditional l = 32 * (length (map shown l.words.now) - l.at) + 18
 
-abbrev pub decreases-expression::expression : goal.decreases-expression::expression
-decreases-expression::expression l = 32 * (length (map shown l.words.now) - l.at) + 20
+abbrev pub decreases-expressions::expression : goal.decreases-expressions::expression
+decreases-expressions::expression l = 32 * (length (map shown l.words.now) - l.at) + 20
 
-abbrev pub decreases-expression::sized : goal.decreases-expression::sized
-decreases-expression::sized l = 32 * (length (map shown l.words.now) - l.behind) + 8
+abbrev pub decreases-expressions::sized : goal.decreases-expressions::sized
+decreases-expressions::sized l = 32 * (length (map shown l.words.now) - l.behind) + 8
 
-abbrev pub decreases-expression::sized_operand : goal.decreases-expression::sized_operand
-decreases-expression::sized_operand l = 32 * (length (map shown l.words.now) - l.behind) + 7
+abbrev pub decreases-expressions::sized_operand : goal.decreases-expressions::sized_operand
+decreases-expressions::sized_operand l = 32 * (length (map shown l.words.now) - l.behind) + 7
 
-abbrev pub decreases-expression::unary : goal.decreases-expression::unary
-decreases-expression::unary l = 32 * (length (map shown l.words.now) - l.at) + 5
+abbrev pub decreases-expressions::unary : goal.decreases-expressions::unary
+decreases-expressions::unary l = 32 * (length (map shown l.words.now) - l.at) + 5
 
 abbrev pub decreases-postfix::closed_arguments : goal.decreases-postfix::closed_arguments
 decreases-postfix::closed_arguments l = 32 * (length (map shown l.words.now) - l.at) + 21
@@ -54,21 +54,21 @@ decreases-postfix::postfix_from l = 32 * (length (map shown l.words.now) - l.nex
 abbrev pub decreases-postfix::primary : goal.decreases-postfix::primary
 decreases-postfix::primary l = 32 * (length (map shown l.words.now) - l.at) + 3
 
-abbrev pub invariant-expression::binary-loop-operator :
-    goal.invariant-expression::binary-loop-operator
-invariant-expression::binary-loop-operator l = InTails (names_of l.names) (map shown l.words) l.level l.at (tree_of l.tree) l.next × (l.at ≤ l.next)
+abbrev pub invariant-expressions::binary-loop-operator :
+    goal.invariant-expressions::binary-loop-operator
+invariant-expressions::binary-loop-operator l = InTails (names_of l.names) (map shown l.words) l.level l.at (tree_of l.tree) l.next × (l.at ≤ l.next)
 
-abbrev pub decreases-expression::binary-loop-operator :
-    goal.decreases-expression::binary-loop-operator
-decreases-expression::binary-loop-operator l = length (map shown l.words) - l.next
+abbrev pub decreases-expressions::binary-loop-operator :
+    goal.decreases-expressions::binary-loop-operator
+decreases-expressions::binary-loop-operator l = length (map shown l.words) - l.next
 
-abbrev pub invariant-expression::expression-loop-behind :
-    goal.invariant-expression::expression-loop-behind
-invariant-expression::expression-loop-behind l = InCommas (names_of l.names) (map shown l.words) l.at (tree_of l.tree) l.next × (l.at ≤ l.next)
+abbrev pub invariant-expressions::expression-loop-behind :
+    goal.invariant-expressions::expression-loop-behind
+invariant-expressions::expression-loop-behind l = InCommas (names_of l.names) (map shown l.words) l.at (tree_of l.tree) l.next × (l.at ≤ l.next)
 
-abbrev pub decreases-expression::expression-loop-behind :
-    goal.decreases-expression::expression-loop-behind
-decreases-expression::expression-loop-behind l = length (map shown l.words) - l.next
+abbrev pub decreases-expressions::expression-loop-behind :
+    goal.decreases-expressions::expression-loop-behind
+decreases-expressions::expression-loop-behind l = length (map shown l.words) - l.next
 
 abbrev pub invariant-postfix::closed_arguments-loop-behind :
     goal.invariant-postfix::closed_arguments-loop-behind
@@ -91,10 +91,10 @@ abbrev pub decreases-specifier::enum_specifier : goal.decreases-specifier::enum_
 decreases-specifier::enum_specifier l = 32 * (length (map shown l.words.now) - l.behind) + 0
 
 abbrev pub decreases-member::closed_members : goal.decreases-member::closed_members
-decreases-member::closed_members l = 32 * (length (map shown l.words.now) - l.at) + 4
+decreases-member::closed_members l = 32 * (length (map shown l.words.now) - l.at) + 7
 
 abbrev pub decreases-member::member : goal.decreases-member::member
-decreases-member::member l = 32 * (length (map shown l.words.now) - l.at) + 3
+decreases-member::member l = 32 * (length (map shown l.words.now) - l.at) + 6
 
 abbrev pub decreases-member::closed_declarators : goal.decreases-member::closed_declarators
 decreases-member::closed_declarators l = 32 * (length (map shown l.words.now) - l.at) + 5
@@ -105,26 +105,26 @@ decreases-enumerator::closed_enumerators l = 32 * (length (map shown l.words.now
 abbrev pub decreases-enumerator::enumerator : goal.decreases-enumerator::enumerator
 decreases-enumerator::enumerator l = 32 * (length (map shown l.words.now) - l.at) + 1
 
-abbrev pub decreases-declarator::maybe_declarator : goal.decreases-declarator::maybe_declarator
-decreases-declarator::maybe_declarator l = 32 * (length (map shown l.words.now) - l.at) + 4
+abbrev pub decreases-declarators::maybe_declarator : goal.decreases-declarators::maybe_declarator
+decreases-declarators::maybe_declarator l = 32 * (length (map shown l.words.now) - l.at) + 4
 
-abbrev pub decreases-declarator::declarator : goal.decreases-declarator::declarator
-decreases-declarator::declarator l = 32 * (length (map shown l.words.now) - l.at) + 3
+abbrev pub decreases-declarators::declarator : goal.decreases-declarators::declarator
+decreases-declarators::declarator l = 32 * (length (map shown l.words.now) - l.at) + 3
 
-abbrev pub decreases-declarator::suffixes : goal.decreases-declarator::suffixes
-decreases-declarator::suffixes l = 32 * (length (map shown l.words.now) - l.at) + 2
+abbrev pub decreases-declarators::suffixes : goal.decreases-declarators::suffixes
+decreases-declarators::suffixes l = 32 * (length (map shown l.words.now) - l.at) + 2
 
-abbrev pub decreases-declarator::suffix : goal.decreases-declarator::suffix
-decreases-declarator::suffix l = 32 * (length (map shown l.words.now) - l.at) + 1
+abbrev pub decreases-declarators::suffix : goal.decreases-declarators::suffix
+decreases-declarators::suffix l = 32 * (length (map shown l.words.now) - l.at) + 1
 
 abbrev pub decreases-parameter::closed_parameters : goal.decreases-parameter::closed_parameters
-decreases-parameter::closed_parameters l = 32 * (length (map shown l.words.now) - l.at) + 4
+decreases-parameter::closed_parameters l = 32 * (length (map shown l.words.now) - l.at) + 7
 
 abbrev pub decreases-parameter::parameter : goal.decreases-parameter::parameter
-decreases-parameter::parameter l = 32 * (length (map shown l.words.now) - l.at) + 3
+decreases-parameter::parameter l = 32 * (length (map shown l.words.now) - l.at) + 6
 
 abbrev pub decreases-type_name::closed_type_name : goal.decreases-type_name::closed_type_name
-decreases-type_name::closed_type_name l = 32 * (length (map shown l.words.now) - l.at) + 3
+decreases-type_name::closed_type_name l = 32 * (length (map shown l.words.now) - l.at) + 6
 
 abbrev pub invariant-specifier::specifiers-loop-alloc :
     goal.invariant-specifier::specifiers-loop-alloc
@@ -158,13 +158,13 @@ abbrev pub decreases-enumerator::closed_enumerators-loop-behind :
     goal.decreases-enumerator::closed_enumerators-loop-behind
 decreases-enumerator::closed_enumerators-loop-behind l = length (map shown l.words) - l.next
 
-abbrev pub invariant-declarator::suffixes-loop-alloc :
-    goal.invariant-declarator::suffixes-loop-alloc
-invariant-declarator::suffixes-loop-alloc l = InSuffixes (names_of l.names) (map shown l.words) l.at (map suffix_tree l.items.items) l.next × (l.at ≤ l.next)
+abbrev pub invariant-declarators::suffixes-loop-alloc :
+    goal.invariant-declarators::suffixes-loop-alloc
+invariant-declarators::suffixes-loop-alloc l = InSuffixes (names_of l.names) (map shown l.words) l.at (map suffix_tree l.items.items) l.next × (l.at ≤ l.next)
 
-abbrev pub decreases-declarator::suffixes-loop-alloc :
-    goal.decreases-declarator::suffixes-loop-alloc
-decreases-declarator::suffixes-loop-alloc l = length (map shown l.words) - l.next
+abbrev pub decreases-declarators::suffixes-loop-alloc :
+    goal.decreases-declarators::suffixes-loop-alloc
+decreases-declarators::suffixes-loop-alloc l = length (map shown l.words) - l.next
 
 abbrev pub invariant-parameter::closed_parameters-loop-behind :
     goal.invariant-parameter::closed_parameters-loop-behind

@@ -1,9 +1,3 @@
-use Rattle.im_parse.proofs.DeclaratorLines.{after_stars}
-use Rattle.im_parse.proofs.ParameterLines.{parameter_start}
-use Rattle.im_parse.proofs.SuffixLines.{suffixes_start}
-use Rattle.im_parse.proofs.MemberLines.{member_start}
-use Rattle.im_parse.proofs.EnumeratorLines.{enumerator_start}
-use Rattle.im_parse.proofs.TagLines.{tag_start}
 use Rattle.std.proofs.Common.{map, sym, ◌∙◌, ◌≡◌, true, false}
 use Rattle.im_word.specs.Shown.{shown}
 use Rattle.im_parse.proofs.NextWord.{isnt_so}

@@ -8,7 +8,7 @@ ghost use Rattle.im_parse.specs.Declaring.{IsForm, IsMaybeForm, IsSuffix, AfterD
 use super::ahead::{declarator_ahead, suffix_ahead};
 use super::around::{around, unstarred};
 use super::core_start::{CoreStart, core_at};
-use super::expression::conditional;
+use super::expressions::conditional;
 use super::form::Form;
 use super::look::expect_mark;
 use super::make;
@@ -95,12 +95,7 @@ fn suffixes(
 
 /// One suffix of a declarator (C11 6.7.6.2, 6.7.6.3), and the place behind it.
 #[cycle(expression)]
-fn suffix(
-    alloc: Global,
-    words: &[Word],
-    names: &[&[u8]],
-    at: u32,
-) -> Result<(Suffix, u32), Stop>
+fn suffix(alloc: Global, words: &[Word], names: &[&[u8]], at: u32) -> Result<(Suffix, u32), Stop>
     requires { length words.now < 2 ^ 32 }
     ensures { Parses suffix_tree (IsSuffix (names_of names.now)) Anything (map shown words.now) at result }
 {
