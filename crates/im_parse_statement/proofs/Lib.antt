@@ -1,0 +1,7 @@
+pub mod Closing
+pub mod Forms
+pub mod BranchLines
+pub mod LoopLines
+pub mod ItemLines
+pub mod NameFacts
+pub mod Rows

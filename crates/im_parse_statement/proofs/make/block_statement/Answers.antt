@@ -1,0 +1,7 @@
+use Rattle.std.proofs.Common.{ap}
+use Rattle.im_ctree.specs.Tree as t
+use Rattle.im_parse_statement.proofs.Rows.{items_made}
+use Rattle.im_parse_statement.proofs.make.block_statement.Goals as goal
+
+pub returns : goal.returns
+returns c = ap (λ z. t.block_statement c.args.at (t.block c.args.body.at z)) (items_made c.args.body.items)
