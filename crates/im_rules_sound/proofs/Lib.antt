@@ -3,3 +3,4 @@ mod Terms
 mod Changes
 mod Assigns
 mod Calls
+mod Members

@@ -1,18 +1,20 @@
 -- What is well typed by the rules.
-use Rattle.std.specs.Prelude.{◌≡◌, Bool, true, List, Some}
+use Rattle.std.specs.Prelude.{◌≡◌, ℕ, Bool, true, List, Some}
 use Rattle.im_ctree.specs.declared.operator.BinaryOp.{BinaryOp}
 use Rattle.im_ctree.specs.declared.operator.UnaryOp.{UnaryOp}
 use Rattle.im_ctree.specs.declared.operator.AssignOp.{AssignOp}
 use Rattle.im_ctree.specs.declared.operator.StepOp.{StepOp}
-use Rattle.im_ctype.specs.Types.{CType, Structs}
-use Rattle.im_typed.specs.Program.{Func, Prog}
+use Rattle.im_ctype.specs.Types.{CType, struct, Structs, members_of}
+use Rattle.im_ctype.specs.Layout.{AreComplete}
+use Rattle.im_word.specs.Words.{Name}
+use Rattle.im_typed.specs.Program.{Place, Func, Prog}
 use Rattle.im_rules.specs.Rules.{allows}
 use Rattle.im_rules.specs.Terms.{Term, operand_of, value_of}
-use Rattle.im_rules.specs.TypeTests.{target_of}
+use Rattle.im_rules.specs.TypeTests.{target_of, has_member}
 use Rattle.im_rules.specs.Scopes.{a_function, Callee}
 use Rattle.im_rules.specs.Demands.{Meets, unary_asks, cast_asks, conditional_asks, assign_asks, step_asks, index_asks, call_asks}
-use Rattle.im_rules.specs.Conversions.{operation, unary_term, casted, joined, chosen, assigned, stepped, pointed, sum, call_of}
-use Rattle.im_rules_sound.specs.Sound.{IsSoundValue, MovesWell, IsSized, IsSoundTerm, AreSound, IsSoundCallee}
+use Rattle.im_rules.specs.Conversions.{operation, unary_term, casted, joined, chosen, assigned, stepped, pointed, sum, call_of, member_among, member_at}
+use Rattle.im_rules_sound.specs.Sound.{IsSoundValue, MovesWell, IsSized, IsSoundPlace, IsSoundTerm, AreSound, IsSoundCallee}
 
 -- binary operators (C11 6.5.5 to 6.5.14)
 abbrev pub OperationsLaw : Type 0
@@ -74,3 +76,10 @@ abbrev pub CallsLaw : Type 0
 CallsLaw =
     (g : Prog) (f : Func) (known : Structs) (c : Callee) (t : CType) (xs : List Term) → IsSoundCallee g known c t → AreSound g f known xs
     → Meets (call_asks (Some (a_function c t)) xs) → IsSoundValue g f known (call_of known (Some (a_function c t)) xs)
+
+-- a member of a struct at a place (C11 6.5.2.3), where each struct of the unit holds only those before it
+abbrev pub MembersLaw : Type 0
+MembersLaw =
+    (g : Prog) (f : Func) (known : Structs) (k : Bool) (n : ℕ) (p : Place) (x : Name) → AreComplete known → IsSoundPlace g f known (struct n) p
+    → has_member x (members_of known n) ≡ true → IsSized known (member_among x (members_of known n)).type
+    → IsSoundTerm g f known (member_at known k (struct n) p x)

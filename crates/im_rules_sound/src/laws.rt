@@ -1,5 +1,5 @@
 //! What the typing rules give is well typed. Each law is a function with an empty body, whose contract says it.
-ghost use Rattle.im_rules_sound.specs.Laws.{OperationsLaw, ReadsLaw, UnaryLaw, CastsLaw, CommasLaw, ChoicesLaw, AssignsLaw, StepsLaw, SubscriptsLaw, CallsLaw};
+ghost use Rattle.im_rules_sound.specs.Laws.{OperationsLaw, ReadsLaw, UnaryLaw, CastsLaw, CommasLaw, ChoicesLaw, AssignsLaw, StepsLaw, SubscriptsLaw, CallsLaw, MembersLaw};
 
 /// An operator on well-typed values that its rule allows gives a well-typed value.
 pub fn operations_law()
@@ -39,4 +39,9 @@ pub fn assigns_law()
 pub fn calls_law()
     ensures subscripts { SubscriptsLaw }
     ensures calls { CallsLaw }
+{}
+
+/// A member of a struct whose place is well typed has a well-typed place.
+pub fn members_law()
+    ensures { MembersLaw }
 {}
