@@ -2,3 +2,4 @@ pub mod Stretches
 pub mod Periods
 pub mod Loads
 pub mod Layouts
+pub mod Places

@@ -11,7 +11,7 @@ mod stretch;
 mod vars;
 
 pub use fault::LoadFault;
-pub use laws::periods_law;
+pub use laws::{periods_law, place_law};
 pub use machine::Machine;
 
 #[cfg(test)]

@@ -1,6 +1,6 @@
 -- What agreement of stores gives, and numbers in 32 bits.
-use Rattle.std.proofs.Common.{◌≡◌, ℕ, ◌-◌, ◌%◌, ◌<◌, ◌==◌, ◌&&◌, Bool, true, false, refl, sym, ap, ◌∙◌, subst, arith}
-use Rattle.std.specs.Prelude.{Option, Some, None, ℤ, pos, negsuc, not, if◌then◌else◌}
+use Rattle.std.proofs.Common.{◌≡◌, ℕ, ◌+◌, ◌-◌, ◌%◌, ◌<◌, ◌==◌, ◌&&◌, Bool, true, false, refl, sym, ap, ◌∙◌, subst, arith}
+use Rattle.std.specs.Prelude.{Option, Some, None, ℤ, pos, negsuc, ◌+ℤ◌, not, if◌then◌else◌}
 use Rattle.std.specs.Ordering.{int_eq}
 use Rattle.std.proofs.lemmas.Int.{ints}
 use Rattle.std.proofs.lemmas.Bool.{eqb-true, eq-eqb}
@@ -9,6 +9,10 @@ use Rattle.std.proofs.lemmas.Bool.Decides.{Decides-int_eq}
 use Rattle.im_num.specs.declared.kind.Kind.{Kind}
 use Rattle.im_num.specs.declared.kind.Kind.TheVariants.{I8, U8, I16, U16, I32, U32, Ptr}
 use Rattle.im_num.specs.Kinds.{IsOfKind, word}
+use Rattle.im_store.specs.declared.undefined.Undefined.TheVariants.{OutsideObject, DeadPointerRead}
+use Rattle.im_store.specs.Pointers.{reaches, within, moved_by, member_at}
+use Rattle.im_typed.specs.Sound.{IsValue}
+use Rattle.im_block.specs.Meaning as m
 use Rattle.im_store.specs.Checks.{Checked, Fine, Bad, unless}
 use Rattle.im_store.specs.Objects.{Object, Value, Number, Null, Pointer, Unset, Shape, Store, same_object, is_there, lives}
 use Rattle.im_store.specs.Access.{has_cell, stands, taken, read_cell, write_cell, with_value}
@@ -33,6 +37,10 @@ module _ (store blocks : Store) (agrees : Agrees store blocks) where
   if-fine true r a why e = (refl, e)
   if-fine false r a why e = absurd (cc)
 
+  unless-part : (c : Bool) (a b : Value) (why : _) → unless c a why ≡ Fine b → (c ≡ true) × (a ≡ b)
+  unless-part true a b why e = (refl, cc)
+  unless-part false a b why e = absurd (cc)
+
   if-true : {A : Type 0} (c : Bool) (r other : A) → c ≡ true → (if c then r else other) ≡ r
   if-true true r other e = refl
   if-true false r other e = absurd (cc)
@@ -53,6 +61,37 @@ module _ (store blocks : Store) (agrees : Agrees store blocks) where
       let t = agree-taken (store.values o offset) (blocks.values o offset) v (agrees.values o offset) c.1 in
       if-true (stands blocks o offset kind) (taken blocks (blocks.values o offset)) _ (agree-stands o offset kind c.0) ∙ t.1
 
+  -- pointers that reach their objects
+
+  agree-within : (o : Object) (z : ℤ) (v : Value) → within store o z ≡ Fine v → within blocks o z ≡ Fine v
+  agree-within o (pos offset) v e = found (store.shape o) refl (unless-part (reaches (store.shape o) offset) (Pointer o offset) v _ e)
+    where
+      found : (r : Option Shape) → store.shape o ≡ r → (reaches (store.shape o) offset ≡ true) × (Pointer o offset ≡ v) → within blocks o (pos offset) ≡ Fine v
+      found None h k = let never : false ≡ true = ap (λ x. reaches x offset) (sym h) ∙ k.0 in absurd (cc)
+      found (Some s) h k =
+          if-true (reaches (blocks.shape o) offset) (Fine (Pointer o offset)) (Bad OutsideObject) (ap (λ x. reaches x offset) (agrees.shapes o s h ∙ sym h) ∙ k.0) ∙ ap Fine k.1
+  agree-within o (negsuc n) v e = absurd (cc)
+
+  pub agree-moved : (d : ℤ) (p v : Value) → moved_by store d p ≡ Fine v → moved_by blocks d p ≡ Fine v
+  agree-moved d (Pointer o offset) v e = agree-within o (pos offset +ℤ d) v e
+  agree-moved d (Number z) v e = absurd (cc)
+  agree-moved d Null v e = absurd (cc)
+  agree-moved d Unset v e = absurd (cc)
+
+  pub agree-member : (d : ℕ) (p v : Value) → member_at store d p ≡ Fine v → member_at blocks d p ≡ Fine v
+  agree-member d (Pointer o offset) v e = agree-within o (pos (offset + d)) v e
+  agree-member d (Number z) v e = absurd (cc)
+  agree-member d Null v e = absurd (cc)
+  agree-member d Unset v e = absurd (cc)
+
+  -- a value that is taken is a pointer in use
+  pub agree-pointer : (begun : ℕ) (v : Value) → IsValue begun store Ptr v → taken store v ≡ Fine v → m.pointer_of blocks v ≡ Fine v
+  agree-pointer begun (Number z) h e = absurd h.0
+  agree-pointer begun Null h e = refl
+  agree-pointer begun (Pointer o offset) h e =
+      if-true (lives blocks o) (Fine (Pointer o offset)) _ (agree-lives o (if-fine (lives store o) (Fine (Pointer o offset)) (Pointer o offset) _ e).0)
+  agree-pointer begun Unset h e = absurd h
+
   same-self : (v : Value) → Same v v
   same-self (Number z) = refl
   same-self Null = refl
@@ -66,9 +105,17 @@ module _ (store blocks : Store) (agrees : Agrees store blocks) where
   -- the same value is stored in both
   pub agree-stored : (o : Object) (offset : ℕ) (v : Value) → Agrees (record store { values = with_value store.values o offset v }) (record blocks { values = with_value blocks.values o offset v })
   agree-stored o offset v = record {
+    inside = agrees.inside;
     shapes = agrees.shapes;
     values = λ q i. with-same (same_object q o && i == offset) v (store.values q i) (blocks.values q i) (agrees.values q i);
   }
+
+-- whether a value may be used hangs on who lives alone
+pub taken-kept : (store after : Store) (v : Value) → ((o : Object) → after.shape o ≡ store.shape o) → taken store v ≡ Fine v → taken after v ≡ Fine v
+taken-kept store after (Number z) same e = refl
+taken-kept store after Null same e = refl
+taken-kept store after (Pointer o offset) same e = ap (λ r. unless (is_there r) (Pointer o offset) DeadPointerRead) (same o) ∙ e
+taken-kept store after Unset same e = e
 
 unless-fine : {A : Type 0} (c : Bool) (a b : A) (why : _) → unless c a why ≡ Fine b → (c ≡ true) × (a ≡ b)
 unless-fine true a b why e = (refl, cc)

@@ -3,4 +3,4 @@
 
 mod laws;
 
-pub use laws::expressions_law;
+pub use laws::{lower_keeps_law, lowered_form_law};

@@ -1,3 +1,4 @@
+pub mod Byte
 pub mod Loaded
 pub mod Shows
 pub mod Writer

@@ -1,5 +1,5 @@
 -- The program, loaded, and its laws.
-use Rattle.std.proofs.Common.{◌≡◌, ◌≢◌, ℕ, zero, suc, ◌+◌, ◌*◌, ◌%◌, ◌^◌, ◌<◌, List, [], ◌∷◌, refl, sym, ap, ◌∙◌, subst, arith}
+use Rattle.std.proofs.Common.{◌≡◌, ◌≢◌, ℕ, zero, suc, ◌+◌, ◌*◌, ◌%◌, ◌<◌, List, [], ◌∷◌, refl, sym, ap, ◌∙◌, subst, arith}
 use Rattle.im_mem.specs.Memory.{Mem, little}
 use Rattle.im_rv.specs.Decode.{Line}
 use Rattle.im_rv.specs.Encode.{encoded}
@@ -14,9 +14,10 @@ use Rattle.im_replay.proofs.Endless.{is_run, first_state}
 use Rattle.im_replay.proofs.Images.{first_live, first_mem, first_place, zeros, words, owed_of}
 use Rattle.im_replay.proofs.Device.{output_law}
 use Rattle.im_witness.proofs.Loading.{recovery_there, checkpoint_there, own_there, bytes_there, index_there, start_there}
-use Rattle.im_output_witness.specs.Writer.{own, writer_memory, WriterLaw, WriterShowsLaw, WriterOutputLaw}
+use Rattle.im_output_witness.specs.Writer.{own, writer_memory, WriterLaw, WriterShowsLaw, WriterOutputLaw, WriterByteLaw}
 use Rattle.im_output_witness.proofs.Writer.{WriterImage, owed, first_needs}
 use Rattle.im_output_witness.proofs.Shows.{shows}
+use Rattle.im_output_witness.proofs.Byte.{shows_byte}
 
 lines : List Line
 lines = own 0 ∷ own 1 ∷ own 2 ∷ own 3 ∷ own 4 ∷ own 5 ∷ own 6 ∷ own 7 ∷ []
@@ -83,3 +84,6 @@ writer_shows_law = shows (uninterrupted writer_memory) (is_run writer_memory) be
 
 pub writer_output_law : WriterOutputLaw
 writer_output_law = output_law writer_memory 5076 writer_law writer_shows_law
+
+pub writer_byte_law : WriterByteLaw
+writer_byte_law = shows_byte (uninterrupted writer_memory) (is_run writer_memory) begun.image begun.place (zeros writer_memory can 0) (words writer_memory can 0) (owed_of writer_memory 5076 writer_law)

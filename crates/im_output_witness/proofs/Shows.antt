@@ -1,37 +1,37 @@
 -- The program stores the selector as the law of output asks.
-use Rattle.std.proofs.Common.{◌≡◌, ◌≢◌, ℕ, zero, suc, ◌+◌, ◌*◌, ◌^◌, ◌<◌, ◌≤◌, ◌⊎◌, inl, inr, Bool, true, false, cond, Some, None, refl, sym, ap, ◌∙◌, subst, arith}
+use Rattle.std.proofs.Common.{◌≡◌, ℕ, zero, suc, ◌+◌, ◌*◌, ◌^◌, ◌<◌, ◌≤◌, ◌⊎◌, inl, inr, true, false, cond, Some, None, refl, sym, ap, ◌∙◌, arith}
 use Rattle.std.specs.Prelude.{◌==◌, ◌||◌, min}
 use Rattle.std.proofs.lemmas.Bool.Decides.{nat_tests}
-use Rattle.im_mem.specs.Memory.{Mem, little}
+use Rattle.im_mem.specs.Memory.{little}
 use Rattle.im_mem.proofs.Words.{little-alike}
 use Rattle.im_rv.specs.declared.effect.Effect.{Effect}
-use Rattle.im_rv.specs.declared.effect.Effect.TheVariants.{Puts, Stores, Stops}
+use Rattle.im_rv.specs.declared.effect.Effect.TheVariants.{Stores}
 use Rattle.im_rv.specs.Steps.{sum_of}
 use Rattle.im_rv.specs.Effects.{writes_by, effect}
 use Rattle.im_device.specs.Run.{index_of}
 use Rattle.im_path.specs.Sections.{start}
 use Rattle.im_path.proofs.Times.{order, start_le, start_past}
-use Rattle.im_ckpt.specs.Runs.{State, IsRun, flip, writes, effect_at}
+use Rattle.im_ckpt.specs.Runs.{State, IsRun, flip, writes}
 use Rattle.im_ckpt.specs.Buffers.{is_buffer, is_fixed}
-use Rattle.im_ckpt.specs.Laws.{is_runtime, IsIntact}
+use Rattle.im_ckpt.specs.Laws.{IsIntact}
 use Rattle.im_ckpt.proofs.Phases.{none_kept, mem_next, low_writes, high_writes, flip_low}
 use Rattle.im_replay.specs.Owed.{IsOwed}
 use Rattle.im_replay.specs.Output.{output_size, Extends, ShowsSafely}
-use Rattle.im_replay.proofs.Owing.{here, doing, Plain, Reads_index, Moves, Saves_reg, Flips, flip_is}
+use Rattle.im_replay.proofs.Owing.{doing, Plain, Reads_index, Moves, Saves_reg, Flips, flip_is}
 use Rattle.im_replay.proofs.Shows.{size_by}
 use Rattle.im_output_witness.specs.Writer.{own}
-use Rattle.im_output_witness.proofs.Writer.{WriterImage, time_of, stored_apart, at, outside, Out, effect_now}
+use Rattle.im_output_witness.proofs.Writer.{WriterImage, time_of, stored_apart, at, outside, effect_now}
 
 sides : (a : ℕ) → is_buffer a ≡ false → (a < 128) ⊎ (384 ≤ a)
 sides a h = grind (arith, nat_tests)
 
-low_out : (a : ℕ) → a < 40 → is_buffer a ≡ false
+pub low_out : (a : ℕ) → a < 40 → is_buffer a ≡ false
 low_out a l = grind (arith, nat_tests)
 
 low_fixed : (a : ℕ) → a < 4 → (is_buffer a || is_fixed 5076 a) ≡ true
 low_fixed a l = grind (arith, nat_tests)
 
-high_out : (i : ℕ) → is_buffer (4194304 + i) ≡ false
+pub high_out : (i : ℕ) → is_buffer (4194304 + i) ≡ false
 high_out i = grind (arith, nat_tests)
 
 split : (a b n : ℕ) → ((a < b) ⊎ (b + n ≤ a)) ⊎ ((b ≤ a) × (a < b + n))
@@ -39,7 +39,7 @@ split a b n = elim (order a b) [ inl l ↦ inl (inl l) | inr l ↦ elim (order a
 
 module _ (run : ℕ → State) (steps : IsRun run) (image : WriterImage (run 0).mem) (first_place : (run 0).cpu.pc ≡ 5044) (first_zero : (run 0).cpu.x 0 ≡ 0) (first_words : (i : ℕ) → (run 0).cpu.x i < 2 ^ 32) (o : IsOwed run 5076) where
   -- what is written beside INDEX and the buffers, and when
-  data Where (t a : ℕ) : Type 0 where
+  pub data Where (t a : ℕ) : Type 0 where
     Nowhere : writes run t a ≡ None → Where t a
     Byte : t ≡ 2 → 4194304 ≤ a → Where t a
     Length : t ≡ 3 → 32 ≤ a → a < 36 → Where t a
@@ -67,7 +67,7 @@ module _ (run : ℕ → State) (steps : IsRun run) (image : WriterImage (run 0).
   own_where t (suc (suc (suc (suc (suc (suc zero)))))) a h e l now base past = Nowhere (quiet_by t 6 a _ h (omega arith) e refl refl)
   own_where t (suc (suc (suc (suc (suc (suc (suc k))))))) a h e l now base past = Nowhere (quiet_by t (suc (suc (suc (suc (suc (suc (suc k))))))) a _ h l e refl refl)
 
-  where_at : (t a : ℕ) → 4 ≤ a → is_buffer a ≡ false → Where t a
+  pub where_at : (t a : ℕ) → 4 ≤ a → is_buffer a ≡ false → Where t a
   where_at t a low out = elim (doing run 5076 o t) [
     | Plain p ↦ (
         let h = at run steps image first_place first_zero first_words t in
@@ -82,7 +82,7 @@ module _ (run : ℕ → State) (steps : IsRun run) (image : WriterImage (run 0).
     | Flips t0 m e s ↦ Nowhere (ap (λ z. writes_by z a) s.effect ∙ flip_low run 5076 o.based (cond (index_of (run t).mem == 0) 1 0) a low)
   ]
 
-  kept_at : (t a : ℕ) → writes run t a ≡ None → (run (suc t)).mem a ≡ (run t).mem a
+  pub kept_at : (t a : ℕ) → writes run t a ≡ None → (run (suc t)).mem a ≡ (run t).mem a
   kept_at t a n = mem_next run 5076 o.based t a ∙ none_kept (writes run t a) ((run t).mem a) n
 
   -- the selector and the first length, until the selector is stored
@@ -113,7 +113,7 @@ module _ (run : ℕ → State) (steps : IsRun run) (image : WriterImage (run 0).
   selector_zero : (t : ℕ) → t ≤ 17 → (run t).mem 36 ≡ 0
   selector_zero t l = still t 36 l (inl refl) ∙ image.selector
 
-  nothing_shown : (t : ℕ) → t ≤ 17 → output_size (run t).mem ≡ 0
+  pub nothing_shown : (t : ℕ) → t ≤ 17 → output_size (run t).mem ≡ 0
   nothing_shown t l =
       let m = (run t).mem in
       ap (λ z. min (cond (z == 0) (little m 12 4) (little m 32 4)) 1048576) (selector_zero t l)

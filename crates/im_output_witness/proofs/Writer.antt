@@ -1,6 +1,6 @@
 -- A program that writes one byte has all that the compiler owes: where its run is at each time.
 use Rattle.std.proofs.Common.{◌≡◌, ◌≢◌, ℕ, zero, suc, ◌+◌, ◌-◌, ◌*◌, ◌%◌, ◌^◌, ◌<◌, ◌≤◌, ◌⊎◌, inl, inr, Bool, true, false, cond, Some, None, refl, sym, ap, ◌∙◌, subst, arith}
-use Rattle.std.specs.Prelude.{◌==◌, ◌&&◌, ◌||◌, not, nat_lt, nat_eq, nat_le}
+use Rattle.std.specs.Prelude.{◌==◌, ◌&&◌, ◌||◌, not, nat_lt, nat_eq}
 use Rattle.std.proofs.lemmas.Bool.Decides.{nat_tests}
 use Rattle.im_num.specs.Bytes.{bytes_of}
 use Rattle.im_mem.specs.Memory.{Mem, little, loaded, is_place, Stands}
@@ -16,16 +16,15 @@ use Rattle.im_rv.specs.Encode.{encoded}
 use Rattle.im_rv.specs.Effects.{decoded_word, effect, rd_of, rs1_of, rs2_of, writes_by, reads_by, sets_by}
 use Rattle.im_rv.proofs.Locality.{step_effected, saved_at, patch_below, patch_above}
 use Rattle.im_device.specs.Run.{index_of}
-use Rattle.im_path.specs.Sections.{start, wrote}
-use Rattle.im_path.proofs.Times.{order, start_le}
+use Rattle.im_path.proofs.Times.{order}
 use Rattle.im_ckpt.specs.Runs.{State, IsRun, flip, writes, reads, line_at, effect_at, sets}
 use Rattle.im_ckpt.specs.Buffers.{is_buffer, is_fixed, idle, slot, saves_by}
 use Rattle.im_ckpt.specs.Recovery.{recovery_words, return_line}
 use Rattle.im_ckpt.specs.Checkpoint.{checkpoint_words, store_line, shift_line, flip_line}
 use Rattle.im_ckpt.specs.Laws.{is_runtime, IsCut, HasRuntime, IsIntact}
 use Rattle.im_ckpt.proofs.Rungs.{entry_line, ladder_reg, shift_back, flip_back, ladder_store, store_back, reg_named}
-use Rattle.im_ckpt.proofs.Slots.{word_outside, saves_if}
-use Rattle.im_ckpt.proofs.Phases.{Entering, Climbing, Returning, none_kept, mem_next, calm_of, next_is, effect_is, entry_line_at, entry_step, ladder_line_at, climb_store, climb_flip, slot_place, climb_on, climb_shift, flip_on, return_on, return_line_at, enters, in_entry, on_ladder, at_return, comes_back, low_writes, high_writes, flip_low}
+use Rattle.im_ckpt.proofs.Slots.{saves_if}
+use Rattle.im_ckpt.proofs.Phases.{Entering, Climbing, Returning, none_kept, mem_next, next_is, effect_is, entry_line_at, entry_step, ladder_line_at, climb_store, climb_flip, slot_place, climb_on, climb_shift, flip_on, return_on, return_line_at, enters, in_entry, on_ladder, at_return, comes_back}
 use Rattle.im_replay.specs.Needed.{uses, Needed}
 use Rattle.im_replay.specs.Sections.{IsLive}
 use Rattle.im_replay.specs.Owed.{IsOwed}
@@ -123,7 +122,7 @@ module _ (run : ℕ → State) (steps : IsRun run) (image : WriterImage (run 0).
   pub based : HasRuntime run 5076
   based = record { steps = steps; long = omega arith; recovery = image.recovery; checkpoint = image.checkpoint }
 
-  own_at : (t k : ℕ) → IsIntact run 5076 t → k < 8 → (run t).cpu.pc ≡ 5044 + 4 * k → line_at (run t) ≡ Some (own k)
+  pub own_at : (t k : ℕ) → IsIntact run 5076 t → k < 8 → (run t).cpu.pc ≡ 5044 + 4 * k → line_at (run t) ≡ Some (own k)
   own_at t k h l e =
       let pc : ℕ = 5044 + 4 * k in
       ap (λ z. decoded_word (loaded (run t).mem z 4)) e
@@ -149,7 +148,7 @@ module _ (run : ℕ → State) (steps : IsRun run) (image : WriterImage (run 0).
 
   -- ---- one step of the program
 
-  puts_next : (t : ℕ) (l : Line) (v target : ℕ) → line_at (run t) ≡ Some l → effect (run t).cpu l ≡ Puts v target → run (suc t) ≡ record { cpu = record { pc = target; x = with_reg (run t).cpu.x l.rd v }; mem = (run t).mem }
+  pub puts_next : (t : ℕ) (l : Line) (v target : ℕ) → line_at (run t) ≡ Some l → effect (run t).cpu l ≡ Puts v target → run (suc t) ≡ record { cpu = record { pc = target; x = with_reg (run t).cpu.x l.rd v }; mem = (run t).mem }
   puts_next t l v target e f = next_is run 5076 based t l e ∙ ap (λ z. record { cpu = (effected (run t).cpu (run t).mem l.rd z).cpu; mem = (effected (run t).cpu (run t).mem l.rd z).mem }) f
 
   put_fine : (t : ℕ) (l : Line) (v target : ℕ) → IsIntact run 5076 t → v < 2 ^ 32 → run (suc t) ≡ record { cpu = record { pc = target; x = with_reg (run t).cpu.x l.rd v }; mem = (run t).mem } → IsIntact run 5076 (suc t)
@@ -162,7 +161,7 @@ module _ (run : ℕ → State) (steps : IsRun run) (image : WriterImage (run 0).
         words = λ i. subst (λ (s : State). s.cpu.x i < 2 ^ 32) (sym next) (one_word d.x l.rd v h.words small i);
       }
 
-  store_cpu : (t : ℕ) (l : Line) (a n v : ℕ) → line_at (run t) ≡ Some l → effect (run t).cpu l ≡ Stores a n v → is_place a n ≡ true → (run (suc t)).cpu ≡ record { pc = sum_of (run t).cpu.pc 4; x = (run t).cpu.x }
+  pub store_cpu : (t : ℕ) (l : Line) (a n v : ℕ) → line_at (run t) ≡ Some l → effect (run t).cpu l ≡ Stores a n v → is_place a n ≡ true → (run (suc t)).cpu ≡ record { pc = sum_of (run t).cpu.pc 4; x = (run t).cpu.x }
   store_cpu t l a n v e f ok = ap (λ (s : State). s.cpu) (next_is run 5076 based t l e) ∙ ap (λ z. (effected (run t).cpu (run t).mem l.rd z).cpu) f ∙ ap (λ b. (saved_at b (run t).cpu (run t).mem a (bytes_of n v)).cpu) ok
 
   stored_kept : (t : ℕ) (l : Line) (a n v i : ℕ) → line_at (run t) ≡ Some l → effect (run t).cpu l ≡ Stores a n v → (i < a) ⊎ (a + n ≤ i) → (run (suc t)).mem i ≡ (run t).mem i

@@ -1,8 +1,10 @@
 -- A byte of output: addi x5, x0, 1; lui x6, 0x400; sb x5, 0(x6); sw x5, 32(x0); jal x3, E5; sb x5, 36(x0); jal x3, E5; ebreak.
 -- The byte and OUT_LEN1 are stored in one section, OUT_SEL in the next.
-use Rattle.std.specs.Prelude.{ℕ, zero, suc, [], ◌∷◌}
+use Rattle.std.specs.Prelude.{◌≡◌, ℕ, zero, suc, [], ◌∷◌}
 use Rattle.im_mem.specs.Map.{out_len1_at, out_sel_at}
 use Rattle.im_mem.specs.Memory.{Mem}
+use Rattle.im_image.specs.declared.form.Form.TheVariants.{TwoLengths}
+use Rattle.im_device.specs.Shows.{output_of}
 use Rattle.im_rv.specs.declared.instr.Op.TheVariants.{Lui, Sb, Sw, Addi, Jal, Ebreak}
 use Rattle.im_rv.specs.Decode.{Line}
 use Rattle.im_rv.specs.Lines.{instruction}
@@ -34,3 +36,7 @@ WriterShowsLaw = ShowsSafely (uninterrupted writer_memory)
 
 abbrev pub WriterOutputLaw : Type 0
 WriterOutputLaw = NeverShrinks (uninterrupted writer_memory) writer_memory
+
+-- and it does write: behind its 18 instructions up to the store of OUT_SEL, the checkpoint's among them, the output is the byte 1
+abbrev pub WriterByteLaw : Type 0
+WriterByteLaw = output_of TwoLengths (uninterrupted writer_memory 18).mem ≡ 1 ∷ []

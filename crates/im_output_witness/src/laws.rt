@@ -1,4 +1,4 @@
-ghost use Rattle.im_output_witness.specs.Writer.{WriterLaw, WriterOutputLaw, WriterShowsLaw};
+ghost use Rattle.im_output_witness.specs.Writer.{WriterByteLaw, WriterLaw, WriterOutputLaw, WriterShowsLaw};
 
 /// A program that writes one byte of output has what the compiler owes.
 pub fn writer_law()
@@ -13,4 +13,9 @@ pub fn writer_shows_law()
 /// So its output never shrinks, under every list of periods.
 pub fn writer_output_law()
     ensures { WriterOutputLaw }
+{}
+
+/// And it does write: behind the store of the selector the output is one byte.
+pub fn writer_byte_law()
+    ensures { WriterByteLaw }
 {}

@@ -3,4 +3,4 @@
 
 mod laws;
 
-pub use laws::{writer_law, writer_output_law, writer_shows_law};
+pub use laws::{writer_byte_law, writer_law, writer_output_law, writer_shows_law};

@@ -1,5 +1,5 @@
 -- What a function gives, by what the functions that it calls give.
-use Rattle.std.proofs.Common.{◌≡◌, ℕ, List, drop, Bool, true, false, refl, arith}
+use Rattle.std.proofs.Common.{◌≡◌, ℕ, ◌-◌, ◌<◌, List, drop, length, Bool, true, false, refl, ap, arith, length-append, length-drop}
 use Rattle.std.specs.Prelude.{Result, MatchResult, IsTrue, ◌↔◌}
 use Rattle.std.proofs.lemmas.Result.{MatchResult-weaker}
 use Rattle.im_word.specs.Words.{Word}
@@ -24,3 +24,8 @@ isnt b e both p = let h : IsTrue b = both.1 p in grind (arith, h, e)
 
 pub itis : {P : Type 0} (b : Bool) → b ≡ true → IsTrue b ↔ P → P
 itis b e both = both.0 (let h : IsTrue b = rw e refl in h)
+
+-- the words that are left get fewer
+pub shorter : {A : Type 0} {D : Family A} {E : Ending A} (words : List Word) {q n : ℕ} {t : A} → Reads D E q (drop q words) t n (drop n words) → q < n → length words - n < length words - q
+shorter words {q = q} {n = n} one h =
+    omega (arith, h, one.place, ap length one.cut, length-append one.front (drop n words), length-drop q words, length-drop n words)

@@ -14,6 +14,9 @@ use Rattle.im_ctree.specs.declared.operator.AssignOp.{AssignOp}
 use Rattle.im_ctree.specs.Operators as op
 use Rattle.im_parse_core.specs.Reads.{head}
 use Rattle.im_parse_core.specs.Places.{IsAt}
+use Rattle.im_ctree.specs.declared.specifier.SpecifierWord.{SpecifierWord}
+use Rattle.im_tok.specs.declared.keyword.Keyword.TheVariants as ky
+use Rattle.im_parse.specs.Declaring.{WordAt, NoWord}
 use Rattle.im_parse.specs.Tables as table
 use Rattle.im_parse.specs.Parsing.{OperatorAt, NoOperator, BeginsSpecifiers, by_name, by_keyword}
 
@@ -151,3 +154,39 @@ by_this_name {T = T} {n = n} b at both = (λ h. subst (BeginsSpecifiers T) (sym 
 
 pub by_this_keyword : {T : List Name} {words : List Word} {i n : ℕ} {k : Keyword} (b : Bool) → IsAt (keyword k) words i n → IsTrue b ↔ keyword_specifier k ≡ 1 → IsTrue b ↔ BeginsSpecifiers T (head (drop i words))
 by_this_keyword {T = T} {k = k} b at both = (λ h. subst (BeginsSpecifiers T) (sym (ap head at.here)) (by_keyword (both.0 h)), λ h. both.1 (keyword_begins (subst (BeginsSpecifiers T) (ap head at.here) h)))
+
+pub has_word : {x : SpecifierWord} {k : Keyword} → op.IsSpecifierWord x k → table.specifier_word k ≡ Some x
+has_word op.typedef = refl
+has_word op.extern = refl
+has_word op.static = refl
+has_word op.const = refl
+has_word op.void = refl
+has_word op.char = refl
+has_word op.short = refl
+has_word op.int = refl
+has_word op.long = refl
+has_word op.signed = refl
+has_word op.unsigned = refl
+
+pub is_word : (x : SpecifierWord) (k : Keyword) → table.specifier_word k ≡ Some x → op.IsSpecifierWord x k
+is_word x ky.Typedef e = subst (λ z. op.IsSpecifierWord z ky.Typedef) (some_same e) op.typedef
+is_word x ky.Extern e = subst (λ z. op.IsSpecifierWord z ky.Extern) (some_same e) op.extern
+is_word x ky.Static e = subst (λ z. op.IsSpecifierWord z ky.Static) (some_same e) op.static
+is_word x ky.Const e = subst (λ z. op.IsSpecifierWord z ky.Const) (some_same e) op.const
+is_word x ky.Void e = subst (λ z. op.IsSpecifierWord z ky.Void) (some_same e) op.void
+is_word x ky.Char e = subst (λ z. op.IsSpecifierWord z ky.Char) (some_same e) op.char
+is_word x ky.Short e = subst (λ z. op.IsSpecifierWord z ky.Short) (some_same e) op.short
+is_word x ky.Int e = subst (λ z. op.IsSpecifierWord z ky.Int) (some_same e) op.int
+is_word x ky.Long e = subst (λ z. op.IsSpecifierWord z ky.Long) (some_same e) op.long
+is_word x ky.Signed e = subst (λ z. op.IsSpecifierWord z ky.Signed) (some_same e) op.signed
+is_word x ky.Unsigned e = subst (λ z. op.IsSpecifierWord z ky.Unsigned) (some_same e) op.unsigned
+is_word x k e = absurd cc
+
+same_keyword : {m k : Keyword} {words : List Word} {i n : ℕ} → IsAt (keyword k) words i n → head (drop i words) ≡ Some (keyword m) → m ≡ k
+same_keyword {m = m} {k = k} at e = let h : Some (keyword m) ≡ Some (keyword k) = sym e ∙ ap head at.here in let w : keyword m ≡ keyword k = some_same h in cc
+
+pub word_stands : {words : List Word} {i n : ℕ} {k : Keyword} {x : SpecifierWord} → IsAt (keyword k) words i n → table.specifier_word k ≡ Some x → WordAt words i x n
+word_stands {k = k} {x = x} at e = record { keyword' = k; is = is_word x k e; at = at }
+
+pub no_word : {words : List Word} {i n : ℕ} {k : Keyword} → IsAt (keyword k) words i n → table.specifier_word k ≡ None → NoWord words i
+no_word at none x m is e = let h : None ≡ Some x = sym none ∙ ap table.specifier_word (sym (same_keyword at e)) ∙ has_word is in cc

@@ -1,4 +1,4 @@
--- What the parsing functions of the grammar promise, for their private contracts.
+-- What the parsing functions of the grammar promise.
 use Rattle.std.specs.Prelude.{ℕ, suc, ◌<◌, ◌≡◌, Bool, true, false, ◌||◌, List, [], ◌∷◌, ◌++◌, map, drop, Result, MatchResult, Option, Some, None}
 use Rattle.std.proofs.Common.{Bor}
 use Rattle.std.specs.declared.vec.Vec.{Vec}

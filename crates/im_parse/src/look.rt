@@ -8,9 +8,12 @@ ghost use Rattle.im_parse_core.specs.Places.{IsAt};
 ghost use Rattle.im_ctree.specs.Operators as op;
 ghost use Rattle.im_ctree.specs.Follow.{keyword_specifier};
 ghost use Rattle.im_parse.specs.Parsing.{names_of, OperatorAt, NoOperator, BeginsSpecifiers, IsMarkAt};
+ghost use Rattle.im_parse.specs.Declaring.{WordAt, NoWord};
 
-use super::table::{assign_operator, binary_operator, prefix_operator, step_operator};
-use im_ctree::{AssignOp, BinaryOp, StepOp, UnaryOp};
+use super::table::{
+    assign_operator, binary_operator, prefix_operator, specifier_word, step_operator,
+};
+use im_ctree::{AssignOp, BinaryOp, SpecifierWord, StepOp, UnaryOp};
 use im_parse_core::{Stop, after_mark, is_typedef_name, name_at, word_at};
 use im_tok::{Keyword, Punctuator};
 use im_word::Word;
@@ -89,6 +92,21 @@ pub fn prefix_at(words: &[Word], at: u32) -> Option<(UnaryOp, u32)>
     let (mark, next) = mark_at(words, at)?;
     let operator = prefix_operator(mark)?;
     Some((operator, next))
+}
+
+/// The specifier of one keyword at this place, and the place behind it (C11 6.7.1 to 6.7.3).
+pub fn specifier_word_at(words: &[Word], at: u32) -> Option<(SpecifierWord, u32)>
+    requires { length words.now < 2 ^ 32 }
+    ensures { MatchOption result (NoWord (map shown words.now) at) (λ found. WordAt (map shown words.now) at found.0 found.1) }
+{
+    let found = word_at(words, at)?;
+    match found.0 {
+        Word::Keyword(keyword) => {
+            let word = specifier_word(*keyword)?;
+            Some((word, found.1))
+        }
+        _ => None,
+    }
 }
 
 /// Whether specifiers may begin with a keyword (C11 6.7).

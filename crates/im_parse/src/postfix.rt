@@ -7,7 +7,7 @@ ghost use Rattle.im_ctree.specs.Grammar.{IsPostfix, IsPrimary, IsArguments};
 ghost use Rattle.im_parse.specs.Parsing.{Parses, Below, Anything, Closed, Postfixes, names_of, tree_of, items_tree};
 
 use super::build;
-use super::expression::{assignment, expression};
+use super::expressions::{assignment, expression};
 use super::look::{expect_mark, expect_name, step_at};
 use super::text::joined_text;
 use im_ctree::{Expression, ExpressionKind};

@@ -5,13 +5,19 @@ ghost use Rattle.im_ctree.specs.Shape.{type_name_of};
 ghost use Rattle.im_ctree.specs.Grammar.{IsTypeName};
 ghost use Rattle.im_parse.specs.Parsing.{Parses, Anything, Closed, names_of};
 
+use super::declarators::maybe_declarator;
+use super::form::Form;
+use super::look::expect_mark;
+use super::make;
+use super::specifier::specifiers;
 use im_ctree::TypeName;
 use im_parse_core::Stop;
+use im_tok::Punctuator;
 use im_word::Word;
 use std::alloc::Global;
 
-/// A type name and the parenthesis that closes it (C11 6.7.7), and the place behind both. Type names
-/// aren't read yet: the answer is always want of memory.
+/// A type name and the parenthesis that closes it (C11 6.7.7), and the place behind both.
+#[cycle(expression)]
 pub fn closed_type_name(
     alloc: Global,
     words: &[Word],
@@ -21,5 +27,9 @@ pub fn closed_type_name(
     requires { length words.now < 2 ^ 32 }
     ensures { Parses type_name_of (Closed CloseParen (IsTypeName (names_of names.now))) Anything (map shown words.now) at result }
 {
-    Err(Stop::Memory)
+    let (specifiers, next) = specifiers(alloc, words, names, at)?;
+    let (declarator, close) = maybe_declarator(alloc, words, names, Form::Abstract, next)?;
+    let end = expect_mark(words, close, Punctuator::CloseParen)?;
+    let tree = make::type_name(alloc, specifiers, declarator)?;
+    Ok((tree, end))
 }

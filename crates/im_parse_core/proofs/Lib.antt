@@ -1,3 +1,7 @@
 pub mod PlacesAt
 pub mod Steps
 pub mod Lists
+pub mod Repeats
+pub mod Conditions
+pub mod SeparatedLists
+pub mod TrailingLists

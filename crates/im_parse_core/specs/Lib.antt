@@ -2,3 +2,4 @@ pub mod Reads
 pub mod Parts
 pub mod Places
 pub mod Lists
+pub mod Repeats

@@ -1,43 +1,57 @@
 -- The compiler's promise, from the passes' promises alone.
-use Rattle.std.proofs.Common.{◌≡◌, ◌≢◌, ℕ, ◌+◌, ◌*◌, ◌≤◌, List, [], length, refl, sym, ap, ◌∙◌, subst, arith, ⊎_elim}
-use Rattle.std.specs.Prelude.{ℤ}
+use Rattle.std.proofs.Common.{◌≡◌, ℕ, ◌+◌, ◌*◌, ◌<◌, ◌≤◌, true, false, inl, inr, List, [], length, map, refl, sym, ap, ◌∙◌, subst, arith}
+use Rattle.std.specs.Prelude.{ℤ, slice_get}
 use Rattle.std.proofs.lemmas.List.{append-nil}
-use Rattle.std.proofs.lemmas.Bool.{cases_lt}
 use Rattle.im_num.specs.Variables.{Variable}
-use Rattle.im_rv.specs.declared.step.Went.{Went}
-use Rattle.im_rv.specs.declared.step.Went.TheVariants.{On, Halted, Faulted}
+use Rattle.im_mem.specs.Memory.{Mem, little, Stands}
 use Rattle.im_image.specs.Contents.{ImageValue}
-use Rattle.im_power.specs.declared.period.Period.{Period}
+use Rattle.im_device.specs.Load.{memory_of}
 use Rattle.im_device.specs.Shows.{output_of}
+use Rattle.im_path.specs.Sections.{flips}
+use Rattle.im_path.proofs.Times.{order}
+use Rattle.im_ckpt.specs.Runs.{State, flip, ends}
+use Rattle.im_ckpt.specs.Buffers.{buffer}
+use Rattle.im_ckpt.specs.Laws.{CanResume}
+use Rattle.im_replay.specs.Compiled.{IsCompiled}
+use Rattle.im_replay.specs.Replays.{GapAtMost}
+use Rattle.im_replay.specs.Owed.{IsOwed}
+use Rattle.im_replay.proofs.Endless.{is_run}
+use Rattle.im_replay.proofs.Owing.{sound}
+use Rattle.im_replay.proofs.Images.{can_resume, owed_of, first_mem, first_place}
+use Rattle.im_flow.specs.Flows.{IsPlaced}
+use Rattle.im_flow.specs.Laws.{AlongLaw, GapLaw}
 use Rattle.im_store.specs.Outcomes.{Outcome, Undef, More, End, IsDefined}
+use Rattle.im_typed.specs.Sound.{EndsRight}
+use Rattle.im_block.specs.declared.unit.Static.{Static as StaticOf}
 use Rattle.im_block.specs.declared.unit.Unit.{Unit as Code}
-use Rattle.im_block.specs.Meaning.{Setting, Event}
+use Rattle.im_block.specs.Meaning.{Setting, Event, static_of, statics_of}
 use Rattle.im_block.specs.Runs.{Runs}
-use Rattle.im_block.specs.Sections.{NoWar}
+use Rattle.im_block.specs.Sections.{NoWar, items}
 use Rattle.im_block.specs.Tagged.{AllHold}
 use Rattle.im_block.specs.Shape.{AllOrdered, sum_of, total, function_cost, placed_cost}
-use Rattle.im_block.specs.Forced.{AllForced}
 use Rattle.im_block.specs.Uncut.{SameButCuts}
 use Rattle.im_block.specs.Wellformed.{IsWellFormed}
 use Rattle.im_block.specs.Laws.{EachLineLaw, AddedCutsLaw, SectionLaw}
 use Rattle.im_block_laws.specs.Laws.{CutsKeepCodeLaw}
+use Rattle.im_placed.specs.Placeable.{IsPlaceable}
+use Rattle.im_placed.specs.Laws.{CutsKeepPlacesLaw}
 use Rattle.im_force.specs.Laws.{ForceKeepsLaw}
-use Rattle.im_keeps.specs.Keeps.{IsInput, IsRightFor, Begins, Shows, output_in, device_after, KeepsEnd, KeepsOn, EndsOn}
-use Rattle.im_passes.specs.Machine.{Uninterrupted, SameMoment, IsRun, Survives}
-use Rattle.im_passes.specs.Passes.{Source, ShowsAfter, Passes}
+use Rattle.im_keeps.specs.Keeps.{IsInput, IsRightFor, Begins, Shows, output_in, KeepsEnd, KeepsOn, EndsOn}
+use Rattle.im_kept.specs.Laws.{run_of, IsReady, EndKeptLaw, RunKeptLaw}
+use Rattle.im_until.specs.Until.{OwesUntil}
+use Rattle.im_until.specs.Laws.{Owes, OwesAlways, UntilLaw}
+use Rattle.im_until.proofs.Still.{still, over_still, flips_still, flips_more}
+use Rattle.im_passes.specs.Source.{Source, IsRightSource}
+use Rattle.im_written.specs.Written.{code_end, IsLoaded}
+use Rattle.im_written.specs.Laws.{WrittenLaw}
+use Rattle.im_passes.specs.Machine.{stores_before, ShowsAfter}
+use Rattle.im_passes.specs.Passes.{needs_of, setting, IsSelectable, Passes}
 use Rattle.im_passes.specs.Laws.{meaning_of, KeepsUninterrupted, PassesKeep}
-use Rattle.im_passes.proofs.Events.{still_hold, safe_front}
+use Rattle.im_passes.proofs.Events.{still_hold}
 use Rattle.im_passes.proofs.Bounds.{few_enough, soon_enough, sums_same}
-
-halted_over : (w : Went) → w ≡ Halted → w ≢ On
-halted_over w e f =
-    let bad : Halted ≡ On = sym e ∙ f in
-    cc
-
-halted_calm : (w : Went) (at : ℕ) → w ≡ Halted → w ≢ Faulted at
-halted_calm w at e f =
-    let bad : Halted ≡ Faulted at = sym e ∙ f in
-    cc
+use Rattle.im_passes.proofs.Commits.{flips_stored}
+use Rattle.im_passes.proofs.Units.{statics_kept, needs_kept, frames_fit}
+use Rattle.im_passes.proofs.Powered.{ShowsAt, shows_at, halted_at}
 
 begins_same : (a b : List ℕ) → a ≡ b → Begins a b
 begins_same a b e = ([], append-nil a ∙ e)
@@ -45,255 +59,284 @@ begins_same a b e = ([], append-nil a ∙ e)
 statics_same : (old new : Code) → SameButCuts old new → length new.statics.items ≡ length old.statics.items
 statics_same old new same = ap (λ (u : Code). length u.statics.items) same.rest
 
-module _ (each : EachLineLaw) (added : AddedCutsLaw) (section : SectionLaw) (code_law : CutsKeepCodeLaw) (force_law : ForceKeepsLaw) (source : Source) (frames : List ℕ) (image : ImageValue) (gap : ℕ) (p : Passes source frames image gap) where
-  abbrev setting : List ℕ → Setting
-  setting input = record { frames = frames; stack = image.stack; capacity = image.out_cap; input = input }
+pub record Laws : Type 0 where
+  pub each : EachLineLaw
+  pub added : AddedCutsLaw
+  pub section : SectionLaw
+  pub code : CutsKeepCodeLaw
+  pub places : CutsKeepPlacesLaw
+  pub force : ForceKeepsLaw
+  pub written : WrittenLaw
+  pub until : UntilLaw
+  pub along : AlongLaw
+  pub gap : GapLaw
+  pub end_kept : EndKeptLaw
+  pub run_kept : RunKeptLaw
+
+module _ (laws : Laws) (source : Source) (frames : List ℕ) (image : ImageValue) (gap : ℕ) (typed : IsRightSource source) (p : Passes source frames image gap) where
+  abbrev given : List ℕ → Setting
+  given input = setting frames image input
 
   abbrev mean : List ℕ → ℕ → Outcome
   mean input n = meaning_of source frames image input n
 
   forced_same : SameButCuts p.lowered p.forced
-  forced_same = force_law.same p.lowered p.forced p.force
+  forced_same = laws.force.same p.lowered p.forced p.force
 
   abbrev statics : ℕ
   statics = length p.forced.statics.items
 
+  trimmed_well_formed : IsWellFormed p.trimmed
+  trimmed_well_formed = laws.code.well_formed p.forced p.trimmed p.cut.same (laws.code.well_formed p.lowered p.forced forced_same p.lower.well_formed)
+
+  trimmed_placeable : IsPlaceable p.trimmed
+  trimmed_placeable = laws.places.placeable p.forced p.trimmed p.cut.same (laws.places.placeable p.lowered p.forced forced_same p.lower.placeable)
+
   -- what the last code does
   record Reaches (input : List ℕ) (n : ℕ) (o : Outcome) : Type 0 where
     run : List Event
-    runs : Runs p.sectioned (setting input) n o run
+    runs : Runs p.sectioned (given input) n o run
     holds : AllHold statics p.tags run
 
-  reaches : (input : List ℕ) (n : ℕ) → IsDefined (mean input n) → Reaches input n (mean input n)
-  reaches input n right =
-      let g = setting input in
+  reaches : (input : List ℕ) (n : ℕ) → IsInput input → IsDefined (mean input n) → Reaches input n (mean input n)
+  reaches input n fits right =
+      let g = given input in
       let o = mean input n in
-      let a = p.lower.runs g n right in
-      let b = (added.kept p.lowered p.forced forced_same).runs g n o a.0 a.1 in
-      let c = (added.kept p.forced p.trimmed p.cut).runs g n o b.0 b.1 in
-      let d = p.place.runs g n o c.0 right c.1 in
-      let e = (added.kept p.placed p.sectioned p.recut.same).runs g n o d.0 d.1 in
+      let a = p.lower.runs g n fits right in
+      let b = (laws.added.kept p.lowered p.forced forced_same).runs g n o a.0 a.1 in
+      let c = (laws.added.kept p.forced p.trimmed p.cut.same).runs g n o b.0 b.1 in
+      let d = p.place.runs trimmed_well_formed g n o c.0 right c.1 in
+      let e = (laws.added.kept p.placed p.sectioned p.recut.same).runs g n o d.0 d.1 in
       let tagged = d.2 statics p.tags (still_hold statics p.tags b.0 c.0 c.2 (p.alias.holds g n o b.0 right b.1)) in
       record { run = e.0; runs = e.1; holds = still_hold statics p.tags d.0 e.0 e.2 tagged }
 
   statics_last : length p.sectioned.statics.items ≡ statics
-  statics_last = statics_same p.placed p.sectioned p.recut.same ∙ p.place.statics ∙ statics_same p.forced p.trimmed p.cut
+  statics_last =
+      statics_same p.placed p.sectioned p.recut.same ∙ ap (λ (l : List StaticOf). length l) p.place.statics ∙ statics_same p.forced p.trimmed p.cut.same
+
+  statics_are : statics_of p.sectioned ≡ source.statics
+  statics_are =
+      statics_kept p.placed p.sectioned p.recut.same ∙ ap (λ (l : List StaticOf). map static_of l) p.place.statics ∙ statics_kept p.forced p.trimmed p.cut.same ∙ statics_kept p.lowered p.forced forced_same ∙ p.lower.statics
+
+  needs_are : needs_of p.sectioned ≡ source.needs
+  needs_are =
+      needs_kept p.placed p.sectioned p.recut.same ∙ p.place.needs ∙ needs_kept p.forced p.trimmed p.cut.same ∙ needs_kept p.lowered p.forced forced_same ∙ p.lower.needs
 
   ordered : AllOrdered p.sectioned
-  ordered = added.ordered p.placed p.sectioned p.recut.same (p.place.ordered (added.ordered p.forced p.trimmed p.cut (added.ordered p.lowered p.forced forced_same p.lower.ordered)))
+  ordered = laws.added.ordered p.placed p.sectioned p.recut.same (p.place.ordered (laws.added.ordered p.forced p.trimmed p.cut.same (laws.added.ordered p.lowered p.forced forced_same p.lower.ordered)))
 
-  all_forced : AllForced p.sectioned
-  all_forced = code_law.forced p.placed p.sectioned p.recut.same (p.place.forced (code_law.forced p.forced p.trimmed p.cut (force_law.forced p.lowered p.forced p.force)))
-
-  well_formed : IsWellFormed p.sectioned
-  well_formed = code_law.well_formed p.placed p.sectioned p.recut.same (p.place.well_formed (code_law.well_formed p.forced p.trimmed p.cut (code_law.well_formed p.lowered p.forced forced_same p.lower.well_formed)))
+  selectable : IsSelectable p.sectioned
+  selectable = record {
+    forced = laws.code.forced p.placed p.sectioned p.recut.same (p.place.forced (laws.code.forced p.forced p.trimmed p.cut.same (laws.force.forced p.lowered p.forced p.force)));
+    well_formed = laws.code.well_formed p.placed p.sectioned p.recut.same (p.place.well_formed trimmed_placeable trimmed_well_formed);
+    placed = laws.places.placed p.placed p.sectioned p.recut.same (p.place.placed trimmed_placeable);
+    apart = p.recut.apart (p.place.apart (p.cut.apart (laws.force.apart p.lowered p.forced p.force p.lower.uncut)));
+  }
 
   cost_same : (old new : Code) → SameButCuts old new → sum_of function_cost new.functions.items ≡ sum_of function_cost old.functions.items
-  cost_same old new same = sums_same function_cost (λ f g s. (code_law.costs f g s).cost) old.functions.items new.functions.items same.functions
+  cost_same old new same = sums_same function_cost (λ f g s. (laws.code.costs f g s).cost) old.functions.items new.functions.items same.functions
 
   placed_same : (old new : Code) → SameButCuts old new → sum_of placed_cost new.functions.items ≡ sum_of placed_cost old.functions.items
-  placed_same old new same = sums_same placed_cost (λ f g s. (code_law.costs f g s).placed) old.functions.items new.functions.items same.functions
+  placed_same old new same = sums_same placed_cost (λ f g s. (laws.code.costs f g s).placed) old.functions.items new.functions.items same.functions
 
   small : 4 * length image.words ≤ 4096 + 256 * source.nodes
   small =
-      let words = p.select.small in
+      let words = p.select.small selectable in
       let recut = placed_same p.placed p.sectioned p.recut.same in
       let place = p.place.cost in
-      let cut = cost_same p.forced p.trimmed p.cut in
+      let cut = cost_same p.forced p.trimmed p.cut.same in
       let force = cost_same p.lowered p.forced forced_same in
       let lower = p.lower.cost in
       omega arith
 
-  -- the machine's run on this input, at this fuel
-  record Shown (input : List ℕ) (n : ℕ) (o : Outcome) : Type 0 where
-    j : ℕ
-    shows : ShowsAfter image o n j ((p.run_of input).went j) ((p.run_of input).mem j)
-    soon : (g : ℕ) → 33 ≤ g → j ≤ (2 * n + 2) * length image.words * g
-    grows : (i : ℕ) → i ≤ j → Begins (output_of image.form ((p.run_of input).mem i)) (output_of image.form ((p.run_of input).mem j))
-    calm : (i at : ℕ) → i ≤ j → (p.run_of input).went i ≢ Faulted at
-    safe : NoWar ((p.run_of input).touched j)
-    commits : (p.run_of input).commits j ≤ (2 * n + 1) * length image.words
+  gap_long : 33 ≤ gap
+  gap_long = let most = p.measure.reached in omega arith
 
-  shown : (input : List ℕ) (n : ℕ) → IsInput input → IsDefined (mean input n) → Shown input n (mean input n)
-  shown input n fits right =
-      let g = setting input in
-      let o = mean input n in
-      let r = reaches input n right in
-      let x = p.select.executes input fits all_forced well_formed in
-      let f = x.follows n o r.run right r.runs in
-      let steps = each p.sectioned g x.steps n r.runs.steps ordered in
-      let commits = each p.sectioned g x.flips n r.runs.steps ordered in
-      let holds = subst (λ k. AllHold k p.tags r.run) (sym statics_last) r.holds in
-      record {
-        j = f.j;
-        shows = f.shows;
-        soon = λ k le. soon_enough n (total x.steps p.sectioned) x.around (length image.words) k _ f.j steps x.few_steps le f.soon;
-        grows = f.grows;
-        calm = f.calm;
-        safe = f.safe (section p.sectioned p.tags g n o r.run all_forced p.recut.sectioned r.runs holds);
-        commits = few_enough n (total x.flips p.sectioned) (length image.words) _ ((p.run_of input).commits f.j) commits x.few_flips f.commits;
+  -- the machine's run on an input
+  module _ (input : List ℕ) (fits : IsInput input) where
+    abbrev r : ℕ → State
+    r = run_of image input
+
+    loaded : IsLoaded image input
+    loaded = laws.written.loaded image input p.select.written fits
+
+    abbrev output_at : ℕ → List ℕ
+    output_at t = output_of image.form (r t).mem
+
+    record Shown (n : ℕ) (o : Outcome) : Type 0 where
+      j : ℕ
+      shows : ShowsAfter image r o n j
+      soon : (g : ℕ) → 33 ≤ g → 34 + j ≤ (2 * n + 2) * length image.words * g
+      grows : (i : ℕ) → i ≤ j → Begins (output_at i) (output_at j)
+      owes : OwesUntil image.words (code_end image) r j
+      commits : stores_before r j ≤ (2 * n + 1) * length image.words
+
+    shown : (n : ℕ) → IsDefined (mean input n) → Shown n (mean input n)
+    shown n right =
+        let g = given input in
+        let o = mean input n in
+        let q = reaches input n fits right in
+        let x = p.select.executes selectable input fits in
+        let ends_right : EndsRight (statics_of p.sectioned) o = subst (λ s. EndsRight s o) (sym statics_are) (typed.ends g n fits) in
+        let f = x.follows n o q.run right ends_right q.runs in
+        let steps = laws.each p.sectioned g x.steps n q.runs.steps ordered in
+        let commits = laws.each p.sectioned g x.cuts n q.runs.steps ordered in
+        let holds = subst (λ k. AllHold k p.tags q.run) (sym statics_last) q.holds in
+        let safe : NoWar (items q.run) = laws.section p.sectioned p.tags g n o q.run selectable.forced p.recut.sectioned q.runs holds in
+        let soon = f.soon in
+        record {
+          j = f.j;
+          shows = f.shows;
+          soon = λ k le. soon_enough n (total x.steps p.sectioned) (34 + x.around) (length image.words) k _ (34 + f.j) steps x.few_steps le (omega arith);
+          grows = f.grows;
+          owes = f.owes safe;
+          commits = few_enough n (total x.cuts p.sectioned) (length image.words) _ (stores_before r f.j) commits x.few_cuts f.commits;
+        }
+
+    shown_at : (n : ℕ) (o : Outcome) → IsDefined o → mean input n ≡ o → Shown n o
+    shown_at n o right e = subst (λ q. Shown n q) e (shown n (subst IsDefined (sym e) right))
+
+    -- what survival asks of the image
+    module _ (always : OwesAlways image.words (code_end image) r) where
+      compiled : IsCompiled (memory_of image input) (code_end image)
+      compiled = record {
+        small = loaded.small;
+        index = loaded.index;
+        start_even = loaded.start_even;
+        start_outside = loaded.start_outside;
+        long = laws.written.long image p.select.written;
+        recovery = loaded.recovery;
+        checkpoint = loaded.checkpoint;
+        runs = always.safely;
       }
 
-  shown_at : (input : List ℕ) (n : ℕ) (o : Outcome) → IsInput input → IsDefined o → mean input n ≡ o → Shown input n o
-  shown_at input n o fits right e = subst (λ q. Shown input n q) e (shown input n fits (subst IsDefined (sym e) right))
+      can : CanResume (memory_of image input)
+      can = can_resume (memory_of image input) (code_end image) compiled
 
-  -- before the step j, or at it and after
-  module _ (input : List ℕ) where
-    abbrev r : Uninterrupted
-    r = p.run_of input
+      ready : IsReady image input (code_end image)
+      ready = record { form = p.select.written.form; objects = laws.written.high image p.select.written; compiled = compiled; shows = always.shows }
 
-    is_run : IsRun r
-    is_run = p.machine.is_run input
+      placed : IsPlaced image.words image.entry (code_end image) r
+      placed = record {
+        few = laws.written.few image p.select.written;
+        size = refl;
+        first = subst (λ (m : Mem). Stands m 4096 image.words) (sym (first_mem (memory_of image input) can)) loaded.code;
+        entered = first_place (memory_of image input) can ∙ ap (λ z. little (memory_of image input) (buffer z) 4) loaded.index ∙ loaded.entered;
+        returns = always.returns;
+        cuts = always.cuts;
+      }
 
-    safe_before : (t j : ℕ) → t ≤ j → NoWar (r.touched j) → NoWar (r.touched t)
-    safe_before t j le h =
-        let a = is_run.adds t j le in
-        safe_front [] (r.touched t) a.0 (subst NoWar a.1 h)
+      owed : IsOwed r (code_end image)
+      owed = owed_of (memory_of image input) (code_end image) compiled
 
-    module _ (n reason : ℕ) (status : ℤ) (output : List ℕ) (variables : List Variable) (f : Shown input n (End reason status output variables)) where
-      later : (t : ℕ) → f.j ≤ t → SameMoment r f.j t
-      later t le = is_run.ended f.j t le (halted_over (r.went f.j) f.shows.0)
+      gaps : GapAtMost r gap
+      gaps =
+          laws.gap image.words image.entry gap r (laws.along image.words image.entry (code_end image) r owed placed) p.measure
 
-      halted_at : (t : ℕ) → f.j ≤ t → (r.went t ≡ Halted) × Shows image (r.mem t) reason status output variables
-      halted_at t le =
-          let s = later t le in
-          (s.went ∙ f.shows.0, subst (λ m. Shows image m reason status output variables) (sym s.mem) f.shows.1)
+      few_flips : (t : ℕ) → flips (flip r) t ≤ stores_before r t
+      few_flips t = flips_stored r (sound r (code_end image) owed) t
 
-      begins_at : (t : ℕ) → Begins (output_of image.form (r.mem t)) output
-      begins_at t =
-          ⊎_elim
-          (λ lt. subst (Begins (output_of image.form (r.mem t))) f.shows.1.same_output (f.grows t (omega arith)))
-          (λ le. begins_same (output_of image.form (r.mem t)) output (halted_at t le).1.same_output)
-          (cases_lt t f.j)
+      shows_in : (n : ℕ) → ShowsAt (memory_of image input) can always.safely.no_fault n
+      shows_in n = shows_at (memory_of image input) can always.safely.no_fault n
 
-      commits_at : (t : ℕ) → r.commits t ≤ (2 * n + 1) * length image.words
+    -- the program ends
+    module _ (n reason : ℕ) (status : ℤ) (output : List ℕ) (variables : List Variable) (f : Shown n (End reason status output variables)) where
+      over : ends r f.j ≡ true
+      over = let e = f.shows.0 in let before = e.before in over_still r (is_run (memory_of image input)) e.e e.over f.j (omega arith)
+
+      later : (t : ℕ) → f.j ≤ t → r t ≡ r f.j
+      later t le = still r (is_run (memory_of image input)) f.j over t le
+
+      begins_at : (t : ℕ) → Begins (output_at t) output
+      begins_at t = elim (order t f.j) [
+        | inl lt ↦ subst (Begins (output_at t)) f.shows.1.same_output (f.grows t (omega arith))
+        | inr le ↦ begins_same (output_at t) output (ap (λ (s : State). output_of image.form s.mem) (later t le) ∙ f.shows.1.same_output)
+      ]
+
+      owes_at : (t : ℕ) → Owes image.words (code_end image) r t
+      owes_at t = record {
+        j = t + 1;
+        later = omega arith;
+        owes = laws.until.ended image.words (code_end image) r f.shows.0.e f.j (is_run (memory_of image input)) f.shows.0.before f.shows.0.over f.owes (t + 1);
+      }
+
+      end_always : OwesAlways image.words (code_end image) r
+      end_always = laws.until.always image.words (code_end image) r owes_at
+
+      commits_at : (t : ℕ) → flips (flip r) t ≤ (2 * n + 1) * length image.words
       commits_at t =
           let most = f.commits in
-          ⊎_elim
-          (λ lt. let h = is_run.commits t f.j (omega arith) in omega arith)
-          (λ le. let h = (later t le).commits in omega arith)
-          (cases_lt t f.j)
+          let stored = few_flips end_always f.j in
+          elim (order t f.j) [
+            | inl lt ↦ (let h = flips_more (flip r) t f.j (omega arith) in omega arith)
+            | inr le ↦ (let h = flips_still r (is_run (memory_of image input)) f.j over t le in omega arith)
+          ]
 
-      calm_at : (t at : ℕ) → r.went t ≢ Faulted at
-      calm_at t at =
-          ⊎_elim
-          (λ lt. f.calm t at (omega arith))
-          (λ le. halted_calm (r.went t) at (halted_at t le).0)
-          (cases_lt t f.j)
+      keeps_end : KeepsEnd image gap input n reason status output variables
+      keeps_end =
+          laws.end_kept image input (code_end image) gap n f.j ((2 * n + 1) * length image.words) reason status output variables (ready end_always) (gaps end_always)
+          (record { ended = over; commits = commits_at; shown = f.shows.1 })
+          (omega arith)
 
-      safe_at : (t : ℕ) → NoWar (r.touched t)
-      safe_at t =
-          ⊎_elim
-          (λ lt. safe_before t f.j (omega arith) f.safe)
-          (λ le. subst NoWar (sym (later t le).touched) f.safe)
-          (cases_lt t f.j)
-
-      -- two halted moments are the same
-      halts_once : (t : ℕ) → r.went t ≢ On → (r.went t ≡ Halted) × Shows image (r.mem t) reason status output variables
-      halts_once t over =
-          ⊎_elim
-          (λ lt.
-          let s = is_run.ended t f.j (omega arith) over in
-          (sym s.went ∙ f.shows.0, subst (λ m. Shows image m reason status output variables) s.mem f.shows.1))
-          (λ le. halted_at t le)
-          (cases_lt t f.j)
-
-      survives : IsInput input → Survives image input gap r
-      survives fits = p.machine.survives input fits safe_at calm_at
-
-      -- what a device shows is the end
-      device_ends : (fits : IsInput input) (ps : List Period) → (device_after image input ps).went ≢ On → ((device_after image input ps).went ≡ Halted) × Shows image (device_after image input ps).mem reason status output variables
-      device_ends fits ps over =
-          let e = (survives fits).ended ps over in
-          let h = halts_once e.t e.over in (
-            e.went ∙ h.0,
-            record {
-              same_reason = e.shows.reason ∙ h.1.same_reason;
-              same_status = e.shows.status ∙ h.1.same_status;
-              same_output = e.shows.output ∙ h.1.same_output;
-              same_variables = e.shows.variables ∙ h.1.same_variables;
-            },
-          )
-
-      keeps_end : IsInput input → KeepsEnd image gap input n reason status output variables
-      keeps_end fits = record {
-        always = λ ps. let s = (survives fits).output ps in subst (λ l. Begins l output) (sym s.output) (begins_at s.t);
-        exact = λ ps halted. (device_ends fits ps (halted_over (device_after image input ps).went halted)).1;
-        halts = λ ps long. (device_ends fits ps ((survives fits).progress ((2 * n + 1) * length image.words) commits_at ps (let less : (2 * n + 1) * length image.words ≤ (2 * n + 2) * length image.words = omega arith in omega arith))).0;
-        safe = λ ps at faulted.
-            let over : (device_after image input ps).went ≢ On = λ on. (let bad : Faulted at ≡ On = sym faulted ∙ on in cc) in
-            halted_calm (device_after image input ps).went at (device_ends fits ps over).0 faulted;
-      }
-
-      keeps_uninterrupted : KeepsUninterrupted image r n reason status output variables
+      keeps_uninterrupted : KeepsUninterrupted image gap input n reason status output variables
       keeps_uninterrupted = record {
-        halts = λ g j le long. let soon = f.soon g le in halted_at j (omega arith);
-        begins = begins_at;
-        commits = commits_at;
+        halts = λ k long.
+            let soon = f.soon gap gap_long in
+            let h = halted_at (memory_of image input) (can end_always) end_always.safely.no_fault f.j k over (omega arith) in
+            (h.0, subst (λ (m : Mem). Shows image m reason status output variables) (sym h.1) f.shows.1);
+        begins = λ k.
+            let s = shows_in end_always k in
+            subst (λ (m : Mem). Begins (output_of image.form m) output) (sym s.mem) (begins_at s.t);
+        commits = λ k.
+            let s = shows_in end_always k in
+            let few = commits_at s.t in
+            let same = s.commits in
+            omega arith;
       }
 
     -- the program is right with any fuel
-    said_at : (n t : ℕ) (o : Outcome) → t ≤ n → Shown input n o → Begins (output_of image.form (r.mem t)) (output_in o)
+    said_at : (n t : ℕ) (o : Outcome) → t ≤ n → Shown n o → Begins (output_at t) (output_in o)
     said_at n t (End reason status output variables) le f = begins_at n reason status output variables f t
-    said_at n t (More output) le f = let few = f.shows.2 in subst (Begins (output_of image.form (r.mem t))) f.shows.1 (f.grows t (omega arith))
+    said_at n t (More output) le f = let few = f.shows.2 in subst (Begins (output_at t)) f.shows.1 (f.grows t (omega arith))
     said_at n t (Undef why) le f = absurd f.shows
 
-    calm_on : (n t at : ℕ) (o : Outcome) → t ≤ n → Shown input n o → r.went t ≢ Faulted at
-    calm_on n t at (End reason status output variables) le f = calm_at n reason status output variables f t at
-    calm_on n t at (More output) le f = let few = f.shows.2 in f.calm t at (omega arith)
-    calm_on n t at (Undef why) le f = absurd f.shows
+    owes_on : (n t : ℕ) (o : Outcome) → t < n → Shown n o → Owes image.words (code_end image) r t
+    owes_on n t (End reason status output variables) le f = owes_at n reason status output variables f t
+    owes_on n t (More output) le f = let few = f.shows.2 in record { j = f.j; later = omega arith; owes = f.owes }
+    owes_on n t (Undef why) le f = absurd f.shows
 
-    safe_on : (n t : ℕ) (o : Outcome) → t ≤ n → Shown input n o → NoWar (r.touched t)
-    safe_on n t (End reason status output variables) le f = safe_at n reason status output variables f t
-    safe_on n t (More output) le f = let few = f.shows.2 in safe_before t f.j (omega arith) f.safe
-    safe_on n t (Undef why) le f = absurd f.shows
-
-    ends_on : (n t : ℕ) (o : Outcome) → t ≤ n → mean input n ≡ o → Shown input n o → r.went t ≢ On → EndsOn (meaning_of source frames image) input
-    ends_on n t (End reason status output variables) le e f over = record { fuel = n; reason = reason; status = status; output = output; variables = variables; ends = e }
-    ends_on n t (More output) le e f over =
+    ends_on : (n t : ℕ) (o : Outcome) → t < n → mean input n ≡ o → Shown n o → ends r t ≡ true → EndsOn (meaning_of source frames image) input
+    ends_on n t (End reason status output variables) lt e f over = record { fuel = n; reason = reason; status = status; output = output; variables = variables; ends = e }
+    ends_on n t (More output) lt e f over =
         let few = f.shows.2 in
-        let s = is_run.ended t f.j (omega arith) over in
-        absurd (over (sym s.went ∙ f.shows.0))
-    ends_on n t (Undef why) le e f over = absurd f.shows
+        let bad : true ≡ false = sym over ∙ f.shows.0 t (omega arith) in
+        cc
+    ends_on n t (Undef why) lt e f over = absurd f.shows
 
-    module _ (fits : IsInput input) (right : IsRightFor (meaning_of source frames image) input) where
-      never : (t at : ℕ) → r.went t ≢ Faulted at
-      never t at = calm_on t t at (mean input t) (omega arith) (shown input t fits (right t))
+    module _ (right : IsRightFor (meaning_of source frames image) input) where
+      right_always : OwesAlways image.words (code_end image) r
+      right_always = laws.until.always image.words (code_end image) r (λ t. owes_on (t + 1) t (mean input (t + 1)) (omega arith) (shown (t + 1) (right (t + 1))))
 
-      within : (t : ℕ) → Begins (output_of image.form (r.mem t)) (output_in (mean input (t + 1)))
-      within t = said_at (t + 1) t (mean input (t + 1)) (omega arith) (shown input (t + 1) fits (right (t + 1)))
-
-      safe : (t : ℕ) → NoWar (r.touched t)
-      safe t = safe_on t t (mean input t) (omega arith) (shown input t fits (right t))
-
-      endures : Survives image input gap r
-      endures = p.machine.survives input fits safe never
+      within : (t : ℕ) → Begins (output_at t) (output_in (mean input (t + 1)))
+      within t = said_at (t + 1) t (mean input (t + 1)) (omega arith) (shown (t + 1) (right (t + 1)))
 
       keeps_on : KeepsOn (meaning_of source frames image) image input
-      keeps_on = record {
-        safe = λ ps at faulted.
-            let over : (device_after image input ps).went ≢ On = λ on. (let bad : Faulted at ≡ On = sym faulted ∙ on in cc) in
-            let e = endures.ended ps over in
-            never e.t at (sym e.went ∙ faulted);
-        begins = λ ps.
-            let s = endures.output ps in
-            (s.t + 1, subst (λ l. Begins l (output_in (mean input (s.t + 1)))) (sym s.output) (within s.t));
-        ended = λ ps halted.
-            let e = endures.ended ps (halted_over (device_after image input ps).went halted) in
-            ends_on e.t e.t (mean input e.t) (omega arith) refl (shown input e.t fits (right e.t)) e.over;
-      }
+      keeps_on = laws.run_kept (meaning_of source frames image) image input (code_end image) (ready right_always) (record {
+        begins = λ t. (t + 1, within t);
+        ended = λ t over. ends_on (t + 1) t (mean input (t + 1)) (omega arith) refl (shown (t + 1) (right (t + 1))) over;
+      })
 
-  pub composed : PassesKeep source frames image gap p
+  pub composed : PassesKeep source frames image gap
   composed = record {
     keeps = record {
       ending = λ input fuel reason status output variables fits e.
-          keeps_end input fuel reason status output variables (shown_at input fuel (End reason status output variables) fits tt e) fits;
+          keeps_end input fits fuel reason status output variables (shown_at input fits fuel (End reason status output variables) tt e);
       going_on = λ input fits right. keeps_on input fits right;
     };
     ending = λ input fuel reason status output variables fits e.
-        keeps_uninterrupted input fuel reason status output variables (shown_at input fuel (End reason status output variables) fits tt e);
-    never = never;
-    within = within;
-    safe = safe;
+        keeps_uninterrupted input fits fuel reason status output variables (shown_at input fits fuel (End reason status output variables) tt e);
+    safe = λ input fits right. (right_always input fits right).safely;
+    within = λ input fits right. within input fits right;
     small = small;
+    frames_fit = λ i need e. frames_fit p.sectioned frames selectable.placed p.select.frames_are i need (ap (λ ns. slice_get ns i) needs_are ∙ e);
   }

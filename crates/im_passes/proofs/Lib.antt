@@ -1,3 +1,6 @@
-pub mod Events
-pub mod Bounds
-pub mod Compose
+mod Events
+mod Bounds
+mod Units
+mod Commits
+mod Powered
+mod Compose

@@ -1,3 +1,4 @@
+pub mod Source
 pub mod Machine
 pub mod Passes
 pub mod Laws

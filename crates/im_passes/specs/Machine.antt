@@ -1,60 +1,64 @@
--- The run of an image that never loses power, as the passes see it, and what the machine's own laws say of it.
-use Rattle.std.specs.Prelude.{◌≡◌, ◌≢◌, ℕ, ◌<◌, ◌≤◌, List, ◌++◌}
-use Rattle.im_mem.specs.Memory.{Mem}
-use Rattle.im_rv.specs.declared.step.Went.{Went}
-use Rattle.im_rv.specs.declared.step.Went.TheVariants.{On, Faulted}
+-- The device's own run of an image that never loses power, and what it has to be for a run of placed code. Times are
+-- counted from the end of recovery on: time t is 33 + t instructions after power came.
+use Rattle.std.specs.Prelude.{◌≡◌, ℕ, zero, suc, ◌+◌, ◌*◌, ◌<◌, ◌≤◌, cond, true, false, List, length}
+use Rattle.im_mem.specs.Map.{index_at}
+use Rattle.im_rv.specs.Effects.{stores_word}
 use Rattle.im_image.specs.Contents.{ImageValue}
-use Rattle.im_power.specs.declared.period.Period.{Period}
-use Rattle.im_device.specs.Shows.{output_of, status_of, reason_of}
-use Rattle.im_device.specs.Variables.{vars_of}
-use Rattle.im_block.specs.Sections.{Item, NoWar}
-use Rattle.im_keeps.specs.Keeps.{device_after, long_periods}
+use Rattle.im_device.specs.Load.{memory_of}
+use Rattle.im_device.specs.Run.{Moment}
+use Rattle.im_device.specs.Shows.{output_of}
+use Rattle.im_ckpt.specs.Runs.{State, effect_at, ends}
+use Rattle.im_ckpt.specs.Laws.{resuming}
+use Rattle.im_store.specs.Outcomes.{Outcome, Undef, More, End, IsDefined}
+use Rattle.im_typed.specs.Sound.{EndsRight}
+use Rattle.im_block.specs.declared.unit.Unit.{Unit as Code}
+use Rattle.im_block.specs.Meaning.{Setting, Event, statics_of}
+use Rattle.im_block.specs.Runs.{Runs, start}
+use Rattle.im_block.specs.Sections.{NoWar, items}
+use Rattle.im_block.specs.Shape.{Weights, total, spent, after}
+use Rattle.im_keeps.specs.Keeps.{Begins, Shows}
+use Rattle.im_kept.specs.Laws.{run_of}
+use Rattle.im_until.specs.Until.{OwesUntil}
+use Rattle.im_written.specs.Written.{code_end}
 
--- after so many steps: how the run has gone, the memory, what was touched of objects, and the commits
-pub record Uninterrupted : Type 0 where
-  pub went : ℕ → Went
-  pub mem : ℕ → Mem
-  pub touched : ℕ → List (Item ℕ)
-  pub commits : ℕ → ℕ
+-- one period of power: so many instructions after power came, with 0 in all registers
+abbrev pub powered : ImageValue → List ℕ → ℕ → Moment
+powered image input n = resuming n 0 (memory_of image input)
 
-pub record SameMoment (r : Uninterrupted) (i j : ℕ) : Type 0 where
-  pub went : r.went j ≡ r.went i
-  pub mem : r.mem j ≡ r.mem i
-  pub touched : r.touched j ≡ r.touched i
-  pub commits : r.commits j ≡ r.commits i
+-- how many of the first j steps store a word at INDEX, as a commit does
+abbrev pub stores_before : (ℕ → State) → ℕ → ℕ
+stores_before run zero = 0
+stores_before run (suc j) = cond (stores_word (effect_at (run j)) index_at) 1 0 + stores_before run j
 
--- a run that has ended stays as it is; what was touched, and commits, are only added to
-pub record IsRun (r : Uninterrupted) : Type 0 where
-  pub ended : (i j : ℕ) → i ≤ j → r.went i ≢ On → SameMoment r i j
-  pub adds : (i j : ℕ) → i ≤ j → (more : List (Item ℕ)) × (r.touched j ≡ r.touched i ++ more)
-  pub commits : (i j : ℕ) → i ≤ j → r.commits i ≤ r.commits j
+-- one of the first j steps ends the run
+pub record EndsBefore (run : ℕ → State) (j : ℕ) : Type 0 where
+  pub e : ℕ
+  pub before : e < j
+  pub over : ends run e ≡ true
 
--- two memories show the same
-pub record ShowSame (image : ImageValue) (m n : Mem) : Type 0 where
-  pub output : output_of image.form m ≡ output_of image.form n
-  pub reason : reason_of m ≡ reason_of n
-  pub status : status_of m ≡ status_of n
-  pub variables : vars_of image.objects m ≡ vars_of image.objects n
+-- how a run with n fuel has ended at time j, or that it goes on, each unit of fuel being worth a step
+abbrev pub ShowsAfter : ImageValue → (ℕ → State) → Outcome → ℕ → ℕ → Type 0
+ShowsAfter image run (End reason status output variables) n j = EndsBefore run j × Shows image (run j).mem reason status output variables
+ShowsAfter image run (More output) n j =
+    ((t : ℕ) → t < j → ends run t ≡ false) × (output_of image.form (run j).mem ≡ output) × (n ≤ j)
+ShowsAfter image run (Undef why) n j = ⊥
 
--- the run has ended after t steps, and a device ends as it did
-pub record EndsAs (image : ImageValue) (input : List ℕ) (r : Uninterrupted) (ps : List Period) : Type 0 where
-  pub t : ℕ
-  pub over : r.went t ≢ On
-  pub went : (device_after image input ps).went ≡ r.went t
-  pub shows : ShowSame image (device_after image input ps).mem (r.mem t)
+-- the machine has done what k steps of the code do
+pub record Follows (image : ImageValue) (input : List ℕ) (code : Code) (g : Setting) (steps cuts : Weights) (around n : ℕ) (o : Outcome) (run : List Event) (k : ℕ) : Type 0 where
+  pub j : ℕ
+  pub shows : ShowsAfter image (run_of image input) o n j
+  pub soon : j ≤ around + after (start code g n) (spent code g steps k)
+  pub grows : (i : ℕ) → i ≤ j → Begins (output_of image.form (run_of image input i).mem) (output_of image.form (run_of image input j).mem)
+  pub commits : stores_before (run_of image input) j ≤ after (start code g n) (spent code g cuts k)
+  -- where the code's run writes no exposed byte of its section, the machine's steps do what survival asks
+  pub owes : NoWar (items run) → OwesUntil image.words (code_end image) (run_of image input) j
 
--- what a device shows is what the run showed after some steps
-pub record ShowsAs (image : ImageValue) (input : List ℕ) (r : Uninterrupted) (ps : List Period) : Type 0 where
-  pub t : ℕ
-  pub output : output_of image.form (device_after image input ps).mem ≡ output_of image.form (r.mem t)
-
--- the theorem of replay, of output and of progress, for this image, input and gap
-pub record Survives (image : ImageValue) (input : List ℕ) (gap : ℕ) (r : Uninterrupted) : Type 0 where
-  pub output : (ps : List Period) → ShowsAs image input r ps
-  pub ended : (ps : List Period) → (device_after image input ps).went ≢ On → EndsAs image input r ps
-  pub progress : (c : ℕ) → ((t : ℕ) → r.commits t ≤ c) → (ps : List Period) → c < long_periods gap ps → (device_after image input ps).went ≢ On
-
--- where the run is safe, it survives
-abbrev pub SurvivesSafely : ImageValue → List ℕ → ℕ → Uninterrupted → Type 0
-SurvivesSafely image input gap r =
-    ((t : ℕ) → NoWar (r.touched t)) → ((t at : ℕ) → r.went t ≢ Faulted at) → Survives image input gap r
+-- The machine follows each run of the placed code that is defined. Weights bound the steps and the commits of lines; around
+-- are the steps that belong to none, and 34 those of recovery and of the halt
+pub record Executes (code : Code) (g : Setting) (image : ImageValue) (input : List ℕ) : Type 0 where
+  pub steps : Weights
+  pub cuts : Weights
+  pub around : ℕ
+  pub few_steps : 34 + around + total steps code ≤ 66 * length image.words
+  pub few_cuts : total cuts code ≤ length image.words
+  pub follows : (n : ℕ) (o : Outcome) (run : List Event) → IsDefined o → EndsRight (statics_of code) o → (k : Runs code g n o run) → Follows image input code g steps cuts around n o run k.steps

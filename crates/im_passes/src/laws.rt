@@ -2,7 +2,12 @@ ghost use Rattle.im_passes.specs.Laws.{PassesKeepLaw};
 
 use im_block::{added_cuts_law, each_line_law, section_law};
 use im_block_laws::cuts_keep_code_law;
+use im_flow::{along_law, gap_law};
 use im_force::force_keeps_law;
+use im_kept::{end_kept_law, run_kept_law};
+use im_placed::cuts_keep_places_law;
+use im_until::until_law;
+use im_written::written_law;
 
 /// From the passes' promises alone: the written image keeps its program's meaning.
 pub fn passes_keep_law()
@@ -12,5 +17,12 @@ pub fn passes_keep_law()
     added_cuts_law();
     section_law();
     cuts_keep_code_law();
+    cuts_keep_places_law();
     force_keeps_law();
+    written_law();
+    until_law();
+    along_law();
+    gap_law();
+    end_kept_law();
+    run_kept_law();
 }

@@ -1,8 +1,10 @@
 -- Some steps of the machine, whatever comes behind them, and the steps of one instruction.
-use Rattle.std.proofs.Common.{◌≡◌, ℕ, zero, suc, ◌+◌, ◌-◌, ◌≤◌, ◌⊎◌, inl, inr, true, cond, List, [], ◌∷◌, ◌++◌, sym, ap, ◌∙◌, subst, refl, append_assoc, arith, length}
-use Rattle.std.specs.Prelude.{◌==◌, min}
+use Rattle.std.proofs.Common.{◌≡◌, ℕ, zero, suc, ◌+◌, ◌-◌, ◌<◌, ◌≤◌, ◌⊎◌, inl, inr, Bool, true, false, cond, List, [], ◌∷◌, ◌++◌, sym, ap, ◌∙◌, subst, refl, append_assoc, arith, length}
+use Rattle.std.specs.Prelude.{◌==◌, ◌&&◌, ◌||◌, nat_le, min}
 use Rattle.im_num.specs.Bytes.{bytes_of}
 use Rattle.std.proofs.lemmas.List.{append-nil}
+use Rattle.std.proofs.lemmas.Bool.{cases_lt}
+use Rattle.std.proofs.lemmas.Bool.Decides.{nat_tests}
 use Rattle.im_mem.specs.Memory.{Mem, little, is_place, bytes_from, written}
 use Rattle.im_mem.proofs.Words.{little-alike, little-other, written-above, written-below, length-bytes_of}
 use Rattle.im_rv.specs.declared.step.Went.TheVariants.{On, Halted}
@@ -17,6 +19,7 @@ use Rattle.im_image.specs.declared.form.Form.TheVariants.{TwoLengths}
 use Rattle.im_device.specs.Shows.{output_length}
 use Rattle.im_mem.specs.Map.{out_len0_at, out_len1_at, out_sel_at, output_start, output_capacity, in_len_at, in_pos_at, input_start}
 use Rattle.im_reach.specs.Shown.{shown, left, Begins}
+use Rattle.im_reach.specs.Plain.{in_runtime, may_load, may_store, AreAllowed, IsPlain}
 use Rattle.im_reach.specs.Reach.{plus, Reach, Stopped}
 use Rattle.im_reach.specs.Instructions.{Holds, Fixed}
 
@@ -38,7 +41,7 @@ pub before_or_after : (i n : ℕ) → (i ≤ n) ⊎ (n ≤ i)
 before_or_after i n = grind arith
 
 pub nothing : (c : Cpu) (m : Mem) → Reach zero [] c m c m
-nothing c m = record { ran = λ j. refl; met = λ j. refl; grows = λ i le. only i (omega arith) }
+nothing c m = record { ran = λ j. refl; met = λ j. refl; grows = λ i le. only i (omega arith); each = λ i lt. absurd (omega arith) }
   where
     only : (i : ℕ) → i ≡ 0 → Begins (shown (runs i c m).mem) (shown m)
     only i e = begins_same _ _ (ap (λ z. shown (runs z c m).mem) (sym e))
@@ -55,13 +58,31 @@ join n l ts us c d e m k h a b = record {
         subst (λ (z : Stepped). Begins (shown z.mem) (shown h)) (sym (ap (λ z. runs z c m) f ∙ a.ran (i - n))) (b.grows (i - n) (omega arith))
         )
   ];
+  each = λ i lt. elim (cases_lt i n) [
+    | inl x ↦ a.each i x
+    | inr x ↦ (
+        let q = plus_is n l in
+        let f : i ≡ plus n (i - n) = (let g = plus_is n (i - n) in omega arith) in
+        subst (λ (z : Stepped). IsPlain z.cpu z.mem) (sym (ap (λ z. runs z c m) f ∙ a.ran (i - n))) (b.each (i - n) (omega arith))
+        )
+  ];
 }
 
-pub one : (ts : List Touch) (c d : Cpu) (m k : Mem) → step_of c m ≡ record { went = On; cpu = d; mem = k } → touches c m ≡ ts → shown k ≡ shown m → Reach 1 ts c m d k
-one ts c d m k e h same = record {
+-- one step is plain
+pub plain_one : (ts : List Touch) (c d : Cpu) (m k : Mem) → step_of c m ≡ record { went = On; cpu = d; mem = k } → touches c m ≡ ts → (4096 ≤ c.pc) × (c.pc + 4 ≤ 1048576) → AreAllowed (in_runtime c.pc) ts → Begins (shown m) (shown k) → (i : ℕ) → i < 1 → IsPlain (runs i c m).cpu (runs i c m).mem
+plain_one ts c d m k e h inside allowed more zero lt = record {
+  inside = inside;
+  allowed = subst (AreAllowed (in_runtime c.pc)) (sym h) allowed;
+  grows = subst (λ (s : Stepped). Begins (shown m) (shown s.mem)) (sym e) more;
+}
+plain_one ts c d m k e h inside allowed more (suc i) lt = absurd (omega arith)
+
+pub one : (ts : List Touch) (c d : Cpu) (m k : Mem) → step_of c m ≡ record { went = On; cpu = d; mem = k } → touches c m ≡ ts → shown k ≡ shown m → (4096 ≤ c.pc) × (c.pc + 4 ≤ 1048576) → AreAllowed (in_runtime c.pc) ts → Reach 1 ts c m d k
+one ts c d m k e h same inside allowed = record {
   ran = λ j. one_more j c d m k e;
   met = λ j. ap (λ (s : Stepped). touches c m ++ touched_on (touched j) s.cpu s.mem s.went) e ∙ ap (λ t. t ++ touched j d k) h;
   grows = at;
+  each = plain_one ts c d m k e h inside allowed (begins_same (shown m) (shown k) same);
 }
   where
     at : (i : ℕ) → i ≤ 1 → Begins (shown (runs i c m).mem) (shown k)
@@ -130,6 +151,41 @@ left_written m a n v low high = left_same m (written m a (bytes_of n v)) (quiet_
 pub output_told : (m : Mem) (a n v : ℕ) → a + n ≤ 12 → shown (written m a (bytes_of n v)) ≡ shown m
 output_told m a n v high = shown_same m (written m a (bytes_of n v)) (quiet_told m a n v high)
 
+-- what may be touched: statics and stack, and low words that are neither INDEX nor a buffer's
+or_true : (x b : Bool) → ((x || true) || b) ≡ true
+or_true true b = refl
+or_true false b = refl
+
+and_true : (x y b : Bool) → ((x || true) && ((true && (y || true)) || b)) ≡ true
+and_true true true b = refl
+and_true true false b = refl
+and_true false true b = refl
+and_true false false b = refl
+
+pub data_load : (b : Bool) (a n : ℕ) → 384 ≤ a → may_load b a n ≡ true
+data_load b a n h =
+    let t : nat_le 384 a ≡ true = grind (arith, nat_tests) in
+    ap (λ z. (nat_le (a + n) 128 || z) || b) t ∙ or_true (nat_le (a + n) 128) b
+
+pub data_store : (b : Bool) (a n : ℕ) → 1048576 ≤ a → may_store b a n ≡ true
+data_store b a n h =
+    let t : nat_le 1048576 a ≡ true = grind (arith, nat_tests) in
+    let q : nat_le 4 a ≡ true = grind (arith, nat_tests) in
+    let r : nat_le 384 a ≡ true = grind (arith, nat_tests) in
+    ap (λ z. (nat_le (a + n) 4096 || z) && ((nat_le 4 a && (nat_le (a + n) 128 || nat_le 384 a)) || b)) t
+    ∙ ap (λ z. (nat_le (a + n) 4096 || true) && ((z && (nat_le (a + n) 128 || nat_le 384 a)) || b)) q
+    ∙ ap (λ z. (nat_le (a + n) 4096 || true) && ((true && (nat_le (a + n) 128 || z)) || b)) r
+    ∙ and_true (nat_le (a + n) 4096) (nat_le (a + n) 128) b
+
+pub low_store : (b : Bool) (a n : ℕ) → 4 ≤ a → a + n ≤ 128 → may_store b a n ≡ true
+low_store b a n h k =
+    let t : nat_le (a + n) 4096 ≡ true = grind (arith, nat_tests) in
+    let q : nat_le 4 a ≡ true = grind (arith, nat_tests) in
+    let r : nat_le (a + n) 128 ≡ true = grind (arith, nat_tests) in
+    ap (λ z. (z || nat_le 1048576 a) && ((nat_le 4 a && (nat_le (a + n) 128 || nat_le 384 a)) || b)) t
+    ∙ ap (λ z. (z && (nat_le (a + n) 128 || nat_le 384 a)) || b) q
+    ∙ ap (λ z. (true && (z || nat_le 384 a)) || b) r
+
 -- the code that stands is fetched
 pub fetches : (image m : Mem) (pc : ℕ) (x : ℕ → ℕ) (l : Line) → Fixed image m → (h : Holds image pc l) → Fetches (record { pc = pc; x = x }) m h.w l
 fetches image m pc x l fixed h = record {
@@ -151,39 +207,39 @@ puts image m pc x l v fixed h e =
     let f : Fetches c m h.w l = fetches image m pc x l fixed h in
     one [] c (record { pc = pc + 4; x = with_reg x l.rd v }) m m
     (puts_step c m h.w l v (sum_of pc 4) f e ∙ ap (λ q. record { went = On; cpu = record { pc = q; x = with_reg x l.rd v }; mem = m }) (next_pc image pc l h))
-    (touches_is c m h.w l f ∙ ap touch_of e) refl
+    (touches_is c m h.w l f ∙ ap touch_of e) refl (h.above, h.low) tt
 
 -- one that puts a value and jumps
 pub leaps : (image m : Mem) (pc : ℕ) (x : ℕ → ℕ) (l : Line) (v target : ℕ) → Fixed image m → Holds image pc l → row l.op pc (x l.rs1) (x l.rs2) l.imm ≡ Puts v target → Reach 1 [] (record { pc = pc; x = x }) m (record { pc = target; x = with_reg x l.rd v }) m
 leaps image m pc x l v target fixed h e =
     let c : Cpu = record { pc = pc; x = x } in
     let f : Fetches c m h.w l = fetches image m pc x l fixed h in
-    one [] c (record { pc = target; x = with_reg x l.rd v }) m m (puts_step c m h.w l v target f e) (touches_is c m h.w l f ∙ ap touch_of e) refl
+    one [] c (record { pc = target; x = with_reg x l.rd v }) m m (puts_step c m h.w l v target f e) (touches_is c m h.w l f ∙ ap touch_of e) refl (h.above, h.low) tt
 
 -- one that goes somewhere
 pub passes : (image m : Mem) (pc : ℕ) (x : ℕ → ℕ) (l : Line) (target : ℕ) → Fixed image m → Holds image pc l → row l.op pc (x l.rs1) (x l.rs2) l.imm ≡ Goes target → Reach 1 [] (record { pc = pc; x = x }) m (record { pc = target; x = x }) m
 passes image m pc x l target fixed h e =
     let c : Cpu = record { pc = pc; x = x } in
     let f : Fetches c m h.w l = fetches image m pc x l fixed h in
-    one [] c (record { pc = target; x = x }) m m (goes_step c m h.w l target f e) (touches_is c m h.w l f ∙ ap touch_of e) refl
+    one [] c (record { pc = target; x = x }) m m (goes_step c m h.w l target f e) (touches_is c m h.w l f ∙ ap touch_of e) refl (h.above, h.low) tt
 
 -- one that loads
-pub loads : (image m : Mem) (pc : ℕ) (x : ℕ → ℕ) (l : Line) (a n : ℕ) (extension : Extension) → Fixed image m → Holds image pc l → row l.op pc (x l.rs1) (x l.rs2) l.imm ≡ Loads a n extension → is_place a n ≡ true → Reach 1 (Loaded a n ∷ []) (record { pc = pc; x = x }) m (record { pc = pc + 4; x = with_reg x l.rd (extended n extension (little m a n)) }) m
-loads image m pc x l a n extension fixed h e ok =
+pub loads : (image m : Mem) (pc : ℕ) (x : ℕ → ℕ) (l : Line) (a n : ℕ) (extension : Extension) → Fixed image m → Holds image pc l → row l.op pc (x l.rs1) (x l.rs2) l.imm ≡ Loads a n extension → is_place a n ≡ true → may_load (in_runtime pc) a n ≡ true → Reach 1 (Loaded a n ∷ []) (record { pc = pc; x = x }) m (record { pc = pc + 4; x = with_reg x l.rd (extended n extension (little m a n)) }) m
+loads image m pc x l a n extension fixed h e ok may =
     let c : Cpu = record { pc = pc; x = x } in
     let f : Fetches c m h.w l = fetches image m pc x l fixed h in
     one (Loaded a n ∷ []) c (record { pc = pc + 4; x = with_reg x l.rd (extended n extension (little m a n)) }) m m
     (loads_step c m h.w l a n extension f e ok ∙ ap (λ q. record { went = On; cpu = record { pc = q; x = with_reg x l.rd (extended n extension (little m a n)) }; mem = m }) (next_pc image pc l h))
-    (touches_is c m h.w l f ∙ ap touch_of e) refl
+    (touches_is c m h.w l f ∙ ap touch_of e) refl (h.above, h.low) (may, tt)
 
 -- one that stores
-pub stores : (image m : Mem) (pc : ℕ) (x : ℕ → ℕ) (l : Line) (a n v : ℕ) → Fixed image m → Holds image pc l → row l.op pc (x l.rs1) (x l.rs2) l.imm ≡ Stores a n v → is_place a n ≡ true → shown (written m a (bytes_of n v)) ≡ shown m → Reach 1 (Stored a n ∷ []) (record { pc = pc; x = x }) m (record { pc = pc + 4; x = x }) (written m a (bytes_of n v))
-stores image m pc x l a n v fixed h e ok same =
+pub stores : (image m : Mem) (pc : ℕ) (x : ℕ → ℕ) (l : Line) (a n v : ℕ) → Fixed image m → Holds image pc l → row l.op pc (x l.rs1) (x l.rs2) l.imm ≡ Stores a n v → is_place a n ≡ true → shown (written m a (bytes_of n v)) ≡ shown m → may_store (in_runtime pc) a n ≡ true → Reach 1 (Stored a n ∷ []) (record { pc = pc; x = x }) m (record { pc = pc + 4; x = x }) (written m a (bytes_of n v))
+stores image m pc x l a n v fixed h e ok same may =
     let c : Cpu = record { pc = pc; x = x } in
     let f : Fetches c m h.w l = fetches image m pc x l fixed h in
     one (Stored a n ∷ []) c (record { pc = pc + 4; x = x }) m (written m a (bytes_of n v))
     (stores_step c m h.w l a n v f e ok ∙ ap (λ q. record { went = On; cpu = record { pc = q; x = x }; mem = written m a (bytes_of n v) }) (next_pc image pc l h))
-    (touches_is c m h.w l f ∙ ap touch_of e) same
+    (touches_is c m h.w l f ∙ ap touch_of e) same (h.above, h.low) (may, tt)
 
 -- ebreak ends the run
 pub halts : (image m : Mem) (pc : ℕ) (x : ℕ → ℕ) (l : Line) → Fixed image m → Holds image pc l → row l.op pc (x l.rs1) (x l.rs2) l.imm ≡ Stops → Stopped 1 [] (record { pc = pc; x = x }) m m
@@ -196,8 +252,17 @@ halts image m pc x l fixed h e =
       ran = halts_here 0 c c m m s;
       met = ap (λ (s : Stepped). touches c m ++ touched_on (touched 0) s.cpu s.mem s.went) s ∙ ap (λ t. t ++ []) (touches_is c m h.w l f ∙ ap touch_of e);
       grows = at s;
+      each = plain s (touches_is c m h.w l f ∙ ap touch_of e);
     }
   where
+    plain : step_of (record { pc = pc; x = x }) m ≡ record { went = Halted; cpu = record { pc = pc; x = x }; mem = m } → touches (record { pc = pc; x = x }) m ≡ [] → (i : ℕ) → i < 1 → IsPlain (runs i (record { pc = pc; x = x }) m).cpu (runs i (record { pc = pc; x = x }) m).mem
+    plain s t zero lt = record {
+      inside = (h.above, h.low);
+      allowed = subst (AreAllowed (in_runtime pc)) (sym t) tt;
+      grows = subst (λ (z : Stepped). Begins (shown m) (shown z.mem)) (sym s) (begins_same (shown m) (shown m) refl);
+    }
+    plain s t (suc i) lt = absurd (omega arith)
+
     at : step_of (record { pc = pc; x = x }) m ≡ record { went = Halted; cpu = record { pc = pc; x = x }; mem = m } → (i : ℕ) → i ≤ 1 → Begins (shown (runs i (record { pc = pc; x = x }) m).mem) (shown m)
     at s zero le = begins_same _ _ refl
     at s (suc zero) le = begins_same _ _ (sym (ap (λ (z : Stepped). shown z.mem) (halts_here 0 (record { pc = pc; x = x }) (record { pc = pc; x = x }) m m s)))
@@ -214,6 +279,14 @@ then_stops n l ts us c d m k h a b = record {
         let q = plus_is n l in
         let f : i ≡ plus n (i - n) = (let g = plus_is n (i - n) in omega arith) in
         subst (λ (z : Stepped). Begins (shown z.mem) (shown h)) (sym (ap (λ z. runs z c m) f ∙ a.ran (i - n))) (b.grows (i - n) (omega arith))
+        )
+  ];
+  each = λ i lt. elim (cases_lt i n) [
+    | inl x ↦ a.each i x
+    | inr x ↦ (
+        let q = plus_is n l in
+        let f : i ≡ plus n (i - n) = (let g = plus_is n (i - n) in omega arith) in
+        subst (λ (z : Stepped). IsPlain z.cpu z.mem) (sym (ap (λ z. runs z c m) f ∙ a.ran (i - n))) (b.each (i - n) (omega arith))
         )
   ];
 }

@@ -1,5 +1,6 @@
 pub mod Touches
 pub mod Shown
+pub mod Plain
 pub mod Reach
 pub mod Instructions
 pub mod Routines

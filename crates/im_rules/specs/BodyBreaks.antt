@@ -8,6 +8,7 @@ use Rattle.im_ctype.specs.Members.{places}
 use Rattle.im_typed.specs.declared.statement.Case.{Case}
 use Rattle.im_typed.specs.Program.{Stmt, Stmts}
 use Rattle.im_rules.specs.Rules.{rule_34_break, rule_34_continue}
+use Rattle.im_rules.specs.Outline.{is_initialised}
 use Rattle.im_rules.specs.Context.{Context, behind_strings}
 use Rattle.im_rules.specs.Terms.{Term, size_in, constant_in}
 use Rattle.im_rules.specs.Demands.{asks, Meets, Refuses}
@@ -15,7 +16,7 @@ use Rattle.im_rules.specs.Declared.{Qualified, Declared, specifiers_ask, behind_
 use Rattle.im_rules.specs.Typed.{Typed, Declares}
 use Rattle.im_rules.specs.Breaks.{Node, an_expression, some_specifiers, a_declarator, Broken, first_token}
 use Rattle.im_rules.specs.Initialisers.{shape, one, elements, members, shape_asks, value_asks, completed, strings_given}
-use Rattle.im_rules.specs.Statements.{Site, Added, past, past_expression, past_maybe, in_block, in_loop, in_switch, in_context, is_initialised, local_asks, with_local, behind_initializer, TypedDeclaration, condition_asks, switch_asks, return_asks, return_value_asks, value_in, switch_type, Labels, label_value, case_asks, default_asks, with_constant, with_default, count_stmts, Begins, TypedStatement, Labelled}
+use Rattle.im_rules.specs.Statements.{Site, Added, past, past_expression, past_maybe, in_block, in_loop, in_switch, in_context, local_asks, with_local, behind_initializer, TypedDeclaration, condition_asks, switch_asks, return_asks, return_value_asks, value_in, switch_type, Labels, label_value, case_asks, default_asks, with_constant, with_default, count_stmts, Begins, TypedStatement, Labelled}
 
 -- an initialiser with the type of its object and where that lies, and what stands in its braces
 pub data Given : Type 0 where

@@ -1,19 +1,28 @@
 -- What is known at a place of the text.
-use Rattle.std.specs.Prelude.{ℕ, ◌+◌, Bool, List, length}
+use Rattle.std.specs.Prelude.{ℕ, ◌+◌, List, length, Option, Some, None, if◌then◌else◌}
 use Rattle.im_word.specs.Words.{Name}
 use Rattle.im_ctree.specs.Tree as t
 use Rattle.im_ctype.specs.Types.{Structs}
-use Rattle.im_rules.specs.Scopes.{Scopes, opened, named, Entity}
+use Rattle.im_rules.specs.Scopes.{Scopes, opened, named, Entity, at_file_scope}
+use Rattle.im_rules.specs.Outline.{Outline, list_number}
 use Rattle.im_rules.specs.Strings.{strings_in, strings_maybe, strings_named, strings_of_core, strings_of_declarator, strings_may, strings_of_parameters}
 
--- what names mean, the structs whose member lists have ended, and the number of the static that the next string literal
--- is; of the whole unit: whether a name is defined in it, and the number of the struct that a tag declares at a token
+-- what names mean, the structs whose member lists have ended, the number of the static that the next string literal is,
+-- and the outline of the whole unit
 pub record Context : Type 0 where
   pub scopes : Scopes
   pub known : Structs
   pub next_string : ℕ
-  pub is_defined : Name → Bool
-  pub tag_number : ℕ → Name → ℕ
+  pub unit : Outline
+
+-- the number of the struct that a tag declares at a token: of a tag at file scope the number of its member list. A struct
+-- without a list has a number past those
+abbrev pub tag_number : Context → ℕ → Name → ℕ
+tag_number c at x = if at_file_scope c.scopes then of_list (list_number x c.unit.lists) else length c.unit.lists + at
+  where
+    of_list : Option ℕ → ℕ
+    of_list None = length c.unit.lists + at
+    of_list (Some n) = n
 
 abbrev pub in_new_scope : Context → Context
 in_new_scope c = record c { scopes = opened c.scopes }

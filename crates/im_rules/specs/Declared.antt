@@ -8,7 +8,7 @@ use Rattle.im_ctree.specs.Tree as t
 use Rattle.im_ctype.specs.declared.integer.Integer.TheVariants.{Int}
 use Rattle.im_ctype.specs.Types.{CType, void, integer, pointer, array, unsized, struct, function, CTypes, no_types, more_types, is_void}
 use Rattle.im_rules.specs.Scopes.{Entity, an_object, a_typedef, local_object, Scopes, named, tagged, meaning, meaning_here, tag_meaning, Tag, struct_tag, at_file_scope}
-use Rattle.im_rules.specs.Context.{Context}
+use Rattle.im_rules.specs.Context.{Context, tag_number}
 use Rattle.im_rules.specs.Demands.{Demand, asks}
 use Rattle.im_rules.specs.Rules.{line_type, lines, keywords_in, named_in, rule_1, rule_2_elsewhere, rule_3, rule_4, rule_5, rule_6_length, rule_8_use, rule_9_result, rule_9_parameter, rule_9_void, rule_10, rule_15}
 
@@ -58,7 +58,7 @@ is_no_enum _ = false
 -- the type of the type words. A list of members or enumerators stands in none of the places that this page is about
 abbrev pub specified : Context → List t.Specifier → List SpecifierWord → Qualified
 specified c (t.typedef_specifier at x ∷ ss) ks = typedef_meant (meaning c.scopes x)
-specified c (t.struct_tag at x ∷ ss) ks = tag_meant (c.tag_number at x) (tag_meaning c.scopes x)
+specified c (t.struct_tag at x ∷ ss) ks = tag_meant (tag_number c at x) (tag_meaning c.scopes x)
 specified c (t.enum_tag at x ∷ ss) ks = record { constant = false; type = integer Int }
 specified c _ ks = line_meant (line_type lines ks)
 
@@ -81,7 +81,7 @@ specifiers_ask c xs = asks 1 (rule_1 xs) ∷ asks 2 (rule_2_elsewhere xs) ∷ sp
 
 -- a struct's tag that is mentioned in a declaration or a parameter and isn't in scope is declared there (C11 6.7.2.3p8)
 abbrev pub declared_tag : Context → ℕ → Name → Option Tag → Scopes
-declared_tag c at x None = tagged x (struct_tag (c.tag_number at x)) c.scopes
+declared_tag c at x None = tagged x (struct_tag (tag_number c at x)) c.scopes
 declared_tag c at x (Some g) = c.scopes
 
 abbrev pub tags_in : Context → List t.Specifier → Scopes
@@ -140,10 +140,11 @@ with_name (Some x) e g = named x e g
 abbrev pub with_parameter : ℕ → Declared → Context → Context
 with_parameter n d c = record c { scopes = with_name d.name (an_object d.constant d.type (local_object n)) c.scopes }
 
--- the context of a function's body: the scope that holds its parameters
-abbrev pub with_parameters : ℕ → List Declared → Context → Context
-with_parameters n [] c = c
-with_parameters n (d ∷ ds) c = with_parameters (n + 1) ds (with_parameter n d c)
+-- the context of a function's body: the scope that holds its parameters, and the tags that these mention first
+abbrev pub with_parameters : ℕ → t.Parameters → List Declared → Context → Context
+with_parameters n (t.more_parameters (t.specifiers at xs) m ps) (d ∷ ds) c =
+    with_parameters (n + 1) ps ds (with_parameter n d (behind_specifiers c xs))
+with_parameters n ps ds c = c
 
 abbrev pub declared_asks : Option Name → Entity → Scopes → List Demand
 declared_asks None e g = []

@@ -12,6 +12,7 @@ use Rattle.im_rules.specs.TypeTests.{parameters_of}
 use Rattle.im_rules.specs.Scopes.{Entity, an_object, a_function, static_object, no_body, Scopes, meaning}
 use Rattle.im_rules.specs.Terms.{Term, operand_of, type_in}
 use Rattle.im_rules.specs.Conversions.{operator_of}
+use Rattle.im_rules.specs.Outline.{is_in}
 use Rattle.im_rules.specs.Context.{Context}
 use Rattle.im_rules.specs.Rules.{rule_12_use, rule_17, rule_18, rule_19, rule_20, rule_21_dot, rule_21_arrow, rule_22, rule_23, rule_24, rule_25_arithmetic, rule_25_condition, rule_30_assign, rule_30_step, rule_31, rule_32, rule_33, rule_of, allows}
 
@@ -35,7 +36,7 @@ Refuses r (d ∷ ds) = ((d.rule ≡ r) × (d.holds ≡ false)) ⊎ Refuses r ds
 
 -- an object that is used is defined in the unit; those of a function are so where they are declared
 abbrev pub is_object_defined : Context → Name → Option Entity → Bool
-is_object_defined c x (Some (an_object k a (static_object n))) = c.is_defined x
+is_object_defined c x (Some (an_object k a (static_object n))) = is_in x c.unit.statics
 is_object_defined c x e = true
 
 -- a function that is called has a body in the unit, or is predeclared

@@ -97,9 +97,9 @@ abbrev mutual
   strings_among known k t.no_initializers = []
   strings_among known k (t.more_initializers i is) = strings_given known (first_slot k) i ++ strings_among known (other_slots k) is
 
--- what goes to a place: a typed expression, or a byte of a string
+-- what goes to a place: an expression that is typed, or a byte of a string
 pub data Source : Type 0 where
-  from_term : Term → Source
+  from_term : t.Expression → Term → Source
   from_byte : ℕ → Source
 
 -- bytes from the object's start, the type there, and what goes there
@@ -133,7 +133,7 @@ mutual
     of_one : {c : Context} {a : CType} {at : ℕ} {e : t.Expression} {x : Term}
         → Typed c e x
         → Meets (value_asks a x)
-        → Shaped c a at (one e) (item at a (from_term x) ∷ [])
+        → Shaped c a at (one e) (item at a (from_term e x) ∷ [])
     of_bytes : {c : Context} {a e : CType} {at : ℕ} {s : Name} → Shaped c a at (bytes e s) (byte_items at e s)
     of_elements : {c : Context} {a e : CType} {at : ℕ} {is : t.Initializers} {ps : List Item}
         → Elements c e at is ps
@@ -160,7 +160,7 @@ mutual
 
 -- an item as a piece of a declaration in a block: converted to the type there
 abbrev pub piece_by : Structs → ℕ → CType → Source → Piece
-piece_by known at a (from_term x) = record { offset = at; access = access_of known a; value = as_type a (value_of known x) }
+piece_by known at a (from_term e x) = record { offset = at; access = access_of known a; value = as_type a (value_of known x) }
 piece_by known at a (from_byte b) = record { offset = at; access = access_of known a; value = Constant (kind_in a) (pos b) }
 
 abbrev pub piece_of : Structs → Item → Piece

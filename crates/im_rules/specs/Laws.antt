@@ -2,7 +2,7 @@
 use Rattle.std.specs.Prelude.{◌≡◌, ℕ, List}
 use Rattle.im_ctree.specs.Tree as t
 use Rattle.im_ctype.specs.Types.{CType}
-use Rattle.im_typed.specs.Program.{Stmt, Stmts}
+use Rattle.im_typed.specs.Program.{Stmt, Stmts, Prog}
 use Rattle.im_rules.specs.Context.{Context}
 use Rattle.im_rules.specs.Terms.{Term}
 use Rattle.im_rules.specs.Declared.{Qualified, Declared}
@@ -11,6 +11,8 @@ use Rattle.im_rules.specs.Breaks.{Broken, an_expression, a_type_name, a_declarat
 use Rattle.im_rules.specs.Initialisers.{Item, Initialised}
 use Rattle.im_rules.specs.Statements.{Site, Added, TypedStatement, TypedItems}
 use Rattle.im_rules.specs.BodyBreaks.{GivenBroken, an_initialiser, BodyBroken, a_statement, some_items}
+use Rattle.im_rules.specs.TypedUnit.{TypedUnit}
+use Rattle.im_rules.specs.UnitBreaks.{UnitBroken}
 
 abbrev pub IsTypedOnce : Type 0
 IsTypedOnce = (c : Context) (e : t.Expression) (x y : Term) → Typed c e x → Typed c e y → x ≡ y
@@ -49,3 +51,11 @@ StatementBreaksNone = (s : Site) (a : t.Statement) (u : Stmt) (m : Added) (rule 
 
 abbrev pub ItemsBreakNone : Type 0
 ItemsBreakNone = (s : Site) (is : t.BlockItems) (us : Stmts) (m : Added) (rule token : ℕ) → TypedItems s is us m → BodyBroken s (some_items is) rule token → ⊥
+
+-- units
+
+abbrev pub UnitOnce : Type 0
+UnitOnce = (u : t.Tree) (g h : Prog) → TypedUnit u g → TypedUnit u h → g ≡ h
+
+abbrev pub UnitBreaksNone : Type 0
+UnitBreaksNone = (u : t.Tree) (g : Prog) (rule token : ℕ) → TypedUnit u g → UnitBroken u rule token → ⊥

@@ -1,21 +1,26 @@
 -- Small trees, for the examples.
-use Rattle.std.specs.Prelude.{ℕ, pos, true, false, [], ◌∷◌}
+use Rattle.std.specs.Prelude.{ℕ, pos, false, List, [], ◌∷◌, Some}
 use Rattle.im_word.specs.Words.{Name}
 use Rattle.im_num.specs.declared.kind.Kind.TheVariants.{I32, U8}
 use Rattle.im_tok.specs.declared.number.Number.{Number}
 use Rattle.im_tok.specs.declared.number.NumberType.TheVariants as number
 use Rattle.im_ctree.specs.declared.operator.BinaryOp.TheVariants as b
 use Rattle.im_ctree.specs.declared.operator.UnaryOp.TheVariants as o
+use Rattle.im_ctree.specs.declared.specifier.SpecifierWord.{SpecifierWord}
+use Rattle.im_ctree.specs.declared.specifier.SpecifierWord.TheVariants as w
 use Rattle.im_ctree.specs.Tree as t
 use Rattle.im_store.specs.declared.operators.BinaryOp.TheVariants as s
 use Rattle.im_ctype.specs.declared.integer.Integer.TheVariants.{Char, Int}
 use Rattle.im_ctype.specs.Types.{integer, void}
+use Rattle.im_store.specs.Objects.{Number as of_number}
+use Rattle.im_store.specs.Statics.{StaticObject}
 use Rattle.im_typed.specs.declared.statement.Case.{Case}
-use Rattle.im_typed.specs.Program.{Scalar, Local, Constant, Read, Convert, Binary, Stmt, Block, Switch, Break, no_stmts, more_stmts}
+use Rattle.im_typed.specs.Program.{Scalar, Local, Constant, Read, Convert, Binary, Stmt, Block, Switch, Break, Return, Static, no_stmts, more_stmts, Prog}
 use Rattle.im_rules.specs.Scopes.{nothing, named, an_object, local_object}
 use Rattle.im_rules.specs.Context.{Context}
 use Rattle.im_rules.specs.Terms.{Term, value}
 use Rattle.im_rules.specs.Statements.{Site}
+use Rattle.im_rules.specs.FileScope.{main_name}
 
 abbrev pub x : Name
 x = 120 ∷ []
@@ -27,8 +32,7 @@ char_in_scope =
       scopes = named x (an_object false (integer Char) (local_object 0)) nothing;
       known = [];
       next_string = 0;
-      is_defined = λ n. true;
-      tag_number = λ at n. 0;
+      unit = record { statics = []; bodies = []; lists = [] };
     }
 
 abbrev pub int_number : ℕ → Number
@@ -65,3 +69,43 @@ case_of z n = record { value = pos z; at = n }
 abbrev pub small_switch_typed : Stmt
 small_switch_typed =
     Switch (Convert I32 (Read (Scalar U8) (Local 0))) (case_of 1 0 ∷ case_of 2 0 ∷ []) 1 (more_stmts Break (more_stmts (Block no_stmts) no_stmts))
+
+-- a unit: `int x; static int y = 3; int x; int main(void) { return y; }`
+
+abbrev pub y : Name
+y = 121 ∷ []
+
+abbrev pub words : List SpecifierWord → t.SpecifierList
+words [] = t.no_specifiers
+words (k ∷ ks) = t.more_specifiers (t.word_specifier 0 k) (words ks)
+
+abbrev pub plain : ℕ → Name → t.Declarator
+plain at n = t.declarator at [] (t.name_core n) t.no_suffixes
+
+abbrev pub declares : List SpecifierWord → ℕ → Name → t.MaybeInitializer → t.External
+declares ks at n i = t.external_declaration (t.declaration (t.specifiers 0 (words ks)) (t.more_init_declarators (plain at n) i t.no_init_declarators))
+
+abbrev pub no_arguments : t.Parameters
+no_arguments = t.more_parameters (t.specifiers 0 (words (w.Void ∷ []))) t.no_declarator t.no_parameters
+
+abbrev pub small_unit : t.Tree
+small_unit =
+    t.more_externals (declares (w.Int ∷ []) 1 x t.no_initializer)
+    (t.more_externals (declares (w.Static ∷ w.Int ∷ []) 5 y (t.an_initializer (t.value_initializer (t.integer_constant 7 (int_number 3)))))
+    (t.more_externals (declares (w.Int ∷ []) 12 x t.no_initializer)
+    (t.more_externals
+    (t.function_definition (t.specifiers 14 (words (w.Int ∷ []))) (t.declarator 15 [] (t.name_core main_name) (t.function_suffix 16 no_arguments t.no_suffixes))
+    (t.block 19 (t.statement_item (t.return_statement 20 (t.an_expression (t.identifier 21 y))) t.no_items)))
+    t.no_externals)))
+
+abbrev pub static_int : Name → ℕ → StaticObject
+static_int n z = record { name = n; size = 4; cells = record { offset = 0; kind = I32 } ∷ []; first = of_number (pos z) ∷ [] }
+
+-- x, which is declared twice, is one static; `main` returns what y has
+abbrev pub small_program : Prog
+small_program =
+    record {
+      statics = static_int x 0 ∷ static_int y 3 ∷ [];
+      funcs = record { name = main_name; params = 0; result = Some I32; objects = []; body = Block (more_stmts (Return (Some (Read (Scalar I32) (Static 1)))) no_stmts) } ∷ [];
+      main = 0;
+    }

@@ -12,6 +12,7 @@ use Rattle.im_typed.specs.Program.{Expr, Constant, Stmt, Do, Forget, Initialise,
 use Rattle.im_rules.specs.Rules.{Position, rule_3, rule_4, rule_5, rule_6_absent, rule_15, rule_17, rule_25_condition, rule_34_break, rule_34_continue, rule_34_constant, rule_34_default, rule_34_switch, rule_34_return}
 use Rattle.im_rules.specs.Scopes.{Entity, an_object, local_object, meaning, meaning_here, at_file_scope}
 use Rattle.im_rules.specs.Strings.{strings_in, strings_maybe, strings_of_declarator}
+use Rattle.im_rules.specs.Outline.{is_initialised}
 use Rattle.im_rules.specs.Context.{Context, in_new_scope, with_entity, behind, behind_maybe, behind_strings, behind_declarator}
 use Rattle.im_rules.specs.Terms.{Term, Value, value_of, operand_of, constant_in}
 use Rattle.im_rules.specs.Conversions.{as_type, as_integer, promoted, integer_of}
@@ -59,10 +60,6 @@ abbrev pub in_switch : Site → Site
 in_switch s = record s { position = record { in_loop = s.position.in_loop; in_switch = true; is_direct = false } }
 
 -- declarations in a block (C11 6.7)
-
-abbrev pub is_initialised : t.MaybeInitializer → Bool
-is_initialised t.no_initializer = false
-is_initialised (t.an_initializer i) = true
 
 abbrev pub name_of : Option Name → Name
 name_of None = []

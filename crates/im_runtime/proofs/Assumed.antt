@@ -1,15 +1,13 @@
 -- The routines are as compiled code assumes.
-use Rattle.std.proofs.Common.{◌≡◌, ◌≢◌, ℕ, ◌+◌, ◌%◌, ◌^◌, ◌<◌, ◌≤◌, ◌⊎◌, Bool, true, false, cond, List, [], ◌∷◌, refl, sym, ap, ◌∙◌, subst, arith}
-use Rattle.std.specs.Prelude.{replicate}
+use Rattle.std.proofs.Common.{◌≡◌, ℕ, ◌+◌, ◌<◌, ◌≤◌, refl, sym, ap, ◌∙◌, subst, arith}
 use Rattle.im_mem.specs.Memory.{Mem, little}
 use Rattle.im_ckpt.specs.Checkpoint.{entry_at}
 use Rattle.im_ckpt.proofs.Rungs.{routine_of}
-use Rattle.im_reach.specs.Touches.{Flipped, heard}
-use Rattle.im_reach.specs.Routines.{Runtime, Called, Done, Words, SavesAt}
-use Rattle.im_reach.specs.Shown.{shown, left}
+use Rattle.im_reach.specs.Touches.{heard}
+use Rattle.im_reach.specs.Routines.{Runtime, Words, SavesAt}
 use Rattle.im_reach.proofs.Reach.{length_same, left_same}
 use Rattle.im_runtime.specs.Standing.{HasRoutines}
-use Rattle.im_runtime.specs.Laws.{Serves, ServesLaw}
+use Rattle.im_runtime.specs.Laws.{ServesLaw}
 use Rattle.im_runtime.proofs.Ran.{heard_seen}
 use Rattle.im_runtime.proofs.Saving.{Kept, kept_word, kept_quiet, kept_shown, kept_fixed, saving}
 use Rattle.im_runtime.proofs.Serving.{putchar_law}

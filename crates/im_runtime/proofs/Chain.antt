@@ -1,6 +1,6 @@
 -- Memory after putchar: the byte behind the output, the new length, the selector; all else that is shown or read as it was.
-use Rattle.std.proofs.Common.{◌≡◌, ◌≢◌, ℕ, zero, suc, ◌+◌, ◌-◌, ◌*◌, ◌%◌, ◌^◌, ◌<◌, ◌≤◌, ◌⊎◌, inl, inr, Bool, true, false, cond, List, [], ◌∷◌, ◌++◌, refl, sym, ap, ◌∙◌, subst, arith, length}
-use Rattle.std.specs.Prelude.{◌==◌, nat_lt}
+use Rattle.std.proofs.Common.{◌≡◌, ◌≢◌, ℕ, suc, ◌+◌, ◌-◌, ◌%◌, ◌<◌, ◌≤◌, ◌⊎◌, inl, inr, Bool, true, false, cond, [], ◌∷◌, ◌++◌, refl, sym, ap, ◌∙◌, arith}
+use Rattle.std.specs.Prelude.{◌==◌}
 use Rattle.std.proofs.lemmas.Bool.Decides.{nat_tests}
 use Rattle.im_num.specs.Bytes.{bytes_of}
 use Rattle.im_mem.specs.Memory.{Mem, little, bytes_from, written}
@@ -10,7 +10,7 @@ use Rattle.im_device.specs.Shows.{output_length}
 use Rattle.im_reach.specs.Shown.{shown, left}
 use Rattle.im_reach.specs.Instructions.{Fixed}
 use Rattle.im_runtime.proofs.Saving.{Kept, kept_word}
-use Rattle.im_runtime.proofs.Showing.{bytes_alike, one_more_byte, shown_is, other, selected, length_by}
+use Rattle.im_runtime.proofs.Showing.{bytes_alike, one_more_byte, shown_is, other, length_by}
 use Rattle.im_runtime.proofs.Putting.{turned}
 
 equal_self : (a : ℕ) → (a == a) ≡ true

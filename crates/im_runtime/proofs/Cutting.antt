@@ -1,6 +1,6 @@
 -- Lines of routines: a cut, a jump, a branch, the return.
-use Rattle.std.proofs.Common.{◌≡◌, ◌≢◌, ℕ, zero, suc, ◌+◌, ◌-◌, ◌*◌, ◌%◌, ◌^◌, ◌<◌, ◌≤◌, Bool, true, false, cond, Some, List, [], ◌∷◌, ◌++◌, refl, sym, ap, ◌∙◌, subst, arith}
-use Rattle.std.specs.Prelude.{◌==◌, ◌&&◌, nat_lt}
+use Rattle.std.proofs.Common.{◌≡◌, ◌≢◌, ℕ, zero, suc, ◌+◌, ◌-◌, ◌%◌, ◌^◌, ◌<◌, ◌≤◌, true, false, cond, [], ◌∷◌, sym, ap, ◌∙◌, subst, arith}
+use Rattle.std.specs.Prelude.{◌==◌, nat_lt}
 use Rattle.std.proofs.lemmas.Bool.Decides.{nat_tests}
 use Rattle.im_mem.specs.Memory.{Mem, little, is_place}
 use Rattle.im_rv.specs.declared.instr.Op.TheVariants.{Jal, Jalr, Bne, Bgeu}
@@ -16,7 +16,7 @@ use Rattle.im_reach.specs.Instructions.{Holds, Fixed}
 use Rattle.im_reach.proofs.Reach.{next_pc}
 use Rattle.im_runtime.specs.Standing.{HasRoutines, distance}
 use Rattle.im_runtime.proofs.Ran.{Ran, at, follow, leap_step, go_step}
-use Rattle.im_runtime.proofs.Saving.{Kept, none_reg, saving}
+use Rattle.im_runtime.proofs.Saving.{Kept, saving}
 
 -- line k stands there
 abbrev pub spot : ℕ → ℕ → ℕ

@@ -1,6 +1,6 @@
 -- Runs in parts, with what is seen of what they touch.
-use Rattle.std.proofs.Common.{◌≡◌, ◌≢◌, ℕ, zero, suc, ◌+◌, ◌*◌, ◌%◌, ◌^◌, ◌<◌, ◌≤◌, ◌⊎◌, inl, inr, Bool, true, false, cond, List, [], ◌∷◌, ◌++◌, refl, sym, ap, ◌∙◌, subst, arith}
-use Rattle.std.specs.Prelude.{◌==◌, ◌&&◌, ◌||◌, nat_lt, nat_le}
+use Rattle.std.proofs.Common.{◌≡◌, ℕ, zero, suc, ◌+◌, ◌<◌, ◌≤◌, Bool, true, false, cond, List, [], ◌∷◌, ◌++◌, refl, sym, ap, ◌∙◌, arith}
+use Rattle.std.specs.Prelude.{◌==◌, ◌&&◌, ◌||◌, nat_le}
 use Rattle.std.proofs.lemmas.Bool.Decides.{nat_tests}
 use Rattle.std.proofs.lemmas.List.{append-nil}
 use Rattle.std.proofs.Math.Nat.{mod-one}
@@ -9,7 +9,6 @@ use Rattle.im_mem.specs.Memory.{Mem, little, is_place, written}
 use Rattle.im_rv.specs.declared.step.Went.TheVariants.{On}
 use Rattle.im_rv.specs.declared.effect.Effect.TheVariants.{Puts, Goes, Loads, Stores}
 use Rattle.im_rv.specs.declared.effect.Extension.TheVariants.{Zero}
-use Rattle.im_rv.specs.declared.step.Went.TheVariants.{Halted}
 use Rattle.im_rv.specs.Steps.{Cpu, Stepped, sum_of, with_reg, row}
 use Rattle.im_rv.specs.Decode.{Line}
 use Rattle.im_rv.specs.Runs.{step_of, runs}
@@ -19,7 +18,8 @@ use Rattle.im_reach.specs.Touches.{Touch, Loaded, Stored, Flipped, touched_on, t
 use Rattle.im_reach.specs.Shown.{shown, Begins}
 use Rattle.im_reach.specs.Reach.{plus, Reach}
 use Rattle.im_reach.specs.Instructions.{Holds, Fixed}
-use Rattle.im_reach.proofs.Reach.{join, nothing, puts, leaps, passes, loads, stores, fetches, next_pc}
+use Rattle.im_reach.specs.Plain.{in_runtime, may_load, may_store, AreAllowed}
+use Rattle.im_reach.proofs.Reach.{plain_one, join, nothing, puts, leaps, passes, loads, fetches, next_pc}
 use Rattle.im_runtime.specs.Seen.{is_checkpoints, seen}
 
 loaded_append : (b : Bool) (t : Touch) (z w us : List Touch) → z ≡ w ++ us → cond b z (t ∷ z) ≡ cond b w (t ∷ w) ++ us
@@ -101,8 +101,8 @@ pub go_step : (image m : Mem) (pc : ℕ) (x : ℕ → ℕ) (l : Line) (target : 
 go_step image m pc x l target fixed h e = record { ts = []; reach = passes image m pc x l target fixed h e; saw = refl }
 
 -- a load of a whole word, or of a byte as it is
-pub load_step : (image m : Mem) (pc : ℕ) (x : ℕ → ℕ) (l : Line) (a n : ℕ) → Fixed image m → Holds image pc l → row l.op pc (x l.rs1) (x l.rs2) l.imm ≡ Loads a n Zero → is_place a n ≡ true → Ran 1 (seen (Loaded a n ∷ [])) (at pc x) m (at (pc + 4) (with_reg x l.rd (little m a n))) m
-load_step image m pc x l a n fixed h e ok = record { ts = Loaded a n ∷ []; reach = loads image m pc x l a n Zero fixed h e ok; saw = refl }
+pub load_step : (image m : Mem) (pc : ℕ) (x : ℕ → ℕ) (l : Line) (a n : ℕ) → Fixed image m → Holds image pc l → row l.op pc (x l.rs1) (x l.rs2) l.imm ≡ Loads a n Zero → is_place a n ≡ true → may_load (in_runtime pc) a n ≡ true → Ran 1 (seen (Loaded a n ∷ [])) (at pc x) m (at (pc + 4) (with_reg x l.rd (little m a n))) m
+load_step image m pc x l a n fixed h e ok may = record { ts = Loaded a n ∷ []; reach = loads image m pc x l a n Zero fixed h e ok may; saw = refl }
 
 pub begins_same : (a b : List ℕ) → b ≡ a → Begins a b
 begins_same a b e = ([], e ∙ sym (append-nil a))
@@ -127,11 +127,12 @@ pub byte_place : (a : ℕ) → a < 5242880 → is_place a 1 ≡ true
 byte_place a l = ap (λ z. z == 0 && nat_le (a + 1) 5242880) (mod-one a) ∙ in_memory a l
 
 -- one step after which more is shown
-grown : (ts : List Touch) (c d : Cpu) (m k : Mem) → step_of c m ≡ record { went = On; cpu = d; mem = k } → touches c m ≡ ts → Begins (shown m) (shown k) → Reach 1 ts c m d k
-grown ts c d m k e h more = record {
+grown : (ts : List Touch) (c d : Cpu) (m k : Mem) → step_of c m ≡ record { went = On; cpu = d; mem = k } → touches c m ≡ ts → Begins (shown m) (shown k) → (4096 ≤ c.pc) × (c.pc + 4 ≤ 1048576) → AreAllowed (in_runtime c.pc) ts → Reach 1 ts c m d k
+grown ts c d m k e h more inside allowed = record {
   ran = λ j. one_more j c d m k e;
   met = λ j. ap (λ (s : Stepped). touches c m ++ touched_on (touched j) s.cpu s.mem s.went) e ∙ ap (λ t. t ++ touched j d k) h;
   grows = now;
+  each = plain_one ts c d m k e h inside allowed more;
 }
   where
     now : (i : ℕ) → i ≤ 1 → Begins (shown (runs i c m).mem) (shown k)
@@ -143,14 +144,14 @@ touches_are : (c : Cpu) (m : Mem) (w : ℕ) (l : Line) → Fetches c m w l → t
 touches_are c m w l f = ap (word_touches c) (fetch_is m c.pc w f.word f.here) ∙ ap (line_touches c) f.line
 
 -- a store after which as much is shown or more
-pub store_step : (image m : Mem) (pc : ℕ) (x : ℕ → ℕ) (l : Line) (a n v : ℕ) → Fixed image m → Holds image pc l → row l.op pc (x l.rs1) (x l.rs2) l.imm ≡ Stores a n v → is_place a n ≡ true → Begins (shown m) (shown (written m a (bytes_of n v))) → Ran 1 (seen (Stored a n ∷ [])) (at pc x) m (at (pc + 4) x) (written m a (bytes_of n v))
-store_step image m pc x l a n v fixed h e ok more =
+pub store_step : (image m : Mem) (pc : ℕ) (x : ℕ → ℕ) (l : Line) (a n v : ℕ) → Fixed image m → Holds image pc l → row l.op pc (x l.rs1) (x l.rs2) l.imm ≡ Stores a n v → is_place a n ≡ true → Begins (shown m) (shown (written m a (bytes_of n v))) → may_store (in_runtime pc) a n ≡ true → Ran 1 (seen (Stored a n ∷ [])) (at pc x) m (at (pc + 4) x) (written m a (bytes_of n v))
+store_step image m pc x l a n v fixed h e ok more may =
     let c : Cpu = at pc x in
     let f : Fetches c m h.w l = fetches image m pc x l fixed h in
     record {
       ts = Stored a n ∷ [];
       reach = grown (Stored a n ∷ []) c (at (pc + 4) x) m (written m a (bytes_of n v))
           (stores_step c m h.w l a n v f e ok ∙ ap (λ q. record { went = On; cpu = at q x; mem = written m a (bytes_of n v) }) (next_pc image pc l h))
-          (touches_are c m h.w l f ∙ ap touch_of e) more;
+          (touches_are c m h.w l f ∙ ap touch_of e) more (h.above, h.low) (may, tt);
       saw = refl;
     }

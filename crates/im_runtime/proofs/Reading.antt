@@ -1,6 +1,6 @@
 -- getchar as a whole.
-use Rattle.std.proofs.Common.{◌≡◌, ◌≢◌, ℕ, zero, suc, ◌+◌, ◌-◌, ◌*◌, ◌%◌, ◌^◌, ◌<◌, ◌≤◌, ◌⊎◌, inl, inr, Bool, true, false, cond, List, [], ◌∷◌, ◌++◌, refl, sym, ap, ◌∙◌, subst, arith, length}
-use Rattle.std.specs.Prelude.{◌==◌, ◌&&◌, nat_lt, nat_le, replicate}
+use Rattle.std.proofs.Common.{◌≡◌, ℕ, suc, ◌+◌, ◌-◌, ◌<◌, ◌≤◌, inl, inr, Bool, true, false, cond, List, [], ◌∷◌, refl, sym, ap, ◌∙◌, subst, arith}
+use Rattle.std.specs.Prelude.{◌==◌, ◌&&◌, nat_lt, nat_le}
 use Rattle.std.proofs.lemmas.Bool.Decides.{nat_tests}
 use Rattle.im_num.specs.Bytes.{bytes_of}
 use Rattle.im_mem.specs.Memory.{Mem, little, bytes_from, written}
@@ -13,11 +13,11 @@ use Rattle.im_reach.specs.Routines.{Runtime, Called, Words, got, got_answer}
 use Rattle.im_reach.proofs.Reach.{length_same}
 use Rattle.im_rtlib.specs.Routines.{getchar_label}
 use Rattle.im_runtime.specs.Standing.{HasRoutines}
-use Rattle.im_runtime.specs.Seen.{seen, is_tidy, get_touches_by}
+use Rattle.im_runtime.specs.Seen.{is_tidy, get_touches_by}
 use Rattle.im_runtime.specs.Laws.{GetsByte, GetcharLaw}
 use Rattle.im_runtime.proofs.Ran.{heard_seen}
-use Rattle.im_runtime.proofs.Saving.{Kept, kept_word, kept_quiet, kept_shown}
-use Rattle.im_runtime.proofs.Showing.{bytes_alike, shown_alike, length_by}
+use Rattle.im_runtime.proofs.Saving.{Kept, kept_word, kept_quiet}
+use Rattle.im_runtime.proofs.Showing.{bytes_alike, shown_alike}
 use Rattle.im_runtime.proofs.Getting.{GetLines, get_lines, ended, take_byte}
 
 system_far : (a : ℕ) → 3145728 ≤ a → is_system a ≡ true

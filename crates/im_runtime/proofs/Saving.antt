@@ -1,11 +1,10 @@
 -- The checkpoint: from an entry through its ladder, the flip and the return.
-use Rattle.std.proofs.Common.{◌≡◌, ◌≢◌, ℕ, zero, suc, ◌+◌, ◌-◌, ◌*◌, ◌%◌, ◌^◌, ◌<◌, ◌≤◌, ◌⊎◌, inl, inr, Bool, true, false, cond, Some, List, [], ◌∷◌, ◌++◌, refl, sym, ap, ◌∙◌, subst, arith}
+use Rattle.std.proofs.Common.{◌≡◌, ◌≢◌, ℕ, zero, suc, ◌+◌, ◌-◌, ◌*◌, ◌%◌, ◌^◌, ◌<◌, ◌≤◌, ◌⊎◌, inl, inr, Bool, true, false, cond, Some, [], ◌∷◌, refl, sym, ap, ◌∙◌, subst, arith}
 use Rattle.std.specs.Prelude.{◌==◌, ◌&&◌, ◌||◌, nat_lt, nat_le, bit_xor}
 use Rattle.std.proofs.lemmas.Bool.Decides.{nat_tests}
 use Rattle.im_num.specs.Bytes.{bytes_of}
 use Rattle.im_mem.specs.Memory.{Mem, little, is_place, written}
 use Rattle.im_mem.proofs.Words.{little-alike, little-same, written-above, written-below, written-small, length-bytes_of}
-use Rattle.im_rv.specs.declared.instr.Op.TheVariants.{Sw}
 use Rattle.im_rv.specs.declared.effect.Effect.TheVariants.{Puts, Loads, Stores}
 use Rattle.im_rv.specs.declared.effect.Extension.TheVariants.{Zero}
 use Rattle.im_rv.specs.Steps.{sum_of, with_reg, shift_left, shift_right}
@@ -17,9 +16,10 @@ use Rattle.im_ckpt.specs.Recovery.{return_line}
 use Rattle.im_ckpt.specs.Checkpoint.{entry_at, ladder_at, store_line, shift_line, flip_line}
 use Rattle.im_ckpt.proofs.Rungs.{Routine, entry_line, ladder_reg, ladder_line, entry_back, reg_named, ladder_store, store_back, shift_back, flip_back, return_back}
 use Rattle.im_ckpt.proofs.Phases.{slot_place, slot_small}
-use Rattle.im_reach.specs.Touches.{Touch, Stored, Flipped}
+use Rattle.im_reach.specs.Plain.{in_runtime, may_store}
+use Rattle.im_reach.specs.Touches.{Stored, Flipped}
 use Rattle.im_reach.specs.Reach.{plus}
-use Rattle.im_reach.specs.Shown.{shown, Begins}
+use Rattle.im_reach.specs.Shown.{shown}
 use Rattle.im_reach.specs.Instructions.{Holds, Fixed}
 use Rattle.im_reach.proofs.Reach.{plus_is, Quiet, shown_same}
 use Rattle.im_runtime.specs.Seen.{seen}
@@ -110,6 +110,19 @@ word_place a h l = grind (arith, nat_tests)
 
 -- ---- the ladder
 
+in_ladder : (p : ℕ) → p < 33 → in_runtime (ladder_at p) ≡ true
+in_ladder p l = grind (arith, nat_tests)
+
+-- the checkpoint may store there
+any_store : (x y b : Bool) → b ≡ true → ((true || x) && (y || b)) ≡ true
+any_store x true b e = refl
+any_store x false b e = e
+
+buffer_store : (pc a n : ℕ) → in_runtime pc ≡ true → a + n ≤ 4096 → may_store (in_runtime pc) a n ≡ true
+buffer_store pc a n e l =
+    let t : nat_le (a + n) 4096 ≡ true = grind (arith, nat_tests) in
+    ap (λ z. (z || nat_le 1048576 a) && ((nat_le 4 a && (nat_le (a + n) 128 || nat_le 384 a)) || in_runtime pc)) t ∙ any_store (nat_le 1048576 a) (nat_le 4 a && (nat_le (a + n) 128 || nat_le 384 a)) (in_runtime pc) e
+
 ladder_holds : (image : Mem) → Routine image → (p : ℕ) (l : Line) → p < 33 → ladder_line p ≡ l → decode (encoded l) ≡ Some l → Holds image (ladder_at p) l
 ladder_holds image routine p l low e d = record {
   w = encoded l;
@@ -144,7 +157,7 @@ climb image m x index (suc n) p routine e fixed base bytes =
     let address : sum_of (x 4) (slot r) ≡ a = ap (λ z. sum_of z (slot r)) base ∙ small_sum (idle index) (slot r) (slot_small index r named.1) in
     let side : Beside m k = beside_store m a (x r) above below bytes in
     let h : Holds image (ladder_at p) (store_line r) = ladder_holds image routine p (store_line r) (omega arith) (ladder_store p low) (store_back r named.1) in
-    let step : Ran 1 (seen (Stored a 4 ∷ [])) (at (ladder_at p) x) m (at (ladder_at p + 4) x) k = store_step image m (ladder_at p) x (store_line r) a 4 (x r) fixed h (ap (λ z. Stores z 4 (x r)) address) (slot_place index r named.1) (begins_same (shown m) (shown k) (kept_shown m k side.kept)) in
+    let step : Ran 1 (seen (Stored a 4 ∷ [])) (at (ladder_at p) x) m (at (ladder_at p + 4) x) k = store_step image m (ladder_at p) x (store_line r) a 4 (x r) fixed h (ap (λ z. Stores z 4 (x r)) address) (slot_place index r named.1) (begins_same (shown m) (shown k) (kept_shown m k side.kept)) (buffer_store (ladder_at p) a 4 (in_ladder p (omega arith)) (omega arith)) in
     let unseen : Ran 1 [] (at (ladder_at p) x) m (at (ladder_at p + 4) x) k = subst (λ us. Ran 1 us (at (ladder_at p) x) m (at (ladder_at p + 4) x) k) (buffer_unseen a above below) step in
     let place : ladder_at p + 4 ≡ ladder_at (suc p) = omega arith in
     let rest = climb image k x index n (suc p) routine (omega arith) (kept_fixed image m k side.kept fixed) base side.bytes in
@@ -213,7 +226,7 @@ enter image m x e routine low high fixed x0 small =
     let h3 = entry_holds image routine e 3 (pc + 4 + 4 + 4) low high (omega arith) (omega arith) in
     let h4 = entry_holds image routine e 4 pc4 low high (omega arith) (omega arith) in
     let there : sum_of pc4 (748 - 24 * e) ≡ ladder_at (31 - e) = omega arith in
-    let s0 : Ran 1 [] (at pc x) m (at (pc + 4) x1) m = load_step image m pc x (entry_line e 0) 0 4 fixed h0 (ap (λ z. Loads (sum_of z 0) 4 Zero) x0) refl in
+    let s0 : Ran 1 [] (at pc x) m (at (pc + 4) x1) m = load_step image m pc x (entry_line e 0) 0 4 fixed h0 (ap (λ z. Loads (sum_of z 0) 4 Zero) x0) refl refl in
     let s1 : Ran 1 [] (at (pc + 4) x1) m (at (pc + 4 + 4) x2) m = put_step image m (pc + 4) x1 (entry_line e 1) (bit_xor i 1) fixed h1 refl in
     let s2 : Ran 1 [] (at (pc + 4 + 4) x2) m (at (pc + 4 + 4 + 4) x3) m = put_step image m (pc + 4 + 4) x2 (entry_line e 2) (shift_left (bit_xor i 1) 7) fixed h2 refl in
     let s3 : Ran 1 [] (at (pc + 4 + 4 + 4) x3) m (at pc4 x4) m = put_step image m (pc + 4 + 4 + 4) x3 (entry_line e 3) (staged i) fixed h3 refl in
@@ -257,7 +270,7 @@ saving image m x e routine low high fixed x0 even small index bytes =
     let y3 : y1 3 ≡ x 3 = other_reg y 4 v 3 (omega arith) ∙ s.regs 3 (omega arith) in
     let fixed_h : Fixed image h = kept_fixed image k h flip_kept fixed_k in
     let shift : Ran 1 [] (at (ladder_at 30) y) k (at (ladder_at 31) y1) k = put_step image k (ladder_at 30) y shift_line v fixed_k (ladder_holds image routine 30 shift_line (omega arith) refl shift_back) refl in
-    let flip : Ran 1 (Flipped ∷ []) (at (ladder_at 31) y1) k (at (ladder_at 32) y1) h = store_step image k (ladder_at 31) y1 flip_line 0 4 v fixed_k (ladder_holds image routine 31 flip_line (omega arith) refl flip_back) (ap (λ z. Stores (sum_of z 0) 4 v) y0) refl (begins_same (shown k) (shown h) (kept_shown k h flip_kept)) in
+    let flip : Ran 1 (Flipped ∷ []) (at (ladder_at 31) y1) k (at (ladder_at 32) y1) h = store_step image k (ladder_at 31) y1 flip_line 0 4 v fixed_k (ladder_holds image routine 31 flip_line (omega arith) refl flip_back) (ap (λ z. Stores (sum_of z 0) 4 v) y0) refl (begins_same (shown k) (shown h) (kept_shown k h flip_kept)) refl in
     let target : sum_of (y1 3) 0 - sum_of (y1 3) 0 % 2 ≡ x 3 = ap (λ z. sum_of z 0 - sum_of z 0 % 2) y3 ∙ even_jump (x 3) even small in
     let back : Ran 1 [] (at (ladder_at 32) y1) h (at (x 3) (with_reg y1 0 (sum_of (ladder_at 32) 4))) h = leap_step image h (ladder_at 32) y1 return_line (sum_of (ladder_at 32) 4) (x 3) fixed_h (ladder_holds image routine 32 return_line (omega arith) refl return_back) (ap (λ z. Puts (sum_of (ladder_at 32) 4) z) target) in
     let count : plus 5 (plus (e - 1) 3) ≡ e + 7 = (let q = plus_is (e - 1) 3 in omega arith) in

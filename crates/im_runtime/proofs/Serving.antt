@@ -1,26 +1,24 @@
 -- putchar as a whole.
-use Rattle.std.proofs.Common.{◌≡◌, ◌≢◌, ℕ, zero, suc, ◌+◌, ◌-◌, ◌*◌, ◌%◌, ◌^◌, ◌<◌, ◌≤◌, ◌⊎◌, inl, inr, Bool, true, false, cond, List, [], ◌∷◌, ◌++◌, refl, sym, ap, ◌∙◌, subst, arith, length}
-use Rattle.std.specs.Prelude.{◌==◌, ◌&&◌, ◌||◌, nat_lt, nat_le, replicate}
+use Rattle.std.proofs.Common.{◌≡◌, ℕ, suc, ◌+◌, ◌%◌, ◌^◌, ◌<◌, ◌≤◌, inl, inr, Bool, true, false, cond, List, [], ◌∷◌, ◌++◌, refl, sym, ap, ◌∙◌, subst, arith, length}
+use Rattle.std.specs.Prelude.{◌==◌, ◌&&◌, nat_lt, nat_le}
 use Rattle.std.proofs.lemmas.Bool.Decides.{nat_tests}
 use Rattle.im_num.specs.Bytes.{bytes_of}
-use Rattle.im_mem.specs.Memory.{Mem, little, bytes_from, written}
+use Rattle.im_mem.specs.Memory.{Mem, little, written}
 use Rattle.im_image.specs.declared.form.Form.TheVariants.{TwoLengths}
 use Rattle.im_device.specs.Shows.{output_length}
 use Rattle.im_reach.specs.Touches.{Touch, Loaded, Stored, Flipped, is_system, heard}
-use Rattle.im_reach.specs.Shown.{shown, left, Begins}
+use Rattle.im_reach.specs.Shown.{shown, Begins}
 use Rattle.im_reach.specs.Reach.{plus}
 use Rattle.im_reach.specs.Instructions.{Fixed}
-use Rattle.im_reach.specs.Routines.{Runtime, Called, Done, Words, put, put_answer}
+use Rattle.im_reach.specs.Routines.{Runtime, Called, Words}
 use Rattle.im_reach.proofs.Reach.{plus_is}
 use Rattle.im_rtlib.specs.Routines.{putchar_label}
 use Rattle.im_runtime.specs.Standing.{HasRoutines}
-use Rattle.im_runtime.specs.Seen.{seen, is_tidy, put_touches, count_touches}
+use Rattle.im_runtime.specs.Seen.{is_tidy}
 use Rattle.im_runtime.specs.Laws.{PutsByte, PutcharLaw}
 use Rattle.im_runtime.proofs.Ran.{Ran, at, follow, heard_seen}
-use Rattle.im_runtime.proofs.Saving.{Kept, kept_fixed}
 use Rattle.im_runtime.proofs.Showing.{selected, other, length_by, length_shown}
-use Rattle.im_runtime.proofs.Cutting.{spot}
-use Rattle.im_runtime.proofs.Putting.{PutLines, put_lines, turned, Counted, count, Refused, refuse, Appended, append, Lengthened, lengthen, Turned, turn}
+use Rattle.im_runtime.proofs.Putting.{PutLines, put_lines, turned, Counted, count, refuse, append, lengthen, turn}
 use Rattle.im_runtime.proofs.Chain.{Chain, kept_self, other_high, chain, chain_fixed, before_output, chain_length, chain_shown, chain_word, chain_told, left_alike}
 
 -- ---- what is seen, by the selector

@@ -3,7 +3,7 @@ use Rattle.std.specs.Prelude.{◌≡◌, ◌<◌, ◌≤◌, ℕ, ◌^◌, true,
 use Rattle.im_num.specs.Bytes.{bytes_of}
 use Rattle.im_mem.specs.Map.{status_at, reason_at}
 use Rattle.im_mem.specs.Memory.{Mem, written}
-use Rattle.im_reach.specs.Touches.{Stored, Flipped}
+use Rattle.im_reach.specs.Touches.{Stored}
 use Rattle.im_reach.specs.Shown.{shown, left}
 use Rattle.im_reach.specs.Reach.{Stopped}
 use Rattle.im_reach.specs.Instructions.{Fixed}

@@ -14,10 +14,11 @@ use Rattle.im_rv.specs.Steps.{Cpu, sum_of, with_reg, extended}
 use Rattle.im_rv.proofs.Straight.{same_reg, other_reg}
 use Rattle.im_reach.specs.Touches.{Loaded, Stored, heard}
 use Rattle.im_reach.specs.Shown.{shown, left}
+use Rattle.im_reach.specs.Plain.{in_runtime}
 use Rattle.im_reach.specs.Reach.{plus, Reach}
 use Rattle.im_reach.specs.Instructions.{Holds, Fixed, with_immediate, storing, jumping}
 use Rattle.im_reach.specs.Routines.{Words}
-use Rattle.im_reach.proofs.Reach.{plus_is, join, puts, leaps, loads, stores, then_stops, output_told, output_written, left_written}
+use Rattle.im_reach.proofs.Reach.{plus_is, join, puts, leaps, loads, stores, then_stops, data_load, data_store, output_told, output_written, left_written}
 use Rattle.im_operators.specs.Tables.{extension_of, cell_word}
 use Rattle.im_operators.proofs.Words.{word_small, word_of, word_wrap32}
 use Rattle.im_store.specs.Checks.{Fine}
@@ -191,7 +192,7 @@ exhausted p u g l s m x frames fixed words seen x0 live mapped memory =
       touches = Nothing;
       k = k;
       stopped = then_stops 1 2 [] (Stored 8 4 ∷ []) _ _ m m k (puts p.image m p.full x (with_immediate Addi 5 0 1) a fixed l.at.one refl)
-          (ends p.image m (p.full + 4) y 5 8 fixed (other_reg x 5 a 0 (omega arith) ∙ x0) (omega arith) refl l.at.cause l.at.stops);
+          (ends p.image m (p.full + 4) y 5 8 fixed (other_reg x 5 a 0 (omega arith) ∙ x0) (omega arith) (omega arith) refl l.at.cause l.at.stops);
       reason_is = told m 8 (y 5) (omega arith) ∙ e;
       status_is = little-other m 8 4 (y 5) 4 4 (inl (omega arith)) ∙ words.status_is ∙ sym (word_of 0 (omega arith));
       output_is = output_told m 8 4 (y 5) (omega arith) ∙ seen;
@@ -223,7 +224,7 @@ lower p g m pc target x depth size pro fixed words x0 x2 small top =
       some = (let q = plus_is down.n 1 in omega arith);
       few = (let q = plus_is down.n 1 in let k = down.few in omega arith);
       z = z;
-      reach = join down.n 1 [] (Loaded 28 4 ∷ []) _ _ _ m m m down.reach (loads p.image m pro.a down.y (with_immediate Lw 5 0 28) 28 4 Zero fixed pro.bound (ap (λ a. Loads a 4 Zero) ea) refl);
+      reach = join down.n 1 [] (Loaded 28 4 ∷ []) _ _ _ m m m down.reach (loads p.image m pro.a down.y (with_immediate Lw 5 0 28) 28 4 Zero fixed pro.bound (ap (λ a. Loads a 4 Zero) ea) refl refl);
       z0 = other_reg down.y 5 lim 0 (omega arith) ∙ y0;
       z1 = other_reg down.y 5 lim 1 (omega arith) ∙ down.kept 1 (omega arith) (omega arith);
       z5 = same_reg down.y 5 lim (omega arith) ∙ words.limit_is;
@@ -286,7 +287,7 @@ enter_begun p u g l s i depth fuel ra first count registers ws m x f block pro a
     let ea : address p o ≡ sp = link_place p (record { activation = a; depth = depth + size }) l.at.first (omega arith) in
     let even : (depth + size) % 4 ≡ 0 = (let q = outer.even in let h = at.even in omega arith) in
     let take_ = puts p.image m pro.b w.z (with_immediate Addi 2 6 0) v2 fixed pro.taken refl in
-    let save = stores p.image m (pro.b + 4) z2 (storing Sw 2 1 0) sp 4 ra fixed pro.saved (ap (λ b. Stores b 4 (z2 1)) e0 ∙ ap (λ b. Stores sp 4 b) e1) (frame_place (depth + size) even) (output_written m sp 4 ra (omega arith) (omega arith)) in
+    let save = stores p.image m (pro.b + 4) z2 (storing Sw 2 1 0) sp 4 ra fixed pro.saved (ap (λ b. Stores b 4 (z2 1)) e0 ∙ ap (λ b. Stores sp 4 b) e1) (frame_place (depth + size) even) (output_written m sp 4 ra (omega arith) (omega arith)) (data_store (in_runtime (pro.b + 4)) sp 4 (omega arith)) in
     let save' : Reach 1 (Stored (address p o) 4 ∷ []) (record { pc = pro.b + 4; x = z2 }) m (record { pc = pro.b + 4 + 4; x = z2 }) k = subst (λ q. Reach 1 (Stored q 4 ∷ []) (record { pc = pro.b + 4; x = z2 }) m (record { pc = pro.b + 4 + 4; x = z2 }) k) (sym ea) save in
     record {
       n = plus w.n 4;
@@ -389,12 +390,12 @@ word_place sp a b = let f : sp + 4 ≤ 5242880 = omega arith in grind (arith, na
 none_set : (x : ℕ → ℕ) (w i : ℕ) → with_reg x 0 w i ≡ x i
 none_set x w i = grind (arith, nat_tests)
 
-returns : (p : Linking) (m : Mem) (pc : ℕ) (x : ℕ → ℕ) (o : Object) (sp size : ℕ) → address p o ≡ sp → Fixed p.image m → x 0 ≡ 0 → x 2 ≡ sp → sp % 4 ≡ 0 → sp + size ≤ 3145728 → little m sp 4 % 4 ≡ 0 → little m sp 4 ≤ 1048576 → Leaves p pc size → Returned p m pc x o sp size
-returns p m pc x o sp size at fixed x0 x2 even top ra_even ra_low l =
+returns : (p : Linking) (m : Mem) (pc : ℕ) (x : ℕ → ℕ) (o : Object) (sp size : ℕ) → address p o ≡ sp → Fixed p.image m → x 0 ≡ 0 → x 2 ≡ sp → sp % 4 ≡ 0 → sp + size ≤ 3145728 → 384 ≤ sp → little m sp 4 % 4 ≡ 0 → little m sp 4 ≤ 1048576 → Leaves p pc size → Returned p m pc x o sp size
+returns p m pc x o sp size at fixed x0 x2 even top low ra_even ra_low l =
     let ra : ℕ = little m sp 4 in
     let x1 : ℕ → ℕ = with_reg x 1 ra in
     let e : sum_of (x 2) 0 ≡ sp = omega arith in
-    let get = loads p.image m pc x (with_immediate Lw 1 2 0) sp 4 Zero fixed l.link (ap (λ a. Loads a 4 Zero) e) (word_place sp even (omega arith)) in
+    let get = loads p.image m pc x (with_immediate Lw 1 2 0) sp 4 Zero fixed l.link (ap (λ a. Loads a 4 Zero) e) (word_place sp even (omega arith)) (data_load (in_runtime pc) sp 4 low) in
     let get' : Reach 1 (Loaded (address p o) 4 ∷ []) (record { pc = pc; x = x }) m (record { pc = pc + 4; x = x1 }) m = subst (λ q. Reach 1 (Loaded q 4 ∷ []) (record { pc = pc; x = x }) m (record { pc = pc + 4; x = x1 }) m) (sym at) get in
     let up : Added m (pc + 4) x1 2 size l.next = adds p m (pc + 4) x1 2 size l.next (omega arith) (omega arith) (other_reg x 1 ra 0 (omega arith) ∙ x0) fixed l.raised in
     let z1 : up.y 1 ≡ ra = up.kept 1 (omega arith) (omega arith) ∙ same_reg x 1 ra (omega arith) in
@@ -448,7 +449,7 @@ back_after p u g l s c m r [] v result leaves mapped ordered linked chain =
     let stack = l.at.stack in
     let at : address p o ≡ pointer_at depth = link_place p (mark s.frame) l.at.first linked.0 in
     let four = (l.at.functions s.frame.function r.f r.is).layout.inside Link link_shape refl in
-    let b : Returned p m c.pc c.x o (pointer_at depth) size = returns p m c.pc c.x o (pointer_at depth) size at r.fixed r.regs.zero_reg r.regs.stack (let q = ordered.1 in let k = ordered.0 in omega arith) (let q = chain.1 in let k = ordered.0 in omega arith) (chain_even p.begin (little m (pointer_at depth) 4) chain.0 (word_even (p.begin + 4) t.here)) (let q = chain.0 in let k = t.low in omega arith) leaves in
+    let b : Returned p m c.pc c.x o (pointer_at depth) size = returns p m c.pc c.x o (pointer_at depth) size at r.fixed r.regs.zero_reg r.regs.stack (let q = ordered.1 in let k = ordered.0 in omega arith) (let q = chain.1 in let k = ordered.0 in omega arith) (let k = ordered.0 in omega arith) (chain_even p.begin (little m (pointer_at depth) 4) chain.0 (word_even (p.begin + 4) t.here)) (let q = chain.0 in let k = t.low in omega arith) leaves in
     checked_after p u g 7 c m _ _ (λ z f.
     let k : Mem = written m 4 (bytes_of 4 (b.y 10)) in
     let mean : c.x 10 ≡ word z = number_word p v (c.x 10) z f result in
@@ -462,7 +463,7 @@ back_after p u g l s c m r [] v result leaves mapped ordered linked chain =
       ts = Loaded (address p o) 4 ∷ Stored 4 4 ∷ [];
       touches = subst (λ q. Touches p (Restores s.frame.active ∷ []) q) (sym (heard_load (address p o) 4 (let y = ordered.0 in omega arith) (let y = chain.1 in let w = l.at.first in let k = ordered.0 in omega arith))) (Restoring s.frame.active [] [] Nothing);
       k = k;
-      stopped = then_stops b.n 2 (Loaded (address p o) 4 ∷ []) (Stored 4 4 ∷ []) _ _ m m k reach (ends p.image m (p.begin + 4) b.y 10 4 r.fixed b.y0 (omega arith) refl l.at.told l.at.ends);
+      stopped = then_stops b.n 2 (Loaded (address p o) 4 ∷ []) (Stored 4 4 ∷ []) _ _ m m k reach (ends p.image m (p.begin + 4) b.y 10 4 r.fixed b.y0 (omega arith) (omega arith) refl l.at.told l.at.ends);
       reason_is = little-other m 4 4 (b.y 10) 8 4 (inr (omega arith)) ∙ r.words.reason_is;
       status_is = told m 4 (b.y 10) (omega arith) ∙ y10 ∙ sym (word_wrap32 I32 z refl);
       output_is = output_told m 4 4 (b.y 10) (omega arith) ∙ r.output;
@@ -482,7 +483,7 @@ back_after p u g l s c m r (w ∷ ws) v result leaves mapped ordered linked chai
     let bk : Back p u g (little m (pointer_at depth) 4) w h = chain.1.1 in
     let up : depth ≡ w.active.depth + size = chain.0 in
     let deep = ordered.0 in
-    let b : Returned p m c.pc c.x o (pointer_at depth) size = returns p m c.pc c.x o (pointer_at depth) size at r.fixed r.regs.zero_reg r.regs.stack (let q = ordered.1 in omega arith) (omega arith) bk.even bk.low leaves in
+    let b : Returned p m c.pc c.x o (pointer_at depth) size = returns p m c.pc c.x o (pointer_at depth) size at r.fixed r.regs.zero_reg r.regs.stack (let q = ordered.1 in omega arith) (omega arith) (omega arith) bk.even bk.low leaves in
     record {
       n = b.n;
       some = b.some;

@@ -11,9 +11,10 @@ use Rattle.im_rv.specs.Steps.{sum_of, with_reg}
 use Rattle.im_rv.proofs.Straight.{same_reg, other_reg}
 use Rattle.im_store.specs.Objects.{Value}
 use Rattle.im_reach.specs.Touches.{Stored}
+use Rattle.im_reach.specs.Plain.{in_runtime}
 use Rattle.im_reach.specs.Reach.{Reach, Stopped}
 use Rattle.im_reach.specs.Instructions.{Holds, Fixed, with_immediate, on_registers, storing, upper, jumping, branching}
-use Rattle.im_reach.proofs.Reach.{plus_is, join, next_pc, puts, leaps, passes, stores, halts, then_stops, output_told}
+use Rattle.im_reach.proofs.Reach.{plus_is, join, next_pc, puts, leaps, passes, stores, halts, then_stops, output_told, low_store}
 use Rattle.im_reach.specs.Reach.{plus}
 use Rattle.im_select.specs.Linking.{Linking}
 use Rattle.im_select.specs.Selected.{Constant, Small, Large, Adds, Short, Long, Jumps, Checked, Direct, Around, Tested, Reached, Hopped}
@@ -21,13 +22,13 @@ use Rattle.im_select.proofs.Registers.{RegsMean, means_at}
 use Rattle.im_select.proofs.Cells.{little_back}
 
 -- a word is stored in the low page, and the run ends
-pub ends : (image m : Mem) (pc : ℕ) (x : ℕ → ℕ) (rs imm : ℕ) → Fixed image m → x 0 ≡ 0 → imm + 4 ≤ 12 → is_place imm 4 ≡ true → Holds image pc (storing Sw 0 rs imm) → Holds image (pc + 4) (with_immediate Ebreak 0 0 0) → Stopped 2 (Stored imm 4 ∷ []) (record { pc = pc; x = x }) m (written m imm (bytes_of 4 (x rs)))
-ends image m pc x rs imm fixed x0 less place h k =
+pub ends : (image m : Mem) (pc : ℕ) (x : ℕ → ℕ) (rs imm : ℕ) → Fixed image m → x 0 ≡ 0 → imm + 4 ≤ 12 → 4 ≤ imm → is_place imm 4 ≡ true → Holds image pc (storing Sw 0 rs imm) → Holds image (pc + 4) (with_immediate Ebreak 0 0 0) → Stopped 2 (Stored imm 4 ∷ []) (record { pc = pc; x = x }) m (written m imm (bytes_of 4 (x rs)))
+ends image m pc x rs imm fixed x0 less some place h k =
     let m' : Mem = written m imm (bytes_of 4 (x rs)) in
     let e : sum_of (x 0) imm ≡ imm = omega arith in
     let same : Fixed image m' = (λ a l u. written-above m imm a (bytes_of 4 (x rs)) (omega (arith, length-bytes_of 4 (x rs))) ∙ fixed a l u) in
     then_stops 1 1 (Stored imm 4 ∷ []) [] _ _ m m' m'
-    (stores image m pc x (storing Sw 0 rs imm) imm 4 (x rs) fixed h (ap (λ a. Stores a 4 (x rs)) e) place (output_told m imm 4 (x rs) less))
+    (stores image m pc x (storing Sw 0 rs imm) imm 4 (x rs) fixed h (ap (λ a. Stores a 4 (x rs)) e) place (output_told m imm 4 (x rs) less) (low_store (in_runtime pc) imm 4 some (omega arith)))
     (halts image m' (pc + 4) x (with_immediate Ebreak 0 0 0) same k refl)
 
 -- the words of the low page after such a store

@@ -10,9 +10,10 @@ use Rattle.im_rv.specs.Steps.{Cpu, sum_of, with_reg, row}
 use Rattle.im_rv.proofs.Straight.{same_reg, other_reg}
 use Rattle.im_rv.specs.Decode.{Line as Instruction}
 use Rattle.im_reach.specs.Touches.{Loaded, Stored}
+use Rattle.im_reach.specs.Plain.{in_runtime}
 use Rattle.im_reach.specs.Reach.{plus, Reach}
 use Rattle.im_reach.specs.Instructions.{Holds, Fixed, with_immediate, storing}
-use Rattle.im_reach.proofs.Reach.{plus_is, join, puts, loads, stores, output_written, left_written}
+use Rattle.im_reach.proofs.Reach.{plus_is, join, puts, loads, stores, data_load, data_store, output_written, left_written}
 use Rattle.im_operators.specs.Tables.{load_op, store_op, extension_of, cell_word}
 use Rattle.im_store.specs.Checks.{Checked, Fine}
 use Rattle.im_store.specs.Objects.{Link, Object, Value, Pointer, Store}
@@ -128,7 +129,7 @@ reads_after p u g s c m r to w base imm next k site o rest six size b h code fin
     let rm = room p s.store.shape _ ob i k r.mapped cell in
     let at : sum_of (b.y base) imm ≡ address p ob + i = b.sum ∙ found_at p ob i k w rm q.means in
     let word : ℕ = cell_word m k (address p ob + i) in
-    let step = loads p.image m next b.y (with_immediate (load_op k) to base imm) (address p ob + i) (kind_size k) (extension_of k) r.fixed h (load_row k next (b.y base) (b.y 0) imm ∙ ap (λ a. Loads a (kind_size k) (extension_of k)) at) rm.place in
+    let step = loads p.image m next b.y (with_immediate (load_op k) to base imm) (address p ob + i) (kind_size k) (extension_of k) r.fixed h (load_row k next (b.y base) (b.y 0) imm ∙ ap (λ a. Loads a (kind_size k) (extension_of k)) at) rm.place (data_load (in_runtime next) (address p ob + i) (kind_size k) (let z = rm.low in omega arith)) in
     let t : Touches p (Reads site s.frame.active ob i ∷ []) (Loaded (address p ob + i) (kind_size k) ∷ []) = subst (λ z. Touches p (Reads site s.frame.active ob i ∷ []) (Loaded (address p ob + i) z ∷ [])) size (Reading site s.frame.active ob i [] [] Nothing) in
     record {
       n = plus b.n 1;
@@ -162,7 +163,7 @@ writes_after p u g at0 s c m r from w base imm next k site o rest no5 size b h c
     let at : sum_of (b.y base) imm ≡ address p ob + i = b.sum ∙ found_at p ob i k w rm q.means in
     let k' : Mem = written m (address p ob + i) (bytes_of (kind_size k) (b.y from)) in
     let top : address p ob + i + kind_size k ≤ 3145728 = (let z = rm.high in omega arith) in
-    let step = stores p.image m next b.y (storing (store_op k) base from imm) (address p ob + i) (kind_size k) (b.y from) r.fixed h (store_row k next (b.y base) (b.y from) imm ∙ ap (λ a. Stores a (kind_size k) (b.y from)) at) rm.place (output_written m (address p ob + i) (kind_size k) (b.y from) rm.low top) in
+    let step = stores p.image m next b.y (storing (store_op k) base from imm) (address p ob + i) (kind_size k) (b.y from) r.fixed h (store_row k next (b.y base) (b.y from) imm ∙ ap (λ a. Stores a (kind_size k) (b.y from)) at) rm.place (output_written m (address p ob + i) (kind_size k) (b.y from) rm.low top) (data_store (in_runtime next) (address p ob + i) (kind_size k) rm.low) in
     let t : Touches p (Writes site s.frame.active ob i ∷ []) (Stored (address p ob + i) (kind_size k) ∷ []) = subst (λ z. Touches p (Writes site s.frame.active ob i ∷ []) (Stored (address p ob + i) z ∷ [])) size (Writing site s.frame.active ob i [] [] Nothing) in
     let value : Means p q.taken (back_word k (b.y from)) = means_at p q.taken q.taken (back_word k (c.x from)) _ refl (ap (back_word k) (b.kept from no5)) q.value in
     subst (λ (z : Store). Advanced p u g 3 c m (record s { frame = with_rest s.frame rest; store = z }) (Writes site s.frame.active ob i ∷ [])) (sym q.write.is)

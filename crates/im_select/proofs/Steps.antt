@@ -11,6 +11,8 @@ use Rattle.im_rv.specs.Runs.{runs}
 use Rattle.im_rv.proofs.Straight.{same_reg, other_reg}
 use Rattle.im_reach.specs.Touches.{Flipped, Touch, Loaded, Stored, touched, is_system, heard}
 use Rattle.im_reach.specs.Shown.{shown, Begins}
+use Rattle.std.proofs.lemmas.Bool.{cases_lt}
+use Rattle.im_reach.specs.Plain.{IsPlain}
 use Rattle.im_reach.specs.Reach.{plus, Reach}
 use Rattle.im_reach.specs.Instructions.{jumping}
 use Rattle.im_reach.proofs.Reach.{plus_is, leaps, begins_trans, before_or_after}
@@ -126,6 +128,7 @@ pub record Followed (p : Linking) (u : Code) (c : Cpu) (m : Mem) (fuel : ℕ) (o
   pub split : run ≡ events ++ more
   pub touches : Touches p more (heard (touched j c m))
   pub grows : (i : ℕ) → i ≤ j → Begins (shown (runs i c m).mem) (shown (runs j c m).mem)
+  pub plain : (i : ℕ) → i < j → IsPlain (runs i c m).cpu (runs i c m).mem
 
 begins_end : (a b c : List ℕ) → c ≡ b → Begins a b → Begins a c
 begins_end a b c e h = (h.0, e ∙ h.1)
@@ -145,6 +148,7 @@ ended p u c m fuel reason status words k output shows events more f = record {
   split = refl;
   touches = subst (λ z. Touches p more z) (sym (ap heard f.stopped.met)) f.touches;
   grows = λ i le. begins_end _ (shown f.k) _ (ap (λ (s : Stepped). shown s.mem) f.stopped.ran) (f.stopped.grows i le);
+  plain = f.stopped.each;
 }
 
 starved : (p : Linking) (u : Code) (c : Cpu) (m : Mem) (fuel words k : ℕ) (output : List ℕ) (events more : List Event) → (more ≡ []) × (shown m ≡ output) → fuel ≡ 0 → Followed p u c m fuel (More output) events (events ++ more) (words + k)
@@ -156,6 +160,7 @@ starved p u c m fuel words k output events more e z = record {
   split = refl;
   touches = subst (λ q. Touches p q []) (sym e.0) Nothing;
   grows = at;
+  plain = λ i lt. absurd (omega arith);
 }
   where
     at : (i : ℕ) → i ≤ 0 → Begins (shown (runs i c m).mem) (shown (runs 0 c m).mem)
@@ -184,6 +189,14 @@ before_it p u g s c m fuel words o events more run most a paid f = record {
         subst (λ (z : Stepped). Begins (shown z.mem) (shown (runs f.j a.d a.k).mem)) (sym (ap (λ z. runs z c m) e ∙ a.reach.ran (i - a.n))) (f.grows (i - a.n) (omega arith))
         )
   ]);
+  plain = λ i lt. elim (cases_lt i a.n) [
+    | inl x ↦ a.reach.each i x
+    | inr x ↦ (
+        let q = plus_is a.n f.j in
+        let e : i ≡ plus a.n (i - a.n) = (let h = plus_is a.n (i - a.n) in omega arith) in
+        subst (λ (z : Stepped). IsPlain z.cpu z.mem) (sym (ap (λ z. runs z c m) e ∙ a.reach.ran (i - a.n))) (f.plain (i - a.n) (omega arith))
+        )
+  ];
 }
 
 pub over_is : (o q : Outcome) (a b : List Event) → Over o a ≡ Over q b → (o ≡ q) × (a ≡ b)

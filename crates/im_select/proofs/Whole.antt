@@ -70,6 +70,7 @@ follows_at p u g x n o run l x0 x2 right r =
       soon = (let z = f.soon in omega arith);
       touches = t;
       grows = f.grows;
+      plain = f.plain;
       safe = λ forced w. let q = separate p u g l forced x n r.steps o run x0 x2 r.over in no_war_touched p run (heard (touched f.j c p.image)) [] t q.served (no_war_spotted p [] (items run) q.apart w);
       begins = λ i le. let b = begins i (f.j - i) c p.image in (b.0, ap (λ z. touched z c p.image) (sym (split_at i f.j le)) ∙ b.1);
       calm = λ i at le e. calm_shown p u o n f.j at (runs f.j c p.image) f.shows (ap (λ z. (runs z c p.image).went) (sym (split_at i f.j le)) ∙ stays i (f.j - i) at c p.image e);

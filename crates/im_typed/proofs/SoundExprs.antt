@@ -20,7 +20,7 @@ use Rattle.im_typed.specs.Program.{Access, Scalar, Struct, Place, Static, Local,
 use Rattle.im_typed.specs.Runs.{World, State, Answer, Run, goes_on, checked}
 use Rattle.im_typed.specs.Values.{Values, used, number_of, number_in, cells_of, update, changed, changed_kind}
 use Rattle.im_typed.specs.Meaning.{Around, Calls, local, place_of, value_of, values_of, next_byte, put_byte}
-use Rattle.im_typed.specs.Typing.{Each, IsRightShape, IsChange, IsStep, IsPart, TakesArgument, kinds_of, parameters, result_shape, shape_of, IsTypedPlace, IsTyped, AreArguments}
+use Rattle.im_typed.specs.Typing.{Each, IsRightShape, IsChange, IsStep, IsPart, TakesArgument, kinds_of, parameters, result_shape, shape_of, IsTypedPlace, IsTyped, AreArguments, IsPromotedShape, IsIntegerShape}
 use Rattle.im_typed.specs.Sound.{IsValue, IsSoundWorld, IsHere, AreValues, Fits, ArgumentsFit, Keeps, IsRight}
 use Rattle.im_typed.proofs.Sounds.{keeps-trans, value-kept, here-kept, right-bind, right-give, right-weaker, right-checked, right-paid, right-either, right-used_values, right-value_in, right-scalar, right-number_in, right-integer}
 use Rattle.im_typed.proofs.SoundCells.{inside-object, moved-value, member-value, changed-value, distance-value, fits-of_values, right-read, right-write}
@@ -68,7 +68,7 @@ part-fits statics w from x None vs p h = absurd p
 part-fits statics w from x (Some (Scalar kind)) vs p h = absurd p
 part-fits statics w from x (Some (Struct count cells)) vs p h =
     fits-of_values statics w x (take (length (cells_of x)) (drop from vs))
-    (subst (λ ks. AreValues w.activations w.store ks (take (length (cells_of x)) (drop from vs))) p
+    (subst (λ ks. AreValues w.activations w.store ks (take (length (cells_of x)) (drop from vs))) p.0
     (values-part w.activations w.store (length (cells_of x)) from cells vs h))
 
 -- what an argument is
@@ -76,6 +76,12 @@ pub takes-kind : (shape : Option Access) (cells : List Cell) → TakesArgument s
 takes-kind None cells h = absurd h
 takes-kind (Some (Scalar kind)) cells h = (kind, refl, h)
 takes-kind (Some (Struct count parts)) cells h = absurd h
+
+-- what is promoted is an integer
+pub promoted-integer : (shape : Option Access) → IsPromotedShape shape → IsIntegerShape shape
+promoted-integer None h = h
+promoted-integer (Some (Scalar kind)) h = h.0
+promoted-integer (Some (Struct count cells)) h = h
 
 -- a change's operand is one for its step
 step-of_change : (c : Change) (shape : Option Access) → IsChange c shape → IsStep c
@@ -95,8 +101,8 @@ module _ (g : Prog) where
   at-shape {w = w} {r = r} e h = subst (λ x. IsRight g.statics w (Fits x) r) e h
 
   operand : (op : BinaryOp) (kind : Kind) (shape : Option Access) → IsRightShape op kind shape → {w : World} {r : Answer Values} → IsRight g.statics w (Fits shape) r → IsRight g.statics w (λ w y. IsOperand op kind y) (goes_on (goes_on r used) (λ v. checked (number_of v)))
-  operand ShiftLeft kind shape c h = right-weaker g.statics (right-integer g.statics shape c h) (λ t z k. tt)
-  operand ShiftRight kind shape c h = right-weaker g.statics (right-integer g.statics shape c h) (λ t z k. tt)
+  operand ShiftLeft kind shape c h = right-weaker g.statics (right-integer g.statics shape (promoted-integer shape c) h) (λ t z k. tt)
+  operand ShiftRight kind shape c h = right-weaker g.statics (right-integer g.statics shape (promoted-integer shape c) h) (λ t z k. tt)
   operand _ kind shape c h = right-number_in g.statics kind (at-shape c h)
 
   changes-by : (c : Change) (shape : Option Access) → IsChange c shape → {w : World} {r : Answer Values} → IsRight g.statics w (Fits shape) r → IsRight g.statics w (λ w y. Unit {0}) (goes_on (goes_on r used) (λ v. checked (number_of v)))
@@ -162,7 +168,7 @@ module _ (g : Prog) where
           (inside-object g.statics s.world.activations s.world.store sane.store (local c n) 0 (object_shape o.0.size o.0.cells) (here.live n o.0 o.1) (omega arith))
       right-place (Target e) s t sane here = right-value_in g.statics Ptr (at-shape t.1 (right-value e s t.0 sane here))
       right-place (Member a offset) s t sane here =
-          right-bind g.statics (right-place a s t sane here) (λ at u sane₁ kept h.
+          right-bind g.statics (right-place a s t.0 sane here) (λ at u sane₁ kept h.
           right-checked g.statics (λ w v. IsValue w.activations w.store Ptr v) u (member_at u.world.store offset at) sane₁
           (λ v e. member-value g.statics u.world.activations u.world.store sane₁.store offset at v e))
 
@@ -178,12 +184,12 @@ module _ (g : Prog) where
           right-give g.statics u _ sane₁ ((t.0, wrap-of_kind kind z), refl))
       right-value (Unary op kind e) s t sane here =
           right-bind g.statics (right-number_in g.statics kind (at-shape t.2 (right-value e s t.1 sane here))) (λ z u sane₁ kept h.
-          right-give g.statics u _ sane₁ ((t.0, apply_one-of_kind op kind z), refl))
+          right-give g.statics u _ sane₁ ((t.0.0, apply_one-of_kind op kind z), refl))
       right-value (Binary op kind a b) s t sane here =
           right-bind g.statics (right-number_in g.statics kind (at-shape t.3 (right-value a s t.1 sane here))) (λ x u sane₁ kept hx.
           right-bind g.statics (operand op kind (shape_of g b) t.4 (right-value b u t.2 sane₁ (here-kept kept here))) (λ y v sane₂ kept₂ hy.
           right-bind g.statics (right-checked g.statics (λ w z. IsOfKind kind z) v (apply op kind x y) sane₂ (λ z e. apply-of_kind op kind x y z hx hy e)) (λ z w sane₃ kept₃ h.
-          right-give g.statics w _ sane₃ ((t.0, h), refl))))
+          right-give g.statics w _ sane₃ ((t.0.0, h), refl))))
       right-value (Move size back a b) s t sane here =
           right-bind g.statics (right-value_in g.statics Ptr (at-shape t.3 (right-value a s t.1 sane here))) (λ p u sane₁ kept hp.
           right-bind g.statics (right-integer g.statics (shape_of g b) t.4 (right-value b u t.2 sane₁ (here-kept kept here))) (λ n v sane₂ kept₂ hn.
@@ -203,7 +209,7 @@ module _ (g : Prog) where
           right-bind g.statics (right-value_in g.statics Ptr (at-shape t.4 (right-value b u t.2 sane₁ (here-kept kept here)))) (λ q v sane₂ kept₂ hq.
           right-bind g.statics
           (right-checked g.statics (λ w z. IsOfKind I32 z) v (distance size p q) sane₂
-          (λ z e. distance-value v.world.activations v.world.store size Ptr Ptr p q z t.0 (value-kept kept₂ Ptr p hp) hq e)) (λ z w sane₃ kept₃ h.
+          (λ z e. distance-value v.world.activations v.world.store size Ptr Ptr p q z t.0.0 (value-kept kept₂ Ptr p hp) hq e)) (λ z w sane₃ kept₃ h.
           right-give g.statics w _ sane₃ ((tt, h), refl))))
       right-value (Compare op kind a b) s t sane here =
           right-bind g.statics (right-value_in g.statics kind (at-shape t.2 (right-value a s t.0 sane here))) (λ x u sane₁ kept hx.

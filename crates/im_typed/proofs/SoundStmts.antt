@@ -18,7 +18,7 @@ use Rattle.im_typed.specs.Typing.{Each, IsScalarShape, shape_of, IsTyped, IsPiec
 use Rattle.im_typed.specs.Sound.{IsCellValue, IsSound, IsSoundWorld, IsHere, Fits, FitsResult, FlowFits, IsRight}
 use Rattle.im_typed.proofs.Sounds.{here-kept, right-bind, right-give, right-paid, right-either, right-used_values, right-value_in, right-scalar, right-integer}
 use Rattle.im_typed.proofs.SoundCells.{right-write}
-use Rattle.im_typed.proofs.SoundExprs.{RightCalls, at-shape, right-value}
+use Rattle.im_typed.proofs.SoundExprs.{promoted-integer, RightCalls, at-shape, right-value}
 
 -- an object without values, and one that is cleared
 
@@ -177,7 +177,7 @@ module _ (g : Prog) (f : Func) (c : Around) (calls : RightCalls g c.calls) where
           (value-run step t.2)
           (record { by = λ u sane₂ here₁. right-does b true true u t.3 sane₂ here₁ })).by x sane₁ (here-kept kept here)))
       right-does (Switch e ks otherwise ss) breaks continues s t sane here =
-          right-bind g.statics (right-integer g.statics (shape_of g e) t.1 (right-value g f c calls e s t.0 sane here)) (λ z u sane₁ kept hz.
+          right-bind g.statics (right-integer g.statics (shape_of g e) (promoted-integer (shape_of g e) t.1) (right-value g f c calls e s t.0 sane here)) (λ z u sane₁ kept hz.
           right-bind g.statics (right-does_from (entered z ks otherwise) ss true continues u t.4 sane₁ (here-kept kept here)) (λ flow v sane₂ kept₂ h.
           right-give g.statics v (out_of_switch flow) sane₂ (flow-of_switch f.result v.world flow h)))
       right-does Break breaks continues s t sane here = right-give g.statics s Broke sane tt

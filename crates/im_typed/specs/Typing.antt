@@ -27,12 +27,30 @@ abbrev pub IsInteger : Kind → Type 0
 IsInteger Ptr = ⊥
 IsInteger _ = Unit {0}
 
+-- operators work on promoted numbers: those of a kind at least as wide as int (C11 6.3.1.8)
+abbrev pub IsPromoted : Kind → Type 0
+IsPromoted kind = IsInteger kind × (kind_size I32 ≤ kind_size kind)
+
+-- promoted numbers are compared, and pointers
+abbrev pub IsCompared : Kind → Type 0
+IsCompared Ptr = Unit {0}
+IsCompared kind = IsPromoted kind
+
+-- bytes of an element that a pointer moves over
+abbrev pub IsElement : ℕ → Type 0
+IsElement size = (0 < size) × (size ≤ 1048576)
+
 -- what an expression gives: nothing, or what an access has
 
 abbrev pub IsIntegerShape : Option Access → Type 0
 IsIntegerShape None = ⊥
 IsIntegerShape (Some (Scalar kind)) = IsInteger kind
 IsIntegerShape (Some (Struct count cells)) = ⊥
+
+abbrev pub IsPromotedShape : Option Access → Type 0
+IsPromotedShape None = ⊥
+IsPromotedShape (Some (Scalar kind)) = IsPromoted kind
+IsPromotedShape (Some (Struct count cells)) = ⊥
 
 -- a condition is an integer or a pointer
 abbrev pub IsScalarShape : Option Access → Type 0
@@ -43,41 +61,53 @@ IsScalarShape (Some (Struct count cells)) = ⊥
 abbrev pub IsPointerShape : Option Access → Type 0
 IsPointerShape shape = shape ≡ Some (Scalar Ptr)
 
--- the right operand has the left one's kind; the count of a shift has any kind of integers (C11 6.5.7)
+-- the right operand has the left one's kind; the count of a shift is promoted by itself (C11 6.5.7)
 abbrev pub IsRightShape : BinaryOp → Kind → Option Access → Type 0
-IsRightShape ShiftLeft kind shape = IsIntegerShape shape
-IsRightShape ShiftRight kind shape = IsIntegerShape shape
+IsRightShape ShiftLeft kind shape = IsPromotedShape shape
+IsRightShape ShiftRight kind shape = IsPromotedShape shape
 IsRightShape _ kind shape = shape ≡ Some (Scalar kind)
 
--- an operand of a change: a number by the operator, or so many elements of one byte or more
+-- an operand of a change: a number by the operator, or so many elements
 abbrev pub IsChange : Change → Option Access → Type 0
-IsChange (NumberBy kind op at) shape = IsInteger kind × IsInteger at × IsRightShape op at shape
-IsChange (PointerBy size back) shape = (0 < size) × IsIntegerShape shape
+IsChange (NumberBy kind op at) shape = IsInteger kind × IsPromoted at × IsRightShape op at shape
+IsChange (PointerBy size back) shape = IsElement size × IsIntegerShape shape
 
 -- `++` and `--` change by 1
 abbrev pub IsStep : Change → Type 0
-IsStep (NumberBy kind op at) = IsInteger kind × IsInteger at
-IsStep (PointerBy size back) = 0 < size
-
--- a struct's cells are counted
-abbrev pub IsAccess : Access → Type 0
-IsAccess (Scalar kind) = Unit {0}
-IsAccess (Struct count cells) = (count ≡ length cells) × (0 < count)
+IsStep (NumberBy kind op at) = IsInteger kind × IsPromoted at
+IsStep (PointerBy size back) = IsElement size
 
 abbrev pub kinds_of : List Cell → List Kind
 kinds_of cells = map {A = Cell} (λ c. c.kind) cells
 
--- a part has kinds that stand in the whole, from that cell on
+abbrev pub cell_offset : Option Cell → ℕ
+cell_offset None = 0
+cell_offset (Some c) = c.offset
+
+-- a part's cells stand in the whole where the part's offsets say, from its first byte on
+abbrev pub InPlace : ℕ → List Cell → List Cell → Type 0
+InPlace base [] cells = Unit {0}
+InPlace base (d ∷ ds) [] = ⊥
+InPlace base (d ∷ ds) (c ∷ cs) = (c.offset ≡ base + d.offset) × (c.kind ≡ d.kind) × InPlace base ds cs
+
+-- a part has the cells of the whole from that cell on
 abbrev pub IsPart : ℕ → Access → Option Access → Type 0
 IsPart from x None = ⊥
 IsPart from x (Some (Scalar kind)) = ⊥
-IsPart from x (Some (Struct count cells)) = kinds_of (take (length (cells_of x)) (drop from cells)) ≡ kinds_of (cells_of x)
+IsPart from x (Some (Struct count cells)) =
+    (kinds_of (take (length (cells_of x)) (drop from cells)) ≡ kinds_of (cells_of x))
+    × InPlace (cell_offset (slice_get cells from)) (cells_of x) (drop from cells)
 
 -- cells from a place on to the end of an object: each at a multiple of its size, in order, and apart
 abbrev pub AreLaidOut : ℕ → ℕ → List Cell → Type 0
 AreLaidOut from size [] = from ≤ size
 AreLaidOut from size (c ∷ cs) =
     (from ≤ c.offset) × (c.offset % kind_size c.kind ≡ 0) × AreLaidOut (c.offset + kind_size c.kind) size cs
+
+-- a struct's cells are counted, and lie in it
+abbrev pub IsAccess : Access → Type 0
+IsAccess (Scalar kind) = Unit {0}
+IsAccess (Struct count cells) = (count ≡ length cells) × (0 < count) × AreLaidOut 0 1048576 cells
 
 -- an object of the language: at most 1048576 bytes
 abbrev pub IsObject : ℕ → List Cell → Type 0
@@ -128,6 +158,13 @@ AreLabels shape count [] = Unit {0}
 AreLabels shape count (k ∷ ks) =
     HasValue shape k.value × (k.at ≤ count) × (is_label k.value ks ≡ false) × AreLabels shape count ks
 
+-- bytes from the object or the pointer of a place on, through its members
+abbrev pub members_offset : Place → ℕ
+members_offset (Static n) = 0
+members_offset (Local n) = 0
+members_offset (Target e) = 0
+members_offset (Member a offset) = members_offset a + offset
+
 module _ (g : Prog) where
   -- what an expression gives
   abbrev pub shape_of : Expr → Option Access
@@ -162,7 +199,7 @@ module _ (g : Prog) where
       IsTypedPlace (Static n) = n < length g.statics
       IsTypedPlace (Local n) = n < length f.objects
       IsTypedPlace (Target e) = IsTyped e × IsPointerShape (shape_of e)
-      IsTypedPlace (Member a offset) = IsTypedPlace a
+      IsTypedPlace (Member a offset) = IsTypedPlace a × (members_offset a + offset ≤ 1048576)
 
       pub IsTyped : Expr → Type 0
       IsTyped (Constant kind z) = IsInteger kind × IsOfKind kind z
@@ -170,17 +207,17 @@ module _ (g : Prog) where
       IsTyped (Read x a) = IsAccess x × IsTypedPlace a
       IsTyped (Address a) = IsTypedPlace a
       IsTyped (Convert kind e) = IsInteger kind × IsTyped e × IsIntegerShape (shape_of e)
-      IsTyped (Unary op kind e) = IsInteger kind × IsTyped e × (shape_of e ≡ Some (Scalar kind))
+      IsTyped (Unary op kind e) = IsPromoted kind × IsTyped e × (shape_of e ≡ Some (Scalar kind))
       IsTyped (Binary op kind a b) =
-          IsInteger kind × IsTyped a × IsTyped b × (shape_of a ≡ Some (Scalar kind)) × IsRightShape op kind (shape_of b)
+          IsPromoted kind × IsTyped a × IsTyped b × (shape_of a ≡ Some (Scalar kind)) × IsRightShape op kind (shape_of b)
       IsTyped (Move size back a b) =
-          (0 < size) × IsTyped a × IsTyped b × IsPointerShape (shape_of a) × IsIntegerShape (shape_of b)
+          IsElement size × IsTyped a × IsTyped b × IsPointerShape (shape_of a) × IsIntegerShape (shape_of b)
       IsTyped (MoveBy size a b) =
-          (0 < size) × IsTyped a × IsTyped b × IsIntegerShape (shape_of a) × IsPointerShape (shape_of b)
+          IsElement size × IsTyped a × IsTyped b × IsIntegerShape (shape_of a) × IsPointerShape (shape_of b)
       IsTyped (Distance size a b) =
-          (0 < size) × IsTyped a × IsTyped b × IsPointerShape (shape_of a) × IsPointerShape (shape_of b)
+          IsElement size × IsTyped a × IsTyped b × IsPointerShape (shape_of a) × IsPointerShape (shape_of b)
       IsTyped (Compare op kind a b) =
-          IsTyped a × IsTyped b × (shape_of a ≡ Some (Scalar kind)) × (shape_of b ≡ Some (Scalar kind))
+          IsTyped a × IsTyped b × (shape_of a ≡ Some (Scalar kind)) × (shape_of b ≡ Some (Scalar kind)) × IsCompared kind
       IsTyped (Not a) = IsTyped a × IsScalarShape (shape_of a)
       IsTyped (And a b) = IsTyped a × IsTyped b × IsScalarShape (shape_of a) × IsScalarShape (shape_of b)
       IsTyped (Or a b) = IsTyped a × IsTyped b × IsScalarShape (shape_of a) × IsScalarShape (shape_of b)
@@ -232,7 +269,7 @@ module _ (g : Prog) where
       IsTypedStmt breaks continues (For a t step b) =
           IsTypedStmt breaks continues a × IsCondition t × IsTyped step × IsTypedStmt true true b
       IsTypedStmt breaks continues (Switch e ks otherwise ss) =
-          IsTyped e × IsIntegerShape (shape_of e) × AreLabels (shape_of e) (statements_in ss) ks
+          IsTyped e × IsPromotedShape (shape_of e) × AreLabels (shape_of e) (statements_in ss) ks
           × (otherwise ≤ statements_in ss) × AreTyped true continues ss
       IsTypedStmt breaks continues Break = IsTrue breaks
       IsTypedStmt breaks continues Continue = IsTrue continues

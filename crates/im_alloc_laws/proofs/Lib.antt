@@ -1,0 +1,10 @@
+pub mod Accesses
+pub mod Carried
+pub mod Costs
+pub mod Cuts
+pub mod Good
+pub mod Kept
+pub mod Numbers
+pub mod Pieces
+pub mod Tagged
+pub mod Whole

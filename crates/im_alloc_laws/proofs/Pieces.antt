@@ -1,0 +1,112 @@
+-- A line's pieces stand before what follows; blocks and functions of placed code, and what they are made of.
+use Rattle.std.proofs.Common.{◌≡◌, ℕ, zero, suc, ◌+◌, ◌*◌, List, [], ◌∷◌, ◌++◌, Some, refl, ap, subst, length}
+use Rattle.std.specs.Prelude.{slice_get}
+use Rattle.im_num.specs.declared.values.Cause.TheVariants.{Return as ReturnCut}
+use Rattle.im_block.specs.declared.code.Place.{Place}
+use Rattle.im_block.specs.declared.code.Place.TheVariants.{Static, Local, Through}
+use Rattle.im_block.specs.declared.code.Line.{Line}
+use Rattle.im_block.specs.declared.code.Line.TheVariants.{Put, PutNull, Copy, Convert, Unary, Not, Compute, Compare, Move, Distance, Address, Read, Write, Reload, Spill, Cut, Call, GetChar, PutChar}
+use Rattle.im_block.specs.declared.code.Block.{Block}
+use Rattle.im_block.specs.declared.unit.Function.{Function}
+use Rattle.im_alloc.specs.Homes.{Home, InRegister, InSlot, numbers_kept, load, reg, save, into, give, bring, load_place, on_place, put_line}
+use Rattle.im_alloc.specs.Placing.{PlacedBlock, PlacedBlocks, PlacedFunction, PlacedFunctions}
+
+save_app : (home : Home) (a : ℕ) (rest : List Line) → save home a rest ≡ save home a [] ++ rest
+save_app (InRegister r) a rest = refl
+save_app (InSlot m) a rest = refl
+
+give_app : (home : Home) (a : ℕ) (rest : List Line) → give home a rest ≡ give home a [] ++ rest
+give_app (InRegister r) a rest = refl
+give_app (InSlot m) a rest = refl
+
+into_app : (home : Home) (k a : ℕ) (rest xs ys : List Line) → rest ≡ xs ++ ys → into home k a rest ≡ into home k a xs ++ ys
+into_app (InRegister r) k a rest xs ys e = ap (λ q. Copy k r ∷ q) e
+into_app (InSlot m) k a rest xs ys e = ap (λ q. Reload k m a ∷ q) e
+
+load_app : (home : Home) (s a : ℕ) (rest xs ys : List Line) → rest ≡ xs ++ ys → load home s a rest ≡ load home s a xs ++ ys
+load_app (InRegister r) s a rest xs ys e = e
+load_app (InSlot m) s a rest xs ys e = ap (λ q. Reload s m a ∷ q) e
+
+bring_app : (h : ℕ → Home) (k first count a : ℕ) (rest xs ys : List Line) → rest ≡ xs ++ ys → bring h k first count a rest ≡ bring h k first count a xs ++ ys
+bring_app h k first zero a rest xs ys e = e
+bring_app h k first (suc count) a rest xs ys e =
+    into_app (h first) k a (bring h (k + 1) (first + 1) count (a + 1) rest) (bring h (k + 1) (first + 1) count (a + 1) xs) ys (bring_app h (k + 1) (first + 1) count (a + 1) rest xs ys e)
+
+set_app : (line : Line) (home : Home) (a : ℕ) (rest : List Line) → line ∷ save home a rest ≡ (line ∷ save home a []) ++ rest
+set_app line home a rest = ap (λ q. line ∷ q) (save_app home a rest)
+
+one_app : (from : Home) (n : ℕ) (line : Line) (home : Home) (a : ℕ) (rest : List Line) → load from 28 n (line ∷ save home a rest) ≡ load from 28 n (line ∷ save home a []) ++ rest
+one_app from n line home a rest = load_app from 28 n (line ∷ save home a rest) (line ∷ save home a []) rest (set_app line home a rest)
+
+two_app : (left right : Home) (n m : ℕ) (line : Line) (home : Home) (a : ℕ) (rest : List Line) → load left 28 n (load right 29 m (line ∷ save home a rest)) ≡ load left 28 n (load right 29 m (line ∷ save home a [])) ++ rest
+two_app left right n m line home a rest =
+    load_app left 28 n (load right 29 m (line ∷ save home a rest)) (load right 29 m (line ∷ save home a [])) rest
+    (load_app right 29 m (line ∷ save home a rest) (line ∷ save home a []) rest (set_app line home a rest))
+
+place_app : (h : ℕ → Home) (place : Place) (n : ℕ) (rest xs ys : List Line) → rest ≡ xs ++ ys → load_place h place n rest ≡ load_place h place n xs ++ ys
+place_app h (Static object offset) n rest xs ys e = e
+place_app h (Local object offset) n rest xs ys e = e
+place_app h (Through pointer offset) n rest xs ys e = load_app (h pointer) 28 n rest xs ys e
+
+pub put_app : (h : ℕ → Home) (n : ℕ) (line : Line) (rest : List Line) → put_line h n line rest ≡ put_line h n line [] ++ rest
+put_app h n (Put to z) rest = set_app (Put (reg (h to) 30) z) (h to) (n + 2) rest
+put_app h n (PutNull to) rest = set_app (PutNull (reg (h to) 30)) (h to) (n + 2) rest
+put_app h n (Copy to from) rest = one_app (h from) n (Copy (reg (h to) 30) (reg (h from) 28)) (h to) (n + 2) rest
+put_app h n (Convert to kind from) rest = one_app (h from) n (Convert (reg (h to) 30) kind (reg (h from) 28)) (h to) (n + 2) rest
+put_app h n (Unary to op kind from) rest = one_app (h from) n (Unary (reg (h to) 30) op kind (reg (h from) 28)) (h to) (n + 2) rest
+put_app h n (Not to from) rest = one_app (h from) n (Not (reg (h to) 30) (reg (h from) 28)) (h to) (n + 2) rest
+put_app h n (Compute to op kind left right) rest = two_app (h left) (h right) n (n + 1) (Compute (reg (h to) 30) op kind (reg (h left) 28) (reg (h right) 29)) (h to) (n + 2) rest
+put_app h n (Compare to op kind left right) rest = two_app (h left) (h right) n (n + 1) (Compare (reg (h to) 30) op kind (reg (h left) 28) (reg (h right) 29)) (h to) (n + 2) rest
+put_app h n (Move to size back pointer by) rest = two_app (h pointer) (h by) n (n + 1) (Move (reg (h to) 30) size back (reg (h pointer) 28) (reg (h by) 29)) (h to) (n + 2) rest
+put_app h n (Distance to size left right) rest = two_app (h left) (h right) n (n + 1) (Distance (reg (h to) 30) size (reg (h left) 28) (reg (h right) 29)) (h to) (n + 2) rest
+put_app h n (Address to place) rest =
+    let line : Line = Address (reg (h to) 30) (on_place h place) in
+    place_app h place n (line ∷ save (h to) (n + 2) rest) (line ∷ save (h to) (n + 2) []) rest (set_app line (h to) (n + 2) rest)
+put_app h n (Read to place kind access) rest =
+    let line : Line = Read (reg (h to) 30) (on_place h place) kind access in
+    place_app h place n (line ∷ save (h to) (n + 2) rest) (line ∷ save (h to) (n + 2) []) rest (set_app line (h to) (n + 2) rest)
+put_app h n (Write place kind from access) rest =
+    let line : Line = Write (on_place h place) kind (reg (h from) 29) access in
+    place_app h place n (load (h from) 29 (n + 1) (line ∷ rest)) (load (h from) 29 (n + 1) (line ∷ [])) rest (load_app (h from) 29 (n + 1) (line ∷ rest) (line ∷ []) rest refl)
+put_app h n (Reload to slot access) rest = refl
+put_app h n (Spill slot from access) rest = refl
+put_app h n (Cut cause) rest = refl
+put_app h n (Call to i first count) rest =
+    bring_app h 10 first count (n + 3) (Call 10 i 10 count ∷ Cut ReturnCut ∷ give (h to) (n + 2) rest) (Call 10 i 10 count ∷ Cut ReturnCut ∷ give (h to) (n + 2) []) rest
+    (ap (λ q. Call 10 i 10 count ∷ Cut ReturnCut ∷ q) (give_app (h to) (n + 2) rest))
+put_app h n (GetChar to) rest = ap (λ q. GetChar 10 ∷ Cut ReturnCut ∷ q) (give_app (h to) (n + 2) rest)
+put_app h n (PutChar to from) rest =
+    into_app (h from) 10 n (PutChar 10 10 ∷ Cut ReturnCut ∷ give (h to) (n + 2) rest) (PutChar 10 10 ∷ Cut ReturnCut ∷ give (h to) (n + 2) []) rest
+    (ap (λ q. PutChar 10 10 ∷ Cut ReturnCut ∷ q) (give_app (h to) (n + 2) rest))
+
+-- a block of placed code, and the one that it is made of
+pub record Made (h : ℕ → Home) (xs : List Block) (b : ℕ) (y : Block) : Type 0 where
+  pub old : Block
+  pub at : slice_get xs b ≡ Some old
+  pub number : ℕ
+  pub placed : PlacedBlock h number old y
+
+pub made : (h : ℕ → Home) (n : ℕ) (xs ys : List Block) (b : ℕ) (y : Block) → PlacedBlocks h n xs ys → slice_get ys b ≡ Some y → Made h xs b y
+made h n [] [] b y p e = cc
+made h n [] (z ∷ ys) b y p e = absurd p
+made h n (x ∷ xs) [] b y p e = absurd p
+made h n (x ∷ xs) (z ∷ ys) zero y p e =
+    let one : z ≡ y = cc in
+    record { old = x; at = refl; number = n; placed = subst (PlacedBlock h n x) one p.0 }
+made h n (x ∷ xs) (z ∷ ys) (suc b) y p e =
+    let m = made h (n + numbers_kept * suc (length x.lines.items)) xs ys b y p.1 e in
+    record { old = m.old; at = m.at; number = m.number; placed = m.placed }
+
+pub record OfOld (fs : List Function) (i : ℕ) (g : Function) : Type 0 where
+  pub old : Function
+  pub at : slice_get fs i ≡ Some old
+  pub placed : PlacedFunction old g
+
+pub of_old : (fs gs : List Function) (i : ℕ) (g : Function) → PlacedFunctions fs gs → slice_get gs i ≡ Some g → OfOld fs i g
+of_old [] [] i g p e = cc
+of_old [] (k ∷ gs) i g p e = absurd p
+of_old (f ∷ fs) [] i g p e = absurd p
+of_old (f ∷ fs) (k ∷ gs) zero g p e =
+    let one : k ≡ g = cc in
+    record { old = f; at = refl; placed = subst (PlacedFunction f) one p.0 }
+of_old (f ∷ fs) (k ∷ gs) (suc i) g p e = let o = of_old fs gs i g p.1 e in record { old = o.old; at = o.at; placed = o.placed }

@@ -1,0 +1,7 @@
+mod Mirror
+mod Steps
+mod Effects
+mod Fetches
+mod Cuts
+mod Stores
+mod Follow

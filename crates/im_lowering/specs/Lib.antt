@@ -1,0 +1,3 @@
+pub mod MakeEach
+pub mod Marks
+pub mod Small

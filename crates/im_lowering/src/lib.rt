@@ -1,0 +1,19 @@
+//! From the typed program to block code: the code itself.
+#![tactic(auto)]
+
+mod builder;
+mod cells;
+mod expressions;
+mod functions;
+mod initialise;
+mod lines;
+mod operators;
+mod places;
+mod program;
+mod statements;
+mod statics;
+mod switch;
+#[cfg(test)]
+mod tests;
+
+pub use program::lower;

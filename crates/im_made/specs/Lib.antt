@@ -1,0 +1,5 @@
+pub mod Made
+pub mod Make
+pub mod MakeStatement
+pub mod MakeUnit
+pub mod Laws

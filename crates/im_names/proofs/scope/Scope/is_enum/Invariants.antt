@@ -1,0 +1,10 @@
+use Rattle.std.proofs.Common.{◌≡◌, ◌≤◌, length, take}
+use Rattle.im_names.specs.Shape.{scopes_of}
+use Rattle.im_rules.specs.Scopes.{tag_meaning}
+use Rattle.im_names.proofs.scope.Scope.is_enum.Given as goal
+
+abbrev pub invariant-loop-i : goal.invariant-loop-i
+invariant-loop-i l = (l.i ≤ length l.self.entries.items) × (tag_meaning (scopes_of l.self.entries.items) l.tag ≡ tag_meaning (scopes_of (take l.i l.self.entries.items)) l.tag)
+
+abbrev pub decreases-loop-i : goal.decreases-loop-i
+decreases-loop-i l = l.i

@@ -1,0 +1,2 @@
+mod Operations
+mod Terms

@@ -1,0 +1,4 @@
+pub mod Joining
+pub mod Ordering
+pub mod Sections
+pub mod Tracing

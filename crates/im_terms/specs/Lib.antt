@@ -1,0 +1,4 @@
+pub mod Answers
+pub mod Exprs
+pub mod Shape
+pub mod Told
