@@ -1,19 +1,18 @@
 -- Objects of frames in the map of all objects.
-use Rattle.std.proofs.Common.{◌≡◌, ◌<◌, ◌≤◌, inl, inr, ℕ, zero, suc, ◌+◌, ◌-◌, ◌*◌, Bool, true, false, List, [], ◌∷◌, ◌++◌, Option, Some, None, length, map, take, refl, sym, ap, ◌∙◌, subst, arith}
+use Rattle.std.proofs.Common.{◌≡◌, ◌≤◌, ℕ, zero, suc, ◌+◌, ◌-◌, Bool, true, false, List, [], ◌∷◌, Option, Some, None, length, map, take, refl, sym, ap, ◌∙◌, arith}
 use Rattle.std.specs.Prelude.{nat_le, nat_lt, if◌then◌else◌, slice_get, slice_index}
 use Rattle.std.proofs.lemmas.Bool.Decides.{nat_tests}
-use Rattle.std.proofs.lemmas.Option.{slice_get_cases, get_or_from_slice_get, slice_get_within}
+use Rattle.std.proofs.lemmas.Option.{get_or_from_slice_get, slice_get_within}
 use Rattle.std.proofs.lemmas.List.{length-map}
 use Rattle.im_store.specs.Objects.{Name, Named, Slot, Link, Shape, shape_of}
 use Rattle.im_block.specs.declared.unit.Object.{Object}
 use Rattle.im_block.specs.declared.unit.Static.{Static as StaticOf}
 use Rattle.im_block.specs.declared.unit.Function.{Function}
-use Rattle.im_block.specs.declared.unit.Unit.{Unit as Code}
 use Rattle.im_block.specs.Meaning.{shapes_of, shape_at, slot_shape, link_shape}
 use Rattle.im_block.specs.Shape.{sum_of}
 use Rattle.im_frame.specs.declared.layout.Layout.{Layout}
 use Rattle.im_frame.specs.Layout.{place_of}
-use Rattle.im_addresses.specs.Addresses.{joined, places_of, sizes_of, place_at, size_at, FramesLaw}
+use Rattle.im_addresses.specs.Addresses.{joined, places_of, sizes_of, FramesLaw}
 use Rattle.im_addresses.proofs.Joined.{index_right, joined_at, counts}
 
 -- an object of the program in the function

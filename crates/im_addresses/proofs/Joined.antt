@@ -1,12 +1,10 @@
 -- Numbers of lists that stand one behind the other.
-use Rattle.std.proofs.Common.{◌≡◌, ◌<◌, ◌≤◌, ℕ, zero, suc, ◌+◌, List, [], ◌∷◌, ◌++◌, Some, length, take, map, refl, sym, ap, ◌∙◌, arith}
+use Rattle.std.proofs.Common.{◌≡◌, ◌<◌, ℕ, zero, suc, ◌+◌, List, [], ◌∷◌, ◌++◌, Some, length, take, refl, ap, ◌∙◌, arith}
 use Rattle.std.specs.Prelude.{slice_get, slice_index}
-use Rattle.std.proofs.lemmas.List.{length-map}
 use Rattle.im_block.specs.declared.unit.Function.{Function}
 use Rattle.im_block.specs.Shape.{sum_of}
 use Rattle.im_frame.specs.declared.layout.Layout.{Layout}
-use Rattle.im_frame.specs.Layout.{IsLayout}
-use Rattle.im_addresses.specs.Addresses.{joined, AreLayouts}
+use Rattle.im_addresses.specs.Addresses.{joined}
 
 index_left : (xs ys : List ℕ) (k : ℕ) → k < length xs → slice_index (xs ++ ys) k ≡ slice_index xs k
 index_left [] ys k h = absurd (omega arith)

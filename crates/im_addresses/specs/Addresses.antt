@@ -1,5 +1,5 @@
 -- One map from all objects of a unit to their places: statics by their addresses, others by their frames.
-use Rattle.std.specs.Prelude.{◌≡◌, ◌<◌, ℕ, ◌+◌, ◌*◌, List, [], ◌∷◌, ◌++◌, map, length, Some, slice_get, slice_index}
+use Rattle.std.specs.Prelude.{◌≡◌, ℕ, ◌+◌, ◌*◌, List, [], ◌∷◌, ◌++◌, map, length, Some, slice_get, slice_index}
 use Rattle.im_store.specs.Objects.{Name, Named, Slot, Link}
 use Rattle.im_block.specs.declared.unit.Object.{Object}
 use Rattle.im_block.specs.declared.unit.Static.{Static as StaticOf}

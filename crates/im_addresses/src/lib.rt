@@ -1,6 +1,10 @@
-//! From the places of statics and the layouts of frames to where each object of a unit lies.
+//! From the statics of a unit and the layouts of its frames to where each object lies.
 #![tactic(auto)]
 
 mod laws;
+mod placing;
+#[cfg(test)]
+mod tests;
 
-pub use laws::frames_law;
+pub use laws::{frames_law, statics_law};
+pub use placing::place_statics;

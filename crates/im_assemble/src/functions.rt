@@ -57,8 +57,10 @@ pub(crate) fn push_functions(
     program: &Program,
 ) -> Result<(), NoMemory>
     requires { IsAssemblable program.now }
-    ensures adds { OnOk result (AddsFunctions program.now (length program.now.unit.now.functions.items) parts.old.items parts.new.items) }
-    ensures labels { OnOk result (entry_label (length program.now.unit.now.functions.items) < 2 ^ 32) }
+    ensures adds { OnOk result (AddsFunctions program.now
+        (length program.now.unit.now.functions.items) parts.old.items parts.new.items) }
+    ensures labels { OnOk result
+        (entry_label (length program.now.unit.now.functions.items) < 2 ^ 32) }
 {
     let mut first_block = label_behind(FIRST_FREE, program.unit.functions.len())?;
     let functions = first_block - FIRST_FREE;

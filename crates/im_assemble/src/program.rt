@@ -26,7 +26,8 @@ pub struct Program<'a> {
 /// and the lines that begin.
 pub fn assemble(alloc: Global, program: &Program) -> Result<Vec<Part>, NoMemory>
     requires { IsAssemblable program.now }
-    ensures { IfOk result (λ parts. IsProgram program.now.unit.now program.now.statics.now program.now.layouts.now parts.items) }
+    ensures { IfOk result (λ parts. IsProgram program.now.unit.now
+        program.now.statics.now program.now.layouts.now parts.items) }
 {
     let mut parts = runtime_parts(alloc)?;
     push_functions(alloc, &mut parts, program)?;

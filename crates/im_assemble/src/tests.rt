@@ -17,7 +17,8 @@ fn seven(alloc: Global) -> Result<Unit, Fail>
     ensures well_formed { IfOk result IsWellFormed }
     ensures placed { IfOk result IsPlacedCode }
     ensures named { IfOk result NamesAccesses }
-    ensures frames { IfOk result (λ u. All (λ (f : Placed). bytes_of f ≤ f.need) u.functions.items) }
+    ensures frames { IfOk result
+        (λ u. All (λ (f : Placed). bytes_of f ≤ f.need) u.functions.items) }
     ensures one { IfOk result (λ u. length u.functions.items ≡ 1) }
     ensures none { IfOk result (λ u. u.statics.items ≡ []) }
 {

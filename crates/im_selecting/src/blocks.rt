@@ -56,7 +56,8 @@ fn push_exit(lines: &mut Vec<Line>, names: &Names, exit: Exit) -> Result<(), NoM
     requires placed { IsPlacedExit exit }
     requires there { ExitThere (length names.now.function.now.blocks.items) exit }
     ensures { OnOk result (code_lines lines.new.items
-        ≡ code_lines lines.old.items ++ exit_code names.now.first_block names.now.layout.now.frame exit) }
+        ≡ code_lines lines.old.items
+        ++ exit_code names.now.first_block names.now.layout.now.frame exit) }
 {
     match exit {
         Exit::Jump(to) | Exit::Turn(to) => push_jump(lines, 0, names.first_block + to),
@@ -81,10 +82,12 @@ pub(crate) fn block_lines(
 ) -> Result<Vec<Line>, NoMemory>
     requires places { HasPlaces (given names.now) }
     requires number { number < length names.now.function.now.blocks.items }
-    requires placed { IsPlacedBlock (length names.now.statics.now) names.now.function.now block.now }
+    requires placed { IsPlacedBlock
+        (length names.now.statics.now) names.now.function.now block.now }
     requires closed { IsClosedBlock (given names.now) block.now }
     ensures { IfOk result (λ lines. code_lines lines.items
-        ≡ block_code (at_of (given names.now)) names.now.first_block names.now.layout.now.frame number block.now) }
+        ≡ block_code (at_of (given names.now)) names.now.first_block
+        names.now.layout.now.frame number block.now) }
 {
     let mut lines = Vec::new(alloc);
     push_lines(&mut lines, names, &block.lines)?;

@@ -89,7 +89,8 @@ pub(crate) fn push_lines(
     placed: &[Placed],
 ) -> Result<(), NoMemory>
     requires places { HasPlaces (given names.now) }
-    requires placed { All (IsPlacedLine (length names.now.statics.now) names.now.function.now) placed.now }
+    requires placed { All
+        (IsPlacedLine (length names.now.statics.now) names.now.function.now) placed.now }
     requires called { All (CallsBelow names.now.functions) placed.now }
     ensures { OnOk result (code_lines lines.new.items
         ≡ code_lines lines.old.items ++ lines_code (at_of (given names.now)) placed.now) }

@@ -34,8 +34,11 @@ fn push_place(lines: &mut Vec<Line>, names: &Names, place: Place) -> Result<Disp
     requires there { PlaceExists (length names.now.statics.now) names.now.function.now place }
     requires home { PlaceAtHome place }
     ensures grows { OnOk result (code_lines lines.new.items
-        ≡ code_lines lines.old.items ++ place_code place (place_number (at_of (given names.now)) place)) }
-    ensures gives { IfOk result (λ d. IsDisplaced d (place_base place (place_number (at_of (given names.now)) place)) (place_number (at_of (given names.now)) place)) }
+        ≡ code_lines lines.old.items
+        ++ place_code place (place_number (at_of (given names.now)) place)) }
+    ensures gives { IfOk result (λ d. IsDisplaced d
+        (place_base place (place_number (at_of (given names.now)) place))
+        (place_number (at_of (given names.now)) place)) }
 {
     match place {
         Place::Static { object, offset } => {
@@ -60,7 +63,8 @@ pub(crate) fn push_address(
     requires there { PlaceExists (length names.now.statics.now) names.now.function.now place }
     requires home { PlaceAtHome place }
     ensures { OnOk result (code_lines lines.new.items
-        ≡ code_lines lines.old.items ++ address_code to place (place_number (at_of (given names.now)) place)) }
+        ≡ code_lines lines.old.items
+        ++ address_code to place (place_number (at_of (given names.now)) place)) }
 {
     let at = push_place(lines, names, place)?;
     push(lines, addi(register(to), at.base, at.low))
@@ -106,7 +110,8 @@ pub(crate) fn push_read(
     requires there { PlaceExists (length names.now.statics.now) names.now.function.now place }
     requires home { PlaceAtHome place }
     ensures { OnOk result (code_lines lines.new.items
-        ≡ code_lines lines.old.items ++ fetch_code to place kind access (place_number (at_of (given names.now)) place)) }
+        ≡ code_lines lines.old.items
+        ++ fetch_code to place kind access (place_number (at_of (given names.now)) place)) }
 {
     let at = push_place(lines, names, place)?;
     push_numbered(
@@ -130,7 +135,8 @@ pub(crate) fn push_write(
     requires there { PlaceExists (length names.now.statics.now) names.now.function.now place }
     requires home { PlaceAtHome place }
     ensures { OnOk result (code_lines lines.new.items
-        ≡ code_lines lines.old.items ++ keep_code place kind from access (place_number (at_of (given names.now)) place)) }
+        ≡ code_lines lines.old.items
+        ++ keep_code place kind from access (place_number (at_of (given names.now)) place)) }
 {
     let at = push_place(lines, names, place)?;
     push_numbered(
@@ -152,7 +158,8 @@ pub(crate) fn push_reload(
     requires places { HasPlaces (given names.now) }
     requires there { slot < names.now.function.now.slots }
     ensures { OnOk result (code_lines lines.new.items
-        ≡ code_lines lines.old.items ++ reload_code to (at_of (given names.now) (Slot slot)) access) }
+        ≡ code_lines lines.old.items
+        ++ reload_code to (at_of (given names.now) (Slot slot)) access) }
 {
     let at = push_displaced(lines, 2, slot_place(names, slot))?;
     push_numbered(lines, access, lw(register(to), at.low, at.base))
@@ -170,7 +177,8 @@ pub(crate) fn push_spill(
     requires places { HasPlaces (given names.now) }
     requires there { slot < names.now.function.now.slots }
     ensures { OnOk result (code_lines lines.new.items
-        ≡ code_lines lines.old.items ++ spill_code (at_of (given names.now) (Slot slot)) from access) }
+        ≡ code_lines lines.old.items
+        ++ spill_code (at_of (given names.now) (Slot slot)) from access) }
 {
     let at = push_displaced(lines, 2, slot_place(names, slot))?;
     push_numbered(lines, access, sw(register(from), at.low, at.base))

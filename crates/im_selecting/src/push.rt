@@ -15,7 +15,8 @@ const CHECKPOINT: u32 = 31;
 /// Adds an instruction.
 pub(crate) fn push(lines: &mut Vec<Line>, instr: Instr) -> Result<(), NoMemory>
     ensures { OnOk result
-        (code_lines lines.new.items ≡ code_lines lines.old.items ++ plain_line (line_of instr) ∷ []) }
+        (code_lines lines.new.items
+        ≡ code_lines lines.old.items ++ plain_line (line_of instr) ∷ []) }
 {
     lines.push(plain(instr))?;
     Ok(())

@@ -18,7 +18,8 @@ fn push_entry(lines: &mut Vec<Line>, names: &Names) -> Result<(), NoMemory>
     requires places { HasPlaces (given names.now) }
     requires entry { names.now.function.now.entry < length names.now.function.now.blocks.items }
     ensures { OnOk result (code_lines lines.new.items ≡ code_lines lines.old.items
-        ++ prologue_code names.now.layout.now.frame (names.now.first_block + names.now.function.now.entry)) }
+        ++ prologue_code names.now.layout.now.frame
+        (names.now.first_block + names.now.function.now.entry)) }
 {
     push_prologue(
         lines,
@@ -30,10 +31,12 @@ fn push_entry(lines: &mut Vec<Line>, names: &Names) -> Result<(), NoMemory>
 /// The lines of all blocks.
 fn push_blocks(alloc: Global, lines: &mut Vec<Line>, names: &Names) -> Result<(), NoMemory>
     requires places { HasPlaces (given names.now) }
-    requires placed { All (IsPlacedBlock (length names.now.statics.now) names.now.function.now) names.now.function.now.blocks.items }
+    requires placed { All (IsPlacedBlock (length names.now.statics.now) names.now.function.now)
+        names.now.function.now.blocks.items }
     requires closed { All (IsClosedBlock (given names.now)) names.now.function.now.blocks.items }
     ensures { OnOk result (code_lines lines.new.items ≡ code_lines lines.old.items
-        ++ blocks_code (at_of (given names.now)) names.now.first_block names.now.layout.now.frame 0 names.now.function.now.blocks.items) }
+        ++ blocks_code (at_of (given names.now)) names.now.first_block names.now.layout.now.frame 0
+        names.now.function.now.blocks.items) }
 {
     for b in 0..names.function.blocks.len() {
         let block = block_lines(alloc, names, b as u32, &names.function.blocks[b])?;
@@ -46,7 +49,8 @@ fn push_blocks(alloc: Global, lines: &mut Vec<Line>, names: &Names) -> Result<()
 fn function_lines(alloc: Global, names: &Names, number: u32) -> Result<Vec<Line>, NoMemory>
     requires { IsSelectable (given names.now) number }
     ensures { IfOk result (λ lines. code_lines lines.items
-        ≡ function_code (at_of (given names.now)) number names.now.first_block names.now.layout.now.frame
+        ≡ function_code (at_of (given names.now)) number names.now.first_block
+        names.now.layout.now.frame
         names.now.function.now.entry names.now.function.now.blocks.items) }
 {
     let mut lines = Vec::new(alloc);
