@@ -1,0 +1,3 @@
+pub mod ExternalLines
+pub mod UnitLines
+pub mod Parsing

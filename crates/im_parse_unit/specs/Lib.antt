@@ -1,0 +1,2 @@
+pub mod Externals
+pub mod Spelling

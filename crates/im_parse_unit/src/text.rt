@@ -1,0 +1,86 @@
+ghost use Rattle.std.specs.Prelude.{◌≡◌, ◌^◌, ◌<◌, MatchResult, length, map};
+ghost use Rattle.std.specs.List.{All};
+ghost use Rattle.im_word.specs.Shown.{shown};
+ghost use Rattle.im_parse_unit.specs.declared.text.ParseFault.TheVariants.{Memory};
+ghost use Rattle.im_parse_unit.specs.Spelling.{AreWords, IsParsed, IsParsedText, IsWithin};
+
+use super::units::unit;
+use im_ctree::Tree;
+use im_num::NoMemory;
+use im_parse_core::Stop;
+use im_tok::Token;
+use im_word::{Word, first_too_deep, word_of};
+use std::alloc::{AllocFailed, Global};
+
+/// Why a text has no tree.
+#[derive(Clone, Copy, PartialEq, Eq, Debug)]
+pub enum ParseFault {
+    /// The number of the first token whose nesting is over 200.
+    Depth(u32),
+    /// The number of the first token that no unit goes on with, which is that of the end where every token is gone on with.
+    Syntax(u32),
+    /// Memory ran out.
+    Memory,
+}
+
+impl<T: Drop> From<AllocFailed<T>> for ParseFault {
+    ghost from_gives = { λ _ fault. fault ≡ Memory };
+
+    fn from(_fault: AllocFailed<T>) -> ParseFault {
+        ParseFault::Memory
+    }
+}
+
+impl From<NoMemory> for ParseFault {
+    ghost from_gives = { λ _ fault. fault ≡ Memory };
+
+    fn from(_fault: NoMemory) -> ParseFault {
+        ParseFault::Memory
+    }
+}
+
+/// The words of tokens.
+fn words_of<'a>(
+    alloc: Global,
+    source: &'a [u8],
+    tokens: &[Token],
+) -> Result<Vec<Word<'a>>, ParseFault>
+    requires { All (IsWithin source.now) tokens.now }
+    ensures { MatchResult result (λ words. AreWords source.now tokens.now (map shown words.items)) (λ fault. fault ≡ Memory) }
+{
+    let mut words = Vec::new(alloc);
+    for token in tokens {
+        let word = word_of(alloc, source, token)?;
+        words.push(word)?;
+    }
+    Ok(words)
+}
+
+/// The syntax tree that the tokens of a source spell (C11 6.9), or why there is none; their nesting is looked at first.
+pub fn parse(alloc: Global, source: &[u8], tokens: &[Token]) -> Result<Tree, ParseFault>
+    requires { All (IsWithin source.now) tokens.now }
+    ensures { IsParsedText source.now tokens.now result }
+{
+    let words = words_of(alloc, source, tokens)?;
+    if words.len() > u32::MAX as usize {
+        return Err(ParseFault::Memory);
+    }
+    parsed(alloc, &words)
+}
+
+/// The tree that words spell.
+fn parsed(alloc: Global, words: &[Word]) -> Result<Tree, ParseFault>
+    requires { length words.now < 2 ^ 32 }
+    ensures { IsParsed (map shown words.now) result }
+{
+    match first_too_deep(alloc, words) {
+        Err(_) => return Err(ParseFault::Memory),
+        Ok(Some(place)) => return Err(ParseFault::Depth(place as u32)),
+        Ok(None) => {}
+    }
+    match unit(alloc, words) {
+        Ok(tree) => Ok(tree),
+        Err(Stop::Syntax(place)) => Err(ParseFault::Syntax(place)),
+        Err(Stop::Memory) => Err(ParseFault::Memory),
+    }
+}
