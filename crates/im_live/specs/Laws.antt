@@ -24,7 +24,7 @@ pub record GoesUntil (words : List ℕ) (entry : ℕ) (run : ℕ → State) (j :
   pub entered : (run 0).cpu.pc ≡ entry
   pub index_first : index_of (run 0).mem < 2
   pub zero_reg : (t : ℕ) → (run t).cpu.x 0 ≡ 0
-  pub words : (t i : ℕ) → (run t).cpu.x i < 2 ^ 32
+  pub small : (t i : ℕ) → (run t).cpu.x i < 2 ^ 32
   pub no_fault : (t at : ℕ) → t < j → (step_of (run t).cpu (run t).mem).went ≢ Faulted at
   pub fetches : (t : ℕ) → t < j → (code_start ≤ (run t).cpu.pc) × ((run t).cpu.pc + 4 ≤ address (length words))
   pub writes_plain : (t a : ℕ) → t < j → is_runtime (run t).cpu.pc ≡ false → is_fixed (address (length words)) a ≡ true → writes run t a ≡ None
@@ -38,7 +38,7 @@ pub record LivesUntil (words : List ℕ) (run : ℕ → State) (j : ℕ) : Type 
   pub needs : (t k i time : ℕ) → time < j → IsCut run t k → IsUsedAt run (t + k + 8) i time → (i ≤ k) × (i ≢ 3) × (i ≢ 4)
   pub needs_first : (i time : ℕ) → time < j → IsUsedAt run 0 i time → (i ≢ 3) × (i ≢ 4) × (i < 32)
   -- and a cut is a jal that links x3
-  pub links : (t m i : ℕ) → t < j → IsCut run t m → IsAt run t i → links 3 (instruction_at words i) ≡ true
+  pub linked : (t m i : ℕ) → t < j → IsCut run t m → IsAt run t i → links 3 (instruction_at words i) ≡ true
 
 abbrev pub LiveLaw : Type 0
 LiveLaw =
