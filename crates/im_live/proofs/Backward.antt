@@ -25,7 +25,7 @@ use Rattle.im_gap.specs.Flow.{links}
 use Rattle.im_flow.specs.Flows.{IsAt}
 use Rattle.im_until.specs.Until.{IsUsedAt}
 use Rattle.im_live.specs.Liveness.{uses_register, IsCutTo, IsLiveness, EntersByCuts}
-use Rattle.im_live.specs.Laws.{GoesUntil, LivesUntil, LiveLaw}
+use Rattle.im_live.specs.Laws.{BeginsAt, KeepsToCode, LivesUntil, LiveLaw}
 use Rattle.im_live.proofs.Places.{behind_outside, outside_behind, entry_inside, entry_apart, Found, found, place, word_line, Onward, Same, Beside, Cuts, onward, Here, here, first_outside, edge, unset_word}
 
 equal_of : (i k : ℕ) → (i == k) ≡ true → i ≡ k
@@ -68,7 +68,7 @@ by_zero k = grind arith
 three_places : (p : ℕ) → p ≤ 31 → (p < 30) ⊎ ((p ≡ 30) ⊎ (p ≡ 31))
 three_places p l = grind arith
 
-module _ (words : List ℕ) (entry j : ℕ) (run : ℕ → State) (g : GoesUntil words entry run j) (e : EntersByCuts words entry) where
+module _ (words : List ℕ) (entry j : ℕ) (run : ℕ → State) (g : BeginsAt words entry run) (o : KeepsToCode words run j) (e : EntersByCuts words entry) where
   abbrev code : ℕ
   code = address (length words)
 
@@ -160,9 +160,9 @@ module _ (words : List ℕ) (entry j : ℕ) (run : ℕ → State) (g : GoesUntil
   module _ (live : ℕ → ℕ → Bool) (n : IsLiveness words entry live) where
     used_here : (t i r : ℕ) → t < j → 237 ≤ i → IsAt run t i → 0 < r → uses (run t) r ≡ true → live i r ≡ true
     used_here t i r lt out p pos u =
-        let f = found words entry j run g e t lt in
+        let f = found words entry j run g o e t lt in
         let l = f.line in
-        let w = word_line words entry j run g e t i lt (here words entry j run g e t (omega arith)).fine p ∙ f.is in
+        let w = word_line words entry j run g o e t i lt (here words entry j run g o e t (omega arith)).fine p ∙ f.is in
         n.uses i r out (ap (λ (o : Option Line). uses_register o r) w ∙ used_word r l.rs1 l.rs2 _ pos (uses_line t r l f.is u))
 
     lives : (k t i r time : ℕ) → time < k + t → time < j → 237 ≤ i → IsAt run t i → 0 < r → IsUsedAt run t r time → live i r ≡ true
@@ -170,17 +170,17 @@ module _ (words : List ℕ) (entry j : ℕ) (run : ℕ → State) (g : GoesUntil
     lives (suc k) t i r time near lt out p pos x = elim (now_or_later t time x.later) [
       | inl q ↦ used_here t i r (omega arith) out p pos (subst (λ z. uses (run z) r ≡ true) (sym q) x.used)
       | inr more ↦ (
-          let fine = (here words entry j run g e t (omega arith)).fine in
-          elim (onward words entry j run g e t i (omega arith) fine out p) [
+          let fine = (here words entry j run g o e t (omega arith)).fine in
+          elim (onward words entry j run g o e t i (omega arith) fine out p) [
             | Same next ↦ lives k (suc t) i r time (omega arith) lt out next pos (later run t (suc t) r time (omega arith) (omega arith) x)
             | Beside off other on ↦ (
-                let to = place words entry j run g e (suc t) (omega arith) in
+                let to = place words entry j run g o e (suc t) (omega arith) in
                 let behind = outside_behind to.0 (sym (ap is_runtime to.2) ∙ off) in
                 let l = lives k (suc t) to.0 r time (omega arith) lt behind to.2 pos (later run t (suc t) r time (omega arith) (omega arith) x) in
-                let flow = edge words entry j run g e t i to.0 (omega arith) fine out p to.2 on in
-                n.flows i to.0 r out other flow l (unset_word words entry j run g e t i r (omega arith) fine p (x.unset t (omega arith) more)))
+                let flow = edge words entry j run g o e t i to.0 (omega arith) fine out p to.2 on in
+                n.flows i to.0 r out other flow l (unset_word words entry j run g o e t i r (omega arith) fine p (x.unset t (omega arith) more)))
             | Cuts m to c link ↦ (
-                let after = (here words entry j run g e (suc t) (omega arith)).fine in
+                let after = (here words entry j run g o e (suc t) (omega arith)).fine in
                 elim (order time (t + m + 8)) [
                   | inl soon ↦ absurd (inside_not t m r time c after link x more pos soon)
                   | inr back ↦ n.cuts i r out to.linked (lives k (t + m + 8) (suc i) r time (omega arith) lt (omega arith) (behind_cut t i m p c after) pos (later run t (t + m + 8) r time (omega arith) back x))
@@ -196,7 +196,7 @@ module _ (words : List ℕ) (entry j : ℕ) (run : ℕ → State) (g : GoesUntil
         let out = outside_behind i (sym (ap is_runtime p) ∙ c.outside) in
         let into : is_runtime (run (suc t)).cpu.pc ≡ true = ap is_runtime c.entered ∙ entry_inside k c.above c.below in (
           out,
-          elim (onward words entry j run g e t i lt (here words entry j run g e t (omega arith)).fine out p) [
+          elim (onward words entry j run g o e t i lt (here words entry j run g o e t (omega arith)).fine out p) [
             | Same next ↦ absurd (let bad : true ≡ false = sym into ∙ ap is_runtime next ∙ behind_outside i out in cc)
             | Beside off other on ↦ absurd (let bad : true ≡ false = sym into ∙ off in cc)
             | Cuts m to d link ↦ subst (IsCutTo words i) (entry_apart m k d.above c.above (sym d.entered ∙ c.entered)) to
@@ -205,9 +205,9 @@ module _ (words : List ℕ) (entry j : ℕ) (run : ℕ → State) (g : GoesUntil
 
     cuts : (t : ℕ) → t < j → is_runtime (run t).cpu.pc ≡ false → is_runtime (run (suc t)).cpu.pc ≡ true → (k : ℕ) × IsCut run t k
     cuts t lt off into =
-        let x = place words entry j run g e t lt in
+        let x = place words entry j run g o e t lt in
         let out = outside_behind x.0 (sym (ap is_runtime x.2) ∙ off) in
-        elim (onward words entry j run g e t x.0 lt (here words entry j run g e t (omega arith)).fine out x.2) [
+        elim (onward words entry j run g o e t x.0 lt (here words entry j run g o e t (omega arith)).fine out x.2) [
           | Same next ↦ absurd (let bad : true ≡ false = sym into ∙ ap is_runtime next ∙ behind_outside x.0 out in cc)
           | Beside beyond other on ↦ absurd (let bad : true ≡ false = sym into ∙ beyond in cc)
           | Cuts m to c link ↦ (m, c)
@@ -218,10 +218,10 @@ module _ (words : List ℕ) (entry j : ℕ) (run : ℕ → State) (g : GoesUntil
       | inl none ↦ (omega arith, omega arith, omega arith)
       | inr pos ↦ (
           let late = x.later in
-          let at = place words entry j run g e t (omega arith) in
+          let at = place words entry j run g o e t (omega arith) in
           let w = cut_word t k at.0 (omega arith) c at.2 in
           let out = w.0 in
-          let after = (here words entry j run g e (suc t) (omega arith)).fine in
+          let after = (here words entry j run g o e (suc t) (omega arith)).fine in
           n.saved at.0 k i out w.1 (lives (suc time) (t + k + 8) (suc at.0) i time (omega arith) lt (omega arith) (behind_cut t at.0 k at.2 c after) pos x))
     ]
 
@@ -229,8 +229,8 @@ module _ (words : List ℕ) (entry j : ℕ) (run : ℕ → State) (g : GoesUntil
     needs_first i time lt x = elim (by_zero i) [
       | inl none ↦ (omega arith, omega arith, omega arith)
       | inr pos ↦ (
-          let at = place words entry j run g e 0 (omega arith) in
-          let out = outside_behind at.0 (sym (ap is_runtime at.2) ∙ first_outside words entry j run g e) in
+          let at = place words entry j run g o e 0 (omega arith) in
+          let out = outside_behind at.0 (sym (ap is_runtime at.2) ∙ first_outside words entry j run g o e) in
           n.first at.0 i (sym at.2 ∙ g.entered) (lives (suc time) 0 at.0 i time (omega arith) lt out at.2 pos x))
     ]
 
@@ -243,4 +243,4 @@ module _ (words : List ℕ) (entry j : ℕ) (run : ℕ → State) (g : GoesUntil
     }
 
 pub live_law : LiveLaw
-live_law words entry j live run n e g = all words entry j run g e live n
+live_law words entry j live run n e g o = all words entry j run g o e live n

@@ -31,7 +31,7 @@ use Rattle.im_gap.specs.Flow.{turn_by, turn_of, imm_of, is_flip, links, links_by
 use Rattle.im_flow.specs.Flows.{IsAt, GoesBehindCall}
 use Rattle.im_flow.proofs.Rows.{HoldsCode, holds_code, fetched_word, step_law}
 use Rattle.im_live.specs.Liveness.{has_result, sets_register, names_target, IsCutTo, EntersByCuts}
-use Rattle.im_live.specs.Laws.{GoesUntil}
+use Rattle.im_live.specs.Laws.{BeginsAt, KeepsToCode}
 use Rattle.im_live.proofs.Rows.{place_by, Way, Over, To, Back, Halts, way, link_of, stop_of, sets_same, goes_on}
 
 -- ---- places in and behind the runtime
@@ -60,10 +60,6 @@ index_fixed code a l = grind (arith, nat_tests)
 code_fixed : (code a : ℕ) → 4096 ≤ a → a < code → is_fixed code a ≡ true
 code_fixed code a h l = grind (arith, nat_tests)
 
-aligned : (pc : ℕ) (b : Bool) (w : ℕ) (l : Line) → is_place pc 4 ≡ b → decoded_word (cond b (Some w) None) ≡ Some l → pc % 4 ≡ 0
-aligned pc true w l p e = grind (arith, nat_tests)
-aligned pc false w l p e = absurd (let bad : None ≡ Some l = e in cc)
-
 flip_fields : (a b i : ℕ) → (a == 0 && b == 4 && i == 0) ≡ true → (a ≡ 0) × (i ≡ 0)
 flip_fields a b i h = (grind (arith, nat_tests), grind (arith, nat_tests))
 
@@ -80,7 +76,7 @@ turn_split Branches = inr (inr (λ q. cc, λ q. cc))
 turn_split Returns = inl refl
 turn_split Stops = inr (inl refl)
 
-module _ (words : List ℕ) (entry j : ℕ) (run : ℕ → State) (g : GoesUntil words entry run j) (e : EntersByCuts words entry) where
+module _ (words : List ℕ) (entry j : ℕ) (run : ℕ → State) (g : BeginsAt words entry run) (keeps : KeepsToCode words run j) (e : EntersByCuts words entry) where
   abbrev code : ℕ
   code = address (length words)
 
@@ -91,24 +87,20 @@ module _ (words : List ℕ) (entry j : ℕ) (run : ℕ → State) (g : GoesUntil
     pub is : line_at (run t) ≡ Some line
 
   found_in : (t : ℕ) (o : Option Line) → t < j → line_at (run t) ≡ o → Found t
-  found_in t None lt q = absurd (g.no_fault t (run t).cpu.pc lt (ap (λ (s : Stepped). s.went) (decoded_line (run t).cpu (run t).mem (loaded (run t).mem (run t).cpu.pc 4) ∙ ap (decoded (run t).cpu (run t).mem) q)))
+  found_in t None lt q = absurd (keeps.calm t (run t).cpu.pc lt (ap (λ (s : Stepped). s.went) (decoded_line (run t).cpu (run t).mem (loaded (run t).mem (run t).cpu.pc 4) ∙ ap (decoded (run t).cpu (run t).mem) q)))
   found_in t (Some l) lt q = record { line = l; is = q }
 
   pub found : (t : ℕ) → t < j → Found t
   found t lt = found_in t (line_at (run t)) lt refl
 
   pub place : (t : ℕ) → t < j → (i : ℕ) × (i < length words) × IsAt run t i
-  place t lt =
-      let f = g.fetches t lt in let low = f.0 in let high = f.1 in
-      let l = found t lt in
-      let r : (run t).cpu.pc % 4 ≡ 0 = aligned (run t).cpu.pc (is_place (run t).cpu.pc 4) (little (run t).mem (run t).cpu.pc 4) l.line refl l.is in
-      (((run t).cpu.pc - 4096) / 4, omega arith, omega arith)
+  place t lt = keeps.places t lt
 
   pub within : (t i : ℕ) → t < j → IsAt run t i → i < length words
   within t i lt p = (let x = place t lt in let a = x.1 in let b = x.2 in omega arith)
 
   stays : (t : ℕ) → IsIntact run code t → Stands (run t).mem 4096 words
-  stays t h = stands-alike (run 0).mem (run t).mem words 4096 (λ a p q. sym (h.same a p (omega arith))) g.first
+  stays t h = stands-alike (run 0).mem (run t).mem words 4096 (λ a p q. sym (h.same a p (omega arith))) g.code
 
   pub word_line : (t i : ℕ) → t < j → IsIntact run code t → IsAt run t i → instruction_at words i ≡ line_at (run t)
   word_line t i lt h p =
@@ -143,7 +135,7 @@ module _ (words : List ℕ) (entry j : ℕ) (run : ℕ → State) (g : GoesUntil
   going t l lt q =
       let c = (run t).cpu in
       let m = (run t).mem in
-      let calm : (at : ℕ) → (effected c m l.rd (effect c l)).went ≢ Faulted at = λ at bad. g.no_fault t at lt (ap (λ (s : Stepped). s.went) (stepped_is t l q) ∙ bad) in
+      let calm : (at : ℕ) → (effected c m l.rd (effect c l)).went ≢ Faulted at = λ at bad. keeps.calm t at lt (ap (λ (s : Stepped). s.went) (stepped_is t l q) ∙ bad) in
       elim (goes_on c m l.rd (effect c l) calm) [
         | inl s ↦ Ended (effect_next t l Ends q s)
         | inr o ↦ going_by t l q (ap (λ (s : Stepped). s.went) (stepped_is t l q) ∙ o.0) (effect_next t l (effect c l) q refl ∙ o.1) (way l.op l c.pc (c.x l.rs1) (c.x l.rs2) l.imm)
@@ -218,7 +210,7 @@ module _ (words : List ℕ) (entry j : ℕ) (run : ℕ → State) (g : GoesUntil
       Beside (ap is_runtime (to ∙ next) ∙ behind_outside (suc i) (omega arith)) (ap (links 3) w ∙ other) on
   onward_by t i l lt out p w q (Turned on names to) = turned t i l lt out p w q on names to
   onward_by t i l lt out p w q (Returned on other back) =
-      Beside (behind_call t (g.returns t i lt (ap is_runtime p ∙ behind_outside i out) p (ap turn_of w ∙ back))) (ap (links 3) w ∙ other) on
+      Beside (behind_call t (keeps.returns t i lt (ap is_runtime p ∙ behind_outside i out) p (ap turn_of w ∙ back))) (ap (links 3) w ∙ other) on
 
   pub onward : (t i : ℕ) → t < j → IsIntact run code t → 237 ≤ i → IsAt run t i → Onward t i
   onward t i lt h out p =
@@ -240,7 +232,7 @@ module _ (words : List ℕ) (entry j : ℕ) (run : ℕ → State) (g : GoesUntil
   plain_on t lt h off =
       let x = place t lt in
       let out = outside_behind x.0 (sym (ap is_runtime x.2) ∙ off) in
-      let kept : (a : ℕ) → is_fixed code a ≡ true → (run (suc t)).mem a ≡ (run t).mem a = λ a f. mem_next run code g.based t a ∙ none_kept (writes run t a) ((run t).mem a) (g.writes_plain t a lt off f) in
+      let kept : (a : ℕ) → is_fixed code a ≡ true → (run (suc t)).mem a ≡ (run t).mem a = λ a f. mem_next run code g.based t a ∙ none_kept (writes run t a) ((run t).mem a) (keeps.writes_plain t a lt off f) in
       let index : index_of (run (suc t)).mem ≡ index_of (run t).mem = little-alike (run (suc t)).mem (run t).mem 4 0 (λ i a b. kept i (index_fixed code i b)) in
       record {
         phase = phase_by t x.0 out (onward t x.0 lt h out x.2);
@@ -256,7 +248,7 @@ module _ (words : List ℕ) (entry j : ℕ) (run : ℕ → State) (g : GoesUntil
   first_outside = ap is_runtime g.entered ∙ place_outside entry e.begins
 
   pub here : (t : ℕ) → t ≤ j → Here t
-  here zero le = record { phase = Outside first_outside; fine = record { same = λ a l r. refl; bit = g.index_first; zero_reg = g.zero_reg 0; words = g.small 0 } }
+  here zero le = record { phase = Outside first_outside; fine = record { same = λ a l r. refl; bit = g.index; zero_reg = g.zero_reg 0; words = g.small 0 } }
   here (suc t) le = let h = here t (omega arith) in elim (truth (is_runtime (run t).cpu.pc)) [
     | inl into ↦ (let n = inside_on run code g.based t h.fine h.phase into in record { phase = n.1; fine = n.0 })
     | inr off ↦ plain_on t (omega arith) h.fine off
@@ -280,7 +272,7 @@ module _ (words : List ℕ) (entry j : ℕ) (run : ℕ → State) (g : GoesUntil
       let base : c.x l.rs1 ≡ 0 = ap c.x fields.0 ∙ g.zero_reg t in
       let at : sum_of (c.x l.rs1) l.imm ≡ 0 = ap (λ (z : ℕ). sum_of z l.imm) base ∙ ap (sum_of 0) fields.1 in
       let eff : effect_at (run t) ≡ Stores 0 4 v = ap (effect_by c) q ∙ ap (λ (z : Op). row z c.pc (c.x l.rs1) v l.imm) h ∙ ap (λ (z : ℕ). Stores z 4 v) at in
-      let bad : None ≡ Some (v % 256) = sym (g.writes_plain t 0 lt off (index_fixed code 0 (omega arith))) ∙ ap (λ (z : Effect). writes_by z 0) eff in
+      let bad : None ≡ Some (v % 256) = sym (keeps.writes_plain t 0 lt off (index_fixed code 0 (omega arith))) ∙ ap (λ (z : Effect). writes_by z 0) eff in
       cc
 
   pub edge : (t i k : ℕ) → suc t < j → IsIntact run code t → 237 ≤ i → IsAt run t i → IsAt run (suc t) k → (step_of (run t).cpu (run t).mem).went ≡ On → Flow words i k
@@ -292,7 +284,7 @@ module _ (words : List ℕ) (entry j : ℕ) (run : ℕ → State) (g : GoesUntil
       let inside = within (suc t) k lt n in
       elim (turn_split (turn_of (instruction_at words i))) [
         | inl r ↦ (
-            let b = g.returns t i (omega arith) off p r in
+            let b = keeps.returns t i (omega arith) off p r in
             let same : b.0 ≡ k = address_apart b.0 k (sym b.2 ∙ n) in
             record { inside = inside; leads = subst (λ (z : Turn). Leads words i k (imm_of (instruction_at words i)) z) (sym r) (subst (IsBehind words 1) same b.1) })
         | inr (inl s) ↦ absurd (elim (stop_of l.op l (sym (ap turn_of w) ∙ s)) [
