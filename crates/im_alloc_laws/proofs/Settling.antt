@@ -163,11 +163,11 @@ module _ (wanted : ℕ → ℕ → Bool) (h : ℕ → Home) (exit : Exit) where
   -- a write sets nothing
   write_direct : (from n : ℕ) (line : Line) (rest : List Line) (r : ℕ) (after : ℕ → Bool) → (W (line ∷ rest) r → (r == reg (h from) 29 || L rest r) ≡ true) → (W rest r → Held h after r) → W (load (h from) 29 (n + 1) (line ∷ rest)) r → Held h (λ v. v == from || after v) r
   write_direct from n line rest r after is k w = elim (loaded (W rest r) (h from) 29 (n + 1) (line ∷ rest) r
-  (λ z. elim (either (r == reg (h from) 29) (L rest r) (is z)) [ inl e ↦ inl (same_of r (reg (h from) 29) e) | inr c ↦ inr c ])
-  w) [
-    | inl e ↦ (from, or_left (from == from) (after from) (same_is from from refl), e)
-    | inr c ↦ (let g = k c in (g.0, or_right (g.0 == from) (after g.0) g.1, g.2))
-  ]
+      (λ z. elim (either (r == reg (h from) 29) (L rest r) (is z)) [ inl e ↦ inl (same_of r (reg (h from) 29) e) | inr c ↦ inr c ])
+      w) [
+        | inl e ↦ (from, or_left (from == from) (after from) (same_is from from refl), e)
+        | inr c ↦ (let g = k c in (g.0, or_right (g.0 == from) (after g.0) g.1, g.2))
+      ]
 
   write_behind : (pointer from n : ℕ) (line : Line) (rest : List Line) (r : ℕ) (after : ℕ → Bool) → (W (line ∷ rest) r → ((r == reg (h pointer) 28 || r == reg (h from) 29) || L rest r) ≡ true) → (W rest r → Held h after r) → W (load (h pointer) 28 n (load (h from) 29 (n + 1) (line ∷ rest))) r → Held h (λ v. (v == pointer || v == from) || after v) r
   write_behind pointer from n line rest r after is k w =
