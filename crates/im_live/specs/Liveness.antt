@@ -35,7 +35,7 @@ sets_register (Some l) r = has_result (format_of l.op) && r == l.rd && nat_lt 0 
 
 -- word i is a cut with entry Em: a jal that links x3
 pub record IsCutTo (words : List ℕ) (i m : ℕ) : Type 0 where
-  pub links : links 3 (instruction_at words i) ≡ true
+  pub linked : links 3 (instruction_at words i) ≡ true
   pub above : 4 ≤ m
   pub below : m ≤ 31
   pub target : sum_of (address i) (imm_of (instruction_at words i)) ≡ entry_at m
