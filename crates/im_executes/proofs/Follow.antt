@@ -1,5 +1,5 @@
 -- What the machine follows by the law of selection, as the record of passes says it.
-use Rattle.std.proofs.Common.{◌≡◌, ◌≢◌, ℕ, suc, ◌+◌, ◌<◌, ◌≤◌, true, false, Some, None, List, ◌++◌, length, refl, sym, ap, ◌∙◌, subst, arith}
+use Rattle.std.proofs.Common.{◌≡◌, ◌≢◌, ℕ, suc, ◌+◌, ◌<◌, ◌≤◌, Bool, true, false, Some, None, List, ◌++◌, length, refl, sym, ap, ◌∙◌, subst, arith}
 use Rattle.std.specs.Prelude.{ℤ, ◌||◌}
 use Rattle.std.specs.Int.{cast_signed, w32}
 use Rattle.im_num.specs.declared.kind.Kind.TheVariants.{I32}
@@ -22,7 +22,6 @@ use Rattle.im_ckpt.specs.Runs.{State, line_at, effect_at, ends, writes}
 use Rattle.im_ckpt.specs.Buffers.{is_buffer, is_fixed}
 use Rattle.im_ckpt.specs.Recovery.{recovery_words}
 use Rattle.im_ckpt.specs.Checkpoint.{checkpoint_start, checkpoint_words}
-use Rattle.im_path.proofs.Times.{or_right}
 use Rattle.im_device.specs.Run.{index_of}
 use Rattle.im_ckpt.specs.Laws.{is_runtime}
 use Rattle.im_replay.specs.Output.{Extends}
@@ -54,6 +53,10 @@ use Rattle.im_executes.proofs.Stores.{stores_few}
 use Rattle.im_survives.proofs.Effects.{touches_same, writes_none, reads_apart, extends_shown, halt_is}
 use Rattle.im_survives.proofs.Fetches.{fetches}
 use Rattle.im_executes.proofs.Steps.{few_steps, few_cuts}
+
+fixed_too : (b c : Bool) → c ≡ true → (b || c) ≡ true
+fixed_too true c h = refl
+fixed_too false c h = h
 
 halted_one : (w : Went) → w ≢ On → ((at : ℕ) → w ≢ Faulted at) → w ≡ Halted
 halted_one On over calm = absurd (over refl)
@@ -183,7 +186,7 @@ module _ (keeps : SelectKeeps) (written : WrittenLaw) (survives : SurvivesLaw) (
         small = register_words (memory_of image input) loaded.resumes;
         no_fault = calm_at;
         fetches = fetches_at;
-        writes_plain = λ t a lt out there. writes_at t a lt out (or_right (is_buffer a) (is_fixed (code_end image) a) there);
+        writes_plain = λ t a lt out there. writes_at t a lt out (fixed_too (is_buffer a) (is_fixed (code_end image) a) there);
         returns = survives.returns image.words r f.j plainly has_code;
       }
 
