@@ -1,5 +1,5 @@
 -- What a section has touched so far is told by the touches of the run.
-use Rattle.std.proofs.Common.{◌≡◌, ℕ, zero, suc, ◌+◌, ◌-◌, ◌<◌, true, false, Option, Some, None, ◌++◌, refl, sym, ap, ◌∙◌, arith}
+use Rattle.std.proofs.Common.{◌≡◌, ℕ, zero, suc, ◌+◌, ◌-◌, true, false, Option, Some, None, refl, sym, ap, ◌∙◌, arith}
 use Rattle.im_mem.specs.Memory.{Mem, loaded}
 use Rattle.im_rv.specs.Steps.{Cpu}
 use Rattle.im_rv.specs.Decode.{Line, decode}

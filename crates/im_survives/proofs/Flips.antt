@@ -1,25 +1,23 @@
 -- INDEX is stored by flips alone, and no step outside the checkpoint flips; each touch is of an effect.
-use Rattle.std.proofs.Common.{◌≡◌, ◌≢◌, ℕ, zero, suc, ◌+◌, ◌<◌, ◌≤◌, inl, inr, Bool, true, false, not, List, [], ◌∷◌, Some, None, refl, sym, ap, ◌∙◌, subst, arith, eq-eqb, eqb-true}
+use Rattle.std.proofs.Common.{◌≡◌, ◌≢◌, ℕ, ◌+◌, ◌<◌, ◌≤◌, inl, inr, Bool, true, false, not, [], ◌∷◌, Some, None, refl, sym, ap, ◌∙◌, subst, arith, eq-eqb, eqb-true}
 use Rattle.std.specs.Prelude.{nat_eq, unwrap_or, ◌||◌, ◌==◌}
 use Rattle.std.proofs.lemmas.Bool.Decides.{nat_tests}
 use Rattle.im_mem.specs.Memory.{Mem, little}
 use Rattle.im_mem.proofs.Words.{little-alike}
-use Rattle.im_rv.specs.declared.step.Went.TheVariants.{Faulted}
 use Rattle.im_rv.specs.declared.effect.Effect.TheVariants.{Stores}
 use Rattle.im_rv.specs.Runs.{step_of}
-use Rattle.im_rv.specs.Effects.{effect_of, writes_by}
 use Rattle.im_rv.proofs.Effecting.{step_mem}
-use Rattle.im_reach.specs.Touches.{Touch, Stored, touch_of, touches, touched}
-use Rattle.im_reach.specs.Orderly.{IsOrderly, Refused}
-use Rattle.im_reach.specs.Plain.{in_runtime, AreAllowed, IsDue, AreDue, IsPlain}
-use Rattle.im_ckpt.specs.Runs.{State, IsRun, effect_at, flip, writes}
+use Rattle.im_reach.specs.Touches.{Stored, touch_of, touches, touched}
+use Rattle.im_reach.specs.Orderly.{IsOrderly}
+use Rattle.im_reach.specs.Plain.{in_runtime, AreAllowed, IsDue, AreDue}
+use Rattle.im_ckpt.specs.Runs.{State, effect_at, flip, writes}
 use Rattle.im_ckpt.specs.Buffers.{is_buffer, is_fixed}
 use Rattle.im_ckpt.specs.Laws.{is_runtime}
-use Rattle.im_runtime_sections.specs.Orderly.{touched_from, since, IsOrderlyRun}
+use Rattle.im_runtime_sections.specs.Orderly.{touched_from, IsOrderlyRun}
 use Rattle.im_runtime_sections.specs.Laws.{TouchedLaw, SelectsOther}
 use Rattle.im_survives.specs.Survives.{GoesPlainly}
 use Rattle.im_survives.proofs.Effects.{touches_same, writes_none}
-use Rattle.im_survives.proofs.Accesses.{StoresAt, stores_at}
+use Rattle.im_survives.proofs.Accesses.{stores_at}
 use Rattle.im_survives.proofs.Going.{from_touched}
 
 pub itself : (n : ℕ) → nat_eq n n ≡ true

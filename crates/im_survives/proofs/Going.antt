@@ -1,11 +1,9 @@
 -- What so many steps touch is what each touches in turn, where none faults.
-use Rattle.std.proofs.Common.{◌≡◌, ◌≢◌, ℕ, zero, suc, ◌+◌, ◌<◌, ◌≤◌, true, [], ◌∷◌, ◌++◌, Option, Some, None, refl, sym, ap, ◌∙◌, arith}
+use Rattle.std.proofs.Common.{◌≡◌, ◌≢◌, ℕ, zero, suc, ◌+◌, ◌<◌, ◌≤◌, true, [], ◌++◌, Option, Some, None, refl, sym, ap, ◌∙◌, arith}
 use Rattle.im_mem.specs.Memory.{Mem, loaded}
 use Rattle.im_rv.specs.declared.step.Went.{Went}
 use Rattle.im_rv.specs.declared.step.Went.TheVariants.{On, Halted, Faulted}
-use Rattle.im_rv.specs.declared.effect.Effect.{Effect}
-use Rattle.im_rv.specs.declared.effect.Effect.TheVariants.{Stops}
-use Rattle.im_rv.specs.Steps.{Cpu, row, effected}
+use Rattle.im_rv.specs.Steps.{Cpu, row}
 use Rattle.im_rv.specs.Decode.{Line, decode}
 use Rattle.im_rv.specs.Runs.{decoded, fetched, step_of}
 use Rattle.im_reach.specs.Touches.{touch_of, line_touches, word_touches, touches, touched, touched_on}

@@ -1,8 +1,8 @@
 -- A return goes to a word behind a call, since the words are what stands in the region of the code.
-use Rattle.std.proofs.Common.{◌≡◌, ◌≢◌, ℕ, suc, ◌+◌, ◌-◌, ◌*◌, ◌/◌, ◌%◌, ◌<◌, ◌≤◌, ◌⊎◌, inl, inr, Bool, true, false, cond, List, length, Option, Some, None, refl, sym, ap, ◌∙◌, subst, arith}
-use Rattle.std.specs.Prelude.{slice_get, slice_index, ◌==◌}
+use Rattle.std.proofs.Common.{◌≡◌, ◌≢◌, ℕ, suc, ◌-◌, ◌/◌, ◌%◌, ◌<◌, ◌≤◌, inl, inr, Bool, true, false, cond, List, length, Option, Some, None, refl, sym, ap, ◌∙◌, arith}
+use Rattle.std.specs.Prelude.{slice_index}
 use Rattle.std.proofs.lemmas.Option.{slice_get-get_or, slice_get_past}
-use Rattle.im_mem.specs.Memory.{Mem, little, loaded, zeroed, Stands}
+use Rattle.im_mem.specs.Memory.{little, loaded, zeroed, Stands}
 use Rattle.im_mem.proofs.Words.{little-alike, stands-alike}
 use Rattle.im_rv.specs.declared.instr.Op.{Op}
 use Rattle.im_rv.specs.declared.instr.Op.TheVariants.{Jalr, Sw}
@@ -11,13 +11,11 @@ use Rattle.im_rv.specs.Runs.{step_of}
 use Rattle.im_rv.specs.Effects.{decoded_word, fetched_line}
 use Rattle.im_rv.specs.Code.{address, instruction_at}
 use Rattle.im_path.proofs.Times.{order}
-use Rattle.im_reach.specs.Instructions.{Holds, jumping}
+use Rattle.im_reach.specs.Instructions.{jumping}
 use Rattle.im_reach.specs.Plain.{returns_by, is_return, IsBehindCall}
 use Rattle.im_ckpt.specs.Runs.{State}
-use Rattle.im_ckpt.specs.Laws.{is_runtime}
 use Rattle.im_gap.specs.declared.flow.Turn.TheVariants.{Returns, Passes, Stops}
 use Rattle.im_gap.specs.Flow.{is_flip, turn_by, turn_of, links, IsBehind}
-use Rattle.im_flow.specs.Flows.{IsAt, GoesBehindCall}
 use Rattle.im_flow.proofs.Rows.{holds_code, fetched_word}
 use Rattle.im_survives.specs.Survives.{GoesPlainly, HasCode, ReturnsBehindCalls}
 use Rattle.im_survives.proofs.Fetches.{code_kept, place_even}

@@ -1,19 +1,19 @@
 -- Of all memory no section writes what it has read before writing it.
-use Rattle.std.proofs.Common.{◌≡◌, ◌≢◌, ℕ, zero, suc, ◌+◌, ◌<◌, ◌≤◌, ◌⊎◌, inl, inr, Bool, true, false, not, cond, List, [], ◌∷◌, Option, Some, None, refl, sym, ap, ◌∙◌, subst, arith}
-use Rattle.std.specs.Prelude.{◌==◌, ◌&&◌, ◌||◌, nat_eq, nat_le, nat_lt, unwrap_or}
+use Rattle.std.proofs.Common.{◌≡◌, ℕ, zero, suc, ◌<◌, ◌≤◌, ◌⊎◌, inl, inr, true, false, not, cond, [], ◌∷◌, Option, Some, None, refl, sym, ap, ◌∙◌, subst, arith}
+use Rattle.std.specs.Prelude.{◌==◌, ◌||◌, nat_eq, unwrap_or}
 use Rattle.std.proofs.lemmas.Bool.Decides.{nat_tests}
 use Rattle.im_mem.specs.Memory.{Mem, little, is_place}
 use Rattle.im_mem.proofs.Words.{little-alike}
 use Rattle.im_rv.specs.declared.effect.Effect.{Effect}
-use Rattle.im_rv.specs.declared.effect.Effect.TheVariants.{Puts, Goes, Loads, Stores, Stops}
+use Rattle.im_rv.specs.declared.effect.Effect.TheVariants.{Loads, Stores}
 use Rattle.im_rv.specs.Runs.{step_of}
 use Rattle.im_rv.specs.Effects.{writes_by}
 use Rattle.im_rv.proofs.Effecting.{step_mem}
 use Rattle.im_path.specs.Sections.{start, wrote}
 use Rattle.im_path.proofs.Times.{truth, order}
-use Rattle.im_reach.specs.Touches.{Touch, Stored, Flipped, touch_of, heard}
+use Rattle.im_reach.specs.Touches.{Stored, Flipped, touch_of, heard}
 use Rattle.im_reach.specs.Seen.{seen, in_buffer}
-use Rattle.im_reach.specs.Orderly.{Since, Anything, Nothing, StoresOnly, Selector, Refused, Wrong, place_of, storing, after}
+use Rattle.im_reach.specs.Orderly.{Since, Refused, Wrong, place_of, storing, after}
 use Rattle.im_ckpt.specs.Runs.{State, effect_at, flip, writes, reads}
 use Rattle.im_ckpt.specs.Buffers.{is_buffer, is_fixed}
 use Rattle.im_ckpt.specs.Laws.{is_runtime}
@@ -23,7 +23,7 @@ use Rattle.im_runtime_sections.specs.Orderly.{since, IsOrderlyRun}
 use Rattle.im_runtime_sections.specs.Laws.{TouchedLaw, SectionsLaw}
 use Rattle.im_survives.specs.Survives.{GoesPlainly, IsSectioned, SurvivesLaw}
 use Rattle.im_survives.proofs.Effects.{touches_same}
-use Rattle.im_survives.proofs.Accesses.{StoresAt, stores_at, LoadsAt, loads_at, placed}
+use Rattle.im_survives.proofs.Accesses.{stores_at, loads_at, placed}
 use Rattle.im_survives.proofs.Flips.{itself, none_fixed, calm_outside, index, in_turn, orderly_run, selects}
 use Rattle.im_survives.proofs.Wars.{IsData, items_of, no_war}
 use Rattle.im_survives.proofs.Returning.{returns}

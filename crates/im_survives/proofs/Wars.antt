@@ -1,8 +1,8 @@
 -- No section of a run writes what it has read of statics and stack, since none does of what the run touches in order.
-use Rattle.std.proofs.Common.{◌≡◌, ◌≢◌, ℕ, zero, suc, ◌+◌, ◌-◌, ◌%◌, ◌<◌, ◌≤◌, ◌⊎◌, inl, inr, Bool, true, false, cond, List, [], ◌∷◌, ◌++◌, is_some, Option, Some, None, refl, sym, ap, ◌∙◌, subst, arith, append_assoc}
-use Rattle.std.specs.Prelude.{◌==◌, ◌&&◌, ◌||◌, nat_eq, nat_le, not, unwrap_or}
+use Rattle.std.proofs.Common.{◌≡◌, ◌≢◌, ℕ, zero, suc, ◌+◌, ◌-◌, ◌<◌, ◌≤◌, inl, inr, Bool, true, false, cond, List, [], ◌∷◌, ◌++◌, is_some, Some, refl, sym, ap, ◌∙◌, subst, arith}
+use Rattle.std.specs.Prelude.{◌==◌, ◌||◌}
 use Rattle.std.proofs.lemmas.Bool.Decides.{nat_tests}
-use Rattle.im_mem.specs.Memory.{Mem, little, is_place}
+use Rattle.im_mem.specs.Memory.{is_place}
 use Rattle.im_rv.specs.declared.effect.Effect.{Effect}
 use Rattle.im_rv.specs.declared.effect.Effect.TheVariants.{Puts, Goes, Loads, Stores, Stops}
 use Rattle.im_rv.specs.Effects.{writes_by, reads_by}
@@ -14,7 +14,7 @@ use Rattle.im_block.specs.Sections.{Item, Reader, Writer, Break, Has, Exposed, N
 use Rattle.im_select.specs.Law.{addresses, machine_items}
 use Rattle.im_runtime_sections.specs.Orderly.{touched_from}
 use Rattle.im_runtime_sections.proofs.Sections.{place_sizes}
-use Rattle.im_survives.proofs.Accesses.{StoresAt, stores_at, LoadsAt, loads_at, written_some}
+use Rattle.im_survives.proofs.Accesses.{stores_at, loads_at, written_some}
 
 or_none : (b c : Bool) → (b || c) ≡ false → (b ≡ false) × (c ≡ false)
 or_none true c h = absurd (let bad : true ≡ false = h in cc)
