@@ -1,16 +1,16 @@
 ghost use Rattle.im_in_image.specs.Laws.{InImageLaw, SelectsLaw};
 
-use im_executes::objects_law as shows_law;
+use im_executes::objects_law;
 use im_linked::{linked_law, words_law};
-use im_packed::{loaded_law, named_law, objects_law, packed_law, places_law};
+use im_packed::{holds_objects_law, loads_law, named_law, packed_law, places_law};
 
 /// A packed program, loaded with any input, is in its image as the law of selection asks.
 pub fn in_image_law()
     ensures { InImageLaw }
 {
+    holds_objects_law();
     linked_law();
-    loaded_law();
-    objects_law();
+    loads_law();
     packed_law();
     places_law();
 }
@@ -22,7 +22,7 @@ pub fn selects_law()
 {
     in_image_law();
     named_law();
+    objects_law();
     packed_law();
-    shows_law();
     words_law();
 }
