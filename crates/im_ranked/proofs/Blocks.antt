@@ -1,16 +1,15 @@
 -- The lines of a function are ranked: blocks by their numbers, above all that is called, and what follows a call is a cut.
-use Rattle.std.proofs.Common.{◌≡◌, ◌≢◌, ℕ, zero, suc, ◌+◌, ◌-◌, ◌^◌, ◌<◌, ◌≤◌, ◌⊎◌, inl, inr, Bool, true, false, List, [], ◌∷◌, ◌++◌, None, Some, length, refl, sym, ap, ◌∙◌, subst, length-append, arith}
-use Rattle.std.specs.Prelude.{◌==◌, if◌then◌else◌, slice_get, All}
+use Rattle.std.proofs.Common.{◌≡◌, ◌≢◌, ℕ, zero, suc, ◌+◌, ◌-◌, ◌^◌, ◌<◌, ◌≤◌, ◌⊎◌, inl, inr, Bool, true, false, List, [], ◌∷◌, ◌++◌, Some, length, refl, sym, ap, ◌∙◌, subst, length-append, arith}
+use Rattle.std.specs.Prelude.{◌==◌, slice_get, All}
 use Rattle.std.proofs.lemmas.List.Elements.{All-head, All-tail}
 use Rattle.im_num.specs.declared.values.Cause.{Cause}
-use Rattle.im_rv.specs.declared.instr.Op.TheVariants.{Jalr, Beq, Bgeu, Lw, Sw, Addi, Add as AddOp}
+use Rattle.im_rv.specs.declared.instr.Op.TheVariants.{Jalr, Lw, Sw, Addi, Add as AddOp}
 use Rattle.im_rv.specs.Lines.{CodeLine, plain_line}
-use Rattle.im_gap.specs.declared.flow.Turn.TheVariants.{Passes}
-use Rattle.im_reach.specs.Instructions.{with_immediate, on_registers, storing, branching, jumping}
-use Rattle.im_rtlib.specs.Routines.{aimed, getchar_label, putchar_label, stack_label}
+use Rattle.im_reach.specs.Instructions.{with_immediate, on_registers, storing}
+use Rattle.im_rtlib.specs.Routines.{getchar_label, putchar_label, stack_label}
 use Rattle.im_store.specs.Objects.{Name}
 use Rattle.im_block.specs.declared.code.Line.{Line}
-use Rattle.im_block.specs.declared.code.Line.TheVariants.{Put, PutNull, Copy, Convert, Unary, Not, Compute, Compare, Move, Distance, Address, Read, Write, Reload, Spill, Cut, Call, GetChar, PutChar}
+use Rattle.im_block.specs.declared.code.Line.TheVariants.{Cut, Call, GetChar, PutChar}
 use Rattle.im_block.specs.declared.code.Exit.{Exit}
 use Rattle.im_block.specs.declared.code.Exit.TheVariants.{Jump, Turn, Branch, Return}
 use Rattle.im_block.specs.declared.code.Block.{Block}
@@ -19,9 +18,8 @@ use Rattle.im_block.specs.Shape.{Descends, sum_below}
 use Rattle.im_block.specs.Paths.{IsCut}
 use Rattle.im_block.specs.Forced.{StartsWithCut, EndsWithCut, CutAfterCalls, CutAtTurn}
 use Rattle.im_block.specs.Wellformed.{ExitThere}
-use Rattle.im_selecting.specs.Emitted.{high_of, low_of, constant_by, constant_code, adds_by, adds_code, entry_label, checkpoint_label, labelled, call_code, cut_code, line_code, lines_code, leave_code, branch_code, exit_code, block_code, blocks_code, enter_code, prologue_code, function_code}
+use Rattle.im_selecting.specs.Emitted.{high_of, low_of, constant_by, constant_code, adds_by, adds_code, entry_label, labelled, call_code, cut_code, line_code, lines_code, leave_code, exit_code, block_code, blocks_code, enter_code, prologue_code, function_code}
 use Rattle.im_selecting.specs.Places.{CallsBelow}
-use Rattle.im_live_lines.specs.Scan.{way}
 use Rattle.im_live_lines.proofs.Scanning.{same_of, same_is, IsPlain, ArePlain}
 use Rattle.im_live_lines.proofs.Plain.{adds_plain}
 use Rattle.im_live_lines.proofs.Working.{work_plain}

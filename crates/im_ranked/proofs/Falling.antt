@@ -1,5 +1,5 @@
 -- From ranked lines to a number for each word that falls along the flow.
-use Rattle.std.proofs.Common.{◌≡◌, ℕ, zero, suc, ◌+◌, ◌-◌, ◌<◌, ◌≤◌, ◌⊎◌, inl, inr, true, false, Bool, cond, List, [], ◌∷◌, ◌++◌, Option, Some, None, drop, length, refl, sym, ap, ◌∙◌, subst, arith}
+use Rattle.std.proofs.Common.{◌≡◌, ℕ, zero, suc, ◌+◌, ◌-◌, ◌<◌, ◌≤◌, ◌⊎◌, inl, inr, true, false, Bool, cond, List, [], ◌∷◌, Option, Some, None, drop, length, refl, sym, ap, ◌∙◌, subst, arith}
 use Rattle.std.specs.Prelude.{◌==◌, nat_lt, slice_get}
 use Rattle.std.proofs.lemmas.Bool.{cases_lt}
 use Rattle.std.proofs.lemmas.Bool.Decides.{nat_tests}
@@ -21,7 +21,7 @@ use Rattle.im_live_lines.specs.Scan.{way}
 use Rattle.im_live_code.proofs.Lists.{code_append, code_at}
 use Rattle.im_live_code.proofs.Words.{Word, word_of, no_word, turn_way, links_is}
 use Rattle.im_live_lines.proofs.Scanning.{same_of}
-use Rattle.im_ranked.proofs.Ranks.{greater, greater_left, greater_right, After, nothing, cut_rank, at_target, rank_by, rank_of, before, scan, GoesTo, Goes, IsRankedLine, AreRanked, ranked_append}
+use Rattle.im_ranked.proofs.Ranks.{greater, greater_left, greater_right, After, nothing, cut_rank, at_target, rank_by, rank_of, before, scan, Goes, IsRankedLine, AreRanked, ranked_append}
 use Rattle.im_ranked.proofs.Runtime.{runtime_rank, Falls, TurnFalls, IsRuntimeLine}
 
 -- ---- lines by their numbers

@@ -1,5 +1,5 @@
 -- The runtime's routines are ranked: a test of known lines.
-use Rattle.std.proofs.Common.{◌≡◌, ◌≢◌, ◌<◌, ◌≤◌, ◌⊎◌, inl, inr, ℕ, ◌+◌, Bool, true, false, cond, List, [], ◌∷◌, Option, Some, None, refl, sym, ap, ◌∙◌, arith}
+use Rattle.std.proofs.Common.{◌≡◌, ◌<◌, ◌≤◌, ◌⊎◌, inl, inr, ℕ, ◌+◌, Bool, true, false, cond, List, [], ◌∷◌, Option, Some, None, refl, sym, ap, ◌∙◌, arith}
 use Rattle.std.specs.Prelude.{◌==◌, ◌&&◌, ◌||◌, nat_lt, nat_le, if◌then◌else◌}
 use Rattle.std.proofs.lemmas.Bool.Decides.{nat_tests}
 use Rattle.im_rv.specs.declared.instr.Op.{Op}
@@ -10,8 +10,8 @@ use Rattle.im_gap.specs.declared.flow.Turn.{Turn}
 use Rattle.im_gap.specs.declared.flow.Turn.TheVariants.{Passes, Jumps, Branches, Returns, Stops}
 use Rattle.im_rtlib.specs.Routines.{getchar, putchar, exit, stack}
 use Rattle.im_live_lines.specs.Scan.{way}
-use Rattle.im_live_lines.proofs.Scanning.{both, same_of, same_is}
-use Rattle.im_ranked.proofs.Ranks.{After, cut_rank, rank_of, scan, GoesTo, Goes, IsRankedLine, AreRanked}
+use Rattle.im_live_lines.proofs.Scanning.{both, same_of}
+use Rattle.im_ranked.proofs.Ranks.{After, cut_rank, rank_of, scan, GoesTo, Goes, AreRanked}
 
 -- what calls lead to is no greater
 abbrev pub entry_rank : ℕ

@@ -1,8 +1,7 @@
 -- The linked code of a program has a longest gap.
-use Rattle.std.proofs.Common.{◌≡◌, ℕ, zero, suc, ◌+◌, ◌-◌, ◌*◌, ◌<◌, ◌≤◌, ◌⊎◌, inl, inr, List, Some, None, length, map, refl, sym, ap, ◌∙◌, subst, arith}
+use Rattle.std.proofs.Common.{◌≡◌, ℕ, zero, suc, ◌+◌, ◌-◌, ◌*◌, ◌<◌, ◌≤◌, ◌⊎◌, inl, inr, List, Some, length, map, refl, sym, ap, ◌∙◌, subst, arith}
 use Rattle.std.specs.Prelude.{slice_get, All}
 use Rattle.std.proofs.lemmas.Option.{slice_get_cases, slice_get_within, get_or_from_slice_get}
-use Rattle.im_rv.specs.declared.code.Line.{Line}
 use Rattle.im_rv.specs.declared.code.Part.{Part}
 use Rattle.im_rv.specs.declared.code.Code.{Code as Linked}
 use Rattle.im_rv.specs.Lines.{CodeLine, plain_line, code_lines}
@@ -17,25 +16,23 @@ use Rattle.im_link.specs.Parts.{IsPart, lines_of, first_of, last_of}
 use Rattle.im_link.specs.Links.{StandsAt}
 use Rattle.im_link.specs.Code.{IsLinkable, IsLinked}
 use Rattle.im_link.proofs.Joining.{line_in, lines_count}
-use Rattle.im_rtlib.specs.Routines.{exit}
-use Rattle.im_block.specs.declared.code.Block.{Block}
 use Rattle.im_block.specs.declared.unit.Function.{Function}
 use Rattle.im_block.specs.declared.unit.Unit.{Unit as Code}
 use Rattle.im_block.specs.Shape.{AllOrdered}
-use Rattle.im_block.specs.Forced.{AllForced, StartsWithCut}
+use Rattle.im_block.specs.Forced.{AllForced}
 use Rattle.im_frame.specs.declared.layout.Layout.{Layout}
 use Rattle.im_selecting.specs.Emitted.{entry_label}
 use Rattle.im_selecting.specs.Places.{at_of}
 use Rattle.im_selecting.specs.Selects.{HasLabel, IsClosedBlock}
-use Rattle.im_linked.specs.Program.{HasCode, part_of, first_label, given_at, start_code, IsFunctionPart, IsProgram}
+use Rattle.im_linked.specs.Program.{HasCode, part_of, first_label, given_at, start_code, IsProgram}
 use Rattle.im_linked.proofs.Runtimes.{saved_there, size_of}
 use Rattle.im_linked.proofs.Standing.{behind}
 use Rattle.im_live_code.proofs.Parts.{code_is}
 use Rattle.im_ranked.specs.Laws.{HasShortGap, LinkedGapLaw}
-use Rattle.im_ranked.proofs.Ranks.{After, nothing, cut_rank, scan, AreRanked}
+use Rattle.im_ranked.proofs.Ranks.{After, nothing, AreRanked}
 use Rattle.im_ranked.proofs.Routines.{getchar_ranked, putchar_ranked, stack_ranked, exit_ranked}
-use Rattle.im_ranked.proofs.Blocks.{block_rank, BlockFacts, function_ranked}
-use Rattle.im_ranked.proofs.Labels.{places_of, places, beyond, at, at_entry, at_block, callees}
+use Rattle.im_ranked.proofs.Blocks.{block_rank, function_ranked}
+use Rattle.im_ranked.proofs.Labels.{places_of, places, beyond, at, at_block, callees}
 use Rattle.im_ranked.proofs.Runtime.{others, other_part, Split, split}
 use Rattle.im_ranked.proofs.Falling.{parts_ranked, IsLaidOut, rank, falls}
 
