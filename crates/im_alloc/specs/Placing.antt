@@ -63,10 +63,12 @@ PlacedBlocks h n (x ∷ xs) (y ∷ ys) = PlacedBlock h n x y × PlacedBlocks h (
 PlacedBlocks h n [] (y ∷ ys) = ⊥
 PlacedBlocks h n (x ∷ xs) [] = ⊥
 
--- homes of a function's registers, and what lives at the start of each of its blocks
+-- homes of a function's registers, and what lives at the start of each of its blocks: of virtual registers and, where their
+-- homes are registers, of these. At the entry only parameters live in registers
 pub record PlacedFunction (old new : Function) : Type 0 where
   pub home : ℕ → Home
   pub live : ℕ → ℕ → Bool
+  pub wanted : ℕ → ℕ → Bool
   pub first_access : ℕ
   pub blocks : PlacedBlocks home first_access old.blocks.items new.blocks.items
   pub virtual : (old.registers ≡ Virtual) × (old.slots ≡ 0)
@@ -76,6 +78,9 @@ pub record PlacedFunction (old new : Function) : Type 0 where
   pub free : (v r : ℕ) → home v ≡ InRegister r → (6 < r) × (r < 32) × (r ≢ 28) × (r ≢ 29) × (r ≢ 30)
   pub valid : (b : ℕ) (block : Block) → slice_get old.blocks.items b ≡ Some block → Valid home live block.lines.items block.exit
   pub closed : (b : ℕ) (block : Block) (v : ℕ) → slice_get old.blocks.items b ≡ Some block → lives live block.lines.items block.exit v ≡ true → live b v ≡ true
+  pub held : (b v r : ℕ) → live b v ≡ true → home v ≡ InRegister r → wanted b r ≡ true
+  pub holds : (b r : ℕ) → wanted b r ≡ true → (v : ℕ) × (live b v ≡ true) × (home v ≡ InRegister r)
+  pub entered : (v r : ℕ) → live old.entry v ≡ true → home v ≡ InRegister r → (10 ≤ r) × (r < 10 + old.parameters)
 
 abbrev pub PlacedFunctions : List Function → List Function → Type 0
 PlacedFunctions [] [] = Unit {0}

@@ -6,5 +6,7 @@ pub mod Good
 pub mod Kept
 pub mod Numbers
 pub mod Pieces
+pub mod Settled
+pub mod Settling
 pub mod Tagged
 pub mod Whole

@@ -13,7 +13,9 @@ use Rattle.im_block.specs.Wellformed.{IsWellFormed}
 use Rattle.im_placed.specs.Apart.{AllApart}
 use Rattle.im_placed.specs.Placed.{IsPlacedCode}
 use Rattle.im_placed.specs.Placeable.{IsPlaceable}
+use Rattle.im_block.specs.Uncut.{SameButCuts}
 use Rattle.im_alloc.specs.Placing.{IsPlaced}
+use Rattle.im_alloc.specs.Settled.{IsSettled}
 use Rattle.im_alloc_laws.specs.Numbered.{IsWellPlaced}
 
 -- the block code's runs have runs of the placed code with the same outcome, which hold each tag that they hold
@@ -32,3 +34,6 @@ pub record PlacedCodeLaw : Type 0 where
   pub cost : (u v : Code) → IsPlaced u v → sum_of placed_cost v.functions.items ≤ sum_of function_cost u.functions.items
   pub placed : (u v : Code) → IsWellPlaced u v → IsPlaceable u → IsPlacedCode v
   pub well_formed : (u v : Code) → IsWellPlaced u v → IsPlaceable u → IsWellFormed u → IsWellFormed v
+  pub settled : (u v : Code) → IsPlaced u v → IsSettled v
+  -- also with further cuts
+  pub recut : (u v : Code) → SameButCuts u v → IsSettled u → IsSettled v

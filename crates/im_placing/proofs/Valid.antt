@@ -1,6 +1,7 @@
 -- The assignment is valid for placeable code.
-use Rattle.std.proofs.Common.{◌≡◌, ◌≢◌, ℕ, ◌+◌, ◌<◌, ◌≤◌, ⊎_elim, Bool, true, false, List, [], ◌∷◌, Some, refl, sym, ap, ◌∙◌, subst, arith, eq-eqb}
+use Rattle.std.proofs.Common.{◌≡◌, ◌≢◌, ℕ, ◌+◌, ◌-◌, ◌<◌, ◌≤◌, ⊎_elim, Bool, true, false, List, [], ◌∷◌, Some, refl, sym, ap, ◌∙◌, subst, arith, eq-eqb}
 use Rattle.std.specs.Prelude.{◌==◌, ◌&&◌, ◌||◌, nat_lt, nat_le, slice_get, All}
+use Rattle.std.proofs.lemmas.Bool.{cases_lt}
 use Rattle.std.proofs.lemmas.List.Elements.{All-head, All-tail, All-get_or}
 use Rattle.std.proofs.lemmas.Option.{slice_get_within, get_or_from_slice_get}
 use Rattle.im_block.specs.declared.code.Line.{Line}
@@ -12,7 +13,7 @@ use Rattle.im_block.specs.declared.unit.Function.{Function}
 use Rattle.im_block.specs.Paths.{IsEdge}
 use Rattle.im_block.specs.Wellformed.{LineWithin, ExitWithin, IsBlock, IsFunction}
 use Rattle.im_placed.specs.Placeable.{IsPlaceableLine, LineFrom, ExitFrom, Receives, first_free, IsPlaceableFunction}
-use Rattle.im_alloc.specs.Homes.{Home}
+use Rattle.im_alloc.specs.Homes.{Home, InRegister}
 use Rattle.im_alloc.specs.Live.{lives}
 use Rattle.im_alloc.specs.Placing.{Keeps, Survives, Clear, ValidLine, Valid, PlacedFunction}
 use Rattle.im_placing.specs.Slots.{home_in, SlotsFunction}
@@ -150,6 +151,50 @@ module _ (functions : List Function) (statics : ℕ) (f : Function) (whole : IsF
       live_is b v (lives_below f.register_count live block.lines.items block.exit live_below k.lines_within k.exit_within v l)
       (or_left (nat_le f.parameters v) (b == f.entry) (most_is f.parameters v (lives_above f.parameters live block.lines.items block.exit (edges b block at) from (exit_from b block at) v l)))
 
+  -- where parameters live, they are in x10 and on; nothing else lives in a register
+  abbrev wanted : ℕ → ℕ → Bool
+  wanted b r = b == f.entry && (nat_le 10 r && nat_lt r (10 + f.parameters))
+
+  same_register : (q r : ℕ) → InRegister q ≡ InRegister r → q ≡ r
+  same_register q r e = cc
+
+  in_first : (b v r : ℕ) → live b v ≡ true → home_in f.parameters f.register_count v ≡ InRegister r → (v < f.parameters) × (10 + v ≡ r)
+  in_first b v r t e =
+      ⊎_elim
+      (λ (a : v < f.parameters). (a, same_register (10 + v) r (sym (home_first f.parameters f.register_count v a) ∙ e)))
+      (λ (a : f.parameters ≤ v). absurd (in_slot f.parameters f.register_count v r a (live_below b v t) e))
+      (cases_lt v f.parameters)
+
+  entered_at : (b v r : ℕ) → live b v ≡ true → home_in f.parameters f.register_count v ≡ InRegister r → (10 ≤ r) × (r < 10 + f.parameters)
+  entered_at b v r t e =
+      let k = in_first b v r t e in
+      let lt = k.0 in
+      let is = k.1 in
+      (omega arith, omega arith)
+
+  held_at : (b v r : ℕ) → live b v ≡ true → home_in f.parameters f.register_count v ≡ InRegister r → wanted b r ≡ true
+  held_at b v r t e =
+      let lt = (in_first b v r t e).0 in
+      let k = entered_at b v r t e in
+      let entry : (b == f.entry) ≡ true =
+      ⊎_elim
+      (λ (a : nat_le f.parameters v ≡ true). (let le = most_of f.parameters v a in absurd (omega arith)))
+      (λ (a : (b == f.entry) ≡ true). a)
+      (or_cases (nat_le f.parameters v) (b == f.entry) (both_true (nat_lt v f.register_count) (nat_le f.parameters v || b == f.entry) t).1) in
+      both_are (b == f.entry) (nat_le 10 r && nat_lt r (10 + f.parameters)) entry (both_are (nat_le 10 r) (nat_lt r (10 + f.parameters)) (most_is 10 r k.0) (less_is r (10 + f.parameters) k.1))
+
+  holds_at : (b r : ℕ) → wanted b r ≡ true → (v : ℕ) × (live b v ≡ true) × (home_in f.parameters f.register_count v ≡ InRegister r)
+  holds_at b r w =
+      let c = both_true (b == f.entry) (nat_le 10 r && nat_lt r (10 + f.parameters)) w in
+      let d = both_true (nat_le 10 r) (nat_lt r (10 + f.parameters)) c.1 in
+      let low = most_of 10 r d.0 in
+      let high = less_of r (10 + f.parameters) d.1 in
+      let few = whole.received in
+      let lt : r - 10 < f.parameters = omega arith in
+      let within : r - 10 < f.register_count = omega arith in
+      let is : 10 + (r - 10) ≡ r = omega arith in
+      (r - 10, live_is b (r - 10) within (or_right (nat_le f.parameters (r - 10)) (b == f.entry) c.0), home_first f.parameters f.register_count (r - 10) lt ∙ ap InRegister is)
+
   pub placed_of : (n next : ℕ) (g : Function) → SlotsFunction n next f g → Placed n f g
   placed_of n next g s =
       let count : g.slots ≡ f.register_count = ap (λ (k : Function). k.slots) s.rest in
@@ -157,6 +202,7 @@ module _ (functions : List Function) (statics : ℕ) (f : Function) (whole : IsF
         placed = record {
           home = home_in f.parameters f.register_count;
           live = live;
+          wanted = wanted;
           first_access = n;
           blocks = s.blocks;
           virtual = (able.registers, able.slots);
@@ -169,6 +215,9 @@ module _ (functions : List Function) (statics : ℕ) (f : Function) (whole : IsF
           free = λ v r e. free f.parameters f.register_count v r whole.parameters e;
           valid = λ b block at. valid_at b block at (b == f.entry) refl;
           closed = λ b block v at l. closed_at b block v at (b == f.entry) refl l;
+          held = held_at;
+          holds = holds_at;
+          entered = λ v r t e. entered_at f.entry v r t e;
         };
         first = refl;
         few = omega arith;

@@ -1,5 +1,5 @@
 -- The lines of a function are a selection of it.
-use Rattle.std.proofs.Common.{◌≡◌, ◌<◌, ℕ, List, Some, length, sym, subst, arith}
+use Rattle.std.proofs.Common.{◌≡◌, ◌<◌, ℕ, List, Some, length, refl, sym, subst, arith}
 use Rattle.std.specs.Prelude.{slice_get, All}
 use Rattle.std.proofs.lemmas.Option.{slice_get_within, get_or_from_slice_get}
 use Rattle.im_rv.specs.Lines.{CodeLine}
@@ -33,6 +33,7 @@ selection_of names i s =
     let some : 0 < frame = (let b = s.places.layout.bytes in omega arith) in
     let small : frame < 4294967296 = (let b = s.places.layout.small in omega arith) in
     record {
+      exact = refl;
       starts = starts_of at first frame f.entry f.blocks.items;
       selected = λ w e g.
           function_in w names at i frame g some small s.entry

@@ -15,7 +15,7 @@ use Rattle.im_placed.specs.Apart.{CutsApart}
 use Rattle.im_select.specs.Symbolic.{Lines, IsSelected}
 use Rattle.im_rtlib.specs.Routines.{getchar_label, putchar_label, stack_label}
 use Rattle.im_selecting.specs.Given.{Given}
-use Rattle.im_selecting.specs.Emitted.{entry_label, checkpoint_label}
+use Rattle.im_selecting.specs.Emitted.{entry_label, checkpoint_label, function_code}
 use Rattle.im_selecting.specs.Places.{at_of, HasPlaces, CallsBelow}
 
 -- places and labels are read so: where this function's objects and blocks are and what it calls, the rest may be anything
@@ -88,8 +88,9 @@ pub record LeadsTo (given : Given) (line : CodeLine) (l : ℕ) : Type 0 where
   pub far : line.line.op ≡ Jal
   pub to : IsTarget given l
 
--- the lines of function i
+-- the lines of function i: these very ones, which have what follows
 pub record IsSelection (given : Given) (i : ℕ) (lines : List CodeLine) : Type 0 where
+  pub exact : lines ≡ function_code (at_of given) i given.first_block given.layout.frame given.function.entry given.function.blocks.items
   pub starts : ℕ → ℕ
   pub selected : (w : Lines) → w.lines ≡ lines → Agrees w given → IsSelected w given.layout.frame given.function starts
   pub accesses : accesses_in lines ≡ accesses_of_blocks given.function.blocks.items

@@ -1,0 +1,6 @@
+pub mod Scanning
+pub mod Plain
+pub mod Working
+pub mod Selected
+pub mod Blocks
+pub mod Routines
