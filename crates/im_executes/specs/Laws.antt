@@ -13,7 +13,7 @@ use Rattle.im_executes.specs.Executing.{IsInImage, ShowsObjects, Completes}
 abbrev pub ExecutesLaw : Type 0
 ExecutesLaw =
     (image : ImageValue) (input : List ℕ) (u : Code) (g : Setting) (p : Linking) →
-    IsInput input → IsSelectable u → IsInImage image input u g p → ShowsObjects image input u p → Completes image input u g p → Executes u g image input
+    IsInput input → IsSelectable u → IsInImage image input u g p → ShowsObjects image input u p → Completes image input → Executes u g image input
 
 -- where statics hold numbers alone, and objects are named as they are
 abbrev pub ObjectsLaw : Type 0
