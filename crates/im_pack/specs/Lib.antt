@@ -1,0 +1,3 @@
+pub mod Packed
+pub mod Bytes
+pub mod Objects

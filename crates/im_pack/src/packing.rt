@@ -1,0 +1,49 @@
+ghost use Rattle.std.specs.Prelude.{◌≡◌, ◌≤◌, MatchResult};
+ghost use Rattle.im_mem.specs.Map.{output_capacity, stack_capacity, statics_capacity, statics_start};
+ghost use Rattle.im_block.specs.Wellformed.{IsWellFormed};
+ghost use Rattle.im_frame.specs.Layout.{places_from, rooms};
+ghost use Rattle.im_addresses.specs.Statics.{objects_of};
+ghost use Rattle.im_pack.specs.Packed.{IsFaultOf, IsLoadable, IsPacked};
+
+use crate::bytes::first_bytes;
+use crate::fault::PackFault;
+use crate::objects::objects_of_statics;
+use im_block::Unit;
+use im_image::{Form, Image, Version};
+use im_rv::Code;
+use std::alloc::Global;
+
+/// The image of linked code, with the first values of the unit's statics at their addresses, and
+/// an object for each of them. `stack` and `out_cap` are in bytes.
+pub fn pack(
+    alloc: Global,
+    unit: &Unit,
+    addresses: &[u32],
+    code: &Code,
+    stack: u32,
+    out_cap: u32,
+) -> Result<Image, PackFault>
+    requires well_formed { IsWellFormed unit.now }
+    requires room { rooms (objects_of unit.now.statics.items) ≤ statics_capacity }
+    requires places { addresses.now ≡ places_from statics_start (objects_of unit.now.statics.items) }
+    requires code { IsLoadable code.now }
+    requires some_stack { 256 ≤ stack }
+    requires most_stack { stack ≤ stack_capacity }
+    requires output { out_cap ≤ output_capacity }
+    ensures { MatchResult result
+        (λ image. IsPacked unit.now addresses.now code.now stack out_cap image)
+        (λ fault. IsFaultOf unit.now.statics.items fault) }
+{
+    let statics = first_bytes(alloc, &unit.statics, addresses)?;
+    let objects = objects_of_statics(alloc, &unit.statics, addresses)?;
+    Ok(Image {
+        version: Version::Two,
+        form: Form::TwoLengths,
+        words: code.words.clone()?,
+        statics,
+        stack,
+        out_cap,
+        entry: code.entry,
+        objects,
+    })
+}
