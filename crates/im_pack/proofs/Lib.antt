@@ -1,0 +1,7 @@
+pub mod Views
+pub mod Cells
+pub mod Statics
+pub mod Joined
+pub mod Naming
+pub mod Whole
+pub mod Steps

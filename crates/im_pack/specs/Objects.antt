@@ -1,18 +1,17 @@
 -- For private contracts: how cells become runs, and statics objects.
-use Rattle.std.specs.Prelude.{◌≡◌, ◌≤◌, ◌<◌, ℕ, ◌+◌, ◌==◌, ◌&&◌, Bool, true, if◌then◌else◌, List, [], ◌∷◌, length, Option, Some, None, slice_get, slice_index}
-use Rattle.im_num.specs.Kinds.{kind_size}
+use Rattle.std.specs.Prelude.{◌≡◌, ℕ, ◌+◌, Bool, true, if◌then◌else◌, List, [], ◌∷◌, Some, slice_get}
 use Rattle.im_image.specs.declared.object.CellRun.{CellRun}
-use Rattle.im_image.specs.Contents.{ObjectValue, AreRuns, kind_code, run_end, end_of, is_run}
+use Rattle.im_image.specs.Contents.{ObjectValue, continues}
 use Rattle.im_ctype.specs.declared.cell.Cell.{Cell}
 use Rattle.im_block.specs.declared.unit.Static.{Static as StaticOf}
-use Rattle.im_pack.specs.Packed.{IsObjectOf, can_be_named}
+use Rattle.im_pack.specs.Packed.{can_be_named}
 
 abbrev pub one_cell : Cell → CellRun
 one_cell c = record { offset = c.offset; kind = c.kind; count = 1 }
 
 -- a cell goes on where a run ends, in its kind
 abbrev pub goes_on : CellRun → Cell → Bool
-goes_on run c = run_end run == c.offset && kind_code run.kind == kind_code c.kind
+goes_on run c = continues (Some run) (one_cell c)
 
 abbrev pub longer : CellRun → CellRun
 longer run = record run { count = run.count + 1 }

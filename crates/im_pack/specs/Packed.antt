@@ -41,7 +41,6 @@ place_of addresses n c = slice_index addresses n + c.offset - statics_start
 -- each cell has its first value's bytes, the lowest first; a byte of no cell is 0
 pub record AreFirstBytes (statics : List StaticOf) (addresses bytes : List ℕ) : Type 0 where
   pub size : length bytes ≡ rooms (objects_of statics)
-  pub small : (k : ℕ) → slice_index bytes k < 256
   pub cells : (n : ℕ) (c : Cell) (v : Constant) → IsCell statics n c v → little (view bytes) (place_of addresses n c) (kind_size c.kind) ≡ word_of addresses v % 2 ^ (8 * kind_size c.kind)
   pub rest : (k : ℕ) → ((n : ℕ) (c : Cell) (v : Constant) → IsCell statics n c v → (k < place_of addresses n c) ⊎ (place_of addresses n c + kind_size c.kind ≤ k)) → slice_index bytes k ≡ 0
 

@@ -74,7 +74,11 @@ fn push_static(bytes: &mut Vec<u8>, addresses: &[u32], part: &Static) -> Result<
     for i in 0..part.object.cells.len() {
         let cell = part.object.cells[i];
         fill(bytes, start + cell.offset as usize)?;
-        push_word(bytes, word_of(addresses, part.values[i]), kind_size(cell.kind))?;
+        push_word(
+            bytes,
+            word_of(addresses, part.values[i]),
+            kind_size(cell.kind),
+        )?;
     }
     fill(bytes, start + room_of(part.object.size))
 }

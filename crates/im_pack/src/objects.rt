@@ -40,9 +40,10 @@ fn object_of(alloc: Global, at: u32, part: &Static) -> Result<Object, NoMemory>
     requires { HasCells part.now.object }
     ensures { IfOk result (λ object. object ≡ object_of_static at part.now) }
 {
+    let size = part.object.size;
     Ok(Object {
         at,
-        size: part.object.size,
+        size,
         name: Vec::from_slice(alloc, &part.name)?,
         runs: runs_of(alloc, &part.object.cells)?,
     })

@@ -1,4 +1,4 @@
-ghost use Rattle.std.specs.Prelude.{◌≡◌, ◌≤◌, MatchResult};
+ghost use Rattle.std.specs.Prelude.{◌≡◌, ◌≤◌, ◌<◌, ◌^◌, slice_index, IfOk, MatchResult, ℕ};
 ghost use Rattle.im_mem.specs.Map.{output_capacity, stack_capacity, statics_capacity, statics_start};
 ghost use Rattle.im_block.specs.Wellformed.{IsWellFormed};
 ghost use Rattle.im_frame.specs.Layout.{places_from, rooms};
@@ -10,8 +10,17 @@ use crate::fault::PackFault;
 use crate::objects::objects_of_statics;
 use im_block::Unit;
 use im_image::{Form, Image, Version};
+use im_num::NoMemory;
 use im_rv::Code;
 use std::alloc::Global;
+
+/// The same words.
+fn copy_of(alloc: Global, words: &[u32]) -> Result<Vec<u32>, NoMemory>
+    ensures same { IfOk result (λ copy. copy.items ≡ words.now) }
+    ensures wide { IfOk result (λ copy. (k : ℕ) → slice_index copy.items k < 2 ^ 32) }
+{
+    Ok(Vec::from_slice(alloc, words)?)
+}
 
 /// The image of linked code, with the first values of the unit's statics at their addresses, and
 /// an object for each of them. `stack` and `out_cap` are in bytes.
@@ -39,7 +48,7 @@ pub fn pack(
     Ok(Image {
         version: Version::Two,
         form: Form::TwoLengths,
-        words: code.words.clone()?,
+        words: copy_of(alloc, &code.words)?,
         statics,
         stack,
         out_cap,

@@ -39,8 +39,8 @@ fn kind_code(kind: Kind) -> u32
 fn goes_on(run: CellRun, cell: Cell) -> bool
     ensures { result ≡ does_go_on run cell }
 {
-    u64::from(run.offset) + u64::from(run.count) * u64::from(kind_size(run.kind)) == cell.offset
-        && kind_code(run.kind) == kind_code(cell.kind)
+    cell.offset == u64::from(run.offset) + u64::from(run.count) * u64::from(kind_size(run.kind))
+        && kind_code(cell.kind) == kind_code(run.kind)
 }
 
 /// Adds a cell behind those of the runs.
