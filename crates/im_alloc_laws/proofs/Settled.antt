@@ -1,5 +1,5 @@
 -- Placed code is settled, with further cuts too.
-use Rattle.std.proofs.Common.{◌≡◌, ℕ, zero, suc, ◌+◌, ◌*◌, ◌<◌, ◌≤◌, Bool, true, false, List, [], ◌∷◌, Option, Some, None, length, refl, sym, ap, ◌∙◌, subst, arith}
+use Rattle.std.proofs.Common.{◌≡◌, ℕ, zero, suc, ◌+◌, ◌*◌, ◌<◌, ◌≤◌, Bool, true, false, List, [], ◌∷◌, Some, length, refl, sym, ap, ◌∙◌, subst, arith}
 use Rattle.std.specs.Prelude.{◌&&◌, ◌||◌, not, slice_get}
 use Rattle.im_block.specs.declared.code.Line.{Line}
 use Rattle.im_block.specs.declared.code.Exit.{Exit}
@@ -11,7 +11,7 @@ use Rattle.im_alloc.specs.Homes.{numbers_kept, put_lines, exit_lines, put_exit}
 use Rattle.im_alloc.specs.Live.{uses, sets, lives}
 use Rattle.im_alloc.specs.Placing.{PlacedFunction, PlacedFunctions, IsPlaced}
 use Rattle.im_alloc.specs.Settled.{SettlesCalls, IsSettledFunction, IsSettled}
-use Rattle.im_alloc_laws.proofs.Pieces.{made, of_old}
+use Rattle.im_alloc_laws.proofs.Pieces.{made}
 use Rattle.im_alloc_laws.proofs.Settling.{Held, lines_live, lines_settle, exit_held, exit_settles}
 
 -- ---- a function that is placed

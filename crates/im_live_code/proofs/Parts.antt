@@ -1,9 +1,8 @@
 -- The lines of a program's parts are sound, and what its runtime's lines name.
-use Rattle.std.proofs.Common.{◌≡◌, ◌≢◌, ℕ, zero, suc, ◌+◌, ◌-◌, ◌*◌, ◌<◌, ◌≤◌, ◌⊎◌, inl, inr, Bool, true, false, List, [], ◌∷◌, ◌++◌, Option, Some, None, length, map, refl, sym, ap, ◌∙◌, subst, arith}
-use Rattle.std.specs.Prelude.{◌==◌, ◌&&◌, not, nat_lt, slice_get, All}
+use Rattle.std.proofs.Common.{◌≡◌, ℕ, zero, suc, ◌<◌, inl, inr, Bool, true, List, [], ◌∷◌, Option, Some, None, length, map, refl, sym, ap, ◌∙◌, subst, arith}
+use Rattle.std.specs.Prelude.{◌&&◌, not, nat_lt, slice_get, All}
 use Rattle.std.proofs.lemmas.Bool.Decides.{nat_tests}
 use Rattle.std.proofs.lemmas.Option.{slice_get_cases, slice_get_within, get_or_from_slice_get}
-use Rattle.im_rv.specs.declared.code.Line.{Line}
 use Rattle.im_rv.specs.declared.code.Part.{Part}
 use Rattle.im_rv.specs.Lines.{CodeLine, plain_line, code_lines}
 use Rattle.im_gap.specs.Flow.{links_by}
@@ -22,7 +21,7 @@ use Rattle.im_selecting.specs.Places.{at_of}
 use Rattle.im_linked.specs.Program.{HasCode, part_of, first_label, given_at, start_code, IsProgram}
 use Rattle.im_live_lines.specs.Scan.{After, scan, AreSound}
 use Rattle.im_live_lines.specs.Laws.{IsLow}
-use Rattle.im_live_lines.proofs.Scanning.{both, IsUnsaved, unsaved_true, or_unsaved, sound_append}
+use Rattle.im_live_lines.proofs.Scanning.{both, IsUnsaved, unsaved_true, sound_append}
 use Rattle.im_live_lines.proofs.Selected.{jump_before, jump_sound}
 use Rattle.im_live_lines.proofs.Blocks.{function_lines}
 use Rattle.im_live_lines.proofs.Routines.{routine_lines}

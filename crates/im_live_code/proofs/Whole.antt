@@ -1,18 +1,18 @@
 -- The words of a program's linked code have a liveness, and enter the runtime by cuts alone.
-use Rattle.std.proofs.Common.{◌≡◌, ◌≢◌, ℕ, zero, suc, ◌+◌, ◌-◌, ◌*◌, ◌<◌, ◌≤◌, ◌⊎◌, inl, inr, Bool, true, false, List, [], ◌∷◌, ◌++◌, Option, Some, None, length, map, refl, sym, ap, ◌∙◌, subst, arith, length-append}
+use Rattle.std.proofs.Common.{◌≡◌, ℕ, suc, ◌+◌, ◌-◌, ◌*◌, ◌<◌, ◌≤◌, inl, inr, Bool, true, List, [], ◌∷◌, ◌++◌, Some, None, length, map, refl, sym, ap, ◌∙◌, subst, arith}
 use Rattle.std.specs.Prelude.{slice_get}
 use Rattle.std.proofs.lemmas.Bool.{cases_lt}
-use Rattle.std.proofs.lemmas.Option.{slice_get_cases, slice_get_within}
+use Rattle.std.proofs.lemmas.Option.{slice_get_cases}
 use Rattle.im_rv.specs.declared.code.Line.{Line}
 use Rattle.im_rv.specs.declared.code.Part.{Part}
 use Rattle.im_rv.specs.declared.code.Code.{Code as Linked}
 use Rattle.im_rv.specs.Lines.{CodeLine, plain_line, code_line, code_lines}
 use Rattle.im_rv.specs.Code.{address, instruction_at}
 use Rattle.im_ckpt.specs.Recovery.{recovery}
-use Rattle.im_ckpt.specs.Checkpoint.{checkpoint_end, checkpoint_code, entry_at}
+use Rattle.im_ckpt.specs.Checkpoint.{checkpoint_code, entry_at}
 use Rattle.im_gap.specs.Flow.{links_by, links}
-use Rattle.im_link.specs.Parts.{IsPart, lines_of, first_of, last_of, word_count}
-use Rattle.im_link.specs.Links.{StandsAt, AreWordsOf}
+use Rattle.im_link.specs.Parts.{lines_of, first_of, last_of}
+use Rattle.im_link.specs.Links.{StandsAt}
 use Rattle.im_link.specs.Code.{IsLinkable, IsLinked}
 use Rattle.im_link.proofs.Joining.{get_kept, get_behind, line_in, lines_count}
 use Rattle.im_rtlib.specs.Laws.{is_saved}
@@ -24,7 +24,7 @@ use Rattle.im_alloc.specs.Settled.{IsSettled}
 use Rattle.im_frame.specs.declared.layout.Layout.{Layout}
 use Rattle.im_selecting.specs.Emitted.{entry_label}
 use Rattle.im_selecting.specs.Selects.{HasLabel}
-use Rattle.im_linked.specs.Program.{HasCode, part_of, start_code, IsProgram}
+use Rattle.im_linked.specs.Program.{HasCode, part_of, IsProgram}
 use Rattle.im_linked.proofs.Runtimes.{saved_there, size_of}
 use Rattle.im_linked.proofs.Standing.{behind}
 use Rattle.im_live_lines.specs.Scan.{nothing, lives_at}

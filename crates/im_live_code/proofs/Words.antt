@@ -1,5 +1,5 @@
 -- From sound lines to the liveness of registers at their words.
-use Rattle.std.proofs.Common.{◌≡◌, ◌≢◌, ℕ, zero, suc, ◌+◌, ◌-◌, ◌*◌, ◌^◌, ◌%◌, ◌<◌, ◌≤◌, ◌⊎◌, inl, inr, Bool, true, false, cond, List, [], ◌∷◌, Option, Some, None, length, refl, sym, ap, ◌∙◌, subst, arith}
+use Rattle.std.proofs.Common.{◌≡◌, ◌≢◌, ℕ, zero, suc, ◌+◌, ◌-◌, ◌<◌, ◌≤◌, ◌⊎◌, inl, inr, Bool, true, false, cond, List, Option, Some, None, length, refl, sym, ap, ◌∙◌, subst, arith}
 use Rattle.std.specs.Prelude.{◌==◌, ◌&&◌, ◌||◌, not, nat_lt, nat_le, slice_get, slice_index}
 use Rattle.std.proofs.lemmas.Bool.Decides.{nat_tests}
 use Rattle.std.proofs.lemmas.Option.{slice_get_within, slice_get-get_or, slice_get_past, slice_get_cases}
@@ -23,7 +23,7 @@ use Rattle.im_link.specs.Links.{StandsAt, Does, AreWordsOf}
 use Rattle.im_rtlib.specs.Laws.{is_saved}
 use Rattle.im_live_lines.specs.Scan.{way, After, nothing, at_target, onward, lives_at, before, GoesTo, Goes, IsSoundLine, AreSound}
 use Rattle.im_live_lines.specs.Laws.{IsLow}
-use Rattle.im_live_lines.proofs.Scanning.{both, both_are, either, or_left, or_right, is_not, same_of, same_is, other_is, IsUnsaved, unsaved_not, unsaved_true, or_unsaved}
+use Rattle.im_live_lines.proofs.Scanning.{both, both_are, either, or_left, or_right, is_not, same_of, same_is, IsUnsaved, unsaved_not, unsaved_true, or_unsaved}
 use Rattle.im_live_lines.proofs.Selected.{saved_low}
 use Rattle.im_live.specs.Liveness.{has_result, uses_register, sets_register, IsCutTo, IsLiveness, names_target, EntersByCuts}
 use Rattle.im_live_code.proofs.Lists.{after_of, after_at, sound_at, over_is, code_at}

@@ -1,23 +1,22 @@
 -- The lines of a function are sound.
-use Rattle.std.proofs.Common.{◌≡◌, ◌≢◌, ℕ, zero, suc, ◌+◌, ◌-◌, ◌^◌, ◌<◌, ◌≤◌, ◌⊎◌, inl, inr, Bool, true, false, List, [], ◌∷◌, ◌++◌, Option, Some, None, length, refl, sym, ap, ◌∙◌, subst, arith}
-use Rattle.std.specs.Prelude.{◌==◌, slice_get, All}
+use Rattle.std.proofs.Common.{◌≡◌, ◌≢◌, ℕ, suc, ◌+◌, ◌-◌, ◌^◌, ◌<◌, ◌≤◌, ◌⊎◌, inl, inr, Bool, true, List, [], ◌∷◌, ◌++◌, Some, length, refl, sym, ap, ◌∙◌, subst, arith}
+use Rattle.std.specs.Prelude.{slice_get, All}
 use Rattle.std.proofs.lemmas.Option.{slice_get_within, get_or_from_slice_get}
 use Rattle.im_rv.specs.declared.instr.Op.TheVariants.{Bgeu, Lw, Sw, Addi}
 use Rattle.im_rv.specs.Lines.{CodeLine, plain_line}
-use Rattle.im_reach.specs.Instructions.{with_immediate, storing, branching, jumping}
-use Rattle.im_rtlib.specs.Laws.{is_saved}
+use Rattle.im_reach.specs.Instructions.{with_immediate, storing, branching}
 use Rattle.im_rtlib.specs.Routines.{stack_label}
 use Rattle.im_store.specs.Objects.{Name}
 use Rattle.im_block.specs.declared.code.Block.{Block}
 use Rattle.im_block.specs.declared.unit.Function.{Function}
-use Rattle.im_block.specs.Wellformed.{LineThere, ExitThere, IsBlock, IsFunction}
-use Rattle.im_placed.specs.Placed.{IsPlacedBlock, IsPlacedFunction}
+use Rattle.im_block.specs.Wellformed.{LineThere, ExitThere, IsBlock}
+use Rattle.im_placed.specs.Placed.{IsPlacedBlock}
 use Rattle.im_alloc.specs.Live.{lives}
-use Rattle.im_alloc.specs.Settled.{SettlesCalls, IsSettledFunction}
-use Rattle.im_selecting.specs.Emitted.{entry_label, labelled, call_code, adds_code, block_code, blocks_code, enter_code, prologue_code, function_code}
+use Rattle.im_alloc.specs.Settled.{SettlesCalls}
+use Rattle.im_selecting.specs.Emitted.{entry_label, labelled, call_code, adds_code, block_code, blocks_code, enter_code, prologue_code}
 use Rattle.im_live_lines.specs.Scan.{After, scan, AreSound}
 use Rattle.im_live_lines.specs.Laws.{IsLow, HasEntries, HasBlocks, FunctionLinesLaw}
-use Rattle.im_live_lines.proofs.Scanning.{either, IsUnsaved, unsaved_not, unsaved_true, or_unsaved, scan_append, sound_append, sound_labelled, Lives, First, Second, Later, line_lives, plain_sound, Wants, plain_wants}
+use Rattle.im_live_lines.proofs.Scanning.{either, IsUnsaved, unsaved_not, unsaved_true, or_unsaved, scan_append, sound_append, sound_labelled, Lives, First, Second, Later, line_lives, plain_sound, plain_wants}
 use Rattle.im_live_lines.proofs.Plain.{adds_plain, adds_wants}
 use Rattle.im_live_lines.proofs.Selected.{jump_before, jump_sound, body, body_before, body_sound}
 

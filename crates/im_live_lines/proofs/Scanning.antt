@@ -1,11 +1,9 @@
 -- Lines one after another, and lines that go on to the next.
-use Rattle.std.proofs.Common.{◌≡◌, ◌≢◌, ℕ, zero, suc, ◌+◌, ◌<◌, ◌≤◌, ◌⊎◌, inl, inr, Bool, true, false, List, [], ◌∷◌, ◌++◌, Option, Some, None, refl, sym, ap, ◌∙◌, subst, arith, eq-eqb}
-use Rattle.std.specs.Prelude.{◌==◌, ◌&&◌, ◌||◌, not, nat_lt, nat_le, cond}
+use Rattle.std.proofs.Common.{◌≡◌, ◌≢◌, ℕ, ◌⊎◌, inl, inr, Bool, true, false, List, [], ◌∷◌, ◌++◌, None, refl, sym, ap, ◌∙◌, subst, arith, eq-eqb}
+use Rattle.std.specs.Prelude.{◌==◌, ◌&&◌, ◌||◌, not}
 use Rattle.std.proofs.lemmas.Bool.Decides.{nat_tests}
-use Rattle.im_rv.specs.Decode.{Line}
-use Rattle.im_rv.specs.Lines.{CodeLine, plain_line}
-use Rattle.im_gap.specs.declared.flow.Turn.{Turn}
-use Rattle.im_gap.specs.declared.flow.Turn.TheVariants.{Passes, Jumps, Branches, Returns, Stops}
+use Rattle.im_rv.specs.Lines.{CodeLine}
+use Rattle.im_gap.specs.declared.flow.Turn.TheVariants.{Passes}
 use Rattle.im_rtlib.specs.Laws.{is_saved}
 use Rattle.im_selecting.specs.Emitted.{labelled}
 use Rattle.im_live_lines.specs.Scan.{way, After, onward, lives_at, before, scan, Goes, IsSoundLine, AreSound}

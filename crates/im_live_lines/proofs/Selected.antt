@@ -1,5 +1,5 @@
 -- The lines of a block, selected: what lives before them, and that they are sound.
-use Rattle.std.proofs.Common.{◌≡◌, ◌≢◌, ℕ, zero, suc, ◌+◌, ◌<◌, ◌≤◌, ◌⊎◌, inl, inr, Bool, true, false, cond, List, [], ◌∷◌, ◌++◌, Option, Some, None, length, refl, sym, ap, ◌∙◌, subst, arith}
+use Rattle.std.proofs.Common.{◌≡◌, ◌≢◌, ℕ, ◌+◌, ◌<◌, ◌≤◌, ◌⊎◌, inl, inr, Bool, true, false, cond, List, [], ◌∷◌, ◌++◌, Option, Some, None, refl, sym, ap, ◌∙◌, arith}
 use Rattle.std.specs.Prelude.{◌==◌, ◌&&◌, ◌||◌, not, nat_lt, nat_le, slice_get, All}
 use Rattle.std.proofs.lemmas.Bool.Decides.{nat_tests}
 use Rattle.std.proofs.lemmas.List.Elements.{All-head, All-tail}
@@ -23,11 +23,11 @@ use Rattle.im_placed.specs.Placed.{IsPlacedLine, IsPlacedExit}
 use Rattle.im_alloc.specs.Live.{place_uses, uses, sets, exit_lives, lives}
 use Rattle.im_alloc.specs.Settled.{SettlesCalls}
 use Rattle.im_selecting.specs.Emitted.{checkpoint_label, entry_label, cut_code, call_code, line_code, lines_code, adds_code, leave_code, branch_code, exit_code}
-use Rattle.im_live_lines.specs.Scan.{After, scan, lives_at, Goes, GoesTo, IsSoundLine, AreSound}
+use Rattle.im_live_lines.specs.Scan.{After, scan, AreSound}
 use Rattle.im_live_lines.specs.Laws.{IsLow, HasEntries, HasBlocks}
 use Rattle.im_live_lines.proofs.Scanning.{both, both_are, either, or_left, or_right, not_true, same_of, same_is, IsUnsaved, unsaved_not, unsaved_true, or_unsaved, scan_append, sound_append, Lives, First, Second, Later, line_lives, plain_sound, Wants, plain_wants}
 use Rattle.im_live_lines.proofs.Plain.{adds_plain, adds_wants}
-use Rattle.im_live_lines.proofs.Working.{IsWork, work_plain, work_wants}
+use Rattle.im_live_lines.proofs.Working.{work_plain, work_wants}
 
 -- ---- registers that lines of placed code use are homes
 

@@ -1,13 +1,12 @@
 -- A line that is neither a cut nor a call: selected, it uses and sets what it does in placed code, beside registers that each cut saves.
-use Rattle.std.proofs.Common.{◌≡◌, ◌≢◌, ℕ, ◌+◌, ◌⊎◌, inl, inr, Bool, true, false, List, [], ◌∷◌, ◌++◌, refl, sym, ap, ◌∙◌, arith}
+use Rattle.std.proofs.Common.{◌≡◌, ◌≢◌, ℕ, ◌⊎◌, inl, inr, Bool, true, false, refl}
 use Rattle.std.specs.Prelude.{◌==◌, ◌||◌, if◌then◌else◌}
 use Rattle.im_num.specs.declared.kind.Kind.{Kind}
 use Rattle.im_num.specs.declared.kind.Kind.TheVariants.{I8, U8, I16, U16, I32, U32, Ptr}
 use Rattle.im_num.specs.Kinds.{word}
 use Rattle.im_rv.specs.declared.instr.Op.TheVariants.{Srli, Srai}
-use Rattle.im_rv.specs.Lines.{CodeLine}
 use Rattle.im_gap.specs.declared.flow.Turn.TheVariants.{Passes}
-use Rattle.im_operators.specs.Tables.{operation, less_op, load_op, store_op}
+use Rattle.im_operators.specs.Tables.{less_op}
 use Rattle.im_store.specs.declared.operators.UnaryOp.TheVariants.{Negate, Complement}
 use Rattle.im_store.specs.declared.operators.Comparison.{Comparison}
 use Rattle.im_store.specs.declared.operators.Comparison.TheVariants.{Less, Greater, LessOrEqual, GreaterOrEqual, Equal, NotEqual}

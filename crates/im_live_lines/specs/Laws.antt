@@ -1,8 +1,7 @@
 -- That lines are sound: those of a settled function, and the runtime's routines.
-use Rattle.std.specs.Prelude.{◌≡◌, ◌<◌, ◌≤◌, ◌⊎◌, ℕ, ◌+◌, Bool, true, List, Some, length, slice_get, All}
+use Rattle.std.specs.Prelude.{◌≡◌, ◌<◌, ◌≤◌, ◌⊎◌, ℕ, ◌+◌, Bool, true, List, Some, length, slice_get}
 use Rattle.im_rtlib.specs.Laws.{is_saved}
 use Rattle.im_rtlib.specs.Routines.{getchar, putchar, exit, stack}
-use Rattle.im_rv.specs.Lines.{CodeLine}
 use Rattle.im_store.specs.Objects.{Name}
 use Rattle.im_block.specs.declared.unit.Function.{Function}
 use Rattle.im_block.specs.Wellformed.{IsFunction}
