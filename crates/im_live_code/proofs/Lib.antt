@@ -2,4 +2,5 @@ pub mod Labels
 pub mod Lists
 pub mod Parts
 pub mod Words
+pub mod Living
 pub mod Whole

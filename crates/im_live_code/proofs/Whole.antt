@@ -30,7 +30,8 @@ use Rattle.im_linked.proofs.Standing.{behind}
 use Rattle.im_live_lines.specs.Scan.{nothing, lives_at}
 use Rattle.im_live_code.specs.Laws.{IsLiveCode, LiveCodeLaw}
 use Rattle.im_live_code.proofs.Lists.{parts_sound, code_at}
-use Rattle.im_live_code.proofs.Words.{Word, word_of, no_word, IsLaidOut, live, liveness, enters, lives_here}
+use Rattle.im_live_code.proofs.Words.{Word, word_of, no_word}
+use Rattle.im_live_code.proofs.Living.{IsLaidOut, live, liveness, enters, lives_here}
 use Rattle.im_live_code.proofs.Parts.{code_is, at, low, begins_saved, part_sound, IsRuntimeLine, recovery_line, checkpoint_line}
 
 -- ---- the first two parts are the runtime

@@ -1,0 +1,4 @@
+pub mod Front
+pub mod Labels
+pub mod Memory
+pub mod Objects

@@ -1,0 +1,5 @@
+use Rattle.im_packed.proofs.Memory.{loaded}
+use Rattle.im_packed.proofs.laws.loaded_law.Goals as goal
+
+pub returns : goal.returns
+returns c = loaded
