@@ -1,7 +1,8 @@
 -- What the machine follows by the law of selection, as the record of passes says it.
-use Rattle.std.proofs.Common.{◌≡◌, ◌≢◌, ℕ, suc, ◌+◌, ◌<◌, ◌≤◌, Bool, true, false, Some, None, List, ◌++◌, length, refl, sym, ap, ◌∙◌, subst, arith}
+use Rattle.std.proofs.Common.{◌≡◌, ◌≢◌, ℕ, suc, ◌+◌, ◌<◌, ◌≤◌, true, false, Some, None, List, ◌++◌, length, refl, sym, ap, ◌∙◌, subst, arith}
 use Rattle.std.specs.Prelude.{ℤ, ◌||◌}
 use Rattle.std.specs.Int.{cast_signed, w32}
+use Rattle.std.proofs.lemmas.Bool.{or_right}
 use Rattle.im_num.specs.declared.kind.Kind.TheVariants.{I32}
 use Rattle.im_num.specs.Kinds.{IsOfKind, word}
 use Rattle.im_num.proofs.Wrapping.{wrap-same}
@@ -20,14 +21,11 @@ use Rattle.im_device.specs.Shows.{output_of, reason_of, status_of}
 use Rattle.im_operators.proofs.Words.{wrap_signed}
 use Rattle.im_ckpt.specs.Runs.{State, line_at, effect_at, ends, writes}
 use Rattle.im_ckpt.specs.Buffers.{is_buffer, is_fixed}
-use Rattle.im_ckpt.specs.Recovery.{recovery_words}
-use Rattle.im_ckpt.specs.Checkpoint.{checkpoint_start, checkpoint_words}
-use Rattle.im_device.specs.Run.{index_of}
 use Rattle.im_ckpt.specs.Laws.{is_runtime}
 use Rattle.im_replay.specs.Output.{Extends}
 use Rattle.im_replay.proofs.Bridge.{off_of}
 use Rattle.im_replay.proofs.Endless.{is_run}
-use Rattle.im_replay.proofs.Images.{bytes, zeros, words as register_words}
+use Rattle.im_replay.proofs.Images.{bytes}
 use Rattle.im_statics.specs.Named.{ShownLaw}
 use Rattle.im_store.specs.Outcomes.{Outcome, Undef, More, End, IsDefined}
 use Rattle.im_typed.specs.Sound.{EndsRight}
@@ -45,25 +43,25 @@ use Rattle.im_written.specs.Written.{code_end, IsLoaded, IsBegun}
 use Rattle.im_written.specs.Laws.{WrittenLaw}
 use Rattle.im_passes.specs.Machine.{EndsBefore, ShowsAfter, Follows, Executes}
 use Rattle.im_passes.specs.Passes.{IsSelectable}
-use Rattle.im_executes.specs.Executing.{first_cpu, cuts, IsInImage, ShowsObjects, KeepsToCode, IsSteady, Completes}
+use Rattle.im_executes.specs.Executing.{first_cpu, cuts, IsInImage, ShowsObjects, HasLiveness}
+use Rattle.im_live.specs.Laws.{KeepsToCode, LivesUntil}
+use Rattle.im_live_image.specs.Laws.{ImageLaw}
+use Rattle.im_flow.specs.Flows.{IsAt}
+use Rattle.im_survives.proofs.Returning.{place_of_word}
 use Rattle.im_executes.specs.Laws.{ExecutesLaw, ObjectsLaw}
 use Rattle.im_executes.proofs.Mirror.{Mirrors, mirrors, stands}
 use Rattle.im_executes.proofs.Cuts.{run_few}
 use Rattle.im_executes.proofs.Stores.{stores_few}
 use Rattle.im_survives.proofs.Effects.{touches_same, writes_none, reads_apart, extends_shown, halt_is}
-use Rattle.im_survives.proofs.Fetches.{fetches}
+use Rattle.im_survives.proofs.Fetches.{fetches, even_at}
 use Rattle.im_executes.proofs.Steps.{few_steps, few_cuts}
-
-fixed_too : (b c : Bool) → c ≡ true → (b || c) ≡ true
-fixed_too true c h = refl
-fixed_too false c h = h
 
 halted_one : (w : Went) → w ≢ On → ((at : ℕ) → w ≢ Faulted at) → w ≡ Halted
 halted_one On over calm = absurd (over refl)
 halted_one Halted over calm = refl
 halted_one (Faulted at) over calm = absurd (calm at refl)
 
-module _ (keeps : SelectKeeps) (written : WrittenLaw) (survives : SurvivesLaw) (image : ImageValue) (input : List ℕ) (u : Code) (g : Setting) (p : Linking) (fits : IsInput input) (code : IsSelectable u) (within : IsInImage image input u g p) (objects : ShowsObjects image input u p) (rest : Completes image input) where
+module _ (keeps : SelectKeeps) (written : WrittenLaw) (survives : SurvivesLaw) (lives : ImageLaw) (image : ImageValue) (input : List ℕ) (u : Code) (g : Setting) (p : Linking) (fits : IsInput input) (code : IsSelectable u) (within : IsInImage image input u g p) (objects : ShowsObjects image input u p) (rest : HasLiveness image) where
   abbrev r : ℕ → State
   r = run_of image input
 
@@ -150,6 +148,13 @@ module _ (keeps : SelectKeeps) (written : WrittenLaw) (survives : SurvivesLaw) (
     fetches_at : (t : ℕ) → t < f.j → (4096 ≤ (r t).cpu.pc) × ((r t).cpu.pc + 4 ≤ code_end image)
     fetches_at t lt = ((plain_at t lt).inside.0, fetches r (is_run (memory_of image input)) f.j (length image.words) plain_at calm_at beyond_at t lt)
 
+    places_at : (t : ℕ) → t < f.j → (i : ℕ) × (i < length image.words) × IsAt r t i
+    places_at t lt =
+        let q = place_of_word (r t).cpu.pc (even_at r (is_run (memory_of image input)) f.j (length image.words) plain_at calm_at beyond_at t lt) (fetches_at t lt).0 in
+        let e = q.1 in
+        let high = (fetches_at t lt).1 in
+        (q.0, (omega arith), e)
+
     writes_at : (t a : ℕ) → t < f.j → is_runtime (r t).cpu.pc ≡ false → (is_buffer a || is_fixed (code_end image) a) ≡ true → writes r t a ≡ None
     writes_at t a lt out there = writes_none (code_end image) a (effect_at (r t)) code_low (allowed_at t lt out) there
 
@@ -170,29 +175,17 @@ module _ (keeps : SelectKeeps) (written : WrittenLaw) (survives : SurvivesLaw) (
         beyond = beyond_at;
       }
 
-      keeps_to : KeepsToCode image.words image.entry r f.j
+      keeps_to : KeepsToCode image.words r f.j
       keeps_to = record {
-        few = written.few image within.written;
-        based = record {
-          steps = is_run (memory_of image input);
-          long = written.long image within.written;
-          recovery = subst (λ (m : Mem). Stands m 4096 recovery_words) (sym first.mem) loaded.recovery;
-          checkpoint = subst (λ (m : Mem). Stands m checkpoint_start checkpoint_words) (sym first.mem) loaded.checkpoint;
-        };
-        first = has_code.code;
-        entered = first.pc;
-        index_first = subst (λ (m : Mem). index_of m < 2) (sym first.mem) (subst (λ z. z < 2) (sym loaded.index) (omega arith));
-        zero_reg = zeros (memory_of image input) loaded.resumes;
-        small = register_words (memory_of image input) loaded.resumes;
-        no_fault = calm_at;
-        fetches = fetches_at;
-        writes_plain = λ t a lt out there. writes_at t a lt out (fixed_too (is_buffer a) (is_fixed (code_end image) a) there);
+        places = places_at;
+        calm = calm_at;
+        writes_plain = λ t a lt out there. writes_at t a lt out (or_right (is_buffer a) (is_fixed (code_end image) a) there);
         returns = survives.returns image.words r f.j plainly has_code;
       }
 
       owes : OwesUntil image.words (code_end image) r f.j
       owes =
-          let x : IsSteady image.words r f.j = rest.steady f.j keeps_to in
+          let x : LivesUntil image.words r f.j = lives image input rest.live f.j fits within.written rest.saved rest.enters keeps_to in
           let y : IsSectioned r f.j = survives.sectioned r f.j plainly in
           record {
             safely = record {
@@ -214,7 +207,7 @@ module _ (keeps : SelectKeeps) (written : WrittenLaw) (survives : SurvivesLaw) (
             };
             flows = record {
               returns = survives.returns image.words r f.j plainly has_code;
-              cuts = x.links_cuts;
+              cuts = x.linked;
             };
           }
 
@@ -246,8 +239,8 @@ module _ (keeps : SelectKeeps) (written : WrittenLaw) (survives : SurvivesLaw) (
     follows = follows;
   }
 
-pub executes : SelectKeeps → WrittenLaw → SurvivesLaw → ExecutesLaw
-executes keeps written survives image input u g p fits code within objects rest = all keeps written survives image input u g p fits code within objects rest
+pub executes : SelectKeeps → WrittenLaw → SurvivesLaw → ImageLaw → ExecutesLaw
+executes keeps written survives lives image input u g p fits code within objects rest = all keeps written survives lives image input u g p fits code within objects rest
 
 pub named : ShownLaw → WrittenLaw → ObjectsLaw
 named shown_law written image input u g p fits code within numbers are = record {

@@ -1,5 +1,6 @@
 ghost use Rattle.im_executes.specs.Laws.{ExecutesLaw, ObjectsLaw};
 
+use im_live_image::image_law;
 use im_select::select_keeps_law;
 use im_statics::shown_law;
 use im_survives::survives_law;
@@ -13,6 +14,7 @@ pub fn executes_law()
     select_keeps_law();
     written_law();
     survives_law();
+    image_law();
 }
 
 /// Where statics hold no pointers, the image's objects show them.

@@ -62,3 +62,10 @@ module _ (run : ℕ → State) (steps : IsRun run) (j words : ℕ) (plain : (t :
     | inl far ↦ absurd (behind t lt far (is_place (run t).cpu.pc 4) refl)
     | inr near ↦ near
   ]
+
+  even_by : (t : ℕ) → t < j → (b : Bool) → is_place (run t).cpu.pc 4 ≡ b → (run t).cpu.pc % 4 ≡ 0
+  even_by t lt true e = place_even (run t).cpu.pc e
+  even_by t lt false e = absurd (nowhere t None lt (ap (λ b. cond b (Some (little (run t).mem (run t).cpu.pc 4)) None) e) refl)
+
+  pub even_at : (t : ℕ) → t < j → (run t).cpu.pc % 4 ≡ 0
+  even_at t lt = even_by t lt (is_place (run t).cpu.pc 4) refl

@@ -39,7 +39,7 @@ no_word i words past e =
     let bad : Stops ≡ Returns = sym (ap (λ z. turn_of (decoded_word z)) (slice_get_past words i past)) ∙ e in
     cc
 
-place_of_word : (a : ℕ) → a % 4 ≡ 0 → 4096 ≤ a → (i : ℕ) × (a ≡ address i)
+pub place_of_word : (a : ℕ) → a % 4 ≡ 0 → 4096 ≤ a → (i : ℕ) × (a ≡ address i)
 place_of_word a even low = ((a - 4096) / 4, omega arith)
 
 module _ (run : ℕ → State) (j : ℕ) (p : GoesPlainly run j) (words : List ℕ) (h : HasCode words run) where

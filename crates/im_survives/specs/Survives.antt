@@ -29,11 +29,16 @@ pub record GoesPlainly (run : ℕ → State) (j : ℕ) : Type 0 where
 
 -- of all memory: each clause as `OwesUntil` tells it
 pub record IsSectioned (run : ℕ → State) (j : ℕ) : Type 0 where
-  pub no_war : (t u a : ℕ) → t ≤ u → u < j → start (flip run) t ≡ start (flip run) u → is_runtime (run t).cpu.pc ≡ false → is_runtime (run u).cpu.pc ≡ false
+  pub no_war : (t u a : ℕ) → t ≤ u → u < j → start (flip run) t ≡ start (flip run) u
+      → is_runtime (run t).cpu.pc ≡ false → is_runtime (run u).cpu.pc ≡ false
       → reads run t a ≡ true → wrote (flip run) (writes run) t a ≡ false → writes run u a ≡ None
-  pub one_store : (t u a v w : ℕ) → t < j → u < j → start (flip run) t ≡ start (flip run) u → flip run t ≡ false → flip run u ≡ false → writes run t out_sel_at ≡ Some v → is_buffer a ≡ false → writes run u a ≡ Some w → (u ≡ t) × (a ≡ out_sel_at)
-  pub first_length : (t a v : ℕ) → t < j → flip run t ≡ false → out_len0_at ≤ a → a < out_len0_at + 4 → writes run t a ≡ Some v → (run (start (flip run) t)).mem out_sel_at ≢ 0
-  pub second_length : (t a v : ℕ) → t < j → flip run t ≡ false → out_len1_at ≤ a → a < out_len1_at + 4 → writes run t a ≡ Some v → (run (start (flip run) t)).mem out_sel_at ≡ 0
+  pub one_store : (t u a v w : ℕ) → t < j → u < j → start (flip run) t ≡ start (flip run) u
+      → flip run t ≡ false → flip run u ≡ false → writes run t out_sel_at ≡ Some v
+      → is_buffer a ≡ false → writes run u a ≡ Some w → (u ≡ t) × (a ≡ out_sel_at)
+  pub first_length : (t a v : ℕ) → t < j → flip run t ≡ false → out_len0_at ≤ a → a < out_len0_at + 4
+      → writes run t a ≡ Some v → (run (start (flip run) t)).mem out_sel_at ≢ 0
+  pub second_length : (t a v : ℕ) → t < j → flip run t ≡ false → out_len1_at ≤ a → a < out_len1_at + 4
+      → writes run t a ≡ Some v → (run (start (flip run) t)).mem out_sel_at ≡ 0
 
 -- these words alone stand in the region of the code at first
 pub record HasCode (words : List ℕ) (run : ℕ → State) : Type 0 where
@@ -42,8 +47,11 @@ pub record HasCode (words : List ℕ) (run : ℕ → State) : Type 0 where
   pub beyond : (a : ℕ) → address (length words) ≤ a → a < statics_start → (run 0).mem a ≡ 0
 
 abbrev pub ReturnsBehindCalls : List ℕ → (ℕ → State) → ℕ → Type 0
-ReturnsBehindCalls words run j = (t i : ℕ) → t < j → is_runtime (run t).cpu.pc ≡ false → IsAt run t i → turn_of (instruction_at words i) ≡ Returns → GoesBehindCall words run t
+ReturnsBehindCalls words run j =
+    (t i : ℕ) → t < j → is_runtime (run t).cpu.pc ≡ false → IsAt run t i → turn_of (instruction_at words i) ≡ Returns
+    → GoesBehindCall words run t
 
 pub record SurvivesLaw : Type 0 where
   pub sectioned : (run : ℕ → State) (j : ℕ) → GoesPlainly run j → IsSectioned run j
-  pub returns : (words : List ℕ) (run : ℕ → State) (j : ℕ) → GoesPlainly run j → HasCode words run → ReturnsBehindCalls words run j
+  pub returns : (words : List ℕ) (run : ℕ → State) (j : ℕ) → GoesPlainly run j → HasCode words run
+      → ReturnsBehindCalls words run j
