@@ -15,7 +15,7 @@ use Rattle.im_device_laws.proofs.Loaded.{loaded_small}
 use Rattle.im_reach.specs.Shown.{shown, left}
 use Rattle.im_reach.specs.Routines.{Words}
 use Rattle.im_keeps.specs.Keeps.{IsInput}
-use Rattle.im_packed.specs.Laws.{LoadedLaw}
+use Rattle.im_packed.specs.Laws.{LoadsLaw}
 
 -- ---- pieces of memory
 
@@ -220,7 +220,7 @@ module _ (image : ImageValue) (input : List ℕ) where
         bytes = loaded_small image input is fits.bytes;
       }
 
-pub loaded : LoadedLaw
+pub loaded : LoadsLaw
 loaded u statics layouts linked stack out_cap image input packed is fits =
     let short = fits.short in
     record {

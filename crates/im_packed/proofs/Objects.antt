@@ -36,7 +36,7 @@ use Rattle.im_pack.proofs.Views.{index_left}
 use Rattle.im_pack.proofs.Statics.{object_is}
 use Rattle.im_pack.proofs.Whole.{is_static}
 use Rattle.im_packed.specs.Places.{linking_in}
-use Rattle.im_packed.specs.Laws.{AreStaticsAt, ObjectsLaw, NamedLaw}
+use Rattle.im_packed.specs.Laws.{AreStaticsAt, HoldsObjectsLaw, NamedLaw}
 use Rattle.im_packed.proofs.Memory.{statics_there}
 
 -- ---- the cell at an offset, and its first value
@@ -168,7 +168,7 @@ moved_bytes m n d limit same (suc k) a h =
     ∙ ap (λ z. n a + 256 * little m z k) e
     ∙ ap (λ z. n a + 256 * z) (moved_bytes m n d limit same k (a + 1) (omega arith))
 
-pub objects : ObjectsLaw
+pub objects : HoldsObjectsLaw
 objects u statics layouts parts code stack out_cap image input well at layouts_are packed is = record {
   frames = frames u statics layouts p well (count u statics layouts p at (λ a. refl) (λ a. refl)) layouts_are (λ a. refl) (λ a. refl);
   sizes = λ i l e. frame_at layouts i l e;

@@ -42,14 +42,14 @@ abbrev pub PlacesLaw : Type 0
 PlacesLaw = (parts : List Part) (code : Linked) → IsLinkable parts → IsLinkedCode parts code → ArePlaces parts (place_of parts)
 
 -- the low page, the code and the input are in memory
-abbrev pub LoadedLaw : Type 0
-LoadedLaw =
+abbrev pub LoadsLaw : Type 0
+LoadsLaw =
     (u : Code) (statics : List ℕ) (layouts : List Layout) (code : Linked) (stack out_cap : ℕ) (image : ImageValue) (input : List ℕ) →
     IsPacked u statics code stack out_cap image → IsImage image → IsInput input → IsLoaded (memory_of image input) (setting_of layouts image input) code
 
 -- so are the first values of the statics
-abbrev pub ObjectsLaw : Type 0
-ObjectsLaw =
+abbrev pub HoldsObjectsLaw : Type 0
+HoldsObjectsLaw =
     (u : Code) (statics : List ℕ) (layouts : List Layout) (parts : List Part) (code : Linked) (stack out_cap : ℕ) (image : ImageValue) (input : List ℕ) →
     IsWellFormed u → AreStaticsAt u statics → AreLayouts u.functions.items layouts → IsPacked u statics code stack out_cap image → IsImage image →
     HasObjects u statics layouts (linking_in u statics layouts parts code image input) (setting_of layouts image input)

@@ -1,4 +1,4 @@
-ghost use Rattle.im_packed.specs.Laws.{LoadableLaw, LoadedLaw, NamedLaw, ObjectsLaw, PackedLaw, PlacesLaw};
+ghost use Rattle.im_packed.specs.Laws.{LoadableLaw, LoadsLaw, NamedLaw, HoldsObjectsLaw, PackedLaw, PlacesLaw};
 
 /// Linked code may be packed.
 pub fn loadable_law()
@@ -16,13 +16,13 @@ pub fn places_law()
 {}
 
 /// Memory, as a packed image is loaded, holds the low page, the code and the input.
-pub fn loaded_law()
-    ensures { LoadedLaw }
+pub fn loads_law()
+    ensures { LoadsLaw }
 {}
 
 /// Memory, as a packed image is loaded, holds the first values of the statics.
-pub fn objects_law()
-    ensures { ObjectsLaw }
+pub fn holds_objects_law()
+    ensures { HoldsObjectsLaw }
 {}
 
 /// A packed image names the statics in order, at their places, with their cells.

@@ -3,4 +3,4 @@
 
 mod laws;
 
-pub use laws::{loadable_law, loaded_law, named_law, objects_law, packed_law, places_law};
+pub use laws::{holds_objects_law, loadable_law, loads_law, named_law, packed_law, places_law};

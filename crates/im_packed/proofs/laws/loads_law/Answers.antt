@@ -1,5 +1,5 @@
 use Rattle.im_packed.proofs.Memory.{loaded}
-use Rattle.im_packed.proofs.laws.loaded_law.Goals as goal
+use Rattle.im_packed.proofs.laws.loads_law.Goals as goal
 
 pub returns : goal.returns
 returns c = loaded
