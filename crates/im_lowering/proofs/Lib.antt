@@ -4,3 +4,4 @@ pub mod Taken
 pub mod FunctionsMore
 pub mod StaticParts
 pub mod MarkLists
+pub mod Told

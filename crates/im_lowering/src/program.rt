@@ -1,4 +1,5 @@
-ghost use Rattle.std.specs.Prelude.{IfOk};
+ghost use Rattle.std.specs.Prelude.{◌<◌, ◌-◌, ◌^◌, All, IfOk};
+ghost use Rattle.im_block.specs.declared.unit.Function.{Function as BlockFunction};
 ghost use Rattle.im_lower.specs.Lowered.{AreSized, IsLowered};
 ghost use Rattle.im_lowering.specs.Small.{IsSmall};
 ghost use Rattle.im_placed.specs.Apart.{AllUncut};
@@ -25,6 +26,8 @@ pub fn lower(alloc: Global, prog: &Prog) -> Result<Unit, NoMemory>
     ensures sized { IfOk result (λ unit. IsSmall (program_of prog.now) → AreSized (program_of prog.now) unit) }
     ensures placeable { IfOk result (λ unit. IsSmall (program_of prog.now) → IsPlaceable unit) }
     ensures uncut { IfOk result (λ unit. IsSmall (program_of prog.now) → AllUncut unit) }
+    ensures told { IfOk result (λ unit.
+        All (λ (f : BlockFunction). f.need < 2 ^ 64 - 1) unit.functions.items) }
 {
     made_law();
     sized_law();

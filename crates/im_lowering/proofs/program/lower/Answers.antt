@@ -3,6 +3,7 @@ use Rattle.im_typed.specs.declared.program.Static.{Static}
 use Rattle.im_typed.specs.ProgramOf.{static_of}
 use Rattle.im_block.specs.declared.unit.Unit.{Unit as Code}
 use Rattle.im_made.specs.MakeUnit.{UnitMade}
+use Rattle.im_lowering.proofs.Told.{all_told}
 use Rattle.im_lowering.proofs.program.lower.Goals as goal
 
 abbrev Made_unit : goal.In_ok-functions → Code
@@ -27,3 +28,6 @@ returns-clause-placeable c = λ small. c.sized_law.ensures.placeable c.args.prog
 
 pub returns-clause-uncut : goal.returns-clause-uncut
 returns-clause-uncut c = λ small. c.sized_law.ensures.uncut c.args.prog.now (Made_unit c) (made c) small.typed small.within
+
+pub returns-clause-told : goal.returns-clause-told
+returns-clause-told c = all_told c.args.prog.now c.in_ok-functions.functions.items c.in_ok-functions.ensures
