@@ -1,0 +1,57 @@
+-- Layouts, addresses and names make a unit that may be assembled.
+use Rattle.std.proofs.Common.{◌≡◌, ◌≤◌, ◌<◌, ℕ, zero, suc, ◌+◌, ◌*◌, List, [], ◌∷◌, length, map, Some, refl, sym, ap, ◌∙◌, subst, arith}
+use Rattle.std.specs.Prelude.{◌/◌, slice_get, slice_index}
+use Rattle.std.proofs.lemmas.List.{length-map}
+use Rattle.im_mem.specs.Map.{statics_start, statics_capacity}
+use Rattle.im_typed.specs.declared.program.Prog.{Prog}
+use Rattle.im_block.specs.declared.unit.Object.{Object}
+use Rattle.im_block.specs.declared.unit.Static.{Static as StaticOf}
+use Rattle.im_block.specs.declared.unit.Function.{Function}
+use Rattle.im_block.specs.declared.unit.Unit.{Unit as Code}
+use Rattle.im_frame.specs.declared.layout.Layout.{Layout}
+use Rattle.im_frame.specs.Layout.{room, rooms, places_from}
+use Rattle.im_addresses.specs.Addresses.{AreLayouts}
+use Rattle.im_addresses.specs.Statics.{objects_of}
+use Rattle.im_assemble.specs.declared.program.Program.{Program}
+use Rattle.im_assemble.specs.Assembled.{IsAssemblable}
+use Rattle.im_compile.specs.Passed.{IsReady}
+
+places_count : (start : ℕ) (os : List Object) → length (places_from start os) ≡ length os
+places_count start [] = refl
+places_count start (o ∷ os) = ap (λ n. suc n) (places_count (start + room o.size) os)
+
+-- each place stands before where all end
+place_below : (start : ℕ) (os : List Object) (n : ℕ) → n < length (places_from start os) → slice_index (places_from start os) n < start + rooms os
+place_below start [] n h = absurd (omega (arith, h))
+place_below start (o ∷ os) zero h =
+    let some : 0 < room o.size = omega arith in
+    omega (arith, some)
+place_below start (o ∷ os) (suc n) h =
+    let t = place_below (start + room o.size) os n (omega (arith, h)) in
+    omega (arith, t)
+
+pub assemblable : (prog : Prog) (program : Program) → IsReady prog program.unit.now → AreLayouts program.unit.now.functions.items program.layouts.now →
+    program.statics.now ≡ places_from statics_start (objects_of program.unit.now.statics.items) → length program.names.now ≡ length prog.funcs.items → IsAssemblable program
+assemblable prog program ready layouts statics names =
+    let objects = objects_of program.unit.now.statics.items in
+    record {
+      well_formed = ready.well_formed;
+      placed = ready.placed;
+      count = layouts.count;
+      layouts = layouts.each;
+      names = names ∙ sym ready.count;
+      statics = ap (λ (l : List ℕ). length l) statics ∙ places_count statics_start objects ∙ length-map {A = StaticOf} program.unit.now.statics.items (λ (s : StaticOf). s.object);
+      low = λ n h.
+          let below : n < length (places_from statics_start objects) = subst (λ (l : List ℕ). n < length l) statics h in
+          let less = place_below statics_start objects n below in
+          let all = ready.room in
+          subst (λ (l : List ℕ). slice_index l n < statics_start + statics_capacity) (sym statics) (omega (arith, less, all));
+    }
+
+-- what was made of slices of a unit
+
+pub laid_out : (u : Code) (fs : List Function) (made ls : List Layout) → fs ≡ u.functions.items → ls ≡ made → AreLayouts fs made → AreLayouts u.functions.items ls
+laid_out u fs made ls a b h = subst (λ (k : List Layout). AreLayouts u.functions.items k) (sym b) (subst (λ (k : List Function). AreLayouts k made) a h)
+
+pub placed_at : (u : Code) (ss : List StaticOf) (made addresses : List ℕ) → ss ≡ u.statics.items → addresses ≡ made → made ≡ places_from statics_start (objects_of ss) → addresses ≡ places_from statics_start (objects_of u.statics.items)
+placed_at u ss made addresses a b h = b ∙ h ∙ ap (λ (k : List StaticOf). places_from statics_start (objects_of k)) a

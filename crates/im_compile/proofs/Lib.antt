@@ -1,0 +1,4 @@
+mod Faulty
+mod Ready
+mod Layouts
+mod Rows

@@ -1,0 +1,70 @@
+-- Why a program has no image.
+use Rattle.std.specs.Prelude.{◌≡◌, ◌<◌, ◌≤◌, ℕ, List, Some, slice_get}
+use Rattle.im_mem.specs.Map.{statics_start}
+use Rattle.im_rv.specs.declared.code.Part.{Part}
+use Rattle.im_rv.specs.declared.code.Code.{Code as Linked}
+use Rattle.im_link.specs.Parts.{byte_count}
+use Rattle.im_link.specs.Code.{IsLinked, byte_limit, told_count}
+use Rattle.im_gap.specs.Gap.{HasGap}
+use Rattle.im_typed.specs.declared.program.Prog.{Prog}
+use Rattle.im_block.specs.declared.unit.Function.{Function}
+use Rattle.im_block.specs.declared.unit.Unit.{Unit as Code}
+use Rattle.im_frame.specs.declared.layout.Layout.{Layout}
+use Rattle.im_frame.specs.Layout.{bytes_of, places_from}
+use Rattle.im_addresses.specs.Addresses.{AreLayouts}
+use Rattle.im_addresses.specs.Statics.{objects_of}
+use Rattle.im_linked.specs.Program.{IsProgram}
+use Rattle.im_pack.specs.Packed.{IsUnnamed}
+use Rattle.im_compile.specs.declared.fault.CompileFault.{CompileFault}
+use Rattle.im_compile.specs.declared.fault.CompileFault.TheVariants.{Frame, Code as TooMuchCode, Unnamed, NoGap, OutOfMemory}
+use Rattle.im_compile.specs.Passed.{IsPassed}
+
+-- the first function whose frame is larger than 65536 bytes, and so many it has
+pub record IsFrameTooLarge (functions : List Function) (i bytes : ℕ) : Type 0 where
+  pub f : Function
+  pub is_function : slice_get functions i ≡ Some f
+  pub bytes_are : bytes ≡ bytes_of f
+  pub large : 65536 < bytes
+  pub first : (k : ℕ) (g : Function) → k < i → slice_get functions k ≡ Some g → bytes_of g ≤ 65536
+
+pub record HasLargeFrame (prog : Prog) (i bytes : ℕ) : Type 0 where
+  pub code : Code
+  pub passed : IsPassed prog code
+  pub frame : IsFrameTooLarge code.functions.items i bytes
+
+-- the parts of the program
+pub record IsAssembled (prog : Prog) (parts : List Part) : Type 0 where
+  pub code : Code
+  pub passed : IsPassed prog code
+  pub layouts : List Layout
+  pub lay_out : AreLayouts code.functions.items layouts
+  pub addresses : List ℕ
+  pub place_statics : addresses ≡ places_from statics_start (objects_of code.statics.items)
+  pub assemble : IsProgram code addresses layouts parts
+
+-- the code doesn't fit between 0x1000 and 0x100000
+pub record HasLargeCode (prog : Prog) (bytes : ℕ) : Type 0 where
+  pub parts : List Part
+  pub assembled : IsAssembled prog parts
+  pub large : byte_limit < byte_count parts
+  pub told : bytes ≡ told_count parts
+
+-- no bound on the instructions between two commits
+pub record HasNoGap (prog : Prog) : Type 0 where
+  pub parts : List Part
+  pub assembled : IsAssembled prog parts
+  pub linked : Linked
+  pub link : IsLinked parts linked
+  pub none : ¬ HasGap linked.words.items linked.entry
+
+pub record HasUnnamed (prog : Prog) (n : ℕ) : Type 0 where
+  pub code : Code
+  pub passed : IsPassed prog code
+  pub unnamed : IsUnnamed code.statics.items n
+
+abbrev pub IsFaultOf : Prog → CompileFault → Type 0
+IsFaultOf prog (Frame function bytes) = HasLargeFrame prog function bytes
+IsFaultOf prog (TooMuchCode bytes) = HasLargeCode prog bytes
+IsFaultOf prog (Unnamed n) = HasUnnamed prog n
+IsFaultOf prog NoGap = HasNoGap prog
+IsFaultOf prog OutOfMemory = Unit {0}

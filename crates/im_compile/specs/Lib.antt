@@ -1,0 +1,4 @@
+pub mod Passed
+pub mod Built
+pub mod Faults
+pub mod Ready

@@ -1,0 +1,60 @@
+ghost use Rattle.std.specs.Prelude.{◌≡◌, ◌≤◌, length, IfOk, MatchResult};
+ghost use Rattle.im_gap.specs.Gap.{IsGap, HasGap};
+ghost use Rattle.im_linked.specs.Laws.{NamesAccesses};
+ghost use Rattle.im_assemble.specs.Assembled.{IsAssemblable};
+ghost use Rattle.im_compile.specs.Ready.{IsGapFault, IsLinkFault, IsLinkedFrom};
+
+use crate::fault::CompileFault;
+use im_assemble::{Program, assemble};
+use im_gap::longest_gap;
+use im_link::link;
+use im_linked::linkable_law;
+use im_num::NoMemory;
+use im_rv::Code;
+use im_typed::Func;
+use std::alloc::Global;
+
+/// The name of a function, each byte a character.
+fn name_of(alloc: Global, func: &Func) -> Result<String, NoMemory> {
+    let mut name = String::new(alloc);
+    for byte in &func.name {
+        name.push(char::from(*byte))?;
+    }
+    Ok(name)
+}
+
+/// The names of functions, in their order.
+pub(crate) fn names_of(alloc: Global, funcs: &[Func]) -> Result<Vec<String>, NoMemory>
+    ensures { IfOk result (λ names. length names.items ≡ length funcs.now) }
+{
+    let mut names = Vec::new(alloc);
+    for func in funcs {
+        names.push(name_of(alloc, func)?)?;
+    }
+    Ok(names)
+}
+
+/// The program's parts in their places.
+pub(crate) fn linked_code(alloc: Global, program: &Program) -> Result<Code, CompileFault>
+    requires assemblable { IsAssemblable program.now }
+    requires named { NamesAccesses program.now.unit.now }
+    ensures { MatchResult result
+        (IsLinkedFrom program.now.unit.now program.now.statics.now program.now.layouts.now)
+        (IsLinkFault program.now.unit.now program.now.statics.now program.now.layouts.now) }
+{
+    linkable_law();
+    let parts = assemble(alloc, program)?;
+    let code = link(alloc, &parts)?;
+    Ok(code)
+}
+
+/// K of a code.
+pub(crate) fn gap_of(alloc: Global, code: &Code) -> Result<u32, CompileFault>
+    requires { length code.now.words.items ≤ 261120 }
+    ensures { MatchResult result (IsGap code.now.words.items code.now.entry) (IsGapFault code.now) }
+{
+    match longest_gap(alloc, code)? {
+        None => Err(CompileFault::NoGap),
+        Some(gap) => Ok(gap),
+    }
+}

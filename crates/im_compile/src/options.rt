@@ -1,0 +1,8 @@
+/// What an image is built with.
+#[derive(Clone, Copy, PartialEq, Eq, Debug)]
+pub struct Options {
+    /// Bytes of stack, from 256 on.
+    pub stack: u32,
+    /// The output's capacity in bytes.
+    pub out_cap: u32,
+}
