@@ -5,4 +5,4 @@ mod reading;
 #[cfg(test)]
 mod tests;
 
-pub use reading::{SourceFault, Text, WrongText, line_of, read_source};
+pub use reading::{Text, line_of, read_source};

@@ -1,8 +1,9 @@
-ghost use Rattle.std.specs.Prelude.{◌≡◌, ◌≤◌, ◌<◌, ◌^◌, length, All};
-ghost use Rattle.im_lex.specs.Lexing.{line_at, Lexes};
-ghost use Rattle.im_front.specs.Reading.{IsRead, byte_limit, line_of_token};
+ghost use Rattle.std.specs.Prelude.{◌≡◌, ◌<◌, ◌^◌, length, MatchResult};
+ghost use Rattle.im_lex.specs.Lexing.{line_at};
+ghost use Rattle.im_front.specs.Reading.{IsRead, IsTokenFault, AreTokens, of_token, line_of_token};
 
 use im_ctree::Tree;
+use im_fault::{LineFault, Quantity, SourceFault};
 use im_lex::{LexFault, LexFaultKind, lex};
 use im_parse_unit::{ParseFault, parse};
 use im_tok::Token;
@@ -10,28 +11,6 @@ use std::alloc::Global;
 
 /// The most bytes of a source.
 const LIMIT: usize = 4_194_304;
-
-/// What stands wrong in a line.
-#[derive(Clone, Copy, PartialEq, Eq, Debug)]
-pub enum WrongText {
-    /// No token begins there (C11 6.4).
-    Token(LexFaultKind),
-    /// A nesting of more than 200.
-    Nesting,
-    /// No unit goes on with this token (C11 6.9).
-    Syntax,
-}
-
-/// Why a source has no syntax tree.
-#[derive(Clone, Copy, PartialEq, Eq, Debug)]
-pub enum SourceFault {
-    /// Its bytes, more than 4194304.
-    TooLong(usize),
-    /// The line, counted from 1, and what is wrong there.
-    Wrong { line: u32, why: WrongText },
-    /// Memory ran out.
-    Memory,
-}
 
 /// The tokens of a source and the tree that they spell.
 #[derive(Drop)]
@@ -60,14 +39,30 @@ pub fn line_of(source: &[u8], tokens: &[Token], number: u32) -> u32
     }
 }
 
-fn lexed(alloc: Global, source: &[u8]) -> Result<Vec<Token>, SourceFault> {
+fn line_fault(kind: LexFaultKind) -> LineFault
+    ensures { result ≡ of_token kind }
+{
+    match kind {
+        LexFaultKind::BadByte => LineFault::BadByte,
+        LexFaultKind::OpenComment => LineFault::OpenComment,
+        LexFaultKind::OpenLiteral => LineFault::OpenLiteral,
+        LexFaultKind::BadEscape => LineFault::BadEscape,
+        LexFaultKind::BadNumber => LineFault::BadNumber,
+        LexFaultKind::BadDirective => LineFault::BadDirective,
+    }
+}
+
+fn lexed(alloc: Global, source: &[u8]) -> Result<Vec<Token>, SourceFault>
+    requires { length source.now < 2 ^ 31 }
+    ensures { MatchResult result (AreTokens source.now) (IsTokenFault source.now) }
+{
     match lex(alloc, source) {
         Ok(tokens) => Ok(tokens),
-        Err(LexFault::Stuck { at, kind }) => Err(SourceFault::Wrong {
+        Err(LexFault::Stuck { at, kind }) => Err(SourceFault::Line {
             line: last_line(&source[..at as usize]),
-            why: WrongText::Token(kind),
+            why: line_fault(kind),
         }),
-        Err(LexFault::OutOfMemory) => Err(SourceFault::Memory),
+        Err(LexFault::OutOfMemory) => Err(SourceFault::OutOfMemory),
     }
 }
 
@@ -77,17 +72,22 @@ pub fn read_source(alloc: Global, source: &[u8]) -> Result<Text, SourceFault>
     ensures { IsRead source.now result }
 {
     if source.len() > LIMIT {
-        return Err(SourceFault::TooLong(source.len()));
+        return Err(SourceFault::Limit {
+            quantity: Quantity::Source,
+            count: source.len() as u64,
+        });
     }
     let tokens = lexed(alloc, source)?;
-    let wrong = |number, why| SourceFault::Wrong {
-        line: line_of(source, &tokens, number),
-        why,
-    };
     match parse(alloc, source, &tokens) {
         Ok(tree) => Ok(Text { tokens, tree }),
-        Err(ParseFault::Depth(number)) => Err(wrong(number, WrongText::Nesting)),
-        Err(ParseFault::Syntax(number)) => Err(wrong(number, WrongText::Syntax)),
-        Err(ParseFault::Memory) => Err(SourceFault::Memory),
+        Err(ParseFault::Depth(number)) => Err(SourceFault::Line {
+            line: line_of(source, &tokens, number),
+            why: LineFault::Nesting,
+        }),
+        Err(ParseFault::Syntax(number)) => Err(SourceFault::Line {
+            line: line_of(source, &tokens, number),
+            why: LineFault::Syntax,
+        }),
+        Err(ParseFault::Memory) => Err(SourceFault::OutOfMemory),
     }
 }

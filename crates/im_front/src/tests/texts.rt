@@ -1,5 +1,5 @@
-use crate::{SourceFault, WrongText, read_source};
-use im_lex::LexFaultKind;
+use crate::read_source;
+use im_fault::{LineFault, SourceFault};
 use std::alloc::Global;
 use std::test::Fail;
 
@@ -9,8 +9,8 @@ fn count(alloc: Global, text: &[u8]) -> Result<usize, SourceFault> {
     Ok(text.tree.externals.len())
 }
 
-fn wrong(line: u32, why: WrongText) -> Result<usize, SourceFault> {
-    Err(SourceFault::Wrong { line, why })
+fn wrong(line: u32, why: LineFault) -> Result<usize, SourceFault> {
+    Err(SourceFault::Line { line, why })
 }
 
 #[test]
@@ -25,20 +25,17 @@ fn texts_have_their_tree_or_a_line(rt: HostRuntime) -> Result<(), Fail> {
         Ok(3)
     );
     // an empty text is no unit, and a text may end too early
-    assert_eq!(rt; count(alloc, b""), wrong(1, WrongText::Syntax));
+    assert_eq!(rt; count(alloc, b""), wrong(1, LineFault::Syntax));
     assert_eq!(rt;
         count(alloc, b"int main(void){\nreturn 7;\n"),
-        wrong(3, WrongText::Syntax)
+        wrong(3, LineFault::Syntax)
     );
     // the first token that no unit goes on with
     assert_eq!(rt;
         count(alloc, b"int main(void){\n\n  return 7 7;}"),
-        wrong(3, WrongText::Syntax)
+        wrong(3, LineFault::Syntax)
     );
     // a byte that begins no token is told before the syntax
-    assert_eq!(rt;
-        count(alloc, b"int int;\n @"),
-        wrong(2, WrongText::Token(LexFaultKind::BadByte))
-    );
+    assert_eq!(rt; count(alloc, b"int int;\n @"), wrong(2, LineFault::BadByte));
     Ok(())
 }
