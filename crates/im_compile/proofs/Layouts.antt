@@ -14,7 +14,7 @@ use Rattle.im_addresses.specs.Addresses.{AreLayouts}
 use Rattle.im_addresses.specs.Statics.{objects_of}
 use Rattle.im_assemble.specs.declared.program.Program.{Program}
 use Rattle.im_assemble.specs.Assembled.{IsAssemblable}
-use Rattle.im_compile.specs.Ready.{IsReady}
+use Rattle.im_compile.specs.Passed.{IsReady}
 
 places_count : (start : ℕ) (os : List Object) → length (places_from start os) ≡ length os
 places_count start [] = refl

@@ -30,8 +30,7 @@ use Rattle.im_alloc_laws.specs.Laws.{PlacedCodeLaw}
 use Rattle.im_dependences.specs.Laws.{UncutNames, ForceNames, PlaceNames, RecutNames}
 use Rattle.im_frame.specs.Layout.{room, rooms, bytes_of}
 use Rattle.im_addresses.specs.Statics.{objects_of}
-use Rattle.im_compile.specs.Passed.{IsSource, IsPassed}
-use Rattle.im_compile.specs.Ready.{IsReady}
+use Rattle.im_compile.specs.Passed.{IsSource, IsPassed, IsReady}
 
 -- block code with its forced cuts, which placing takes
 

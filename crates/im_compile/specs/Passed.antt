@@ -1,19 +1,24 @@
 -- Placed code with all its cuts, as the passes make it of a typed program.
-use Rattle.std.specs.Prelude.{◌<◌, ◌≤◌, ◌-◌, ◌^◌, All}
-use Rattle.im_mem.specs.Map.{stack_capacity, output_capacity}
+use Rattle.std.specs.Prelude.{◌≡◌, ◌<◌, ◌≤◌, ◌-◌, ◌^◌, length, All}
+use Rattle.im_mem.specs.Map.{stack_capacity, output_capacity, statics_capacity}
 use Rattle.im_typed.specs.declared.program.Prog.{Prog}
 use Rattle.im_typed.specs.ProgramOf.{program_of}
 use Rattle.im_typed.specs.Limits.{IsWithinLimits}
 use Rattle.im_typed.specs.Typing.{IsWellTyped}
 use Rattle.im_block.specs.declared.unit.Function.{Function}
 use Rattle.im_block.specs.declared.unit.Unit.{Unit as Code}
+use Rattle.im_block.specs.Wellformed.{IsWellFormed}
 use Rattle.im_placed.specs.Placeable.{IsPlaceable}
+use Rattle.im_placed.specs.Placed.{IsPlacedCode}
 use Rattle.im_placed.specs.Apart.{AllUncut}
 use Rattle.im_force.specs.Force.{Forces}
 use Rattle.im_recut.specs.Recut.{RecutsTo}
 use Rattle.im_lower.specs.Lowered.{IsLowered, AreSized}
 use Rattle.im_made.specs.MakeUnit.{KnowsTypes}
 use Rattle.im_alloc_laws.specs.Numbered.{IsWellPlaced}
+use Rattle.im_frame.specs.Layout.{bytes_of, rooms}
+use Rattle.im_addresses.specs.Statics.{objects_of}
+use Rattle.im_linked.specs.Laws.{NamesAccesses}
 use Rattle.im_compile.specs.declared.options.Options.{Options}
 
 -- what is asked of a program
@@ -42,3 +47,15 @@ pub record IsPassed (prog : Prog) (code : Code) : Type 0 where
   pub placed : Code
   pub place : IsWellPlaced forced placed
   pub recut : RecutsTo placed code
+
+-- what the passes behind ask of placed code, and its functions are those of the program
+pub record IsReady (prog : Prog) (code : Code) : Type 0 where
+  pub well_formed : IsWellFormed code
+  pub placed : IsPlacedCode code
+  pub named : NamesAccesses code
+  pub fits : All (λ (f : Function). bytes_of f ≤ f.need) code.functions.items
+  pub room : rooms (objects_of code.statics.items) ≤ statics_capacity
+  pub count : length code.functions.items ≡ length prog.funcs.items
+
+abbrev pub ReadyLaw : Type 0
+ReadyLaw = (prog : Prog) (code : Code) → IsSource prog → IsPassed prog code → IsReady prog code

@@ -1,6 +1,5 @@
--- For private contracts: what the passes behind placing ask, and what linking gives.
-use Rattle.std.specs.Prelude.{◌≡◌, ◌<◌, ◌≤◌, ℕ, List, length, All}
-use Rattle.im_mem.specs.Map.{statics_capacity}
+-- For private contracts: what each pass gives, and its faults.
+use Rattle.std.specs.Prelude.{◌≡◌, ◌<◌, ℕ, List}
 use Rattle.im_rv.specs.declared.code.Part.{Part}
 use Rattle.im_rv.specs.declared.code.Code.{Code as Linked}
 use Rattle.im_link.specs.declared.fault.LinkFault.{LinkFault}
@@ -9,33 +8,18 @@ use Rattle.im_link.specs.Parts.{byte_count}
 use Rattle.im_link.specs.Code.{IsLinked, byte_limit, told_count}
 use Rattle.im_gap.specs.Gap.{HasGap}
 use Rattle.im_typed.specs.declared.program.Func.{Func}
-use Rattle.im_typed.specs.declared.program.Prog.{Prog}
 use Rattle.im_typed.specs.declared.frames.Frame.{Frame as FrameOf}
 use Rattle.im_block.specs.declared.unit.Function.{Function}
 use Rattle.im_block.specs.declared.unit.Unit.{Unit as Code}
-use Rattle.im_block.specs.Wellformed.{IsWellFormed}
-use Rattle.im_placed.specs.Placed.{IsPlacedCode}
 use Rattle.im_frame.specs.declared.layout.Layout.{Layout}
 use Rattle.im_frame.specs.declared.fault.FrameFault.{FrameFault}
 use Rattle.im_frame.specs.declared.fault.FrameFault.TheVariants.{Limit as TooLarge, OutOfMemory as NoHeap}
-use Rattle.im_frame.specs.Layout.{bytes_of, rooms}
-use Rattle.im_addresses.specs.Statics.{objects_of}
 use Rattle.im_linked.specs.Program.{IsProgram}
-use Rattle.im_linked.specs.Laws.{NamesAccesses}
 use Rattle.im_pack.specs.declared.fault.PackFault.{PackFault}
 use Rattle.im_pack.specs.declared.fault.PackFault.TheVariants.{Unnamed as NoName, OutOfMemory as NoSpace}
 use Rattle.im_compile.specs.declared.fault.CompileFault.{CompileFault}
 use Rattle.im_compile.specs.declared.fault.CompileFault.TheVariants.{Frame, Code as TooMuchCode, Unnamed, NoGap, OutOfMemory}
 use Rattle.im_compile.specs.Faults.{IsFrameTooLarge}
-
--- placed code of a program
-pub record IsReady (prog : Prog) (code : Code) : Type 0 where
-  pub well_formed : IsWellFormed code
-  pub placed : IsPlacedCode code
-  pub named : NamesAccesses code
-  pub fits : All (λ (f : Function). bytes_of f ≤ f.need) code.functions.items
-  pub room : rooms (objects_of code.statics.items) ≤ statics_capacity
-  pub count : length code.functions.items ≡ length prog.funcs.items
 
 -- the first function whose frame is too large, or want of memory
 abbrev pub IsFrameFault : List Function → CompileFault → Type 0

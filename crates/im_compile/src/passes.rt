@@ -1,18 +1,16 @@
 ghost use Rattle.std.specs.Prelude.{IfOk};
-ghost use Rattle.im_compile.specs.Passed.{IsPassed, IsSource};
-ghost use Rattle.im_compile.specs.Ready.{IsReady};
+ghost use Rattle.im_compile.specs.Passed.{IsPassed, IsReady, IsSource};
 
-use im_alloc_laws::placed_code_law;
+use crate::laws::ready_law;
 use im_block::Unit;
 use im_block_laws::cuts_keep_code_law;
-use im_dependences::{force_names_law, place_names_law, recut_names_law, uncut_names_law};
 use im_force::{force, force_keeps_law};
 use im_lower::lowered_form_law;
 use im_lowering::lower;
 use im_num::NoMemory;
 use im_placed::cuts_keep_places_law;
 use im_placing::place;
-use im_recut::{recut, recut_keeps_law};
+use im_recut::recut;
 use im_typed::Prog;
 use std::alloc::Global;
 
@@ -26,12 +24,7 @@ pub(crate) fn placed_code(alloc: Global, prog: &Prog) -> Result<Unit, NoMemory>
     force_keeps_law();
     cuts_keep_code_law();
     cuts_keep_places_law();
-    placed_code_law();
-    recut_keeps_law();
-    uncut_names_law();
-    force_names_law();
-    place_names_law();
-    recut_names_law();
+    ready_law();
     let lowered = lower(alloc, prog)?;
     let forced = force(alloc, lowered)?;
     let placed = place(alloc, forced)?;

@@ -1,5 +1,5 @@
 use Rattle.im_compile.specs.Passed.{IsPassed}
-use Rattle.im_compile.proofs.Ready.{forced_well, forced_placeable, ready}
+use Rattle.im_compile.proofs.Ready.{forced_well, forced_placeable}
 use Rattle.im_compile.proofs.passes.placed_code.Goals as goal
 
 pub place-requires-clause-well_formed : goal.place-requires-clause-well_formed
@@ -31,7 +31,4 @@ pub returns-clause-passed : goal.returns-clause-passed
 returns-clause-passed c = passed c
 
 pub returns-clause-ready : goal.returns-clause-ready
-returns-clause-ready c =
-    ready c.lowered_form_law.ensures c.force_keeps_law.ensures c.cuts_keep_code_law.ensures c.cuts_keep_places_law.ensures c.placed_code_law.ensures c.recut_keeps_law.ensures
-    c.uncut_names_law.ensures c.force_names_law.ensures c.place_names_law.ensures c.recut_names_law.ensures
-    c.args.prog.now c.in_ok-code.code c.requires (passed c)
+returns-clause-ready c = c.ready_law.ensures c.args.prog.now c.in_ok-code.code c.requires (passed c)
