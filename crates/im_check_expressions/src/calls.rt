@@ -21,7 +21,10 @@ use std::alloc::Global;
 
 /// The function that an expression names, if it names one.
 pub fn callee_in<'a>(scope: &'a Scope, e: &Expression) -> Option<&'a Entity>
-    ensures { MatchOption result (d.is_function_meant (d.callee_of (scopes_of scope.now.entries.items) (tree_of e.now)) ≡ false) (λ f. (d.callee_of (scopes_of scope.now.entries.items) (tree_of e.now) ≡ Some (entity_of f.now)) × (d.is_function_meant (Some (entity_of f.now)) ≡ true)) }
+    ensures { MatchOption result (d.is_function_meant
+        (d.callee_of (scopes_of scope.now.entries.items) (tree_of e.now)) ≡ false) (λ f.
+        (d.callee_of (scopes_of scope.now.entries.items) (tree_of e.now) ≡ Some (entity_of f.now)) ×
+        (d.is_function_meant (Some (entity_of f.now)) ≡ true)) }
 {
     match &e.kind {
         ExpressionKind::Identifier(name) => match scope.find(name) {
@@ -61,7 +64,8 @@ fn all_fit(parameters: &[PlainType], arguments: &[Term]) -> bool
 }
 
 fn type_at(parameters: &[PlainType], i: usize) -> Option<PlainType>
-    ensures { MatchOption result (length parameters.now ≤ i) (λ ty. (i < length parameters.now) × (ty ≡ slice_index_or parameters.now i ty)) }
+    ensures { MatchOption result (length parameters.now ≤ i)
+        (λ ty. (i < length parameters.now) × (ty ≡ slice_index_or parameters.now i ty)) }
 {
     if i < parameters.len() {
         Some(parameters[i])
@@ -77,7 +81,8 @@ fn converted(
     arguments: Vec<Term>,
 ) -> Result<Vec<Expr>, Stop>
     requires { length parameters.now ≡ length arguments.items }
-    ensures { MatchResult result (λ es. exprs_from es.items ≡ c.converted [] (types_in parameters.now) (map term_of arguments.items)) IsNoRule }
+    ensures { MatchResult result (λ es. exprs_from es.items ≡ c.converted []
+        (types_in parameters.now) (map term_of arguments.items)) IsNoRule }
 {
     let mut done = Vec::new(alloc);
     let mut i = 0;
@@ -109,7 +114,9 @@ fn call(function: u32, arguments: Vec<Expr>) -> Expr
 }
 
 fn called(alloc: Global, ty: PlainType, callee: Callee, arguments: Vec<Expr>) -> Result<Value, Stop>
-    ensures { MatchResult result (λ v. value_from v ≡ record { type = type_of ty; expr = c.call_by (callee_of callee) (exprs_from arguments.items) }) IsNoRule }
+    ensures { MatchResult result (λ v. value_from v ≡ record
+        { type = type_of ty; expr = c.call_by (callee_of callee) (exprs_from arguments.items) })
+        IsNoRule }
 {
     match callee {
         Callee::Body(n) => Ok(variable(ty, call(n, arguments))),
@@ -129,7 +136,8 @@ fn refused(number: u32, token: u32) -> Stop
 }
 
 fn has_body(callee: Callee, signature: &Signature) -> bool
-    ensures { result ≡ d.is_function_defined (Some (s.a_function (callee_of callee) (type_of_function signature.now))) }
+    ensures { result ≡ d.is_function_defined
+        (Some (s.a_function (callee_of callee) (type_of_function signature.now))) }
 {
     match callee {
         Callee::NoBody => false,
@@ -150,7 +158,9 @@ fn count(arguments: &[Term]) -> usize
 }
 
 fn takes(signature: &Signature, callee: Callee, arguments: &[Term]) -> bool
-    ensures value { result ≡ rule_19 (Some (s.a_function (callee_of callee) (type_of_function signature.now))) (length (map term_of arguments.now)) }
+    ensures value { result ≡ rule_19
+        (Some (s.a_function (callee_of callee) (type_of_function signature.now)))
+        (length (map term_of arguments.now)) }
     ensures same { IsTrue result → length signature.now.parameters.items ≡ length arguments.now }
 {
     count(arguments) == arity(signature)
@@ -163,7 +173,11 @@ fn function_term(
     signature: &Signature,
     arguments: Vec<Term>,
 ) -> Result<Term, Stop>
-    ensures { IsMade (d.call_asks (Some (s.a_function (callee_of callee) (type_of_function signature.now))) (map term_of arguments.items)) (r.value (c.call_of [] (Some (s.a_function (callee_of callee) (type_of_function signature.now))) (map term_of arguments.items))) at result }
+    ensures { IsMade (d.call_asks
+        (Some (s.a_function (callee_of callee) (type_of_function signature.now)))
+        (map term_of arguments.items)) (r.value (c.call_of []
+        (Some (s.a_function (callee_of callee) (type_of_function signature.now)))
+        (map term_of arguments.items))) at result }
 {
     if !takes(signature, callee, &arguments) {
         return Err(refused(19, at));
@@ -185,7 +199,9 @@ pub fn call_term(
     function: &Entity,
     arguments: Vec<Term>,
 ) -> Result<Term, Stop>
-    ensures { IsMade (d.call_asks (Some (entity_of function.now)) (map term_of arguments.items)) (r.value (c.call_of [] (Some (entity_of function.now)) (map term_of arguments.items))) at result }
+    ensures { IsMade (d.call_asks (Some (entity_of function.now)) (map term_of arguments.items))
+        (r.value (c.call_of [] (Some (entity_of function.now)) (map term_of arguments.items))) at
+        result }
 {
     match function {
         Entity::Function(callee, signature) => {

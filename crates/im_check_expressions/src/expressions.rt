@@ -36,7 +36,8 @@ fn number_type(ty: NumberType) -> Integer
 }
 
 fn number_term(number: im_tok::Number) -> Term
-    ensures { term_of result ≡ r.value (c.literal (c.number_type number.number_type) (pos number.value)) }
+    ensures { term_of result ≡ r.value
+        (c.literal (c.number_type number.number_type) (pos number.value)) }
 {
     Term::Value(literal(
         number_type(number.number_type),
@@ -65,7 +66,8 @@ fn refused(number: u32, token: u32) -> Stop
 
 /// An object or an enumeration constant (C11 6.5.1p2).
 fn name_term(scope: &Scope, at: u32, name: &[u8]) -> Result<Term, Stop>
-    ensures { (k : ℕ) → IsMade (d.name_asks (context_of scope.now k) name.now) (c.called (s.meaning (scopes_of scope.now.entries.items) name.now)) at result }
+    ensures { (k : ℕ) → IsMade (d.name_asks (context_of scope.now k) name.now)
+        (c.called (s.meaning (scopes_of scope.now.entries.items) name.now)) at result }
 {
     match scope.find(name) {
         Some(Entity::Object(constant, ty, storage)) => object_term(
@@ -84,7 +86,9 @@ fn object_term(
     ty: Integer,
     storage: Storage,
 ) -> Result<Term, Stop>
-    ensures { (k : ℕ) → IsMade (entity_asks (context_of scope.now k) name.now (Some (s.an_object constant (integer ty) (storage_of storage)))) (c.called (Some (s.an_object constant (integer ty) (storage_of storage)))) at result }
+    ensures { (k : ℕ) → IsMade (entity_asks (context_of scope.now k) name.now
+        (Some (s.an_object constant (integer ty) (storage_of storage))))
+        (c.called (Some (s.an_object constant (integer ty) (storage_of storage)))) at result }
 {
     match storage {
         Storage::Static(_) => {

@@ -14,7 +14,9 @@ use im_terms::Stop;
 
 /// The type that a type name names. A declarator, which no plain type name has, is answered by want of memory.
 pub fn named(scope: &Scope, name: &TypeName) -> Result<Specified, Stop>
-    ensures { MatchResult result (λ q. (k : ℕ) → Names (context_of scope.now k) (type_name_of name.now) (qualified_of q)) (IsFault scope.now (a_type_name (type_name_of name.now))) }
+    ensures { MatchResult result
+        (λ q. (k : ℕ) → Names (context_of scope.now k) (type_name_of name.now) (qualified_of q))
+        (IsFault scope.now (a_type_name (type_name_of name.now))) }
 {
     match &name.declarator {
         None => specified_type(scope, name.specifiers.at, &name.specifiers.items),

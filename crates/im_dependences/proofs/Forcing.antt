@@ -1,8 +1,8 @@
 -- Forced cuts.
-use Rattle.std.proofs.Common.{◌≡◌, ◌⊎◌, inl, inr, ℕ, zero, suc, Bool, true, false, List, [], ◌∷◌, ◌++◌, Option, Some, None, refl, sym, ap, ◌∙◌, subst}
+use Rattle.std.proofs.Common.{inl, ℕ, suc, Bool, true, false, List, [], ◌∷◌, ◌++◌, Option, Some, None, refl}
 use Rattle.std.specs.Prelude.{if◌then◌else◌, ◌==◌}
 use Rattle.im_num.specs.declared.values.Cause.{Cause}
-use Rattle.im_num.specs.declared.values.Cause.TheVariants.{Dep, Entry, Return as Back, Loop}
+use Rattle.im_num.specs.declared.values.Cause.TheVariants.{Dep, Entry, Loop}
 use Rattle.im_block.specs.declared.code.Line.{Line}
 use Rattle.im_block.specs.declared.code.Line.TheVariants.{Put, PutNull, Copy, Convert, Unary, Not, Compute, Compare, Move, Distance, Address, Read, Write, Reload, Spill, Cut, Call, GetChar, PutChar}
 use Rattle.im_block.specs.declared.code.Exit.{Exit}
@@ -12,7 +12,7 @@ use Rattle.im_block.specs.declared.unit.Function.{Function}
 use Rattle.im_block.specs.Wellformed.{accesses_of_lines}
 use Rattle.im_force.specs.Force.{due_before, due_behind, due_at, due_first, cut_of, forced_lines, ForcesBlocks, ForcesFunctions}
 use Rattle.im_dependences.specs.Laws.{ForceNames}
-use Rattle.im_dependences.proofs.Members.{In, Names, Carries, CarriesBlocks, no_blocks, more_blocks, carried, same_line, cut_before, same_lines, equal_lines, Names_each, next}
+use Rattle.im_dependences.proofs.Members.{Names, Carries, CarriesBlocks, no_blocks, more_blocks, carried, same_line, cut_before, same_lines, equal_lines, Names_each, next}
 
 -- a cut that is due names nothing
 abbrev Plain : Option Cause → Type 0

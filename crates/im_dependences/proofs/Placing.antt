@@ -1,5 +1,5 @@
 -- Placed lines.
-use Rattle.std.proofs.Common.{◌≡◌, ◌⊎◌, inl, inr, ℕ, zero, suc, ◌+◌, ◌*◌, Bool, List, [], ◌∷◌, ◌++◌, Option, Some, None, length, refl, sym, ap, ◌∙◌, subst}
+use Rattle.std.proofs.Common.{◌≡◌, inl, inr, ℕ, zero, suc, ◌+◌, ◌*◌, Bool, List, [], ◌∷◌, ◌++◌, Option, Some, None, length, refl, subst}
 use Rattle.std.specs.Prelude.{slice_get}
 use Rattle.im_num.specs.declared.values.Cause.{Cause}
 use Rattle.im_num.specs.declared.values.Cause.TheVariants.{Return as ReturnCut}
@@ -17,7 +17,7 @@ use Rattle.im_alloc.specs.Homes.{Home, InRegister, InSlot, numbers_kept, load, r
 use Rattle.im_alloc.specs.Live.{lives}
 use Rattle.im_alloc.specs.Placing.{ValidLine, Valid, PlacedBlocks, PlacedFunctions}
 use Rattle.im_dependences.specs.Laws.{PlaceNames}
-use Rattle.im_dependences.proofs.Members.{In, Names, in_left, in_right, in_either, more_named, Carries, CarriesBlocks, no_blocks, more_blocks, carried, same_line, cut_before, same_lines, equal_lines, Names_each, next}
+use Rattle.im_dependences.proofs.Members.{In, in_left, in_right, in_either, more_named, Carries, CarriesBlocks, no_blocks, more_blocks, carried, same_line, cut_before, same_lines, equal_lines, Names_each, next}
 
 -- lines before others, none of them a cut
 record Before (rest new : List Line) : Type 0 where

@@ -1,6 +1,5 @@
 -- Cuts before each write.
-use Rattle.std.proofs.Common.{◌≡◌, ◌⊎◌, inl, inr, ℕ, zero, suc, Bool, true, false, List, [], ◌∷◌, ◌++◌, Option, Some, None, refl, sym, ap, ◌∙◌, subst}
-use Rattle.im_num.specs.declared.values.Cause.{Cause}
+use Rattle.std.proofs.Common.{inl, suc, Bool, true, false, List, [], ◌∷◌, ◌++◌, refl}
 use Rattle.im_num.specs.declared.values.Cause.TheVariants.{Dep}
 use Rattle.im_block.specs.declared.code.Line.{Line}
 use Rattle.im_block.specs.declared.code.Line.TheVariants.{Put, PutNull, Copy, Convert, Unary, Not, Compute, Compare, Move, Distance, Address, Read, Write, Reload, Spill, Cut, Call, GetChar, PutChar}

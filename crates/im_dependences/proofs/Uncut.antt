@@ -1,5 +1,5 @@
 -- Code without cuts has no causes.
-use Rattle.std.proofs.Common.{◌≡◌, ℕ, zero, suc, List, [], ◌∷◌, ◌++◌, Some, None, refl, ap, ◌∙◌, subst}
+use Rattle.std.proofs.Common.{◌≡◌, ℕ, suc, List, [], ◌∷◌, ◌++◌, Some, None, refl, ap, ◌∙◌, subst}
 use Rattle.std.specs.Prelude.{slice_get, All}
 use Rattle.std.proofs.lemmas.List.Elements.{All-head, All-tail}
 use Rattle.im_num.specs.declared.values.Cause.{Cause}
@@ -7,11 +7,8 @@ use Rattle.im_num.specs.declared.values.Cause.TheVariants.{Dep}
 use Rattle.im_block.specs.declared.code.Line.{Line}
 use Rattle.im_block.specs.declared.code.Line.TheVariants.{Put, PutNull, Copy, Convert, Unary, Not, Compute, Compare, Move, Distance, Address, Read, Write, Reload, Spill, Cut, Call, GetChar, PutChar}
 use Rattle.im_block.specs.declared.code.Block.{Block}
-use Rattle.im_block.specs.Paths.{IsCut}
-use Rattle.im_block.specs.Wellformed.{accesses_of_blocks}
 use Rattle.im_placed.specs.Apart.{IsNoCut}
 use Rattle.im_selecting.specs.Selects.{causes_of_line, causes_of_lines, causes_of_blocks}
-use Rattle.im_linked.specs.Laws.{NamesOwn}
 use Rattle.im_dependences.specs.Laws.{UncutNames}
 
 no_cause : (line : Line) → IsNoCut line → causes_of_line line ≡ []
@@ -48,7 +45,7 @@ none (block ∷ blocks) h =
 pub uncut : UncutNames
 uncut u h = record {
   each = λ i f e k r w g.
-  (let no : causes_of_blocks f.blocks.items ≡ [] = none f.blocks.items (λ b block q. h.each i f b block e q) in
-  let bad : None ≡ Some (Dep r w) = subst (λ (z : List Cause). slice_get z k ≡ Some (Dep r w)) no g in
-  absurd cc);
+      (let no : causes_of_blocks f.blocks.items ≡ [] = none f.blocks.items (λ b block q. h.each i f b block e q) in
+      let bad : None ≡ Some (Dep r w) = subst (λ (z : List Cause). slice_get z k ≡ Some (Dep r w)) no g in
+      absurd cc);
 }

@@ -1,23 +1,26 @@
 -- What the machine follows by the law of selection, as the record of passes says it.
-use Rattle.std.proofs.Common.{◌≡◌, ◌≢◌, ℕ, suc, ◌+◌, ◌<◌, ◌≤◌, true, false, Some, List, ◌++◌, length, refl, sym, ap, ◌∙◌, subst, arith}
-use Rattle.std.specs.Prelude.{ℤ}
+use Rattle.std.proofs.Common.{◌≡◌, ◌≢◌, ℕ, suc, ◌+◌, ◌<◌, ◌≤◌, true, false, Some, None, List, ◌++◌, length, refl, sym, ap, ◌∙◌, subst, arith}
+use Rattle.std.specs.Prelude.{ℤ, ◌||◌}
 use Rattle.std.specs.Int.{cast_signed, w32}
+use Rattle.std.proofs.lemmas.Bool.{or_right}
 use Rattle.im_num.specs.declared.kind.Kind.TheVariants.{I32}
 use Rattle.im_num.specs.Kinds.{IsOfKind, word}
 use Rattle.im_num.proofs.Wrapping.{wrap-same}
-use Rattle.im_mem.specs.Memory.{Mem}
+use Rattle.im_mem.specs.Memory.{Mem, Stands}
 use Rattle.im_rv.specs.declared.step.Went.{Went}
 use Rattle.im_rv.specs.declared.step.Went.TheVariants.{On, Halted, Faulted}
 use Rattle.im_rv.specs.Steps.{Stepped}
 use Rattle.im_rv.specs.Runs.{step_of, runs}
 use Rattle.im_reach.specs.Shown.{shown}
 use Rattle.im_reach.specs.Touches.{touch_of, touches, touched, heard}
+use Rattle.im_reach.specs.Orderly.{IsOrderly}
 use Rattle.im_reach.specs.Plain.{AreAllowed, IsPlain}
 use Rattle.im_image.specs.Contents.{ImageValue}
 use Rattle.im_device.specs.Load.{memory_of}
 use Rattle.im_device.specs.Shows.{output_of, reason_of, status_of}
 use Rattle.im_operators.proofs.Words.{wrap_signed}
-use Rattle.im_ckpt.specs.Runs.{State, line_at, effect_at, ends}
+use Rattle.im_ckpt.specs.Runs.{State, line_at, effect_at, ends, writes}
+use Rattle.im_ckpt.specs.Buffers.{is_buffer, is_fixed}
 use Rattle.im_ckpt.specs.Laws.{is_runtime}
 use Rattle.im_replay.specs.Output.{Extends}
 use Rattle.im_replay.proofs.Bridge.{off_of}
@@ -29,22 +32,28 @@ use Rattle.im_typed.specs.Sound.{EndsRight}
 use Rattle.im_block.specs.declared.unit.Unit.{Unit as Code}
 use Rattle.im_block.specs.Meaning.{Setting, Event, statics_of}
 use Rattle.im_block.specs.Runs.{Runs}
+use Rattle.im_block.specs.Sections.{NoWar, items}
+use Rattle.im_survives.specs.Survives.{GoesPlainly, IsSectioned, HasCode, SurvivesLaw}
 use Rattle.im_select.specs.Linking.{Linking}
-use Rattle.im_select.specs.Law.{Touches, Begun, ShowsStatics, steps, Shows as Selected_shows, Follows as Selected_follows, SelectKeeps}
+use Rattle.im_select.specs.Law.{Touches, Begun, ShowsStatics, machine_items, steps, Shows as Selected_shows, Follows as Selected_follows, SelectKeeps}
 use Rattle.im_keeps.specs.Keeps.{IsInput}
 use Rattle.im_kept.specs.Laws.{run_of}
 use Rattle.im_until.specs.Until.{halt_line, OwesUntil}
-use Rattle.im_written.specs.Written.{code_end, IsBegun}
+use Rattle.im_written.specs.Written.{code_end, IsLoaded, IsBegun}
 use Rattle.im_written.specs.Laws.{WrittenLaw}
 use Rattle.im_passes.specs.Machine.{EndsBefore, ShowsAfter, Follows, Executes}
 use Rattle.im_passes.specs.Passes.{IsSelectable}
-use Rattle.im_executes.specs.Executing.{first_cpu, cuts, IsInImage, ShowsObjects, RestUntil, Completes}
+use Rattle.im_executes.specs.Executing.{first_cpu, cuts, IsInImage, ShowsObjects, HasLiveness}
+use Rattle.im_live.specs.Laws.{KeepsToCode, LivesUntil}
+use Rattle.im_live_image.specs.Laws.{ImageLaw}
+use Rattle.im_flow.specs.Flows.{IsAt}
+use Rattle.im_survives.proofs.Returning.{place_of_word}
 use Rattle.im_executes.specs.Laws.{ExecutesLaw, ObjectsLaw}
 use Rattle.im_executes.proofs.Mirror.{Mirrors, mirrors, stands}
 use Rattle.im_executes.proofs.Cuts.{run_few}
 use Rattle.im_executes.proofs.Stores.{stores_few}
-use Rattle.im_executes.proofs.Effects.{touches_same, writes_none, reads_apart, extends_shown, halt_is}
-use Rattle.im_executes.proofs.Fetches.{fetches}
+use Rattle.im_survives.proofs.Effects.{touches_same, writes_none, reads_apart, extends_shown, halt_is}
+use Rattle.im_survives.proofs.Fetches.{fetches, even_at}
 use Rattle.im_executes.proofs.Steps.{few_steps, few_cuts}
 
 halted_one : (w : Went) → w ≢ On → ((at : ℕ) → w ≢ Faulted at) → w ≡ Halted
@@ -52,15 +61,18 @@ halted_one On over calm = absurd (over refl)
 halted_one Halted over calm = refl
 halted_one (Faulted at) over calm = absurd (calm at refl)
 
-module _ (keeps : SelectKeeps) (written : WrittenLaw) (image : ImageValue) (input : List ℕ) (u : Code) (g : Setting) (p : Linking) (fits : IsInput input) (code : IsSelectable u) (within : IsInImage image input u g p) (objects : ShowsObjects image input u p) (rest : Completes image input u g p) where
+module _ (keeps : SelectKeeps) (written : WrittenLaw) (survives : SurvivesLaw) (lives : ImageLaw) (image : ImageValue) (input : List ℕ) (u : Code) (g : Setting) (p : Linking) (fits : IsInput input) (code : IsSelectable u) (within : IsInImage image input u g p) (objects : ShowsObjects image input u p) (rest : HasLiveness image) where
   abbrev r : ℕ → State
   r = run_of image input
 
   abbrev after : ℕ → Stepped
   after j = runs j (first_cpu image input) p.image
 
+  loaded : IsLoaded image input
+  loaded = written.loaded image input within.written fits
+
   first : IsBegun image input
-  first = written.begun image input (written.loaded image input within.written fits) within.written
+  first = written.begun image input loaded within.written
 
   memory : p.image ≡ (r 0).mem
   memory = within.memory ∙ sym first.mem
@@ -133,27 +145,71 @@ module _ (keeps : SelectKeeps) (written : WrittenLaw) (image : ImageValue) (inpu
     beyond_at : (a : ℕ) → code_end image ≤ a → a < 1048576 → (r 0).mem a ≡ 0
     beyond_at a low high = ap (λ (m : Mem). m a) first.mem ∙ written.beyond image input a low high
 
-    owes : RestUntil image.words r f.j → OwesUntil image.words (code_end image) r f.j
-    owes x = record {
-      safely = record {
-        no_fault = λ t a lt. calm_at t a lt;
-        halts = halts_at;
-        fetches = λ t lt. ((plain_at t lt).inside.0, fetches r (is_run (memory_of image input)) f.j (length image.words) plain_at calm_at beyond_at t lt);
-        writes_plain = λ t a lt out there. writes_none (code_end image) a (effect_at (r t)) code_low (allowed_at t lt out) there;
-        reads_plain = λ t a lt out there. reads_apart a (effect_at (r t)) (allowed_at t lt out) there;
-        cuts = x.cuts;
-        needs = x.needs;
-        needs_first = x.needs_first;
-        no_war = x.no_war;
-      };
-      shows = record {
-        grows = grows_at;
-        one_store = x.one_store;
-        first_length = x.first_length;
-        second_length = x.second_length;
-      };
-      flows = x.flows;
-    }
+    fetches_at : (t : ℕ) → t < f.j → (4096 ≤ (r t).cpu.pc) × ((r t).cpu.pc + 4 ≤ code_end image)
+    fetches_at t lt = ((plain_at t lt).inside.0, fetches r (is_run (memory_of image input)) f.j (length image.words) plain_at calm_at beyond_at t lt)
+
+    places_at : (t : ℕ) → t < f.j → (i : ℕ) × (i < length image.words) × IsAt r t i
+    places_at t lt =
+        let q = place_of_word (r t).cpu.pc (even_at r (is_run (memory_of image input)) f.j (length image.words) plain_at calm_at beyond_at t lt) (fetches_at t lt).0 in
+        let e = q.1 in
+        let high = (fetches_at t lt).1 in
+        (q.0, (omega arith), e)
+
+    writes_at : (t a : ℕ) → t < f.j → is_runtime (r t).cpu.pc ≡ false → (is_buffer a || is_fixed (code_end image) a) ≡ true → writes r t a ≡ None
+    writes_at t a lt out there = writes_none (code_end image) a (effect_at (r t)) code_low (allowed_at t lt out) there
+
+    module _ (safe : NoWar (items run)) where
+      plainly : GoesPlainly r f.j
+      plainly = record {
+        steps = is_run (memory_of image input);
+        plain = plain_at;
+        calm = calm_at;
+        orderly = subst (λ (m : Mem). IsOrderly (touched f.j (first_cpu image input) m)) memory f.orderly;
+        no_war = subst (λ (m : Mem). NoWar (machine_items (heard (touched f.j (first_cpu image input) m)))) memory (f.safe code.forced safe);
+      }
+
+      has_code : HasCode image.words r
+      has_code = record {
+        few = written.few image within.written;
+        code = subst (λ (m : Mem). Stands m 4096 image.words) (sym first.mem) loaded.code;
+        beyond = beyond_at;
+      }
+
+      keeps_to : KeepsToCode image.words r f.j
+      keeps_to = record {
+        places = places_at;
+        calm = calm_at;
+        writes_plain = λ t a lt out there. writes_at t a lt out (or_right (is_buffer a) (is_fixed (code_end image) a) there);
+        returns = survives.returns image.words r f.j plainly has_code;
+      }
+
+      owes : OwesUntil image.words (code_end image) r f.j
+      owes =
+          let x : LivesUntil image.words r f.j = lives image input rest.live f.j fits within.written rest.saved rest.enters keeps_to in
+          let y : IsSectioned r f.j = survives.sectioned r f.j plainly in
+          record {
+            safely = record {
+              no_fault = calm_at;
+              halts = halts_at;
+              fetches = fetches_at;
+              writes_plain = writes_at;
+              reads_plain = λ t a lt out there. reads_apart a (effect_at (r t)) (allowed_at t lt out) there;
+              cuts = x.cuts;
+              needs = x.needs;
+              needs_first = x.needs_first;
+              no_war = y.no_war;
+            };
+            shows = record {
+              grows = grows_at;
+              one_store = y.one_store;
+              first_length = y.first_length;
+              second_length = y.second_length;
+            };
+            flows = record {
+              returns = survives.returns image.words r f.j plainly has_code;
+              cuts = x.linked;
+            };
+          }
 
   follows : (n : ℕ) (o : Outcome) (run : List Event) → IsDefined o → EndsRight (statics_of u) o → (k : Runs u g n o run) → Follows image input u g (steps p) (cuts p) 15 n o run k.steps
   follows n o run defined right k =
@@ -170,7 +226,7 @@ module _ (keeps : SelectKeeps) (written : WrittenLaw) (image : ImageValue) (inpu
             let few = run_few p u g n o run k in
             let stores = stores_few r (is_run (memory_of image input)) p run f.j (subst (λ (m : Mem). Touches p run (heard (touched f.j (first_cpu image input) m))) memory f.touches) in
             omega arith;
-        owes = λ safe. owes n o run k f (rest.rest n o run defined k f safe);
+        owes = λ safe. owes n o run k f safe;
       }
 
   all : Executes u g image input
@@ -183,8 +239,8 @@ module _ (keeps : SelectKeeps) (written : WrittenLaw) (image : ImageValue) (inpu
     follows = follows;
   }
 
-pub executes : SelectKeeps → WrittenLaw → ExecutesLaw
-executes keeps written image input u g p fits code within objects rest = all keeps written image input u g p fits code within objects rest
+pub executes : SelectKeeps → WrittenLaw → SurvivesLaw → ImageLaw → ExecutesLaw
+executes keeps written survives lives image input u g p fits code within objects rest = all keeps written survives lives image input u g p fits code within objects rest
 
 pub named : ShownLaw → WrittenLaw → ObjectsLaw
 named shown_law written image input u g p fits code within numbers are = record {

@@ -8,12 +8,12 @@ use Rattle.im_statics.specs.Named.{AreNamed, HaveNumbers}
 use Rattle.im_keeps.specs.Keeps.{IsInput}
 use Rattle.im_passes.specs.Machine.{Executes}
 use Rattle.im_passes.specs.Passes.{IsSelectable}
-use Rattle.im_executes.specs.Executing.{IsInImage, ShowsObjects, Completes}
+use Rattle.im_executes.specs.Executing.{IsInImage, ShowsObjects, HasLiveness}
 
 abbrev pub ExecutesLaw : Type 0
 ExecutesLaw =
     (image : ImageValue) (input : List ℕ) (u : Code) (g : Setting) (p : Linking) →
-    IsInput input → IsSelectable u → IsInImage image input u g p → ShowsObjects image input u p → Completes image input u g p → Executes u g image input
+    IsInput input → IsSelectable u → IsInImage image input u g p → ShowsObjects image input u p → HasLiveness image → Executes u g image input
 
 -- where statics hold numbers alone, and objects are named as they are
 abbrev pub ObjectsLaw : Type 0

@@ -1,7 +1,9 @@
 ghost use Rattle.im_executes.specs.Laws.{ExecutesLaw, ObjectsLaw};
 
+use im_live_image::image_law;
 use im_select::select_keeps_law;
 use im_statics::shown_law;
+use im_survives::survives_law;
 use im_written::written_law;
 
 /// Placed code that is selected and linked, and whose image lies in memory, is followed by the
@@ -11,6 +13,8 @@ pub fn executes_law()
 {
     select_keeps_law();
     written_law();
+    survives_law();
+    image_law();
 }
 
 /// Where statics hold no pointers, the image's objects show them.

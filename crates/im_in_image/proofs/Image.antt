@@ -8,7 +8,7 @@ use Rattle.im_addresses.specs.Addresses.{place_at, size_at}
 use Rattle.im_linked.specs.Laws.{LinkedLaw, WordsLaw}
 use Rattle.im_passes.specs.Passes.{setting}
 use Rattle.im_executes.specs.Laws.{ObjectsLaw}
-use Rattle.im_packed.specs.Places.{place_of, linking_in}
+use Rattle.im_packed.specs.Places.{label_place, linking_in}
 use Rattle.im_packed.specs.Laws.{PackedLaw, PlacesLaw, LoadsLaw, HoldsObjectsLaw, NamedLaw}
 use Rattle.im_in_image.specs.Laws.{frames_of, InImageLaw, SelectsLaw}
 use Rattle.im_in_image.proofs.Counting.{at_least}
@@ -24,7 +24,7 @@ in_image linked_law loads_law holds_objects_law packed_law places_law u statics 
     let words : length image.words ≡ length code.words.items = ap length is.packed.words in
     record {
       written = packed_law u statics layouts parts code stack out_cap image is.program is.linkable is.linked is.packed is.is_image;
-      linked = linked_law u statics layouts parts is.program code (place_of parts) (memory_of image input) g (place_at statics layouts) (size_at u) is.linkable is.linked places loaded objects;
+      linked = linked_law u statics layouts parts is.program code (label_place parts) (memory_of image input) g (place_at statics layouts) (size_at u) is.linkable is.linked places loaded objects;
       memory = refl;
       entry = sym is.packed.entry;
       longest = omega arith;

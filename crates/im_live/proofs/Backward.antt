@@ -1,16 +1,11 @@
 -- What a run uses lives where it was: by induction backward from the time of use.
-use Rattle.std.proofs.Common.{◌≡◌, ◌≢◌, ℕ, zero, suc, ◌+◌, ◌-◌, ◌<◌, ◌≤◌, ◌⊎◌, inl, inr, Bool, true, false, List, length, Option, Some, None, refl, sym, ap, subst, ◌∙◌, arith}
+use Rattle.std.proofs.Common.{◌≡◌, ◌≢◌, ℕ, zero, suc, ◌+◌, ◌-◌, ◌<◌, ◌≤◌, ◌⊎◌, inl, inr, Bool, true, false, List, length, Option, Some, refl, sym, ap, subst, ◌∙◌, arith}
 use Rattle.std.specs.Prelude.{◌==◌, ◌&&◌, ◌||◌, not, nat_lt}
 use Rattle.std.proofs.lemmas.Bool.Decides.{nat_tests}
 use Rattle.im_rv.specs.declared.effect.Effect.{Effect}
-use Rattle.im_rv.specs.declared.effect.Effect.TheVariants.{Loads}
-use Rattle.im_rv.specs.declared.effect.Extension.TheVariants.{Zero}
-use Rattle.im_rv.specs.declared.step.Went.TheVariants.{On}
-use Rattle.im_rv.specs.Runs.{step_of}
-use Rattle.im_rv.specs.Steps.{sum_of}
 use Rattle.im_rv.specs.Decode.{Line}
 use Rattle.im_rv.specs.Effects.{rd_of, rs1_of, rs2_of, sets_by}
-use Rattle.im_rv.specs.Code.{address, instruction_at}
+use Rattle.im_rv.specs.Code.{address}
 use Rattle.im_path.proofs.Times.{order}
 use Rattle.im_ckpt.specs.Runs.{State, line_at, effect_at, sets}
 use Rattle.im_ckpt.specs.Buffers.{saves_by}
@@ -19,14 +14,13 @@ use Rattle.im_ckpt.specs.Checkpoint.{store_line, shift_line, flip_line}
 use Rattle.im_ckpt.specs.Laws.{is_runtime, IsCut, IsIntact}
 use Rattle.im_ckpt.proofs.Slots.{saves_if}
 use Rattle.im_ckpt.proofs.Rungs.{entry_line, ladder_reg, ladder_store, reg_named, store_back, shift_back, flip_back}
-use Rattle.im_ckpt.proofs.Phases.{Entering, Climbing, entry_line_at, ladder_line_at, climb_store, return_line_at, effect_is, enters, in_entry, on_ladder, at_return, comes_back}
+use Rattle.im_ckpt.proofs.Phases.{Climbing, entry_line_at, ladder_line_at, climb_store, return_line_at, effect_is, enters, in_entry, on_ladder, at_return, comes_back}
 use Rattle.im_replay.specs.Needed.{uses}
-use Rattle.im_gap.specs.Flow.{links}
 use Rattle.im_flow.specs.Flows.{IsAt}
 use Rattle.im_until.specs.Until.{IsUsedAt}
 use Rattle.im_live.specs.Liveness.{uses_register, IsCutTo, IsLiveness, EntersByCuts}
 use Rattle.im_live.specs.Laws.{BeginsAt, KeepsToCode, LivesUntil, LiveLaw}
-use Rattle.im_live.proofs.Places.{behind_outside, outside_behind, entry_inside, entry_apart, Found, found, place, word_line, Onward, Same, Beside, Cuts, onward, Here, here, first_outside, edge, unset_word}
+use Rattle.im_live.proofs.Places.{behind_outside, outside_behind, entry_inside, entry_apart, found, place, word_line, Same, Beside, Cuts, onward, here, first_outside, edge, unset_word}
 
 equal_of : (i k : ℕ) → (i == k) ≡ true → i ≡ k
 equal_of i k h = grind (arith, nat_tests)

@@ -1,18 +1,16 @@
 -- Where a run stands in its words, and how it leaves a word outside the runtime.
-use Rattle.std.proofs.Common.{◌≡◌, ◌≢◌, ℕ, zero, suc, ◌+◌, ◌*◌, ◌/◌, ◌%◌, ◌-◌, ◌^◌, ◌<◌, ◌≤◌, ◌⊎◌, inl, inr, Bool, true, false, cond, List, length, Option, Some, None, refl, sym, ap, subst, ◌∙◌, arith}
-use Rattle.std.specs.Prelude.{◌==◌, ◌&&◌, ◌||◌, not, nat_lt, nat_le}
+use Rattle.std.proofs.Common.{◌≡◌, ◌≢◌, ℕ, zero, suc, ◌+◌, ◌%◌, ◌<◌, ◌≤◌, ◌⊎◌, inl, inr, true, false, List, length, Option, Some, None, refl, sym, ap, subst, ◌∙◌, arith}
+use Rattle.std.specs.Prelude.{◌==◌, ◌&&◌, nat_lt}
 use Rattle.std.proofs.lemmas.Option.{slice_get-get_or}
 use Rattle.std.proofs.lemmas.Bool.Decides.{nat_tests}
-use Rattle.im_mem.specs.Memory.{little, loaded, is_place, Stands}
+use Rattle.im_mem.specs.Memory.{loaded, Stands}
 use Rattle.im_mem.proofs.Words.{little-alike, stands-alike}
 use Rattle.im_rv.specs.declared.instr.Op.{Op}
-use Rattle.im_rv.specs.declared.instr.Op.TheVariants.{Jal, Sw, Ebreak}
-use Rattle.im_rv.specs.declared.step.Went.{Went}
+use Rattle.im_rv.specs.declared.instr.Op.TheVariants.{Sw, Ebreak}
 use Rattle.im_rv.specs.declared.step.Went.TheVariants.{On, Halted, Faulted}
 use Rattle.im_rv.specs.declared.effect.Effect.{Effect}
 use Rattle.im_rv.specs.declared.effect.Effect.TheVariants.{Puts, Stores, Stops as Ends}
-use Rattle.im_rv.specs.Formats.{format_of}
-use Rattle.im_rv.specs.Steps.{Cpu, Stepped, sum_of, row, with_reg, effected}
+use Rattle.im_rv.specs.Steps.{Stepped, sum_of, row, with_reg, effected}
 use Rattle.im_rv.specs.Decode.{Line}
 use Rattle.im_rv.specs.Runs.{decoded, step_of}
 use Rattle.im_rv.specs.Effects.{decoded_word, effect, effect_by, rd_of, writes_by, sets_by}
@@ -24,13 +22,13 @@ use Rattle.im_ckpt.specs.Runs.{State, line_at, effect_at, sets, writes}
 use Rattle.im_ckpt.specs.Buffers.{is_fixed}
 use Rattle.im_ckpt.specs.Checkpoint.{entry_at}
 use Rattle.im_ckpt.specs.Laws.{is_runtime, IsCut, IsIntact}
-use Rattle.im_ckpt.proofs.Phases.{Phase, Outside, Enters, none_kept, mem_next, next_is, effect_is, enters, inside_on}
+use Rattle.im_ckpt.proofs.Phases.{Phase, Outside, Enters, none_kept, mem_next, next_is, enters, inside_on}
 use Rattle.im_gap.specs.declared.flow.Turn.{Turn}
 use Rattle.im_gap.specs.declared.flow.Turn.TheVariants.{Jumps, Branches, Passes, Returns, Stops}
 use Rattle.im_gap.specs.Flow.{turn_by, turn_of, imm_of, is_flip, links, links_by, IsBehind, Leads, Flow}
 use Rattle.im_flow.specs.Flows.{IsAt, GoesBehindCall}
-use Rattle.im_flow.proofs.Rows.{HoldsCode, holds_code, fetched_word, step_law}
-use Rattle.im_live.specs.Liveness.{has_result, sets_register, names_target, IsCutTo, EntersByCuts}
+use Rattle.im_flow.proofs.Rows.{holds_code, fetched_word, step_law}
+use Rattle.im_live.specs.Liveness.{sets_register, names_target, IsCutTo, EntersByCuts}
 use Rattle.im_live.specs.Laws.{BeginsAt, KeepsToCode}
 use Rattle.im_live.proofs.Rows.{place_by, Way, Over, To, Back, Halts, way, link_of, stop_of, sets_same, goes_on}
 

@@ -1,11 +1,11 @@
 -- How each operation goes on, and what it sets, whatever its operands.
-use Rattle.std.proofs.Common.{◌≡◌, ◌≢◌, ℕ, ◌⊎◌, inl, inr, Bool, true, false, cond, Option, Some, None, refl, sym, ap, arith}
-use Rattle.std.specs.Prelude.{◌==◌, ◌&&◌, ◌||◌, not, nat_lt}
+use Rattle.std.proofs.Common.{◌≡◌, ◌≢◌, ℕ, ◌⊎◌, inl, inr, Bool, true, false, cond, Option, Some, None, refl, arith}
+use Rattle.std.specs.Prelude.{◌==◌, ◌&&◌, nat_lt}
 use Rattle.std.proofs.lemmas.Bool.Decides.{nat_tests}
 use Rattle.im_mem.specs.Memory.{Mem, loaded, is_place, stored}
 use Rattle.im_rv.specs.declared.instr.Op.{Op}
 use Rattle.im_rv.specs.declared.instr.Op.TheVariants.{Lui, Jal, Jalr, Beq, Bne, Blt, Bge, Bltu, Bgeu, Sw, Ebreak}
-use Rattle.im_rv.specs.declared.step.Went.TheVariants.{On, Halted, Faulted}
+use Rattle.im_rv.specs.declared.step.Went.TheVariants.{On, Faulted}
 use Rattle.im_rv.specs.declared.effect.Effect.{Effect}
 use Rattle.im_rv.specs.declared.effect.Effect.TheVariants.{Puts, Goes, Loads, Stores, Stops as Ends}
 use Rattle.im_rv.specs.declared.effect.Extension.{Extension}
@@ -13,8 +13,7 @@ use Rattle.im_rv.specs.Formats.{format_of}
 use Rattle.im_rv.specs.Steps.{Cpu, Stepped, sum_of, row, less_signed, effected, loads, faulted}
 use Rattle.im_rv.specs.Effects.{sets_by}
 use Rattle.im_rv.specs.Decode.{Line}
-use Rattle.im_gap.specs.declared.flow.Turn.{Turn}
-use Rattle.im_gap.specs.declared.flow.Turn.TheVariants.{Passes, Jumps, Branches, Returns, Stops}
+use Rattle.im_gap.specs.declared.flow.Turn.TheVariants.{Passes, Returns, Stops}
 use Rattle.im_gap.specs.Flow.{is_flip, turn_by, links_by}
 use Rattle.im_live.specs.Liveness.{has_result, names_target}
 

@@ -1,5 +1,5 @@
 -- From the static facts of words to the registers that a run uses behind its cuts.
-use Rattle.std.specs.Prelude.{◌≡◌, ◌≢◌, ℕ, suc, ◌+◌, ◌^◌, ◌<◌, ◌≤◌, Bool, true, false, ◌||◌, None, List, length}
+use Rattle.std.specs.Prelude.{◌≡◌, ◌≢◌, ℕ, suc, ◌+◌, ◌^◌, ◌<◌, ◌≤◌, Bool, true, false, None, List, length}
 use Rattle.im_mem.specs.Memory.{Stands}
 use Rattle.im_mem.specs.Map.{code_start}
 use Rattle.im_rv.specs.declared.step.Went.TheVariants.{Faulted}
@@ -30,15 +30,19 @@ pub record BeginsAt (words : List ℕ) (entry : ℕ) (run : ℕ → State) : Typ
 pub record KeepsToCode (words : List ℕ) (run : ℕ → State) (j : ℕ) : Type 0 where
   pub places : (t : ℕ) → t < j → (i : ℕ) × (i < length words) × IsAt run t i
   pub calm : (t at : ℕ) → t < j → (step_of (run t).cpu (run t).mem).went ≢ Faulted at
-  pub writes_plain : (t a : ℕ) → t < j → is_runtime (run t).cpu.pc ≡ false → is_fixed (address (length words)) a ≡ true → writes run t a ≡ None
-  pub returns : (t i : ℕ) → t < j → is_runtime (run t).cpu.pc ≡ false → IsAt run t i → turn_of (instruction_at words i) ≡ Returns → GoesBehindCall words run t
+  pub writes_plain : (t a : ℕ) → t < j → is_runtime (run t).cpu.pc ≡ false
+      → is_fixed (address (length words)) a ≡ true → writes run t a ≡ None
+  pub returns : (t i : ℕ) → t < j → is_runtime (run t).cpu.pc ≡ false → IsAt run t i
+      → turn_of (instruction_at words i) ≡ Returns → GoesBehindCall words run t
 
 -- what survival asks of these steps, of registers and of entries into the runtime
 pub record LivesUntil (words : List ℕ) (run : ℕ → State) (j : ℕ) : Type 0 where
   -- the runtime is entered by cuts alone
-  pub cuts : (t : ℕ) → t < j → is_runtime (run t).cpu.pc ≡ false → is_runtime (run (suc t)).cpu.pc ≡ true → (k : ℕ) × IsCut run t k
+  pub cuts : (t : ℕ) → t < j → is_runtime (run t).cpu.pc ≡ false → is_runtime (run (suc t)).cpu.pc ≡ true
+      → (k : ℕ) × IsCut run t k
   -- where a section resumes, no register above xk of its cut is needed, and neither x3 nor x4
-  pub needs : (t k i time : ℕ) → time < j → IsCut run t k → IsUsedAt run (t + k + 8) i time → (i ≤ k) × (i ≢ 3) × (i ≢ 4)
+  pub needs : (t k i time : ℕ) → time < j → IsCut run t k → IsUsedAt run (t + k + 8) i time
+      → (i ≤ k) × (i ≢ 3) × (i ≢ 4)
   pub needs_first : (i time : ℕ) → time < j → IsUsedAt run 0 i time → (i ≢ 3) × (i ≢ 4) × (i < 32)
   -- and a cut is a jal that links x3
   pub linked : (t m i : ℕ) → t < j → IsCut run t m → IsAt run t i → links 3 (instruction_at words i) ≡ true

@@ -44,11 +44,13 @@ pub record IsCutTo (words : List ℕ) (i m : ℕ) : Type 0 where
 -- behind a cut is reached through the checkpoint routine, which saves x1, x2 and x5 to xm at entry Em and leaves all but x3, x4.
 pub record IsLiveness (words : List ℕ) (entry : ℕ) (live : ℕ → ℕ → Bool) : Type 0 where
   pub uses : (i r : ℕ) → runtime_length ≤ i → uses_register (instruction_at words i) r ≡ true → live i r ≡ true
-  pub flows : (i j r : ℕ) → runtime_length ≤ i → links 3 (instruction_at words i) ≡ false → Flow words i j → live j r ≡ true
-      → sets_register (instruction_at words i) r ≡ false → live i r ≡ true
-  pub cuts : (i r : ℕ) → runtime_length ≤ i → links 3 (instruction_at words i) ≡ true → live (suc i) r ≡ true → live i r ≡ true
+  pub flows : (i j r : ℕ) → runtime_length ≤ i → links 3 (instruction_at words i) ≡ false → Flow words i j
+      → live j r ≡ true → sets_register (instruction_at words i) r ≡ false → live i r ≡ true
+  pub cuts : (i r : ℕ) → runtime_length ≤ i → links 3 (instruction_at words i) ≡ true → live (suc i) r ≡ true
+      → live i r ≡ true
   -- what is live behind a cut is saved by it
-  pub saved : (i m r : ℕ) → runtime_length ≤ i → IsCutTo words i m → live (suc i) r ≡ true → (r ≤ m) × (r ≢ 3) × (r ≢ 4)
+  pub saved : (i m r : ℕ) → runtime_length ≤ i → IsCutTo words i m → live (suc i) r ≡ true
+      → (r ≤ m) × (r ≢ 3) × (r ≢ 4)
   -- and what is live at the entry is a register that recovery loads
   pub first : (i r : ℕ) → address i ≡ entry → live i r ≡ true → (r ≢ 3) × (r ≢ 4) × (r < 32)
 
@@ -62,6 +64,7 @@ names_target turn = false
 pub record EntersByCuts (words : List ℕ) (entry : ℕ) : Type 0 where
   pub begins : checkpoint_end ≤ entry
   pub cuts : (i : ℕ) → runtime_length ≤ i → links 3 (instruction_at words i) ≡ true → (m : ℕ) × IsCutTo words i m
-  pub others : (i : ℕ) → runtime_length ≤ i → links 3 (instruction_at words i) ≡ false → names_target (turn_of (instruction_at words i)) ≡ true
+  pub others : (i : ℕ) → runtime_length ≤ i → links 3 (instruction_at words i) ≡ false
+      → names_target (turn_of (instruction_at words i)) ≡ true
       → is_runtime (sum_of (address i) (imm_of (instruction_at words i))) ≡ false
   pub calls : (i : ℕ) → links 1 (instruction_at words i) ≡ true → runtime_length ≤ i

@@ -20,7 +20,8 @@ pub struct Scope {
 impl Scope {
     /// What a name means.
     pub fn find(&self, name: &[u8]) -> Option<&Entity>
-        ensures { MatchOption result (s.meaning (scopes_of self.now.entries.items) name.now ≡ None) (λ e. s.meaning (scopes_of self.now.entries.items) name.now ≡ Some (entity_of e.now)) }
+        ensures { MatchOption result (s.meaning (scopes_of self.now.entries.items) name.now ≡ None)
+            (λ e. s.meaning (scopes_of self.now.entries.items) name.now ≡ Some (entity_of e.now)) }
     {
         let mut i = self.entries.len();
         while i > 0 {
@@ -36,7 +37,9 @@ impl Scope {
 
     /// What a name means in the innermost scope.
     pub fn find_here(&self, name: &[u8]) -> Option<&Entity>
-        ensures { MatchOption result (s.meaning_here (scopes_of self.now.entries.items) name.now ≡ None) (λ e. s.meaning_here (scopes_of self.now.entries.items) name.now ≡ Some (entity_of e.now)) }
+        ensures { MatchOption result
+            (s.meaning_here (scopes_of self.now.entries.items) name.now ≡ None) (λ e. s.meaning_here
+            (scopes_of self.now.entries.items) name.now ≡ Some (entity_of e.now)) }
     {
         let mut i = self.entries.len();
         while i > 0 {
@@ -83,7 +86,8 @@ impl Scope {
     }
 
     pub fn add(&mut self, entry: Entry) -> Result<(), Stop>
-        ensures added { MatchResult result (λ _. self.new.entries.items ≡ self.old.entries.items ++ entry ∷ []) IsNoRule }
+        ensures added { MatchResult result
+            (λ _. self.new.entries.items ≡ self.old.entries.items ++ entry ∷ []) IsNoRule }
         ensures statics { self.new.statics ≡ self.old.statics }
         ensures bodies { self.new.bodies ≡ self.old.bodies }
     {
@@ -102,10 +106,14 @@ impl Scope {
 }
 
 fn names_it<'a>(entry: &'a Entry, name: &[u8]) -> Option<&'a Entity>
-    ensures some { IfSome result (λ e. (g : s.Scopes) → s.meaning (with_entry g entry.now) name.now ≡ Some (entity_of e.now)) }
-    ensures some_here { IfSome result (λ e. (g : s.Scopes) → s.meaning_here (with_entry g entry.now) name.now ≡ Some (entity_of e.now)) }
-    ensures none { IfNone result ((g : s.Scopes) → s.meaning (with_entry g entry.now) name.now ≡ s.meaning g name.now) }
-    ensures none_here { IfNone result ((g : s.Scopes) → s.meaning_here (with_entry g entry.now) name.now ≡ here_or (opens_in entry.now) (s.meaning_here g name.now)) }
+    ensures some { IfSome result
+        (λ e. (g : s.Scopes) → s.meaning (with_entry g entry.now) name.now ≡ Some (entity_of e.now)) }
+    ensures some_here { IfSome result (λ e. (g : s.Scopes) → s.meaning_here (with_entry g entry.now)
+        name.now ≡ Some (entity_of e.now)) }
+    ensures none { IfNone result
+        ((g : s.Scopes) → s.meaning (with_entry g entry.now) name.now ≡ s.meaning g name.now) }
+    ensures none_here { IfNone result ((g : s.Scopes) → s.meaning_here (with_entry g entry.now)
+        name.now ≡ here_or (opens_in entry.now) (s.meaning_here g name.now)) }
 {
     match entry {
         Entry::Named(known, entity) => {
@@ -130,7 +138,8 @@ fn opens(entry: &Entry) -> bool
 }
 
 fn tags_it(entry: &Entry, tag: &[u8]) -> bool
-    ensures { (g : s.Scopes) → s.tag_meaning (with_entry g entry.now) tag.now ≡ tag_or result (s.tag_meaning g tag.now) }
+    ensures { (g : s.Scopes) → s.tag_meaning (with_entry g entry.now) tag.now ≡ tag_or result
+        (s.tag_meaning g tag.now) }
 {
     match entry {
         Entry::EnumTag(known) => same_name(known, tag),

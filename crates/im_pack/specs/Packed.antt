@@ -35,14 +35,14 @@ pub record IsCell (statics : List StaticOf) (n : ℕ) (c : Cell) (v : Constant) 
   pub is_value : slice_get s.values.items i ≡ Some v
 
 -- the place of a cell of the n-th static among the bytes of all
-abbrev pub place_of : List ℕ → ℕ → Cell → ℕ
-place_of addresses n c = slice_index addresses n + c.offset - statics_start
+abbrev pub cell_place : List ℕ → ℕ → Cell → ℕ
+cell_place addresses n c = slice_index addresses n + c.offset - statics_start
 
 -- each cell has its first value's bytes, the lowest first; a byte of no cell is 0
 pub record AreFirstBytes (statics : List StaticOf) (addresses bytes : List ℕ) : Type 0 where
   pub size : length bytes ≡ rooms (objects_of statics)
-  pub cells : (n : ℕ) (c : Cell) (v : Constant) → IsCell statics n c v → little (view bytes) (place_of addresses n c) (kind_size c.kind) ≡ word_of addresses v % 2 ^ (8 * kind_size c.kind)
-  pub rest : (k : ℕ) → ((n : ℕ) (c : Cell) (v : Constant) → IsCell statics n c v → (k < place_of addresses n c) ⊎ (place_of addresses n c + kind_size c.kind ≤ k)) → slice_index bytes k ≡ 0
+  pub cells : (n : ℕ) (c : Cell) (v : Constant) → IsCell statics n c v → little (view bytes) (cell_place addresses n c) (kind_size c.kind) ≡ word_of addresses v % 2 ^ (8 * kind_size c.kind)
+  pub rest : (k : ℕ) → ((n : ℕ) (c : Cell) (v : Constant) → IsCell statics n c v → (k < cell_place addresses n c) ⊎ (cell_place addresses n c + kind_size c.kind ≤ k)) → slice_index bytes k ≡ 0
 
 -- the object of a static at this address
 pub record IsObjectOf (at : ℕ) (s : StaticOf) (o : ObjectValue) : Type 0 where

@@ -20,7 +20,7 @@ use Rattle.im_linked.specs.Laws.{IsLoaded, HasObjects}
 use Rattle.im_keeps.specs.Keeps.{IsInput}
 use Rattle.im_written.specs.Written.{IsWritten}
 use Rattle.im_pack.specs.Packed.{IsPacked, IsLoadable}
-use Rattle.im_packed.specs.Places.{place_of, setting_of, linking_in}
+use Rattle.im_packed.specs.Places.{label_place, setting_of, linking_in}
 
 -- the statics of a unit fit, one behind the other, at these addresses
 pub record AreStaticsAt (u : Code) (statics : List ℕ) : Type 0 where
@@ -39,7 +39,7 @@ PackedLaw =
 
 -- each label has the address of its line
 abbrev pub PlacesLaw : Type 0
-PlacesLaw = (parts : List Part) (code : Linked) → IsLinkable parts → IsLinkedCode parts code → ArePlaces parts (place_of parts)
+PlacesLaw = (parts : List Part) (code : Linked) → IsLinkable parts → IsLinkedCode parts code → ArePlaces parts (label_place parts)
 
 -- the low page, the code and the input are in memory
 abbrev pub LoadsLaw : Type 0

@@ -23,8 +23,8 @@ abbrev pub place_among : List Line → ℕ → ℕ → ℕ
 place_among [] i l = 0
 place_among (line ∷ lines) i l = if has_label line.label l then address i else place_among lines (suc i) l
 
-abbrev pub place_of : List Part → ℕ → ℕ
-place_of parts l = place_among (lines_of parts) 0 l
+abbrev pub label_place : List Part → ℕ → ℕ
+label_place parts l = place_among (lines_of parts) 0 l
 
 -- the frames of these layouts, an image's stack and capacity, the input
 abbrev pub setting_of : List Layout → ImageValue → List ℕ → Setting
@@ -34,4 +34,4 @@ setting_of layouts image input =
 -- the linking of a packed program, loaded with an input
 abbrev pub linking_in : Code → List ℕ → List Layout → List Part → Linked → ImageValue → List ℕ → Linking
 linking_in u statics layouts parts code image input =
-    linking_of u.functions.items (place_of parts) code (memory_of image input) (place_at statics layouts) (size_at u)
+    linking_of u.functions.items (label_place parts) code (memory_of image input) (place_at statics layouts) (size_at u)

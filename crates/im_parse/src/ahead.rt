@@ -39,7 +39,8 @@ fn has_name(words: &[Word], at: u32) -> bool
 /// Whether specifiers go on at this place, where `typed` says whether a type stands in those before it.
 pub fn specifier_ahead(words: &[Word], names: &[&[u8]], typed: bool, at: u32) -> bool
     requires { length words.now < 2 ^ 32 }
-    ensures { IsTrue result ↔ GoesOn (names_of names.now) typed (head (drop at (map shown words.now))) }
+    ensures { IsTrue result ↔ GoesOn (names_of names.now) typed
+        (head (drop at (map shown words.now))) }
 {
     if !typed {
         return begins_specifiers(words, names, at);

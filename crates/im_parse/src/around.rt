@@ -29,7 +29,8 @@ fn merged(
     inner: Declarator,
     mut suffixes: Vec<Suffix>,
 ) -> Result<Declarator, Stop>
-    ensures { Makes declarator_of result (joined at (stars_tree stars) (declarator_of inner) (suffixes_tree suffixes)) }
+    ensures { Makes declarator_of result
+        (joined at (stars_tree stars) (declarator_of inner) (suffixes_tree suffixes)) }
 {
     let Declarator {
         stars: mut more,
@@ -56,7 +57,8 @@ pub fn around(
     inner: Declarator,
     suffixes: Vec<Suffix>,
 ) -> Result<Declarator, Stop>
-    ensures { Makes declarator_of result (t.around at (stars_tree stars) (declarator_of inner) (suffixes_tree suffixes)) }
+    ensures { Makes declarator_of result
+        (t.around at (stars_tree stars) (declarator_of inner) (suffixes_tree suffixes)) }
 {
     if unsuffixed(&suffixes) {
         return merged(at, stars, inner, suffixes);

@@ -46,7 +46,9 @@ fn inner_at(words: &[Word], names: &[&[u8]], form: Form, behind: u32) -> Result<
 /// The name at this place, where a declarator of this form may have one there.
 fn own_name<'b>(words: &[Word<'b>], form: Form, at: u32) -> Option<(&'b [u8], u32)>
     requires { length words.now < 2 ^ 32 }
-    ensures { MatchOption result (HasName form → (n : Name) → head (drop at (map shown words.now)) ≡ Some (name n) → ⊥) (λ found. HasName form × IsAt (name found.0.now) (map shown words.now) at found.1) }
+    ensures { MatchOption result
+        (HasName form → (n : Name) → head (drop at (map shown words.now)) ≡ Some (name n) → ⊥)
+        (λ found. HasName form × IsAt (name found.0.now) (map shown words.now) at found.1) }
 {
     if !may_have_name(form) {
         return None;
@@ -57,7 +59,8 @@ fn own_name<'b>(words: &[Word<'b>], form: Form, at: u32) -> Option<(&'b [u8], u3
 /// Whether a declarator of this form may go on without a core at this place, where `unstarred` says that it has no stars.
 fn is_nameless(words: &[Word], form: Form, unstarred: bool, at: u32) -> bool
     requires { length words.now < 2 ^ 32 }
-    ensures { IsTrue result ↔ MayBeNameless form × (unstarred ≡ true → BeginsSuffix (head (drop at (map shown words.now)))) }
+    ensures { IsTrue result ↔ MayBeNameless form ×
+        (unstarred ≡ true → BeginsSuffix (head (drop at (map shown words.now)))) }
 {
     if !may_be_nameless(form) {
         return false;

@@ -26,7 +26,8 @@ pub fn declaration(
     at: u32,
 ) -> Result<(Declaration, u32), Stop>
     requires { length words.now < 2 ^ 32 }
-    ensures { Parses declaration_of (IsDeclaration (names_of names.now)) Anything (map shown words.now) at result }
+    ensures { Parses declaration_of (IsDeclaration (names_of names.now)) Anything
+        (map shown words.now) at result }
 {
     let (specifiers, next) = specifiers(alloc, words, names, at)?;
     if let Some(end) = after_mark(words, next, Punctuator::Semicolon) {
@@ -57,7 +58,9 @@ pub fn closed_init_declarators(
     at: u32,
 ) -> Result<(Vec<InitDeclarator>, u32), Stop>
     requires { length words.now < 2 ^ 32 }
-    ensures { Parses init_declarators_tree (Closed Semicolon (IsInitDeclarators (names_of names.now))) Anything (map shown words.now) at result }
+    ensures { Parses init_declarators_tree
+        (Closed Semicolon (IsInitDeclarators (names_of names.now))) Anything (map shown words.now)
+        at result }
 {
     let mut items = Vec::new(alloc);
     let (first, mut next) = init_declarator(alloc, words, names, at)?;
@@ -80,7 +83,9 @@ pub fn closed_inits_behind(
     at: u32,
 ) -> Result<(Vec<InitDeclarator>, u32), Stop>
     requires { length words.now < 2 ^ 32 }
-    ensures { Parses init_declarators_tree (Closed Semicolon (InitsBehind (names_of names.now) (declarator_of first))) Anything (map shown words.now) at result }
+    ensures { Parses init_declarators_tree
+        (Closed Semicolon (InitsBehind (names_of names.now) (declarator_of first))) Anything
+        (map shown words.now) at result }
 {
     let mut items = Vec::new(alloc);
     let (initializer, mut next) = maybe_initializer(alloc, words, names, at)?;
@@ -105,7 +110,8 @@ fn init_declarator(
     at: u32,
 ) -> Result<(InitDeclarator, u32), Stop>
     requires { length words.now < 2 ^ 32 }
-    ensures { Parses init_declarator_tree (IsInitDeclarator (names_of names.now)) AfterParameter (map shown words.now) at result }
+    ensures { Parses init_declarator_tree (IsInitDeclarator (names_of names.now)) AfterParameter
+        (map shown words.now) at result }
 {
     let (declarator, next) = declarator(alloc, words, names, Form::Declared, at)?;
     let (initializer, end) = maybe_initializer(alloc, words, names, next)?;
@@ -126,7 +132,8 @@ fn maybe_initializer(
     at: u32,
 ) -> Result<(Option<Initializer>, u32), Stop>
     requires { length words.now < 2 ^ 32 }
-    ensures { Parses maybe_initializer_tree (IsMaybeInitializer (names_of names.now)) (Below 2) (map shown words.now) at result }
+    ensures { Parses maybe_initializer_tree (IsMaybeInitializer (names_of names.now)) (Below 2)
+        (map shown words.now) at result }
 {
     match after_mark(words, at, Punctuator::Assign) {
         None => Ok((None, at)),

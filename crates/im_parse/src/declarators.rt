@@ -30,7 +30,8 @@ pub fn maybe_declarator(
     at: u32,
 ) -> Result<(Option<Declarator>, u32), Stop>
     requires { length words.now < 2 ^ 32 }
-    ensures { Parses maybe_tree (IsMaybeForm (names_of names.now) form) AfterParameter (map shown words.now) at result }
+    ensures { Parses maybe_tree (IsMaybeForm (names_of names.now) form) AfterParameter
+        (map shown words.now) at result }
 {
     if !declarator_ahead(words, form, at) {
         return Ok((None, at));
@@ -49,7 +50,8 @@ pub fn declarator(
     at: u32,
 ) -> Result<(Declarator, u32), Stop>
     requires { length words.now < 2 ^ 32 }
-    ensures { Parses declarator_of (IsForm (names_of names.now) form) AfterDeclarator (map shown words.now) at result }
+    ensures { Parses declarator_of (IsForm (names_of names.now) form) AfterDeclarator
+        (map shown words.now) at result }
 {
     let (stars, next) = stars(alloc, words, at)?;
     match core_at(words, names, form, unstarred(&stars), next)? {
@@ -81,7 +83,8 @@ fn suffixes(
     at: u32,
 ) -> Result<(Vec<Suffix>, u32), Stop>
     requires { length words.now < 2 ^ 32 }
-    ensures { Parses suffixes_tree (IsSuffixes (names_of names.now)) (Below 14) (map shown words.now) at result }
+    ensures { Parses suffixes_tree (IsSuffixes (names_of names.now)) (Below 14)
+        (map shown words.now) at result }
 {
     let mut items = Vec::new(alloc);
     let mut next = at;
@@ -97,7 +100,8 @@ fn suffixes(
 #[cycle(expression)]
 fn suffix(alloc: Global, words: &[Word], names: &[&[u8]], at: u32) -> Result<(Suffix, u32), Stop>
     requires { length words.now < 2 ^ 32 }
-    ensures { Parses suffix_tree (IsSuffix (names_of names.now)) Anything (map shown words.now) at result }
+    ensures { Parses suffix_tree (IsSuffix (names_of names.now)) Anything (map shown words.now) at
+        result }
 {
     let Some(inside) = after_mark(words, at, Punctuator::OpenBracket) else {
         let first = expect_mark(words, at, Punctuator::OpenParen)?;

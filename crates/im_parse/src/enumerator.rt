@@ -23,7 +23,8 @@ pub fn closed_enumerators(
     at: u32,
 ) -> Result<(Vec<Enumerator>, u32), Stop>
     requires { length words.now < 2 ^ 32 }
-    ensures { Parses enumerators_tree (Closed CloseBrace (IsEnumerators (names_of names.now))) Anything (map shown words.now) at result }
+    ensures { Parses enumerators_tree (Closed CloseBrace (IsEnumerators (names_of names.now)))
+        Anything (map shown words.now) at result }
 {
     let mut items = Vec::new(alloc);
     let (first, mut next) = enumerator(alloc, words, names, at)?;
@@ -49,7 +50,8 @@ fn enumerator(
     at: u32,
 ) -> Result<(Enumerator, u32), Stop>
     requires { length words.now < 2 ^ 32 }
-    ensures { Parses enumerator_tree (IsEnumerator (names_of names.now)) (Below 2) (map shown words.now) at result }
+    ensures { Parses enumerator_tree (IsEnumerator (names_of names.now)) (Below 2)
+        (map shown words.now) at result }
 {
     let (name, next) = expect_name(words, at)?;
     match after_mark(words, next, Punctuator::Assign) {

@@ -24,7 +24,8 @@ pub fn expression(
     at: u32,
 ) -> Result<(Expression, u32), Stop>
     requires { length words.now < 2 ^ 32 }
-    ensures { Parses tree_of (IsExpression (names_of names.now)) (Below 1) (map shown words.now) at result }
+    ensures { Parses tree_of (IsExpression (names_of names.now)) (Below 1) (map shown words.now) at
+        result }
 {
     let (mut tree, mut next) = assignment(alloc, words, names, at)?;
     while let Some(behind) = after_mark(words, next, Punctuator::Comma) {
@@ -38,7 +39,8 @@ pub fn expression(
 /// Whether a conditional expression that begins at this place is a unary one: it is, unless its node is looser and not
 /// in parentheses of its own.
 fn is_unary(tree: &Expression, at: u32) -> bool
-    ensures { IsTrue result ↔ (number_of (tree_of tree.now) ≡ at → is_looser (tree_of tree.now) ≡ false) }
+    ensures { IsTrue result ↔
+        (number_of (tree_of tree.now) ≡ at → is_looser (tree_of tree.now) ≡ false) }
 {
     tree.at != at
         || !matches!(
@@ -58,7 +60,8 @@ pub fn assignment(
     at: u32,
 ) -> Result<(Expression, u32), Stop>
     requires { length words.now < 2 ^ 32 }
-    ensures { Parses tree_of (IsAssignment (names_of names.now)) (Below 2) (map shown words.now) at result }
+    ensures { Parses tree_of (IsAssignment (names_of names.now)) (Below 2) (map shown words.now) at
+        result }
 {
     let (left, next) = conditional(alloc, words, names, at)?;
     match assign_at(words, next) {
@@ -83,7 +86,8 @@ pub fn conditional(
     at: u32,
 ) -> Result<(Expression, u32), Stop>
     requires { length words.now < 2 ^ 32 }
-    ensures { Parses tree_of (IsConditional (names_of names.now)) (Below 3) (map shown words.now) at result }
+    ensures { Parses tree_of (IsConditional (names_of names.now)) (Below 3) (map shown words.now) at
+        result }
 {
     let (condition, next) = binary(alloc, words, names, 0, at)?;
     match after_mark(words, next, Punctuator::Question) {
@@ -109,7 +113,8 @@ fn binary(
 ) -> Result<(Expression, u32), Stop>
     requires short { length words.now < 2 ^ 32 }
     requires level { level ≤ 10 }
-    ensures { Parses tree_of (IsBinary (names_of names.now) level) (Below (level + 4)) (map shown words.now) at result }
+    ensures { Parses tree_of (IsBinary (names_of names.now) level) (Below (level + 4))
+        (map shown words.now) at result }
 {
     if level == 10 {
         return cast(alloc, words, names, at);
@@ -127,7 +132,8 @@ fn binary(
 #[cycle(expression)]
 fn cast(alloc: Global, words: &[Word], names: &[&[u8]], at: u32) -> Result<(Expression, u32), Stop>
     requires { length words.now < 2 ^ 32 }
-    ensures { Parses tree_of (IsCast (names_of names.now)) (Below 14) (map shown words.now) at result }
+    ensures { Parses tree_of (IsCast (names_of names.now)) (Below 14) (map shown words.now) at
+        result }
 {
     match after_mark(words, at, Punctuator::OpenParen) {
         None => unary(alloc, words, names, at),
@@ -147,7 +153,8 @@ fn cast(alloc: Global, words: &[Word], names: &[&[u8]], at: u32) -> Result<(Expr
 #[cycle(expression)]
 fn unary(alloc: Global, words: &[Word], names: &[&[u8]], at: u32) -> Result<(Expression, u32), Stop>
     requires { length words.now < 2 ^ 32 }
-    ensures { Parses tree_of (IsUnary (names_of names.now)) (Below 14) (map shown words.now) at result }
+    ensures { Parses tree_of (IsUnary (names_of names.now)) (Below 14) (map shown words.now) at
+        result }
 {
     if let Some((operator, behind)) = step_at(words, at) {
         let (operand, end) = unary(alloc, words, names, behind)?;
@@ -175,7 +182,8 @@ fn sized(
     behind: u32,
 ) -> Result<(Expression, u32), Stop>
     requires { length words.now < 2 ^ 32 }
-    ensures { Parses tree_of (IsSized (names_of names.now) at) (Below 14) (map shown words.now) behind result }
+    ensures { Parses tree_of (IsSized (names_of names.now) at) (Below 14) (map shown words.now)
+        behind result }
 {
     match after_mark(words, behind, Punctuator::OpenParen) {
         None => sized_operand(alloc, words, names, at, behind),
@@ -200,7 +208,8 @@ fn sized_operand(
     behind: u32,
 ) -> Result<(Expression, u32), Stop>
     requires { length words.now < 2 ^ 32 }
-    ensures { Parses tree_of (Made (size_of_expression at) (IsUnary (names_of names.now))) (Below 14) (map shown words.now) behind result }
+    ensures { Parses tree_of (Made (size_of_expression at) (IsUnary (names_of names.now)))
+        (Below 14) (map shown words.now) behind result }
 {
     let (operand, end) = unary(alloc, words, names, behind)?;
     let tree = build::size_of_expression(alloc, at, operand)?;

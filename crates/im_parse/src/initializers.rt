@@ -24,7 +24,8 @@ pub fn initializer(
     at: u32,
 ) -> Result<(Initializer, u32), Stop>
     requires { length words.now < 2 ^ 32 }
-    ensures { Parses initializer_of (IsInitializer (names_of names.now)) (Below 2) (map shown words.now) at result }
+    ensures { Parses initializer_of (IsInitializer (names_of names.now)) (Below 2)
+        (map shown words.now) at result }
 {
     match after_mark(words, at, Punctuator::OpenBrace) {
         None => {
@@ -47,7 +48,8 @@ fn closed_initializers(
     at: u32,
 ) -> Result<(Vec<Initializer>, u32), Stop>
     requires { length words.now < 2 ^ 32 }
-    ensures { Parses initializers_tree (Closed CloseBrace (IsInitializers (names_of names.now))) Anything (map shown words.now) at result }
+    ensures { Parses initializers_tree (Closed CloseBrace (IsInitializers (names_of names.now)))
+        Anything (map shown words.now) at result }
 {
     let mut items = Vec::new(alloc);
     let (first, mut next) = initializer(alloc, words, names, at)?;

@@ -19,8 +19,6 @@ mod postfix;
 mod specifier;
 mod stars;
 mod table;
-#[cfg(test)]
-mod tests;
 mod text;
 mod type_name;
 

@@ -21,7 +21,9 @@ use im_word::Word;
 /// The punctuator at this place, and the place behind it.
 pub fn mark_at(words: &[Word], at: u32) -> Option<(Punctuator, u32)>
     requires { length words.now < 2 ^ 32 }
-    ensures { MatchOption result ((m : Punctuator) → head (drop at (map shown words.now)) ≡ Some (mark m) → ⊥) (λ found. IsAt (mark found.0) (map shown words.now) at found.1) }
+    ensures { MatchOption result
+        ((m : Punctuator) → head (drop at (map shown words.now)) ≡ Some (mark m) → ⊥)
+        (λ found. IsAt (mark found.0) (map shown words.now) at found.1) }
 {
     let found = word_at(words, at)?;
     match found.0 {
@@ -44,7 +46,9 @@ pub fn expect_mark(words: &[Word], at: u32, wanted: Punctuator) -> Result<u32, S
 /// The name that has to stand at this place, and the place behind it.
 pub fn expect_name<'b>(words: &[Word<'b>], at: u32) -> Result<(&'b [u8], u32), Stop>
     requires { length words.now < 2 ^ 32 }
-    ensures { MatchResult result (λ found. IsAt (name found.0.now) (map shown words.now) at found.1) (λ stop. (stop ≡ Syntax at) × ((s : List ℕ) → head (drop at (map shown words.now)) ≡ Some (name s) → ⊥)) }
+    ensures { MatchResult result (λ found. IsAt (name found.0.now) (map shown words.now) at found.1)
+        (λ stop. (stop ≡ Syntax at) ×
+        ((s : List ℕ) → head (drop at (map shown words.now)) ≡ Some (name s) → ⊥)) }
 {
     match name_at(words, at) {
         Some(found) => Ok(found),
@@ -55,7 +59,8 @@ pub fn expect_name<'b>(words: &[Word<'b>], at: u32) -> Result<(&'b [u8], u32), S
 /// The binary operator of this level at this place, and the place behind it.
 pub fn binary_at(words: &[Word], at: u32, level: u32) -> Option<(BinaryOp, u32)>
     requires { length words.now < 2 ^ 32 }
-    ensures { MatchOption result (NoOperator (op.IsBinaryOperator level) (map shown words.now) at) (λ found. OperatorAt (op.IsBinaryOperator level) (map shown words.now) at found.0 found.1) }
+    ensures { MatchOption result (NoOperator (op.IsBinaryOperator level) (map shown words.now) at)
+        (λ found. OperatorAt (op.IsBinaryOperator level) (map shown words.now) at found.0 found.1) }
 {
     let (mark, next) = mark_at(words, at)?;
     match binary_operator(mark) {
@@ -67,7 +72,8 @@ pub fn binary_at(words: &[Word], at: u32, level: u32) -> Option<(BinaryOp, u32)>
 /// The assignment operator at this place, and the place behind it.
 pub fn assign_at(words: &[Word], at: u32) -> Option<(AssignOp, u32)>
     requires { length words.now < 2 ^ 32 }
-    ensures { MatchOption result (NoOperator op.IsAssignOperator (map shown words.now) at) (λ found. OperatorAt op.IsAssignOperator (map shown words.now) at found.0 found.1) }
+    ensures { MatchOption result (NoOperator op.IsAssignOperator (map shown words.now) at)
+        (λ found. OperatorAt op.IsAssignOperator (map shown words.now) at found.0 found.1) }
 {
     let (mark, next) = mark_at(words, at)?;
     let operator = assign_operator(mark)?;
@@ -77,7 +83,8 @@ pub fn assign_at(words: &[Word], at: u32) -> Option<(AssignOp, u32)>
 /// `++` or `--` at this place, and the place behind it.
 pub fn step_at(words: &[Word], at: u32) -> Option<(StepOp, u32)>
     requires { length words.now < 2 ^ 32 }
-    ensures { MatchOption result (NoOperator op.IsStep (map shown words.now) at) (λ found. OperatorAt op.IsStep (map shown words.now) at found.0 found.1) }
+    ensures { MatchOption result (NoOperator op.IsStep (map shown words.now) at)
+        (λ found. OperatorAt op.IsStep (map shown words.now) at found.0 found.1) }
 {
     let (mark, next) = mark_at(words, at)?;
     let operator = step_operator(mark)?;
@@ -87,7 +94,8 @@ pub fn step_at(words: &[Word], at: u32) -> Option<(StepOp, u32)>
 /// The unary operator at this place, and the place behind it.
 pub fn prefix_at(words: &[Word], at: u32) -> Option<(UnaryOp, u32)>
     requires { length words.now < 2 ^ 32 }
-    ensures { MatchOption result (NoOperator op.IsPrefix (map shown words.now) at) (λ found. OperatorAt op.IsPrefix (map shown words.now) at found.0 found.1) }
+    ensures { MatchOption result (NoOperator op.IsPrefix (map shown words.now) at)
+        (λ found. OperatorAt op.IsPrefix (map shown words.now) at found.0 found.1) }
 {
     let (mark, next) = mark_at(words, at)?;
     let operator = prefix_operator(mark)?;
@@ -97,7 +105,8 @@ pub fn prefix_at(words: &[Word], at: u32) -> Option<(UnaryOp, u32)>
 /// The specifier of one keyword at this place, and the place behind it (C11 6.7.1 to 6.7.3).
 pub fn specifier_word_at(words: &[Word], at: u32) -> Option<(SpecifierWord, u32)>
     requires { length words.now < 2 ^ 32 }
-    ensures { MatchOption result (NoWord (map shown words.now) at) (λ found. WordAt (map shown words.now) at found.0 found.1) }
+    ensures { MatchOption result (NoWord (map shown words.now) at)
+        (λ found. WordAt (map shown words.now) at found.0 found.1) }
 {
     let found = word_at(words, at)?;
     match found.0 {
@@ -124,7 +133,8 @@ fn is_specifier_keyword(keyword: Keyword) -> bool
 /// Whether specifiers begin at this place: a keyword of theirs stands there, or a typedef name.
 pub fn begins_specifiers(words: &[Word], names: &[&[u8]], at: u32) -> bool
     requires { length words.now < 2 ^ 32 }
-    ensures { IsTrue result ↔ BeginsSpecifiers (names_of names.now) (head (drop at (map shown words.now))) }
+    ensures { IsTrue result ↔ BeginsSpecifiers (names_of names.now)
+        (head (drop at (map shown words.now))) }
 {
     match word_at(words, at) {
         None => false,

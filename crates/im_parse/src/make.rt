@@ -51,7 +51,8 @@ pub fn named_struct(
     name: &[u8],
     members: Vec<Member>,
 ) -> Result<Specifier, Stop>
-    ensures { Makes specifier_tree result (t.struct_specifier at (Some name.now) (members_tree members)) }
+    ensures { Makes specifier_tree result
+        (t.struct_specifier at (Some name.now) (members_tree members)) }
 {
     let tag = Vec::from_slice(alloc, name)?;
     let kind = SpecifierKind::Struct(Some(tag), members);
@@ -71,7 +72,8 @@ pub fn named_enum(
     name: &[u8],
     enumerators: Vec<Enumerator>,
 ) -> Result<Specifier, Stop>
-    ensures { Makes specifier_tree result (t.enum_specifier at (Some name.now) (enumerators_tree enumerators)) }
+    ensures { Makes specifier_tree result
+        (t.enum_specifier at (Some name.now) (enumerators_tree enumerators)) }
 {
     let tag = Vec::from_slice(alloc, name)?;
     let kind = SpecifierKind::Enum(Some(tag), enumerators);
@@ -118,7 +120,8 @@ pub fn named(
     name: &[u8],
     suffixes: Vec<Suffix>,
 ) -> Result<Declarator, Stop>
-    ensures { Makes declarator_of result (t.declarator at (stars_tree stars) (t.name_core name.now) (suffixes_tree suffixes)) }
+    ensures { Makes declarator_of result
+        (t.declarator at (stars_tree stars) (t.name_core name.now) (suffixes_tree suffixes)) }
 {
     let core = Core::Name(Vec::from_slice(alloc, name)?);
     Ok(Declarator {
@@ -130,7 +133,8 @@ pub fn named(
 }
 
 pub fn nameless(at: u32, stars: Vec<Star>, suffixes: Vec<Suffix>) -> Declarator
-    ensures { declarator_of result ≡ t.declarator at (stars_tree stars) t.absent_core (suffixes_tree suffixes) }
+    ensures { declarator_of result ≡ t.declarator at (stars_tree stars) t.absent_core
+        (suffixes_tree suffixes) }
 {
     Declarator {
         at,
@@ -183,7 +187,8 @@ pub fn type_name(
     specifiers: Specifiers,
     declarator: Option<Declarator>,
 ) -> Result<TypeName, Stop>
-    ensures { Makes type_name_of result (t.type_name (specifiers_of specifiers) (maybe_tree declarator)) }
+    ensures { Makes type_name_of result
+        (t.type_name (specifiers_of specifiers) (maybe_tree declarator)) }
 {
     let declarator = match declarator {
         None => None,

@@ -25,7 +25,8 @@ pub fn closed_members(
     at: u32,
 ) -> Result<(Vec<Member>, u32), Stop>
     requires { length words.now < 2 ^ 32 }
-    ensures { Parses members_tree (Closed CloseBrace (IsMembers (names_of names.now))) Anything (map shown words.now) at result }
+    ensures { Parses members_tree (Closed CloseBrace (IsMembers (names_of names.now))) Anything
+        (map shown words.now) at result }
 {
     let mut items = Vec::new(alloc);
     let (first, mut next) = member(alloc, words, names, at)?;
@@ -43,7 +44,8 @@ pub fn closed_members(
 #[cycle(expression)]
 fn member(alloc: Global, words: &[Word], names: &[&[u8]], at: u32) -> Result<(Member, u32), Stop>
     requires { length words.now < 2 ^ 32 }
-    ensures { Parses member_tree (IsMember (names_of names.now)) Anything (map shown words.now) at result }
+    ensures { Parses member_tree (IsMember (names_of names.now)) Anything (map shown words.now) at
+        result }
 {
     let (specifiers, next) = specifiers(alloc, words, names, at)?;
     let (declarators, end) = closed_declarators(alloc, words, names, next)?;
@@ -59,7 +61,8 @@ fn closed_declarators(
     at: u32,
 ) -> Result<(Vec<Declarator>, u32), Stop>
     requires { length words.now < 2 ^ 32 }
-    ensures { Parses declarators_tree (Closed Semicolon (IsDeclarators (names_of names.now))) Anything (map shown words.now) at result }
+    ensures { Parses declarators_tree (Closed Semicolon (IsDeclarators (names_of names.now)))
+        Anything (map shown words.now) at result }
 {
     let mut items = Vec::new(alloc);
     let (first, mut next) = declarator(alloc, words, names, Form::Declared, at)?;

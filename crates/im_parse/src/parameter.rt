@@ -25,7 +25,8 @@ pub fn closed_parameters(
     at: u32,
 ) -> Result<(Vec<Parameter>, u32), Stop>
     requires { length words.now < 2 ^ 32 }
-    ensures { Parses d.parameters_tree (Closed CloseParen (IsParameters (names_of names.now))) Anything (map shown words.now) at result }
+    ensures { Parses d.parameters_tree (Closed CloseParen (IsParameters (names_of names.now)))
+        Anything (map shown words.now) at result }
 {
     let mut items = Vec::new(alloc);
     if let Some(end) = after_mark(words, at, Punctuator::CloseParen) {
@@ -51,7 +52,8 @@ fn parameter(
     at: u32,
 ) -> Result<(Parameter, u32), Stop>
     requires { length words.now < 2 ^ 32 }
-    ensures { Parses d.parameter_tree (d.Parameter (names_of names.now)) d.AfterParameter (map shown words.now) at result }
+    ensures { Parses d.parameter_tree (d.Parameter (names_of names.now)) d.AfterParameter
+        (map shown words.now) at result }
 {
     let (specifiers, next) = specifiers(alloc, words, names, at)?;
     let (declarator, end) = maybe_declarator(alloc, words, names, Form::Either, next)?;

@@ -25,7 +25,8 @@ pub fn postfix(
     at: u32,
 ) -> Result<(Expression, u32), Stop>
     requires { length words.now < 2 ^ 32 }
-    ensures { Parses tree_of (IsPostfix (names_of names.now)) (Below 14) (map shown words.now) at result }
+    ensures { Parses tree_of (IsPostfix (names_of names.now)) (Below 14) (map shown words.now) at
+        result }
 {
     let (tree, next) = primary(alloc, words, names, at)?;
     postfix_from(alloc, words, names, at, tree, next)
@@ -42,7 +43,8 @@ fn postfix_from(
     next: u32,
 ) -> Result<(Expression, u32), Stop>
     requires { length words.now < 2 ^ 32 }
-    ensures { Parses tree_of (Postfixes (names_of names.now) at (tree_of tree)) (Below 14) (map shown words.now) next result }
+    ensures { Parses tree_of (Postfixes (names_of names.now) at (tree_of tree)) (Below 14)
+        (map shown words.now) next result }
 {
     if let Some(behind) = after_mark(words, next, Punctuator::OpenBracket) {
         let (index, close) = expression(alloc, words, names, behind)?;
@@ -83,7 +85,8 @@ fn closed_arguments(
     at: u32,
 ) -> Result<(Vec<Expression>, u32), Stop>
     requires { length words.now < 2 ^ 32 }
-    ensures { Parses items_tree (Closed CloseParen (IsArguments (names_of names.now))) Anything (map shown words.now) at result }
+    ensures { Parses items_tree (Closed CloseParen (IsArguments (names_of names.now))) Anything
+        (map shown words.now) at result }
 {
     let mut items = Vec::new(alloc);
     if let Some(end) = after_mark(words, at, Punctuator::CloseParen) {
@@ -109,7 +112,8 @@ fn primary(
     at: u32,
 ) -> Result<(Expression, u32), Stop>
     requires { length words.now < 2 ^ 32 }
-    ensures { Parses tree_of (IsPrimary (names_of names.now)) (Below 19) (map shown words.now) at result }
+    ensures { Parses tree_of (IsPrimary (names_of names.now)) (Below 19) (map shown words.now) at
+        result }
 {
     if let Some(inside) = after_mark(words, at, Punctuator::OpenParen) {
         let (tree, close) = expression(alloc, words, names, inside)?;
@@ -128,7 +132,8 @@ fn single(
 ) -> Result<(Expression, u32), Stop>
     requires short { length words.now < 2 ^ 32 }
     requires other { head (drop at (map shown words.now)) ≡ Some (mark OpenParen) → ⊥ }
-    ensures { Parses tree_of (IsPrimary (names_of names.now)) (Below 19) (map shown words.now) at result }
+    ensures { Parses tree_of (IsPrimary (names_of names.now)) (Below 19) (map shown words.now) at
+        result }
 {
     let Some(found) = word_at(words, at) else {
         return Err(Stop::Syntax(at));

@@ -29,8 +29,10 @@ pub fn specifiers(
     at: u32,
 ) -> Result<(Specifiers, u32), Stop>
     requires { length words.now < 2 ^ 32 }
-    ensures parses { Parses specifiers_of (IsSpecifiers (names_of names.now)) (AfterSpecifiers (names_of names.now)) (map shown words.now) at result }
-    ensures behind { IfOk result (λ read. GoesOn (names_of names.now) (has_type (specifiers_of read.0)) (head (drop read.1 (map shown words.now))) → ⊥) }
+    ensures parses { Parses specifiers_of (IsSpecifiers (names_of names.now))
+        (AfterSpecifiers (names_of names.now)) (map shown words.now) at result }
+    ensures behind { IfOk result (λ read. GoesOn (names_of names.now)
+        (has_type (specifiers_of read.0)) (head (drop read.1 (map shown words.now))) → ⊥) }
 {
     let (first, mut next) = specifier(alloc, words, names, false, at)?;
     let mut typed = adds_type(false, &first);
@@ -55,7 +57,8 @@ fn specifier(
     at: u32,
 ) -> Result<(Specifier, u32), Stop>
     requires { length words.now < 2 ^ 32 }
-    ensures { Parses specifier_tree (IsSpecifier (names_of names.now) typed) Unbraced (map shown words.now) at result }
+    ensures { Parses specifier_tree (IsSpecifier (names_of names.now) typed) Unbraced
+        (map shown words.now) at result }
 {
     if let Some(behind) = after_keyword(words, at, Keyword::Struct) {
         return struct_specifier(alloc, words, names, at, behind);
@@ -77,7 +80,8 @@ fn single_specifier(
     requires short { length words.now < 2 ^ 32 }
     requires no_struct { head (drop at (map shown words.now)) ≡ Some (keyword Struct) → ⊥ }
     requires no_enum { head (drop at (map shown words.now)) ≡ Some (keyword Enum) → ⊥ }
-    ensures { Parses specifier_tree (IsSpecifier (names_of names.now) typed) Unbraced (map shown words.now) at result }
+    ensures { Parses specifier_tree (IsSpecifier (names_of names.now) typed) Unbraced
+        (map shown words.now) at result }
 {
     if let Some((word, next)) = specifier_word_at(words, at) {
         let kind = SpecifierKind::Word(word);
@@ -108,7 +112,8 @@ fn struct_specifier(
     behind: u32,
 ) -> Result<(Specifier, u32), Stop>
     requires { length words.now < 2 ^ 32 }
-    ensures { Parses specifier_tree (IsStructRest (names_of names.now) at) Unbraced (map shown words.now) behind result }
+    ensures { Parses specifier_tree (IsStructRest (names_of names.now) at) Unbraced
+        (map shown words.now) behind result }
 {
     match name_at(words, behind) {
         None => {
@@ -140,7 +145,8 @@ fn enum_specifier(
     behind: u32,
 ) -> Result<(Specifier, u32), Stop>
     requires { length words.now < 2 ^ 32 }
-    ensures { Parses specifier_tree (IsEnumRest (names_of names.now) at) Unbraced (map shown words.now) behind result }
+    ensures { Parses specifier_tree (IsEnumRest (names_of names.now) at) Unbraced
+        (map shown words.now) behind result }
 {
     match name_at(words, behind) {
         None => {

@@ -12,7 +12,9 @@ use std::alloc::Global;
 /// The string literal at this place, and the place behind it.
 fn text_at<'a, 'b>(words: &'a [Word<'b>], at: u32) -> Option<(&'a [u8], u32)>
     requires { length words.now < 2 ^ 32 }
-    ensures { MatchOption result ((s : List ℕ) → head (drop at (map shown words.now)) ≡ Some (text s) → ⊥) (λ found. IsAt (text found.0.now) (map shown words.now) at found.1) }
+    ensures { MatchOption result
+        ((s : List ℕ) → head (drop at (map shown words.now)) ≡ Some (text s) → ⊥)
+        (λ found. IsAt (text found.0.now) (map shown words.now) at found.1) }
 {
     let found = word_at(words, at)?;
     match found.0 {

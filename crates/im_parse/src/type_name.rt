@@ -25,7 +25,8 @@ pub fn closed_type_name(
     at: u32,
 ) -> Result<(TypeName, u32), Stop>
     requires { length words.now < 2 ^ 32 }
-    ensures { Parses type_name_of (Closed CloseParen (IsTypeName (names_of names.now))) Anything (map shown words.now) at result }
+    ensures { Parses type_name_of (Closed CloseParen (IsTypeName (names_of names.now))) Anything
+        (map shown words.now) at result }
 {
     let (specifiers, next) = specifiers(alloc, words, names, at)?;
     let (declarator, close) = maybe_declarator(alloc, words, names, Form::Abstract, next)?;

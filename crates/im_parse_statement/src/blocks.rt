@@ -24,8 +24,10 @@ pub fn block<'b>(
     at: u32,
 ) -> Result<(Block, u32), Stop>
     requires { length words.now < 2 ^ 32 }
-    ensures parses { Parses block_tree (IsBlock (known_names names.old)) Anything (map shown words.now) at result }
-    ensures known { IfOk result (λ read. known_names names.new ≡ names_behind_block (known_names names.old) (block_tree read.0)) }
+    ensures parses { Parses block_tree (IsBlock (known_names names.old)) Anything
+        (map shown words.now) at result }
+    ensures known { IfOk result (λ read. known_names names.new ≡ names_behind_block
+        (known_names names.old) (block_tree read.0)) }
 {
     let inside = expect_mark(words, at, Punctuator::OpenBrace)?;
     let (items, end) = closed_items(alloc, words, names, inside)?;
@@ -41,8 +43,10 @@ fn closed_items<'b>(
     at: u32,
 ) -> Result<(Vec<BlockItem>, u32), Stop>
     requires { length words.now < 2 ^ 32 }
-    ensures parses { Parses items_tree (Closed CloseBrace (IsBlockItems (known_names names.old))) Anything (map shown words.now) at result }
-    ensures known { IfOk result (λ read. known_names names.new ≡ names_behind_items (known_names names.old) (items_tree read.0)) }
+    ensures parses { Parses items_tree (Closed CloseBrace (IsBlockItems (known_names names.old)))
+        Anything (map shown words.now) at result }
+    ensures known { IfOk result (λ read. known_names names.new ≡ names_behind_items
+        (known_names names.old) (items_tree read.0)) }
 {
     let mut items = Vec::new(alloc);
     let mut next = at;
@@ -65,8 +69,10 @@ fn block_item<'b>(
     at: u32,
 ) -> Result<(BlockItem, u32), Stop>
     requires { length words.now < 2 ^ 32 }
-    ensures parses { Parses item_tree (IsItem (known_names names.old)) AfterItem (map shown words.now) at result }
-    ensures known { IfOk result (λ read. known_names names.new ≡ names_behind_item (known_names names.old) (item_tree read.0)) }
+    ensures parses { Parses item_tree (IsItem (known_names names.old)) AfterItem
+        (map shown words.now) at result }
+    ensures known { IfOk result (λ read. known_names names.new ≡ names_behind_item
+        (known_names names.old) (item_tree read.0)) }
 {
     if begins_specifiers(words, names, at) {
         let (tree, end) = declared(alloc, words, names, at)?;

@@ -26,9 +26,12 @@ pub fn if_statement<'b>(
     behind: u32,
 ) -> Result<(Statement, u32), Stop>
     requires { length words.now < 2 ^ 32 }
-    ensures parses { Parses statement_tree (RestOf (known_names names.old) at StatementStart.If) AfterStatement (map shown words.now) behind result }
-    ensures behind { IfOk result (λ read. AfterStatement (statement_tree read.0) (drop read.1 (map shown words.now))) }
-    ensures known { IfOk result (λ read. known_names names.new ≡ names_behind (known_names names.old) (statement_tree read.0)) }
+    ensures parses { Parses statement_tree (RestOf (known_names names.old) at StatementStart.If)
+        AfterStatement (map shown words.now) behind result }
+    ensures behind { IfOk result
+        (λ read. AfterStatement (statement_tree read.0) (drop read.1 (map shown words.now))) }
+    ensures known { IfOk result (λ read. known_names names.new ≡ names_behind
+        (known_names names.old) (statement_tree read.0)) }
 {
     let (value, next) = condition(alloc, words, names, behind)?;
     let (body, end) = statement(alloc, words, names, next)?;
@@ -55,9 +58,12 @@ pub fn switch_statement<'b>(
     behind: u32,
 ) -> Result<(Statement, u32), Stop>
     requires { length words.now < 2 ^ 32 }
-    ensures parses { Parses statement_tree (RestOf (known_names names.old) at StatementStart.Switch) AfterStatement (map shown words.now) behind result }
-    ensures behind { IfOk result (λ read. AfterStatement (statement_tree read.0) (drop read.1 (map shown words.now))) }
-    ensures known { IfOk result (λ read. known_names names.new ≡ names_behind (known_names names.old) (statement_tree read.0)) }
+    ensures parses { Parses statement_tree (RestOf (known_names names.old) at StatementStart.Switch)
+        AfterStatement (map shown words.now) behind result }
+    ensures behind { IfOk result
+        (λ read. AfterStatement (statement_tree read.0) (drop read.1 (map shown words.now))) }
+    ensures known { IfOk result (λ read. known_names names.new ≡ names_behind
+        (known_names names.old) (statement_tree read.0)) }
 {
     let (value, next) = condition(alloc, words, names, behind)?;
     let (body, end) = block(alloc, words, names, next)?;
@@ -74,9 +80,12 @@ pub fn case_statement<'b>(
     behind: u32,
 ) -> Result<(Statement, u32), Stop>
     requires { length words.now < 2 ^ 32 }
-    ensures parses { Parses statement_tree (RestOf (known_names names.old) at StatementStart.Case) AfterStatement (map shown words.now) behind result }
-    ensures behind { IfOk result (λ read. AfterStatement (statement_tree read.0) (drop read.1 (map shown words.now))) }
-    ensures known { IfOk result (λ read. known_names names.new ≡ names_behind (known_names names.old) (statement_tree read.0)) }
+    ensures parses { Parses statement_tree (RestOf (known_names names.old) at StatementStart.Case)
+        AfterStatement (map shown words.now) behind result }
+    ensures behind { IfOk result
+        (λ read. AfterStatement (statement_tree read.0) (drop read.1 (map shown words.now))) }
+    ensures known { IfOk result (λ read. known_names names.new ≡ names_behind
+        (known_names names.old) (statement_tree read.0)) }
 {
     let (value, next) = conditional(alloc, words, names, behind)?;
     let last = expect_mark(words, next, Punctuator::Colon)?;
@@ -95,9 +104,13 @@ pub fn default_statement<'b>(
     behind: u32,
 ) -> Result<(Statement, u32), Stop>
     requires { length words.now < 2 ^ 32 }
-    ensures parses { Parses statement_tree (RestOf (known_names names.old) at StatementStart.Default) AfterStatement (map shown words.now) behind result }
-    ensures behind { IfOk result (λ read. AfterStatement (statement_tree read.0) (drop read.1 (map shown words.now))) }
-    ensures known { IfOk result (λ read. known_names names.new ≡ names_behind (known_names names.old) (statement_tree read.0)) }
+    ensures parses { Parses statement_tree
+        (RestOf (known_names names.old) at StatementStart.Default) AfterStatement
+        (map shown words.now) behind result }
+    ensures behind { IfOk result
+        (λ read. AfterStatement (statement_tree read.0) (drop read.1 (map shown words.now))) }
+    ensures known { IfOk result (λ read. known_names names.new ≡ names_behind
+        (known_names names.old) (statement_tree read.0)) }
 {
     let last = expect_mark(words, behind, Punctuator::Colon)?;
     let (body, end) = statement(alloc, words, names, last)?;

@@ -21,7 +21,8 @@ pub fn condition(
     at: u32,
 ) -> Result<(Expression, u32), Stop>
     requires { length words.now < 2 ^ 32 }
-    ensures { Parses tree_of (Condition (names_of names.now)) Anything (map shown words.now) at result }
+    ensures { Parses tree_of (Condition (names_of names.now)) Anything (map shown words.now) at
+        result }
 {
     let inside = expect_mark(words, at, Punctuator::OpenParen)?;
     let (tree, next) = expression(alloc, words, names, inside)?;
@@ -37,7 +38,9 @@ pub fn before_semicolon(
     at: u32,
 ) -> Result<(Option<Expression>, u32), Stop>
     requires { length words.now < 2 ^ 32 }
-    ensures { Parses optional_expression_of (Closed Semicolon (IsMaybeExpression (names_of names.now))) Anything (map shown words.now) at result }
+    ensures { Parses optional_expression_of
+        (Closed Semicolon (IsMaybeExpression (names_of names.now))) Anything (map shown words.now)
+        at result }
 {
     if let Some(end) = after_mark(words, at, Punctuator::Semicolon) {
         return Ok((None, end));
@@ -55,7 +58,9 @@ pub fn before_paren(
     at: u32,
 ) -> Result<(Option<Expression>, u32), Stop>
     requires { length words.now < 2 ^ 32 }
-    ensures { Parses optional_expression_of (Closed CloseParen (IsMaybeExpression (names_of names.now))) Anything (map shown words.now) at result }
+    ensures { Parses optional_expression_of
+        (Closed CloseParen (IsMaybeExpression (names_of names.now))) Anything (map shown words.now)
+        at result }
 {
     if let Some(end) = after_mark(words, at, Punctuator::CloseParen) {
         return Ok((None, end));

@@ -9,8 +9,6 @@ mod make;
 mod names;
 mod start;
 mod statements;
-#[cfg(test)]
-mod tests;
 
 pub use blocks::block;
 pub use names::remember;

@@ -33,9 +33,12 @@ pub fn while_statement<'b>(
     behind: u32,
 ) -> Result<(Statement, u32), Stop>
     requires { length words.now < 2 ^ 32 }
-    ensures parses { Parses statement_tree (RestOf (known_names names.old) at StatementStart.While) AfterStatement (map shown words.now) behind result }
-    ensures behind { IfOk result (λ read. AfterStatement (statement_tree read.0) (drop read.1 (map shown words.now))) }
-    ensures known { IfOk result (λ read. known_names names.new ≡ names_behind (known_names names.old) (statement_tree read.0)) }
+    ensures parses { Parses statement_tree (RestOf (known_names names.old) at StatementStart.While)
+        AfterStatement (map shown words.now) behind result }
+    ensures behind { IfOk result
+        (λ read. AfterStatement (statement_tree read.0) (drop read.1 (map shown words.now))) }
+    ensures known { IfOk result (λ read. known_names names.new ≡ names_behind
+        (known_names names.old) (statement_tree read.0)) }
 {
     let (value, next) = condition(alloc, words, names, behind)?;
     let (body, end) = statement(alloc, words, names, next)?;
@@ -46,7 +49,9 @@ pub fn while_statement<'b>(
 /// The place behind `while`, which has to stand at this place.
 fn expect_while(words: &[Word], at: u32) -> Result<u32, Stop>
     requires { length words.now < 2 ^ 32 }
-    ensures { MatchResult result (λ next. IsAt (keyword While) (map shown words.now) at next) (λ stop. (stop ≡ Syntax at) × (head (drop at (map shown words.now)) ≡ Some (keyword While) → ⊥)) }
+    ensures { MatchResult result (λ next. IsAt (keyword While) (map shown words.now) at next) (λ
+        stop. (stop ≡ Syntax at) ×
+        (head (drop at (map shown words.now)) ≡ Some (keyword While) → ⊥)) }
 {
     match after_keyword(words, at, Keyword::While) {
         Some(next) => Ok(next),
@@ -64,9 +69,12 @@ pub fn do_statement<'b>(
     behind: u32,
 ) -> Result<(Statement, u32), Stop>
     requires { length words.now < 2 ^ 32 }
-    ensures parses { Parses statement_tree (RestOf (known_names names.old) at StatementStart.Do) AfterStatement (map shown words.now) behind result }
-    ensures behind { IfOk result (λ read. AfterStatement (statement_tree read.0) (drop read.1 (map shown words.now))) }
-    ensures known { IfOk result (λ read. known_names names.new ≡ names_behind (known_names names.old) (statement_tree read.0)) }
+    ensures parses { Parses statement_tree (RestOf (known_names names.old) at StatementStart.Do)
+        AfterStatement (map shown words.now) behind result }
+    ensures behind { IfOk result
+        (λ read. AfterStatement (statement_tree read.0) (drop read.1 (map shown words.now))) }
+    ensures known { IfOk result (λ read. known_names names.new ≡ names_behind
+        (known_names names.old) (statement_tree read.0)) }
 {
     let (body, next) = statement(alloc, words, names, behind)?;
     let last = expect_while(words, next)?;
@@ -84,8 +92,10 @@ fn for_init<'b>(
     at: u32,
 ) -> Result<(ForInit, u32), Stop>
     requires { length words.now < 2 ^ 32 }
-    ensures parses { Parses for_init_of (IsForInit (known_names names.old)) Anything (map shown words.now) at result }
-    ensures known { IfOk result (λ read. known_names names.new ≡ names_behind_init (known_names names.old) (for_init_of read.0)) }
+    ensures parses { Parses for_init_of (IsForInit (known_names names.old)) Anything
+        (map shown words.now) at result }
+    ensures known { IfOk result (λ read. known_names names.new ≡ names_behind_init
+        (known_names names.old) (for_init_of read.0)) }
 {
     if begins_specifiers(words, names, at) {
         let (tree, end) = declared(alloc, words, names, at)?;
@@ -105,9 +115,12 @@ pub fn for_statement<'b>(
     behind: u32,
 ) -> Result<(Statement, u32), Stop>
     requires { length words.now < 2 ^ 32 }
-    ensures parses { Parses statement_tree (RestOf (known_names names.old) at StatementStart.For) AfterStatement (map shown words.now) behind result }
-    ensures behind { IfOk result (λ read. AfterStatement (statement_tree read.0) (drop read.1 (map shown words.now))) }
-    ensures known { IfOk result (λ read. known_names names.new ≡ names_behind (known_names names.old) (statement_tree read.0)) }
+    ensures parses { Parses statement_tree (RestOf (known_names names.old) at StatementStart.For)
+        AfterStatement (map shown words.now) behind result }
+    ensures behind { IfOk result
+        (λ read. AfterStatement (statement_tree read.0) (drop read.1 (map shown words.now))) }
+    ensures known { IfOk result (λ read. known_names names.new ≡ names_behind
+        (known_names names.old) (statement_tree read.0)) }
 {
     let inside = expect_mark(words, behind, Punctuator::OpenParen)?;
     let (init, first) = for_init(alloc, words, names, inside)?;

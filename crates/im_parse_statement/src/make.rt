@@ -22,7 +22,8 @@ pub fn if_alone(
     condition: Expression,
     body: Statement,
 ) -> Result<Statement, Stop>
-    ensures { Makes statement_tree result (t.if_statement at (tree_of condition) (statement_tree body) t.no_statement) }
+    ensures { Makes statement_tree result
+        (t.if_statement at (tree_of condition) (statement_tree body) t.no_statement) }
 {
     let kind = StatementKind::If(condition, Box::new(alloc, body)?, None);
     Ok(Statement { at, kind })
@@ -35,7 +36,8 @@ pub fn if_else(
     body: Statement,
     other: Statement,
 ) -> Result<Statement, Stop>
-    ensures { Makes statement_tree result (t.if_statement at (tree_of condition) (statement_tree body) (t.a_statement (statement_tree other))) }
+    ensures { Makes statement_tree result (t.if_statement at (tree_of condition)
+        (statement_tree body) (t.a_statement (statement_tree other))) }
 {
     let kind = StatementKind::If(
         condition,
@@ -51,7 +53,8 @@ pub fn while_loop(
     condition: Expression,
     body: Statement,
 ) -> Result<Statement, Stop>
-    ensures { Makes statement_tree result (t.while_statement at (tree_of condition) (statement_tree body)) }
+    ensures { Makes statement_tree result
+        (t.while_statement at (tree_of condition) (statement_tree body)) }
 {
     let kind = StatementKind::While(condition, Box::new(alloc, body)?);
     Ok(Statement { at, kind })
@@ -63,7 +66,8 @@ pub fn do_loop(
     body: Statement,
     condition: Expression,
 ) -> Result<Statement, Stop>
-    ensures { Makes statement_tree result (t.do_statement at (statement_tree body) (tree_of condition)) }
+    ensures { Makes statement_tree result
+        (t.do_statement at (statement_tree body) (tree_of condition)) }
 {
     let kind = StatementKind::DoWhile(Box::new(alloc, body)?, condition);
     Ok(Statement { at, kind })
@@ -77,7 +81,8 @@ pub fn for_loop(
     step: Option<Expression>,
     body: Statement,
 ) -> Result<Statement, Stop>
-    ensures { Makes statement_tree result (t.for_statement at (for_init_of init) (optional_expression_of condition) (optional_expression_of step) (statement_tree body)) }
+    ensures { Makes statement_tree result (t.for_statement at (for_init_of init)
+        (optional_expression_of condition) (optional_expression_of step) (statement_tree body)) }
 {
     let kind = StatementKind::For(init, condition, step, Box::new(alloc, body)?);
     Ok(Statement { at, kind })
@@ -91,7 +96,8 @@ pub fn switch(at: u32, value: Expression, body: Block) -> Statement
 }
 
 pub fn case(alloc: Global, at: u32, value: Expression, body: Statement) -> Result<Statement, Stop>
-    ensures { Makes statement_tree result (t.case_statement at (tree_of value) (statement_tree body)) }
+    ensures { Makes statement_tree result
+        (t.case_statement at (tree_of value) (statement_tree body)) }
 {
     let kind = StatementKind::Case(value, Box::new(alloc, body)?);
     Ok(Statement { at, kind })

@@ -32,7 +32,9 @@ fn find_name<'b>(words: &[Word<'b>], at: u32, name: &[u8]) -> Option<&'b [u8]>
 }
 
 fn is_typedef(specifier: &Specifier) -> bool
-    ensures { (rest : t.SpecifierList) → typedefs.has_typedef (t.more_specifiers (specifier_tree specifier.now) rest) ≡ (result || typedefs.has_typedef rest) }
+    ensures { (rest : t.SpecifierList) → typedefs.has_typedef
+        (t.more_specifiers (specifier_tree specifier.now) rest) ≡
+        (result || typedefs.has_typedef rest) }
 {
     match &specifier.kind {
         SpecifierKind::Word(SpecifierWord::Typedef) => true,
@@ -54,7 +56,8 @@ fn has_typedef(specifiers: &[Specifier]) -> bool
 
 /// The name that a declarator declares, if it has one.
 fn declared_name(declarator: &Declarator) -> Option<&[u8]>
-    ensures { MatchOption result (typedefs.declared_name (declarator_of declarator.now) ≡ []) (λ name. typedefs.declared_name (declarator_of declarator.now) ≡ name.now ∷ []) }
+    ensures { MatchOption result (typedefs.declared_name (declarator_of declarator.now) ≡ [])
+        (λ name. typedefs.declared_name (declarator_of declarator.now) ≡ name.now ∷ []) }
 {
     match &declarator.core {
         Core::Absent => None,
@@ -70,7 +73,8 @@ fn push_name<'b>(
     declarator: &Declarator,
     found: &mut Vec<&'b [u8]>,
 ) -> Result<(), Stop>
-    ensures { MatchResult result (λ done. known_names found.new ≡ known_names found.old ++ typedefs.declared_name (declarator_of declarator.now)) (λ stop. stop ≡ Memory) }
+    ensures { MatchResult result (λ done. known_names found.new ≡ known_names found.old ++
+        typedefs.declared_name (declarator_of declarator.now)) (λ stop. stop ≡ Memory) }
 {
     match declared_name(declarator) {
         None => Ok(()),
@@ -91,7 +95,8 @@ fn declared_names<'b>(
     at: u32,
     declarators: &[InitDeclarator],
 ) -> Result<Vec<&'b [u8]>, Stop>
-    ensures { MatchResult result (λ found. known_names found ≡ names_in declarators.now) (λ stop. stop ≡ Memory) }
+    ensures { MatchResult result (λ found. known_names found ≡ names_in declarators.now)
+        (λ stop. stop ≡ Memory) }
 {
     let mut found = Vec::new(alloc);
     for item in declarators {
@@ -108,7 +113,8 @@ pub fn remember<'b>(
     tree: &Declaration,
     at: u32,
 ) -> Result<(), Stop>
-    ensures { MatchResult result (λ done. known_names names.new ≡ typedefs.typedef_names (known_names names.old) (declaration_of tree.now)) (λ stop. stop ≡ Memory) }
+    ensures { MatchResult result (λ done. known_names names.new ≡ typedefs.typedef_names
+        (known_names names.old) (declaration_of tree.now)) (λ stop. stop ≡ Memory) }
 {
     if !has_typedef(&tree.specifiers.items) {
         return Ok(());
@@ -127,8 +133,10 @@ pub fn declared<'b>(
     at: u32,
 ) -> Result<(Declaration, u32), Stop>
     requires { length words.now < 2 ^ 32 }
-    ensures parses { Parses declaration_of (IsDeclaration (known_names names.old)) Anything (map shown words.now) at result }
-    ensures known { IfOk result (λ read. known_names names.new ≡ typedefs.typedef_names (known_names names.old) (declaration_of read.0)) }
+    ensures parses { Parses declaration_of (IsDeclaration (known_names names.old)) Anything
+        (map shown words.now) at result }
+    ensures known { IfOk result (λ read. known_names names.new ≡ typedefs.typedef_names
+        (known_names names.old) (declaration_of read.0)) }
 {
     let (tree, end) = declaration(alloc, words, names, at)?;
     remember(alloc, words, names, &tree, at)?;

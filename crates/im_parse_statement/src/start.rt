@@ -46,7 +46,9 @@ fn keyword_start(keyword: Keyword) -> Option<StatementStart>
 /// The keyword of a statement at this place, and the place behind it.
 pub fn start_at(words: &[Word], at: u32) -> Option<(StatementStart, u32)>
     requires { length words.now < 2 ^ 32 }
-    ensures { MatchOption result ((start : declared.StatementStart) → head (drop at (map shown words.now)) ≡ Some (keyword (s.start_keyword start)) → ⊥) (λ found. IsAt (keyword (s.start_keyword found.0)) (map shown words.now) at found.1) }
+    ensures { MatchOption result ((start : declared.StatementStart) → head
+        (drop at (map shown words.now)) ≡ Some (keyword (s.start_keyword start)) → ⊥)
+        (λ found. IsAt (keyword (s.start_keyword found.0)) (map shown words.now) at found.1) }
 {
     let found = word_at(words, at)?;
     match found.0 {

@@ -29,9 +29,12 @@ pub fn statement<'b>(
     at: u32,
 ) -> Result<(Statement, u32), Stop>
     requires { length words.now < 2 ^ 32 }
-    ensures parses { Parses statement_tree (IsStatement (known_names names.old)) AfterStatement (map shown words.now) at result }
-    ensures behind { IfOk result (λ read. AfterStatement (statement_tree read.0) (drop read.1 (map shown words.now))) }
-    ensures known { IfOk result (λ read. known_names names.new ≡ names_behind (known_names names.old) (statement_tree read.0)) }
+    ensures parses { Parses statement_tree (IsStatement (known_names names.old)) AfterStatement
+        (map shown words.now) at result }
+    ensures behind { IfOk result
+        (λ read. AfterStatement (statement_tree read.0) (drop read.1 (map shown words.now))) }
+    ensures known { IfOk result (λ read. known_names names.new ≡ names_behind
+        (known_names names.old) (statement_tree read.0)) }
 {
     if let Some((start, behind)) = start_at(words, at) {
         return started(alloc, words, names, start, at, behind);
@@ -53,9 +56,12 @@ fn started<'b>(
     behind: u32,
 ) -> Result<(Statement, u32), Stop>
     requires { length words.now < 2 ^ 32 }
-    ensures parses { Parses statement_tree (RestOf (known_names names.old) at start) AfterStatement (map shown words.now) behind result }
-    ensures behind { IfOk result (λ read. AfterStatement (statement_tree read.0) (drop read.1 (map shown words.now))) }
-    ensures known { IfOk result (λ read. known_names names.new ≡ names_behind (known_names names.old) (statement_tree read.0)) }
+    ensures parses { Parses statement_tree (RestOf (known_names names.old) at start) AfterStatement
+        (map shown words.now) behind result }
+    ensures behind { IfOk result
+        (λ read. AfterStatement (statement_tree read.0) (drop read.1 (map shown words.now))) }
+    ensures known { IfOk result (λ read. known_names names.new ≡ names_behind
+        (known_names names.old) (statement_tree read.0)) }
 {
     match start {
         StatementStart::If => if_statement(alloc, words, names, at, behind),
@@ -80,9 +86,12 @@ fn block_statement<'b>(
     at: u32,
 ) -> Result<(Statement, u32), Stop>
     requires { length words.now < 2 ^ 32 }
-    ensures parses { Parses statement_tree (BlockLine (known_names names.old) at) AfterStatement (map shown words.now) at result }
-    ensures behind { IfOk result (λ read. AfterStatement (statement_tree read.0) (drop read.1 (map shown words.now))) }
-    ensures known { IfOk result (λ read. known_names names.new ≡ names_behind (known_names names.old) (statement_tree read.0)) }
+    ensures parses { Parses statement_tree (BlockLine (known_names names.old) at) AfterStatement
+        (map shown words.now) at result }
+    ensures behind { IfOk result
+        (λ read. AfterStatement (statement_tree read.0) (drop read.1 (map shown words.now))) }
+    ensures known { IfOk result (λ read. known_names names.new ≡ names_behind
+        (known_names names.old) (statement_tree read.0)) }
 {
     let (body, end) = block(alloc, words, names, at)?;
     Ok((make::block_statement(at, body), end))
@@ -96,9 +105,12 @@ fn expression_statement<'b>(
     at: u32,
 ) -> Result<(Statement, u32), Stop>
     requires { length words.now < 2 ^ 32 }
-    ensures parses { Parses statement_tree (ExpressionLine (known_names names.old) at) AfterStatement (map shown words.now) at result }
-    ensures behind { IfOk result (λ read. AfterStatement (statement_tree read.0) (drop read.1 (map shown words.now))) }
-    ensures known { IfOk result (λ read. known_names names.new ≡ names_behind (known_names names.old) (statement_tree read.0)) }
+    ensures parses { Parses statement_tree (ExpressionLine (known_names names.old) at)
+        AfterStatement (map shown words.now) at result }
+    ensures behind { IfOk result
+        (λ read. AfterStatement (statement_tree read.0) (drop read.1 (map shown words.now))) }
+    ensures known { IfOk result (λ read. known_names names.new ≡ names_behind
+        (known_names names.old) (statement_tree read.0)) }
 {
     let (tree, end) = before_semicolon(alloc, words, names, at)?;
     let kind = StatementKind::Expression(tree);
@@ -113,9 +125,12 @@ fn break_statement<'b>(
     behind: u32,
 ) -> Result<(Statement, u32), Stop>
     requires { length words.now < 2 ^ 32 }
-    ensures parses { Parses statement_tree (RestOf (known_names names.old) at StatementStart.Break) AfterStatement (map shown words.now) behind result }
-    ensures behind { IfOk result (λ read. AfterStatement (statement_tree read.0) (drop read.1 (map shown words.now))) }
-    ensures known { IfOk result (λ read. known_names names.new ≡ names_behind (known_names names.old) (statement_tree read.0)) }
+    ensures parses { Parses statement_tree (RestOf (known_names names.old) at StatementStart.Break)
+        AfterStatement (map shown words.now) behind result }
+    ensures behind { IfOk result
+        (λ read. AfterStatement (statement_tree read.0) (drop read.1 (map shown words.now))) }
+    ensures known { IfOk result (λ read. known_names names.new ≡ names_behind
+        (known_names names.old) (statement_tree read.0)) }
 {
     let end = expect_mark(words, behind, Punctuator::Semicolon)?;
     let kind = StatementKind::Break;
@@ -130,9 +145,13 @@ fn continue_statement<'b>(
     behind: u32,
 ) -> Result<(Statement, u32), Stop>
     requires { length words.now < 2 ^ 32 }
-    ensures parses { Parses statement_tree (RestOf (known_names names.old) at StatementStart.Continue) AfterStatement (map shown words.now) behind result }
-    ensures behind { IfOk result (λ read. AfterStatement (statement_tree read.0) (drop read.1 (map shown words.now))) }
-    ensures known { IfOk result (λ read. known_names names.new ≡ names_behind (known_names names.old) (statement_tree read.0)) }
+    ensures parses { Parses statement_tree
+        (RestOf (known_names names.old) at StatementStart.Continue) AfterStatement
+        (map shown words.now) behind result }
+    ensures behind { IfOk result
+        (λ read. AfterStatement (statement_tree read.0) (drop read.1 (map shown words.now))) }
+    ensures known { IfOk result (λ read. known_names names.new ≡ names_behind
+        (known_names names.old) (statement_tree read.0)) }
 {
     let end = expect_mark(words, behind, Punctuator::Semicolon)?;
     let kind = StatementKind::Continue;
@@ -148,9 +167,12 @@ fn return_statement<'b>(
     behind: u32,
 ) -> Result<(Statement, u32), Stop>
     requires { length words.now < 2 ^ 32 }
-    ensures parses { Parses statement_tree (RestOf (known_names names.old) at StatementStart.Return) AfterStatement (map shown words.now) behind result }
-    ensures behind { IfOk result (λ read. AfterStatement (statement_tree read.0) (drop read.1 (map shown words.now))) }
-    ensures known { IfOk result (λ read. known_names names.new ≡ names_behind (known_names names.old) (statement_tree read.0)) }
+    ensures parses { Parses statement_tree (RestOf (known_names names.old) at StatementStart.Return)
+        AfterStatement (map shown words.now) behind result }
+    ensures behind { IfOk result
+        (λ read. AfterStatement (statement_tree read.0) (drop read.1 (map shown words.now))) }
+    ensures known { IfOk result (λ read. known_names names.new ≡ names_behind
+        (known_names names.old) (statement_tree read.0)) }
 {
     let (tree, end) = before_semicolon(alloc, words, names, behind)?;
     let kind = StatementKind::Return(tree);

@@ -22,8 +22,10 @@ pub fn external<'b>(
     at: u32,
 ) -> Result<(External, u32), Stop>
     requires { length words.now < 2 ^ 32 }
-    ensures parses { Parses external_of (IsExternal (known_names names.old)) Anything (map shown words.now) at result }
-    ensures known { IfOk result (λ read. known_names names.new ≡ names_behind_external (known_names names.old) (external_of read.0)) }
+    ensures parses { Parses external_of (IsExternal (known_names names.old)) Anything
+        (map shown words.now) at result }
+    ensures known { IfOk result (λ read. known_names names.new ≡ names_behind_external
+        (known_names names.old) (external_of read.0)) }
 {
     let (specifiers, next) = specifiers(alloc, words, names, at)?;
     if let Some(end) = after_mark(words, next, Punctuator::Semicolon) {

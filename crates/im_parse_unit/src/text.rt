@@ -46,7 +46,8 @@ fn words_of<'a>(
     tokens: &[Token],
 ) -> Result<Vec<Word<'a>>, ParseFault>
     requires { All (IsWithin source.now) tokens.now }
-    ensures { MatchResult result (λ words. AreWords source.now tokens.now (map shown words.items)) (λ fault. fault ≡ Memory) }
+    ensures { MatchResult result (λ words. AreWords source.now tokens.now (map shown words.items))
+        (λ fault. fault ≡ Memory) }
 {
     let mut words = Vec::new(alloc);
     for token in tokens {

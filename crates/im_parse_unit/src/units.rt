@@ -14,7 +14,8 @@ use std::alloc::Global;
 
 /// The typedef names that stand in for headers.
 fn predeclared(alloc: Global) -> Result<Vec<&'static [u8]>, Stop>
-    ensures { MatchResult result (λ names. known_names names ≡ predeclared_names) (λ stop. stop ≡ Memory) }
+    ensures { MatchResult result (λ names. known_names names ≡ predeclared_names)
+        (λ stop. stop ≡ Memory) }
 {
     let mut names: Vec<&'static [u8]> = Vec::new(alloc);
     names.push(b"int8_t")?;
@@ -30,7 +31,8 @@ fn predeclared(alloc: Global) -> Result<Vec<&'static [u8]>, Stop>
 /// The tree of a whole text (C11 6.9).
 pub fn unit(alloc: Global, words: &[Word]) -> Result<Tree, Stop>
     requires { length words.now < 2 ^ 32 }
-    ensures { MatchResult result (λ tree. Spells (tree_of tree) (map shown words.now)) (StopsUnit (map shown words.now)) }
+    ensures { MatchResult result (λ tree. Spells (tree_of tree) (map shown words.now))
+        (StopsUnit (map shown words.now)) }
 {
     let mut names = predeclared(alloc)?;
     let mut externals = Vec::new(alloc);

@@ -1,5 +1,5 @@
 -- Some steps of the machine, whatever comes behind them, and the steps of one instruction.
-use Rattle.std.proofs.Common.{◌≡◌, ℕ, zero, suc, ◌+◌, ◌-◌, ◌<◌, ◌≤◌, ◌⊎◌, inl, inr, Bool, true, false, cond, List, [], ◌∷◌, ◌++◌, sym, ap, ◌∙◌, subst, refl, append_assoc, arith, length}
+use Rattle.std.proofs.Common.{◌≡◌, ℕ, zero, suc, ◌+◌, ◌-◌, ◌<◌, ◌≤◌, ◌⊎◌, inl, inr, Bool, true, false, cond, List, [], ◌∷◌, ◌++◌, Some, sym, ap, ◌∙◌, subst, refl, append_assoc, arith, length}
 use Rattle.std.specs.Prelude.{◌==◌, ◌&&◌, ◌||◌, nat_le, min}
 use Rattle.im_num.specs.Bytes.{bytes_of}
 use Rattle.std.proofs.lemmas.List.{append-nil}
@@ -7,10 +7,13 @@ use Rattle.std.proofs.lemmas.Bool.{cases_lt}
 use Rattle.std.proofs.lemmas.Bool.Decides.{nat_tests}
 use Rattle.im_mem.specs.Memory.{Mem, little, is_place, bytes_from, written}
 use Rattle.im_mem.proofs.Words.{little-alike, little-other, written-above, written-below, length-bytes_of}
+use Rattle.im_rv.specs.declared.instr.Op.{Op}
+use Rattle.im_rv.specs.declared.instr.Op.TheVariants.{Jalr}
 use Rattle.im_rv.specs.declared.step.Went.TheVariants.{On, Halted}
 use Rattle.im_rv.specs.declared.effect.Effect.TheVariants.{Puts, Goes, Loads, Stores, Stops}
 use Rattle.im_rv.specs.Steps.{Cpu, Stepped, sum_of, with_reg, extended, row}
 use Rattle.im_rv.specs.Decode.{Line}
+use Rattle.im_rv.specs.Effects.{decoded_word, fetched_line}
 use Rattle.im_rv.specs.Runs.{step_of, runs}
 use Rattle.im_rv.proofs.Straight.{one_more, halts_here, fetch_is, Fetches, puts_step, goes_step, loads_step, stores_step, stops_step}
 use Rattle.im_reach.specs.Touches.{Touch, Loaded, Stored, touch_of, line_touches, word_touches, touches, touched_on, touched}
@@ -19,7 +22,7 @@ use Rattle.im_image.specs.declared.form.Form.TheVariants.{TwoLengths}
 use Rattle.im_device.specs.Shows.{output_length}
 use Rattle.im_mem.specs.Map.{out_len0_at, out_len1_at, out_sel_at, output_start, output_capacity, in_len_at, in_pos_at, input_start}
 use Rattle.im_reach.specs.Shown.{shown, left, Begins}
-use Rattle.im_reach.specs.Plain.{in_runtime, may_load, may_store, AreAllowed, IsPlain}
+use Rattle.im_reach.specs.Plain.{in_runtime, may_load, may_store, AreAllowed, IsApart, IsDue, AreDue, returns_by, is_return, IsBehindCall, IsPlain}
 use Rattle.im_reach.specs.Reach.{plus, Reach, Stopped}
 use Rattle.im_reach.specs.Instructions.{Holds, Fixed}
 
@@ -68,21 +71,27 @@ join n l ts us c d e m k h a b = record {
   ];
 }
 
+-- where a step is a return outside of the checkpoint, it goes behind a call
+abbrev pub Backs : Cpu → Mem → ℕ → Type 0
+Backs c m target = in_runtime c.pc ≡ false → is_return (fetched_line c m) ≡ true → IsBehindCall m target
+
 -- one step is plain
-pub plain_one : (ts : List Touch) (c d : Cpu) (m k : Mem) → step_of c m ≡ record { went = On; cpu = d; mem = k } → touches c m ≡ ts → (4096 ≤ c.pc) × (c.pc + 4 ≤ 1048576) → AreAllowed (in_runtime c.pc) ts → Begins (shown m) (shown k) → (i : ℕ) → i < 1 → IsPlain (runs i c m).cpu (runs i c m).mem
-plain_one ts c d m k e h inside allowed more zero lt = record {
+pub plain_one : (ts : List Touch) (c d : Cpu) (m k : Mem) → step_of c m ≡ record { went = On; cpu = d; mem = k } → touches c m ≡ ts → (4096 ≤ c.pc) × (c.pc + 4 ≤ 1048576) → AreAllowed (in_runtime c.pc) ts → AreDue m k ts → Backs c m d.pc → Begins (shown m) (shown k) → (i : ℕ) → i < 1 → IsPlain (runs i c m).cpu (runs i c m).mem
+plain_one ts c d m k e h inside allowed due backs more zero lt = record {
   inside = inside;
   allowed = subst (AreAllowed (in_runtime c.pc)) (sym h) allowed;
+  due = subst (λ (s : Stepped). AreDue m s.mem (touches c m)) (sym e) (subst (AreDue m k) (sym h) due);
   grows = subst (λ (s : Stepped). Begins (shown m) (shown s.mem)) (sym e) more;
+  returns = λ out is. subst (λ (s : Stepped). IsBehindCall m s.cpu.pc) (sym e) (backs out is);
 }
-plain_one ts c d m k e h inside allowed more (suc i) lt = absurd (omega arith)
+plain_one ts c d m k e h inside allowed due backs more (suc i) lt = absurd (omega arith)
 
-pub one : (ts : List Touch) (c d : Cpu) (m k : Mem) → step_of c m ≡ record { went = On; cpu = d; mem = k } → touches c m ≡ ts → shown k ≡ shown m → (4096 ≤ c.pc) × (c.pc + 4 ≤ 1048576) → AreAllowed (in_runtime c.pc) ts → Reach 1 ts c m d k
-one ts c d m k e h same inside allowed = record {
+pub one : (ts : List Touch) (c d : Cpu) (m k : Mem) → step_of c m ≡ record { went = On; cpu = d; mem = k } → touches c m ≡ ts → shown k ≡ shown m → (4096 ≤ c.pc) × (c.pc + 4 ≤ 1048576) → AreAllowed (in_runtime c.pc) ts → AreDue m k ts → Backs c m d.pc → Reach 1 ts c m d k
+one ts c d m k e h same inside allowed due backs = record {
   ran = λ j. one_more j c d m k e;
   met = λ j. ap (λ (s : Stepped). touches c m ++ touched_on (touched j) s.cpu s.mem s.went) e ∙ ap (λ t. t ++ touched j d k) h;
   grows = at;
-  each = plain_one ts c d m k e h inside allowed (begins_same (shown m) (shown k) same);
+  each = plain_one ts c d m k e h inside allowed due backs (begins_same (shown m) (shown k) same);
 }
   where
     at : (i : ℕ) → i ≤ 1 → Begins (shown (runs i c m).mem) (shown k)
@@ -167,8 +176,13 @@ data_load b a n h =
     let t : nat_le 384 a ≡ true = grind (arith, nat_tests) in
     ap (λ z. (nat_le (a + n) 128 || z) || b) t ∙ or_true (nat_le (a + n) 128) b
 
-pub data_store : (b : Bool) (a n : ℕ) → 1048576 ≤ a → may_store b a n ≡ true
-data_store b a n h =
+-- a store that is allowed, and due in any memory
+pub record May (b : Bool) (a n : ℕ) : Type 0 where
+  pub allowed : may_store b a n ≡ true
+  pub due : (m k : Mem) → IsDue m k a n
+
+data_allowed : (b : Bool) (a n : ℕ) → 1048576 ≤ a → may_store b a n ≡ true
+data_allowed b a n h =
     let t : nat_le 1048576 a ≡ true = grind (arith, nat_tests) in
     let q : nat_le 4 a ≡ true = grind (arith, nat_tests) in
     let r : nat_le 384 a ≡ true = grind (arith, nat_tests) in
@@ -177,14 +191,24 @@ data_store b a n h =
     ∙ ap (λ z. (nat_le (a + n) 4096 || true) && ((true && (nat_le (a + n) 128 || z)) || b)) r
     ∙ and_true (nat_le (a + n) 4096) (nat_le (a + n) 128) b
 
-pub low_store : (b : Bool) (a n : ℕ) → 4 ≤ a → a + n ≤ 128 → may_store b a n ≡ true
-low_store b a n h k =
+pub low_allowed : (b : Bool) (a n : ℕ) → 4 ≤ a → a + n ≤ 128 → may_store b a n ≡ true
+low_allowed b a n h k =
     let t : nat_le (a + n) 4096 ≡ true = grind (arith, nat_tests) in
     let q : nat_le 4 a ≡ true = grind (arith, nat_tests) in
     let r : nat_le (a + n) 128 ≡ true = grind (arith, nat_tests) in
     ap (λ z. (z || nat_le 1048576 a) && ((nat_le 4 a && (nat_le (a + n) 128 || nat_le 384 a)) || b)) t
     ∙ ap (λ z. (z && (nat_le (a + n) 128 || nat_le 384 a)) || b) q
     ∙ ap (λ z. (true && (z || nat_le 384 a)) || b) r
+
+pub due_beside : (m k : Mem) (a n : ℕ) → 0 < a → IsApart a n 12 → IsApart a n 32 → IsDue m k a n
+due_beside m k a n some first second = record { first = λ e. first; second = λ e. second; turns = λ e. absurd (omega arith) }
+
+pub data_store : (b : Bool) (a n : ℕ) → 1048576 ≤ a → May b a n
+data_store b a n h = record { allowed = data_allowed b a n h; due = λ m k. due_beside m k a n (omega arith) (inr (omega arith)) (inr (omega arith)) }
+
+-- to STATUS and REASON
+pub low_store : (b : Bool) (a n : ℕ) → 4 ≤ a → a + n ≤ 12 → May b a n
+low_store b a n h k = record { allowed = low_allowed b a n h (omega arith); due = λ m k'. due_beside m k' a n (omega arith) (inl k) (inl (omega arith)) }
 
 -- the code that stands is fetched
 pub fetches : (image m : Mem) (pc : ℕ) (x : ℕ → ℕ) (l : Line) → Fixed image m → (h : Holds image pc l) → Fetches (record { pc = pc; x = x }) m h.w l
@@ -197,31 +221,56 @@ fetches image m pc x l fixed h = record {
 touches_is : (c : Cpu) (m : Mem) (w : ℕ) (l : Line) → Fetches c m w l → touches c m ≡ touch_of (row l.op c.pc (c.x l.rs1) (c.x l.rs2) l.imm)
 touches_is c m w l f = ap (word_touches c) (fetch_is m c.pc w f.word f.here) ∙ ap (line_touches c) f.line
 
+-- returns are told by the instruction
+pub back_of : (c : Cpu) (m : Mem) (w : ℕ) (l : Line) (target : ℕ) → Fetches c m w l → (in_runtime c.pc ≡ false → returns_by l.op ≡ true → IsBehindCall m target) → Backs c m target
+back_of c m w l target f h out is =
+    let e : fetched_line c m ≡ Some l = ap decoded_word (fetch_is m c.pc w f.word f.here) ∙ f.line in
+    h out (sym (ap is_return e) ∙ is)
+
+pub no_back : (pc : ℕ) (l : Line) (m : Mem) (target : ℕ) → returns_by l.op ≡ false → in_runtime pc ≡ false → returns_by l.op ≡ true → IsBehindCall m target
+no_back pc l m target e out is = absurd (let bad : false ≡ true = sym e ∙ is in cc)
+
+passes_on : (op : Op) (pc a b imm target : ℕ) → row op pc a b imm ≡ Goes target → returns_by op ≡ false
+passes_on Jalr pc a b imm target h = absurd cc
+passes_on op pc a b imm target h = refl
+
+loads_on : (op : Op) (pc a b imm at n : ℕ) (x : Extension) → row op pc a b imm ≡ Loads at n x → returns_by op ≡ false
+loads_on Jalr pc a b imm at n x h = absurd cc
+loads_on op pc a b imm at n x h = refl
+
+pub stores_on : (op : Op) (pc a b imm at n v : ℕ) → row op pc a b imm ≡ Stores at n v → returns_by op ≡ false
+stores_on Jalr pc a b imm at n v h = absurd cc
+stores_on op pc a b imm at n v h = refl
+
+stops_on : (op : Op) (pc a b imm : ℕ) → row op pc a b imm ≡ Stops → returns_by op ≡ false
+stops_on Jalr pc a b imm h = absurd cc
+stops_on op pc a b imm h = refl
+
 pub next_pc : (image : Mem) (pc : ℕ) (l : Line) → Holds image pc l → sum_of pc 4 ≡ pc + 4
 next_pc image pc l h = let low = h.low in omega arith
 
 -- one instruction that puts a value
-pub puts : (image m : Mem) (pc : ℕ) (x : ℕ → ℕ) (l : Line) (v : ℕ) → Fixed image m → Holds image pc l → row l.op pc (x l.rs1) (x l.rs2) l.imm ≡ Puts v (sum_of pc 4) → Reach 1 [] (record { pc = pc; x = x }) m (record { pc = pc + 4; x = with_reg x l.rd v }) m
-puts image m pc x l v fixed h e =
+pub puts : (image m : Mem) (pc : ℕ) (x : ℕ → ℕ) (l : Line) (v : ℕ) → Fixed image m → Holds image pc l → row l.op pc (x l.rs1) (x l.rs2) l.imm ≡ Puts v (sum_of pc 4) → returns_by l.op ≡ false → Reach 1 [] (record { pc = pc; x = x }) m (record { pc = pc + 4; x = with_reg x l.rd v }) m
+puts image m pc x l v fixed h e on =
     let c : Cpu = record { pc = pc; x = x } in
     let f : Fetches c m h.w l = fetches image m pc x l fixed h in
     one [] c (record { pc = pc + 4; x = with_reg x l.rd v }) m m
     (puts_step c m h.w l v (sum_of pc 4) f e ∙ ap (λ q. record { went = On; cpu = record { pc = q; x = with_reg x l.rd v }; mem = m }) (next_pc image pc l h))
-    (touches_is c m h.w l f ∙ ap touch_of e) refl (h.above, h.low) tt
+    (touches_is c m h.w l f ∙ ap touch_of e) refl (h.above, h.low) tt tt (back_of c m h.w l (pc + 4) f (no_back pc l m (pc + 4) on))
 
 -- one that puts a value and jumps
-pub leaps : (image m : Mem) (pc : ℕ) (x : ℕ → ℕ) (l : Line) (v target : ℕ) → Fixed image m → Holds image pc l → row l.op pc (x l.rs1) (x l.rs2) l.imm ≡ Puts v target → Reach 1 [] (record { pc = pc; x = x }) m (record { pc = target; x = with_reg x l.rd v }) m
-leaps image m pc x l v target fixed h e =
+pub leaps : (image m : Mem) (pc : ℕ) (x : ℕ → ℕ) (l : Line) (v target : ℕ) → Fixed image m → Holds image pc l → row l.op pc (x l.rs1) (x l.rs2) l.imm ≡ Puts v target → (in_runtime pc ≡ false → returns_by l.op ≡ true → IsBehindCall m target) → Reach 1 [] (record { pc = pc; x = x }) m (record { pc = target; x = with_reg x l.rd v }) m
+leaps image m pc x l v target fixed h e back =
     let c : Cpu = record { pc = pc; x = x } in
     let f : Fetches c m h.w l = fetches image m pc x l fixed h in
-    one [] c (record { pc = target; x = with_reg x l.rd v }) m m (puts_step c m h.w l v target f e) (touches_is c m h.w l f ∙ ap touch_of e) refl (h.above, h.low) tt
+    one [] c (record { pc = target; x = with_reg x l.rd v }) m m (puts_step c m h.w l v target f e) (touches_is c m h.w l f ∙ ap touch_of e) refl (h.above, h.low) tt tt (back_of c m h.w l target f back)
 
 -- one that goes somewhere
 pub passes : (image m : Mem) (pc : ℕ) (x : ℕ → ℕ) (l : Line) (target : ℕ) → Fixed image m → Holds image pc l → row l.op pc (x l.rs1) (x l.rs2) l.imm ≡ Goes target → Reach 1 [] (record { pc = pc; x = x }) m (record { pc = target; x = x }) m
 passes image m pc x l target fixed h e =
     let c : Cpu = record { pc = pc; x = x } in
     let f : Fetches c m h.w l = fetches image m pc x l fixed h in
-    one [] c (record { pc = target; x = x }) m m (goes_step c m h.w l target f e) (touches_is c m h.w l f ∙ ap touch_of e) refl (h.above, h.low) tt
+    one [] c (record { pc = target; x = x }) m m (goes_step c m h.w l target f e) (touches_is c m h.w l f ∙ ap touch_of e) refl (h.above, h.low) tt tt (back_of c m h.w l target f (no_back pc l m target (passes_on l.op pc (x l.rs1) (x l.rs2) l.imm target e)))
 
 -- one that loads
 pub loads : (image m : Mem) (pc : ℕ) (x : ℕ → ℕ) (l : Line) (a n : ℕ) (extension : Extension) → Fixed image m → Holds image pc l → row l.op pc (x l.rs1) (x l.rs2) l.imm ≡ Loads a n extension → is_place a n ≡ true → may_load (in_runtime pc) a n ≡ true → Reach 1 (Loaded a n ∷ []) (record { pc = pc; x = x }) m (record { pc = pc + 4; x = with_reg x l.rd (extended n extension (little m a n)) }) m
@@ -230,16 +279,16 @@ loads image m pc x l a n extension fixed h e ok may =
     let f : Fetches c m h.w l = fetches image m pc x l fixed h in
     one (Loaded a n ∷ []) c (record { pc = pc + 4; x = with_reg x l.rd (extended n extension (little m a n)) }) m m
     (loads_step c m h.w l a n extension f e ok ∙ ap (λ q. record { went = On; cpu = record { pc = q; x = with_reg x l.rd (extended n extension (little m a n)) }; mem = m }) (next_pc image pc l h))
-    (touches_is c m h.w l f ∙ ap touch_of e) refl (h.above, h.low) (may, tt)
+    (touches_is c m h.w l f ∙ ap touch_of e) refl (h.above, h.low) (may, tt) tt (back_of c m h.w l (pc + 4) f (no_back pc l m (pc + 4) (loads_on l.op pc (x l.rs1) (x l.rs2) l.imm a n extension e)))
 
 -- one that stores
-pub stores : (image m : Mem) (pc : ℕ) (x : ℕ → ℕ) (l : Line) (a n v : ℕ) → Fixed image m → Holds image pc l → row l.op pc (x l.rs1) (x l.rs2) l.imm ≡ Stores a n v → is_place a n ≡ true → shown (written m a (bytes_of n v)) ≡ shown m → may_store (in_runtime pc) a n ≡ true → Reach 1 (Stored a n ∷ []) (record { pc = pc; x = x }) m (record { pc = pc + 4; x = x }) (written m a (bytes_of n v))
+pub stores : (image m : Mem) (pc : ℕ) (x : ℕ → ℕ) (l : Line) (a n v : ℕ) → Fixed image m → Holds image pc l → row l.op pc (x l.rs1) (x l.rs2) l.imm ≡ Stores a n v → is_place a n ≡ true → shown (written m a (bytes_of n v)) ≡ shown m → May (in_runtime pc) a n → Reach 1 (Stored a n ∷ []) (record { pc = pc; x = x }) m (record { pc = pc + 4; x = x }) (written m a (bytes_of n v))
 stores image m pc x l a n v fixed h e ok same may =
     let c : Cpu = record { pc = pc; x = x } in
     let f : Fetches c m h.w l = fetches image m pc x l fixed h in
     one (Stored a n ∷ []) c (record { pc = pc + 4; x = x }) m (written m a (bytes_of n v))
     (stores_step c m h.w l a n v f e ok ∙ ap (λ q. record { went = On; cpu = record { pc = q; x = x }; mem = written m a (bytes_of n v) }) (next_pc image pc l h))
-    (touches_is c m h.w l f ∙ ap touch_of e) same (h.above, h.low) (may, tt)
+    (touches_is c m h.w l f ∙ ap touch_of e) same (h.above, h.low) (may.allowed, tt) (may.due m (written m a (bytes_of n v)), tt) (back_of c m h.w l (pc + 4) f (no_back pc l m (pc + 4) (stores_on l.op pc (x l.rs1) (x l.rs2) l.imm a n v e)))
 
 -- ebreak ends the run
 pub halts : (image m : Mem) (pc : ℕ) (x : ℕ → ℕ) (l : Line) → Fixed image m → Holds image pc l → row l.op pc (x l.rs1) (x l.rs2) l.imm ≡ Stops → Stopped 1 [] (record { pc = pc; x = x }) m m
@@ -259,7 +308,9 @@ halts image m pc x l fixed h e =
     plain s t zero lt = record {
       inside = (h.above, h.low);
       allowed = subst (AreAllowed (in_runtime pc)) (sym t) tt;
+      due = subst (AreDue m (step_of (record { pc = pc; x = x }) m).mem) (sym t) tt;
       grows = subst (λ (z : Stepped). Begins (shown m) (shown z.mem)) (sym s) (begins_same (shown m) (shown m) refl);
+      returns = back_of (record { pc = pc; x = x }) m h.w l (step_of (record { pc = pc; x = x }) m).cpu.pc (fetches image m pc x l fixed h) (no_back pc l m (step_of (record { pc = pc; x = x }) m).cpu.pc (stops_on l.op pc (x l.rs1) (x l.rs2) l.imm e));
     }
     plain s t (suc i) lt = absurd (omega arith)
 
@@ -290,3 +341,23 @@ then_stops n l ts us c d m k h a b = record {
         )
   ];
 }
+
+-- what stands in the image stands in memory that has its code
+pub behind_kept : (image m : Mem) (pc : ℕ) → Fixed image m → IsBehindCall image pc → IsBehindCall m pc
+behind_kept image m pc fixed b =
+    let h = b.call in
+    let above = h.above in
+    let low = h.low in
+    record {
+      at = b.at;
+      behind = b.behind;
+      imm = b.imm;
+      call = record {
+        w = h.w;
+        word = little-alike m image 4 b.at (λ i x y. fixed i (omega arith) (omega arith)) ∙ h.word;
+        here = h.here;
+        line = h.line;
+        above = h.above;
+        low = h.low;
+      };
+    }

@@ -1,7 +1,9 @@
 pub mod Touches
+pub mod Seen
+pub mod Orderly
 pub mod Shown
+pub mod Instructions
 pub mod Plain
 pub mod Reach
-pub mod Instructions
 pub mod Routines
 pub mod Laws

@@ -6,6 +6,8 @@ use Rattle.im_image.specs.declared.form.Form.TheVariants.{TwoLengths}
 use Rattle.im_device.specs.Shows.{output_length}
 use Rattle.im_reach.specs.Touches.{Flipped, Touch, heard}
 use Rattle.im_reach.specs.Shown.{shown, left}
+use Rattle.im_reach.specs.Orderly.{IsOrderly}
+use Rattle.im_reach.specs.Plain.{IsBehindCall}
 use Rattle.im_reach.specs.Reach.{Reach}
 use Rattle.im_reach.specs.Instructions.{Fixed}
 
@@ -42,6 +44,7 @@ pub record Done (r : Runtime) (m : Mem) (pc : ℕ) (x : ℕ → ℕ) (back : ℕ
   pub flips : ℕ
   pub flips_few : flips ≤ r.flips
   pub system : heard ts ≡ replicate flips Flipped
+  pub orderly : IsOrderly ts
   pub fixed : Fixed r.image k
   pub words : Words r.limit r.capacity k
   pub data_same : (a : ℕ) → statics_start ≤ a → a < stack_end → k a ≡ m a
@@ -57,6 +60,8 @@ pub record Called (r : Runtime) (m : Mem) (x : ℕ → ℕ) (link : ℕ) : Type 
   pub zero_reg : x 0 ≡ 0
   pub even : x link % 4 ≡ 0
   pub low : x link ≤ statics_start
+  -- a routine that returns by x1 was called; a checkpoint returns within the runtime
+  pub behind : link ≡ 1 → IsBehindCall r.image (x link)
 
 -- putchar: what the output is then, and the result
 abbrev pub put : ℕ → List ℕ → ℕ → List ℕ

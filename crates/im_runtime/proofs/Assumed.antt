@@ -4,6 +4,7 @@ use Rattle.im_mem.specs.Memory.{Mem, little}
 use Rattle.im_ckpt.specs.Checkpoint.{entry_at}
 use Rattle.im_ckpt.proofs.Rungs.{routine_of}
 use Rattle.im_reach.specs.Touches.{heard}
+use Rattle.im_reach.specs.Orderly.{Anything, after, is_closed}
 use Rattle.im_reach.specs.Routines.{Runtime, Words, SavesAt}
 use Rattle.im_reach.proofs.Reach.{length_same, left_same}
 use Rattle.im_runtime.specs.Standing.{HasRoutines}
@@ -44,6 +45,7 @@ saves r place has few flips e low high m x call =
         flips = 1;
         flips_few = flips;
         system = heard_seen s.ran.ts ∙ ap heard s.ran.saw;
+        orderly = ap (λ z. is_closed (after Anything z)) s.ran.saw;
         fixed = kept_fixed r.image m s.k s.kept call.fixed;
         words = kept_words r.limit r.capacity m s.k call.words s.kept s.index s.bytes;
         data_same = λ a from to. s.kept.high a (omega arith);

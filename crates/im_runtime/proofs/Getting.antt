@@ -11,14 +11,14 @@ use Rattle.im_rv.specs.Steps.{sum_of, with_reg}
 use Rattle.im_rv.specs.Lines.{instruction}
 use Rattle.im_image.specs.declared.form.Form.TheVariants.{TwoLengths}
 use Rattle.im_device.specs.Shows.{output_length}
-use Rattle.im_reach.specs.Plain.{in_runtime}
-use Rattle.im_reach.proofs.Reach.{data_load}
+use Rattle.im_reach.specs.Plain.{in_runtime, IsBehindCall}
+use Rattle.im_reach.proofs.Reach.{data_load, due_beside}
 use Rattle.im_reach.specs.Touches.{Loaded, Stored, Flipped}
+use Rattle.im_reach.specs.Seen.{seen}
 use Rattle.im_reach.specs.Shown.{shown}
 use Rattle.im_reach.specs.Instructions.{Holds, Fixed}
 use Rattle.im_rtlib.specs.Routines.{getchar_label}
 use Rattle.im_runtime.specs.Standing.{HasRoutines, distance}
-use Rattle.im_runtime.specs.Seen.{seen}
 use Rattle.im_runtime.proofs.Ran.{Ran, at, begins_same, byte_loaded, byte_place, follow, put_step, load_step, store_step}
 use Rattle.im_runtime.proofs.Saving.{Kept, none_reg, kept_fixed, kept_word}
 use Rattle.im_runtime.proofs.Showing.{byte_is, shown_alike}
@@ -78,8 +78,8 @@ module _ (image : Mem) (place : ℕ → ℕ) (has : HasRoutines image place) (p 
     pub zero_reg : y 0 ≡ 0
     pub stack : y 2 ≡ x 2
 
-  pub ended : (m : Mem) (x : ℕ → ℕ) (back : ℕ) → Fixed image m → x 0 ≡ 0 → x 1 ≡ back → back % 4 ≡ 0 → back ≤ 1048576 → nat_lt (little m 24 4) (little m 20 4) ≡ false → Ended m x back
-  ended m x back fixed x0 link even low none_left =
+  pub ended : (m : Mem) (x : ℕ → ℕ) (back : ℕ) → Fixed image m → x 0 ≡ 0 → x 1 ≡ back → back % 4 ≡ 0 → back ≤ 1048576 → IsBehindCall image back → nat_lt (little m 24 4) (little m 20 4) ≡ false → Ended m x back
+  ended m x back fixed x0 link even low behind none_left =
       let x1 : ℕ → ℕ = with_reg x 5 (little m 24 4) in
       let x2 : ℕ → ℕ = with_reg x1 6 (little m 20 4) in
       let x3 : ℕ → ℕ = with_reg x2 10 0xFFFFFFFF in
@@ -87,8 +87,8 @@ module _ (image : Mem) (place : ℕ → ℕ) (has : HasRoutines image place) (p 
       let s0 : Ran 1 (Loaded 24 4 ∷ []) (at (spot p 0) x) m (at (spot p 1) x1) m = load_step image m (spot p 0) x (instruction Lw 5 0 0 24) 24 4 fixed lines.l0 (ap (λ z. Loads (sum_of z 24) 4 Zero) x0) refl refl in
       let s1 : Ran 1 (Loaded 20 4 ∷ []) (at (spot p 1) x1) m (at (spot p 2) x2) m = load_step image m (spot p 1) x1 (instruction Lw 6 0 0 20) 20 4 fixed lines.l1 (ap (λ z. Loads (sum_of z 20) 4 Zero) x0) refl refl in
       let s2 : Ran 1 [] (at (spot p 2) x2) m (at (spot p 10) x2) m = full_to image m (spot p 2) x2 5 6 (spot p 10) fixed lines.l2 none_left (omega arith) in
-      let s3 : Ran 1 [] (at (spot p 10) x2) m (at (spot p 11) x3) m = put_step image m (spot p 10) x2 (instruction Addi 10 0 0 0xFFFFFFFF) 0xFFFFFFFF fixed lines.l10 (ap (λ z. Puts (sum_of z 0xFFFFFFFF) (sum_of (spot p 10) 4)) x0) in
-      let s4 : Ran 1 [] (at (spot p 11) x3) m (at back (with_reg x3 0 (sum_of (spot p 11) 4))) m = return image m (spot p 11) x3 back fixed lines.l11 link even low in
+      let s3 : Ran 1 [] (at (spot p 10) x2) m (at (spot p 11) x3) m = put_step image m (spot p 10) x2 (instruction Addi 10 0 0 0xFFFFFFFF) 0xFFFFFFFF fixed lines.l10 (ap (λ z. Puts (sum_of z 0xFFFFFFFF) (sum_of (spot p 10) 4)) x0) refl in
+      let s4 : Ran 1 [] (at (spot p 11) x3) m (at back (with_reg x3 0 (sum_of (spot p 11) 4))) m = return image m (spot p 11) x3 back fixed lines.l11 link even low behind in
       let none = none_reg x3 (sum_of (spot p 11) 4) in
       record {
         y = with_reg x3 0 (sum_of (spot p 11) 4);
@@ -111,8 +111,8 @@ module _ (image : Mem) (place : ℕ → ℕ) (has : HasRoutines image place) (p 
     pub zero_reg : y 0 ≡ 0
     pub stack : y 2 ≡ x 2
 
-  pub take_byte : (m : Mem) (x : ℕ → ℕ) (back n long : ℕ) → Fixed image m → x 0 ≡ 0 → x 1 ≡ back → back % 4 ≡ 0 → back ≤ 1048576 → little m 24 4 ≡ n → n < 1048576 → nat_lt n (little m 20 4) ≡ true → output_length TwoLengths m ≡ long → long ≤ 1048576 → little m 0 4 < 2 → ((a : ℕ) → m a < 256) → Taken m x back n
-  take_byte m x back n long fixed x0 link even low pos small some out fits index bytes =
+  pub take_byte : (m : Mem) (x : ℕ → ℕ) (back n long : ℕ) → Fixed image m → x 0 ≡ 0 → x 1 ≡ back → back % 4 ≡ 0 → back ≤ 1048576 → IsBehindCall image back → little m 24 4 ≡ n → n < 1048576 → nat_lt n (little m 20 4) ≡ true → output_length TwoLengths m ≡ long → long ≤ 1048576 → little m 0 4 < 2 → ((a : ℕ) → m a < 256) → Taken m x back n
+  take_byte m x back n long fixed x0 link even low behind pos small some out fits index bytes =
       let a : ℕ = 3145728 + n in
       let x1 : ℕ → ℕ = with_reg x 5 (little m 24 4) in
       let x2 : ℕ → ℕ = with_reg x1 6 (little m 20 4) in
@@ -126,11 +126,11 @@ module _ (image : Mem) (place : ℕ → ℕ) (has : HasRoutines image place) (p 
       let s0 : Ran 1 (Loaded 24 4 ∷ []) (at (spot p 0) x) m (at (spot p 1) x1) m = load_step image m (spot p 0) x (instruction Lw 5 0 0 24) 24 4 fixed lines.l0 (ap (λ z. Loads (sum_of z 24) 4 Zero) x0) refl refl in
       let s1 : Ran 1 (Loaded 20 4 ∷ []) (at (spot p 1) x1) m (at (spot p 2) x2) m = load_step image m (spot p 1) x1 (instruction Lw 6 0 0 20) 20 4 fixed lines.l1 (ap (λ z. Loads (sum_of z 20) 4 Zero) x0) refl refl in
       let s2 : Ran 1 [] (at (spot p 2) x2) m (at (spot p 3) x2) m = less_on image m (spot p 2) x2 5 6 (distance (spot p 2) (spot p 10)) fixed lines.l2 (ap (λ z. nat_lt z (little m 20 4)) pos ∙ some) in
-      let s3 : Ran 1 [] (at (spot p 3) x2) m (at (spot p 4) x3) m = put_step image m (spot p 3) x2 (instruction Lui 6 0 0 0x300) 3145728 fixed lines.l3 refl in
-      let s4 : Ran 1 [] (at (spot p 4) x3) m (at (spot p 5) x4) m = put_step image m (spot p 4) x3 (instruction Add 6 6 5 0) a fixed lines.l4 (ap (λ z. Puts z (sum_of (spot p 4) 4)) sum) in
+      let s3 : Ran 1 [] (at (spot p 3) x2) m (at (spot p 4) x3) m = put_step image m (spot p 3) x2 (instruction Lui 6 0 0 0x300) 3145728 fixed lines.l3 refl refl in
+      let s4 : Ran 1 [] (at (spot p 4) x3) m (at (spot p 5) x4) m = put_step image m (spot p 4) x3 (instruction Add 6 6 5 0) a fixed lines.l4 (ap (λ z. Puts z (sum_of (spot p 4) 4)) sum) refl in
       let s5 : Ran 1 (seen (Loaded a 1 ∷ [])) (at (spot p 5) x4) m (at (spot p 6) x5) m = load_step image m (spot p 5) x4 (instruction Lbu 10 6 0 0) a 1 fixed lines.l5 (ap (λ z. Loads z 1 Zero) there) (byte_place a (omega arith)) (data_load (in_runtime (spot p 5)) a 1 (omega arith)) in
       let s5' : Ran 1 (Loaded a 1 ∷ []) (at (spot p 5) x4) m (at (spot p 6) x5) m = subst (λ us. Ran 1 us (at (spot p 5) x4) m (at (spot p 6) x5) m) (byte_loaded a (omega arith)) s5 in
-      let s6 : Ran 1 [] (at (spot p 6) x5) m (at (spot p 7) x6) m = put_step image m (spot p 6) x5 (instruction Addi 5 5 0 1) (suc n) fixed lines.l6 (ap (λ z. Puts z (sum_of (spot p 6) 4)) next) in
+      let s6 : Ran 1 [] (at (spot p 6) x5) m (at (spot p 7) x6) m = put_step image m (spot p 6) x5 (instruction Addi 5 5 0 1) (suc n) fixed lines.l6 (ap (λ z. Puts z (sum_of (spot p 6) 4)) next) refl in
       let c : Committed m (spot p 7) x6 = commit image place has m (spot p 7) x6 lines.l7 fixed x0 index bytes in
       let k : Mem = c.k in
       let m1 : Mem = written k 24 (bytes_of 4 (suc n)) in
@@ -143,8 +143,8 @@ module _ (image : Mem) (place : ℕ → ℕ) (has : HasRoutines image place) (p 
       let same : shown m1 ≡ shown k = shown_alike k m1 long out_k out1 fits (λ i from to. above i (omega arith)) in
       let y0 : c.y 0 ≡ 0 = c.regs 0 (omega arith) (omega arith) ∙ x0 in
       let y5 : c.y 5 ≡ suc n = c.regs 5 (omega arith) (omega arith) in
-      let s8 : Ran 1 (Stored 24 4 ∷ []) (at (spot p 8) c.y) k (at (spot p 9) c.y) m1 = store_step image k (spot p 8) c.y (instruction Sw 0 0 5 24) 24 4 (suc n) fixed_k lines.l8 (ap (λ z. Stores (sum_of z 24) 4 (c.y 5)) y0 ∙ ap (λ z. Stores 24 4 z) y5) refl (begins_same (shown k) (shown m1) same) refl in
-      let s9 : Ran 1 [] (at (spot p 9) c.y) m1 (at back (with_reg c.y 0 (sum_of (spot p 9) 4))) m1 = return image m1 (spot p 9) c.y back fixed1 lines.l9 (c.regs 1 (omega arith) (omega arith) ∙ link) even low in
+      let s8 : Ran 1 (Stored 24 4 ∷ []) (at (spot p 8) c.y) k (at (spot p 9) c.y) m1 = store_step image k (spot p 8) c.y (instruction Sw 0 0 5 24) 24 4 (suc n) fixed_k lines.l8 (ap (λ z. Stores (sum_of z 24) 4 (c.y 5)) y0 ∙ ap (λ z. Stores 24 4 z) y5) refl (begins_same (shown k) (shown m1) same) refl (due_beside k m1 24 4 (omega arith) (inr (omega arith)) (inl (omega arith))) in
+      let s9 : Ran 1 [] (at (spot p 9) c.y) m1 (at back (with_reg c.y 0 (sum_of (spot p 9) 4))) m1 = return image m1 (spot p 9) c.y back fixed1 lines.l9 (c.regs 1 (omega arith) (omega arith) ∙ link) even low behind in
       let none = none_reg c.y (sum_of (spot p 9) 4) in
       record {
         y = with_reg c.y 0 (sum_of (spot p 9) 4);

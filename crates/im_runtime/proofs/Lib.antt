@@ -3,6 +3,7 @@ pub mod Chain
 pub mod Cutting
 pub mod Ends
 pub mod Getting
+pub mod Ordering
 pub mod Putting
 pub mod Ran
 pub mod Reading

@@ -14,15 +14,15 @@ use Rattle.im_rv.specs.Decode.{Line}
 use Rattle.im_rv.specs.Lines.{instruction}
 use Rattle.im_image.specs.declared.form.Form.TheVariants.{TwoLengths}
 use Rattle.im_device.specs.Shows.{output_length}
-use Rattle.im_reach.specs.Plain.{in_runtime}
-use Rattle.im_reach.proofs.Reach.{data_store}
+use Rattle.im_reach.specs.Plain.{in_runtime, IsBehindCall}
+use Rattle.im_reach.proofs.Reach.{data_store, due_beside}
 use Rattle.im_reach.specs.Touches.{Touch, Loaded, Stored, Flipped}
+use Rattle.im_reach.specs.Seen.{seen}
 use Rattle.im_reach.specs.Shown.{shown, Begins}
 use Rattle.im_reach.specs.Instructions.{Holds, Fixed}
 use Rattle.im_reach.proofs.Reach.{length_same}
 use Rattle.im_rtlib.specs.Routines.{putchar_label}
 use Rattle.im_runtime.specs.Standing.{HasRoutines, distance}
-use Rattle.im_runtime.specs.Seen.{seen}
 use Rattle.im_runtime.proofs.Ran.{Ran, at, begins_same, byte_stored, byte_place, follow, put_step, load_step, store_step}
 use Rattle.im_runtime.proofs.Saving.{Kept, none_reg, kept_fixed, kept_shown, kept_quiet}
 use Rattle.im_runtime.proofs.Showing.{byte_is, selected, other, length_by, shown_alike}
@@ -156,7 +156,7 @@ module _ (image : Mem) (place : ℕ → ℕ) (has : HasRoutines image place) (p 
       let x2 : ℕ → ℕ = with_reg x1 5 (little m 36 1) in
       let x3 : ℕ → ℕ = with_reg x2 6 (little m 12 4) in
       let end = lines.l6.low in
-      let s0 : Ran 1 [] (at (spot p 0) x) m (at (spot p 1) x1) m = put_step image m (spot p 0) x (instruction Andi 10 10 0 255) (bit_and (x 10) 255) fixed lines.l0 refl in
+      let s0 : Ran 1 [] (at (spot p 0) x) m (at (spot p 1) x1) m = put_step image m (spot p 0) x (instruction Andi 10 10 0 255) (bit_and (x 10) 255) fixed lines.l0 refl refl in
       let s1 : Ran 1 (Loaded 36 1 ∷ []) (at (spot p 1) x1) m (at (spot p 2) x2) m = load_step image m (spot p 1) x1 (instruction Lbu 5 0 0 36) 36 1 fixed lines.l1 (ap (λ z. Loads (sum_of z 36) 1 Zero) x0) refl refl in
       let s2 : Ran 1 [] (at (spot p 2) x2) m (at (spot p 3) x2) m = same_on image m (spot p 2) x2 5 0 (distance (spot p 2) (spot p 5)) fixed lines.l2 (zero_is m (x 0) true x0 e) in
       let s3 : Ran 1 (Loaded 12 4 ∷ []) (at (spot p 3) x2) m (at (spot p 4) x3) m = load_step image m (spot p 3) x2 (instruction Lw 6 0 0 12) 12 4 fixed lines.l3 (ap (λ z. Loads (sum_of z 12) 4 Zero) x0) refl refl in
@@ -179,7 +179,7 @@ module _ (image : Mem) (place : ℕ → ℕ) (has : HasRoutines image place) (p 
       let x2 : ℕ → ℕ = with_reg x1 5 (little m 36 1) in
       let x3 : ℕ → ℕ = with_reg x2 6 (little m 32 4) in
       let end = lines.l5.low in
-      let s0 : Ran 1 [] (at (spot p 0) x) m (at (spot p 1) x1) m = put_step image m (spot p 0) x (instruction Andi 10 10 0 255) (bit_and (x 10) 255) fixed lines.l0 refl in
+      let s0 : Ran 1 [] (at (spot p 0) x) m (at (spot p 1) x1) m = put_step image m (spot p 0) x (instruction Andi 10 10 0 255) (bit_and (x 10) 255) fixed lines.l0 refl refl in
       let s1 : Ran 1 (Loaded 36 1 ∷ []) (at (spot p 1) x1) m (at (spot p 2) x2) m = load_step image m (spot p 1) x1 (instruction Lbu 5 0 0 36) 36 1 fixed lines.l1 (ap (λ z. Loads (sum_of z 36) 1 Zero) x0) refl refl in
       let s2 : Ran 1 [] (at (spot p 2) x2) m (at (spot p 5) x2) m = apart_to image m (spot p 2) x2 5 0 (spot p 5) fixed lines.l2 (zero_is m (x 0) false x0 e) (omega arith) in
       let s3 : Ran 1 (Loaded 32 4 ∷ []) (at (spot p 5) x2) m (at (spot p 6) x3) m = load_step image m (spot p 5) x2 (instruction Lw 6 0 0 32) 32 4 fixed lines.l5 (ap (λ z. Loads (sum_of z 32) 4 Zero) x0) refl refl in
@@ -205,15 +205,15 @@ module _ (image : Mem) (place : ℕ → ℕ) (has : HasRoutines image place) (p 
     pub zero_reg : y 0 ≡ 0
     pub stack : y 2 ≡ x 2
 
-  pub refuse : (m : Mem) (x : ℕ → ℕ) (back : ℕ) → Fixed image m → x 0 ≡ 0 → x 1 ≡ back → back % 4 ≡ 0 → back ≤ 1048576 → nat_lt (x 6) (little m 16 4) ≡ false → Refused m x back
-  refuse m x back fixed x0 link even low full =
+  pub refuse : (m : Mem) (x : ℕ → ℕ) (back : ℕ) → Fixed image m → x 0 ≡ 0 → x 1 ≡ back → back % 4 ≡ 0 → back ≤ 1048576 → IsBehindCall image back → nat_lt (x 6) (little m 16 4) ≡ false → Refused m x back
+  refuse m x back fixed x0 link even low behind full =
       let x1 : ℕ → ℕ = with_reg x 7 (little m 16 4) in
       let x2 : ℕ → ℕ = with_reg x1 10 0xFFFFFFFF in
       let end = lines.l22.low in
       let s0 : Ran 1 (Loaded 16 4 ∷ []) (at (spot p 6) x) m (at (spot p 7) x1) m = load_step image m (spot p 6) x (instruction Lw 7 0 0 16) 16 4 fixed lines.l6 (ap (λ z. Loads (sum_of z 16) 4 Zero) x0) refl refl in
       let s1 : Ran 1 [] (at (spot p 7) x1) m (at (spot p 22) x1) m = full_to image m (spot p 7) x1 6 7 (spot p 22) fixed lines.l7 full (omega arith) in
-      let s2 : Ran 1 [] (at (spot p 22) x1) m (at (spot p 23) x2) m = put_step image m (spot p 22) x1 (instruction Addi 10 0 0 0xFFFFFFFF) 0xFFFFFFFF fixed lines.l22 (ap (λ z. Puts (sum_of z 0xFFFFFFFF) (sum_of (spot p 22) 4)) x0) in
-      let s3 : Ran 1 [] (at (spot p 23) x2) m (at back (with_reg x2 0 (sum_of (spot p 23) 4))) m = return image m (spot p 23) x2 back fixed lines.l23 link even low in
+      let s2 : Ran 1 [] (at (spot p 22) x1) m (at (spot p 23) x2) m = put_step image m (spot p 22) x1 (instruction Addi 10 0 0 0xFFFFFFFF) 0xFFFFFFFF fixed lines.l22 (ap (λ z. Puts (sum_of z 0xFFFFFFFF) (sum_of (spot p 22) 4)) x0) refl in
+      let s3 : Ran 1 [] (at (spot p 23) x2) m (at back (with_reg x2 0 (sum_of (spot p 23) 4))) m = return image m (spot p 23) x2 back fixed lines.l23 link even low behind in
       let none = none_reg x2 (sum_of (spot p 23) 4) in
       record {
         y = with_reg x2 0 (sum_of (spot p 23) 4);
@@ -277,11 +277,11 @@ module _ (image : Mem) (place : ℕ → ℕ) (has : HasRoutines image place) (p 
       let next : sum_of (x 6) 1 ≡ suc n = ap (λ z. sum_of z 1) x6 ∙ (let q : sum_of n 1 ≡ suc n = omega arith in q) in
       let s0 : Ran 1 (Loaded 16 4 ∷ []) (at (spot p 6) x) m (at (spot p 7) x1) m = load_step image m (spot p 6) x (instruction Lw 7 0 0 16) 16 4 fixed lines.l6 (ap (λ z. Loads (sum_of z 16) 4 Zero) x0) refl refl in
       let s1 : Ran 1 [] (at (spot p 7) x1) m (at (spot p 8) x1) m = less_on image m (spot p 7) x1 6 7 (distance (spot p 7) (spot p 22)) fixed lines.l7 (ap (λ z. nat_lt z (little m 16 4)) x6 ∙ room) in
-      let s2 : Ran 1 [] (at (spot p 8) x1) m (at (spot p 9) x2) m = put_step image m (spot p 8) x1 (instruction Lui 7 0 0 0x400) 4194304 fixed lines.l8 refl in
-      let s3 : Ran 1 [] (at (spot p 9) x2) m (at (spot p 10) x3) m = put_step image m (spot p 9) x2 (instruction Add 7 7 6 0) a fixed lines.l9 (ap (λ z. Puts z (sum_of (spot p 9) 4)) sum) in
-      let s4 : Ran 1 (seen (Stored a 1 ∷ [])) (at (spot p 10) x3) m (at (spot p 11) x3) m1 = store_step image m (spot p 10) x3 (instruction Sb 0 7 10 0) a 1 v fixed lines.l10 (ap (λ z. Stores z 1 (x 10)) there ∙ ap (λ z. Stores a 1 z) x10) (byte_place a (omega arith)) (begins_same (shown m) (shown m1) same) (data_store (in_runtime (spot p 10)) a 1 (omega arith)) in
+      let s2 : Ran 1 [] (at (spot p 8) x1) m (at (spot p 9) x2) m = put_step image m (spot p 8) x1 (instruction Lui 7 0 0 0x400) 4194304 fixed lines.l8 refl refl in
+      let s3 : Ran 1 [] (at (spot p 9) x2) m (at (spot p 10) x3) m = put_step image m (spot p 9) x2 (instruction Add 7 7 6 0) a fixed lines.l9 (ap (λ z. Puts z (sum_of (spot p 9) 4)) sum) refl in
+      let s4 : Ran 1 (seen (Stored a 1 ∷ [])) (at (spot p 10) x3) m (at (spot p 11) x3) m1 = store_step image m (spot p 10) x3 (instruction Sb 0 7 10 0) a 1 v fixed lines.l10 (ap (λ z. Stores z 1 (x 10)) there ∙ ap (λ z. Stores a 1 z) x10) (byte_place a (omega arith)) (begins_same (shown m) (shown m1) same) (data_store (in_runtime (spot p 10)) a 1 (omega arith)).allowed ((data_store (in_runtime (spot p 10)) a 1 (omega arith)).due m m1) in
       let s4' : Ran 1 (Stored a 1 ∷ []) (at (spot p 10) x3) m (at (spot p 11) x3) m1 = subst (λ us. Ran 1 us (at (spot p 10) x3) m (at (spot p 11) x3) m1) (byte_stored a (omega arith)) s4 in
-      let s5 : Ran 1 [] (at (spot p 11) x3) m1 (at (spot p 12) x4) m1 = put_step image m1 (spot p 11) x3 (instruction Addi 6 6 0 1) (suc n) fixed1 lines.l11 (ap (λ z. Puts z (sum_of (spot p 11) 4)) next) in
+      let s5 : Ran 1 [] (at (spot p 11) x3) m1 (at (spot p 12) x4) m1 = put_step image m1 (spot p 11) x3 (instruction Addi 6 6 0 1) (suc n) fixed1 lines.l11 (ap (λ z. Puts z (sum_of (spot p 11) 4)) next) refl in
       let c : Committed m1 (spot p 12) x4 = commit image place has m1 (spot p 12) x4 lines.l12 fixed1 x0 (subst (λ z. z < 2) (sym (word 0 (omega arith))) index) (written-small m a 1 v bytes) in
       record {
         at_byte = record {
@@ -333,7 +333,7 @@ module _ (image : Mem) (place : ℕ → ℕ) (has : HasRoutines image place) (p 
       let fixed1 : Fixed image m1 = fixed_by m 32 4 v (inl (omega arith)) fixed in
       let end = lines.l17.low in
       let s0 : Ran 1 [] (at (spot p 13) x) m (at (spot p 14) x) m = same_on image m (spot p 13) x 5 0 (distance (spot p 13) (spot p 16)) fixed lines.l13 (ap (λ z. x 5 == z) x0 ∙ x5) in
-      let s1 : Ran 1 (Stored 32 4 ∷ []) (at (spot p 14) x) m (at (spot p 15) x) m1 = store_step image m (spot p 14) x (instruction Sw 0 0 6 32) 32 4 v fixed lines.l14 (ap (λ z. Stores (sum_of z 32) 4 (x 6)) x0 ∙ ap (λ z. Stores 32 4 z) x6) refl (begins_same (shown m) (shown m1) same) refl in
+      let s1 : Ran 1 (Stored 32 4 ∷ []) (at (spot p 14) x) m (at (spot p 15) x) m1 = store_step image m (spot p 14) x (instruction Sw 0 0 6 32) 32 4 v fixed lines.l14 (ap (λ z. Stores (sum_of z 32) 4 (x 6)) x0 ∙ ap (λ z. Stores 32 4 z) x6) refl (begins_same (shown m) (shown m1) same) refl (record { first = λ z. inr (omega arith); second = λ z. absurd (z (is_zero (m 36) sel)); turns = λ z. absurd (omega arith) }) in
       let x1 : ℕ → ℕ = with_reg x 0 (sum_of (spot p 15) 4) in
       let s2 : Ran 1 [] (at (spot p 15) x) m1 (at (spot p 17) x1) m1 = jump image m1 (spot p 15) x (spot p 17) fixed1 lines.l15 (omega arith) in
       let none = none_reg x (sum_of (spot p 15) 4) in
@@ -352,7 +352,7 @@ module _ (image : Mem) (place : ℕ → ℕ) (has : HasRoutines image place) (p 
       let fixed1 : Fixed image m1 = fixed_by m 12 4 v (inl (omega arith)) fixed in
       let end = lines.l16.low in
       let s0 : Ran 1 [] (at (spot p 13) x) m (at (spot p 16) x) m = apart_to image m (spot p 13) x 5 0 (spot p 16) fixed lines.l13 (ap (λ z. x 5 == z) x0 ∙ x5) (omega arith) in
-      let s1 : Ran 1 (Stored 12 4 ∷ []) (at (spot p 16) x) m (at (spot p 17) x) m1 = store_step image m (spot p 16) x (instruction Sw 0 0 6 12) 12 4 v fixed lines.l16 (ap (λ z. Stores (sum_of z 12) 4 (x 6)) x0 ∙ ap (λ z. Stores 12 4 z) x6) refl (begins_same (shown m) (shown m1) same) refl in
+      let s1 : Ran 1 (Stored 12 4 ∷ []) (at (spot p 16) x) m (at (spot p 17) x) m1 = store_step image m (spot p 16) x (instruction Sw 0 0 6 12) 12 4 v fixed lines.l16 (ap (λ z. Stores (sum_of z 12) 4 (x 6)) x0 ∙ ap (λ z. Stores 12 4 z) x6) refl (begins_same (shown m) (shown m1) same) refl (record { first = λ z. absurd (let q = not_zero (m 36) sel in omega arith); second = λ z. inl (omega arith); turns = λ z. absurd (omega arith) }) in
       let c : Committed m1 (spot p 17) x = commit image place has m1 (spot p 17) x lines.l17 fixed1 x0 (subst (λ z. z < 2) (sym (little-other m 12 4 v 0 4 (inl (omega arith)))) index) (written-small m 12 4 v bytes) in
       record {
         at_length = record { count = 20; some = omega arith; few = omega arith; y = c.y; k = c.k; ran = follow s0 (follow s1 c.ran); kept = c.kept; bytes = c.bytes; index = c.index };
@@ -368,18 +368,18 @@ module _ (image : Mem) (place : ℕ → ℕ) (has : HasRoutines image place) (p 
     pub stack : at_selector.y 2 ≡ x 2
     pub byte : at_selector.y 10 ≡ x 10
 
-  pub turn : (m : Mem) (x : ℕ → ℕ) (b : Bool) (back : ℕ) → Fixed image m → x 0 ≡ 0 → x 1 ≡ back → back % 4 ≡ 0 → back ≤ 1048576 → (x 5 == 0) ≡ b → Begins (shown m) (shown (written m 36 (bytes_of 1 (turned b)))) → little m 0 4 < 2 → ((a : ℕ) → m a < 256) → Turned m x b back
-  turn m x b back fixed x0 x1 even low x5 more index bytes =
+  pub turn : (m : Mem) (x : ℕ → ℕ) (b : Bool) (back : ℕ) → Fixed image m → x 0 ≡ 0 → x 1 ≡ back → back % 4 ≡ 0 → back ≤ 1048576 → IsBehindCall image back → (x 5 == 0) ≡ b → Begins (shown m) (shown (written m 36 (bytes_of 1 (turned b)))) → little m 0 4 < 2 → ((a : ℕ) → m a < 256) → Turned m x b back
+  turn m x b back fixed x0 x1 even low behind x5 more index bytes =
       let v : ℕ = turned b in
       let y1 : ℕ → ℕ = with_reg x 5 v in
       let m1 : Mem = written m 36 (bytes_of 1 v) in
       let fixed1 : Fixed image m1 = fixed_by m 36 1 v (inl (omega arith)) fixed in
-      let s0 : Ran 1 [] (at (spot p 18) x) m (at (spot p 19) y1) m = put_step image m (spot p 18) x (instruction Sltiu 5 5 0 1) v fixed lines.l18 (ap (λ z. Puts z (sum_of (spot p 18) 4)) (tested (x 5) b x5)) in
-      let s1 : Ran 1 (Stored 36 1 ∷ []) (at (spot p 19) y1) m (at (spot p 20) y1) m1 = store_step image m (spot p 19) y1 (instruction Sb 0 0 5 36) 36 1 v fixed lines.l19 (ap (λ z. Stores (sum_of z 36) 1 v) x0) refl more refl in
+      let s0 : Ran 1 [] (at (spot p 18) x) m (at (spot p 19) y1) m = put_step image m (spot p 18) x (instruction Sltiu 5 5 0 1) v fixed lines.l18 (ap (λ z. Puts z (sum_of (spot p 18) 4)) (tested (x 5) b x5)) refl in
+      let s1 : Ran 1 (Stored 36 1 ∷ []) (at (spot p 19) y1) m (at (spot p 20) y1) m1 = store_step image m (spot p 19) y1 (instruction Sb 0 0 5 36) 36 1 v fixed lines.l19 (ap (λ z. Stores (sum_of z 36) 1 v) x0) refl more refl (due_beside m m1 36 1 (omega arith) (inr (omega arith)) (inr (omega arith))) in
       let c : Committed m1 (spot p 20) y1 = commit image place has m1 (spot p 20) y1 lines.l20 fixed1 x0 (subst (λ z. z < 2) (sym (little-other m 36 1 v 0 4 (inl (omega arith)))) index) (written-small m 36 1 v bytes) in
       let fixed2 : Fixed image c.k = kept_fixed image m1 c.k c.kept fixed1 in
       let link : c.y 1 ≡ back = c.regs 1 (omega arith) (omega arith) ∙ x1 in
-      let s3 : Ran 1 [] (at (spot p 21) c.y) c.k (at back (with_reg c.y 0 (sum_of (spot p 21) 4))) c.k = return image c.k (spot p 21) c.y back fixed2 lines.l21 link even low in
+      let s3 : Ran 1 [] (at (spot p 21) c.y) c.k (at back (with_reg c.y 0 (sum_of (spot p 21) 4))) c.k = return image c.k (spot p 21) c.y back fixed2 lines.l21 link even low behind in
       let none = none_reg c.y (sum_of (spot p 21) 4) in
       record {
         at_selector = record { count = 21; some = omega arith; few = omega arith; y = with_reg c.y 0 (sum_of (spot p 21) 4); k = c.k; ran = follow s0 (follow s1 (follow c.ran s3)); kept = c.kept; bytes = c.bytes; index = c.index };

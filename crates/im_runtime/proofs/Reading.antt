@@ -8,6 +8,7 @@ use Rattle.im_mem.proofs.Words.{little-same, little-other, written-above, writte
 use Rattle.im_image.specs.declared.form.Form.TheVariants.{TwoLengths}
 use Rattle.im_device.specs.Shows.{output_length}
 use Rattle.im_reach.specs.Touches.{Touch, Loaded, Stored, Flipped, is_system, heard}
+use Rattle.im_reach.specs.Orderly.{Anything, after, is_closed}
 use Rattle.im_reach.specs.Shown.{shown, left}
 use Rattle.im_reach.specs.Routines.{Runtime, Called, Words, got, got_answer}
 use Rattle.im_reach.proofs.Reach.{length_same}
@@ -16,6 +17,7 @@ use Rattle.im_runtime.specs.Standing.{HasRoutines}
 use Rattle.im_runtime.specs.Seen.{is_tidy, get_touches_by}
 use Rattle.im_runtime.specs.Laws.{GetsByte, GetcharLaw}
 use Rattle.im_runtime.proofs.Ran.{heard_seen}
+use Rattle.im_runtime.proofs.Ordering.{taken_closed}
 use Rattle.im_runtime.proofs.Saving.{Kept, kept_word, kept_quiet}
 use Rattle.im_runtime.proofs.Showing.{bytes_alike, shown_alike}
 use Rattle.im_runtime.proofs.Getting.{GetLines, get_lines, ended, take_byte}
@@ -77,7 +79,7 @@ module _ (r : Runtime) (place : ℕ → ℕ) (has : HasRoutines r.image place) (
   none : nat_lt n (little m 20 4) ≡ false → GetsByte r p m x
   none h =
       let least : little m 20 4 ≤ n = least_of n (little m 20 4) h in
-      let s = ended r.image place has p lines m x (x 1) call.fixed call.zero_reg refl call.even call.low h in
+      let s = ended r.image place has p lines m x (x 1) call.fixed call.zero_reg refl call.even call.low (call.behind refl) h in
       let e : left m ≡ [] = none_left m (omega arith) in
       record {
         done = record {
@@ -91,6 +93,7 @@ module _ (r : Runtime) (place : ℕ → ℕ) (has : HasRoutines r.image place) (
           flips = 0;
           flips_few = omega arith;
           system = heard_seen s.ran.ts ∙ ap heard s.ran.saw;
+          orderly = ap (λ z. is_closed (after Anything z)) s.ran.saw;
           fixed = call.fixed;
           words = call.words;
           data_same = λ a from to. refl;
@@ -111,7 +114,7 @@ module _ (r : Runtime) (place : ℕ → ℕ) (has : HasRoutines r.image place) (
       let long : ℕ = output_length TwoLengths m in
       let a = call.words.length_fits in
       let b = call.words.capacity_fits in
-      let s = take_byte r.image place has p lines m x (x 1) n long call.fixed call.zero_reg refl call.even call.low refl (omega arith) h refl (omega arith) call.words.index_small call.words.bytes in
+      let s = take_byte r.image place has p lines m x (x 1) n long call.fixed call.zero_reg refl call.even call.low (call.behind refl) refl (omega arith) h refl (omega arith) call.words.index_small call.words.bytes in
       let k : Mem = s.k in
       let w : Mem = written k 24 (bytes_of 4 (suc n)) in
       let rest : ℕ = little m 20 4 - suc n in
@@ -120,7 +123,7 @@ module _ (r : Runtime) (place : ℕ → ℕ) (has : HasRoutines r.image place) (
       let position : little w 24 4 ≡ suc n = little-same k 24 (suc n) (omega arith) in
       let input : little w 20 4 ≡ little m 20 4 = little-other k 24 4 (suc n) 20 4 (inl (omega arith)) ∙ kept_word m k s.kept 20 (omega arith) (omega arith) in
       let e : left m ≡ m (3145728 + n) ∷ bytes_from m (3145728 + n + 1) rest = some_left m n rest refl (omega arith) in
-      let after : left w ≡ bytes_from m (3145728 + n + 1) rest =
+      let behind : left w ≡ bytes_from m (3145728 + n + 1) rest =
       ap (λ z. bytes_from w (3145728 + z) (little w 20 4 - z)) position
       ∙ ap (λ z. bytes_from w (3145728 + suc n) (z - suc n)) input
       ∙ ap (λ z. bytes_from w z rest) (let q : 3145728 + suc n ≡ 3145728 + n + 1 = omega arith in q)
@@ -138,11 +141,12 @@ module _ (r : Runtime) (place : ℕ → ℕ) (has : HasRoutines r.image place) (
           flips = 1;
           flips_few = flips;
           system = heard_seen s.ran.ts ∙ ap heard s.ran.saw ∙ heard_far (3145728 + n) (Flipped ∷ Stored 24 4 ∷ []) (omega arith);
+          orderly = ap (λ z. is_closed (after Anything z)) s.ran.saw ∙ taken_closed n (omega arith);
           fixed = λ i from to. above i (omega arith) ∙ call.fixed i from to;
           words = words;
           data_same = λ i from to. above i (omega arith);
           output_is = quiet;
-          input_is = after ∙ sym (ap got e);
+          input_is = behind ∙ sym (ap got e);
           zero_reg = s.zero_reg;
           stack = s.stack;
         };

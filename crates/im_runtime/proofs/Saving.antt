@@ -16,13 +16,13 @@ use Rattle.im_ckpt.specs.Recovery.{return_line}
 use Rattle.im_ckpt.specs.Checkpoint.{entry_at, ladder_at, store_line, shift_line, flip_line}
 use Rattle.im_ckpt.proofs.Rungs.{Routine, entry_line, ladder_reg, ladder_line, entry_back, reg_named, ladder_store, store_back, shift_back, flip_back, return_back}
 use Rattle.im_ckpt.proofs.Phases.{slot_place, slot_small}
-use Rattle.im_reach.specs.Plain.{in_runtime, may_store}
+use Rattle.im_reach.specs.Plain.{in_runtime, may_store, IsDue}
 use Rattle.im_reach.specs.Touches.{Stored, Flipped}
+use Rattle.im_reach.specs.Seen.{seen}
 use Rattle.im_reach.specs.Reach.{plus}
 use Rattle.im_reach.specs.Shown.{shown}
 use Rattle.im_reach.specs.Instructions.{Holds, Fixed}
-use Rattle.im_reach.proofs.Reach.{plus_is, Quiet, shown_same}
-use Rattle.im_runtime.specs.Seen.{seen}
+use Rattle.im_reach.proofs.Reach.{plus_is, Quiet, shown_same, due_beside, no_back}
 use Rattle.im_runtime.proofs.Ran.{Ran, at, begins_same, no_step, follow, put_step, leap_step, load_step, store_step}
 
 -- memory is as it was, the register buffers and perhaps INDEX aside
@@ -157,7 +157,7 @@ climb image m x index (suc n) p routine e fixed base bytes =
     let address : sum_of (x 4) (slot r) ≡ a = ap (λ z. sum_of z (slot r)) base ∙ small_sum (idle index) (slot r) (slot_small index r named.1) in
     let side : Beside m k = beside_store m a (x r) above below bytes in
     let h : Holds image (ladder_at p) (store_line r) = ladder_holds image routine p (store_line r) (omega arith) (ladder_store p low) (store_back r named.1) in
-    let step : Ran 1 (seen (Stored a 4 ∷ [])) (at (ladder_at p) x) m (at (ladder_at p + 4) x) k = store_step image m (ladder_at p) x (store_line r) a 4 (x r) fixed h (ap (λ z. Stores z 4 (x r)) address) (slot_place index r named.1) (begins_same (shown m) (shown k) (kept_shown m k side.kept)) (buffer_store (ladder_at p) a 4 (in_ladder p (omega arith)) (omega arith)) in
+    let step : Ran 1 (seen (Stored a 4 ∷ [])) (at (ladder_at p) x) m (at (ladder_at p + 4) x) k = store_step image m (ladder_at p) x (store_line r) a 4 (x r) fixed h (ap (λ z. Stores z 4 (x r)) address) (slot_place index r named.1) (begins_same (shown m) (shown k) (kept_shown m k side.kept)) (buffer_store (ladder_at p) a 4 (in_ladder p (omega arith)) (omega arith)) (due_beside m k a 4 (omega arith) (inr (omega arith)) (inr (omega arith))) in
     let unseen : Ran 1 [] (at (ladder_at p) x) m (at (ladder_at p + 4) x) k = subst (λ us. Ran 1 us (at (ladder_at p) x) m (at (ladder_at p + 4) x) k) (buffer_unseen a above below) step in
     let place : ladder_at p + 4 ≡ ladder_at (suc p) = omega arith in
     let rest = climb image k x index n (suc p) routine (omega arith) (kept_fixed image m k side.kept fixed) base side.bytes in
@@ -227,10 +227,10 @@ enter image m x e routine low high fixed x0 small =
     let h4 = entry_holds image routine e 4 pc4 low high (omega arith) (omega arith) in
     let there : sum_of pc4 (748 - 24 * e) ≡ ladder_at (31 - e) = omega arith in
     let s0 : Ran 1 [] (at pc x) m (at (pc + 4) x1) m = load_step image m pc x (entry_line e 0) 0 4 fixed h0 (ap (λ z. Loads (sum_of z 0) 4 Zero) x0) refl refl in
-    let s1 : Ran 1 [] (at (pc + 4) x1) m (at (pc + 4 + 4) x2) m = put_step image m (pc + 4) x1 (entry_line e 1) (bit_xor i 1) fixed h1 refl in
-    let s2 : Ran 1 [] (at (pc + 4 + 4) x2) m (at (pc + 4 + 4 + 4) x3) m = put_step image m (pc + 4 + 4) x2 (entry_line e 2) (shift_left (bit_xor i 1) 7) fixed h2 refl in
-    let s3 : Ran 1 [] (at (pc + 4 + 4 + 4) x3) m (at pc4 x4) m = put_step image m (pc + 4 + 4 + 4) x3 (entry_line e 3) (staged i) fixed h3 refl in
-    let s4 : Ran 1 [] (at pc4 x4) m (at (ladder_at (31 - e)) (with_reg x4 0 (sum_of pc4 4))) m = leap_step image m pc4 x4 (entry_line e 4) (sum_of pc4 4) (ladder_at (31 - e)) fixed h4 (ap (λ z. Puts (sum_of pc4 4) z) there) in
+    let s1 : Ran 1 [] (at (pc + 4) x1) m (at (pc + 4 + 4) x2) m = put_step image m (pc + 4) x1 (entry_line e 1) (bit_xor i 1) fixed h1 refl refl in
+    let s2 : Ran 1 [] (at (pc + 4 + 4) x2) m (at (pc + 4 + 4 + 4) x3) m = put_step image m (pc + 4 + 4) x2 (entry_line e 2) (shift_left (bit_xor i 1) 7) fixed h2 refl refl in
+    let s3 : Ran 1 [] (at (pc + 4 + 4 + 4) x3) m (at pc4 x4) m = put_step image m (pc + 4 + 4 + 4) x3 (entry_line e 3) (staged i) fixed h3 refl refl in
+    let s4 : Ran 1 [] (at pc4 x4) m (at (ladder_at (31 - e)) (with_reg x4 0 (sum_of pc4 4))) m = leap_step image m pc4 x4 (entry_line e 4) (sum_of pc4 4) (ladder_at (31 - e)) fixed h4 (ap (λ z. Puts (sum_of pc4 4) z) there) (no_back pc4 (entry_line e 4) m (ladder_at (31 - e)) refl) in
     record {
       y = with_reg x4 0 (sum_of pc4 4);
       ran = follow s0 (follow s1 (follow s2 (follow s3 s4)));
@@ -248,6 +248,13 @@ halved index = by_bit (index == 0)
 bit_small : (b : Bool) → cond b 1 0 < 2
 bit_small true = omega arith
 bit_small false = omega arith
+
+other_index : (i : ℕ) → cond (i == 0) 1 0 ≢ i
+other_index i e = by (i == 0) refl e
+  where
+    by : (b : Bool) → (i == 0) ≡ b → cond b 1 0 ≡ i → ⊥
+    by true t e = let z : i ≡ 0 = grind (arith, nat_tests) in let q : 1 ≡ i = e in absurd (omega arith)
+    by false t e = let q : 0 ≡ i = e in let f : (0 == 0) ≡ false = subst (λ z. (z == 0) ≡ false) (sym q) t in absurd (let bad : true ≡ false = f in cc)
 
 even_jump : (x : ℕ) → x % 4 ≡ 0 → x ≤ 1048576 → sum_of x 0 - sum_of x 0 % 2 ≡ x
 even_jump x a b = omega arith
@@ -269,10 +276,16 @@ saving image m x e routine low high fixed x0 even small index bytes =
     let y0 : y1 0 ≡ 0 = other_reg y 4 v 0 (omega arith) ∙ s.regs 0 (omega arith) ∙ x0 in
     let y3 : y1 3 ≡ x 3 = other_reg y 4 v 3 (omega arith) ∙ s.regs 3 (omega arith) in
     let fixed_h : Fixed image h = kept_fixed image k h flip_kept fixed_k in
-    let shift : Ran 1 [] (at (ladder_at 30) y) k (at (ladder_at 31) y1) k = put_step image k (ladder_at 30) y shift_line v fixed_k (ladder_holds image routine 30 shift_line (omega arith) refl shift_back) refl in
-    let flip : Ran 1 (Flipped ∷ []) (at (ladder_at 31) y1) k (at (ladder_at 32) y1) h = store_step image k (ladder_at 31) y1 flip_line 0 4 v fixed_k (ladder_holds image routine 31 flip_line (omega arith) refl flip_back) (ap (λ z. Stores (sum_of z 0) 4 v) y0) refl (begins_same (shown k) (shown h) (kept_shown k h flip_kept)) refl in
+    let index_k : little k 0 4 ≡ i = little-alike k m 4 0 (λ j a b. c.beside.index j (omega arith)) in
+    let turns : IsDue k h 0 4 = record {
+      first = λ z. inl (omega arith);
+      second = λ z. inl (omega arith);
+      turns = λ z same. other_index i (sym v_is ∙ sym (little-same k 0 v (omega arith)) ∙ same ∙ index_k);
+    } in
+    let shift : Ran 1 [] (at (ladder_at 30) y) k (at (ladder_at 31) y1) k = put_step image k (ladder_at 30) y shift_line v fixed_k (ladder_holds image routine 30 shift_line (omega arith) refl shift_back) refl refl in
+    let flip : Ran 1 (Flipped ∷ []) (at (ladder_at 31) y1) k (at (ladder_at 32) y1) h = store_step image k (ladder_at 31) y1 flip_line 0 4 v fixed_k (ladder_holds image routine 31 flip_line (omega arith) refl flip_back) (ap (λ z. Stores (sum_of z 0) 4 v) y0) refl (begins_same (shown k) (shown h) (kept_shown k h flip_kept)) refl turns in
     let target : sum_of (y1 3) 0 - sum_of (y1 3) 0 % 2 ≡ x 3 = ap (λ z. sum_of z 0 - sum_of z 0 % 2) y3 ∙ even_jump (x 3) even small in
-    let back : Ran 1 [] (at (ladder_at 32) y1) h (at (x 3) (with_reg y1 0 (sum_of (ladder_at 32) 4))) h = leap_step image h (ladder_at 32) y1 return_line (sum_of (ladder_at 32) 4) (x 3) fixed_h (ladder_holds image routine 32 return_line (omega arith) refl return_back) (ap (λ z. Puts (sum_of (ladder_at 32) 4) z) target) in
+    let back : Ran 1 [] (at (ladder_at 32) y1) h (at (x 3) (with_reg y1 0 (sum_of (ladder_at 32) 4))) h = leap_step image h (ladder_at 32) y1 return_line (sum_of (ladder_at 32) 4) (x 3) fixed_h (ladder_holds image routine 32 return_line (omega arith) refl return_back) (ap (λ z. Puts (sum_of (ladder_at 32) 4) z) target) (λ out is. absurd (let bad : true ≡ false = out in cc)) in
     let count : plus 5 (plus (e - 1) 3) ≡ e + 7 = (let q = plus_is (e - 1) 3 in omega arith) in
     record {
       y = with_reg y1 0 (sum_of (ladder_at 32) 4);

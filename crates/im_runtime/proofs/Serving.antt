@@ -7,6 +7,8 @@ use Rattle.im_mem.specs.Memory.{Mem, little, written}
 use Rattle.im_image.specs.declared.form.Form.TheVariants.{TwoLengths}
 use Rattle.im_device.specs.Shows.{output_length}
 use Rattle.im_reach.specs.Touches.{Touch, Loaded, Stored, Flipped, is_system, heard}
+use Rattle.im_reach.specs.Seen.{seen}
+use Rattle.im_reach.specs.Orderly.{Anything, after, is_closed, IsOrderly}
 use Rattle.im_reach.specs.Shown.{shown, Begins}
 use Rattle.im_reach.specs.Reach.{plus}
 use Rattle.im_reach.specs.Instructions.{Fixed}
@@ -17,6 +19,7 @@ use Rattle.im_runtime.specs.Standing.{HasRoutines}
 use Rattle.im_runtime.specs.Seen.{is_tidy}
 use Rattle.im_runtime.specs.Laws.{PutsByte, PutcharLaw}
 use Rattle.im_runtime.proofs.Ran.{Ran, at, follow, heard_seen}
+use Rattle.im_runtime.proofs.Ordering.{counted_closed, appended_closed}
 use Rattle.im_runtime.proofs.Showing.{selected, other, length_by, length_shown}
 use Rattle.im_runtime.proofs.Putting.{PutLines, put_lines, turned, Counted, count, refuse, append, lengthen, turn}
 use Rattle.im_runtime.proofs.Chain.{Chain, kept_self, other_high, chain, chain_fixed, before_output, chain_length, chain_shown, chain_word, chain_told, left_alike}
@@ -50,6 +53,18 @@ heard_far a ts h =
 heard_appended : (b : Bool) (n : ℕ) → heard (counted_touches b ++ appended_touches b n) ≡ Flipped ∷ Flipped ∷ Flipped ∷ []
 heard_appended true n = heard_far (4194304 + n) (Flipped ∷ Stored 32 4 ∷ Flipped ∷ Stored 36 1 ∷ Flipped ∷ []) (omega arith)
 heard_appended false n = heard_far (4194304 + n) (Flipped ∷ Stored 12 4 ∷ Flipped ∷ Stored 36 1 ∷ Flipped ∷ []) (omega arith)
+
+counted_system : (ts : List Touch) (b : Bool) → seen ts ≡ counted_touches b → heard ts ≡ []
+counted_system ts b e = heard_seen ts ∙ ap heard e ∙ heard_counted b
+
+appended_system : (ts : List Touch) (b : Bool) (n : ℕ) → seen ts ≡ counted_touches b ++ appended_touches b n → heard ts ≡ Flipped ∷ Flipped ∷ Flipped ∷ []
+appended_system ts b n e = heard_seen ts ∙ ap heard e ∙ heard_appended b n
+
+counted_orderly : (ts : List Touch) (b : Bool) → seen ts ≡ counted_touches b → IsOrderly ts
+counted_orderly ts b e = ap (λ z. is_closed (after Anything z)) e ∙ counted_closed b
+
+appended_orderly : (ts : List Touch) (b : Bool) (n : ℕ) → seen ts ≡ counted_touches b ++ appended_touches b n → IsOrderly ts
+appended_orderly ts b n e = ap (λ z. is_closed (after Anything z)) e ∙ appended_closed b (4194304 + n) (omega arith)
 
 tidy_counted : (b : Bool) → is_tidy (counted_touches b) ≡ true
 tidy_counted true = refl
@@ -115,7 +130,7 @@ module _ (r : Runtime) (place : ℕ → ℕ) (has : HasRoutines r.image place) (
   full h =
       let c = call.words.capacity_is in
       let no : nat_lt (first.y 6) (little m 16 4) ≡ false = ap (λ z. nat_lt z (little m 16 4)) counted ∙ ap (nat_lt n) c ∙ h in
-      let s = refuse r.image place has p lines m first.y (x 1) call.fixed first.zero_reg first.link call.even call.low no in
+      let s = refuse r.image place has p lines m first.y (x 1) call.fixed first.zero_reg first.link call.even call.low (call.behind refl) no in
       let ran : Ran (plus first.n 4) (counted_touches b) (at p x) m (at (x 1) s.y) m = follow first.ran s.ran in
       let q = plus_is first.n 4 in
       let e = first.few in
@@ -131,7 +146,8 @@ module _ (r : Runtime) (place : ℕ → ℕ) (has : HasRoutines r.image place) (
           reach = ran.reach;
           flips = 0;
           flips_few = omega arith;
-          system = heard_seen ran.ts ∙ ap heard ran.saw ∙ heard_counted b;
+          system = counted_system ran.ts b ran.saw;
+          orderly = counted_orderly ran.ts b ran.saw;
           fixed = call.fixed;
           words = call.words;
           data_same = λ a from to. refl;
@@ -161,7 +177,7 @@ module _ (r : Runtime) (place : ℕ → ℕ) (has : HasRoutines r.image place) (
       let c2 : Chain m w3 n v b = chain m k1 k2 w3 n v b (omega arith) a.at_byte.kept l.at_length.kept (kept_self w3) in
       let more : Begins (shown k2) (shown w3) = (v % 256 ∷ [], chain_shown m w3 n v b c2 refl (omega arith) ∙ ap (λ z. z ++ v % 256 ∷ []) (sym (l.shows ∙ a.shows))) in
       let fixed2 : Fixed r.image k2 = chain_fixed r.image k1 k2 (other b) 4 (suc n) l.at_length.kept (inl (let o = other_high b in omega arith)) fixed1 in
-      let t = turn r.image place has p lines k2 l.at_length.y b (x 1) fixed2 l.same.zero_reg (l.same.link ∙ a.same.link ∙ first.link) call.even call.low (ap (λ z. z == 0) (l.same.selector ∙ a.same.selector ∙ first.selector)) more l.at_length.index l.at_length.bytes in
+      let t = turn r.image place has p lines k2 l.at_length.y b (x 1) fixed2 l.same.zero_reg (l.same.link ∙ a.same.link ∙ first.link) call.even call.low (call.behind refl) (ap (λ z. z == 0) (l.same.selector ∙ a.same.selector ∙ first.selector)) more l.at_length.index l.at_length.bytes in
       let k3 : Mem = t.at_selector.k in
       let c : Chain m k3 n v b = chain m k1 k2 k3 n v b (omega arith) a.at_byte.kept l.at_length.kept t.at_selector.kept in
       let ran : Ran (plus first.n (plus a.at_byte.count (plus l.at_length.count t.at_selector.count))) (counted_touches b ++ appended_touches b n) (at p x) m (at (x 1) t.at_selector.y) k3 = follow first.ran (follow a.at_byte.ran (follow l.at_length.ran t.at_selector.ran)) in
@@ -186,7 +202,8 @@ module _ (r : Runtime) (place : ℕ → ℕ) (has : HasRoutines r.image place) (
           reach = ran.reach;
           flips = 3;
           flips_few = flips;
-          system = heard_seen ran.ts ∙ ap heard ran.saw ∙ heard_appended b n;
+          system = appended_system ran.ts b n ran.saw;
+          orderly = appended_orderly ran.ts b n ran.saw;
           fixed = λ i from to. c.high i (omega arith) (before_output i n (omega arith)) ∙ call.fixed i from to;
           words = words_after r.limit r.capacity m k3 n v b call.words c less t.at_selector.bytes t.at_selector.index;
           data_same = λ i from to. c.high i (omega arith) (before_output i n (omega arith));

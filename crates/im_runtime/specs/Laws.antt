@@ -4,13 +4,14 @@ use Rattle.im_num.specs.Bytes.{bytes_of}
 use Rattle.im_mem.specs.Map.{status_at, reason_at}
 use Rattle.im_mem.specs.Memory.{Mem, written}
 use Rattle.im_reach.specs.Touches.{Stored}
+use Rattle.im_reach.specs.Seen.{seen}
 use Rattle.im_reach.specs.Shown.{shown, left}
 use Rattle.im_reach.specs.Reach.{Stopped}
 use Rattle.im_reach.specs.Instructions.{Fixed}
 use Rattle.im_reach.specs.Routines.{Runtime, Called, Done, PutsAt, GetsAt, SavesAt, put, put_answer, got, got_answer}
 use Rattle.im_rtlib.specs.Routines.{getchar_label, putchar_label, exit_label, stack_label}
 use Rattle.im_runtime.specs.Standing.{HasRoutines}
-use Rattle.im_runtime.specs.Seen.{seen, put_touches, get_touches, is_tidy}
+use Rattle.im_runtime.specs.Seen.{put_touches, get_touches, is_tidy}
 
 -- putchar at a place: at most 71 steps and 3 flips, and what it touches
 pub record PutsByte (r : Runtime) (pc : ℕ) (m : Mem) (x : ℕ → ℕ) : Type 0 where

@@ -1,19 +1,9 @@
--- What a routine touches, its checkpoints' own accesses left out: of those a flip of INDEX alone is seen.
-use Rattle.std.specs.Prelude.{ℕ, ◌+◌, Bool, true, false, cond, ◌||◌, ◌&&◌, ◌==◌, nat_lt, nat_le, List, [], ◌∷◌, ◌++◌, length}
-use Rattle.im_mem.specs.Map.{index_at, out_len0_at, out_len1_at, out_sel_at, out_cap_at, in_len_at, in_pos_at, input_start, output_start}
+-- What is seen of the routines' touches.
+use Rattle.std.specs.Prelude.{ℕ, ◌+◌, Bool, true, false, cond, ◌&&◌, ◌==◌, nat_lt, nat_le, List, [], ◌∷◌, ◌++◌, length}
+use Rattle.im_mem.specs.Map.{out_len0_at, out_len1_at, out_sel_at, out_cap_at, in_len_at, in_pos_at, input_start, output_start}
 use Rattle.im_mem.specs.Memory.{Mem, little}
-use Rattle.im_ckpt.specs.Buffers.{is_buffer}
 use Rattle.im_reach.specs.Touches.{Touch, Loaded, Stored, Flipped}
 use Rattle.im_reach.specs.Shown.{shown, left}
-
-abbrev pub is_checkpoints : ℕ → Bool
-is_checkpoints a = a == index_at || is_buffer a
-
-abbrev pub seen : List Touch → List Touch
-seen [] = []
-seen (Loaded a n ∷ ts) = cond (is_checkpoints a) (seen ts) (Loaded a n ∷ seen ts)
-seen (Stored a n ∷ ts) = cond (a == index_at) (Flipped ∷ seen ts) (cond (is_buffer a) (seen ts) (Stored a n ∷ seen ts))
-seen (Flipped ∷ ts) = Flipped ∷ seen ts
 
 -- the length that OUT_SEL selects, and the other
 abbrev pub selected_at : Mem → ℕ

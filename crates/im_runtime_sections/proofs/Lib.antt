@@ -1,4 +1,3 @@
 pub mod Joining
-pub mod Ordering
 pub mod Sections
 pub mod Tracing

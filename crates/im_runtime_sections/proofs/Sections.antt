@@ -16,8 +16,9 @@ use Rattle.im_ckpt.specs.Runs.{State, IsRun, effect_at, flip, memory, writes, re
 use Rattle.im_ckpt.specs.Buffers.{is_buffer}
 use Rattle.im_replay.proofs.Shows.{wrote_some}
 use Rattle.im_reach.specs.Touches.{Touch, Loaded, Stored, Flipped, touch_of}
-use Rattle.im_runtime.specs.Seen.{is_checkpoints, seen}
-use Rattle.im_runtime_sections.specs.Orderly.{Since, Anything, Nothing, StoresOnly, Selector, Refused, Place, Free, Low, Select, Wrong, may_load, is_free, is_low, place_of, loading, storing, after, since, IsOrderlyRun}
+use Rattle.im_reach.specs.Seen.{is_checkpoints, seen}
+use Rattle.im_reach.specs.Orderly.{Since, Anything, Nothing, StoresOnly, Selector, Refused, Place, Free, Low, Select, Wrong, may_load, is_free, is_low, place_of, loading, storing, after}
+use Rattle.im_runtime_sections.specs.Orderly.{since, IsOrderlyRun}
 use Rattle.im_runtime_sections.specs.Laws.{SectionsLaw}
 
 some_is : (z : Option ℕ) → is_some z ≡ true → (v : ℕ) × (z ≡ Some v)
@@ -64,7 +65,7 @@ record Wrote (e : Effect) (a : ℕ) : Type 0 where
   low : b ≤ a
   high : a < b + n
 
-place_sizes : (a n : ℕ) → is_place a n ≡ true → (n ≡ 1) ⊎ (((n ≡ 2) × (a % 2 ≡ 0)) ⊎ ((n ≡ 4) × (a % 4 ≡ 0)))
+pub place_sizes : (a n : ℕ) → is_place a n ≡ true → (n ≡ 1) ⊎ (((n ≡ 2) × (a % 2 ≡ 0)) ⊎ ((n ≡ 4) × (a % 4 ≡ 0)))
 place_sizes a n h = grind (arith, nat_tests)
 
 buffer_is : (a : ℕ) → is_buffer a ≡ true → (128 ≤ a) × (a < 384)

@@ -1,13 +1,8 @@
-ghost use Rattle.im_runtime_sections.specs.Laws.{JoinsLaw, RoutinesLaw, SectionsLaw, TouchedLaw};
+ghost use Rattle.im_runtime_sections.specs.Laws.{JoinsLaw, SectionsLaw, TouchedLaw};
 
 /// Touches in order, and then more of them, are in order.
 pub fn joins_law()
     ensures { JoinsLaw }
-{}
-
-/// Those of `putchar` and `getchar` are.
-pub fn routines_law()
-    ensures { RoutinesLaw }
 {}
 
 /// In a run whose touches are in order, a section that stores the selector of the output's length

@@ -3,4 +3,4 @@
 
 mod laws;
 
-pub use laws::{joins_law, routines_law, sections_law, touched_law};
+pub use laws::{joins_law, sections_law, touched_law};

@@ -14,11 +14,12 @@ use Rattle.im_rv.specs.Steps.{Cpu, sum_of, with_reg, extended}
 use Rattle.im_rv.proofs.Straight.{same_reg, other_reg}
 use Rattle.im_reach.specs.Touches.{Loaded, Stored, heard}
 use Rattle.im_reach.specs.Shown.{shown, left}
-use Rattle.im_reach.specs.Plain.{in_runtime}
+use Rattle.im_reach.specs.Plain.{in_runtime, IsBehindCall}
 use Rattle.im_reach.specs.Reach.{plus, Reach}
 use Rattle.im_reach.specs.Instructions.{Holds, Fixed, with_immediate, storing, jumping}
 use Rattle.im_reach.specs.Routines.{Words}
-use Rattle.im_reach.proofs.Reach.{plus_is, join, puts, leaps, loads, stores, then_stops, data_load, data_store, output_told, output_written, left_written}
+use Rattle.im_reach.proofs.Reach.{plus_is, join, no_back, behind_kept, puts, leaps, loads, stores, then_stops, data_load, data_store, output_told, output_written, left_written}
+use Rattle.im_reach.proofs.Orderly.{joined, load_orderly, store_orderly}
 use Rattle.im_operators.specs.Tables.{extension_of, cell_word}
 use Rattle.im_operators.proofs.Words.{word_small, word_of, word_wrap32}
 use Rattle.im_store.specs.Checks.{Fine}
@@ -56,6 +57,7 @@ first_after p u g words c d m (Goes s events) reach a = record {
   k = a.k;
   ts = a.ts;
   touches = a.touches;
+  orderly = a.orderly;
   reach = join 1 a.n [] a.ts c d a.d m m a.k reach a.reach;
   rel = a.rel;
 }
@@ -65,6 +67,7 @@ first_after p u g words c d m (Stops (End reason status output shows) events) re
   few = (let z = a.few in omega arith);
   ts = a.ts;
   touches = a.touches;
+  orderly = a.orderly;
   k = a.k;
   stopped = then_stops 1 a.n [] a.ts c d m m a.k reach a.stopped;
   reason_is = a.reason_is;
@@ -190,8 +193,9 @@ exhausted p u g l s m x frames fixed words seen x0 live mapped memory =
       few = omega arith;
       ts = Stored 8 4 ∷ [];
       touches = Nothing;
+      orderly = refl;
       k = k;
-      stopped = then_stops 1 2 [] (Stored 8 4 ∷ []) _ _ m m k (puts p.image m p.full x (with_immediate Addi 5 0 1) a fixed l.at.one refl)
+      stopped = then_stops 1 2 [] (Stored 8 4 ∷ []) _ _ m m k (puts p.image m p.full x (with_immediate Addi 5 0 1) a fixed l.at.one refl refl)
           (ends p.image m (p.full + 4) y 5 8 fixed (other_reg x 5 a 0 (omega arith) ∙ x0) (omega arith) (omega arith) refl l.at.cause l.at.stops);
       reason_is = told m 8 (y 5) (omega arith) ∙ e;
       status_is = little-other m 8 4 (y 5) 4 4 (inl (omega arith)) ∙ words.status_is ∙ sym (word_of 0 (omega arith));
@@ -243,6 +247,7 @@ enter_full p u g l s m pc mid next x depth size frames fixed words seen live map
       few = (let a = w.few in let b = q.few in let d = e.few in omega arith);
       ts = Loaded 28 4 ∷ e.ts;
       touches = Testing [] (heard e.ts) e.touches;
+      orderly = joined (Loaded 28 4 ∷ []) e.ts refl e.orderly;
       k = e.k;
       stopped = then_stops w.n (plus q.n e.n) (Loaded 28 4 ∷ []) e.ts _ _ m m e.k w.reach (then_stops q.n e.n [] e.ts _ _ m m e.k q.reach e.stopped);
       reason_is = e.reason_is;
@@ -286,7 +291,7 @@ enter_begun p u g l s i depth fuel ra first count registers ws m x f block pro a
     let o : Object = object_of active Link in
     let ea : address p o ≡ sp = link_place p (record { activation = a; depth = depth + size }) l.at.first (omega arith) in
     let even : (depth + size) % 4 ≡ 0 = (let q = outer.even in let h = at.even in omega arith) in
-    let take_ = puts p.image m pro.b w.z (with_immediate Addi 2 6 0) v2 fixed pro.taken refl in
+    let take_ = puts p.image m pro.b w.z (with_immediate Addi 2 6 0) v2 fixed pro.taken refl refl in
     let save = stores p.image m (pro.b + 4) z2 (storing Sw 2 1 0) sp 4 ra fixed pro.saved (ap (λ b. Stores b 4 (z2 1)) e0 ∙ ap (λ b. Stores sp 4 b) e1) (frame_place (depth + size) even) (output_written m sp 4 ra (omega arith) (omega arith)) (data_store (in_runtime (pro.b + 4)) sp 4 (omega arith)) in
     let save' : Reach 1 (Stored (address p o) 4 ∷ []) (record { pc = pro.b + 4; x = z2 }) m (record { pc = pro.b + 4 + 4; x = z2 }) k = subst (λ q. Reach 1 (Stored q 4 ∷ []) (record { pc = pro.b + 4; x = z2 }) m (record { pc = pro.b + 4 + 4; x = z2 }) k) (sym ea) save in
     record {
@@ -297,6 +302,7 @@ enter_begun p u g l s i depth fuel ra first count registers ws m x f block pro a
       k = k;
       ts = Loaded 28 4 ∷ Stored (address p o) 4 ∷ [];
       touches = subst (λ z. Touches p (Tests ∷ Saves active ∷ []) z) (sym (heard_store (address p o) 4 (omega arith) (omega arith))) (Testing (Saves active ∷ []) _ (Saving active [] [] Nothing));
+      orderly = joined (Loaded 28 4 ∷ []) (Stored (address p o) 4 ∷ []) refl (store_orderly (address p o) 4 (omega arith) (omega arith));
       reach =
           join w.n 4 (Loaded 28 4 ∷ []) (Stored (address p o) 4 ∷ []) _ _ _ m m k w.reach
           (join 1 3 [] (Stored (address p o) 4 ∷ []) _ _ _ m m k check
@@ -355,7 +361,7 @@ call_after p u g l s c m r i count imm rest lands h code =
     let pc_even : c.pc % 4 ≡ 0 = word_even c.pc h.here in
     takes_after p u g 10 c m s.fuel s.output _ r.output (λ less.
     first_after p u g 9 c (record { pc = p.entry i; x = x }) m _
-    (leaps p.image m c.pc c.x (jumping 1 imm) (sum_of c.pc 4) (p.entry i) r.fixed h (ap (Puts (sum_of c.pc 4)) lands))
+    (leaps p.image m c.pc c.x (jumping 1 imm) (sum_of c.pc 4) (p.entry i) r.fixed h (ap (Puts (sum_of c.pc 4)) lands) (no_back c.pc (jumping 1 imm) m (p.entry i) refl))
     (enter_after p u g l s i less (c.pc + 4) 10 count s.frame.registers (waiting u g s.frame 10 rest ∷ s.callers) m x (inl refl) r.fixed r.words r.output r.input
     (set_scratch p s.frame.registers (pointer_at s.frame.active.depth) c.x 1 (sum_of c.pc 4) (omega arith) (omega arith) (omega arith) r.regs)
     (same_reg c.x 1 (sum_of c.pc 4) (omega arith) ∙ (let q = pc_low in omega arith))
@@ -368,7 +374,7 @@ call_after p u g l s c m r i count imm rest lands h code =
       top = r.ordered.0;
       even = r.ordered.1;
       small = omega arith;
-      waits = (refl, (r.f, record { is = r.is; lost = lost_by p u g l s.frame.function r.f s.frame.registers r.is; to = refl; code = code; even = (omega arith); low = pc_low }, r.chain));
+      waits = (refl, (r.f, record { is = r.is; lost = lost_by p u g l s.frame.function r.f s.frame.registers r.is; to = refl; code = code; even = (omega arith); low = pc_low; behind = record { at = c.pc; behind = refl; imm = imm; call = h } }, r.chain));
       live = r.statics;
       slots = r.slots;
     })))
@@ -390,8 +396,8 @@ word_place sp a b = let f : sp + 4 ≤ 5242880 = omega arith in grind (arith, na
 none_set : (x : ℕ → ℕ) (w i : ℕ) → with_reg x 0 w i ≡ x i
 none_set x w i = grind (arith, nat_tests)
 
-returns : (p : Linking) (m : Mem) (pc : ℕ) (x : ℕ → ℕ) (o : Object) (sp size : ℕ) → address p o ≡ sp → Fixed p.image m → x 0 ≡ 0 → x 2 ≡ sp → sp % 4 ≡ 0 → sp + size ≤ 3145728 → 384 ≤ sp → little m sp 4 % 4 ≡ 0 → little m sp 4 ≤ 1048576 → Leaves p pc size → Returned p m pc x o sp size
-returns p m pc x o sp size at fixed x0 x2 even top low ra_even ra_low l =
+returns : (p : Linking) (m : Mem) (pc : ℕ) (x : ℕ → ℕ) (o : Object) (sp size : ℕ) → address p o ≡ sp → Fixed p.image m → x 0 ≡ 0 → x 2 ≡ sp → sp % 4 ≡ 0 → sp + size ≤ 3145728 → 384 ≤ sp → little m sp 4 % 4 ≡ 0 → little m sp 4 ≤ 1048576 → IsBehindCall p.image (little m sp 4) → Leaves p pc size → Returned p m pc x o sp size
+returns p m pc x o sp size at fixed x0 x2 even top low ra_even ra_low behind l =
     let ra : ℕ = little m sp 4 in
     let x1 : ℕ → ℕ = with_reg x 1 ra in
     let e : sum_of (x 2) 0 ≡ sp = omega arith in
@@ -400,7 +406,7 @@ returns p m pc x o sp size at fixed x0 x2 even top low ra_even ra_low l =
     let up : Added m (pc + 4) x1 2 size l.next = adds p m (pc + 4) x1 2 size l.next (omega arith) (omega arith) (other_reg x 1 ra 0 (omega arith) ∙ x0) fixed l.raised in
     let z1 : up.y 1 ≡ ra = up.kept 1 (omega arith) (omega arith) ∙ same_reg x 1 ra (omega arith) in
     let target : sum_of (up.y 1) 0 - sum_of (up.y 1) 0 % 2 ≡ ra = back_at ra (up.y 1) z1 ra_even ra_low in
-    let go = leaps p.image m l.next up.y (with_immediate Jalr 0 1 0) (sum_of l.next 4) ra fixed l.returns (ap (Puts (sum_of l.next 4)) target) in
+    let go = leaps p.image m l.next up.y (with_immediate Jalr 0 1 0) (sum_of l.next 4) ra fixed l.returns (ap (Puts (sum_of l.next 4)) target) (λ out is. behind_kept p.image m ra fixed behind) in
     record {
       n = suc (plus up.n 1);
       some = omega arith;
@@ -449,7 +455,7 @@ back_after p u g l s c m r [] v result leaves mapped ordered linked chain =
     let stack = l.at.stack in
     let at : address p o ≡ pointer_at depth = link_place p (mark s.frame) l.at.first linked.0 in
     let four = (l.at.functions s.frame.function r.f r.is).layout.inside Link link_shape refl in
-    let b : Returned p m c.pc c.x o (pointer_at depth) size = returns p m c.pc c.x o (pointer_at depth) size at r.fixed r.regs.zero_reg r.regs.stack (let q = ordered.1 in let k = ordered.0 in omega arith) (let q = chain.1 in let k = ordered.0 in omega arith) (let k = ordered.0 in omega arith) (chain_even p.begin (little m (pointer_at depth) 4) chain.0 (word_even (p.begin + 4) t.here)) (let q = chain.0 in let k = t.low in omega arith) leaves in
+    let b : Returned p m c.pc c.x o (pointer_at depth) size = returns p m c.pc c.x o (pointer_at depth) size at r.fixed r.regs.zero_reg r.regs.stack (let q = ordered.1 in let k = ordered.0 in omega arith) (let q = chain.1 in let k = ordered.0 in omega arith) (let k = ordered.0 in omega arith) (chain_even p.begin (little m (pointer_at depth) 4) chain.0 (word_even (p.begin + 4) t.here)) (let q = chain.0 in let k = t.low in omega arith) (subst (λ z. IsBehindCall p.image z) (sym chain.0) (record { at = p.begin; behind = refl; imm = l.at.call; call = l.at.begins })) leaves in
     checked_after p u g 7 c m _ _ (λ z f.
     let k : Mem = written m 4 (bytes_of 4 (b.y 10)) in
     let mean : c.x 10 ≡ word z = number_word p v (c.x 10) z f result in
@@ -462,6 +468,7 @@ back_after p u g l s c m r [] v result leaves mapped ordered linked chain =
       few = (let q = plus_is b.n 2 in let h = b.few in omega arith);
       ts = Loaded (address p o) 4 ∷ Stored 4 4 ∷ [];
       touches = subst (λ q. Touches p (Restores s.frame.active ∷ []) q) (sym (heard_load (address p o) 4 (let y = ordered.0 in omega arith) (let y = chain.1 in let w = l.at.first in let k = ordered.0 in omega arith))) (Restoring s.frame.active [] [] Nothing);
+      orderly = joined (Loaded (address p o) 4 ∷ []) (Stored 4 4 ∷ []) (load_orderly (address p o) 4 (let y = ordered.0 in omega arith) (let y = chain.1 in let w = l.at.first in let k = ordered.0 in omega arith)) refl;
       k = k;
       stopped = then_stops b.n 2 (Loaded (address p o) 4 ∷ []) (Stored 4 4 ∷ []) _ _ m m k reach (ends p.image m (p.begin + 4) b.y 10 4 r.fixed b.y0 (omega arith) (omega arith) refl l.at.told l.at.ends);
       reason_is = little-other m 4 4 (b.y 10) 8 4 (inr (omega arith)) ∙ r.words.reason_is;
@@ -483,7 +490,7 @@ back_after p u g l s c m r (w ∷ ws) v result leaves mapped ordered linked chai
     let bk : Back p u g (little m (pointer_at depth) 4) w h = chain.1.1 in
     let up : depth ≡ w.active.depth + size = chain.0 in
     let deep = ordered.0 in
-    let b : Returned p m c.pc c.x o (pointer_at depth) size = returns p m c.pc c.x o (pointer_at depth) size at r.fixed r.regs.zero_reg r.regs.stack (let q = ordered.1 in omega arith) (omega arith) (omega arith) bk.even bk.low leaves in
+    let b : Returned p m c.pc c.x o (pointer_at depth) size = returns p m c.pc c.x o (pointer_at depth) size at r.fixed r.regs.zero_reg r.regs.stack (let q = ordered.1 in omega arith) (omega arith) (omega arith) bk.even bk.low bk.behind leaves in
     record {
       n = b.n;
       some = b.some;
@@ -492,6 +499,7 @@ back_after p u g l s c m r (w ∷ ws) v result leaves mapped ordered linked chai
       k = m;
       ts = Loaded (address p o) 4 ∷ [];
       touches = subst (λ q. Touches p (Restores s.frame.active ∷ []) q) (sym (heard_load (address p o) 4 (omega arith) (let w = l.at.first in omega arith))) (Restoring s.frame.active [] [] Nothing);
+      orderly = load_orderly (address p o) 4 (omega arith) (let w = l.at.first in omega arith);
       reach = b.reach;
       rel = record {
         fixed = r.fixed;

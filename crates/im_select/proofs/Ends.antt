@@ -14,7 +14,7 @@ use Rattle.im_reach.specs.Touches.{Stored}
 use Rattle.im_reach.specs.Plain.{in_runtime}
 use Rattle.im_reach.specs.Reach.{Reach, Stopped}
 use Rattle.im_reach.specs.Instructions.{Holds, Fixed, with_immediate, on_registers, storing, upper, jumping, branching}
-use Rattle.im_reach.proofs.Reach.{plus_is, join, next_pc, puts, leaps, passes, stores, halts, then_stops, output_told, low_store}
+use Rattle.im_reach.proofs.Reach.{plus_is, join, next_pc, no_back, puts, leaps, passes, stores, halts, then_stops, output_told, low_store}
 use Rattle.im_reach.specs.Reach.{plus}
 use Rattle.im_select.specs.Linking.{Linking}
 use Rattle.im_select.specs.Selected.{Constant, Small, Large, Adds, Short, Long, Jumps, Checked, Direct, Around, Tested, Reached, Hopped}
@@ -54,7 +54,7 @@ constant p m pc x rd k next pos x0 fixed (Small n small h) =
       some = omega arith;
       few = omega arith;
       y = with_reg x rd v;
-      reach = puts p.image m pc x (with_immediate Addi rd 0 n) v fixed h refl;
+      reach = puts p.image m pc x (with_immediate Addi rd 0 n) v fixed h refl refl;
       set = same_reg x rd v pos ∙ e;
       kept = λ i a. other_reg x rd v i a;
     }
@@ -68,7 +68,7 @@ constant p m pc x rd k next pos x0 fixed (Large n hi lo split h l) =
       some = omega arith;
       few = omega arith;
       y = with_reg x1 rd b;
-      reach = join 1 1 [] [] _ _ _ m m m (puts p.image m pc x (upper rd hi) a fixed h refl) (puts p.image m (pc + 4) x1 (with_immediate Addi rd rd lo) b fixed l refl);
+      reach = join 1 1 [] [] _ _ _ m m m (puts p.image m pc x (upper rd hi) a fixed h refl refl) (puts p.image m (pc + 4) x1 (with_immediate Addi rd rd lo) b fixed l refl refl);
       set = same_reg x1 rd b pos ∙ e;
       kept = λ i n5. other_reg x1 rd b i n5 ∙ other_reg x rd a i n5;
     }
@@ -91,7 +91,7 @@ adds p m pc x rd by next pos no5 x0 fixed (Short h) =
       some = omega arith;
       few = omega arith;
       y = with_reg x rd v;
-      reach = puts p.image m pc x (with_immediate Addi rd 2 by) v fixed h refl;
+      reach = puts p.image m pc x (with_immediate Addi rd 2 by) v fixed h refl refl;
       set = same_reg x rd v pos;
       kept = λ i a b. other_reg x rd v i a;
     }
@@ -103,7 +103,7 @@ adds p m pc x rd by next pos no5 x0 fixed (Long mid h l) =
       some = (let q = plus_is k.count 1 in omega arith);
       few = (let q = plus_is k.count 1 in let z = k.few in omega arith);
       y = with_reg k.y rd v;
-      reach = join k.count 1 [] [] _ _ _ m m m k.reach (puts p.image m mid k.y (on_registers Add rd 2 5) v fixed l refl);
+      reach = join k.count 1 [] [] _ _ _ m m m k.reach (puts p.image m mid k.y (on_registers Add rd 2 5) v fixed l refl refl);
       set = same_reg k.y rd v pos ∙ ap (λ z. sum_of z (k.y 5)) (k.kept 2 (omega arith)) ∙ ap (λ z. sum_of (x 2) z) k.set;
       kept = λ i n5 m5. other_reg k.y rd v i n5 ∙ k.kept i m5;
     }
@@ -128,7 +128,7 @@ none_set x w i = grind (arith, nat_tests)
 pub jumps : (p : Linking) (m : Mem) (pc : ℕ) (x : ℕ → ℕ) (target : ℕ) → Fixed p.image m → Jumps p pc target → Jumped m pc x target
 jumps p m pc x target fixed j = record {
   y = with_reg x 0 (sum_of pc 4);
-  reach = leaps p.image m pc x (jumping 0 j.imm) (sum_of pc 4) target fixed j.jumps (ap (Puts (sum_of pc 4)) j.lands);
+  reach = leaps p.image m pc x (jumping 0 j.imm) (sum_of pc 4) target fixed j.jumps (ap (Puts (sum_of pc 4)) j.lands) (no_back pc (jumping 0 j.imm) m target refl);
   kept = none_set x (sum_of pc 4);
 }
 

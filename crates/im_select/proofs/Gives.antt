@@ -1,5 +1,5 @@
 -- Lines that put a value into a register, and lines that read and write memory.
-use Rattle.std.proofs.Common.{◌≡◌, ◌≢◌, ℕ, ◌+◌, ◌<◌, ◌≤◌, inl, inr, List, [], ◌∷◌, sym, ap, ◌∙◌, subst, refl, arith}
+use Rattle.std.proofs.Common.{◌≡◌, ◌≢◌, ℕ, ◌+◌, ◌<◌, ◌≤◌, inl, inr, false, List, [], ◌∷◌, sym, ap, ◌∙◌, subst, refl, arith}
 use Rattle.im_num.specs.declared.kind.Kind.{Kind}
 use Rattle.im_num.specs.declared.kind.Kind.TheVariants.{I8, U8, I16, U16, I32, U32, Ptr}
 use Rattle.im_num.specs.Kinds.{kind_size}
@@ -10,10 +10,11 @@ use Rattle.im_rv.specs.Steps.{Cpu, sum_of, with_reg, row}
 use Rattle.im_rv.proofs.Straight.{same_reg, other_reg}
 use Rattle.im_rv.specs.Decode.{Line as Instruction}
 use Rattle.im_reach.specs.Touches.{Loaded, Stored}
-use Rattle.im_reach.specs.Plain.{in_runtime}
+use Rattle.im_reach.specs.Plain.{in_runtime, returns_by}
 use Rattle.im_reach.specs.Reach.{plus, Reach}
 use Rattle.im_reach.specs.Instructions.{Holds, Fixed, with_immediate, storing}
 use Rattle.im_reach.proofs.Reach.{plus_is, join, puts, loads, stores, data_load, data_store, output_written, left_written}
+use Rattle.im_reach.proofs.Orderly.{load_orderly, store_orderly}
 use Rattle.im_operators.specs.Tables.{load_op, store_op, extension_of, cell_word}
 use Rattle.im_store.specs.Checks.{Checked, Fine}
 use Rattle.im_store.specs.Objects.{Link, Object, Value, Pointer, Store}
@@ -52,25 +53,25 @@ regs_to p registers sp x y to v six m kept mean = record {
 }
 
 -- one instruction
-pub gave_one : (image m : Mem) (pc : ℕ) (x : ℕ → ℕ) (l : Instruction) (v : ℕ) → 0 < l.rd → Fixed image m → Holds image pc l → row l.op pc (x l.rs1) (x l.rs2) l.imm ≡ Puts v (sum_of pc 4) → Gave m pc x l.rd v (pc + 4) 1
-gave_one image m pc x l v some fixed h e = record {
+pub gave_one : (image m : Mem) (pc : ℕ) (x : ℕ → ℕ) (l : Instruction) (v : ℕ) → 0 < l.rd → Fixed image m → Holds image pc l → row l.op pc (x l.rs1) (x l.rs2) l.imm ≡ Puts v (sum_of pc 4) → returns_by l.op ≡ false → Gave m pc x l.rd v (pc + 4) 1
+gave_one image m pc x l v some fixed h e on = record {
   n = 1;
   some = omega arith;
   few = omega arith;
   y = with_reg x l.rd v;
-  reach = puts image m pc x l v fixed h e;
+  reach = puts image m pc x l v fixed h e on;
   set = same_reg x l.rd v some;
   kept = λ i ne a b. other_reg x l.rd v i ne;
 }
 
 -- steps that leave the other registers, and one more instruction
-pub gave_more : (image m : Mem) (pc mid : ℕ) (x y : ℕ → ℕ) (n words : ℕ) (l : Instruction) (v : ℕ) → n ≤ words → 0 < l.rd → Fixed image m → Reach n [] (record { pc = pc; x = x }) m (record { pc = mid; x = y }) m → ((i : ℕ) → i ≢ l.rd → i ≢ 5 → i ≢ 6 → y i ≡ x i) → Holds image mid l → row l.op mid (y l.rs1) (y l.rs2) l.imm ≡ Puts v (sum_of mid 4) → Gave m pc x l.rd v (mid + 4) (words + 1)
-gave_more image m pc mid x y n words l v few some fixed reach kept h e = record {
+pub gave_more : (image m : Mem) (pc mid : ℕ) (x y : ℕ → ℕ) (n words : ℕ) (l : Instruction) (v : ℕ) → n ≤ words → 0 < l.rd → Fixed image m → Reach n [] (record { pc = pc; x = x }) m (record { pc = mid; x = y }) m → ((i : ℕ) → i ≢ l.rd → i ≢ 5 → i ≢ 6 → y i ≡ x i) → Holds image mid l → row l.op mid (y l.rs1) (y l.rs2) l.imm ≡ Puts v (sum_of mid 4) → returns_by l.op ≡ false → Gave m pc x l.rd v (mid + 4) (words + 1)
+gave_more image m pc mid x y n words l v few some fixed reach kept h e on = record {
   n = plus n 1;
   some = (let q = plus_is n 1 in omega arith);
   few = (let q = plus_is n 1 in omega arith);
   y = with_reg y l.rd v;
-  reach = join n 1 [] [] _ _ _ m m m reach (puts image m mid y l v fixed h e);
+  reach = join n 1 [] [] _ _ _ m m m reach (puts image m mid y l v fixed h e on);
   set = same_reg y l.rd v some;
   kept = λ i ne a b. other_reg y l.rd v i ne ∙ kept i ne a b;
 }
@@ -86,6 +87,7 @@ computes_after p u g s c m r words to w next o rest six q code mean =
       k = m;
       ts = [];
       touches = Nothing;
+      orderly = refl;
       reach = q.reach;
       rel = moved_rel p u g s c m r next q.y (record s.frame.spot { rest = rest }) (with_register s.frame.registers to v) s.fuel code
           (regs_to p s.frame.registers (pointer_at s.frame.active.depth) c.x q.y to v six r.regs q.kept (means_at p v v w (q.y to) refl q.set (mean v e)));
@@ -139,6 +141,7 @@ reads_after p u g s c m r to w base imm next k site o rest six size b h code fin
       k = m;
       ts = Loaded (address p ob + i) (kind_size k) ∷ [];
       touches = subst (λ z. Touches p (Reads site s.frame.active ob i ∷ []) z) (sym (heard_load (address p ob + i) (kind_size k) rm.low (let z = rm.high in omega arith))) t;
+      orderly = load_orderly (address p ob + i) (kind_size k) rm.low (let z = rm.high in omega arith);
       reach = join b.n 1 [] (Loaded (address p ob + i) (kind_size k) ∷ []) _ _ _ m m m b.reach step;
       rel = moved_rel p u g s c m r (next + 4) (with_reg b.y to word) (record s.frame.spot { rest = rest }) (with_register s.frame.registers to f.value) s.fuel code
           (set_home p s.frame.registers (pointer_at s.frame.active.depth) b.y to f.value word six b.regs (means_at p (s.store.values ob i) f.value word word (sym q.read.is) refl (r.memory ob i k cell)));
@@ -175,6 +178,7 @@ writes_after p u g at0 s c m r from w base imm next k site o rest no5 size b h c
       k = k';
       ts = Stored (address p ob + i) (kind_size k) ∷ [];
       touches = subst (λ z. Touches p (Writes site s.frame.active ob i ∷ []) z) (sym (heard_store (address p ob + i) (kind_size k) rm.low (let z = rm.high in omega arith))) t;
+      orderly = store_orderly (address p ob + i) (kind_size k) rm.low top;
       reach = join b.n 1 [] (Stored (address p ob + i) (kind_size k) ∷ []) _ _ _ m m k' b.reach step;
       rel = record {
         fixed = write_fixed p.image m (address p ob + i) (kind_size k) (b.y from) rm.low r.fixed;

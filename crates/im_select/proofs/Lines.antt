@@ -4,26 +4,30 @@ use Rattle.std.specs.Prelude.{neg_ℤ, ◌-ℤ◌, nat_lt, nat_abs, not, slice_g
 use Rattle.std.proofs.lemmas.List.{append-nil}
 use Rattle.std.proofs.lemmas.Int.{ints}
 use Rattle.im_num.specs.declared.kind.Kind.{Kind}
-use Rattle.im_num.specs.declared.kind.Kind.TheVariants.{U8, U32, Ptr}
+use Rattle.im_num.specs.declared.kind.Kind.TheVariants.{I8, U8, I16, U16, I32, U32, Ptr}
 use Rattle.im_num.specs.Kinds.{wrap, word}
 use Rattle.im_num.specs.declared.values.Cause.{Cause}
 use Rattle.im_num.proofs.Wrapping.{wrap-of_kind}
 use Rattle.im_mem.specs.Memory.{Mem, is_place, bytes_from}
-use Rattle.im_rv.specs.declared.instr.Op.TheVariants.{Addi, Sltiu, Xori, Sub}
+use Rattle.im_rv.specs.declared.instr.Op.{Op}
+use Rattle.im_rv.specs.declared.instr.Op.TheVariants.{Addi, Sltiu, Xori, Srl, Sra, Sub, Div, Divu, Rem, Remu}
 use Rattle.im_rv.specs.declared.effect.Effect.TheVariants.{Puts}
 use Rattle.im_rv.specs.Steps.{Cpu, sum_of, difference_of, as_number as number_as, with_reg, quotient}
 use Rattle.im_rv.proofs.Straight.{same_reg, other_reg}
 use Rattle.im_reach.specs.Touches.{Flipped, Touch, heard}
 use Rattle.im_reach.specs.Shown.{shown, left}
+use Rattle.im_reach.specs.Plain.{returns_by}
 use Rattle.im_reach.specs.Reach.{plus}
 use Rattle.im_reach.specs.Instructions.{Holds, with_immediate, on_registers, jumping}
 use Rattle.im_reach.specs.Routines.{Done, Called, put, put_answer, got, got_answer}
-use Rattle.im_reach.proofs.Reach.{join, next_pc, leaps}
-use Rattle.im_operators.specs.Tables.{IsPromoted, operation}
+use Rattle.im_reach.proofs.Reach.{join, next_pc, no_back, leaps}
+use Rattle.im_operators.specs.Tables.{IsPromoted, by_sign, operation}
 use Rattle.im_operators.proofs.Words.{word_small, word_of, word_only, loaded_wrap}
 use Rattle.im_operators.proofs.Arithmetic.{negated_word}
 use Rattle.im_operators.proofs.Division.{complemented_word}
 use Rattle.im_operators.proofs.Comparisons.{word_less, outcome, compares_word}
+use Rattle.im_store.specs.declared.operators.BinaryOp.{BinaryOp}
+use Rattle.im_store.specs.declared.operators.BinaryOp.TheVariants.{Add, Subtract, Multiply, Divide, Remainder, BitAnd, BitOr, BitXor, ShiftLeft, ShiftRight}
 use Rattle.im_store.specs.declared.operators.UnaryOp.TheVariants.{Negate, Complement}
 use Rattle.im_store.specs.declared.operators.Comparison.{Comparison}
 use Rattle.im_store.specs.Checks.{Checked, Fine, then_}
@@ -53,8 +57,8 @@ use Rattle.im_select.proofs.Computing.{gave_weak, gave_constant, gave_compared, 
 use Rattle.im_select.proofs.Gives.{gave_one, gave_more, computes_after, reads_after, writes_after}
 
 pub after_more : (p : Linking) (u : Code) (g : Setting) (words more : ℕ) (c : Cpu) (m : Mem) (next : Next) → words ≤ more → After p u g words c m next → After p u g more c m next
-after_more p u g words more c m (Goes s events) le a = record { n = a.n; some = a.some; few = (let z = a.few in omega arith); d = a.d; k = a.k; ts = a.ts; touches = a.touches; reach = a.reach; rel = a.rel }
-after_more p u g words more c m (Stops (End reason status output shows) events) le a = record { n = a.n; some = a.some; few = (let z = a.few in omega arith); ts = a.ts; touches = a.touches; k = a.k; stopped = a.stopped; reason_is = a.reason_is; status_is = a.status_is; output_is = a.output_is; statics = a.statics }
+after_more p u g words more c m (Goes s events) le a = record { n = a.n; some = a.some; few = (let z = a.few in omega arith); d = a.d; k = a.k; ts = a.ts; touches = a.touches; orderly = a.orderly; reach = a.reach; rel = a.rel }
+after_more p u g words more c m (Stops (End reason status output shows) events) le a = record { n = a.n; some = a.some; few = (let z = a.few in omega arith); ts = a.ts; touches = a.touches; orderly = a.orderly; k = a.k; stopped = a.stopped; reason_is = a.reason_is; status_is = a.status_is; output_is = a.output_is; statics = a.statics }
 after_more p u g words more c m (Stops (More output) events) le a = a
 after_more p u g words more c m (Stops (Undef why) events) le a = tt
 
@@ -124,6 +128,7 @@ called p u g s c m r link imm some h =
       zero_reg = other_reg c.x link (sum_of c.pc 4) 0 (omega arith) ∙ r.regs.zero_reg;
       even = ap (λ z. z % 4) next ∙ even;
       low = (omega arith);
+      behind = λ one. record { at = c.pc; behind = next; imm = imm; call = subst (λ z. Holds p.image c.pc (jumping z imm)) one h };
     }
 
 -- a built-in call, whose routine has run
@@ -132,7 +137,7 @@ served_after p u g l s c m r rest target imm fuel output input output' input' v 
     let a : ℕ = sum_of c.pc 4 in
     let x : ℕ → ℕ = with_reg c.x 1 a in
     let next : x 1 ≡ c.pc + 4 = same_reg c.x 1 a (omega arith) ∙ next_pc p.image c.pc (jumping 1 imm) h in
-    let go = leaps p.image m c.pc c.x (jumping 1 imm) a target r.fixed h (ap (Puts a) lands) in
+    let go = leaps p.image m c.pc c.x (jumping 1 imm) a target r.fixed h (ap (Puts a) lands) (no_back c.pc (jumping 1 imm) m target refl) in
     record {
       n = plus 1 d.n;
       some = omega arith;
@@ -141,6 +146,7 @@ served_after p u g l s c m r rest target imm fuel output input output' input' v 
       k = d.k;
       ts = d.ts;
       touches = serves_touches p d.flips (heard d.ts) d.flips_few d.system;
+      orderly = d.orderly;
       reach = join 1 d.n [] d.ts _ _ _ m m d.k go d.reach;
       rel = routine_rel p u g l.at.first s c m r target (x 1) x output input d rest _ fuel output' input' eo ei (subst (λ z. Stands p s.frame.function (frame_of g s.frame.function) z rest s.frame.spot.exit) (sym next) code)
           (only_result p (kept_by (slice_get u.functions.items s.frame.function) s.frame.registers) (pointer_at s.frame.active.depth) 10 v d.y (lost_by p u g l s.frame.function r.f s.frame.registers r.is) d.zero_reg (d.stack ∙ other_reg c.x 1 a 2 (omega arith) ∙ r.regs.stack) mean);
@@ -207,7 +213,7 @@ cut_line p u g l s c m r cause rest en imm entry lands h code =
     let a : ℕ = sum_of c.pc 4 in
     let x : ℕ → ℕ = with_reg c.x 3 a in
     let next : x 3 ≡ c.pc + 4 = same_reg c.x 3 a (omega arith) ∙ next_pc p.image c.pc (jumping 3 imm) h in
-    let go = leaps p.image m c.pc c.x (jumping 3 imm) a (p.checkpoint en) r.fixed h (ap (Puts a) lands) in
+    let go = leaps p.image m c.pc c.x (jumping 3 imm) a (p.checkpoint en) r.fixed h (ap (Puts a) lands) (no_back c.pc (jumping 3 imm) m (p.checkpoint en) refl) in
     let q = l.at.saves en entry m x (called p u g s c m r 3 imm (omega arith) h) in
     let d = q.0 in
     record {
@@ -218,6 +224,7 @@ cut_line p u g l s c m r cause rest en imm entry lands h code =
       k = d.k;
       ts = d.ts;
       touches = subst (λ z. Touches p (Cuts ∷ []) z) (sym (d.system ∙ ap (λ z. replicate z Flipped) q.1)) (Cutting [] [] Nothing);
+      orderly = d.orderly;
       reach = join 1 d.n [] d.ts _ _ _ m m d.k go d.reach;
       rel = routine_rel p u g l.at.first s c m r (p.checkpoint en) (x 3) x (shown m) (left m) d rest s.frame.registers s.fuel s.output s.input r.output r.input (subst (λ z. Stands p s.frame.function (frame_of g s.frame.function) z rest s.frame.spot.exit) (sym next) code)
           (record {
@@ -250,16 +257,37 @@ complements : (kind : Kind) (y a z : ℤ) → IsPromoted kind → a ≡ wrap kin
 unfolding apply_one
 complements kind y a z k e f w h = ap (λ q. bit_xor q ones) h ∙ complemented_word kind y k ∙ ap (λ q. word (wrap kind (negsuc 0 -ℤ q))) (sym e) ∙ ap word f
 
+signed_on : (kind : Kind) (a b : Op) → returns_by a ≡ false → returns_by b ≡ false → returns_by (by_sign kind a b) ≡ false
+signed_on I8 a b h k = h
+signed_on U8 a b h k = k
+signed_on I16 a b h k = h
+signed_on U16 a b h k = k
+signed_on I32 a b h k = h
+signed_on U32 a b h k = k
+signed_on Ptr a b h k = k
+
+operation_on : (op : BinaryOp) (kind : Kind) → returns_by (operation op kind) ≡ false
+operation_on Add kind = refl
+operation_on Subtract kind = refl
+operation_on Multiply kind = refl
+operation_on Divide kind = signed_on kind Div Divu refl refl
+operation_on Remainder kind = signed_on kind Rem Remu refl refl
+operation_on BitAnd kind = refl
+operation_on BitOr kind = refl
+operation_on BitXor kind = refl
+operation_on ShiftLeft kind = refl
+operation_on ShiftRight kind = signed_on kind Sra Srl refl refl
+
 -- every line
 pub line_after : (p : Linking) (u : Code) (g : Setting) → Premises p u g → (s : State) (c : Cpu) (m : Mem) (r : Rel p u g s c m) (line : Line) (rest : List Line) (next : ℕ) → Selected p c.pc line next → Stands p s.frame.function (frame_of g s.frame.function) next rest s.frame.spot.exit → After p u g (line_weight (steps p) line) c m (does u g line rest s)
 line_after p u g l s c m r line rest next (Numbers to z next' home h) code =
     computes_after p u g s c m r 2 to (word z) next' (Fine (Number z)) rest home.0 (gave_constant p m c.pc c.x to (word z) next' (let q = home.0 in omega arith) r.regs.zero_reg r.fixed h) code
     (λ v e. subst (λ q. Means p q (word z)) (fine_is (Number z) v e) refl)
 line_after p u g l s c m r line rest next (Nulls to home h) code =
-    computes_after p u g s c m r 1 to 0 (c.pc + 4) (Fine Null) rest home.0 (gave_one p.image m c.pc c.x (with_immediate Addi to 0 0) 0 (let q = home.0 in omega arith) r.fixed h (ap (λ z. Puts (sum_of z 0) (sum_of c.pc 4)) r.regs.zero_reg)) code
+    computes_after p u g s c m r 1 to 0 (c.pc + 4) (Fine Null) rest home.0 (gave_one p.image m c.pc c.x (with_immediate Addi to 0 0) 0 (let q = home.0 in omega arith) r.fixed h (ap (λ z. Puts (sum_of z 0) (sum_of c.pc 4)) r.regs.zero_reg) refl) code
     (λ v e. subst (λ q. Means p q 0) (fine_is Null v e) refl)
 line_after p u g l s c m r line rest next (Copies to from home a h) code =
-    computes_after p u g s c m r 1 to (sum_of (c.x from) 0) (c.pc + 4) (Fine (s.frame.registers from)) rest home.0 (gave_one p.image m c.pc c.x (with_immediate Addi to from 0) (sum_of (c.x from) 0) (let q = home.0 in omega arith) r.fixed h refl) code
+    computes_after p u g s c m r 1 to (sum_of (c.x from) 0) (c.pc + 4) (Fine (s.frame.registers from)) rest home.0 (gave_one p.image m c.pc c.x (with_immediate Addi to from 0) (sum_of (c.x from) 0) (let q = home.0 in omega arith) r.fixed h refl refl) code
     (λ v e. subst (λ q. Means p q (sum_of (c.x from) 0)) (fine_is (s.frame.registers from) v e) (means_mod p (s.frame.registers from) (c.x from) (r.regs.homes from a.0)))
 line_after p u g l s c m r line rest next (Converts to kind from next' home a h) code =
     checked_after p u g 2 c m (as_number (converted kind (s.frame.registers from))) _ (λ v e.
@@ -270,21 +298,21 @@ line_after p u g l s c m r line rest next (Converts to kind from next' home a h)
     b)
 line_after p u g l s c m r line rest next (Negates to kind from home a k h) code =
     computes_after p u g s c m r (1 + narrowing kind) to (difference_of 0 (c.x from)) (c.pc + 4) (as_number (computed_one Negate kind (s.frame.registers from))) rest home.0
-    (gave_weak m c.pc c.x to (difference_of 0 (c.x from)) (c.pc + 4) 1 (1 + narrowing kind) (omega arith) (gave_one p.image m c.pc c.x (on_registers Sub to 0 from) (difference_of 0 (c.x from)) (let q = home.0 in omega arith) r.fixed h (ap (λ z. Puts (difference_of z (c.x from)) (sum_of c.pc 4)) r.regs.zero_reg))) code
+    (gave_weak m c.pc c.x to (difference_of 0 (c.x from)) (c.pc + 4) 1 (1 + narrowing kind) (omega arith) (gave_one p.image m c.pc c.x (on_registers Sub to 0 from) (difference_of 0 (c.x from)) (let q = home.0 in omega arith) r.fixed h (ap (λ z. Puts (difference_of z (c.x from)) (sum_of c.pc 4)) r.regs.zero_reg) refl)) code
     (λ v e. numbers_mean p (computed_one Negate kind (s.frame.registers from)) v (difference_of 0 (c.x from)) e (λ z f.
     let t = then_fine (converted kind (s.frame.registers from)) _ z f in
     let q = converted_word p kind (s.frame.registers from) (c.x from) t.a t.first (r.regs.homes from a.0) in
     negates kind q.z t.a z k q.is (fine_is _ z t.second) (c.x from) q.word_is))
 line_after p u g l s c m r line rest next (Complements to kind from home a k h) code =
     computes_after p u g s c m r (1 + narrowing kind) to (bit_xor (c.x from) ones) (c.pc + 4) (as_number (computed_one Complement kind (s.frame.registers from))) rest home.0
-    (gave_weak m c.pc c.x to (bit_xor (c.x from) ones) (c.pc + 4) 1 (1 + narrowing kind) (omega arith) (gave_one p.image m c.pc c.x (with_immediate Xori to from ones) (bit_xor (c.x from) ones) (let q = home.0 in omega arith) r.fixed h refl)) code
+    (gave_weak m c.pc c.x to (bit_xor (c.x from) ones) (c.pc + 4) 1 (1 + narrowing kind) (omega arith) (gave_one p.image m c.pc c.x (with_immediate Xori to from ones) (bit_xor (c.x from) ones) (let q = home.0 in omega arith) r.fixed h refl refl)) code
     (λ v e. numbers_mean p (computed_one Complement kind (s.frame.registers from)) v (bit_xor (c.x from) ones) e (λ z f.
     let t = then_fine (converted kind (s.frame.registers from)) _ z f in
     let q = converted_word p kind (s.frame.registers from) (c.x from) t.a t.first (r.regs.homes from a.0) in
     complements kind q.z t.a z k q.is (fine_is _ z t.second) (c.x from) q.word_is))
 line_after p u g l s c m r line rest next (Nots to from home a h) code =
     computes_after p u g s c m r 1 to (number_as (nat_lt (c.x from) 1)) (c.pc + 4) (as_truth (negation s.store (s.frame.registers from))) rest home.0
-    (gave_one p.image m c.pc c.x (with_immediate Sltiu to from 1) (number_as (nat_lt (c.x from) 1)) (let q = home.0 in omega arith) r.fixed h refl) code
+    (gave_one p.image m c.pc c.x (with_immediate Sltiu to from 1) (number_as (nat_lt (c.x from) 1)) (let q = home.0 in omega arith) r.fixed h refl refl) code
     (λ v e. truths_mean p (negation s.store (s.frame.registers from)) v (number_as (nat_lt (c.x from) 1)) e (λ b f.
     let t = then_fine (condition s.store (s.frame.registers from)) _ b f in
     let q = condition_word p s.store _ (s.frame.registers from) (c.x from) t.a r.mapped t.first (r.regs.homes from a.0) in
@@ -294,7 +322,7 @@ line_after p u g l s c m r line rest next (Computes to op kind left right home a
     let t = then_fine (computed op kind (s.frame.registers left) (s.frame.registers right)) _ v e in
     computes_after p u g s c m r (1 + narrowing kind) to (word t.a) (c.pc + 4) (Fine v) rest home.0
     (gave_weak m c.pc c.x to (word t.a) (c.pc + 4) 1 (1 + narrowing kind) (omega arith) (gave_one p.image m c.pc c.x (on_registers (operation op kind) to left right) (word t.a) (let q = home.0 in omega arith) r.fixed h
-    (computed_row p op kind (s.frame.registers left) (s.frame.registers right) (c.x left) (c.x right) t.a c.pc 0 k t.first (r.regs.homes left a.0) (r.regs.homes right b.0)))) code
+    (computed_row p op kind (s.frame.registers left) (s.frame.registers right) (c.x left) (c.x right) t.a c.pc 0 k t.first (r.regs.homes left a.0) (r.regs.homes right b.0)) (operation_on op kind))) code
     (λ v' e'. subst (λ z. Means p z (word t.a)) (fine_is (Number t.a) v t.second ∙ fine_is v v' e') refl))
 line_after p u g l s c m r line rest next (Compares to op kind left right next' home a b k h) code =
     computes_after p u g s c m r 2 to (number_as (outcome (word_less kind) op (c.x left) (c.x right))) next' (as_truth (compared s.store op kind (s.frame.registers left) (s.frame.registers right))) rest home.0
@@ -314,7 +342,7 @@ line_after p u g l s c m r line rest next (Addresses to place base imm mid home 
     let b = based p s.frame.registers s.frame.active s.store _ m c.pc c.x place base imm mid r.linked.0 r.fixed r.mapped r.regs based_ in
     let y = b.ready in
     computes_after p u g s c m r 3 to b.w (mid + 4) (place_of place s.frame.active s.frame.registers s.store) rest home.0
-    (gave_more p.image m c.pc mid c.x y.y y.n 2 (with_immediate Addi to base imm) b.w y.few (let q = home.0 in omega arith) r.fixed y.reach (λ i ne n5 n6. y.kept i n5) h (ap (λ z. Puts z (sum_of mid 4)) y.sum)) code
+    (gave_more p.image m c.pc mid c.x y.y y.n 2 (with_immediate Addi to base imm) b.w y.few (let q = home.0 in omega arith) r.fixed y.reach (λ i ne n5 n6. y.kept i n5) h (ap (λ z. Puts z (sum_of mid 4)) y.sum) refl) code
     b.means
 line_after p u g l s c m r line rest next (Fetches to place kind access base imm mid home based_ h) code =
     let b = based p s.frame.registers s.frame.active s.store _ m c.pc c.x place base imm mid r.linked.0 r.fixed r.mapped r.regs based_ in

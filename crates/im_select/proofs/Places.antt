@@ -62,7 +62,7 @@ displaced p registers sp m pc x r n base imm next fixed regs no5 (Far k hi lo sp
       n = 2;
       few = omega arith;
       y = y;
-      reach = join 1 1 [] [] _ _ _ m m m (puts p.image m pc x (upper 5 hi) a fixed h refl) (puts p.image m (pc + 4) x1 (on_registers Add 5 5 r) b fixed l refl);
+      reach = join 1 1 [] [] _ _ _ m m m (puts p.image m pc x (upper 5 hi) a fixed h refl refl) (puts p.image m (pc + 4) x1 (on_registers Add 5 5 r) b fixed l refl refl);
       regs = set_scratch p registers sp x1 5 b (omega arith) (omega arith) (omega arith) (set_scratch p registers sp x 5 a (omega arith) (omega arith) (omega arith) regs);
       kept = λ i ne. other_reg x1 5 b i ne ∙ other_reg x 5 a i ne;
       sum =
@@ -102,7 +102,7 @@ based p registers by store frames m pc x place base imm next some fixed mapped r
         n = 1;
         few = omega arith;
         y = y;
-        reach = puts p.image m pc x (upper 5 hi) a fixed h refl;
+        reach = puts p.image m pc x (upper 5 hi) a fixed h refl refl;
         regs = set_scratch p registers (pointer_at by.depth) x 5 a (omega arith) (omega arith) (omega arith) regs;
         kept = λ i ne. other_reg x 5 a i ne;
         sum = refl;

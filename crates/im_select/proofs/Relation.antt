@@ -10,7 +10,9 @@ use Rattle.im_mem.specs.Memory.{Mem, little, written}
 use Rattle.im_mem.proofs.Words.{little-alike, little-other}
 use Rattle.im_rv.specs.Steps.{Cpu}
 use Rattle.im_reach.specs.Touches.{Touch, heard}
+use Rattle.im_reach.specs.Orderly.{IsOrderly}
 use Rattle.im_reach.specs.Shown.{shown, left}
+use Rattle.im_reach.specs.Plain.{IsBehindCall}
 use Rattle.im_reach.specs.Reach.{Reach, Stopped}
 use Rattle.im_reach.specs.Instructions.{Fixed}
 use Rattle.im_reach.specs.Routines.{Words}
@@ -49,6 +51,7 @@ pub record Back (p : Linking) (u : Code) (g : Setting) (ra : ℕ) (w : Frame) (h
   pub code : Stands p w.function (frame_of g w.function) ra w.spot.rest w.spot.exit
   pub even : ra % 4 ≡ 0
   pub low : ra ≤ 1048576
+  pub behind : IsBehindCall p.image ra
 
 -- the return addresses lead from caller to caller
 abbrev pub Chain : Linking → Code → Setting → Mem → ℕ → ℕ → List Frame → Type 0
@@ -87,6 +90,7 @@ pub record Advanced (p : Linking) (u : Code) (g : Setting) (words : ℕ) (c : Cp
   pub k : Mem
   pub ts : List Touch
   pub touches : Touches p events (heard ts)
+  pub orderly : IsOrderly ts
   pub reach : Reach n ts c m d k
   pub rel : Rel p u g s d k
 
@@ -96,6 +100,7 @@ pub record Finished (p : Linking) (u : Code) (words : ℕ) (c : Cpu) (m : Mem) (
   pub few : n ≤ words + 3
   pub ts : List Touch
   pub touches : Touches p events (heard ts)
+  pub orderly : IsOrderly ts
   pub k : Mem
   pub stopped : Stopped n ts c m k
   pub reason_is : little k 8 4 ≡ reason

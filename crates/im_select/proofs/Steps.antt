@@ -12,10 +12,12 @@ use Rattle.im_rv.proofs.Straight.{same_reg, other_reg}
 use Rattle.im_reach.specs.Touches.{Flipped, Touch, Loaded, Stored, touched, is_system, heard}
 use Rattle.im_reach.specs.Shown.{shown, Begins}
 use Rattle.std.proofs.lemmas.Bool.{cases_lt}
+use Rattle.im_reach.specs.Orderly.{IsOrderly}
 use Rattle.im_reach.specs.Plain.{IsPlain}
 use Rattle.im_reach.specs.Reach.{plus, Reach}
 use Rattle.im_reach.specs.Instructions.{jumping}
-use Rattle.im_reach.proofs.Reach.{plus_is, leaps, begins_trans, before_or_after}
+use Rattle.im_reach.proofs.Reach.{plus_is, no_back, leaps, begins_trans, before_or_after}
+use Rattle.im_reach.proofs.Orderly.{joined}
 use Rattle.im_operators.specs.Tables.{cell_word}
 use Rattle.im_store.specs.Objects.{Object, Value, Unset, Shape}
 use Rattle.im_store.specs.Outcomes.{Outcome, Undef, More, End, IsDefined}
@@ -64,6 +66,7 @@ to_block p u g l s c m r words n b fuel y some few reach kept =
       k = m;
       ts = [];
       touches = Nothing;
+      orderly = refl;
       reach = reach;
       rel = moved_rel p u g s c m r (p.place s.frame.function b) y (at_block b block) s.frame.registers fuel ((l.at.functions s.frame.function f is).blocks b block found) (same_regs p s.frame.registers (pointer_at s.frame.active.depth) c.x y r.regs kept);
     }))
@@ -127,6 +130,7 @@ pub record Followed (p : Linking) (u : Code) (c : Cpu) (m : Mem) (fuel : ℕ) (o
   pub more : List Event
   pub split : run ≡ events ++ more
   pub touches : Touches p more (heard (touched j c m))
+  pub orderly : IsOrderly (touched j c m)
   pub grows : (i : ℕ) → i ≤ j → Begins (shown (runs i c m).mem) (shown (runs j c m).mem)
   pub plain : (i : ℕ) → i < j → IsPlain (runs i c m).cpu (runs i c m).mem
 
@@ -147,6 +151,7 @@ ended p u c m fuel reason status words k output shows events more f = record {
   more = more;
   split = refl;
   touches = subst (λ z. Touches p more z) (sym (ap heard f.stopped.met)) f.touches;
+  orderly = subst IsOrderly (sym f.stopped.met) f.orderly;
   grows = λ i le. begins_end _ (shown f.k) _ (ap (λ (s : Stepped). shown s.mem) f.stopped.ran) (f.stopped.grows i le);
   plain = f.stopped.each;
 }
@@ -159,6 +164,7 @@ starved p u c m fuel words k output events more e z = record {
   more = more;
   split = refl;
   touches = subst (λ q. Touches p q []) (sym e.0) Nothing;
+  orderly = refl;
   grows = at;
   plain = λ i lt. absurd (omega arith);
 }
@@ -181,6 +187,7 @@ before_it p u g s c m fuel words o events more run most a paid f = record {
   more = more ++ f.more;
   split = f.split ∙ append_assoc events more f.more;
   touches = subst (λ z. Touches p (more ++ f.more) z) (sym (ap heard (a.reach.met f.j) ∙ heard_append a.ts (touched f.j a.d a.k))) (touches_append p more f.more (heard a.ts) (heard (touched f.j a.d a.k)) a.touches f.touches);
+  orderly = subst IsOrderly (sym (a.reach.met f.j)) (joined a.ts (touched f.j a.d a.k) a.orderly f.orderly);
   grows = λ i le. begins_end _ (shown (runs f.j a.d a.k).mem) _ (ap (λ (z : Stepped). shown z.mem) (a.reach.ran f.j)) (elim (before_or_after i a.n) [
     | inl x ↦ begins_trans _ (shown a.k) _ (a.reach.grows i x) (f.grows zero (omega arith))
     | inr x ↦ (
@@ -281,7 +288,7 @@ slots_first u o n sh e h = let k = static_lies u o sh h in absurd (none (ap (sta
 
 pub begin_after : (p : Linking) (u : Code) (g : Setting) → Premises p u g → (x : ℕ → ℕ) (n : ℕ) → x 0 ≡ 0 → x 2 ≡ 3145728 → After p u g 10 (record { pc = p.begin; x = x }) p.image (start u g n)
 begin_after p u g l x n x0 x2 = first_after p u g 9 (record { pc = p.begin; x = x }) (record { pc = p.entry u.main; x = with_reg x 1 (sum_of p.begin 4) }) p.image _
-    (leaps p.image p.image p.begin x (jumping 1 l.at.call) (sum_of p.begin 4) (p.entry u.main) (λ a above less. refl) l.at.begins (ap (Puts (sum_of p.begin 4)) l.at.lands))
+    (leaps p.image p.image p.begin x (jumping 1 l.at.call) (sum_of p.begin 4) (p.entry u.main) (λ a above less. refl) l.at.begins (ap (Puts (sum_of p.begin 4)) l.at.lands) (no_back p.begin (jumping 1 l.at.call) p.image (p.entry u.main) refl))
     (let h = l.at.begins in
     let low = h.low in
     enter_after p u g l (before u g n) u.main n (p.begin + 4) 0 0 (λ r. Unset) [] p.image (with_reg x 1 (sum_of p.begin 4)) (inr refl) (λ a above less. refl) l.at.words l.at.silent l.at.input

@@ -69,6 +69,7 @@ follows_at p u g x n o run l x0 x2 right r =
       shows = f.shows;
       soon = (let z = f.soon in omega arith);
       touches = t;
+      orderly = f.orderly;
       grows = f.grows;
       plain = f.plain;
       safe = λ forced w. let q = separate p u g l forced x n r.steps o run x0 x2 r.over in no_war_touched p run (heard (touched f.j c p.image)) [] t q.served (no_war_spotted p [] (items run) q.apart w);

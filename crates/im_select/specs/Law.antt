@@ -9,6 +9,7 @@ use Rattle.im_rv.specs.declared.step.Went.TheVariants.{On, Halted, Faulted}
 use Rattle.im_rv.specs.Steps.{Cpu, Stepped}
 use Rattle.im_rv.specs.Runs.{runs}
 use Rattle.im_reach.specs.Touches.{Flipped, Touch, Loaded, Stored, touched, heard}
+use Rattle.im_reach.specs.Orderly.{IsOrderly}
 use Rattle.im_reach.specs.Plain.{IsPlain}
 use Rattle.im_reach.specs.Shown.{shown, Begins}
 use Rattle.im_store.specs.Objects.{Link, Object, static, Store, kind_at}
@@ -86,7 +87,9 @@ pub record Follows (p : Linking) (u : Code) (g : Setting) (c : Cpu) (n : ℕ) (o
   pub begins : (i : ℕ) → i ≤ j → (rest : List Touch) × (touched j c p.image ≡ touched i c p.image ++ rest)
   pub grows : (i : ℕ) → i ≤ j → Begins (shown (runs i c p.image).mem) (shown (runs j c p.image).mem)
   pub calm : (i at : ℕ) → i ≤ j → (runs i c p.image).went ≢ Faulted at
-  -- each step stands in the code, and leaves it, INDEX and the register buffers alone
+  -- sections touch the low page, the input and the output in order
+  pub orderly : IsOrderly (touched j c p.image)
+  -- each step stands in the code, leaves it, INDEX and the register buffers alone, and returns behind calls
   pub plain : (i : ℕ) → i < j → IsPlain (runs i c p.image).cpu (runs i c p.image).mem
 
 -- the machine follows each run of the unit whose outcome is defined

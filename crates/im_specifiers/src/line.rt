@@ -306,7 +306,8 @@ fn line_among(lines: &[Line], counts: Counts) -> Option<PlainType>
 
 /// The type of these words, if they are a line of the list.
 pub fn line_of(counts: Counts) -> Option<PlainType>
-    ensures { (ks : List SpecifierWord) → IsCounted counts ks → option_map type_of result ≡ u.line_type u.lines ks }
+    ensures { (ks : List SpecifierWord) → IsCounted counts ks → option_map type_of result ≡
+        u.line_type u.lines ks }
 {
     line_among(&LINES, counts)
 }

@@ -30,7 +30,8 @@ fn refused(number: u32, token: u32) -> Stop
 
 /// The first struct, enum or typedef name.
 fn first_named(specifiers: &[Specifier]) -> Option<&Specifier>
-    ensures { MatchOption result (u.named_in (list_from specifiers.now) ≡ []) (λ s. IsFirst s.now (u.named_in (list_from specifiers.now))) }
+    ensures { MatchOption result (u.named_in (list_from specifiers.now) ≡ [])
+        (λ s. IsFirst s.now (u.named_in (list_from specifiers.now))) }
 {
     for specifier in specifiers {
         if is_named(specifier) {
@@ -41,7 +42,10 @@ fn first_named(specifiers: &[Specifier]) -> Option<&Specifier>
 }
 
 fn typedef_type(scope: &Scope, at: u32, name: &[u8]) -> Result<Specified, Stop>
-    ensures { (k : ℕ) (first : ℕ) (ks : List SpecifierWord) → IsSpecified (d.specified_asks (context_of scope.now k) (t.typedef_specifier first name.now ∷ [])) (d.specified (context_of scope.now k) (t.typedef_specifier first name.now ∷ []) ks) at result }
+    ensures { (k : ℕ) (first : ℕ) (ks : List SpecifierWord) → IsSpecified
+        (d.specified_asks (context_of scope.now k) (t.typedef_specifier first name.now ∷ []))
+        (d.specified (context_of scope.now k) (t.typedef_specifier first name.now ∷ []) ks) at
+        result }
 {
     match scope.find(name) {
         Some(Entity::Typedef(constant, ty)) => Ok(Specified {
@@ -53,7 +57,9 @@ fn typedef_type(scope: &Scope, at: u32, name: &[u8]) -> Result<Specified, Stop>
 }
 
 fn enum_type(scope: &Scope, at: u32, tag: &[u8]) -> Result<Specified, Stop>
-    ensures { (k : ℕ) (first : ℕ) (ks : List SpecifierWord) → IsSpecified (d.specified_asks (context_of scope.now k) (t.enum_tag first tag.now ∷ [])) (d.specified (context_of scope.now k) (t.enum_tag first tag.now ∷ []) ks) at result }
+    ensures { (k : ℕ) (first : ℕ) (ks : List SpecifierWord) → IsSpecified
+        (d.specified_asks (context_of scope.now k) (t.enum_tag first tag.now ∷ []))
+        (d.specified (context_of scope.now k) (t.enum_tag first tag.now ∷ []) ks) at result }
 {
     if scope.is_enum(tag) {
         Ok(Specified {
@@ -68,7 +74,9 @@ fn enum_type(scope: &Scope, at: u32, tag: &[u8]) -> Result<Specified, Stop>
 /// The type of a typedef name or an enum's tag. A struct's tag, which no plain tree has, is answered
 /// by want of memory.
 fn named_type(scope: &Scope, at: u32, named: &Specifier) -> Result<Specified, Stop>
-    ensures { (k : ℕ) (ks : List SpecifierWord) → IsSpecified (d.specified_asks (context_of scope.now k) (tree_of named.now ∷ [])) (d.specified (context_of scope.now k) (tree_of named.now ∷ []) ks) at result }
+    ensures { (k : ℕ) (ks : List SpecifierWord) → IsSpecified
+        (d.specified_asks (context_of scope.now k) (tree_of named.now ∷ []))
+        (d.specified (context_of scope.now k) (tree_of named.now ∷ []) ks) at result }
 {
     match &named.kind {
         SpecifierKind::TypedefName(name) => typedef_type(scope, at, name),
@@ -82,7 +90,8 @@ fn named_type(scope: &Scope, at: u32, named: &Specifier) -> Result<Specified, St
 fn word_type(scope: &Scope, at: u32, specifiers: &[Specifier]) -> Result<Specified, Stop>
     requires none { u.named_in (list_from specifiers.now) ≡ [] }
     requires few { length (u.storage_in (list_from specifiers.now)) ≤ 1 }
-    ensures { (k : ℕ) → IsSpecified (file_asks (context_of scope.now k) (list_from specifiers.now)) (base_of (context_of scope.now k) (list_from specifiers.now)) at result }
+    ensures { (k : ℕ) → IsSpecified (file_asks (context_of scope.now k) (list_from specifiers.now))
+        (base_of (context_of scope.now k) (list_from specifiers.now)) at result }
 {
     match line_of(counts_of(specifiers)) {
         Some(ty) => Ok(Specified {
@@ -104,7 +113,8 @@ fn with_const(constant: bool, ty: Specified) -> Specified
 
 fn base_type(scope: &Scope, at: u32, specifiers: &[Specifier]) -> Result<Specified, Stop>
     requires { length (u.storage_in (list_from specifiers.now)) ≤ 1 }
-    ensures { (k : ℕ) → IsSpecified (file_asks (context_of scope.now k) (list_from specifiers.now)) (base_of (context_of scope.now k) (list_from specifiers.now)) at result }
+    ensures { (k : ℕ) → IsSpecified (file_asks (context_of scope.now k) (list_from specifiers.now))
+        (base_of (context_of scope.now k) (list_from specifiers.now)) at result }
 {
     match first_named(specifiers) {
         None => word_type(scope, at, specifiers),
@@ -122,7 +132,8 @@ fn base_type(scope: &Scope, at: u32, specifiers: &[Specifier]) -> Result<Specifi
 
 /// The type that specifiers name at file scope, whose storage words are looked at elsewhere.
 pub fn type_at_file(scope: &Scope, at: u32, specifiers: &[Specifier]) -> Result<Specified, Stop>
-    ensures { (k : ℕ) → IsSpecified (file_asks (context_of scope.now k) (list_from specifiers.now)) (d.type_of_specifiers (context_of scope.now k) (list_from specifiers.now)) at result }
+    ensures { (k : ℕ) → IsSpecified (file_asks (context_of scope.now k) (list_from specifiers.now))
+        (d.type_of_specifiers (context_of scope.now k) (list_from specifiers.now)) at result }
 {
     if storage_count(specifiers) > 1 {
         return Err(refused(1, at));
@@ -133,7 +144,9 @@ pub fn type_at_file(scope: &Scope, at: u32, specifiers: &[Specifier]) -> Result<
 
 /// The type that specifiers name in a block, a parameter or a type name.
 pub fn specified_type(scope: &Scope, at: u32, specifiers: &[Specifier]) -> Result<Specified, Stop>
-    ensures { (k : ℕ) → IsSpecified (d.specifiers_ask (context_of scope.now k) (list_from specifiers.now)) (d.type_of_specifiers (context_of scope.now k) (list_from specifiers.now)) at result }
+    ensures { (k : ℕ) → IsSpecified
+        (d.specifiers_ask (context_of scope.now k) (list_from specifiers.now))
+        (d.type_of_specifiers (context_of scope.now k) (list_from specifiers.now)) at result }
 {
     if storage_count(specifiers) > 0 {
         return Err(refused(2, at));

@@ -48,7 +48,9 @@ fn one_if(holds: bool) -> usize
 fn word_count(specifier: &Specifier, code: u32) -> usize
     requires { 0 < code }
     ensures some { result ≤ 1 }
-    ensures value { (rest : t.SpecifierList) → u.count_word code (u.keywords_in (t.more_specifiers (tree_of specifier.now) rest)) ≡ result + u.count_word code (u.keywords_in rest) }
+    ensures value { (rest : t.SpecifierList) → u.count_word code
+        (u.keywords_in (t.more_specifiers (tree_of specifier.now) rest)) ≡ result + u.count_word
+        code (u.keywords_in rest) }
 {
     match &specifier.kind {
         SpecifierKind::Word(word) => one_if(code_of(*word) == code),
@@ -84,7 +86,9 @@ pub fn counts_of(specifiers: &[Specifier]) -> Counts
 /// 1 of a storage word.
 fn storage_words(specifier: &Specifier) -> usize
     ensures some { result ≤ 1 }
-    ensures value { (rest : t.SpecifierList) → length (u.storage_in (t.more_specifiers (tree_of specifier.now) rest)) ≡ result + length (u.storage_in rest) }
+    ensures value { (rest : t.SpecifierList) → length
+        (u.storage_in (t.more_specifiers (tree_of specifier.now) rest)) ≡ result + length
+        (u.storage_in rest) }
 {
     match &specifier.kind {
         SpecifierKind::Word(word) => one_if(is_storage(*word)),
@@ -104,7 +108,8 @@ pub fn storage_count(specifiers: &[Specifier]) -> usize
 }
 
 pub fn is_named(specifier: &Specifier) -> bool
-    ensures { (rest : t.SpecifierList) → u.named_in (t.more_specifiers (tree_of specifier.now) rest) ≡ with_named result (tree_of specifier.now) (u.named_in rest) }
+    ensures { (rest : t.SpecifierList) → u.named_in (t.more_specifiers (tree_of specifier.now) rest)
+        ≡ with_named result (tree_of specifier.now) (u.named_in rest) }
 {
     match &specifier.kind {
         SpecifierKind::Word(_) => false,
@@ -115,7 +120,9 @@ pub fn is_named(specifier: &Specifier) -> bool
 /// 1 of a struct, an enum or a typedef name.
 fn named(specifier: &Specifier) -> usize
     ensures some { result ≤ 1 }
-    ensures value { (rest : t.SpecifierList) → length (u.named_in (t.more_specifiers (tree_of specifier.now) rest)) ≡ result + length (u.named_in rest) }
+    ensures value { (rest : t.SpecifierList) → length
+        (u.named_in (t.more_specifiers (tree_of specifier.now) rest)) ≡ result + length
+        (u.named_in rest) }
 {
     match &specifier.kind {
         SpecifierKind::Word(_) => 0,
@@ -137,7 +144,9 @@ pub fn named_count(specifiers: &[Specifier]) -> usize
 /// 1 of a type word.
 fn type_words(specifier: &Specifier) -> usize
     ensures some { result ≤ 1 }
-    ensures value { (rest : t.SpecifierList) → length (u.keywords_in (t.more_specifiers (tree_of specifier.now) rest)) ≡ result + length (u.keywords_in rest) }
+    ensures value { (rest : t.SpecifierList) → length
+        (u.keywords_in (t.more_specifiers (tree_of specifier.now) rest)) ≡ result + length
+        (u.keywords_in rest) }
 {
     match &specifier.kind {
         SpecifierKind::Word(word) => one_if(code_of(*word) > 0),
@@ -157,7 +166,8 @@ pub fn keyword_count(specifiers: &[Specifier]) -> usize
 }
 
 fn is_const(specifier: &Specifier) -> bool
-    ensures { (rest : t.SpecifierList) → d.has_const (t.more_specifiers (tree_of specifier.now) rest) ≡ (result || d.has_const rest) }
+    ensures { (rest : t.SpecifierList) → d.has_const
+        (t.more_specifiers (tree_of specifier.now) rest) ≡ (result || d.has_const rest) }
 {
     match &specifier.kind {
         SpecifierKind::Word(SpecifierWord::Const) => true,

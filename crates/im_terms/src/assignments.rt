@@ -76,7 +76,8 @@ fn computed_in(op: BinaryOp, x: PlainType, y: PlainType) -> Integer
 
 /// The right operand of `a op= b`.
 fn changed_by(alloc: Global, op: BinaryOp, x: PlainType, y: Value) -> Result<Value, Stop>
-    ensures { MatchResult result (λ v. expr_in v.expr ≡ c.changed_by op (type_of x) (value_from y)) IsNoRule }
+    ensures { MatchResult result (λ v. expr_in v.expr ≡ c.changed_by op (type_of x) (value_from y))
+        IsNoRule }
 {
     let ty = if is_shift(op) {
         promoted(integer_of(y.ty))
@@ -87,7 +88,12 @@ fn changed_by(alloc: Global, op: BinaryOp, x: PlainType, y: Value) -> Result<Val
 }
 
 fn stored(alloc: Global, ty: Integer, storage: Storage, y: Value) -> Result<Value, Stop>
-    ensures { MatchResult result (λ v. value_from v ≡ record { type = integer ty; expr = c.assigned_by [] None (integer ty) (c.stored (storage_of storage)) (value_from y) }) IsNoRule }
+    ensures { MatchResult result (λ v. value_from v ≡ record {
+      type = integer ty;
+      expr =
+          c.assigned_by [] None (integer ty) (c.stored (storage_of storage)) (value_from y);
+    })
+        IsNoRule }
 {
     let value = as_integer(alloc, ty, y)?;
     let place = Box::new(alloc, place_of(storage))?;
@@ -106,7 +112,12 @@ fn updated(
     storage: Storage,
     y: Value,
 ) -> Result<Value, Stop>
-    ensures { MatchResult result (λ v. value_from v ≡ record { type = integer ty; expr = c.assigned_by [] (Some op) (integer ty) (c.stored (storage_of storage)) (value_from y) }) IsNoRule }
+    ensures { MatchResult result (λ v. value_from v ≡ record {
+      type = integer ty;
+      expr =
+          c.assigned_by [] (Some op) (integer ty) (c.stored (storage_of storage)) (value_from y);
+    })
+        IsNoRule }
 {
     let left = PlainType::Integer(ty);
     let change = Change::Number {
@@ -128,7 +139,12 @@ pub fn assigned(
     storage: Storage,
     y: Value,
 ) -> Result<Value, Stop>
-    ensures { MatchResult result (λ v. value_from v ≡ record { type = integer ty; expr = c.assigned_by [] (c.operator_of op) (integer ty) (c.stored (storage_of storage)) (value_from y) }) IsNoRule }
+    ensures { MatchResult result (λ v. value_from v ≡ record {
+      type = integer ty;
+      expr =
+          c.assigned_by [] (c.operator_of op) (integer ty) (c.stored (storage_of storage))
+          (value_from y);
+    }) IsNoRule }
 {
     match operator_of(op) {
         None => stored(alloc, ty, storage, y),
@@ -153,7 +169,11 @@ pub fn stepped(
     ty: Integer,
     storage: Storage,
 ) -> Result<Value, Stop>
-    ensures { MatchResult result (λ v. value_from v ≡ record { type = integer ty; expr = p.Increment (c.stored (storage_of storage)) (c.step_of [] op (integer ty)) old }) IsNoRule }
+    ensures { MatchResult result (λ v. value_from v ≡ record {
+      type = integer ty;
+      expr = p.Increment
+          (c.stored (storage_of storage)) (c.step_of [] op (integer ty)) old;
+    }) IsNoRule }
 {
     let change = Change::Number {
         kind: ty.kind(),

@@ -36,7 +36,8 @@ pub fn number(ty: Integer, z: Number) -> Value
 
 /// A value converted to an integer type of another kind.
 pub fn convert(alloc: Global, ty: Integer, operand: Value) -> Result<Value, Stop>
-    ensures { MatchResult result (λ r. value_from r ≡ of_integer ty (p.Convert (kind_of ty) (expr_in operand.expr))) IsNoRule }
+    ensures { MatchResult result
+        (λ r. value_from r ≡ of_integer ty (p.Convert (kind_of ty) (expr_in operand.expr))) IsNoRule }
 {
     let constancy = Constancy {
         is_constant: operand.constancy.is_constant,
@@ -51,7 +52,9 @@ pub fn convert(alloc: Global, ty: Integer, operand: Value) -> Result<Value, Stop
 }
 
 pub fn unary(alloc: Global, op: UnaryOp, ty: Integer, operand: Value) -> Result<Value, Stop>
-    ensures { MatchResult result (λ r. value_from r ≡ of_integer ty (p.Unary op (kind_of ty) (expr_in operand.expr))) IsNoRule }
+    ensures { MatchResult result
+        (λ r. value_from r ≡ of_integer ty (p.Unary op (kind_of ty) (expr_in operand.expr)))
+        IsNoRule }
 {
     let constancy = Constancy {
         is_constant: operand.constancy.is_constant,
@@ -66,7 +69,8 @@ pub fn unary(alloc: Global, op: UnaryOp, ty: Integer, operand: Value) -> Result<
 }
 
 pub fn negation(alloc: Global, operand: Value) -> Result<Value, Stop>
-    ensures { MatchResult result (λ r. value_from r ≡ of_integer Integer.Int (p.Not (expr_in operand.expr))) IsNoRule }
+    ensures { MatchResult result
+        (λ r. value_from r ≡ of_integer Integer.Int (p.Not (expr_in operand.expr))) IsNoRule }
 {
     let constancy = Constancy {
         is_constant: operand.constancy.is_constant,
@@ -87,7 +91,8 @@ pub fn binary(
     left: Value,
     right: Value,
 ) -> Result<Value, Stop>
-    ensures { MatchResult result (λ r. value_from r ≡ of_integer ty (p.Binary op (kind_of ty) (expr_in left.expr) (expr_in right.expr))) IsNoRule }
+    ensures { MatchResult result (λ r. value_from r ≡ of_integer ty
+        (p.Binary op (kind_of ty) (expr_in left.expr) (expr_in right.expr))) IsNoRule }
 {
     let constancy = Constancy {
         is_constant: left.constancy.is_constant && right.constancy.is_constant,
@@ -109,7 +114,8 @@ pub fn compare(
     left: Value,
     right: Value,
 ) -> Result<Value, Stop>
-    ensures { MatchResult result (λ r. value_from r ≡ of_integer Integer.Int (p.Compare op kind (expr_in left.expr) (expr_in right.expr))) IsNoRule }
+    ensures { MatchResult result (λ r. value_from r ≡ of_integer Integer.Int
+        (p.Compare op kind (expr_in left.expr) (expr_in right.expr))) IsNoRule }
 {
     let constancy = Constancy {
         is_constant: left.constancy.is_constant && right.constancy.is_constant,
@@ -125,7 +131,8 @@ pub fn compare(
 }
 
 pub fn conjunction(alloc: Global, left: Value, right: Value) -> Result<Value, Stop>
-    ensures { MatchResult result (λ r. value_from r ≡ of_integer Integer.Int (p.And (expr_in left.expr) (expr_in right.expr))) IsNoRule }
+    ensures { MatchResult result (λ r. value_from r ≡ of_integer Integer.Int
+        (p.And (expr_in left.expr) (expr_in right.expr))) IsNoRule }
 {
     let constancy = Constancy {
         is_constant: left.constancy.is_constant && right.constancy.is_constant,
@@ -141,7 +148,9 @@ pub fn conjunction(alloc: Global, left: Value, right: Value) -> Result<Value, St
 }
 
 pub fn disjunction(alloc: Global, left: Value, right: Value) -> Result<Value, Stop>
-    ensures { MatchResult result (λ r. value_from r ≡ of_integer Integer.Int (p.Or (expr_in left.expr) (expr_in right.expr))) IsNoRule }
+    ensures { MatchResult result
+        (λ r. value_from r ≡ of_integer Integer.Int (p.Or (expr_in left.expr) (expr_in right.expr)))
+        IsNoRule }
 {
     let constancy = Constancy {
         is_constant: left.constancy.is_constant && right.constancy.is_constant,
@@ -164,7 +173,11 @@ pub fn choice(
     first: Value,
     second: Value,
 ) -> Result<Value, Stop>
-    ensures { MatchResult result (λ r. value_from r ≡ record { type = type_of ty; expr = p.Choose (expr_in test.expr) (expr_in first.expr) (expr_in second.expr) }) IsNoRule }
+    ensures { MatchResult result (λ r. value_from r ≡ record {
+      type = type_of ty;
+      expr = p.Choose
+          (expr_in test.expr) (expr_in first.expr) (expr_in second.expr);
+    }) IsNoRule }
 {
     let constancy = Constancy {
         is_constant: test.constancy.is_constant

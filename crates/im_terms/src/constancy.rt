@@ -79,7 +79,8 @@ pub fn binary_value(
     left: Option<Number>,
     right: Option<Number>,
 ) -> Option<Number>
-    ensures { number_in result ≡ c.on_both (λ x y. c.defined (apply op kind x y)) (number_in left) (number_in right) }
+    ensures { number_in result ≡ c.on_both (λ x y. c.defined (apply op kind x y)) (number_in left)
+        (number_in right) }
 {
     match left {
         None => None,

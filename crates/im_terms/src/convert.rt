@@ -50,7 +50,11 @@ pub fn variable(ty: PlainType, expr: Expr) -> Value
 
 /// The value of an object of an integer type.
 pub fn read_object(alloc: Global, ty: Integer, storage: Storage) -> Result<Value, Stop>
-    ensures { MatchResult result (λ v. value_from v ≡ record { type = integer ty; expr = p.Read (p.Scalar (kind_of ty)) (c.stored (storage_of storage)) }) IsNoRule }
+    ensures { MatchResult result (λ v. value_from v ≡ record {
+      type = integer ty;
+      expr = p.Read
+          (p.Scalar (kind_of ty)) (c.stored (storage_of storage));
+    }) IsNoRule }
 {
     let place = Box::new(alloc, place_of(storage))?;
     let expr = Expr::Read(Access::Scalar(ty.kind()), place);
@@ -59,7 +63,8 @@ pub fn read_object(alloc: Global, ty: Integer, storage: Storage) -> Result<Value
 
 /// A value in an integer type: a conversion is written where the kinds differ (C11 6.3.1.3).
 pub fn as_integer(alloc: Global, ty: Integer, value: Value) -> Result<Value, Stop>
-    ensures { MatchResult result (λ v. value_from v ≡ c.of_integer ty (c.as_integer ty (value_from value))) IsNoRule }
+    ensures { MatchResult result
+        (λ v. value_from v ≡ c.of_integer ty (c.as_integer ty (value_from value))) IsNoRule }
 {
     if same_kind(ty.kind(), kind_of_type(value.ty)) {
         Ok(Value {
@@ -74,7 +79,8 @@ pub fn as_integer(alloc: Global, ty: Integer, value: Value) -> Result<Value, Sto
 
 /// A value that fits a type, as that type.
 pub fn as_type(alloc: Global, ty: PlainType, value: Value) -> Result<Value, Stop>
-    ensures { MatchResult result (λ v. expr_in v.expr ≡ c.as_type (type_of ty) (value_from value)) IsNoRule }
+    ensures { MatchResult result (λ v. expr_in v.expr ≡ c.as_type (type_of ty) (value_from value))
+        IsNoRule }
 {
     match ty {
         PlainType::Integer(i) => as_integer(alloc, i, value),

@@ -17,7 +17,8 @@ use std::alloc::Global;
 
 /// Both operands in their common type.
 fn arithmetic(alloc: Global, op: store::BinaryOp, x: Value, y: Value) -> Result<Value, Stop>
-    ensures { MatchResult result (λ r. value_from r ≡ c.arithmetic op (value_from x) (value_from y)) IsNoRule }
+    ensures { MatchResult result (λ r. value_from r ≡ c.arithmetic op (value_from x) (value_from y))
+        IsNoRule }
 {
     let ty = common(x.ty, y.ty);
     let left = as_integer(alloc, ty, x)?;
@@ -27,7 +28,8 @@ fn arithmetic(alloc: Global, op: store::BinaryOp, x: Value, y: Value) -> Result<
 
 /// Each operand is promoted by itself (C11 6.5.7p3).
 fn shifted(alloc: Global, op: store::BinaryOp, x: Value, y: Value) -> Result<Value, Stop>
-    ensures { MatchResult result (λ r. value_from r ≡ c.shifted op (value_from x) (value_from y)) IsNoRule }
+    ensures { MatchResult result (λ r. value_from r ≡ c.shifted op (value_from x) (value_from y))
+        IsNoRule }
 {
     let ty = promoted(integer_of(x.ty));
     let count = promoted(integer_of(y.ty));
@@ -38,7 +40,8 @@ fn shifted(alloc: Global, op: store::BinaryOp, x: Value, y: Value) -> Result<Val
 
 #[tactic(auto, using(crate::proofs::PlainTypes::no_pointer))]
 fn comparison(alloc: Global, op: Comparison, x: Value, y: Value) -> Result<Value, Stop>
-    ensures { MatchResult result (λ r. value_from r ≡ c.comparison op (value_from x) (value_from y)) IsNoRule }
+    ensures { MatchResult result (λ r. value_from r ≡ c.comparison op (value_from x) (value_from y))
+        IsNoRule }
 {
     let ty = common(x.ty, y.ty);
     let left = as_integer(alloc, ty, x)?;
@@ -49,7 +52,8 @@ fn comparison(alloc: Global, op: Comparison, x: Value, y: Value) -> Result<Value
 /// What a binary operator makes of its operands' values (C11 6.5.5 to 6.5.14).
 #[tactic(auto, using(crate::proofs::PlainTypes::no_pointer))]
 pub fn operation(alloc: Global, op: BinaryOp, x: Value, y: Value) -> Result<Value, Stop>
-    ensures { MatchResult result (λ r. value_from r ≡ c.operation [] op (value_from x) (value_from y)) IsNoRule }
+    ensures { MatchResult result
+        (λ r. value_from r ≡ c.operation [] op (value_from x) (value_from y)) IsNoRule }
 {
     match op {
         BinaryOp::Or => disjunction(alloc, x, y),
@@ -92,7 +96,8 @@ pub fn unary_operation(alloc: Global, op: store::UnaryOp, x: Value) -> Result<Va
 /// The value of `?:` (C11 6.5.15p5).
 #[tactic(auto, using(crate::proofs::PlainTypes::no_pointer))]
 pub fn chosen(alloc: Global, test: Value, x: Value, y: Value) -> Result<Value, Stop>
-    ensures { MatchResult result (λ r. value_from r ≡ c.chosen [] (value_from test) (value_from x) (value_from y)) IsNoRule }
+    ensures { MatchResult result
+        (λ r. value_from r ≡ c.chosen [] (value_from test) (value_from x) (value_from y)) IsNoRule }
 {
     match x.ty {
         PlainType::Integer(_) => {
@@ -120,7 +125,8 @@ pub fn casted(alloc: Global, ty: PlainType, x: Value) -> Result<Value, Stop>
 
 /// The value of `,` (C11 6.5.17).
 pub fn joined(alloc: Global, x: Value, y: Value) -> Result<Value, Stop>
-    ensures { MatchResult result (λ r. value_from r ≡ c.joined (value_from x) (value_from y)) IsNoRule }
+    ensures { MatchResult result (λ r. value_from r ≡ c.joined (value_from x) (value_from y))
+        IsNoRule }
 {
     let ty = y.ty;
     let first = Box::new(alloc, x.expr)?;

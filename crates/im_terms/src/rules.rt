@@ -76,7 +76,8 @@ pub fn rule_of(op: BinaryOp) -> u32
 /// Whether both are of integer types, which is all that an operator asks here.
 #[tactic(auto, using(crate::proofs::PlainTypes::and_false))]
 pub fn are_integers(x: &Term, y: &Term) -> bool
-    ensures { (op : b.BinaryOp) → result ≡ u.allows [] op (operand_of (term_of x.now)) (operand_of (term_of y.now)) }
+    ensures { (op : b.BinaryOp) → result ≡ u.allows [] op (operand_of (term_of x.now))
+        (operand_of (term_of y.now)) }
 {
     match x {
         Term::Lvalue(_, _, _) => is_integer_term(y),

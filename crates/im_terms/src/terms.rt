@@ -50,7 +50,8 @@ fn size_value(ty: Integer) -> Value
 }
 
 fn promoted_term(alloc: Global, at: u32, x: Term) -> Result<Term, Stop>
-    ensures { IsMade (d.asks 25 (u.rule_25_arithmetic (r.operand_of (term_of x))) ∷ []) (r.value (c.promoted_value (r.value_of [] (term_of x)))) at result }
+    ensures { IsMade (d.asks 25 (u.rule_25_arithmetic (r.operand_of (term_of x))) ∷ [])
+        (r.value (c.promoted_value (r.value_of [] (term_of x)))) at result }
 {
     if !is_integer_term(&x) {
         return Err(refused(25, at));
@@ -60,7 +61,8 @@ fn promoted_term(alloc: Global, at: u32, x: Term) -> Result<Term, Stop>
 }
 
 fn operated_term(alloc: Global, at: u32, op: store::UnaryOp, x: Term) -> Result<Term, Stop>
-    ensures { IsMade (d.asks 25 (u.rule_25_arithmetic (r.operand_of (term_of x))) ∷ []) (r.value (c.unary_value op (r.value_of [] (term_of x)))) at result }
+    ensures { IsMade (d.asks 25 (u.rule_25_arithmetic (r.operand_of (term_of x))) ∷ [])
+        (r.value (c.unary_value op (r.value_of [] (term_of x)))) at result }
 {
     if !is_integer_term(&x) {
         return Err(refused(25, at));
@@ -70,7 +72,8 @@ fn operated_term(alloc: Global, at: u32, op: store::UnaryOp, x: Term) -> Result<
 }
 
 fn not_term(alloc: Global, at: u32, x: Term) -> Result<Term, Stop>
-    ensures { IsMade (d.unary_asks [] UnaryOp.Not (term_of x)) (c.unary_term [] UnaryOp.Not (term_of x)) at result }
+    ensures { IsMade (d.unary_asks [] UnaryOp.Not (term_of x))
+        (c.unary_term [] UnaryOp.Not (term_of x)) at result }
 {
     if !is_integer_term(&x) {
         return Err(refused(25, at));
@@ -94,7 +97,9 @@ pub fn unary_term(alloc: Global, at: u32, op: UnaryOp, x: Term) -> Result<Term, 
 
 /// A binary operator (C11 6.5.5 to 6.5.14).
 pub fn binary_term(alloc: Global, at: u32, op: BinaryOp, x: Term, y: Term) -> Result<Term, Stop>
-    ensures { IsMade (d.binary_asks [] op (term_of x) (term_of y)) (r.value (c.operation [] op (r.value_of [] (term_of x)) (r.value_of [] (term_of y)))) at result }
+    ensures { IsMade (d.binary_asks [] op (term_of x) (term_of y))
+        (r.value (c.operation [] op (r.value_of [] (term_of x)) (r.value_of [] (term_of y)))) at
+        result }
 {
     if !are_integers(&x, &y) {
         return Err(refused(rule_of(op), at));
@@ -106,7 +111,9 @@ pub fn binary_term(alloc: Global, at: u32, op: BinaryOp, x: Term, y: Term) -> Re
 
 /// `?:` (C11 6.5.15).
 pub fn conditional_term(alloc: Global, at: u32, test: Term, x: Term, y: Term) -> Result<Term, Stop>
-    ensures { IsMade (d.conditional_asks (term_of test) (term_of x) (term_of y)) (r.value (c.chosen [] (r.value_of [] (term_of test)) (r.value_of [] (term_of x)) (r.value_of [] (term_of y)))) at result }
+    ensures { IsMade (d.conditional_asks (term_of test) (term_of x) (term_of y)) (r.value (c.chosen
+        [] (r.value_of [] (term_of test)) (r.value_of [] (term_of x)) (r.value_of [] (term_of y))))
+        at result }
 {
     if !is_integer_term(&test) {
         return Err(refused(25, at));
@@ -122,7 +129,8 @@ pub fn conditional_term(alloc: Global, at: u32, test: Term, x: Term, y: Term) ->
 
 /// A cast (C11 6.5.4).
 pub fn cast_term(alloc: Global, at: u32, ty: PlainType, x: Term) -> Result<Term, Stop>
-    ensures { IsMade (d.cast_asks (type_of ty) (term_of x)) (r.value (c.casted (type_of ty) (r.value_of [] (term_of x)))) at result }
+    ensures { IsMade (d.cast_asks (type_of ty) (term_of x))
+        (r.value (c.casted (type_of ty) (r.value_of [] (term_of x)))) at result }
 {
     if !casts(ty, &x) {
         return Err(refused(32, at));
@@ -133,7 +141,8 @@ pub fn cast_term(alloc: Global, at: u32, ty: PlainType, x: Term) -> Result<Term,
 
 /// `,` (C11 6.5.17).
 pub fn comma_term(alloc: Global, x: Term, y: Term) -> Result<Term, Stop>
-    ensures { MatchResult result (λ t. term_of t ≡ r.value (c.joined (r.value_of [] (term_of x)) (r.value_of [] (term_of y)))) IsNoRule }
+    ensures { MatchResult result (λ t. term_of t ≡ r.value
+        (c.joined (r.value_of [] (term_of x)) (r.value_of [] (term_of y)))) IsNoRule }
 {
     let left = value_of(alloc, x)?;
     let right = value_of(alloc, y)?;
@@ -142,7 +151,8 @@ pub fn comma_term(alloc: Global, x: Term, y: Term) -> Result<Term, Stop>
 
 /// `++` and `--`. With `old` the value is the one before.
 pub fn step_term(alloc: Global, at: u32, op: StepOp, old: bool, x: Term) -> Result<Term, Stop>
-    ensures { IsMade (d.step_asks [] (term_of x)) (r.value (c.stepped [] op old (term_of x))) at result }
+    ensures { IsMade (d.step_asks [] (term_of x)) (r.value (c.stepped [] op old (term_of x))) at
+        result }
 {
     match x {
         Term::Lvalue(true, _, _) => Err(refused(23, at)),
@@ -164,7 +174,8 @@ fn rule_of_assignment(op: AssignOp) -> u32
 
 /// An assignment (C11 6.5.16).
 pub fn assign_term(alloc: Global, at: u32, op: AssignOp, x: Term, y: Term) -> Result<Term, Stop>
-    ensures { IsMade (d.assign_asks [] op (term_of x) (term_of y)) (r.value (c.assigned [] op (term_of x) (r.value_of [] (term_of y)))) at result }
+    ensures { IsMade (d.assign_asks [] op (term_of x) (term_of y))
+        (r.value (c.assigned [] op (term_of x) (r.value_of [] (term_of y)))) at result }
 {
     match x {
         Term::Lvalue(constant, ty, storage) => {
@@ -190,7 +201,10 @@ fn assigned_term(
     storage: Storage,
     y: Term,
 ) -> Result<Term, Stop>
-    ensures { IsMade (d.assign_asks [] op (r.lvalue constant (integer ty) (c.stored (storage_of storage))) (term_of y)) (r.value (c.assigned [] op (r.lvalue constant (integer ty) (c.stored (storage_of storage))) (r.value_of [] (term_of y)))) at result }
+    ensures { IsMade (d.assign_asks [] op
+        (r.lvalue constant (integer ty) (c.stored (storage_of storage))) (term_of y)) (r.value
+        (c.assigned [] op (r.lvalue constant (integer ty) (c.stored (storage_of storage)))
+        (r.value_of [] (term_of y)))) at result }
 {
     if constant {
         return Err(refused(23, at));

@@ -104,11 +104,11 @@ extends_shown m k b =
 
 -- ebreak alone ends a run without a fault
 
-loads_never : (c : Cpu) (m : Mem) (rd n : ℕ) (x : Extension) (o : Option ℕ) → (loads c m rd n x o).went ≡ Halted → ⊥
+pub loads_never : (c : Cpu) (m : Mem) (rd n : ℕ) (x : Extension) (o : Option ℕ) → (loads c m rd n x o).went ≡ Halted → ⊥
 loads_never c m rd n x None h = let bad : Faulted c.pc ≡ Halted = h in cc
 loads_never c m rd n x (Some v) h = let bad : On ≡ Halted = h in cc
 
-stops_by : (c : Cpu) (m : Mem) (rd : ℕ) (e : Effect) → (effected c m rd e).went ≡ Halted → e ≡ Stops
+pub stops_by : (c : Cpu) (m : Mem) (rd : ℕ) (e : Effect) → (effected c m rd e).went ≡ Halted → e ≡ Stops
 stops_by c m rd (Puts v target) h = let bad : On ≡ Halted = h in absurd cc
 stops_by c m rd (Goes target) h = let bad : On ≡ Halted = h in absurd cc
 stops_by c m rd (Loads a n x) h = absurd (loads_never c m rd n x (loaded m a n) h)

@@ -1,4 +1,4 @@
-use super::*;
+use im_parse::declaration;
 use im_parse_core::Stop;
 use im_tok::{Keyword, Number, NumberType, Punctuator};
 use im_word::Word;

@@ -16,7 +16,7 @@ use Rattle.im_path.proofs.Times.{order}
 use Rattle.im_reach.specs.Touches.{touch_of}
 use Rattle.im_reach.specs.Plain.{in_runtime, is_data, AreAllowed, IsPlain}
 use Rattle.im_ckpt.specs.Runs.{State, IsRun}
-use Rattle.im_executes.proofs.Effects.{touches_same, place_none}
+use Rattle.im_survives.proofs.Effects.{touches_same, place_none}
 
 data_apart : (a n k : ℕ) → is_data a n ≡ true → 4096 ≤ k → k < 1048576 → (k < a) ⊎ (a + n ≤ k)
 data_apart a n k h low high = grind (arith, nat_tests)
@@ -30,14 +30,14 @@ code_out b k (Stores a n v) may low high =
     place_none (is_place a n) a (bytes_of n v) k (subst (λ z. (k < a) ⊎ (a + z ≤ k)) (sym (length-bytes_of n v)) h)
 code_out b k Stops may low high = refl
 
-place_even : (pc : ℕ) → is_place pc 4 ≡ true → pc % 4 ≡ 0
+pub place_even : (pc : ℕ) → is_place pc 4 ≡ true → pc % 4 ≡ 0
 place_even pc h = grind (arith, nat_tests)
 
 module _ (run : ℕ → State) (steps : IsRun run) (j words : ℕ) (plain : (t : ℕ) → t < j → IsPlain (run t).cpu (run t).mem) (calm : (t at : ℕ) → t < j → (step_of (run t).cpu (run t).mem).went ≢ Faulted at) (beyond : (a : ℕ) → 4096 + 4 * words ≤ a → a < 1048576 → (run 0).mem a ≡ 0) where
   allowed : (t : ℕ) → t < j → AreAllowed (in_runtime (run t).cpu.pc) (touch_of (effect_of (run t).cpu (run t).mem))
   allowed t lt = subst (AreAllowed (in_runtime (run t).cpu.pc)) (touches_same (run t).cpu (run t).mem) (plain t lt).allowed
 
-  code_kept : (t a : ℕ) → t ≤ j → 4096 ≤ a → a < 1048576 → (run t).mem a ≡ (run 0).mem a
+  pub code_kept : (t a : ℕ) → t ≤ j → 4096 ≤ a → a < 1048576 → (run t).mem a ≡ (run 0).mem a
   code_kept zero a le low high = refl
   code_kept (suc t) a le low high =
       ap (λ (s : State). s.mem a) (steps t)
@@ -62,3 +62,10 @@ module _ (run : ℕ → State) (steps : IsRun run) (j words : ℕ) (plain : (t :
     | inl far ↦ absurd (behind t lt far (is_place (run t).cpu.pc 4) refl)
     | inr near ↦ near
   ]
+
+  even_by : (t : ℕ) → t < j → (b : Bool) → is_place (run t).cpu.pc 4 ≡ b → (run t).cpu.pc % 4 ≡ 0
+  even_by t lt true e = place_even (run t).cpu.pc e
+  even_by t lt false e = absurd (nowhere t None lt (ap (λ b. cond b (Some (little (run t).mem (run t).cpu.pc 4)) None) e) refl)
+
+  pub even_at : (t : ℕ) → t < j → (run t).cpu.pc % 4 ≡ 0
+  even_at t lt = even_by t lt (is_place (run t).cpu.pc 4) refl

@@ -1,5 +1,5 @@
-use super::*;
 use im_parse_core::Stop;
+use im_parse_statement::statement;
 use im_tok::{Keyword, Number, NumberType, Punctuator};
 use im_word::Word;
 use std::alloc::Global;

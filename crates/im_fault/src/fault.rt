@@ -1,0 +1,53 @@
+/// What is wrong in a line of a source.
+#[derive(Clone, Copy, PartialEq, Eq, Debug)]
+pub enum LineFault {
+    /// A byte with which no token begins (C11 6.4).
+    BadByte,
+    /// A `/*` without its `*/` (C11 6.4.9).
+    OpenComment,
+    /// A literal that its line or the text ends, or a character constant without exactly one
+    /// character (C11 6.4.4.4, 6.4.5).
+    OpenLiteral,
+    /// A backslash with no escape behind it, or with one whose value is over 255.
+    BadEscape,
+    /// A number that is no integer constant, or whose value no type of its list holds (C11 6.4.4.1).
+    BadNumber,
+    /// A `#` that is no line marker.
+    BadDirective,
+    /// A token that no unit goes on with, or the end of the text where a unit isn't complete (C11 6.9).
+    Syntax,
+    /// A token nested more than 200 deep.
+    Nesting,
+    /// A node that breaks the typing rule of that number.
+    Rule(u32),
+}
+
+/// What a source, or what is made of it, may have only so much of.
+#[derive(Clone, Copy, PartialEq, Eq, Debug)]
+pub enum Quantity {
+    /// Bytes of the source, at most 4194304.
+    Source,
+    /// Parameters of one function, at most 8.
+    Parameters,
+    /// Bytes of one type, at most 1048576.
+    Size,
+    /// Bytes of all statics, at most 1048576.
+    Statics,
+    /// Bytes of one function's frame, at most 65536.
+    Frame,
+    /// Bytes of the code, at most 1044480.
+    Code,
+}
+
+/// Why a source is refused.
+#[derive(Clone, Copy, PartialEq, Eq, Debug)]
+pub enum SourceFault {
+    /// The line, counted from 1, and what is wrong there.
+    Line { line: u32, why: LineFault },
+    /// A quantity over its limit, and how much there is.
+    Limit { quantity: Quantity, count: u64 },
+    /// The source has pointers, arrays, structs or strings, which aren't compiled yet.
+    NotYet,
+    /// Memory ran out.
+    OutOfMemory,
+}

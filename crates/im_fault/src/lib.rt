@@ -1,0 +1,6 @@
+//! Why a source is refused.
+#![tactic(auto)]
+
+mod fault;
+
+pub use fault::{LineFault, Quantity, SourceFault};

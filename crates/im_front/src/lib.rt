@@ -1,0 +1,8 @@
+//! The front end: from the bytes of a source to its syntax tree, or the line where it is no C.
+#![tactic(auto)]
+
+mod reading;
+#[cfg(test)]
+mod tests;
+
+pub use reading::{Text, line_of, read_source};

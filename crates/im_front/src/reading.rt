@@ -1,0 +1,93 @@
+ghost use Rattle.std.specs.Prelude.{◌≡◌, ◌<◌, ◌^◌, length, MatchResult};
+ghost use Rattle.im_lex.specs.Lexing.{line_at};
+ghost use Rattle.im_front.specs.Reading.{IsRead, IsTokenFault, AreTokens, of_token, line_of_token};
+
+use im_ctree::Tree;
+use im_fault::{LineFault, Quantity, SourceFault};
+use im_lex::{LexFault, LexFaultKind, lex};
+use im_parse_unit::{ParseFault, parse};
+use im_tok::Token;
+use std::alloc::Global;
+
+/// The most bytes of a source.
+const LIMIT: usize = 4_194_304;
+
+/// The tokens of a source and the tree that they spell.
+#[derive(Drop)]
+pub struct Text {
+    pub tokens: Vec<Token>,
+    pub tree: Tree,
+}
+
+/// How many lines end in these bytes, and 1.
+fn last_line(source: &[u8]) -> u32
+    requires { length source.now < 2 ^ 31 }
+    ensures { result ≡ line_at source.now (length source.now) }
+{
+    1 + source.iter().filter(|byte| **byte == b'\n').count() as u32
+}
+
+/// The line of a token by its number, or of the end of the text where there is no such token.
+pub fn line_of(source: &[u8], tokens: &[Token], number: u32) -> u32
+    requires { length source.now < 2 ^ 31 }
+    ensures { result ≡ line_of_token source.now tokens.now number }
+{
+    if (number as usize) < tokens.len() {
+        tokens[number as usize].line
+    } else {
+        last_line(source)
+    }
+}
+
+fn line_fault(kind: LexFaultKind) -> LineFault
+    ensures { result ≡ of_token kind }
+{
+    match kind {
+        LexFaultKind::BadByte => LineFault::BadByte,
+        LexFaultKind::OpenComment => LineFault::OpenComment,
+        LexFaultKind::OpenLiteral => LineFault::OpenLiteral,
+        LexFaultKind::BadEscape => LineFault::BadEscape,
+        LexFaultKind::BadNumber => LineFault::BadNumber,
+        LexFaultKind::BadDirective => LineFault::BadDirective,
+    }
+}
+
+fn lexed(alloc: Global, source: &[u8]) -> Result<Vec<Token>, SourceFault>
+    requires { length source.now < 2 ^ 31 }
+    ensures { MatchResult result (AreTokens source.now) (IsTokenFault source.now) }
+{
+    match lex(alloc, source) {
+        Ok(tokens) => Ok(tokens),
+        Err(LexFault::Stuck { at, kind }) => Err(SourceFault::Line {
+            line: last_line(&source[..at as usize]),
+            why: line_fault(kind),
+        }),
+        Err(LexFault::OutOfMemory) => Err(SourceFault::OutOfMemory),
+    }
+}
+
+/// The tokens and the tree of a source (C11 6.4, 6.9), or why it has none: its length is looked at
+/// first, then its tokens, their nesting, and the unit.
+pub fn read_source(alloc: Global, source: &[u8]) -> Result<Text, SourceFault>
+    ensures { IsRead source.now result }
+{
+    if source.len() > LIMIT {
+        return Err(SourceFault::Limit {
+            quantity: Quantity::Source,
+            count: source.len() as u64,
+        });
+    }
+    let tokens = lexed(alloc, source)?;
+    match parse(alloc, source, &tokens) {
+        Ok(tree) => Ok(Text { tokens, tree }),
+        Err(ParseFault::Depth(number)) => Err(SourceFault::Line {
+            line: line_of(source, &tokens, number),
+            why: LineFault::Nesting,
+        }),
+        Err(ParseFault::Syntax(number)) => Err(SourceFault::Line {
+            line: line_of(source, &tokens, number),
+            why: LineFault::Syntax,
+        }),
+        Err(ParseFault::Memory) => Err(SourceFault::OutOfMemory),
+    }
+}

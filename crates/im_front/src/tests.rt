@@ -1,0 +1,3 @@
+mod declarations;
+mod statements;
+mod texts;

@@ -1,0 +1,2 @@
+pub mod Pigeonhole
+pub mod Bounded
