@@ -1,2 +1,4 @@
 pub mod Sound
+pub mod Bounded
+pub mod Written
 pub mod Laws
