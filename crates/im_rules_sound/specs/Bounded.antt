@@ -32,12 +32,12 @@ abbrev mutual
   AreBoundedTypes known no_types = Unit {0}
   AreBoundedTypes known (more_types p ps) = IsBounded known p × AreBoundedTypes known ps
 
--- each struct has a cell and is within the limit, and so are its members' types
+-- each struct has a cell and is within the limit; so are its members' types, and they are complete
 pub record AreBoundedStructs (known : Structs) : Type 0 where
   pub complete : AreComplete known
   pub cells : (n : ℕ) → n < length known → 0 < length (layout known (struct n)).cells
   pub sizes : (n : ℕ) → n < length known → size_in known (struct n) ≤ size_limit
-  pub members : (n : ℕ) → Each {A = Member} (λ m. IsBounded known m.type) (members_of known n)
+  pub members : (n : ℕ) → Each {A = Member} (λ m. IsBounded known m.type × (is_complete_in known m.type ≡ true)) (members_of known n)
 
 -- each name that a scope or one round it declares, with its meaning
 abbrev pub EachEntity : (Name → Entity → Type 0) → Scopes → Type 0

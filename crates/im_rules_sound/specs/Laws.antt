@@ -1,5 +1,5 @@
 -- What is well typed by the rules.
-use Rattle.std.specs.Prelude.{◌≡◌, ℕ, Bool, true, List, Some}
+use Rattle.std.specs.Prelude.{◌≡◌, ℕ, Bool, true, false, List, Some}
 use Rattle.im_ctree.specs.declared.operator.BinaryOp.{BinaryOp}
 use Rattle.im_ctree.specs.declared.operator.UnaryOp.{UnaryOp}
 use Rattle.im_ctree.specs.declared.operator.AssignOp.{AssignOp}
@@ -78,7 +78,8 @@ abbrev pub SubscriptsLaw : Type 0
 SubscriptsLaw =
     (g : Prog) (f : Func) (known : Structs) (x y : Term) → IsSoundTerm g f known x → IsSoundTerm g f known y
     → MovesWell known (value_of known x).type → MovesWell known (value_of known y).type
-    → IsSized known (target_of (sum known (value_of known x) (value_of known y)).type) → Meets (index_asks known x y)
+    → (points_to_complete known (sum known (value_of known x) (value_of known y)).type ≡ true → IsSized known (target_of (sum known (value_of known x) (value_of known y)).type))
+    → Meets (index_asks known x y)
     → IsSoundTerm g f known (pointed (sum known (value_of known x) (value_of known y)))
 
 abbrev pub CallsLaw : Type 0
