@@ -391,7 +391,7 @@ module _ (g : Prog) (f : Func) where
           bounded = target-bounded c.known (sum c.known (value_of c.known x) (value_of c.known y)).type bounded;
         }
     expression-good {c = c} (of_call {f = d} {es = es} {xs = xs} k p m) r h s w =
-        call-good c (callee_of c.scopes d) xs (called-function c d h k) (arguments-good p r (behind-sound d c h) (last-strings c.next_string (strings_in d) (strings_among es) s) (λ i z. w i (size_within arguments z))) m
+        call-good c (callee_of c.scopes d) xs (called-function c d h k) (arguments-good p r.1 (behind-sound d c h) (last-strings c.next_string (strings_in d) (strings_among es) s) (λ i z. w i (size_within arguments z))) m
     expression-good {c = c} (of_member {m = n} {x = x} p m) r h s w = dotted-good c x n h.structs (expression-good p r h s (λ k z. w k (size_within whole z))) m
     expression-good {c = c} (of_arrow {m = n} {x = x} p m) r h s w =
         let gx = expression-good p r h s (λ k z. w k (size_within pointer_to_whole z)) in
@@ -412,7 +412,7 @@ module _ (g : Prog) (f : Func) where
     expression-good {c = c} (of_type_size {n = n} {q = q} p m) r h s w =
         measured-good c q.type h.structs (names-bounded c n q p h.structs (typedefs-bounded c h) (λ k z. w k (size_within measured_type z))) m.0
     expression-good {c = c} (of_cast {n = n} {e = e} {q = q} {x = x} k p m) r h s w =
-        let gx = expression-good p r (behind-name-sound n c h) (last-strings c.next_string (strings_named n) (strings_in e) s) (λ i z. w i (size_within cast_operand z)) in
+        let gx = expression-good p r.1 (behind-name-sound n c h) (last-strings c.next_string (strings_named n) (strings_in e) s) (λ i z. w i (size_within cast_operand z)) in
         record { sound = casts g f c.known q.type x gx.sound m; bounded = casted-bounded c.known q.type (value_of c.known x) (names-bounded c n q k h.structs (typedefs-bounded c h) (λ i z. w i (size_within cast_type z))) }
     expression-good {c = c} (of_binary {op = op} {a = a} {b = d} {x = x} {y = y} p q m) r h s w =
         let gx = expression-good p r.0 h (first-strings c (strings_in a) (strings_in d) s) (λ k z. w k (size_within left_operand z)) in

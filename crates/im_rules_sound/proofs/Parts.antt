@@ -184,7 +184,7 @@ module _ (g : Prog) (f : Func) (known : Structs) (structs : AreBoundedStructs kn
   gives-access (unsized t) a e = absurd (cc)
   gives-access (function r ps) a e = absurd (cc)
 
-  access-sound : (t : CType) → IsSized known t → is_complete_in known t ≡ true → IsAccess (access_of known t)
+  pub access-sound : (t : CType) → IsSized known t → is_complete_in known t ≡ true → IsAccess (access_of known t)
   access-sound (integer i) s e = tt
   access-sound (pointer c t) s e = tt
   access-sound (struct n) s e = s.struct refl

@@ -1,17 +1,21 @@
 -- What the constants of a source are, whatever its types: a number is of its type, a character and the byte of a string is at
--- most 255 (C11 6.4.4, 6.4.5). What only tells sizes and lengths is left out.
-use Rattle.std.specs.Prelude.{ℕ, ◌≤◌}
+-- most 255 (C11 6.4.4, 6.4.5). Of type names and declarators the strings alone matter.
+use Rattle.std.specs.Prelude.{ℕ, ◌≤◌, List}
 use Rattle.im_tok.specs.declared.number.Number.{Number}
 use Rattle.im_tok.specs.Numbers.{greatest}
 use Rattle.im_word.specs.Words.{Name}
 use Rattle.im_ctree.specs.Tree as t
 use Rattle.im_typed.specs.Typing.{Each}
+use Rattle.im_rules.specs.Strings.{strings_named, strings_of_declarator}
 
 abbrev pub IsOfItsType : Number → Type 0
 IsOfItsType n = n.value ≤ greatest n.number_type
 
 abbrev pub AreBytes : Name → Type 0
 AreBytes bytes = Each {A = ℕ} (λ b. b ≤ 255) bytes
+
+abbrev pub AllBytes : List Name → Type 0
+AllBytes ss = Each {A = Name} AreBytes ss
 
 abbrev mutual
   pub IsWritten : t.Expression → Type 0
@@ -20,15 +24,15 @@ abbrev mutual
   IsWritten (t.character_constant at n) = n ≤ 255
   IsWritten (t.string_literal at s) = AreBytes s
   IsWritten (t.index at a b) = IsWritten a × IsWritten b
-  IsWritten (t.call at f es) = AreWritten es
+  IsWritten (t.call at f es) = IsWritten f × AreWritten es
   IsWritten (t.member_of at e x) = IsWritten e
   IsWritten (t.arrow_to at e x) = IsWritten e
   IsWritten (t.post_step at op e) = IsWritten e
   IsWritten (t.pre_step at op e) = IsWritten e
   IsWritten (t.unary at op e) = IsWritten e
   IsWritten (t.size_of_expression at e) = IsWritten e
-  IsWritten (t.size_of_type at n) = Unit {0}
-  IsWritten (t.cast at n e) = IsWritten e
+  IsWritten (t.size_of_type at n) = AllBytes (strings_named n)
+  IsWritten (t.cast at n e) = AllBytes (strings_named n) × IsWritten e
   IsWritten (t.binary at op a b) = IsWritten a × IsWritten b
   IsWritten (t.conditional at c a b) = IsWritten c × IsWritten a × IsWritten b
   IsWritten (t.assign at op a b) = IsWritten a × IsWritten b
@@ -57,7 +61,8 @@ MayBeInitialised (t.an_initializer i) = IsWrittenInitialiser i
 
 abbrev pub AreWrittenDeclarators : t.InitDeclarators → Type 0
 AreWrittenDeclarators t.no_init_declarators = Unit {0}
-AreWrittenDeclarators (t.more_init_declarators d i ds) = MayBeInitialised i × AreWrittenDeclarators ds
+AreWrittenDeclarators (t.more_init_declarators d i ds) =
+    AllBytes (strings_of_declarator d) × MayBeInitialised i × AreWrittenDeclarators ds
 
 abbrev pub IsWrittenDeclaration : t.Declaration → Type 0
 IsWrittenDeclaration (t.declaration s ds) = AreWrittenDeclarators ds
