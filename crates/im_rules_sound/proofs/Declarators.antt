@@ -4,20 +4,25 @@ use Rattle.std.specs.Prelude.{Option, Some, None, ℤ, pos, negsuc, int_lt, if�
 use Rattle.im_word.specs.Words.{Name}
 use Rattle.im_ctree.specs.declared.specifier.SpecifierWord.{SpecifierWord}
 use Rattle.im_ctree.specs.Tree as t
+use Rattle.im_store.proofs.Same.{both-true}
 use Rattle.im_ctype.specs.Types.{CType, void, integer, pointer, array, unsized, struct, function, CTypes, Structs}
 use Rattle.im_typed.specs.Typing.{Each}
 use Rattle.im_rules.specs.TypeTests.{is_complete_in}
-use Rattle.im_rules.specs.Rules.{Line, lines, line_type, same_words, rule_9_void, rule_6_length, rule_5, named_in, keywords_in}
+use Rattle.im_rules.specs.Rules.{Line, lines, line_type, same_words, rule_9_void, rule_9_result, rule_9_parameter, rule_6_length, named_in, keywords_in}
 use Rattle.im_rules.specs.Scopes.{Entity, an_object, a_function, an_enumerator, a_typedef, Tag, struct_tag, enum_tag, Scopes, tagged, meaning, tag_meaning}
 use Rattle.im_rules.specs.Context.{Context, in_new_scope, behind, behind_core, behind_may, behind_parameters, tag_number}
 use Rattle.im_rules.specs.Terms.{Term, constant_in}
 use Rattle.im_rules.specs.Demands.{Meets}
-use Rattle.im_rules.specs.Declared.{Qualified, Declared, specified, typedef_meant, tag_meant, line_meant, type_of_specifiers, specifiers_ask, behind_specifiers, tags_in, declared_tag, with_stars, stars_ask, starred, array_of, open_array_of, count_of, element_asks, length_asks, parameter, with_parameter, with_name, parameters_of, types_of, is_only_void, function_of, function_asks}
+use Rattle.im_rules.specs.Declared.{Qualified, Declared, specified, typedef_meant, tag_meant, line_meant, type_of_specifiers, specifiers_ask, behind_specifiers, tags_in, declared_tag, with_stars, stars_ask, starred, array_of, open_array_of, count_of, element_asks, length_asks, parameter, with_parameter, with_name, parameters_of, types_of, is_only_void, are_scalars, function_of, function_asks}
 use Rattle.im_rules.specs.Typed.{Typed, Names, of_type_name, Declares, of_declarator, DeclaresIn, of_nothing, of_name, of_inner, Suffixed, no_suffix, of_array, of_open_array, of_function, AreParameters, no_parameter, a_parameter, MayDeclare, of_no_declarator, of_a_declarator}
 use Rattle.im_rules.specs.Breaks.{a_type_name, a_declarator, a_core, some_suffixes, some_parameters, maybe_declarator, name_declarator, suffixes_part, core_part, inner_part, behind_length, behind_no_length, behind_function, parameters_part, parameter_declarator, parameters_behind, declarator_part}
 use Rattle.im_rule_limits.specs.Limits.{size_limit, size_here, size_within, of_array as size_of_array}
-use Rattle.im_rules_sound.specs.Bounded.{IsBounded, AreBoundedTypes, AreBoundedStructs, EachEntity, IsBoundedTypedef, AreBoundedTypedefs, IsWithin}
+use Rattle.im_rules_sound.specs.Bounded.{IsBounded, AreScalars, AreBoundedTypes, AreBoundedStructs, EachEntity, IsBoundedTypedef, AreBoundedTypedefs, IsWithin}
 use Rattle.im_rules_sound.proofs.Types.{each-meaning, sized-bounded}
+
+types-scalar : (ds : List Declared) → are_scalars ds ≡ true → AreScalars (types_of ds)
+types-scalar [] e = tt
+types-scalar (d ∷ ds) e = let both = both-true (rule_9_parameter d.type) (are_scalars ds) e in (both.0, types-scalar ds both.1)
 
 -- specifiers
 
@@ -150,12 +155,15 @@ mutual
       let small = sized-bounded c.known r.type h.structs element complete in
       (element, array-complete c r (constant_in x) m.1.0 complete, w _ (size_here (size_of_array s d m small.size)))
   suffixed (of_open_array s m) h b w = (suffixed s h b (λ n z. w n (size_within behind_no_length z)), m.1.0)
-  suffixed {c = c} (of_function {ps = ps} {ds = ds} s p m) h b w =
+  suffixed {c = c} (of_function {ps = ps} {r = r} {ds = ds} s p m) h b w =
       let known : Known (behind_parameters ps c) = record { structs = h.structs; typedefs = h.typedefs } in
       let inner : Known (in_new_scope c) = record { structs = h.structs; typedefs = h.typedefs } in
+      let asked = both-true (rule_9_result r.type) (are_scalars (parameters_of ps ds)) m.0 in
       (
         suffixed s known b (λ n z. w n (size_within behind_function z)),
         types-bounded c.known (parameters_of ps ds) (parameters-bounded c.known ps ds (are-parameters p inner (λ n z. w n (size_within parameters_part z)))),
+        asked.0,
+        types-scalar (parameters_of ps ds) asked.1,
       )
 
   pub are-parameters : {c : Context} {n : ℕ} {ps : t.Parameters} {ds : List Declared} → AreParameters c n ps ds → Known c → IsWithin c (some_parameters n ps) → AreFine c.known ds

@@ -3,11 +3,12 @@ use Rattle.std.specs.Prelude.{◌≡◌, ℕ, ◌+◌, ◌<◌, ◌≤◌, true,
 use Rattle.im_word.specs.Words.{Name}
 use Rattle.im_num.specs.declared.kind.Kind.TheVariants.{I32}
 use Rattle.im_num.specs.Kinds.{IsOfKind}
-use Rattle.im_ctype.specs.Types.{CType, void, integer, pointer, array, unsized, struct, function, CTypes, no_types, more_types, Member, Structs, members_of}
+use Rattle.im_ctype.specs.Types.{CType, void, integer, pointer, array, unsized, struct, function, CTypes, no_types, more_types, Member, Structs, members_of, is_scalar}
 use Rattle.im_ctype.specs.Layout.{layout, AreComplete}
 use Rattle.im_typed.specs.Program.{Func, Prog}
 use Rattle.im_typed.specs.Typing.{Each}
 use Rattle.im_rules.specs.TypeTests.{is_complete_in}
+use Rattle.im_rules.specs.Rules.{rule_9_result}
 use Rattle.im_rules.specs.Scopes.{Entity, an_object, a_function, an_enumerator, a_typedef, static_object, local_object, Scopes, nothing, opened, named, tagged}
 use Rattle.im_rules.specs.Outline.{Outline, place_in}
 use Rattle.im_rules.specs.Context.{Context}
@@ -16,7 +17,11 @@ use Rattle.im_rules.specs.Breaks.{Node}
 use Rattle.im_rule_limits.specs.Limits.{size_limit, Sized}
 use Rattle.im_rules_sound.specs.Sound.{IsSoundCallee}
 
--- each array in a type is complete, and within the limit
+abbrev pub AreScalars : CTypes → Type 0
+AreScalars no_types = Unit {0}
+AreScalars (more_types p ps) = (is_scalar p ≡ true) × AreScalars ps
+
+-- each array in a type is complete and within the limit, and a function has scalars and gives one or nothing
 abbrev mutual
   pub IsBounded : Structs → CType → Type 0
   IsBounded known void = Unit {0}
@@ -26,7 +31,8 @@ abbrev mutual
       IsBounded known t × (is_complete_in known (array t n) ≡ true) × (size_in known (array t n) ≤ size_limit)
   IsBounded known (unsized t) = IsBounded known t × (is_complete_in known t ≡ true)
   IsBounded known (struct n) = Unit {0}
-  IsBounded known (function r ps) = IsBounded known r × AreBoundedTypes known ps
+  IsBounded known (function r ps) =
+      IsBounded known r × AreBoundedTypes known ps × (rule_9_result r ≡ true) × AreScalars ps
 
   pub AreBoundedTypes : Structs → CTypes → Type 0
   AreBoundedTypes known no_types = Unit {0}

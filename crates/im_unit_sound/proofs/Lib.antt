@@ -1,0 +1,11 @@
+pub mod Growing
+pub mod Places
+pub mod Bytes
+pub mod Specifiers
+pub mod Heads
+pub mod Files
+pub mod Constants
+pub mod Values
+pub mod Bodies
+pub mod Functions
+pub mod Units
