@@ -1,22 +1,21 @@
 -- What specifiers, declarators and type names give is within the limit of sizes.
-use Rattle.std.proofs.Common.{◌≡◌, ℕ, ◌+◌, ◌≤◌, ◌&&◌, nat_lt, List, [], ◌∷◌, length, Bool, true, false, refl, sym, ap, ◌∙◌, subst, arith}
+use Rattle.std.proofs.Common.{◌≡◌, ℕ, ◌&&◌, nat_lt, List, [], ◌∷◌, Bool, true, false, refl, sym, subst}
 use Rattle.std.specs.Prelude.{Option, Some, None, ℤ, pos, negsuc, int_lt, if◌then◌else◌}
 use Rattle.im_word.specs.Words.{Name}
 use Rattle.im_ctree.specs.declared.specifier.SpecifierWord.{SpecifierWord}
 use Rattle.im_ctree.specs.Tree as t
 use Rattle.im_store.proofs.Same.{both-true}
-use Rattle.im_ctype.specs.Types.{CType, void, integer, pointer, array, unsized, struct, function, CTypes, Structs}
+use Rattle.im_ctype.specs.Types.{CType, void, integer, pointer, array, unsized, struct, function, Structs}
 use Rattle.im_typed.specs.Typing.{Each}
 use Rattle.im_rules.specs.TypeTests.{is_complete_in}
 use Rattle.im_rules.specs.Rules.{Line, lines, line_type, same_words, rule_9_void, rule_9_result, rule_9_parameter, rule_6_length, named_in, keywords_in}
-use Rattle.im_rules.specs.Scopes.{Entity, an_object, a_function, an_enumerator, a_typedef, Tag, struct_tag, enum_tag, Scopes, tagged, meaning, tag_meaning}
+use Rattle.im_rules.specs.Scopes.{Entity, an_object, a_function, an_enumerator, a_typedef, Tag, struct_tag, enum_tag, Scopes, meaning, tag_meaning}
 use Rattle.im_rules.specs.Context.{Context, in_new_scope, behind, behind_core, behind_may, behind_parameters, tag_number}
-use Rattle.im_rules.specs.Terms.{Term, constant_in}
-use Rattle.im_rules.specs.Demands.{Meets}
-use Rattle.im_rules.specs.Declared.{Qualified, Declared, specified, typedef_meant, tag_meant, line_meant, type_of_specifiers, specifiers_ask, behind_specifiers, tags_in, declared_tag, with_stars, stars_ask, starred, array_of, open_array_of, count_of, element_asks, length_asks, parameter, with_parameter, with_name, parameters_of, types_of, is_only_void, are_scalars, function_of, function_asks}
-use Rattle.im_rules.specs.Typed.{Typed, Names, of_type_name, Declares, of_declarator, DeclaresIn, of_nothing, of_name, of_inner, Suffixed, no_suffix, of_array, of_open_array, of_function, AreParameters, no_parameter, a_parameter, MayDeclare, of_no_declarator, of_a_declarator}
+use Rattle.im_rules.specs.Terms.{constant_in}
+use Rattle.im_rules.specs.Declared.{Qualified, Declared, specified, typedef_meant, tag_meant, line_meant, type_of_specifiers, behind_specifiers, tags_in, declared_tag, with_stars, starred, array_of, parameter, with_parameter, with_name, parameters_of, types_of, is_only_void, are_scalars}
+use Rattle.im_rules.specs.Typed.{Names, of_type_name, Declares, of_declarator, DeclaresIn, of_nothing, of_name, of_inner, Suffixed, no_suffix, of_array, of_open_array, of_function, AreParameters, no_parameter, a_parameter, MayDeclare, of_no_declarator, of_a_declarator}
 use Rattle.im_rules.specs.Breaks.{a_type_name, a_declarator, a_core, some_suffixes, some_parameters, maybe_declarator, name_declarator, suffixes_part, core_part, inner_part, behind_length, behind_no_length, behind_function, parameters_part, parameter_declarator, parameters_behind, declarator_part}
-use Rattle.im_rule_limits.specs.Limits.{size_limit, size_here, size_within, of_array as size_of_array}
+use Rattle.im_rule_limits.specs.Limits.{size_here, size_within, of_array as size_of_array}
 use Rattle.im_rules_sound.specs.Bounded.{IsBounded, AreScalars, AreBoundedTypes, AreBoundedStructs, EachEntity, IsBoundedTypedef, AreBoundedTypedefs, IsWithin}
 use Rattle.im_rules_sound.proofs.Types.{each-meaning, sized-bounded}
 
@@ -158,8 +157,7 @@ mutual
   suffixed {c = c} (of_function {ps = ps} {r = r} {ds = ds} s p m) h b w =
       let known : Known (behind_parameters ps c) = record { structs = h.structs; typedefs = h.typedefs } in
       let inner : Known (in_new_scope c) = record { structs = h.structs; typedefs = h.typedefs } in
-      let asked = both-true (rule_9_result r.type) (are_scalars (parameters_of ps ds)) m.0 in
-      (
+      let asked = both-true (rule_9_result r.type) (are_scalars (parameters_of ps ds)) m.0 in (
         suffixed s known b (λ n z. w n (size_within behind_function z)),
         types-bounded c.known (parameters_of ps ds) (parameters-bounded c.known ps ds (are-parameters p inner (λ n z. w n (size_within parameters_part z)))),
         asked.0,

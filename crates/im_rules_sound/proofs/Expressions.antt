@@ -1,6 +1,6 @@
 -- What an expression is typed to is well typed: by induction over its forms.
-use Rattle.std.proofs.Common.{◌≡◌, ℕ, zero, suc, ◌+◌, ◌*◌, ◌<◌, ◌≤◌, ◌&&◌, ◌||◌, nat_lt, List, [], ◌∷◌, ◌++◌, length, length-append, Bool, true, false, refl, sym, ap, ◌∙◌, subst, arith}
-use Rattle.std.specs.Prelude.{Option, Some, None, ℤ, pos, if◌then◌else◌, not}
+use Rattle.std.proofs.Common.{◌≡◌, ℕ, suc, ◌+◌, ◌<◌, ◌≤◌, ◌&&◌, ◌||◌, List, [], ◌∷◌, ◌++◌, length, length-append, Bool, true, false, refl, sym, ap, ◌∙◌, subst, arith}
+use Rattle.std.specs.Prelude.{Option, Some, None, pos, if◌then◌else◌, not}
 use Rattle.std.proofs.lemmas.Bool.{lt-ltb}
 use Rattle.std.proofs.lemmas.Int.{ints}
 use Rattle.im_num.specs.declared.kind.Kind.TheVariants.{U32, I32}
@@ -18,25 +18,24 @@ use Rattle.im_ctree.specs.declared.operator.StepOp.{StepOp}
 use Rattle.im_ctree.specs.Tree as t
 use Rattle.im_store.specs.declared.operators.Comparison.{Comparison}
 use Rattle.im_store.proofs.Same.{both-true}
-use Rattle.im_ctype.specs.declared.integer.Integer.{Integer}
-use Rattle.im_ctype.specs.declared.integer.Integer.TheVariants.{Char, Int, UnsignedInt}
-use Rattle.im_ctype.specs.Types.{CType, void, integer, pointer, array, unsized, struct, function, no_types, Member, Structs, members_of, is_integer, is_pointer, is_array, is_struct, kind_of}
+use Rattle.im_ctype.specs.declared.integer.Integer.TheVariants.{Char}
+use Rattle.im_ctype.specs.Types.{CType, void, integer, pointer, array, unsized, struct, function, Member, Structs, members_of, is_integer, is_pointer, is_array, is_struct, kind_of}
 use Rattle.im_typed.specs.Program.{Place, Static, Local, Target, Func, Prog}
 use Rattle.im_typed.specs.Typing.{Each, IsTypedPlace, members_offset}
-use Rattle.im_rules.specs.TypeTests.{same_name, is_complete_in, points_to_complete, target_of, target_constant, members_in, find_member, has_member, result_of}
-use Rattle.im_rules.specs.Scopes.{Entity, an_object, a_function, an_enumerator, a_typedef, static_object, local_object, Callee, Scopes, meaning}
+use Rattle.im_rules.specs.TypeTests.{same_name, is_complete_in, target_of, target_constant, members_in, find_member, has_member, result_of}
+use Rattle.im_rules.specs.Scopes.{Entity, an_object, a_function, an_enumerator, a_typedef, static_object, local_object, Callee, meaning}
 use Rattle.im_rules.specs.Outline.{is_in, place_in}
 use Rattle.im_rules.specs.Strings.{strings_in, strings_among, strings_named}
 use Rattle.im_rules.specs.Context.{Context, behind, behind_name}
 use Rattle.im_rules.specs.Terms.{Value, Term, lvalue, value, operand_of, type_in, value_of, size_in}
 use Rattle.im_rules.specs.Rules.{Operand, value_type, rule_18, rule_21_dot, rule_21_arrow}
-use Rattle.im_rules.specs.Demands.{Meets, call_asks, callee_of, is_function_meant, is_object_defined, dot_asks, arrow_asks, unary_asks}
-use Rattle.im_rules.specs.Conversions.{number_type, literal, called, measured, operation, sum, difference, moved, arithmetic, comparison, shifted, pointed, unary_term, casted, chosen, assigned, stepped, joined, call_of, dotted, arrowed, member_among, member_at, part_of, struct_number}
+use Rattle.im_rules.specs.Demands.{Meets, call_asks, callee_of, is_function_meant, is_object_defined, dot_asks}
+use Rattle.im_rules.specs.Conversions.{number_type, called, measured, operation, sum, difference, moved, comparison, unary_term, casted, chosen, assigned, stepped, call_of, dotted, arrowed, member_among, member_at, part_of, struct_number}
 use Rattle.im_rules.specs.Typed.{Typed, of_identifier, of_number, of_character, of_string, of_index, of_call, of_member, of_arrow, of_post_step, of_pre_step, of_unary, of_size, of_type_size, of_cast, of_binary, of_conditional, of_assign, of_comma, AreTyped, no_argument, an_argument}
 use Rattle.im_rules.specs.Breaks.{an_expression, some_expressions, indexed, subscript, arguments, whole, pointer_to_whole, post_stepped, pre_stepped, operand, measured_expression, measured_type, cast_type, cast_operand, left_operand, right_operand, condition, first_arm, second_arm, left_side, right_side, before_comma, behind_comma, first_argument, other_arguments}
-use Rattle.im_rule_limits.specs.Limits.{size_limit, size_here, size_within, of_string as size_of_string}
+use Rattle.im_rule_limits.specs.Limits.{size_here, size_within, of_string as size_of_string}
 use Rattle.im_rules_sound.specs.Sound.{IsSoundValue, IsSoundPlace, IsSoundTerm, AreSound}
-use Rattle.im_rules_sound.specs.Bounded.{IsBounded, AreBoundedStructs, EachEntity, IsBoundedTypedef, AreBoundedTypedefs, IsSoundEntity, IsSoundContext, HasStrings, IsWithin}
+use Rattle.im_rules_sound.specs.Bounded.{IsBounded, AreBoundedStructs, IsBoundedTypedef, AreBoundedTypedefs, IsSoundEntity, IsSoundContext, HasStrings, IsWithin}
 use Rattle.im_rules_sound.specs.Written.{IsWritten, AreWritten}
 use Rattle.im_rules_sound.proofs.Operations.{integer-kind, pointer-shape, type-seen, operations}
 use Rattle.im_rules_sound.proofs.Terms.{reads, complete-object, unary, casts, commas}
@@ -44,7 +43,7 @@ use Rattle.im_rules_sound.proofs.Changes.{choices}
 use Rattle.im_rules_sound.proofs.Assigns.{assigns, steps}
 use Rattle.im_rules_sound.proofs.Calls.{subscripts, calls}
 use Rattle.im_rules_sound.proofs.Members.{place-sound}
-use Rattle.im_rules_sound.proofs.Types.{each-meaning, each-kept, each-at, sized-bounded, moves-well, target-sized, target-bounded}
+use Rattle.im_rules_sound.proofs.Types.{each-meaning, each-kept, sized-bounded, moves-well, target-sized, target-bounded}
 use Rattle.im_rules_sound.proofs.Parts.{parts}
 use Rattle.im_rules_sound.proofs.Declarators.{names-bounded}
 

@@ -1,6 +1,6 @@
 -- Members of structs that stand at no place: their cells are cells of the whole.
-use Rattle.std.proofs.Common.{◌≡◌, ℕ, zero, suc, ◌+◌, ◌-◌, ◌*◌, ◌%◌, ◌<◌, ◌≤◌, List, [], ◌∷◌, ◌++◌, length, map, take, drop, Bool, true, false, refl, sym, ap, ◌∙◌, subst, arith}
-use Rattle.std.specs.Prelude.{Option, Some, None, slice_get, slice_index_or}
+use Rattle.std.proofs.Common.{◌≡◌, ℕ, zero, suc, ◌+◌, ◌-◌, ◌*◌, ◌%◌, ◌<◌, List, [], ◌∷◌, ◌++◌, length, take, drop, true, false, refl, sym, ap, ◌∙◌, subst, arith}
+use Rattle.std.specs.Prelude.{Some, slice_get}
 use Rattle.std.proofs.Math.Nat.{mod-eq_of_lt, mod_self}
 use Rattle.std.proofs.lemmas.Option.{slice_get_within, get_or_from_slice_get}
 use Rattle.im_num.specs.declared.kind.Kind.{Kind}
@@ -9,18 +9,18 @@ use Rattle.im_ctype.specs.declared.cell.Cell.{Cell}
 use Rattle.im_ctype.specs.declared.member.MemberPlace.{MemberPlace}
 use Rattle.im_ctype.specs.Types.{CType, void, integer, pointer, array, unsized, struct, function, Member, Structs, members_of, is_array, is_struct, kind_of}
 use Rattle.im_ctype.specs.Built.{built_from}
-use Rattle.im_ctype.specs.Layout.{Layout, empty_layout, scalar_layout, moved_cell, moved, repeated, round_up, layout_at, layout_in, with_member, members_in, with_trailing_bytes, struct_in, layouts, layout}
+use Rattle.im_ctype.specs.Layout.{Layout, empty_layout, scalar_layout, moved_cell, moved, repeated, round_up, layout_at, layout_in, with_member, members_in, struct_in, layouts, layout}
 use Rattle.im_ctype.specs.Members.{places}
 use Rattle.im_ctype.proofs.Steps.{member-from-first}
-use Rattle.im_typed.specs.Program.{Access, Scalar, Struct, Expr, Func, Prog}
+use Rattle.im_typed.specs.Program.{Access, Struct, Expr, Func, Prog}
 use Rattle.im_typed.specs.Values.{cells_of}
-use Rattle.im_typed.specs.Typing.{kinds_of, cell_offset, InPlace, IsPart, IsAccess, shape_of}
+use Rattle.im_typed.specs.Typing.{kinds_of, cell_offset, InPlace, IsPart, IsAccess}
 use Rattle.im_rules.specs.TypeTests.{is_complete_in, has_member}
 use Rattle.im_rules.specs.Terms.{Value, access_of}
 use Rattle.im_rules.specs.Conversions.{place_among, member_among, struct_number, part_of}
 use Rattle.im_rules_sound.specs.Sound.{gives, IsSoundValue, IsSized}
 use Rattle.im_rules_sound.specs.Bounded.{IsBounded, AreBoundedStructs}
-use Rattle.im_rules_sound.proofs.Members.{Stands, found}
+use Rattle.im_rules_sound.proofs.Members.{found}
 use Rattle.im_rules_sound.proofs.Types.{each-at, some-cells, sized-bounded}
 
 -- the first cell of a layout stands at its start
@@ -150,11 +150,10 @@ first-dropped (suc n) (x ∷ cs) ds c e = first-dropped n cs ds c e
 
 -- cells of a part, from a place in the whole on
 part-cells : (from d : ℕ) (x : Access) (cells part : List Cell) → cells_of x ≡ part → AtStart part → 0 < length part → take (length part) (drop from cells) ≡ moved d part → IsPart from x (Some (Struct (length cells) cells))
-part-cells from d x cells part is start some e =
-    (
-      ap (λ cs. kinds_of (take (length cs) (drop from cells))) is ∙ ap kinds_of e ∙ kinds-moved d part ∙ ap kinds_of (sym is),
-      subst (λ cs. InPlace (cell_offset (slice_get cells from)) cs (drop from cells)) (sym is) (subst (λ z. InPlace z part (drop from cells)) (sym (base part (drop from cells) refl start some e)) (in-place d part (drop from cells) e)),
-    )
+part-cells from d x cells part is start some e = (
+  ap (λ cs. kinds_of (take (length cs) (drop from cells))) is ∙ ap kinds_of e ∙ kinds-moved d part ∙ ap kinds_of (sym is),
+  subst (λ cs. InPlace (cell_offset (slice_get cells from)) cs (drop from cells)) (sym is) (subst (λ z. InPlace z part (drop from cells)) (sym (base part (drop from cells) refl start some e)) (in-place d part (drop from cells) e)),
+)
   where
     base : (ps ds : List Cell) → drop from cells ≡ ds → AtStart ps → 0 < length ps → take (length ps) ds ≡ moved d ps → cell_offset (slice_get cells from) ≡ d
     base [] ds h s lt k = absurd (omega arith)

@@ -1,6 +1,6 @@
 -- Names, sizes of bounded types, and cells that lie one behind another.
-use Rattle.std.proofs.Common.{◌≡◌, ℕ, zero, suc, ◌+◌, ◌*◌, ◌%◌, ◌<◌, ◌≤◌, ◌&&◌, nat_lt, List, [], ◌∷◌, length, Bool, true, false, refl, sym, ap, ◌∙◌, subst, arith}
-use Rattle.std.specs.Prelude.{Option, Some, None, nat_eq, slice_get, if◌then◌else◌}
+use Rattle.std.proofs.Common.{◌≡◌, ℕ, zero, suc, ◌*◌, ◌<◌, ◌≤◌, nat_lt, List, [], ◌∷◌, length, Bool, true, false, refl, ap, ◌∙◌, subst, arith}
+use Rattle.std.specs.Prelude.{Some, nat_eq, slice_get, if◌then◌else◌}
 use Rattle.std.proofs.lemmas.Bool.{eqb-true, ltb-true}
 use Rattle.im_num.specs.declared.kind.Kind.{Kind}
 use Rattle.im_num.specs.declared.kind.Kind.TheVariants.{I8, U8, I16, U16, I32, U32, Ptr}
@@ -8,15 +8,14 @@ use Rattle.im_num.specs.Kinds.{kind_size}
 use Rattle.im_word.specs.Words.{Name}
 use Rattle.im_store.proofs.Same.{both-true}
 use Rattle.im_ctype.specs.declared.cell.Cell.{Cell}
-use Rattle.im_ctype.specs.Types.{CType, void, integer, pointer, array, unsized, struct, function, Member, Structs, members_of, is_complete, is_struct, kind_of}
+use Rattle.im_ctype.specs.Types.{CType, void, integer, pointer, array, unsized, struct, function, Structs, kind_of}
 use Rattle.im_ctype.specs.Layout.{layout}
 use Rattle.im_ctype.specs.Laws.{end_of}
 use Rattle.im_ctype.proofs.Places.{Chained, Aligned, multiple-mod, sound, few-cells, length-repeated}
-use Rattle.im_typed.specs.Typing.{Each, IsElement, AreLaidOut, IsAccess, IsObject}
+use Rattle.im_typed.specs.Typing.{Each, AreLaidOut, IsObject}
 use Rattle.im_rules.specs.TypeTests.{same_name, is_complete_in, points_to_complete, target_of}
 use Rattle.im_rules.specs.Scopes.{Entity, Scopes, nothing, opened, named, tagged, meaning}
-use Rattle.im_rules.specs.Terms.{size_in, access_of}
-use Rattle.im_rule_limits.specs.Limits.{size_limit}
+use Rattle.im_rules.specs.Terms.{size_in}
 use Rattle.im_rules_sound.specs.Sound.{MovesWell, IsSized}
 use Rattle.im_rules_sound.specs.Bounded.{IsBounded, AreBoundedStructs, EachEntity}
 

@@ -1,31 +1,29 @@
 -- Declarations in a block: each object stands among the function's, and its initialiser fits it.
-use Rattle.std.proofs.Common.{◌≡◌, ℕ, zero, suc, ◌+◌, ◌<◌, ◌≤◌, List, [], ◌∷◌, ◌++◌, length, length-append, Bool, true, false, refl, sym, ap, ◌∙◌, subst, arith}
-use Rattle.std.specs.Prelude.{Option, Some, None, slice_get}
+use Rattle.std.proofs.Common.{◌≡◌, ℕ, ◌+◌, ◌<◌, ◌≤◌, List, [], ◌∷◌, ◌++◌, length, length-append, Bool, true, refl, sym, ap, ◌∙◌, subst, arith}
+use Rattle.std.specs.Prelude.{Some, slice_get}
 use Rattle.std.proofs.lemmas.Option.{slice_get_within}
 use Rattle.im_word.specs.Words.{Name}
 use Rattle.im_ctree.specs.Tree as t
 use Rattle.im_ctype.specs.Types.{CType, void, integer, pointer, array, unsized, struct, function, Structs}
 use Rattle.im_ctype.specs.Layout.{layout}
-use Rattle.im_typed.specs.Program.{Stmt, Stmts, Forget, Initialise, LocalObject, Func, Prog}
-use Rattle.im_typed.specs.Meaning.{given_offsets}
-use Rattle.im_typed.specs.Typing.{Each, cells_at, IsPieceOf, AreDistinct, IsTypedStmt, AreTyped}
+use Rattle.im_typed.specs.Program.{Stmt, Stmts, LocalObject, Func, Prog}
+use Rattle.im_typed.specs.Typing.{Each, cells_at, IsPieceOf, IsTypedStmt, AreTyped}
 use Rattle.im_rules.specs.TypeTests.{is_complete_in}
 use Rattle.im_rules.specs.Rules.{named_in}
 use Rattle.im_rules.specs.Strings.{strings_of_declarator}
-use Rattle.im_rules.specs.Outline.{is_initialised}
-use Rattle.im_rules.specs.Context.{Context, behind_declarator, with_entity}
+use Rattle.im_rules.specs.Context.{Context}
 use Rattle.im_rules.specs.Terms.{size_in}
-use Rattle.im_rules.specs.Declared.{Qualified, Declared, behind_specifiers, type_of_specifiers}
+use Rattle.im_rules.specs.Declared.{Qualified, Declared, behind_specifiers}
 use Rattle.im_rules.specs.Typed.{Declares}
-use Rattle.im_rules.specs.Initialisers.{completed, counted, strings_given, pieces_of}
-use Rattle.im_rules.specs.Statements.{Site, Added, and_then, nothing_added, name_of, local_entity, object_of, with_local, declared_strings, initialised_strings, local_added, behind_initializer, MayInitialise, forgets, initialises, AreLocals, no_local, a_local, in_context, TypedDeclaration, of_declaration}
+use Rattle.im_rules.specs.Initialisers.{completed, strings_given, pieces_of}
+use Rattle.im_rules.specs.Statements.{Site, Added, name_of, object_of, with_local, declared_strings, initialised_strings, behind_initializer, MayInitialise, forgets, initialises, AreLocals, no_local, a_local, in_context, TypedDeclaration, of_declaration}
 use Rattle.im_rules.specs.BodyBreaks.{some_locals, a_declaration, an_initialiser, local_declarator, locals_behind, declared_locals}
 use Rattle.im_rule_limits.specs.Limits.{size_limit, of_local, size_in_part, size_in_inner, size_in_local_initialiser}
-use Rattle.im_rules_sound.specs.Bounded.{IsBounded, EachEntity, IsSoundEntity, IsSoundContext, HasStrings}
+use Rattle.im_rules_sound.specs.Bounded.{IsBounded, IsSoundEntity, IsSoundContext, HasStrings}
 use Rattle.im_rules_sound.specs.Written.{MayBeInitialised, AreWrittenDeclarators, IsWrittenDeclaration}
 use Rattle.im_rules_sound.proofs.Types.{complete-is-object}
 use Rattle.im_rules_sound.proofs.Declarators.{declares-bounded, specifiers-bounded, tags-kept}
-use Rattle.im_rules_sound.proofs.Expressions.{typedefs-bounded, first-strings, last-strings}
+use Rattle.im_rules_sound.proofs.Expressions.{typedefs-bounded}
 use Rattle.im_statements_sound.specs.Sites.{StandFrom, IsSoundSite, IsBodyWithin, IsGivenWithin, AreObjects}
 use Rattle.im_statements_sound.proofs.Initialisers.{initialisers}
 use Rattle.im_statements_sound.proofs.Sites.{IsPast, stand-right, past-strings-sound}
@@ -63,8 +61,7 @@ module _ (g : Prog) (f : Func) where
   initialise-typed b k known c n x a t.no_initializer _ forgets e w h bounded complete st l o = o.inside
   initialise-typed b k known c n x a (t.an_initializer i) _ (initialises {ps = ps} d) e w h bounded complete st l o =
       let own = initialisers g f c a i ps d w h bounded complete st (l i refl) in
-      let cells : (layout c.known a).cells ≡ cells_at (slice_get f.objects n) = ap cells_at (sym o.there) in
-      (
+      let cells : (layout c.known a).cells ≡ cells_at (slice_get f.objects n) = ap cells_at (sym o.there) in (
         o.inside,
         ap length cells,
         subst (λ cs. Each (IsPieceOf g f cs) (pieces_of c.known ps)) cells own.0,

@@ -1,12 +1,11 @@
 -- A value that fits a type, as that type.
-use Rattle.std.proofs.Common.{◌≡◌, ◌&&◌, ◌||◌, ⊎_elim, Bool, true, false, refl, sym, ap, ◌∙◌, subst}
+use Rattle.std.proofs.Common.{◌≡◌, ⊎_elim, true, false, refl, sym, ap, ◌∙◌}
 use Rattle.std.specs.Prelude.{Some}
-use Rattle.im_store.proofs.Same.{both-true}
-use Rattle.im_ctype.specs.Types.{CType, void, integer, pointer, array, unsized, struct, function, Structs, same_type, is_integer, is_pointer, is_struct, is_array}
-use Rattle.im_typed.specs.Program.{Scalar, Func, Prog}
+use Rattle.im_ctype.specs.Types.{CType, void, integer, pointer, array, unsized, struct, function, Structs, is_integer, is_array}
+use Rattle.im_typed.specs.Program.{Func, Prog}
 use Rattle.im_typed.specs.Typing.{shape_of, IsTyped}
 use Rattle.im_rules.specs.Terms.{Term, operand_of, value_of, access_of}
-use Rattle.im_rules.specs.Rules.{value_type, pointer_fits, is_integer_null, rule_17}
+use Rattle.im_rules.specs.Rules.{value_type, rule_17}
 use Rattle.im_rules.specs.Conversions.{as_type}
 use Rattle.im_rules_sound.specs.Sound.{gives, IsSoundTerm}
 use Rattle.im_rules_sound.proofs.Operations.{or-true, type-seen, as-integer-sound, as-pointer-sound}

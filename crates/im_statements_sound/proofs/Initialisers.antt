@@ -1,8 +1,8 @@
 -- What an initialiser gives stands in its object, each cell once.
-use Rattle.std.proofs.Common.{◌≡◌, ℕ, zero, suc, ◌+◌, ◌-◌, ◌*◌, ◌%◌, ◌<◌, ◌≤◌, ◌&&◌, nat_lt, List, [], ◌∷◌, ◌++◌, length, map, length-append, Bool, true, false, refl, sym, ap, ◌∙◌, subst, arith, append_assoc}
-use Rattle.std.specs.Prelude.{Option, Some, None, pos, slice_get}
+use Rattle.std.proofs.Common.{◌≡◌, ℕ, zero, suc, ◌+◌, ◌*◌, ◌<◌, ◌≤◌, List, [], ◌∷◌, ◌++◌, length, map, true, refl, sym, ap, ◌∙◌, subst, arith, append_assoc}
+use Rattle.std.specs.Prelude.{Some, pos, slice_get}
 use Rattle.std.proofs.lemmas.Bool.{ltb-true}
-use Rattle.im_num.specs.Kinds.{kind_size, wrap}
+use Rattle.im_num.specs.Kinds.{kind_size}
 use Rattle.im_num.proofs.Wrapping.{wrap-of_kind}
 use Rattle.im_word.specs.Words.{Name}
 use Rattle.im_ctree.specs.Tree as t
@@ -12,19 +12,19 @@ use Rattle.im_ctype.specs.declared.integer.Integer.TheVariants.{Char, SignedChar
 use Rattle.im_ctype.specs.declared.member.MemberPlace.{MemberPlace}
 use Rattle.im_ctype.specs.Types.{CType, void, integer, pointer, array, unsized, struct, function, Member, Structs, members_of, is_character, kind_of}
 use Rattle.im_ctype.specs.Layout.{Layout, empty_layout, repeated, moved, round_up, layout, layout_in, layouts, with_member, members_in, struct_in, MembersAreComplete, AreComplete}
-use Rattle.im_ctype.specs.Members.{places, places_from, place_behind, member_cells}
+use Rattle.im_ctype.specs.Members.{places_from, place_behind, member_cells}
 use Rattle.im_ctype.proofs.CellLists.{complete-element, struct-as-listed}
 use Rattle.im_ctype.proofs.MoreStructs.{complete-at}
 use Rattle.im_ctype.proofs.Steps.{struct-cells}
 use Rattle.im_typed.specs.Program.{Piece, Func, Prog}
 use Rattle.im_typed.specs.Values.{cells_of}
 use Rattle.im_typed.specs.Meaning.{given_offsets}
-use Rattle.im_typed.specs.Typing.{Each, IsPieceOf, StandAmong, AreDistinct, IsAccess}
+use Rattle.im_typed.specs.Typing.{Each, IsPieceOf, StandAmong, AreDistinct}
 use Rattle.im_rules.specs.TypeTests.{is_complete_in}
 use Rattle.im_rules.specs.Rules.{initializer_count}
 use Rattle.im_rules.specs.Context.{Context, behind_strings}
-use Rattle.im_rules.specs.Terms.{Term, access_of, size_in, value_of}
-use Rattle.im_rules.specs.Initialisers.{Shape, one, bytes, elements, members, misshapen, shape, side_by_side, in_order, strings_given, strings_among, Item, from_term, byte_items, Initialised, initialised, Shaped, of_one, of_bytes, of_elements, of_members, Elements, no_element, an_element, InMembers, no_member, a_member, piece_of, pieces_of}
+use Rattle.im_rules.specs.Terms.{Term, access_of, size_in}
+use Rattle.im_rules.specs.Initialisers.{Shape, side_by_side, in_order, strings_given, strings_among, Item, from_term, byte_items, Initialised, initialised, Shaped, of_one, of_bytes, of_elements, of_members, Elements, no_element, an_element, InMembers, no_member, a_member, piece_of, pieces_of}
 use Rattle.im_rules.specs.BodyBreaks.{an_initialiser, some_elements, some_members}
 use Rattle.im_rule_limits.specs.Limits.{size_in_first_element, size_in_other_elements, size_in_first_member, size_in_other_members}
 use Rattle.im_rules_sound.specs.Bounded.{IsBounded, IsSoundContext, HasStrings}
@@ -102,7 +102,7 @@ module _ (g : Prog) (f : Func) (whole : List Cell) where
         ascends = (
           omega arith,
           ascending-lower (suc (at + 0)) (at + 1) (at + suc n * size_in known (integer i)) (given_offsets (pieces_of known (byte_items (at + 1) (integer i) s))) (omega arith)
-          (subst (λ z. Ascending (at + 1) z (given_offsets (pieces_of known (byte_items (at + 1) (integer i) s)))) high rest.ascends),
+              (subst (λ z. Ascending (at + 1) z (given_offsets (pieces_of known (byte_items (at + 1) (integer i) s)))) high rest.ascends),
         );
       }
     where

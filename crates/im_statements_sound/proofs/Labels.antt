@@ -1,6 +1,6 @@
 -- Labels of a switch: they stand in its block, and differ.
-use Rattle.std.proofs.Common.{◌≡◌, ℕ, zero, suc, ◌+◌, ◌≤◌, ◌||◌, List, [], ◌∷◌, ◌++◌, Bool, true, false, refl, sym, ap, ◌∙◌, subst, arith}
-use Rattle.std.specs.Prelude.{Option, Some, None, ℤ, pos, not, if◌then◌else◌}
+use Rattle.std.proofs.Common.{◌≡◌, ℕ, suc, ◌+◌, ◌≤◌, ◌||◌, List, [], ◌∷◌, ◌++◌, Bool, true, false, refl, sym, ap, ◌∙◌, subst, arith}
+use Rattle.std.specs.Prelude.{Option, Some, None, ℤ, not, if◌then◌else◌}
 use Rattle.std.specs.Ordering.{int_eq}
 use Rattle.std.proofs.lemmas.Cmp.{int_eq_equiv}
 use Rattle.im_num.specs.Kinds.{IsOfKind}
@@ -8,8 +8,8 @@ use Rattle.im_num.proofs.Wrapping.{wrap-of_kind}
 use Rattle.im_ctype.specs.declared.integer.Integer.{Integer}
 use Rattle.im_ctype.specs.Types.{kind_of}
 use Rattle.im_typed.specs.declared.statement.Case.{Case}
-use Rattle.im_typed.specs.Program.{Access, Scalar, Stmts, no_stmts, more_stmts, Prog, Func}
-use Rattle.im_typed.specs.Typing.{Each, is_label, AreLabels, HasValue, statements_in, AreTyped, IsTypedStmt}
+use Rattle.im_typed.specs.Program.{Access, Stmts, no_stmts, more_stmts, Prog, Func}
+use Rattle.im_typed.specs.Typing.{Each, is_label, AreLabels, statements_in, AreTyped}
 use Rattle.im_rules.specs.Rules.{is_among, rule_15}
 use Rattle.im_rules.specs.Statements.{label_value, differs, appended, count_stmts, first_of, otherwise_of, Cases}
 

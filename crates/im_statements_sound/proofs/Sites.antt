@@ -1,16 +1,15 @@
 -- From one site in a body to the next.
-use Rattle.std.proofs.Common.{◌≡◌, ℕ, zero, suc, ◌+◌, ◌<◌, ◌≤◌, List, [], ◌∷◌, ◌++◌, length, length-append, Bool, true, false, refl, sym, ap, ◌∙◌, subst, arith}
-use Rattle.std.specs.Prelude.{Option, Some, None, slice_get}
+use Rattle.std.proofs.Common.{◌≡◌, ℕ, zero, suc, ◌+◌, List, [], ◌∷◌, ◌++◌, length, length-append, true, refl, sym, ap, ◌∙◌, subst, arith}
+use Rattle.std.specs.Prelude.{Some, slice_get}
 use Rattle.im_word.specs.Words.{Name}
 use Rattle.im_ctree.specs.Tree as t
-use Rattle.im_ctype.specs.Types.{CType}
 use Rattle.im_typed.specs.Program.{LocalObject, Func, Prog}
 use Rattle.im_rules.specs.TypedUnit.{result_kind}
 use Rattle.im_rules.specs.Rules.{rule_9_result}
 use Rattle.im_rules.specs.Strings.{strings_in}
-use Rattle.im_rules.specs.Context.{Context, in_new_scope, behind_strings}
-use Rattle.im_rules.specs.Statements.{Site, Added, and_then, just_strings, nothing_added, past, past_expression, in_block, in_loop, in_switch}
-use Rattle.im_rules_sound.specs.Bounded.{IsSoundContext, HasStrings}
+use Rattle.im_rules.specs.Context.{Context, behind_strings}
+use Rattle.im_rules.specs.Statements.{Site, Added, and_then, just_strings, past, past_expression, in_block, in_loop, in_switch}
+use Rattle.im_rules_sound.specs.Bounded.{IsSoundContext}
 use Rattle.im_statements_sound.specs.Sites.{StandFrom, IsSoundSite, AreObjects}
 
 pub objects-append : (xs ys : List LocalObject) → AreObjects xs → AreObjects ys → AreObjects (xs ++ ys)

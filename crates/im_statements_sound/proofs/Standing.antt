@@ -1,19 +1,16 @@
 -- Cells of parts that stand among an object's, and offsets that ascend.
-use Rattle.std.proofs.Common.{◌≡◌, ℕ, zero, suc, ◌+◌, ◌-◌, ◌*◌, ◌%◌, ◌<◌, ◌≤◌, List, [], ◌∷◌, ◌++◌, length, map, Bool, true, false, refl, sym, ap, ◌∙◌, subst, arith, append_assoc}
-use Rattle.std.specs.Prelude.{Option, Some, None, slice_get, if◌then◌else◌, nat_eq}
+use Rattle.std.proofs.Common.{◌≡◌, ℕ, suc, ◌+◌, ◌<◌, ◌≤◌, List, [], ◌∷◌, ◌++◌, map, true, false, refl, ap, ◌∙◌, subst, arith}
+use Rattle.std.specs.Prelude.{Some, if◌then◌else◌, nat_eq}
 use Rattle.std.proofs.lemmas.Bool.{ne_eqb, eq-eqb}
-use Rattle.im_num.specs.declared.kind.Kind.{Kind}
-use Rattle.im_num.specs.Kinds.{kind_size}
 use Rattle.im_ctype.specs.declared.cell.Cell.{Cell}
-use Rattle.im_ctype.specs.declared.member.MemberPlace.{MemberPlace}
-use Rattle.im_ctype.specs.Types.{CType, Member, Structs, struct, members_of}
-use Rattle.im_ctype.specs.Layout.{Layout, moved_cell, moved, repeated, round_up, layout, layout_in, with_member, members_in, struct_in, MembersAreComplete, AreComplete}
+use Rattle.im_ctype.specs.Types.{CType, Structs}
+use Rattle.im_ctype.specs.Layout.{Layout, moved, repeated, layout}
 use Rattle.im_ctype.specs.Laws.{end_of}
 use Rattle.im_ctype.proofs.Places.{Chained, sound}
 use Rattle.im_ctype.proofs.CellLists.{moved-array}
 use Rattle.im_store.specs.Objects.{kind_at}
 use Rattle.im_typed.specs.Meaning.{is_among}
-use Rattle.im_typed.specs.Typing.{Each, StandAmong, AreDistinct}
+use Rattle.im_typed.specs.Typing.{StandAmong, AreDistinct}
 use Rattle.im_rules_sound.proofs.Types.{kind-small}
 
 -- offsets, each above the one before, from a number on and below another
@@ -47,8 +44,7 @@ ascending-distinct low high (x ∷ xs) h = (not-among x (suc x) high xs (omega a
 pub chained-ascending : (at low high : ℕ) (cs : List Cell) → Chained low high cs → Ascending (at + low) (at + high) (map {A = Cell} (λ c. at + c.offset) cs)
 chained-ascending at low high [] h = omega (arith, h)
 chained-ascending at low high (c ∷ cs) h =
-    let small = (kind-small c.kind).0 in
-    (
+    let small = (kind-small c.kind).0 in (
       omega (arith, h.0),
       ascending-lower (suc (at + c.offset)) (at + end_of c) (at + high) (map {A = Cell} (λ c. at + c.offset) cs) (omega (arith, small)) (chained-ascending at (end_of c) high cs h.1),
     )

@@ -1,42 +1,40 @@
 -- What a statement is typed to is well typed: by induction over its forms.
-use Rattle.std.proofs.Common.{◌≡◌, ℕ, zero, suc, ◌+◌, ◌<◌, ◌≤◌, ◌||◌, List, [], ◌∷◌, ◌++◌, length, length-append, append_assoc, Bool, true, false, refl, sym, ap, ◌∙◌, subst, arith}
+use Rattle.std.proofs.Common.{◌≡◌, ℕ, ◌+◌, ◌≤◌, ◌||◌, List, [], ◌++◌, length-append, Bool, true, false, refl, sym, ap, ◌∙◌, subst, arith}
 use Rattle.std.specs.Prelude.{Option, Some, None, ℤ, pos, IsTrue, not, if◌then◌else◌}
 use Rattle.std.specs.Option.{option_map}
 use Rattle.std.specs.Ordering.{int_eq}
 use Rattle.std.proofs.lemmas.Int.{ints}
-use Rattle.im_num.specs.declared.kind.Kind.{Kind}
 use Rattle.im_num.specs.declared.kind.Kind.TheVariants.{I32}
 use Rattle.im_num.specs.Kinds.{IsOfKind}
-use Rattle.im_word.specs.Words.{Name}
 use Rattle.im_ctree.specs.Tree as t
 use Rattle.im_ctype.specs.declared.integer.Integer.{Integer}
-use Rattle.im_ctype.specs.Types.{Structs, CType, void, integer, pointer, array, unsized, struct, function, is_void, is_integer, is_scalar, kind_of}
+use Rattle.im_ctype.specs.Types.{Structs, CType, void, integer, pointer, array, unsized, struct, function, is_void, is_scalar, kind_of}
 use Rattle.im_typed.specs.declared.statement.Case.{Case}
-use Rattle.im_typed.specs.Program.{Access, Scalar, Expr, Constant, Stmt, Stmts, Func, Prog}
-use Rattle.im_typed.specs.Typing.{Each, shape_of, IsTyped, IsCondition, IsReturned, IsScalarShape, IsPromotedShape, AreLabels, statements_in, IsTypedStmt, AreTyped}
-use Rattle.im_rules.specs.Rules.{value_type, is_among, rule_15, rule_17, rule_9_result, rule_34_break, rule_34_continue, rule_34_return}
+use Rattle.im_typed.specs.Program.{Scalar, Expr, Stmt, Stmts, Func, Prog}
+use Rattle.im_typed.specs.Typing.{shape_of, IsTyped, IsCondition, IsReturned, IsScalarShape, IsPromotedShape, AreLabels, statements_in, AreTyped}
+use Rattle.im_rules.specs.Rules.{is_among, rule_9_result, rule_34_break, rule_34_continue}
 use Rattle.im_rules.specs.Strings.{strings_in, strings_maybe}
-use Rattle.im_rules.specs.Context.{Context, behind_maybe}
-use Rattle.im_rules.specs.Terms.{Term, operand_of, value_of, type_in, constant_in, access_of, kind_in}
+use Rattle.im_rules.specs.Context.{behind_maybe}
+use Rattle.im_rules.specs.Terms.{Term, constant_in, access_of, kind_in}
 use Rattle.im_rules.specs.Demands.{Meets}
-use Rattle.im_rules.specs.Conversions.{as_type, as_integer, promoted, integer_of}
+use Rattle.im_rules.specs.Conversions.{as_type, integer_of}
 use Rattle.im_rules.specs.Typed.{Typed}
 use Rattle.im_rules.specs.Breaks.{an_expression}
 use Rattle.im_rules.specs.TypedUnit.{result_kind}
-use Rattle.im_rules.specs.Statements.{Site, Added, and_then, just_strings, nothing_added, past, past_expression, past_maybe, in_block, in_loop, in_switch, condition_asks, value_in, switch_type, Labels, Cases, with_constant, with_default, case_at, label_value, appended, count_stmts, one_or_zero, MayTest, no_test, a_test, MayStep, no_step, a_step, Begins, by_declaration, by_nothing, by_expression, TypedDeclaration, TypedStatement, of_block, of_nothing, of_expression, of_if, of_while, of_do, of_for, of_switch, of_break, of_continue, of_return, of_return_value, MayBeTyped, no_else, an_else, TypedItems, no_item, a_declaration, a_statement, TypedCases, no_case, between_cases, a_labelled, Labelled, no_label, of_case, of_default}
-use Rattle.im_rules.specs.BodyBreaks.{a_beginning, a_statement as statement_node, an_else as else_node, some_items, some_cases, a_labelled as labelled_node, is_label, begun, evaluated, if_condition, while_condition, do_condition, switched, returned, case_constant, for_condition, for_step, begun_by, block_items, first_branch, second_branch, else_statement, while_body, do_body, for_beginning, for_body, switch_block, item_declaration, behind_declaration, item_statement, behind_statement, case_declaration, cases_behind_declaration, case_statement, cases_behind_statement, unlabelled, behind_case, behind_default}
+use Rattle.im_rules.specs.Statements.{Site, Added, and_then, just_strings, past, past_expression, past_maybe, in_block, in_loop, condition_asks, value_in, switch_type, Labels, Cases, label_value, count_stmts, MayTest, no_test, a_test, MayStep, no_step, a_step, Begins, by_declaration, by_nothing, by_expression, TypedStatement, of_block, of_nothing, of_expression, of_if, of_while, of_do, of_for, of_switch, of_break, of_continue, of_return, of_return_value, MayBeTyped, no_else, an_else, TypedItems, no_item, a_declaration, a_statement, TypedCases, no_case, between_cases, a_labelled, Labelled, no_label, of_case, of_default}
+use Rattle.im_rules.specs.BodyBreaks.{a_beginning, a_statement as statement_node, an_else as else_node, some_items, some_cases, a_labelled as labelled_node, is_label, begun, evaluated, if_condition, while_condition, do_condition, switched, returned, for_condition, for_step, begun_by, block_items, first_branch, second_branch, else_statement, while_body, do_body, for_beginning, for_body, switch_block, item_declaration, behind_declaration, item_statement, behind_statement, case_declaration, cases_behind_declaration, case_statement, cases_behind_statement, unlabelled, behind_case, behind_default}
 use Rattle.im_rule_limits.specs.Limits.{size_in_part, size_in_inner, size_in_step}
-use Rattle.im_rules_sound.specs.Sound.{IsSoundValue, IsSoundTerm}
+use Rattle.im_rules_sound.specs.Sound.{IsSoundValue}
 use Rattle.im_rules_sound.specs.Bounded.{IsSoundContext, HasStrings, IsWithin}
 use Rattle.im_rules_sound.specs.Written.{IsWritten, MayBeWritten, IsWrittenBeginning, IsWrittenStatement, MayBeWrittenStatement, AreWrittenItems}
 use Rattle.im_rules_sound.proofs.Operations.{type-seen, scalar-shape, promoted-kind, as-integer-sound}
 use Rattle.im_rules_sound.proofs.Terms.{reads, integer-seen}
 use Rattle.im_rules_sound.proofs.Expressions.{expressions, first-strings, last-strings}
-use Rattle.im_statements_sound.specs.Sites.{StandFrom, IsSoundSite, IsBodyWithin, AreObjects, IsTypedAt}
+use Rattle.im_statements_sound.specs.Sites.{IsSoundSite, IsBodyWithin, AreObjects, IsTypedAt}
 use Rattle.im_statements_sound.proofs.Fits.{fitted}
-use Rattle.im_statements_sound.proofs.Declarations.{IsDeclared, declaration-typed}
+use Rattle.im_statements_sound.proofs.Declarations.{declaration-typed}
 use Rattle.im_statements_sound.proofs.Sites.{IsPast, objects-append, first-site, last-site, past-strings-sound, past-expression-is, behind-added, behind-expression, block-site, loop-site, switch-site}
-use Rattle.im_statements_sound.proofs.Labels.{count-same, count-appended, typed-appended, AtMost, first-at-most, otherwise-at-most, AreFresh, IsApart, Covers, or-none, no-label-apart, labels-append, fresh-behind, fresh-before, fresh-append, fresh-first, fresh-rest, label-of-kind, label-differs}
+use Rattle.im_statements_sound.proofs.Labels.{count-same, count-appended, typed-appended, AtMost, first-at-most, otherwise-at-most, AreFresh, Covers, or-none, no-label-apart, labels-append, fresh-behind, fresh-before, fresh-append, fresh-first, fresh-rest, label-of-kind, label-differs}
 
 constant-of-kind : (b : Bool) → IsOfKind I32 (if b then pos 1 else pos 0)
 constant-of-kind true = record { low = omega (arith, ints); high = omega (arith, ints) }

@@ -1,9 +1,9 @@
 -- What initialisers, statements and blocks are typed to is well typed.
-use Rattle.std.specs.Prelude.{◌≡◌, ℕ, true, List}
+use Rattle.std.specs.Prelude.{◌≡◌, true, List}
 use Rattle.im_ctree.specs.Tree as t
 use Rattle.im_ctype.specs.Types.{CType}
 use Rattle.im_ctype.specs.Layout.{layout}
-use Rattle.im_typed.specs.Program.{Piece, Stmt, Stmts, Func, Prog}
+use Rattle.im_typed.specs.Program.{Stmt, Stmts, Func, Prog}
 use Rattle.im_typed.specs.Meaning.{given_offsets}
 use Rattle.im_typed.specs.Typing.{Each, IsPieceOf, AreDistinct, AreTyped}
 use Rattle.im_rules.specs.TypeTests.{is_complete_in}

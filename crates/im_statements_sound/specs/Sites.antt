@@ -1,6 +1,5 @@
 -- Places in a body of which the program has all that is added there.
 use Rattle.std.specs.Prelude.{◌≡◌, ℕ, ◌+◌, ◌≤◌, true, List, Some, slice_get}
-use Rattle.im_ctype.specs.Types.{CType}
 use Rattle.im_typed.specs.Program.{LocalObject, Stmt, Func, Prog}
 use Rattle.im_typed.specs.Typing.{Each, IsObject, IsTypedStmt}
 use Rattle.im_rules.specs.Rules.{rule_9_result, rule_34_break, rule_34_continue}

@@ -1,23 +1,23 @@
 -- Functions of a unit: each has the type that its name has at the end, and they stand where the outline says.
-use Rattle.std.proofs.Common.{◌≡◌, ◌⊎◌, inl, inr, ℕ, zero, suc, ◌+◌, ◌<◌, ◌≤◌, ◌&&◌, ◌||◌, List, [], ◌∷◌, ◌++◌, length, append_assoc, append-nil, map, take, Bool, true, false, refl, sym, ap, ◌∙◌, subst, arith}
+use Rattle.std.proofs.Common.{◌≡◌, ◌⊎◌, inl, inr, ℕ, suc, ◌&&◌, ◌||◌, List, [], ◌∷◌, ◌++◌, length, append_assoc, append-nil, map, take, Bool, true, false, refl, sym, ap, ◌∙◌, subst}
 use Rattle.std.specs.Prelude.{Option, Some, None, not, slice_get, if◌then◌else◌}
 use Rattle.std.specs.Option.{option_map}
 use Rattle.im_word.specs.Words.{Name}
 use Rattle.im_ctree.specs.declared.specifier.SpecifierWord.{SpecifierWord}
 use Rattle.im_ctree.specs.Tree as t
 use Rattle.im_store.proofs.Same.{both-true}
-use Rattle.im_ctype.specs.Types.{CType, void, integer, pointer, array, unsized, struct, function, CTypes, Structs, is_void, is_function, is_scalar, is_integer, is_pointer}
-use Rattle.im_typed.specs.Program.{Access, Scalar, LocalObject, Func, Stmts}
+use Rattle.im_ctype.specs.Types.{CType, void, integer, pointer, array, unsized, struct, function, Structs, is_function, is_scalar, is_integer, is_pointer}
+use Rattle.im_typed.specs.Program.{Scalar, LocalObject, Func, Stmts}
 use Rattle.im_typed.specs.Values.{cells_of}
 use Rattle.im_typed.specs.Typing.{Each}
 use Rattle.im_rules.specs.TypeTests.{same_name, result_of, parameters_of as types_given}
-use Rattle.im_rules.specs.Rules.{is_typedef, named_in, keywords_in, rule_1, rule_2, rule_9_result, rule_11}
-use Rattle.im_rules.specs.Scopes.{Entity, an_object, a_function, an_enumerator, a_typedef, static_object, Callee, a_body, Scopes, meaning}
-use Rattle.im_rules.specs.Outline.{Outline, outline, is_in, place_in, name_of, Nearest, bare, a_star, a_length, parameters, nearest, typedef_in, is_extern, gives_function, Sort, a_type, sort_of, defines_as, is_object_sort, defines_a_function, is_initialised, Outlined, Walk, with_declarator, with_declarators, with_lists, body_item, with_external, walked, whole_walk, bodies_among}
+use Rattle.im_rules.specs.Rules.{is_typedef, named_in, rule_1, rule_2, rule_9_result, rule_11}
+use Rattle.im_rules.specs.Scopes.{Entity, an_object, a_function, an_enumerator, a_typedef, static_object, meaning}
+use Rattle.im_rules.specs.Outline.{Outline, outline, is_in, place_in, name_of, Nearest, bare, a_star, a_length, parameters, nearest, typedef_in, is_extern, gives_function, sort_of, defines_as, is_object_sort, defines_a_function, is_initialised, Outlined, Walk, with_declarator, with_declarators, with_lists, body_item, with_external, walked, bodies_among}
 use Rattle.im_rules.specs.Context.{Context, in_new_scope}
 use Rattle.im_rules.specs.Terms.{kind_in}
 use Rattle.im_rules.specs.Declared.{Qualified, Declared, specified, types_of, parameters_of, typedef_meant, is_typedef_name, specified_asks, with_const, has_const}
-use Rattle.im_rules.specs.Initialisers.{Item, Shape, Initialised, initialised, Shaped, completed}
+use Rattle.im_rules.specs.Initialisers.{Item, Initialised, initialised, completed}
 use Rattle.im_rules.specs.Demands.{Meets}
 use Rattle.im_rules.specs.Typed.{Declares, AreParameters}
 use Rattle.im_rules.specs.Statements.{Added, name_of as name_in, object_of}
@@ -30,10 +30,10 @@ use Rattle.im_rules_sound.specs.Sound.{gives, TakeTypes}
 use Rattle.im_rules_sound.specs.Bounded.{IsBounded, AreScalars, AreBoundedTypes}
 use Rattle.im_rules_sound.proofs.Types.{same-name-is}
 use Rattle.im_unit_sound.specs.Units.{IsNamed, AreNamed, IsWrittenExternal, IsWrittenUnit}
-use Rattle.im_unit_sound.proofs.Places.{IsFileEntity, IsFine, Grows, IsStep, grows-trans, step-trans, self-named}
+use Rattle.im_unit_sound.proofs.Places.{IsFine, Grows, grows-trans, self-named}
 use Rattle.im_unit_sound.proofs.Specifiers.{IsFileWithin, specify-step}
-use Rattle.im_unit_sound.proofs.Heads.{declared-name, function-declared, HasOwn, own-parameters}
-use Rattle.im_unit_sound.proofs.Files.{declarator-step, declared-step, head-step, external-step, externals-step, entity-at}
+use Rattle.im_unit_sound.proofs.Heads.{declared-name, function-declared, own-parameters}
+use Rattle.im_unit_sound.proofs.Files.{declarator-step, head-step, external-step, externals-step}
 
 -- heads
 
@@ -122,7 +122,7 @@ headed {last = last} {d = d} {y = y} {ps = ps} g xs us m p k a r b grown =
       type = y.type;
       means = there ∙ ap (λ u. Some (a_function (callee_named u x) y.type)) (sym grown.unit);
       takes = subst (λ a. TakeTypes (types_given a) (take (length ds) (parameter_objects known ds ++ m.objects))) (sym head.type)
-        (subst (TakeTypes (types_of ds)) (sym (ap (λ n. take n (parameter_objects known ds ++ m.objects)) (sym count) ∙ take-front (parameter_objects known ds) m.objects)) (takes-types known ds head.scalars));
+          (subst (TakeTypes (types_of ds)) (sym (ap (λ n. take n (parameter_objects known ds ++ m.objects)) (sym count) ∙ take-front (parameter_objects known ds) m.objects)) (takes-types known ds head.scalars));
       result = ap (λ a. option_map Scalar (result_kind (result_of a))) head.type ∙ result-gives last.context.known head.result head.scalar ∙ ap (λ a. gives last.context.known (result_of a)) (sym head.type);
     }
 

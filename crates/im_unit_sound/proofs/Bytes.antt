@@ -1,5 +1,5 @@
 -- The bytes of string literals, of those that a part of the tree adds.
-use Rattle.std.proofs.Common.{◌≡◌, ℕ, List, [], ◌∷◌, ◌++◌, Bool, true, false, refl, sym, ap, subst}
+use Rattle.std.proofs.Common.{ℕ, List, [], ◌++◌, Bool, true, false}
 use Rattle.std.specs.Prelude.{Option, if◌then◌else◌}
 use Rattle.im_word.specs.Words.{Name}
 use Rattle.im_ctree.specs.Tree as t
@@ -12,7 +12,7 @@ use Rattle.im_rules.specs.Strings.{strings_in, strings_among, strings_maybe, str
 use Rattle.im_rules.specs.Declared.{Qualified}
 use Rattle.im_rules.specs.Initialisers.{completed, Slots, slots_of, first_slot, other_slots, strings_given, strings_among as given_among}
 use Rattle.im_rules.specs.Statements.{Site, Added, Labels, Cases, declared_strings, AreLocals, no_local, a_local, TypedDeclaration, of_declaration, Begins, by_declaration, by_nothing, by_expression, TypedStatement, of_block, of_nothing, of_expression, of_if, of_while, of_do, of_for, of_switch, of_break, of_continue, of_return, of_return_value, MayBeTyped, no_else, an_else, TypedItems, no_item, a_declaration, a_statement, TypedCases, no_case, between_cases, a_labelled, Labelled, no_label, of_case, of_default}
-use Rattle.im_rules_sound.specs.Written.{AreBytes, AllBytes, IsWritten, AreWritten, MayBeWritten, IsWrittenInitialiser, AreWrittenInitialisers, MayBeInitialised, AreWrittenDeclarators, IsWrittenDeclaration, IsWrittenBeginning, IsWrittenStatement, MayBeWrittenStatement, AreWrittenItems}
+use Rattle.im_rules_sound.specs.Written.{AllBytes, IsWritten, AreWritten, MayBeWritten, IsWrittenInitialiser, AreWrittenInitialisers, MayBeInitialised, AreWrittenDeclarators, IsWrittenDeclaration, IsWrittenBeginning, IsWrittenStatement, MayBeWrittenStatement, AreWrittenItems}
 use Rattle.im_unit_sound.proofs.Places.{bytes-append}
 
 mutual

@@ -1,5 +1,5 @@
 -- Constants of well-typed expressions: a number is of its kind, an address is a place in a static or at its end.
-use Rattle.std.proofs.Common.{◌≡◌, ℕ, zero, suc, ◌+◌, ◌<◌, ◌≤◌, ◌&&◌, List, [], ◌∷◌, length, Bool, true, false, refl, sym, ap, ◌∙◌, subst, arith}
+use Rattle.std.proofs.Common.{◌≡◌, ℕ, zero, suc, ◌<◌, ◌≤◌, ◌&&◌, List, [], ◌∷◌, length, Bool, true, false, refl, sym, ap, ◌∙◌, subst, arith}
 use Rattle.std.specs.Prelude.{Option, Some, None, ℤ, pos, negsuc, ◌+ℤ◌, int_le, slice_get, if◌then◌else◌}
 use Rattle.std.specs.Ordering.{int_eq}
 use Rattle.std.proofs.lemmas.Int.{ints}
@@ -11,11 +11,11 @@ use Rattle.im_store.specs.declared.operators.BinaryOp.{BinaryOp}
 use Rattle.im_store.specs.declared.operators.BinaryOp.TheVariants as s
 use Rattle.im_store.specs.Checks.{Checked, Fine, Bad}
 use Rattle.im_store.specs.Numbers.{apply, apply_one, compares}
-use Rattle.im_store.specs.Objects.{Value, Number, Null, Pointer, Named, static}
+use Rattle.im_store.specs.Objects.{Value, Number, Null, Pointer, static}
 use Rattle.im_store.specs.Statics.{StaticObject}
 use Rattle.im_store.proofs.Same.{both-true}
 use Rattle.im_store.proofs.OfKind.{IsOperand, apply-of_kind, apply_one-of_kind}
-use Rattle.im_typed.specs.Program.{Access, Scalar, Place, Static, Local, Target, Member, Expr, Constant, NullPointer, Read, Address, Convert, Unary, Binary, Move, MoveBy, Distance, Compare, Not, And, Or, Choose, Comma, Discard, Assign, Update, Increment, Part, Call, Getchar, Putchar, Func, Prog}
+use Rattle.im_typed.specs.Program.{Scalar, Place, Static, Local, Target, Member, Expr, Constant, NullPointer, Read, Address, Convert, Unary, Binary, Move, MoveBy, Distance, Compare, Not, And, Or, Choose, Comma, Discard, Assign, Update, Increment, Part, Call, Getchar, Putchar, Func, Prog}
 use Rattle.im_typed.specs.Typing.{IsInteger, IsRightShape, shape_of, IsTypedPlace, IsTyped, HasPlace, IsFirstValue}
 use Rattle.im_rules.specs.Rules.{is_within}
 use Rattle.im_rules.specs.Constants.{is_constant, truth, is_true, defined, on_one, on_both, as_truth, and_then, or_else, picked, evaluated, constant_value}

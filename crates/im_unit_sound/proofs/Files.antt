@@ -1,35 +1,33 @@
 -- External declarations, one behind the other: what stands behind them.
-use Rattle.std.proofs.Common.{◌≡◌, ◌⊎◌, inl, inr, ℕ, zero, suc, ◌+◌, ◌<◌, ◌≤◌, ◌&&◌, ◌||◌, List, [], ◌∷◌, ◌++◌, length, length-append, append-nil, Bool, true, false, refl, sym, ap, ◌∙◌, subst, arith}
-use Rattle.std.specs.Prelude.{Option, Some, None, not, if◌then◌else◌}
+use Rattle.std.proofs.Common.{◌≡◌, ℕ, ◌≤◌, ◌&&◌, ◌||◌, List, [], Bool, true, false, refl, sym, ap, ◌∙◌, subst, arith}
+use Rattle.std.specs.Prelude.{Some, not, if◌then◌else◌}
 use Rattle.im_word.specs.Words.{Name}
 use Rattle.im_ctree.specs.Tree as t
 use Rattle.im_store.proofs.Same.{both-true}
 use Rattle.im_ctype.specs.Types.{CType, void, integer, pointer, array, unsized, struct, function, Structs, same_type, is_function}
 use Rattle.im_ctype.proofs.Same.{same-is}
 use Rattle.im_typed.specs.Program.{Func}
-use Rattle.im_typed.specs.Typing.{Each}
 use Rattle.im_rules.specs.TypeTests.{same_name, is_complete_in}
 use Rattle.im_rules.specs.Rules.{is_typedef, rule_2, rule_3, rule_5, rule_12_builtin}
-use Rattle.im_rules.specs.Scopes.{Entity, an_object, a_function, an_enumerator, a_typedef, static_object, Scopes, meaning, meaning_here}
+use Rattle.im_rules.specs.Scopes.{Entity, an_object, a_function, a_typedef, static_object, meaning}
 use Rattle.im_rules.specs.Strings.{strings_of_declarator}
 use Rattle.im_rules.specs.Outline.{Outline, outline, is_in, place_in, is_initialised}
-use Rattle.im_rules.specs.Context.{with_entity}
 use Rattle.im_rules.specs.Declared.{Qualified, Declared}
 use Rattle.im_rules.specs.Terms.{size_in}
-use Rattle.im_rules.specs.Initialisers.{completed, counted, strings_given}
-use Rattle.im_rules.specs.Statements.{Added, name_of as name_in}
+use Rattle.im_rules.specs.Initialisers.{completed, counted}
+use Rattle.im_rules.specs.Statements.{name_of as name_in}
 use Rattle.im_rules.specs.Demands.{Meets}
 use Rattle.im_rules.specs.Typed.{Declares}
 use Rattle.im_rules.specs.FileScope.{FilePlace, past_strings, file_start, file_asks, file_entity, is_object_entity, keeps_builtin, callee_named, getchar_name, putchar_name, getchar_type, putchar_type, with_declared, of_the_file}
 use Rattle.im_rules.specs.TypedUnit.{Specify, FirstValues, past_declarator, past_head, given_strings, AreDeclared, none_declared, one_declared, TypedExternal, of_declaration, of_function, AreExternals, no_external, an_external}
 use Rattle.im_rules.specs.UnitBreaks.{some_declared, an_external as external_node, some_externals, first_external, other_externals, declaration_specifiers, declared_part, function_specifiers, other_declared, file_declarator, function_declarator}
 use Rattle.im_rule_limits.specs.Limits.{size_limit, of_static, size_in_file_part, size_in_file_inner}
-use Rattle.im_rules_sound.specs.Bounded.{IsBounded, EachEntity}
+use Rattle.im_rules_sound.specs.Bounded.{IsBounded}
 use Rattle.im_rules_sound.specs.Written.{AllBytes, MayBeInitialised}
 use Rattle.im_rules_sound.proofs.Types.{same-name-is, each-meaning}
 use Rattle.im_rules_sound.proofs.Declarators.{declares-bounded}
 use Rattle.im_unit_sound.specs.Units.{AreNamed, IsWrittenExternal, IsWrittenUnit}
-use Rattle.im_unit_sound.proofs.Places.{IsFileEntity, IsFine, Grows, IsStep, step-trans, step-none, step-strings, step-named, here-means, rule-same, typedefs-at}
+use Rattle.im_unit_sound.proofs.Places.{IsFileEntity, IsFine, IsStep, step-trans, step-none, step-strings, step-named, here-means, rule-same, typedefs-at}
 use Rattle.im_unit_sound.proofs.Bytes.{bytes-given, bytes-items}
 use Rattle.im_unit_sound.proofs.Specifiers.{IsFileWithin, specify-step}
 

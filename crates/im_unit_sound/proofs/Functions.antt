@@ -1,54 +1,48 @@
 -- Functions and first values of a unit: over the whole program they are well typed.
-use Rattle.std.proofs.Common.{◌≡◌, ◌⊎◌, inl, inr, ℕ, zero, suc, ◌+◌, ◌<◌, ◌≤◌, ◌&&◌, ◌||◌, List, [], ◌∷◌, ◌++◌, length, length-append, append-nil, map, take, Bool, true, false, refl, sym, ap, ◌∙◌, subst, arith}
-use Rattle.std.specs.Prelude.{Option, Some, None, not, slice_get, is_some, Contains, if◌then◌else◌}
-use Rattle.std.specs.Option.{option_map}
+use Rattle.std.proofs.Common.{◌≡◌, ℕ, suc, ◌+◌, ◌≤◌, ◌&&◌, ◌||◌, List, [], ◌∷◌, ◌++◌, length, length-append, append-nil, map, take, Bool, true, false, refl, sym, ap, ◌∙◌, subst, arith}
+use Rattle.std.specs.Prelude.{Some, None, not, slice_get, is_some, Contains, if◌then◌else◌}
 use Rattle.std.proofs.lemmas.List.{length-map}
 use Rattle.std.proofs.lemmas.List.Elements.{Contains-append_left, Contains-append_right, Contains-push}
 use Rattle.std.proofs.lemmas.Option.{slice_get_within}
 use Rattle.im_word.specs.Words.{Name}
 use Rattle.im_ctree.specs.Tree as t
-use Rattle.im_store.specs.Statics.{StaticObject}
 use Rattle.im_store.proofs.Same.{both-true}
-use Rattle.im_ctype.specs.declared.integer.Integer.TheVariants.{Int}
-use Rattle.im_ctype.specs.Types.{CType, void, integer, pointer, array, unsized, struct, function, CTypes, no_types, Structs, is_void, is_function, is_array, is_scalar, kind_of}
+use Rattle.im_ctype.specs.Types.{CType, void, integer, pointer, array, unsized, struct, function, Structs, is_function, is_array, is_scalar, kind_of}
 use Rattle.im_ctype.specs.Layout.{Layout, layout}
 use Rattle.im_ctype.proofs.CellLists.{layout-more}
-use Rattle.im_typed.specs.Program.{Scalar, LocalObject, Stmts, no_stmts, Block, Piece, Func, Prog}
+use Rattle.im_typed.specs.Program.{LocalObject, Stmts, no_stmts, Block, Piece, Func, Prog}
 use Rattle.im_typed.specs.Typing.{Each, parameters as typed_parameters, result_shape, IsObject, IsOneCell, IsTypedFunc, AreFirstValues}
 use Rattle.im_rules.specs.TypeTests.{same_name, is_complete_in, result_of, parameters_of as types_given}
 use Rattle.im_rules.specs.Rules.{is_typedef, named_in, rule_2, rule_5, rule_9_result, rule_9_void, rule_11}
-use Rattle.im_rules.specs.Scopes.{Entity, an_object, a_function, an_enumerator, a_typedef, static_object, local_object, Callee, a_body, no_body, get_character, put_character, Scopes, nothing, opened, named, tagged, meaning}
-use Rattle.im_rules.specs.Outline.{Outline, is_in, place_in, Nearest, bare, a_star, a_length, parameters, nearest, is_initialised}
+use Rattle.im_rules.specs.Scopes.{Entity, an_object, a_function, an_enumerator, a_typedef, static_object, local_object, a_body, no_body, get_character, put_character, Scopes, nothing, opened, named, tagged, meaning}
+use Rattle.im_rules.specs.Outline.{Outline, is_in, place_in, Nearest, parameters, nearest, is_initialised}
 use Rattle.im_rules.specs.Context.{Context, in_new_scope}
-use Rattle.im_rules.specs.Terms.{size_in}
 use Rattle.im_rules.specs.Declared.{Qualified, Declared, behind_specifiers, with_parameter, with_parameters, types_of, parameters_of, is_only_void}
-use Rattle.im_rules.specs.Initialisers.{Item, completed, strings_given, piece_of, pieces_of, Initialised}
-use Rattle.im_rules.specs.StaticValues.{static_value, constant_asks, is_source_reached, cell_values}
+use Rattle.im_rules.specs.Initialisers.{Item, completed, strings_given, piece_of, pieces_of}
+use Rattle.im_rules.specs.StaticValues.{static_value, is_source_reached, cell_values}
 use Rattle.im_rules.specs.Demands.{Meets}
 use Rattle.im_rules.specs.Typed.{Declares, AreParameters, no_parameter, a_parameter}
-use Rattle.im_rules.specs.Statements.{Site, Added, TypedItems, name_of as name_in, object_of}
-use Rattle.im_rules.specs.BodyBreaks.{some_items}
+use Rattle.im_rules.specs.Statements.{Added, TypedItems, name_of as name_in, object_of}
 use Rattle.im_rules.specs.FileScope.{FilePlace, past_strings, file_entity, file_asks, is_object_entity, callee_named, getchar_name, putchar_name, body_asks, has_own_parameters, own_parameters, static_size, of_the_file}
-use Rattle.im_rules.specs.TypedUnit.{Specify, FirstValues, AreConstants, values_given, MayGive, gives_nothing, gives_values, past_declarator, past_head, given_strings, AreDeclared, none_declared, one_declared, parameter_objects, body_site, function_made, string_statics, static_named, program, TypedExternal, of_declaration, of_function, AreExternals, no_external, an_external}
+use Rattle.im_rules.specs.TypedUnit.{Specify, FirstValues, AreConstants, MayGive, gives_nothing, gives_values, past_declarator, past_head, given_strings, AreDeclared, none_declared, one_declared, parameter_objects, body_site, function_made, string_statics, static_named, program, TypedExternal, of_declaration, of_function, AreExternals, no_external, an_external}
 use Rattle.im_rules.specs.UnitBreaks.{some_declared, an_external as external_node, some_externals, first_external, other_externals, declaration_specifiers, declared_part, function_specifiers, other_declared}
 use Rattle.im_rule_limits.specs.Limits.{count_parameters, counted_of, counts_external, parameter_counts, size_in_file_part, size_in_static_initialiser, size_in_body}
 use Rattle.im_rules_sound.specs.Sound.{gives, TakeTypes, IsSoundCallee}
 use Rattle.im_rules_sound.specs.Bounded.{IsBounded, AreScalars, AreBoundedTypes, EachEntity, IsSoundEntity, IsSoundContext, HasStrings}
-use Rattle.im_rules_sound.proofs.Types.{same-name-is, each-at, each-kept, complete-is-object, kind-small}
+use Rattle.im_rules_sound.proofs.Types.{each-at, each-kept, complete-is-object, kind-small}
 use Rattle.im_rules_sound.proofs.Declarators.{tags-kept, name-kept}
 use Rattle.im_rules_sound.specs.Written.{MayBeInitialised, AreWrittenItems}
-use Rattle.im_statements_sound.specs.Sites.{IsSoundSite, IsBodyWithin, IsGivenWithin, StandFrom, AreObjects}
+use Rattle.im_statements_sound.specs.Sites.{IsSoundSite, StandFrom, AreObjects}
 use Rattle.im_statements_sound.proofs.Initialisers.{initialisers}
 use Rattle.im_statements_sound.proofs.Standing.{own-cells-stand}
 use Rattle.im_statements_sound.proofs.Statements.{items}
 use Rattle.im_statements_sound.proofs.Sites.{stand-right, objects-append}
 use Rattle.im_unit_sound.specs.Units.{AreNamed, IsWrittenExternal, IsWrittenUnit}
-use Rattle.im_unit_sound.proofs.Places.{IsFileEntity, Means, IsFine, Grows, IsStep, grows-trans, self-named, step-strings}
-use Rattle.im_unit_sound.proofs.Bytes.{bytes-items}
+use Rattle.im_unit_sound.proofs.Places.{IsFileEntity, Means, IsFine, Grows, grows-trans, self-named}
 use Rattle.im_unit_sound.proofs.Specifiers.{IsFileWithin, specify-step}
-use Rattle.im_unit_sound.proofs.Files.{declarator-step, declared-step, head-step, external-step, externals-step, entity-at}
+use Rattle.im_unit_sound.proofs.Files.{declarator-step, declared-step, head-step, external-step, externals-step}
 use Rattle.im_unit_sound.proofs.Values.{static-fits, values-good, IsGivenTo, join-each}
-use Rattle.im_unit_sound.proofs.Bodies.{IsHeaded, IsHead, head-known, take-front, count-objects, names_made, IsMade, made-found, no-function, own-found}
+use Rattle.im_unit_sound.proofs.Bodies.{IsHeaded, head-known, take-front, count-objects, names_made, made-found, no-function, own-found}
 
 -- parameters, as objects
 
@@ -153,8 +147,7 @@ module _ (last : FilePlace) (gs : List FirstValues) (ks : List Func) (fine : IsF
       let named_so : meaning last.context.scopes x ≡ Some (a_function (callee_named last.context.unit found.made.name) own.type) = ap (meaning last.context.scopes) found.name ∙ own.means in
       let is : Some (a_function (callee_named last.context.unit x) a) ≡ Some (a_function (callee_named last.context.unit found.made.name) own.type) = sym means ∙ named_so in
       let type : own.type ≡ a = cc in
-      let scalar = result-scalar known a b fn in
-      (
+      let scalar = result-scalar known a b fn in (
         slice_get_within ks (place_in x last.context.unit.bodies) found.made there,
         subst (λ o. TakeTypes (types_given a) (typed_parameters o)) (sym there) (subst (λ z. TakeTypes (types_given z) (take found.made.params found.made.objects)) type own.takes),
         ap result_shape there ∙ own.result ∙ ap (λ z. gives last.context.known (result_of z)) type ∙ gives-alike last.context.known known (result_of a) scalar,
@@ -248,8 +241,7 @@ module _ (last : FilePlace) (gs : List FirstValues) (ks : List Func) (fine : IsF
       let cells = (layout known a).cells in
       let values = values-good g around (static_size place) (static-fits place last gs ks hl k) cells cells (own-cells-stand known a) (pieces_of known ps) own.0 (constants-given (static_size place) place ps c) in
       let later : (layout last.context.known a).cells ≡ cells = ap (λ s. (layout s a).cells) k.known ∙ ap (λ (z : Layout). z.cells) (layout-more known k.more a complete) in
-      let here : meaning next.context.scopes x ≡ Some (file_entity f.context.unit xs x y.constant a) = ap (λ z. if z then Some (file_entity f.context.unit xs x y.constant a) else meaning f.context.scopes x) (self-named x) in
-      (
+      let here : meaning next.context.scopes x ≡ Some (file_entity f.context.unit xs x y.constant a) = ap (λ z. if z then Some (file_entity f.context.unit xs x y.constant a) else meaning f.context.scopes x) (self-named x) in (
         record {
           constant = y.constant;
           type = a;

@@ -1,13 +1,12 @@
 -- Structs that are more: what is bounded by some is so by more of them.
-use Rattle.std.proofs.Common.{◌≡◌, ℕ, zero, suc, ◌+◌, ◌*◌, ◌<◌, ◌≤◌, ◌&&◌, nat_lt, List, [], ◌∷◌, ◌++◌, length, length-append, Bool, true, false, refl, sym, ap, ◌∙◌, subst, arith}
-use Rattle.std.specs.Prelude.{Some, slice_get}
-use Rattle.std.proofs.lemmas.Bool.{ltb-true, ltb-false, lt-ltb}
+use Rattle.std.proofs.Common.{◌≡◌, ℕ, zero, suc, ◌+◌, ◌<◌, ◌≤◌, nat_lt, List, [], ◌∷◌, ◌++◌, length, length-append, Bool, true, false, refl, sym, ap, ◌∙◌, subst, arith}
+use Rattle.std.proofs.lemmas.Bool.{ltb-true, ltb-false}
 use Rattle.std.proofs.lemmas.List.{length-map}
 use Rattle.std.proofs.lemmas.List.Elements.{All-cons, All-nil}
 use Rattle.im_ctype.specs.declared.cell.Cell.{Cell}
 use Rattle.im_ctype.specs.Types.{CType, void, integer, pointer, array, unsized, struct, function, CTypes, no_types, more_types, Member, Structs, members_of, is_complete}
-use Rattle.im_ctype.specs.Layout.{Layout, empty_layout, layout, layouts, layout_in, with_member, moved, moved_cell, round_up, MembersAreComplete, AreCompleteFrom, AreComplete}
-use Rattle.im_ctype.specs.Members.{places, places_from, place_behind, member_cells}
+use Rattle.im_ctype.specs.Layout.{Layout, empty_layout, layout, layouts, with_member, moved, moved_cell, round_up, MembersAreComplete, AreCompleteFrom, AreComplete}
+use Rattle.im_ctype.specs.Members.{places_from, member_cells}
 use Rattle.im_ctype.proofs.CellLists.{layout-more}
 use Rattle.im_ctype.proofs.MoreStructs.{complete-more}
 use Rattle.im_ctype.proofs.Steps.{struct-cells}

@@ -1,6 +1,6 @@
 -- Specifiers at file scope, with their lists: what stands behind them.
-use Rattle.std.proofs.Common.{◌≡◌, ◌⊎◌, inl, inr, ℕ, zero, suc, ◌+◌, ◌<◌, ◌≤◌, ◌&&◌, List, [], ◌∷◌, ◌++◌, length, length-append, append-nil, Bool, true, false, refl, sym, ap, ◌∙◌, subst, arith}
-use Rattle.std.specs.Prelude.{Option, Some, None, ℤ, pos, ◌+ℤ◌, int_le, int_lt, neg_ℤ, ◌^◌, if◌then◌else◌}
+use Rattle.std.proofs.Common.{◌≡◌, inl, inr, ℕ, ◌<◌, ◌≤◌, List, [], ◌∷◌, ◌++◌, length, length-append, append-nil, true, false, refl, sym, ap, ◌∙◌, subst, arith}
+use Rattle.std.specs.Prelude.{Option, Some, None, ℤ, pos, int_le, int_lt, neg_ℤ, ◌^◌}
 use Rattle.std.proofs.lemmas.Int.{ints}
 use Rattle.im_num.specs.declared.kind.Kind.TheVariants.{I32}
 use Rattle.im_num.specs.Kinds.{IsOfKind}
@@ -8,25 +8,24 @@ use Rattle.im_word.specs.Words.{Name}
 use Rattle.im_ctree.specs.declared.specifier.SpecifierWord.{SpecifierWord}
 use Rattle.im_ctree.specs.Tree as t
 use Rattle.im_store.proofs.Same.{both-true}
-use Rattle.im_ctype.specs.Types.{CType, struct, Member, Structs}
+use Rattle.im_ctype.specs.Types.{struct, Member}
 use Rattle.im_typed.specs.Typing.{Each}
-use Rattle.im_rules.specs.Rules.{named_in, rule_3, rule_8_constant}
+use Rattle.im_rules.specs.Rules.{named_in, rule_3}
 use Rattle.im_rules.specs.Scopes.{Entity, an_object, a_function, an_enumerator, a_typedef, Tag, struct_tag, enum_tag, Scopes, tagged, meaning, meaning_here, tag_meaning, at_file_scope}
 use Rattle.im_rules.specs.Strings.{strings_maybe, strings_of_declarator}
 use Rattle.im_rules.specs.Context.{Context, tag_number}
-use Rattle.im_rules.specs.Declared.{Qualified, Declared, declared_tag, specified, tags_in}
+use Rattle.im_rules.specs.Declared.{Qualified, declared_tag, tags_in}
 use Rattle.im_rules.specs.Terms.{size_in}
-use Rattle.im_rules.specs.FileScope.{FilePlace, in_place, past_strings, Level, of_members, with_list_begun, tag_here, with_struct, member_of, number_in, with_enumerator, with_enum_tag, constant_fits, enumerator_asks}
-use Rattle.im_rules.specs.Demands.{Meets}
+use Rattle.im_rules.specs.FileScope.{FilePlace, past_strings, Level, with_list_begun, tag_here, with_struct, member_of, number_in, with_enumerator, with_enum_tag, constant_fits}
 use Rattle.im_rules.specs.TypedUnit.{AreEnumerators, no_enumerator, an_enumerator, Specify, of_specifiers, NamesType, no_list, a_struct, an_enum, AreMembers, no_member, some_members, AreFields, no_field, a_field}
 use Rattle.im_rules.specs.UnitBreaks.{FileNode, file_specifiers, some_named, some_members as members_node, some_fields, named_part, struct_members, member_specifiers, member_fields, other_members, other_fields, field_declarator}
 use Rattle.im_rule_limits.specs.Limits.{size_limit, FileSized, of_struct, size_in_file_part, size_in_file_inner}
-use Rattle.im_rules_sound.specs.Bounded.{IsBounded, EachEntity}
-use Rattle.im_rules_sound.proofs.Types.{each-meaning, each-kept}
+use Rattle.im_rules_sound.specs.Bounded.{IsBounded}
+use Rattle.im_rules_sound.proofs.Types.{each-kept}
 use Rattle.im_rules_sound.proofs.Declarators.{declares-bounded, specified-bounded}
 use Rattle.im_unit_sound.specs.Units.{HasDeclarator, HasMember, AreBytesIn, AreWrittenEnumerators, HaveMembers, ListsMembers, MembersHave}
 use Rattle.im_unit_sound.proofs.Growing.{IsGoodMember, members-more, push-structs}
-use Rattle.im_unit_sound.proofs.Places.{IsFileEntity, Means, IsFine, Grows, IsStep, step-trans, step-none, step-strings, IsTagged, step-tagged, step-named, here-means, rule-same, entity-more, typedefs-at}
+use Rattle.im_unit_sound.proofs.Places.{IsFileEntity, IsFine, Grows, IsStep, step-trans, step-none, step-strings, IsTagged, step-tagged, step-named, here-means, entity-more, typedefs-at}
 use Rattle.im_unit_sound.proofs.Bytes.{bytes-maybe}
 
 -- no size in a node at file scope is over the limit

@@ -1,36 +1,35 @@
 -- A unit's program is well typed.
-use Rattle.std.proofs.Common.{◌≡◌, ℕ, zero, suc, ◌<◌, ◌≤◌, ◌&&◌, nat_lt, List, [], ◌∷◌, length, take, Bool, true, false, refl, sym, ap, ◌∙◌, subst, arith}
+use Rattle.std.proofs.Common.{◌≡◌, ℕ, zero, suc, ◌<◌, ◌≤◌, nat_lt, List, [], ◌∷◌, length, take, Bool, true, false, refl, sym, ap, ◌∙◌, subst, arith}
 use Rattle.std.specs.Prelude.{Option, Some, None, slice_get, Contains, if◌then◌else◌}
 use Rattle.std.specs.Option.{option_map}
 use Rattle.std.proofs.lemmas.Bool.{ltb-true, ltb-false}
 use Rattle.im_num.specs.declared.kind.Kind.{Kind}
 use Rattle.im_num.specs.declared.kind.Kind.TheVariants.{I32}
-use Rattle.im_word.specs.Words.{Name}
 use Rattle.im_ctree.specs.Tree as t
 use Rattle.im_ctype.specs.declared.integer.Integer.TheVariants.{Int}
-use Rattle.im_ctype.specs.Types.{CType, integer, function, no_types, Structs, same_type}
+use Rattle.im_ctype.specs.Types.{integer, function, no_types}
 use Rattle.im_ctype.proofs.Same.{same-is}
 use Rattle.im_typed.specs.Limits as typed
 use Rattle.im_typed.specs.Limits.{static_bytes}
-use Rattle.im_typed.specs.Program.{Access, Scalar, LocalObject, Func, Prog}
+use Rattle.im_typed.specs.Program.{Scalar, LocalObject, Func, Prog}
 use Rattle.im_typed.specs.Typing.{Each, IsTypedFunc, IsMain, IsWellTyped}
-use Rattle.im_rules.specs.TypeTests.{same_name, result_of, parameters_of}
+use Rattle.im_rules.specs.TypeTests.{result_of, parameters_of}
 use Rattle.im_rules.specs.Rules.{rule_13}
-use Rattle.im_rules.specs.Scopes.{Entity, an_object, a_function, an_enumerator, a_typedef, Callee, a_body, no_body, get_character, put_character, Scopes, meaning}
-use Rattle.im_rules.specs.Outline.{Outline, outline, is_in, place_in}
+use Rattle.im_rules.specs.Scopes.{Entity, an_object, a_function, an_enumerator, a_typedef, a_body, no_body, get_character, put_character, meaning}
+use Rattle.im_rules.specs.Outline.{Outline, is_in, place_in}
 use Rattle.im_rules.specs.FileScope.{FilePlace, file_start, main_name, body_type, callee_named}
-use Rattle.im_rules.specs.TypedUnit.{FirstValues, program, TypedUnit, of_unit, AreExternals}
+use Rattle.im_rules.specs.TypedUnit.{FirstValues, program, TypedUnit, of_unit}
 use Rattle.im_rules.specs.UnitBreaks.{some_externals}
-use Rattle.im_rule_limits.specs.Limits.{size_limit, parameter_counts, Limit, of_parameters, of_size, of_statics, Exceeds, too_many_parameters, too_large, too_many_statics, IsWithinLimits}
+use Rattle.im_rule_limits.specs.Limits.{size_limit, parameter_counts, of_parameters, of_size, of_statics, too_many_parameters, too_large, too_many_statics, IsWithinLimits}
 use Rattle.im_rules_sound.specs.Sound.{gives, TakeTypes}
 use Rattle.im_rules_sound.proofs.Types.{each-at}
 use Rattle.im_unit_sound.specs.Units.{IsWrittenUnit}
 use Rattle.im_unit_sound.proofs.Growing.{each-weaker}
-use Rattle.im_unit_sound.proofs.Places.{IsFileEntity, IsFine, Grows, IsStep}
+use Rattle.im_unit_sound.proofs.Places.{IsFine}
 use Rattle.im_unit_sound.proofs.Specifiers.{IsFileWithin}
 use Rattle.im_unit_sound.proofs.Files.{start-fine, externals-step, entity-at}
 use Rattle.im_unit_sound.proofs.Values.{statics-good}
-use Rattle.im_unit_sound.proofs.Bodies.{IsHeaded, externals-headed, names_made, bodies-made, IsMade, made-found}
+use Rattle.im_unit_sound.proofs.Bodies.{IsHeaded, externals-headed, names_made, bodies-made, made-found}
 use Rattle.im_unit_sound.proofs.Functions.{IsGoodFunc, externals-good}
 
 no-more : (n most : ℕ) → (most < n → ⊥) → n ≤ most
@@ -105,8 +104,7 @@ units u _ (of_unit {e = e} {gs = gs} {ks = ks} d m) w l =
     let headed = externals-headed d start w within in
     let bodies : e.context.unit.bodies ≡ names_made ks = ap (λ (o : Outline). o.bodies) all.grows.unit ∙ bodies-made d start w within in
     let good = externals-good e gs ks all.fine headed bodies d start w within few in
-    let typed_so : Each (IsTypedFunc (program e gs ks)) ks = each-weaker (IsGoodFunc e gs ks all.fine headed bodies) (IsTypedFunc (program e gs ks)) ks (λ f h. h.typed) good.1 in
-    (
+    let typed_so : Each (IsTypedFunc (program e gs ks)) ks = each-weaker (IsGoodFunc e gs ks all.fine headed bodies) (IsTypedFunc (program e gs ks)) ks (λ f h. h.typed) good.1 in (
       record {
         statics = statics-good e gs ks all.fine good.0 small;
         funcs = typed_so;

@@ -1,19 +1,18 @@
 -- The statics of a unit's program: their sizes, and their first values.
-use Rattle.std.proofs.Common.{◌≡◌, ℕ, zero, suc, ◌+◌, ◌-◌, ◌*◌, ◌/◌, ◌<◌, ◌≤◌, List, [], ◌∷◌, ◌++◌, length, length-append, map, Bool, true, false, refl, sym, ap, ◌∙◌, subst, arith}
-use Rattle.std.specs.Prelude.{Option, Some, None, pos, slice_get, nat_eq, is_some, if◌then◌else◌}
+use Rattle.std.proofs.Common.{◌≡◌, ℕ, zero, suc, ◌+◌, ◌-◌, ◌*◌, ◌/◌, ◌≤◌, List, [], ◌∷◌, ◌++◌, length, map, Bool, true, false, refl, sym, ap, ◌∙◌, subst, arith}
+use Rattle.std.specs.Prelude.{Option, Some, None, slice_get, nat_eq, is_some, if◌then◌else◌}
 use Rattle.std.specs.List.{fold}
 use Rattle.std.proofs.lemmas.Bool.{eqb-true}
 use Rattle.std.proofs.lemmas.Int.{ints}
 use Rattle.im_num.specs.declared.kind.Kind.{Kind}
 use Rattle.im_num.specs.declared.kind.Kind.TheVariants.{I8, U8, I16, U16, I32, U32, Ptr}
-use Rattle.im_num.specs.Kinds.{kind_size, IsOfKind}
 use Rattle.im_word.specs.Words.{Name}
 use Rattle.im_store.specs.Objects.{Value, kind_at}
 use Rattle.im_store.specs.Statics.{StaticObject}
 use Rattle.im_ctype.specs.declared.cell.Cell.{Cell}
 use Rattle.im_ctype.specs.declared.integer.Integer.TheVariants.{Char}
 use Rattle.im_ctype.specs.Types.{CType, integer, array, Structs}
-use Rattle.im_ctype.specs.Layout.{Layout, layout, repeated, scalar_layout}
+use Rattle.im_ctype.specs.Layout.{layout, repeated, scalar_layout}
 use Rattle.im_typed.specs.Limits.{static_bytes}
 use Rattle.im_typed.specs.Program.{Scalar, Piece, Func, Prog}
 use Rattle.im_typed.specs.Values.{cells_of}
@@ -26,11 +25,11 @@ use Rattle.im_rules.specs.StaticValues.{static_value, zero_of, value_or, cell_va
 use Rattle.im_rules.specs.FileScope.{FilePlace, object_type, size_of_type, size_of_string, static_size}
 use Rattle.im_rules.specs.TypedUnit.{FirstValues, given_to, values_or_zero, layout_of_type, static_named, byte_value, string_static, string_statics, program}
 use Rattle.im_rules_sound.specs.Written.{AreBytes, AllBytes}
-use Rattle.im_rules_sound.proofs.Types.{same-name-is, complete-is-object, laid-out}
+use Rattle.im_rules_sound.proofs.Types.{same-name-is, complete-is-object}
 use Rattle.im_unit_sound.proofs.Growing.{size-more}
 use Rattle.im_unit_sound.proofs.Places.{IsFileEntity, IsFine, Grows}
 use Rattle.im_unit_sound.proofs.Files.{entity-at}
-use Rattle.im_unit_sound.proofs.Constants.{IsStaticValue, static-good}
+use Rattle.im_unit_sound.proofs.Constants.{static-good}
 
 -- lists
 
@@ -182,8 +181,7 @@ bytes-good statics at (b ∷ s) w = (byte-good statics b w.0, bytes-good statics
 
 string-good : (statics : List StaticObject) (known : Structs) (k : ℕ) (s : Name) → AreBytes s → (string_static known k s).size ≤ 1048576 → IsTypedStatic statics (string_static known k s)
 string-good statics known k s w le =
-    let count : suc (length s) ≡ length s + 1 = omega arith in
-    (
+    let count : suc (length s) ≡ length s + 1 = omega arith in (
       complete-is-object known (array (integer Char) (length s + 1)) le,
       subst (λ n. AreFirstValues statics (repeated 0 n (scalar_layout U8)) (map byte_value s ++ byte_value 0 ∷ [])) count (bytes-good statics 0 s w),
     )
