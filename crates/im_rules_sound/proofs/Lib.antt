@@ -4,7 +4,3 @@ pub mod Changes
 pub mod Assigns
 pub mod Calls
 pub mod Members
-pub mod Types
-pub mod Parts
-pub mod Declarators
-pub mod Expressions

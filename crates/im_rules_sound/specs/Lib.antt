@@ -1,4 +1,2 @@
 pub mod Sound
-pub mod Bounded
-pub mod Written
 pub mod Laws

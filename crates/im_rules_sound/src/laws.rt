@@ -1,5 +1,5 @@
 //! What the typing rules give is well typed. Each law is a function with an empty body, whose contract says it.
-ghost use Rattle.im_rules_sound.specs.Laws.{OperationsLaw, ReadsLaw, UnaryLaw, CastsLaw, CommasLaw, ChoicesLaw, AssignsLaw, StepsLaw, SubscriptsLaw, CallsLaw, MembersLaw, PartsLaw, DeclaresLaw, NamesLaw, ExpressionsLaw};
+ghost use Rattle.im_rules_sound.specs.Laws.{OperationsLaw, ReadsLaw, UnaryLaw, CastsLaw, CommasLaw, ChoicesLaw, AssignsLaw, StepsLaw, SubscriptsLaw, CallsLaw, MembersLaw};
 
 /// An operator on well-typed values that its rule allows gives a well-typed value.
 pub fn operations_law()
@@ -41,19 +41,7 @@ pub fn calls_law()
     ensures calls { CallsLaw }
 {}
 
-/// A member of a struct whose place is well typed has a well-typed place; one of a well-typed value is a well-typed value.
+/// A member of a struct whose place is well typed has a well-typed place.
 pub fn members_law()
-    ensures members { MembersLaw }
-    ensures parts { PartsLaw }
-{}
-
-/// What declarators declare and type names name is within the limit of sizes, where each array in them is.
-pub fn types_law()
-    ensures declares { DeclaresLaw }
-    ensures names { NamesLaw }
-{}
-
-/// What the rules type an expression to is well typed, in a context of which the program has all names and literals.
-pub fn expressions_law()
-    ensures { ExpressionsLaw }
+    ensures { MembersLaw }
 {}

@@ -4,6 +4,6 @@
 mod laws;
 
 pub use laws::{
-    assigns_law, calls_law, casts_law, choices_law, expressions_law, members_law, operations_law,
-    reads_law, types_law, unary_law,
+    assigns_law, calls_law, casts_law, choices_law, members_law, operations_law, reads_law,
+    unary_law,
 };

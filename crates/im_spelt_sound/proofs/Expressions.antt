@@ -10,10 +10,10 @@ use Rattle.im_ctree.specs.Grammar.{IsJoinedText, last_text, more_text, IsExpress
 use Rattle.im_typed.specs.Typing.{Each}
 use Rattle.im_rules.specs.Strings.{strings_in, strings_among, strings_maybe, strings_named, strings_specified, strings_listed, strings_of_specifier, strings_of_members, strings_of_enumerators, strings_of_declarators, strings_of_declarator, strings_of_core, strings_of_suffixes, strings_may, strings_of_parameters}
 use Rattle.im_rules.specs.Outline.{name_of}
-use Rattle.im_rules_sound.specs.Written.{AreBytes, AllBytes, IsWritten, AreWritten, MayBeWritten}
-use Rattle.im_unit_sound.specs.Units.{IsNamed, HasMember, AreBytesIn, AreWrittenEnumerators, HaveMembers, ListsMembers, MembersHave, SpecifiersHave}
-use Rattle.im_unit_sound.proofs.Places.{bytes-append}
-use Rattle.im_unit_sound.proofs.Bytes.{bytes-in, bytes-maybe}
+use Rattle.im_expressions_sound.specs.Written.{AreBytes, AllBytes, IsWritten, AreWritten, MayBeWritten}
+use Rattle.im_places_sound.specs.Units.{IsNamed, HasMember, AreBytesIn, AreWrittenEnumerators, HaveMembers, ListsMembers, MembersHave, SpecifiersHave}
+use Rattle.im_places_sound.proofs.Places.{bytes-append}
+use Rattle.im_places_sound.proofs.Bytes.{bytes-in, bytes-maybe}
 use Rattle.im_spelt_sound.specs.Words.{IsLexical, AreLexical}
 
 -- words

@@ -12,7 +12,7 @@ use Rattle.im_tok.specs.Literals.{IsPlain, IsSimple, IsElement, plain, simple, o
 use Rattle.im_word.specs.Words.{Word, name, keyword, number, character, text, mark, unknown}
 use Rattle.im_word.specs.Tokens.{IsWordOf}
 use Rattle.im_typed.specs.Typing.{Each}
-use Rattle.im_rules_sound.specs.Written.{IsOfItsType, AreBytes}
+use Rattle.im_expressions_sound.specs.Written.{IsOfItsType, AreBytes}
 use Rattle.im_spelt_sound.specs.Words.{IsLexical}
 
 -- a number's type is one that holds it

@@ -10,8 +10,8 @@ use Rattle.im_typed.specs.Limits as typed
 use Rattle.im_typed.specs.Typing.{IsWellTyped}
 use Rattle.im_rules.specs.TypedUnit.{TypedUnit}
 use Rattle.im_rule_limits.specs.Limits.{IsWithinLimits}
-use Rattle.im_rules_sound.specs.Written.{AreBytes}
-use Rattle.im_unit_sound.specs.Units.{IsWrittenUnit}
+use Rattle.im_expressions_sound.specs.Written.{AreBytes}
+use Rattle.im_places_sound.specs.Units.{IsWrittenUnit}
 use Rattle.im_spelt_sound.specs.Words.{IsLexical, AreLexical}
 
 abbrev pub WordsLaw : Type 0

@@ -2,7 +2,7 @@
 use Rattle.std.specs.Prelude.{◌≡◌, ℕ, ◌≤◌, List, []}
 use Rattle.im_word.specs.Words.{Word, name, keyword, number, character, text, mark, unknown}
 use Rattle.im_typed.specs.Typing.{Each}
-use Rattle.im_rules_sound.specs.Written.{IsOfItsType, AreBytes}
+use Rattle.im_expressions_sound.specs.Written.{IsOfItsType, AreBytes}
 
 abbrev pub IsLexical : Word → Type 0
 IsLexical (name n) = n ≡ [] → ⊥

@@ -9,7 +9,7 @@ use Rattle.im_rules.specs.Rules.{rule_9_result}
 use Rattle.im_rules.specs.Strings.{strings_in}
 use Rattle.im_rules.specs.Context.{Context, behind_strings}
 use Rattle.im_rules.specs.Statements.{Site, Added, and_then, just_strings, past, past_expression, in_block, in_loop, in_switch}
-use Rattle.im_rules_sound.specs.Bounded.{IsSoundContext}
+use Rattle.im_expressions_sound.specs.Bounded.{IsSoundContext}
 use Rattle.im_statements_sound.specs.Sites.{StandFrom, IsSoundSite, AreObjects}
 
 pub objects-append : (xs ys : List LocalObject) → AreObjects xs → AreObjects ys → AreObjects (xs ++ ys)

@@ -11,7 +11,7 @@ use Rattle.im_ctype.proofs.CellLists.{moved-array}
 use Rattle.im_store.specs.Objects.{kind_at}
 use Rattle.im_typed.specs.Meaning.{is_among}
 use Rattle.im_typed.specs.Typing.{StandAmong, AreDistinct}
-use Rattle.im_rules_sound.proofs.Types.{kind-small}
+use Rattle.im_expressions_sound.proofs.Types.{kind-small}
 
 -- offsets, each above the one before, from a number on and below another
 abbrev pub Ascending : ℕ → ℕ → List ℕ → Type 0

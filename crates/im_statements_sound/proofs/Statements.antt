@@ -25,11 +25,11 @@ use Rattle.im_rules.specs.Statements.{Site, Added, and_then, just_strings, past,
 use Rattle.im_rules.specs.BodyBreaks.{a_beginning, a_statement as statement_node, an_else as else_node, some_items, some_cases, a_labelled as labelled_node, is_label, begun, evaluated, if_condition, while_condition, do_condition, switched, returned, for_condition, for_step, begun_by, block_items, first_branch, second_branch, else_statement, while_body, do_body, for_beginning, for_body, switch_block, item_declaration, behind_declaration, item_statement, behind_statement, case_declaration, cases_behind_declaration, case_statement, cases_behind_statement, unlabelled, behind_case, behind_default}
 use Rattle.im_rule_limits.specs.Limits.{size_in_part, size_in_inner, size_in_step}
 use Rattle.im_rules_sound.specs.Sound.{IsSoundValue}
-use Rattle.im_rules_sound.specs.Bounded.{IsSoundContext, HasStrings, IsWithin}
-use Rattle.im_rules_sound.specs.Written.{IsWritten, MayBeWritten, IsWrittenBeginning, IsWrittenStatement, MayBeWrittenStatement, AreWrittenItems}
+use Rattle.im_expressions_sound.specs.Bounded.{IsSoundContext, HasStrings, IsWithin}
+use Rattle.im_expressions_sound.specs.Written.{IsWritten, MayBeWritten, IsWrittenBeginning, IsWrittenStatement, MayBeWrittenStatement, AreWrittenItems}
 use Rattle.im_rules_sound.proofs.Operations.{type-seen, scalar-shape, promoted-kind, as-integer-sound}
 use Rattle.im_rules_sound.proofs.Terms.{reads, integer-seen}
-use Rattle.im_rules_sound.proofs.Expressions.{expressions, first-strings, last-strings}
+use Rattle.im_expressions_sound.proofs.Expressions.{expressions, first-strings, last-strings}
 use Rattle.im_statements_sound.specs.Sites.{IsSoundSite, IsBodyWithin, AreObjects, IsTypedAt}
 use Rattle.im_statements_sound.proofs.Fits.{fitted}
 use Rattle.im_statements_sound.proofs.Declarations.{declaration-typed}

@@ -8,7 +8,7 @@ use Rattle.im_rules.specs.Statements.{Site, Added}
 use Rattle.im_rules.specs.BodyBreaks.{Given, BodyNode}
 use Rattle.im_rules.specs.TypedUnit.{result_kind}
 use Rattle.im_rule_limits.specs.Limits.{size_limit, GivenSized, BodySized}
-use Rattle.im_rules_sound.specs.Bounded.{IsSoundContext, HasStrings}
+use Rattle.im_expressions_sound.specs.Bounded.{IsSoundContext, HasStrings}
 
 -- these objects are some of all, from a number on
 abbrev pub StandFrom : List LocalObject → ℕ → List LocalObject → Type 0

@@ -27,13 +27,14 @@ use Rattle.im_rules.specs.UnitBreaks.{some_declared, an_external as external_nod
 use Rattle.im_rule_limits.specs.Limits.{size_in_file_part}
 use Rattle.im_rules.proofs.Once.{parameters_once}
 use Rattle.im_rules_sound.specs.Sound.{gives, TakeTypes}
-use Rattle.im_rules_sound.specs.Bounded.{IsBounded, AreScalars, AreBoundedTypes}
-use Rattle.im_rules_sound.proofs.Types.{same-name-is}
-use Rattle.im_unit_sound.specs.Units.{IsNamed, AreNamed, IsWrittenExternal, IsWrittenUnit}
-use Rattle.im_unit_sound.proofs.Places.{IsFine, Grows, grows-trans, self-named}
-use Rattle.im_unit_sound.proofs.Specifiers.{IsFileWithin, specify-step}
-use Rattle.im_unit_sound.proofs.Heads.{declared-name, function-declared, own-parameters}
-use Rattle.im_unit_sound.proofs.Files.{declarator-step, head-step, external-step, externals-step}
+use Rattle.im_expressions_sound.specs.Bounded.{IsBounded, AreScalars, AreBoundedTypes}
+use Rattle.im_expressions_sound.proofs.Types.{same-name-is}
+use Rattle.im_places_sound.specs.Units.{IsNamed, AreNamed, IsWrittenExternal, IsWrittenUnit}
+use Rattle.im_places_sound.specs.Places.{IsFine, Grows, IsFileWithin}
+use Rattle.im_places_sound.proofs.Places.{grows-trans, self-named}
+use Rattle.im_places_sound.proofs.Specifiers.{specify-step}
+use Rattle.im_places_sound.proofs.Heads.{declared-name, function-declared, own-parameters}
+use Rattle.im_places_sound.proofs.Files.{declarator-step, head-step, external-step, externals-step}
 
 -- heads
 

@@ -28,19 +28,20 @@ use Rattle.im_rules.specs.TypedUnit.{Specify, FirstValues, AreConstants, MayGive
 use Rattle.im_rules.specs.UnitBreaks.{some_declared, an_external as external_node, some_externals, first_external, other_externals, declaration_specifiers, declared_part, function_specifiers, other_declared}
 use Rattle.im_rule_limits.specs.Limits.{count_parameters, counted_of, counts_external, parameter_counts, size_in_file_part, size_in_static_initialiser, size_in_body}
 use Rattle.im_rules_sound.specs.Sound.{gives, TakeTypes, IsSoundCallee}
-use Rattle.im_rules_sound.specs.Bounded.{IsBounded, AreScalars, AreBoundedTypes, EachEntity, IsSoundEntity, IsSoundContext, HasStrings}
-use Rattle.im_rules_sound.proofs.Types.{each-at, each-kept, complete-is-object, kind-small}
-use Rattle.im_rules_sound.proofs.Declarators.{tags-kept, name-kept}
-use Rattle.im_rules_sound.specs.Written.{MayBeInitialised, AreWrittenItems}
+use Rattle.im_expressions_sound.specs.Bounded.{IsBounded, AreScalars, AreBoundedTypes, EachEntity, IsSoundEntity, IsSoundContext, HasStrings}
+use Rattle.im_expressions_sound.proofs.Types.{each-at, each-kept, complete-is-object, kind-small}
+use Rattle.im_expressions_sound.proofs.Declarators.{tags-kept, name-kept}
+use Rattle.im_expressions_sound.specs.Written.{MayBeInitialised, AreWrittenItems}
 use Rattle.im_statements_sound.specs.Sites.{IsSoundSite, StandFrom, AreObjects}
 use Rattle.im_statements_sound.proofs.Initialisers.{initialisers}
 use Rattle.im_statements_sound.proofs.Standing.{own-cells-stand}
 use Rattle.im_statements_sound.proofs.Statements.{items}
 use Rattle.im_statements_sound.proofs.Sites.{stand-right, objects-append}
-use Rattle.im_unit_sound.specs.Units.{AreNamed, IsWrittenExternal, IsWrittenUnit}
-use Rattle.im_unit_sound.proofs.Places.{IsFileEntity, Means, IsFine, Grows, grows-trans, self-named}
-use Rattle.im_unit_sound.proofs.Specifiers.{IsFileWithin, specify-step}
-use Rattle.im_unit_sound.proofs.Files.{declarator-step, declared-step, head-step, external-step, externals-step}
+use Rattle.im_places_sound.specs.Units.{AreNamed, IsWrittenExternal, IsWrittenUnit}
+use Rattle.im_places_sound.specs.Places.{IsFileEntity, Means, IsFine, Grows, IsFileWithin}
+use Rattle.im_places_sound.proofs.Places.{grows-trans, self-named}
+use Rattle.im_places_sound.proofs.Specifiers.{specify-step}
+use Rattle.im_places_sound.proofs.Files.{declarator-step, declared-step, head-step, external-step, externals-step}
 use Rattle.im_unit_sound.proofs.Values.{static-fits, values-good, IsGivenTo, join-each}
 use Rattle.im_unit_sound.proofs.Bodies.{IsHeaded, head-known, take-front, count-objects, names_made, made-found, no-function, own-found}
 
@@ -204,9 +205,9 @@ module _ (last : FilePlace) (gs : List FirstValues) (ks : List Func) (fine : IsF
 
   -- first values
 
-  constants-given : (size : ℕ → ℕ) (f : FilePlace) (ps : List Item) → AreConstants f ps → Each {A = Piece} (λ p. is_some (static_value (static_size f) p.value) ≡ true) (pieces_of f.context.known ps)
-  constants-given size f [] h = tt
-  constants-given size f (p ∷ ps) h = ((both-true (is_source_reached p.source) (is_some (static_value (static_size f) (piece_of f.context.known p).value)) h.0.0).1, constants-given size f ps h.1)
+  constants-given : (f : FilePlace) (ps : List Item) → AreConstants f ps → Each {A = Piece} (λ p. is_some (static_value (static_size f) p.value) ≡ true) (pieces_of f.context.known ps)
+  constants-given f [] h = tt
+  constants-given f (p ∷ ps) h = ((both-true (is_source_reached p.source) (is_some (static_value (static_size f) (piece_of f.context.known p).value)) h.0.0).1, constants-given f ps h.1)
 
   object-entity : (unit : Outline) (xs : t.SpecifierList) (x : Name) (c : Bool) (a : CType) → rule_2 xs true ≡ true → is_function a ≡ false → file_entity unit xs x c a ≡ an_object c a (static_object (place_in x unit.statics))
   object-entity unit xs x c a r e = by-typedef (is_typedef xs) r
@@ -239,7 +240,7 @@ module _ (last : FilePlace) (gs : List FirstValues) (ks : List Func) (fine : IsF
       let grown : Grows next last = grows-trans next place last (record { unit = refl; more = []; known = sym (append-nil known); words = strings_given known a j; strings = refl; means = λ x e q. q }) k in
       let own = initialisers g around next.context a j ps v w (context-sound next around h grown) b complete (strings-there next (strings_given known a j) h k) (λ n z. l n (size_in_static_initialiser p z)) in
       let cells = (layout known a).cells in
-      let values = values-good g around (static_size place) (static-fits place last gs ks hl k) cells cells (own-cells-stand known a) (pieces_of known ps) own.0 (constants-given (static_size place) place ps c) in
+      let values = values-good g around (static_size place) (static-fits place last gs ks hl k) cells cells (own-cells-stand known a) (pieces_of known ps) own.0 (constants-given place ps c) in
       let later : (layout last.context.known a).cells ≡ cells = ap (λ s. (layout s a).cells) k.known ∙ ap (λ (z : Layout). z.cells) (layout-more known k.more a complete) in
       let here : meaning next.context.scopes x ≡ Some (file_entity f.context.unit xs x y.constant a) = ap (λ z. if z then Some (file_entity f.context.unit xs x y.constant a) else meaning f.context.scopes x) (self-named x) in (
         record {

@@ -1,9 +1,3 @@
-pub mod Growing
-pub mod Places
-pub mod Bytes
-pub mod Specifiers
-pub mod Heads
-pub mod Files
 pub mod Constants
 pub mod Values
 pub mod Bodies

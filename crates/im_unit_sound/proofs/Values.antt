@@ -24,11 +24,11 @@ use Rattle.im_rules.specs.Terms.{size_in}
 use Rattle.im_rules.specs.StaticValues.{static_value, zero_of, value_or, cell_value, cell_values}
 use Rattle.im_rules.specs.FileScope.{FilePlace, object_type, size_of_type, size_of_string, static_size}
 use Rattle.im_rules.specs.TypedUnit.{FirstValues, given_to, values_or_zero, layout_of_type, static_named, byte_value, string_static, string_statics, program}
-use Rattle.im_rules_sound.specs.Written.{AreBytes, AllBytes}
-use Rattle.im_rules_sound.proofs.Types.{same-name-is, complete-is-object}
-use Rattle.im_unit_sound.proofs.Growing.{size-more}
-use Rattle.im_unit_sound.proofs.Places.{IsFileEntity, IsFine, Grows}
-use Rattle.im_unit_sound.proofs.Files.{entity-at}
+use Rattle.im_expressions_sound.specs.Written.{AreBytes, AllBytes}
+use Rattle.im_expressions_sound.proofs.Types.{same-name-is, complete-is-object}
+use Rattle.im_places_sound.proofs.Growing.{size-more}
+use Rattle.im_places_sound.specs.Places.{IsFileEntity, IsFine, Grows}
+use Rattle.im_places_sound.proofs.Files.{entity-at}
 use Rattle.im_unit_sound.proofs.Constants.{static-good}
 
 -- lists

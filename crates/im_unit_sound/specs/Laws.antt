@@ -5,7 +5,7 @@ use Rattle.im_typed.specs.Limits as typed
 use Rattle.im_typed.specs.Typing.{IsWellTyped}
 use Rattle.im_rules.specs.TypedUnit.{TypedUnit}
 use Rattle.im_rule_limits.specs.Limits.{IsWithinLimits}
-use Rattle.im_unit_sound.specs.Units.{IsWrittenUnit}
+use Rattle.im_places_sound.specs.Units.{IsWrittenUnit}
 
 abbrev pub UnitsLaw : Type 0
 UnitsLaw =

@@ -35,17 +35,17 @@ use Rattle.im_rules.specs.Typed.{Typed, of_identifier, of_number, of_character, 
 use Rattle.im_rules.specs.Breaks.{an_expression, some_expressions, indexed, subscript, arguments, whole, pointer_to_whole, post_stepped, pre_stepped, operand, measured_expression, measured_type, cast_type, cast_operand, left_operand, right_operand, condition, first_arm, second_arm, left_side, right_side, before_comma, behind_comma, first_argument, other_arguments}
 use Rattle.im_rule_limits.specs.Limits.{size_here, size_within, of_string as size_of_string}
 use Rattle.im_rules_sound.specs.Sound.{IsSoundValue, IsSoundPlace, IsSoundTerm, AreSound}
-use Rattle.im_rules_sound.specs.Bounded.{IsBounded, AreBoundedStructs, IsBoundedTypedef, AreBoundedTypedefs, IsSoundEntity, IsSoundContext, HasStrings, IsWithin}
-use Rattle.im_rules_sound.specs.Written.{IsWritten, AreWritten}
+use Rattle.im_expressions_sound.specs.Bounded.{IsBounded, AreBoundedStructs, IsBoundedTypedef, AreBoundedTypedefs, IsSoundEntity, IsSoundContext, HasStrings, IsWithin}
+use Rattle.im_expressions_sound.specs.Written.{IsWritten, AreWritten}
 use Rattle.im_rules_sound.proofs.Operations.{integer-kind, pointer-shape, type-seen, operations}
 use Rattle.im_rules_sound.proofs.Terms.{reads, complete-object, unary, casts, commas}
 use Rattle.im_rules_sound.proofs.Changes.{choices}
 use Rattle.im_rules_sound.proofs.Assigns.{assigns, steps}
 use Rattle.im_rules_sound.proofs.Calls.{subscripts, calls}
 use Rattle.im_rules_sound.proofs.Members.{place-sound}
-use Rattle.im_rules_sound.proofs.Types.{each-meaning, each-kept, sized-bounded, moves-well, target-sized, target-bounded}
-use Rattle.im_rules_sound.proofs.Parts.{parts}
-use Rattle.im_rules_sound.proofs.Declarators.{names-bounded}
+use Rattle.im_expressions_sound.proofs.Types.{each-meaning, each-kept, sized-bounded, moves-well, target-sized, target-bounded}
+use Rattle.im_expressions_sound.proofs.Parts.{parts}
+use Rattle.im_expressions_sound.proofs.Declarators.{names-bounded}
 
 -- constants
 

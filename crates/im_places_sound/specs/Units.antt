@@ -4,7 +4,7 @@ use Rattle.std.specs.Prelude.{◌≡◌, []}
 use Rattle.im_ctree.specs.Tree as t
 use Rattle.im_rules.specs.Strings.{strings_of_declarator}
 use Rattle.im_rules.specs.Outline.{name_of}
-use Rattle.im_rules_sound.specs.Written.{AllBytes, MayBeWritten, MayBeInitialised, IsWrittenBlock}
+use Rattle.im_expressions_sound.specs.Written.{AllBytes, MayBeWritten, MayBeInitialised, IsWrittenBlock}
 
 abbrev pub IsNamed : t.Declarator → Type 0
 IsNamed d = name_of d ≡ [] → ⊥

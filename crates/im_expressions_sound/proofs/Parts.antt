@@ -19,9 +19,9 @@ use Rattle.im_rules.specs.TypeTests.{is_complete_in, has_member}
 use Rattle.im_rules.specs.Terms.{Value, access_of}
 use Rattle.im_rules.specs.Conversions.{place_among, member_among, struct_number, part_of}
 use Rattle.im_rules_sound.specs.Sound.{gives, IsSoundValue, IsSized}
-use Rattle.im_rules_sound.specs.Bounded.{IsBounded, AreBoundedStructs}
+use Rattle.im_expressions_sound.specs.Bounded.{IsBounded, AreBoundedStructs}
 use Rattle.im_rules_sound.proofs.Members.{found}
-use Rattle.im_rules_sound.proofs.Types.{each-at, some-cells, sized-bounded}
+use Rattle.im_expressions_sound.proofs.Types.{each-at, some-cells, sized-bounded}
 
 -- the first cell of a layout stands at its start
 

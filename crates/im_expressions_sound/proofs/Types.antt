@@ -17,7 +17,7 @@ use Rattle.im_rules.specs.TypeTests.{same_name, is_complete_in, points_to_comple
 use Rattle.im_rules.specs.Scopes.{Entity, Scopes, nothing, opened, named, tagged, meaning}
 use Rattle.im_rules.specs.Terms.{size_in}
 use Rattle.im_rules_sound.specs.Sound.{MovesWell, IsSized}
-use Rattle.im_rules_sound.specs.Bounded.{IsBounded, AreBoundedStructs, EachEntity}
+use Rattle.im_expressions_sound.specs.Bounded.{IsBounded, AreBoundedStructs, EachEntity}
 
 -- names
 

@@ -1,5 +1,5 @@
-use Rattle.im_rules_sound.proofs.Declarators.{declares-bounded, names-bounded}
-use Rattle.im_rules_sound.proofs.laws.types_law.Goals as goal
+use Rattle.im_expressions_sound.proofs.Declarators.{declares-bounded, names-bounded}
+use Rattle.im_expressions_sound.proofs.laws.types_law.Goals as goal
 
 pub returns-clause-declares : goal.returns-clause-declares
 returns-clause-declares c = λ a q d y k structs typedefs b w. declares-bounded a q d y k structs typedefs b w

@@ -12,8 +12,8 @@ use Rattle.im_rules.specs.Strings.{strings_in, strings_among, strings_maybe, str
 use Rattle.im_rules.specs.Declared.{Qualified}
 use Rattle.im_rules.specs.Initialisers.{completed, Slots, slots_of, first_slot, other_slots, strings_given, strings_among as given_among}
 use Rattle.im_rules.specs.Statements.{Site, Added, Labels, Cases, declared_strings, AreLocals, no_local, a_local, TypedDeclaration, of_declaration, Begins, by_declaration, by_nothing, by_expression, TypedStatement, of_block, of_nothing, of_expression, of_if, of_while, of_do, of_for, of_switch, of_break, of_continue, of_return, of_return_value, MayBeTyped, no_else, an_else, TypedItems, no_item, a_declaration, a_statement, TypedCases, no_case, between_cases, a_labelled, Labelled, no_label, of_case, of_default}
-use Rattle.im_rules_sound.specs.Written.{AllBytes, IsWritten, AreWritten, MayBeWritten, IsWrittenInitialiser, AreWrittenInitialisers, MayBeInitialised, AreWrittenDeclarators, IsWrittenDeclaration, IsWrittenBeginning, IsWrittenStatement, MayBeWrittenStatement, AreWrittenItems}
-use Rattle.im_unit_sound.proofs.Places.{bytes-append}
+use Rattle.im_expressions_sound.specs.Written.{AllBytes, IsWritten, AreWritten, MayBeWritten, IsWrittenInitialiser, AreWrittenInitialisers, MayBeInitialised, AreWrittenDeclarators, IsWrittenDeclaration, IsWrittenBeginning, IsWrittenStatement, MayBeWrittenStatement, AreWrittenItems}
+use Rattle.im_places_sound.proofs.Places.{bytes-append}
 
 mutual
   pub bytes-in : (e : t.Expression) → IsWritten e → AllBytes (strings_in e)

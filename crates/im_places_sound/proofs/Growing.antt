@@ -14,8 +14,8 @@ use Rattle.im_typed.specs.Typing.{Each}
 use Rattle.im_rules.specs.TypeTests.{is_complete_in}
 use Rattle.im_rules.specs.Terms.{size_in}
 use Rattle.im_rule_limits.specs.Limits.{size_limit}
-use Rattle.im_rules_sound.specs.Bounded.{IsBounded, AreBoundedTypes, AreBoundedStructs}
-use Rattle.im_rules_sound.proofs.Types.{some-cells}
+use Rattle.im_expressions_sound.specs.Bounded.{IsBounded, AreBoundedTypes, AreBoundedStructs}
+use Rattle.im_expressions_sound.proofs.Types.{some-cells}
 
 pub each-weaker : {A : Type 0} (P Q : A → Type 0) (xs : List A) → ((x : A) → P x → Q x) → Each P xs → Each Q xs
 each-weaker P Q [] k h = tt
