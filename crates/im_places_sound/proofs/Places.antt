@@ -1,20 +1,18 @@
 -- Places at file scope: what stands before them, and that it stays as more is declared.
-use Rattle.std.proofs.Common.{◌≡◌, ◌⊎◌, inl, inr, ◌+◌, ◌&&◌, List, [], ◌∷◌, ◌++◌, length, length-append, append_assoc, append-nil, Bool, true, false, refl, sym, ap, ◌∙◌, subst, arith}
+use Rattle.std.proofs.Common.{◌≡◌, ◌⊎◌, inl, inr, ◌&&◌, List, [], ◌∷◌, ◌++◌, length-append, append_assoc, append-nil, Bool, true, false, refl, sym, ap, ◌∙◌, subst, arith}
 use Rattle.std.specs.Prelude.{Option, Some, None, not, if◌then◌else◌}
 use Rattle.std.proofs.lemmas.Bool.{eq-eqb}
-use Rattle.im_num.specs.declared.kind.Kind.TheVariants.{I32}
-use Rattle.im_num.specs.Kinds.{IsOfKind}
 use Rattle.im_word.specs.Words.{Name}
 use Rattle.im_store.proofs.Same.{both-true}
-use Rattle.im_ctype.specs.Types.{Structs, same_type, same_bool, is_function}
+use Rattle.im_ctype.specs.Types.{Structs, same_type, same_bool}
 use Rattle.im_ctype.proofs.Same.{same-is}
-use Rattle.im_rules.specs.TypeTests.{same_name, is_complete_in}
+use Rattle.im_rules.specs.TypeTests.{same_name}
 use Rattle.im_rules.specs.Rules.{agrees, rule_3}
 use Rattle.im_rules.specs.Scopes.{Entity, an_object, a_function, an_enumerator, a_typedef, static_object, local_object, Tag, Scopes, nothing, opened, named, tagged, meaning, meaning_here, at_file_scope}
-use Rattle.im_rules.specs.Outline.{Outline, place_in}
+use Rattle.im_rules.specs.Outline.{Outline}
 use Rattle.im_rules.specs.Context.{with_entity}
-use Rattle.im_rules.specs.FileScope.{FilePlace, in_place, past_strings, getchar_name, putchar_name, getchar_type, putchar_type, callee_named}
-use Rattle.im_expressions_sound.specs.Bounded.{IsBounded, AreBoundedStructs, EachEntity, IsBoundedTypedef, AreBoundedTypedefs}
+use Rattle.im_rules.specs.FileScope.{FilePlace, in_place, past_strings}
+use Rattle.im_expressions_sound.specs.Bounded.{IsBoundedTypedef, AreBoundedTypedefs}
 use Rattle.im_expressions_sound.specs.Written.{AllBytes}
 use Rattle.im_expressions_sound.proofs.Types.{same-name-is, each-kept}
 use Rattle.im_places_sound.specs.Places.{IsFileEntity, Means, IsFine, Grows, IsStep}

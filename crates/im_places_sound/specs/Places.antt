@@ -15,16 +15,20 @@ use Rattle.im_expressions_sound.specs.Written.{AllBytes}
 
 -- what a name at file scope means
 abbrev pub IsFileEntity : Structs → Outline → Name → Entity → Type 0
-IsFileEntity known unit x (an_object k a (static_object n)) = IsBounded known a × (is_complete_in known a ≡ true) × (n ≡ place_in x unit.statics)
+IsFileEntity known unit x (an_object k a (static_object n)) =
+    IsBounded known a × (is_complete_in known a ≡ true) × (n ≡ place_in x unit.statics)
 IsFileEntity known unit x (an_object k a (local_object n)) = ⊥
 IsFileEntity known unit x (a_function c a) =
-    IsBounded known a × (is_function a ≡ true) × (c ≡ callee_named unit x) × (same_name getchar_name x ≡ true → a ≡ getchar_type) × (same_name putchar_name x ≡ true → a ≡ putchar_type)
+    IsBounded known a × (is_function a ≡ true) × (c ≡ callee_named unit x)
+    × (same_name getchar_name x ≡ true → a ≡ getchar_type) × (same_name putchar_name x ≡ true → a ≡ putchar_type)
 IsFileEntity known unit x (an_enumerator z) = IsOfKind I32 z
 IsFileEntity known unit x (a_typedef k a) = IsBounded known a
 
+-- a name means this, also where it was declared before
 abbrev pub Means : Scopes → Name → Entity → Type 0
 Means s x e = meaning s x ≡ Some e
 
+-- all that stands before a place is in order
 pub record IsFine (f : FilePlace) : Type 0 where
   pub structs : AreBoundedStructs f.context.known
   pub entities : EachEntity (IsFileEntity f.context.known f.context.unit) f.context.scopes
@@ -42,6 +46,7 @@ pub record Grows (f h : FilePlace) : Type 0 where
   pub strings : h.strings ≡ f.strings ++ words
   pub means : (x : Name) (e : Entity) → meaning f.context.scopes x ≡ Some e → meaning h.context.scopes x ≡ Some e
 
+-- from one place to a later one
 pub record IsStep (f h : FilePlace) : Type 0 where
   pub fine : IsFine h
   pub grows : Grows f h

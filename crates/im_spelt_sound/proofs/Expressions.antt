@@ -1,20 +1,17 @@
 -- What words spell, as far as expressions, types and declarators go.
-use Rattle.std.proofs.Common.{◌≡◌, ℕ, suc, ◌+◌, ◌≤◌, ◌||◌, cond, List, [], ◌∷◌, ◌++◌, append_assoc, Bool, true, false, refl, sym, ap, ◌∙◌, subst}
-use Rattle.std.specs.Prelude.{Option, Some, None}
+use Rattle.std.proofs.Common.{◌≡◌, ℕ, ◌||◌, cond, List, [], ◌∷◌, ◌++◌, Bool, true, false, refl, sym, ◌∙◌}
 use Rattle.im_tok.specs.declared.punctuator.Punctuator.TheVariants.{Star}
 use Rattle.im_word.specs.Words.{Name, Word, mark}
 use Rattle.im_ctree.specs.Tree as t
 use Rattle.im_ctree.specs.Tree.{append_suffixes, unsuffixed, unstarred, around}
-use Rattle.im_ctree.specs.Typedefs.{has_type, adds_type}
 use Rattle.im_ctree.specs.Grammar.{IsJoinedText, last_text, more_text, IsExpression, assigns, CommaTail, no_comma, a_comma, IsAssignment, chooses, assigned, IsConditional, operates, a_choice, IsBinary, casts, level, BinaryTail, no_operator, an_operator, IsCast, uncast, a_cast, IsUnary, postfix, stepped, prefixed, sized, type_sized, IsPostfix, primary, PostfixTail, no_postfix, indexes, calls, dots, arrows, steps, IsArguments, no_argument, first_argument, ArgumentTail, last_argument, next_argument, IsPrimary, an_identifier, a_number, a_character, a_string, grouped, IsSpecifiers, first_specifier, SpecifierTail, last_specifier, next_specifier, IsSpecifier, a_word, a_struct, a_named_struct, a_struct_tag, an_enum, a_named_enum, an_enum_tag, its_typedef_name, IsMembers, first_member, MemberTail, last_member, next_member, DeclaratorTail, last_declarator, next_declarator, IsEnumerators, first_enumerator, IsValue, no_value, a_value, EnumeratorTail, last_enumerator, last_comma, next_enumerator, IsDeclarator, a_name, an_inner, IsSuffixes, no_suffix, an_array, a_function, IsLength, no_length, a_length, IsParameters, no_parameter, first_parameter, ParameterTail, last_parameter, next_parameter, IsParameter, named_parameter, other_parameter, IsTypeName, a_type_name, IsMaybeAbstract, no_abstract, an_abstract, IsAbstract, with_stars, with_suffixes, with_inner}
-use Rattle.im_typed.specs.Typing.{Each}
-use Rattle.im_rules.specs.Strings.{strings_in, strings_among, strings_maybe, strings_named, strings_specified, strings_listed, strings_of_specifier, strings_of_members, strings_of_enumerators, strings_of_declarators, strings_of_declarator, strings_of_core, strings_of_suffixes, strings_may, strings_of_parameters}
+use Rattle.im_rules.specs.Strings.{strings_maybe, strings_named, strings_specified, strings_listed, strings_of_specifier, strings_of_members, strings_of_enumerators, strings_of_declarators, strings_of_declarator, strings_of_core, strings_of_suffixes, strings_may, strings_of_parameters}
 use Rattle.im_rules.specs.Outline.{name_of}
 use Rattle.im_expressions_sound.specs.Written.{AreBytes, AllBytes, IsWritten, AreWritten, MayBeWritten}
 use Rattle.im_places_sound.specs.Units.{IsNamed, HasMember, AreBytesIn, AreWrittenEnumerators, HaveMembers, ListsMembers, MembersHave, SpecifiersHave}
 use Rattle.im_places_sound.proofs.Places.{bytes-append}
-use Rattle.im_places_sound.proofs.Bytes.{bytes-in, bytes-maybe}
-use Rattle.im_spelt_sound.specs.Words.{IsLexical, AreLexical}
+use Rattle.im_places_sound.proofs.Bytes.{bytes-maybe}
+use Rattle.im_spelt_sound.specs.Words.{AreLexical}
 
 -- words
 
@@ -187,7 +184,7 @@ mutual
       let more = more-members-known r (rest w _ l).1 in
       record {
         strings = bytes-append (strings_specified s) (strings_of_declarators (t.more_declarators d ds) ++ strings_of_members ms) own.strings
-        (bytes-append (strings_of_declarators (t.more_declarators d ds)) (strings_of_members ms) (bytes-append (strings_of_declarator d) (strings_of_declarators ds) one others.strings) more.strings);
+            (bytes-append (strings_of_declarators (t.more_declarators d ds)) (strings_of_members ms) (bytes-append (strings_of_declarator d) (strings_of_declarators ds) one others.strings) more.strings);
         members = (own.members, (one, others.each), more.members);
       }
 

@@ -1,18 +1,16 @@
 -- Words of tokens.
-use Rattle.std.proofs.Common.{◌≡◌, ◌⊎◌, inl, inr, ℕ, zero, suc, ◌+◌, ◌<◌, ◌≤◌, List, [], ◌∷◌, map, drop, length, cond, Bool, true, false, refl, sym, ap, ◌∙◌, subst, arith}
+use Rattle.std.proofs.Common.{◌≡◌, ℕ, zero, suc, ◌<◌, ◌≤◌, List, [], ◌∷◌, map, drop, length, cond, Bool, true, false, refl, sym, ap, ◌∙◌, subst, arith}
 use Rattle.std.specs.Prelude.{Option, Some, None, ◌==◌, slice_index, nat_le, if◌then◌else◌}
 use Rattle.std.specs.List.{find}
 use Rattle.std.proofs.lemmas.Bool.{leb-true}
 use Rattle.im_tok.specs.declared.token.TokenKind.{TokenKind}
 use Rattle.im_tok.specs.declared.number.NumberType.{NumberType}
-use Rattle.im_tok.specs.declared.number.Number.{Number}
-use Rattle.im_tok.specs.Numbers.{greatest, candidates, IsNumeral}
+use Rattle.im_tok.specs.Numbers.{greatest, candidates}
 use Rattle.im_tok.specs.declared.literal.Element.{Element}
-use Rattle.im_tok.specs.Literals.{IsPlain, IsSimple, IsElement, plain, simple, octal, hexadecimal, AreElements, IsLiteral, simple_escape}
+use Rattle.im_tok.specs.Literals.{IsElement, plain, simple, octal, hexadecimal, AreElements, simple_escape}
 use Rattle.im_word.specs.Words.{Word, name, keyword, number, character, text, mark, unknown}
 use Rattle.im_word.specs.Tokens.{IsWordOf}
-use Rattle.im_typed.specs.Typing.{Each}
-use Rattle.im_expressions_sound.specs.Written.{IsOfItsType, AreBytes}
+use Rattle.im_expressions_sound.specs.Written.{AreBytes}
 use Rattle.im_spelt_sound.specs.Words.{IsLexical}
 
 -- a number's type is one that holds it

@@ -1,12 +1,11 @@
 -- What words spell, as far as initialisers, statements and units go.
-use Rattle.std.proofs.Common.{◌≡◌, ℕ, suc, ◌+◌, List, [], ◌∷◌, ◌++◌, refl}
-use Rattle.im_word.specs.Words.{Name, Word, mark, keyword}
+use Rattle.std.proofs.Common.{ℕ, List}
+use Rattle.im_word.specs.Words.{Name, Word}
 use Rattle.im_ctree.specs.Tree as t
 use Rattle.im_ctree.specs.Units.{IsInitializer, a_value, braced, InitializerTail, last_initializer, last_comma, next_initializer, IsMaybeInitializer, not_initialized, initialized, IsInitDeclarators, last_declarator, next_declarator, IsDeclaration, declares_none, declares, IsMaybeExpression, nothing, something, IsForInit, begins_with_declaration, begins_with_expression, IsBlock, a_block, IsBlockItems, no_item, next_declaration, next_statement, IsStatement, blocks, computes, ifs, if_elses, whiles, dos, fors, switches, cases, defaults, breaks, continues, returns, IsExternal, a_declaration, a_definition, IsUnit, last_external, next_external}
-use Rattle.im_typed.specs.Typing.{Each}
 use Rattle.im_expressions_sound.specs.Written.{MayBeWritten, IsWrittenInitialiser, AreWrittenInitialisers, MayBeInitialised, AreWrittenDeclarators, IsWrittenDeclaration, IsWrittenBeginning, IsWrittenStatement, IsWrittenBlock, AreWrittenItems}
 use Rattle.im_places_sound.specs.Units.{AreNamed, IsWrittenExternal, IsWrittenUnit}
-use Rattle.im_spelt_sound.specs.Words.{IsLexical, AreLexical}
+use Rattle.im_spelt_sound.specs.Words.{AreLexical}
 use Rattle.im_spelt_sound.proofs.Expressions.{front, rest, expression-written, assignment-written, conditional-written, specifiers-known, declarator-bytes, declarator-named}
 
 mutual

@@ -1,5 +1,5 @@
 -- Words as tokens have them (C11 6.4).
-use Rattle.std.specs.Prelude.{◌≡◌, ℕ, ◌≤◌, List, []}
+use Rattle.std.specs.Prelude.{◌≡◌, ◌≤◌, List, []}
 use Rattle.im_word.specs.Words.{Word, name, keyword, number, character, text, mark, unknown}
 use Rattle.im_typed.specs.Typing.{Each}
 use Rattle.im_expressions_sound.specs.Written.{IsOfItsType, AreBytes}
