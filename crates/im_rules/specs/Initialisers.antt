@@ -2,6 +2,7 @@
 -- cleared.
 use Rattle.std.specs.Prelude.{ℕ, ◌+◌, pos, List, [], ◌∷◌, ◌++◌, map, length, if◌then◌else◌}
 use Rattle.im_word.specs.Words.{Name}
+use Rattle.im_num.specs.Kinds.{wrap}
 use Rattle.im_ctree.specs.Tree as t
 use Rattle.im_ctype.specs.declared.member.MemberPlace.{MemberPlace}
 use Rattle.im_ctype.specs.Types.{CType, void, integer, pointer, array, unsized, struct, Member, Structs, members_of}
@@ -158,10 +159,10 @@ mutual
         → InMembers (behind_strings (strings_given c.known m.type i) c) ms os at is qs
         → InMembers c (m ∷ ms) (o ∷ os) at (t.more_initializers i is) (ps ++ qs)
 
--- an item as a piece of a declaration in a block: converted to the type there
+-- an item as a piece of a declaration in a block: converted to the type there, as a byte over 127 is to signed char
 abbrev pub piece_by : Structs → ℕ → CType → Source → Piece
 piece_by known at a (from_term e x) = record { offset = at; access = access_of known a; value = as_type a (value_of known x) }
-piece_by known at a (from_byte b) = record { offset = at; access = access_of known a; value = Constant (kind_in a) (pos b) }
+piece_by known at a (from_byte b) = record { offset = at; access = access_of known a; value = Constant (kind_in a) (wrap (kind_in a) (pos b)) }
 
 abbrev pub piece_of : Structs → Item → Piece
 piece_of known p = piece_by known p.offset p.type p.source

@@ -66,7 +66,7 @@ module _ (g : Prog) (f : Func) (known : Structs) where
 
   -- a subscript
   pub subscripts : (x y : Term) → IsSoundTerm g f known x → IsSoundTerm g f known y → MovesWell known (value_of known x).type → MovesWell known (value_of known y).type
-      → IsSized known (target_of (sum known (value_of known x) (value_of known y)).type) → Meets (index_asks known x y) → IsSoundTerm g f known (pointed (sum known (value_of known x) (value_of known y)))
+      → (points_to_complete known (sum known (value_of known x) (value_of known y)).type ≡ true → IsSized known (target_of (sum known (value_of known x) (value_of known y)).type)) → Meets (index_asks known x y) → IsSoundTerm g f known (pointed (sum known (value_of known x) (value_of known y)))
   subscripts x y hx hy mx my small e =
       let vx = value_of known x in
       let vy = value_of known y in
@@ -74,12 +74,13 @@ module _ (g : Prog) (f : Func) (known : Structs) where
       seen g f known (λ t u. (points_to_complete known t && is_integer u) || (is_integer t && points_to_complete known u)) x y (reads g f known x hx) (reads g f known y hy) e.0 in
       let sound = sum-sound g f known vx vy (reads g f known x hx) (reads g f known y hy) mx my (true-right (is_integer vx.type && is_integer vy.type) _ index) in
       let points = sum-points vx vy index in
-      let size = small.size in
+      let sized = small points in
+      let size = sized.size in
       record {
         typed = (sound.typed, pointer-shape g f known (sum known vx vy) sound (complete-pointer known (sum known vx vy).type points));
         fits = omega arith;
         object = target-object g f known (sum known vx vy).type points;
-        sized = small;
+        sized = sized;
       }
     where
       sum-points : (v w : Value) → ((points_to_complete known v.type && is_integer w.type) || (is_integer v.type && points_to_complete known w.type)) ≡ true → points_to_complete known (sum known v w).type ≡ true

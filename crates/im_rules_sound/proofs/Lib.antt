@@ -1,6 +1,6 @@
-mod Operations
-mod Terms
-mod Changes
-mod Assigns
-mod Calls
-mod Members
+pub mod Operations
+pub mod Terms
+pub mod Changes
+pub mod Assigns
+pub mod Calls
+pub mod Members

@@ -15,12 +15,12 @@ use Rattle.im_rules.specs.Conversions.{place_among, member_among}
 use Rattle.im_rules_sound.specs.Sound.{IsSized, IsSoundPlace}
 
 -- a member and its place, by its number
-record Stands (ms : List Member) (ps : List MemberPlace) (m : Member) (p : MemberPlace) : Type 0 where
+pub record Stands (ms : List Member) (ps : List MemberPlace) (m : Member) (p : MemberPlace) : Type 0 where
   pub number : ℕ
   pub member : slice_get ms number ≡ Some m
   pub place : slice_get ps number ≡ Some p
 
-found : (x : Name) (ms : List Member) (done : List Layout) (so_far : Layout) → has_member x ms ≡ true → Stands ms (places_from done ms so_far) (member_among x ms) (place_among x ms (places_from done ms so_far))
+pub found : (x : Name) (ms : List Member) (done : List Layout) (so_far : Layout) → has_member x ms ≡ true → Stands ms (places_from done ms so_far) (member_among x ms) (place_among x ms (places_from done ms so_far))
 found x [] done so_far e = absurd (cc)
 found x (m ∷ ms) done so_far e = by-name (same_name m.name x) e (λ h. found x ms done (with_member so_far (layout_in done m.type)) h)
   where

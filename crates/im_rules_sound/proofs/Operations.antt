@@ -79,7 +79,7 @@ pointer-gives known (unsized t) h = absurd (cc)
 pointer-gives known (struct n) h = absurd (cc)
 pointer-gives known (function r ps) h = absurd (cc)
 
-no-integer : (t : CType) → is_pointer t ≡ true → is_integer t ≡ false
+pub no-integer : (t : CType) → is_pointer t ≡ true → is_integer t ≡ false
 no-integer (pointer d t) h = refl
 no-integer (integer i) h = absurd (cc)
 no-integer void h = refl
@@ -256,6 +256,30 @@ module _ (g : Prog) (f : Func) (known : Structs) where
       (or-true (points_to_complete known a && is_integer b) (is_integer a && points_to_complete known b) h))
       (or-true (both_integers a b) (index_types a b) e)
 
+  -- a pointer that is moved points to a complete type
+
+  pub add-first-points : (a b : CType) → add_types a b ≡ true → is_pointer a ≡ true → points_to_complete known a ≡ true
+  add-first-points a b e pa =
+      ⊎_elim (λ h. never (is_integer a) (both-true (is_integer a) (is_integer b) h).0 (no-integer a pa))
+      (λ h. ⊎_elim (λ k. (both-true (points_to_complete known a) (is_integer b) k).0)
+      (λ k. never (is_integer a) (both-true (is_integer a) (points_to_complete known b) k).0 (no-integer a pa))
+      (or-true (points_to_complete known a && is_integer b) (is_integer a && points_to_complete known b) h))
+      (or-true (both_integers a b) (index_types a b) e)
+
+  add-second-points : (a b : CType) → add_types a b ≡ true → is_pointer a ≡ false → is_pointer b ≡ true → points_to_complete known b ≡ true
+  add-second-points a b e pa pb =
+      ⊎_elim (λ h. never (is_integer b) (both-true (is_integer a) (is_integer b) h).1 (no-integer b pb))
+      (λ h. ⊎_elim (λ k. never (is_pointer a) (complete-pointer known a (both-true (points_to_complete known a) (is_integer b) k).0) pa)
+      (λ k. (both-true (is_integer a) (points_to_complete known b) k).1)
+      (or-true (points_to_complete known a && is_integer b) (is_integer a && points_to_complete known b) h))
+      (or-true (both_integers a b) (index_types a b) e)
+
+  pub subtract-points : (a b : CType) → subtract_types a b ≡ true → is_pointer a ≡ true → points_to_complete known a ≡ true
+  subtract-points a b e pa =
+      ⊎_elim (λ h. never (is_integer a) (both-true (is_integer a) (is_integer b) h).0 (no-integer a pa))
+      (λ h. (both-true (points_to_complete known a) (is_integer b || are_like_pointers a b) h).0)
+      (or-true (both_integers a b) (points_to_complete known a && (is_integer b || are_like_pointers a b)) e)
+
   subtract-right : (a b : CType) → subtract_types a b ≡ true → is_pointer b ≡ false → is_integer b ≡ true
   subtract-right a b e pb =
       ⊎_elim (λ h. (both-true (is_integer a) (is_integer b) h).1)
@@ -287,14 +311,14 @@ module _ (g : Prog) (f : Func) (known : Structs) where
           → Sound (if t then record { type = x.type; expr = Move (element_size known x.type) false x.expr y.expr } else record { type = y.type; expr = MoveBy (element_size known y.type) x.expr y.expr })
       by-first true p h = record {
         plain = hx.plain;
-        typed = (mx p, hx.typed, hy.typed, pointer-shape x hx p, is-integer-shape y hy (add-right x.type y.type e p));
+        typed = (mx (add-first-points x.type y.type e p), hx.typed, hy.typed, pointer-shape x hx p, is-integer-shape y hy (add-right x.type y.type e p));
         shape = sym (pointer-gives known x.type p);
       }
       by-first false p h =
           let q : is_pointer y.type ≡ true = ⊎_elim (λ k. never (is_pointer x.type) k p) (λ k. k) (or-true (is_pointer x.type) (is_pointer y.type) h) in
           record {
             plain = hy.plain;
-            typed = (my q, hx.typed, hy.typed, is-integer-shape x hx (add-left x.type y.type e p), pointer-shape y hy q);
+            typed = (my (add-second-points x.type y.type e p q), hx.typed, hy.typed, is-integer-shape x hx (add-left x.type y.type e p), pointer-shape y hy q);
             shape = sym (pointer-gives known y.type q);
           }
 
@@ -316,7 +340,7 @@ module _ (g : Prog) (f : Func) (known : Structs) where
           → Sound (if t then record { type = x.type; expr = Move (element_size known x.type) true x.expr y.expr } else arithmetic s.Subtract x y)
       by-first true p h = record {
         plain = hx.plain;
-        typed = (mx p, hx.typed, hy.typed, pointer-shape x hx p, is-integer-shape y hy (subtract-right x.type y.type e (and-false (is_pointer x.type) (is_pointer y.type) h p)));
+        typed = (mx (subtract-points x.type y.type e p), hx.typed, hy.typed, pointer-shape x hx p, is-integer-shape y hy (subtract-right x.type y.type e (and-false (is_pointer x.type) (is_pointer y.type) h p)));
         shape = sym (pointer-gives known x.type p);
       }
       by-first false p h = let both = subtract-left x.type y.type e p in arithmetic-sound s.Subtract x y (λ kind shape k. k) hx hy both.0 both.1
@@ -325,7 +349,7 @@ module _ (g : Prog) (f : Func) (known : Structs) where
           → Sound (if t then int_value (Distance (element_size known x.type) x.expr y.expr) else (if is_pointer x.type then record { type = x.type; expr = Move (element_size known x.type) true x.expr y.expr } else arithmetic s.Subtract x y))
       by-kind true h =
           let both = both-true (is_pointer x.type) (is_pointer y.type) h in
-          record { plain = refl; typed = (mx both.0, hx.typed, hy.typed, pointer-shape x hx both.0, pointer-shape y hy both.1); shape = refl }
+          record { plain = refl; typed = (mx (subtract-points x.type y.type e both.0), hx.typed, hy.typed, pointer-shape x hx both.0, pointer-shape y hy both.1); shape = refl }
       by-kind false h = by-first (is_pointer x.type) refl h
 
   -- the rules see the types of the values

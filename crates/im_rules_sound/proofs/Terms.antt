@@ -37,7 +37,7 @@ module _ (g : Prog) (f : Func) (known : Structs) where
       record { plain = refl; typed = (promoted-kind (integer_of v.type), part.typed, part.shape); shape = refl }
 
   -- what a pointer to a complete type points to is an object
-  complete-object : (t : CType) → is_complete_in known t ≡ true → (is_void t || is_function t) ≡ false
+  pub complete-object : (t : CType) → is_complete_in known t ≡ true → (is_void t || is_function t) ≡ false
   complete-object void e = absurd (cc)
   complete-object (integer i) e = refl
   complete-object (pointer d t) e = refl
@@ -55,19 +55,20 @@ module _ (g : Prog) (f : Func) (known : Structs) where
   target-object (struct n) e = absurd (cc)
   target-object (function r ps) e = absurd (cc)
 
-  pub unary : (op : UnaryOp) (x : Term) → IsSoundTerm g f known x → IsSized known (target_of (value_of known x).type) → Meets (unary_asks known op x) → IsSoundTerm g f known (unary_term known op x)
+  pub unary : (op : UnaryOp) (x : Term) → IsSoundTerm g f known x → (points_to_complete known (value_of known x).type ≡ true → IsSized known (target_of (value_of known x).type)) → Meets (unary_asks known op x) → IsSoundTerm g f known (unary_term known op x)
   unary o.AddressOf (lvalue k t p) h small e = record { plain = refl; typed = h.typed; shape = refl }
   unary o.AddressOf (value v) h small e = absurd (let never_so = e.0 in cc)
   unary o.Dereference x h small e =
       let v = value_of known x in
       let sound = reads x h in
       let points : points_to_complete known v.type ≡ true = ap (points_to_complete known) (sym (type-seen known x sound.plain)) ∙ e.0 in
-      let size = small.size in
+      let sized = small points in
+      let size = sized.size in
       record {
         typed = (sound.typed, pointer-shape g f known v sound (complete-pointer known v.type points));
         fits = omega arith;
         object = target-object v.type points;
-        sized = small;
+        sized = sized;
       }
   unary o.Plus x h small e =
       let v = value_of known x in

@@ -10,7 +10,7 @@ use Rattle.im_word.specs.Words.{Name}
 use Rattle.im_typed.specs.Program.{Place, Func, Prog}
 use Rattle.im_rules.specs.Rules.{allows}
 use Rattle.im_rules.specs.Terms.{Term, operand_of, value_of}
-use Rattle.im_rules.specs.TypeTests.{target_of, has_member}
+use Rattle.im_rules.specs.TypeTests.{points_to_complete, target_of, has_member}
 use Rattle.im_rules.specs.Scopes.{a_function, Callee}
 use Rattle.im_rules.specs.Demands.{Meets, unary_asks, cast_asks, conditional_asks, assign_asks, step_asks, index_asks, call_asks}
 use Rattle.im_rules.specs.Conversions.{operation, unary_term, casted, joined, chosen, assigned, stepped, pointed, sum, call_of, member_among, member_at}
@@ -33,7 +33,8 @@ ReadsLaw = (g : Prog) (f : Func) (known : Structs) (x : Term) → IsSoundTerm g 
 abbrev pub UnaryLaw : Type 0
 UnaryLaw =
     (g : Prog) (f : Func) (known : Structs) (op : UnaryOp) (x : Term) → IsSoundTerm g f known x
-    → IsSized known (target_of (value_of known x).type) → Meets (unary_asks known op x) → IsSoundTerm g f known (unary_term known op x)
+    → (points_to_complete known (value_of known x).type ≡ true → IsSized known (target_of (value_of known x).type))
+    → Meets (unary_asks known op x) → IsSoundTerm g f known (unary_term known op x)
 
 -- casts and commas (C11 6.5.4, 6.5.17)
 abbrev pub CastsLaw : Type 0
@@ -69,7 +70,8 @@ abbrev pub SubscriptsLaw : Type 0
 SubscriptsLaw =
     (g : Prog) (f : Func) (known : Structs) (x y : Term) → IsSoundTerm g f known x → IsSoundTerm g f known y
     → MovesWell known (value_of known x).type → MovesWell known (value_of known y).type
-    → IsSized known (target_of (sum known (value_of known x) (value_of known y)).type) → Meets (index_asks known x y)
+    → (points_to_complete known (sum known (value_of known x) (value_of known y)).type ≡ true → IsSized known (target_of (sum known (value_of known x) (value_of known y)).type))
+    → Meets (index_asks known x y)
     → IsSoundTerm g f known (pointed (sum known (value_of known x) (value_of known y)))
 
 abbrev pub CallsLaw : Type 0

@@ -6,7 +6,7 @@ use Rattle.im_ctype.specs.Types.{CType, void, integer, pointer, array, unsized, 
 use Rattle.im_typed.specs.Program.{Access, Scalar, Place, LocalObject, Func, Prog}
 use Rattle.im_typed.specs.Values.{cells_of}
 use Rattle.im_typed.specs.Typing.{Each, parameters, result_shape, shape_of, IsTypedPlace, IsTyped, IsElement, IsAccess, members_offset}
-use Rattle.im_rules.specs.TypeTests.{result_of, parameters_of}
+use Rattle.im_rules.specs.TypeTests.{points_to_complete, result_of, parameters_of}
 use Rattle.im_rules.specs.Scopes.{Callee, a_body, no_body, get_character, put_character}
 use Rattle.im_rules.specs.Terms.{Value, Term, lvalue, value, kind_in, access_of, size_in}
 use Rattle.im_rules.specs.Conversions.{element_size}
@@ -27,9 +27,9 @@ pub record IsSoundValue (g : Prog) (f : Func) (known : Structs) (v : Value) : Ty
   pub typed : IsTyped g f v.expr
   pub shape : shape_of g v.expr ≡ gives known v.type
 
--- what a pointer points to is an element of one byte or more, of at most 1048576
+-- what a pointer to a complete type points to is an element of one byte or more, of at most 1048576
 abbrev pub MovesWell : Structs → CType → Type 0
-MovesWell known t = is_pointer t ≡ true → IsElement (element_size known t)
+MovesWell known t = points_to_complete known t ≡ true → IsElement (element_size known t)
 
 -- an object of this type is at most 1048576 bytes, and a struct has cells that lie in it
 pub record IsSized (known : Structs) (t : CType) : Type 0 where

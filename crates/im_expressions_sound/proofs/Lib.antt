@@ -1,0 +1,4 @@
+pub mod Types
+pub mod Parts
+pub mod Declarators
+pub mod Expressions

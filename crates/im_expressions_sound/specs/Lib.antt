@@ -1,0 +1,3 @@
+pub mod Bounded
+pub mod Written
+pub mod Laws

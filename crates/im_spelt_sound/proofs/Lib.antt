@@ -1,0 +1,3 @@
+pub mod Expressions
+pub mod Units
+pub mod Tokens

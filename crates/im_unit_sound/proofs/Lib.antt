@@ -1,0 +1,5 @@
+pub mod Constants
+pub mod Values
+pub mod Bodies
+pub mod Functions
+pub mod Units
