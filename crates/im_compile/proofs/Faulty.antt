@@ -2,7 +2,6 @@
 use Rattle.std.proofs.Common.{◌≡◌, ℕ, List, subst}
 use Rattle.im_mem.specs.Map.{statics_start}
 use Rattle.im_rv.specs.declared.code.Part.{Part}
-use Rattle.im_rv.specs.declared.code.Code.{Code as Linked}
 use Rattle.im_typed.specs.declared.program.Prog.{Prog}
 use Rattle.im_block.specs.declared.unit.Function.{Function}
 use Rattle.im_block.specs.declared.unit.Unit.{Unit as Code}
@@ -15,16 +14,15 @@ use Rattle.im_pack.specs.declared.fault.PackFault.{PackFault}
 use Rattle.im_pack.specs.declared.fault.PackFault.TheVariants.{Unnamed as NoName, OutOfMemory as NoSpace}
 use Rattle.im_pack.specs.Packed.{IsFaultOf as IsPackFault}
 use Rattle.im_compile.specs.declared.fault.CompileFault.{CompileFault}
-use Rattle.im_compile.specs.declared.fault.CompileFault.TheVariants.{Frame, Code as TooMuchCode, Unnamed, NoGap, OutOfMemory}
+use Rattle.im_compile.specs.declared.fault.CompileFault.TheVariants.{Frame, Code as TooMuchCode, Unnamed, OutOfMemory}
 use Rattle.im_compile.specs.Passed.{IsPassed}
 use Rattle.im_compile.specs.Faults.{IsFaultOf, IsAssembled}
-use Rattle.im_compile.specs.Ready.{IsFrameFault, IsLinkFault, IsLinkedFrom, IsGapFault, of_pack}
+use Rattle.im_compile.specs.Ready.{IsFrameFault, IsLinkFault, of_pack}
 
 pub of_frames : (prog : Prog) (code : Code) → IsPassed prog code → (e : CompileFault) → IsFrameFault code.functions.items e → IsFaultOf prog e
 of_frames prog code passed (Frame i bytes) h = record { code = code; passed = passed; frame = h }
 of_frames prog code passed (TooMuchCode bytes) h = absurd h
 of_frames prog code passed (Unnamed n) h = absurd h
-of_frames prog code passed NoGap h = absurd h
 of_frames prog code passed OutOfMemory h = tt
 
 -- placed code with its statics and frames
@@ -42,16 +40,7 @@ of_linking prog code addresses layouts a (Frame i bytes) h = absurd h
 of_linking prog code addresses layouts a (TooMuchCode bytes) h =
     record { parts = h.parts; assembled = assembled prog code addresses layouts h.parts a h.assemble; large = h.large; told = h.told }
 of_linking prog code addresses layouts a (Unnamed n) h = absurd h
-of_linking prog code addresses layouts a NoGap h = absurd h
 of_linking prog code addresses layouts a OutOfMemory h = tt
-
-pub of_gap : (prog : Prog) (code : Code) (addresses : List ℕ) (layouts : List Layout) → HasPlaces prog code addresses layouts → (linked : Linked) → IsLinkedFrom code addresses layouts linked → (e : CompileFault) → IsGapFault linked e → IsFaultOf prog e
-of_gap prog code addresses layouts a linked l (Frame i bytes) h = absurd h
-of_gap prog code addresses layouts a linked l (TooMuchCode bytes) h = absurd h
-of_gap prog code addresses layouts a linked l (Unnamed n) h = absurd h
-of_gap prog code addresses layouts a linked l NoGap h =
-    record { parts = l.parts; assembled = assembled prog code addresses layouts l.parts a l.assemble; linked = linked; link = l.link; none = h }
-of_gap prog code addresses layouts a linked l OutOfMemory h = tt
 
 pub of_image : (prog : Prog) (code : Code) → IsPassed prog code → (e : PackFault) → IsPackFault code.statics.items e → IsFaultOf prog (of_pack e)
 of_image prog code passed (NoName n) h = record { code = code; passed = passed; unnamed = h }

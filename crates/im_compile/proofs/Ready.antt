@@ -16,6 +16,7 @@ use Rattle.im_block.specs.declared.unit.Unit.{Unit as Code}
 use Rattle.im_block.specs.Meaning.{static_of, statics_of}
 use Rattle.im_block.specs.Uncut.{SameFunctions, SameButCuts}
 use Rattle.im_block.specs.Wellformed.{IsWellFormed}
+use Rattle.im_block.specs.Laws.{AddedCutsLaw}
 use Rattle.im_block_laws.specs.Laws.{CutsKeepCodeLaw}
 use Rattle.im_placed.specs.Placeable.{IsPlaceable}
 use Rattle.im_placed.specs.Placed.{IsPlacedFunction, IsPlacedCode}
@@ -66,8 +67,8 @@ placed_count [] (g ∷ gs) h = absurd h
 placed_count (f ∷ fs) [] h = absurd h
 placed_count (f ∷ fs) (g ∷ gs) h = ap (λ n. suc n) (placed_count fs gs h.1)
 
-pub ready : LoweredFormLaw → ForceKeepsLaw → CutsKeepCodeLaw → CutsKeepPlacesLaw → PlacedCodeLaw → RecutKeepsLaw → UncutNames → ForceNames → PlaceNames → RecutNames → (prog : Prog) (code : Code) → IsSource prog → IsPassed prog code → IsReady prog code
-ready form force cuts places placing recut uncut_names force_names place_names recut_names prog code s p =
+pub ready : LoweredFormLaw → AddedCutsLaw → ForceKeepsLaw → CutsKeepCodeLaw → CutsKeepPlacesLaw → PlacedCodeLaw → RecutKeepsLaw → UncutNames → ForceNames → PlaceNames → RecutNames → (prog : Prog) (code : Code) → IsSource prog → IsPassed prog code → IsReady prog code
+ready form added force cuts places placing recut uncut_names force_names place_names recut_names prog code s p =
     let well = forced_well form force cuts prog p.lowered p.forced s p.lower p.sized p.force in
     let placeable = forced_placeable force places p.lowered p.forced p.placeable p.force in
     let same_forced = force.same p.lowered p.forced p.force in
@@ -81,6 +82,8 @@ ready form force cuts places placing recut uncut_names force_names place_names r
     record {
       well_formed = cuts.well_formed p.placed code same placed_well;
       placed = placed;
+      ordered = added.ordered p.placed code same (placing.ordered p.forced p.placed p.place.placed (added.ordered p.lowered p.forced same_forced (form (program_of prog) p.lowered s.typed s.within p.lower p.sized).1));
+      forced = cuts.forced p.placed code same (placing.forced p.forced p.placed p.place.placed (force.forced p.lowered p.forced p.force));
       named = recut_names p.placed code p.recut (place_names p.forced p.placed p.place.placed (force_names p.lowered p.forced p.force (uncut_names p.lowered p.uncut)));
       fits = All-weaker (λ (f : Function). IsPlacedFunction (length code.statics.items) f) (λ (f : Function). bytes_of f ≤ f.need) (λ f h. h.fits) code.functions.items placed.functions;
       room = subst (λ n. n ≤ statics_capacity) (sym bytes) s.within.statics;

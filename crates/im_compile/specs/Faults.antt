@@ -2,10 +2,8 @@
 use Rattle.std.specs.Prelude.{◌≡◌, ◌<◌, ◌≤◌, ℕ, List, Some, slice_get}
 use Rattle.im_mem.specs.Map.{statics_start}
 use Rattle.im_rv.specs.declared.code.Part.{Part}
-use Rattle.im_rv.specs.declared.code.Code.{Code as Linked}
 use Rattle.im_link.specs.Parts.{byte_count}
-use Rattle.im_link.specs.Code.{IsLinked, byte_limit, told_count}
-use Rattle.im_gap.specs.Gap.{HasGap}
+use Rattle.im_link.specs.Code.{byte_limit, told_count}
 use Rattle.im_typed.specs.declared.program.Prog.{Prog}
 use Rattle.im_block.specs.declared.unit.Function.{Function}
 use Rattle.im_block.specs.declared.unit.Unit.{Unit as Code}
@@ -16,7 +14,7 @@ use Rattle.im_addresses.specs.Statics.{objects_of}
 use Rattle.im_linked.specs.Program.{IsProgram}
 use Rattle.im_pack.specs.Packed.{IsUnnamed}
 use Rattle.im_compile.specs.declared.fault.CompileFault.{CompileFault}
-use Rattle.im_compile.specs.declared.fault.CompileFault.TheVariants.{Frame, Code as TooMuchCode, Unnamed, NoGap, OutOfMemory}
+use Rattle.im_compile.specs.declared.fault.CompileFault.TheVariants.{Frame, Code as TooMuchCode, Unnamed, OutOfMemory}
 use Rattle.im_compile.specs.Passed.{IsPassed}
 
 -- the first function whose frame is larger than 65536 bytes, and so many it has
@@ -49,14 +47,7 @@ pub record HasLargeCode (prog : Prog) (bytes : ℕ) : Type 0 where
   pub large : byte_limit < byte_count parts
   pub told : bytes ≡ told_count parts
 
--- no bound on the instructions between two commits
-pub record HasNoGap (prog : Prog) : Type 0 where
-  pub parts : List Part
-  pub assembled : IsAssembled prog parts
-  pub linked : Linked
-  pub link : IsLinked parts linked
-  pub none : ¬ HasGap linked.words.items linked.entry
-
+-- a static can't be named in an image
 pub record HasUnnamed (prog : Prog) (n : ℕ) : Type 0 where
   pub code : Code
   pub passed : IsPassed prog code
@@ -66,5 +57,4 @@ abbrev pub IsFaultOf : Prog → CompileFault → Type 0
 IsFaultOf prog (Frame function bytes) = HasLargeFrame prog function bytes
 IsFaultOf prog (TooMuchCode bytes) = HasLargeCode prog bytes
 IsFaultOf prog (Unnamed n) = HasUnnamed prog n
-IsFaultOf prog NoGap = HasNoGap prog
 IsFaultOf prog OutOfMemory = Unit {0}

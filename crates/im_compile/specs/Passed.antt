@@ -7,6 +7,8 @@ use Rattle.im_typed.specs.Limits.{IsWithinLimits}
 use Rattle.im_typed.specs.Typing.{IsWellTyped}
 use Rattle.im_block.specs.declared.unit.Function.{Function}
 use Rattle.im_block.specs.declared.unit.Unit.{Unit as Code}
+use Rattle.im_block.specs.Shape.{AllOrdered}
+use Rattle.im_block.specs.Forced.{AllForced}
 use Rattle.im_block.specs.Wellformed.{IsWellFormed}
 use Rattle.im_placed.specs.Placeable.{IsPlaceable}
 use Rattle.im_placed.specs.Placed.{IsPlacedCode}
@@ -52,6 +54,8 @@ pub record IsPassed (prog : Prog) (code : Code) : Type 0 where
 pub record IsReady (prog : Prog) (code : Code) : Type 0 where
   pub well_formed : IsWellFormed code
   pub placed : IsPlacedCode code
+  pub ordered : AllOrdered code
+  pub forced : AllForced code
   pub named : NamesAccesses code
   pub fits : All (λ (f : Function). bytes_of f ≤ f.need) code.functions.items
   pub room : rooms (objects_of code.statics.items) ≤ statics_capacity

@@ -5,8 +5,7 @@ use Rattle.im_rv.specs.declared.code.Code.{Code as Linked}
 use Rattle.im_link.specs.declared.fault.LinkFault.{LinkFault}
 use Rattle.im_link.specs.declared.fault.LinkFault.TheVariants.{Limit, OutOfMemory as NoRoom}
 use Rattle.im_link.specs.Parts.{byte_count}
-use Rattle.im_link.specs.Code.{IsLinked, byte_limit, told_count}
-use Rattle.im_gap.specs.Gap.{HasGap}
+use Rattle.im_link.specs.Code.{IsLinkable, IsLinked, byte_limit, told_count}
 use Rattle.im_typed.specs.declared.program.Func.{Func}
 use Rattle.im_typed.specs.declared.frames.Frame.{Frame as FrameOf}
 use Rattle.im_block.specs.declared.unit.Function.{Function}
@@ -18,7 +17,7 @@ use Rattle.im_linked.specs.Program.{IsProgram}
 use Rattle.im_pack.specs.declared.fault.PackFault.{PackFault}
 use Rattle.im_pack.specs.declared.fault.PackFault.TheVariants.{Unnamed as NoName, OutOfMemory as NoSpace}
 use Rattle.im_compile.specs.declared.fault.CompileFault.{CompileFault}
-use Rattle.im_compile.specs.declared.fault.CompileFault.TheVariants.{Frame, Code as TooMuchCode, Unnamed, NoGap, OutOfMemory}
+use Rattle.im_compile.specs.declared.fault.CompileFault.TheVariants.{Frame, Code as TooMuchCode, Unnamed, OutOfMemory}
 use Rattle.im_compile.specs.Faults.{IsFrameTooLarge}
 
 -- the first function whose frame is too large, or want of memory
@@ -26,7 +25,6 @@ abbrev pub IsFrameFault : List Function → CompileFault → Type 0
 IsFrameFault functions (Frame i bytes) = IsFrameTooLarge functions i bytes
 IsFrameFault functions (TooMuchCode bytes) = ⊥
 IsFrameFault functions (Unnamed n) = ⊥
-IsFrameFault functions NoGap = ⊥
 IsFrameFault functions OutOfMemory = Unit {0}
 
 pub record IsFrameOf (func : Func) (layout : Layout) (frame : FrameOf) : Type 0 where
@@ -37,6 +35,7 @@ pub record IsFrameOf (func : Func) (layout : Layout) (frame : FrameOf) : Type 0 
 pub record IsLinkedFrom (code : Code) (addresses : List ℕ) (layouts : List Layout) (linked : Linked) : Type 0 where
   pub parts : List Part
   pub assemble : IsProgram code addresses layouts parts
+  pub linkable : IsLinkable parts
   pub link : IsLinked parts linked
 
 pub record IsTooLong (code : Code) (addresses : List ℕ) (layouts : List Layout) (bytes : ℕ) : Type 0 where
@@ -49,7 +48,6 @@ abbrev pub IsLinkFault : Code → List ℕ → List Layout → CompileFault → 
 IsLinkFault code addresses layouts (Frame i bytes) = ⊥
 IsLinkFault code addresses layouts (TooMuchCode bytes) = IsTooLong code addresses layouts bytes
 IsLinkFault code addresses layouts (Unnamed n) = ⊥
-IsLinkFault code addresses layouts NoGap = ⊥
 IsLinkFault code addresses layouts OutOfMemory = Unit {0}
 
 -- what a fault of a pass is called here
@@ -64,10 +62,3 @@ of_frame i NoHeap = OutOfMemory
 abbrev pub of_pack : PackFault → CompileFault
 of_pack (NoName n) = Unnamed n
 of_pack NoSpace = OutOfMemory
-
-abbrev pub IsGapFault : Linked → CompileFault → Type 0
-IsGapFault code (Frame i bytes) = ⊥
-IsGapFault code (TooMuchCode bytes) = ⊥
-IsGapFault code (Unnamed n) = ⊥
-IsGapFault code NoGap = ¬ HasGap code.words.items code.entry
-IsGapFault code OutOfMemory = Unit {0}

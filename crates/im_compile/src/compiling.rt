@@ -6,12 +6,14 @@ ghost use Rattle.im_compile.specs.Passed.{AreOptions, IsSource};
 use crate::built::Built;
 use crate::fault::CompileFault;
 use crate::frames::{frames_of, layouts_of};
-use crate::linking::{gap_of, linked_code, names_of};
+use crate::linking::{linked_code, names_of};
 use crate::options::Options;
 use crate::passes::placed_code;
 use im_addresses::place_statics;
 use im_assemble::Program;
+use im_gap::gap;
 use im_pack::pack;
+use im_ranked::linked_gap_law;
 use im_typed::Prog;
 use std::alloc::Global;
 
@@ -21,6 +23,7 @@ pub fn compile(alloc: Global, prog: &Prog, options: Options) -> Result<Built, Co
     requires options { AreOptions options }
     ensures { MatchResult result (IsBuilt prog.now options) (IsFaultOf prog.now) }
 {
+    linked_gap_law();
     let unit = placed_code(alloc, prog)?;
     let layouts = layouts_of(alloc, &unit.functions)?;
     let addresses = place_statics(alloc, &unit.statics)?;
@@ -32,7 +35,7 @@ pub fn compile(alloc: Global, prog: &Prog, options: Options) -> Result<Built, Co
         names: &names,
     };
     let code = linked_code(alloc, &program)?;
-    let gap = gap_of(alloc, &code)?;
+    let gap = gap(alloc, &code)?;
     let image = pack(
         alloc,
         &unit,

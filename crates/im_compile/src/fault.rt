@@ -20,9 +20,6 @@ pub enum CompileFault {
     /// The static of this number has no cell, or no name of letters, digits, `_` and `$`.
     #[error("static {0} cannot be named")]
     Unnamed(u32),
-    /// No number of instructions bounds those between two commits.
-    #[error("no longest gap")]
-    NoGap,
     #[error("no memory")]
     OutOfMemory,
 }

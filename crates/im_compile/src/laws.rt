@@ -1,6 +1,7 @@
 ghost use Rattle.im_compile.specs.Passed.{ReadyLaw};
 
 use im_alloc_laws::placed_code_law;
+use im_block::added_cuts_law;
 use im_block_laws::cuts_keep_code_law;
 use im_dependences::{force_names_law, place_names_law, recut_names_law, uncut_names_law};
 use im_force::force_keeps_law;
@@ -13,6 +14,7 @@ pub fn ready_law()
     ensures { ReadyLaw }
 {
     lowered_form_law();
+    added_cuts_law();
     force_keeps_law();
     cuts_keep_code_law();
     cuts_keep_places_law();

@@ -1,12 +1,10 @@
-ghost use Rattle.std.specs.Prelude.{◌≡◌, ◌≤◌, length, IfOk, MatchResult};
-ghost use Rattle.im_gap.specs.Gap.{IsGap, HasGap};
+ghost use Rattle.std.specs.Prelude.{◌≡◌, length, IfOk, MatchResult};
 ghost use Rattle.im_linked.specs.Laws.{NamesAccesses};
 ghost use Rattle.im_assemble.specs.Assembled.{IsAssemblable};
-ghost use Rattle.im_compile.specs.Ready.{IsGapFault, IsLinkFault, IsLinkedFrom};
+ghost use Rattle.im_compile.specs.Ready.{IsLinkFault, IsLinkedFrom};
 
 use crate::fault::CompileFault;
 use im_assemble::{Program, assemble};
-use im_gap::longest_gap;
 use im_link::link;
 use im_linked::linkable_law;
 use im_num::NoMemory;
@@ -46,15 +44,4 @@ pub(crate) fn linked_code(alloc: Global, program: &Program) -> Result<Code, Comp
     let parts = assemble(alloc, program)?;
     let code = link(alloc, &parts)?;
     Ok(code)
-}
-
-/// K of a code.
-pub(crate) fn gap_of(alloc: Global, code: &Code) -> Result<u32, CompileFault>
-    requires { length code.now.words.items ≤ 261120 }
-    ensures { MatchResult result (IsGap code.now.words.items code.now.entry) (IsGapFault code.now) }
-{
-    match longest_gap(alloc, code)? {
-        None => Err(CompileFault::NoGap),
-        Some(gap) => Ok(gap),
-    }
 }

@@ -83,7 +83,7 @@ IsOver source Code count = ⊥
 -- what a source is read as
 abbrev pub IsRead : List ℕ → Result Text SourceFault → Type 0
 IsRead source (Ok text) =
-    (length source ≤ limit_of Source) × Lexes source text.tokens.items × IsParsedText source text.tokens.items (Ok text.tree)
+    (length source ≤ limit_of Source) × AreTokens source text.tokens × IsParsedText source text.tokens.items (Ok text.tree)
 IsRead source (Err (Line line why)) = (length source ≤ limit_of Source) × IsWrong source line why
 IsRead source (Err (Limit quantity count)) = IsOver source quantity count
 IsRead source (Err NotYet) = ⊥

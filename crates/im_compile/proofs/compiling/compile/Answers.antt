@@ -7,7 +7,7 @@ use Rattle.im_image.specs.Contents.{IsImage}
 use Rattle.im_pack.specs.Packed.{IsPacked}
 use Rattle.im_compile.specs.Built.{AreFrames}
 use Rattle.im_compile.specs.Ready.{IsFrameFault}
-use Rattle.im_compile.proofs.Faulty.{HasPlaces, of_frames, of_linking, of_gap, of_image}
+use Rattle.im_compile.proofs.Faulty.{HasPlaces, of_frames, of_linking, of_image}
 use Rattle.im_compile.proofs.Layouts.{assemblable, laid_out, placed_at}
 use Rattle.im_compile.proofs.compiling.compile.Goals as goal
 
@@ -33,14 +33,11 @@ returns-in_err-code c =
     let has : HasPlaces c.args.prog.now unit c.deref-5.result.now c.deref-4.result.now = record { passed = c.in_ok-unit.ensures.passed; lay_out = lay_out; place_statics = places } in
     rw (p.1, p.2) (of_linking c.args.prog.now unit c.deref-5.result.now c.deref-4.result.now has c.in_err-code.field-0.0 c.in_err-code.ensures)
 
-pub returns-in_err-gap : goal.returns-in_err-gap
-returns-in_err-gap c =
-    let p = err_from_is_err_and c.from_residual-in_err-gap.result c.from_residual-in_err-gap.ensures.1 in
-    let unit = c.in_ok-unit.unit in
-    let lay_out = laid_out unit c.deref.result.now c.in_ok-layouts.layouts.items c.deref-4.result.now c.deref.ensures.value c.deref-4.ensures.value c.in_ok-layouts.ensures in
-    let places = placed_at unit c.deref-2.result.now c.in_ok-addresses.addresses.items c.deref-5.result.now c.deref-2.ensures.value c.deref-5.ensures.value c.in_ok-addresses.ensures in
-    let has : HasPlaces c.args.prog.now unit c.deref-5.result.now c.deref-4.result.now = record { passed = c.in_ok-unit.ensures.passed; lay_out = lay_out; place_statics = places } in
-    rw (p.1, p.2) (of_gap c.args.prog.now unit c.deref-5.result.now c.deref-4.result.now has c.in_ok-code.code c.in_ok-code.ensures c.in_err-gap.field-0.0 c.in_err-gap.ensures)
+pub gap-requires-clause-defined : goal.gap-requires-clause-defined
+gap-requires-clause-defined c =
+    let ready = c.in_ok-unit.ensures.ready in
+    let l = c.in_ok-code.ensures in
+    (c.linked_gap_law.ensures c.in_ok-unit.unit c.deref-5.result.now c.deref-4.result.now l.parts l.assemble ready.ordered ready.forced c.in_ok-code.code l.linkable l.link).has
 
 pub returns-in_err-image : goal.returns-in_err-image
 returns-in_err-image c =
