@@ -1,7 +1,6 @@
 -- Selection keeps its line of the record of passes.
 use Rattle.std.proofs.Common.{◌≡◌, ℕ, List, sym, ap, ◌∙◌, subst}
 use Rattle.std.specs.Prelude.{map}
-use Rattle.im_image.specs.Contents.{IsImage}
 use Rattle.im_link.specs.Code.{IsLinkable}
 use Rattle.im_store.specs.Statics.{StaticObject}
 use Rattle.im_typed.specs.declared.program.Prog.{Prog}
@@ -43,8 +42,8 @@ module _ (prog : Prog) (options : Options) (built : Built) (b : IsBuilt prog opt
   linkable : IsLinkable b.parts
   linkable = links b.code b.addresses b.layouts b.parts b.assemble able.named
 
-  image_of : IsImage built.image → IsImageOf b.code b.addresses b.layouts b.parts b.linked options.stack options.out_cap built.image
-  image_of fits = record {
+  image_of : IsImageOf b.code b.addresses b.layouts b.parts b.linked options.stack options.out_cap built.image
+  image_of = record {
     well_formed = able.well_formed;
     statics_are = record { room = able.room; places = b.place_statics };
     layouts_are = b.lay_out;
@@ -52,7 +51,7 @@ module _ (prog : Prog) (options : Options) (built : Built) (b : IsBuilt prog opt
     linkable = linkable;
     linked = b.link;
     packed = b.pack;
-    is_image = fits;
+    is_image = b.is_image;
   }
 
   lives : LiveCodeLaw → IsSettled b.code → HasLiveness built.image
@@ -72,10 +71,10 @@ module _ (prog : Prog) (options : Options) (built : Built) (b : IsBuilt prog opt
       (linking_in b.code b.addresses b.layouts b.parts b.linked built.image input) fits selectable there shown live
 
 pub selects : ReadyLaw → PlacedCodeLaw → RecutKeepsLaw → LinkableLaw → LiveCodeLaw → ExecutesLaw → SelectsLaw → BuiltSelectsLaw
-selects ready placing recut links living executes selecting prog options built source b fits numbers =
+selects ready placing recut links living executes selecting prog options built source b numbers =
     let able = ready prog b.code source b.passed in
     let live = lives prog options built b able links living (settled placing recut prog b.code b.passed) in
     selecting b.code b.addresses b.layouts b.parts b.linked options.stack options.out_cap built.image
-    (image_of prog options built b able links fits)
+    (image_of prog options built b able links)
     (subst (λ (l : List StaticObject). HaveNumbers l) (sym (same_statics prog b.code b.passed)) numbers)
     (execute prog options built b able links executes live)

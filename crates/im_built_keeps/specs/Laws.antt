@@ -1,6 +1,5 @@
 -- What is built of a program keeps it.
 use Rattle.std.specs.Prelude.{ℕ, ◌+◌, ◌≤◌, List, length, map}
-use Rattle.im_image.specs.Contents.{IsImage}
 use Rattle.im_gap.specs.Gap.{recovery_steps}
 use Rattle.im_typed.specs.declared.frames.Frame.{Frame}
 use Rattle.im_typed.specs.declared.program.Prog.{Prog}
@@ -23,7 +22,7 @@ frames_of built = map (λ (f : Frame). f.size) built.frames.frames.items
 
 abbrev pub BuiltSelectsLaw : Type 0
 BuiltSelectsLaw =
-    (prog : Prog) (options : Options) (built : Built) → IsSource prog → (b : IsBuilt prog options built) → IsImage built.image → HasNumbers prog →
+    (prog : Prog) (options : Options) (built : Built) → IsSource prog → (b : IsBuilt prog options built) → HasNumbers prog →
     Selects b.code (bytes_of b.layouts) built.image
 
 -- Keeps: for every input and every list of periods; and what follows where power never fails
@@ -34,5 +33,5 @@ pub record BuiltKeeps (prog : Prog) (built : Built) : Type 0 where
 
 abbrev pub BuiltKeepsLaw : Type 0
 BuiltKeepsLaw =
-    (prog : Prog) (options : Options) (built : Built) → IsSource prog → IsBuilt prog options built → IsImage built.image → HasNumbers prog →
+    (prog : Prog) (options : Options) (built : Built) → IsSource prog → IsBuilt prog options built → HasNumbers prog →
     BuiltKeeps prog built
