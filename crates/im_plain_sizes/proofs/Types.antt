@@ -75,11 +75,11 @@ pub meant : (P : Entity → Type 0) (s : Scopes) (x : Name) → EachName P s →
 meant P nothing x h = tt
 meant P (opened s) x h = meant P s x h
 meant P (tagged y g s) x h = meant P s x h
-meant P (named y e s) x h = by-name (same_name y x)
+meant P (named y e s) x h = by-name (same_name y x) (meant P s x h.1)
   where
-    by-name : (b : Bool) → WhereSome P (if b then Some e else meaning s x)
-    by-name true = h.0
-    by-name false = meant P s x h.1
+    by-name : (b : Bool) → WhereSome P (meaning s x) → WhereSome P (if b then Some e else meaning s x)
+    by-name true rest = h.0
+    by-name false rest = rest
 
 -- specifiers
 
@@ -111,11 +111,11 @@ ArePlainLines (l ∷ ls) = IsPlainType l.type × ArePlainLines ls
 
 line-plain : (ls : List Line) (ks : List SpecifierWord) → ArePlainLines ls → IsPlainType (line_meant (line_type ls ks)).type
 line-plain [] ks h = tt
-line-plain (l ∷ ls) ks h = by-words (same_words l.words ks)
+line-plain (l ∷ ls) ks h = by-words (same_words l.words ks) (line-plain ls ks h.1)
   where
-    by-words : (b : Bool) → IsPlainType (line_meant (if b then Some l.type else line_type ls ks)).type
-    by-words true = h.0
-    by-words false = line-plain ls ks h.1
+    by-words : (b : Bool) → IsPlainType (line_meant (line_type ls ks)).type → IsPlainType (line_meant (if b then Some l.type else line_type ls ks)).type
+    by-words true rest = h.0
+    by-words false rest = rest
 
 words-plain : (ks : List SpecifierWord) → IsPlainType (line_meant (line_type lines ks)).type
 words-plain ks = line-plain lines ks (tt, (tt, (tt, (tt, (tt, (tt, (tt, (tt, (tt, (tt, (tt, (tt, (tt, (tt, (tt, (tt, (tt, (tt, (tt, (tt, (tt, tt)))))))))))))))))))))
