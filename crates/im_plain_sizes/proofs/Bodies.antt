@@ -1,20 +1,17 @@
 -- In a plain body each size is an object's of a plain type. Statements leave the typedef names as they are.
-use Rattle.std.proofs.Common.{◌≡◌, ℕ, ◌≤◌, List, [], ◌∷◌, Option, Some, None, refl}
+use Rattle.std.proofs.Common.{◌≡◌, ℕ, ◌≤◌, None}
 use Rattle.im_ctree.specs.Tree as t
-use Rattle.im_ctype.specs.Types.{CType}
 use Rattle.im_typed.specs.Program.{Stmt, Stmts}
-use Rattle.im_rules.specs.Scopes.{Scopes}
 use Rattle.im_rules.specs.Context.{Context}
 use Rattle.im_rules.specs.Rules.{named_in, keywords_in}
-use Rattle.im_rules.specs.Declared.{Qualified, Declared, type_of_specifiers}
-use Rattle.im_rules.specs.Typed.{Declares}
+use Rattle.im_rules.specs.Declared.{Qualified}
 use Rattle.im_rules.specs.Initialisers.{completed}
 use Rattle.im_rules.specs.Breaks.{Node}
 use Rattle.im_rules.specs.Statements.{Site, Added, AreLocals, no_local, a_local, TypedDeclaration, of_declaration, Begins, by_declaration, by_nothing, by_expression}
 use Rattle.im_rules.specs.BodyBreaks.{BodyNode, BodyPart, InnerPart, StepPart}
 use Rattle.im_rules.specs.BodyBreaks as b
 use Rattle.im_rule_limits.specs.Limits.{size_limit, BodySized, of_local, size_in_part, size_in_inner, size_in_step, size_in_local_initialiser}
-use Rattle.im_plain.specs.Plain.{or_else, unless_name, other_in, other_maybe, other_listed, other_given, other_initializer, other_locals, other_declaration, other_first, other_statement, other_otherwise, other_block, other_items}
+use Rattle.im_plain.specs.Plain.{or_else, unless_name, other_in, other_maybe, other_listed, other_initializer, other_locals, other_declaration, other_first, other_statement, other_otherwise, other_block, other_items}
 use Rattle.im_plain_laws.proofs.Empty.{first_none, second_none}
 use Rattle.im_plain_sizes.proofs.Types.{IsPlainType, HasPlainTypedefs, IsPlainTypedef, listed-named, specified-plain, tags-plain, IsPlainDeclarator, unless-plain, declares-plain, completed-plain, plain-small}
 use Rattle.im_plain_sizes.proofs.Nodes.{IsPlainNode, none-sized, none-given}

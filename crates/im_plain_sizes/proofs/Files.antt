@@ -1,5 +1,5 @@
 -- Sizes and statics of a plain unit.
-use Rattle.std.proofs.Common.{◌≡◌, ℕ, zero, suc, ◌+◌, ◌<◌, ◌≤◌, List, [], ◌∷◌, ◌++◌, map, length, Option, Some, None, refl, arith}
+use Rattle.std.proofs.Common.{◌≡◌, ℕ, zero, suc, ◌+◌, ◌≤◌, List, [], ◌∷◌, ◌++◌, map, length, Option, Some, None, arith}
 use Rattle.std.specs.Prelude.{◌≢◌}
 use Rattle.im_word.specs.Words.{Name}
 use Rattle.im_num.specs.declared.kind.Kind.TheVariants.{Ptr}
@@ -7,7 +7,7 @@ use Rattle.im_ctree.specs.Tree as t
 use Rattle.im_ctype.specs.declared.integer.Integer.{Integer}
 use Rattle.im_ctype.specs.declared.integer.Integer.TheVariants.{Char, SignedChar, UnsignedChar, Short, UnsignedShort, Int, UnsignedInt, Long, UnsignedLong}
 use Rattle.im_ctype.specs.Types.{CType, void, integer, pointer, array, unsized, struct, function, Structs, kind_of}
-use Rattle.im_ctype.specs.Layout.{Layout, layout, repeated, scalar_layout}
+use Rattle.im_ctype.specs.Layout.{layout, repeated, scalar_layout}
 use Rattle.im_store.specs.Statics.{StaticObject}
 use Rattle.im_typed.specs.Program.{Prog}
 use Rattle.im_rules.specs.Rules.{named_in}
@@ -18,15 +18,15 @@ use Rattle.im_rules.specs.Declared.{Declared, tags_in, behind_specifiers, with_n
 use Rattle.im_rules.specs.Breaks.{Node}
 use Rattle.im_rules.specs.Initialisers.{completed}
 use Rattle.im_rules.specs.Statements.{name_of as name_in}
-use Rattle.im_rules.specs.FileScope.{FilePlace, file_start, of_the_file, object_type, own_parameters}
-use Rattle.im_rules.specs.TypedUnit.{FirstValues, TypedUnit, of_unit, past_head, layout_of_type, static_named, string_static, string_statics}
+use Rattle.im_rules.specs.FileScope.{FilePlace, of_the_file, object_type, own_parameters}
+use Rattle.im_rules.specs.TypedUnit.{FirstValues, TypedUnit, of_unit, past_head, layout_of_type, static_named, string_statics}
 use Rattle.im_rules.specs.UnitBreaks.{FileNode, FilePart, FileInner}
 use Rattle.im_rules.specs.UnitBreaks as b
 use Rattle.im_rule_limits.specs.Limits.{size_limit, FileSized, of_struct, of_static, size_in_file_part, size_in_file_inner, size_in_static_initialiser, size_in_body, Exceeds, of_size, too_large}
-use Rattle.im_plain.specs.Plain.{or_else, other_maybe, other_listed, other_enumerators, other_declarator, other_declared, other_specifiers, other_external, other_unit, other_block, other_items, IsPlain}
+use Rattle.im_plain.specs.Plain.{or_else, other_maybe, other_listed, other_enumerators, other_declarator, other_declared, other_specifiers, other_external, other_unit, other_block, IsPlain}
 use Rattle.im_plain_laws.proofs.Empty.{first_none, second_none}
 use Rattle.im_statics.specs.Named.{AreNumbers, HaveNumbers}
-use Rattle.im_plain_sizes.proofs.Types.{IsPlainType, IsPlainEntity, HasPlainTypedefs, IsPlainTypedef, WhereSome, meant, EachName, typedefs-plain, other_of, listed-named, tags-plain, IsPlainDeclarator, declarator-plain, declares-plain, completed-plain, plain-small}
+use Rattle.im_plain_sizes.proofs.Types.{IsPlainType, IsPlainEntity, HasPlainTypedefs, IsPlainTypedef, WhereSome, meant, typedefs-plain, other_of, listed-named, tags-plain, IsPlainDeclarator, declarator-plain, declares-plain, completed-plain, plain-small}
 use Rattle.im_plain_sizes.proofs.Nodes.{IsPlainNode, none-sized, none-given}
 use Rattle.im_plain_sizes.proofs.Bodies.{body-small}
 use Rattle.im_plain_sizes.proofs.Places.{IsPlainPlace, specify-plain, entity-plain, declarator-first, given-first, declared-rest, specifiers-listed, external-kept, externals-kept, start-plain}

@@ -1,5 +1,5 @@
 -- No array's length and no string stands in a plain node, so none has a size; nor in a plain initialiser.
-use Rattle.std.proofs.Common.{◌≡◌, ℕ, Bool, true, false, List, [], ◌∷◌, Option, Some, None, refl, subst, if◌then◌else◌}
+use Rattle.std.proofs.Common.{◌≡◌, ℕ, Bool, true, false, List, [], ◌∷◌, None, subst, if◌then◌else◌}
 use Rattle.im_ctree.specs.Tree as t
 use Rattle.im_ctype.specs.Types.{CType, void, integer, pointer, array, unsized, struct, function}
 use Rattle.im_rules.specs.Rules.{is_string_for}
@@ -123,73 +123,37 @@ element-plain : (a : CType) (i : t.Initializer) → other_given i ≡ None → I
 element-plain a (t.value_initializer e) h = tt
 element-plain a (t.braced_initializer at is) h = h
 
--- a string's shape is its bytes, or none; no string is plain
-string-plain : (a : CType) (i : t.Initializer) → other_given i ≡ None → IsPlainShape (string_shape a i)
-string-plain a (t.value_initializer e) h = by-value e
-  where
-    by-value : (e : t.Expression) → IsPlainShape (string_shape a (t.value_initializer e))
-    by-value (t.string_literal at s) = tt
-    by-value (t.identifier at x) = tt
-    by-value (t.integer_constant at n) = tt
-    by-value (t.character_constant at n) = tt
-    by-value (t.index at x y) = tt
-    by-value (t.call at f es) = tt
-    by-value (t.member_of at x m) = tt
-    by-value (t.arrow_to at x m) = tt
-    by-value (t.post_step at op x) = tt
-    by-value (t.pre_step at op x) = tt
-    by-value (t.unary at op x) = tt
-    by-value (t.size_of_expression at x) = tt
-    by-value (t.size_of_type at n) = tt
-    by-value (t.cast at n x) = tt
-    by-value (t.binary at op x y) = tt
-    by-value (t.conditional at w x y) = tt
-    by-value (t.assign at op x y) = tt
-    by-value (t.comma at x y) = tt
-string-plain a (t.braced_initializer at t.no_initializers) h = tt
-string-plain a (t.braced_initializer at (t.more_initializers (t.braced_initializer at' js) is)) h = tt
-string-plain a (t.braced_initializer at (t.more_initializers (t.value_initializer e) (t.more_initializers i is))) h = by-value e
-  where
-    by-value : (e : t.Expression) → IsPlainShape (string_shape a (t.braced_initializer at (t.more_initializers (t.value_initializer e) (t.more_initializers i is))))
-    by-value (t.string_literal at s) = tt
-    by-value (t.identifier at x) = tt
-    by-value (t.integer_constant at n) = tt
-    by-value (t.character_constant at n) = tt
-    by-value (t.index at x y) = tt
-    by-value (t.call at f es) = tt
-    by-value (t.member_of at x m) = tt
-    by-value (t.arrow_to at x m) = tt
-    by-value (t.post_step at op x) = tt
-    by-value (t.pre_step at op x) = tt
-    by-value (t.unary at op x) = tt
-    by-value (t.size_of_expression at x) = tt
-    by-value (t.size_of_type at n) = tt
-    by-value (t.cast at n x) = tt
-    by-value (t.binary at op x y) = tt
-    by-value (t.conditional at w x y) = tt
-    by-value (t.assign at op x y) = tt
-    by-value (t.comma at x y) = tt
-string-plain a (t.braced_initializer at (t.more_initializers (t.value_initializer e) t.no_initializers)) h = by-value e
-  where
-    by-value : (e : t.Expression) → IsPlainShape (string_shape a (t.braced_initializer at (t.more_initializers (t.value_initializer e) t.no_initializers)))
-    by-value (t.string_literal at s) = tt
-    by-value (t.identifier at x) = tt
-    by-value (t.integer_constant at n) = tt
-    by-value (t.character_constant at n) = tt
-    by-value (t.index at x y) = tt
-    by-value (t.call at f es) = tt
-    by-value (t.member_of at x m) = tt
-    by-value (t.arrow_to at x m) = tt
-    by-value (t.post_step at op x) = tt
-    by-value (t.pre_step at op x) = tt
-    by-value (t.unary at op x) = tt
-    by-value (t.size_of_expression at x) = tt
-    by-value (t.size_of_type at n) = tt
-    by-value (t.cast at n x) = tt
-    by-value (t.binary at op x y) = tt
-    by-value (t.conditional at w x y) = tt
-    by-value (t.assign at op x y) = tt
-    by-value (t.comma at x y) = tt
+-- a string's shape is its bytes, or none: of a value, in braces or not
+module _ (a : CType) (at : ℕ) where
+  abbrev in-braces : t.Expression → t.Initializers → t.Initializer
+  in-braces e is = t.braced_initializer at (t.more_initializers (t.value_initializer e) is)
+
+  value-plain : (e : t.Expression) (i : t.Initializer) (is : t.Initializers) → IsPlainShape (string_shape a (t.value_initializer e)) × IsPlainShape (string_shape a (in-braces e t.no_initializers)) × IsPlainShape (string_shape a (in-braces e (t.more_initializers i is)))
+  value-plain (t.string_literal k s) i is = (tt, tt, tt)
+  value-plain (t.identifier k x) i is = (tt, tt, tt)
+  value-plain (t.integer_constant k n) i is = (tt, tt, tt)
+  value-plain (t.character_constant k n) i is = (tt, tt, tt)
+  value-plain (t.index k x y) i is = (tt, tt, tt)
+  value-plain (t.call k f es) i is = (tt, tt, tt)
+  value-plain (t.member_of k x m) i is = (tt, tt, tt)
+  value-plain (t.arrow_to k x m) i is = (tt, tt, tt)
+  value-plain (t.post_step k op x) i is = (tt, tt, tt)
+  value-plain (t.pre_step k op x) i is = (tt, tt, tt)
+  value-plain (t.unary k op x) i is = (tt, tt, tt)
+  value-plain (t.size_of_expression k x) i is = (tt, tt, tt)
+  value-plain (t.size_of_type k n) i is = (tt, tt, tt)
+  value-plain (t.cast k n x) i is = (tt, tt, tt)
+  value-plain (t.binary k op x y) i is = (tt, tt, tt)
+  value-plain (t.conditional k w x y) i is = (tt, tt, tt)
+  value-plain (t.assign k op x y) i is = (tt, tt, tt)
+  value-plain (t.comma k x y) i is = (tt, tt, tt)
+
+string-plain : (a : CType) (i : t.Initializer) → IsPlainShape (string_shape a i)
+string-plain a (t.value_initializer e) = (value-plain a 0 e (t.value_initializer e) t.no_initializers).0
+string-plain a (t.braced_initializer at t.no_initializers) = tt
+string-plain a (t.braced_initializer at (t.more_initializers (t.braced_initializer at' js) is)) = tt
+string-plain a (t.braced_initializer at (t.more_initializers (t.value_initializer e) t.no_initializers)) = (value-plain a at e (t.value_initializer e) t.no_initializers).1
+string-plain a (t.braced_initializer at (t.more_initializers (t.value_initializer e) (t.more_initializers i is))) = (value-plain a at e i is).2
 
 shape-plain : (a : CType) (i : t.Initializer) → other_given i ≡ None → IsPlainShape (shape a i)
 shape-plain void i h = tt
@@ -198,7 +162,7 @@ shape-plain (pointer c a) i h = one-plain i h
 shape-plain (array a n) i h = by-string (is_string_for (array a n) i)
   where
     by-string : (s : Bool) → IsPlainShape (if s then string_shape a i else element_shape a i)
-    by-string true = string-plain a i h
+    by-string true = string-plain a i
     by-string false = element-plain a i h
 shape-plain (unsized a) i h = tt
 shape-plain (struct n) i h = struct-plain n i h

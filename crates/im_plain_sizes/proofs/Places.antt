@@ -1,21 +1,20 @@
 -- External declarations of a plain tree declare plain types.
-use Rattle.std.proofs.Common.{◌≡◌, ℕ, Bool, true, false, List, [], ◌∷◌, Option, Some, None, refl, if◌then◌else◌}
+use Rattle.std.proofs.Common.{◌≡◌, ℕ, Bool, true, false, List, Option, Some, None, if◌then◌else◌}
 use Rattle.std.specs.Prelude.{ℤ}
 use Rattle.im_word.specs.Words.{Name}
 use Rattle.im_ctree.specs.declared.specifier.SpecifierWord.{SpecifierWord}
 use Rattle.im_ctree.specs.Tree as t
 use Rattle.im_ctype.specs.Types.{CType, is_function}
 use Rattle.im_typed.specs.Program.{Func}
-use Rattle.im_rules.specs.Rules.{named_in, keywords_in, is_typedef}
-use Rattle.im_rules.specs.Scopes.{Entity, an_object, a_function, a_typedef, static_object}
+use Rattle.im_rules.specs.Rules.{is_typedef}
+use Rattle.im_rules.specs.Scopes.{an_object, a_function, a_typedef, static_object}
 use Rattle.im_rules.specs.Outline.{Outline, place_in}
-use Rattle.im_rules.specs.Declared.{Qualified, Declared}
-use Rattle.im_rules.specs.Typed.{Declares}
+use Rattle.im_rules.specs.Declared.{Qualified}
 use Rattle.im_rules.specs.Initialisers.{completed}
 use Rattle.im_rules.specs.Statements.{name_of as name_in}
 use Rattle.im_rules.specs.FileScope.{FilePlace, Level, file_start, file_entity, callee_named, with_enum_tag}
 use Rattle.im_rules.specs.TypedUnit.{AreEnumerators, no_enumerator, an_enumerator, Specify, of_specifiers, NamesType, no_list, a_struct, an_enum, FirstValues, AreDeclared, none_declared, one_declared, TypedExternal, of_declaration, of_function, AreExternals, no_external, an_external}
-use Rattle.im_plain.specs.Plain.{or_else, other_if, has_void, other_listed, other_initializer, other_declarator, other_declared, other_specifiers, other_external, other_unit, other_block}
+use Rattle.im_plain.specs.Plain.{or_else, other_listed, other_initializer, other_declarator, other_declared, other_specifiers, other_external, other_unit, other_block}
 use Rattle.im_plain_laws.proofs.Empty.{first_none, second_none}
 use Rattle.im_plain_sizes.proofs.Types.{IsPlainType, HasPlainNames, IsPlainEntity, typedefs-plain, other_of, listed-named, specified-plain, tags-plain, IsPlainDeclarator, declarator-plain, declares-plain, completed-plain}
 

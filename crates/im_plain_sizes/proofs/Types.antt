@@ -1,5 +1,5 @@
 -- Plain types: integers, void and functions. What names mean them, and what specifiers and declarators make of them.
-use Rattle.std.proofs.Common.{◌≡◌, ℕ, ◌≤◌, ◌++◌, Bool, true, false, List, [], ◌∷◌, Option, Some, None, refl, ap, ◌∙◌, sym, subst, arith, if◌then◌else◌}
+use Rattle.std.proofs.Common.{◌≡◌, ℕ, ◌≤◌, Bool, true, false, List, [], ◌∷◌, Option, Some, None, refl, ap, ◌∙◌, arith, if◌then◌else◌}
 use Rattle.im_word.specs.Words.{Name}
 use Rattle.im_num.specs.Kinds.{kind_size}
 use Rattle.im_ctree.specs.declared.specifier.SpecifierWord.{SpecifierWord}
@@ -9,8 +9,8 @@ use Rattle.im_ctype.specs.declared.integer.Integer.TheVariants.{Char, SignedChar
 use Rattle.im_ctype.specs.Types.{CType, void, integer, pointer, array, unsized, struct, function, Structs, kind_of}
 use Rattle.im_rules.specs.TypeTests.{same_name}
 use Rattle.im_rules.specs.Scopes.{Entity, an_object, a_function, an_enumerator, a_typedef, static_object, local_object, Scopes, nothing, opened, named, tagged, meaning, tag_meaning, Tag}
-use Rattle.im_rules.specs.Rules.{Line, lines, line_type, same_words, named_in, keywords_in, is_typedef}
-use Rattle.im_rules.specs.Context.{Context, behind_core, tag_number}
+use Rattle.im_rules.specs.Rules.{Line, lines, line_type, same_words, named_in, is_typedef}
+use Rattle.im_rules.specs.Context.{Context}
 use Rattle.im_rules.specs.Terms.{size_in}
 use Rattle.im_rules.specs.Declared.{Qualified, Declared, typedef_meant, line_meant, specified, declared_tag, tags_in}
 use Rattle.im_rules.specs.Typed.{Declares, of_declarator, DeclaresIn, of_nothing, of_name, of_inner, Suffixed, no_suffix, of_array, of_open_array, of_function}
