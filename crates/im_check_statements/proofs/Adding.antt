@@ -1,12 +1,11 @@
 -- Cases that are added to a switch.
-use Rattle.std.proofs.Common.{◌≡◌, ℕ, ℤ, Bool, true, false, not, ◌||◌, cond, int_lt, List, [], ◌∷◌, ◌++◌, Some, None, Option, inl, inr, refl, sym, ap, ◌∙◌, subst}
+use Rattle.std.proofs.Common.{◌≡◌, ℕ, ℤ, Bool, true, false, not, ◌||◌, cond, int_lt, [], ◌∷◌, ◌++◌, Some, None, inl, inr, refl, sym, ap, ◌∙◌, subst}
 use Rattle.std.specs.Ordering.{int_cmp, int_eq, is_eq}
 use Rattle.std.specs.BTreeSet.{contains}
 use Rattle.im_num.specs.Kinds.{wrap}
 use Rattle.im_ctree.specs.Tree as t
 use Rattle.im_ctype.specs.declared.integer.Integer.{Integer}
 use Rattle.im_ctype.specs.Types.{kind_of}
-use Rattle.im_typed.specs.declared.statement.Case.{Case}
 use Rattle.im_rules.specs.Demands.{Refuses}
 use Rattle.im_rules.specs.Rules.{is_among, rule_15}
 use Rattle.im_rules.specs.Terms as r

@@ -1,16 +1,15 @@
 -- Statements that have no statement in them.
-use Rattle.std.proofs.Common.{◌≡◌, ℕ, ◌+◌, ◌||◌, true, false, List, [], ◌∷◌, Some, None, inl, inr, refl, sym, ap, ◌∙◌, subst}
+use Rattle.std.proofs.Common.{◌≡◌, ℕ, ◌||◌, true, false, [], Some, None, inl, refl, sym, subst}
 use Rattle.im_ctree.specs.Tree as t
 use Rattle.im_ctype.specs.Types.{CType, is_void}
 use Rattle.im_typed.specs.Program as p
 use Rattle.im_typed.specs.declared.expression.Expr as re
 use Rattle.im_typed.specs.declared.statement.Stmt as rs
-use Rattle.im_rules.specs.Context.{Context}
 use Rattle.im_rules.specs.Conversions.{as_type}
 use Rattle.im_rules.specs.Rules.{rule_34_return}
 use Rattle.im_rules.specs.Terms as r
 use Rattle.im_rules.specs.Strings.{strings_in}
-use Rattle.im_rules.specs.Statements.{Site, return_value_asks, TypedStatement, of_nothing, of_expression, of_break, of_continue, of_return, of_return_value}
+use Rattle.im_rules.specs.Statements.{return_value_asks, TypedStatement, of_nothing, of_expression, of_break, of_continue, of_return, of_return_value}
 use Rattle.im_rules.specs.BodyBreaks as b
 use Rattle.im_rules.specs.BodyBreaks.{BodyBroken, here_in_body, in_inner, a_statement}
 use Rattle.im_terms.specs.declared.stop.Stop.{Stop}

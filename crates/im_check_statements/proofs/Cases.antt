@@ -1,7 +1,6 @@
 -- Labels, and the items of a switch's block.
-use Rattle.std.proofs.Common.{◌≡◌, ℕ, ℤ, ◌+◌, suc, Bool, true, false, not, ◌||◌, cond, List, [], ◌∷◌, ◌++◌, map, length, drop, Option, Some, None, Result, Ok, Err, MatchResult, refl, sym, ap, ◌∙◌, subst, append_assoc, length-append, arith}
+use Rattle.std.proofs.Common.{◌≡◌, ℕ, ℤ, ◌+◌, suc, false, List, [], ◌∷◌, ◌++◌, length, drop, Option, Some, None, Result, Ok, Err, MatchResult, refl, sym, ap, ◌∙◌, subst, append_assoc, length-append}
 use Rattle.std.proofs.lemmas.List.{append-nil, length_push}
-use Rattle.im_word.specs.Words.{Name}
 use Rattle.im_ctree.specs.Tree as t
 use Rattle.im_ctree.specs.Shape.{block_items_of, declaration_of}
 use Rattle.im_ctree.specs.declared.declaration.Declaration.{Declaration}
@@ -12,7 +11,6 @@ use Rattle.im_ctype.specs.declared.integer.Integer.{Integer}
 use Rattle.im_typed.specs.declared.statement.Case.{Case}
 use Rattle.im_typed.specs.Program as p
 use Rattle.im_typed.specs.declared.statement.Stmt as rs
-use Rattle.im_rules.specs.Demands.{Refuses}
 use Rattle.im_rules.specs.Strings.{strings_in}
 use Rattle.im_rules.specs.Terms as r
 use Rattle.im_rules.specs.Statements as st
@@ -23,12 +21,11 @@ use Rattle.im_terms.specs.declared.stop.Stop.{Stop}
 use Rattle.im_terms.specs.declared.stop.Stop.TheVariants.{Rule, Memory}
 use Rattle.im_terms.specs.Answers.{IsNoRule, IsRefusal}
 use Rattle.im_names.specs.declared.scope.Scope.{Scope}
-use Rattle.im_names.specs.Shape.{context_of}
 use Rattle.im_check_declarations.specs.declared.site.Local.{Local}
 use Rattle.im_check_declarations.specs.declared.site.Surroundings.{Surroundings}
 use Rattle.im_check_declarations.specs.Asked.{IsAskedFault}
 use Rattle.im_check_declarations.specs.Declarations.{DeclarationDone, IsDeclarationFault}
-use Rattle.im_check_declarations.specs.Sites.{site_of, added_by, IsGrown, IsBodyFault}
+use Rattle.im_check_declarations.specs.Sites.{site_of, added_by, IsBodyFault}
 use Rattle.im_check_declarations.specs.Stmts.{stmt_in, stmts_before, stmts_from}
 use Rattle.im_check_declarations.specs.Strings.{strings_of_declaration}
 use Rattle.im_check_declarations.proofs.Askings.{asked_fault}

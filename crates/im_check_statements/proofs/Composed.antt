@@ -1,7 +1,6 @@
 -- What the parts of a statement leave, put together.
-use Rattle.std.proofs.Common.{◌≡◌, ℕ, ◌+◌, List, [], ◌∷◌, ◌++◌, map, length, take, Option, Some, None, Result, Ok, Err, MatchResult, refl, sym, ap, ◌∙◌, subst, append_assoc}
+use Rattle.std.proofs.Common.{◌≡◌, ℕ, ◌+◌, List, [], ◌∷◌, ◌++◌, length, take, Option, Some, None, Result, Ok, Err, MatchResult, refl, sym, ap, ◌∙◌, subst}
 use Rattle.std.proofs.lemmas.List.{append-nil}
-use Rattle.im_word.specs.Words.{Name}
 use Rattle.im_ctree.specs.Tree as t
 use Rattle.im_ctree.specs.Shape.{block_items_of}
 use Rattle.im_ctree.specs.declared.statement.BlockItem.{BlockItem}
@@ -9,28 +8,23 @@ use Rattle.im_typed.specs.declared.statement.Case.{Case}
 use Rattle.im_typed.specs.Program as p
 use Rattle.im_typed.specs.declared.expression.Expr as re
 use Rattle.im_typed.specs.declared.statement.Stmt as rs
-use Rattle.im_rules.specs.Context.{behind_strings}
-use Rattle.im_rules.specs.Demands.{Demand, Refuses}
 use Rattle.im_rules.specs.Terms as r
 use Rattle.im_rules.specs.Conversions.{as_integer}
 use Rattle.im_rules.specs.Strings.{strings_in, strings_maybe}
 use Rattle.im_rules.specs.Typed.{Typed}
-use Rattle.im_rules.specs.Breaks.{an_expression}
-use Rattle.im_rules.specs.Statements.{Site, Added, past, in_block, in_loop, in_switch, past_expression, past_maybe, condition_asks, switch_asks, switch_type, otherwise_of, MayTest, MayStep, Begins, TypedStatement, MayBeTyped, TypedItems, TypedCases, of_block, of_if, of_while, of_do, of_for, of_switch, no_else, an_else}
+use Rattle.im_rules.specs.Statements.{Site, past, in_block, in_switch, past_expression, condition_asks, switch_asks, switch_type, otherwise_of, TypedStatement, TypedItems, TypedCases, of_block, of_if, of_while, of_do, of_for, of_switch, no_else, an_else}
 use Rattle.im_rules.specs.BodyBreaks as b
 use Rattle.im_rules.specs.BodyBreaks.{BodyNode, BodyBroken, within_body, a_statement}
 use Rattle.im_terms.specs.declared.stop.Stop.{Stop}
 use Rattle.im_terms.specs.declared.stop.Stop.TheVariants.{Rule, Memory}
 use Rattle.im_terms.specs.Answers.{IsNoRule}
 use Rattle.im_terms.specs.Exprs.{expr_in}
-use Rattle.im_names.specs.declared.entity.Entry.{Entry}
 use Rattle.im_names.specs.declared.entity.Entry.TheVariants.{Opened}
 use Rattle.im_names.specs.declared.scope.Scope.{Scope}
-use Rattle.im_names.specs.Shape.{context_of}
 use Rattle.im_check_declarations.specs.declared.site.Local.{Local}
 use Rattle.im_check_declarations.specs.declared.site.Surroundings.{Surroundings}
 use Rattle.im_check_declarations.specs.Asked.{Asked, AskedBreaks, IsAskedFault}
-use Rattle.im_check_declarations.specs.Sites.{site_of, object_in, added_by, IsGrown, IsBodyFault}
+use Rattle.im_check_declarations.specs.Sites.{site_of, added_by, IsGrown, IsBodyFault}
 use Rattle.im_check_declarations.specs.Stmts.{stmt_in, stmts_from}
 use Rattle.im_check_declarations.proofs.Askings.{asked_broken, asked_fault, body_no_rule}
 use Rattle.im_check_declarations.proofs.Sites.{opened_site, grown_none, grown_more}

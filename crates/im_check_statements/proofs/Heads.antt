@@ -1,5 +1,5 @@
 -- The head of a `for`.
-use Rattle.std.proofs.Common.{◌≡◌, ℕ, ◌+◌, List, [], ◌∷◌, ◌++◌, length, refl, sym, ap, ◌∙◌, subst}
+use Rattle.std.proofs.Common.{◌≡◌, ℕ, ◌+◌, List, [], ◌∷◌, ◌++◌, length, sym, ap, ◌∙◌, subst}
 use Rattle.std.proofs.lemmas.List.{append-nil}
 use Rattle.im_ctree.specs.Tree as t
 use Rattle.im_typed.specs.Program as p
@@ -8,13 +8,12 @@ use Rattle.im_typed.specs.declared.statement.Stmt as rs
 use Rattle.im_rules.specs.Demands.{Demand}
 use Rattle.im_rules.specs.Terms as r
 use Rattle.im_rules.specs.Strings.{strings_in, strings_maybe}
-use Rattle.im_rules.specs.Statements.{Site, Added, past_maybe, in_block, condition_asks, MayTest, MayStep, no_test, a_test, no_step, a_step, Begins, by_declaration, by_nothing, by_expression}
+use Rattle.im_rules.specs.Statements.{Site, Added, past_maybe, in_block, condition_asks, MayTest, MayStep, a_test, a_step, Begins, by_declaration, by_nothing, by_expression}
 use Rattle.im_rules.specs.BodyBreaks as b
 use Rattle.im_rules.specs.BodyBreaks.{BodyBroken, here_in_body, within_body, in_inner, in_step, a_statement}
 use Rattle.im_terms.specs.declared.stop.Stop.{Stop}
 use Rattle.im_terms.specs.declared.stop.Stop.TheVariants.{Rule, Memory}
 use Rattle.im_terms.specs.Exprs.{expr_in}
-use Rattle.im_names.specs.declared.entity.Entry.{Entry}
 use Rattle.im_names.specs.declared.entity.Entry.TheVariants.{Opened}
 use Rattle.im_names.specs.declared.scope.Scope.{Scope}
 use Rattle.im_names.specs.Shape.{context_of}
@@ -22,13 +21,12 @@ use Rattle.im_check_declarations.specs.declared.site.Local.{Local}
 use Rattle.im_check_declarations.specs.declared.site.Surroundings.{Surroundings}
 use Rattle.im_check_declarations.specs.Asked.{Asked, AskedBreaks, in_it, of_it, IsAskedFault}
 use Rattle.im_check_declarations.specs.Declarations.{DeclarationDone, IsDeclarationFault}
-use Rattle.im_check_declarations.specs.Sites.{site_of, added_by, IsGrown, IsBodyFault}
+use Rattle.im_check_declarations.specs.Sites.{site_of, added_by, IsGrown}
 use Rattle.im_check_declarations.specs.Stmts.{stmt_in, stmts_from}
-use Rattle.im_check_declarations.proofs.Askings.{asked_fault}
 use Rattle.im_check_declarations.proofs.Reaching.{no_more}
 use Rattle.im_check_declarations.proofs.Sites.{opened_site, grown_none, grown_more}
 use Rattle.im_check_statements.specs.declared.loops.ForHead.{ForHead}
-use Rattle.im_check_statements.specs.Checked.{BeginDone, IsBeginFault, MaybeFault, IsMaybeFault, HeadDone, IsHeadFault}
+use Rattle.im_check_statements.specs.Checked.{BeginDone, IsBeginFault, IsMaybeFault, HeadDone, IsHeadFault}
 use Rattle.im_check_statements.specs.Literals.{strings_of_beginning}
 use Rattle.im_check_statements.proofs.Composed.{valued}
 

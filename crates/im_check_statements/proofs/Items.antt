@@ -1,7 +1,6 @@
 -- The items of a block, one behind the other.
-use Rattle.std.proofs.Common.{◌≡◌, ℕ, ◌+◌, List, [], ◌∷◌, ◌++◌, map, length, drop, Result, Ok, Err, MatchResult, refl, sym, ap, ◌∙◌, subst, append_assoc}
+use Rattle.std.proofs.Common.{◌≡◌, ℕ, ◌+◌, List, [], ◌∷◌, ◌++◌, length, drop, Result, Ok, Err, MatchResult, refl, sym, ap, ◌∙◌, subst, append_assoc}
 use Rattle.std.proofs.lemmas.List.{append-nil}
-use Rattle.im_word.specs.Words.{Name}
 use Rattle.im_ctree.specs.Tree as t
 use Rattle.im_ctree.specs.Shape.{block_items_of, declaration_of}
 use Rattle.im_ctree.specs.declared.declaration.Declaration.{Declaration}
@@ -10,7 +9,7 @@ use Rattle.im_ctree.specs.declared.statement.BlockItem.{BlockItem}
 use Rattle.im_ctree.specs.declared.statement.Statement.{Statement}
 use Rattle.im_typed.specs.Program as p
 use Rattle.im_typed.specs.declared.statement.Stmt as rs
-use Rattle.im_rules.specs.Statements.{Site, Added, and_then, nothing_added, past, appended, TypedDeclaration, TypedStatement, TypedItems, no_item, a_declaration, a_statement}
+use Rattle.im_rules.specs.Statements.{and_then, nothing_added, appended, TypedItems, no_item, a_declaration, a_statement}
 use Rattle.im_rules.specs.BodyBreaks as b
 use Rattle.im_rules.specs.BodyBreaks.{BodyBroken, within_body, some_items}
 use Rattle.im_terms.specs.declared.stop.Stop.{Stop}
@@ -20,7 +19,7 @@ use Rattle.im_names.specs.declared.scope.Scope.{Scope}
 use Rattle.im_check_declarations.specs.declared.site.Local.{Local}
 use Rattle.im_check_declarations.specs.declared.site.Surroundings.{Surroundings}
 use Rattle.im_check_declarations.specs.Declarations.{DeclarationDone, IsDeclarationFault}
-use Rattle.im_check_declarations.specs.Sites.{site_of, added_by, IsGrown, IsBodyFault}
+use Rattle.im_check_declarations.specs.Sites.{site_of, added_by, IsBodyFault}
 use Rattle.im_check_declarations.specs.Stmts.{stmt_in, stmts_before, stmts_from}
 use Rattle.im_check_declarations.specs.Strings.{strings_of_declaration}
 use Rattle.im_check_declarations.proofs.Reaching.{added_behind, added_last, numbered, no_more}

@@ -1,12 +1,11 @@
 -- The rows of trees and of typed statements are the vectors that they were made of.
-use Rattle.std.proofs.Common.{◌≡◌, ℕ, List, [], ◌∷◌, length, Option, Some, None, refl, ap, ◌∙◌, Vec, Box, Global, suc, arith}
+use Rattle.std.proofs.Common.{◌≡◌, ℕ, List, [], ◌∷◌, length, Option, Some, None, refl, ap, ◌∙◌, Vec, Box, Global, suc}
 use mathlib.Core.Former.{Count}
 use Rattle.im_ctree.specs.declared.expression.Expression.{Expression}
 use Rattle.im_ctree.specs.declared.statement.Block.{Block}
 use Rattle.im_ctree.specs.declared.statement.BlockItem as bi
 use Rattle.im_ctree.specs.declared.statement.Statement.{Statement}
 use Rattle.im_ctree.specs.declared.statement.StatementKind as sk
-use Rattle.im_ctree.specs.declared.statement.ForInit.{ForInit}
 use Rattle.im_ctree.specs.Tree as t
 use Rattle.im_ctree.specs.Shape.{items_of, block_items_of, statement_of, declaration_of}
 use Rattle.im_typed.specs.declared.expression.Expr as re
@@ -17,7 +16,7 @@ use Rattle.im_typed.specs.Program as p
 use Rattle.im_terms.specs.Exprs.{no_structs, expr_in}
 use Rattle.im_rules.specs.Statements.{count_stmts}
 use Rattle.im_check_expressions.specs.Checked.{tree_of}
-use Rattle.im_check_declarations.specs.Stmts.{stmt_in, stmts_before, stmts_from}
+use Rattle.im_check_declarations.specs.Stmts.{stmt_in, stmts_from}
 use Rattle.im_check_statements.specs.Trees.{statement_tree, held_tree}
 
 items_row : (n : _) (row : sk.Row_of-BlockItem n) → items_of row ≡ block_items_of (sk.items-the_row-BlockItem n row)

@@ -7,11 +7,10 @@ use Rattle.im_ctree.specs.declared.statement.BlockItem.{BlockItem}
 use Rattle.im_ctype.specs.declared.integer.Integer.{Integer}
 use Rattle.im_typed.specs.declared.statement.Case.{Case}
 use Rattle.im_typed.specs.Program as p
-use Rattle.im_typed.specs.declared.expression.Expr as re
 use Rattle.im_typed.specs.declared.statement.Stmt as rs
 use Rattle.im_rules.specs.Demands.{Demand}
 use Rattle.im_rules.specs.Terms as r
-use Rattle.im_rules.specs.Statements.{Site, Added, Cases, and_then, in_block, past_maybe, with_cases, first_of, MayTest, MayStep, Begins, TypedStatement, TypedItems, TypedCases, Labelled}
+use Rattle.im_rules.specs.Statements.{Added, Cases, and_then, in_block, with_cases, first_of, MayTest, MayStep, Begins, TypedStatement, TypedItems, TypedCases, Labelled}
 use Rattle.im_rules.specs.BodyBreaks.{BodyBroken, a_beginning, a_statement, some_items, some_cases, a_labelled}
 use Rattle.im_terms.specs.declared.stop.Stop.{Stop}
 use Rattle.im_terms.specs.declared.stop.Stop.TheVariants.{Rule, Memory}

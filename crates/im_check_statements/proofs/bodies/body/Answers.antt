@@ -1,4 +1,4 @@
-use Rattle.std.proofs.Common.{length, take, ap, ◌∙◌}
+use Rattle.std.proofs.Common.{take, ap, ◌∙◌}
 use Rattle.im_check_statements.proofs.Composed.{done_body}
 use Rattle.im_check_statements.proofs.bodies.body.Goals as goal
 

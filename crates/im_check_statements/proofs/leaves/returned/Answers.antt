@@ -1,4 +1,4 @@
-use Rattle.std.proofs.Common.{[], ap, inl, inr, refl, sym, ◌∙◌}
+use Rattle.std.proofs.Common.{ap, inl, inr, refl, sym, ◌∙◌}
 use Rattle.std.proofs.lemmas.Result.{err_from_is_err_and}
 use Rattle.im_rules.specs.Conversions.{as_type}
 use Rattle.im_rules.specs.Statements.{return_value_asks}

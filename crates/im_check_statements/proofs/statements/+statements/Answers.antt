@@ -1,9 +1,7 @@
-use Rattle.std.proofs.Common.{◌≡◌, ℕ, ◌+◌, [], ◌∷◌, length, take, refl, ap, sym, ◌∙◌}
+use Rattle.std.proofs.Common.{length, take, ap, sym, ◌∙◌}
 use Rattle.std.proofs.lemmas.Result.{err_from_is_err_and}
-use Rattle.im_ctree.specs.Shape.{block_items_of, for_init_of, optional_expression_of, declaration_of}
-use Rattle.im_rules.specs.BodyBreaks as b
+use Rattle.im_ctree.specs.Shape.{block_items_of}
 use Rattle.im_check_expressions.specs.Checked.{tree_of}
-use Rattle.im_check_declarations.proofs.Askings.{body_no_rule}
 use Rattle.im_check_declarations.proofs.Reaching.{next, last}
 use Rattle.im_check_statements.specs.Trees.{statement_tree, held_tree}
 use Rattle.im_check_statements.proofs.Cases as k

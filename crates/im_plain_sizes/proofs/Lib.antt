@@ -1,0 +1,5 @@
+pub mod Types
+pub mod Nodes
+pub mod Bodies
+pub mod Places
+pub mod Files
