@@ -1,0 +1,3 @@
+pub mod Constants
+pub mod Reached
+pub mod Specified

@@ -1,0 +1,21 @@
+use Rattle.std.proofs.lemmas.Result.{err_from_is_err_and}
+use Rattle.std.proofs.lemmas.List.{drop_all}
+use Rattle.im_check_enums.proofs.Reached.{next, reached_none, reached_more, reached_fault, reached_all}
+use Rattle.im_check_enums.proofs.enumerators.enumerated.Goals as goal
+
+pub loop-e-init : goal.loop-e-init
+loop-e-init c = reached_none _ _
+
+pub loop-e-preserved : goal.loop-e-preserved
+loop-e-preserved c =
+    let at = next c.args.enumerators.now c.loop-e.e-index c.e-item.result c.loop-e-test.true c.e-item.is in
+    reached_more _ _ at c.loop-e.invariant c.in_ok-done.ensures
+
+pub returns-in_err-done : goal.returns-in_err-done
+returns-in_err-done c =
+    let p = err_from_is_err_and c.from_residual.result c.from_residual.ensures.1 in
+    let at = next c.args.enumerators.now c.loop-e.e-index c.e-item.result c.loop-e-test.true c.e-item.is in
+    rw (p.1, p.2) (reached_fault _ _ at c.loop-e.invariant c.in_err-done.ensures)
+
+pub returns : goal.returns
+returns c = reached_all _ (drop_all c.args.enumerators.now c.loop-e.e-index c.loop-e-test.false) c.loop-e.invariant

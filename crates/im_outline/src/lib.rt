@@ -1,0 +1,11 @@
+//! From the tree of a unit to its outline: the names of its defined objects and of its bodies.
+#![tactic(auto)]
+
+mod item;
+mod names;
+mod start;
+mod walk;
+
+pub use item::{Item, Sort};
+pub use start::start;
+pub use walk::{is_function, name_in};
