@@ -1,0 +1,4 @@
+pub mod Checked
+pub mod Labelling
+pub mod Literals
+pub mod Trees

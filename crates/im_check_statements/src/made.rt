@@ -1,0 +1,66 @@
+//! Typed statements of their parts.
+ghost use Rattle.std.specs.Prelude.{◌≡◌, MatchResult};
+ghost use Rattle.im_typed.specs.Program as p;
+ghost use Rattle.im_terms.specs.Answers.{IsNoRule};
+ghost use Rattle.im_terms.specs.Exprs.{expr_in};
+ghost use Rattle.im_check_declarations.specs.Stmts.{stmt_in, stmts_from};
+
+use im_terms::Stop;
+use im_typed::{Case, Expr, Stmt};
+use std::alloc::Global;
+
+pub fn block_made(statements: Vec<Stmt>) -> Stmt
+    ensures { stmt_in result ≡ p.Block (stmts_from statements.items) }
+{
+    Stmt::Block(statements)
+}
+
+pub fn if_made(alloc: Global, test: Expr, first: Stmt, second: Stmt) -> Result<Stmt, Stop>
+    ensures { MatchResult result (λ u. stmt_in u ≡ p.If (expr_in test) (stmt_in first) (stmt_in second)) IsNoRule }
+{
+    let first = Box::new(alloc, first)?;
+    let second = Box::new(alloc, second)?;
+    Ok(Stmt::If(test, first, second))
+}
+
+pub fn while_made(alloc: Global, test: Expr, turn: Stmt) -> Result<Stmt, Stop>
+    ensures { MatchResult result (λ u. stmt_in u ≡ p.While (expr_in test) (stmt_in turn)) IsNoRule }
+{
+    Ok(Stmt::While(test, Box::new(alloc, turn)?))
+}
+
+pub fn do_made(alloc: Global, turn: Stmt, test: Expr) -> Result<Stmt, Stop>
+    ensures { MatchResult result (λ u. stmt_in u ≡ p.DoWhile (stmt_in turn) (expr_in test)) IsNoRule }
+{
+    Ok(Stmt::DoWhile(Box::new(alloc, turn)?, test))
+}
+
+pub fn for_made(
+    alloc: Global,
+    first: Stmt,
+    test: Expr,
+    step: Expr,
+    turn: Stmt,
+) -> Result<Stmt, Stop>
+    ensures { MatchResult result (λ u. stmt_in u ≡ p.For (stmt_in first) (expr_in test) (expr_in step) (stmt_in turn)) IsNoRule }
+{
+    let first = Box::new(alloc, first)?;
+    let body = Box::new(alloc, turn)?;
+    Ok(Stmt::For {
+        first,
+        test,
+        step,
+        body,
+    })
+}
+
+pub fn switch_made(value: Expr, cases: Vec<Case>, otherwise: u32, block: Vec<Stmt>) -> Stmt
+    ensures { stmt_in result ≡ p.Switch (expr_in value) cases.items otherwise (stmts_from block.items) }
+{
+    Stmt::Switch {
+        value,
+        cases,
+        otherwise,
+        block,
+    }
+}
