@@ -1,5 +1,5 @@
 -- Initialisers of integer types, and the string literals in them.
-use Rattle.std.proofs.Common.{◌≡◌, ℕ, Bool, true, false, List, [], ◌∷◌, ◌++◌, inl, refl, sym, ap, ◌∙◌, subst}
+use Rattle.std.proofs.Common.{◌≡◌, ℕ, Bool, true, false, List, [], ◌∷◌, ◌++◌, Result, Ok, Err, MatchResult, inl, refl, sym, ap, ◌∙◌, subst}
 use Rattle.im_word.specs.Words.{Name}
 use Rattle.im_ctree.specs.Tree as t
 use Rattle.im_ctype.specs.declared.integer.Integer.{Integer}
@@ -43,24 +43,24 @@ declared_same at x i t.no_initializer = refl
 declared_same at x i (t.an_initializer k) = sym (given_strings i k)
 
 -- an object that begins with one value
-pub one_given : (s : Scope) (n at : ℕ) (i : Integer) (j : t.Initializer) (e : t.Expression) (v : re.Expr) (u : rs.Stmt)
+pub one_given : (s : Scope) (n : ℕ) (i : Integer) (j : t.Initializer) (e : t.Expression) (v : re.Expr) (u : rs.Stmt)
     → is_one_expression j ≡ true
     → one_shape j ≡ one e
     → Asked (value_asks (integer i)) (λ x. as_type (integer i) (r.value_of [] x)) s e v
     → stmt_in u ≡ p.Initialise n 1 ((record { offset = 0; access = r.access_of [] (integer i); value = expr_in v }) ∷ [])
     → (k : ℕ) → MayInitialise (context_of s k) n (integer i) (t.an_initializer j) (stmt_in u)
-one_given s n at i j e v u whole shaped d made = λ k.
+one_given s n i j e v u whole shaped d made = λ k.
     let inner : Shaped (context_of s k) (integer i) 0 (shape (integer i) j) (item 0 (integer i) (from_term e d.term) ∷ []) =
-        subst (λ z. Shaped (context_of s k) (integer i) 0 z (item 0 (integer i) (from_term e d.term) ∷ [])) (sym shaped) (of_one (d.typed k) d.meets) in
+    subst (λ z. Shaped (context_of s k) (integer i) 0 z (item 0 (integer i) (from_term e d.term) ∷ [])) (sym shaped) (of_one (d.typed k) d.meets) in
     let built : MayInitialise (context_of s k) n (integer i) (t.an_initializer j) (p.Initialise n 1 ((record { offset = 0; access = r.access_of [] (integer i); value = as_type (integer i) (r.value_of [] d.term) }) ∷ [])) =
-        initialises (initialised (whole, tt) inner) in
+    initialises (initialised (whole, tt) inner) in
     subst (λ z. MayInitialise (context_of s k) n (integer i) (t.an_initializer j) z) (sym made)
     (subst (λ z. MayInitialise (context_of s k) n (integer i) (t.an_initializer j) (p.Initialise n 1 ((record { offset = 0; access = r.access_of [] (integer i); value = z }) ∷ []))) (sym d.is) built)
 
 -- an initialiser of another shape
 pub misshapen_given : (s : Scope) (i : Integer) (j : t.Initializer) (at : ℕ) → is_one_expression j ≡ false → at ≡ initialiser_token j → IsGivenFault s (integer i) (t.an_initializer j) (Rule 16 at)
-misshapen_given s i j at no same = λ k.
-    subst (λ z. GivenBroken (context_of s k) (an_initialiser (integer i) 0 j) 16 z) (sym same) (here_given (at_shape (inl (refl, no))))
+misshapen_given s i j at wrong same = λ k.
+    subst (λ z. GivenBroken (context_of s k) (an_initialiser (integer i) 0 j) 16 z) (sym same) (here_given (at_shape (inl (refl, wrong))))
 
 value_broken : {c : Context} {i : Integer} {j : t.Initializer} {e : t.Expression} {at rule token : ℕ}
     → one_shape j ≡ one e
@@ -82,3 +82,12 @@ value_fault s i j e at Memory shaped same h = tt
 pub given_no_rule : (s : Scope) (i : Integer) (j : t.Initializer) (f : Stop) → IsNoRule f → IsGivenFault s (integer i) (t.an_initializer j) f
 given_no_rule s i j (Rule rule token) h = absurd h
 given_no_rule s i j Memory h = tt
+
+pub given_made : (s : Scope) (n : ℕ) (i : Integer) (j : t.Initializer) (e : t.Expression) (v : re.Expr) (result : Result rs.Stmt Stop)
+    → is_one_expression j ≡ true
+    → one_shape j ≡ one e
+    → Asked (value_asks (integer i)) (λ x. as_type (integer i) (r.value_of [] x)) s e v
+    → MatchResult result (λ u. stmt_in u ≡ p.Initialise n 1 ((record { offset = 0; access = r.access_of [] (integer i); value = expr_in v }) ∷ [])) IsNoRule
+    → MatchResult result (λ u. (k : ℕ) → MayInitialise (context_of s k) n (integer i) (t.an_initializer j) (stmt_in u)) (IsGivenFault s (integer i) (t.an_initializer j))
+given_made s n i j e v (Ok u) whole shaped d made = one_given s n i j e v u whole shaped d made
+given_made s n i j e v (Err f) whole shaped d made = given_no_rule s i j f made

@@ -1,6 +1,7 @@
 pub mod Askings
 pub mod Initials
-pub mod Objects
+pub mod Locals
+pub mod Plain
 pub mod Reaching
 pub mod Rows
 pub mod Specifying

@@ -1,9 +1,10 @@
 -- The rows of initialisers are the vectors that they were made of; an initialiser that stands alone in braces.
-use Rattle.std.proofs.Common.{◌≡◌, ℕ, true, false, List, [], ◌∷◌, length, get_or, refl, sym, ap, ◌∙◌, Vec, Global, arith}
+use Rattle.std.proofs.Common.{◌≡◌, ℕ, true, false, List, [], ◌∷◌, length, get_or, Option, Some, None, MatchOption, subst, refl, sym, ap, ◌∙◌, Vec, Global, arith}
 use mathlib.Core.Former.{Count}
 use Rattle.im_ctree.specs.declared.declaration.Initializer as ini
 use Rattle.im_ctree.specs.Tree as t
 use Rattle.im_ctree.specs.Shape.{initializer_of, initializers_of}
+use Rattle.im_rules.specs.Initialisers.{one, one_shape}
 use Rattle.im_rules.specs.Rules.{is_one_expression}
 use Rattle.im_check_declarations.specs.Lists.{initializers_from}
 
@@ -31,3 +32,18 @@ pub only_item : (xs : List ini.Initializer) (x : ini.Initializer) → length xs 
 only_item [] x h e = absurd (omega arith)
 only_item (y ∷ []) x h e = ap (λ z. z ∷ []) (sym e)
 only_item (y ∷ z ∷ zs) x h e = absurd (omega arith)
+
+-- the expression of a single initialiser
+pub only_made : {X : Type 0} (at : ℕ) (xs : List ini.Initializer) (x : ini.Initializer) (tree : X → t.Expression) (result : Option X)
+    → xs ≡ x ∷ []
+    → MatchOption result (is_one_expression (t.braced_initializer at (t.more_initializers (initializer_of x) t.no_initializers)) ≡ false) (λ e. initializer_of x ≡ t.value_initializer (tree e))
+    → MatchOption result (is_one_expression (t.braced_initializer at (initializers_from xs)) ≡ false) (λ e. (is_one_expression (t.braced_initializer at (initializers_from xs)) ≡ true) × (one_shape (t.braced_initializer at (initializers_from xs)) ≡ one (tree e)))
+only_made at xs x tree None e h = subst (λ z. is_one_expression (t.braced_initializer at (initializers_from z)) ≡ false) (sym e) h
+only_made at xs x tree (Some y) e h =
+    let whole : is_one_expression (t.braced_initializer at (t.more_initializers (initializer_of x) t.no_initializers)) ≡ true =
+    ap (λ z. is_one_expression (t.braced_initializer at (t.more_initializers z t.no_initializers))) h in
+    let shaped : one_shape (t.braced_initializer at (t.more_initializers (initializer_of x) t.no_initializers)) ≡ one (tree y) =
+    ap (λ z. one_shape (t.braced_initializer at (t.more_initializers z t.no_initializers))) h in (
+      subst (λ z. is_one_expression (t.braced_initializer at (initializers_from z)) ≡ true) (sym e) whole,
+      subst (λ z. one_shape (t.braced_initializer at (initializers_from z)) ≡ one (tree y)) (sym e) shaped,
+    )

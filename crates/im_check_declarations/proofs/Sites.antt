@@ -27,10 +27,10 @@ grown_none s = record { entries = sym (append-nil s.entries.items); statics = re
 
 pub grown_more : {s0 s1 s2 : Scope} {xs ys : List Entry} → IsGrown s0 s1 xs → IsGrown s1 s2 ys → IsGrown s0 s2 (xs ++ ys)
 grown_more {s0 = s0} {xs = xs} {ys = ys} g h = record {
-    entries = h.entries ∙ ap (λ z. z ++ ys) g.entries ∙ append_assoc s0.entries.items xs ys;
-    statics = h.statics ∙ g.statics;
-    bodies = h.bodies ∙ g.bodies
-  }
+  entries = h.entries ∙ ap (λ z. z ++ ys) g.entries ∙ append_assoc s0.entries.items xs ys;
+  statics = h.statics ∙ g.statics;
+  bodies = h.bodies ∙ g.bodies;
+}
 
 pub opened_site : (before after : Scope) (n : ℕ) (a : Surroundings) (k : ℕ) → IsGrown before after (Opened ∷ []) → site_of after n a k ≡ in_block (site_of before n a k)
 opened_site before after n a k g =

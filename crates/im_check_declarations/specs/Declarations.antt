@@ -14,11 +14,9 @@ use Rattle.im_rules.specs.Declared.{Qualified, called}
 use Rattle.im_rules.specs.Scopes as s
 use Rattle.im_rules.specs.Statements.{Site, Added, and_then, local_asks, local_entity, AreLocals, TypedDeclaration, MayInitialise}
 use Rattle.im_rules.specs.BodyBreaks.{BodyBroken, GivenBroken, an_initialiser, some_locals, a_declaration}
-use Rattle.im_terms.specs.declared.plain.PlainType.{PlainType}
 use Rattle.im_terms.specs.declared.stop.Stop.{Stop}
 use Rattle.im_terms.specs.declared.stop.Stop.TheVariants.{Rule, Memory}
 use Rattle.im_terms.specs.Answers.{IsRefusal}
-use Rattle.im_terms.specs.Shape.{type_of}
 use Rattle.im_names.specs.declared.entity.Entry.{Entry}
 use Rattle.im_names.specs.declared.scope.Scope.{Scope}
 use Rattle.im_names.specs.Shape.{context_of, with_entry}
@@ -33,8 +31,8 @@ abbrev pub object_asks : Scope → ℕ → Surroundings → ℕ → Name → Qua
 object_asks s n a k x q initialised = local_asks (site_of s n a k) (called x q) q.type initialised
 
 -- the type of an object that may be declared here, else a rule that refuses it
-abbrev pub IsObjectType : List Demand → PlainType → ℕ → Result Integer Stop → Type 0
-IsObjectType asked ty at result = MatchResult result (λ i. Meets asked × (type_of ty ≡ integer i)) (IsRefusal asked at)
+abbrev pub IsObjectType : List Demand → ℕ → Result Integer Stop → Type 0
+IsObjectType asked at result = MatchResult result (λ i. Meets asked) (IsRefusal asked at)
 
 -- an object of that name is in scope behind the others
 pub record IsDeclared (before after : Scope) (objects objects' : List Local) (x : Name) (constant : Bool) (i : Integer) (n : ℕ) : Type 0 where

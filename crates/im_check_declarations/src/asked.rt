@@ -3,13 +3,16 @@ ghost use Rattle.std.specs.Prelude.{◌≡◌, []};
 ghost use Rattle.im_rules.specs.Conversions as c;
 ghost use Rattle.im_rules.specs.Statements as st;
 ghost use Rattle.im_rules.specs.Terms as r;
+ghost use Rattle.im_terms.specs.Shape.{term_of};
+ghost use Rattle.im_terms.specs.Told.{number_in};
 ghost use Rattle.im_check_expressions.specs.Checked.{tree_of};
 ghost use Rattle.im_check_declarations.specs.Asked.{IsAsked};
 
 use im_check_expressions::expression;
 use im_ctree::Expression;
 use im_names::Scope;
-use im_terms::{Stop, is_integer_term, value_of};
+use im_store::Number;
+use im_terms::{Stop, Term, is_integer_term, value_of};
 use im_typed::Expr;
 use std::alloc::Global;
 
@@ -38,4 +41,20 @@ pub fn tested(alloc: Global, at: u32, e: &Expression, scope: &Scope) -> Result<E
     }
     let value = value_of(alloc, x)?;
     Ok(value.expr)
+}
+
+/// The value of a constant expression (C11 6.6).
+pub fn constant_of(x: &Term) -> Option<Number>
+    ensures { number_in result ≡ r.constant_in (term_of x.now) }
+{
+    match x {
+        Term::Lvalue(_, _, _) => None,
+        Term::Value(value) => {
+            if value.constancy.is_constant {
+                value.constancy.value
+            } else {
+                None
+            }
+        }
+    }
 }

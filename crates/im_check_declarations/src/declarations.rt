@@ -3,7 +3,7 @@ ghost use Rattle.std.specs.Prelude.{◌≡◌, length, MatchResult};
 ghost use Rattle.im_ctree.specs.Shape.{declaration_of};
 ghost use Rattle.im_check_declarations.specs.Declarations.{DeclarationDone, IsDeclarationFault};
 
-use crate::objects::local;
+use crate::objects::local_declarator;
 use crate::site::Local;
 use im_ctree::Declaration;
 use im_names::Scope;
@@ -24,7 +24,7 @@ pub fn declaration(
 {
     let q = specified_type(scope, d.specifiers.at, &d.specifiers.items)?;
     for x in &d.declarators {
-        let u = local(alloc, q, x, scope, locals)?;
+        let u = local_declarator(alloc, q, x, scope, locals)?;
         done.push(u)?;
     }
     Ok(())

@@ -42,8 +42,17 @@ fn only_value(items: &[Initializer]) -> Option<&Expression>
     ensures { (at : ℕ) → MatchOption result (u.is_one_expression (t.braced_initializer at (initializers_from items.now)) ≡ false) (λ e. (u.is_one_expression (t.braced_initializer at (initializers_from items.now)) ≡ true) × (n.one_shape (t.braced_initializer at (initializers_from items.now)) ≡ n.one (tree_of e.now))) }
 {
     match only(items) {
-        Some(Initializer::Value(e)) => Some(e),
-        _ => None,
+        Some(i) => value_in(i),
+        None => None,
+    }
+}
+
+fn value_in(i: &Initializer) -> Option<&Expression>
+    ensures { (at : ℕ) → MatchOption result (u.is_one_expression (t.braced_initializer at (t.more_initializers (initializer_of i.now) t.no_initializers)) ≡ false) (λ e. initializer_of i.now ≡ t.value_initializer (tree_of e.now)) }
+{
+    match i {
+        Initializer::Value(e) => Some(e),
+        Initializer::List(_, _) => None,
     }
 }
 

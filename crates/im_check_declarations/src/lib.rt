@@ -7,7 +7,7 @@ mod initialiser;
 mod objects;
 mod site;
 
-pub use asked::{evaluated, refused, tested};
+pub use asked::{constant_of, evaluated, refused, tested};
 pub use declarations::declaration;
 pub use objects::plain_name;
 pub use site::{Local, Surroundings};

@@ -1,15 +1,16 @@
 //! Declarators of objects in a block (C11 6.7).
-ghost use Rattle.std.specs.Prelude.{◌≡◌, ℕ, Bool, None, Some, false, ◌∷◌, [], is_some, not, ◌&&◌, length, MatchOption, MatchResult};
+ghost use Rattle.std.specs.Prelude.{◌≡◌, ℕ, Bool, None, Some, false, ◌∷◌, [], is_some, not, ◌&&◌, length, IfOk, MatchOption, MatchResult};
 ghost use Rattle.im_ctree.specs.Shape.{declarator_of};
 ghost use Rattle.im_ctree.specs.Tree as t;
 ghost use Rattle.im_ctree.specs.declared.declarator.Declarator.{out-Declarator};
-ghost use Rattle.im_ctype.specs.Types.{CType};
+ghost use Rattle.im_ctype.specs.Types as y;
 ghost use Rattle.im_rules.specs.Rules as u;
 ghost use Rattle.im_rules.specs.Scopes as s;
 ghost use Rattle.im_rules.specs.Statements.{local_entity};
 ghost use Rattle.im_names.specs.Shape.{scopes_of, with_entry};
 ghost use Rattle.im_specifiers.specs.Specified.{qualified_of};
 ghost use Rattle.im_terms.specs.Answers.{IsNoRule};
+ghost use Rattle.im_terms.specs.Shape.{type_of};
 ghost use Rattle.im_check_declarations.specs.Declarations.{object_asks, IsObjectType, IsDeclared, IsTwice, LocalDone, IsLocalFault};
 ghost use Rattle.im_check_declarations.specs.declared.site.Surroundings as w;
 
@@ -28,16 +29,28 @@ use std::alloc::Global;
 pub fn plain_name(declarator: &Declarator) -> Option<&[u8]>
     ensures { MatchOption result (Unit {0}) (λ x. declarator_of declarator.now ≡ t.declarator (out-Declarator declarator.now).at [] (t.name_core x.now) t.no_suffixes) }
 {
-    if !declarator.stars.is_empty() {
+    if star_count(declarator) > 0 {
         return None;
     }
-    if !declarator.suffixes.is_empty() {
+    if suffix_count(declarator) > 0 {
         return None;
     }
     match &declarator.core {
         Core::Name(name) => Some(name),
         Core::Absent | Core::Inner(_) => None,
     }
+}
+
+fn star_count(declarator: &Declarator) -> usize
+    ensures { result ≡ length (out-Declarator declarator.now).stars.items }
+{
+    declarator.stars.len()
+}
+
+fn suffix_count(declarator: &Declarator) -> usize
+    ensures { result ≡ length (out-Declarator declarator.now).suffixes.items }
+{
+    declarator.suffixes.len()
 }
 
 /// Whether a scope is opened in that of the file.
@@ -47,7 +60,8 @@ fn is_in_block(scope: &Scope) -> bool
     let mut i = scope.entries.len();
     while i > 0 {
         i -= 1;
-        if is_opening(&scope.entries[i]) {
+        let entry = &scope.entries[i];
+        if is_opening(entry) {
             return true;
         }
     }
@@ -64,7 +78,7 @@ fn is_opening(entry: &Entry) -> bool
 }
 
 fn is_typedef(scope: &Scope, name: &[u8]) -> bool
-    ensures { (n : ℕ) (c : Bool) (a : CType) → u.rule_4 (s.meaning (scopes_of scope.now.entries.items) name.now) (local_entity n c a) ≡ not result }
+    ensures { (n : ℕ) (c : Bool) (a : y.CType) → u.rule_4 (s.meaning (scopes_of scope.now.entries.items) name.now) (local_entity n c a) ≡ not result }
 {
     match scope.find(name) {
         Some(Entity::Typedef(_, _)) => true,
@@ -84,7 +98,8 @@ fn is_here(scope: &Scope, name: &[u8]) -> bool
 /// The integer type of an object of that name. A declaration outside of blocks, which stands in no body, is answered by
 /// want of memory.
 fn object_type(scope: &Scope, at: u32, name: &[u8], q: Specified) -> Result<Integer, Stop>
-    ensures { (n : ℕ) (a : w.Surroundings) (k : ℕ) (initialised : Bool) → IsObjectType (object_asks scope.now n a k name.now (qualified_of q) initialised) q.ty at result }
+    ensures asked { (n : ℕ) (a : w.Surroundings) (k : ℕ) (initialised : Bool) → IsObjectType (object_asks scope.now n a k name.now (qualified_of q) initialised) at result }
+    ensures told { IfOk result (λ i. type_of q.ty ≡ y.integer i) }
 {
     if is_here(scope, name) {
         return Err(declared_twice(scope, at));
@@ -124,16 +139,13 @@ fn declare(
     };
     let known = Vec::from_slice(alloc, name)?;
     let kept = Vec::from_slice(alloc, name)?;
-    scope.add(Entry::Named(
-        known,
-        Entity::Object(constant, ty, Storage::Local(number)),
-    ))?;
+    scope.add(Entry::Named(known, Entity::Object(constant, ty, Storage::Local(number))))?;
     locals.push(Local { name: kept, ty })?;
     Ok(number)
 }
 
 /// A declarator with its initialiser.
-pub fn local(
+pub fn local_declarator(
     alloc: Global,
     q: Specified,
     x: &InitDeclarator,

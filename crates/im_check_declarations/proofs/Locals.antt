@@ -1,5 +1,5 @@
 -- One declarator of a declaration in a block.
-use Rattle.std.proofs.Common.{◌≡◌, ℕ, ◌+◌, Bool, List, [], ◌∷◌, ◌++◌, length, refl, sym, ap, ◌∙◌, subst, arith}
+use Rattle.std.proofs.Common.{◌≡◌, ℕ, ◌+◌, Bool, List, [], ◌∷◌, ◌++◌, length, Result, Ok, Err, MatchResult, refl, sym, ap, ◌∙◌, subst, arith}
 use Rattle.std.proofs.lemmas.List.{length_push}
 use Rattle.im_word.specs.Words.{Name}
 use Rattle.im_ctree.specs.Tree as t
@@ -41,6 +41,9 @@ use Rattle.im_check_declarations.proofs.Initials.{initialised_same, declared_sam
 abbrev pub plain : ℕ → Name → t.Declarator
 plain at x = t.declarator at [] (t.name_core x) t.no_suffixes
 
+abbrev qualified : Bool → CType → Qualified
+qualified c a = record { constant = c; type = a }
+
 abbrev pub integral : Bool → Integer → Qualified
 integral c i = record { constant = c; type = integer i }
 
@@ -80,34 +83,34 @@ pub local_done : {before after : Scope} {o o' : List Local} {name : Name} {c : B
     → ((k : ℕ) → MayInitialise (context_of after k) n (integer i) (maybe_initializer_of x.initializer) (stmt_in u))
     → LocalDone (integral c i) before after o o' x u
 local_done {before = before} {after = after} {o = o} {o' = o'} {name = name} {c = c} {i = i} {n = n} at x u shaped d meets begun = record {
-    entries = d.entry ∷ [];
-    names = d.names;
-    more = d.object ∷ [];
-    objects_grown = d.objects_grown;
-    strings = strings_initialising (maybe_initializer_of x.initializer);
-    strings_before = λ ds. ap (λ (z : t.Declarator). (strings_of_declarator z ++ strings_initialising (maybe_initializer_of x.initializer)) ++ strings_of_locals (init_declarators_of ds)) shaped;
-    goes_on = λ a k ds us m e rest.
-        let j = maybe_initializer_of x.initializer in
-        let q = integral c i in
-        let s = site_of before (length o) a k in
-        let first : MayInitialise (with_local (plain at name) (called name q) (integer i) s).context (length o) (integer i) j (stmt_in u) =
-            subst (λ w. MayInitialise w.context (length o) (integer i) j (stmt_in u)) (located d a (k + 0))
-            (subst (λ z. MayInitialise (context_of after (k + 0)) z (integer i) j (stmt_in u)) d.number (begun (k + 0))) in
-        let behind : AreLocals q (behind_initializer (integer i) j (with_local (plain at name) (called name q) (integer i) s)) (init_declarators_of ds) us m e =
-            subst (λ z. AreLocals q z (init_declarators_of ds) us m e) (behind_local d a k at j) rest in
-        let whole : AreLocals q s (t.more_init_declarators (plain at name) j (init_declarators_of ds)) (p.more_stmts (stmt_in u) us) (and_then (local_added [] (plain at name) name (integer i) j) m) e =
-            a_local (declares s.context q at name) (meets a k) first behind in
-        subst (λ (z : t.Declarator). AreLocals q s (t.more_init_declarators z j (init_declarators_of ds)) (p.more_stmts (stmt_in u) us) (and_then (added_by (d.object ∷ []) (strings_initialising j)) m) e) (sym shaped)
-        (subst (λ (z : Added). AreLocals q s (t.more_init_declarators (plain at name) j (init_declarators_of ds)) (p.more_stmts (stmt_in u) us) (and_then z m) e) (added_same at name i j d.object d.name d.type) whole);
-    breaks_on = λ a k ds rule token b.
-        let j = maybe_initializer_of x.initializer in
-        let q = integral c i in
-        let s = site_of before (length o) a k in
-        let behind : BodyBroken (behind_initializer (integer i) j (with_local (plain at name) (called name q) (integer i) s)) (some_locals q (init_declarators_of ds)) rule token =
-            subst (λ z. BodyBroken z (some_locals q (init_declarators_of ds)) rule token) (behind_local d a k at j) b in
-        subst (λ (z : t.Declarator). BodyBroken s (some_locals q (t.more_init_declarators z j (init_declarators_of ds))) rule token) (sym shaped)
-        (within_body (locals_behind (declares s.context q at name)) behind)
-  }
+  entries = d.entry ∷ [];
+  names = d.names;
+  more = d.object ∷ [];
+  objects_grown = d.objects_grown;
+  strings = strings_initialising (maybe_initializer_of x.initializer);
+  strings_before = λ ds. ap (λ (z : t.Declarator). (strings_of_declarator z ++ strings_initialising (maybe_initializer_of x.initializer)) ++ strings_of_locals (init_declarators_of ds)) shaped;
+  goes_on = λ a k ds us m e rest.
+      let j = maybe_initializer_of x.initializer in
+      let q = integral c i in
+      let s = site_of before (length o) a k in
+      let first : MayInitialise (with_local (plain at name) (called name q) (integer i) s).context (length o) (integer i) j (stmt_in u) =
+      subst (λ w. MayInitialise w.context (length o) (integer i) j (stmt_in u)) (located d a (k + 0))
+      (subst (λ z. MayInitialise (context_of after (k + 0)) z (integer i) j (stmt_in u)) d.number (begun (k + 0))) in
+      let behind : AreLocals q (behind_initializer (integer i) j (with_local (plain at name) (called name q) (integer i) s)) (init_declarators_of ds) us m e =
+      subst (λ z. AreLocals q z (init_declarators_of ds) us m e) (behind_local d a k at j) rest in
+      let whole : AreLocals q s (t.more_init_declarators (plain at name) j (init_declarators_of ds)) (p.more_stmts (stmt_in u) us) (and_then (local_added [] (plain at name) name (integer i) j) m) e =
+      a_local (declares s.context q at name) (meets a k) first behind in
+      subst (λ (z : t.Declarator). AreLocals q s (t.more_init_declarators z j (init_declarators_of ds)) (p.more_stmts (stmt_in u) us) (and_then (added_by (d.object ∷ []) (strings_initialising j)) m) e) (sym shaped)
+      (subst (λ (z : Added). AreLocals q s (t.more_init_declarators (plain at name) j (init_declarators_of ds)) (p.more_stmts (stmt_in u) us) (and_then z m) e) (added_same at name i j d.object d.name d.type) whole);
+  breaks_on = λ a k ds rule token b.
+      let j = maybe_initializer_of x.initializer in
+      let q = integral c i in
+      let s = site_of before (length o) a k in
+      let behind : BodyBroken (behind_initializer (integer i) j (with_local (plain at name) (called name q) (integer i) s)) (some_locals q (init_declarators_of ds)) rule token =
+      subst (λ z. BodyBroken z (some_locals q (init_declarators_of ds)) rule token) (behind_local d a k at j) b in
+      subst (λ (z : t.Declarator). BodyBroken s (some_locals q (t.more_init_declarators z j (init_declarators_of ds))) rule token) (sym shaped)
+      (within_body (locals_behind (declares s.context q at name)) behind);
+}
 
 complete : (ty : PlainType) (j : t.MaybeInitializer) → type_of ty ≡ completed (type_of ty) j
 complete Void j = refl
@@ -124,7 +127,7 @@ refused_local before n at name c ty x (Rule rule token) shaped refused = λ a ds
     let s = site_of before n a k in
     let h = refused a k in
     let r : Refuses rule (local_asks s (called name q) (completed q.type j) (is_initialised j)) =
-        subst (λ z. Refuses rule (local_asks s (called name q) z (is_initialised j))) (complete ty j) h.0 in
+    subst (λ z. Refuses rule (local_asks s (called name q) z (is_initialised j))) (complete ty j) h.0 in
     subst (λ (z : t.Declarator). BodyBroken s (some_locals q (t.more_init_declarators z j (init_declarators_of ds))) rule token) (sym shaped)
     (subst (λ w. BodyBroken s (some_locals q (t.more_init_declarators (plain at name) j (init_declarators_of ds))) rule w) (sym h.1)
     (here_in_body (at_local (declares s.context q at name) r)))
@@ -152,3 +155,19 @@ given_fault at x Memory shaped d h = λ a ds. tt
 pub local_no_rule : (q : Qualified) (s : Scope) (n : ℕ) (x : InitDeclarator) (f : Stop) → IsNoRule f → IsLocalFault q s n x f
 local_no_rule q s n x (Rule rule token) h = absurd h
 local_no_rule q s n x Memory h = λ a ds. tt
+
+-- what initialises the object, if it may be declared
+pub local_made : {before after : Scope} {o o' : List Local} {name : Name} {c : Bool} {i : Integer} {n : ℕ} (at : ℕ) (ty : PlainType) (x : InitDeclarator) (result : Result rs.Stmt Stop)
+    → declarator_of x.declarator ≡ plain at name
+    → type_of ty ≡ integer i
+    → IsDeclared before after o o' name c i n
+    → ((a : Surroundings) (k : ℕ) → Meets (object_asks before (length o) a k name (record { constant = c; type = type_of ty }) (is_initialised (maybe_initializer_of x.initializer))))
+    → MatchResult result (λ u. (k : ℕ) → MayInitialise (context_of after k) n (integer i) (maybe_initializer_of x.initializer) (stmt_in u)) (IsGivenFault after (integer i) (maybe_initializer_of x.initializer))
+    → MatchResult result (LocalDone (record { constant = c; type = type_of ty }) before after o o' x) (IsLocalFault (record { constant = c; type = type_of ty }) before (length o) x)
+local_made {before = before} {after = after} {o = o} {o' = o'} {name = name} {c = c} {i = i} at ty x (Ok u) shaped e d meets begun =
+    let same : qualified c (type_of ty) ≡ integral c i = ap (λ z. qualified c z) e in
+    subst (λ (q : Qualified). LocalDone q before after o o' x u) (sym same)
+    (local_done at x u shaped d (λ a k. subst (λ (q : Qualified). Meets (object_asks before (length o) a k name q (is_initialised (maybe_initializer_of x.initializer)))) same (meets a k)) begun)
+local_made {before = before} {o = o} {c = c} {i = i} at ty x (Err f) shaped e d meets begun =
+    let same : qualified c (type_of ty) ≡ integral c i = ap (λ z. qualified c z) e in
+    subst (λ (q : Qualified). IsLocalFault q before (length o) x f) (sym same) (given_fault at x f shaped d begun)
