@@ -7,22 +7,26 @@ use Rattle.im_ctree.specs.declared.statement.BlockItem.{BlockItem}
 use Rattle.im_ctype.specs.declared.integer.Integer.{Integer}
 use Rattle.im_typed.specs.declared.statement.Case.{Case}
 use Rattle.im_typed.specs.Program as p
-use Rattle.im_typed.specs.declared.expression.Expr as re
 use Rattle.im_typed.specs.declared.statement.Stmt as rs
-use Rattle.im_rules.specs.Statements.{Site, Added, Cases, and_then, in_block, past_maybe, with_cases, first_of, MayTest, MayStep, Begins, TypedStatement, MayBeTyped, TypedItems, TypedCases, Labelled}
-use Rattle.im_rules.specs.BodyBreaks.{BodyBroken, a_statement, an_else, some_items, some_cases, a_labelled}
+use Rattle.im_rules.specs.Demands.{Demand}
+use Rattle.im_rules.specs.Terms as r
+use Rattle.im_rules.specs.Statements.{Added, Cases, and_then, in_block, with_cases, first_of, MayTest, MayStep, Begins, TypedStatement, TypedItems, TypedCases, Labelled}
+use Rattle.im_rules.specs.BodyBreaks.{BodyBroken, a_beginning, a_statement, some_items, some_cases, a_labelled}
 use Rattle.im_terms.specs.declared.stop.Stop.{Stop}
+use Rattle.im_terms.specs.declared.stop.Stop.TheVariants.{Rule, Memory}
 use Rattle.im_terms.specs.Exprs.{expr_in}
 use Rattle.im_names.specs.declared.entity.Entry.{Entry}
 use Rattle.im_names.specs.declared.scope.Scope.{Scope}
+use Rattle.im_names.specs.Shape.{context_of}
+use Rattle.im_check_declarations.specs.Asked.{AskedBreaks}
 use Rattle.im_check_declarations.specs.declared.site.Local.{Local}
 use Rattle.im_check_declarations.specs.declared.site.Surroundings.{Surroundings}
 use Rattle.im_check_declarations.specs.Sites.{site_of, added_by, IsGrown, IsBodyFault}
 use Rattle.im_check_declarations.specs.Stmts.{stmt_in, stmts_before, stmts_from}
 use Rattle.im_check_statements.specs.declared.labels.Labels.{Labels}
-use Rattle.im_check_statements.specs.declared.loops.Head.{Head}
+use Rattle.im_check_statements.specs.declared.loops.ForHead.{ForHead}
 use Rattle.im_check_statements.specs.Labelling.{labels_of, no_labels, Tells}
-use Rattle.im_check_statements.specs.Literals.{strings_of_beginning, strings_of_statement, strings_of_else, strings_of_items}
+use Rattle.im_check_statements.specs.Literals.{strings_of_beginning, strings_of_statement, strings_of_items}
 
 -- a statement that adds nothing is typed, or a node in it breaks a rule
 abbrev pub IsLeaf : Surroundings → Scope → ℕ → t.Statement → Result rs.Stmt Stop → Type 0
@@ -35,15 +39,28 @@ pub record StatementDone (a : Surroundings) (before after : Scope) (objects obje
   pub objects_grown : objects' ≡ objects ++ more
   pub typed : (k : ℕ) → TypedStatement (site_of before (length objects) a k) tree (stmt_in u) (added_by more (strings_of_statement tree))
 
--- the same of a second branch, if there is one
-pub record ElseDone (a : Surroundings) (before after : Scope) (objects objects' : List Local) (tree : t.MaybeStatement) (u : rs.Stmt) : Type 0 where
-  pub names : IsGrown before after []
+-- what the beginning of a `for` leaves
+pub record BeginDone (before after : Scope) (objects objects' : List Local) (i : t.ForInit) (u : rs.Stmt) : Type 0 where
+  pub entries : List Entry
+  pub names : IsGrown before after entries
   pub more : List Local
   pub objects_grown : objects' ≡ objects ++ more
-  pub typed : (k : ℕ) → MayBeTyped (site_of before (length objects) a k) tree (stmt_in u) (added_by more (strings_of_else tree))
+  pub begins : (a : Surroundings) (k : ℕ) → Begins (site_of before (length objects) a k) i (stmt_in u) (added_by more (strings_of_beginning i)) (site_of after (length objects') a (k + length (strings_of_beginning i)))
+
+abbrev pub IsBeginFault : Scope → ℕ → t.ForInit → Stop → Type 0
+IsBeginFault s n i f = (a : Surroundings) → IsBodyFault s n a (a_beginning i) f
+
+-- an expression's fault, where there is one
+abbrev pub MaybeFault : (r.Term → List Demand) → Scope → t.MaybeExpression → ℕ → ℕ → ℕ → Type 0
+MaybeFault asks s t.no_expression at rule token = ⊥
+MaybeFault asks s (t.an_expression e) at rule token = (k : ℕ) → AskedBreaks asks (context_of s k) e at rule token
+
+abbrev pub IsMaybeFault : (r.Term → List Demand) → Scope → t.MaybeExpression → ℕ → Stop → Type 0
+IsMaybeFault asks s e at (Rule rule token) = MaybeFault asks s e at rule token
+IsMaybeFault asks s e at Memory = Unit {0}
 
 -- what the head of a `for` leaves: its scope is open
-pub record HeadDone (a : Surroundings) (before after : Scope) (objects objects' : List Local) (i : t.ForInit) (c n : t.MaybeExpression) (h : Head) : Type 0 where
+pub record HeadDone (a : Surroundings) (before after : Scope) (objects objects' : List Local) (i : t.ForInit) (c n : t.MaybeExpression) (h : ForHead) : Type 0 where
   pub entries : List Entry
   pub names : IsGrown before after entries
   pub more : List Local

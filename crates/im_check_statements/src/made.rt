@@ -1,10 +1,13 @@
 //! Typed statements of their parts.
-ghost use Rattle.std.specs.Prelude.{◌≡◌, MatchResult};
+ghost use Rattle.std.specs.Prelude.{◌≡◌, length, MatchResult};
 ghost use Rattle.im_typed.specs.Program as p;
 ghost use Rattle.im_terms.specs.Answers.{IsNoRule};
 ghost use Rattle.im_terms.specs.Exprs.{expr_in};
 ghost use Rattle.im_check_declarations.specs.Stmts.{stmt_in, stmts_from};
+ghost use Rattle.im_check_statements.specs.Labelling.{place_of};
 
+use crate::labels::{Labels, Selector};
+use crate::loops::ForHead;
 use im_terms::Stop;
 use im_typed::{Case, Expr, Stmt};
 use std::alloc::Global;
@@ -35,26 +38,33 @@ pub fn do_made(alloc: Global, turn: Stmt, test: Expr) -> Result<Stmt, Stop>
     Ok(Stmt::DoWhile(Box::new(alloc, turn)?, test))
 }
 
-pub fn for_made(
-    alloc: Global,
-    first: Stmt,
-    test: Expr,
-    step: Expr,
-    turn: Stmt,
-) -> Result<Stmt, Stop>
-    ensures { MatchResult result (λ u. stmt_in u ≡ p.For (stmt_in first) (expr_in test) (expr_in step) (stmt_in turn)) IsNoRule }
+pub fn for_made(alloc: Global, h: ForHead, turn: Stmt) -> Result<Stmt, Stop>
+    ensures { MatchResult result (λ u. stmt_in u ≡ p.For (stmt_in h.first) (expr_in h.test) (expr_in h.step) (stmt_in turn)) IsNoRule }
 {
-    let first = Box::new(alloc, first)?;
+    let first = Box::new(alloc, h.first)?;
     let body = Box::new(alloc, turn)?;
     Ok(Stmt::For {
         first,
-        test,
-        step,
+        test: h.test,
+        step: h.step,
         body,
     })
 }
 
-pub fn switch_made(value: Expr, cases: Vec<Case>, otherwise: u32, block: Vec<Stmt>) -> Stmt
+/// Without a `default` a switch goes behind its block.
+fn place_otherwise(otherwise: Option<u32>, block: &[Stmt]) -> Result<u32, Stop>
+    ensures { MatchResult result (λ n. n ≡ place_of otherwise (length block.now)) IsNoRule }
+{
+    match otherwise {
+        Some(n) => Ok(n),
+        None => match u32::try_from(block.len()) {
+            Ok(n) => Ok(n),
+            Err(_) => Err(Stop::Memory),
+        },
+    }
+}
+
+fn switch_of(value: Expr, cases: Vec<Case>, otherwise: u32, block: Vec<Stmt>) -> Stmt
     ensures { stmt_in result ≡ p.Switch (expr_in value) cases.items otherwise (stmts_from block.items) }
 {
     Stmt::Switch {
@@ -63,4 +73,11 @@ pub fn switch_made(value: Expr, cases: Vec<Case>, otherwise: u32, block: Vec<Stm
         otherwise,
         block,
     }
+}
+
+pub fn switch_made(chosen: Selector, labels: Labels, block: Vec<Stmt>) -> Result<Stmt, Stop>
+    ensures { MatchResult result (λ u. stmt_in u ≡ p.Switch (expr_in chosen.value) labels.cases.items (place_of labels.otherwise (length block.items)) (stmts_from block.items)) IsNoRule }
+{
+    let otherwise = place_otherwise(labels.otherwise, &block)?;
+    Ok(switch_of(chosen.value, labels.cases, otherwise, block))
 }
