@@ -1,11 +1,12 @@
 -- The rows of a tree are the vectors that they were made of, and its parts are what their fields say.
-use Rattle.std.proofs.Common.{◌≡◌, ℕ, List, [], ◌∷◌, Option, Some, None, refl, ap, ◌∙◌, map, Global, Vec, Box}
+use Rattle.std.proofs.Common.{◌≡◌, ℕ, ◌<◌, ◌≤◌, length, arith, Bool, true, false, List, [], ◌∷◌, Option, Some, None, refl, sym, ap, ◌∙◌, map, Global, Vec, Box}
 use Rattle.im_ctree.specs.declared.expression.Expression.{Expression}
 use Rattle.im_ctree.specs.declared.expression.ExpressionKind as ek
 use Rattle.im_ctree.specs.declared.specifier.Specifier.{Specifier}
 use Rattle.im_ctree.specs.declared.specifier.Specifiers as ss
 use Rattle.im_ctree.specs.declared.specifier.SpecifierKind as sk
 use Rattle.im_ctree.specs.declared.specifier.Enumerator as en
+use Rattle.im_ctree.specs.declared.declarator.Core as co
 use Rattle.im_ctree.specs.declared.declarator.Declarator as dc
 use Rattle.im_ctree.specs.declared.declarator.Suffix.{Suffix}
 use Rattle.im_ctree.specs.declared.declarator.SuffixKind as xk
@@ -16,11 +17,16 @@ use Rattle.im_ctree.specs.declared.declaration.Initializer as ini
 use Rattle.im_ctree.specs.declared.declaration.Initializer.TheBlock.{hidden-the_row-Initializer-0}
 use Rattle.im_ctree.specs.declared.statement.BlockItem.TheBlock.{hidden-the_row-BlockItem-0}
 use Rattle.im_ctree.specs.declared.statement.BlockItem as bi
+use Rattle.im_ctree.specs.declared.statement.Block as bk
 use Rattle.im_ctree.specs.declared.statement.StatementKind as sm
 use Rattle.im_ctree.specs.Tree as t
 use Rattle.im_ctree.specs.Shape.{expression_of, expressions_of, specifiers_of, specifier_of, specifier_list_of, enumerators_of, maybe_expression_of, declarator_of, core_of, suffixes_of, parameters_of, maybe_declarator_of, type_name_of, initializer_of, initializers_of, items_of, block_items_of, statement_of, declaration_of}
 use Rattle.im_specifiers.specs.Lists.{list_from}
-use Rattle.im_plain.specs.Lists.{tree_of, expressions_from, maybe_from, with_enumerator, enumerators_from, declarator_from, with_parameter, parameters_from, with_suffix, suffixes_from, initializers_from}
+use Rattle.im_plain.specs.Plain.{is_name, other_suffix, other_declarator}
+use Rattle.im_rules.specs.Rules.{is_typedef}
+use Rattle.im_word.specs.Words.{Name}
+use Rattle.im_ctree.specs.declared.declarator.Star.{Star}
+use Rattle.im_plain.specs.Lists.{is_name_core, tree_of, expressions_from, maybe_from, with_enumerator, enumerators_from, declarator_from, with_parameter, parameters_from, with_suffix, suffixes_from, initializers_from}
 
 expressions_row : (n : _) (row : ek.Row_of-Expression n) → expressions_of row ≡ expressions_from (ek.items-the_row-Expression n row)
 expressions_row _ ek.end_of-Expression = refl
@@ -104,3 +110,71 @@ items_row _ (sm.more_of-BlockItem (bi.Statement' i s) xs) = ap (λ z. t.statemen
 
 pub items_made : (items : Vec bi.BlockItem Global) → items_of (hidden-the_row-BlockItem-0 items) ≡ block_items_of items.items
 items_made items = items_row _ (hidden-the_row-BlockItem-0 items) ∙ ap block_items_of (sm.items_hidden-the_row-BlockItem-0 items)
+
+-- blocks are records; their items are a row
+pub block_tree : (at : ℕ) (b : bk.Block) → statement_of at (sm.Block b) ≡ t.block_statement at (t.block b.at (block_items_of b.items.items))
+block_tree at b = ap (λ z. t.block_statement at (t.block b.at z)) (items_made b.items)
+
+pub switch_tree : (at : ℕ) (e : Expression) (b : bk.Block) → statement_of at (sm.Switch e b) ≡ t.switch_statement at (expression_of e.at e.kind) (t.block b.at (block_items_of b.items.items))
+switch_tree at e b = ap (λ z. t.switch_statement at (expression_of e.at e.kind) (t.block b.at z)) (items_made b.items)
+
+-- more than one suffix
+two_kinds : (typedef : Bool) (at a b : ℕ) (k l : xk.SuffixKind) (rest : t.Suffixes) → other_suffix typedef at (with_suffix a k (with_suffix b l rest)) ≡ Some at
+two_kinds typedef at a b (xk.Array' e) l rest = refl
+two_kinds typedef at a b (xk.Function' m ps) (xk.Array' e) rest = refl
+two_kinds typedef at a b (xk.Function' m ps) (xk.Function' n qs) rest = refl
+
+pub two_suffixes : (typedef : Bool) (at : ℕ) (ss : List Suffix) → 1 < length ss → Some at ≡ other_suffix typedef at (suffixes_from ss)
+two_suffixes typedef at [] h = absurd (omega arith)
+two_suffixes typedef at (s ∷ []) h = absurd (omega arith)
+two_suffixes typedef at (s ∷ z ∷ ss) h = sym (two_kinds typedef at s.at z.at s.kind z.kind (suffixes_from ss))
+
+-- a declarator by its parts
+abbrev consts : Star → ℕ
+consts star = star.consts
+
+name_suffixed : (at : ℕ) (x : Name) (a : ℕ) (k : xk.SuffixKind) (rest : t.Suffixes) → is_name (t.declarator at [] (t.name_core x) (with_suffix a k rest)) ≡ false
+name_suffixed at x a (xk.Array' e) rest = refl
+name_suffixed at x a (xk.Function' m ps) rest = refl
+
+suffixed : (at : ℕ) (stars : List ℕ) (core : t.Core) (ss : List Suffix) → 0 < length ss → is_name (t.declarator at stars core (suffixes_from ss)) ≡ false
+suffixed at stars core [] h = absurd (omega arith)
+suffixed at (k ∷ ks) core (s ∷ ss) h = refl
+suffixed at [] t.absent_core (s ∷ ss) h = refl
+suffixed at [] (t.inner_core d) (s ∷ ss) h = refl
+suffixed at [] (t.name_core x) (s ∷ ss) h = name_suffixed at x s.at s.kind (suffixes_from ss)
+
+bare_core : (at : ℕ) (core : co.Core) → is_name (t.declarator at [] (core_of core) t.no_suffixes) ≡ is_name_core core
+bare_core at co.Absent = refl
+bare_core at (co.Name x) = refl
+bare_core at (co.Inner' p d) = refl
+
+bare : (at : ℕ) (stars : List Star) (core : co.Core) (ss : List Suffix) → length stars ≤ 0 → length ss ≤ 0 → is_name (t.declarator at (map consts stars) (core_of core) (suffixes_from ss)) ≡ is_name_core core
+bare at (k ∷ ks) core ss h g = absurd (omega arith)
+bare at [] core (s ∷ ss) h g = absurd (omega arith)
+bare at [] core [] h g = bare_core at core
+
+pub name_bare : (d : dc.Declarator) → length (dc.out-Declarator d).stars.items ≤ 0 → length (dc.out-Declarator d).suffixes.items ≤ 0 → is_name_core (dc.out-Declarator d).core ≡ is_name (declarator_of d)
+name_bare d h g =
+    let r = dc.out-Declarator d in
+    sym (ap is_name (declarator_shape d) ∙ bare r.at r.stars.items r.core r.suffixes.items h g)
+
+pub name_not_bare : (d : dc.Declarator) → 0 < length (dc.out-Declarator d).suffixes.items → false ≡ is_name (declarator_of d)
+name_not_bare d h =
+    let r = dc.out-Declarator d in
+    sym (ap is_name (declarator_shape d) ∙ suffixed r.at (map consts r.stars.items) (core_of r.core) r.suffixes.items h)
+
+declared_core : (xs : t.SpecifierList) (at : ℕ) (core : co.Core) (ss : t.Suffixes) → is_name_core core ≡ true → other_declarator xs (t.declarator at [] (core_of core) ss) ≡ other_suffix (is_typedef xs) at ss
+declared_core xs at co.Absent ss h = absurd cc
+declared_core xs at (co.Name x) ss h = refl
+declared_core xs at (co.Inner' p d) ss h = absurd cc
+
+declared_list : (xs : t.SpecifierList) (at : ℕ) (stars : List Star) (core : co.Core) (ss : t.Suffixes) → length stars ≤ 0 → is_name_core core ≡ true → other_declarator xs (t.declarator at (map consts stars) (core_of core) ss) ≡ other_suffix (is_typedef xs) at ss
+declared_list xs at (k ∷ ks) core ss h g = absurd (omega arith)
+declared_list xs at [] core ss h g = declared_core xs at core ss g
+
+pub declared_name : (xs : t.SpecifierList) (d : dc.Declarator) → length (dc.out-Declarator d).stars.items ≤ 0 → is_name_core (dc.out-Declarator d).core ≡ true
+    → other_declarator xs (declarator_of d) ≡ other_suffix (is_typedef xs) (dc.out-Declarator d).at (suffixes_from (dc.out-Declarator d).suffixes.items)
+declared_name xs d h g =
+    let r = dc.out-Declarator d in
+    ap (other_declarator xs) (declarator_shape d) ∙ declared_list xs r.at r.stars.items r.core (suffixes_from r.suffixes.items) h g

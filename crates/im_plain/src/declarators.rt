@@ -50,7 +50,7 @@ fn first_in_suffixes(typedef: bool, at: u32, suffixes: &[Suffix]) -> Option<u32>
     if suffixes.len() == 0 {
         return None;
     }
-    if suffixes.len() != 1 {
+    if suffixes.len() > 1 {
         return Some(at);
     }
     first_in_suffix(typedef, at, &suffixes[0])
@@ -60,7 +60,7 @@ fn first_in_suffixes(typedef: bool, at: u32, suffixes: &[Suffix]) -> Option<u32>
 pub fn first_in_declarator(specifiers: &[Specifier], d: &Declarator) -> Option<u32>
     ensures { result ≡ p.other_declarator (list_from specifiers.now) (declarator_of d.now) }
 {
-    if !d.stars.is_empty() {
+    if d.stars.len() > 0 {
         return Some(d.at);
     }
     if !has_name(&d.core) {

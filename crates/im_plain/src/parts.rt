@@ -79,10 +79,10 @@ pub fn has_name(core: &Core) -> bool
 fn is_name(d: &Declarator) -> bool
     ensures { result ≡ p.is_name (declarator_of d.now) }
 {
-    if !d.stars.is_empty() {
+    if d.stars.len() > 0 {
         return false;
     }
-    if !d.suffixes.is_empty() {
+    if d.suffixes.len() > 0 {
         return false;
     }
     has_name(&d.core)
