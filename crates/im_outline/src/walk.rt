@@ -15,7 +15,7 @@ use im_ctree::{
     Core, Declaration, Declarator, External, Function, InitDeclarator, Specifier, SpecifierKind,
     SpecifierWord, Suffix, SuffixKind, Tree,
 };
-use im_plain::is_typedef;
+use im_plain::{has_stars, is_typedef};
 use im_terms::Stop;
 use std::alloc::Global;
 
@@ -64,7 +64,7 @@ fn has_member_list(specifiers: &[Specifier]) -> bool
 pub fn name_in(d: &Declarator) -> Option<&[u8]>
     ensures { MatchOption result (Unit {0}) (λ x. declarator_of d.now ≡ t.declarator (out-Declarator d.now).at [] (t.name_core x.now) (suffixes_from (out-Declarator d.now).suffixes.items)) }
 {
-    if !d.stars.is_empty() {
+    if has_stars(&d.stars) {
         return None;
     }
     match &d.core {

@@ -26,7 +26,7 @@ use Rattle.im_plain.specs.Plain.{is_name, other_suffix, other_declarator}
 use Rattle.im_rules.specs.Rules.{is_typedef}
 use Rattle.im_word.specs.Words.{Name}
 use Rattle.im_ctree.specs.declared.declarator.Star.{Star}
-use Rattle.im_plain.specs.Lists.{is_name_core, tree_of, expressions_from, maybe_from, with_enumerator, enumerators_from, declarator_from, with_parameter, parameters_from, with_suffix, suffixes_from, initializers_from}
+use Rattle.im_plain.specs.Lists.{is_name_core, has_items, tree_of, expressions_from, maybe_from, with_enumerator, enumerators_from, declarator_from, with_parameter, parameters_from, with_suffix, suffixes_from, initializers_from}
 
 expressions_row : (n : _) (row : ek.Row_of-Expression n) → expressions_of row ≡ expressions_from (ek.items-the_row-Expression n row)
 expressions_row _ ek.end_of-Expression = refl
@@ -137,8 +137,8 @@ name_suffixed : (at : ℕ) (x : Name) (a : ℕ) (k : xk.SuffixKind) (rest : t.Su
 name_suffixed at x a (xk.Array' e) rest = refl
 name_suffixed at x a (xk.Function' m ps) rest = refl
 
-suffixed : (at : ℕ) (stars : List ℕ) (core : t.Core) (ss : List Suffix) → 0 < length ss → is_name (t.declarator at stars core (suffixes_from ss)) ≡ false
-suffixed at stars core [] h = absurd (omega arith)
+suffixed : (at : ℕ) (stars : List ℕ) (core : t.Core) (ss : List Suffix) → has_items ss ≡ true → is_name (t.declarator at stars core (suffixes_from ss)) ≡ false
+suffixed at stars core [] h = absurd cc
 suffixed at (k ∷ ks) core (s ∷ ss) h = refl
 suffixed at [] t.absent_core (s ∷ ss) h = refl
 suffixed at [] (t.inner_core d) (s ∷ ss) h = refl
@@ -149,17 +149,17 @@ bare_core at co.Absent = refl
 bare_core at (co.Name x) = refl
 bare_core at (co.Inner' p d) = refl
 
-bare : (at : ℕ) (stars : List Star) (core : co.Core) (ss : List Suffix) → length stars ≤ 0 → length ss ≤ 0 → is_name (t.declarator at (map consts stars) (core_of core) (suffixes_from ss)) ≡ is_name_core core
-bare at (k ∷ ks) core ss h g = absurd (omega arith)
-bare at [] core (s ∷ ss) h g = absurd (omega arith)
+bare : (at : ℕ) (stars : List Star) (core : co.Core) (ss : List Suffix) → has_items stars ≡ false → has_items ss ≡ false → is_name (t.declarator at (map consts stars) (core_of core) (suffixes_from ss)) ≡ is_name_core core
+bare at (k ∷ ks) core ss h g = absurd cc
+bare at [] core (s ∷ ss) h g = absurd cc
 bare at [] core [] h g = bare_core at core
 
-pub name_bare : (d : dc.Declarator) → length (dc.out-Declarator d).stars.items ≤ 0 → length (dc.out-Declarator d).suffixes.items ≤ 0 → is_name_core (dc.out-Declarator d).core ≡ is_name (declarator_of d)
+pub name_bare : (d : dc.Declarator) → has_items (dc.out-Declarator d).stars.items ≡ false → has_items (dc.out-Declarator d).suffixes.items ≡ false → is_name_core (dc.out-Declarator d).core ≡ is_name (declarator_of d)
 name_bare d h g =
     let r = dc.out-Declarator d in
     sym (ap is_name (declarator_shape d) ∙ bare r.at r.stars.items r.core r.suffixes.items h g)
 
-pub name_not_bare : (d : dc.Declarator) → 0 < length (dc.out-Declarator d).suffixes.items → false ≡ is_name (declarator_of d)
+pub name_not_bare : (d : dc.Declarator) → has_items (dc.out-Declarator d).suffixes.items ≡ true → false ≡ is_name (declarator_of d)
 name_not_bare d h =
     let r = dc.out-Declarator d in
     sym (ap is_name (declarator_shape d) ∙ suffixed r.at (map consts r.stars.items) (core_of r.core) r.suffixes.items h)
@@ -169,12 +169,23 @@ declared_core xs at co.Absent ss h = absurd cc
 declared_core xs at (co.Name x) ss h = refl
 declared_core xs at (co.Inner' p d) ss h = absurd cc
 
-declared_list : (xs : t.SpecifierList) (at : ℕ) (stars : List Star) (core : co.Core) (ss : t.Suffixes) → length stars ≤ 0 → is_name_core core ≡ true → other_declarator xs (t.declarator at (map consts stars) (core_of core) ss) ≡ other_suffix (is_typedef xs) at ss
-declared_list xs at (k ∷ ks) core ss h g = absurd (omega arith)
+declared_list : (xs : t.SpecifierList) (at : ℕ) (stars : List Star) (core : co.Core) (ss : t.Suffixes) → has_items stars ≡ false → is_name_core core ≡ true → other_declarator xs (t.declarator at (map consts stars) (core_of core) ss) ≡ other_suffix (is_typedef xs) at ss
+declared_list xs at (k ∷ ks) core ss h g = absurd cc
 declared_list xs at [] core ss h g = declared_core xs at core ss g
 
-pub declared_name : (xs : t.SpecifierList) (d : dc.Declarator) → length (dc.out-Declarator d).stars.items ≤ 0 → is_name_core (dc.out-Declarator d).core ≡ true
+pub declared_name : (xs : t.SpecifierList) (d : dc.Declarator) → has_items (dc.out-Declarator d).stars.items ≡ false → is_name_core (dc.out-Declarator d).core ≡ true
     → other_declarator xs (declarator_of d) ≡ other_suffix (is_typedef xs) (dc.out-Declarator d).at (suffixes_from (dc.out-Declarator d).suffixes.items)
 declared_name xs d h g =
     let r = dc.out-Declarator d in
     ap (other_declarator xs) (declarator_shape d) ∙ declared_list xs r.at r.stars.items r.core (suffixes_from r.suffixes.items) h g
+
+-- a declarator of a name, whatever stands behind the name
+pub named_shape : (d : dc.Declarator) (x : Vec ℕ Global) → has_items (dc.out-Declarator d).stars.items ≡ false → (dc.out-Declarator d).core ≡ co.Name x
+    → declarator_of d ≡ t.declarator (dc.out-Declarator d).at [] (t.name_core x.items) (suffixes_from (dc.out-Declarator d).suffixes.items)
+named_shape d x h e =
+    let r = dc.out-Declarator d in
+    declarator_shape d ∙ no_stars r.at r.stars.items (core_of r.core) (suffixes_from r.suffixes.items) h ∙ ap (λ z. t.declarator r.at [] (core_of z) (suffixes_from r.suffixes.items)) e
+  where
+    no_stars : (at : ℕ) (stars : List Star) (core : t.Core) (ss : t.Suffixes) → has_items stars ≡ false → t.declarator at (map consts stars) core ss ≡ t.declarator at [] core ss
+    no_stars at [] core ss h = refl
+    no_stars at (k ∷ ks) core ss h = absurd cc

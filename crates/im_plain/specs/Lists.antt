@@ -65,3 +65,7 @@ statement_from s = statement_of s.at s.kind
 abbrev pub with_item : bi.BlockItem → t.BlockItems → t.BlockItems
 with_item (bi.Declaration d) rest = t.declaration_item (declaration_of d) rest
 with_item (bi.Statement' i s) rest = t.statement_item (statement_of i s) rest
+
+abbrev pub has_items : {A : Type 0} → List A → Bool
+has_items [] = false
+has_items (x ∷ xs) = true

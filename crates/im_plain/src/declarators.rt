@@ -8,7 +8,7 @@ ghost use Rattle.im_plain.specs.Lists.{with_parameter, parameters_from, with_suf
 
 use crate::expression::first_listed;
 use crate::initializer::first_maybe_given;
-use crate::parts::{has_name, in_parameter, is_typedef, or_else, other_if};
+use crate::parts::{has_name, has_stars, in_parameter, is_typedef, or_else, other_if};
 use im_ctree::{Declarator, InitDeclarator, Parameter, Specifier, Suffix, SuffixKind};
 
 fn first_parameter(parameter: &Parameter) -> Option<u32>
@@ -60,7 +60,7 @@ fn first_in_suffixes(typedef: bool, at: u32, suffixes: &[Suffix]) -> Option<u32>
 pub fn first_in_declarator(specifiers: &[Specifier], d: &Declarator) -> Option<u32>
     ensures { result ≡ p.other_declarator (list_from specifiers.now) (declarator_of d.now) }
 {
-    if d.stars.len() > 0 {
+    if has_stars(&d.stars) {
         return Some(d.at);
     }
     if !has_name(&d.core) {

@@ -27,9 +27,8 @@ pub fn first_in(e: &Expression) -> Option<u32>
     ensures { result ≡ p.other_in (tree_of e.now) }
 {
     match &e.kind {
-        ExpressionKind::Identifier(_)
-        | ExpressionKind::Number(_)
-        | ExpressionKind::Character(_) => None,
+        ExpressionKind::Identifier(_) | ExpressionKind::Number(_) | ExpressionKind::Character(_) =>
+            None,
         ExpressionKind::Text(_)
         | ExpressionKind::Index(_, _)
         | ExpressionKind::Member(_, _)

@@ -11,6 +11,6 @@ mod unit;
 pub use declarators::first_in_declarator;
 pub use expression::first_in;
 pub use initializer::first_given;
-pub use parts::{has_void, is_typedef};
+pub use parts::{has_stars, has_void, is_typedef};
 pub use statement::first_in_block;
 pub use unit::first_in_unit;

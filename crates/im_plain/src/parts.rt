@@ -5,9 +5,9 @@ ghost use Rattle.im_ctree.specs.Shape.{declarator_of};
 ghost use Rattle.im_rules.specs.Rules as u;
 ghost use Rattle.im_specifiers.specs.Lists.{list_from, tree_of};
 ghost use Rattle.im_plain.specs.Plain as p;
-ghost use Rattle.im_plain.specs.Lists.{declarator_from, is_name_core};
+ghost use Rattle.im_plain.specs.Lists.{declarator_from, has_items, is_name_core};
 
-use im_ctree::{Core, Declarator, Specifier, SpecifierKind, SpecifierWord};
+use im_ctree::{Core, Declarator, Specifier, SpecifierKind, SpecifierWord, Star, Suffix};
 
 /// The first of two tokens, where there is one.
 pub fn or_else(first: Option<u32>, second: Option<u32>) -> Option<u32>
@@ -76,13 +76,25 @@ pub fn has_name(core: &Core) -> bool
     }
 }
 
+pub fn has_stars(stars: &[Star]) -> bool
+    ensures { result ≡ has_items stars.now }
+{
+    stars.len() > 0
+}
+
+fn has_suffixes(suffixes: &[Suffix]) -> bool
+    ensures { result ≡ has_items suffixes.now }
+{
+    suffixes.len() > 0
+}
+
 fn is_name(d: &Declarator) -> bool
     ensures { result ≡ p.is_name (declarator_of d.now) }
 {
-    if d.stars.len() > 0 {
+    if has_stars(&d.stars) {
         return false;
     }
-    if d.suffixes.len() > 0 {
+    if has_suffixes(&d.suffixes) {
         return false;
     }
     has_name(&d.core)
@@ -104,10 +116,7 @@ pub fn in_abstract(declarator: &Option<Box<Declarator>>) -> Option<u32>
 }
 
 /// A parameter's declarator.
-pub fn in_parameter(
-    specifiers: &[Specifier],
-    declarator: &Option<Box<Declarator>>,
-) -> Option<u32>
+pub fn in_parameter(specifiers: &[Specifier], declarator: &Option<Box<Declarator>>) -> Option<u32>
     ensures { result ≡ p.other_parameter (list_from specifiers.now) (declarator_from declarator.now) }
 {
     match declarator {

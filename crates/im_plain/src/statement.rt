@@ -25,7 +25,10 @@ fn first_optional(e: &Option<Expression>) -> Option<u32>
 fn first_local(d: &InitDeclarator) -> Option<u32>
     ensures { result ≡ p.or_else (p.unless_name (declarator_of d.now.declarator)) (p.other_initializer (maybe_initializer_of d.now.initializer)) }
 {
-    or_else(unless_name(&d.declarator), first_maybe_given(&d.initializer))
+    or_else(
+        unless_name(&d.declarator),
+        first_maybe_given(&d.initializer),
+    )
 }
 
 fn first_in_locals(declarators: &[InitDeclarator]) -> Option<u32>
