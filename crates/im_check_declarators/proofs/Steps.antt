@@ -60,32 +60,42 @@ sized : (ty : PlainType) → is_sized (type_of ty) ≡ true
 sized Void = refl
 sized (Integer i) = refl
 
-abbrev formal_by : Option Name → Specified → Declared
+abbrev pub formal_by : Option Name → Specified → Declared
 formal_by x q = record { name = x; constant = q.constant; type = type_of q.ty }
 
-put : (c b : Context) (r : Qualified) (d : Declared) (n at : ℕ) (xs : t.SpecifierList) (m : t.MaybeDeclarator) (rest : t.Parameters) (ds : List Declared)
-    → behind_specifiers c xs ≡ b → type_of_specifiers c xs ≡ r → Meets (specifiers_ask c xs) → MayDeclare b r m d → parameter d ≡ d → Meets (parameter_asks b n d) → behind_may m b ≡ b
-    → AreParameters (with_parameter n d b) (n + 1) rest ds
-    → AreParameters c n (t.more_parameters (t.specifiers at xs) m rest) (d ∷ ds)
-put c b r d n at xs m rest ds refl refl asked may p meets s more =
-    let meets' : Meets (parameter_asks (behind_specifiers c xs) n (parameter d)) = rw p meets in
-    let more' : AreParameters (with_parameter n (parameter d) (behind_may m (behind_specifiers c xs))) (n + 1) rest ds = rw (p, s) more in
-    subst (λ z. AreParameters c n (t.more_parameters (t.specifiers at xs) m rest) (z ∷ ds)) p (a_parameter asked may meets' more')
+module _ (c : Context) (q : Qualified) (d : Declared) (n at : ℕ) (xs : t.SpecifierList) (m : t.MaybeDeclarator)
+    (same : behind_specifiers c xs ≡ c) (type : type_of_specifiers c xs ≡ q) (asked : Meets (specifiers_ask c xs)) (may : MayDeclare c q m d) (plain : parameter d ≡ d) where
+  may_behind : MayDeclare (behind_specifiers c xs) (type_of_specifiers c xs) m d
+  may_behind = subst (λ b. MayDeclare b (type_of_specifiers c xs) m d) (sym same) (subst (λ r. MayDeclare c r m d) (sym type) may)
 
-put_broken : (c b : Context) (r : Qualified) (d : Declared) (n at : ℕ) (xs : t.SpecifierList) (m : t.MaybeDeclarator) (rest : t.Parameters) (rule token : ℕ)
-    → behind_specifiers c xs ≡ b → type_of_specifiers c xs ≡ r → Meets (specifiers_ask c xs) → MayDeclare b r m d → parameter d ≡ d → behind_may m b ≡ b
-    → Broken (with_parameter n d b) (some_parameters (n + 1) rest) rule token
-    → Broken c (some_parameters n (t.more_parameters (t.specifiers at xs) m rest)) rule token
-put_broken c b r d n at xs m rest rule token refl refl asked may p s more =
-    let more' : Broken (with_parameter n (parameter d) (behind_may m (behind_specifiers c xs))) (some_parameters (n + 1) rest) rule token = rw (p, s) more in
-    within (parameters_behind asked may) more'
+  pub put : (rest : t.Parameters) (ds : List Declared) → Meets (parameter_asks c n d) → behind_may m c ≡ c
+      → AreParameters (with_parameter n d c) (n + 1) rest ds
+      → AreParameters c n (t.more_parameters (t.specifiers at xs) m rest) (d ∷ ds)
+  put rest ds meets s more =
+      let meets' : Meets (parameter_asks (behind_specifiers c xs) n (parameter d)) =
+          subst (λ b. Meets (parameter_asks b n (parameter d))) (sym same) (subst (λ z. Meets (parameter_asks c n z)) (sym plain) meets) in
+      let more₁ : AreParameters (with_parameter n (parameter d) (behind_may m c)) (n + 1) rest ds =
+          subst (λ b. AreParameters (with_parameter n (parameter d) b) (n + 1) rest ds) (sym s) (subst (λ z. AreParameters (with_parameter n z c) (n + 1) rest ds) (sym plain) more) in
+      let more' : AreParameters (with_parameter n (parameter d) (behind_may m (behind_specifiers c xs))) (n + 1) rest ds =
+          subst (λ b. AreParameters (with_parameter n (parameter d) (behind_may m b)) (n + 1) rest ds) (sym same) more₁ in
+      subst (λ z. AreParameters c n (t.more_parameters (t.specifiers at xs) m rest) (z ∷ ds)) plain (a_parameter asked may_behind meets' more')
 
-put_refused : (c b : Context) (r : Qualified) (d : Declared) (n at : ℕ) (xs : t.SpecifierList) (m : t.MaybeDeclarator) (rest : t.Parameters) (rule : ℕ)
-    → behind_specifiers c xs ≡ b → type_of_specifiers c xs ≡ r → Meets (specifiers_ask c xs) → MayDeclare b r m d → parameter d ≡ d → Refuses rule (parameter_asks b n d)
-    → Broken c (some_parameters n (t.more_parameters (t.specifiers at xs) m rest)) rule at
-put_refused c b r d n at xs m rest rule refl refl asked may p refuses =
-    let refuses' : Refuses rule (parameter_asks (behind_specifiers c xs) n (parameter d)) = rw p refuses in
-    here (at_parameter asked may refuses')
+  pub put_broken : (rest : t.Parameters) (rule token : ℕ) → behind_may m c ≡ c
+      → Broken (with_parameter n d c) (some_parameters (n + 1) rest) rule token
+      → Broken c (some_parameters n (t.more_parameters (t.specifiers at xs) m rest)) rule token
+  put_broken rest rule token s more =
+      let more₁ : Broken (with_parameter n (parameter d) (behind_may m c)) (some_parameters (n + 1) rest) rule token =
+          subst (λ b. Broken (with_parameter n (parameter d) b) (some_parameters (n + 1) rest) rule token) (sym s) (subst (λ z. Broken (with_parameter n z c) (some_parameters (n + 1) rest) rule token) (sym plain) more) in
+      let more' : Broken (with_parameter n (parameter d) (behind_may m (behind_specifiers c xs))) (some_parameters (n + 1) rest) rule token =
+          subst (λ b. Broken (with_parameter n (parameter d) (behind_may m b)) (some_parameters (n + 1) rest) rule token) (sym same) more₁ in
+      within (parameters_behind asked may_behind) more'
+
+  pub put_refused : (rest : t.Parameters) (rule : ℕ) → Refuses rule (parameter_asks c n d)
+      → Broken c (some_parameters n (t.more_parameters (t.specifiers at xs) m rest)) rule at
+  put_refused rest rule refuses =
+      let refuses' : Refuses rule (parameter_asks (behind_specifiers c xs) n (parameter d)) =
+          subst (λ b. Refuses rule (parameter_asks b n (parameter d))) (sym same) (subst (λ z. Refuses rule (parameter_asks c n z)) (sym plain) refuses) in
+      here (at_parameter asked may_behind refuses')
 
 -- what specifiers are answered to be, wherever the next string literal stands
 abbrev pub AreSpecified : Scope → t.SpecifierList → Specified → Type 0
@@ -99,8 +109,7 @@ pub goes : (before after : Scope) (n at : ℕ) (xs : t.SpecifierList) (m : t.May
     → AreParameters (context_of before k) n (t.more_parameters (t.specifiers at xs) m rest) (formal_by x q ∷ ds)
 goes before after n at xs m x q h named meets same k rest ds more =
     let c = context_of before k in
-    let more' : AreParameters (with_parameter n (formal_by x q) c) (n + 1) rest ds = rw (same k) more in
-    put c c (qualified_of q) (formal_by x q) n at xs m rest ds (same_behind c xs q (h k).1) (sym (h k).1) (h k).0 (may_name c (qualified_of q) m x named) (plain_parameter x q.constant q.ty) (sized q.ty, meets) (no_strings c m x named) more'
+    put c (qualified_of q) (formal_by x q) n at xs m (same_behind c xs q (h k).1) (sym (h k).1) (h k).0 (may_name c (qualified_of q) m x named) (plain_parameter x q.constant q.ty) rest ds (sized q.ty, meets) (no_strings c m x named) (subst (λ b. AreParameters b (n + 1) rest ds) (sym (same k)) more)
 
 pub breaks : (before after : Scope) (n at : ℕ) (xs : t.SpecifierList) (m : t.MaybeDeclarator) (x : Option Name) (q : Specified)
     → AreSpecified before xs q → IsNamed m x
@@ -110,8 +119,7 @@ pub breaks : (before after : Scope) (n at : ℕ) (xs : t.SpecifierList) (m : t.M
     → Broken (context_of before k) (some_parameters n (t.more_parameters (t.specifiers at xs) m rest)) rule token
 breaks before after n at xs m x q h named same k rest rule token more =
     let c = context_of before k in
-    let more' : Broken (with_parameter n (formal_by x q) c) (some_parameters (n + 1) rest) rule token = rw (same k) more in
-    put_broken c c (qualified_of q) (formal_by x q) n at xs m rest rule token (same_behind c xs q (h k).1) (sym (h k).1) (h k).0 (may_name c (qualified_of q) m x named) (plain_parameter x q.constant q.ty) (no_strings c m x named) more'
+    put_broken c (qualified_of q) (formal_by x q) n at xs m (same_behind c xs q (h k).1) (sym (h k).1) (h k).0 (may_name c (qualified_of q) m x named) (plain_parameter x q.constant q.ty) rest rule token (no_strings c m x named) (subst (λ b. Broken b (some_parameters (n + 1) rest) rule token) (sym (same k)) more)
 
 pub refuses : (before : Scope) (n at : ℕ) (xs : t.SpecifierList) (m : t.MaybeDeclarator) (x : Option Name) (q : Specified) (rule : ℕ)
     → AreSpecified before xs q → IsNamed m x → Refuses rule (declared_asks x (object_by n q) (scopes_of before.entries.items))
@@ -119,4 +127,4 @@ pub refuses : (before : Scope) (n at : ℕ) (xs : t.SpecifierList) (m : t.MaybeD
     → Broken (context_of before k) (some_parameters n (t.more_parameters (t.specifiers at xs) m rest)) rule at
 refuses before n at xs m x q rule h named r k rest =
     let c = context_of before k in
-    put_refused c c (qualified_of q) (formal_by x q) n at xs m rest rule (same_behind c xs q (h k).1) (sym (h k).1) (h k).0 (may_name c (qualified_of q) m x named) (plain_parameter x q.constant q.ty) (inr r)
+    put_refused c (qualified_of q) (formal_by x q) n at xs m (same_behind c xs q (h k).1) (sym (h k).1) (h k).0 (may_name c (qualified_of q) m x named) (plain_parameter x q.constant q.ty) rest rule (inr r)

@@ -10,10 +10,10 @@ use Rattle.im_terms.specs.Shape.{type_of}
 use Rattle.im_names.specs.declared.scope.Scope.{Scope}
 use Rattle.im_names.specs.Shape.{context_of, type_of_function}
 use Rattle.im_plain.specs.Lists.{parameters_from}
-use Rattle.im_check_declarators.specs.declared.declarator.Declared.{Declared}
-use Rattle.im_check_declarators.specs.declared.declarator.Head.{Head}
-use Rattle.im_check_declarators.specs.declared.declarator.Kind.{Kind}
-use Rattle.im_check_declarators.specs.declared.declarator.Kind.TheVariants as k
+use Rattle.im_check_declarators.specs.declared.heads.Declared.{Declared}
+use Rattle.im_check_declarators.specs.declared.heads.Head.{Head}
+use Rattle.im_check_declarators.specs.declared.heads.Kind.{Kind}
+use Rattle.im_check_declarators.specs.declared.heads.Kind.TheVariants as k
 use Rattle.im_check_declarators.specs.Formals.{declared_from}
 use Rattle.im_check_declarators.specs.Functions.{IsSame, HasFormals}
 

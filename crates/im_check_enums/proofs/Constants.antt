@@ -47,15 +47,21 @@ pub goes : (before after : Scope) (next : ℤ) (at : ℕ) (x : Name) (e : t.Mayb
     → (rest : t.Enumerators) (g : FilePlace)
     → AreEnumerators (place_at after whole (past (strings_maybe e) p)) y rest g
     → AreEnumerators (place_at before whole p) next (t.more_enumerators at x e rest) g
-goes before after next at x e (Some z) z y whole p n refl meets constant refl rest g more =
-    let more' : AreEnumerators (with_enumerator x (Some z) e (past_strings (strings_maybe e) (place_at before whole p))) (z +ℤ pos 1) rest g = rw (place_behind before after x z e whole p constant) more in
-    an_enumerator n meets more'
+goes before after next at x e o z y whole p n is meets constant one rest g more =
+    let f = past_strings (strings_maybe e) (place_at before whole p) in
+    let more₁ : AreEnumerators (with_enumerator x (Some z) e f) y rest g = subst (λ w. AreEnumerators w y rest g) (sym (place_behind before after x z e whole p constant)) more in
+    let more₂ : AreEnumerators (with_enumerator x (Some z) e f) (z +ℤ pos 1) rest g = subst (λ w. AreEnumerators (with_enumerator x (Some z) e f) w rest g) one more₁ in
+    let more₃ : AreEnumerators (with_enumerator x o e f) (value_in o +ℤ pos 1) rest g = subst (λ w. AreEnumerators (with_enumerator x w e f) (value_in w +ℤ pos 1) rest g) (sym is) more₂ in
+    an_enumerator n meets more₃
 
 pub breaks : (before after : Scope) (next : ℤ) (at : ℕ) (x : Name) (e : t.MaybeExpression) (o : Option ℤ) (z y : ℤ) (whole : List Name) (p : Passed)
     → IsNumber (context_of before p.next) next e o → o ≡ Some z → IsConstant before x z after → y ≡ z +ℤ pos 1
     → (rest : t.Enumerators) (rule token : ℕ)
     → FileBroken (place_at after whole (past (strings_maybe e) p)) (some_enumerators y rest) rule token
     → FileBroken (place_at before whole p) (some_enumerators next (t.more_enumerators at x e rest)) rule token
-breaks before after next at x e (Some z) z y whole p n refl constant refl rest rule token more =
-    let more' : FileBroken (with_enumerator x (Some z) e (past_strings (strings_maybe e) (place_at before whole p))) (some_enumerators (z +ℤ pos 1) rest) rule token = rw (place_behind before after x z e whole p constant) more in
-    within_file (other_enumerators n) more'
+breaks before after next at x e o z y whole p n is constant one rest rule token more =
+    let f = past_strings (strings_maybe e) (place_at before whole p) in
+    let more₁ : FileBroken (with_enumerator x (Some z) e f) (some_enumerators y rest) rule token = subst (λ w. FileBroken w (some_enumerators y rest) rule token) (sym (place_behind before after x z e whole p constant)) more in
+    let more₂ : FileBroken (with_enumerator x (Some z) e f) (some_enumerators (z +ℤ pos 1) rest) rule token = subst (λ w. FileBroken (with_enumerator x (Some z) e f) (some_enumerators w rest) rule token) one more₁ in
+    let more₃ : FileBroken (with_enumerator x o e f) (some_enumerators (value_in o +ℤ pos 1) rest) rule token = subst (λ w. FileBroken (with_enumerator x w e f) (some_enumerators (value_in w +ℤ pos 1) rest) rule token) (sym is) more₂ in
+    within_file (other_enumerators n) more₃

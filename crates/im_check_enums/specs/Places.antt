@@ -22,7 +22,7 @@ use Rattle.im_names.specs.Shape.{context_of, scopes_of}
 use Rattle.im_plain.specs.Lists.{enumerators_from}
 use Rattle.im_specifiers.specs.declared.specified.Specified.{Specified}
 use Rattle.im_specifiers.specs.Specified.{qualified_of}
-use Rattle.im_check_enums.specs.declared.specify.Base.{Base}
+use Rattle.im_check_enums.specs.declared.specifiers.Base.{Base}
 
 -- what the code doesn't keep: the number of the static that the next string literal is, and those before
 pub record Passed : Type 0 where

@@ -2,8 +2,8 @@
 #![tactic(auto)]
 
 mod enumerators;
-mod specify;
+mod specifiers;
 mod words;
 
 pub use enumerators::constant_of;
-pub use specify::{Base, specify};
+pub use specifiers::{Base, specify};

@@ -2,9 +2,9 @@
 //! breaks.
 #![tactic(auto)]
 
-mod declaration;
-mod declared;
+mod declarations;
+mod declarators;
 mod file;
 
-pub use declaration::declaration;
+pub use declarations::declaration;
 pub use file::{File, Given};

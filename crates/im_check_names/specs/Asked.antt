@@ -9,7 +9,7 @@ use Rattle.im_rules.specs.Outline.{Outline, place_in}
 use Rattle.im_ctype.specs.Types.{CType, is_function}
 use Rattle.im_names.specs.declared.scope.Scope.{Scope}
 use Rattle.im_names.specs.Shape.{scopes_of, outline_of}
-use Rattle.im_check_declarators.specs.declared.declarator.Declared.{Declared}
+use Rattle.im_check_declarators.specs.declared.heads.Declared.{Declared}
 use Rattle.im_check_declarators.specs.Declarators.{declared_of, type_by}
 use Rattle.im_check_enums.specs.Places.{Passed, place_at}
 

@@ -40,7 +40,7 @@ fn value_in(initializer: &Initializer) -> Option<&Expression>
 
 /// The only expression in a pair of braces.
 fn only_in(initializers: &[Initializer]) -> Option<&Expression>
-    ensures { (at : ℕ) → MatchOption result (u.is_one_expression (t.braced_initializer at (initializers_from initializers.now)) ≡ false) (λ e. initializers_from initializers.now ≡ t.more_initializers (t.value_initializer (tree_of e.now)) t.no_initializers) }
+    ensures { (at : ℕ) → MatchOption result (u.is_one_expression (t.braced_initializer at (initializers_from initializers.now)) ≡ false) (λ e. (u.is_one_expression (t.braced_initializer at (initializers_from initializers.now)) ≡ true) × (n.one_shape (t.braced_initializer at (initializers_from initializers.now)) ≡ n.one (tree_of e.now))) }
 {
     if initializers.len() != 1 {
         return None;

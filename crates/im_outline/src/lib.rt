@@ -3,9 +3,9 @@
 
 mod item;
 mod names;
-mod start;
+mod begin;
 mod walk;
 
 pub use item::{Item, Sort};
-pub use start::start;
+pub use begin::start;
 pub use walk::{is_function, name_in};

@@ -7,7 +7,7 @@ ghost use Rattle.im_specifiers.specs.Specified.{qualified_of};
 ghost use Rattle.im_check_file.specs.Declaring.{AllDone, ExternalDone};
 ghost use Rattle.im_check_file.specs.Files.{IsFault};
 
-use crate::declared::one_declared;
+use crate::declarators::one_declared;
 use crate::file::File;
 use im_check_enums::specify;
 use im_ctree::{Declaration, InitDeclarator, Specifier};
