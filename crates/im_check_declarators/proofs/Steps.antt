@@ -45,12 +45,12 @@ same_behind c xs q e = ap (λ z. record c { scopes = z }) (no_tags c (named_in x
 
 -- a parameter whose declarator is a name, or none
 pub may_name : (c : Context) (q : Qualified) (m : t.MaybeDeclarator) (x : Option Name) → IsNamed m x → MayDeclare c q m (record { name = x; constant = q.constant; type = q.type })
-may_name c q t.no_declarator None without_name = of_no_declarator
-may_name c q (t.a_declarator (t.declarator at [] (t.name_core x) t.no_suffixes)) (Some x) with_name = of_a_declarator (of_declarator tt no_suffix of_name)
+may_name c q _ _ without_name = of_no_declarator
+may_name c q _ _ with_name = of_a_declarator (of_declarator tt no_suffix of_name)
 
 pub no_strings : (c : Context) (m : t.MaybeDeclarator) (x : Option Name) → IsNamed m x → behind_may m c ≡ c
-no_strings c t.no_declarator None without_name = refl
-no_strings c (t.a_declarator (t.declarator at [] (t.name_core x) t.no_suffixes)) (Some x) with_name = refl
+no_strings c _ _ without_name = refl
+no_strings c _ _ with_name = refl
 
 pub plain_parameter : (x : Option Name) (c : Bool) (ty : PlainType) → parameter (record { name = x; constant = c; type = type_of ty }) ≡ record { name = x; constant = c; type = type_of ty }
 plain_parameter x c Void = refl

@@ -11,7 +11,7 @@ use Rattle.im_names.specs.declared.scope.Scope.{Scope}
 use Rattle.im_names.specs.Shape.{context_of, type_of_function}
 use Rattle.im_plain.specs.Lists.{parameters_from}
 use Rattle.im_check_declarators.specs.declared.heads.Declared.{Declared}
-use Rattle.im_check_declarators.specs.declared.heads.Head.{Head}
+use Rattle.im_check_declarators.specs.declared.heads.DeclaredHead.{DeclaredHead}
 use Rattle.im_check_declarators.specs.declared.heads.Kind.{Kind}
 use Rattle.im_check_declarators.specs.declared.heads.Kind.TheVariants as k
 use Rattle.im_check_declarators.specs.Formals.{declared_from}
@@ -35,7 +35,7 @@ IsKind s e (k.Plain ty) = nearest e ≡ bare
 IsKind s e (k.Function signature fs) = IsFunction s e (map declared_from fs.items)
 
 -- a name or a function, without stars and parentheses
-pub record DeclaratorDone (s : Scope) (q : d.Qualified) (e : t.Declarator) (h : Head) : Type 0 where
+pub record DeclaratorDone (s : Scope) (q : d.Qualified) (e : t.Declarator) (h : DeclaredHead) : Type 0 where
   pub same : IsSame s h.scope
   pub declares : (k : ℕ) → Declares (context_of s k) q e (declared_of h.declared)
   pub kind : IsKind s e h.declared.kind

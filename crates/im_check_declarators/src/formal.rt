@@ -9,10 +9,10 @@ ghost use Rattle.im_rules.specs.Scopes as s;
 ghost use Rattle.im_names.specs.Shape.{scopes_of, bytes_of};
 ghost use Rattle.im_terms.specs.Answers.{IsNoRule, IsRefusal};
 ghost use Rattle.im_terms.specs.Shape.{type_of};
-ghost use Rattle.im_plain.specs.Lists.{declarator_from};
+ghost use Rattle.im_plain.specs.Lists.{declarator_from, has_items};
 ghost use Rattle.im_check_declarators.specs.Formals.{IsNamed, IsWith, NamedDone, FormalDone, IsFormalFault, declared_from, named_asks};
 
-use im_ctree::{Declarator, Name, Parameter};
+use im_ctree::{Declarator, Name, Parameter, Suffix};
 use im_ctype::Integer;
 use im_names::{Entity, Entry, Scope};
 use im_outline::name_in;
@@ -35,17 +35,24 @@ pub struct Named {
     pub formal: Formal,
 }
 
+pub fn has_suffixes(suffixes: &[Suffix]) -> bool
+    ensures { result ≡ has_items suffixes.now }
+{
+    suffixes.len() > 0
+}
+
 /// The name that a declarator is.
 fn only_name(alloc: Global, declarator: &Declarator) -> Result<Name, Stop>
     ensures { MatchResult result (λ x. IsNamed (t.a_declarator (declarator_of declarator.now)) (Some x.items)) IsNoRule }
 {
-    if !declarator.suffixes.is_empty() {
+    if has_suffixes(&declarator.suffixes) {
         return Err(Stop::Memory);
     }
     let Some(name) = name_in(declarator) else {
         return Err(Stop::Memory);
     };
-    Ok(Vec::from_slice(alloc, name)?)
+    let kept = Vec::from_slice(alloc, name)?;
+    Ok(kept)
 }
 
 /// The name of a parameter, where it has one. Another declarator, which no plain tree has, is answered by want of memory.
@@ -103,7 +110,7 @@ pub fn with_object(
 }
 
 /// A parameter with a name. One of type void, which no plain tree has, is answered by want of memory.
-fn named(
+fn named_formal(
     alloc: Global,
     number: u32,
     at: u32,
@@ -151,14 +158,15 @@ fn unnamed(q: Specified, scope: Scope) -> Named
 }
 
 /// The parameter of that number.
-pub fn formal(alloc: Global, number: u32, parameter: &Parameter, scope: Scope) -> Result<Named, Stop>
+pub fn one_formal(alloc: Global, number: u32, parameter: &Parameter, scope: Scope) -> Result<Named, Stop>
     requires { s.at_file_scope (scopes_of scope.entries.items) ≡ false }
     ensures { MatchResult result (FormalDone scope number parameter.now) (IsFormalFault scope number parameter.now) }
 {
     let at = parameter.specifiers.at;
     let q = specified_type(&scope, at, &parameter.specifiers.items)?;
-    match name_of(alloc, &parameter.declarator)? {
+    let name = name_of(alloc, &parameter.declarator)?;
+    match name {
         None => Ok(unnamed(q, scope)),
-        Some(name) => named(alloc, number, at, name, q, scope),
+        Some(x) => named_formal(alloc, number, at, x, q, scope),
     }
 }

@@ -1,5 +1,5 @@
 //! Parameters in order.
-ghost use Rattle.std.specs.Prelude.{◌≡◌, ◌&&◌, ◌++◌, ◌∷◌, [], false, length, map, MatchResult};
+ghost use Rattle.std.specs.Prelude.{◌≡◌, ◌&&◌, ◌++◌, ◌∷◌, [], false, length, nat_eq, map, MatchResult};
 ghost use Rattle.im_rules.specs.Breaks.{some_parameters};
 ghost use Rattle.im_rules.specs.Declared as d;
 ghost use Rattle.im_rules.specs.Rules as u;
@@ -11,8 +11,8 @@ ghost use Rattle.im_terms.specs.Answers.{IsNoRule};
 ghost use Rattle.im_terms.specs.Shape.{type_of};
 ghost use Rattle.im_check_declarators.specs.Formals.{FormalsDone, IsFault, declared_from};
 
-use crate::formal::{Formal, formal};
-use im_ctree::Parameter;
+use crate::formal::{Formal, one_formal};
+use im_ctree::{Parameter, Specifier};
 use im_names::Scope;
 use im_terms::{PlainType, Stop};
 use std::alloc::Global;
@@ -34,7 +34,7 @@ fn number_of(formals: &[Formal]) -> Result<u32, Stop>
 }
 
 /// Parameters, in a scope that is opened for them.
-pub fn formals(alloc: Global, parameters: &[Parameter], scope: Scope) -> Result<Formals, Stop>
+pub fn in_order(alloc: Global, parameters: &[Parameter], scope: Scope) -> Result<Formals, Stop>
     requires { s.at_file_scope (scopes_of scope.entries.items) ≡ false }
     ensures { MatchResult result (λ r. FormalsDone scope parameters.now r.scope r.formals.items) (IsFault scope (some_parameters 0 (parameters_from parameters.now))) }
 {
@@ -42,7 +42,7 @@ pub fn formals(alloc: Global, parameters: &[Parameter], scope: Scope) -> Result<
     let mut done = Vec::new(alloc);
     for parameter in parameters {
         let number = number_of(&done)?;
-        let one = formal(alloc, number, parameter, behind)?;
+        let one = one_formal(alloc, number, parameter, behind)?;
         behind = one.scope;
         done.push(one.formal)?;
     }
@@ -52,11 +52,17 @@ pub fn formals(alloc: Global, parameters: &[Parameter], scope: Scope) -> Result<
     })
 }
 
+fn is_one(specifiers: &[Specifier]) -> bool
+    ensures { result ≡ nat_eq (length specifiers.now) 1 }
+{
+    specifiers.len() == 1
+}
+
 fn is_unnamed_word(parameter: &Parameter) -> bool
     ensures { u.rule_9_void (parameters_from (parameter.now ∷ [])) ≡ result }
 {
     match &parameter.declarator {
-        None => parameter.specifiers.items.len() == 1,
+        None => is_one(&parameter.specifiers.items),
         Some(_) => false,
     }
 }

@@ -9,7 +9,7 @@ ghost use Rattle.im_check_declarators.specs.Formals.{IsFault};
 ghost use Rattle.im_check_declarators.specs.Functions.{FunctionDone, IsOpened};
 
 use crate::formal::{Formal, refused};
-use crate::formals::{are_scalars, formals, types, without_void};
+use crate::formals::{are_scalars, in_order, types, without_void};
 use im_ctree::Parameter;
 use im_names::{Entry, Scope, Signature};
 use im_specifiers::Specified;
@@ -54,7 +54,7 @@ pub fn function(
 {
     let mark = scope.depth();
     let inner = opened(scope)?;
-    let all = formals(alloc, parameters, inner)?;
+    let all = in_order(alloc, parameters, inner)?;
     let outer = closed(mark, all.scope);
     let kept = without_void(alloc, parameters, all.formals);
     if !are_scalars(&kept) {

@@ -6,7 +6,7 @@ mod formal;
 mod formals;
 mod function;
 
-pub use heads::{Declared, Head, Kind, declarator};
+pub use heads::{Declared, DeclaredHead, Kind, head};
 pub use formal::{Formal, Named, refused, with_object};
 pub use formals::Formals;
 pub use function::FunctionType;

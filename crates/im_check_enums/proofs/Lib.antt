@@ -1,3 +1,4 @@
 pub mod Constants
 pub mod Reached
 pub mod Specified
+pub mod Tags

@@ -1,7 +1,8 @@
 //! Enumeration constants (C11 6.7.2.2).
-ghost use Rattle.std.specs.Prelude.{◌≡◌, ◌+ℤ◌, ◌≤ℤ◌, ◌<ℤ◌, ◌^◌, neg_ℤ, pos, ℕ, Bool, is_some, Some, MatchResult};
+ghost use Rattle.std.specs.Prelude.{◌≡◌, ◌+ℤ◌, ◌≤ℤ◌, ◌<ℤ◌, ◌^◌, neg_ℤ, pos, true, is_some, Some, MatchResult};
 ghost use Rattle.im_ctree.specs.declared.specifier.Enumerator.{out-Enumerator};
 ghost use Rattle.im_rules.specs.Declared as d;
+ghost use Rattle.im_rules.specs.Demands.{Meets};
 ghost use Rattle.im_rules.specs.FileScope as f;
 ghost use Rattle.im_rules.specs.Rules as u;
 ghost use Rattle.im_rules.specs.Scopes as s;
@@ -145,12 +146,18 @@ fn enumerator(
     })
 }
 
+fn zero() -> Number
+    ensures { result.value ≡ pos 0 }
+{
+    Number { value: 0 }
+}
+
 /// Enumeration constants, in order: the scope behind them.
 pub fn enumerated(alloc: Global, enumerators: &[Enumerator], scope: Scope) -> Result<Scope, Stop>
     ensures { MatchResult result (EnumeratorsDone scope enumerators.now) (AreFaulty scope enumerators.now) }
 {
     let mut behind = scope;
-    let mut next = Number::ZERO;
+    let mut next = zero();
     for e in enumerators {
         let done = enumerator(alloc, e, next, behind)?;
         behind = done.scope;

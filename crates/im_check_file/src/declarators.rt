@@ -11,7 +11,7 @@ ghost use Rattle.im_check_file.specs.Declaring.{DeclaredDone, IsDeclaredFault};
 ghost use Rattle.im_check_file.specs.Firsts.{IsGiven, GivenDone, IsGivenFault, MayFault};
 
 use crate::file::{File, Given};
-use im_check_declarators::{Kind, declarator, refused};
+use im_check_declarators::{Kind, head, refused};
 use im_check_names::{asked, declared};
 use im_check_statics::first_number;
 use im_ctree::{InitDeclarator, Initializer, Specifier};
@@ -94,12 +94,12 @@ pub fn one_declared(
 ) -> Result<File, Stop>
     ensures { MatchResult result (DeclaredDone (list_from specifiers.now) (qualified_of q) file x.now) (IsDeclaredFault (list_from specifiers.now) (qualified_of q) file x.now) }
 {
-    let head = declarator(alloc, &x.declarator, q, file.scope)?;
+    let y_head = head(alloc, &x.declarator, q, file.scope)?;
     let is_whole = x.initializer.is_some();
     let at = x.declarator.at;
-    asked(&head.scope, &file.whole, at, specifiers, is_whole, &head.declared)?;
-    let y = head.declared;
-    let scope = declared(alloc, specifiers, &y, head.scope)?;
+    asked(&y_head.scope, &file.whole, at, specifiers, is_whole, &y_head.declared)?;
+    let y = y_head.declared;
+    let scope = declared(alloc, specifiers, &y, y_head.scope)?;
     let given = with_value(alloc, &y.name, &y.kind, &x.initializer, &scope, file.given)?;
     let whole = with_whole(alloc, is_whole, &y.name, file.whole)?;
     Ok(File {

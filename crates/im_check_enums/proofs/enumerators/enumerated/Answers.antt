@@ -4,7 +4,7 @@ use Rattle.im_check_enums.proofs.Reached.{next, reached_none, reached_more, reac
 use Rattle.im_check_enums.proofs.enumerators.enumerated.Goals as goal
 
 pub loop-e-init : goal.loop-e-init
-loop-e-init c = reached_none _ _
+loop-e-init c = rw c.zero-next.ensures (reached_none _ _)
 
 pub loop-e-preserved : goal.loop-e-preserved
 loop-e-preserved c =
@@ -18,4 +18,4 @@ returns-in_err-done c =
     rw (p.1, p.2) (reached_fault _ _ at c.loop-e.invariant c.in_err-done.ensures)
 
 pub returns : goal.returns
-returns c = reached_all _ (drop_all c.args.enumerators.now c.loop-e.e-index c.loop-e-test.false) c.loop-e.invariant
+returns c = reached_all _ (drop_all c.loop-e.e-index c.args.enumerators.now c.loop-e-test.false) c.loop-e.invariant
