@@ -1,5 +1,6 @@
 -- Types of parameters, and declarators of names.
-use Rattle.std.proofs.Common.{◌≡◌, ℕ, ◌+◌, ◌<◌, Bool, true, false, List, [], ◌∷◌, ◌++◌, map, length, take, get_or, nat_eq, Some, None, refl, sym, ap, ◌∙◌, subst}
+use Rattle.std.proofs.Common.{arith, ◌≡◌, ℕ, ◌+◌, ◌<◌, Bool, true, false, List, [], ◌∷◌, ◌++◌, map, length, take, get_or, nat_eq, Some, None, refl, sym, ap, ◌∙◌, subst}
+use Rattle.std.proofs.lemmas.Bool.{ne_eqb}
 use Rattle.std.proofs.lemmas.List.{take_more}
 use Rattle.im_word.specs.Words.{Name}
 use Rattle.im_ctree.specs.Tree as t
@@ -26,7 +27,7 @@ named_bare e at x y (s ∷ ss) h none same = absurd cc
 words_one : (at : ℕ) (items : List Specifier) → rule_9_void (t.more_parameters (t.specifiers at (list_from items)) t.no_declarator t.no_parameters) ≡ nat_eq (length items) 1
 words_one at [] = refl
 words_one at (s ∷ []) = refl
-words_one at (s ∷ z ∷ items) = refl
+words_one at (s ∷ z ∷ items) = sym (ne_eqb (length (s ∷ z ∷ items)) 1 (λ e. omega arith))
 
 pub unnamed_word : (p : Parameter) → (out-Parameter p).declarator ≡ None → rule_9_void (parameters_from (p ∷ [])) ≡ nat_eq (length (out-Specifiers (out-Parameter p).specifiers).items.items) 1
 unnamed_word p h =

@@ -1,5 +1,5 @@
 -- One parameter more, and declarators put together.
-use Rattle.std.proofs.Common.{◌≡◌, ℕ, ◌+◌, Bool, true, false, List, [], ◌∷◌, ◌++◌, map, Option, Some, None, inl, inr, refl, sym, ap, subst, ◌∙◌}
+use Rattle.std.proofs.Common.{◌≡◌, ℕ, ◌+◌, Bool, true, false, List, [], ◌∷◌, ◌++◌, map, Option, Some, None, inl, inr, refl, arith, sym, ap, subst, ◌∙◌}
 use Rattle.im_word.specs.Words.{Name}
 use Rattle.im_ctree.specs.declared.specifier.SpecifierWord.{SpecifierWord}
 use Rattle.im_ctree.specs.Tree as t
@@ -48,9 +48,12 @@ pub may_name : (c : Context) (q : Qualified) (m : t.MaybeDeclarator) (x : Option
 may_name c q _ _ without_name = of_no_declarator
 may_name c q _ _ with_name = of_a_declarator (of_declarator tt no_suffix of_name)
 
+plus_zero : (n : ℕ) → n + 0 ≡ n
+plus_zero n = omega arith
+
 pub no_strings : (c : Context) (m : t.MaybeDeclarator) (x : Option Name) → IsNamed m x → behind_may m c ≡ c
-no_strings c _ _ without_name = refl
-no_strings c _ _ with_name = refl
+no_strings c _ _ without_name = ap (λ n. record c { next_string = n }) (plus_zero c.next_string)
+no_strings c _ _ with_name = ap (λ n. record c { next_string = n }) (plus_zero c.next_string)
 
 pub plain_parameter : (x : Option Name) (c : Bool) (ty : PlainType) → parameter (record { name = x; constant = c; type = type_of ty }) ≡ record { name = x; constant = c; type = type_of ty }
 plain_parameter x c Void = refl

@@ -37,8 +37,16 @@ use Rattle.im_names.specs.Shape.{context_of, scopes_of, outline_of, bytes_of}
 use Rattle.im_check_enums.specs.Places.{Passed, past, place_at}
 use Rattle.im_check_statics.specs.Firsts.{IsFirst, only, FirstBreaks, in_shape, of_value}
 use Rattle.im_check_file.specs.declared.file.Given.{Given}
-use Rattle.im_check_file.specs.Files.{first_values}
-use Rattle.im_check_file.specs.Firsts.{GivenDone, none_given, one_given, IsGiven}
+use Rattle.im_check_file.specs.declared.file.File.{File}
+use Rattle.im_check_file.specs.Files.{first_values, values_of}
+use Rattle.im_check_file.specs.Declaring.{DeclaredDone}
+use Rattle.im_check_names.specs.Asked.{asks_of, entity_in, IsNamed}
+use Rattle.im_check_file.specs.Firsts.{GivenDone, none_given, one_given, IsGiven, GivenBreaks, of_integer, of_other, MayFault}
+use Rattle.im_rules.specs.Initialisers.{Initialised, item, from_term}
+use Rattle.im_rules.specs.StaticValues.{constant_asks}
+use Rattle.im_rules.specs.UnitBreaks.{this_item}
+use Rattle.im_terms.specs.Answers.{IsRefusal, IsNoRule}
+use Rattle.im_check_declarators.specs.Formals.{IsFault as DeclFault}
 
 -- a type without an absent length stays as it is
 pub stays : (a : Kind) (i : t.MaybeInitializer) → completed (type_by a) i ≡ type_by a
@@ -141,3 +149,136 @@ module _ (before : Scope) (whole : List Name) (xs : t.SpecifierList) (q : Qualif
       let b₁ : FileBroken (past_strings (given_strings (place_at before whole p) whole_type initialiser) (past_declarator xs tree (declared_of y) initialiser (place_at before whole p))) (some_declared xs q rest) rule token =
           subst (λ f. FileBroken f (some_declared xs q rest) rule token) (sym (behind_place p)) b in
       within_file (other_declared (h.declares p.next)) b₁
+
+-- faults of a declarator's parts
+
+abbrev pub FaultBy : Scope → List Name → t.SpecifierList → Qualified → t.Declarator → t.MaybeInitializer → Stop → Type 0
+FaultBy s whole xs q e i (Rule rule token) = (p : Passed) (rest : t.InitDeclarators) → FileBroken (place_at s whole p) (some_declared xs q (t.more_init_declarators e i rest)) rule token
+FaultBy s whole xs q e i Memory = Unit {0}
+
+abbrev pub OneFault : Scope → List Name → t.SpecifierList → Qualified → InitDeclarator → Stop → Type 0
+OneFault s whole xs q x f = FaultBy s whole xs q (declarator_of x.declarator) (maybe_initializer_of x.initializer) f
+
+pub head_fault : (s : Scope) (whole : List Name) (xs : t.SpecifierList) (q : Qualified) (x : InitDeclarator) (f : Stop)
+    → DeclFault s (a_declarator q (declarator_of x.declarator)) f → OneFault s whole xs q x f
+head_fault s whole xs q x (Rule rule token) b = λ p rest. in_file_inner file_declarator (b p.next)
+head_fault s whole xs q x Memory b = tt
+
+pub one_no_rule : (s : Scope) (whole : List Name) (xs : t.SpecifierList) (q : Qualified) (x : InitDeclarator) (f : Stop) → IsNoRule f → OneFault s whole xs q x f
+one_no_rule s whole xs q x (Rule rule token) h = absurd h
+one_no_rule s whole xs q x Memory h = tt
+
+pub asked_fault : (s : Scope) (whole : List Name) (xs : t.SpecifierList) (q : Qualified) (x : InitDeclarator) (y : rust.Declared) (at : ℕ) (f : Stop)
+    → ((k : ℕ) → Declares (context_of s k) q (declarator_of x.declarator) (declared_of y))
+    → at ≡ declarator_token (declarator_of x.declarator)
+    → ((p : Passed) → IsRefusal (file_asks (place_at s whole p) xs (declared_of y) (type_by y.kind) (is_initialised (maybe_initializer_of x.initializer))) at f)
+    → OneFault s whole xs q x f
+asked_fault s whole xs q x y at (Rule rule token) declares same r = λ p rest.
+    let i = maybe_initializer_of x.initializer in
+    let refused : Refuses rule (file_asks (place_at s whole p) xs (declared_of y) (completed (type_by y.kind) i) (is_initialised i)) =
+        subst (λ a. Refuses rule (file_asks (place_at s whole p) xs (declared_of y) a (is_initialised i))) (sym (stays y.kind i)) (r p).0 in
+    subst (λ z. FileBroken (place_at s whole p) (some_declared xs q (t.more_init_declarators (declarator_of x.declarator) i rest)) rule z) (sym ((r p).1 ∙ same)) (here_in_file (at_declarator (declares p.next) refused))
+asked_fault s whole xs q x y at Memory declares same r = tt
+
+module _ (before : Scope) (whole : List Name) (xs : t.SpecifierList) (q : Qualified) (e : t.Declarator) (j : t.Initializer) (y : rust.Declared) (after : Scope) (whole' : List Name)
+    (declares : (k : ℕ) → Declares (context_of before k) q e (declared_of y))
+    (place : (p : Passed) → past_declarator xs e (declared_of y) (t.an_initializer j) (place_at before whole p) ≡ place_at after whole' (past (strings_of_declarator e) p)) where
+  abbrev start : Passed → FilePlace
+  start p = past_declarator xs e (declared_of y) (t.an_initializer j) (place_at before whole p)
+
+  abbrev behind_it : Passed → Passed
+  behind_it p = past (strings_of_declarator e) p
+
+  given_broken : (p : Passed) (rest : t.InitDeclarators) (rule token : ℕ)
+      → GivenBroken (context_of after (behind_it p).next) (an_initialiser (type_by y.kind) 0 j) rule token
+      → FileBroken (place_at before whole p) (some_declared xs q (t.more_init_declarators e (t.an_initializer j) rest)) rule token
+  given_broken p rest rule token b =
+      let b₁ : GivenBroken (context_of after (behind_it p).next) (an_initialiser (completed (type_by y.kind) (t.an_initializer j)) 0 j) rule token =
+          subst (λ a. GivenBroken (context_of after (behind_it p).next) (an_initialiser a 0 j) rule token) (sym (stays y.kind (t.an_initializer j))) b in
+      in_static_initialiser (declares p.next) (subst (λ f. GivenBroken f.context (an_initialiser (completed (type_by y.kind) (t.an_initializer j)) 0 j) rule token) (sym (place p)) b₁)
+
+  first_broken : (p : Passed) (rest : t.InitDeclarators) (rule token : ℕ) (n : i.Integer) → type_by y.kind ≡ integer n → FirstBreaks after n j rule token
+      → FileBroken (place_at before whole p) (some_declared xs q (t.more_init_declarators e (t.an_initializer j) rest)) rule token
+  first_broken p rest rule token n same (in_shape b) =
+      given_broken p rest rule token (subst (λ a. GivenBroken (context_of after (behind_it p).next) (an_initialiser a 0 j) rule token) (sym same) (b (behind_it p).next))
+  first_broken p rest rule _ n same (of_value {e = v} {x = x} typed refuses) =
+      let whole_type = completed (type_by y.kind) (t.an_initializer j) in
+      let to : integer n ≡ whole_type = sym (stays y.kind (t.an_initializer j) ∙ same) in
+      let typed₁ : Initialised (context_of after (behind_it p).next) whole_type 0 j (item 0 whole_type (from_term v x) ∷ []) =
+          subst (λ a. Initialised (context_of after (behind_it p).next) a 0 j (item 0 a (from_term v x) ∷ [])) to (typed (behind_it p).next) in
+      let typed₂ : Initialised (start p).context whole_type 0 j (item 0 whole_type (from_term v x) ∷ []) =
+          subst (λ f. Initialised f.context whole_type 0 j (item 0 whole_type (from_term v x) ∷ [])) (sym (place p)) typed₁ in
+      let f = past_strings (given_strings (place_at before whole p) whole_type (t.an_initializer j)) (start p) in
+      let refused : Refuses rule (constant_asks (static_size f) [] (item 0 whole_type (from_term v x))) =
+          subst (λ a. Refuses rule (constant_asks (static_size f) [] (item 0 a (from_term v x)))) to (refuses (static_size f)) in
+      in_static_values (declares p.next) typed₂ (this_item refused)
+
+  given_inside : (p : Passed) (rest : t.InitDeclarators) (rule token : ℕ) → GivenBreaks after (type_by y.kind) j rule token
+      → FileBroken (place_at before whole p) (some_declared xs q (t.more_init_declarators e (t.an_initializer j) rest)) rule token
+  given_inside p rest rule token (of_integer {i = n} same b) = first_broken p rest rule token n same b
+  given_inside p rest rule token (of_other b) = given_broken p rest rule token (b (behind_it p).next)
+
+-- what an initialiser is answered
+pub value_fault : (before : Scope) (whole : List Name) (xs : t.SpecifierList) (q : Qualified) (x : InitDeclarator) (y : rust.Declared) (after : Scope) (whole' : List Name) (f : Stop)
+    → Behind before whole xs q x y after whole'
+    → MayFault after (type_by y.kind) (maybe_initializer_of x.initializer) f
+    → OneFault before whole xs q x f
+value_fault before whole xs q x y after whole' f h b = fault_of (maybe_initializer_of x.initializer) f (declarator_place before whole xs q x y after whole' h) b
+  where
+    fault_of : (i : t.MaybeInitializer) (f : Stop)
+        → ((p : Passed) → past_declarator xs (declarator_of x.declarator) (declared_of y) i (place_at before whole p) ≡ place_at after whole' (past (strings_of_declarator (declarator_of x.declarator)) p))
+        → MayFault after (type_by y.kind) i f
+        → FaultBy before whole xs q (declarator_of x.declarator) i f
+    fault_of t.no_initializer (Rule rule token) place b = absurd b
+    fault_of (t.an_initializer j) (Rule rule token) place b = λ p rest. given_inside before whole xs q (declarator_of x.declarator) j y after whole' h.declares place p rest rule token b
+    fault_of i Memory place b = tt
+
+-- a declarator's parts, as they are answered
+pub behind_by : (before middle after : Scope) (whole whole' : List Name) (xs : t.SpecifierList) (q : Qualified) (x : InitDeclarator) (y : rust.Declared)
+    → IsSame before middle
+    → ((k : ℕ) → Declares (context_of before k) q (declarator_of x.declarator) (declared_of y))
+    → ((p : Passed) → Meets (asks_of middle whole p xs y (is_initialised (maybe_initializer_of x.initializer))))
+    → IsNamed middle y.name.items (entity_in middle xs y) after
+    → whole' ≡ (if is_initialised (maybe_initializer_of x.initializer) then y.name.items ∷ whole else whole)
+    → Behind before whole xs q x y after whole'
+behind_by before middle after whole whole' xs q x y same declares asked named wholes =
+    let entity : s.named y.name.items (file_entity (outline_of middle) xs y.name.items y.constant (type_by y.kind)) (scopes_of middle.entries.items)
+            ≡ s.named y.name.items (file_entity (outline_of before) xs y.name.items y.constant (type_by y.kind)) (scopes_of before.entries.items) = rw (same.entries, same.statics, same.bodies) refl in
+    record {
+      declares = declares;
+      asked = λ p. subst (λ f. Meets (file_asks f xs (declared_of y) (type_by y.kind) (is_initialised (maybe_initializer_of x.initializer)))) (same_place before middle same whole p) (asked p);
+      scopes = named.scopes ∙ entity;
+      statics = named.statics ∙ same.statics;
+      bodies = named.bodies ∙ same.bodies;
+      wholes = wholes;
+    }
+
+pub asked_by : (before middle : Scope) (whole : List Name) (xs : t.SpecifierList) (q : Qualified) (x : InitDeclarator) (y : rust.Declared) (at : ℕ) (f : Stop)
+    → IsSame before middle
+    → ((k : ℕ) → Declares (context_of before k) q (declarator_of x.declarator) (declared_of y))
+    → at ≡ declarator_token (declarator_of x.declarator)
+    → ((p : Passed) → IsRefusal (asks_of middle whole p xs y (is_initialised (maybe_initializer_of x.initializer))) at f)
+    → OneFault before whole xs q x f
+asked_by before middle whole xs q x y at f same declares token r =
+    asked_fault before whole xs q x y at f declares token
+    (λ p. subst (λ g. IsRefusal (file_asks g xs (declared_of y) (type_by y.kind) (is_initialised (maybe_initializer_of x.initializer))) at f) (same_place before middle same whole p) (r p))
+
+pub one_done : (before after : File) (xs : t.SpecifierList) (q : Qualified) (x : InitDeclarator) (y : rust.Declared)
+    → Behind before.scope (map bytes_of before.whole.items) xs q x y after.scope (map bytes_of after.whole.items)
+    → Gives after.scope (map bytes_of after.whole.items) y (maybe_initializer_of x.initializer) (values_of before) (values_of after)
+    → DeclaredDone xs q before x after
+one_done before after xs q x y h g =
+    record {
+      unit = record { statics = h.statics; bodies = h.bodies };
+      at = λ p.
+          record {
+            passed = passed_by before.scope (map bytes_of before.whole.items) xs q x y after.scope (map bytes_of after.whole.items) h p;
+            goes_on = λ rest hs e more.
+                record {
+                  values = g.values ++ hs;
+                  typed = goes before.scope (map bytes_of before.whole.items) xs q x y after.scope (map bytes_of after.whole.items) h p g.values hs rest e (g.gives (past (strings_of_declarator (declarator_of x.declarator)) p)) more;
+                  all = sym (append_assoc (values_of before) g.values hs) ∙ ap (λ z. z ++ hs) (sym g.all);
+                };
+            breaks_on = λ rest rule token b. breaks before.scope (map bytes_of before.whole.items) xs q x y after.scope (map bytes_of after.whole.items) h p rest rule token b;
+          };
+    }

@@ -1,5 +1,5 @@
 //! What is asked of a declarator at file scope (C11 6.7, 6.9).
-ghost use Rattle.std.specs.Prelude.{◌≡◌, ℕ, Bool, List, Some, false, true, not, ◌&&◌, ◌||◌, map, is_some, MatchResult};
+ghost use Rattle.std.specs.Prelude.{◌≡◌, Bool, [], true, not, ◌&&◌, ◌||◌, map, MatchResult};
 ghost use Rattle.im_word.specs.Words.{Name};
 ghost use Rattle.im_ctype.specs.Types as c;
 ghost use Rattle.im_rules.specs.Demands.{Meets};
@@ -87,6 +87,12 @@ fn may_repeat(scope: &Scope, whole: &[Name], typedef: bool, is_whole: bool, y: &
     }
 }
 
+fn may_define(typedef: bool, is_whole: bool) -> bool
+    ensures { result ≡ not (typedef && is_whole) }
+{
+    !(typedef && is_whole)
+}
+
 fn is_type(scope: &Scope, name: &[u8]) -> bool
     ensures { d.is_typedef_name (s.meaning (scopes_of scope.now.entries.items) name.now) ≡ result }
 {
@@ -96,14 +102,21 @@ fn is_type(scope: &Scope, name: &[u8]) -> bool
     }
 }
 
-/// Whether it is an object of an incomplete type (rule 5).
-fn is_incomplete(typedef: bool, kind: &Kind) -> bool
-    ensures { (o : Outline) (x : Name) (k : Bool) → (not (f.is_object_entity (entity_by o typedef x k (type_by kind.now))) || u.rule_5 [] (type_by kind.now)) ≡ not result }
+/// Whether no typedef name is declared as something else (rule 4).
+fn keeps_type(scope: &Scope, typedef: bool, y: &Declared) -> bool
+    ensures { (o : Outline) → result ≡ u.rule_4 (s.meaning (scopes_of scope.now.entries.items) y.now.name.items) (entity_by o typedef y.now.name.items y.now.constant (type_by y.now.kind)) }
+{
+    if typedef { true } else { !is_type(scope, &y.name) }
+}
+
+/// Whether it is no object of an incomplete type (rule 5).
+fn is_complete(typedef: bool, kind: &Kind) -> bool
+    ensures { (o : Outline) (x : Name) (k : Bool) → result ≡ (not (f.is_object_entity (entity_by o typedef x k (type_by kind.now))) || u.rule_5 [] (type_by kind.now)) }
 {
     match kind {
-        Kind::Plain(PlainType::Void) => !typedef,
-        Kind::Plain(PlainType::Integer(_)) => false,
-        Kind::Function(_, _) => false,
+        Kind::Plain(PlainType::Void) => typedef,
+        Kind::Plain(PlainType::Integer(_)) => true,
+        Kind::Function(_, _) => true,
     }
 }
 
@@ -138,6 +151,12 @@ fn keeps_builtin(y: &Declared, is_whole: bool) -> bool
     true
 }
 
+fn may_be_builtin(typedef: bool, y: &Declared, is_whole: bool) -> bool
+    ensures { result ≡ (typedef || f.keeps_builtin y.now.name.items (type_by y.now.kind) is_whole) }
+{
+    typedef || keeps_builtin(y, is_whole)
+}
+
 /// Whether a declarator at file scope, whose first token is that one, may stand here. `whole` are the names with a body or an
 /// initialiser so far.
 pub fn asked(
@@ -151,19 +170,19 @@ pub fn asked(
     ensures { (p : Passed) → MatchResult result (λ _. Meets (asks_of scope.now (map bytes_of whole.now) p (list_from specifiers.now) y.now is_whole)) (IsRefusal (asks_of scope.now (map bytes_of whole.now) p (list_from specifiers.now) y.now is_whole) at) }
 {
     let typedef = is_typedef(specifiers);
-    if typedef && is_whole {
+    if !may_define(typedef, is_whole) {
         return Err(refused(2, at));
     }
     if !may_repeat(scope, whole, typedef, is_whole, y) {
         return Err(refused(3, at));
     }
-    if !typedef && is_type(scope, &y.name) {
+    if !keeps_type(scope, typedef, y) {
         return Err(refused(4, at));
     }
-    if is_incomplete(typedef, &y.kind) {
+    if !is_complete(typedef, &y.kind) {
         return Err(refused(5, at));
     }
-    if !typedef && !keeps_builtin(y, is_whole) {
+    if !may_be_builtin(typedef, y, is_whole) {
         return Err(refused(12, at));
     }
     Ok(())

@@ -24,7 +24,7 @@ returns-in_err-one c =
     let p = err_from_is_err_and c.from_residual-in_err-one.result c.from_residual-in_err-one.ensures.1 in
     let at = next c.args.parameters.now c.loop-parameter.parameter-index c.parameter-item.result c.loop-parameter-test.true c.parameter-item.is in
     let number = rw c.deref.ensures.value at c.in_ok-number.ensures in
-    let one = subst (λ n. IsFormalFault c.loop-parameter.behind n c.parameter-item.result _) (number ∙ sym c.loop-parameter.invariant.0) c.in_err-one.ensures in
+    let one = subst (λ n. IsFormalFault c.loop-parameter.behind n c.parameter-item.result c.in_err-one.field-0.0) (number ∙ sym c.loop-parameter.invariant.0) c.in_err-one.ensures in
     rw (p.1, p.2) (reached_fault _ at c.loop-parameter.invariant.1 one)
 
 pub returns : goal.returns

@@ -4,8 +4,11 @@ use Rattle.im_ctype.specs.Types.{function}
 use Rattle.im_terms.specs.Shape.{type_of}
 use Rattle.im_specifiers.specs.Specified.{qualified_of}
 use Rattle.im_check_declarators.specs.Formals.{declared_from}
-use Rattle.im_check_declarators.proofs.Functions.{parameters_fault, no_scalars, has_formals, meets_scalars, closed_same}
+use Rattle.im_check_declarators.proofs.Functions.{parameters_fault, no_scalars, has_formals, meets_scalars, closed_same, is_opened}
 use Rattle.im_check_declarators.proofs.function.function.Goals as goal
+
+pub in_order-requires : goal.in_order-requires
+in_order-requires c = is_opened c.args.scope c.in_ok-inner.inner c.in_ok-inner.ensures
 
 pub returns-in_err-all : goal.returns-in_err-all
 returns-in_err-all c =

@@ -27,6 +27,6 @@ returns-in_ok-f-in-Function c = λ at.
     let h = rw c.deref.ensures.value at c.in_ok-f-in-Function.ensures in
     rw e (record {
       same = h.same;
-      declares = λ k. function_declared (context_of c.args.scope k) c.args.q at a c.args.name.items c.in-Function.parameters.items (map declared_from f.formals.items) h.formals.all (type_of_function f.signature) (h.formals.typed k) h.formals.formals h.meets h.type;
+      declares = λ k. function_declared c.args.scope k c.args.q at a c.args.name.items c.in-Function.parameters.items (map declared_from f.formals.items) h.formals.all (type_of_function f.signature) h.formals.typed h.formals.formals h.meets h.type;
       kind = record { list = c.in-Function.parameters.items; next = refl; formals = h.formals };
     })
