@@ -78,7 +78,13 @@ fn is_int(ty: PlainType) -> bool
 pub fn is_getchar(signature: &Signature) -> bool
     ensures { result ≡ t.same_type f.getchar_type (type_of_function signature.now) }
 {
-    is_int(signature.result) && signature.parameters.len() == 0
+    is_int(signature.result) && is_none(&signature.parameters)
+}
+
+fn is_none(parameters: &[PlainType]) -> bool
+    ensures { result ≡ t.same_types t.no_types (types_in parameters.now) }
+{
+    parameters.len() == 0
 }
 
 /// Whether it is `int(int)`.
