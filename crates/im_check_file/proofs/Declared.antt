@@ -1,5 +1,5 @@
 -- A declarator with its initialiser, put together.
-use Rattle.std.proofs.Common.{◌≡◌, ℕ, Bool, true, false, List, [], ◌∷◌, ◌++◌, map, Option, Some, None, refl, sym, ap, ◌∙◌, subst, append_assoc, if◌then◌else◌}
+use Rattle.std.proofs.Common.{◌≡◌, ℕ, Bool, true, false, List, [], ◌∷◌, ◌++◌, map, Option, Some, None, is_some, refl, sym, ap, ◌∙◌, subst, append_assoc, if◌then◌else◌}
 use Rattle.std.proofs.lemmas.List.{map_push, append-nil}
 use Rattle.im_word.specs.Words.{Name}
 use Rattle.im_ctree.specs.Tree as t
@@ -39,7 +39,10 @@ use Rattle.im_check_statics.specs.Firsts.{IsFirst, only, FirstBreaks, in_shape, 
 use Rattle.im_check_file.specs.declared.file.Given.{Given}
 use Rattle.im_check_file.specs.declared.file.File.{File}
 use Rattle.im_check_file.specs.Files.{first_values, values_of}
-use Rattle.im_check_file.specs.Declaring.{DeclaredDone}
+use Rattle.im_check_file.specs.Declaring.{DeclaredDone, IsDeclaredFault}
+use Rattle.im_ctree.specs.declared.declaration.Initializer.{Initializer}
+use Rattle.im_ctree.specs.declared.declarator.Declarator.{Declarator, out-Declarator}
+use Rattle.im_plain.proofs.Shapes.{declarator_shape}
 use Rattle.im_check_names.specs.Asked.{asks_of, entity_in, IsNamed}
 use Rattle.im_check_file.specs.Firsts.{GivenDone, none_given, one_given, IsGiven, GivenBreaks, of_integer, of_other, MayFault}
 use Rattle.im_rules.specs.Initialisers.{Initialised, item, from_term}
@@ -282,3 +285,14 @@ one_done before after xs q x y h g =
             breaks_on = λ rest rule token b. breaks before.scope (map bytes_of before.whole.items) xs q x y after.scope (map bytes_of after.whole.items) h p rest rule token b;
           };
     }
+
+pub to_fault : (file : File) (xs : t.SpecifierList) (q : Qualified) (x : InitDeclarator) (f : Stop) → OneFault file.scope (map bytes_of file.whole.items) xs q x f → IsDeclaredFault xs q file x f
+to_fault file xs q x (Rule rule token) b = b
+to_fault file xs q x Memory b = tt
+
+pub some_initialised : (i : Option Initializer) → is_some i ≡ is_initialised (maybe_initializer_of i)
+some_initialised None = refl
+some_initialised (Some j) = refl
+
+pub declarator_at : (d : Declarator) → (out-Declarator d).at ≡ declarator_token (declarator_of d)
+declarator_at d = sym (ap declarator_token (declarator_shape d))
