@@ -46,8 +46,8 @@ pub declared_fault : (file begun : File) (s : Specifiers) (ds : List InitDeclara
 declared_fault file begun s ds b (Rule rule token) e w h r = λ p.
     let d = h.at p in
     let r₁ : FileBroken (place_at b.scope (map bytes_of file.whole.items) d.next) (some_declared (words s) (qualified_of b.ty) (init_declarators_of ds)) rule token =
-        subst (λ z. FileBroken (place_at z (map bytes_of file.whole.items) d.next) (some_declared (words s) (qualified_of b.ty) (init_declarators_of ds)) rule token) e
-        (subst (λ z. FileBroken (place_at begun.scope (map bytes_of z.items) d.next) (some_declared (words s) (qualified_of b.ty) (init_declarators_of ds)) rule token) w (r d.next)) in
+    subst (λ z. FileBroken (place_at z (map bytes_of file.whole.items) d.next) (some_declared (words s) (qualified_of b.ty) (init_declarators_of ds)) rule token) e
+    (subst (λ z. FileBroken (place_at begun.scope (map bytes_of z.items) d.next) (some_declared (words s) (qualified_of b.ty) (init_declarators_of ds)) rule token) w (r d.next)) in
     subst (λ z. FileBroken (place_of file p) (an_external z) rule token) (sym (same_tree s (init_declarators_of ds))) (within_file (declared_part d.typed) r₁)
 declared_fault file begun s ds b Memory e w h r = tt
 
@@ -63,8 +63,8 @@ declaration_done file begun after s ds b e w g h done =
           let d = h.at p in
           let a = done.at d.next in
           let typed₁ : AreDeclared (words s) (qualified_of b.ty) (place_at b.scope (map bytes_of file.whole.items) d.next) (init_declarators_of ds) a.values (place_of after a.passed) =
-              subst (λ z. AreDeclared (words s) (qualified_of b.ty) (place_at z (map bytes_of file.whole.items) d.next) (init_declarators_of ds) a.values (place_of after a.passed)) e
-              (subst (λ z. AreDeclared (words s) (qualified_of b.ty) (place_at begun.scope (map bytes_of z.items) d.next) (init_declarators_of ds) a.values (place_of after a.passed)) w a.typed) in
+          subst (λ z. AreDeclared (words s) (qualified_of b.ty) (place_at z (map bytes_of file.whole.items) d.next) (init_declarators_of ds) a.values (place_of after a.passed)) e
+          (subst (λ z. AreDeclared (words s) (qualified_of b.ty) (place_at begun.scope (map bytes_of z.items) d.next) (init_declarators_of ds) a.values (place_of after a.passed)) w a.typed) in
           record {
             passed = a.passed;
             values = a.values;
