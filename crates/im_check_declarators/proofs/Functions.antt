@@ -96,7 +96,7 @@ pub no_scalars : (before inner after : Scope) (ps : List Parameter) (fs gs : Lis
     → IsFault before (some_suffixes (qualified_of q) (t.function_suffix at (parameters_from ps) t.no_suffixes)) (Rule 9 at)
 no_scalars before inner after ps fs gs q at h done e none = λ k.
     let refused : (rule_9_result (type_of q.ty) && d.are_scalars (d.parameters_of (parameters_from ps) (map declared_from fs))) ≡ false =
-        both (rule_9_result (type_of q.ty)) (d.are_scalars (d.parameters_of (parameters_from ps) (map declared_from fs))) false (result_allowed q.ty) (ap d.are_scalars (sym e) ∙ none) in
+    both (rule_9_result (type_of q.ty)) (d.are_scalars (d.parameters_of (parameters_from ps) (map declared_from fs))) false (result_allowed q.ty) (ap d.are_scalars (sym e) ∙ none) in
     here (at_function no_suffix (typed_outside before inner after ps fs h done k) (inl (refl, refused)))
 
 pub meets_scalars : (q : Specified) (ds : List d.Declared) → d.are_scalars ds ≡ true → Meets (function_asks (qualified_of q) ds)
@@ -126,7 +126,7 @@ pub function_declared : (s : Scope) (k : ℕ) (q : Specified) (at a : ℕ) (x : 
 function_declared s k q at a x ps ds all ty typed e meets same =
     let meets' : Meets (function_asks (qualified_of q) (d.parameters_of (parameters_from ps) all)) = subst (λ z. Meets (function_asks (qualified_of q) z)) e meets in
     let made : Declares (context_of s k) (qualified_of q) (t.declarator at [] (t.name_core x) (t.function_suffix a (parameters_from ps) t.no_suffixes)) (called x (function_of (qualified_of q) (d.parameters_of (parameters_from ps) all))) =
-        of_declarator tt (of_function no_suffix (typed (k + length {A = Name} [])) meets') of_name in
+    of_declarator tt (of_function no_suffix (typed (k + length {A = Name} [])) meets') of_name in
     subst (λ z. Declares (context_of s k) (qualified_of q) (t.declarator at [] (t.name_core x) (t.function_suffix a (parameters_from ps) t.no_suffixes)) z)
     (ap (λ z. record { name = Some x; constant = false; type = z }) (ap (λ z. (function_of (qualified_of q) z).type) (sym e) ∙ sym same)) made
 

@@ -76,11 +76,11 @@ module _ (c : Context) (q : Qualified) (d : Declared) (n at : ℕ) (xs : t.Speci
       → AreParameters c n (t.more_parameters (t.specifiers at xs) m rest) (d ∷ ds)
   put rest ds meets s more =
       let meets' : Meets (parameter_asks (behind_specifiers c xs) n (parameter d)) =
-          subst (λ b. Meets (parameter_asks b n (parameter d))) (sym same) (subst (λ z. Meets (parameter_asks c n z)) (sym plain) meets) in
+      subst (λ b. Meets (parameter_asks b n (parameter d))) (sym same) (subst (λ z. Meets (parameter_asks c n z)) (sym plain) meets) in
       let more₁ : AreParameters (with_parameter n (parameter d) (behind_may m c)) (n + 1) rest ds =
-          subst (λ b. AreParameters (with_parameter n (parameter d) b) (n + 1) rest ds) (sym s) (subst (λ z. AreParameters (with_parameter n z c) (n + 1) rest ds) (sym plain) more) in
+      subst (λ b. AreParameters (with_parameter n (parameter d) b) (n + 1) rest ds) (sym s) (subst (λ z. AreParameters (with_parameter n z c) (n + 1) rest ds) (sym plain) more) in
       let more' : AreParameters (with_parameter n (parameter d) (behind_may m (behind_specifiers c xs))) (n + 1) rest ds =
-          subst (λ b. AreParameters (with_parameter n (parameter d) (behind_may m b)) (n + 1) rest ds) (sym same) more₁ in
+      subst (λ b. AreParameters (with_parameter n (parameter d) (behind_may m b)) (n + 1) rest ds) (sym same) more₁ in
       subst (λ z. AreParameters c n (t.more_parameters (t.specifiers at xs) m rest) (z ∷ ds)) plain (a_parameter asked may_behind meets' more')
 
   pub put_broken : (rest : t.Parameters) (rule token : ℕ) → behind_may m c ≡ c
@@ -88,16 +88,16 @@ module _ (c : Context) (q : Qualified) (d : Declared) (n at : ℕ) (xs : t.Speci
       → Broken c (some_parameters n (t.more_parameters (t.specifiers at xs) m rest)) rule token
   put_broken rest rule token s more =
       let more₁ : Broken (with_parameter n (parameter d) (behind_may m c)) (some_parameters (n + 1) rest) rule token =
-          subst (λ b. Broken (with_parameter n (parameter d) b) (some_parameters (n + 1) rest) rule token) (sym s) (subst (λ z. Broken (with_parameter n z c) (some_parameters (n + 1) rest) rule token) (sym plain) more) in
+      subst (λ b. Broken (with_parameter n (parameter d) b) (some_parameters (n + 1) rest) rule token) (sym s) (subst (λ z. Broken (with_parameter n z c) (some_parameters (n + 1) rest) rule token) (sym plain) more) in
       let more' : Broken (with_parameter n (parameter d) (behind_may m (behind_specifiers c xs))) (some_parameters (n + 1) rest) rule token =
-          subst (λ b. Broken (with_parameter n (parameter d) (behind_may m b)) (some_parameters (n + 1) rest) rule token) (sym same) more₁ in
+      subst (λ b. Broken (with_parameter n (parameter d) (behind_may m b)) (some_parameters (n + 1) rest) rule token) (sym same) more₁ in
       within (parameters_behind asked may_behind) more'
 
   pub put_refused : (rest : t.Parameters) (rule : ℕ) → Refuses rule (parameter_asks c n d)
       → Broken c (some_parameters n (t.more_parameters (t.specifiers at xs) m rest)) rule at
   put_refused rest rule refuses =
       let refuses' : Refuses rule (parameter_asks (behind_specifiers c xs) n (parameter d)) =
-          subst (λ b. Refuses rule (parameter_asks b n (parameter d))) (sym same) (subst (λ z. Refuses rule (parameter_asks c n z)) (sym plain) refuses) in
+      subst (λ b. Refuses rule (parameter_asks b n (parameter d))) (sym same) (subst (λ z. Refuses rule (parameter_asks c n z)) (sym plain) refuses) in
       here (at_parameter asked may_behind refuses')
 
 -- what specifiers are answered to be, wherever the next string literal stands

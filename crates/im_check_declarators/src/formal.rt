@@ -102,10 +102,7 @@ pub fn with_object(
 {
     let mut scope = scope;
     let known = Vec::from_slice(alloc, name)?;
-    scope.add(Entry::Named(
-        known,
-        Entity::Object(constant, ty, Storage::Local(number)),
-    ))?;
+    scope.add(Entry::Named(known, Entity::Object(constant, ty, Storage::Local(number))))?;
     Ok(scope)
 }
 
@@ -158,7 +155,12 @@ fn unnamed(q: Specified, scope: Scope) -> Named
 }
 
 /// The parameter of that number.
-pub fn one_formal(alloc: Global, number: u32, parameter: &Parameter, scope: Scope) -> Result<Named, Stop>
+pub fn one_formal(
+    alloc: Global,
+    number: u32,
+    parameter: &Parameter,
+    scope: Scope,
+) -> Result<Named, Stop>
     requires { s.at_file_scope (scopes_of scope.entries.items) ≡ false }
     ensures { MatchResult result (FormalDone scope number parameter.now) (IsFormalFault scope number parameter.now) }
 {

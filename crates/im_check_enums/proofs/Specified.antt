@@ -108,7 +108,7 @@ base_with before after whole xs at x es rest q e one h same =
       at = λ p.
           let d = h.at_each whole p in
           let names : NamesType (place_at before whole p) (named_in xs) (keywords_in xs) (record { constant = false; type = integer Int }) (place_at after whole d.passed) =
-              subst (λ z. NamesType (place_at before whole p) z (keywords_in xs) (record { constant = false; type = integer Int }) (place_at after whole d.passed)) (sym e) (d.typed rest (keywords_in xs)) in
+          subst (λ z. NamesType (place_at before whole p) z (keywords_in xs) (record { constant = false; type = integer Int }) (place_at after whole d.passed)) (sym e) (d.typed rest (keywords_in xs)) in
           record { next = d.passed; typed = subst (λ z. Specify of_the_file (place_at before whole p) xs z (place_at after whole d.passed)) (sym same) (of_specifiers (one, tt) names) };
     }
 

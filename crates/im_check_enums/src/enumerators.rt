@@ -124,17 +124,10 @@ fn after(z: Number) -> Number
     requires { u.rule_8_constant z.value ≡ true }
     ensures { result.value ≡ z.value +ℤ pos 1 }
 {
-    Number {
-        value: z.value + 1,
-    }
+    Number { value: z.value + 1 }
 }
 
-fn enumerator(
-    alloc: Global,
-    e: &Enumerator,
-    next: Number,
-    scope: Scope,
-) -> Result<Counted, Stop>
+fn enumerator(alloc: Global, e: &Enumerator, next: Number, scope: Scope) -> Result<Counted, Stop>
     ensures { MatchResult result (EnumeratorDone scope next.value e.now) (IsEnumeratorFault scope next.value e.now) }
 {
     let z = number(alloc, &e.value, next, &scope)?;

@@ -1,5 +1,5 @@
 -- A declarator with its initialiser, put together.
-use Rattle.std.proofs.Common.{◌≡◌, ℕ, Bool, true, false, List, [], ◌∷◌, ◌++◌, map, Option, Some, None, refl, sym, ap, ◌∙◌, subst, append_assoc, if◌then◌else◌}
+use Rattle.std.proofs.Common.{◌≡◌, ℕ, Bool, true, false, List, [], ◌∷◌, ◌++◌, map, Option, Some, None, is_some, refl, sym, ap, ◌∙◌, subst, append_assoc, if◌then◌else◌}
 use Rattle.std.proofs.lemmas.List.{map_push, append-nil}
 use Rattle.im_word.specs.Words.{Name}
 use Rattle.im_ctree.specs.Tree as t
@@ -39,7 +39,10 @@ use Rattle.im_check_statics.specs.Firsts.{IsFirst, only, FirstBreaks, in_shape, 
 use Rattle.im_check_file.specs.declared.file.Given.{Given}
 use Rattle.im_check_file.specs.declared.file.File.{File}
 use Rattle.im_check_file.specs.Files.{first_values, values_of}
-use Rattle.im_check_file.specs.Declaring.{DeclaredDone}
+use Rattle.im_check_file.specs.Declaring.{DeclaredDone, IsDeclaredFault}
+use Rattle.im_ctree.specs.declared.declaration.Initializer.{Initializer}
+use Rattle.im_ctree.specs.declared.declarator.Declarator.{Declarator, out-Declarator}
+use Rattle.im_plain.proofs.Shapes.{declarator_shape}
 use Rattle.im_check_names.specs.Asked.{asks_of, entity_in, IsNamed}
 use Rattle.im_check_file.specs.Firsts.{GivenDone, none_given, one_given, IsGiven, GivenBreaks, of_integer, of_other, MayFault}
 use Rattle.im_rules.specs.Initialisers.{Initialised, item, from_term}
@@ -74,7 +77,7 @@ place_behind : (before : Scope) (whole : List Name) (xs : t.SpecifierList) (q : 
     → a ≡ type_by y.kind
     → Behind before whole xs q x y after whole'
     → with_declared xs (declared_of y) a (is_initialised (maybe_initializer_of x.initializer)) (past_strings (strings_of_declarator (declarator_of x.declarator)) (place_at before whole p))
-        ≡ place_at after whole' (past (strings_of_declarator (declarator_of x.declarator)) p)
+    ≡ place_at after whole' (past (strings_of_declarator (declarator_of x.declarator)) p)
 place_behind before whole xs q x y after whole' a p e h = rw (e, h.scopes, h.statics, h.bodies, h.wholes) refl
 
 -- the value of a static
@@ -135,11 +138,11 @@ module _ (before : Scope) (whole : List Name) (xs : t.SpecifierList) (q : Qualif
       → AreDeclared xs q (place_at before whole p) (t.more_init_declarators tree initialiser rest) (values ++ hs) e
   goes p values hs rest e gives more =
       let gives₁ : MayGive (place_at after whole' (strings_behind p)) y.name.items whole_type initialiser values =
-          subst (λ a. MayGive (place_at after whole' (strings_behind p)) y.name.items a initialiser values) (sym (stays y.kind initialiser)) gives in
+      subst (λ a. MayGive (place_at after whole' (strings_behind p)) y.name.items a initialiser values) (sym (stays y.kind initialiser)) gives in
       let gives₂ : MayGive (past_declarator xs tree (declared_of y) initialiser (place_at before whole p)) y.name.items whole_type initialiser values =
-          subst (λ f. MayGive f y.name.items whole_type initialiser values) (sym (declarator_place p)) gives₁ in
+      subst (λ f. MayGive f y.name.items whole_type initialiser values) (sym (declarator_place p)) gives₁ in
       let more₁ : AreDeclared xs q (past_strings (given_strings (place_at before whole p) whole_type initialiser) (past_declarator xs tree (declared_of y) initialiser (place_at before whole p))) rest hs e =
-          subst (λ f. AreDeclared xs q f rest hs e) (sym (behind_place p)) more in
+      subst (λ f. AreDeclared xs q f rest hs e) (sym (behind_place p)) more in
       one_declared (h.declares p.next) (meets_whole p) gives₂ more₁
 
   pub breaks : (p : Passed) (rest : t.InitDeclarators) (rule token : ℕ)
@@ -147,7 +150,7 @@ module _ (before : Scope) (whole : List Name) (xs : t.SpecifierList) (q : Qualif
       → FileBroken (place_at before whole p) (some_declared xs q (t.more_init_declarators tree initialiser rest)) rule token
   breaks p rest rule token b =
       let b₁ : FileBroken (past_strings (given_strings (place_at before whole p) whole_type initialiser) (past_declarator xs tree (declared_of y) initialiser (place_at before whole p))) (some_declared xs q rest) rule token =
-          subst (λ f. FileBroken f (some_declared xs q rest) rule token) (sym (behind_place p)) b in
+      subst (λ f. FileBroken f (some_declared xs q rest) rule token) (sym (behind_place p)) b in
       within_file (other_declared (h.declares p.next)) b₁
 
 -- faults of a declarator's parts
@@ -176,7 +179,7 @@ pub asked_fault : (s : Scope) (whole : List Name) (xs : t.SpecifierList) (q : Qu
 asked_fault s whole xs q x y at (Rule rule token) declares same r = λ p rest.
     let i = maybe_initializer_of x.initializer in
     let refused : Refuses rule (file_asks (place_at s whole p) xs (declared_of y) (completed (type_by y.kind) i) (is_initialised i)) =
-        subst (λ a. Refuses rule (file_asks (place_at s whole p) xs (declared_of y) a (is_initialised i))) (sym (stays y.kind i)) (r p).0 in
+    subst (λ a. Refuses rule (file_asks (place_at s whole p) xs (declared_of y) a (is_initialised i))) (sym (stays y.kind i)) (r p).0 in
     subst (λ z. FileBroken (place_at s whole p) (some_declared xs q (t.more_init_declarators (declarator_of x.declarator) i rest)) rule z) (sym ((r p).1 ∙ same)) (here_in_file (at_declarator (declares p.next) refused))
 asked_fault s whole xs q x y at Memory declares same r = tt
 
@@ -194,7 +197,7 @@ module _ (before : Scope) (whole : List Name) (xs : t.SpecifierList) (q : Qualif
       → FileBroken (place_at before whole p) (some_declared xs q (t.more_init_declarators e (t.an_initializer j) rest)) rule token
   given_broken p rest rule token b =
       let b₁ : GivenBroken (context_of after (behind_it p).next) (an_initialiser (completed (type_by y.kind) (t.an_initializer j)) 0 j) rule token =
-          subst (λ a. GivenBroken (context_of after (behind_it p).next) (an_initialiser a 0 j) rule token) (sym (stays y.kind (t.an_initializer j))) b in
+      subst (λ a. GivenBroken (context_of after (behind_it p).next) (an_initialiser a 0 j) rule token) (sym (stays y.kind (t.an_initializer j))) b in
       in_static_initialiser (declares p.next) (subst (λ f. GivenBroken f.context (an_initialiser (completed (type_by y.kind) (t.an_initializer j)) 0 j) rule token) (sym (place p)) b₁)
 
   first_broken : (p : Passed) (rest : t.InitDeclarators) (rule token : ℕ) (n : i.Integer) → type_by y.kind ≡ integer n → FirstBreaks after n j rule token
@@ -205,12 +208,12 @@ module _ (before : Scope) (whole : List Name) (xs : t.SpecifierList) (q : Qualif
       let whole_type = completed (type_by y.kind) (t.an_initializer j) in
       let to : integer n ≡ whole_type = sym (stays y.kind (t.an_initializer j) ∙ same) in
       let typed₁ : Initialised (context_of after (behind_it p).next) whole_type 0 j (item 0 whole_type (from_term v x) ∷ []) =
-          subst (λ a. Initialised (context_of after (behind_it p).next) a 0 j (item 0 a (from_term v x) ∷ [])) to (typed (behind_it p).next) in
+      subst (λ a. Initialised (context_of after (behind_it p).next) a 0 j (item 0 a (from_term v x) ∷ [])) to (typed (behind_it p).next) in
       let typed₂ : Initialised (start p).context whole_type 0 j (item 0 whole_type (from_term v x) ∷ []) =
-          subst (λ f. Initialised f.context whole_type 0 j (item 0 whole_type (from_term v x) ∷ [])) (sym (place p)) typed₁ in
+      subst (λ f. Initialised f.context whole_type 0 j (item 0 whole_type (from_term v x) ∷ [])) (sym (place p)) typed₁ in
       let f = past_strings (given_strings (place_at before whole p) whole_type (t.an_initializer j)) (start p) in
       let refused : Refuses rule (constant_asks (static_size f) [] (item 0 whole_type (from_term v x))) =
-          subst (λ a. Refuses rule (constant_asks (static_size f) [] (item 0 a (from_term v x)))) to (refuses (static_size f)) in
+      subst (λ a. Refuses rule (constant_asks (static_size f) [] (item 0 a (from_term v x)))) to (refuses (static_size f)) in
       in_static_values (declares p.next) typed₂ (this_item refused)
 
   given_inside : (p : Passed) (rest : t.InitDeclarators) (rule token : ℕ) → GivenBreaks after (type_by y.kind) j rule token
@@ -243,7 +246,7 @@ pub behind_by : (before middle after : Scope) (whole whole' : List Name) (xs : t
     → Behind before whole xs q x y after whole'
 behind_by before middle after whole whole' xs q x y same declares asked named wholes =
     let entity : s.named y.name.items (file_entity (outline_of middle) xs y.name.items y.constant (type_by y.kind)) (scopes_of middle.entries.items)
-            ≡ s.named y.name.items (file_entity (outline_of before) xs y.name.items y.constant (type_by y.kind)) (scopes_of before.entries.items) = rw (same.entries, same.statics, same.bodies) refl in
+    ≡ s.named y.name.items (file_entity (outline_of before) xs y.name.items y.constant (type_by y.kind)) (scopes_of before.entries.items) = rw (same.entries, same.statics, same.bodies) refl in
     record {
       declares = declares;
       asked = λ p. subst (λ f. Meets (file_asks f xs (declared_of y) (type_by y.kind) (is_initialised (maybe_initializer_of x.initializer)))) (same_place before middle same whole p) (asked p);
@@ -282,3 +285,14 @@ one_done before after xs q x y h g =
             breaks_on = λ rest rule token b. breaks before.scope (map bytes_of before.whole.items) xs q x y after.scope (map bytes_of after.whole.items) h p rest rule token b;
           };
     }
+
+pub to_fault : (file : File) (xs : t.SpecifierList) (q : Qualified) (x : InitDeclarator) (f : Stop) → OneFault file.scope (map bytes_of file.whole.items) xs q x f → IsDeclaredFault xs q file x f
+to_fault file xs q x (Rule rule token) b = b
+to_fault file xs q x Memory b = tt
+
+pub some_initialised : (i : Option Initializer) → is_some i ≡ is_initialised (maybe_initializer_of i)
+some_initialised None = refl
+some_initialised (Some j) = refl
+
+pub declarator_at : (d : Declarator) → (out-Declarator d).at ≡ declarator_token (declarator_of d)
+declarator_at d = sym (ap declarator_token (declarator_shape d))

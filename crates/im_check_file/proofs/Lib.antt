@@ -1,2 +1,4 @@
 pub mod Declared
+pub mod External
+pub mod Initial
 pub mod Reached

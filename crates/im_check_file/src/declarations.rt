@@ -10,7 +10,7 @@ ghost use Rattle.im_check_file.specs.Files.{IsFault};
 use crate::declarators::one_declared;
 use crate::file::File;
 use im_check_enums::specify;
-use im_ctree::{Declaration, InitDeclarator, Specifier};
+use im_ctree::{Declaration, External, InitDeclarator, Specifier};
 use im_specifiers::Specified;
 use im_terms::Stop;
 use std::alloc::Global;

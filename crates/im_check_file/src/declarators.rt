@@ -29,7 +29,12 @@ fn token_of(initializer: &Initializer) -> u32
     }
 }
 
-fn with_whole(alloc: Global, is_whole: bool, name: &[u8], whole: Vec<Name>) -> Result<Vec<Name>, Stop>
+fn with_whole(
+    alloc: Global,
+    is_whole: bool,
+    name: &[u8],
+    whole: Vec<Name>,
+) -> Result<Vec<Name>, Stop>
     ensures { MatchResult result (λ v. map bytes_of v.items ≡ (if is_whole then name.now ∷ map bytes_of whole.items else map bytes_of whole.items)) IsNoRule }
 {
     let mut whole = whole;
@@ -97,7 +102,14 @@ pub fn one_declared(
     let y_head = head(alloc, &x.declarator, q, file.scope)?;
     let is_whole = x.initializer.is_some();
     let at = x.declarator.at;
-    asked(&y_head.scope, &file.whole, at, specifiers, is_whole, &y_head.declared)?;
+    asked(
+        &y_head.scope,
+        &file.whole,
+        at,
+        specifiers,
+        is_whole,
+        &y_head.declared,
+    )?;
     let y = y_head.declared;
     let scope = declared(alloc, specifiers, &y, y_head.scope)?;
     let given = with_value(alloc, &y.name, &y.kind, &x.initializer, &scope, file.given)?;

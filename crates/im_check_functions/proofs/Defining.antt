@@ -34,17 +34,10 @@ use Rattle.im_check_functions.specs.Bodies.{with_formals, inside_at, InsideDone,
 use Rattle.im_check_functions.specs.Heads.{HeadAt, HeadDone, IsHeadFault}
 use Rattle.im_check_functions.specs.Functions.{function_in, ExternalTyped}
 use Rattle.im_check_functions.proofs.Heading.{same_place}
-use Rattle.im_check_functions.proofs.Literals.{left, right, items_none}
+use Rattle.im_plain_laws.proofs.Empty.{first_none, second_none}
+use Rattle.im_check_functions.proofs.Literals.{items_none}
 
 -- parameters of a plain tree declare no tags
-
-first_none : (x y : Option ℕ) → or_else x y ≡ None → x ≡ None
-first_none None y h = refl
-first_none (Some k) y h = absurd cc
-
-second_none : (x y : Option ℕ) → or_else x y ≡ None → y ≡ None
-second_none None y h = h
-second_none (Some k) y h = absurd cc
 
 untagged : (c : Context) (xs : t.SpecifierList) → other_listed xs ≡ None → tags_in c (named_in xs) ≡ c.scopes
 untagged c t.no_specifiers h = refl
@@ -98,7 +91,8 @@ abbrev func_by : Name → ℕ → Option Kind → List LocalObject → Stmt → 
 func_by x n r os b = record { name = x; params = n; result = r; objects = os; body = b }
 
 same_function : {x y : Name} {m n : ℕ} {r s : Option Kind} {os ps : List LocalObject} {a b : Stmt} → x ≡ y → m ≡ n → r ≡ s → os ≡ ps → a ≡ b → func_by x m r os a ≡ func_by y n s ps b
-same_function refl refl refl refl refl = refl
+same_function {y = y} {m = m} {n = n} {r = r} {s = s} {os = os} {ps = ps} {a = a} e f g h i =
+    ap (λ z. func_by z m r os a) e ∙ ap (λ z. func_by y z r os a) f ∙ ap (λ z. func_by y n z os a) g ∙ ap (λ z. func_by y n s z a) h ∙ ap (λ z. func_by y n s ps z) i
 
 pub definition_typed : {before : File} {xs : t.SpecifierList} {e : t.Declarator} {h : Headed} {is : t.BlockItems} (at at' : ℕ) (done : Inside) (params : ℕ)
     → HeadDone before xs e h
@@ -133,9 +127,9 @@ definition_typed {before = before} {xs = xs} {e = e} {h = h} {is = is} at at' do
                 (subst (λ (z : Func). TypedExternal (place_of before p) (t.function_definition (t.specifiers at xs) e (t.block at' is)) [] (z ∷ []) (past_strings m.strings (past_head xs e y g))) made whole);
             all = head.values ∙ sym (append-nil (values_of before));
             strings = λ none.
-                let first = left {x = other_specifiers at xs} none in
-                let rest = right {x = other_specifiers at xs} none in
-                ap (λ z. a.passed.strings ++ z) (items_none is (right {x = other_declarator xs e} rest)) ∙ append-nil a.passed.strings ∙ a.strings (left {x = other_listed xs} first);
+                let first = first_none (other_specifiers at xs) _ none in
+                let rest = second_none (other_specifiers at xs) _ none in
+                ap (λ z. a.passed.strings ++ z) (items_none is (second_none (other_declarator xs e) _ rest)) ∙ append-nil a.passed.strings ∙ a.strings (first_none (other_listed xs) _ first);
           };
     }
 
@@ -145,11 +139,11 @@ pub head_fault : (f : File) (at at' : ℕ) (xs : t.SpecifierList) (e : t.Declara
 head_fault f at at' xs e is (Rule rule token) h = λ p. h p (t.block at' is)
 head_fault f at at' xs e is Memory h = tt
 
-pub inside_fault : {before : File} {xs : t.SpecifierList} {e : t.Declarator} {h : Headed} {is : t.BlockItems} (at at' : ℕ) (stop : Stop)
+pub inside_fault : {before : File} {xs : t.SpecifierList} {e : t.Declarator} {h : Headed} (is : t.BlockItems) (at at' : ℕ) (stop : Stop)
     → HeadDone before xs e h
     → IsInsideFault h.file.scope (map declared_from h.formals.items) h.result is stop
     → IsFault before (an_external (t.function_definition (t.specifiers at xs) e (t.block at' is))) stop
-inside_fault {is = is} at at' (Rule rule token) head b = λ p.
+inside_fault is at at' (Rule rule token) head b = λ p.
     let a = head.at p in
     in_body a.specified a.declares a.parameters (subst (λ z. BodyBroken z (some_items is) rule token) (begun head.plain a) (b a.passed.next))
-inside_fault at at' Memory head b = tt
+inside_fault is at at' Memory head b = tt

@@ -1,5 +1,5 @@
 -- External declarations, one behind the other.
-use Rattle.std.proofs.Common.{◌≡◌, ℕ, zero, suc, ◌+◌, List, [], ◌∷◌, ◌++◌, map, length, drop, None, refl, sym, ap, ◌∙◌, subst, append_assoc}
+use Rattle.std.proofs.Common.{◌≡◌, ℕ, zero, suc, ◌+◌, List, [], ◌∷◌, ◌++◌, map, length, drop, None, Vec, Global, refl, sym, ap, ◌∙◌, subst, append_assoc}
 use Rattle.std.proofs.lemmas.List.{append-nil, map-append}
 use Rattle.im_ctree.specs.Tree as t
 use Rattle.im_ctree.specs.Shape.{external_of, externals_of}
@@ -17,7 +17,7 @@ use Rattle.im_check_file.specs.Files.{place_of, values_of, IsOfUnit, IsFault}
 use Rattle.im_check_functions.specs.declared.defined.Checked.{Checked}
 use Rattle.im_check_functions.specs.declared.defined.Defined.{Defined}
 use Rattle.im_check_functions.specs.Functions.{function_in, functions_in, ExternalTyped, ExternalChecked, Carried, Reached, AllChecked}
-use Rattle.im_check_functions.proofs.Literals.{left, right}
+use Rattle.im_plain_laws.proofs.Empty.{first_none, second_none}
 use Rattle.im_check_functions.proofs.Strings.{external_strings}
 
 pub declaration_checked : (before after : File) (functions : _) (x : t.External) → ExternalDone before x after → ExternalChecked (record { file = before; functions = functions }) (record { file = after; functions = functions }) x
@@ -31,15 +31,15 @@ declaration_checked before after functions x d =
 plain_behind : (xs : List External) (i : ℕ) → other_unit (externals_of xs) ≡ None → other_unit (externals_of (drop i xs)) ≡ None
 plain_behind xs zero h = h
 plain_behind [] (suc i) h = h
-plain_behind (x ∷ xs) (suc i) h = plain_behind xs i (right {x = other_external (external_of x)} h)
+plain_behind (x ∷ xs) (suc i) h = plain_behind xs i (second_none (other_external (external_of x)) _ h)
 
-pub reached_none : (f : File) (now : Checked) (xs : List External) → now.file ≡ f → now.functions.items ≡ [] → Reached f now xs 0
-reached_none f now xs refl e =
+pub reached_none : (f : File) (v : Vec Defined Global) (xs : List External) → v.items ≡ [] → Reached f (record { file = f; functions = v }) xs 0
+reached_none f v xs e =
     record {
       unit = record { statics = refl; bodies = refl };
       at = λ p. record {
         passed = p;
-        goes_on = λ hs ks g d. record { values = hs; typed = subst (λ z. AreExternals (place_of now.file p) (externals_of xs) hs (functions_in z ++ ks) g) (sym e) d; all = refl };
+        goes_on = λ hs ks g d. record { values = hs; typed = subst (λ z. AreExternals (place_of f p) (externals_of xs) hs (functions_in z ++ ks) g) (sym e) d; all = refl };
         breaks_on = λ rule token b. b;
         strings = λ none. refl;
       };
@@ -73,7 +73,7 @@ reached_more {f = f} {now = now} {after = after} {xs = xs} {i = i} {x = x} at re
                 r.breaks_on rule token (subst (λ z. FileBroken (place_of now.file r.passed) (some_externals (externals_of z)) rule token) (sym at) here);
             strings = λ none.
                 let rest : other_unit (externals_of (x ∷ drop (i + 1) xs)) ≡ None = subst (λ z. other_unit (externals_of z) ≡ None) at (plain_behind xs i none) in
-                o.strings (left {x = other_external (external_of x)} rest) ∙ r.strings none;
+                o.strings (first_none (other_external (external_of x)) _ rest) ∙ r.strings none;
           };
     }
 

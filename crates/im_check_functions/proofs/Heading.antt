@@ -1,5 +1,5 @@
 -- Heads of function definitions.
-use Rattle.std.proofs.Common.{◌≡◌, ℕ, ◌+◌, Bool, true, false, ◌&&◌, List, [], ◌∷◌, ◌++◌, map, length, Option, Some, None, Vec, Global, refl, sym, ap, ◌∙◌, subst}
+use Rattle.std.proofs.Common.{◌≡◌, ℕ, ◌+◌, Bool, true, false, ◌&&◌, ◌||◌, is_some, List, [], ◌∷◌, ◌++◌, map, length, Option, Some, None, Vec, Global, inl, refl, sym, ap, ◌∙◌, subst}
 use Rattle.std.proofs.lemmas.List.{append-nil}
 use Rattle.im_word.specs.Words.{Name}
 use Rattle.im_ctree.specs.Tree as t
@@ -13,7 +13,7 @@ use Rattle.im_rules.specs.Declared as d
 use Rattle.im_rules.specs.Demands.{Demand, Meets, Refuses}
 use Rattle.im_rules.specs.FileScope.{FilePlace, of_the_file, past_strings, file_asks, file_entity, own_parameters, has_own_parameters, body_asks}
 use Rattle.im_rules.specs.Outline.{Outline, Nearest, bare, a_star, a_length, parameters, nearest, suffix_or}
-use Rattle.im_rules.specs.Rules.{rule_11, is_typedef}
+use Rattle.im_rules.specs.Rules.{rule_9_void, all_named, rule_11, is_typedef}
 use Rattle.im_rules.specs.Scopes.{Scopes, named}
 use Rattle.im_rules.specs.Statements.{name_of}
 use Rattle.im_rules.specs.Strings.{strings_of_declarator}
@@ -29,9 +29,11 @@ use Rattle.im_names.specs.declared.entity.Signature.{Signature}
 use Rattle.im_names.specs.declared.scope.Scope.{Scope}
 use Rattle.im_names.specs.Shape.{context_of, bytes_of, scopes_of, outline_of}
 use Rattle.im_specifiers.specs.Specified.{qualified_of}
-use Rattle.im_plain.specs.Lists.{parameters_from}
+use Rattle.im_plain.specs.Lists.{parameters_from, with_suffix}
 use Rattle.im_plain.specs.Plain.{other_suffix, other_declarator, other_parameters}
-use Rattle.im_plain.proofs.Shapes.{declarator_shape}
+use Rattle.im_plain.proofs.Shapes.{declarator_shape, function_suffix}
+use Rattle.im_ctree.specs.declared.declarator.Parameter.{Parameter}
+use Rattle.im_ctree.specs.declared.declarator.SuffixKind as xk
 use Rattle.im_check_declarators.specs.declared.formal.Formal.{Formal}
 use Rattle.im_check_declarators.specs.declared.heads.Declared.{Declared}
 use Rattle.im_check_declarators.specs.declared.heads.DeclaredHead.{DeclaredHead}
@@ -48,7 +50,7 @@ use Rattle.im_check_file.specs.Files.{place_of}
 use Rattle.im_check_declarations.proofs.Sites.{same_outline}
 use Rattle.im_check_functions.specs.declared.heads.Headed.{Headed}
 use Rattle.im_check_functions.specs.Heads.{has_named, HeadAt, HeadDone, IsHeadFault}
-use Rattle.im_check_functions.proofs.Literals.{declarator_none}
+use Rattle.im_plain_laws.proofs.Empty.{no_declared}
 use Rattle.im_check_functions.proofs.Parameters.{context_by}
 use Rattle.im_check_functions.proofs.Strings.{specified_strings}
 
@@ -63,6 +65,19 @@ by_nearest bare a = sym (other_kind (is_function a))
 by_nearest a_star a = sym (other_kind (is_function a))
 by_nearest a_length a = sym (other_kind (is_function a))
 by_nearest (parameters ps) a = refl
+
+named_suffix : (a : ℕ) (k : xk.SuffixKind) (ps : Vec Parameter Global) (rest : t.Suffixes) → k ≡ xk.Function ps → has_named (suffix_or (with_suffix a k rest) bare) ≡ rule_9_void (parameters_from ps.items) || all_named (parameters_from ps.items)
+named_suffix a k ps rest is = ap (λ z. has_named (suffix_or z bare)) (ap (λ z. with_suffix a z rest) is ∙ function_suffix a ps rest)
+
+pub one_word : (a : ℕ) (k : xk.SuffixKind) (ps : Vec Parameter Global) (rest : t.Suffixes) (w : Bool) → k ≡ xk.Function ps → rule_9_void (parameters_from ps.items) ≡ w → w ≡ true → has_named (suffix_or (with_suffix a k rest) bare) ≡ w
+one_word a k ps rest w is h g = named_suffix a k ps rest is ∙ ap (λ z. z || all_named (parameters_from ps.items)) (h ∙ g) ∙ sym g
+
+pub all_words : (a : ℕ) (k : xk.SuffixKind) (ps : Vec Parameter Global) (rest : t.Suffixes) (w n : Bool) → k ≡ xk.Function ps → rule_9_void (parameters_from ps.items) ≡ w → w ≡ false → n ≡ all_named (parameters_from ps.items) → has_named (suffix_or (with_suffix a k rest) bare) ≡ n
+all_words a k ps rest w n is h g e = named_suffix a k ps rest is ∙ ap (λ z. z || all_named (parameters_from ps.items)) (h ∙ g) ∙ sym e
+
+pub nothing_other : (x : Option ℕ) → is_some x ≡ false → x ≡ None
+nothing_other None h = refl
+nothing_other (Some k) h = absurd cc
 
 pub head_token : (e : Declarator) → declarator_token (declarator_of e) ≡ (out-Declarator e).at
 head_token e = ap declarator_token (declarator_shape e)
@@ -196,6 +211,6 @@ head_done before xs e base h scope signature formals whole plain b done body ask
             name = refl;
             result = ap (λ z. result_of (type_by z)) kind;
             behind = behind_head base.scope h.scope scope names whole xs e h.declared s.next same is_named grown;
-            strings = λ listed. ap (λ z. s.next.strings ++ z) (declarator_none xs e plain) ∙ append-nil s.next.strings ∙ specified_strings s.typed listed;
+            strings = λ listed. ap (λ z. s.next.strings ++ z) (no_declared xs e plain) ∙ append-nil s.next.strings ∙ specified_strings s.typed listed;
           };
     }

@@ -1,5 +1,5 @@
 -- Parameters in scope and as objects, one behind the other.
-use Rattle.std.proofs.Common.{◌≡◌, ℕ, suc, ◌+◌, List, [], ◌∷◌, ◌++◌, map, length, drop, Option, Some, None, Vec, Global, refl, sym, ap, ◌∙◌, append_assoc}
+use Rattle.std.proofs.Common.{◌≡◌, ℕ, suc, ◌+◌, List, [], ◌∷◌, ◌++◌, map, length, drop, Option, Some, None, Vec, Global, Result, Ok, Err, MatchResult, refl, sym, ap, ◌∙◌, append_assoc}
 use Rattle.std.proofs.lemmas.List.{append-nil}
 use Rattle.im_ctype.specs.declared.integer.Integer.{Integer}
 use Rattle.im_ctype.specs.Types.{integer}
@@ -10,6 +10,8 @@ use Rattle.im_rules.specs.Outline.{Outline}
 use Rattle.im_rules.specs.Scopes.{Scopes, nothing, named, an_object, local_object}
 use Rattle.im_rules.specs.TypedUnit.{parameter_objects}
 use Rattle.im_terms.specs.declared.plain.PlainType.TheVariants as p
+use Rattle.im_terms.specs.declared.stop.Stop.{Stop}
+use Rattle.im_terms.specs.Answers.{IsNoRule}
 use Rattle.im_names.specs.declared.entity.Entry.{Entry}
 use Rattle.im_names.specs.declared.scope.Scope.{Scope}
 use Rattle.im_names.specs.Shape.{context_of, scopes_of, outline_of}
@@ -53,6 +55,11 @@ past_named n f x i before after called ty w =
           let e : scopes_of after.entries.items ≡ named x.items (an_object f.constant (integer i) (local_object n)) g = ap scopes_of w.entries ∙ with-append nothing before.entries.items w.entry ∙ w.meant g in
           rw (called, ty) (same_context before after _ k e (same_outline before after w.statics w.bodies));
     }
+
+pub named_result : (n : ℕ) (f : Formal) (x : Vec ℕ Global) (i : Integer) (before : Scope) (r : Result Scope Stop) → f.name ≡ Some x → f.ty ≡ p.Integer i
+    → MatchResult r (IsWith before x.items (an_object f.constant (integer i) (local_object n))) IsNoRule → MatchResult r (IsPast n f before) IsNoRule
+named_result n f x i before (Ok after) called ty h = past_named n f x i before after called ty h
+named_result n f x i before (Err stop) called ty h = h
 
 pub past_start : (s : Scope) (fs : List Formal) → FormalsPast s s fs 0
 past_start s fs = record { names = grown_none s; context = λ k. refl }

@@ -10,7 +10,7 @@ use crate::defined::{Defined, Definition};
 use crate::formals::count;
 use crate::heads::{Headed, function_head};
 use im_check_file::File;
-use im_ctree::Function;
+use im_ctree::{External, Function};
 use im_terms::Stop;
 use std::alloc::Global;
 

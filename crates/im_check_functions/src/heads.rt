@@ -1,5 +1,5 @@
 //! Heads of function definitions (C11 6.9.1).
-ghost use Rattle.std.specs.Prelude.{◌≡◌, [], ◌∷◌, ◌&&◌, ◌||◌, true, map, Some, is_some, MatchResult};
+ghost use Rattle.std.specs.Prelude.{◌≡◌, [], ◌∷◌, ◌&&◌, ◌||◌, true, map, length, nat_eq, MatchResult};
 ghost use Rattle.im_ctree.specs.Tree as t;
 ghost use Rattle.im_ctree.specs.Shape.{declarator_of};
 ghost use Rattle.im_ctype.specs.Types as y;
@@ -66,11 +66,17 @@ fn all_named(parameters: &[Parameter]) -> bool
     true
 }
 
+fn is_one(specifiers: &[Specifier]) -> bool
+    ensures { result ≡ nat_eq (length specifiers.now) 1 }
+{
+    specifiers.len() == 1
+}
+
 fn is_unnamed_word(parameter: &Parameter) -> bool
     ensures { u.rule_9_void (parameters_from (parameter.now ∷ [])) ≡ result }
 {
     match &parameter.declarator {
-        None => parameter.specifiers.items.len() == 1,
+        None => is_one(&parameter.specifiers.items),
         Some(_) => false,
     }
 }

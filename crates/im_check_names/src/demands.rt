@@ -81,8 +81,7 @@ fn may_repeat(scope: &Scope, whole: &[Name], typedef: bool, is_whole: bool, y: &
     match scope.find_here(&y.name) {
         None => true,
         Some(old) => {
-            agrees(old, typedef, y.constant, &y.kind)
-                && !(is_among(&y.name, whole) && is_whole)
+            agrees(old, typedef, y.constant, &y.kind) && !(is_among(&y.name, whole) && is_whole)
         }
     }
 }
@@ -106,7 +105,11 @@ fn is_type(scope: &Scope, name: &[u8]) -> bool
 fn keeps_type(scope: &Scope, typedef: bool, y: &Declared) -> bool
     ensures { (o : Outline) → result ≡ u.rule_4 (s.meaning (scopes_of scope.now.entries.items) y.now.name.items) (entity_by o typedef y.now.name.items y.now.constant (type_by y.now.kind)) }
 {
-    if typedef { true } else { !is_type(scope, &y.name) }
+    if typedef {
+        true
+    } else {
+        !is_type(scope, &y.name)
+    }
 }
 
 /// Whether it is no object of an incomplete type (rule 5).

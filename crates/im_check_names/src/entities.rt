@@ -62,7 +62,12 @@ fn object(scope: &Scope, name: &[u8], constant: bool, ty: PlainType) -> Result<E
     }
 }
 
-fn function(alloc: Global, scope: &Scope, name: &[u8], signature: &Signature) -> Result<Entity, Stop>
+fn function(
+    alloc: Global,
+    scope: &Scope,
+    name: &[u8],
+    signature: &Signature,
+) -> Result<Entity, Stop>
     ensures { (c : Bool) → MatchResult result (λ e. entity_of e ≡ entity_by (outline_of scope.now) false name.now c (type_of_function signature.now)) IsNoRule }
 {
     let body = callee(scope, name)?;

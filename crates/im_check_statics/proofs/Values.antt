@@ -62,7 +62,7 @@ pub initialised_by : (s : Scope) (i : Integer) (j : t.Initializer) (e : t.Expres
     → (k : ℕ) → Initialised (context_of s k) (integer i) 0 j (only i e x)
 initialised_by s i j e x whole shaped typed meets = λ k.
     let inner : Shaped (context_of s k) (integer i) 0 (shape (integer i) j) (only i e x) =
-        subst (λ z. Shaped (context_of s k) (integer i) 0 z (only i e x)) (sym shaped) (of_one (typed k) meets) in
+    subst (λ z. Shaped (context_of s k) (integer i) 0 z (only i e x)) (sym shaped) (of_one (typed k) meets) in
     initialised (whole, tt) inner
 
 pub misshapen_first : (s : Scope) (i : Integer) (j : t.Initializer) (at : ℕ) → is_one_expression j ≡ false → at ≡ initialiser_token j → IsFirstFault s i j (Rule 16 at)
@@ -115,7 +115,7 @@ pub no_first : (s : Scope) (i : Integer) (j : t.Initializer) (e : t.Expression) 
 no_first s i j e x v (Rule rule token) typed same h =
     let q = h (λ n. 0) in
     let refused : (size : ℕ → ℕ) → (is_reached_directly e && is_some (static_value size (as_type (integer i) (r.value_of [] x)))) ≡ false =
-        λ size. subst (λ y. (is_reached_directly e && is_some (static_value size y)) ≡ false) same (h size).1 in
+    λ size. subst (λ y. (is_reached_directly e && is_some (static_value size y)) ≡ false) same (h size).1 in
     subst (λ z. FirstBreaks s i j rule z) (sym q.0.1) (of_value typed (λ size. inl (sym q.0.0, refused size)))
 no_first s i j e x v Memory typed same h = tt
 

@@ -7,4 +7,4 @@ abbrev pub invariant-loop-specifier : goal.invariant-loop-specifier
 invariant-loop-specifier l =
     (l.n ≤ l.specifier-index)
     × (length (named_in (list_from l.specifiers)) + length (keywords_in (list_from l.specifiers))
-        ≡ l.n + (length (named_in (list_from (drop l.specifier-index l.specifiers))) + length (keywords_in (list_from (drop l.specifier-index l.specifiers)))))
+    ≡ l.n + (length (named_in (list_from (drop l.specifier-index l.specifiers))) + length (keywords_in (list_from (drop l.specifier-index l.specifiers)))))

@@ -1,0 +1,38 @@
+-- Counts of a unit, one behind the other.
+use Rattle.std.proofs.Common.{◌≡◌, ℕ, ◌≤◌, ◌⊎◌, List, [], ◌∷◌, ◌++◌, length, Option, Some, None, inl, inr, nat_eq, refl, sym, ap, arith, ◌+◌, ◌<◌, drop, get_or, ◌∙◌}
+use Rattle.std.proofs.lemmas.List.{drop_more}
+use Rattle.std.specs.List.{Contains}
+use Rattle.std.proofs.lemmas.Bool.{ne_eqb}
+use Rattle.std.proofs.lemmas.List.Elements.{Contains-append_left, Contains-append_right, Contains-append_cases}
+use Rattle.im_ctree.specs.declared.declarator.Parameter as pm
+use Rattle.im_ctype.specs.Types.{no_types, same_types}
+use Rattle.im_rule_limits.specs.Limits.{count_parameters}
+use Rattle.im_terms.specs.declared.plain.PlainType.{PlainType}
+use Rattle.im_names.specs.Shape.{types_in}
+use Rattle.im_plain.specs.Lists.{parameters_from}
+use Rattle.im_check_counts.specs.Counts.{most, IsOver}
+
+pub none_told : (ps : List PlainType) → nat_eq (length ps) 0 ≡ same_types (types_in ps) no_types
+none_told [] = refl
+none_told (p ∷ ps) = ne_eqb (length (p ∷ ps)) 0 (λ e. omega arith)
+
+pub count_list : (ps : List pm.Parameter) → count_parameters (parameters_from ps) ≡ length ps
+count_list [] = refl
+count_list (pm.Parameter' s d ∷ ps) = omega (arith, count_list ps)
+
+pub over_here : (ms ns : List ℕ) (n : ℕ) → IsOver ms (Some n) → IsOver (ms ++ ns) (Some n)
+over_here ms ns n h = (Contains-append_left ms ns n h.0, h.1)
+
+none_of : (ms ns : List ℕ) → IsOver ms None → IsOver ns None → (n : ℕ) → Contains ms n ⊎ Contains ns n → n ≤ most
+none_of ms ns h g n (inl c) = h n c
+none_of ms ns h g n (inr c) = g n c
+
+pub over_behind : (ms ns : List ℕ) (r : Option ℕ) → IsOver ms None → IsOver ns r → IsOver (ms ++ ns) r
+over_behind ms ns None h g = λ n c. none_of ms ns h g n (Contains-append_cases ms ns n c)
+over_behind ms ns (Some n) h g = (Contains-append_right ms ns n g.0, g.1)
+
+pub over_none : IsOver [] None
+over_none n c = let below = c.1 in absurd (omega arith)
+
+pub next : {X : Type 0} (xs : List X) (i : ℕ) (x : X) → i < length xs → x ≡ get_or xs i x → drop i xs ≡ x ∷ drop (i + 1) xs
+next xs i x below is = drop_more xs i x below ∙ ap (λ y. y ∷ drop (i + 1) xs) (sym is)
