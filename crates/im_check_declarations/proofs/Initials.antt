@@ -1,12 +1,12 @@
 -- Initialisers of integer types, and the string literals in them.
-use Rattle.std.proofs.Common.{◌≡◌, ℕ, Bool, true, false, List, [], ◌∷◌, ◌++◌, Result, Ok, Err, MatchResult, inl, refl, sym, ap, ◌∙◌, subst}
+use Rattle.std.proofs.Common.{◌≡◌, ℕ, true, false, [], ◌∷◌, Result, Ok, Err, MatchResult, inl, refl, sym, subst}
 use Rattle.im_word.specs.Words.{Name}
 use Rattle.im_ctree.specs.Tree as t
 use Rattle.im_ctype.specs.declared.integer.Integer.{Integer}
 use Rattle.im_ctype.specs.Types.{integer}
 use Rattle.im_typed.specs.Program as p
 use Rattle.im_rules.specs.Conversions.{as_type}
-use Rattle.im_rules.specs.Initialisers.{Shape, one, one_shape, shape, strings_given, strings_among, side_by_side, Initialised, initialised, of_one, Shaped, item, from_term, value_asks, shape_asks}
+use Rattle.im_rules.specs.Initialisers.{one, one_shape, shape, strings_given, strings_among, side_by_side, initialised, of_one, Shaped, item, from_term, value_asks}
 use Rattle.im_rules.specs.Rules.{is_one_expression}
 use Rattle.im_rules.specs.Statements.{initialised_strings, declared_strings, MayInitialise, initialises}
 use Rattle.im_rules.specs.BodyBreaks.{GivenBroken, here_given, in_value, an_initialiser, at_shape, at_value, initialiser_token}

@@ -10,8 +10,8 @@ use Rattle.im_ctype.specs.Types.{CType, integer}
 use Rattle.im_typed.specs.Program as p
 use Rattle.im_typed.specs.declared.statement.Stmt as rs
 use Rattle.im_rules.specs.Context.{Context}
-use Rattle.im_rules.specs.Demands.{Demand, Meets, Refuses}
-use Rattle.im_rules.specs.Declared.{Qualified, Declared, called}
+use Rattle.im_rules.specs.Demands.{Meets, Refuses}
+use Rattle.im_rules.specs.Declared.{Qualified, called}
 use Rattle.im_rules.specs.Scopes.{named, nothing}
 use Rattle.im_rules.specs.Strings.{strings_of_declarator}
 use Rattle.im_rules.specs.Initialisers.{completed}
@@ -30,7 +30,7 @@ use Rattle.im_names.specs.Shape.{context_of, scopes_of, outline_of}
 use Rattle.im_names.proofs.Entries.{with-append}
 use Rattle.im_check_declarations.specs.declared.site.Local.{Local}
 use Rattle.im_check_declarations.specs.declared.site.Surroundings.{Surroundings}
-use Rattle.im_check_declarations.specs.Sites.{site_of, object_in, added_by, IsBodyFault}
+use Rattle.im_check_declarations.specs.Sites.{site_of, object_in, added_by}
 use Rattle.im_check_declarations.specs.Stmts.{stmt_in}
 use Rattle.im_check_declarations.specs.Strings.{strings_initialising, strings_of_locals}
 use Rattle.im_check_declarations.specs.Declarations.{object_asks, IsDeclared, GivenFault, IsGivenFault, LocalDone, IsLocalFault}

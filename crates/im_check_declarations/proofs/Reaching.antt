@@ -11,20 +11,18 @@ use Rattle.im_typed.specs.declared.statement.Stmt as rs
 use Rattle.im_rules.specs.Demands.{Meets}
 use Rattle.im_rules.specs.Declared.{Qualified, specifiers_ask, type_of_specifiers, behind_specifiers}
 use Rattle.im_rules.specs.Breaks.{Broken, here, at_specifiers, some_specifiers}
-use Rattle.im_rules.specs.Statements.{Site, Added, and_then, nothing_added, in_context, AreLocals, no_local, TypedDeclaration, of_declaration}
+use Rattle.im_rules.specs.Statements.{Added, and_then, nothing_added, in_context, AreLocals, no_local, TypedDeclaration, of_declaration}
 use Rattle.im_rules.specs.BodyBreaks.{BodyBroken, within_body, in_inner, declared_locals, declared_specifiers, some_locals, a_declaration}
 use Rattle.im_terms.specs.declared.stop.Stop.{Stop}
 use Rattle.im_terms.specs.declared.stop.Stop.TheVariants.{Rule, Memory}
 use Rattle.im_terms.specs.Answers.{IsRefusal}
-use Rattle.im_terms.specs.Shape.{type_of}
-use Rattle.im_names.specs.declared.entity.Entry.{Entry}
 use Rattle.im_names.specs.declared.scope.Scope.{Scope}
 use Rattle.im_names.specs.Shape.{context_of}
 use Rattle.im_specifiers.specs.declared.specified.Specified.{Specified}
 use Rattle.im_specifiers.specs.Specified.{qualified_of}
 use Rattle.im_check_declarations.specs.declared.site.Local.{Local}
 use Rattle.im_check_declarations.specs.declared.site.Surroundings.{Surroundings}
-use Rattle.im_check_declarations.specs.Sites.{site_of, object_in, added_by, IsBodyFault}
+use Rattle.im_check_declarations.specs.Sites.{site_of, object_in, added_by}
 use Rattle.im_check_declarations.specs.Stmts.{stmt_in, stmts_before, stmts_from}
 use Rattle.im_check_declarations.specs.Strings.{strings_of_locals}
 use Rattle.im_check_declarations.specs.Declarations.{LocalDone, IsLocalFault, LocalsReached, DeclarationDone, IsDeclarationFault}

@@ -1,11 +1,11 @@
 -- Specifiers of plain types declare no tag.
-use Rattle.std.proofs.Common.{◌≡◌, ℕ, Bool, List, [], ◌∷◌, Option, Some, None, refl, ap, ◌∙◌}
+use Rattle.std.proofs.Common.{◌≡◌, ℕ, Bool, List, [], ◌∷◌, Option, Some, None, refl, ap}
 use Rattle.im_ctree.specs.declared.specifier.SpecifierWord.{SpecifierWord}
 use Rattle.im_ctree.specs.Tree as t
 use Rattle.im_rules.specs.Rules.{named_in, keywords_in}
 use Rattle.im_rules.specs.Scopes.{Scopes, Tag, struct_tag, enum_tag}
-use Rattle.im_rules.specs.Context.{Context, tag_number}
-use Rattle.im_rules.specs.Declared.{Qualified, tag_meant, specified, with_const, tags_in, behind_specifiers, type_of_specifiers}
+use Rattle.im_rules.specs.Context.{Context}
+use Rattle.im_rules.specs.Declared.{Qualified, tag_meant, specified, tags_in, behind_specifiers, type_of_specifiers}
 use Rattle.im_rules.specs.Statements.{Site, in_context}
 use Rattle.im_terms.specs.declared.plain.PlainType.{PlainType}
 use Rattle.im_terms.specs.declared.plain.PlainType.TheVariants.{Void, Integer}

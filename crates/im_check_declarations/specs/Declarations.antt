@@ -2,17 +2,16 @@
 use Rattle.std.specs.Prelude.{◌≡◌, ℕ, ◌+◌, Bool, false, List, [], ◌∷◌, ◌++◌, length, drop, MatchResult, Result}
 use Rattle.im_word.specs.Words.{Name}
 use Rattle.im_ctree.specs.Tree as t
-use Rattle.im_ctree.specs.Shape.{declarator_of, maybe_initializer_of, init_declarators_of}
+use Rattle.im_ctree.specs.Shape.{init_declarators_of}
 use Rattle.im_ctree.specs.declared.declaration.InitDeclarator.{InitDeclarator}
 use Rattle.im_ctype.specs.declared.integer.Integer.{Integer}
 use Rattle.im_ctype.specs.Types.{CType, integer}
 use Rattle.im_typed.specs.Program as p
 use Rattle.im_typed.specs.declared.statement.Stmt as rs
-use Rattle.im_rules.specs.Context.{Context}
 use Rattle.im_rules.specs.Demands.{Demand, Meets}
 use Rattle.im_rules.specs.Declared.{Qualified, called}
 use Rattle.im_rules.specs.Scopes as s
-use Rattle.im_rules.specs.Statements.{Site, Added, and_then, local_asks, local_entity, AreLocals, TypedDeclaration, MayInitialise}
+use Rattle.im_rules.specs.Statements.{Site, Added, and_then, local_asks, local_entity, AreLocals, TypedDeclaration}
 use Rattle.im_rules.specs.BodyBreaks.{BodyBroken, GivenBroken, an_initialiser, some_locals, a_declaration}
 use Rattle.im_terms.specs.declared.stop.Stop.{Stop}
 use Rattle.im_terms.specs.declared.stop.Stop.TheVariants.{Rule, Memory}
@@ -22,9 +21,9 @@ use Rattle.im_names.specs.declared.scope.Scope.{Scope}
 use Rattle.im_names.specs.Shape.{context_of, with_entry}
 use Rattle.im_check_declarations.specs.declared.site.Local.{Local}
 use Rattle.im_check_declarations.specs.declared.site.Surroundings.{Surroundings}
-use Rattle.im_check_declarations.specs.Sites.{site_of, object_in, added_by, IsGrown, IsBodyFault}
+use Rattle.im_check_declarations.specs.Sites.{site_of, added_by, IsGrown, IsBodyFault}
 use Rattle.im_check_declarations.specs.Stmts.{stmt_in, stmts_before, stmts_from}
-use Rattle.im_check_declarations.specs.Strings.{strings_initialising, strings_of_locals, strings_of_declaration}
+use Rattle.im_check_declarations.specs.Strings.{strings_of_locals, strings_of_declaration}
 
 -- what is asked of an object of that name and type
 abbrev pub object_asks : Scope → ℕ → Surroundings → ℕ → Name → Qualified → Bool → List Demand

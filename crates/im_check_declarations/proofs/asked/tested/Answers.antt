@@ -1,7 +1,6 @@
-use Rattle.std.proofs.Common.{ap, inl, refl, sym, ◌∙◌}
+use Rattle.std.proofs.Common.{inl, refl, sym}
 use Rattle.std.proofs.lemmas.Result.{err_from_is_err_and}
 use Rattle.im_rules.specs.Statements.{condition_asks}
-use Rattle.im_rules.specs.Terms as r
 use Rattle.im_terms.specs.Shape.{term_of}
 use Rattle.im_check_expressions.specs.Checked.{tree_of}
 use Rattle.im_check_declarations.proofs.Askings.{asked_inside, asked_refused, asked_no_rule}

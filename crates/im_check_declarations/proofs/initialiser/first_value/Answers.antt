@@ -1,12 +1,10 @@
-use Rattle.std.proofs.Common.{inl, refl, sym, ap, ◌∙◌}
+use Rattle.std.proofs.Common.{inl, refl, sym}
 use Rattle.std.proofs.lemmas.Result.{err_from_is_err_and}
 use Rattle.im_ctype.specs.Types.{integer}
-use Rattle.im_rules.specs.Conversions.{as_type}
 use Rattle.im_rules.specs.Initialisers.{value_asks}
-use Rattle.im_rules.specs.Terms as r
 use Rattle.im_terms.specs.Shape.{term_of}
 use Rattle.im_check_expressions.specs.Checked.{tree_of}
-use Rattle.im_check_declarations.proofs.Askings.{asked_inside, asked_refused, asked_no_rule}
+use Rattle.im_check_declarations.proofs.Askings.{asked_inside, asked_refused}
 use Rattle.im_check_declarations.proofs.initialiser.first_value.Goals as goal
 
 pub returns-in_err-x : goal.returns-in_err-x
