@@ -1,14 +1,14 @@
 -- Function definitions of a head and a body.
-use Rattle.std.proofs.Common.{◌≡◌, ℕ, ◌+◌, Bool, true, false, ◌&&◌, List, [], ◌∷◌, ◌++◌, map, length, Option, Some, None, refl, sym, ap, ◌∙◌, subst, if◌then◌else◌}
+use Rattle.std.proofs.Common.{◌≡◌, ℕ, ◌+◌, Bool, true, false, ◌&&◌, List, [], ◌∷◌, ◌++◌, map, length, Option, None, refl, sym, ap, ◌∙◌, subst, if◌then◌else◌}
 use Rattle.std.proofs.lemmas.List.{append-nil}
 use Rattle.im_word.specs.Words.{Name}
 use Rattle.im_num.specs.declared.kind.Kind.{Kind}
 use Rattle.im_ctree.specs.Tree as t
 use Rattle.im_ctype.specs.Types.{CType}
-use Rattle.im_typed.specs.Program.{Stmts, Stmt, Block, LocalObject, Func}
+use Rattle.im_typed.specs.Program.{Stmt, LocalObject, Func}
 use Rattle.im_rules.specs.BodyBreaks.{BodyBroken, some_items}
 use Rattle.im_rules.specs.Context.{Context, in_new_scope}
-use Rattle.im_rules.specs.Declared.{Declared, tags_in, behind_specifiers, with_parameter, with_parameters, parameters_of, parameter, is_only_void}
+use Rattle.im_rules.specs.Declared.{Declared, tags_in, behind_specifiers, with_parameter, with_parameters, parameters_of, is_only_void}
 use Rattle.im_rules.specs.FileScope.{FilePlace, past_strings, own_parameters}
 use Rattle.im_rules.specs.Outline.{nearest}
 use Rattle.im_rules.specs.Rules.{named_in, rule_9_void}
@@ -16,12 +16,12 @@ use Rattle.im_rules.specs.Statements.{Site, Added, TypedItems}
 use Rattle.im_rules.specs.TypeTests.{result_of}
 use Rattle.im_rules.specs.Typed.{AreParameters, no_parameter, a_parameter}
 use Rattle.im_rules.specs.TypedUnit.{result_kind, parameter_objects, no_position, body_site, function_made, past_head, TypedExternal, of_function}
-use Rattle.im_rules.specs.UnitBreaks.{FileBroken, an_external, in_body}
+use Rattle.im_rules.specs.UnitBreaks.{an_external, in_body}
 use Rattle.im_terms.specs.declared.stop.Stop.{Stop}
 use Rattle.im_terms.specs.declared.stop.Stop.TheVariants.{Rule, Memory}
 use Rattle.im_terms.specs.Shape.{type_of}
 use Rattle.im_names.specs.Shape.{context_of, bytes_of}
-use Rattle.im_plain.specs.Plain.{or_else, other_listed, other_specifiers, other_declarator, other_parameters}
+use Rattle.im_plain.specs.Plain.{other_listed, other_specifiers, other_declarator, other_parameters}
 use Rattle.im_check_statements.specs.Literals.{strings_of_items}
 use Rattle.im_check_declarators.specs.Formals.{declared_from}
 use Rattle.im_check_enums.specs.Places.{Passed, past, place_at}
@@ -29,7 +29,6 @@ use Rattle.im_check_file.specs.declared.file.File.{File}
 use Rattle.im_check_file.specs.Files.{place_of, values_of, IsFault}
 use Rattle.im_check_functions.specs.declared.bodies.Inside.{Inside}
 use Rattle.im_check_functions.specs.declared.heads.Headed.{Headed}
-use Rattle.im_check_functions.specs.declared.defined.Defined.{Defined}
 use Rattle.im_check_functions.specs.Bodies.{with_formals, inside_at, InsideDone, IsInsideFault}
 use Rattle.im_check_functions.specs.Heads.{HeadAt, HeadDone, IsHeadFault}
 use Rattle.im_check_functions.specs.Functions.{function_in, ExternalTyped}
@@ -99,7 +98,7 @@ pub definition_typed : {before : File} {xs : t.SpecifierList} {e : t.Declarator}
     → InsideDone h.file.scope (map declared_from h.formals.items) h.result is done
     → params ≡ length (map declared_from h.formals.items)
     → ExternalTyped before (record { scope = done.scope; whole = h.file.whole; given = h.file.given }) (t.function_definition (t.specifiers at xs) e (t.block at' is))
-        (function_in (record { name = h.name; params = params; result = h.result; locals = done.locals; body = done.body }) ∷ [])
+    (function_in (record { name = h.name; params = params; result = h.result; locals = done.locals; body = done.body }) ∷ [])
 definition_typed {before = before} {xs = xs} {e = e} {h = h} {is = is} at at' done params head inside counted =
     record {
       unit = record { statics = inside.same.statics ∙ head.unit.statics; bodies = inside.same.bodies ∙ head.unit.bodies };

@@ -1,22 +1,20 @@
 -- External declarations, one behind the other.
-use Rattle.std.proofs.Common.{◌≡◌, ℕ, zero, suc, ◌+◌, List, [], ◌∷◌, ◌++◌, map, length, drop, None, Vec, Global, refl, sym, ap, ◌∙◌, subst, append_assoc}
+use Rattle.std.proofs.Common.{◌≡◌, ℕ, zero, suc, ◌+◌, List, [], ◌∷◌, ◌++◌, drop, None, Vec, Global, refl, sym, ap, ◌∙◌, subst, append_assoc}
 use Rattle.std.proofs.lemmas.List.{append-nil, map-append}
 use Rattle.im_ctree.specs.Tree as t
 use Rattle.im_ctree.specs.Shape.{external_of, externals_of}
 use Rattle.im_ctree.specs.declared.unit.External.{External}
-use Rattle.im_typed.specs.Program.{Func}
-use Rattle.im_rules.specs.FileScope.{FilePlace}
-use Rattle.im_rules.specs.TypedUnit.{FirstValues, AreExternals, no_external, an_external as one_more}
+use Rattle.im_rules.specs.TypedUnit.{AreExternals, no_external, an_external as one_more}
 use Rattle.im_rules.specs.UnitBreaks.{FileBroken, some_externals, an_external, within_file, first_external, other_externals}
 use Rattle.im_terms.specs.declared.stop.Stop.{Stop}
 use Rattle.im_terms.specs.declared.stop.Stop.TheVariants.{Rule, Memory}
 use Rattle.im_plain.specs.Plain.{other_external, other_unit}
 use Rattle.im_check_file.specs.declared.file.File.{File}
 use Rattle.im_check_file.specs.Declaring.{ExternalDone}
-use Rattle.im_check_file.specs.Files.{place_of, values_of, IsOfUnit, IsFault}
+use Rattle.im_check_file.specs.Files.{place_of, values_of, IsFault}
 use Rattle.im_check_functions.specs.declared.defined.Checked.{Checked}
 use Rattle.im_check_functions.specs.declared.defined.Defined.{Defined}
-use Rattle.im_check_functions.specs.Functions.{function_in, functions_in, ExternalTyped, ExternalChecked, Carried, Reached, AllChecked}
+use Rattle.im_check_functions.specs.Functions.{function_in, functions_in, ExternalChecked, Reached, AllChecked}
 use Rattle.im_plain_laws.proofs.Empty.{first_none, second_none}
 use Rattle.im_check_functions.proofs.Strings.{external_strings}
 

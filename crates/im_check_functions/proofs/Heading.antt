@@ -1,30 +1,28 @@
 -- Heads of function definitions.
-use Rattle.std.proofs.Common.{◌≡◌, ℕ, ◌+◌, Bool, true, false, ◌&&◌, ◌||◌, is_some, List, [], ◌∷◌, ◌++◌, map, length, Option, Some, None, Vec, Global, inl, refl, sym, ap, ◌∙◌, subst}
+use Rattle.std.proofs.Common.{◌≡◌, ℕ, Bool, true, false, ◌&&◌, ◌||◌, is_some, List, [], ◌∷◌, ◌++◌, map, Option, Some, None, Vec, Global, inl, refl, sym, ap, ◌∙◌, subst}
 use Rattle.std.proofs.lemmas.List.{append-nil}
 use Rattle.im_word.specs.Words.{Name}
 use Rattle.im_ctree.specs.Tree as t
-use Rattle.im_ctree.specs.Shape.{declarator_of, core_of}
+use Rattle.im_ctree.specs.Shape.{declarator_of}
 use Rattle.im_ctree.specs.declared.declarator.Declarator.{Declarator, out-Declarator}
 use Rattle.im_ctype.specs.Types.{CType, is_function}
 use Rattle.im_rules.specs.BodyBreaks.{declarator_token}
-use Rattle.im_rules.specs.Breaks.{Broken, a_declarator}
+use Rattle.im_rules.specs.Breaks.{a_declarator}
 use Rattle.im_rules.specs.Context.{in_new_scope}
 use Rattle.im_rules.specs.Declared as d
-use Rattle.im_rules.specs.Demands.{Demand, Meets, Refuses}
-use Rattle.im_rules.specs.FileScope.{FilePlace, of_the_file, past_strings, file_asks, file_entity, own_parameters, has_own_parameters, body_asks}
+use Rattle.im_rules.specs.Demands.{Meets, Refuses}
+use Rattle.im_rules.specs.FileScope.{FilePlace, of_the_file, file_asks, file_entity, own_parameters, has_own_parameters, body_asks}
 use Rattle.im_rules.specs.Outline.{Outline, Nearest, bare, a_star, a_length, parameters, nearest, suffix_or}
 use Rattle.im_rules.specs.Rules.{rule_9_void, all_named, rule_11, is_typedef}
 use Rattle.im_rules.specs.Scopes.{Scopes, named}
-use Rattle.im_rules.specs.Statements.{name_of}
 use Rattle.im_rules.specs.Strings.{strings_of_declarator}
-use Rattle.im_rules.specs.Typed.{Declares, AreParameters}
-use Rattle.im_rules.specs.TypedUnit.{Specify, past_head}
+use Rattle.im_rules.specs.Typed.{AreParameters}
+use Rattle.im_rules.specs.TypedUnit.{past_head}
 use Rattle.im_rules.specs.UnitBreaks.{FileBroken, an_external, file_specifiers, within_file, function_specifiers, in_file_inner, function_declarator, at_its_head, at_head, at_function}
 use Rattle.im_rules.specs.TypeTests.{result_of}
 use Rattle.im_terms.specs.declared.stop.Stop.{Stop}
 use Rattle.im_terms.specs.declared.stop.Stop.TheVariants.{Rule, Memory}
 use Rattle.im_terms.specs.Answers.{IsRefusal}
-use Rattle.im_terms.specs.Shape.{type_of}
 use Rattle.im_names.specs.declared.entity.Signature.{Signature}
 use Rattle.im_names.specs.declared.scope.Scope.{Scope}
 use Rattle.im_names.specs.Shape.{context_of, bytes_of, scopes_of, outline_of}
@@ -48,8 +46,7 @@ use Rattle.im_check_names.specs.Asked.{asks_of, entity_in, IsNamed}
 use Rattle.im_check_file.specs.declared.file.File.{File}
 use Rattle.im_check_file.specs.Files.{place_of}
 use Rattle.im_check_declarations.proofs.Sites.{same_outline}
-use Rattle.im_check_functions.specs.declared.heads.Headed.{Headed}
-use Rattle.im_check_functions.specs.Heads.{has_named, HeadAt, HeadDone, IsHeadFault}
+use Rattle.im_check_functions.specs.Heads.{has_named, HeadDone, IsHeadFault}
 use Rattle.im_plain_laws.proofs.Empty.{no_declared}
 use Rattle.im_check_functions.proofs.Parameters.{context_by}
 use Rattle.im_check_functions.proofs.Strings.{specified_strings}
@@ -166,7 +163,7 @@ behind_head base here scope names whole xs e y p same is_named grown =
     let g : scopes_of scope.entries.items ≡ named x (file_entity (outline_of base) xs x y.constant a) (scopes_of base.entries.items) =
     is_named.scopes ∙ ap (λ z. named x (file_entity z xs x y.constant a) (scopes_of here.entries.items)) o ∙ ap (λ z. named x (file_entity (outline_of base) xs x y.constant a) (scopes_of z)) same.entries in
     sym (ap (λ z. place_by z (outline_of scope) (map bytes_of whole.items) p') g ∙ ap (λ z. place_by (named x (file_entity (outline_of base) xs x y.constant a) (scopes_of base.entries.items)) z (map bytes_of whole.items) p') u
-        ∙ ap (λ z. place_by (named x (file_entity (outline_of base) xs x y.constant a) (scopes_of base.entries.items)) (outline_of base) z p') grown)
+    ∙ ap (λ z. place_by (named x (file_entity (outline_of base) xs x y.constant a) (scopes_of base.entries.items)) (outline_of base) z p') grown)
 
 -- a head is typed
 

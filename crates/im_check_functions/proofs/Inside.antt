@@ -1,5 +1,5 @@
 -- A body in the scope of its parameters.
-use Rattle.std.proofs.Common.{◌≡◌, ℕ, false, List, [], ◌∷◌, ◌++◌, map, length, take, refl, sym, ap, ◌∙◌, subst, append_assoc}
+use Rattle.std.proofs.Common.{◌≡◌, ℕ, false, List, [], ◌∷◌, ◌++◌, map, length, take, sym, ap, ◌∙◌, subst, append_assoc}
 use Rattle.std.proofs.lemmas.List.{append-nil, length-map, map-append}
 use Rattle.std.proofs.Math.Seq.{take-append_seam}
 use Rattle.im_ctree.specs.Shape.{block_items_of}
@@ -19,7 +19,7 @@ use Rattle.im_names.specs.Shape.{context_of, scopes_of}
 use Rattle.im_names.proofs.Entries.{with-append}
 use Rattle.im_check_declarators.specs.declared.formal.Formal.{Formal}
 use Rattle.im_check_declarators.specs.Formals.{declared_from}
-use Rattle.im_check_declarators.specs.Functions.{IsSame, IsOpened}
+use Rattle.im_check_declarators.specs.Functions.{IsOpened}
 use Rattle.im_check_declarations.specs.declared.site.Local.{Local}
 use Rattle.im_check_declarations.specs.declared.site.Surroundings.{Surroundings}
 use Rattle.im_check_declarations.specs.Sites.{object_in, site_of, IsBodyFault, added_by}

@@ -1,5 +1,5 @@
 -- Blocks of plain trees have no string literals.
-use Rattle.std.proofs.Common.{◌≡◌, ℕ, Bool, true, false, if◌then◌else◌, List, [], ◌∷◌, ◌++◌, Option, Some, None, refl}
+use Rattle.std.proofs.Common.{◌≡◌, ℕ, Bool, true, false, if◌then◌else◌, [], Some, None, refl}
 use Rattle.im_ctree.specs.Tree as t
 use Rattle.im_rules.specs.Strings.{strings_of_declarator}
 use Rattle.im_plain.specs.Plain.{or_else, is_name, unless_name, other_in, other_maybe, other_listed, other_given, other_initializers, other_initializer, other_locals, other_declaration, other_first, other_statement, other_otherwise, other_items}

@@ -1,18 +1,16 @@
 -- Parameters in scope and as objects, one behind the other.
-use Rattle.std.proofs.Common.{◌≡◌, ℕ, suc, ◌+◌, List, [], ◌∷◌, ◌++◌, map, length, drop, Option, Some, None, Vec, Global, Result, Ok, Err, MatchResult, refl, sym, ap, ◌∙◌, append_assoc}
+use Rattle.std.proofs.Common.{◌≡◌, ℕ, suc, ◌+◌, List, [], ◌∷◌, ◌++◌, map, length, drop, Some, None, Vec, Global, Result, Ok, Err, MatchResult, refl, sym, ap, ◌∙◌, append_assoc}
 use Rattle.std.proofs.lemmas.List.{append-nil}
 use Rattle.im_ctype.specs.declared.integer.Integer.{Integer}
 use Rattle.im_ctype.specs.Types.{integer}
-use Rattle.im_typed.specs.Program.{LocalObject}
 use Rattle.im_rules.specs.Context.{Context}
-use Rattle.im_rules.specs.Declared.{Declared, with_parameter}
+use Rattle.im_rules.specs.Declared.{Declared}
 use Rattle.im_rules.specs.Outline.{Outline}
 use Rattle.im_rules.specs.Scopes.{Scopes, nothing, named, an_object, local_object}
 use Rattle.im_rules.specs.TypedUnit.{parameter_objects}
 use Rattle.im_terms.specs.declared.plain.PlainType.TheVariants as p
 use Rattle.im_terms.specs.declared.stop.Stop.{Stop}
 use Rattle.im_terms.specs.Answers.{IsNoRule}
-use Rattle.im_names.specs.declared.entity.Entry.{Entry}
 use Rattle.im_names.specs.declared.scope.Scope.{Scope}
 use Rattle.im_names.specs.Shape.{context_of, scopes_of, outline_of}
 use Rattle.im_names.proofs.Entries.{with-append}

@@ -1,5 +1,5 @@
 -- What is typed of plain trees at file scope passes no string literal.
-use Rattle.std.proofs.Common.{◌≡◌, ℕ, ℤ, List, [], ◌∷◌, ◌++◌, Option, Some, None, refl, sym, ap, ◌∙◌}
+use Rattle.std.proofs.Common.{◌≡◌, ℕ, ℤ, List, [], ◌∷◌, ◌++◌, Option, Some, None, refl, ap, ◌∙◌}
 use Rattle.std.proofs.lemmas.List.{append-nil}
 use Rattle.im_word.specs.Words.{Name}
 use Rattle.im_ctree.specs.Tree as t
@@ -9,7 +9,6 @@ use Rattle.im_rules.specs.Declared.{Qualified}
 use Rattle.im_rules.specs.FileScope.{FilePlace, of_the_file, with_enum_tag}
 use Rattle.im_rules.specs.Initialisers.{completed}
 use Rattle.im_rules.specs.Rules.{named_in}
-use Rattle.im_rules.specs.Strings.{strings_of_declarator, strings_maybe}
 use Rattle.im_rules.specs.TypedUnit.{Specify, of_specifiers, NamesType, no_list, a_struct, an_enum, AreEnumerators, no_enumerator, an_enumerator, FirstValues, AreDeclared, none_declared, one_declared, given_strings, TypedExternal, of_declaration}
 use Rattle.im_plain.specs.Plain.{or_else, other_maybe, other_listed, other_specifier, other_enumerators, other_specifiers, other_declarator, other_initializer, other_declared, other_external}
 use Rattle.im_plain_laws.proofs.Empty.{first_none, second_none, no_maybe, no_declared, no_given}

@@ -1,7 +1,6 @@
 -- What is answered of a function's parameters as objects, and of its body.
 use Rattle.std.specs.Prelude.{◌≡◌, ℕ, ◌+◌, List, [], ◌∷◌, ◌++◌, map, drop, length}
 use Rattle.im_ctree.specs.Tree as t
-use Rattle.im_typed.specs.declared.statement.Stmt as rs
 use Rattle.im_typed.specs.Program.{Stmts, Block, LocalObject}
 use Rattle.im_rules.specs.Context.{Context, in_new_scope}
 use Rattle.im_rules.specs.Declared.{Declared, with_parameter}

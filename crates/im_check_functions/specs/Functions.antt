@@ -1,7 +1,7 @@
 -- What is answered of function definitions, and of external declarations in order.
-use Rattle.std.specs.Prelude.{◌≡◌, ℕ, List, [], ◌∷◌, ◌++◌, map, drop, None}
+use Rattle.std.specs.Prelude.{◌≡◌, ℕ, List, ◌++◌, map, drop, None}
 use Rattle.im_ctree.specs.Tree as t
-use Rattle.im_ctree.specs.Shape.{external_of, externals_of}
+use Rattle.im_ctree.specs.Shape.{externals_of}
 use Rattle.im_ctree.specs.declared.unit.External.{External}
 use Rattle.im_typed.specs.Program.{Func}
 use Rattle.im_rules.specs.FileScope.{FilePlace}

@@ -1,7 +1,6 @@
 -- What is answered of the head of a function definition.
 use Rattle.std.specs.Prelude.{◌≡◌, ℕ, Bool, true, false, ◌||◌, List, map, None}
 use Rattle.im_ctree.specs.Tree as t
-use Rattle.im_ctype.specs.Types.{CType}
 use Rattle.im_rules.specs.TypeTests.{result_of}
 use Rattle.im_rules.specs.Rules.{rule_9_void, all_named}
 use Rattle.im_rules.specs.Outline.{Nearest, parameters, nearest}

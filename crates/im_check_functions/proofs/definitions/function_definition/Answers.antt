@@ -1,4 +1,3 @@
-use Rattle.std.proofs.Common.{ap, sym, ◌∙◌}
 use Rattle.std.proofs.lemmas.Result.{err_from_is_err_and}
 use Rattle.im_ctree.specs.Shape.{declarator_of, block_items_of}
 use Rattle.im_ctree.specs.declared.specifier.Specifiers.{out-Specifiers}

@@ -1,4 +1,3 @@
-use Rattle.std.proofs.Common.{◌≡◌}
 use Rattle.im_check_functions.specs.Bodies.{FormalsPast}
 use Rattle.im_check_functions.proofs.formals.with_formals.Given as goal
 

@@ -1,4 +1,4 @@
-use Rattle.std.proofs.Common.{ap, sym, map, ◌∙◌}
+use Rattle.std.proofs.Common.{sym, map, ◌∙◌}
 use Rattle.std.proofs.lemmas.Result.{err_from_is_err_and}
 use Rattle.im_ctree.specs.Shape.{declarator_of}
 use Rattle.im_names.specs.Shape.{bytes_of}

@@ -1,4 +1,3 @@
-use Rattle.im_ctree.specs.Shape.{external_of}
 use Rattle.im_check_functions.proofs.Externals.{declaration_checked}
 use Rattle.im_check_functions.proofs.units.external_declaration.Goals as goal
 
