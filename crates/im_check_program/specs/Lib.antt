@@ -1,0 +1,3 @@
+pub mod Firsts
+pub mod Programs
+pub mod Tables
