@@ -1,6 +1,6 @@
 -- A source is built and its image stored: the stages put together.
 use Rattle.std.proofs.Common.{◌≡◌, ℕ, take, inl, inr, List, refl, ap, ◌∙◌}
-use Rattle.im_io.specs.Shelf.{Files, ShelfState, Told, SameFiles, with_file}
+use Rattle.im_io.specs.Shelf.{Files, ShelfState, Told, with_file}
 use Rattle.im_io.specs.Whole.{HasWhole, HoldsText}
 use Rattle.im_io.proofs.Files.{told_then, same_counts, then_faulted}
 use Rattle.im_image.specs.Contents.{ImageValue}

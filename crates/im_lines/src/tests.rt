@@ -112,7 +112,7 @@ fn over<'a>(quantity: Quantity, count: u64) -> Refusal<'a> {
 
 #[test]
 fn refusals(rt: HostRuntime) -> Result<(), Fail> {
-    let rows: [(Refusal, &str); 33] = [
+    let rows: [(Refusal, &str); 23] = [
         (Refusal::CannotRead("a.c"), "cannot read a.c"),
         (
             Refusal::SourceTooLong("a.c"),
@@ -123,35 +123,13 @@ fn refusals(rt: HostRuntime) -> Result<(), Fail> {
             "a.c: not yet compiled",
         ),
         (in_line(3, LineFault::Syntax), "a.c:3: syntax"),
-        (in_line(1, LineFault::BadByte), "a.c:1: bad byte"),
-        (in_line(2, LineFault::OpenComment), "a.c:2: open comment"),
-        (in_line(5, LineFault::OpenLiteral), "a.c:5: open literal"),
-        (in_line(6, LineFault::BadEscape), "a.c:6: bad escape"),
-        (in_line(7, LineFault::BadNumber), "a.c:7: bad number"),
-        (in_line(8, LineFault::BadDirective), "a.c:8: bad directive"),
         (
             in_line(4194305, LineFault::Nesting),
             "a.c:4194305: nesting over 200",
         ),
         (in_line(2, LineFault::Rule(17)), "a.c:2: rule 17"),
-        (
-            over(Quantity::Source, 4194305),
-            "a.c: source 4194305 over 4194304",
-        ),
         (over(Quantity::Parameters, 9), "a.c: parameters 9 over 8"),
-        (
-            over(Quantity::Size, 1048577),
-            "a.c: size 1048577 over 1048576",
-        ),
-        (
-            over(Quantity::Statics, 1048580),
-            "a.c: statics 1048580 over 1048576",
-        ),
         (over(Quantity::Frame, 65540), "a.c: frame 65540 over 65536"),
-        (
-            over(Quantity::Code, 1044484),
-            "a.c: code 1044484 over 1044480",
-        ),
         (
             Refusal::NotAnImage("i", ImageFault::ShortImage(35)),
             "i: short image at 35",

@@ -154,7 +154,10 @@ fn sources_are_refused(rt: HostRuntime) -> Result<(), Fail> {
     // A source, and why it is refused.
     let table: [(&[u8], &[u8]); 9] = [
         (b"", b"intermit: s.c:1: syntax\n"),
-        (b"int main(void){\nreturn 7;\n", b"intermit: s.c:3: syntax\n"),
+        (
+            b"int main(void){\nreturn 7;\n",
+            b"intermit: s.c:3: syntax\n",
+        ),
         (b"int x;\n@", b"intermit: s.c:2: bad byte\n"),
         (b"#define N 3", b"intermit: s.c:1: bad directive\n"),
         (
