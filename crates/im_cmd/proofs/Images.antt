@@ -7,7 +7,7 @@ use Rattle.im_image.specs.Contents.{ImageValue, IsImage}
 use Rattle.im_image.specs.Text.{image_text}
 use Rattle.im_image.specs.Faults.{fault_of}
 use Rattle.im_image.specs.declared.fault.ImageFault.{ImageFault}
-use Rattle.im_lines.specs.Refusals.{Refused, CannotRead, SourceTooLong, NotCompiled, NotAnImage, CannotWrite, InputTooLong, FileTooLong, NotATrace, TornStores, NoMemory}
+use Rattle.im_lines.specs.Refusals.{Refused, CannotRead, SourceTooLong, BadSource, NotAnImage, CannotWrite, InputTooLong, FileTooLong, NotATrace, TornStores, NoMemory}
 use Rattle.im_cmd.specs.Files.{ReadsFile, RefusesFile}
 use Rattle.im_cmd.specs.Images.{HoldsImage, HoldsNoImage, ReadsImage, RefusesImage, image_limit}
 
@@ -28,7 +28,7 @@ image_file_refused (CannotRead other) name a b h = h
 image_file_refused (FileTooLong other most) name a b h = h
 image_file_refused NoMemory name a b h = h
 image_file_refused (SourceTooLong other) name a b h = absurd h
-image_file_refused (NotCompiled other) name a b h = absurd h
+image_file_refused (BadSource other fault) name a b h = absurd h
 image_file_refused (NotAnImage other fault) name a b h = absurd h
 image_file_refused (CannotWrite other) name a b h = absurd h
 image_file_refused (InputTooLong count most) name a b h = absurd h

@@ -1,13 +1,3 @@
-pub mod Constants
-pub mod Stores
-pub mod Walks
-pub mod Words
-pub mod Runs
-pub mod Untorn
-pub mod Loading
-pub mod Compiling
-pub mod Texts
-pub mod Built
 pub mod Builds
 pub mod Images
 pub mod Upgrades

@@ -15,7 +15,7 @@ use Rattle.im_device.specs.Periods.{fresh, power}
 use Rattle.im_emu.specs.State.{Held, SameImage, counted, device_of}
 use Rattle.im_num.specs.Variables.{Variable}
 use Rattle.im_cli.specs.Named.{Options}
-use Rattle.im_lines.specs.Refusals.{Refused, CannotRead, SourceTooLong, NotCompiled, NotAnImage, CannotWrite, InputTooLong, FileTooLong, NotATrace, TornStores, NoMemory}
+use Rattle.im_lines.specs.Refusals.{Refused, CannotRead, SourceTooLong, BadSource, NotAnImage, CannotWrite, InputTooLong, FileTooLong, NotATrace, TornStores, NoMemory}
 use Rattle.im_cmd.specs.Files.{Unchanged, ReadsFile, RefusesFile, Unreadable, failed, absent, IsOver}
 use Rattle.im_cmd.specs.Runs.{IsFile, Holds, IsInput, ArePeriods, TakesInput, IsNext, RefusesRun, needs_form, run_file_limit}
 use Rattle.im_cmd.specs.Outcome.{shown}
@@ -69,7 +69,7 @@ input_refused (CannotRead other) options name a b e h = (e ∙ ap Some (sym h.0)
 input_refused (FileTooLong other most) options name a b e h = (e ∙ ap Some (sym h.0), h.1, subst (λ n. IsOver n run_file_limit a b) (sym h.0) h.2)
 input_refused NoMemory options name a b e h = h
 input_refused (SourceTooLong other) options name a b e h = absurd h
-input_refused (NotCompiled other) options name a b e h = absurd h
+input_refused (BadSource other fault) options name a b e h = absurd h
 input_refused (NotAnImage other fault) options name a b e h = absurd h
 input_refused (CannotWrite other) options name a b e h = absurd h
 input_refused (InputTooLong count most) options name a b e h = absurd h
@@ -100,7 +100,7 @@ trace_file_refused (CannotRead other) name a b h = h
 trace_file_refused (FileTooLong other most) name a b h = h
 trace_file_refused NoMemory name a b h = h
 trace_file_refused (SourceTooLong other) name a b h = absurd h
-trace_file_refused (NotCompiled other) name a b h = absurd h
+trace_file_refused (BadSource other fault) name a b h = absurd h
 trace_file_refused (NotAnImage other fault) name a b h = absurd h
 trace_file_refused (CannotWrite other) name a b h = absurd h
 trace_file_refused (InputTooLong count most) name a b h = absurd h
@@ -123,7 +123,7 @@ trace_refused (NotATrace other fault) options name a b e h = (e ∙ ap Some (sym
 trace_refused TornStores options name a b e h = absurd h
 trace_refused NoMemory options name a b e h = h
 trace_refused (SourceTooLong other) options name a b e h = absurd h
-trace_refused (NotCompiled other) options name a b e h = absurd h
+trace_refused (BadSource other fault) options name a b e h = absurd h
 trace_refused (NotAnImage other fault) options name a b e h = absurd h
 trace_refused (CannotWrite other) options name a b e h = absurd h
 trace_refused (InputTooLong count most) options name a b e h = absurd h
@@ -135,7 +135,7 @@ run_input_refused (CannotRead name) image options a b h = (inl h.0, h.1)
 run_input_refused (FileTooLong name most) image options a b h = (inl h.0, h.1, h.2)
 run_input_refused NoMemory image options a b h = h
 run_input_refused (SourceTooLong name) image options a b h = absurd h
-run_input_refused (NotCompiled name) image options a b h = absurd h
+run_input_refused (BadSource name fault) image options a b h = absurd h
 run_input_refused (NotAnImage name fault) image options a b h = absurd h
 run_input_refused (CannotWrite name) image options a b h = absurd h
 run_input_refused (InputTooLong count most) image options a b h = absurd h
@@ -154,7 +154,7 @@ run_load_refused (InputTooLong count most) image options input a b read h = reco
 run_load_refused NoMemory image options input a b read h = read.unchanged
 run_load_refused (CannotRead name) image options input a b read h = absurd h
 run_load_refused (SourceTooLong name) image options input a b read h = absurd h
-run_load_refused (NotCompiled name) image options input a b read h = absurd h
+run_load_refused (BadSource name fault) image options input a b read h = absurd h
 run_load_refused (NotAnImage name fault) image options input a b read h = absurd h
 run_load_refused (CannotWrite name) image options input a b read h = absurd h
 run_load_refused (FileTooLong name most) image options input a b read h = absurd h
@@ -187,7 +187,7 @@ run_periods_refused (NotATrace name fault) options image input loaded a b c read
 run_periods_refused TornStores options image input loaded a b c read l h = absurd h
 run_periods_refused NoMemory options image input loaded a b c read l h = unchanged_then a b c read.unchanged h
 run_periods_refused (SourceTooLong name) options image input loaded a b c read l h = absurd h
-run_periods_refused (NotCompiled name) options image input loaded a b c read l h = absurd h
+run_periods_refused (BadSource name fault) options image input loaded a b c read l h = absurd h
 run_periods_refused (NotAnImage name fault) options image input loaded a b c read l h = absurd h
 run_periods_refused (CannotWrite name) options image input loaded a b c read l h = absurd h
 run_periods_refused (InputTooLong count most) options image input loaded a b c read l h = absurd h

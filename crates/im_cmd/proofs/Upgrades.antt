@@ -6,7 +6,7 @@ use Rattle.im_io.proofs.Files.{told_then, told_as, same_counts, then_faulted}
 use Rattle.im_image.specs.Contents.{ImageValue}
 use Rattle.im_image.specs.Text.{image_text}
 use Rattle.im_image.specs.Upgrade.{upgraded}
-use Rattle.im_lines.specs.Refusals.{Refused, CannotRead, SourceTooLong, NotCompiled, NotAnImage, CannotWrite, InputTooLong, FileTooLong, NotATrace, TornStores, NoMemory}
+use Rattle.im_lines.specs.Refusals.{Refused, CannotRead, SourceTooLong, BadSource, NotAnImage, CannotWrite, InputTooLong, FileTooLong, NotATrace, TornStores, NoMemory}
 use Rattle.im_cmd.specs.Images.{HoldsImage, ReadsImage, RefusesImage}
 use Rattle.im_cmd.specs.Stages.{HoldsPart, StoresText, RefusesStore}
 use Rattle.im_cmd.specs.Upgrades.{HoldsUpgrade, HoldsHalf, Upgrades, RefusesUpgrade}
@@ -41,7 +41,7 @@ upgrade_unread (FileTooLong other limit) source target a b h = h
 upgrade_unread (NotAnImage other fault) source target a b h = h
 upgrade_unread NoMemory source target a b h = h
 upgrade_unread (SourceTooLong other) source target a b h = absurd h
-upgrade_unread (NotCompiled other) source target a b h = absurd h
+upgrade_unread (BadSource other fault) source target a b h = absurd h
 upgrade_unread (CannotWrite other) source target a b h = absurd h
 upgrade_unread (InputTooLong count limit) source target a b h = absurd h
 upgrade_unread (NotATrace other fault) source target a b h = absurd h
@@ -63,7 +63,7 @@ upgrade_unwritten NoMemory source target image a b c read h = record {
 }
 upgrade_unwritten (CannotRead other) source target image a b c read h = absurd h
 upgrade_unwritten (SourceTooLong other) source target image a b c read h = absurd h
-upgrade_unwritten (NotCompiled other) source target image a b c read h = absurd h
+upgrade_unwritten (BadSource other fault) source target image a b c read h = absurd h
 upgrade_unwritten (NotAnImage other fault) source target image a b c read h = absurd h
 upgrade_unwritten (InputTooLong count limit) source target image a b c read h = absurd h
 upgrade_unwritten (FileTooLong other limit) source target image a b c read h = absurd h

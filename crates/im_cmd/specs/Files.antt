@@ -2,7 +2,7 @@
 use Rattle.std.specs.Prelude.{◌≡◌, ℕ, ◌≤◌, List, length}
 use Rattle.im_io.specs.Shelf.{ShelfState, WhereTold, SameCounts, ReadFaulted, WasAbsent, SameFiles, NotThere}
 use Rattle.im_io.specs.Whole.{HasWhole, IsLonger}
-use Rattle.im_lines.specs.Refusals.{Refused, CannotRead, SourceTooLong, NotCompiled, NotAnImage, CannotWrite, InputTooLong, FileTooLong, NotATrace, TornStores, NoMemory}
+use Rattle.im_lines.specs.Refusals.{Refused, CannotRead, SourceTooLong, BadSource, NotAnImage, CannotWrite, InputTooLong, FileTooLong, NotATrace, TornStores, NoMemory}
 
 -- no count rose, and no file changed
 pub record Unchanged (old new : ShelfState) : Type 0 where
@@ -31,7 +31,7 @@ RefusesFile (CannotRead other) name limit old new = (other ≡ name) × Unreadab
 RefusesFile (FileTooLong other most) name limit old new = (other ≡ name) × (most ≡ limit) × IsOver name limit old new
 RefusesFile NoMemory name limit old new = Unchanged old new
 RefusesFile (SourceTooLong other) name limit old new = ⊥
-RefusesFile (NotCompiled other) name limit old new = ⊥
+RefusesFile (BadSource other fault) name limit old new = ⊥
 RefusesFile (NotAnImage other fault) name limit old new = ⊥
 RefusesFile (CannotWrite other) name limit old new = ⊥
 RefusesFile (InputTooLong count most) name limit old new = ⊥

@@ -5,7 +5,7 @@ use Rattle.im_image.specs.Contents.{ImageValue, IsImage}
 use Rattle.im_image.specs.Text.{image_text}
 use Rattle.im_image.specs.Faults.{fault_of}
 use Rattle.im_image.specs.declared.fault.ImageFault.{ImageFault}
-use Rattle.im_lines.specs.Refusals.{Refused, CannotRead, SourceTooLong, NotCompiled, NotAnImage, CannotWrite, InputTooLong, FileTooLong, NotATrace, TornStores, NoMemory}
+use Rattle.im_lines.specs.Refusals.{Refused, CannotRead, SourceTooLong, BadSource, NotAnImage, CannotWrite, InputTooLong, FileTooLong, NotATrace, TornStores, NoMemory}
 use Rattle.im_cmd.specs.Files.{Unchanged, Unreadable, IsOver}
 
 -- bytes of an image's file
@@ -42,7 +42,7 @@ RefusesImage (FileTooLong other limit) name old new = (other ≡ name) × (limit
 RefusesImage (NotAnImage other fault) name old new = (other ≡ name) × IsNoImage name fault old new
 RefusesImage NoMemory name old new = Unchanged old new
 RefusesImage (SourceTooLong other) name old new = ⊥
-RefusesImage (NotCompiled other) name old new = ⊥
+RefusesImage (BadSource other fault) name old new = ⊥
 RefusesImage (CannotWrite other) name old new = ⊥
 RefusesImage (InputTooLong count limit) name old new = ⊥
 RefusesImage (NotATrace other fault) name old new = ⊥

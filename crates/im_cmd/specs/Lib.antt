@@ -1,8 +1,3 @@
-pub mod Source
-pub mod Reading
-pub mod Straight
-pub mod Compiled
-pub mod Keeps
 pub mod Files
 pub mod Builds
 pub mod Images

@@ -14,14 +14,14 @@ use Rattle.im_lines.specs.declared.ending.Ending.TheVariants.{Returned, StackExh
 use Rattle.im_lines.specs.Builds.{build_lines}
 use Rattle.im_lines.specs.Runs.{ending_of, run_lines}
 use Rattle.im_lines.specs.Variables.{variable_lines}
-use Rattle.im_lines.specs.Refusals.{Refused, CannotRead, SourceTooLong, NotCompiled, NotAnImage, CannotWrite, InputTooLong, FileTooLong, NotATrace, TornStores, NoMemory, refusal_line}
+use Rattle.im_lines.specs.Refusals.{Refused, CannotRead, SourceTooLong, BadSource, NotAnImage, CannotWrite, InputTooLong, FileTooLong, NotATrace, TornStores, NoMemory, refusal_line}
 
 -- ---- exit statuses
 
 abbrev pub refusal_status : Refused → ℕ
 refusal_status (CannotRead name) = 7
 refusal_status (SourceTooLong name) = 3
-refusal_status (NotCompiled name) = 3
+refusal_status (BadSource name fault) = 3
 refusal_status (NotAnImage name fault) = 5
 refusal_status (CannotWrite name) = 8
 refusal_status (InputTooLong count limit) = 13

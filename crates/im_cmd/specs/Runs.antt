@@ -12,7 +12,7 @@ use Rattle.im_mem.specs.Map.{input_capacity}
 use Rattle.im_device.specs.Periods.{Device, fresh, power}
 use Rattle.im_device.specs.Load.{memory_of}
 use Rattle.im_cli.specs.Named.{Options}
-use Rattle.im_lines.specs.Refusals.{Refused, CannotRead, SourceTooLong, NotCompiled, NotAnImage, CannotWrite, InputTooLong, FileTooLong, NotATrace, TornStores, NoMemory}
+use Rattle.im_lines.specs.Refusals.{Refused, CannotRead, SourceTooLong, BadSource, NotAnImage, CannotWrite, InputTooLong, FileTooLong, NotATrace, TornStores, NoMemory}
 use Rattle.im_cmd.specs.Files.{Unchanged, Unreadable, IsOver}
 
 -- bytes of an input's or a trace's file
@@ -113,6 +113,6 @@ RefusesRun (NotATrace name fault) image options old new = HasNoTrace name fault 
 RefusesRun TornStores image options old new = HasTornStores image options old new
 RefusesRun NoMemory image options old new = Unchanged old new
 RefusesRun (SourceTooLong name) image options old new = ⊥
-RefusesRun (NotCompiled name) image options old new = ⊥
+RefusesRun (BadSource name fault) image options old new = ⊥
 RefusesRun (NotAnImage name fault) image options old new = ⊥
 RefusesRun (CannotWrite name) image options old new = ⊥

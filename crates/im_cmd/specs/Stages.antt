@@ -18,10 +18,9 @@ use Rattle.im_num.specs.Variables.{Variable, variable_of}
 use Rattle.im_cli.specs.declared.fault.WordsFault.{WordsFault}
 use Rattle.im_cli.specs.declared.fault.WordsFault.TheVariants as fault
 use Rattle.im_cli.specs.Named.{Options}
-use Rattle.im_lines.specs.Refusals.{Refused, CannotRead, SourceTooLong, NotCompiled, NotAnImage, CannotWrite, InputTooLong, FileTooLong, NotATrace, TornStores, NoMemory, refusal_line}
-use Rattle.im_cmd.specs.Source.{Printing}
+use Rattle.im_lines.specs.Refusals.{Refused, CannotRead, SourceTooLong, BadSource, NotAnImage, CannotWrite, InputTooLong, FileTooLong, NotATrace, TornStores, NoMemory, refusal_line}
 use Rattle.im_cmd.specs.Files.{Unchanged, Unreadable, IsOver}
-use Rattle.im_cmd.specs.Builds.{Spells, NotOfTheForm, source_limit}
+use Rattle.im_cmd.specs.Builds.{IsFaulty, source_limit}
 use Rattle.im_cmd.specs.Runs.{Holds, IsInput, HoldsTrace, ArePeriods, RunsImage, run_file_limit}
 use Rattle.im_cmd.specs.Outcome.{Got, shown, no_output_line, refusal_status}
 
@@ -33,27 +32,32 @@ ended_of machine = device_of view machine
 abbrev pub variables_of : {V : Type 0} → (V → List Var) → Option V → Option (List Variable)
 variables_of items = option_map (λ vars. map variable_of (items vars))
 
--- ---- reading the program of a source file
+-- ---- reading and compiling a source
 
-pub record HasProgram (source : List ℕ) (program : Printing) (old new : Told) : Type 0 where
-  pub files : new.files ≡ old.files
-  pub spelled : Spells source program old
+abbrev pub RefusesSource : Refused → List ℕ → ShelfState → ShelfState → Type 0
+RefusesSource (CannotRead name) source old new = (name ≡ source) × Unreadable source old new
+RefusesSource (SourceTooLong name) source old new = (name ≡ source) × IsOver source source_limit old new
+RefusesSource NoMemory source old new = Unchanged old new
+RefusesSource (BadSource name fault) source old new = ⊥
+RefusesSource (NotAnImage name fault) source old new = ⊥
+RefusesSource (CannotWrite name) source old new = ⊥
+RefusesSource (InputTooLong count limit) source old new = ⊥
+RefusesSource (FileTooLong name limit) source old new = ⊥
+RefusesSource (NotATrace name fault) source old new = ⊥
+RefusesSource TornStores source old new = ⊥
 
-pub record ReadsProgram (source : List ℕ) (program : Printing) (old new : ShelfState) : Type 0 where
-  pub counts : SameCounts old new
-  pub files : WhereTold old.told new.told (HasProgram source program)
-
-abbrev pub RefusesProgram : Refused → List ℕ → ShelfState → ShelfState → Type 0
-RefusesProgram (CannotRead name) source old new = (name ≡ source) × Unreadable source old new
-RefusesProgram (SourceTooLong name) source old new = (name ≡ source) × IsOver source source_limit old new
-RefusesProgram (NotCompiled name) source old new = (name ≡ source) × NotOfTheForm source old new
-RefusesProgram NoMemory source old new = Unchanged old new
-RefusesProgram (NotAnImage name fault) source old new = ⊥
-RefusesProgram (CannotWrite name) source old new = ⊥
-RefusesProgram (InputTooLong count limit) source old new = ⊥
-RefusesProgram (FileTooLong name limit) source old new = ⊥
-RefusesProgram (NotATrace name fault) source old new = ⊥
-RefusesProgram TornStores source old new = ⊥
+-- why the text of that file isn't compiled
+abbrev pub RefusesText : Refused → List ℕ → List ℕ → Type 0
+RefusesText (BadSource name fault) source text = (name ≡ source) × IsFaulty text fault
+RefusesText NoMemory source text = ⊤
+RefusesText (CannotRead name) source text = ⊥
+RefusesText (SourceTooLong name) source text = ⊥
+RefusesText (NotAnImage name fault) source text = ⊥
+RefusesText (CannotWrite name) source text = ⊥
+RefusesText (InputTooLong count limit) source text = ⊥
+RefusesText (FileTooLong name limit) source text = ⊥
+RefusesText (NotATrace name fault) source text = ⊥
+RefusesText TornStores source text = ⊥
 
 -- ---- writing an image's text to its file
 
@@ -73,7 +77,7 @@ RefusesStore (CannotWrite other) name text old new = (other ≡ name) × StoresP
 RefusesStore NoMemory name text old new = Unchanged old new
 RefusesStore (CannotRead other) name text old new = ⊥
 RefusesStore (SourceTooLong other) name text old new = ⊥
-RefusesStore (NotCompiled other) name text old new = ⊥
+RefusesStore (BadSource other fault) name text old new = ⊥
 RefusesStore (NotAnImage other fault) name text old new = ⊥
 RefusesStore (InputTooLong count limit) name text old new = ⊥
 RefusesStore (FileTooLong other limit) name text old new = ⊥
@@ -91,7 +95,7 @@ RefusesInput (CannotRead name) options old new = (options.input ≡ Some name) �
 RefusesInput (FileTooLong name limit) options old new = (options.input ≡ Some name) × (limit ≡ run_file_limit) × IsOver name run_file_limit old new
 RefusesInput NoMemory options old new = Unchanged old new
 RefusesInput (SourceTooLong name) options old new = ⊥
-RefusesInput (NotCompiled name) options old new = ⊥
+RefusesInput (BadSource name fault) options old new = ⊥
 RefusesInput (NotAnImage name fault) options old new = ⊥
 RefusesInput (CannotWrite name) options old new = ⊥
 RefusesInput (InputTooLong count limit) options old new = ⊥
@@ -110,7 +114,7 @@ RefusesLoad (InputTooLong count limit) input = (count ≡ length input) × (limi
 RefusesLoad NoMemory input = ⊤
 RefusesLoad (CannotRead name) input = ⊥
 RefusesLoad (SourceTooLong name) input = ⊥
-RefusesLoad (NotCompiled name) input = ⊥
+RefusesLoad (BadSource name fault) input = ⊥
 RefusesLoad (NotAnImage name fault) input = ⊥
 RefusesLoad (CannotWrite name) input = ⊥
 RefusesLoad (FileTooLong name limit) input = ⊥
@@ -145,7 +149,7 @@ RefusesTrace (NotATrace other fault) name old new = (other ≡ name) × IsNoTrac
 RefusesTrace TornStores name old new = ⊥
 RefusesTrace NoMemory name old new = Unchanged old new
 RefusesTrace (SourceTooLong other) name old new = ⊥
-RefusesTrace (NotCompiled other) name old new = ⊥
+RefusesTrace (BadSource other fault) name old new = ⊥
 RefusesTrace (NotAnImage other fault) name old new = ⊥
 RefusesTrace (CannotWrite other) name old new = ⊥
 RefusesTrace (InputTooLong count limit) name old new = ⊥
@@ -162,7 +166,7 @@ RefusesPeriods (NotATrace name fault) options old new = (options.trace ≡ Some 
 RefusesPeriods TornStores options old new = ⊥
 RefusesPeriods NoMemory options old new = Unchanged old new
 RefusesPeriods (SourceTooLong name) options old new = ⊥
-RefusesPeriods (NotCompiled name) options old new = ⊥
+RefusesPeriods (BadSource name fault) options old new = ⊥
 RefusesPeriods (NotAnImage name fault) options old new = ⊥
 RefusesPeriods (CannotWrite name) options old new = ⊥
 RefusesPeriods (InputTooLong count limit) options old new = ⊥

@@ -5,7 +5,7 @@ use Rattle.im_io.specs.Whole.{HoldsFirst, HoldsText}
 use Rattle.im_image.specs.Contents.{ImageValue, IsImage}
 use Rattle.im_image.specs.Text.{image_text}
 use Rattle.im_image.specs.Upgrade.{upgraded}
-use Rattle.im_lines.specs.Refusals.{Refused, CannotRead, SourceTooLong, NotCompiled, NotAnImage, CannotWrite, InputTooLong, FileTooLong, NotATrace, TornStores, NoMemory}
+use Rattle.im_lines.specs.Refusals.{Refused, CannotRead, SourceTooLong, BadSource, NotAnImage, CannotWrite, InputTooLong, FileTooLong, NotATrace, TornStores, NoMemory}
 use Rattle.im_cmd.specs.Files.{Unchanged, Unreadable, IsOver}
 use Rattle.im_cmd.specs.Images.{IsNoImage, image_limit}
 
@@ -42,7 +42,7 @@ RefusesUpgrade (NotAnImage name fault) source target old new = (name ≡ source)
 RefusesUpgrade (CannotWrite name) source target old new = (name ≡ target) × HalfUpgrades source target old new
 RefusesUpgrade NoMemory source target old new = Unchanged old new
 RefusesUpgrade (SourceTooLong name) source target old new = ⊥
-RefusesUpgrade (NotCompiled name) source target old new = ⊥
+RefusesUpgrade (BadSource name fault) source target old new = ⊥
 RefusesUpgrade (InputTooLong count limit) source target old new = ⊥
 RefusesUpgrade (NotATrace name fault) source target old new = ⊥
 RefusesUpgrade TornStores source target old new = ⊥

@@ -1,50 +1,54 @@
-ghost use Rattle.std.specs.Prelude.{◌≡◌, ◌+◌, length, MatchResult};
+ghost use Rattle.std.specs.Prelude.{MatchResult};
 ghost use Rattle.im_image.specs.Text.{image_text};
 ghost use Rattle.im_lines.specs.Refusals.{refused_of};
-ghost use Rattle.im_cmd.specs.Builds.{Builds, RefusesBuild};
-ghost use Rattle.im_cmd.specs.Stages.{ReadsProgram, RefusesProgram, StoresText, RefusesStore};
+ghost use Rattle.im_cmd.specs.Files.{ReadsFile};
+ghost use Rattle.im_cmd.specs.Builds.{IsBuilt, Builds, RefusesBuild, source_limit};
+ghost use Rattle.im_cmd.specs.Stages.{RefusesSource, RefusesText, StoresText, RefusesStore};
 
-use crate::compile::compile;
-use crate::source::{Program, read_program};
+use im_driver::{Built, Options, compile};
+use im_fault::SourceFault;
 use im_image::{Image, write_image};
 use im_io::{ReadFault, Shelf, read_whole, store};
 use im_lines::Refusal;
-use im_num::NoMemory;
+use im_mem::OUTPUT_CAPACITY;
 use std::alloc::Global;
 
 /// Bytes of a source.
 const SOURCE_LIMIT: u64 = 4 * 1024 * 1024;
 
-/// Instructions that recovery and a cut add to the longest way through the code.
-const CUT_AND_RECOVERY: u32 = 68;
+/// Bytes of stack.
+const STACK: u32 = 65536;
 
-/// What was built of a source.
-#[derive(Drop)]
-pub struct Built {
-    pub image: Image,
-    /// No more instructions than this are executed from power-up or a cut to the next cut or the halt.
-    pub gap: u32,
-}
-
-// The program that a source file spells.
-fn program_of<'a, H: Shelf>(
+// The text of a source file.
+fn read_source<'a, H: Shelf>(
     alloc: Global,
     shelf: &mut H,
     source: &'a str,
-) -> Result<Program, Refusal<'a>>
-    ensures { MatchResult result (λ program. ReadsProgram source.now program (H.state shelf.old) (H.state shelf.new))
-        (λ refusal. RefusesProgram (refused_of refusal) source.now (H.state shelf.old) (H.state shelf.new)) }
+) -> Result<Vec<u8>, Refusal<'a>>
+    ensures { MatchResult result (λ text. ReadsFile source.now text.items source_limit (H.state shelf.old) (H.state shelf.new))
+        (λ refusal. RefusesSource (refused_of refusal) source.now (H.state shelf.old) (H.state shelf.new)) }
 {
-    let text = match read_whole(alloc, shelf, source, SOURCE_LIMIT) {
-        Ok(text) => text,
-        Err(ReadFault::Absent) | Err(ReadFault::Fault) => return Err(Refusal::CannotRead(source)),
-        Err(ReadFault::TooLong(_)) => return Err(Refusal::SourceTooLong(source)),
-        Err(ReadFault::OutOfMemory) => return Err(Refusal::OutOfMemory),
+    match read_whole(alloc, shelf, source, SOURCE_LIMIT) {
+        Ok(text) => Ok(text),
+        Err(ReadFault::Absent) | Err(ReadFault::Fault) => Err(Refusal::CannotRead(source)),
+        Err(ReadFault::TooLong(_)) => Err(Refusal::SourceTooLong(source)),
+        Err(ReadFault::OutOfMemory) => Err(Refusal::OutOfMemory),
+    }
+}
+
+// The image of a source file's text.
+fn compile_text<'a>(alloc: Global, source: &'a str, text: &[u8]) -> Result<Built, Refusal<'a>>
+    ensures { MatchResult result (λ built. IsBuilt text.now built.image built.gap)
+        (λ refusal. RefusesText (refused_of refusal) source.now text.now) }
+{
+    let options = Options {
+        stack: STACK,
+        out_cap: OUTPUT_CAPACITY,
     };
-    match read_program(alloc, &text) {
-        Ok(Some(program)) => Ok(program),
-        Ok(None) => Err(Refusal::NotCompiled(source)),
-        Err(NoMemory::OutOfMemory) => Err(Refusal::OutOfMemory),
+    match compile(alloc, text, options) {
+        Ok(built) => Ok(built),
+        Err(SourceFault::OutOfMemory) => Err(Refusal::OutOfMemory),
+        Err(fault) => Err(Refusal::BadSource(source, fault)),
     }
 }
 
@@ -67,13 +71,6 @@ pub fn store_image<'a, H: Shelf>(
     }
 }
 
-// A bound on the instructions from power-up or a cut to the next cut or the halt.
-fn gap_of(image: &Image) -> u32
-    ensures { result ≡ length image.now.words + 68 }
-{
-    image.words.len() as u32 + CUT_AND_RECOVERY
-}
-
 /// Builds a source and stores its image.
 pub fn build<'a, H: Shelf>(
     alloc: Global,
@@ -84,17 +81,16 @@ pub fn build<'a, H: Shelf>(
     ensures { MatchResult result (λ built. Builds source.now image_name.now built.image built.gap (H.state shelf.old) (H.state shelf.new))
         (λ refusal. RefusesBuild (refused_of refusal) source.now image_name.now (H.state shelf.old) (H.state shelf.new)) }
 {
-    let program = match program_of(alloc, shelf, source) {
-        Ok(program) => program,
+    let text = match read_source(alloc, shelf, source) {
+        Ok(text) => text,
         Err(refusal) => return Err(refusal),
     };
-    let Ok(image) = compile(alloc, &program) else {
-        return Err(Refusal::OutOfMemory);
-    };
-    match store_image(alloc, shelf, image_name, &image) {
-        Ok(()) => {}
+    let built = match compile_text(alloc, source, &text) {
+        Ok(built) => built,
         Err(refusal) => return Err(refusal),
+    };
+    match store_image(alloc, shelf, image_name, &built.image) {
+        Ok(()) => Ok(built),
+        Err(refusal) => Err(refusal),
     }
-    let gap = gap_of(&image);
-    Ok(Built { image, gap })
 }

@@ -3,15 +3,11 @@
 
 mod building;
 mod commands;
-mod compile;
-mod constant;
 mod entry;
 mod files;
 mod running;
-mod source;
 mod status;
 mod stored;
-mod straight;
 mod telling;
 #[cfg(test)]
 mod tests;

@@ -2,6 +2,8 @@
 use Rattle.std.specs.Prelude.{ℕ, List, ◌++◌, codes, decimal}
 use Rattle.im_image.specs.declared.fault.ImageFault.{ImageFault}
 use Rattle.im_image.specs.declared.fault.ImageFault.TheVariants as image_fault
+use Rattle.im_fault.specs.declared.fault.SourceFault.{SourceFault}
+use Rattle.im_fault.specs.Texts.{source_fault_text}
 use Rattle.im_power.specs.declared.fault.TraceFault.{TraceFault}
 use Rattle.im_power.specs.declared.fault.TraceFault.TheVariants as trace_fault
 use Rattle.im_lines.specs.declared.refusal.Refusal.{Refusal}
@@ -11,7 +13,7 @@ use Rattle.im_lines.specs.declared.refusal.Refusal.TheVariants as refusal
 pub data Refused : Type 0 where
   CannotRead : List ℕ → Refused
   SourceTooLong : List ℕ → Refused
-  NotCompiled : List ℕ → Refused
+  BadSource : List ℕ → SourceFault → Refused
   NotAnImage : List ℕ → ImageFault → Refused
   CannotWrite : List ℕ → Refused
   -- how many bytes there are, and the most that there may be
@@ -39,7 +41,7 @@ trace_fault_text trace_fault.OutOfMemory = codes "no memory"
 abbrev pub refusal_text : Refused → List ℕ
 refusal_text (CannotRead name) = codes "cannot read " ++ name
 refusal_text (SourceTooLong name) = name ++ codes ": source 4194305 over 4194304"
-refusal_text (NotCompiled name) = name ++ codes ": not yet compiled"
+refusal_text (BadSource name fault) = name ++ source_fault_text fault
 refusal_text (NotAnImage name fault) = name ++ codes ": " ++ image_fault_text fault
 refusal_text (CannotWrite name) = codes "cannot write " ++ name
 refusal_text (InputTooLong count limit) = codes "input of " ++ decimal count ++ codes " bytes over " ++ decimal limit
@@ -56,7 +58,7 @@ refusal_line refused = codes "intermit: " ++ refusal_text refused ++ codes "\n"
 abbrev pub refused_of : Refusal → Refused
 refused_of (refusal.CannotRead name) = CannotRead name.now
 refused_of (refusal.SourceTooLong name) = SourceTooLong name.now
-refused_of (refusal.NotCompiled name) = NotCompiled name.now
+refused_of (refusal.BadSource name fault) = BadSource name.now fault
 refused_of (refusal.NotAnImage name fault) = NotAnImage name.now fault
 refused_of (refusal.CannotWrite name) = CannotWrite name.now
 refused_of (refusal.InputTooLong count limit) = InputTooLong count limit

@@ -8,6 +8,7 @@ mod instruction;
 mod numerals;
 mod refusal;
 mod runs;
+mod source_fault;
 #[cfg(test)]
 mod tests;
 mod upgrades;

@@ -2,6 +2,8 @@ ghost use Rattle.std.specs.Prelude.{◌++◌, codes, decimal};
 ghost use Rattle.im_io.specs.Whole.{Sends};
 ghost use Rattle.im_lines.specs.Refusals.{FileTooLong, InputTooLong, NotAnImage, NotATrace, refusal_line, refused_of};
 
+use crate::source_fault::send_source_fault;
+use im_fault::SourceFault;
 use im_image::ImageFault;
 use im_io::{Failed, Sink, send, send_pieces};
 use im_num::NoMemory;
@@ -13,7 +15,7 @@ use itoa::Buffer;
 pub enum Refusal<'a> {
     CannotRead(&'a str),
     SourceTooLong(&'a str),
-    NotCompiled(&'a str),
+    BadSource(&'a str, SourceFault),
     NotAnImage(&'a str, ImageFault),
     CannotWrite(&'a str),
     /// Bytes of the input, and the most that there may be.
@@ -37,8 +39,8 @@ impl<'a> From<NoMemory> for Refusal<'a> {
     }
 }
 
-// A file's name and what is wrong with it.
-fn send_about<S: Sink>(sink: &mut S, name: &str, wrong: &[u8]) -> Result<(), Failed>
+/// Sends a file's name and what is wrong with it.
+pub fn send_about<S: Sink>(sink: &mut S, name: &str, wrong: &[u8]) -> Result<(), Failed>
     ensures { Sends (codes "intermit: " ++ (name.now ++ (codes ": " ++ wrong.now)) ++ codes "\n") result (S.state sink.old) (S.state sink.new) }
 {
     send_pieces(sink, &[b"intermit: ", name.as_bytes(), b": ", wrong, b"\n"])
@@ -133,7 +135,7 @@ pub fn send_refusal_line<S: Sink>(sink: &mut S, refusal: &Refusal) -> Result<(),
             &[b"intermit: cannot read ", name.as_bytes(), b"\n"],
         ),
         Refusal::SourceTooLong(name) => send_about(sink, name, b"source 4194305 over 4194304"),
-        Refusal::NotCompiled(name) => send_about(sink, name, b"not yet compiled"),
+        Refusal::BadSource(name, fault) => send_source_fault(sink, name, fault),
         Refusal::NotAnImage(name, fault) => send_image_fault(sink, name, fault),
         Refusal::CannotWrite(name) => send_pieces(
             sink,

@@ -3,6 +3,7 @@ use crate::{
     Ending, Refusal, send_build_lines, send_dump_lines, send_refusal_line, send_run_lines,
     send_variable_lines,
 };
+use im_fault::{LineFault, Quantity, SourceFault};
 use im_image::{ImageFault, read_image};
 use im_io::{Failed, MemSink};
 use im_num::{CellValue, Var};
@@ -101,15 +102,34 @@ fn runs(rt: HostRuntime) -> Result<(), Fail> {
     Ok(())
 }
 
+fn in_line<'a>(line: u32, why: LineFault) -> Refusal<'a> {
+    Refusal::BadSource("a.c", SourceFault::Line { line, why })
+}
+
+fn over<'a>(quantity: Quantity, count: u64) -> Refusal<'a> {
+    Refusal::BadSource("a.c", SourceFault::Limit { quantity, count })
+}
+
 #[test]
 fn refusals(rt: HostRuntime) -> Result<(), Fail> {
-    let rows: [(Refusal, &str); 18] = [
+    let rows: [(Refusal, &str); 23] = [
         (Refusal::CannotRead("a.c"), "cannot read a.c"),
         (
             Refusal::SourceTooLong("a.c"),
             "a.c: source 4194305 over 4194304",
         ),
-        (Refusal::NotCompiled("a.c"), "a.c: not yet compiled"),
+        (
+            Refusal::BadSource("a.c", SourceFault::NotYet),
+            "a.c: not yet compiled",
+        ),
+        (in_line(3, LineFault::Syntax), "a.c:3: syntax"),
+        (
+            in_line(4194305, LineFault::Nesting),
+            "a.c:4194305: nesting over 200",
+        ),
+        (in_line(2, LineFault::Rule(17)), "a.c:2: rule 17"),
+        (over(Quantity::Parameters, 9), "a.c: parameters 9 over 8"),
+        (over(Quantity::Frame, 65540), "a.c: frame 65540 over 65536"),
         (
             Refusal::NotAnImage("i", ImageFault::ShortImage(35)),
             "i: short image at 35",

@@ -11,40 +11,6 @@ fn filled(alloc: Global, name: &str, byte: u8, length: usize) -> Result<File, Fa
     Ok((String::from_str(alloc, name)?, Some(bytes), 0))
 }
 
-// A source that writes so many zeros.
-fn long_source(alloc: Global, name: &str, calls: usize) -> Result<File, Fail> {
-    let mut text = Vec::from_slice(alloc, b"int main(void){")?;
-    for _ in 0..calls {
-        text.extend_from_slice(b"putchar(0);")?;
-    }
-    text.extend_from_slice(b"return 0;}")?;
-    Ok((String::from_str(alloc, name)?, Some(text), 0))
-}
-
-#[test]
-fn sources_of_as_many_calls_as_there_may_be(rt: HostRuntime) -> Result<(), Fail> {
-    let alloc = rt.alloc();
-    let mut files: Vec<File> = Vec::new(alloc);
-    files.push(long_source(alloc, "most.c", 1000)?)?;
-    files.push(long_source(alloc, "more.c", 1001)?)?;
-    files.push((String::from_str(alloc, "i")?, None, 20000))?;
-    let mut shelf = MemShelf::new(alloc, &files, &[])?;
-    let mut zeros = Vec::new(alloc);
-    zeros.resize(1000, 0)?;
-    let most = Wanted {
-        status: 0,
-        output: &zeros,
-        lines: b"code 4069\ngap 4137\nstatus 0\ncommits 0\ninstructions 4038\n",
-    };
-    tries(&rt, alloc, &mut shelf, 1000, "intermit run most.c i", &most)?;
-    let more = Wanted {
-        status: 3,
-        output: b"",
-        lines: b"intermit: more.c: not yet compiled\n",
-    };
-    tries(&rt, alloc, &mut shelf, 1000, "intermit run more.c i", &more)
-}
-
 #[test]
 fn inputs_as_long_as_they_may_be(rt: HostRuntime) -> Result<(), Fail> {
     let alloc = rt.alloc();

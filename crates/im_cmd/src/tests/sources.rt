@@ -2,207 +2,341 @@ use super::{File, Wanted, file, tries, words_of};
 use crate::top;
 use im_io::{MemShelf, MemSink};
 use std::alloc::Global;
+use std::process::Abort;
 use std::test::Fail;
 
-// Sources, two traces, an input, and room for an image that isn't there yet.
-fn shelf(alloc: Global, failing: u64) -> Result<MemShelf, Fail> {
+/// Writes `H` and returns 7.
+const HELLO: &[u8] = b"int main(void){putchar(72);return 7;}";
+
+/// Adds 1 to a static twice.
+const TWICE: &[u8] = b"int g;int main(void){g=g+1;g=g+1;putchar(g);return g;}";
+
+/// A function, a static and a loop: `bcde`, and the sum of four squares.
+const SQUARES: &[u8] = b"static int sum;
+int square(int x) { return x * x; }
+int main(void) {
+    for (int i = 1; i <= 4; i++) {
+        sum += square(i);
+        putchar('a' + i);
+    }
+    return sum;
+}
+";
+
+/// Division, conversion and wrapping of signed numbers.
+const SIGNED: &[u8] = b"int a,b,c,d,e;int main(void){int x;x=-7;a=x/2;b=x%2;\
+c=(signed char)200;x=-1;d=x>>1;x=2147483647;e=x+1;return 0;}";
+
+/// Two bytes of the input.
+const READS: &[u8] = b"int main(void){int a;a=getchar();return a*1000+getchar();}";
+
+// A source, traces, an input, and room for an image that isn't there yet.
+fn shelf(alloc: Global, source: &[u8], failing: u64) -> Result<MemShelf, Fail> {
     let mut files: Vec<File> = Vec::new(alloc);
-    files.push(file(alloc, "h.c", b"int main(void){putchar(72);return 7;}")?)?;
-    files.push(file(alloc, "z.c", b"int main(void){return 0;}\n")?)?;
-    files.push(file(alloc, "e.c", b"")?)?;
-    files.push(file(alloc, "short.trace", b"10 0 50\n")?)?;
-    files.push(file(
-        alloc,
-        "long.trace",
-        b"; one long period\n100000 4294967295\n",
-    )?)?;
-    files.push(file(alloc, "input", b"abc")?)?;
-    files.push((String::from_str(alloc, "h.img")?, None, 1000))?;
+    files.push(file(alloc, "s.c", source)?)?;
+    files.push(file(alloc, "short", b"10 0 50\n")?)?;
+    files.push(file(alloc, "long", b"; one long period\n1000000 4294967295\n")?)?;
+    files.push(file(alloc, "some", b"200 4294967295 5\n200 0 5\n1000000\n")?)?;
+    files.push(file(alloc, "A", b"A")?)?;
+    files.push((String::from_str(alloc, "i")?, None, 65536))?;
     Ok(MemShelf::new(alloc, &files, &[failing])?)
+}
+
+fn has_line(told: &[u8], wanted: &[u8]) -> bool {
+    for line in told.split(|byte| *byte == b'\n') {
+        if line == wanted {
+            return true;
+        }
+    }
+    false
+}
+
+// Carries out a command, and looks for each of the wanted lines.
+fn tells(
+    rt: &impl Abort,
+    alloc: Global,
+    shelf: &mut MemShelf,
+    command: &str,
+    wanted: &Wanted<'_>,
+) -> Result<(), Fail> {
+    let words = words_of(alloc, command)?;
+    let mut out = MemSink::new(alloc, 1000, &[])?;
+    let mut err = MemSink::new(alloc, 1000, &[])?;
+    let status = top(alloc, &words, shelf, &mut out, &mut err);
+    for line in wanted.lines.split(|byte| *byte == b'\n') {
+        assert!(rt; has_line(err.contents(), line), "at {command}");
+    }
+    assert_eq!(rt; out.contents(), wanted.output, "at {command}");
+    assert_eq!(rt; status, wanted.status, "at {command}");
+    Ok(())
 }
 
 #[test]
 fn sources_are_run(rt: HostRuntime) -> Result<(), Fail> {
-    let prints = Wanted {
-        status: 0,
-        output: b"H",
-        lines: b"code 73\ngap 141\nstatus 7\ncommits 0\ninstructions 42\n",
-    };
-    let returns = Wanted {
-        status: 0,
-        output: b"",
-        lines: b"code 69\ngap 137\nstatus 0\ncommits 0\ninstructions 38\n",
-    };
-    let unpowered = Wanted {
-        status: 4,
-        output: b"",
-        lines: b"code 73\ngap 141\nintermit: out of power\ncommits 0\ninstructions 500\n",
-    };
-    let table = [
-        ("intermit run h.c h.img", prints),
-        ("intermit run z.c h.img", returns),
-        ("intermit run h.c h.img --trace short.trace", unpowered),
+    let alloc = rt.alloc();
+    // A source, the options, the status, the output, and lines among those of the run.
+    let table: [(&[u8], &str, u8, &[u8], &[u8]); 14] = [
+        (HELLO, "", 0, b"H", b"status 7"),
+        (HELLO, " --trace long --vars", 0, b"H", b"status 7"),
         (
-            "intermit run --trace=long.trace h.c h.img --input input",
-            prints,
+            HELLO,
+            " --trace short",
+            4,
+            b"",
+            b"intermit: out of power\ncommits 0\ninstructions 500",
         ),
-        ("intermit run h.c h.img --steps 42", prints),
-        ("intermit run h.c h.img --vars", prints),
+        (b"int main(void){}", "", 0, b"", b"status 0"),
+        (TWICE, " --vars", 0, b"\x02", b"status 2\nvar g 2"),
+        (
+            TWICE,
+            " --trace=some --vars",
+            0,
+            b"\x02",
+            b"status 2\nvar g 2",
+        ),
+        (SQUARES, " --vars", 0, b"bcde", b"status 30\nvar sum 30"),
+        (
+            SIGNED,
+            " --vars",
+            0,
+            b"",
+            b"status 0\nvar a -3\nvar b -1\nvar c -56\nvar d -1\nvar e -2147483648",
+        ),
+        (READS, "", 0, b"", b"status -1001"),
+        (READS, " --input A", 0, b"", b"status 64999"),
+        (
+            b"int main(void){int a;a=putchar(65);return putchar(66)-a;}",
+            "",
+            0,
+            b"AB",
+            b"status 1",
+        ),
+        (
+            b"int main(void){int i;i=1;i=i++ + 2*i;return i;}",
+            "",
+            0,
+            b"",
+            b"status 5",
+        ),
+        (
+            b"int f(int n){if(n==0)return 0;return f(n-1);}int main(void){return f(100);}",
+            "",
+            0,
+            b"",
+            b"status 0",
+        ),
+        (
+            b"int main(void){for(;;);}",
+            " --steps 1000",
+            4,
+            b"",
+            b"intermit: out of power\ninstructions 1000",
+        ),
     ];
-    for (command, wanted) in table {
-        let mut shelf = shelf(rt.alloc(), 0)?;
-        tries(&rt, rt.alloc(), &mut shelf, 1000, command, &wanted)?;
-        let image = shelf.file("h.img").ok_or("no image")?;
+    for (source, options, status, output, lines) in table {
+        let wanted = Wanted {
+            status,
+            output,
+            lines,
+        };
+        let mut shelf = shelf(alloc, source, 0)?;
+        let command = format!(in alloc; "intermit run s.c i{options}")?;
+        tells(&rt, alloc, &mut shelf, &command, &wanted)?;
+        let image = shelf.file("i").ok_or("no image")?;
         assert!(rt; image.starts_with(b"IMRV"));
     }
     Ok(())
 }
 
 #[test]
-fn a_source_is_built_and_its_image_run(rt: HostRuntime) -> Result<(), Fail> {
-    let mut shelf = shelf(rt.alloc(), 0)?;
-    let built = Wanted {
-        status: 0,
-        output: b"code 73\ngap 141\n",
-        lines: b"",
-    };
-    tries(
-        &rt,
-        rt.alloc(),
-        &mut shelf,
-        1000,
-        "intermit build h.c h.img",
-        &built,
-    )?;
-    let ran = Wanted {
-        status: 0,
-        output: b"H",
-        lines: b"status 7\ncommits 0\ninstructions 42\n",
-    };
-    tries(
-        &rt,
-        rt.alloc(),
-        &mut shelf,
-        1000,
-        "intermit exec h.img",
-        &ran,
-    )
+fn sources_are_refused(rt: HostRuntime) -> Result<(), Fail> {
+    let alloc = rt.alloc();
+    // A source, and why it is refused.
+    let table: [(&[u8], &[u8]); 9] = [
+        (b"", b"intermit: s.c:1: syntax\n"),
+        (
+            b"int main(void){\nreturn 7;\n",
+            b"intermit: s.c:3: syntax\n",
+        ),
+        (b"int x;\n@", b"intermit: s.c:2: bad byte\n"),
+        (b"#define N 3", b"intermit: s.c:1: bad directive\n"),
+        (
+            b"int main(void){return 0;}\n/*",
+            b"intermit: s.c:2: open comment\n",
+        ),
+        (b"int main(void){return x;}", b"intermit: s.c:1: rule 18\n"),
+        (
+            b"\nint main(void)\n{\n  1 = 2;\n}\n",
+            b"intermit: s.c:4: rule 22\n",
+        ),
+        (
+            b"int f(int a,int b,int c,int d,int e,int g,int h,int i,int j){return 0;}\nint main(void){return 0;}",
+            b"intermit: s.c: parameters 9 over 8\n",
+        ),
+        (
+            b"int x;void f(int*p,int*q){*p=*q+1;}int main(void){f(&x,&x);f(&x,&x);return x;}",
+            b"intermit: s.c: not yet compiled\n",
+        ),
+    ];
+    for (source, lines) in table {
+        let wanted = Wanted {
+            status: 3,
+            output: b"",
+            lines,
+        };
+        let mut shelf = shelf(alloc, source, 0)?;
+        tries(&rt, alloc, &mut shelf, 1000, "intermit run s.c i", &wanted)?;
+        assert!(rt; shelf.file("i") == None);
+    }
+    Ok(())
 }
 
 #[test]
-fn refusals_are_told(rt: HostRuntime) -> Result<(), Fail> {
-    let table: [(&str, u64, u8, &[u8]); 7] = [
+fn files_and_streams_fail(rt: HostRuntime) -> Result<(), Fail> {
+    let alloc = rt.alloc();
+    // A command, which call of the shelf, of `out` and of `err` fails; the status, what the streams
+    // took, and whether the image is stored.
+    let table: [(&str, u64, u64, u64, u8, &[u8], &[u8], bool); 10] = [
         (
-            "intermit run e.c h.img",
+            "intermit build none.c i",
             0,
-            3,
-            b"intermit: e.c: not yet compiled\n",
-        ),
-        (
-            "intermit build none.c h.img",
+            0,
             0,
             7,
+            b"",
             b"intermit: cannot read none.c\n",
+            false,
         ),
         (
-            "intermit run h.c h.img",
+            "intermit run s.c i",
             1,
+            0,
+            0,
             7,
-            b"intermit: cannot read h.c\n",
+            b"",
+            b"intermit: cannot read s.c\n",
+            false,
         ),
         (
-            "intermit run h.c h.img",
+            "intermit run s.c i",
             3,
+            0,
+            0,
             7,
-            b"intermit: cannot read h.c\n",
+            b"",
+            b"intermit: cannot read s.c\n",
+            false,
         ),
         (
-            "intermit build h.c h.img",
+            "intermit build s.c i",
             4,
-            8,
-            b"intermit: cannot write h.img\n",
-        ),
-        (
-            "intermit run h.c none.img",
+            0,
             0,
             8,
-            b"intermit: cannot write none.img\n",
+            b"",
+            b"intermit: cannot write i\n",
+            false,
         ),
         (
-            "intermit run e.c none.img --input none",
+            "intermit run s.c none",
             0,
-            3,
-            b"intermit: e.c: not yet compiled\n",
+            0,
+            0,
+            8,
+            b"",
+            b"intermit: cannot write none\n",
+            false,
         ),
-    ];
-    for (command, failing, status, lines) in table {
-        let wanted = Wanted {
-            status,
-            output: b"",
-            lines,
-        };
-        let mut shelf = shelf(rt.alloc(), failing)?;
-        tries(&rt, rt.alloc(), &mut shelf, 1000, command, &wanted)?;
-        assert!(rt; shelf.file("h.img") == None);
-    }
-    Ok(())
-}
-
-#[test]
-fn an_image_stays_stored_where_its_run_is_refused(rt: HostRuntime) -> Result<(), Fail> {
-    let table: [(&str, &[u8]); 2] = [
         (
-            "intermit run h.c h.img --input none",
+            "intermit run s.c i --input none",
+            0,
+            0,
+            0,
+            7,
+            b"",
             b"intermit: cannot read none\n",
+            true,
         ),
         (
-            "intermit run h.c h.img --trace none",
+            "intermit run s.c i --trace none",
+            0,
+            0,
+            0,
+            7,
+            b"",
             b"intermit: cannot read none\n",
+            true,
         ),
-    ];
-    for (command, lines) in table {
-        let wanted = Wanted {
-            status: 7,
-            output: b"",
-            lines,
-        };
-        let mut shelf = shelf(rt.alloc(), 0)?;
-        tries(&rt, rt.alloc(), &mut shelf, 1000, command, &wanted)?;
-        let image = shelf.file("h.img").ok_or("no image")?;
-        assert_eq!(rt; image.len(), 328);
-    }
-    Ok(())
-}
-
-#[test]
-fn refused_streams_are_told(rt: HostRuntime) -> Result<(), Fail> {
-    let table: [(&str, u64, u64, &[u8], &[u8]); 3] = [
         (
-            "intermit run h.c h.img",
+            "intermit run s.c i",
+            0,
             1,
             0,
+            8,
             b"",
             b"intermit: cannot write output\n",
+            true,
         ),
-        ("intermit run h.c h.img", 0, 3, b"H", b"code 73"),
+        ("intermit run s.c i", 0, 0, 2, 8, b"H", b"code ", true),
         (
-            "intermit build h.c h.img",
+            "intermit build s.c i",
+            0,
             2,
             0,
+            8,
             b"code ",
             b"intermit: cannot write output\n",
+            true,
         ),
     ];
-    let alloc = rt.alloc();
-    for (command, out_fails, err_fails, output, lines) in table {
+    for (command, files_fail, out_fails, err_fails, status, output, lines, stored) in table {
         let words = words_of(alloc, command)?;
-        let mut shelf = shelf(alloc, 0)?;
+        let mut shelf = shelf(alloc, HELLO, files_fail)?;
         let mut out = MemSink::new(alloc, 1000, &[out_fails])?;
         let mut err = MemSink::new(alloc, 1000, &[err_fails])?;
-        let status = top(alloc, &words, &mut shelf, &mut out, &mut err);
-        assert_eq!(rt; status, 8, "at {command}");
-        assert_eq!(rt; out.contents(), output, "at {command}");
+        let answer = top(alloc, &words, &mut shelf, &mut out, &mut err);
         assert_eq!(rt; err.contents(), lines, "at {command}");
+        assert_eq!(rt; out.contents(), output, "at {command}");
+        assert_eq!(rt; answer, status, "at {command}");
+        assert_eq!(rt; shelf.file("i").is_some(), stored, "at {command}");
+    }
+    Ok(())
+}
+
+// A shelf with an image, and a trace of so many instructions before power is lost once.
+fn cut_after(alloc: Global, image: &[u8], instructions: u32) -> Result<MemShelf, Fail> {
+    let trace = format!(in alloc; "{instructions}\n1000000\n")?;
+    let mut files: Vec<File> = Vec::new(alloc);
+    files.push(file(alloc, "i", image)?)?;
+    files.push(file(alloc, "cut", trace.as_bytes())?)?;
+    Ok(MemShelf::new(alloc, &files, &[])?)
+}
+
+#[test]
+fn power_is_lost_once(rt: HostRuntime) -> Result<(), Fail> {
+    let alloc = rt.alloc();
+    let mut first = shelf(alloc, TWICE, 0)?;
+    let built = Wanted {
+        status: 0,
+        output: b"\x02",
+        lines: b"status 2",
+    };
+    tells(&rt, alloc, &mut first, "intermit run s.c i", &built)?;
+    let image = first.file("i").ok_or("no image")?;
+    let wanted = Wanted {
+        status: 0,
+        output: b"\x02",
+        lines: b"status 2\nvar g 2",
+    };
+    for instructions in 0..500 {
+        let mut shelf = cut_after(alloc, image, instructions)?;
+        tells(
+            &rt,
+            alloc,
+            &mut shelf,
+            "intermit exec i --trace cut --vars",
+            &wanted,
+        )?;
     }
     Ok(())
 }
@@ -212,19 +346,19 @@ fn words_that_name_no_command_are_refused(rt: HostRuntime) -> Result<(), Fail> {
     let alloc = rt.alloc();
     for text in [
         "intermit",
-        "intermit run h.c",
-        "intermit walk h.c h.img",
-        "intermit exec h.img --steps -1",
+        "intermit run s.c",
+        "intermit walk s.c i",
+        "intermit exec i --steps -1",
         "intermit --help",
     ] {
         let words = words_of(alloc, text)?;
-        let mut shelf = shelf(alloc, 0)?;
+        let mut shelf = shelf(alloc, HELLO, 0)?;
         let mut out = MemSink::new(alloc, 1000, &[])?;
         let mut err = MemSink::new(alloc, 10000, &[])?;
         let status = top(alloc, &words, &mut shelf, &mut out, &mut err);
         assert_eq!(rt; status, 2, "at {text}");
         assert!(rt; out.contents().is_empty());
-        assert!(rt; shelf.file("h.img") == None);
+        assert!(rt; shelf.file("i") == None);
     }
     Ok(())
 }

@@ -6,5 +6,5 @@ returns-in-CannotRead g c = rw c.in-CannotRead.is (rw c.as_bytes.ensures.value a
 pub returns-in-SourceTooLong : goal.returns-in-SourceTooLong
 returns-in-SourceTooLong g c = rw c.in-SourceTooLong.is c.send_about.ensures
 
-pub returns-in-NotCompiled : goal.returns-in-NotCompiled
-returns-in-NotCompiled g c = rw c.in-NotCompiled.is c.send_about-in-NotCompiled.ensures
+pub returns-in-BadSource : goal.returns-in-BadSource
+returns-in-BadSource g c = rw c.in-BadSource.is c.send_source_fault.ensures

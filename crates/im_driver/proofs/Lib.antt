@@ -1,0 +1,4 @@
+pub mod Lexical
+pub mod Typed
+pub mod Programs
+pub mod Refusals

@@ -1,0 +1,58 @@
+-- Refusals of the driver's steps are refusals of the source.
+use Rattle.std.proofs.Common.{◌≡◌, ◌⊎◌, inl, inr, ℕ, ◌<◌, List, Err, refl, arith}
+use Rattle.im_fault.specs.declared.fault.LineFault.{LineFault}
+use Rattle.im_fault.specs.declared.fault.LineFault.TheVariants.{BadByte, OpenComment, OpenLiteral, BadEscape, BadNumber, BadDirective, Syntax, Nesting, Rule}
+use Rattle.im_fault.specs.declared.fault.Quantity.{Quantity}
+use Rattle.im_fault.specs.declared.fault.Quantity.TheVariants.{Source, Parameters, Size, Statics, Frame, Code}
+use Rattle.im_fault.specs.declared.fault.SourceFault.{SourceFault}
+use Rattle.im_fault.specs.declared.fault.SourceFault.TheVariants.{Line, Limit, NotYet, OutOfMemory}
+use Rattle.im_front.specs.Reading.{IsRead, IsWrong}
+use Rattle.im_typed.specs.declared.program.Prog.{Prog}
+use Rattle.im_typed.specs.ProgramOf.{program_of}
+use Rattle.im_tok.specs.declared.token.Token.{Token}
+use Rattle.im_ctree.specs.declared.unit.Tree.{Tree}
+use Rattle.im_ctree.specs.Shape.{tree_of}
+use Rattle.im_check.specs.declared.fault.CheckFault.{CheckFault}
+use Rattle.im_check.specs.declared.fault.CheckFault.TheVariants as check
+use Rattle.im_check.specs.declared.fault.Limit.TheVariants as which
+use Rattle.im_check.specs.Checked.{IsCheckFault}
+use Rattle.im_compile.specs.declared.fault.CompileFault.{CompileFault}
+use Rattle.im_compile.specs.declared.fault.CompileFault.TheVariants as compile
+use Rattle.im_compile.specs.Faults.{IsFaultOf}
+use Rattle.im_driver.specs.Compiled.{IsTreeOf, IsProgramOf, IsRefused, IsLineRefused}
+use Rattle.im_driver.specs.Steps.{fault_at, of_compile}
+
+line_refused : (source : List ℕ) (line : ℕ) (why : LineFault) → IsWrong source line why → IsLineRefused source line why
+line_refused source line BadByte h = h
+line_refused source line OpenComment h = h
+line_refused source line OpenLiteral h = h
+line_refused source line BadEscape h = h
+line_refused source line BadNumber h = h
+line_refused source line BadDirective h = h
+line_refused source line Syntax h = h
+line_refused source line Nesting h = h
+line_refused source line (Rule number) h = absurd h
+
+pub read_refused : (source : List ℕ) (fault : SourceFault) → IsRead source (Err fault) → IsRefused source fault
+read_refused source (Line line why) h = line_refused source line why h.1
+read_refused source (Limit Source count) h = h
+read_refused source (Limit Parameters count) h = absurd h
+read_refused source (Limit Size count) h = absurd h
+read_refused source (Limit Statics count) h = absurd h
+read_refused source (Limit Frame count) h = absurd h
+read_refused source (Limit Code count) h = absurd h
+read_refused source NotYet h = absurd h
+read_refused source OutOfMemory h = tt
+
+pub check_refused : (source : List ℕ) (tokens : List Token) (tree : Tree) (fault : CheckFault) → IsTreeOf source tokens tree → IsCheckFault (tree_of tree) fault → IsRefused source (fault_at source tokens fault)
+check_refused source tokens tree (check.Rule number token) is_tree h = record { tokens = tokens; tree = tree; is_tree = is_tree; token = token; broken = h.1; is_line = refl }
+check_refused source tokens tree (check.Limit which.Parameters count limit) is_tree h = record { tokens = tokens; tree = tree; is_tree = is_tree; exceeds = h.1 }
+check_refused source tokens tree (check.Limit which.Statics count limit) is_tree h = record { tokens = tokens; tree = tree; is_tree = is_tree; exceeds = h.1 }
+check_refused source tokens tree (check.NotYet token) is_tree h = inl (record { tokens = tokens; tree = tree; is_tree = is_tree; token = token; first = h })
+check_refused source tokens tree check.OutOfMemory is_tree h = tt
+
+pub made_refused : (source : List ℕ) (made : Prog) (fault : CompileFault) → IsProgramOf source (program_of made) → IsFaultOf made fault → IsRefused source (of_compile fault)
+made_refused source made (compile.Frame function bytes) p h = record { prog = program_of made; program = p; over = h.frame.large }
+made_refused source made (compile.Code bytes) p h = record { prog = program_of made; program = p; over = (let told = h.told in let large = h.large in omega arith) }
+made_refused source made (compile.Unnamed number) p h = inr (record { made = made; program = p; number = number; unnamed = h })
+made_refused source made compile.OutOfMemory p h = tt

@@ -1,0 +1,50 @@
+-- What a source's tree is typed to, within the limits, is well typed.
+use Rattle.std.proofs.Common.{◌≡◌, ℕ, zero, suc, ◌-◌, ◌<◌, ◌≤◌, List, [], ◌∷◌, length, take, drop, slice_index, slice_range, All, Ok, refl, sym, ap, subst, arith}
+use Rattle.std.proofs.lemmas.List.Elements.{All-head, All-tail}
+use Rattle.im_tok.specs.declared.token.Token.{Token}
+use Rattle.im_lex.specs.Tokens.{IsTokenOf}
+use Rattle.im_word.specs.Words.{Word}
+use Rattle.im_ctree.specs.declared.unit.Tree.{Tree}
+use Rattle.im_ctree.specs.Shape.{tree_of}
+use Rattle.im_parse_unit.specs.Spelling.{AreWords, no_words, next_word, IsParsedText}
+use Rattle.im_typed.specs.Program.{Prog}
+use Rattle.im_typed.specs.Limits as typed
+use Rattle.im_typed.specs.Typing.{IsWellTyped}
+use Rattle.im_rules.specs.TypedUnit.{TypedUnit}
+use Rattle.im_rule_limits.specs.Limits.{IsWithinLimits}
+use Rattle.im_expressions_sound.specs.Written.{AreBytes}
+use Rattle.im_spelt_sound.specs.Words.{IsLexical, AreLexical}
+use Rattle.im_spelt_sound.specs.Laws.{WordsLaw, SourcesLaw}
+use Rattle.im_driver.proofs.Lexical.{token_some}
+
+-- bytes of a text
+abbrev pub AreSmall : List ℕ → Type 0
+AreSmall text = (i : ℕ) → slice_index text i < 256
+
+all_bytes : (text : List ℕ) → AreSmall text → AreBytes text
+all_bytes [] h = tt
+all_bytes (x ∷ text) h = ((let z = h 0 in omega arith), all_bytes text (λ i. h (suc i)))
+
+take_bytes : (n : ℕ) (text : List ℕ) → AreBytes text → AreBytes (take n text)
+take_bytes zero text h = tt
+take_bytes (suc n) [] h = tt
+take_bytes (suc n) (x ∷ text) h = (h.0, take_bytes n text h.1)
+
+drop_bytes : (n : ℕ) (text : List ℕ) → AreBytes text → AreBytes (drop n text)
+drop_bytes zero text h = h
+drop_bytes (suc n) [] h = tt
+drop_bytes (suc n) (x ∷ text) h = drop_bytes n text h.1
+
+module _ (source : List ℕ) (small : AreSmall source) (law : WordsLaw) where
+  are_lexical : (tokens : List Token) (words : List Word) → All (IsTokenOf source) tokens → AreWords source tokens words → AreLexical words
+  are_lexical [] [] all no_words = tt
+  are_lexical [] (word ∷ words) all x = elim x [ ]
+  are_lexical (token ∷ tokens) [] all x = elim x [ ]
+  are_lexical (token ∷ tokens) (word ∷ words) all (next_word w ws) =
+      let t = All-head (IsTokenOf source) token tokens all in
+      (law token.kind (slice_range source token.span.0 token.span.1) word w (token_some token.kind (slice_range source token.span.0 token.span.1) t.is)
+        (take_bytes (token.span.1 - token.span.0) (drop token.span.0 source) (drop_bytes token.span.0 source (all_bytes source small))),
+      are_lexical tokens words (All-tail (IsTokenOf source) token tokens all) ws)
+
+  pub well_typed : (tokens : List Token) (tree : Tree) (g : Prog) → SourcesLaw → All (IsTokenOf source) tokens → IsParsedText source tokens (Ok tree) → TypedUnit (tree_of tree) g → IsWithinLimits (tree_of tree) → IsWellTyped g × typed.IsWithinLimits g
+  well_typed tokens tree g sources all parsed typed within = sources (tree_of tree) parsed.0 g parsed.2.1 (are_lexical tokens parsed.0 all parsed.1) typed within

@@ -1,0 +1,61 @@
+-- For private contracts: what the driver's steps lead to.
+use Rattle.std.specs.Prelude.{ℕ, ◌<◌, List, All, slice_index}
+use Rattle.im_fault.specs.declared.fault.LineFault.TheVariants.{Rule}
+use Rattle.im_fault.specs.declared.fault.Quantity.{Quantity}
+use Rattle.im_fault.specs.declared.fault.Quantity.TheVariants.{Parameters, Statics, Frame, Code}
+use Rattle.im_fault.specs.declared.fault.SourceFault.{SourceFault}
+use Rattle.im_fault.specs.declared.fault.SourceFault.TheVariants.{Line, Limit, NotYet, OutOfMemory}
+use Rattle.im_front.specs.Reading.{line_of_token}
+use Rattle.im_check.specs.declared.fault.CheckFault.{CheckFault}
+use Rattle.im_check.specs.declared.fault.CheckFault.TheVariants as check
+use Rattle.im_check.specs.declared.fault.Limit as k
+use Rattle.im_check.specs.declared.fault.Limit.TheVariants as which
+use Rattle.im_compile.specs.declared.fault.CompileFault.{CompileFault}
+use Rattle.im_compile.specs.declared.fault.CompileFault.TheVariants as compile
+use Rattle.im_tok.specs.declared.token.Token.{Token}
+use Rattle.im_lex.specs.Tokens.{IsTokenOf}
+use Rattle.im_ctree.specs.declared.unit.Tree.{Tree}
+use Rattle.im_ctree.specs.Shape.{tree_of}
+use Rattle.im_typed.specs.declared.program.Prog.{Prog}
+use Rattle.im_typed.specs.ProgramOf.{program_of}
+use Rattle.im_check.specs.Checked.{IsChecked}
+use Rattle.im_compile.specs.declared.options.Options.{Options}
+use Rattle.im_compile.specs.declared.built.Built.{Built}
+use Rattle.im_compile.specs.Passed.{IsSource}
+use Rattle.im_compile.specs.Built.{IsBuilt}
+use Rattle.im_built_keeps.specs.Laws.{HasNumbers}
+use Rattle.im_driver.specs.Compiled.{IsTreeOf, IsProgramOf, IsCompiled}
+
+-- a checked program is its source's, and what compiling asks
+pub record IsReady (source : List ℕ) (prog : Prog) : Type 0 where
+  pub program : IsProgramOf source (program_of prog)
+  pub is_source : IsSource prog
+  pub numbers : HasNumbers prog
+
+abbrev pub ProgramLaw : Type 0
+ProgramLaw =
+    (source : List ℕ) (tokens : List Token) (tree : Tree) (prog : Prog) → ((i : ℕ) → slice_index source i < 256) →
+    All (IsTokenOf source) tokens → IsTreeOf source tokens tree → IsChecked (tree_of tree) prog → IsReady source prog
+
+abbrev pub KeptLaw : Type 0
+KeptLaw =
+    (source : List ℕ) (prog : Prog) (options : Options) (built : Built) → IsReady source prog → IsBuilt prog options built →
+    IsCompiled source options.stack options.out_cap built.image built.gap
+
+-- ---- faults of the steps as faults of the source
+
+abbrev pub quantity_of : k.Limit → Quantity
+quantity_of which.Parameters = Parameters
+quantity_of which.Statics = Statics
+
+abbrev pub fault_at : List ℕ → List Token → CheckFault → SourceFault
+fault_at source tokens (check.Rule number token) = Line (line_of_token source tokens token) (Rule number)
+fault_at source tokens (check.Limit which count limit) = Limit (quantity_of which) count
+fault_at source tokens (check.NotYet token) = NotYet
+fault_at source tokens check.OutOfMemory = OutOfMemory
+
+abbrev pub of_compile : CompileFault → SourceFault
+of_compile (compile.Frame function bytes) = Limit Frame bytes
+of_compile (compile.Code bytes) = Limit Code bytes
+of_compile (compile.Unnamed number) = NotYet
+of_compile compile.OutOfMemory = OutOfMemory

@@ -1,0 +1,9 @@
+//! From a source to the image that keeps its meaning, or why it is refused.
+#![tactic(auto)]
+
+mod checking;
+mod compiling;
+mod laws;
+
+pub use compiling::compile;
+pub use im_compile::{Built, Options};
