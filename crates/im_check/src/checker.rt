@@ -20,7 +20,7 @@ pub fn check(alloc: Global, tree: &Tree) -> Result<Prog, CheckFault>
         return Err(CheckFault::NotYet { token });
     }
     let typed = unit(alloc, tree)?;
-    are_few(alloc, tree)?;
+    are_few(tree)?;
     let prog = program(alloc, typed)?;
     are_small(&prog)?;
     Ok(prog)

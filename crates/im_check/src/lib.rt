@@ -4,7 +4,6 @@
 mod checker;
 mod fault;
 mod limits;
-mod main_body;
 mod typed_unit;
 
 pub use checker::check;

@@ -4,7 +4,7 @@ ghost use Rattle.im_ctree.specs.Shape.{tree_of};
 ghost use Rattle.im_plain.specs.Plain.{IsPlain};
 ghost use Rattle.im_check.specs.Units.{UnitTyped, IsUnitFault};
 
-use crate::main_body::has_main;
+use im_check_counts::has_main;
 use im_check_file::File;
 use im_check_functions::{Checked, translation_unit};
 use im_ctree::Tree;
@@ -17,10 +17,13 @@ pub fn unit(alloc: Global, tree: &Tree) -> Result<Checked, Stop>
     requires { IsPlain (tree_of tree.now) }
     ensures { MatchResult result (UnitTyped (tree_of tree.now)) (IsUnitFault (tree_of tree.now)) }
 {
+    let scope = start(alloc, tree)?;
+    let whole = Vec::new(alloc);
+    let given = Vec::new(alloc);
     let file = File {
-        scope: start(alloc, tree)?,
-        whole: Vec::new(alloc),
-        given: Vec::new(alloc),
+        scope,
+        whole,
+        given,
     };
     let done = translation_unit(alloc, &tree.externals, file)?;
     if has_main(&done.file.scope) {

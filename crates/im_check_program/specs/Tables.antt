@@ -3,7 +3,7 @@ use Rattle.std.specs.Prelude.{◌≡◌, List, [], ◌∷◌}
 use Rattle.im_ctype.specs.declared.integer.Integer.{Integer}
 use Rattle.im_ctype.specs.declared.integer.Integer.TheVariants.{Char, SignedChar, UnsignedChar, Short, UnsignedShort, Int, UnsignedInt, Long, UnsignedLong}
 use Rattle.im_ctype.specs.declared.node.TypeId.{TypeId}
-use Rattle.im_ctype.specs.Table.{Table, IsTypeOf}
+use Rattle.im_ctype.specs.Table.{Table, structs_of, IsTypeOf}
 use Rattle.im_ctype.specs.Types.{integer}
 use Rattle.im_check_program.specs.declared.integers.Integers.{Integers}
 
@@ -16,6 +16,10 @@ HaveNumbers table [] [] = Unit {0}
 HaveNumbers table (i ∷ is) (ty ∷ tys) = IsTypeOf table (integer i) ty × HaveNumbers table is tys
 HaveNumbers table _ _ = ⊥
 
-pub record HasIntegers (i : Integers) : Type 0 where
-  pub structs : i.table.structs ≡ []
-  pub numbers : HaveNumbers i.table all_integers i.numbers.items
+-- it has these integer types, and no struct
+pub record HasSome (i : Integers) (is : List Integer) : Type 0 where
+  pub structs : structs_of i.table ≡ []
+  pub numbers : HaveNumbers i.table is i.numbers.items
+
+abbrev pub HasIntegers : Integers → Type 0
+HasIntegers i = HasSome i all_integers

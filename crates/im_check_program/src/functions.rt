@@ -7,7 +7,7 @@ ghost use Rattle.im_check_declarations.specs.Sites.{object_in};
 ghost use Rattle.im_check_functions.specs.Functions.{function_in, functions_in};
 ghost use Rattle.im_check_program.specs.Tables.{HasIntegers};
 
-use crate::integers::{Integers, object};
+use crate::integers::{Integers, typed_object};
 use im_check_declarations::Local;
 use im_check_functions::Defined;
 use im_num::{Kind, NoMemory};
@@ -15,7 +15,7 @@ use im_terms::PlainType;
 use im_typed::{Func, Object};
 use std::alloc::Global;
 
-fn objects(
+fn typed_objects(
     alloc: Global,
     integers: &Integers,
     locals: &[Local],
@@ -25,7 +25,7 @@ fn objects(
 {
     let mut done = Vec::new(alloc);
     for local in locals {
-        let one = object(alloc, integers, &local.name, local.ty)?;
+        let one = typed_object(alloc, integers, &local.name, local.ty)?;
         done.push(one)?;
     }
     Ok(done)
@@ -40,11 +40,11 @@ fn kind_of_result(ty: PlainType) -> Option<Kind>
     }
 }
 
-fn function(alloc: Global, integers: &Integers, f: Defined) -> Result<Func, NoMemory>
+fn typed_function(alloc: Global, integers: &Integers, f: Defined) -> Result<Func, NoMemory>
     requires { HasIntegers integers.now }
     ensures { IfOk result (λ g. func_of integers.now.table g ≡ function_in f) }
 {
-    let objects = objects(alloc, integers, &f.locals)?;
+    let objects = typed_objects(alloc, integers, &f.locals)?;
     Ok(Func {
         name: f.name,
         params: f.params,
@@ -55,7 +55,7 @@ fn function(alloc: Global, integers: &Integers, f: Defined) -> Result<Func, NoMe
 }
 
 /// The functions of a program, in order.
-pub fn functions(
+pub fn typed_functions(
     alloc: Global,
     integers: &Integers,
     list: Vec<Defined>,
@@ -65,7 +65,7 @@ pub fn functions(
 {
     let mut done = Vec::new(alloc);
     for f in list {
-        let one = function(alloc, integers, f)?;
+        let one = typed_function(alloc, integers, f)?;
         done.push(one)?;
     }
     Ok(done)

@@ -1,12 +1,13 @@
 //! The integer types in the table of a program.
-ghost use Rattle.std.specs.Prelude.{◌≡◌, ◌<◌, [], slice_get, Some, IfOk};
+ghost use Rattle.std.specs.Prelude.{◌≡◌, ◌<◌, List, [], ◌∷◌, ◌++◌, slice_get, Some, IfOk};
 ghost use Rattle.im_ctype.specs.Table.{IsTypeOf};
+ghost use Rattle.im_ctype.specs.Layout.{layout};
 ghost use Rattle.im_ctype.specs.Types.{integer};
 ghost use Rattle.im_typed.specs.ProgramOf.{object_of};
 ghost use Rattle.im_rules.specs.Statements as n;
-ghost use Rattle.im_check_program.specs.Tables.{all_integers, HasIntegers};
+ghost use Rattle.im_check_program.specs.Tables.{all_integers, HasSome, HasIntegers};
 
-use im_ctype::{Integer, TypeId, TypeTable, bytes_of_kind};
+use im_ctype::{Integer, TypeId, TypeTable};
 use im_num::NoMemory;
 use im_typed::Object;
 use std::alloc::Global;
@@ -18,28 +19,34 @@ pub struct Integers {
     pub numbers: Vec<TypeId>,
 }
 
+fn with_integer(integers: Integers, ty: Integer) -> Result<Integers, NoMemory>
+    ensures { IfOk result (λ r. (is : List Integer) → HasSome integers is → HasSome r (is ++ ty ∷ [])) }
+{
+    let Integers { table, numbers } = integers;
+    let mut table = table;
+    let mut numbers = numbers;
+    let number = table.integer(ty)?;
+    numbers.push(number)?;
+    Ok(Integers { table, numbers })
+}
+
 /// The table with the integer types alone.
-pub fn integers(alloc: Global) -> Result<Integers, NoMemory>
+pub fn integer_types(alloc: Global) -> Result<Integers, NoMemory>
     ensures { IfOk result HasIntegers }
 {
-    let all = [
-        Integer::Char,
-        Integer::SignedChar,
-        Integer::UnsignedChar,
-        Integer::Short,
-        Integer::UnsignedShort,
-        Integer::Int,
-        Integer::UnsignedInt,
-        Integer::Long,
-        Integer::UnsignedLong,
-    ];
-    let mut table = TypeTable::new(alloc);
-    let mut numbers = Vec::new(alloc);
-    for ty in &all {
-        let number = table.integer(*ty)?;
-        numbers.push(number)?;
-    }
-    Ok(Integers { table, numbers })
+    let none = Integers {
+        table: TypeTable::new(alloc),
+        numbers: Vec::new(alloc),
+    };
+    let one = with_integer(none, Integer::Char)?;
+    let two = with_integer(one, Integer::SignedChar)?;
+    let three = with_integer(two, Integer::UnsignedChar)?;
+    let four = with_integer(three, Integer::Short)?;
+    let five = with_integer(four, Integer::UnsignedShort)?;
+    let six = with_integer(five, Integer::Int)?;
+    let seven = with_integer(six, Integer::UnsignedInt)?;
+    let eight = with_integer(seven, Integer::Long)?;
+    with_integer(eight, Integer::UnsignedLong)
 }
 
 fn place(ty: Integer) -> usize
@@ -67,8 +74,19 @@ fn number(integers: &Integers, ty: Integer) -> TypeId
     integers.numbers[place(ty)]
 }
 
+/// The bytes of an object of a type.
+fn size(ty: Integer) -> u32
+    ensures { result ≡ (layout [] (integer ty)).size }
+{
+    match ty {
+        Integer::Char | Integer::SignedChar | Integer::UnsignedChar => 1,
+        Integer::Short | Integer::UnsignedShort => 2,
+        Integer::Int | Integer::UnsignedInt | Integer::Long | Integer::UnsignedLong => 4,
+    }
+}
+
 /// An object of that name and type.
-pub fn object(
+pub fn typed_object(
     alloc: Global,
     integers: &Integers,
     name: &[u8],
@@ -81,6 +99,6 @@ pub fn object(
     Ok(Object {
         name,
         ty: number(integers, ty),
-        size: bytes_of_kind(ty.kind()) as u32,
+        size: size(ty),
     })
 }

@@ -5,9 +5,9 @@ ghost use Rattle.im_rules.specs.FileScope.{main_name};
 ghost use Rattle.im_rules.specs.Outline.{place_in};
 ghost use Rattle.im_check_program.specs.Programs.{IsProgram};
 
-use crate::functions::functions;
-use crate::integers::integers;
-use crate::statics::statics;
+use crate::functions::typed_functions;
+use crate::integers::integer_types;
+use crate::statics::typed_statics;
 use im_check_functions::Checked;
 use im_names::{Name, place_among};
 use im_num::NoMemory;
@@ -27,10 +27,10 @@ fn main_among(bodies: &[Name]) -> Result<u32, NoMemory>
 pub fn program(alloc: Global, unit: Checked) -> Result<Prog, NoMemory>
     ensures { IfOk result (IsProgram unit) }
 {
-    let all = integers(alloc)?;
+    let all = integer_types(alloc)?;
     let main = main_among(&unit.file.scope.bodies)?;
-    let statics = statics(alloc, &all, &unit.file)?;
-    let funcs = functions(alloc, &all, unit.functions)?;
+    let statics = typed_statics(alloc, &all, &unit.file)?;
+    let funcs = typed_functions(alloc, &all, unit.functions)?;
     Ok(Prog {
         types: all.table,
         statics,

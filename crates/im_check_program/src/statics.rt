@@ -1,6 +1,8 @@
 //! Statics with their first values (C11 6.7.9p10).
-ghost use Rattle.std.specs.Prelude.{◌≡◌, Some, map, MatchOption, IfOk};
+ghost use Rattle.std.specs.Prelude.{◌≡◌, [], ◌∷◌, Some, map, MatchOption, IfOk};
+ghost use Rattle.im_ctype.specs.Layout.{layout};
 ghost use Rattle.im_ctype.specs.Types.{integer};
+ghost use Rattle.im_store.specs.Objects as o;
 ghost use Rattle.im_typed.specs.ProgramOf.{static_of};
 ghost use Rattle.im_rules.specs.FileScope as f;
 ghost use Rattle.im_rules.specs.Scopes as s;
@@ -12,7 +14,7 @@ ghost use Rattle.im_check_file.specs.Files.{place_of, values_of, first_values};
 ghost use Rattle.im_check_program.specs.Tables.{HasIntegers};
 ghost use Rattle.im_check_program.specs.Firsts.{values_in};
 
-use crate::integers::{Integers, object};
+use crate::integers::{Integers, typed_object};
 use im_check_file::{File, Given};
 use im_ctype::Integer;
 use im_names::{Entity, Scope, same_name};
@@ -39,6 +41,16 @@ fn given_to(name: &[u8], all: &[Given]) -> Option<Number>
     None
 }
 
+/// Zero where none is given.
+fn first_value(name: &[u8], all: &[Given]) -> Number
+    ensures { (i : Integer) → u.values_or_zero (layout [] (integer i)).cells (u.given_to name.now (map first_values all.now)) ≡ o.Number result.value ∷ [] }
+{
+    match given_to(name, all) {
+        Some(value) => value,
+        None => Number::ZERO,
+    }
+}
+
 fn integer_named(scope: &Scope, name: &[u8]) -> Option<Integer>
     ensures { MatchOption result (Unit {0}) (λ i. f.object_type (s.meaning (scopes_of scope.now.entries.items) name.now) ≡ Some (integer i)) }
 {
@@ -49,7 +61,7 @@ fn integer_named(scope: &Scope, name: &[u8]) -> Option<Integer>
 }
 
 /// The static of that name. A name that means no object, which no static's does, is answered by want of memory.
-fn static_named(
+fn typed_static(
     alloc: Global,
     integers: &Integers,
     file: &File,
@@ -61,24 +73,25 @@ fn static_named(
     let Some(ty) = integer_named(&file.scope, name) else {
         return Err(NoMemory::OutOfMemory);
     };
-    let object = object(alloc, integers, name, ty)?;
-    let first = match given_to(name, &file.given) {
-        Some(value) => value,
-        None => Number::ZERO,
-    };
+    let object = typed_object(alloc, integers, name, ty)?;
+    let first = first_value(name, &file.given);
     let mut cells = Vec::new(alloc);
     cells.push(Constant::Number(i128::from(first.value)))?;
     Ok(Static { object, cells })
 }
 
 /// The statics of a program, in order.
-pub fn statics(alloc: Global, integers: &Integers, file: &File) -> Result<Vec<Static>, NoMemory>
+pub fn typed_statics(
+    alloc: Global,
+    integers: &Integers,
+    file: &File,
+) -> Result<Vec<Static>, NoMemory>
     requires { HasIntegers integers.now }
     ensures { IfOk result (λ v. (p : Passed) → map (static_of integers.now.table) v.items ≡ map (u.static_named (place_of file.now p) (values_of file.now)) (map bytes_of file.now.scope.statics.items)) }
 {
     let mut done = Vec::new(alloc);
     for name in &file.scope.statics {
-        let one = static_named(alloc, integers, file, name)?;
+        let one = typed_static(alloc, integers, file, name)?;
         done.push(one)?;
     }
     Ok(done)

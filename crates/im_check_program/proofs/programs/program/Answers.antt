@@ -1,0 +1,7 @@
+use Rattle.im_check_program.proofs.Made.{program_same}
+use Rattle.im_check_program.proofs.programs.program.Goals as goal
+
+pub returns : goal.returns
+returns c = λ p none.
+    program_same (record { types = c.in_ok-all.all.table; statics = c.in_ok-statics.statics; funcs = c.in_ok-funcs.funcs; main = c.in_ok-main.main }) c.args.unit p none
+    (c.in_ok-statics.ensures p) c.in_ok-funcs.ensures (rw c.deref.ensures.value at c.in_ok-main.ensures)
