@@ -11,7 +11,7 @@ use Rattle.im_plain.specs.Plain.{IsPlain}
 use Rattle.im_terms.specs.declared.stop.Stop.{Stop}
 use Rattle.im_terms.specs.declared.stop.Stop.TheVariants as s
 use Rattle.im_check_functions.specs.declared.defined.Checked.{Checked}
-use Rattle.im_check_program.specs.Programs.{IsProgram}
+use Rattle.im_check_program.specs.Programs.{IsProgram, HasKnownTypes}
 use Rattle.im_check.specs.declared.fault.CheckFault.{CheckFault}
 use Rattle.im_check.specs.declared.fault.CheckFault.TheVariants as f
 use Rattle.im_check.specs.declared.fault.Limit.TheVariants as w
@@ -23,12 +23,22 @@ use Rattle.im_check.specs.Units.{UnitTyped, IsUnitFault}
 typed_by : (u : t.Tree) (c : Checked) (g : Prog) → UnitTyped u c → IsProgram c g → TypedUnit u (program_of g)
 typed_by u c g unit made = subst (λ z. TypedUnit u z) (sym (made unit.passed unit.no_strings)) (of_unit unit.typed unit.has_main)
 
-pub checked : (u : t.Tree) (c : Checked) (g : Prog) → IsPlain u → UnitTyped u c → IsProgram c g → ((n : ℕ) → Contains (l.parameter_counts u) n → n ≤ 8) → static_bytes (program_of g).statics ≤ 1048576 → IsChecked u g
-checked u c g plain unit made few small = record { plain = plain; typed = typed_by u c g unit made; parameters = few; statics = small }
+pub checked : (u : t.Tree) (c : Checked) (g : Prog) → IsPlain u → UnitTyped u c → IsProgram c g → HasKnownTypes g → ((n : ℕ) → Contains (l.parameter_counts u) n → n ≤ 8) → static_bytes (program_of g).statics ≤ 1048576 → IsChecked u g
+checked u c g plain unit made known few small =
+    record {
+      plain = plain;
+      typed = typed_by u c g unit made;
+      parameters = few;
+      statics = small;
+      known = record { statics = known.statics; objects = known.objects };
+    }
+
+unit_stop : (u : t.Tree) (stop : Stop) → IsPlain u → IsUnitFault u stop → IsCheckFault u (fault_of stop)
+unit_stop u (s.Rule rule token) plain h = (plain, h)
+unit_stop u s.Memory plain h = tt
 
 pub unit_stops : (u : t.Tree) (stop : Stop) (x : CheckFault) → x ≡ fault_of stop → IsPlain u → IsUnitFault u stop → IsCheckFault u x
-unit_stops u (s.Rule rule token) x refl plain h = (plain, h)
-unit_stops u s.Memory x refl plain h = tt
+unit_stops u stop x same plain h = subst (IsCheckFault u) (sym same) (unit_stop u stop plain h)
 
 pub parameters_stop : (u : t.Tree) (x : CheckFault) → IsPlain u → IsOverParameters u x → IsCheckFault u x
 parameters_stop u (f.Limit w.Parameters count limit) plain h = (plain, (l.too_many_parameters h.0 h.1.0, h.1.1))

@@ -14,12 +14,14 @@ pub loop-name-init : goal.loop-name-init
 loop-name-init c = (λ p. rw c.new-done.ensures.items refl, rw c.new-done.ensures.items (λ i d h. absurd (not-suc-le-zero h)))
 
 pub loop-name-preserved : goal.loop-name-preserved
-loop-name-preserved c = (λ p.
-    let file = c.args.file.now in
-    let xs = file.scope.statics.items in
-    let at = next xs c.loop-name.name-index c.name-item.result (rw c.deref-name-items.ensures.value at c.loop-name-test.true) (rw c.deref-name-items.ensures.value at c.name-item.is) in
-    rw c.in_ok-push.ensures.items (statics_more (static_named (place_of file p) (values_of file)) (static_of c.args.integers.now.table) xs c.loop-name.name-index c.name-item.result c.loop-name.done.items c.in_ok-one.one at (rw c.deref.ensures.value at (c.in_ok-one.ensures.same p)) (c.loop-name.invariant.0 p)),
-    rw c.in_ok-push.ensures.items (All-push (λ (s : Static). IsIn c.args.integers.now.table s.object.ty) c.loop-name.done.items c.in_ok-one.one c.loop-name.invariant.1 c.in_ok-one.ensures.known))
+loop-name-preserved c = (
+  λ p.
+      let file = c.args.file.now in
+      let xs = file.scope.statics.items in
+      let at = next xs c.loop-name.name-index c.name-item.result (rw c.deref-name-items.ensures.value at c.loop-name-test.true) (rw c.deref-name-items.ensures.value at c.name-item.is) in
+      rw c.in_ok-push.ensures.items (statics_more (static_named (place_of file p) (values_of file)) (static_of c.args.integers.now.table) xs c.loop-name.name-index c.name-item.result c.loop-name.done.items c.in_ok-one.one at (rw c.deref.ensures.value at (c.in_ok-one.ensures.same p)) (c.loop-name.invariant.0 p)),
+  rw c.in_ok-push.ensures.items (All-push (λ (s : Static). IsIn c.args.integers.now.table s.object.ty) c.loop-name.done.items c.in_ok-one.one c.loop-name.invariant.1 c.in_ok-one.ensures.known),
+)
 
 pub returns-clause-same : goal.returns-clause-same
 returns-clause-same c = λ p.
