@@ -16,7 +16,10 @@ pub enum Limit {
 #[derive(Clone, Copy, PartialEq, Eq, Debug)]
 pub enum CheckFault {
     /// The rule of that number is broken by a node whose first token is that one.
-    Rule { number: u32, token: u32 },
+    Rule {
+        number: u32,
+        token: u32,
+    },
     /// A count is over its limit.
     Limit {
         which: Limit,
@@ -24,7 +27,9 @@ pub enum CheckFault {
         limit: u64,
     },
     /// The first token of the first node that no plain tree has.
-    NotYet { token: u32 },
+    NotYet {
+        token: u32,
+    },
     OutOfMemory,
 }
 

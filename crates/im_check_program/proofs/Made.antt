@@ -93,6 +93,13 @@ pub statics_all : (s : Name → StaticObject) (o : rst.Static → StaticObject) 
     → map o done ≡ map s (map bytes_of xs)
 statics_all s o xs i done at inv = sym (inv ∙ ap (λ z. map o done ++ map s (map bytes_of z)) at ∙ append-nil (map o done))
 
+-- the functions of the first definitions
+
+pub functions_more : (o : rf.Func → p.Func) (fs : List Defined) (f : Defined) (done : List rf.Func) (g : rf.Func)
+    → map o done ≡ functions_in fs → o g ≡ function_in f → map o (done ++ g ∷ []) ≡ functions_in (fs ++ f ∷ [])
+functions_more o fs f done g all one =
+    map_push o done g ∙ ap (λ z. z ++ o g ∷ []) all ∙ ap (λ w. functions_in fs ++ w ∷ []) one ∙ sym (map_push function_in fs f)
+
 -- the program
 
 abbrev prog_by : List StaticObject → List p.Func → ℕ → p.Prog

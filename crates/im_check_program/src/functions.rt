@@ -5,7 +5,7 @@ ghost use Rattle.im_rules.specs.TypedUnit.{result_kind};
 ghost use Rattle.im_terms.specs.Shape.{type_of};
 ghost use Rattle.im_check_declarations.specs.Sites.{object_in};
 ghost use Rattle.im_check_functions.specs.Functions.{function_in, functions_in};
-ghost use Rattle.im_check_program.specs.Tables.{HasIntegers};
+ghost use Rattle.im_check_program.specs.Tables.{HasIntegers, KnowObjects, KnowFunctions};
 
 use crate::integers::{Integers, typed_object};
 use im_check_declarations::Local;
@@ -21,7 +21,8 @@ fn typed_objects(
     locals: &[Local],
 ) -> Result<Vec<Object>, NoMemory>
     requires { HasIntegers integers.now }
-    ensures { IfOk result (λ v. map (object_of integers.now.table) v.items ≡ map object_in locals.now) }
+    ensures same { IfOk result (λ v. map (object_of integers.now.table) v.items ≡ map object_in locals.now) }
+    ensures known { IfOk result (λ v. KnowObjects integers.now.table v.items) }
 {
     let mut done = Vec::new(alloc);
     for local in locals {
@@ -42,7 +43,8 @@ fn kind_of_result(ty: PlainType) -> Option<Kind>
 
 fn typed_function(alloc: Global, integers: &Integers, f: Defined) -> Result<Func, NoMemory>
     requires { HasIntegers integers.now }
-    ensures { IfOk result (λ g. func_of integers.now.table g ≡ function_in f) }
+    ensures same { IfOk result (λ g. func_of integers.now.table g ≡ function_in f) }
+    ensures known { IfOk result (λ g. KnowObjects integers.now.table g.objects.items) }
 {
     let objects = typed_objects(alloc, integers, &f.locals)?;
     Ok(Func {
@@ -61,7 +63,8 @@ pub fn typed_functions(
     list: Vec<Defined>,
 ) -> Result<Vec<Func>, NoMemory>
     requires { HasIntegers integers.now }
-    ensures { IfOk result (λ v. map (func_of integers.now.table) v.items ≡ functions_in list.items) }
+    ensures same { IfOk result (λ v. map (func_of integers.now.table) v.items ≡ functions_in list.items) }
+    ensures known { IfOk result (λ v. KnowFunctions integers.now.table v.items) }
 {
     let mut done = Vec::new(alloc);
     for f in list {

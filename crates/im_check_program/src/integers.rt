@@ -1,6 +1,6 @@
 //! The integer types in the table of a program.
 ghost use Rattle.std.specs.Prelude.{◌≡◌, ◌<◌, List, [], ◌∷◌, ◌++◌, slice_get, Some, IfOk};
-ghost use Rattle.im_ctype.specs.Table.{IsTypeOf};
+ghost use Rattle.im_ctype.specs.Table.{IsIn, IsTypeOf};
 ghost use Rattle.im_ctype.specs.Layout.{layout};
 ghost use Rattle.im_ctype.specs.Types.{integer};
 ghost use Rattle.im_typed.specs.ProgramOf.{object_of};
@@ -93,7 +93,8 @@ pub fn typed_object(
     ty: Integer,
 ) -> Result<Object, NoMemory>
     requires { HasIntegers integers.now }
-    ensures { IfOk result (λ o. object_of integers.now.table o ≡ n.object_of [] name.now (integer ty)) }
+    ensures same { IfOk result (λ o. object_of integers.now.table o ≡ n.object_of [] name.now (integer ty)) }
+    ensures known { IfOk result (λ o. IsIn integers.now.table o.ty) }
 {
     let name = Vec::from_slice(alloc, name)?;
     Ok(Object {

@@ -3,7 +3,7 @@ ghost use Rattle.std.specs.Prelude.{◌≡◌, map, IfOk};
 ghost use Rattle.im_names.specs.Shape.{bytes_of};
 ghost use Rattle.im_rules.specs.FileScope.{main_name};
 ghost use Rattle.im_rules.specs.Outline.{place_in};
-ghost use Rattle.im_check_program.specs.Programs.{IsProgram};
+ghost use Rattle.im_check_program.specs.Programs.{IsProgram, HasKnownTypes};
 
 use crate::functions::typed_functions;
 use crate::integers::integer_types;
@@ -25,7 +25,8 @@ fn main_among(bodies: &[Name]) -> Result<u32, NoMemory>
 
 /// The program of a checked unit without string literals.
 pub fn program(alloc: Global, unit: Checked) -> Result<Prog, NoMemory>
-    ensures { IfOk result (IsProgram unit) }
+    ensures same { IfOk result (IsProgram unit) }
+    ensures known { IfOk result HasKnownTypes }
 {
     let all = integer_types(alloc)?;
     let main = main_among(&unit.file.scope.bodies)?;

@@ -1,6 +1,7 @@
 //! Statics with their first values (C11 6.7.9p10).
 ghost use Rattle.std.specs.Prelude.{◌≡◌, [], ◌∷◌, Some, map, MatchOption, IfOk};
 ghost use Rattle.im_ctype.specs.Layout.{layout};
+ghost use Rattle.im_ctype.specs.Table.{IsIn};
 ghost use Rattle.im_ctype.specs.Types.{integer};
 ghost use Rattle.im_store.specs.Objects as o;
 ghost use Rattle.im_typed.specs.ProgramOf.{static_of};
@@ -11,7 +12,7 @@ ghost use Rattle.im_rules.specs.TypeTests as ty;
 ghost use Rattle.im_names.specs.Shape.{scopes_of, bytes_of};
 ghost use Rattle.im_check_enums.specs.Places.{Passed};
 ghost use Rattle.im_check_file.specs.Files.{place_of, values_of, first_values};
-ghost use Rattle.im_check_program.specs.Tables.{HasIntegers};
+ghost use Rattle.im_check_program.specs.Tables.{HasIntegers, KnowStatics};
 ghost use Rattle.im_check_program.specs.Firsts.{values_in};
 
 use crate::integers::{Integers, typed_object};
@@ -68,7 +69,8 @@ fn typed_static(
     name: &[u8],
 ) -> Result<Static, NoMemory>
     requires { HasIntegers integers.now }
-    ensures { IfOk result (λ x. (p : Passed) → static_of integers.now.table x ≡ u.static_named (place_of file.now p) (values_of file.now) name.now) }
+    ensures same { IfOk result (λ x. (p : Passed) → static_of integers.now.table x ≡ u.static_named (place_of file.now p) (values_of file.now) name.now) }
+    ensures known { IfOk result (λ x. IsIn integers.now.table x.object.ty) }
 {
     let Some(ty) = integer_named(&file.scope, name) else {
         return Err(NoMemory::OutOfMemory);
@@ -87,7 +89,8 @@ pub fn typed_statics(
     file: &File,
 ) -> Result<Vec<Static>, NoMemory>
     requires { HasIntegers integers.now }
-    ensures { IfOk result (λ v. (p : Passed) → map (static_of integers.now.table) v.items ≡ map (u.static_named (place_of file.now p) (values_of file.now)) (map bytes_of file.now.scope.statics.items)) }
+    ensures same { IfOk result (λ v. (p : Passed) → map (static_of integers.now.table) v.items ≡ map (u.static_named (place_of file.now p) (values_of file.now)) (map bytes_of file.now.scope.statics.items)) }
+    ensures known { IfOk result (λ v. KnowStatics integers.now.table v.items) }
 {
     let mut done = Vec::new(alloc);
     for name in &file.scope.statics {

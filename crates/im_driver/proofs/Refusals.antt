@@ -46,8 +46,8 @@ read_refused source OutOfMemory h = tt
 
 pub check_refused : (source : List ℕ) (tokens : List Token) (tree : Tree) (fault : CheckFault) → IsTreeOf source tokens tree → IsCheckFault (tree_of tree) fault → IsRefused source (fault_at source tokens fault)
 check_refused source tokens tree (check.Rule number token) is_tree h = record { tokens = tokens; tree = tree; is_tree = is_tree; token = token; broken = h.1; is_line = refl }
-check_refused source tokens tree (check.Limit which.Parameters count limit) is_tree h = record { tokens = tokens; tree = tree; is_tree = is_tree; exceeds = h.1 }
-check_refused source tokens tree (check.Limit which.Statics count limit) is_tree h = record { tokens = tokens; tree = tree; is_tree = is_tree; exceeds = h.1 }
+check_refused source tokens tree (check.Limit which.Parameters count limit) is_tree h = record { tokens = tokens; tree = tree; is_tree = is_tree; exceeds = h.1.0 }
+check_refused source tokens tree (check.Limit which.Statics count limit) is_tree h = record { tokens = tokens; tree = tree; is_tree = is_tree; exceeds = h.1.0 }
 check_refused source tokens tree (check.NotYet token) is_tree h = inl (record { tokens = tokens; tree = tree; is_tree = is_tree; token = token; first = h })
 check_refused source tokens tree check.OutOfMemory is_tree h = tt
 
