@@ -41,10 +41,11 @@ module _ (source : List ℕ) (small : AreSmall source) (law : WordsLaw) where
   are_lexical [] (word ∷ words) all x = elim x [ ]
   are_lexical (token ∷ tokens) [] all x = elim x [ ]
   are_lexical (token ∷ tokens) (word ∷ words) all (next_word w ws) =
-      let t = All-head (IsTokenOf source) token tokens all in
-      (law token.kind (slice_range source token.span.0 token.span.1) word w (token_some token.kind (slice_range source token.span.0 token.span.1) t.is)
-        (take_bytes (token.span.1 - token.span.0) (drop token.span.0 source) (drop_bytes token.span.0 source (all_bytes source small))),
-      are_lexical tokens words (All-tail (IsTokenOf source) token tokens all) ws)
+      let t = All-head (IsTokenOf source) token tokens all in (
+        law token.kind (slice_range source token.span.0 token.span.1) word w (token_some token.kind (slice_range source token.span.0 token.span.1) t.is)
+            (take_bytes (token.span.1 - token.span.0) (drop token.span.0 source) (drop_bytes token.span.0 source (all_bytes source small))),
+        are_lexical tokens words (All-tail (IsTokenOf source) token tokens all) ws,
+      )
 
   pub well_typed : (tokens : List Token) (tree : Tree) (g : Prog) → SourcesLaw → All (IsTokenOf source) tokens → IsParsedText source tokens (Ok tree) → TypedUnit (tree_of tree) g → IsWithinLimits (tree_of tree) → IsWellTyped g × typed.IsWithinLimits g
   well_typed tokens tree g sources all parsed typed within = sources (tree_of tree) parsed.0 g parsed.2.1 (are_lexical tokens parsed.0 all parsed.1) typed within
