@@ -13,7 +13,5 @@ mod program;
 mod statements;
 mod statics;
 mod switch;
-#[cfg(test)]
-mod tests;
 
 pub use program::lower;
