@@ -14,7 +14,8 @@ use im_typed::{Prog, Static};
 
 /// Whether no function has more than 8 parameters.
 pub fn are_few(tree: &Tree) -> Result<(), CheckFault>
-    ensures { MatchResult result (λ _. (n : ℕ) → Contains (l.parameter_counts (tree_of tree.now)) n → n ≤ 8) (IsOverParameters (tree_of tree.now)) }
+    ensures { MatchResult result (λ _. (n : ℕ) → Contains (l.parameter_counts (tree_of tree.now)) n
+        → n ≤ 8) (IsOverParameters (tree_of tree.now)) }
 {
     match too_many(tree)? {
         None => Ok(()),
@@ -48,7 +49,8 @@ fn bytes_of_statics(prog: &Prog) -> Result<u64, NoMemory>
 
 /// Whether the statics are within their limit.
 pub fn are_small(prog: &Prog) -> Result<(), CheckFault>
-    ensures { MatchResult result (λ _. static_bytes (program_of prog.now).statics ≤ 1048576) (IsOverStatics (program_of prog.now)) }
+    ensures { MatchResult result (λ _. static_bytes (program_of prog.now).statics ≤ 1048576)
+        (IsOverStatics (program_of prog.now)) }
 {
     let count = bytes_of_statics(prog)?;
     if count <= 1048576 {

@@ -27,14 +27,16 @@ fn is_none(parameters: &[PlainType]) -> bool
 
 /// Whether it is `int(void)`.
 fn is_of_main(signature: &Signature) -> bool
-    ensures { result ≡ t.same_type (type_of_function signature.now) (t.function (t.integer Integer.Int) t.no_types) }
+    ensures { result ≡ t.same_type (type_of_function signature.now)
+        (t.function (t.integer Integer.Int) t.no_types) }
 {
     is_int(signature.result) && is_none(&signature.parameters)
 }
 
 /// Whether there is a body of `int main(void)` (C11 5.1.2.2.1).
 pub fn has_main(scope: &Scope) -> bool
-    ensures { result ≡ u.rule_13 (f.body_type (s.meaning (scopes_of scope.now.entries.items) f.main_name)) }
+    ensures { result ≡ u.rule_13 (f.body_type
+        (s.meaning (scopes_of scope.now.entries.items) f.main_name)) }
 {
     match scope.find(b"main") {
         Some(Entity::Function(Callee::Body(_), signature)) => is_of_main(signature),

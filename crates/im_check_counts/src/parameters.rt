@@ -21,7 +21,8 @@ fn number_of(parameters: &[Parameter]) -> usize
 }
 
 fn count_in(suffix: &Suffix) -> Option<usize>
-    ensures { (rest : t.Suffixes) → m.counted_of (o.suffix_or (with_suffix suffix.now.at suffix.now.kind rest) o.bare) ≡ listed result }
+    ensures { (rest : t.Suffixes) → m.counted_of
+        (o.suffix_or (with_suffix suffix.now.at suffix.now.kind rest) o.bare) ≡ listed result }
 {
     match &suffix.kind {
         SuffixKind::Array(_) => None,
@@ -50,7 +51,8 @@ fn over(count: Option<usize>) -> Option<usize>
 
 /// Of a declarator; one that no plain tree has is answered by want of memory.
 fn in_declarator(d: &Declarator) -> Result<Option<usize>, Stop>
-    ensures { MatchResult result (IsOver (m.counted_of (o.nearest (declarator_of d.now)))) IsNoRule }
+    ensures { MatchResult result (IsOver (m.counted_of (o.nearest (declarator_of d.now))))
+        IsNoRule }
 {
     let Some(_name) = name_in(d) else {
         return Err(Stop::Memory);
@@ -59,7 +61,8 @@ fn in_declarator(d: &Declarator) -> Result<Option<usize>, Stop>
 }
 
 fn in_declarators(declarators: &[InitDeclarator]) -> Result<Option<usize>, Stop>
-    ensures { MatchResult result (IsOver (m.counts_declared (init_declarators_of declarators.now))) IsNoRule }
+    ensures { MatchResult result (IsOver (m.counts_declared (init_declarators_of declarators.now)))
+        IsNoRule }
 {
     for x in declarators {
         let r = in_declarator(&x.declarator)?;
@@ -81,7 +84,8 @@ fn in_external(external: &External) -> Result<Option<usize>, Stop>
 }
 
 fn in_externals(externals: &[External]) -> Result<Option<usize>, Stop>
-    ensures { MatchResult result (IsOver (m.parameter_counts (externals_of externals.now))) IsNoRule }
+    ensures { MatchResult result (IsOver (m.parameter_counts (externals_of externals.now)))
+        IsNoRule }
 {
     for external in externals {
         let r = in_external(external)?;

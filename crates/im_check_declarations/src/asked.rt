@@ -33,7 +33,8 @@ pub fn evaluated(alloc: Global, e: &Expression, scope: &Scope) -> Result<Expr, S
 
 /// A condition (C11 6.8.4.1p1, 6.8.5p2).
 pub fn tested(alloc: Global, at: u32, e: &Expression, scope: &Scope) -> Result<Expr, Stop>
-    ensures { IsAsked st.condition_asks (λ x. (r.value_of [] x).expr) scope.now (tree_of e.now) at result }
+    ensures { IsAsked st.condition_asks (λ x. (r.value_of [] x).expr) scope.now (tree_of e.now) at
+        result }
 {
     let x = expression(alloc, e, scope)?;
     if !is_integer_term(&x) {

@@ -20,7 +20,9 @@ pub fn declaration(
     locals: &mut Vec<Local>,
     done: &mut Vec<Stmt>,
 ) -> Result<(), Stop>
-    ensures { MatchResult result (λ _. DeclarationDone scope.old scope.new locals.old.items locals.new.items done.old.items done.new.items (declaration_of d.now)) (IsDeclarationFault scope.old (length locals.old.items) (declaration_of d.now)) }
+    ensures { MatchResult result (λ _. DeclarationDone scope.old scope.new locals.old.items
+        locals.new.items done.old.items done.new.items (declaration_of d.now))
+        (IsDeclarationFault scope.old (length locals.old.items) (declaration_of d.now)) }
 {
     let q = specified_type(scope, d.specifiers.at, &d.specifiers.items)?;
     for x in &d.declarators {

@@ -30,7 +30,9 @@ use std::alloc::Global;
 
 /// The expression that an initialiser is, also in one pair of braces.
 fn one_expression(initializer: &Initializer) -> Option<&Expression>
-    ensures { MatchOption result (u.is_one_expression (initializer_of initializer.now) ≡ false) (λ e. (u.is_one_expression (initializer_of initializer.now) ≡ true) × (n.one_shape (initializer_of initializer.now) ≡ n.one (tree_of e.now))) }
+    ensures { MatchOption result (u.is_one_expression (initializer_of initializer.now) ≡ false)
+        (λ e. (u.is_one_expression (initializer_of initializer.now) ≡ true)
+        × (n.one_shape (initializer_of initializer.now) ≡ n.one (tree_of e.now))) }
 {
     match initializer {
         Initializer::Value(e) => Some(e),
@@ -39,7 +41,11 @@ fn one_expression(initializer: &Initializer) -> Option<&Expression>
 }
 
 fn only_value(items: &[Initializer]) -> Option<&Expression>
-    ensures { (at : ℕ) → MatchOption result (u.is_one_expression (t.braced_initializer at (initializers_from items.now)) ≡ false) (λ e. (u.is_one_expression (t.braced_initializer at (initializers_from items.now)) ≡ true) × (n.one_shape (t.braced_initializer at (initializers_from items.now)) ≡ n.one (tree_of e.now))) }
+    ensures { (at : ℕ) → MatchOption result (u.is_one_expression
+        (t.braced_initializer at (initializers_from items.now)) ≡ false)
+        (λ e. (u.is_one_expression (t.braced_initializer at (initializers_from items.now)) ≡ true)
+        × (n.one_shape (t.braced_initializer at (initializers_from items.now))
+        ≡ n.one (tree_of e.now))) }
 {
     match only(items) {
         Some(i) => value_in(i),
@@ -48,7 +54,9 @@ fn only_value(items: &[Initializer]) -> Option<&Expression>
 }
 
 fn value_in(i: &Initializer) -> Option<&Expression>
-    ensures { (at : ℕ) → MatchOption result (u.is_one_expression (t.braced_initializer at (t.more_initializers (initializer_of i.now) t.no_initializers)) ≡ false) (λ e. initializer_of i.now ≡ t.value_initializer (tree_of e.now)) }
+    ensures { (at : ℕ) → MatchOption result (u.is_one_expression
+        (t.braced_initializer at (t.more_initializers (initializer_of i.now) t.no_initializers))
+        ≡ false) (λ e. initializer_of i.now ≡ t.value_initializer (tree_of e.now)) }
 {
     match i {
         Initializer::Value(e) => Some(e),
@@ -84,7 +92,8 @@ fn first_value(
     e: &Expression,
     scope: &Scope,
 ) -> Result<Expr, Stop>
-    ensures { IsAsked (n.value_asks (integer ty)) (λ x. c.as_type (integer ty) (r.value_of [] x)) scope.now (tree_of e.now) at result }
+    ensures { IsAsked (n.value_asks (integer ty)) (λ x. c.as_type (integer ty) (r.value_of [] x))
+        scope.now (tree_of e.now) at result }
 {
     let x = expression(alloc, e, scope)?;
     if !fits(PlainType::Integer(ty), &x) {
@@ -96,7 +105,13 @@ fn first_value(
 }
 
 fn initialise(alloc: Global, local: u32, ty: Integer, value: Expr) -> Result<Stmt, Stop>
-    ensures { MatchResult result (λ s. stmt_in s ≡ p.Initialise local 1 ((record { offset = 0; access = r.access_of [] (integer ty); value = expr_in value }) ∷ [])) IsNoRule }
+    ensures { MatchResult result (λ s. stmt_in s
+        ≡ p.Initialise local 1 ((record {
+          offset = 0;
+          access = r.access_of [] (integer ty);
+          value =
+              expr_in value;
+        }) ∷ [])) IsNoRule }
 {
     let mut pieces = Vec::new(alloc);
     pieces.push(Piece {
@@ -119,7 +134,10 @@ pub fn initialisation(
     initializer: &Option<Initializer>,
     scope: &Scope,
 ) -> Result<Stmt, Stop>
-    ensures { MatchResult result (λ s. (k : ℕ) → MayInitialise (context_of scope.now k) local (integer ty) (maybe_initializer_of initializer.now) (stmt_in s)) (IsGivenFault scope.now (integer ty) (maybe_initializer_of initializer.now)) }
+    ensures { MatchResult result (λ s. (k : ℕ)
+        → MayInitialise (context_of scope.now k) local (integer ty)
+        (maybe_initializer_of initializer.now) (stmt_in s))
+        (IsGivenFault scope.now (integer ty) (maybe_initializer_of initializer.now)) }
 {
     match initializer {
         None => Ok(Stmt::Forget(local)),
@@ -134,7 +152,10 @@ fn given(
     initializer: &Initializer,
     scope: &Scope,
 ) -> Result<Stmt, Stop>
-    ensures { MatchResult result (λ s. (k : ℕ) → MayInitialise (context_of scope.now k) local (integer ty) (t.an_initializer (initializer_of initializer.now)) (stmt_in s)) (IsGivenFault scope.now (integer ty) (t.an_initializer (initializer_of initializer.now))) }
+    ensures { MatchResult result (λ s. (k : ℕ)
+        → MayInitialise (context_of scope.now k) local (integer ty)
+        (t.an_initializer (initializer_of initializer.now)) (stmt_in s))
+        (IsGivenFault scope.now (integer ty) (t.an_initializer (initializer_of initializer.now))) }
 {
     let at = token_of(initializer);
     let Some(e) = one_expression(initializer) else {

@@ -27,7 +27,8 @@ use std::alloc::Global;
 
 /// The name of a declarator that is one; none of a declarator that has something beside it, which no plain tree has.
 pub fn plain_name(declarator: &Declarator) -> Option<&[u8]>
-    ensures { MatchOption result (Unit {0}) (λ x. declarator_of declarator.now ≡ t.declarator (out-Declarator declarator.now).at [] (t.name_core x.now) t.no_suffixes) }
+    ensures { MatchOption result (Unit {0}) (λ x. declarator_of declarator.now
+        ≡ t.declarator (out-Declarator declarator.now).at [] (t.name_core x.now) t.no_suffixes) }
 {
     if star_count(declarator) > 0 {
         return None;
@@ -69,7 +70,8 @@ fn is_in_block(scope: &Scope) -> bool
 }
 
 fn is_opening(entry: &Entry) -> bool
-    ensures { (g : s.Scopes) → s.at_file_scope (with_entry g entry.now) ≡ (not result && s.at_file_scope g) }
+    ensures { (g : s.Scopes) → s.at_file_scope (with_entry g entry.now)
+        ≡ (not result && s.at_file_scope g) }
 {
     match entry {
         Entry::Opened => true,
@@ -78,7 +80,9 @@ fn is_opening(entry: &Entry) -> bool
 }
 
 fn is_typedef(scope: &Scope, name: &[u8]) -> bool
-    ensures { (n : ℕ) (c : Bool) (a : y.CType) → u.rule_4 (s.meaning (scopes_of scope.now.entries.items) name.now) (local_entity n c a) ≡ not result }
+    ensures { (n : ℕ) (c : Bool) (a : y.CType)
+        → u.rule_4 (s.meaning (scopes_of scope.now.entries.items) name.now) (local_entity n c a)
+        ≡ not result }
 {
     match scope.find(name) {
         Some(Entity::Typedef(_, _)) => true,
@@ -98,7 +102,9 @@ fn is_here(scope: &Scope, name: &[u8]) -> bool
 /// The integer type of an object of that name. A declaration outside of blocks, which stands in no body, is answered by
 /// want of memory.
 fn object_type(scope: &Scope, at: u32, name: &[u8], q: Specified) -> Result<Integer, Stop>
-    ensures asked { (n : ℕ) (a : w.Surroundings) (k : ℕ) (initialised : Bool) → IsObjectType (object_asks scope.now n a k name.now (qualified_of q) initialised) at result }
+    ensures asked { (n : ℕ) (a : w.Surroundings) (k : ℕ) (initialised : Bool)
+        → IsObjectType (object_asks scope.now n a k name.now (qualified_of q) initialised) at
+        result }
     ensures told { IfOk result (λ i. type_of q.ty ≡ y.integer i) }
 {
     if is_here(scope, name) {
@@ -132,7 +138,8 @@ fn declare(
     scope: &mut Scope,
     locals: &mut Vec<Local>,
 ) -> Result<u32, Stop>
-    ensures { MatchResult result (IsDeclared scope.old scope.new locals.old.items locals.new.items name.now constant ty) IsNoRule }
+    ensures { MatchResult result (IsDeclared scope.old scope.new locals.old.items locals.new.items
+        name.now constant ty) IsNoRule }
 {
     let Ok(number) = u32::try_from(locals.len()) else {
         return Err(Stop::Memory);
@@ -152,7 +159,9 @@ pub fn local_declarator(
     scope: &mut Scope,
     locals: &mut Vec<Local>,
 ) -> Result<Stmt, Stop>
-    ensures { MatchResult result (LocalDone (qualified_of q) scope.old scope.new locals.old.items locals.new.items x.now) (IsLocalFault (qualified_of q) scope.old (length locals.old.items) x.now) }
+    ensures { MatchResult result (LocalDone (qualified_of q) scope.old scope.new locals.old.items
+        locals.new.items x.now) (IsLocalFault (qualified_of q) scope.old (length locals.old.items)
+        x.now) }
 {
     let Some(name) = plain_name(&x.declarator) else {
         return Err(Stop::Memory);

@@ -43,7 +43,8 @@ pub fn has_suffixes(suffixes: &[Suffix]) -> bool
 
 /// The name that a declarator is.
 fn only_name(alloc: Global, declarator: &Declarator) -> Result<Name, Stop>
-    ensures { MatchResult result (λ x. IsNamed (t.a_declarator (declarator_of declarator.now)) (Some x.items)) IsNoRule }
+    ensures { MatchResult result (λ x. IsNamed (t.a_declarator (declarator_of declarator.now))
+        (Some x.items)) IsNoRule }
 {
     if has_suffixes(&declarator.suffixes) {
         return Err(Stop::Memory);
@@ -57,7 +58,8 @@ fn only_name(alloc: Global, declarator: &Declarator) -> Result<Name, Stop>
 
 /// The name of a parameter, where it has one. Another declarator, which no plain tree has, is answered by want of memory.
 fn name_of(alloc: Global, declarator: &Option<Box<Declarator>>) -> Result<Option<Name>, Stop>
-    ensures { MatchResult result (λ x. IsNamed (declarator_from declarator.now) (option_map bytes_of x)) IsNoRule }
+    ensures { MatchResult result (λ x. IsNamed (declarator_from declarator.now)
+        (option_map bytes_of x)) IsNoRule }
 {
     match declarator {
         None => Ok(None),
@@ -98,7 +100,8 @@ pub fn with_object(
     ty: Integer,
     scope: Scope,
 ) -> Result<Scope, Stop>
-    ensures { MatchResult result (IsWith scope name.now (s.an_object constant (integer ty) (s.local_object number))) IsNoRule }
+    ensures { MatchResult result (IsWith scope name.now
+        (s.an_object constant (integer ty) (s.local_object number))) IsNoRule }
 {
     let mut scope = scope;
     let known = Vec::from_slice(alloc, name)?;
@@ -116,7 +119,8 @@ fn named_formal(
     scope: Scope,
 ) -> Result<Named, Stop>
     requires { s.at_file_scope (scopes_of scope.entries.items) ≡ false }
-    ensures { MatchResult result (NamedDone scope number name.items q) (IsRefusal (named_asks scope number name.items q) at) }
+    ensures { MatchResult result (NamedDone scope number name.items q)
+        (IsRefusal (named_asks scope number name.items q) at) }
 {
     if is_here(&scope, &name) {
         return Err(refused(3, at));
@@ -142,7 +146,8 @@ fn named_formal(
 
 fn unnamed(q: Specified, scope: Scope) -> Named
     ensures scope { result.scope ≡ scope }
-    ensures formal { declared_from result.formal ≡ record { name = None; constant = q.constant; type = type_of q.ty } }
+    ensures formal { declared_from result.formal
+        ≡ record { name = None; constant = q.constant; type = type_of q.ty } }
 {
     Named {
         scope,
@@ -162,7 +167,8 @@ pub fn one_formal(
     scope: Scope,
 ) -> Result<Named, Stop>
     requires { s.at_file_scope (scopes_of scope.entries.items) ≡ false }
-    ensures { MatchResult result (FormalDone scope number parameter.now) (IsFormalFault scope number parameter.now) }
+    ensures { MatchResult result (FormalDone scope number parameter.now)
+        (IsFormalFault scope number parameter.now) }
 {
     let at = parameter.specifiers.at;
     let q = specified_type(&scope, at, &parameter.specifiers.items)?;

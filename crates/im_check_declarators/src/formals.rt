@@ -36,7 +36,8 @@ fn number_of(formals: &[Formal]) -> Result<u32, Stop>
 /// Parameters, in a scope that is opened for them.
 pub fn in_order(alloc: Global, parameters: &[Parameter], scope: Scope) -> Result<Formals, Stop>
     requires { s.at_file_scope (scopes_of scope.entries.items) ≡ false }
-    ensures { MatchResult result (λ r. FormalsDone scope parameters.now r.scope r.formals.items) (IsFault scope (some_parameters 0 (parameters_from parameters.now))) }
+    ensures { MatchResult result (λ r. FormalsDone scope parameters.now r.scope r.formals.items)
+        (IsFault scope (some_parameters 0 (parameters_from parameters.now))) }
 {
     let mut behind = scope;
     let mut done = Vec::new(alloc);
@@ -97,7 +98,8 @@ fn is_only_void(formals: &[Formal]) -> bool
 
 /// The parameters that there are: one unnamed void stands for none (C11 6.7.6.3p10).
 pub fn without_void(alloc: Global, parameters: &[Parameter], formals: Vec<Formal>) -> Vec<Formal>
-    ensures { map declared_from result.items ≡ d.parameters_of (parameters_from parameters.now) (map declared_from formals.items) }
+    ensures { map declared_from result.items ≡ d.parameters_of (parameters_from parameters.now)
+        (map declared_from formals.items) }
 {
     if is_one_word(parameters) && is_only_void(&formals) {
         return Vec::new(alloc);
@@ -127,7 +129,8 @@ pub fn are_scalars(formals: &[Formal]) -> bool
 
 /// Their types.
 pub fn types(alloc: Global, formals: &[Formal]) -> Result<Vec<PlainType>, Stop>
-    ensures { MatchResult result (λ v. types_in v.items ≡ d.types_of (map declared_from formals.now)) IsNoRule }
+    ensures { MatchResult result (λ v. types_in v.items
+        ≡ d.types_of (map declared_from formals.now)) IsNoRule }
 {
     let mut done = Vec::new(alloc);
     for formal in formals {

@@ -50,7 +50,9 @@ pub fn function(
     q: Specified,
     scope: Scope,
 ) -> Result<FunctionType, Stop>
-    ensures { MatchResult result (FunctionDone scope parameters.now q) (IsFault scope (some_suffixes (qualified_of q) (t.function_suffix at (parameters_from parameters.now) t.no_suffixes))) }
+    ensures { MatchResult result (FunctionDone scope parameters.now q)
+        (IsFault scope (some_suffixes (qualified_of q)
+        (t.function_suffix at (parameters_from parameters.now) t.no_suffixes))) }
 {
     let mark = scope.depth();
     let inner = opened(scope)?;

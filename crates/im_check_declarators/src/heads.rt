@@ -40,7 +40,8 @@ pub struct DeclaredHead {
 }
 
 fn plain(name: Name, q: Specified, scope: Scope) -> DeclaredHead
-    ensures { (at : ℕ) → DeclaratorDone scope (qualified_of q) (t.declarator at [] (t.name_core name.items) t.no_suffixes) result }
+    ensures { (at : ℕ) → DeclaratorDone scope (qualified_of q)
+        (t.declarator at [] (t.name_core name.items) t.no_suffixes) result }
 {
     DeclaredHead {
         scope,
@@ -59,7 +60,12 @@ fn suffixed(
     q: Specified,
     scope: Scope,
 ) -> Result<DeclaredHead, Stop>
-    ensures { (at : ℕ) → MatchResult result (DeclaratorDone scope (qualified_of q) (t.declarator at [] (t.name_core name.items) (with_suffix suffix.now.at suffix.now.kind t.no_suffixes))) (IsFault scope (a_declarator (qualified_of q) (t.declarator at [] (t.name_core name.items) (with_suffix suffix.now.at suffix.now.kind t.no_suffixes)))) }
+    ensures { (at : ℕ) → MatchResult result (DeclaratorDone scope (qualified_of q)
+        (t.declarator at [] (t.name_core name.items)
+        (with_suffix suffix.now.at suffix.now.kind t.no_suffixes)))
+        (IsFault scope (a_declarator (qualified_of q)
+        (t.declarator at [] (t.name_core name.items)
+        (with_suffix suffix.now.at suffix.now.kind t.no_suffixes)))) }
 {
     match &suffix.kind {
         SuffixKind::Array(_) => Err(Stop::Memory),
@@ -78,7 +84,8 @@ fn suffixed(
 }
 
 fn only_suffix(suffixes: &[Suffix]) -> Option<&Suffix>
-    ensures { MatchOption result (Unit {0}) (λ s. suffixes_from suffixes.now ≡ with_suffix s.now.at s.now.kind t.no_suffixes) }
+    ensures { MatchOption result (Unit {0}) (λ s. suffixes_from suffixes.now
+        ≡ with_suffix s.now.at s.now.kind t.no_suffixes) }
 {
     if suffixes.len() != 1 {
         return None;
@@ -88,7 +95,8 @@ fn only_suffix(suffixes: &[Suffix]) -> Option<&Suffix>
 
 /// What a declarator declares. One that no plain tree has is answered by want of memory.
 pub fn head(alloc: Global, d: &Declarator, q: Specified, scope: Scope) -> Result<DeclaredHead, Stop>
-    ensures { MatchResult result (DeclaratorDone scope (qualified_of q) (declarator_of d.now)) (IsFault scope (a_declarator (qualified_of q) (declarator_of d.now))) }
+    ensures { MatchResult result (DeclaratorDone scope (qualified_of q) (declarator_of d.now))
+        (IsFault scope (a_declarator (qualified_of q) (declarator_of d.now))) }
 {
     let Some(name) = name_in(d) else {
         return Err(Stop::Memory);

@@ -44,7 +44,8 @@ fn number(
     next: Number,
     scope: &Scope,
 ) -> Result<Option<Number>, Stop>
-    ensures { MatchResult result (IsNumbered scope.now next.value (maybe_from value.now)) (IsValueFault scope.now (maybe_from value.now)) }
+    ensures { MatchResult result (IsNumbered scope.now next.value (maybe_from value.now))
+        (IsValueFault scope.now (maybe_from value.now)) }
 {
     match value {
         None => Ok(Some(next)),
@@ -87,7 +88,9 @@ fn is_type(scope: &Scope, name: &[u8]) -> bool
 
 /// The value of a constant that may be declared here.
 fn asked(scope: &Scope, at: u32, name: &[u8], z: Option<Number>) -> Result<Number, Stop>
-    ensures { MatchResult result (λ n. (Meets (constant_asks scope.now name.now z) × (number_in z ≡ Some n.value)) × (u.rule_8_constant n.value ≡ true)) (IsRefusal (constant_asks scope.now name.now z) at) }
+    ensures { MatchResult result (λ n. (Meets (constant_asks scope.now name.now z)
+        × (number_in z ≡ Some n.value)) × (u.rule_8_constant n.value ≡ true))
+        (IsRefusal (constant_asks scope.now name.now z) at) }
 {
     let Some(n) = z else {
         return Err(refused(15, at));
@@ -128,7 +131,8 @@ fn after(z: Number) -> Number
 }
 
 fn enumerator(alloc: Global, e: &Enumerator, next: Number, scope: Scope) -> Result<Counted, Stop>
-    ensures { MatchResult result (EnumeratorDone scope next.value e.now) (IsEnumeratorFault scope next.value e.now) }
+    ensures { MatchResult result (EnumeratorDone scope next.value e.now)
+        (IsEnumeratorFault scope next.value e.now) }
 {
     let z = number(alloc, &e.value, next, &scope)?;
     let n = asked(&scope, e.at, &e.name, z)?;
@@ -147,7 +151,8 @@ fn zero() -> Number
 
 /// Enumeration constants, in order: the scope behind them.
 pub fn enumerated(alloc: Global, enumerators: &[Enumerator], scope: Scope) -> Result<Scope, Stop>
-    ensures { MatchResult result (EnumeratorsDone scope enumerators.now) (AreFaulty scope enumerators.now) }
+    ensures { MatchResult result (EnumeratorsDone scope enumerators.now)
+        (AreFaulty scope enumerators.now) }
 {
     let mut behind = scope;
     let mut next = zero();

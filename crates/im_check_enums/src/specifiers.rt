@@ -31,7 +31,8 @@ pub struct Base {
 }
 
 fn is_opening(entry: &Entry) -> bool
-    ensures { (rest : List e.Entry) → no_opening (entry.now ∷ rest) ≡ (not result && no_opening rest) }
+    ensures { (rest : List e.Entry) → no_opening (entry.now ∷ rest)
+        ≡ (not result && no_opening rest) }
 {
     match entry {
         Entry::Opened => true,
@@ -58,7 +59,9 @@ fn is_at_file(scope: &Scope) -> bool
 }
 
 fn may_list(scope: &Scope, at: u32, tag: &Option<Vec<u8>>) -> Result<(), Stop>
-    ensures { MatchResult result (λ _. Meets (f.enum_asks (scopes_of scope.now.entries.items) (tag_of tag.now))) (IsRefusal (f.enum_asks (scopes_of scope.now.entries.items) (tag_of tag.now)) at) }
+    ensures { MatchResult result (λ _. Meets (f.enum_asks (scopes_of scope.now.entries.items)
+        (tag_of tag.now))) (IsRefusal (f.enum_asks (scopes_of scope.now.entries.items)
+        (tag_of tag.now)) at) }
 {
     if !is_at_file(scope) {
         return Err(refused(8, at));
@@ -97,7 +100,8 @@ fn enumeration(
     enumerators: &[Enumerator],
     scope: Scope,
 ) -> Result<Scope, Stop>
-    ensures { MatchResult result (EnumDone scope at (tag_of tag.now) enumerators.now) (IsEnumFault scope at (tag_of tag.now) enumerators.now) }
+    ensures { MatchResult result (EnumDone scope at (tag_of tag.now) enumerators.now)
+        (IsEnumFault scope at (tag_of tag.now) enumerators.now) }
 {
     may_list(&scope, at, tag)?;
     let behind = enumerated(alloc, enumerators, scope)?;
@@ -106,7 +110,8 @@ fn enumeration(
 
 /// Whether these specifiers, of which a struct, an enum or a typedef name is one, make up a type.
 fn is_one(specifiers: &[Specifier]) -> bool
-    ensures { (s : t.Specifier) (rest : List t.Specifier) → u.named_in (list_from specifiers.now) ≡ s ∷ rest → result ≡ u.rule_1 (list_from specifiers.now) }
+    ensures { (s : t.Specifier) (rest : List t.Specifier) → u.named_in (list_from specifiers.now)
+        ≡ s ∷ rest → result ≡ u.rule_1 (list_from specifiers.now) }
 {
     type_count(specifiers) == 1 && storage_count(specifiers) <= 1
 }
@@ -122,7 +127,10 @@ fn is_list(specifier: &Specifier) -> bool
 
 fn without_list(at: u32, specifiers: &[Specifier], scope: Scope) -> Result<Base, Stop>
     requires { HasNoList (list_from specifiers.now) }
-    ensures { (whole : List Name) → MatchResult result (IsBase scope whole (list_from specifiers.now)) (IsFileFault scope whole (file_specifiers f.of_the_file (t.specifiers at (list_from specifiers.now)))) }
+    ensures { (whole : List Name) → MatchResult result
+        (IsBase scope whole (list_from specifiers.now))
+        (IsFileFault scope whole (file_specifiers f.of_the_file
+        (t.specifiers at (list_from specifiers.now)))) }
 {
     let ty = type_at_file(&scope, at, specifiers)?;
     Ok(Base { scope, ty })
@@ -138,7 +146,10 @@ fn with_list(
 ) -> Result<Base, Stop>
     requires first { IsFirst first.now (u.named_in (list_from specifiers.now)) }
     requires one { u.rule_1 (list_from specifiers.now) ≡ true }
-    ensures { (whole : List Name) (at : ℕ) → MatchResult result (IsBase scope whole (list_from specifiers.now)) (IsFileFault scope whole (file_specifiers f.of_the_file (t.specifiers at (list_from specifiers.now)))) }
+    ensures { (whole : List Name) (at : ℕ) → MatchResult result
+        (IsBase scope whole (list_from specifiers.now))
+        (IsFileFault scope whole (file_specifiers f.of_the_file
+        (t.specifiers at (list_from specifiers.now)))) }
 {
     match &first.kind {
         SpecifierKind::Enum(tag, enumerators) => {
@@ -161,7 +172,10 @@ fn named(
     scope: Scope,
 ) -> Result<Base, Stop>
     requires { IsFirst first.now (u.named_in (list_from specifiers.now)) }
-    ensures { (whole : List Name) → MatchResult result (IsBase scope whole (list_from specifiers.now)) (IsFileFault scope whole (file_specifiers f.of_the_file (t.specifiers at (list_from specifiers.now)))) }
+    ensures { (whole : List Name) → MatchResult result
+        (IsBase scope whole (list_from specifiers.now))
+        (IsFileFault scope whole (file_specifiers f.of_the_file
+        (t.specifiers at (list_from specifiers.now)))) }
 {
     if !is_one(specifiers) {
         return Err(refused(1, at));
@@ -175,7 +189,10 @@ fn named(
 
 /// The type that specifiers name in a declaration at file scope; enumeration constants are declared.
 pub fn specify(alloc: Global, at: u32, specifiers: &[Specifier], scope: Scope) -> Result<Base, Stop>
-    ensures { (whole : List Name) → MatchResult result (IsBase scope whole (list_from specifiers.now)) (IsFileFault scope whole (file_specifiers f.of_the_file (t.specifiers at (list_from specifiers.now)))) }
+    ensures { (whole : List Name) → MatchResult result
+        (IsBase scope whole (list_from specifiers.now))
+        (IsFileFault scope whole (file_specifiers f.of_the_file
+        (t.specifiers at (list_from specifiers.now)))) }
 {
     match first_named(specifiers) {
         None => without_list(at, specifiers, scope),

@@ -21,7 +21,10 @@ fn is_type_word(word: SpecifierWord) -> bool
 
 /// Whether it is a type word, or a struct, an enum or a typedef name.
 fn names_type(specifier: &Specifier) -> bool
-    ensures { (rest : t.SpecifierList) → length (u.named_in (t.more_specifiers (tree_of specifier.now) rest)) + length (u.keywords_in (t.more_specifiers (tree_of specifier.now) rest)) ≡ one_if result + (length (u.named_in rest) + length (u.keywords_in rest)) }
+    ensures { (rest : t.SpecifierList) → length
+        (u.named_in (t.more_specifiers (tree_of specifier.now) rest)) + length
+        (u.keywords_in (t.more_specifiers (tree_of specifier.now) rest))
+        ≡ one_if result + (length (u.named_in rest) + length (u.keywords_in rest)) }
 {
     match &specifier.kind {
         SpecifierKind::Word(word) => is_type_word(*word),
@@ -31,7 +34,8 @@ fn names_type(specifier: &Specifier) -> bool
 
 /// How many type words, structs, enums and typedef names there are.
 pub fn type_count(specifiers: &[Specifier]) -> usize
-    ensures { result ≡ length (u.named_in (list_from specifiers.now)) + length (u.keywords_in (list_from specifiers.now)) }
+    ensures { result ≡ length (u.named_in (list_from specifiers.now)) + length
+        (u.keywords_in (list_from specifiers.now)) }
 {
     let mut n = 0;
     for specifier in specifiers {
@@ -43,7 +47,8 @@ pub fn type_count(specifiers: &[Specifier]) -> usize
 }
 
 fn is_named(specifier: &Specifier) -> bool
-    ensures { (rest : t.SpecifierList) → u.named_in (t.more_specifiers (tree_of specifier.now) rest) ≡ with_named result (tree_of specifier.now) (u.named_in rest) }
+    ensures { (rest : t.SpecifierList) → u.named_in (t.more_specifiers (tree_of specifier.now) rest)
+        ≡ with_named result (tree_of specifier.now) (u.named_in rest) }
 {
     match &specifier.kind {
         SpecifierKind::Word(_) => false,
@@ -53,7 +58,8 @@ fn is_named(specifier: &Specifier) -> bool
 
 /// The first struct, enum or typedef name.
 pub fn first_named(specifiers: &[Specifier]) -> Option<&Specifier>
-    ensures { MatchOption result (u.named_in (list_from specifiers.now) ≡ []) (λ s. IsFirst s.now (u.named_in (list_from specifiers.now))) }
+    ensures { MatchOption result (u.named_in (list_from specifiers.now) ≡ [])
+        (λ s. IsFirst s.now (u.named_in (list_from specifiers.now))) }
 {
     for specifier in specifiers {
         if is_named(specifier) {

@@ -22,7 +22,9 @@ fn all_declared(
     declarators: &[InitDeclarator],
     file: File,
 ) -> Result<File, Stop>
-    ensures { MatchResult result (AllDone (list_from specifiers.now) (qualified_of q) file declarators.now) (IsFault file (some_declared (list_from specifiers.now) (qualified_of q) (init_declarators_of declarators.now))) }
+    ensures { MatchResult result (AllDone (list_from specifiers.now) (qualified_of q) file
+        declarators.now) (IsFault file (some_declared (list_from specifiers.now) (qualified_of q)
+        (init_declarators_of declarators.now))) }
 {
     let mut done = file;
     for x in declarators {
@@ -33,7 +35,8 @@ fn all_declared(
 
 /// A declaration at file scope.
 pub fn declaration(alloc: Global, d: &Declaration, file: File) -> Result<File, Stop>
-    ensures { MatchResult result (ExternalDone file (external_of (External.Declaration d.now))) (IsFault file (an_external (external_of (External.Declaration d.now)))) }
+    ensures { MatchResult result (ExternalDone file (external_of (External.Declaration d.now)))
+        (IsFault file (an_external (external_of (External.Declaration d.now)))) }
 {
     let items = &d.specifiers.items;
     let base = specify(alloc, d.specifiers.at, items, file.scope)?;

@@ -35,7 +35,9 @@ fn with_whole(
     name: &[u8],
     whole: Vec<Name>,
 ) -> Result<Vec<Name>, Stop>
-    ensures { MatchResult result (λ v. map bytes_of v.items ≡ (if is_whole then name.now ∷ map bytes_of whole.items else map bytes_of whole.items)) IsNoRule }
+    ensures { MatchResult result (λ v. map bytes_of v.items
+        ≡ (if is_whole then name.now ∷ map bytes_of whole.items else map bytes_of whole.items))
+        IsNoRule }
 {
     let mut whole = whole;
     if is_whole {
@@ -54,7 +56,9 @@ fn value_of(
     initializer: &Initializer,
     scope: &Scope,
 ) -> Result<Given, Stop>
-    ensures { MatchResult result (IsGiven scope.now name.now (type_by kind.now) (initializer_of initializer.now)) (IsGivenFault scope.now (type_by kind.now) (initializer_of initializer.now)) }
+    ensures { MatchResult result (IsGiven scope.now name.now (type_by kind.now)
+        (initializer_of initializer.now)) (IsGivenFault scope.now (type_by kind.now)
+        (initializer_of initializer.now)) }
 {
     match kind {
         Kind::Plain(PlainType::Void) => Err(Stop::Memory),
@@ -76,7 +80,9 @@ fn with_value(
     scope: &Scope,
     given: Vec<Given>,
 ) -> Result<Vec<Given>, Stop>
-    ensures { MatchResult result (λ v. GivenDone scope.now name.now (type_by kind.now) (maybe_initializer_of initializer.now) given.items v.items) (MayFault scope.now (type_by kind.now) (maybe_initializer_of initializer.now)) }
+    ensures { MatchResult result (λ v. GivenDone scope.now name.now (type_by kind.now)
+        (maybe_initializer_of initializer.now) given.items v.items)
+        (MayFault scope.now (type_by kind.now) (maybe_initializer_of initializer.now)) }
 {
     match initializer {
         None => Ok(given),
@@ -97,7 +103,8 @@ pub fn one_declared(
     x: &InitDeclarator,
     file: File,
 ) -> Result<File, Stop>
-    ensures { MatchResult result (DeclaredDone (list_from specifiers.now) (qualified_of q) file x.now) (IsDeclaredFault (list_from specifiers.now) (qualified_of q) file x.now) }
+    ensures { MatchResult result (DeclaredDone (list_from specifiers.now) (qualified_of q) file
+        x.now) (IsDeclaredFault (list_from specifiers.now) (qualified_of q) file x.now) }
 {
     let y_head = head(alloc, &x.declarator, q, file.scope)?;
     let is_whole = x.initializer.is_some();

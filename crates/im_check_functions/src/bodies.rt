@@ -41,7 +41,9 @@ pub fn body_inside(
     items: &[BlockItem],
     scope: Scope,
 ) -> Result<Inside, Stop>
-    ensures { MatchResult result (InsideDone scope (map declared_from formals.now) gives (block_items_of items.now)) (IsInsideFault scope (map declared_from formals.now) gives (block_items_of items.now)) }
+    ensures { MatchResult result (InsideDone scope (map declared_from formals.now) gives
+        (block_items_of items.now)) (IsInsideFault scope (map declared_from formals.now) gives
+        (block_items_of items.now)) }
 {
     let mark = scope.depth();
     let open = opened(scope)?;

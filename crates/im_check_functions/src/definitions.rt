@@ -16,7 +16,9 @@ use std::alloc::Global;
 
 /// A function definition. What no plain tree has is answered by want of memory.
 pub fn function_definition(alloc: Global, f: &Function, file: File) -> Result<Definition, Stop>
-    ensures { MatchResult result (λ d. ExternalTyped file d.file (external_of (External.Function f.now)) (function_in d.function ∷ [])) (IsFault file (an_external (external_of (External.Function f.now)))) }
+    ensures { MatchResult result (λ d. ExternalTyped file d.file
+        (external_of (External.Function f.now)) (function_in d.function ∷ []))
+        (IsFault file (an_external (external_of (External.Function f.now)))) }
 {
     let s = &f.specifiers;
     let Headed {

@@ -55,7 +55,8 @@ pub fn with_formals(alloc: Global, formals: &[Formal], scope: Scope) -> Result<S
 }
 
 fn name_of(alloc: Global, formal: &Formal) -> Result<Name, Stop>
-    ensures { MatchResult result (λ x. x.items ≡ n.name_of (declared_from formal.now).name) IsNoRule }
+    ensures { MatchResult result (λ x. x.items ≡ n.name_of (declared_from formal.now).name)
+        IsNoRule }
 {
     match &formal.name {
         None => Ok(Vec::new(alloc)),
@@ -64,7 +65,9 @@ fn name_of(alloc: Global, formal: &Formal) -> Result<Name, Stop>
 }
 
 fn local(alloc: Global, formal: &Formal) -> Result<Local, Stop>
-    ensures { MatchResult result (λ l. (rest : List d.Declared) → parameter_objects [] (declared_from formal.now ∷ rest) ≡ object_in l ∷ parameter_objects [] rest) IsNoRule }
+    ensures { MatchResult result (λ l. (rest : List d.Declared)
+        → parameter_objects [] (declared_from formal.now ∷ rest) ≡ object_in l
+        ∷ parameter_objects [] rest) IsNoRule }
 {
     match formal.ty {
         PlainType::Void => Err(Stop::Memory),
@@ -77,7 +80,8 @@ fn local(alloc: Global, formal: &Formal) -> Result<Local, Stop>
 
 /// The objects that the parameters are, in order.
 pub fn locals(alloc: Global, formals: &[Formal]) -> Result<Vec<Local>, Stop>
-    ensures { MatchResult result (λ v. map object_in v.items ≡ parameter_objects [] (map declared_from formals.now)) IsNoRule }
+    ensures { MatchResult result (λ v. map object_in v.items
+        ≡ parameter_objects [] (map declared_from formals.now)) IsNoRule }
 {
     let mut done = Vec::new(alloc);
     for formal in formals {

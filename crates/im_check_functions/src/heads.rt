@@ -47,7 +47,8 @@ fn has_name(d: &Declarator) -> bool
 }
 
 fn is_named(parameter: &Parameter) -> bool
-    ensures { (rest : t.Parameters) → u.all_named (with_parameter parameter.now rest) ≡ (result && u.all_named rest) }
+    ensures { (rest : t.Parameters) → u.all_named (with_parameter parameter.now rest)
+        ≡ (result && u.all_named rest) }
 {
     match &parameter.declarator {
         None => false,
@@ -91,7 +92,8 @@ fn is_one_word(parameters: &[Parameter]) -> bool
 }
 
 fn names_all(suffix: &Suffix) -> bool
-    ensures { (rest : t.Suffixes) → has_named (o.suffix_or (with_suffix suffix.now.at suffix.now.kind rest) o.bare) ≡ result }
+    ensures { (rest : t.Suffixes) → has_named
+        (o.suffix_or (with_suffix suffix.now.at suffix.now.kind rest) o.bare) ≡ result }
 {
     match &suffix.kind {
         SuffixKind::Array(_) => false,
@@ -119,7 +121,9 @@ fn is_function(kind: &Kind) -> bool
 
 /// Whether a body may stand behind it (rule 11). A declarator that no plain tree has is answered by want of memory.
 fn may_have_body(d: &Declarator, y: &Declared) -> Result<(), Stop>
-    ensures { MatchResult result (λ _. Meets (f.body_asks (declarator_of d.now) (declared_of y.now))) (IsRefusal (f.body_asks (declarator_of d.now) (declared_of y.now)) (declarator_token (declarator_of d.now))) }
+    ensures { MatchResult result (λ _. Meets (f.body_asks (declarator_of d.now)
+        (declared_of y.now))) (IsRefusal (f.body_asks (declarator_of d.now) (declared_of y.now))
+        (declarator_token (declarator_of d.now))) }
 {
     if name_in(d).is_none() {
         return Err(Stop::Memory);
@@ -132,7 +136,8 @@ fn may_have_body(d: &Declarator, y: &Declared) -> Result<(), Stop>
 }
 
 fn with_whole(alloc: Global, name: &[u8], whole: Vec<Name>) -> Result<Vec<Name>, Stop>
-    ensures { MatchResult result (λ v. map bytes_of v.items ≡ name.now ∷ map bytes_of whole.items) IsNoRule }
+    ensures { MatchResult result (λ v. map bytes_of v.items ≡ name.now ∷ map bytes_of whole.items)
+        IsNoRule }
 {
     let mut whole = whole;
     let kept = Vec::from_slice(alloc, name)?;
@@ -148,7 +153,8 @@ pub fn function_head(
     d: &Declarator,
     file: File,
 ) -> Result<Headed, Stop>
-    ensures { MatchResult result (HeadDone file (list_from specifiers.now) (declarator_of d.now)) (IsHeadFault file at (list_from specifiers.now) (declarator_of d.now)) }
+    ensures { MatchResult result (HeadDone file (list_from specifiers.now) (declarator_of d.now))
+        (IsHeadFault file at (list_from specifiers.now) (declarator_of d.now)) }
 {
     if first_in_declarator(specifiers, d).is_some() {
         return Err(Stop::Memory);

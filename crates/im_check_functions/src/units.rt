@@ -14,7 +14,8 @@ use std::alloc::Global;
 
 /// A declaration or a function definition.
 pub fn external_declaration(alloc: Global, x: &External, before: Checked) -> Result<Checked, Stop>
-    ensures { MatchResult result (λ after. ExternalChecked before after (external_of x.now)) (IsFault before.file (an_external (external_of x.now))) }
+    ensures { MatchResult result (λ after. ExternalChecked before after (external_of x.now))
+        (IsFault before.file (an_external (external_of x.now))) }
 {
     let mut functions = before.functions;
     match x {
@@ -35,7 +36,8 @@ pub fn external_declaration(alloc: Global, x: &External, before: Checked) -> Res
 
 /// External declarations, in order.
 pub fn translation_unit(alloc: Global, list: &[External], file: File) -> Result<Checked, Stop>
-    ensures { MatchResult result (AllChecked file (externals_of list.now)) (IsFault file (some_externals (externals_of list.now))) }
+    ensures { MatchResult result (AllChecked file (externals_of list.now))
+        (IsFault file (some_externals (externals_of list.now))) }
 {
     let mut done = Checked {
         file,

@@ -42,7 +42,8 @@ fn agrees_as_type(old: &Entity, constant: bool, kind: &Kind) -> bool
 }
 
 fn agrees_as_object(old: &Entity, constant: bool, ty: PlainType) -> bool
-    ensures { (k : s.Storage) → result ≡ u.agrees (entity_of old.now) (s.an_object constant (type_of ty) k) }
+    ensures { (k : s.Storage) → result ≡ u.agrees (entity_of old.now)
+        (s.an_object constant (type_of ty) k) }
 {
     match old {
         Entity::Object(known, i, _) => {
@@ -53,7 +54,8 @@ fn agrees_as_object(old: &Entity, constant: bool, ty: PlainType) -> bool
 }
 
 fn agrees_as_function(old: &Entity, signature: &Signature) -> bool
-    ensures { (k : s.Callee) → result ≡ u.agrees (entity_of old.now) (s.a_function k (type_of_function signature.now)) }
+    ensures { (k : s.Callee) → result ≡ u.agrees (entity_of old.now)
+        (s.a_function k (type_of_function signature.now)) }
 {
     match old {
         Entity::Function(_, known) => same_signature(known, signature),
@@ -63,7 +65,8 @@ fn agrees_as_function(old: &Entity, signature: &Signature) -> bool
 
 /// Whether an earlier declaration is of the same.
 fn agrees(old: &Entity, typedef: bool, constant: bool, kind: &Kind) -> bool
-    ensures { (o : Outline) (x : Name) → result ≡ u.agrees (entity_of old.now) (entity_by o typedef x constant (type_by kind.now)) }
+    ensures { (o : Outline) (x : Name) → result
+        ≡ u.agrees (entity_of old.now) (entity_by o typedef x constant (type_by kind.now)) }
 {
     if typedef {
         return agrees_as_type(old, constant, kind);
@@ -76,7 +79,10 @@ fn agrees(old: &Entity, typedef: bool, constant: bool, kind: &Kind) -> bool
 
 /// Whether the name may be declared again in this scope (rule 3).
 fn may_repeat(scope: &Scope, whole: &[Name], typedef: bool, is_whole: bool, y: &Declared) -> bool
-    ensures { (o : Outline) → result ≡ u.rule_3 (s.meaning_here (scopes_of scope.now.entries.items) y.now.name.items) (entity_by o typedef y.now.name.items y.now.constant (type_by y.now.kind)) true (is_in y.now.name.items (map bytes_of whole.now)) is_whole }
+    ensures { (o : Outline) → result ≡ u.rule_3
+        (s.meaning_here (scopes_of scope.now.entries.items) y.now.name.items)
+        (entity_by o typedef y.now.name.items y.now.constant (type_by y.now.kind)) true
+        (is_in y.now.name.items (map bytes_of whole.now)) is_whole }
 {
     match scope.find_here(&y.name) {
         None => true,
@@ -103,7 +109,9 @@ fn is_type(scope: &Scope, name: &[u8]) -> bool
 
 /// Whether no typedef name is declared as something else (rule 4).
 fn keeps_type(scope: &Scope, typedef: bool, y: &Declared) -> bool
-    ensures { (o : Outline) → result ≡ u.rule_4 (s.meaning (scopes_of scope.now.entries.items) y.now.name.items) (entity_by o typedef y.now.name.items y.now.constant (type_by y.now.kind)) }
+    ensures { (o : Outline) → result ≡ u.rule_4
+        (s.meaning (scopes_of scope.now.entries.items) y.now.name.items)
+        (entity_by o typedef y.now.name.items y.now.constant (type_by y.now.kind)) }
 {
     if typedef {
         true
@@ -114,7 +122,9 @@ fn keeps_type(scope: &Scope, typedef: bool, y: &Declared) -> bool
 
 /// Whether it is no object of an incomplete type (rule 5).
 fn is_complete(typedef: bool, kind: &Kind) -> bool
-    ensures { (o : Outline) (x : Name) (k : Bool) → result ≡ (not (f.is_object_entity (entity_by o typedef x k (type_by kind.now))) || u.rule_5 [] (type_by kind.now)) }
+    ensures { (o : Outline) (x : Name) (k : Bool) → result
+        ≡ (not (f.is_object_entity (entity_by o typedef x k (type_by kind.now)))
+        || u.rule_5 [] (type_by kind.now)) }
 {
     match kind {
         Kind::Plain(PlainType::Void) => typedef,
@@ -170,7 +180,10 @@ pub fn asked(
     is_whole: bool,
     y: &Declared,
 ) -> Result<(), Stop>
-    ensures { (p : Passed) → MatchResult result (λ _. Meets (asks_of scope.now (map bytes_of whole.now) p (list_from specifiers.now) y.now is_whole)) (IsRefusal (asks_of scope.now (map bytes_of whole.now) p (list_from specifiers.now) y.now is_whole) at) }
+    ensures { (p : Passed) → MatchResult result
+        (λ _. Meets (asks_of scope.now (map bytes_of whole.now) p (list_from specifiers.now) y.now
+        is_whole)) (IsRefusal (asks_of scope.now (map bytes_of whole.now) p
+        (list_from specifiers.now) y.now is_whole) at) }
 {
     let typedef = is_typedef(specifiers);
     if !may_define(typedef, is_whole) {

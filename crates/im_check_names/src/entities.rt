@@ -26,7 +26,8 @@ fn number_in(name: &[u8], names: &[Name]) -> Result<u32, Stop>
 }
 
 fn callee(scope: &Scope, name: &[u8]) -> Result<Callee, Stop>
-    ensures { MatchResult result (λ k. callee_of k ≡ f.callee_named (outline_of scope.now) name.now) IsNoRule }
+    ensures { MatchResult result (λ k. callee_of k ≡ f.callee_named (outline_of scope.now) name.now)
+        IsNoRule }
 {
     if same_name(b"getchar", name) {
         return Ok(Callee::Getchar);
@@ -41,7 +42,8 @@ fn callee(scope: &Scope, name: &[u8]) -> Result<Callee, Stop>
 }
 
 fn copied(alloc: Global, signature: &Signature) -> Result<Signature, Stop>
-    ensures { MatchResult result (λ f. type_of_function f ≡ type_of_function signature.now) IsNoRule }
+    ensures { MatchResult result (λ f. type_of_function f ≡ type_of_function signature.now)
+        IsNoRule }
 {
     let parameters = Vec::from_slice(alloc, &signature.parameters)?;
     Ok(Signature {
@@ -51,7 +53,8 @@ fn copied(alloc: Global, signature: &Signature) -> Result<Signature, Stop>
 }
 
 fn object(scope: &Scope, name: &[u8], constant: bool, ty: PlainType) -> Result<Entity, Stop>
-    ensures { MatchResult result (λ e. entity_of e ≡ entity_by (outline_of scope.now) false name.now constant (type_of ty)) IsNoRule }
+    ensures { MatchResult result (λ e. entity_of e
+        ≡ entity_by (outline_of scope.now) false name.now constant (type_of ty)) IsNoRule }
 {
     match ty {
         PlainType::Void => Err(Stop::Memory),
@@ -68,7 +71,9 @@ fn function(
     name: &[u8],
     signature: &Signature,
 ) -> Result<Entity, Stop>
-    ensures { (c : Bool) → MatchResult result (λ e. entity_of e ≡ entity_by (outline_of scope.now) false name.now c (type_of_function signature.now)) IsNoRule }
+    ensures { (c : Bool) → MatchResult result
+        (λ e. entity_of e ≡ entity_by (outline_of scope.now) false name.now c
+        (type_of_function signature.now)) IsNoRule }
 {
     let body = callee(scope, name)?;
     let signature = copied(alloc, signature)?;
@@ -85,7 +90,8 @@ fn entity(
     constant: bool,
     kind: &Kind,
 ) -> Result<Entity, Stop>
-    ensures { MatchResult result (λ e. entity_of e ≡ entity_by (outline_of scope.now) typedef name.now constant (type_by kind.now)) IsNoRule }
+    ensures { MatchResult result (λ e. entity_of e
+        ≡ entity_by (outline_of scope.now) typedef name.now constant (type_by kind.now)) IsNoRule }
 {
     match kind {
         Kind::Plain(ty) => {
@@ -121,7 +127,8 @@ pub fn declared(
     y: &Declared,
     scope: Scope,
 ) -> Result<Scope, Stop>
-    ensures { MatchResult result (IsNamed scope y.now.name.items (entity_in scope (list_from specifiers.now) y.now)) IsNoRule }
+    ensures { MatchResult result (IsNamed scope y.now.name.items
+        (entity_in scope (list_from specifiers.now) y.now)) IsNoRule }
 {
     let typedef = is_typedef(specifiers);
     let meaning = entity(alloc, &scope, typedef, &y.name, y.constant, &y.kind)?;

@@ -95,7 +95,8 @@ pub fn is_putchar(signature: &Signature) -> bool
 }
 
 fn is_one_int(parameters: &[PlainType]) -> bool
-    ensures { result ≡ t.same_types (t.more_types (t.integer Integer.Int) t.no_types) (types_in parameters.now) }
+    ensures { result ≡ t.same_types (t.more_types (t.integer Integer.Int) t.no_types)
+        (types_in parameters.now) }
 {
     if parameters.len() != 1 {
         return false;

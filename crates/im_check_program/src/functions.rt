@@ -21,7 +21,8 @@ fn typed_objects(
     locals: &[Local],
 ) -> Result<Vec<Object>, NoMemory>
     requires { HasIntegers integers.now }
-    ensures same { IfOk result (λ v. map (object_of integers.now.table) v.items ≡ map object_in locals.now) }
+    ensures same { IfOk result (λ v. map (object_of integers.now.table) v.items
+        ≡ map object_in locals.now) }
     ensures known { IfOk result (λ v. KnowObjects integers.now.table v.items) }
 {
     let mut done = Vec::new(alloc);
@@ -63,7 +64,8 @@ pub fn typed_functions(
     list: Vec<Defined>,
 ) -> Result<Vec<Func>, NoMemory>
     requires { HasIntegers integers.now }
-    ensures same { IfOk result (λ v. map (func_of integers.now.table) v.items ≡ functions_in list.items) }
+    ensures same { IfOk result (λ v. map (func_of integers.now.table) v.items
+        ≡ functions_in list.items) }
     ensures known { IfOk result (λ v. KnowFunctions integers.now.table v.items) }
 {
     let mut done = Vec::new(alloc);

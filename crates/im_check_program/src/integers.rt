@@ -20,7 +20,8 @@ pub struct Integers {
 }
 
 fn with_integer(integers: Integers, ty: Integer) -> Result<Integers, NoMemory>
-    ensures { IfOk result (λ r. (is : List Integer) → HasSome integers is → HasSome r (is ++ ty ∷ [])) }
+    ensures { IfOk result (λ r. (is : List Integer) → HasSome integers is
+        → HasSome r (is ++ ty ∷ [])) }
 {
     let Integers { table, numbers } = integers;
     let mut table = table;
@@ -93,7 +94,8 @@ pub fn typed_object(
     ty: Integer,
 ) -> Result<Object, NoMemory>
     requires { HasIntegers integers.now }
-    ensures same { IfOk result (λ o. object_of integers.now.table o ≡ n.object_of [] name.now (integer ty)) }
+    ensures same { IfOk result (λ o. object_of integers.now.table o
+        ≡ n.object_of [] name.now (integer ty)) }
     ensures known { IfOk result (λ o. IsIn integers.now.table o.ty) }
 {
     let name = Vec::from_slice(alloc, name)?;

@@ -44,7 +44,8 @@ fn given_to(name: &[u8], all: &[Given]) -> Option<Number>
 
 /// Zero where none is given.
 fn first_value(name: &[u8], all: &[Given]) -> Number
-    ensures { (i : Integer) → u.values_or_zero (layout [] (integer i)).cells (u.given_to name.now (map first_values all.now)) ≡ o.Number result.value ∷ [] }
+    ensures { (i : Integer) → u.values_or_zero (layout [] (integer i)).cells
+        (u.given_to name.now (map first_values all.now)) ≡ o.Number result.value ∷ [] }
 {
     match given_to(name, all) {
         Some(value) => value,
@@ -53,7 +54,8 @@ fn first_value(name: &[u8], all: &[Given]) -> Number
 }
 
 fn integer_named(scope: &Scope, name: &[u8]) -> Option<Integer>
-    ensures { MatchOption result (Unit {0}) (λ i. f.object_type (s.meaning (scopes_of scope.now.entries.items) name.now) ≡ Some (integer i)) }
+    ensures { MatchOption result (Unit {0}) (λ i. f.object_type
+        (s.meaning (scopes_of scope.now.entries.items) name.now) ≡ Some (integer i)) }
 {
     match scope.find(name) {
         Some(Entity::Object(_, ty, _)) => Some(*ty),
@@ -69,7 +71,8 @@ fn typed_static(
     name: &[u8],
 ) -> Result<Static, NoMemory>
     requires { HasIntegers integers.now }
-    ensures same { IfOk result (λ x. (p : Passed) → static_of integers.now.table x ≡ u.static_named (place_of file.now p) (values_of file.now) name.now) }
+    ensures same { IfOk result (λ x. (p : Passed) → static_of integers.now.table x
+        ≡ u.static_named (place_of file.now p) (values_of file.now) name.now) }
     ensures known { IfOk result (λ x. IsIn integers.now.table x.object.ty) }
 {
     let Some(ty) = integer_named(&file.scope, name) else {
@@ -89,7 +92,9 @@ pub fn typed_statics(
     file: &File,
 ) -> Result<Vec<Static>, NoMemory>
     requires { HasIntegers integers.now }
-    ensures same { IfOk result (λ v. (p : Passed) → map (static_of integers.now.table) v.items ≡ map (u.static_named (place_of file.now p) (values_of file.now)) (map bytes_of file.now.scope.statics.items)) }
+    ensures same { IfOk result (λ v. (p : Passed) → map (static_of integers.now.table) v.items
+        ≡ map (u.static_named (place_of file.now p) (values_of file.now))
+        (map bytes_of file.now.scope.statics.items)) }
     ensures known { IfOk result (λ v. KnowStatics integers.now.table v.items) }
 {
     let mut done = Vec::new(alloc);

@@ -23,7 +23,11 @@ pub fn body(
     scope: &mut Scope,
     locals: &mut Vec<Local>,
 ) -> Result<Stmt, Stop>
-    ensures { MatchResult result (BodyDone (record { result = gives; in_loop = false; in_switch = false }) scope.old scope.new locals.old.items locals.new.items list.now) (IsBodyFault scope.old (length locals.old.items) (record { result = gives; in_loop = false; in_switch = false }) (some_items (block_items_of list.now))) }
+    ensures { MatchResult result (BodyDone (record
+        { result = gives; in_loop = false; in_switch = false }) scope.old scope.new locals.old.items
+        locals.new.items list.now) (IsBodyFault scope.old (length locals.old.items)
+        (record { result = gives; in_loop = false; in_switch = false })
+        (some_items (block_items_of list.now))) }
 {
     let around = Surroundings {
         result: gives,

@@ -40,7 +40,8 @@ pub fn no_labels(alloc: Global) -> Labels
 /// A case with this constant, unless one has it; so many statements stand before it.
 fn add_case(labels: &mut Labels, value: Number, at: u32) -> Result<bool, Stop>
     requires { Tells labels.old }
-    ensures { MatchResult result (λ fresh. CaseAdded labels.old labels.new value.value at fresh) IsNoRule }
+    ensures { MatchResult result (λ fresh. CaseAdded labels.old labels.new value.value at fresh)
+        IsNoRule }
 {
     let z = plain(value);
     if !labels.seen.insert(z)? {
@@ -82,7 +83,9 @@ pub fn case_label(
     labels: &mut Labels,
 ) -> Result<(), Stop>
     requires { Tells labels.old }
-    ensures { MatchResult result (λ _. CaseDone scope.now (tree_of e.now) ty n labels.old labels.new) (IsAskedFault (λ x. st.case_asks ty x (labels_of labels.old)) scope.now (tree_of e.now) at) }
+    ensures { MatchResult result (λ _. CaseDone scope.now (tree_of e.now) ty n labels.old
+        labels.new) (IsAskedFault (λ x. st.case_asks ty x (labels_of labels.old)) scope.now
+        (tree_of e.now) at) }
 {
     let x = expression(alloc, e, scope)?;
     let Some(z) = constant_of(&x) else {
@@ -96,7 +99,8 @@ pub fn case_label(
 /// The label `default`.
 pub fn default_label(at: u32, n: u32, labels: &mut Labels) -> Result<(), Stop>
     requires { Tells labels.old }
-    ensures { MatchResult result (λ _. DefaultAdded labels.old labels.new n) (IsRefusal (st.default_asks (labels_of labels.old)) at) }
+    ensures { MatchResult result (λ _. DefaultAdded labels.old labels.new n)
+        (IsRefusal (st.default_asks (labels_of labels.old)) at) }
 {
     match labels.otherwise {
         Some(_) => Err(refused(34, at)),
@@ -115,7 +119,8 @@ pub struct Selector {
 }
 
 pub fn selected_by(alloc: Global, at: u32, e: &Expression, scope: &Scope) -> Result<Selector, Stop>
-    ensures { MatchResult result (IsSelected scope.now (tree_of e.now)) (IsAskedFault st.switch_asks scope.now (tree_of e.now) at) }
+    ensures { MatchResult result (IsSelected scope.now (tree_of e.now))
+        (IsAskedFault st.switch_asks scope.now (tree_of e.now) at) }
 {
     let x = expression(alloc, e, scope)?;
     if !is_integer_term(&x) {

@@ -29,7 +29,8 @@ fn expression_statement(
     around: Surroundings,
     scope: &Scope,
 ) -> Result<Stmt, Stop>
-    ensures { (n : ℕ) → IsLeaf around scope.now n (t.expression_statement at (optional_expression_of e.now)) result }
+    ensures { (n : ℕ) → IsLeaf around scope.now n
+        (t.expression_statement at (optional_expression_of e.now)) result }
 {
     match e {
         None => Ok(block_made(Vec::new(alloc))),
@@ -48,7 +49,8 @@ fn returned(
     gives: PlainType,
     scope: &Scope,
 ) -> Result<Expr, Stop>
-    ensures { IsAsked (st.return_value_asks (type_of gives)) (λ x. c.as_type (type_of gives) (r.value_of [] x)) scope.now (tree_of e.now) at result }
+    ensures { IsAsked (st.return_value_asks (type_of gives))
+        (λ x. c.as_type (type_of gives) (r.value_of [] x)) scope.now (tree_of e.now) at result }
 {
     let x = expression(alloc, e, scope)?;
     if is_void(gives) {
@@ -78,7 +80,8 @@ fn return_statement(
     around: Surroundings,
     scope: &Scope,
 ) -> Result<Stmt, Stop>
-    ensures { (n : ℕ) → IsLeaf around scope.now n (t.return_statement at (optional_expression_of e.now)) result }
+    ensures { (n : ℕ) → IsLeaf around scope.now n
+        (t.return_statement at (optional_expression_of e.now)) result }
 {
     match e {
         None => {

@@ -30,7 +30,8 @@ pub struct ForHead {
 
 /// A scope is opened behind so many entries.
 pub fn opened(scope: &mut Scope) -> Result<usize, Stop>
-    ensures { MatchResult result (λ mark. IsGrown scope.old scope.new (Opened ∷ []) × (mark ≡ length scope.old.entries.items)) IsNoRule }
+    ensures { MatchResult result (λ mark. IsGrown scope.old scope.new (Opened ∷ [])
+        × (mark ≡ length scope.old.entries.items)) IsNoRule }
 {
     let mark = scope.depth();
     scope.add(Entry::Opened)?;
@@ -43,7 +44,9 @@ fn beginning(
     scope: &mut Scope,
     locals: &mut Vec<Local>,
 ) -> Result<Stmt, Stop>
-    ensures { MatchResult result (BeginDone scope.old scope.new locals.old.items locals.new.items (for_init_of i.now)) (IsBeginFault scope.old (length locals.old.items) (for_init_of i.now)) }
+    ensures { MatchResult result (BeginDone scope.old scope.new locals.old.items locals.new.items
+        (for_init_of i.now)) (IsBeginFault scope.old (length locals.old.items)
+        (for_init_of i.now)) }
 {
     match i {
         ForInit::Declaration(d) => {
@@ -57,7 +60,9 @@ fn beginning(
 
 /// An expression that a `for` begins with.
 fn begun(alloc: Global, e: &Option<Expression>, scope: &Scope) -> Result<Stmt, Stop>
-    ensures { (o : List w.Local) → MatchResult result (BeginDone scope.now scope.now o o (t.for_expression (optional_expression_of e.now))) (IsBeginFault scope.now (length o) (t.for_expression (optional_expression_of e.now))) }
+    ensures { (o : List w.Local) → MatchResult result
+        (BeginDone scope.now scope.now o o (t.for_expression (optional_expression_of e.now)))
+        (IsBeginFault scope.now (length o) (t.for_expression (optional_expression_of e.now))) }
 {
     match e {
         None => Ok(block_made(Vec::new(alloc))),
@@ -70,7 +75,9 @@ fn begun(alloc: Global, e: &Option<Expression>, scope: &Scope) -> Result<Stmt, S
 
 /// Without a condition the number 1.
 fn condition(alloc: Global, at: u32, c: &Option<Expression>, scope: &Scope) -> Result<Expr, Stop>
-    ensures { MatchResult result (λ x. (n : ℕ) (a : Surroundings) (k : ℕ) → st.MayTest (site_of scope.now n a k) (optional_expression_of c.now) (expr_in x)) (IsMaybeFault st.condition_asks scope.now (optional_expression_of c.now) at) }
+    ensures { MatchResult result (λ x. (n : ℕ) (a : Surroundings) (k : ℕ)
+        → st.MayTest (site_of scope.now n a k) (optional_expression_of c.now) (expr_in x))
+        (IsMaybeFault st.condition_asks scope.now (optional_expression_of c.now) at) }
 {
     match c {
         None => Ok(Expr::Number(Kind::I32, 1)),
@@ -80,7 +87,9 @@ fn condition(alloc: Global, at: u32, c: &Option<Expression>, scope: &Scope) -> R
 
 /// Without an expression the number 0.
 fn step(alloc: Global, n: &Option<Expression>, scope: &Scope) -> Result<Expr, Stop>
-    ensures { MatchResult result (λ x. (m : ℕ) (a : Surroundings) (k : ℕ) → st.MayStep (site_of scope.now m a k) (optional_expression_of n.now) (expr_in x)) (IsMaybeFault (λ x. []) scope.now (optional_expression_of n.now) 0) }
+    ensures { MatchResult result (λ x. (m : ℕ) (a : Surroundings) (k : ℕ)
+        → st.MayStep (site_of scope.now m a k) (optional_expression_of n.now) (expr_in x))
+        (IsMaybeFault (λ x. []) scope.now (optional_expression_of n.now) 0) }
 {
     match n {
         None => Ok(Expr::Number(Kind::I32, 0)),
@@ -98,7 +107,11 @@ pub fn head(
     scope: &mut Scope,
     locals: &mut Vec<Local>,
 ) -> Result<ForHead, Stop>
-    ensures { (a : Surroundings) → MatchResult result (HeadDone a scope.old scope.new locals.old.items locals.new.items (for_init_of i.now) (optional_expression_of c.now) (optional_expression_of n.now)) (IsHeadFault a scope.old (length locals.old.items) at (for_init_of i.now) (optional_expression_of c.now) (optional_expression_of n.now)) }
+    ensures { (a : Surroundings) → MatchResult result
+        (HeadDone a scope.old scope.new locals.old.items locals.new.items (for_init_of i.now)
+        (optional_expression_of c.now) (optional_expression_of n.now))
+        (IsHeadFault a scope.old (length locals.old.items) at (for_init_of i.now)
+        (optional_expression_of c.now) (optional_expression_of n.now)) }
 {
     opened(scope)?;
     let first = beginning(alloc, i, scope, locals)?;

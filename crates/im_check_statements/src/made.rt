@@ -19,7 +19,8 @@ pub fn block_made(statements: Vec<Stmt>) -> Stmt
 }
 
 pub fn if_made(alloc: Global, test: Expr, first: Stmt, second: Stmt) -> Result<Stmt, Stop>
-    ensures { MatchResult result (λ u. stmt_in u ≡ p.If (expr_in test) (stmt_in first) (stmt_in second)) IsNoRule }
+    ensures { MatchResult result (λ u. stmt_in u
+        ≡ p.If (expr_in test) (stmt_in first) (stmt_in second)) IsNoRule }
 {
     let first = Box::new(alloc, first)?;
     let second = Box::new(alloc, second)?;
@@ -33,13 +34,15 @@ pub fn while_made(alloc: Global, test: Expr, turn: Stmt) -> Result<Stmt, Stop>
 }
 
 pub fn do_made(alloc: Global, turn: Stmt, test: Expr) -> Result<Stmt, Stop>
-    ensures { MatchResult result (λ u. stmt_in u ≡ p.DoWhile (stmt_in turn) (expr_in test)) IsNoRule }
+    ensures { MatchResult result (λ u. stmt_in u ≡ p.DoWhile (stmt_in turn) (expr_in test))
+        IsNoRule }
 {
     Ok(Stmt::DoWhile(Box::new(alloc, turn)?, test))
 }
 
 pub fn for_made(alloc: Global, h: ForHead, turn: Stmt) -> Result<Stmt, Stop>
-    ensures { MatchResult result (λ u. stmt_in u ≡ p.For (stmt_in h.first) (expr_in h.test) (expr_in h.step) (stmt_in turn)) IsNoRule }
+    ensures { MatchResult result (λ u. stmt_in u
+        ≡ p.For (stmt_in h.first) (expr_in h.test) (expr_in h.step) (stmt_in turn)) IsNoRule }
 {
     let first = Box::new(alloc, h.first)?;
     let body = Box::new(alloc, turn)?;
@@ -65,7 +68,8 @@ fn place_otherwise(otherwise: Option<u32>, block: &[Stmt]) -> Result<u32, Stop>
 }
 
 fn switch_of(value: Expr, cases: Vec<Case>, otherwise: u32, block: Vec<Stmt>) -> Stmt
-    ensures { stmt_in result ≡ p.Switch (expr_in value) cases.items otherwise (stmts_from block.items) }
+    ensures { stmt_in result ≡ p.Switch (expr_in value) cases.items otherwise
+        (stmts_from block.items) }
 {
     Stmt::Switch {
         value,
@@ -76,7 +80,9 @@ fn switch_of(value: Expr, cases: Vec<Case>, otherwise: u32, block: Vec<Stmt>) ->
 }
 
 pub fn switch_made(chosen: Selector, labels: Labels, block: Vec<Stmt>) -> Result<Stmt, Stop>
-    ensures { MatchResult result (λ u. stmt_in u ≡ p.Switch (expr_in chosen.value) labels.cases.items (place_of labels.otherwise (length block.items)) (stmts_from block.items)) IsNoRule }
+    ensures { MatchResult result (λ u. stmt_in u
+        ≡ p.Switch (expr_in chosen.value) labels.cases.items
+        (place_of labels.otherwise (length block.items)) (stmts_from block.items)) IsNoRule }
 {
     let otherwise = place_otherwise(labels.otherwise, &block)?;
     Ok(switch_of(chosen.value, labels.cases, otherwise, block))

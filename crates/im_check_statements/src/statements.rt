@@ -49,7 +49,10 @@ fn statement(
     scope: &mut Scope,
     locals: &mut Vec<Local>,
 ) -> Result<Stmt, Stop>
-    ensures { MatchResult result (StatementDone around scope.old scope.new locals.old.items locals.new.items (statement_tree s.now)) (IsBodyFault scope.old (length locals.old.items) around (b.a_statement (statement_tree s.now))) }
+    ensures { MatchResult result (StatementDone around scope.old scope.new locals.old.items
+        locals.new.items (statement_tree s.now))
+        (IsBodyFault scope.old (length locals.old.items) around
+        (b.a_statement (statement_tree s.now))) }
 {
     match &s.kind {
         StatementKind::Block(_) => block_statement(alloc, s, around, scope, locals),
@@ -70,7 +73,10 @@ fn block_statement(
     scope: &mut Scope,
     locals: &mut Vec<Local>,
 ) -> Result<Stmt, Stop>
-    ensures { MatchResult result (StatementDone around scope.old scope.new locals.old.items locals.new.items (statement_tree s.now)) (IsBodyFault scope.old (length locals.old.items) around (b.a_statement (statement_tree s.now))) }
+    ensures { MatchResult result (StatementDone around scope.old scope.new locals.old.items
+        locals.new.items (statement_tree s.now))
+        (IsBodyFault scope.old (length locals.old.items) around
+        (b.a_statement (statement_tree s.now))) }
 {
     let StatementKind::Block(list) = &s.kind else {
         return Err(Stop::Memory);
@@ -89,7 +95,10 @@ fn if_statement(
     scope: &mut Scope,
     locals: &mut Vec<Local>,
 ) -> Result<Stmt, Stop>
-    ensures { MatchResult result (StatementDone around scope.old scope.new locals.old.items locals.new.items (statement_tree s.now)) (IsBodyFault scope.old (length locals.old.items) around (b.a_statement (statement_tree s.now))) }
+    ensures { MatchResult result (StatementDone around scope.old scope.new locals.old.items
+        locals.new.items (statement_tree s.now))
+        (IsBodyFault scope.old (length locals.old.items) around
+        (b.a_statement (statement_tree s.now))) }
 {
     let StatementKind::If(e, first, second) = &s.kind else {
         return Err(Stop::Memory);
@@ -113,7 +122,10 @@ fn while_statement(
     scope: &mut Scope,
     locals: &mut Vec<Local>,
 ) -> Result<Stmt, Stop>
-    ensures { MatchResult result (StatementDone around scope.old scope.new locals.old.items locals.new.items (statement_tree s.now)) (IsBodyFault scope.old (length locals.old.items) around (b.a_statement (statement_tree s.now))) }
+    ensures { MatchResult result (StatementDone around scope.old scope.new locals.old.items
+        locals.new.items (statement_tree s.now))
+        (IsBodyFault scope.old (length locals.old.items) around
+        (b.a_statement (statement_tree s.now))) }
 {
     let StatementKind::While(e, turn) = &s.kind else {
         return Err(Stop::Memory);
@@ -131,7 +143,10 @@ fn do_statement(
     scope: &mut Scope,
     locals: &mut Vec<Local>,
 ) -> Result<Stmt, Stop>
-    ensures { MatchResult result (StatementDone around scope.old scope.new locals.old.items locals.new.items (statement_tree s.now)) (IsBodyFault scope.old (length locals.old.items) around (b.a_statement (statement_tree s.now))) }
+    ensures { MatchResult result (StatementDone around scope.old scope.new locals.old.items
+        locals.new.items (statement_tree s.now))
+        (IsBodyFault scope.old (length locals.old.items) around
+        (b.a_statement (statement_tree s.now))) }
 {
     let StatementKind::DoWhile(turn, e) = &s.kind else {
         return Err(Stop::Memory);
@@ -149,7 +164,10 @@ fn for_statement(
     scope: &mut Scope,
     locals: &mut Vec<Local>,
 ) -> Result<Stmt, Stop>
-    ensures { MatchResult result (StatementDone around scope.old scope.new locals.old.items locals.new.items (statement_tree s.now)) (IsBodyFault scope.old (length locals.old.items) around (b.a_statement (statement_tree s.now))) }
+    ensures { MatchResult result (StatementDone around scope.old scope.new locals.old.items
+        locals.new.items (statement_tree s.now))
+        (IsBodyFault scope.old (length locals.old.items) around
+        (b.a_statement (statement_tree s.now))) }
 {
     let StatementKind::For(i, c, n, turn) = &s.kind else {
         return Err(Stop::Memory);
@@ -169,7 +187,10 @@ fn switch_statement(
     scope: &mut Scope,
     locals: &mut Vec<Local>,
 ) -> Result<Stmt, Stop>
-    ensures { MatchResult result (StatementDone around scope.old scope.new locals.old.items locals.new.items (statement_tree s.now)) (IsBodyFault scope.old (length locals.old.items) around (b.a_statement (statement_tree s.now))) }
+    ensures { MatchResult result (StatementDone around scope.old scope.new locals.old.items
+        locals.new.items (statement_tree s.now))
+        (IsBodyFault scope.old (length locals.old.items) around
+        (b.a_statement (statement_tree s.now))) }
 {
     let StatementKind::Switch(e, list) = &s.kind else {
         return Err(Stop::Memory);
@@ -199,7 +220,9 @@ pub fn items(
     scope: &mut Scope,
     locals: &mut Vec<Local>,
 ) -> Result<Vec<Stmt>, Stop>
-    ensures { MatchResult result (λ us. ItemsDone around scope.old scope.new locals.old.items locals.new.items list.now us.items) (IsBodyFault scope.old (length locals.old.items) around (b.some_items (block_items_of list.now))) }
+    ensures { MatchResult result (λ us. ItemsDone around scope.old scope.new locals.old.items
+        locals.new.items list.now us.items) (IsBodyFault scope.old (length locals.old.items) around
+        (b.some_items (block_items_of list.now))) }
 {
     let mut done = Vec::new(alloc);
     for x in list {
@@ -217,7 +240,9 @@ fn item(
     locals: &mut Vec<Local>,
     done: &mut Vec<Stmt>,
 ) -> Result<(), Stop>
-    ensures { MatchResult result (λ _. ItemDone around scope.old scope.new locals.old.items locals.new.items done.old.items done.new.items x.now) (IsItemFault around scope.old (length locals.old.items) x.now) }
+    ensures { MatchResult result (λ _. ItemDone around scope.old scope.new locals.old.items
+        locals.new.items done.old.items done.new.items x.now)
+        (IsItemFault around scope.old (length locals.old.items) x.now) }
 {
     match x {
         BlockItem::Declaration(d) => declaration(alloc, d, scope, locals, done),
@@ -243,7 +268,10 @@ fn cases(
     requires told { Tells labels.old }
     requires no_case { labels.old.cases.items ≡ [] }
     requires no_default { labels.old.otherwise ≡ None }
-    ensures { MatchResult result (λ us. CasesDone ty around scope.old scope.new locals.old.items locals.new.items list.now us.items labels.new.cases.items labels.new.otherwise) (IsBodyFault scope.old (length locals.old.items) around (b.some_cases ty 0 none (block_items_of list.now))) }
+    ensures { MatchResult result (λ us. CasesDone ty around scope.old scope.new locals.old.items
+        locals.new.items list.now us.items labels.new.cases.items labels.new.otherwise)
+        (IsBodyFault scope.old (length locals.old.items) around
+        (b.some_cases ty 0 none (block_items_of list.now))) }
 {
     let mut done = Vec::new(alloc);
     for x in list {
@@ -264,7 +292,10 @@ fn case_item(
     done: &mut Vec<Stmt>,
 ) -> Result<(), Stop>
     requires { Tells labels.old }
-    ensures { MatchResult result (λ _. CaseItemDone ty around scope.old scope.new locals.old.items locals.new.items done.old.items done.new.items labels.old labels.new x.now) (IsCaseItemFault ty around scope.old (length locals.old.items) (length done.old.items) labels.old x.now) }
+    ensures { MatchResult result (λ _. CaseItemDone ty around scope.old scope.new locals.old.items
+        locals.new.items done.old.items done.new.items labels.old labels.new x.now)
+        (IsCaseItemFault ty around scope.old (length locals.old.items) (length done.old.items)
+        labels.old x.now) }
 {
     match x {
         BlockItem::Declaration(d) => declaration(alloc, d, scope, locals, done),
@@ -308,7 +339,10 @@ fn labelled(
     labels: &mut Labels,
 ) -> Result<Stmt, Stop>
     requires { Tells labels.old }
-    ensures { MatchResult result (LabelledDone ty n around scope.old scope.new locals.old.items locals.new.items labels.old labels.new (statement_tree s.now)) (IsLabelledFault ty n around scope.old (length locals.old.items) labels.old (statement_tree s.now)) }
+    ensures { MatchResult result (LabelledDone ty n around scope.old scope.new locals.old.items
+        locals.new.items labels.old labels.new (statement_tree s.now))
+        (IsLabelledFault ty n around scope.old (length locals.old.items) labels.old
+        (statement_tree s.now)) }
 {
     if !is_label(s) {
         return statement(alloc, s, around, scope, locals);

@@ -30,7 +30,8 @@ fn refused(number: u32, token: u32) -> Stop
 
 /// The expression of an initialiser without braces.
 fn value_in(initializer: &Initializer) -> Option<&Expression>
-    ensures { MatchOption result (is_braced (initializer_of initializer.now) ≡ true) (λ e. initializer_of initializer.now ≡ t.value_initializer (tree_of e.now)) }
+    ensures { MatchOption result (is_braced (initializer_of initializer.now) ≡ true)
+        (λ e. initializer_of initializer.now ≡ t.value_initializer (tree_of e.now)) }
 {
     match initializer {
         Initializer::Value(e) => Some(e),
@@ -40,7 +41,11 @@ fn value_in(initializer: &Initializer) -> Option<&Expression>
 
 /// The only expression in a pair of braces.
 fn only_in(initializers: &[Initializer]) -> Option<&Expression>
-    ensures { (at : ℕ) → MatchOption result (u.is_one_expression (t.braced_initializer at (initializers_from initializers.now)) ≡ false) (λ e. (u.is_one_expression (t.braced_initializer at (initializers_from initializers.now)) ≡ true) × (n.one_shape (t.braced_initializer at (initializers_from initializers.now)) ≡ n.one (tree_of e.now))) }
+    ensures { (at : ℕ) → MatchOption result (u.is_one_expression
+        (t.braced_initializer at (initializers_from initializers.now)) ≡ false)
+        (λ e. (u.is_one_expression (t.braced_initializer at (initializers_from initializers.now))
+        ≡ true) × (n.one_shape (t.braced_initializer at (initializers_from initializers.now))
+        ≡ n.one (tree_of e.now))) }
 {
     if initializers.len() != 1 {
         return None;
@@ -50,7 +55,9 @@ fn only_in(initializers: &[Initializer]) -> Option<&Expression>
 
 /// The expression that an initialiser is, also in one pair of braces.
 fn one_expression(initializer: &Initializer) -> Option<&Expression>
-    ensures { MatchOption result (u.is_one_expression (initializer_of initializer.now) ≡ false) (λ e. (u.is_one_expression (initializer_of initializer.now) ≡ true) × (n.one_shape (initializer_of initializer.now) ≡ n.one (tree_of e.now))) }
+    ensures { MatchOption result (u.is_one_expression (initializer_of initializer.now) ≡ false)
+        (λ e. (u.is_one_expression (initializer_of initializer.now) ≡ true)
+        × (n.one_shape (initializer_of initializer.now) ≡ n.one (tree_of e.now))) }
 {
     match initializer {
         Initializer::Value(e) => Some(e),
@@ -107,7 +114,10 @@ fn number_of(value: &Value) -> Option<Number>
 /// The number that a value is as a constant; one that may be an address, which no plain tree has, is answered by want of
 /// memory.
 fn constant(e: &Expression, value: &Value) -> Result<Number, Stop>
-    ensures { (size : ℕ → ℕ) → MatchResult result (λ z. (v.is_reached_directly (tree_of e.now) ≡ true) × (v.static_value size (expr_in value.now.expr) ≡ Some (o.Number z.value))) (IsNoConstant size (tree_of e.now) (expr_in value.now.expr)) }
+    ensures { (size : ℕ → ℕ) → MatchResult result
+        (λ z. (v.is_reached_directly (tree_of e.now) ≡ true)
+        × (v.static_value size (expr_in value.now.expr) ≡ Some (o.Number z.value)))
+        (IsNoConstant size (tree_of e.now) (expr_in value.now.expr)) }
 {
     if is_address(&value.expr) {
         return Err(Stop::Memory);
@@ -128,7 +138,8 @@ pub fn first_number(
     initializer: &Initializer,
     scope: &Scope,
 ) -> Result<Number, Stop>
-    ensures { MatchResult result (IsFirst scope.now ty (initializer_of initializer.now)) (IsFirstFault scope.now ty (initializer_of initializer.now)) }
+    ensures { MatchResult result (IsFirst scope.now ty (initializer_of initializer.now))
+        (IsFirstFault scope.now ty (initializer_of initializer.now)) }
 {
     let at = token_of(initializer);
     let Some(e) = one_expression(initializer) else {

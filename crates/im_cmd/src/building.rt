@@ -25,7 +25,8 @@ fn read_source<'a, H: Shelf>(
     shelf: &mut H,
     source: &'a str,
 ) -> Result<Vec<u8>, Refusal<'a>>
-    ensures { MatchResult result (λ text. ReadsFile source.now text.items source_limit (H.state shelf.old) (H.state shelf.new))
+    ensures { MatchResult result (λ text. ReadsFile source.now text.items source_limit
+        (H.state shelf.old) (H.state shelf.new))
         (λ refusal. RefusesSource (refused_of refusal) source.now (H.state shelf.old) (H.state shelf.new)) }
 {
     match read_whole(alloc, shelf, source, SOURCE_LIMIT) {
@@ -59,7 +60,8 @@ pub fn store_image<'a, H: Shelf>(
     name: &'a str,
     image: &Image,
 ) -> Result<(), Refusal<'a>>
-    ensures { MatchResult result (λ stored. StoresText name.now (image_text image.now) (H.state shelf.old) (H.state shelf.new))
+    ensures { MatchResult result (λ stored. StoresText name.now (image_text image.now)
+        (H.state shelf.old) (H.state shelf.new))
         (λ refusal. RefusesStore (refused_of refusal) name.now (image_text image.now) (H.state shelf.old) (H.state shelf.new)) }
 {
     let Ok(text) = write_image(alloc, image) else {
@@ -78,7 +80,8 @@ pub fn build<'a, H: Shelf>(
     source: &'a str,
     image_name: &'a str,
 ) -> Result<Built, Refusal<'a>>
-    ensures { MatchResult result (λ built. Builds source.now image_name.now built.image built.gap (H.state shelf.old) (H.state shelf.new))
+    ensures { MatchResult result (λ built. Builds source.now image_name.now built.image built.gap
+        (H.state shelf.old) (H.state shelf.new))
         (λ refusal. RefusesBuild (refused_of refusal) source.now image_name.now (H.state shelf.old) (H.state shelf.new)) }
 {
     let text = match read_source(alloc, shelf, source) {

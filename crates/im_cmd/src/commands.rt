@@ -20,7 +20,8 @@ pub fn build_source<H: Shelf, O: Sink, E: Sink>(
     source: &str,
     image_name: &str,
 ) -> u8
-    ensures { BuildAnswers source.now image_name.now (H.state shelf.old) (H.state shelf.new) (O.state out.old) (O.state out.new) (E.state err.old) (E.state err.new) result }
+    ensures { BuildAnswers source.now image_name.now (H.state shelf.old) (H.state shelf.new)
+        (O.state out.old) (O.state out.new) (E.state err.old) (E.state err.new) result }
 {
     match build(alloc, shelf, source, image_name) {
         Ok(built) => {
@@ -42,7 +43,9 @@ pub fn run_source<H: Shelf, O: Sink, E: Sink>(
     image_name: &str,
     options: RunOptions<'_>,
 ) -> u8
-    ensures { RunAnswers source.now image_name.now (options_meaning options.entry) (H.state shelf.old) (H.state shelf.new) (O.state out.old) (O.state out.new) (E.state err.old) (E.state err.new) result }
+    ensures { RunAnswers source.now image_name.now (options_meaning options.entry)
+        (H.state shelf.old) (H.state shelf.new) (O.state out.old) (O.state out.new)
+        (E.state err.old) (E.state err.new) result }
 {
     let built = match build(alloc, shelf, source, image_name) {
         Ok(built) => built,
@@ -63,7 +66,9 @@ pub fn execute<H: Shelf, O: Sink, E: Sink>(
     image_name: &str,
     options: RunOptions<'_>,
 ) -> u8
-    ensures { ExecAnswers image_name.now (options_meaning options.entry) (H.state shelf.old) (H.state shelf.new) (O.state out.old) (O.state out.new) (E.state err.old) (E.state err.new) result }
+    ensures { ExecAnswers image_name.now (options_meaning options.entry) (H.state shelf.old)
+        (H.state shelf.new) (O.state out.old) (O.state out.new) (E.state err.old) (E.state err.new)
+        result }
 {
     let image = match read_stored(alloc, shelf, image_name) {
         Ok(image) => image,
@@ -83,7 +88,8 @@ pub fn dump<H: Shelf, O: Sink, E: Sink>(
     err: &mut E,
     image_name: &str,
 ) -> u8
-    ensures { DumpAnswers image_name.now (H.state shelf.old) (H.state shelf.new) (O.state out.old) (O.state out.new) (E.state err.old) (E.state err.new) result }
+    ensures { DumpAnswers image_name.now (H.state shelf.old) (H.state shelf.new) (O.state out.old)
+        (O.state out.new) (E.state err.old) (E.state err.new) result }
 {
     match read_stored(alloc, shelf, image_name) {
         Ok(image) => {
@@ -103,7 +109,8 @@ pub fn upgrade<H: Shelf, O: Sink, E: Sink>(
     old: &str,
     new: &str,
 ) -> u8
-    ensures { UpgradeAnswers old.now new.now (H.state shelf.old) (H.state shelf.new) (O.state out.old) (O.state out.new) (E.state err.old) (E.state err.new) result }
+    ensures { UpgradeAnswers old.now new.now (H.state shelf.old) (H.state shelf.new)
+        (O.state out.old) (O.state out.new) (E.state err.old) (E.state err.new) result }
 {
     match upgrade_image(alloc, shelf, old, new) {
         Ok(version) => {

@@ -39,7 +39,8 @@ pub fn top<H: Shelf, O: Sink, E: Sink>(
     out: &mut O,
     err: &mut E,
 ) -> u8
-    ensures { Answers (map string_bytes words.now) (H.state shelf.old) (H.state shelf.new) (O.state out.old) (O.state out.new) (E.state err.old) (E.state err.new) result }
+    ensures { Answers (map string_bytes words.now) (H.state shelf.old) (H.state shelf.new)
+        (O.state out.old) (O.state out.new) (E.state err.old) (E.state err.new) result }
 {
     match read_words(alloc, words) {
         Ok(command) => carry_out(alloc, shelf, out, err, command),
@@ -66,7 +67,8 @@ fn carry_out<H: Shelf, O: Sink, E: Sink>(
     err: &mut E,
     command: Command<'_>,
 ) -> u8
-    ensures { CarriesOut (meaning command.entry) (H.state shelf.old) (H.state shelf.new) (O.state out.old) (O.state out.new) (E.state err.old) (E.state err.new) result }
+    ensures { CarriesOut (meaning command.entry) (H.state shelf.old) (H.state shelf.new)
+        (O.state out.old) (O.state out.new) (E.state err.old) (E.state err.new) result }
 {
     match command {
         Command::Build { source, image } => build_source(alloc, shelf, out, err, source, image),

@@ -13,7 +13,8 @@ pub fn read_file<'a, H: Shelf>(
     name: &'a str,
     limit: u64,
 ) -> Result<Vec<u8>, Refusal<'a>>
-    ensures { MatchResult result (λ bytes. ReadsFile name.now bytes.items limit (H.state shelf.old) (H.state shelf.new))
+    ensures { MatchResult result (λ bytes. ReadsFile name.now bytes.items limit (H.state shelf.old)
+        (H.state shelf.new))
         (λ refusal. RefusesFile (refused_of refusal) name.now limit (H.state shelf.old) (H.state shelf.new)) }
 {
     match read_whole(alloc, shelf, name, limit) {

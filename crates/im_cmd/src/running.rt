@@ -34,7 +34,8 @@ fn read_input<'a, H: Shelf>(
     shelf: &mut H,
     options: RunOptions<'a>,
 ) -> Result<Vec<u8>, Refusal<'a>>
-    ensures { MatchResult result (λ input. ReadsInput (options_meaning options.entry) input.items (H.state shelf.old) (H.state shelf.new))
+    ensures { MatchResult result (λ input. ReadsInput (options_meaning options.entry) input.items
+        (H.state shelf.old) (H.state shelf.new))
         (λ refusal. RefusesInput (refused_of refusal) (options_meaning options.entry) (H.state shelf.old) (H.state shelf.new)) }
 {
     match options.input {
@@ -60,7 +61,8 @@ fn load<'a>(alloc: Global, image: &Image, input: &[u8]) -> Result<Machine<FlatMe
 
 // One period of so many instructions, with zeros in the registers.
 fn one_period(alloc: Global, steps: u32) -> Result<Trace, NoMemory>
-    ensures { IfOk result (λ periods. periods ≡ (record { n = steps; junk = 0; count = 1; mask = 0 }) ∷ []) }
+    ensures { IfOk result (λ periods. periods
+        ≡ (record { n = steps; junk = 0; count = 1; mask = 0 }) ∷ []) }
 {
     let mut periods = Vec::new(alloc);
     periods.push(Period {
@@ -78,7 +80,8 @@ fn read_trace_file<'a, H: Shelf>(
     shelf: &mut H,
     name: &'a str,
 ) -> Result<Trace, Refusal<'a>>
-    ensures { MatchResult result (λ periods. ReadsTrace name.now periods (H.state shelf.old) (H.state shelf.new))
+    ensures { MatchResult result (λ periods. ReadsTrace name.now periods (H.state shelf.old)
+        (H.state shelf.new))
         (λ refusal. RefusesTrace (refused_of refusal) name.now (H.state shelf.old) (H.state shelf.new)) }
 {
     let text = match read_file(alloc, shelf, name, RUN_FILE_LIMIT) {
@@ -98,7 +101,8 @@ fn read_periods<'a, H: Shelf>(
     shelf: &mut H,
     options: RunOptions<'a>,
 ) -> Result<Trace, Refusal<'a>>
-    ensures { MatchResult result (λ periods. ReadsPeriods (options_meaning options.entry) periods (H.state shelf.old) (H.state shelf.new))
+    ensures { MatchResult result (λ periods. ReadsPeriods (options_meaning options.entry) periods
+        (H.state shelf.old) (H.state shelf.new))
         (λ refusal. RefusesPeriods (refused_of refusal) (options_meaning options.entry) (H.state shelf.old) (H.state shelf.new)) }
 {
     match options.trace {
@@ -136,7 +140,8 @@ fn shown_variables(
     machine: &Machine<FlatMem>,
     vars: bool,
 ) -> Result<Option<Vec<Var>>, NoMemory>
-    ensures { IfOk result (λ variables. variables_of (λ vars. vars.items) variables ≡ shown vars machine.now.objects (view machine.now.memory)) }
+    ensures { IfOk result (λ variables. variables_of (λ vars. vars.items) variables
+        ≡ shown vars machine.now.objects (view machine.now.memory)) }
 {
     if vars {
         Ok(Some(machine.vars(alloc)?))
@@ -152,7 +157,9 @@ pub fn run_image<'a, H: Shelf>(
     image: &Image,
     options: RunOptions<'a>,
 ) -> Result<Run, Refusal<'a>>
-    ensures { MatchResult result (λ run. Ran (options_meaning options.entry) image.now run.machine.form (ended_of run.machine) (variables_of (λ vars. vars.items) run.variables) (H.state shelf.old) (H.state shelf.new))
+    ensures { MatchResult result (λ run. Ran (options_meaning options.entry) image.now
+        run.machine.form (ended_of run.machine) (variables_of (λ vars. vars.items) run.variables)
+        (H.state shelf.old) (H.state shelf.new))
         (λ refusal. RefusesRun (refused_of refusal) image.now (options_meaning options.entry) (H.state shelf.old) (H.state shelf.new)) }
 {
     let input = match read_input(alloc, shelf, options) {

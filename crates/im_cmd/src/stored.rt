@@ -17,7 +17,8 @@ pub fn read_stored<'a, H: Shelf>(
     shelf: &mut H,
     name: &'a str,
 ) -> Result<Image, Refusal<'a>>
-    ensures { MatchResult result (λ image. ReadsImage name.now image (H.state shelf.old) (H.state shelf.new))
+    ensures { MatchResult result (λ image. ReadsImage name.now image (H.state shelf.old)
+        (H.state shelf.new))
         (λ refusal. RefusesImage (refused_of refusal) name.now (H.state shelf.old) (H.state shelf.new)) }
 {
     let text = match read_file(alloc, shelf, name, IMAGE_LIMIT) {

@@ -55,7 +55,8 @@ fn send_shown<S: Sink>(
     image: &Image,
     variables: &Option<Vec<Var>>,
 ) -> Result<(), Failed>
-    ensures { Sends (shown_lines image.now (variables_of (λ vars. vars.items) variables.now)) result (S.state err.old) (S.state err.new) }
+    ensures { Sends (shown_lines image.now (variables_of (λ vars. vars.items) variables.now)) result
+        (S.state err.old) (S.state err.new) }
 {
     match variables {
         Some(variables) => send_variable_lines(err, &image.objects, variables),
@@ -65,7 +66,9 @@ fn send_shown<S: Sink>(
 
 // Sends how a run ended, and the variables that it left.
 fn send_run_report<S: Sink>(err: &mut S, image: &Image, run: &Run) -> Result<(), Failed>
-    ensures { Sends (run_report image.now (ended_of run.now.machine) (variables_of (λ vars. vars.items) run.now.variables)) result (S.state err.old) (S.state err.new) }
+    ensures { Sends (run_report image.now (ended_of run.now.machine)
+        (variables_of (λ vars. vars.items) run.now.variables)) result (S.state err.old)
+        (S.state err.new) }
 {
     let machine = &run.machine;
     match send_run_lines(
@@ -88,7 +91,9 @@ fn send_report<S: Sink>(
     gap: Option<u32>,
     run: &Run,
 ) -> Result<(), Failed>
-    ensures { Sends (report_with gap image.now (ended_of run.now.machine) (variables_of (λ vars. vars.items) run.now.variables)) result (S.state err.old) (S.state err.new) }
+    ensures { Sends (report_with gap image.now (ended_of run.now.machine)
+        (variables_of (λ vars. vars.items) run.now.variables)) result (S.state err.old)
+        (S.state err.new) }
 {
     match gap {
         Some(gap) => match send_build_lines(err, word_count(image), gap) {
@@ -107,7 +112,10 @@ pub fn tell_run<O: Sink, E: Sink>(
     gap: Option<u32>,
     run: &Run,
 ) -> u8
-    ensures { TellsRun (report_with gap image.now (ended_of run.now.machine) (variables_of (λ vars. vars.items) run.now.variables)) run.now.machine.form (ended_of run.now.machine) (O.state out.old) (O.state out.new) (E.state err.old) (E.state err.new) result }
+    ensures { TellsRun (report_with gap image.now (ended_of run.now.machine)
+        (variables_of (λ vars. vars.items) run.now.variables)) run.now.machine.form
+        (ended_of run.now.machine) (O.state out.old) (O.state out.new) (E.state err.old)
+        (E.state err.new) result }
 {
     match send(out, run.machine.output()) {
         Ok(()) => {}

@@ -48,7 +48,8 @@ impl TypeTable {
     /// A pointer; `constant` says that its target is `const`.
     pub fn pointer(&mut self, constant: bool, target: TypeId) -> Result<TypeId, NoMemory>
         requires { IsIn self.old target }
-        ensures type_is { IfOk result (IsTypeOf self.new (pointer constant (type_at self.old target))) }
+        ensures type_is { IfOk result (IsTypeOf self.new
+            (pointer constant (type_at self.old target))) }
         ensures grown { IsGrown self.old self.new }
         ensures refused { OnErr result (self.new ≡ self.old) }
     {
@@ -58,7 +59,8 @@ impl TypeTable {
     /// An array of so many elements of a complete object type.
     pub fn array(&mut self, element: TypeId, count: u32) -> Result<TypeId, NoMemory>
         requires known { IsIn self.old element }
-        requires complete { is_complete (length self.old.structs) (type_at self.old element) ≡ true }
+        requires complete { is_complete (length self.old.structs) (type_at self.old element)
+            ≡ true }
         requires some { 0 < count }
         requires held { count * (layout_of self.old element).size < 2 ^ 64 }
         ensures type_is { IfOk result (IsTypeOf self.new (array (type_at self.old element) count)) }

@@ -16,7 +16,8 @@ pub fn cells_inside_law()
 /// of its type's alignment (C11 6.2.8); offsets themselves are such multiples.
 pub fn cells_aligned_law()
     ensures offsets { (structs : Structs) (ty : CType) → CellsAlignedAt 0 (layout structs ty) }
-    ensures addresses { (structs : Structs) (ty : CType) (at : ℕ) → at % (layout structs ty).align ≡ 0 → CellsAlignedAt at (layout structs ty) }
+    ensures addresses { (structs : Structs) (ty : CType) (at : ℕ) → at % (layout structs ty).align
+        ≡ 0 → CellsAlignedAt at (layout structs ty) }
 {}
 
 /// The cells of an object are in order, and no two of them share a byte.
@@ -27,14 +28,17 @@ pub fn cells_disjoint_law()
 /// The cells of an array are those of its element, once for each element, each time moved on by
 /// the element's size (C11 6.2.5).
 pub fn array_cells_law()
-    ensures { (structs : Structs) (element : CType) (count : ℕ) → (layout structs (array element count)).cells ≡ cells_side_by_side count (layout structs element) }
+    ensures { (structs : Structs) (element : CType) (count : ℕ)
+        → (layout structs (array element count)).cells
+        ≡ cells_side_by_side count (layout structs element) }
 {}
 
 /// An alignment is 1, 2 or 4, and a size is a multiple of it, so objects of one type side by side
 /// are all aligned (C11 6.2.8, 6.5.3.4).
 pub fn size_law()
     ensures alignment { (structs : Structs) (ty : CType) → IsAlignment (layout structs ty).align }
-    ensures multiple { (structs : Structs) (ty : CType) → (layout structs ty).size % (layout structs ty).align ≡ 0 }
+    ensures multiple { (structs : Structs) (ty : CType)
+        → (layout structs ty).size % (layout structs ty).align ≡ 0 }
 {}
 
 /// A place rounded up is the least multiple of the alignment that is not below it (C11 6.7.2.1).
@@ -47,20 +51,32 @@ pub fn round_up_law()
 /// A struct whose members have complete types by the structs before it lies as its member list
 /// says, each member's type as it lies in the whole unit (C11 6.7.2.1).
 pub fn struct_law()
-    ensures { (structs : Structs) (n : ℕ) (members : List Member) → slice_get structs n ≡ Some members → MembersAreComplete n members → layout structs (struct n) ≡ struct_in (layouts structs) members }
+    ensures { (structs : Structs) (n : ℕ) (members : List Member) → slice_get structs n
+        ≡ Some members → MembersAreComplete n members → layout structs (struct n)
+        ≡ struct_in (layouts structs) members }
 {}
 
 /// A complete type keeps its layout when more structs get their member lists.
 pub fn more_structs_law()
-    ensures { (structs more : Structs) (ty : CType) → IsComplete structs ty → layout (structs ++ more) ty ≡ layout structs ty }
+    ensures { (structs more : Structs) (ty : CType) → IsComplete structs ty
+        → layout (structs ++ more) ty ≡ layout structs ty }
 {}
 
 /// The cells of a struct are those of its members in their order, each moved to its member's
 /// place. From a member's first cell on they are that member's, and it lies within the struct.
 pub fn member_law()
-    ensures cells { (structs : Structs) (n : ℕ) → AreComplete structs → (layout structs (struct n)).cells ≡ member_cells (layouts structs) (members_of structs n) (places structs n) }
-    ensures from_first { (structs : Structs) (n i : ℕ) (m : Member) (p : MemberPlace) → AreComplete structs → slice_get (members_of structs n) i ≡ Some m → slice_get (places structs n) i ≡ Some p → cells_from p.first_cell (length (layout structs m.type).cells) (layout structs (struct n)) ≡ moved p.offset (layout structs m.type).cells }
-    ensures inside { (structs : Structs) (n i : ℕ) (m : Member) (p : MemberPlace) → AreComplete structs → slice_get (members_of structs n) i ≡ Some m → slice_get (places structs n) i ≡ Some p → p.offset + (layout structs m.type).size ≤ (layout structs (struct n)).size }
+    ensures cells { (structs : Structs) (n : ℕ) → AreComplete structs
+        → (layout structs (struct n)).cells ≡ member_cells (layouts structs) (members_of structs n)
+        (places structs n) }
+    ensures from_first { (structs : Structs) (n i : ℕ) (m : Member) (p : MemberPlace)
+        → AreComplete structs → slice_get (members_of structs n) i ≡ Some m
+        → slice_get (places structs n) i ≡ Some p
+        → cells_from p.first_cell (length (layout structs m.type).cells) (layout structs (struct n))
+        ≡ moved p.offset (layout structs m.type).cells }
+    ensures inside { (structs : Structs) (n i : ℕ) (m : Member) (p : MemberPlace)
+        → AreComplete structs → slice_get (members_of structs n) i ≡ Some m
+        → slice_get (places structs n) i ≡ Some p
+        → p.offset + (layout structs m.type).size ≤ (layout structs (struct n)).size }
 {}
 
 /// The test for the same type holds of a type and itself alone (C11 6.2.7).

@@ -46,7 +46,8 @@ fn take_up(
 ) -> Result<(), NoMemory>
     requires next_fits { IsFitting table.now next }
     requires fit { AreFitting table.now pending.old.items }
-    ensures { OnOk result (IsStep table.now (cells_of table.now next) (cost_of table.now next) pending.old.items pending.new.items found.old.items found.new.items) }
+    ensures { OnOk result (IsStep table.now (cells_of table.now next) (cost_of table.now next)
+        pending.old.items pending.new.items found.old.items found.new.items) }
 {
     match next {
         Pending::Objects { ty, at, count } => {
@@ -75,7 +76,9 @@ fn take_up_object(
     requires known { IsIn table.now ty }
     requires held { at + (layout_of table.now ty).size < 2 ^ 64 }
     requires fit { AreFitting table.now pending.old.items }
-    ensures { OnOk result (IsStep table.now (moved at (layout_of table.now ty).cells) (1 + weight_of table.now ty) pending.old.items pending.new.items found.old.items found.new.items) }
+    ensures { OnOk result (IsStep table.now (moved at (layout_of table.now ty).cells)
+        (1 + weight_of table.now ty) pending.old.items pending.new.items found.old.items
+        found.new.items) }
 {
     match table.node(ty) {
         TypeNode::Void => {}
@@ -111,7 +114,10 @@ fn take_up_member(
 ) -> Result<(), NoMemory>
     requires next_fits { IsFitting table.now (Pending.Members number from at) }
     requires fit { AreFitting table.now pending.old.items }
-    ensures { (found : _) → OnOk result (IsStep table.now (cells_of table.now (Pending.Members number from at)) (cost_of table.now (Pending.Members number from at)) pending.old.items pending.new.items found found) }
+    ensures { (found : _) → OnOk result (IsStep table.now
+        (cells_of table.now (Pending.Members number from at))
+        (cost_of table.now (Pending.Members number from at)) pending.old.items pending.new.items
+        found found) }
 {
     let members = table.members(number);
     let places = table.places(number);

@@ -38,7 +38,11 @@ impl std::marker::Model for TypeTable {
     ghost use Rattle.im_ctype.specs.declared.table.Structure.{Structure};
     ghost use Rattle.im_ctype.specs.Kept.{IsKept};
 
-    ghost view = { λ t. record { nodes = t.nodes; structs = map {A = Structure} (λ s. s.members.items) t.structs.items } };
+    ghost view = { λ t. record {
+      nodes = t.nodes;
+      structs = map {A = Structure}
+          (λ s. s.members.items) t.structs.items;
+    } };
 
     ghost invariant = { λ t. IsKept (record { nodes = t.nodes; structs = map {A = Structure} (λ s. s.members.items) t.structs.items }) t.extents.items (map {A = Structure} (λ s. record { places = s.places.items; extent = s.extent }) t.structs.items) };
 }
@@ -112,7 +116,8 @@ impl TypeTable {
     pub(crate) fn intern(&mut self, node: TypeNode, extent: Extent) -> Result<TypeId, NoMemory>
         requires earlier { IsEarlier (length self.old.nodes) node }
         requires sound { IsSound (length self.old.structs) (types_of self.old) node }
-        requires extent_is { extent ≡ kept_extent (layouts (structs_of self.old)) (type_of_node (types_of self.old) node) }
+        requires extent_is { extent ≡ kept_extent (layouts (structs_of self.old))
+            (type_of_node (types_of self.old) node) }
         ensures type_is { IfOk result (IsTypeOf self.new (type_of_node (types_of self.old) node)) }
         ensures grown { IsGrown self.old self.new }
         ensures refused { OnErr result (self.new ≡ self.old) }
@@ -155,8 +160,10 @@ impl TypeTable {
     /// Adds a struct, whose members have complete object types; gives its number.
     pub fn add_struct(&mut self, alloc: Global, members: Vec<Member>) -> Result<u32, NoMemory>
         requires known { AreMembersIn (length self.old.nodes) members.items }
-        requires complete { MembersAreComplete (length self.old.structs) (members_in (types_of self.old) members.items) }
-        requires held { (struct_in (layouts (structs_of self.old)) (members_in (types_of self.old) members.items)).size < 2 ^ 64 }
+        requires complete { MembersAreComplete (length self.old.structs)
+            (members_in (types_of self.old) members.items) }
+        requires held { (struct_in (layouts (structs_of self.old))
+            (members_in (types_of self.old) members.items)).size < 2 ^ 64 }
         ensures number { IfOk result (λ n. n ≡ length self.old.structs) }
         ensures grown { OnOk result (self.new ≡ with_struct self.old members.items) }
         ensures refused { OnErr result (self.new ≡ self.old) }
@@ -182,9 +189,14 @@ impl TypeTable {
         members: &[Member],
     ) -> Result<(Vec<MemberPlace>, Extent), NoMemory>
         requires known { AreMembersIn (length self.now.nodes) members.now }
-        requires held { (struct_in (layouts (structs_of self.now)) (members_in (types_of self.now) members.now)).size < 2 ^ 64 }
-        ensures places { IfOk result (λ found. found.0.items ≡ places_in (layouts (structs_of self.now)) (members_in (types_of self.now) members.now)) }
-        ensures extent { IfOk result (λ found. found.1 ≡ extent_of (struct_in (layouts (structs_of self.now)) (members_in (types_of self.now) members.now))) }
+        requires held { (struct_in (layouts (structs_of self.now))
+            (members_in (types_of self.now) members.now)).size < 2 ^ 64 }
+        ensures places { IfOk result (λ found. found.0.items
+            ≡ places_in (layouts (structs_of self.now))
+            (members_in (types_of self.now) members.now)) }
+        ensures extent { IfOk result (λ found. found.1
+            ≡ extent_of (struct_in (layouts (structs_of self.now))
+            (members_in (types_of self.now) members.now))) }
     {
         let mut places = Vec::new(alloc);
         let mut size = 0;

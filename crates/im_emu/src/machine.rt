@@ -66,7 +66,8 @@ impl<M: Memory> Machine<M> {
     /// Runs one period of power as often as it says, or until the machine halts or faults. One
     /// that has halted or faulted stays as it is.
     pub fn power(&mut self, period: Period) -> Went
-        ensures device { device_of M.bytes self.new ≡ counted (power (period ∷ []) (device_of M.bytes self.old)) }
+        ensures device { device_of M.bytes self.new
+            ≡ counted (power (period ∷ []) (device_of M.bytes self.old)) }
         ensures went { result ≡ self.new.went }
         ensures image { SameImage self.old self.new }
     {
@@ -83,7 +84,8 @@ impl<M: Memory> Machine<M> {
     /// Runs all periods of the trace in order, or until the machine halts or faults. One that has
     /// halted or faulted stays as it is.
     pub fn run(&mut self, trace: &Trace) -> Went
-        ensures device { device_of M.bytes self.new ≡ counted (power trace.now (device_of M.bytes self.old)) }
+        ensures device { device_of M.bytes self.new
+            ≡ counted (power trace.now (device_of M.bytes self.old)) }
         ensures went { result ≡ self.new.went }
         ensures image { SameImage self.old self.new }
     {
@@ -162,7 +164,8 @@ impl<M: Memory> Machine<M> {
 
     /// The variables that memory shows: each object's name, and the values of its cells.
     pub fn vars(&self, alloc: Global) -> Result<Vec<Var>, NoMemory>
-        ensures { IfOk result (λ vars. map variable_of vars.items ≡ vars_of self.now.objects (M.bytes self.now.memory)) }
+        ensures { IfOk result (λ vars. map variable_of vars.items
+            ≡ vars_of self.now.objects (M.bytes self.now.memory)) }
     {
         variables(alloc, &self.memory, &self.objects)
     }
@@ -180,7 +183,8 @@ impl Machine<FlatMem> {
     /// A machine with an image and an input, before power comes. An input of more than 1048576
     /// bytes is refused, and then no machine is made.
     pub fn load(alloc: Global, image: &Image, input: &[u8]) -> Result<Machine<FlatMem>, LoadFault>
-        ensures made { IfOk result (λ machine. device_of view machine ≡ fresh (memory_of image.now input.now)) }
+        ensures made { IfOk result (λ machine. device_of view machine
+            ≡ fresh (memory_of image.now input.now)) }
         ensures image { IfOk result (λ machine. IsImageOf image.now machine) }
         ensures too_long { input_capacity < length input.now →
             result ≡ Err (LoadFault.InputTooLong (length input.now) input_capacity) }

@@ -27,7 +27,8 @@ fn size_of(kind: Kind) -> u32
 // The place of an address that is no lower than the object's first, the object having this number.
 fn place_in(object: &Object, number: u32, address: u32) -> CellValue
     requires { object.now.at ≤ address }
-    ensures { result ≡ (if reaches object.now address then Inside number (address - object.now.at) else Local) }
+    ensures { result ≡ (if reaches object.now address then Inside number (address - object.now.at)
+        else Local) }
 {
     let offset = address - object.at;
     if offset <= object.size {
@@ -106,7 +107,8 @@ fn put_cells<M: Memory>(
     requires laid { AreLaidOut objects.now }
     requires aligned { (at + run.now.offset) % kind_size run.now.kind ≡ 0 }
     requires room { at + run_end run.now ≤ 5242880 }
-    ensures { OnOk result (cells.new.items ≡ cells.old.items ++ run_cells objects.now (M.bytes memory.now) at run.now) }
+    ensures { OnOk result (cells.new.items ≡ cells.old.items
+        ++ run_cells objects.now (M.bytes memory.now) at run.now) }
 {
     let size = size_of(run.kind);
     let mut next = at + run.offset;
@@ -126,7 +128,8 @@ fn cells_of<M: Memory>(
     requires laid { AreLaidOut objects.now }
     requires runs { AreRuns object.now.at object.now.size None object.now.runs }
     requires room { object.now.at + object.now.size ≤ 5242880 }
-    ensures { IfOk result (λ cells. cells.items ≡ flat_map (run_cells objects.now (M.bytes memory.now) object.now.at) object.now.runs) }
+    ensures { IfOk result (λ cells. cells.items
+        ≡ flat_map (run_cells objects.now (M.bytes memory.now) object.now.at) object.now.runs) }
 {
     let mut cells = Vec::new(alloc);
     for run in &object.runs {
@@ -142,7 +145,8 @@ pub fn variables<M: Memory>(
     objects: &[Object],
 ) -> Result<Vec<Var>, NoMemory>
     requires { AreLaidOut objects.now }
-    ensures { IfOk result (λ vars. map variable_of vars.items ≡ vars_of objects.now (M.bytes memory.now)) }
+    ensures { IfOk result (λ vars. map variable_of vars.items
+        ≡ vars_of objects.now (M.bytes memory.now)) }
 {
     let mut vars = Vec::new(alloc);
     for object in objects {

@@ -108,7 +108,8 @@ fn to_form(word: u32) -> Form
 pub fn read_header(bytes: &[u8]) -> Result<Header, ImageFault>
     ensures header { IfOk result (λ header. header ≡ header_at bytes.now) }
     ensures there { OnOk result (32 ≤ length bytes.now) }
-    ensures right { OnOk result (first_unmet (length bytes.now) (header_requirements bytes.now) ≡ None) }
+    ensures right { OnOk result (first_unmet (length bytes.now) (header_requirements bytes.now)
+        ≡ None) }
     ensures wrong { IfErr result
         (λ fault. IsFaultOf fault (first_unmet (length bytes.now) (header_requirements bytes.now))) }
 {
@@ -145,7 +146,8 @@ pub fn read_form(bytes: &[u8], version: Version) -> Result<Form, ImageFault>
     requires { 32 ≤ length bytes.now }
     ensures form { IfOk result (λ form. form ≡ form_at version bytes.now) }
     ensures there { OnOk result (header_size version ≤ length bytes.now) }
-    ensures right { OnOk result (first_unmet (length bytes.now) (form_requirements version bytes.now) ≡ None) }
+    ensures right { OnOk result (first_unmet (length bytes.now)
+        (form_requirements version bytes.now) ≡ None) }
     ensures wrong { IfErr result
         (λ fault. IsFaultOf fault (first_unmet (length bytes.now) (form_requirements version bytes.now))) }
 {

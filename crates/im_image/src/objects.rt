@@ -62,7 +62,8 @@ fn read_object(
     requires there { place ≤ length bytes.now }
     ensures there { OnOk result (record_end bytes.now place ≤ length bytes.now) }
     ensures object { IfOk result (λ object. object ≡ object_at bytes.now place) }
-    ensures right { OnOk result (first_unmet (length bytes.now) (object_requirements bytes.now statics least place) ≡ None) }
+    ensures right { OnOk result (first_unmet (length bytes.now)
+        (object_requirements bytes.now statics least place) ≡ None) }
     ensures wrong { IfErr result
         (λ fault. IsFaultOf fault (first_unmet (length bytes.now) (object_requirements bytes.now statics least place))) }
 {

@@ -18,7 +18,8 @@ fn read_front(bytes: &[u8]) -> Result<(Header, Form), ImageFault>
     ensures header { IfOk result (λ front. front.0 ≡ header_at bytes.now) }
     ensures form { IfOk result (λ front. front.1 ≡ form_at (version_at bytes.now) bytes.now) }
     ensures there { OnOk result (objects_place bytes.now ≤ length bytes.now) }
-    ensures right { OnOk result (first_unmet (length bytes.now) (front_requirements bytes.now) ≡ None) }
+    ensures right { OnOk result (first_unmet (length bytes.now) (front_requirements bytes.now)
+        ≡ None) }
     ensures wrong { IfErr result
         (λ fault. IsFaultOf fault (first_unmet (length bytes.now) (front_requirements bytes.now))) }
 {

@@ -143,7 +143,8 @@ pub fn is_run(at: u32, size: u32, before: Option<CellRun>, run: &CellRun) -> boo
 /// An object of this size at this address, with so long a name and so many runs, lies in the
 /// statics, from the address `least` on.
 pub fn is_object_place(statics: u32, least: u64, head: &ObjectHead) -> bool
-    ensures { result ≡ rules.is_object_place statics least head.now.at head.now.size head.now.name head.now.runs }
+    ensures { result ≡ rules.is_object_place statics least head.now.at head.now.size head.now.name
+        head.now.runs }
 {
     1 <= head.size
         && least <= u64::from(head.at)

@@ -22,7 +22,8 @@ fn read_run(
     requires there { place ≤ length bytes.now }
     ensures there { IfOk result (λ _. place + 12 ≤ length bytes.now) }
     ensures run { IfOk result (λ run. run ≡ run_at bytes.now place) }
-    ensures right { OnOk result (first_unmet (length bytes.now) (run_requirements bytes.now at size 1 before place) ≡ None) }
+    ensures right { OnOk result (first_unmet (length bytes.now)
+        (run_requirements bytes.now at size 1 before place) ≡ None) }
     ensures wrong { IfErr result
         (λ fault. IsFaultOf fault (first_unmet (length bytes.now) (run_requirements bytes.now at size 1 before place))) }
 {
@@ -57,7 +58,8 @@ pub fn read_runs(
     requires there { place ≤ length bytes.now }
     ensures there { IfOk result (λ _. place + 12 * count ≤ length bytes.now) }
     ensures runs { IfOk result (λ runs. runs.items ≡ runs_at bytes.now count place) }
-    ensures right { OnOk result (first_unmet (length bytes.now) (run_requirements bytes.now at size count None place) ≡ None) }
+    ensures right { OnOk result (first_unmet (length bytes.now)
+        (run_requirements bytes.now at size count None place) ≡ None) }
     ensures wrong { IfErr result
         (λ fault. IsFaultOf fault (first_unmet (length bytes.now) (run_requirements bytes.now at size count None place))) }
 {

@@ -51,7 +51,8 @@ fn put_object(text: &mut Vec<u8>, object: &Object) -> Result<(), AllocError>
 
 // Version 2 has a word for the form.
 fn put_form(text: &mut Vec<u8>, version: Version, form: Form) -> Result<(), AllocError>
-    ensures { OnOk result (text.new.items ≡ text.old.items ++ words_text (form_words version form)) }
+    ensures { OnOk result (text.new.items ≡ text.old.items
+        ++ words_text (form_words version form)) }
 {
     match version {
         Version::One => Ok(()),

@@ -26,7 +26,15 @@ impl<R: Files> HostShelf<R> {
     ghost use Rattle.im_io.specs.Shelf.{Closed};
 
     pub fn new(files: R) -> HostShelf<R>
-        ensures { ⟦<HostShelf<R> as Shelf>⟧.state result ≡ record { mode = Closed; told = None; read_faults = 0; write_faults = 0; absences = 0 } }
+        ensures { ⟦<HostShelf<R> as Shelf>⟧.state result
+            ≡ record {
+              mode = Closed;
+              told = None;
+              read_faults = 0;
+              write_faults = 0;
+              absences =
+                  0;
+            } }
     {
         HostShelf {
             files,

@@ -24,7 +24,12 @@ impl Model for MemFile {
 
     ghost Value = { File };
 
-    ghost view = { λ file. record { name = string_bytes file.name; content = cond file.is_there (Some file.bytes.items) None; room = vec_capacity file.bytes } };
+    ghost view = { λ file. record {
+      name = string_bytes file.name;
+      content = cond file.is_there
+          (Some file.bytes.items) None;
+      room = vec_capacity file.bytes;
+    } };
 }
 
 impl MemFile {
@@ -35,7 +40,8 @@ impl MemFile {
         bytes: &Option<Vec<u8>>,
         room: usize,
     ) -> Result<MemFile, NoMemory>
-        ensures { IfOk result (λ file. file ≡ new_file name.now (option_map (λ held. held.items) bytes.now) room) }
+        ensures { IfOk result (λ file. file ≡ new_file name.now
+            (option_map (λ held. held.items) bytes.now) room) }
     {
         let held = match bytes {
             Some(held) => held.as_slice(),
@@ -64,7 +70,8 @@ impl MemFile {
 
     /// The bytes, where the file is there.
     pub(crate) fn contents(&self) -> Option<&[u8]>
-        ensures { MatchOption result (self.now.content ≡ None) (λ bytes. self.now.content ≡ Some bytes.now) }
+        ensures { MatchOption result (self.now.content ≡ None)
+            (λ bytes. self.now.content ≡ Some bytes.now) }
     {
         if self.is_there {
             Some(self.bytes.as_slice())
@@ -77,9 +84,11 @@ impl MemFile {
     pub(crate) fn read_at(&self, place: usize, buffer: &mut [u8]) -> usize
         requires there { IsTrue (is_some self.now.content) }
         requires place { place ≤ length (bytes_of self.now.content) }
-        ensures count { result ≡ min (length buffer.old) (length (bytes_of self.now.content) - place) }
+        ensures count { result ≡ min (length buffer.old)
+            (length (bytes_of self.now.content) - place) }
         ensures end { place + result < 2 ^ 64 }
-        ensures next { take result buffer.new ≡ take result (drop place (bytes_of self.now.content)) }
+        ensures next { take result buffer.new
+            ≡ take result (drop place (bytes_of self.now.content)) }
     {
         let count = buffer.len().min(self.bytes.len() - place);
         buffer[..count].copy_from_slice(&self.bytes[place..place + count]);
@@ -88,7 +97,12 @@ impl MemFile {
 
     /// Puts an empty file there.
     pub(crate) fn create(&mut self)
-        ensures { self.new ≡ record { name = self.old.name; content = Some []; room = self.old.room } }
+        ensures { self.new ≡ record {
+          name = self.old.name;
+          content = Some [];
+          room =
+              self.old.room;
+        } }
     {
         self.bytes.clear();
         self.is_there = true;
@@ -102,7 +116,14 @@ impl MemFile {
         ensures some { TakesSome piece.now result }
         ensures refused { IsErr result ↔ NothingFits piece.now (left self.old) }
         ensures count { IfOk result (λ count. count ≡ min (length piece.now) (left self.old)) }
-        ensures put { MatchResult result (λ count. self.new ≡ record { name = self.old.name; content = Some (bytes_of self.old.content ++ take count piece.now); room = self.old.room }) (λ _. self.new ≡ self.old) }
+        ensures put { MatchResult result (λ count. self.new
+            ≡ record {
+              name = self.old.name;
+              content = Some
+                  (bytes_of self.old.content ++ take count piece.now);
+              room = self.old.room;
+            })
+            (λ _. self.new ≡ self.old) }
     {
         let room = self.bytes.capacity() - self.bytes.len();
         if nothing_fits(piece, room) {

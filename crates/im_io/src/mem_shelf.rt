@@ -37,7 +37,15 @@ impl Model for MemShelf {
 
     ghost Value = { MemoryShelf };
 
-    ghost view = { λ s. record { files = s.files.items; place = s.place; made = s.calls.made; failing = s.calls.failing.items; read_faults = s.read_faults; write_faults = s.write_faults; absences = s.absences } };
+    ghost view = { λ s. record {
+      files = s.files.items;
+      place = s.place;
+      made = s.calls.made;
+      failing = s.calls.failing.items;
+      read_faults = s.read_faults;
+      write_faults = s.write_faults;
+      absences = s.absences;
+    } };
 }
 
 // The first file of this name, by its number.
@@ -49,7 +57,9 @@ fn find(files: &[MemFile], name: &str) -> Option<usize>
 
 // The first file of this name, where it is there.
 fn find_there(files: &[MemFile], name: &str) -> Option<usize>
-    ensures { MatchOption result (files_of files.now name.now ≡ None) (λ number. IsTrue (is_first files.now number) × ((file_at files.now number).name ≡ name.now)) }
+    ensures { MatchOption result (files_of files.now name.now ≡ None)
+        (λ number. IsTrue (is_first files.now number)
+        × ((file_at files.now number).name ≡ name.now)) }
 {
     match find(files, name) {
         Some(number) => {
@@ -77,8 +87,32 @@ impl MemShelf {
         files: &[(String, Option<Vec<u8>>, usize)],
         failing: &[u64],
     ) -> Result<MemShelf, NoMemory>
-        ensures state { IfOk result (λ made. ⟦<MemShelf as Shelf>⟧.state made ≡ record { mode = shelf.Closed; told = Some (record { files = files_of (map (given_file string_bytes (λ bytes. bytes.items)) files.now); name = []; place = 0 }); read_faults = 0; write_faults = 0; absences = 0 }) }
-        ensures value { IfOk result (λ made. made ≡ record { files = map (given_file string_bytes (λ bytes. bytes.items)) files.now; place = place.Closed; made = 0; failing = failing.now; read_faults = 0; write_faults = 0; absences = 0 }) }
+        ensures state { IfOk result (λ made. ⟦<MemShelf as Shelf>⟧.state made
+            ≡ record {
+              mode = shelf.Closed;
+              told = Some
+                  (record {
+                    files = files_of (map (given_file string_bytes (λ bytes. bytes.items))
+                        files.now);
+                    name = [];
+                    place = 0;
+                  });
+              read_faults = 0;
+              write_faults = 0;
+              absences =
+                  0;
+            }) }
+        ensures value { IfOk result (λ made. made
+            ≡ record {
+              files = map (given_file string_bytes (λ bytes. bytes.items)) files.now;
+              place
+                  = place.Closed;
+              made = 0;
+              failing = failing.now;
+              read_faults = 0;
+              write_faults = 0;
+              absences = 0;
+            }) }
     {
         let mut held = Vec::with_capacity(alloc, files.len())?;
         for (name, bytes, room) in files {
@@ -96,7 +130,9 @@ impl MemShelf {
 
     /// The bytes of the file of this name, where it is there.
     pub fn file(&self, name: &str) -> Option<&[u8]>
-        ensures { IfSome (⟦<MemShelf as Shelf>⟧.state self.now).told (λ told. MatchOption result (told.files name.now ≡ None) (λ bytes. told.files name.now ≡ Some bytes.now)) }
+        ensures { IfSome (⟦<MemShelf as Shelf>⟧.state self.now).told
+            (λ told. MatchOption result (told.files name.now ≡ None)
+            (λ bytes. told.files name.now ≡ Some bytes.now)) }
     {
         let number = find(&self.files, name)?;
         self.files[number].contents()
@@ -137,9 +173,11 @@ impl Shelf for MemShelf {
     fn open_file(&mut self, name: &str) -> Result<(), OpenFault>
         ensures counts { OpenCounts result (state_of self.old) (state_of self.new) }
         ensures mode { (state_of self.new).mode ≡ mode_opened result }
-        ensures told { WhereTold (state_of self.old).told (state_of self.new).told (Opens name.now result) }
+        ensures told { WhereTold (state_of self.old).told (state_of self.new).told
+            (Opens name.now result) }
         ensures failed { IsErrOf result open_fault.Failed ↔ Fails self.old }
-        ensures absent { IsErrOf result open_fault.Absent ↔ ((Fails self.old → ⊥) × (files_of self.old.files name.now ≡ None)) }
+        ensures absent { IsErrOf result open_fault.Absent
+            ↔ ((Fails self.old → ⊥) × (files_of self.old.files name.now ≡ None)) }
         ensures made { CallMade self.old self.new }
         ensures faults { self.new.read_faults ≡ read_faults_after result self.old.read_faults }
         ensures absences { self.new.absences ≡ absences_after result self.old.absences }
@@ -166,9 +204,11 @@ impl Shelf for MemShelf {
         ensures counts { ReadCounts result (state_of self.old) (state_of self.new) }
         ensures mode { (state_of self.new).mode ≡ Reading }
         ensures fits { Fits buffer.old result }
-        ensures told { WhereTold (state_of self.old).told (state_of self.new).told (Reads buffer.old buffer.new result) }
+        ensures told { WhereTold (state_of self.old).told (state_of self.new).told
+            (Reads buffer.old buffer.new result) }
         ensures failed { IsErr result ↔ Fails self.old }
-        ensures count { IfOk result (λ count. count ≡ min (length buffer.old) (bytes_left self.old)) }
+        ensures count { IfOk result (λ count. count
+            ≡ min (length buffer.old) (bytes_left self.old)) }
         ensures made { CallMade self.old self.new }
         ensures faults { self.new.read_faults ≡ faults_after result self.old.read_faults }
     {
@@ -192,7 +232,8 @@ impl Shelf for MemShelf {
     fn create_file(&mut self, name: &str) -> Result<(), Failed>
         ensures counts { WriteCounts result (state_of self.old) (state_of self.new) }
         ensures mode { (state_of self.new).mode ≡ mode_created result }
-        ensures told { WhereTold (state_of self.old).told (state_of self.new).told (Creates name.now result) }
+        ensures told { WhereTold (state_of self.old).told (state_of self.new).told
+            (Creates name.now result) }
         ensures failed { IsErr result ↔ (Fails self.old ⊎ (IsGiven name.now self.old.files → ⊥)) }
         ensures made { CallMade self.old self.new }
         ensures faults { self.new.write_faults ≡ faults_after result self.old.write_faults }
@@ -221,9 +262,12 @@ impl Shelf for MemShelf {
         ensures mode { (state_of self.new).mode ≡ Writing }
         ensures fits { Fits bytes.now result }
         ensures some { TakesSome bytes.now result }
-        ensures told { WhereTold (state_of self.old).told (state_of self.new).told (Writes bytes.now result) }
-        ensures failed { IsErr result ↔ (Fails self.old ⊎ NothingFits bytes.now (left (file_open self.old.files self.old.place))) }
-        ensures count { IfOk result (λ count. count ≡ min (length bytes.now) (left (file_open self.old.files self.old.place))) }
+        ensures told { WhereTold (state_of self.old).told (state_of self.new).told
+            (Writes bytes.now result) }
+        ensures failed { IsErr result ↔ (Fails self.old ⊎ NothingFits bytes.now
+            (left (file_open self.old.files self.old.place))) }
+        ensures count { IfOk result (λ count. count
+            ≡ min (length bytes.now) (left (file_open self.old.files self.old.place))) }
         ensures made { CallMade self.old self.new }
         ensures faults { self.new.write_faults ≡ faults_after result self.old.write_faults }
     {

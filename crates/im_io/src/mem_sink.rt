@@ -24,15 +24,24 @@ impl Model for MemSink {
 
     ghost Value = { MemorySink };
 
-    ghost view = { λ s. record { contents = s.bytes.items; room = vec_capacity s.bytes; made = s.calls.made; failing = s.calls.failing.items; faults = s.faults } };
+    ghost view = { λ s. record {
+      contents = s.bytes.items;
+      room = vec_capacity s.bytes;
+      made =
+          s.calls.made;
+      failing = s.calls.failing.items;
+      faults = s.faults;
+    } };
 }
 
 impl MemSink {
     /// A sink with room for so many bytes. `failing` has the numbers of the writes to be refused; the
     /// first write's number is 1.
     pub fn new(alloc: Global, room: usize, failing: &[u64]) -> Result<MemSink, NoMemory>
-        ensures state { IfOk result (λ sink. ⟦<MemSink as Sink>⟧.state sink ≡ record { contents = Some []; faults = 0 }) }
-        ensures value { IfOk result (λ sink. sink ≡ record { contents = []; room = room; made = 0; failing = failing.now; faults = 0 }) }
+        ensures state { IfOk result (λ sink. ⟦<MemSink as Sink>⟧.state sink
+            ≡ record { contents = Some []; faults = 0 }) }
+        ensures value { IfOk result (λ sink. sink
+            ≡ record { contents = []; room = room; made = 0; failing = failing.now; faults = 0 }) }
     {
         Ok(MemSink {
             bytes: Vec::with_capacity(alloc, room)?,

@@ -12,7 +12,8 @@ pub trait Shelf {
     fn open_file(&mut self, name: &str) -> Result<(), OpenFault>
         ensures counts { OpenCounts result (state self.old) (state self.new) }
         ensures mode { (state self.new).mode ≡ mode_opened result }
-        ensures told { WhereTold (state self.old).told (state self.new).told (Opens name.now result) };
+        ensures told { WhereTold (state self.old).told (state self.new).told
+            (Opens name.now result) };
 
     /// Reads the next bytes of the open file; 0 into a buffer that isn't empty is its end.
     fn read(&mut self, buffer: &mut [u8]) -> Result<usize, Failed>
@@ -20,13 +21,15 @@ pub trait Shelf {
         ensures counts { ReadCounts result (state self.old) (state self.new) }
         ensures mode { (state self.new).mode ≡ Reading }
         ensures fits { Fits buffer.old result }
-        ensures told { WhereTold (state self.old).told (state self.new).told (Reads buffer.old buffer.new result) };
+        ensures told { WhereTold (state self.old).told (state self.new).told
+            (Reads buffer.old buffer.new result) };
 
     /// Opens a file to write it, empty, in the place of one of that name.
     fn create_file(&mut self, name: &str) -> Result<(), Failed>
         ensures counts { WriteCounts result (state self.old) (state self.new) }
         ensures mode { (state self.new).mode ≡ mode_created result }
-        ensures told { WhereTold (state self.old).told (state self.new).told (Creates name.now result) };
+        ensures told { WhereTold (state self.old).told (state self.new).told
+            (Creates name.now result) };
 
     /// Writes the first bytes of a piece to the end of the open file.
     fn write(&mut self, bytes: &[u8]) -> Result<usize, Failed>
@@ -35,5 +38,6 @@ pub trait Shelf {
         ensures mode { (state self.new).mode ≡ Writing }
         ensures fits { Fits bytes.now result }
         ensures some { TakesSome bytes.now result }
-        ensures told { WhereTold (state self.old).told (state self.new).told (Writes bytes.now result) };
+        ensures told { WhereTold (state self.old).told (state self.new).told
+            (Writes bytes.now result) };
 }

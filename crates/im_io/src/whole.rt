@@ -21,7 +21,8 @@ pub fn read_whole<H: Shelf>(
     ensures counts { ReadWholeCounts result (H.state shelf.old) (H.state shelf.new) }
     ensures short { IfOk result (λ bytes. length bytes.items ≤ limit) }
     ensures limit { IfErr result (λ fault. IsLimit limit fault) }
-    ensures told { WhereTold (H.state shelf.old).told (H.state shelf.new).told (ReadsWhole (λ bytes. bytes.items) name.now limit result) }
+    ensures told { WhereTold (H.state shelf.old).told (H.state shelf.new).told
+        (ReadsWhole (λ bytes. bytes.items) name.now limit result) }
 {
     let mut buffer = vec![in alloc; 0; CHUNK]?;
     match shelf.open_file(name) {
@@ -44,7 +45,8 @@ fn read_open<H: Shelf>(
     ensures counts { ReadWholeCounts result (H.state shelf.old) (H.state shelf.new) }
     ensures short { IfOk result (λ bytes. length bytes.items ≤ limit) }
     ensures limit { IfErr result (λ fault. IsLimit limit fault) }
-    ensures told { WhereTold (H.state shelf.old).told (H.state shelf.new).told (ReadsOpen (λ bytes. bytes.items) limit result) }
+    ensures told { WhereTold (H.state shelf.old).told (H.state shelf.new).told
+        (ReadsOpen (λ bytes. bytes.items) limit result) }
 {
     let mut bytes = Vec::new(alloc);
     'reads: loop {
@@ -82,7 +84,8 @@ pub fn send<S: Sink>(sink: &mut S, text: &[u8]) -> Result<(), Failed>
 /// was or holds the first bytes of the text alone, and no other file changes.
 pub fn store<H: Shelf>(shelf: &mut H, name: &str, text: &[u8]) -> Result<(), Failed>
     ensures counts { WriteCounts result (H.state shelf.old) (H.state shelf.new) }
-    ensures told { WhereTold (H.state shelf.old).told (H.state shelf.new).told (Stores name.now text.now result) }
+    ensures told { WhereTold (H.state shelf.old).told (H.state shelf.new).told
+        (Stores name.now text.now result) }
 {
     shelf.create_file(name)?;
     let mut stored = 0;
@@ -94,7 +97,8 @@ pub fn store<H: Shelf>(shelf: &mut H, name: &str, text: &[u8]) -> Result<(), Fai
 
 /// Sends pieces of a text to a sink, one after the other, as `send` does the text that they make.
 pub fn send_pieces<S: Sink>(sink: &mut S, pieces: &[&[u8]]) -> Result<(), Failed>
-    ensures { Sends (flat_map (λ piece. piece.now) pieces.now) result (S.state sink.old) (S.state sink.new) }
+    ensures { Sends (flat_map (λ piece. piece.now) pieces.now) result (S.state sink.old)
+        (S.state sink.new) }
 {
     for piece in pieces {
         match send(sink, piece) {

@@ -56,5 +56,6 @@ pub fn lex(alloc: Global, source: &[u8]) -> Result<Vec<Token>, LexFault>
 pub fn one_reading()
     ensures tokens { (text : List ℕ) (a b : List Token) → Lexes text a → Lexes text b → a ≡ b }
     ensures place { (text : List ℕ) (a b : ℕ) → StuckAt text a → StuckAt text b → a ≡ b }
-    ensures apart { (text : List ℕ) (tokens : List Token) (at : ℕ) → Lexes text tokens → StuckAt text at → ⊥ }
+    ensures apart { (text : List ℕ) (tokens : List Token) (at : ℕ) → Lexes text tokens
+        → StuckAt text at → ⊥ }
 {}

@@ -22,7 +22,10 @@ fn send_header<S: Sink>(
     out_cap: u32,
     entry: u32,
 ) -> Result<(), Failed>
-    ensures { Sends (codes "version " ++ decimal version ++ codes "\ncode " ++ decimal code ++ codes "\nstatics " ++ decimal statics ++ codes "\nstack " ++ decimal stack ++ codes "\nout-cap " ++ decimal out_cap ++ codes "\nentry " ++ hex_word entry ++ codes "\n") result (S.state sink.old) (S.state sink.new) }
+    ensures { Sends (codes "version " ++ decimal version ++ codes "\ncode " ++ decimal code
+        ++ codes "\nstatics " ++ decimal statics ++ codes "\nstack " ++ decimal stack
+        ++ codes "\nout-cap " ++ decimal out_cap ++ codes "\nentry " ++ hex_word entry
+        ++ codes "\n") result (S.state sink.old) (S.state sink.new) }
 {
     let mut version_text = Buffer::new();
     let mut code_text = Buffer::new();
@@ -95,7 +98,8 @@ fn send_object_line<S: Sink>(sink: &mut S, object: &Object) -> Result<(), Failed
 }
 
 fn send_object_lines<S: Sink>(sink: &mut S, objects: &[Object]) -> Result<(), Failed>
-    ensures { Sends (flat_map object_line objects.now) result (S.state sink.old) (S.state sink.new) }
+    ensures { Sends (flat_map object_line objects.now) result (S.state sink.old)
+        (S.state sink.new) }
 {
     for object in objects {
         match send_object_line(sink, object) {
@@ -108,13 +112,15 @@ fn send_object_lines<S: Sink>(sink: &mut S, objects: &[Object]) -> Result<(), Fa
 
 // A word by its address, in front of the instruction.
 fn send_word<S: Sink>(sink: &mut S, at: u32, word: u32) -> Result<(), Failed>
-    ensures { Sends (hex_word at ++ codes ": " ++ hex_word word ++ codes " ") result (S.state sink.old) (S.state sink.new) }
+    ensures { Sends (hex_word at ++ codes ": " ++ hex_word word ++ codes " ") result
+        (S.state sink.old) (S.state sink.new) }
 {
     send_pieces(sink, &[&hex_text(at), b": ", &hex_text(word), b" "])
 }
 
 fn send_rest<S: Sink>(sink: &mut S, word: u32) -> Result<(), Failed>
-    ensures { Sends (instruction_text (decoded_word word) ++ codes "\n") result (S.state sink.old) (S.state sink.new) }
+    ensures { Sends (instruction_text (decoded_word word) ++ codes "\n") result (S.state sink.old)
+        (S.state sink.new) }
 {
     match send_instruction(sink, word) {
         Ok(()) => send(sink, b"\n"),
@@ -147,19 +153,22 @@ fn send_word_lines<S: Sink>(sink: &mut S, words: &[u32]) -> Result<(), Failed>
 }
 
 fn send_code<S: Sink>(sink: &mut S, image: &Image) -> Result<(), Failed>
-    ensures { Sends (word_lines code_start image.now.words) result (S.state sink.old) (S.state sink.new) }
+    ensures { Sends (word_lines code_start image.now.words) result (S.state sink.old)
+        (S.state sink.new) }
 {
     send_word_lines(sink, &image.words)
 }
 
 fn send_objects<S: Sink>(sink: &mut S, image: &Image) -> Result<(), Failed>
-    ensures { Sends (flat_map object_line image.now.objects) result (S.state sink.old) (S.state sink.new) }
+    ensures { Sends (flat_map object_line image.now.objects) result (S.state sink.old)
+        (S.state sink.new) }
 {
     send_object_lines(sink, &image.objects)
 }
 
 fn send_form<S: Sink>(sink: &mut S, image: &Image) -> Result<(), Failed>
-    ensures { Sends (form_line image.now.version image.now.form) result (S.state sink.old) (S.state sink.new) }
+    ensures { Sends (form_line image.now.version image.now.form) result (S.state sink.old)
+        (S.state sink.new) }
 {
     send_form_line(sink, image.version, image.form)
 }

@@ -66,7 +66,8 @@ fn name_of(op: Op) -> &'static str
 }
 
 fn send_registers<S: Sink>(sink: &mut S, name: &str, rd: u8, rs1: u8, rs2: u8) -> Result<(), Failed>
-    ensures { Sends (name.now ++ register_text rd ++ register_text rs1 ++ register_text rs2) result (S.state sink.old) (S.state sink.new) }
+    ensures { Sends (name.now ++ register_text rd ++ register_text rs1 ++ register_text rs2) result
+        (S.state sink.old) (S.state sink.new) }
 {
     let mut rd_text = Buffer::new();
     let mut rs1_text = Buffer::new();
@@ -92,7 +93,8 @@ fn send_two<S: Sink>(
     second: u8,
     immediate: i32,
 ) -> Result<(), Failed>
-    ensures { Sends (name.now ++ register_text first ++ register_text second ++ codes " " ++ signed_decimal immediate) result (S.state sink.old) (S.state sink.new) }
+    ensures { Sends (name.now ++ register_text first ++ register_text second ++ codes " "
+        ++ signed_decimal immediate) result (S.state sink.old) (S.state sink.new) }
 {
     let mut first_text = Buffer::new();
     let mut second_text = Buffer::new();
@@ -112,7 +114,8 @@ fn send_two<S: Sink>(
 }
 
 fn send_one<S: Sink>(sink: &mut S, name: &str, register: u8, immediate: i32) -> Result<(), Failed>
-    ensures { Sends (name.now ++ register_text register ++ codes " " ++ signed_decimal immediate) result (S.state sink.old) (S.state sink.new) }
+    ensures { Sends (name.now ++ register_text register ++ codes " " ++ signed_decimal immediate)
+        result (S.state sink.old) (S.state sink.new) }
 {
     let mut register_digits = Buffer::new();
     let mut immediate_digits = Buffer::new();
@@ -129,7 +132,8 @@ fn send_one<S: Sink>(sink: &mut S, name: &str, register: u8, immediate: i32) -> 
 }
 
 fn send_operation<S: Sink>(sink: &mut S, instr: Instr) -> Result<(), Failed>
-    ensures { Sends (instruction_text (Some (line_of instr))) result (S.state sink.old) (S.state sink.new) }
+    ensures { Sends (instruction_text (Some (line_of instr))) result (S.state sink.old)
+        (S.state sink.new) }
 {
     let name = name_of(instr.op);
     match instr.op.format() {
@@ -145,7 +149,8 @@ fn send_operation<S: Sink>(sink: &mut S, instr: Instr) -> Result<(), Failed>
 
 /// Sends the text of the instruction that a word stands for.
 pub fn send_instruction<S: Sink>(sink: &mut S, word: u32) -> Result<(), Failed>
-    ensures { Sends (instruction_text (decoded_word word)) result (S.state sink.old) (S.state sink.new) }
+    ensures { Sends (instruction_text (decoded_word word)) result (S.state sink.old)
+        (S.state sink.new) }
 {
     match decode(word) {
         None => send(sink, b"word"),

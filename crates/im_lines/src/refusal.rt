@@ -41,14 +41,16 @@ impl<'a> From<NoMemory> for Refusal<'a> {
 
 /// Sends a file's name and what is wrong with it.
 pub fn send_about<S: Sink>(sink: &mut S, name: &str, wrong: &[u8]) -> Result<(), Failed>
-    ensures { Sends (codes "intermit: " ++ (name.now ++ (codes ": " ++ wrong.now)) ++ codes "\n") result (S.state sink.old) (S.state sink.new) }
+    ensures { Sends (codes "intermit: " ++ (name.now ++ (codes ": " ++ wrong.now)) ++ codes "\n")
+        result (S.state sink.old) (S.state sink.new) }
 {
     send_pieces(sink, &[b"intermit: ", name.as_bytes(), b": ", wrong, b"\n"])
 }
 
 // The same, where a number says more.
 fn send_numbered<S: Sink>(sink: &mut S, name: &str, wrong: &[u8], number: u64) -> Result<(), Failed>
-    ensures { Sends (codes "intermit: " ++ (name.now ++ codes ": " ++ (wrong.now ++ decimal number)) ++ codes "\n") result (S.state sink.old) (S.state sink.new) }
+    ensures { Sends (codes "intermit: " ++ (name.now ++ codes ": " ++ (wrong.now ++ decimal number))
+        ++ codes "\n") result (S.state sink.old) (S.state sink.new) }
 {
     let mut text = Buffer::new();
     send_pieces(
@@ -65,7 +67,8 @@ fn send_numbered<S: Sink>(sink: &mut S, name: &str, wrong: &[u8], number: u64) -
 }
 
 fn send_image_fault<S: Sink>(sink: &mut S, name: &str, fault: &ImageFault) -> Result<(), Failed>
-    ensures { Sends (refusal_line (NotAnImage name.now fault.now)) result (S.state sink.old) (S.state sink.new) }
+    ensures { Sends (refusal_line (NotAnImage name.now fault.now)) result (S.state sink.old)
+        (S.state sink.new) }
 {
     match fault {
         ImageFault::ShortImage(count) => send_numbered(sink, name, b"short image at ", *count),
@@ -82,7 +85,8 @@ fn send_image_fault<S: Sink>(sink: &mut S, name: &str, fault: &ImageFault) -> Re
 }
 
 fn send_trace_fault<S: Sink>(sink: &mut S, name: &str, fault: &TraceFault) -> Result<(), Failed>
-    ensures { Sends (refusal_line (NotATrace name.now fault.now)) result (S.state sink.old) (S.state sink.new) }
+    ensures { Sends (refusal_line (NotATrace name.now fault.now)) result (S.state sink.old)
+        (S.state sink.new) }
 {
     match fault {
         TraceFault::BadLine(line) => send_numbered(sink, name, b"bad line ", *line),
@@ -93,7 +97,8 @@ fn send_trace_fault<S: Sink>(sink: &mut S, name: &str, fault: &TraceFault) -> Re
 }
 
 fn send_input_too_long<S: Sink>(sink: &mut S, count: u64, limit: u64) -> Result<(), Failed>
-    ensures { Sends (refusal_line (InputTooLong count limit)) result (S.state sink.old) (S.state sink.new) }
+    ensures { Sends (refusal_line (InputTooLong count limit)) result (S.state sink.old)
+        (S.state sink.new) }
 {
     let mut count_text = Buffer::new();
     let mut limit_text = Buffer::new();
@@ -110,7 +115,8 @@ fn send_input_too_long<S: Sink>(sink: &mut S, count: u64, limit: u64) -> Result<
 }
 
 fn send_file_too_long<S: Sink>(sink: &mut S, name: &str, limit: u64) -> Result<(), Failed>
-    ensures { Sends (refusal_line (FileTooLong name.now limit)) result (S.state sink.old) (S.state sink.new) }
+    ensures { Sends (refusal_line (FileTooLong name.now limit)) result (S.state sink.old)
+        (S.state sink.new) }
 {
     let mut text = Buffer::new();
     send_pieces(
@@ -127,7 +133,8 @@ fn send_file_too_long<S: Sink>(sink: &mut S, name: &str, limit: u64) -> Result<(
 
 /// Sends a refusal's line.
 pub fn send_refusal_line<S: Sink>(sink: &mut S, refusal: &Refusal) -> Result<(), Failed>
-    ensures { Sends (refusal_line (refused_of refusal.now)) result (S.state sink.old) (S.state sink.new) }
+    ensures { Sends (refusal_line (refused_of refusal.now)) result (S.state sink.old)
+        (S.state sink.new) }
 {
     match refusal {
         Refusal::CannotRead(name) => send_pieces(

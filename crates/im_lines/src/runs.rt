@@ -25,7 +25,8 @@ fn send_ending_line<S: Sink>(sink: &mut S, ending: Ending, status: i32) -> Resul
 }
 
 fn send_counts<S: Sink>(sink: &mut S, commits: u64, instructions: u64) -> Result<(), Failed>
-    ensures { Sends (codes "commits " ++ decimal commits ++ codes "\ninstructions " ++ decimal instructions ++ codes "\n") result (S.state sink.old) (S.state sink.new) }
+    ensures { Sends (codes "commits " ++ decimal commits ++ codes "\ninstructions "
+        ++ decimal instructions ++ codes "\n") result (S.state sink.old) (S.state sink.new) }
 {
     let mut commits_text = Buffer::new();
     let mut instructions_text = Buffer::new();
@@ -50,7 +51,8 @@ pub fn send_run_lines<S: Sink>(
     commits: u64,
     instructions: u64,
 ) -> Result<(), Failed>
-    ensures { Sends (run_lines ending status commits instructions) result (S.state sink.old) (S.state sink.new) }
+    ensures { Sends (run_lines ending status commits instructions) result (S.state sink.old)
+        (S.state sink.new) }
 {
     match send_ending_line(sink, ending, status) {
         Ok(()) => send_counts(sink, commits, instructions),

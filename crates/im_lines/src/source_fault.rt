@@ -11,7 +11,9 @@ use itoa::Buffer;
 
 // What is wrong in a line of a file.
 fn send_in_line<S: Sink>(sink: &mut S, name: &str, line: u32, wrong: &[u8]) -> Result<(), Failed>
-    ensures { Sends (codes "intermit: " ++ (name.now ++ (codes ":" ++ decimal line ++ codes ": " ++ wrong.now)) ++ codes "\n") result (S.state sink.old) (S.state sink.new) }
+    ensures { Sends (codes "intermit: " ++ (name.now
+        ++ (codes ":" ++ decimal line ++ codes ": " ++ wrong.now)) ++ codes "\n") result
+        (S.state sink.old) (S.state sink.new) }
 {
     let mut text = Buffer::new();
     send_pieces(
@@ -36,7 +38,9 @@ fn send_numbered_in_line<S: Sink>(
     wrong: &[u8],
     number: u32,
 ) -> Result<(), Failed>
-    ensures { Sends (codes "intermit: " ++ (name.now ++ (codes ":" ++ decimal line ++ codes ": " ++ (wrong.now ++ decimal number))) ++ codes "\n") result (S.state sink.old) (S.state sink.new) }
+    ensures { Sends (codes "intermit: " ++ (name.now
+        ++ (codes ":" ++ decimal line ++ codes ": " ++ (wrong.now ++ decimal number)))
+        ++ codes "\n") result (S.state sink.old) (S.state sink.new) }
 {
     let mut line_text = Buffer::new();
     let mut number_text = Buffer::new();
@@ -61,7 +65,8 @@ fn send_line_fault<S: Sink>(
     line: u32,
     why: LineFault,
 ) -> Result<(), Failed>
-    ensures { Sends (refusal_line (BadSource name.now (Line line why))) result (S.state sink.old) (S.state sink.new) }
+    ensures { Sends (refusal_line (BadSource name.now (Line line why))) result (S.state sink.old)
+        (S.state sink.new) }
 {
     match why {
         LineFault::BadByte => send_in_line(sink, name, line, b"bad byte"),
@@ -110,7 +115,9 @@ fn send_over<S: Sink>(
     count: u64,
     limit: u64,
 ) -> Result<(), Failed>
-    ensures { Sends (codes "intermit: " ++ (name.now ++ (codes ": " ++ quantity.now ++ codes " " ++ decimal count ++ codes " over " ++ decimal limit)) ++ codes "\n") result (S.state sink.old) (S.state sink.new) }
+    ensures { Sends (codes "intermit: " ++ (name.now
+        ++ (codes ": " ++ quantity.now ++ codes " " ++ decimal count ++ codes " over "
+        ++ decimal limit)) ++ codes "\n") result (S.state sink.old) (S.state sink.new) }
 {
     let mut count_text = Buffer::new();
     let mut limit_text = Buffer::new();
@@ -136,7 +143,8 @@ fn send_limit<S: Sink>(
     quantity: Quantity,
     count: u64,
 ) -> Result<(), Failed>
-    ensures { Sends (refusal_line (BadSource name.now (Limit quantity count))) result (S.state sink.old) (S.state sink.new) }
+    ensures { Sends (refusal_line (BadSource name.now (Limit quantity count))) result
+        (S.state sink.old) (S.state sink.new) }
 {
     send_over(sink, name, name_of(quantity), count, most_of(quantity))
 }
@@ -147,7 +155,8 @@ pub fn send_source_fault<S: Sink>(
     name: &str,
     fault: &SourceFault,
 ) -> Result<(), Failed>
-    ensures { Sends (refusal_line (BadSource name.now fault.now)) result (S.state sink.old) (S.state sink.new) }
+    ensures { Sends (refusal_line (BadSource name.now fault.now)) result (S.state sink.old)
+        (S.state sink.new) }
 {
     match fault {
         SourceFault::Line { line, why } => send_line_fault(sink, name, *line, *why),

@@ -21,21 +21,24 @@ fn name_at(objects: &[Object], number: u32) -> &[u8]
 }
 
 fn send_number<S: Sink>(sink: &mut S, number: i128) -> Result<(), Failed>
-    ensures { Sends (codes " " ++ signed_decimal number) result (S.state sink.old) (S.state sink.new) }
+    ensures { Sends (codes " " ++ signed_decimal number) result (S.state sink.old)
+        (S.state sink.new) }
 {
     let mut text = Buffer::new();
     send_pieces(sink, &[b" ", text.format(number).as_bytes()])
 }
 
 fn send_place<S: Sink>(sink: &mut S, name: &[u8], offset: u32) -> Result<(), Failed>
-    ensures { Sends (codes " " ++ (name.now ++ codes "+" ++ decimal offset)) result (S.state sink.old) (S.state sink.new) }
+    ensures { Sends (codes " " ++ (name.now ++ codes "+" ++ decimal offset)) result
+        (S.state sink.old) (S.state sink.new) }
 {
     let mut text = Buffer::new();
     send_pieces(sink, &[b" ", name, b"+", text.format(offset).as_bytes()])
 }
 
 fn send_cell<S: Sink>(sink: &mut S, objects: &[Object], cell: CellValue) -> Result<(), Failed>
-    ensures { Sends (codes " " ++ cell_text objects.now cell) result (S.state sink.old) (S.state sink.new) }
+    ensures { Sends (codes " " ++ cell_text objects.now cell) result (S.state sink.old)
+        (S.state sink.new) }
 {
     match cell {
         CellValue::Number(number) => send_number(sink, number),
@@ -46,7 +49,8 @@ fn send_cell<S: Sink>(sink: &mut S, objects: &[Object], cell: CellValue) -> Resu
 }
 
 fn send_cells<S: Sink>(sink: &mut S, objects: &[Object], cells: &[CellValue]) -> Result<(), Failed>
-    ensures { Sends (flat_map (λ cell. codes " " ++ cell_text objects.now cell) cells.now) result (S.state sink.old) (S.state sink.new) }
+    ensures { Sends (flat_map (λ cell. codes " " ++ cell_text objects.now cell) cells.now) result
+        (S.state sink.old) (S.state sink.new) }
 {
     for cell in cells {
         match send_cell(sink, objects, *cell) {
@@ -59,7 +63,9 @@ fn send_cells<S: Sink>(sink: &mut S, objects: &[Object], cells: &[CellValue]) ->
 
 // The name and the cells.
 fn send_values<S: Sink>(sink: &mut S, objects: &[Object], variable: &Var) -> Result<(), Failed>
-    ensures { Sends (codes "var " ++ (variable_of variable.now).name ++ flat_map (λ cell. codes " " ++ cell_text objects.now cell) (variable_of variable.now).cells) result (S.state sink.old) (S.state sink.new) }
+    ensures { Sends (codes "var " ++ (variable_of variable.now).name
+        ++ flat_map (λ cell. codes " " ++ cell_text objects.now cell)
+        (variable_of variable.now).cells) result (S.state sink.old) (S.state sink.new) }
 {
     match send_pieces(sink, &[b"var ", &variable.name]) {
         Ok(()) => send_cells(sink, objects, &variable.cells),
@@ -72,7 +78,8 @@ fn send_variable_line<S: Sink>(
     objects: &[Object],
     variable: &Var,
 ) -> Result<(), Failed>
-    ensures { Sends (variable_line objects.now (variable_of variable.now)) result (S.state sink.old) (S.state sink.new) }
+    ensures { Sends (variable_line objects.now (variable_of variable.now)) result (S.state sink.old)
+        (S.state sink.new) }
 {
     match send_values(sink, objects, variable) {
         Ok(()) => send(sink, b"\n"),
@@ -87,7 +94,8 @@ pub fn send_variable_lines<S: Sink>(
     objects: &[Object],
     variables: &[Var],
 ) -> Result<(), Failed>
-    ensures { Sends (variable_lines objects.now (map variable_of variables.now)) result (S.state sink.old) (S.state sink.new) }
+    ensures { Sends (variable_lines objects.now (map variable_of variables.now)) result
+        (S.state sink.old) (S.state sink.new) }
 {
     for variable in variables {
         match send_variable_line(sink, objects, variable) {

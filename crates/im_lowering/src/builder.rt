@@ -38,13 +38,26 @@ impl std::marker::Model for Builder {
     ghost use Rattle.im_block.specs.declared.code.Block.{Block};
     ghost use Rattle.im_made.specs.Made.{point_of};
 
-    ghost view = { λ b. record { blocks = map {A = Block} point_of b.blocks.items; point = record { rest = reverse b.lines.items; exit = b.exit }; accesses = b.accesses; registers = b.registers } };
+    ghost view = { λ b. record {
+      blocks = map {A = Block} point_of b.blocks.items;
+      point = record
+          { rest = reverse b.lines.items; exit = b.exit };
+      accesses = b.accesses;
+      registers =
+          b.registers;
+    } };
 }
 
 impl Builder {
     /// No code yet. The function's first access has this number.
     pub(crate) fn new(alloc: Global, accesses: u64) -> Builder
-        ensures { result ≡ record { blocks = []; point = ends (Exit.Return None); accesses = accesses; registers = 0 } }
+        ensures { result ≡ record {
+          blocks = [];
+          point = ends (Exit.Return None);
+          accesses =
+              accesses;
+          registers = 0;
+        } }
     {
         Builder {
             alloc,

@@ -13,7 +13,8 @@ pub(crate) fn struct_cells(
     number: u32,
     types: &TypeTable,
 ) -> Result<Vec<Cell>, NoMemory>
-    ensures { IfOk result (λ found. found.items ≡ (layout_at (layouts (structs_of types.now)) number).cells) }
+    ensures { IfOk result (λ found. found.items
+        ≡ (layout_at (layouts (structs_of types.now)) number).cells) }
 {
     member_law();
     let mut found = Vec::new(alloc);

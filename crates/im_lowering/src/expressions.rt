@@ -27,7 +27,8 @@ pub(crate) fn lower_value(
     prog: &Prog,
     base: Base,
 ) -> Result<(), NoMemory>
-    ensures { OnOk result (code.new ≡ make (program_of prog.now) base.first (expr_of prog.now.types value.now) base.low (base.low + 1) code.old) }
+    ensures { OnOk result (code.new ≡ make (program_of prog.now) base.first
+        (expr_of prog.now.types value.now) base.low (base.low + 1) code.old) }
 {
     lower_expression(code, value, base.low, next(base.low)?, prog, base.first)
 }
@@ -41,7 +42,8 @@ pub(crate) fn lower_place(
     prog: &Prog,
     first: u32,
 ) -> Result<(), NoMemory>
-    ensures { OnOk result (code.new ≡ make_place (program_of prog.now) first (place_of prog.now.types place.now) free code.old) }
+    ensures { OnOk result (code.new ≡ make_place (program_of prog.now) first
+        (place_of prog.now.types place.now) free code.old) }
 {
     match place {
         Place::Static(_) | Place::Local(_) => Ok(()),
@@ -63,7 +65,8 @@ pub(crate) fn lower_expression(
     prog: &Prog,
     first: u32,
 ) -> Result<(), NoMemory>
-    ensures { OnOk result (code.new ≡ make (program_of prog.now) first (expr_of prog.now.types expression.now) to free code.old) }
+    ensures { OnOk result (code.new ≡ make (program_of prog.now) first
+        (expr_of prog.now.types expression.now) to free code.old) }
 {
     let above = next(free)?;
     match expression {
@@ -210,7 +213,8 @@ fn lower_arguments(
     prog: &Prog,
     first: u32,
 ) -> Result<(), NoMemory>
-    ensures { OnOk result (code.new ≡ make_each (program_of prog.now) first prog.now.types arguments.now free code.old) }
+    ensures { OnOk result (code.new ≡ make_each (program_of prog.now) first prog.now.types
+        arguments.now free code.old) }
 {
     for index in (0..arguments.len()).rev() {
         let to = register_at(free, index)?;
@@ -221,7 +225,8 @@ fn lower_arguments(
 
 /// Where a part begins in a struct that an expression gives: the offset of its first cell.
 fn part_offset(code: &Builder, from: u32, whole: &Expr, prog: &Prog) -> Result<u32, NoMemory>
-    ensures { IfOk result (λ n. n ≡ part_offset (program_of prog.now) from (expr_of prog.now.types whole.now)) }
+    ensures { IfOk result (λ n. n ≡ part_offset (program_of prog.now) from
+        (expr_of prog.now.types whole.now)) }
 {
     let Some(Access::Struct { number, .. }) = shape_of(whole, prog) else {
         return Ok(0);

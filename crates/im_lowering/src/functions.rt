@@ -26,7 +26,8 @@ pub(crate) fn lower_function(
     accesses: u64,
 ) -> Result<(Function, u64), NoMemory>
     requires { HasTypes prog.now.types func.now.objects.items }
-    ensures { IfOk result (λ made. FunctionMade prog.now func.now is_main first accesses made.0 made.1) }
+    ensures { IfOk result (λ made. FunctionMade prog.now func.now is_main first accesses made.0
+        made.1) }
 {
     let bytes = need(func);
     if bytes == u64::MAX {
@@ -114,7 +115,8 @@ fn lower_objects(
     types: &TypeTable,
 ) -> Result<Vec<Object>, NoMemory>
     requires { HasTypes types.now objects.now }
-    ensures { IfOk result (λ found. AreObjects (map (object_of types.now) objects.now) found.items) }
+    ensures { IfOk result (λ found. AreObjects (map (object_of types.now) objects.now)
+        found.items) }
 {
     let mut found = Vec::new(alloc);
     for object in objects {
@@ -131,7 +133,8 @@ pub(crate) fn lower_object(
 ) -> Result<Object, NoMemory>
     requires { IsIn types.now object.now.ty }
     ensures size { IfOk result (λ found. found.size ≡ object.now.size) }
-    ensures cells { IfOk result (λ found. found.cells.items ≡ (layout_of types.now object.now.ty).cells) }
+    ensures cells { IfOk result (λ found. found.cells.items
+        ≡ (layout_of types.now object.now.ty).cells) }
 {
     let _bytes = size_of(object.ty, types);
     Ok(Object {

@@ -24,7 +24,10 @@ pub(crate) fn lower_initialiser(
     prog: &Prog,
     base: Base,
 ) -> Result<(), NoMemory>
-    ensures { let ps = map (piece_of prog.now.types) pieces.now in OnOk result (code.new ≡ make_pieces (program_of prog.now) base.first base.low (base.first + local) ps (put_rest base.low (base.first + local) (given_offsets ps) (cells_there (slice_get objects.now local)) code.old)) }
+    ensures { let ps = map (piece_of prog.now.types) pieces.now in OnOk result
+        (code.new ≡ make_pieces (program_of prog.now) base.first base.low (base.first + local) ps
+        (put_rest base.low (base.first + local) (given_offsets ps)
+        (cells_there (slice_get objects.now local)) code.old)) }
 {
     let object = sum(base.first, local)?;
     let given = given_offsets(code, pieces, prog)?;
@@ -40,7 +43,8 @@ pub(crate) fn lower_initialiser(
 
 /// The offsets of the cells that expressions of an initialiser give.
 fn given_offsets(code: &Builder, pieces: &[Piece], prog: &Prog) -> Result<Vec<u64>, NoMemory>
-    ensures { IfOk result (λ found. found.items ≡ given_offsets (map (piece_of prog.now.types) pieces.now)) }
+    ensures { IfOk result (λ found. found.items
+        ≡ given_offsets (map (piece_of prog.now.types) pieces.now)) }
 {
     let mut found = Vec::new(code.alloc());
     for piece in pieces {
@@ -57,7 +61,8 @@ fn push_offsets(
     access: Access,
     prog: &Prog,
 ) -> Result<(), NoMemory>
-    ensures { OnOk result (found.new.items ≡ found.old.items ++ offsets_of offset (access_of prog.now.types access)) }
+    ensures { OnOk result (found.new.items ≡ found.old.items
+        ++ offsets_of offset (access_of prog.now.types access)) }
 {
     match access {
         Access::Scalar(_) => Ok(found.push(offset as u64)?),
@@ -178,7 +183,8 @@ fn lower_pieces(
     prog: &Prog,
     base: Base,
 ) -> Result<(), NoMemory>
-    ensures { OnOk result (code.new ≡ make_pieces (program_of prog.now) base.first base.low object (map (piece_of prog.now.types) pieces.now) code.old) }
+    ensures { OnOk result (code.new ≡ make_pieces (program_of prog.now) base.first base.low object
+        (map (piece_of prog.now.types) pieces.now) code.old) }
 {
     for index in (0..pieces.len()).rev() {
         let piece = &pieces[index];
@@ -197,7 +203,8 @@ fn put_piece(
     access: Access,
     prog: &Prog,
 ) -> Result<(), NoMemory>
-    ensures { OnOk result (code.new ≡ put_piece low object offset (access_of prog.now.types access) code.old) }
+    ensures { OnOk result (code.new ≡ put_piece low object offset (access_of prog.now.types access)
+        code.old) }
 {
     let place = Place::Local { object, offset };
     match access {

@@ -17,7 +17,8 @@ pub(crate) fn put_load(
     to: u32,
     place: Place,
 ) -> Result<(), NoMemory>
-    ensures { (types : Table) → OnOk result (code.new ≡ put_load (access_of types access) to place code.old) }
+    ensures { (types : Table) → OnOk result (code.new
+        ≡ put_load (access_of types access) to place code.old) }
 {
     match access {
         Access::Scalar(kind) => code.put_read(to, place, kind),

@@ -16,7 +16,8 @@ pub(crate) fn put_operator(
     to: u32,
     free: u32,
 ) -> Result<(), NoMemory>
-    ensures { (types : Table) → OnOk result (code.new ≡ put_operator (expr_of types expression.now) to free code.old) }
+    ensures { (types : Table) → OnOk result (code.new
+        ≡ put_operator (expr_of types expression.now) to free code.old) }
 {
     let above = next(free)?;
     match expression {

@@ -13,7 +13,8 @@ use im_typed::{Access, Change, Expr, Place, Prog};
 
 /// Where a place is: in a named object, or behind the pointer in the register `free`.
 pub(crate) fn place_at(place: &Place, free: u32, first: u32) -> Result<im_block::Place, NoMemory>
-    ensures { (types : Table) → IfOk result (λ p. p ≡ place_at first (place_of types place.now) free) }
+    ensures { (types : Table) → IfOk result (λ p. p
+        ≡ place_at first (place_of types place.now) free) }
 {
     match place {
         Place::Static(object) => Ok(im_block::Place::Static {
@@ -65,7 +66,8 @@ pub(crate) fn behind(place: &Place, free: u32) -> Result<u32, NoMemory>
 
 /// What an expression gives: nothing, a value of a kind, or a struct.
 pub(crate) fn shape_of(expression: &Expr, prog: &Prog) -> Option<Access>
-    ensures { option_map (access_of prog.now.types) result ≡ shape_of (program_of prog.now) (expr_of prog.now.types expression.now) }
+    ensures { option_map (access_of prog.now.types) result
+        ≡ shape_of (program_of prog.now) (expr_of prog.now.types expression.now) }
 {
     match expression {
         Expr::Number(kind, _)
@@ -107,7 +109,8 @@ pub(crate) fn changed_kind(change: Change) -> Kind
 
 /// What a call of a function gives.
 fn result_shape(function: u32, prog: &Prog) -> Option<Access>
-    ensures { option_map (access_of prog.now.types) result ≡ result_shape (slice_get (program_of prog.now).funcs function) }
+    ensures { option_map (access_of prog.now.types) result
+        ≡ result_shape (slice_get (program_of prog.now).funcs function) }
 {
     match prog.funcs.get(function as usize) {
         Some(func) => match func.result {

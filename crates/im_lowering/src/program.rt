@@ -23,7 +23,8 @@ use std::alloc::Global;
 pub fn lower(alloc: Global, prog: &Prog) -> Result<Unit, NoMemory>
     requires { KnowsTypes prog.now }
     ensures gives { IfOk result (λ unit. IsLowered (program_of prog.now) unit) }
-    ensures sized { IfOk result (λ unit. IsSmall (program_of prog.now) → AreSized (program_of prog.now) unit) }
+    ensures sized { IfOk result (λ unit. IsSmall (program_of prog.now)
+        → AreSized (program_of prog.now) unit) }
     ensures placeable { IfOk result (λ unit. IsSmall (program_of prog.now) → IsPlaceable unit) }
     ensures uncut { IfOk result (λ unit. IsSmall (program_of prog.now) → AllUncut unit) }
     ensures told { IfOk result (λ unit.

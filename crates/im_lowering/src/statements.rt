@@ -26,7 +26,8 @@ pub(crate) fn lower_statement(
     prog: &Prog,
     base: Base,
 ) -> Result<(), NoMemory>
-    ensures { OnOk result (code.new ≡ make_statement (program_of prog.now) base.first base.low objects.now (stmt_of prog.now.types statement.now) breaks continues code.old) }
+    ensures { OnOk result (code.new ≡ make_statement (program_of prog.now) base.first base.low
+        objects.now (stmt_of prog.now.types statement.now) breaks continues code.old) }
 {
     match statement {
         Stmt::Expr(value) => lower_value(code, value, prog, base),
@@ -115,7 +116,8 @@ fn lower_block(
     prog: &Prog,
     base: Base,
 ) -> Result<(), NoMemory>
-    ensures { OnOk result (code.new ≡ make_in_order (program_of prog.now) base.first prog.now.types base.low objects.now breaks continues statements.now code.old) }
+    ensures { OnOk result (code.new ≡ make_in_order (program_of prog.now) base.first prog.now.types
+        base.low objects.now breaks continues statements.now code.old) }
 {
     for index in (0..statements.len()).rev() {
         lower_statement(
@@ -143,8 +145,12 @@ fn lower_marked(
     prog: &Prog,
     base: Base,
 ) -> Result<Vec<u32>, NoMemory>
-    ensures marked { OnOk result (code.new ≡ close (make_marked (program_of prog.now) base.first prog.now.types base.low objects.now breaks continues statements.now code.old)) }
-    ensures marks { IfOk result (λ marks. marks.items ≡ marks_of (program_of prog.now) base.first prog.now.types base.low objects.now breaks continues statements.now code.old) }
+    ensures marked { OnOk result (code.new ≡ close
+        (make_marked (program_of prog.now) base.first prog.now.types base.low objects.now breaks
+        continues statements.now code.old)) }
+    ensures marks { IfOk result (λ marks. marks.items
+        ≡ marks_of (program_of prog.now) base.first prog.now.types base.low objects.now breaks
+        continues statements.now code.old) }
 {
     let mut marks = Vec::new(code.alloc());
     marks.push(code.close()?)?;
@@ -173,7 +179,8 @@ fn lower_test(
     prog: &Prog,
     base: Base,
 ) -> Result<u32, NoMemory>
-    ensures made { OnOk result (code.new ≡ test_made (program_of prog.now) base.first base.low (expr_of prog.now.types test.now) join code.old) }
+    ensures made { OnOk result (code.new ≡ test_made (program_of prog.now) base.first base.low
+        (expr_of prog.now.types test.now) join code.old) }
     ensures edge { IfOk result (λ edge. edge ≡ length code.old.blocks) }
 {
     code.start(Exit::Turn(0))?;
@@ -193,7 +200,8 @@ fn lower_return(
     prog: &Prog,
     base: Base,
 ) -> Result<(), NoMemory>
-    ensures { OnOk result (code.new ≡ make_return (program_of prog.now) base.first base.low (option_map (expr_of prog.now.types) value.now) code.old) }
+    ensures { OnOk result (code.new ≡ make_return (program_of prog.now) base.first base.low
+        (option_map (expr_of prog.now.types) value.now) code.old) }
 {
     match value {
         None => code.start(Exit::Return(None)),

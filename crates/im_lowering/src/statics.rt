@@ -20,7 +20,8 @@ pub(crate) fn lower_statics(
     types: &TypeTable,
 ) -> Result<Vec<im_block::Static>, NoMemory>
     requires { All (λ (s : TypedStatic). IsIn types.now s.object.ty) statics.now }
-    ensures { IfOk result (λ found. map {A = BlockStatic} static_of found.items ≡ map (typed.static_of types.now) statics.now) }
+    ensures { IfOk result (λ found. map {A = BlockStatic} static_of found.items
+        ≡ map (typed.static_of types.now) statics.now) }
 {
     let mut found = Vec::new(alloc);
     for object in statics {
@@ -45,7 +46,8 @@ fn lower_static(
 }
 
 fn lower_values(alloc: Global, values: &[Constant]) -> Result<Vec<im_block::Constant>, NoMemory>
-    ensures { (types : Table) → IfOk result (λ found. map {A = BlockConstant} constant found.items ≡ map {A = TypedConstant} (typed.first_of types) values.now) }
+    ensures { (types : Table) → IfOk result (λ found. map {A = BlockConstant} constant found.items
+        ≡ map {A = TypedConstant} (typed.first_of types) values.now) }
 {
     let mut found = Vec::new(alloc);
     for value in values {

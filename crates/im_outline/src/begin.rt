@@ -21,7 +21,8 @@ fn with_entity(
     entity: Entity,
     entries: Vec<Entry>,
 ) -> Result<Vec<Entry>, Stop>
-    ensures { MatchResult result (λ v. scopes_of v.items ≡ s.named name.now (entity_of entity) (scopes_of entries.items)) IsNoRule }
+    ensures { MatchResult result (λ v. scopes_of v.items
+        ≡ s.named name.now (entity_of entity) (scopes_of entries.items)) IsNoRule }
 {
     let mut entries = entries;
     let kept = Vec::from_slice(alloc, name)?;
@@ -35,7 +36,8 @@ fn with_type(
     ty: Integer,
     entries: Vec<Entry>,
 ) -> Result<Vec<Entry>, Stop>
-    ensures { MatchResult result (λ v. scopes_of v.items ≡ f.predeclared_type name.now ty (scopes_of entries.items)) IsNoRule }
+    ensures { MatchResult result (λ v. scopes_of v.items
+        ≡ f.predeclared_type name.now ty (scopes_of entries.items)) IsNoRule }
 {
     with_entity(
         alloc,

@@ -49,7 +49,8 @@ fn is_named(item: &Item, name: &[u8]) -> bool
 }
 
 fn defines_it(item: &Item, name: &[u8]) -> bool
-    ensures { result ≡ (o.defines_an_object (outlined_of item.now) && ty.same_name item.now.name.items name.now) }
+    ensures { result ≡ (o.defines_an_object (outlined_of item.now)
+        && ty.same_name item.now.name.items name.now) }
 {
     defines_object(item) && is_named(item, name)
 }
@@ -67,7 +68,8 @@ fn is_defined(items: &[Item], name: &[u8]) -> bool
 }
 
 fn added(alloc: Global, name: &[u8], done: Vec<Name>) -> Result<Vec<Name>, Stop>
-    ensures { MatchResult result (λ v. map bytes_of v.items ≡ o.added name.now (map bytes_of done.items)) IsNoRule }
+    ensures { MatchResult result (λ v. map bytes_of v.items
+        ≡ o.added name.now (map bytes_of done.items)) IsNoRule }
 {
     let mut done = done;
     if is_among(name, &done) {
@@ -84,7 +86,10 @@ fn with_static(
     item: &Item,
     done: Vec<Name>,
 ) -> Result<Vec<Name>, Stop>
-    ensures { MatchResult result (λ v. (rest : List o.Outlined) → o.objects_among (map outlined_of items.now) (map bytes_of done.items) (outlined_of item.now ∷ rest) ≡ o.objects_among (map outlined_of items.now) (map bytes_of v.items) rest) IsNoRule }
+    ensures { MatchResult result (λ v. (rest : List o.Outlined)
+        → o.objects_among (map outlined_of items.now) (map bytes_of done.items)
+        (outlined_of item.now ∷ rest) ≡ o.objects_among (map outlined_of items.now)
+        (map bytes_of v.items) rest) IsNoRule }
 {
     if is_object(item.sort) && is_defined(items, &item.name) {
         return added(alloc, &item.name, done);
@@ -94,7 +99,8 @@ fn with_static(
 
 /// The defined objects, in the order of their first declaration.
 pub fn statics_among(alloc: Global, items: &[Item]) -> Result<Vec<Name>, Stop>
-    ensures { MatchResult result (λ v. map bytes_of v.items ≡ o.objects_among (map outlined_of items.now) [] (map outlined_of items.now)) IsNoRule }
+    ensures { MatchResult result (λ v. map bytes_of v.items
+        ≡ o.objects_among (map outlined_of items.now) [] (map outlined_of items.now)) IsNoRule }
 {
     let mut done = Vec::new(alloc);
     for item in items {
@@ -104,7 +110,9 @@ pub fn statics_among(alloc: Global, items: &[Item]) -> Result<Vec<Name>, Stop>
 }
 
 fn with_body(alloc: Global, item: &Item, done: Vec<Name>) -> Result<Vec<Name>, Stop>
-    ensures { MatchResult result (λ v. (rest : List o.Outlined) → map bytes_of done.items ++ o.bodies_among (outlined_of item.now ∷ rest) ≡ map bytes_of v.items ++ o.bodies_among rest) IsNoRule }
+    ensures { MatchResult result (λ v. (rest : List o.Outlined) → map bytes_of done.items
+        ++ o.bodies_among (outlined_of item.now ∷ rest) ≡ map bytes_of v.items
+        ++ o.bodies_among rest) IsNoRule }
 {
     let mut done = done;
     if defines_function(item) {
@@ -116,7 +124,8 @@ fn with_body(alloc: Global, item: &Item, done: Vec<Name>) -> Result<Vec<Name>, S
 
 /// The functions with a body, in order.
 pub fn bodies_among(alloc: Global, items: &[Item]) -> Result<Vec<Name>, Stop>
-    ensures { MatchResult result (λ v. map bytes_of v.items ≡ o.bodies_among (map outlined_of items.now)) IsNoRule }
+    ensures { MatchResult result (λ v. map bytes_of v.items
+        ≡ o.bodies_among (map outlined_of items.now)) IsNoRule }
 {
     let mut done = Vec::new(alloc);
     for item in items {

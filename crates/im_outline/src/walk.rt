@@ -20,7 +20,8 @@ use im_terms::Stop;
 use std::alloc::Global;
 
 fn is_extern_word(specifier: &Specifier) -> bool
-    ensures { (rest : t.SpecifierList) → o.is_extern (t.more_specifiers (tree_of specifier.now) rest) ≡ (result || o.is_extern rest) }
+    ensures { (rest : t.SpecifierList) → o.is_extern
+        (t.more_specifiers (tree_of specifier.now) rest) ≡ (result || o.is_extern rest) }
 {
     match &specifier.kind {
         SpecifierKind::Word(SpecifierWord::Extern) => true,
@@ -41,7 +42,8 @@ fn is_extern(specifiers: &[Specifier]) -> bool
 }
 
 fn is_list(specifier: &Specifier) -> bool
-    ensures { (rest : t.SpecifierList) → has_list (t.more_specifiers (tree_of specifier.now) rest) ≡ (result || has_list rest) }
+    ensures { (rest : t.SpecifierList) → has_list (t.more_specifiers (tree_of specifier.now) rest)
+        ≡ (result || has_list rest) }
 {
     match &specifier.kind {
         SpecifierKind::Struct(_, _) => true,
@@ -62,7 +64,9 @@ fn has_member_list(specifiers: &[Specifier]) -> bool
 
 /// The name in a declarator without stars and parentheses.
 pub fn name_in(d: &Declarator) -> Option<&[u8]>
-    ensures { MatchOption result (Unit {0}) (λ x. declarator_of d.now ≡ t.declarator (out-Declarator d.now).at [] (t.name_core x.now) (suffixes_from (out-Declarator d.now).suffixes.items)) }
+    ensures { MatchOption result (Unit {0}) (λ x. declarator_of d.now
+        ≡ t.declarator (out-Declarator d.now).at [] (t.name_core x.now)
+        (suffixes_from (out-Declarator d.now).suffixes.items)) }
 {
     if has_stars(&d.stars) {
         return None;
@@ -74,7 +78,8 @@ pub fn name_in(d: &Declarator) -> Option<&[u8]>
 }
 
 fn is_function_suffix(suffix: &Suffix) -> bool
-    ensures { (rest : t.Suffixes) → has_parameters (o.suffix_or (with_suffix suffix.now.at suffix.now.kind rest) o.bare) ≡ result }
+    ensures { (rest : t.Suffixes) → has_parameters
+        (o.suffix_or (with_suffix suffix.now.at suffix.now.kind rest) o.bare) ≡ result }
 {
     match &suffix.kind {
         SuffixKind::Function(_) => true,
@@ -111,7 +116,14 @@ fn item(
     is_extern: bool,
     is_whole: bool,
 ) -> Result<Item, Stop>
-    ensures { MatchResult result (λ i. outlined_of i ≡ record { name = name.now; sort = sort_of sort; is_extern = is_extern; is_whole = is_whole }) IsNoRule }
+    ensures { MatchResult result (λ i. outlined_of i
+        ≡ record {
+          name = name.now;
+          sort = sort_of sort;
+          is_extern = is_extern;
+          is_whole =
+              is_whole;
+        }) IsNoRule }
 {
     let kept = Vec::from_slice(alloc, name)?;
     Ok(Item {
@@ -138,7 +150,8 @@ fn with_one(
     d: &InitDeclarator,
     items: Vec<Item>,
 ) -> Result<Vec<Item>, Stop>
-    ensures { MatchResult result (λ v. walk_of v.items ≡ behind_one (list_from specifiers.now) d.now (walk_of items.items)) IsNoRule }
+    ensures { MatchResult result (λ v. walk_of v.items
+        ≡ behind_one (list_from specifiers.now) d.now (walk_of items.items)) IsNoRule }
 {
     let Some(name) = name_in(&d.declarator) else {
         return Err(Stop::Memory);
@@ -160,7 +173,9 @@ fn with_declarators(
     declarators: &[InitDeclarator],
     items: Vec<Item>,
 ) -> Result<Vec<Item>, Stop>
-    ensures { MatchResult result (λ v. walk_of v.items ≡ o.with_declarators (list_from specifiers.now) (init_declarators_of declarators.now) (walk_of items.items)) IsNoRule }
+    ensures { MatchResult result (λ v. walk_of v.items
+        ≡ o.with_declarators (list_from specifiers.now) (init_declarators_of declarators.now)
+        (walk_of items.items)) IsNoRule }
 {
     let mut done = items;
     for d in declarators {
@@ -170,7 +185,9 @@ fn with_declarators(
 }
 
 fn with_declaration(alloc: Global, d: &Declaration, items: Vec<Item>) -> Result<Vec<Item>, Stop>
-    ensures { MatchResult result (λ v. walk_of v.items ≡ o.with_external (external_of (External.Declaration d.now)) (walk_of items.items)) IsNoRule }
+    ensures { MatchResult result (λ v. walk_of v.items
+        ≡ o.with_external (external_of (External.Declaration d.now)) (walk_of items.items))
+        IsNoRule }
 {
     if has_member_list(&d.specifiers.items) {
         return Err(Stop::Memory);
@@ -179,7 +196,8 @@ fn with_declaration(alloc: Global, d: &Declaration, items: Vec<Item>) -> Result<
 }
 
 fn with_function(alloc: Global, f: &Function, items: Vec<Item>) -> Result<Vec<Item>, Stop>
-    ensures { MatchResult result (λ v. walk_of v.items ≡ o.with_external (external_of (External.Function f.now)) (walk_of items.items)) IsNoRule }
+    ensures { MatchResult result (λ v. walk_of v.items
+        ≡ o.with_external (external_of (External.Function f.now)) (walk_of items.items)) IsNoRule }
 {
     if has_member_list(&f.specifiers.items) {
         return Err(Stop::Memory);
@@ -192,7 +210,8 @@ fn with_function(alloc: Global, f: &Function, items: Vec<Item>) -> Result<Vec<It
 }
 
 fn with_external(alloc: Global, external: &External, items: Vec<Item>) -> Result<Vec<Item>, Stop>
-    ensures { MatchResult result (λ v. walk_of v.items ≡ o.with_external (external_of external.now) (walk_of items.items)) IsNoRule }
+    ensures { MatchResult result (λ v. walk_of v.items
+        ≡ o.with_external (external_of external.now) (walk_of items.items)) IsNoRule }
 {
     match external {
         External::Declaration(d) => with_declaration(alloc, d, items),

@@ -56,7 +56,8 @@ pub(crate) fn objects_of_statics(
     addresses: &[u32],
 ) -> Result<Vec<Object>, PackFault>
     requires { AreReady statics.now addresses.now }
-    ensures objects { IfOk result (λ objects. objects.items ≡ objects_at statics.now addresses.now) }
+    ensures objects { IfOk result (λ objects. objects.items
+        ≡ objects_at statics.now addresses.now) }
     ensures named { IfOk result (λ _. AreNamed statics.now) }
     ensures fault { IfErr result (λ fault. IsFaultOf statics.now fault) }
 {

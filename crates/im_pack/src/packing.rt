@@ -34,7 +34,8 @@ pub fn pack(
 ) -> Result<Image, PackFault>
     requires well_formed { IsWellFormed unit.now }
     requires room { rooms (objects_of unit.now.statics.items) ≤ statics_capacity }
-    requires places { addresses.now ≡ places_from statics_start (objects_of unit.now.statics.items) }
+    requires places { addresses.now ≡ places_from statics_start
+        (objects_of unit.now.statics.items) }
     requires code { IsLoadable code.now }
     requires some_stack { 256 ≤ stack }
     requires most_stack { stack ≤ stack_capacity }

@@ -17,7 +17,8 @@ pub fn unstarred(stars: &[Star]) -> bool
 
 /// Whether there are no suffixes.
 fn unsuffixed(suffixes: &[Suffix]) -> bool
-    ensures { result ≡ t.unsuffixed (before add_suffix (map suffix_tree suffixes.now) t.no_suffixes) }
+    ensures { result ≡ t.unsuffixed (before add_suffix (map suffix_tree suffixes.now)
+        t.no_suffixes) }
 {
     suffixes.len() == 0
 }

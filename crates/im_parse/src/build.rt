@@ -121,7 +121,8 @@ pub fn conditional(
     chosen: Expression,
     other: Expression,
 ) -> Result<Expression, Stop>
-    ensures { Builds result (t.conditional at (tree_of condition) (tree_of chosen) (tree_of other)) }
+    ensures { Builds result (t.conditional at (tree_of condition) (tree_of chosen)
+        (tree_of other)) }
 {
     let kind = ExpressionKind::Conditional(
         Box::new(alloc, condition)?,

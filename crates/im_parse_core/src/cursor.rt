@@ -11,7 +11,8 @@ use im_word::Word;
 /// The word at this place, and the place behind it.
 pub fn word_at<'a, 'b>(words: &'a [Word<'b>], at: u32) -> Option<(&'a Word<'b>, u32)>
     requires { length words.now < 2 ^ 32 }
-    ensures { MatchOption result (drop at (map shown words.now) ≡ []) (λ found. IsAt (shown found.0.now) (map shown words.now) at found.1) }
+    ensures { MatchOption result (drop at (map shown words.now) ≡ [])
+        (λ found. IsAt (shown found.0.now) (map shown words.now) at found.1) }
 {
     match words.get(at as usize) {
         None => None,
@@ -40,7 +41,8 @@ fn is_keyword(word: &Word, wanted: Keyword) -> bool
 /// The place behind this punctuator, where it stands at this place.
 pub fn after_mark<'b>(words: &[Word<'b>], at: u32, punctuator: Punctuator) -> Option<u32>
     requires { length words.now < 2 ^ 32 }
-    ensures { MatchOption result (head (drop at (map shown words.now)) ≡ Some (mark punctuator) → ⊥) (λ next. IsAt (mark punctuator) (map shown words.now) at next) }
+    ensures { MatchOption result (head (drop at (map shown words.now)) ≡ Some (mark punctuator) → ⊥)
+        (λ next. IsAt (mark punctuator) (map shown words.now) at next) }
 {
     let found = word_at(words, at)?;
     if is_mark(found.0, punctuator) {
@@ -53,7 +55,8 @@ pub fn after_mark<'b>(words: &[Word<'b>], at: u32, punctuator: Punctuator) -> Op
 /// The place behind this keyword, where it stands at this place.
 pub fn after_keyword<'b>(words: &[Word<'b>], at: u32, wanted: Keyword) -> Option<u32>
     requires { length words.now < 2 ^ 32 }
-    ensures { MatchOption result (head (drop at (map shown words.now)) ≡ Some (keyword wanted) → ⊥) (λ next. IsAt (keyword wanted) (map shown words.now) at next) }
+    ensures { MatchOption result (head (drop at (map shown words.now)) ≡ Some (keyword wanted) → ⊥)
+        (λ next. IsAt (keyword wanted) (map shown words.now) at next) }
 {
     let found = word_at(words, at)?;
     if is_keyword(found.0, wanted) {
@@ -66,7 +69,8 @@ pub fn after_keyword<'b>(words: &[Word<'b>], at: u32, wanted: Keyword) -> Option
 /// The name at this place, and the place behind it.
 pub fn name_at<'b>(words: &[Word<'b>], at: u32) -> Option<(&'b [u8], u32)>
     requires { length words.now < 2 ^ 32 }
-    ensures { MatchOption result ((s : List ℕ) → head (drop at (map shown words.now)) ≡ Some (name s) → ⊥) (λ found. IsAt (name found.0.now) (map shown words.now) at found.1) }
+    ensures { MatchOption result ((s : List ℕ) → head (drop at (map shown words.now))
+        ≡ Some (name s) → ⊥) (λ found. IsAt (name found.0.now) (map shown words.now) at found.1) }
 {
     let found = word_at(words, at)?;
     match found.0 {

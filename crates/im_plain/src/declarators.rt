@@ -12,7 +12,8 @@ use crate::parts::{has_name, has_stars, in_parameter, is_typedef, or_else, other
 use im_ctree::{Declarator, InitDeclarator, Parameter, Specifier, Suffix, SuffixKind};
 
 fn first_parameter(parameter: &Parameter) -> Option<u32>
-    ensures { (rest : t.Parameters) → p.other_parameters (with_parameter parameter.now rest) ≡ p.or_else result (p.other_parameters rest) }
+    ensures { (rest : t.Parameters) → p.other_parameters (with_parameter parameter.now rest)
+        ≡ p.or_else result (p.other_parameters rest) }
 {
     or_else(
         first_listed(&parameter.specifiers.items),
@@ -34,7 +35,8 @@ fn first_in_parameters(parameters: &[Parameter]) -> Option<u32>
 
 /// Of the only suffix behind a name.
 fn first_in_suffix(typedef: bool, at: u32, suffix: &Suffix) -> Option<u32>
-    ensures { result ≡ p.other_suffix typedef at (with_suffix suffix.now.at suffix.now.kind t.no_suffixes) }
+    ensures { result ≡ p.other_suffix typedef at
+        (with_suffix suffix.now.at suffix.now.kind t.no_suffixes) }
 {
     match &suffix.kind {
         SuffixKind::Array(_) => Some(at),
@@ -70,7 +72,9 @@ pub fn first_in_declarator(specifiers: &[Specifier], d: &Declarator) -> Option<u
 }
 
 fn first_in_one(specifiers: &[Specifier], d: &InitDeclarator) -> Option<u32>
-    ensures { result ≡ p.or_else (p.other_declarator (list_from specifiers.now) (declarator_of d.now.declarator)) (p.other_initializer (maybe_initializer_of d.now.initializer)) }
+    ensures { result ≡ p.or_else (p.other_declarator (list_from specifiers.now)
+        (declarator_of d.now.declarator)) (p.other_initializer
+        (maybe_initializer_of d.now.initializer)) }
 {
     or_else(
         first_in_declarator(specifiers, &d.declarator),
@@ -79,7 +83,8 @@ fn first_in_one(specifiers: &[Specifier], d: &InitDeclarator) -> Option<u32>
 }
 
 pub fn first_declared(specifiers: &[Specifier], declarators: &[InitDeclarator]) -> Option<u32>
-    ensures { result ≡ p.other_declared (list_from specifiers.now) (init_declarators_of declarators.now) }
+    ensures { result ≡ p.other_declared (list_from specifiers.now)
+        (init_declarators_of declarators.now) }
 {
     for d in declarators {
         match first_in_one(specifiers, d) {

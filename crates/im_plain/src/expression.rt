@@ -116,7 +116,8 @@ fn first_enumerated(enumerators: &[Enumerator]) -> Option<u32>
 
 #[cycle(first)]
 fn first_value(enumerator: &Enumerator) -> Option<u32>
-    ensures { (rest : t.Enumerators) → p.other_enumerators (with_enumerator enumerator.now rest) ≡ p.or_else result (p.other_enumerators rest) }
+    ensures { (rest : t.Enumerators) → p.other_enumerators (with_enumerator enumerator.now rest)
+        ≡ p.or_else result (p.other_enumerators rest) }
 {
     match &enumerator.value {
         None => None,

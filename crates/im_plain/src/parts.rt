@@ -26,7 +26,8 @@ pub fn other_if(holds: bool, at: u32, second: Option<u32>) -> Option<u32>
 }
 
 fn is_typedef_word(specifier: &Specifier) -> bool
-    ensures { (rest : t.SpecifierList) → u.is_typedef (t.more_specifiers (tree_of specifier.now) rest) ≡ (result || u.is_typedef rest) }
+    ensures { (rest : t.SpecifierList) → u.is_typedef
+        (t.more_specifiers (tree_of specifier.now) rest) ≡ (result || u.is_typedef rest) }
 {
     match &specifier.kind {
         SpecifierKind::Word(SpecifierWord::Typedef) => true,
@@ -47,7 +48,8 @@ pub fn is_typedef(specifiers: &[Specifier]) -> bool
 }
 
 fn is_void_word(specifier: &Specifier) -> bool
-    ensures { (rest : t.SpecifierList) → p.has_void (t.more_specifiers (tree_of specifier.now) rest) ≡ (result || p.has_void rest) }
+    ensures { (rest : t.SpecifierList) → p.has_void (t.more_specifiers (tree_of specifier.now) rest)
+        ≡ (result || p.has_void rest) }
 {
     match &specifier.kind {
         SpecifierKind::Word(SpecifierWord::Void) => true,
@@ -117,7 +119,8 @@ pub fn in_abstract(declarator: &Option<Box<Declarator>>) -> Option<u32>
 
 /// A parameter's declarator.
 pub fn in_parameter(specifiers: &[Specifier], declarator: &Option<Box<Declarator>>) -> Option<u32>
-    ensures { result ≡ p.other_parameter (list_from specifiers.now) (declarator_from declarator.now) }
+    ensures { result ≡ p.other_parameter (list_from specifiers.now)
+        (declarator_from declarator.now) }
 {
     match declarator {
         None => None,

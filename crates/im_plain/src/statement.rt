@@ -23,7 +23,8 @@ fn first_optional(e: &Option<Expression>) -> Option<u32>
 }
 
 fn first_local(d: &InitDeclarator) -> Option<u32>
-    ensures { result ≡ p.or_else (p.unless_name (declarator_of d.now.declarator)) (p.other_initializer (maybe_initializer_of d.now.initializer)) }
+    ensures { result ≡ p.or_else (p.unless_name (declarator_of d.now.declarator))
+        (p.other_initializer (maybe_initializer_of d.now.initializer)) }
 {
     or_else(
         unless_name(&d.declarator),
@@ -67,7 +68,9 @@ fn first_in_head(
     step: &Option<Expression>,
     body: Option<u32>,
 ) -> Option<u32>
-    ensures { result ≡ p.or_else (p.other_first (for_init_of init.now)) (p.or_else (p.other_maybe (optional_expression_of test.now)) (p.or_else (p.other_maybe (optional_expression_of step.now)) body)) }
+    ensures { result ≡ p.or_else (p.other_first (for_init_of init.now))
+        (p.or_else (p.other_maybe (optional_expression_of test.now))
+        (p.or_else (p.other_maybe (optional_expression_of step.now)) body)) }
 {
     let behind = or_else(first_optional(test), or_else(first_optional(step), body));
     or_else(first_in_init(init), behind)
@@ -118,7 +121,8 @@ pub fn first_in_block(items: &[BlockItem]) -> Option<u32>
 
 #[cycle(first)]
 fn first_in_item(item: &BlockItem) -> Option<u32>
-    ensures { (rest : t.BlockItems) → p.other_items (with_item item.now rest) ≡ p.or_else result (p.other_items rest) }
+    ensures { (rest : t.BlockItems) → p.other_items (with_item item.now rest)
+        ≡ p.or_else result (p.other_items rest) }
 {
     match item {
         BlockItem::Declaration(d) => first_in_declaration(d),

@@ -12,7 +12,8 @@ use crate::statement::first_in_block;
 use im_ctree::{Declaration, External, Function, Specifier, Tree};
 
 fn names_void(specifiers: &[Specifier]) -> bool
-    ensures { result ≡ (u.is_typedef (list_from specifiers.now) && p.has_void (list_from specifiers.now)) }
+    ensures { result ≡ (u.is_typedef (list_from specifiers.now)
+        && p.has_void (list_from specifiers.now)) }
 {
     is_typedef(specifiers) && has_void(specifiers)
 }

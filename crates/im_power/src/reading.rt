@@ -20,7 +20,8 @@ struct Tally {
 /// Adds what a line says, which has this number.
 fn add(tally: &mut Tally, said: Line, line: u64) -> Result<(), TraceFault>
     ensures right { OnOk result (first_fault line (said ∷ []) ≡ None) }
-    ensures periods { OnOk result (tally.new.periods.items ≡ tally.old.periods.items ++ periods_of (said ∷ [])) }
+    ensures periods { OnOk result (tally.new.periods.items ≡ tally.old.periods.items
+        ++ periods_of (said ∷ [])) }
     ensures repeats { OnOk result
         (tally.new.repeats ≡ min (tally.old.repeats + repeats_of (periods_of (said ∷ []))) (2 ^ 64 - 1)) }
     ensures wrong { IfErr result (λ fault. IsFaultOf fault (first_fault line (said ∷ []))) }

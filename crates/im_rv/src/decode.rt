@@ -223,7 +223,8 @@ fn store_format(op: Op, w: u32) -> Instr
 }
 
 fn branch_offset(w: u32) -> u32
-    ensures value { result ≡ bits w 31 1 * 4096 + bits w 7 1 * 2048 + bits w 25 6 * 32 + bits w 8 4 * 2 }
+    ensures value { result ≡ bits w 31 1 * 4096 + bits w 7 1 * 2048 + bits w 25 6 * 32 + bits w 8 4
+        * 2 }
     ensures below { result < 8192 }
     ensures even { result % 2 ≡ 0 }
 {
@@ -257,7 +258,8 @@ fn upper_format(op: Op, w: u32) -> Instr
 }
 
 fn jump_offset(w: u32) -> u32
-    ensures value { result ≡ bits w 31 1 * 1048576 + bits w 12 8 * 4096 + bits w 20 1 * 2048 + bits w 21 10 * 2 }
+    ensures value { result ≡ bits w 31 1 * 1048576 + bits w 12 8 * 4096 + bits w 20 1 * 2048 + bits
+        w 21 10 * 2 }
     ensures below { result < 2097152 }
     ensures even { result % 2 ≡ 0 }
 {

@@ -73,8 +73,10 @@ fn extend(v: u32, size: u32, extension: Extension) -> u32
 fn apply<M: Memory>(regs: &mut Regs, memory: &mut M, rd: u8, effect: Effect) -> Went
     requires { rd < 32 }
     ensures went { result ≡ (effected (cpu_of regs.old) (M.bytes memory.old) rd effect).went }
-    ensures cpu { cpu_of regs.new ≡ (effected (cpu_of regs.old) (M.bytes memory.old) rd effect).cpu }
-    ensures mem { M.bytes memory.new ≡ (effected (cpu_of regs.old) (M.bytes memory.old) rd effect).mem }
+    ensures cpu { cpu_of regs.new ≡ (effected (cpu_of regs.old) (M.bytes memory.old) rd
+        effect).cpu }
+    ensures mem { M.bytes memory.new ≡ (effected (cpu_of regs.old) (M.bytes memory.old) rd
+        effect).mem }
 {
     let next = regs.pc.wrapping_add(4);
     match effect {
@@ -119,7 +121,8 @@ fn apply<M: Memory>(regs: &mut Regs, memory: &mut M, rd: u8, effect: Effect) -> 
 pub(crate) fn effect_of(regs: &Regs, i: &Instr) -> Effect
     requires rs1 { i.now.rs1 < 32 }
     requires rs2 { i.now.rs2 < 32 }
-    ensures { let c = cpu_of regs.now in result ≡ row i.now.op c.pc (c.x i.now.rs1) (c.x i.now.rs2) (word i.now.imm) }
+    ensures { let c = cpu_of regs.now in result
+        ≡ row i.now.op c.pc (c.x i.now.rs1) (c.x i.now.rs2) (word i.now.imm) }
 {
     row_of(
         i.op,
@@ -134,9 +137,12 @@ fn perform<M: Memory>(regs: &mut Regs, memory: &mut M, i: &Instr) -> Went
     requires rd { i.now.rd < 32 }
     requires rs1 { i.now.rs1 < 32 }
     requires rs2 { i.now.rs2 < 32 }
-    ensures went { result ≡ (done_by (cpu_of regs.old) (M.bytes memory.old) i.now.op i.now.rd i.now.rs1 i.now.rs2 (word i.now.imm)).went }
-    ensures cpu { cpu_of regs.new ≡ (done_by (cpu_of regs.old) (M.bytes memory.old) i.now.op i.now.rd i.now.rs1 i.now.rs2 (word i.now.imm)).cpu }
-    ensures mem { M.bytes memory.new ≡ (done_by (cpu_of regs.old) (M.bytes memory.old) i.now.op i.now.rd i.now.rs1 i.now.rs2 (word i.now.imm)).mem }
+    ensures went { result ≡ (done_by (cpu_of regs.old) (M.bytes memory.old) i.now.op i.now.rd
+        i.now.rs1 i.now.rs2 (word i.now.imm)).went }
+    ensures cpu { cpu_of regs.new ≡ (done_by (cpu_of regs.old) (M.bytes memory.old) i.now.op
+        i.now.rd i.now.rs1 i.now.rs2 (word i.now.imm)).cpu }
+    ensures mem { M.bytes memory.new ≡ (done_by (cpu_of regs.old) (M.bytes memory.old) i.now.op
+        i.now.rd i.now.rs1 i.now.rs2 (word i.now.imm)).mem }
 {
     let effect = effect_of(regs, i);
     apply(regs, memory, i.rd, effect)

@@ -112,7 +112,8 @@ pub fn chosen(alloc: Global, test: Value, x: Value, y: Value) -> Result<Value, S
 
 /// The value of a cast (C11 6.5.4).
 pub fn casted(alloc: Global, ty: PlainType, x: Value) -> Result<Value, Stop>
-    ensures { MatchResult result (λ r. value_from r ≡ c.casted (type_of ty) (value_from x)) IsNoRule }
+    ensures { MatchResult result (λ r. value_from r ≡ c.casted (type_of ty) (value_from x))
+        IsNoRule }
 {
     match ty {
         PlainType::Integer(i) => as_integer(alloc, i, x),

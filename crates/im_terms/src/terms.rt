@@ -30,7 +30,8 @@ fn refused(number: u32, token: u32) -> Stop
 
 /// `sizeof` of a type (C11 6.5.3.4).
 pub fn size_term(at: u32, ty: PlainType) -> Result<Term, Stop>
-    ensures { IsMade (d.size_asks [] (type_of ty)) (r.value (c.measured [] (type_of ty))) at result }
+    ensures { IsMade (d.size_asks [] (type_of ty)) (r.value (c.measured [] (type_of ty))) at
+        result }
 {
     match ty {
         PlainType::Void => Err(refused(33, at)),

@@ -22,7 +22,8 @@ pub fn digits_value(digits: &[u8], radix: u32) -> Option<u32>
     requires lower_bound { 2 ≤ radix }
     requires upper_bound { radix ≤ 36 }
     requires digits { All (IsDigitOf radix) digits.now }
-    ensures { SomeIff result (digits_value radix digits.now < 2 ^ 32) (digits_value radix digits.now) }
+    ensures { SomeIff result (digits_value radix digits.now < 2 ^ 32)
+        (digits_value radix digits.now) }
 {
     let mut value: u32 = 0;
     for digit in digits {
@@ -36,7 +37,8 @@ fn with_digit(value: u32, digit: u8, radix: u32) -> Option<u32>
     requires lower_bound { 2 ≤ radix }
     requires upper_bound { radix ≤ 36 }
     requires digit { IsDigitOf radix digit }
-    ensures { SomeIff result (radix * value + digit_value digit < 2 ^ 32) (radix * value + digit_value digit) }
+    ensures { SomeIff result (radix * value + digit_value digit < 2 ^ 32)
+        (radix * value + digit_value digit) }
 {
     let digit = char::from(digit).to_digit(radix)?;
     radix.checked_mul(value)?.checked_add(digit)

@@ -33,7 +33,8 @@ pub fn need(func: &Func) -> u64
 
 /// The bytes of objects in a frame, each in whole words and with an unused word behind it.
 fn objects_bytes(objects: &[Object]) -> u64
-    ensures { (types : Table) → result ≡ min (sum_by slot_bytes (map (object_of types) objects.now)) (2 ^ 64 - 1) }
+    ensures { (types : Table) → result ≡ min (sum_by slot_bytes (map (object_of types) objects.now))
+        (2 ^ 64 - 1) }
 {
     let mut total: u64 = 0;
     for object in objects {
@@ -84,7 +85,8 @@ fn node_over(left: u64, right: u64) -> u64
 
 #[cycle(nodes)]
 fn count_expression(expression: &Expr) -> u64
-    ensures { (types : Table) → result ≡ min (expr_nodes (expr_of types expression.now)) (2 ^ 64 - 1) }
+    ensures { (types : Table) → result ≡ min (expr_nodes (expr_of types expression.now))
+        (2 ^ 64 - 1) }
 {
     match expression {
         Expr::Number(_, _) | Expr::Null | Expr::Getchar => 1,
@@ -125,7 +127,8 @@ fn count_expression(expression: &Expr) -> u64
 
 #[cycle(nodes)]
 fn count_arguments(expressions: &[Expr]) -> u64
-    ensures { (types : Table) → result ≡ min (sum_by (λ e. expr_nodes (expr_of types e)) expressions.now) (2 ^ 64 - 1) }
+    ensures { (types : Table) → result ≡ min (sum_by (λ e. expr_nodes (expr_of types e))
+        expressions.now) (2 ^ 64 - 1) }
 {
     let mut total: u64 = 0;
     for expression in expressions {
@@ -135,7 +138,8 @@ fn count_arguments(expressions: &[Expr]) -> u64
 }
 
 fn count_pieces(pieces: &[Piece]) -> u64
-    ensures { (types : Table) → result ≡ min (sum_by piece_nodes (map (piece_of types) pieces.now)) (2 ^ 64 - 1) }
+    ensures { (types : Table) → result ≡ min (sum_by piece_nodes (map (piece_of types) pieces.now))
+        (2 ^ 64 - 1) }
 {
     let mut total: u64 = 0;
     for piece in pieces {
@@ -145,7 +149,8 @@ fn count_pieces(pieces: &[Piece]) -> u64
 }
 
 fn count_result(value: &Option<Expr>) -> u64
-    ensures { (types : Table) → result ≡ min (optional_nodes (option_map (expr_of types) value.now)) (2 ^ 64 - 1) }
+    ensures { (types : Table) → result ≡ min (optional_nodes (option_map (expr_of types) value.now))
+        (2 ^ 64 - 1) }
 {
     match value {
         None => 0,
@@ -162,7 +167,8 @@ fn count_labels(cases: &[Case]) -> u64
 
 #[cycle(statements)]
 fn count_statement(statement: &Stmt) -> u64
-    ensures { (types : Table) → result ≡ min (stmt_nodes (stmt_of types statement.now)) (2 ^ 64 - 1) }
+    ensures { (types : Table) → result ≡ min (stmt_nodes (stmt_of types statement.now))
+        (2 ^ 64 - 1) }
 {
     match statement {
         Stmt::Forget(_) | Stmt::Break | Stmt::Continue => 1,
@@ -201,7 +207,8 @@ fn count_statement(statement: &Stmt) -> u64
 
 #[cycle(statements)]
 fn count_block(statements: &[Stmt]) -> u64
-    ensures { (types : Table) → result ≡ min (sum_by (λ s. stmt_nodes (stmt_of types s)) statements.now) (2 ^ 64 - 1) }
+    ensures { (types : Table) → result ≡ min (sum_by (λ s. stmt_nodes (stmt_of types s))
+        statements.now) (2 ^ 64 - 1) }
 {
     let mut total: u64 = 0;
     for statement in statements {

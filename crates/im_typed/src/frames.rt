@@ -35,7 +35,8 @@ impl Frames {
 
     /// The bytes of the frames of these functions, in their order.
     pub fn sizes(&self, alloc: Global, funcs: &[Func]) -> Result<Vec<u32>, NoMemory>
-        ensures { IfOk result (λ sizes. (types : Table) → sizes.items ≡ sizes_in self.now.frames.items (map (func_of types) funcs.now)) }
+        ensures { IfOk result (λ sizes. (types : Table) → sizes.items
+            ≡ sizes_in self.now.frames.items (map (func_of types) funcs.now)) }
     {
         let mut sizes = Vec::new(alloc);
         for func in funcs {

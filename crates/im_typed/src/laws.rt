@@ -47,7 +47,8 @@ pub fn end_law()
 
 /// Programs with a static, a struct, pointers, a recursion and output are well typed.
 pub fn well_typed_examples()
-    ensures recursion { (depth stack : ℕ) → depth < 2 ^ 31 → IsWellTyped (recurses depth stack).prog }
+    ensures recursion { (depth stack : ℕ) → depth < 2 ^ 31
+        → IsWellTyped (recurses depth stack).prog }
     ensures structs { IsWellTyped (reads_struct 2).prog }
     ensures output { IsWellTyped writes_twice.prog }
 {}

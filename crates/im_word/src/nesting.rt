@@ -132,7 +132,8 @@ impl Levels {
 
     fn close(&mut self)
         requires { IsTallied self.old }
-        ensures levels { levels_of self.new ≡ levels_behind Role.Closes Role.Neutral (levels_of self.old) }
+        ensures levels { levels_of self.new ≡ levels_behind Role.Closes Role.Neutral
+            (levels_of self.old) }
         ensures tallied { IsTallied self.new }
         ensures weight { self.new.weight ≤ self.old.weight }
     {
@@ -146,7 +147,8 @@ impl Levels {
     fn read(&mut self, word: Role, next: Role) -> Result<(), NoMemory>
         requires tallied { IsTallied self.old }
         requires shallow { depth (levels_of self.old) ≤ 200 }
-        ensures levels { OnOk result (levels_of self.new ≡ levels_behind word next (levels_of self.old)) }
+        ensures levels { OnOk result (levels_of self.new
+            ≡ levels_behind word next (levels_of self.old)) }
         ensures tallied { OnOk result (IsTallied self.new) }
         ensures shallow { OnOk result (self.new.weight ≤ 201) }
     {
@@ -175,7 +177,8 @@ fn role_at(words: &[Word], i: usize) -> Role
 
 /// The first word whose nesting is over the limit.
 pub fn first_too_deep(alloc: Global, words: &[Word]) -> Result<Option<usize>, NoMemory>
-    ensures { IfOk result (λ found. MatchOption found (NoneOver NESTING_LIMIT (map shown words.now)) (λ place. IsFirstOver NESTING_LIMIT (map shown words.now) place)) }
+    ensures { IfOk result (λ found. MatchOption found (NoneOver NESTING_LIMIT (map shown words.now))
+        (λ place. IsFirstOver NESTING_LIMIT (map shown words.now) place)) }
 {
     let mut levels = Levels::new(alloc);
     for i in 0..words.len() {

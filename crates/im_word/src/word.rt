@@ -49,7 +49,8 @@ fn is_text(text: &[u8]) -> bool
 pub fn word_of<'a>(alloc: Global, source: &'a [u8], token: &Token) -> Result<Word<'a>, NoMemory>
     requires ordered { token.now.span.0 ≤ token.now.span.1 }
     requires within { token.now.span.1 ≤ length source.now }
-    ensures { let text = slice_range source.now token.now.span.0 token.now.span.1 in IfOk result (λ word. IsWordOf token.now.kind text (shown word)) }
+    ensures { let text = slice_range source.now token.now.span.0 token.now.span.1 in IfOk result
+        (λ word. IsWordOf token.now.kind text (shown word)) }
 {
     let text = token.text(source);
     match token.kind {
