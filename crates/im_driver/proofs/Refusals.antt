@@ -1,5 +1,5 @@
 -- Refusals of the driver's steps are refusals of the source.
-use Rattle.std.proofs.Common.{◌≡◌, ◌⊎◌, inl, inr, ℕ, ◌<◌, List, Err, refl, arith}
+use Rattle.std.proofs.Common.{◌≡◌, ◌⊎◌, inl, inr, ℕ, List, Err, refl}
 use Rattle.im_fault.specs.declared.fault.LineFault.{LineFault}
 use Rattle.im_fault.specs.declared.fault.LineFault.TheVariants.{BadByte, OpenComment, OpenLiteral, BadEscape, BadNumber, BadDirective, Syntax, Nesting, Rule}
 use Rattle.im_fault.specs.declared.fault.Quantity.{Quantity}
@@ -52,7 +52,7 @@ check_refused source tokens tree (check.NotYet token) is_tree h = inl (record { 
 check_refused source tokens tree check.OutOfMemory is_tree h = tt
 
 pub made_refused : (source : List ℕ) (made : Prog) (fault : CompileFault) → IsProgramOf source (program_of made) → IsFaultOf made fault → IsRefused source (of_compile fault)
-made_refused source made (compile.Frame function bytes) p h = record { prog = program_of made; program = p; over = h.frame.large }
-made_refused source made (compile.Code bytes) p h = record { prog = program_of made; program = p; over = (let told = h.told in let large = h.large in omega arith) }
+made_refused source made (compile.Frame function bytes) p h = record { made = made; program = p; large = (function, h) }
+made_refused source made (compile.Code bytes) p h = record { made = made; program = p; large = h }
 made_refused source made (compile.Unnamed number) p h = inr (record { made = made; program = p; number = number; unnamed = h })
 made_refused source made compile.OutOfMemory p h = tt

@@ -1,12 +1,11 @@
 -- What is compiled of a source, and why it is refused.
-use Rattle.std.specs.Prelude.{◌≡◌, ◌⊎◌, ◌<◌, ◌≤◌, ℕ, ◌+◌, List, length, Ok, Some}
+use Rattle.std.specs.Prelude.{◌≡◌, ◌⊎◌, ◌≤◌, ℕ, ◌+◌, List, length, Ok, Some}
 use Rattle.im_fault.specs.declared.fault.LineFault.{LineFault}
 use Rattle.im_fault.specs.declared.fault.LineFault.TheVariants.{BadByte, OpenComment, OpenLiteral, BadEscape, BadNumber, BadDirective, Syntax, Nesting, Rule}
 use Rattle.im_fault.specs.declared.fault.Quantity.{Quantity}
 use Rattle.im_fault.specs.declared.fault.Quantity.TheVariants.{Source, Parameters, Size, Statics, Frame, Code}
 use Rattle.im_fault.specs.declared.fault.SourceFault.{SourceFault}
 use Rattle.im_fault.specs.declared.fault.SourceFault.TheVariants.{Line, Limit, NotYet, OutOfMemory}
-use Rattle.im_fault.specs.Texts.{limit_of}
 use Rattle.im_tok.specs.declared.token.Token.{Token}
 use Rattle.im_lex.specs.Lexing.{Lexes}
 use Rattle.im_ctree.specs.declared.unit.Tree.{Tree}
@@ -20,7 +19,7 @@ use Rattle.im_rules.specs.TypedUnit.{TypedUnit}
 use Rattle.im_rules.specs.UnitBreaks.{UnitBroken}
 use Rattle.im_rule_limits.specs.Limits as limits
 use Rattle.im_plain.specs.Plain.{other_unit}
-use Rattle.im_compile.specs.Faults.{HasUnnamed}
+use Rattle.im_compile.specs.Faults.{HasLargeFrame, HasLargeCode, HasUnnamed}
 use Rattle.im_image.specs.Contents.{ImageValue}
 use Rattle.im_gap.specs.Gap.{recovery_steps}
 use Rattle.im_source.specs.Laws.{ProgramKeeps}
@@ -63,11 +62,11 @@ pub record IsExceeded (source : List ℕ) (limit : limits.Limit) (count : ℕ) :
   pub is_tree : IsTreeOf source tokens tree
   pub exceeds : limits.Exceeds (tree_of tree) limit count
 
--- a quantity of what is made of the source's program
-pub record IsMadeTooLarge (source : List ℕ) (quantity : Quantity) (count : ℕ) : Type 0 where
-  pub prog : Prog
-  pub program : IsProgramOf source prog
-  pub over : limit_of quantity < count
+-- what is made of the source's program is larger than it may be
+pub record IsMadeTooLarge (source : List ℕ) (is_large : MadeProgram → Type 0) : Type 0 where
+  pub made : MadeProgram
+  pub program : IsProgramOf source (program_of made)
+  pub large : is_large made
 
 abbrev pub IsLineRefused : List ℕ → ℕ → LineFault → Type 0
 IsLineRefused source line (Rule number) = IsRuleBroken source line number
@@ -78,8 +77,8 @@ IsLimitRefused source Source count = IsOver source Source count
 IsLimitRefused source Parameters count = IsExceeded source limits.of_parameters count
 IsLimitRefused source Size count = IsExceeded source limits.of_size count
 IsLimitRefused source Statics count = IsExceeded source limits.of_statics count
-IsLimitRefused source Frame count = IsMadeTooLarge source Frame count
-IsLimitRefused source Code count = IsMadeTooLarge source Code count
+IsLimitRefused source Frame count = IsMadeTooLarge source (λ made. (function : ℕ) × HasLargeFrame made function count)
+IsLimitRefused source Code count = IsMadeTooLarge source (λ made. HasLargeCode made count)
 
 -- the source's tree has a node that no plain tree has
 pub record IsNotPlain (source : List ℕ) : Type 0 where

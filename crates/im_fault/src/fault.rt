@@ -46,7 +46,8 @@ pub enum SourceFault {
     Line { line: u32, why: LineFault },
     /// A quantity over its limit, and how much there is.
     Limit { quantity: Quantity, count: u64 },
-    /// The source has pointers, arrays, structs or strings, which aren't compiled yet.
+    /// The source isn't compiled yet: it has pointers, arrays, structs or strings, a declarator in parentheses, or a
+    /// typedef of `void` or of a function type.
     NotYet,
     /// Memory ran out.
     OutOfMemory,
