@@ -234,9 +234,14 @@ abbrev pub all_named : t.Parameters → Bool
 all_named t.no_parameters = true
 all_named (t.more_parameters s d ps) = parameter_is_named d && all_named ps
 
--- the type of what is declared, and its parameters as they are written, where they aren't one unnamed void
+-- a function without parameters: none is written, or one unnamed void (C11 6.7.6.3p10)
+abbrev pub takes_nothing : CType → Bool
+takes_nothing (function r no_types) = true
+takes_nothing a = false
+
+-- the type of what is declared, and its parameters as they are written
 abbrev pub rule_11 : CType → t.Parameters → Bool
-rule_11 a ps = is_function a && (rule_9_void ps || all_named ps)
+rule_11 a ps = is_function a && (takes_nothing a || all_named ps)
 
 -- 12 (C11 6.9p5). A function that is called and an object that is used are defined in the unit; `getchar` and `putchar`
 -- have their types and no body.
