@@ -1,0 +1,4 @@
+pub mod Again
+pub mod Fit
+pub mod Printed
+pub mod Unnumbered
