@@ -14,9 +14,9 @@ use Rattle.im_printed.specs.Printed as w
 use Rattle.im_printed.specs.Unnumbered as bare
 use Rattle.im_printed.specs.Fit.{IsFit, AreFit}
 use Rattle.im_printed.proofs.Fit.{fit_append, fit_left, fit_right, fit_inner, fit_closed, Printed}
-use Rattle.im_printed.proofs.Bare.{adds_again, has_again}
-use Rattle.im_printed.proofs.Nodes.{Prints, in_expression, in_assignment, in_conditional, prints_identifier, prints_number, prints_character, prints_text, prints_index, prints_call, prints_member, prints_arrow, prints_post_step, prints_pre_step, prints_unary, prints_sizeof, prints_sizeof_type, prints_cast, prints_binary, prints_conditional, prints_assign, prints_comma}
-use Rattle.im_printed.proofs.Declarators.{SuffixParts, no_part, array_part, function_part, Parts, a_named, a_kept, AbstractParts, nothing_named, inner_kept, assembled, abstract_assembled, parts_around, abstract_around, first_printed, first_free, led, named_free, suffixed, abstract_starred}
+use Rattle.im_printed.proofs.Rows.{arguments_node, argument_tail_node, specifiers_node, specifier_tail_node, struct_node, named_struct_node, enum_node, named_enum_node, members_node, member_tail_node, declarator_tail_node, enumerators_node, value_node, enumerator_tail_node, length_node, AgainParameter, parameters_node, parameter_tail_node, named_parameter_node, other_parameter_node, type_name_node, maybe_abstract_node}
+use Rattle.im_printed.proofs.Nodes.{Prints, prints_identifier, prints_number, prints_character, prints_text, prints_index, prints_call, prints_member, prints_arrow, prints_post_step, prints_pre_step, prints_unary, prints_sizeof, prints_sizeof_type, prints_cast, prints_binary, prints_conditional, prints_assign, prints_comma}
+use Rattle.im_printed.proofs.Declarators.{SuffixParts, no_part, array_part, function_part, Parts, a_named, a_kept, AbstractParts, nothing_named, inner_kept, parts_around, abstract_around, led, suffixed, abstract_starred}
 
 joined_fit : {s : Name} {u : List Word} → g.IsJoinedText s u → AreFit u → IsFit (text s)
 joined_fit (g.last_text s) f = f.0
@@ -34,11 +34,6 @@ keyword_is word.Int = op.int
 keyword_is word.Long = op.long
 keyword_is word.Signed = op.signed
 keyword_is word.Unsigned = op.unsigned
-
--- a parameter, by its two parts
-record AgainParameter (T : List Name) (s : t.Specifiers) (d : t.MaybeDeclarator) (u : List Word) : Type 0 where
-  fit : AreFit u
-  derives : (q : ℕ) → (again : t.Specifiers) × (behind : t.MaybeDeclarator) × (bare.specifiers again ≡ bare.specifiers s) × (bare.maybe_declarator behind ≡ bare.maybe_declarator d) × g.IsParameter T q again behind u
 
 mutual
   pub prints_expression : {T : List Name} {p : ℕ} {e : t.Expression} {u : List Word} → g.IsExpression T p e u → AreFit u → Prints T e
@@ -94,21 +89,11 @@ mutual
 
   prints_arguments : {T : List Name} {p : ℕ} {bs : t.Expressions} {u : List Word} → g.IsArguments T p bs u → AreFit u → Printed bare.expressions (g.IsArguments T) bs (w.arguments T bs)
   prints_arguments g.no_argument f = record { fit = tt; derives = λ q. (t.no_expressions, refl, g.no_argument) }
-  prints_arguments {T = T} (g.first_argument {a = a} {as' = bs} {u = u} {v = v} x rest) f =
-      let one = in_assignment _ _ (prints_assignment x (fit_left u v f)) in
-      let two = prints_argument_tail rest (fit_right u v f) in
-      let s = w.at_binding 1 a (w.expression T a) in
-      record { fit = fit_append s (w.argument_tail T bs) one.fit two.fit;
-        derives = λ q. let y = one.derives q in let z = two.derives (q + length s) in (t.more_expressions y.0 z.0, cc (y.1, z.1), g.first_argument y.2 z.2) }
+  prints_arguments (g.first_argument {u = u} {v = v} x rest) f = arguments_node (prints_assignment x (fit_left u v f)) (prints_argument_tail rest (fit_right u v f))
 
   prints_argument_tail : {T : List Name} {p : ℕ} {bs : t.Expressions} {u : List Word} → g.ArgumentTail T p bs u → AreFit u → Printed bare.expressions (g.ArgumentTail T) bs (w.argument_tail T bs)
   prints_argument_tail g.last_argument f = record { fit = tt; derives = λ q. (t.no_expressions, refl, g.last_argument) }
-  prints_argument_tail {T = T} (g.next_argument {a = a} {as' = bs} {u = u} {v = v} x rest) f =
-      let one = in_assignment _ _ (prints_assignment x (fit_left u v f.1)) in
-      let two = prints_argument_tail rest (fit_right u v f.1) in
-      let s = w.at_binding 1 a (w.expression T a) in
-      record { fit = (tt, fit_append s (w.argument_tail T bs) one.fit two.fit);
-        derives = λ q. let y = one.derives (suc q) in let z = two.derives (suc q + length s) in (t.more_expressions y.0 z.0, cc (y.1, z.1), g.next_argument y.2 z.2) }
+  prints_argument_tail (g.next_argument {u = u} {v = v} x rest) f = argument_tail_node (prints_assignment x (fit_left u v f.1)) (prints_argument_tail rest (fit_right u v f.1))
 
   prints_primary : {T : List Name} {p : ℕ} {e : t.Expression} {u : List Word} → g.IsPrimary T p e u → AreFit u → Prints T e
   prints_primary {p = p} (g.an_identifier n free) f = prints_identifier p n free f.0
@@ -118,93 +103,47 @@ mutual
   prints_primary (g.grouped {u = u} x) f = prints_expression x (fit_inner u (mark CloseParen) f.1)
 
   pub prints_specifiers : {T : List Name} {p : ℕ} {s : t.Specifiers} {u : List Word} → g.IsSpecifiers T p s u → AreFit u → Printed bare.specifiers (g.IsSpecifiers T) s (w.specifiers T s)
-  prints_specifiers {T = T} (g.first_specifier {x = x} {xs = xs} {u = u} {v = v} one rest) f =
-      let a = prints_specifier one (fit_left u v f) in
-      let b = prints_specifier_tail rest (fit_right u v f) in
-      record { fit = fit_append (w.specifier T x) (w.specifier_list T xs) a.fit b.fit;
-        derives = λ q. let y = a.derives q in let z = b.derives (q + length (w.specifier T x)) in
-          (t.specifiers q (t.more_specifiers y.0 z.0), cc (y.1, z.1),
-            g.first_specifier y.2 (subst (λ k. g.SpecifierTail T k (q + length (w.specifier T x)) z.0 (w.specifier_list T xs)) (sym (adds_again false x y.0 y.1)) z.2)) }
+  prints_specifiers {p = p} (g.first_specifier {u = u} {v = v} one rest) f = specifiers_node p (prints_specifier one (fit_left u v f)) (prints_specifier_tail rest (fit_right u v f))
 
   prints_specifier_tail : {T : List Name} {a : Bool} {p : ℕ} {xs : t.SpecifierList} {u : List Word} → g.SpecifierTail T a p xs u → AreFit u → Printed bare.specifier_list (g.SpecifierTail T a) xs (w.specifier_list T xs)
   prints_specifier_tail g.last_specifier f = record { fit = tt; derives = λ q. (t.no_specifiers, refl, g.last_specifier) }
-  prints_specifier_tail {T = T} {a = before} (g.next_specifier {x = x} {xs = xs} {u = u} {v = v} one rest) f =
-      let a = prints_specifier one (fit_left u v f) in
-      let b = prints_specifier_tail rest (fit_right u v f) in
-      record { fit = fit_append (w.specifier T x) (w.specifier_list T xs) a.fit b.fit;
-        derives = λ q. let y = a.derives q in let z = b.derives (q + length (w.specifier T x)) in
-          (t.more_specifiers y.0 z.0, cc (y.1, z.1),
-            g.next_specifier y.2 (subst (λ k. g.SpecifierTail T k (q + length (w.specifier T x)) z.0 (w.specifier_list T xs)) (sym (adds_again before x y.0 y.1)) z.2)) }
+  prints_specifier_tail (g.next_specifier {u = u} {v = v} one rest) f = specifier_tail_node (prints_specifier one (fit_left u v f)) (prints_specifier_tail rest (fit_right u v f))
 
   prints_specifier : {T : List Name} {a : Bool} {p : ℕ} {x : t.Specifier} {u : List Word} → g.IsSpecifier T a p x u → AreFit u → Printed bare.specifier (g.IsSpecifier T a) x (w.specifier T x)
   prints_specifier (g.a_word {x = x} is) f = record { fit = (tt, tt); derives = λ q. (t.word_specifier q x, refl, g.a_word (keyword_is x)) }
-  prints_specifier {T = T} (g.a_struct {ms = ms} {u = u} x) f =
-      let a = prints_members x (fit_inner u (mark CloseBrace) f.1.1) in
-      record { fit = (tt, (tt, fit_closed (w.members T ms) (mark CloseBrace) tt a.fit)); derives = λ q. let y = a.derives (suc (suc q)) in (t.struct_specifier q None y.0, cc y.1, g.a_struct y.2) }
-  prints_specifier {T = T} (g.a_named_struct n {ms = ms} {u = u} x) f =
-      let a = prints_members x (fit_inner u (mark CloseBrace) f.1.1.1) in
-      record { fit = (tt, (f.1.0, (tt, fit_closed (w.members T ms) (mark CloseBrace) tt a.fit))); derives = λ q. let y = a.derives (suc (suc (suc q))) in (t.struct_specifier q (Some n) y.0, cc y.1, g.a_named_struct n y.2) }
+  prints_specifier {p = p} (g.a_struct {u = u} x) f = struct_node p (prints_members x (fit_inner u (mark CloseBrace) f.1.1))
+  prints_specifier {p = p} (g.a_named_struct n {u = u} x) f = named_struct_node p n f.1.0 (prints_members x (fit_inner u (mark CloseBrace) f.1.1.1))
   prints_specifier (g.a_struct_tag n) f = record { fit = (tt, (f.1.0, tt)); derives = λ q. (t.struct_tag q n, refl, g.a_struct_tag n) }
-  prints_specifier {T = T} (g.an_enum {es = es} {u = u} x) f =
-      let a = prints_enumerators x (fit_inner u (mark CloseBrace) f.1.1) in
-      record { fit = (tt, (tt, fit_closed (w.enumerators T es) (mark CloseBrace) tt a.fit)); derives = λ q. let y = a.derives (suc (suc q)) in (t.enum_specifier q None y.0, cc y.1, g.an_enum y.2) }
-  prints_specifier {T = T} (g.a_named_enum n {es = es} {u = u} x) f =
-      let a = prints_enumerators x (fit_inner u (mark CloseBrace) f.1.1.1) in
-      record { fit = (tt, (f.1.0, (tt, fit_closed (w.enumerators T es) (mark CloseBrace) tt a.fit))); derives = λ q. let y = a.derives (suc (suc (suc q))) in (t.enum_specifier q (Some n) y.0, cc y.1, g.a_named_enum n y.2) }
+  prints_specifier {p = p} (g.an_enum {u = u} x) f = enum_node p (prints_enumerators x (fit_inner u (mark CloseBrace) f.1.1))
+  prints_specifier {p = p} (g.a_named_enum n {u = u} x) f = named_enum_node p n f.1.0 (prints_enumerators x (fit_inner u (mark CloseBrace) f.1.1.1))
   prints_specifier (g.an_enum_tag n) f = record { fit = (tt, (f.1.0, tt)); derives = λ q. (t.enum_tag q n, refl, g.an_enum_tag n) }
   prints_specifier (g.its_typedef_name n is) f = record { fit = (f.0, tt); derives = λ q. (t.typedef_specifier q n, refl, g.its_typedef_name n is) }
 
   prints_members : {T : List Name} {p : ℕ} {ms : t.Members} {u : List Word} → g.IsMembers T p ms u → AreFit u → Printed bare.members (g.IsMembers T) ms (w.members T ms)
-  prints_members {T = T} (g.first_member {s = s} {d = d} {ds = ds} {ms = ms} {u = u} {v = v} {w = x} {x = k} specs free one more rest) f =
+  prints_members (g.first_member {u = u} {v = v} {w = x} {x = k} specs free one more rest) f =
       let f1 = fit_right u (v ++ (x ++ (mark Semicolon ∷ k))) f in
       let f2 = fit_right v (x ++ (mark Semicolon ∷ k)) f1 in
-      let a = prints_specifiers specs (fit_left u (v ++ (x ++ (mark Semicolon ∷ k))) f) in
-      let parts = parts_of one (fit_left v (x ++ (mark Semicolon ∷ k)) f1) in
-      let b = first_printed (has_type s) d parts in
-      let c = prints_declarator_tail more (fit_left x (mark Semicolon ∷ k) f2) in
-      let e = prints_member_tail rest (fit_right x (mark Semicolon ∷ k) f2).1 in
-      let a' = w.specifiers T s in
-      let b' = w.behind_specifiers T (has_type s) d (w.declarator T d) in
-      let c' = w.declarator_tail T ds in
-      let e' = w.members T ms in
-      record { fit = fit_append a' ((b' ++ c') ++ (mark Semicolon ∷ e')) a.fit (fit_append (b' ++ c') (mark Semicolon ∷ e') (fit_append b' c' b.fit c.fit) (tt, e.fit));
-        derives = λ q. let ya = a.derives q in let yb = b.derives (q + length a') in let yc = c.derives (q + length a' + length b') in let ye = e.derives (suc (q + length a' + length b' + length c')) in
-          (t.more_members ya.0 (t.more_declarators yb.0 yc.0) ye.0, cc (ya.1, yb.1, yc.1, ye.1),
-            subst (g.IsMembers T q (t.more_members ya.0 (t.more_declarators yb.0 yc.0) ye.0)) (ap (λ z. a' ++ z) (sym (append_assoc b' c' (mark Semicolon ∷ e'))))
-              (g.first_member ya.2 (subst (λ z. g.GoesOnSpecifiers T z b' → ⊥) (sym (has_again s ya.0 ya.1)) (first_free (has_type s) d parts)) yb.2 yc.2 ye.2)) }
+      members_node (prints_specifiers specs (fit_left u (v ++ (x ++ (mark Semicolon ∷ k))) f)) (parts_of one (fit_left v (x ++ (mark Semicolon ∷ k)) f1)) (prints_declarator_tail more (fit_left x (mark Semicolon ∷ k) f2)) (prints_member_tail rest (fit_right x (mark Semicolon ∷ k) f2).1)
 
   prints_member_tail : {T : List Name} {p : ℕ} {ms : t.Members} {u : List Word} → g.MemberTail T p ms u → AreFit u → Printed bare.members (g.MemberTail T) ms (w.members T ms)
   prints_member_tail g.last_member f = record { fit = tt; derives = λ q. (t.no_members, refl, g.last_member) }
-  prints_member_tail (g.next_member x) f = let a = prints_members x f in record { fit = a.fit; derives = λ q. let y = a.derives q in (y.0, y.1, g.next_member y.2) }
+  prints_member_tail (g.next_member x) f = member_tail_node (prints_members x f)
 
   prints_declarator_tail : {T : List Name} {p : ℕ} {ds : t.Declarators} {u : List Word} → g.DeclaratorTail T p ds u → AreFit u → Printed bare.declarators (g.DeclaratorTail T) ds (w.declarator_tail T ds)
   prints_declarator_tail g.last_declarator f = record { fit = tt; derives = λ q. (t.no_declarators, refl, g.last_declarator) }
-  prints_declarator_tail {T = T} (g.next_declarator {d = d} {ds = ds} {u = u} {v = v} x rest) f =
-      let a = assembled (parts_of x (fit_left u v f.1)) in
-      let b = prints_declarator_tail rest (fit_right u v f.1) in
-      record { fit = (tt, fit_append (w.declarator T d) (w.declarator_tail T ds) a.fit b.fit);
-        derives = λ q. let y = a.derives (suc q) in let z = b.derives (suc q + length (w.declarator T d)) in (t.more_declarators y.0 z.0, cc (y.1, z.1), g.next_declarator y.2 z.2) }
+  prints_declarator_tail (g.next_declarator {u = u} {v = v} x rest) f = declarator_tail_node (parts_of x (fit_left u v f.1)) (prints_declarator_tail rest (fit_right u v f.1))
 
   prints_enumerators : {T : List Name} {p : ℕ} {es : t.Enumerators} {u : List Word} → g.IsEnumerators T p es u → AreFit u → Printed bare.enumerators (g.IsEnumerators T) es (w.enumerators T es)
-  prints_enumerators {T = T} (g.first_enumerator n {e = e} {es = es} {u = u} {v = v} x rest) f =
-      let a = prints_value x (fit_left u v f.1) in
-      let b = prints_enumerator_tail rest (fit_right u v f.1) in
-      record { fit = (f.0, fit_append (w.enumerator_value T e) (w.enumerator_tail T es) a.fit b.fit);
-        derives = λ q. let y = a.derives (suc q) in let z = b.derives (suc q + length (w.enumerator_value T e)) in (t.more_enumerators q n y.0 z.0, cc (y.1, z.1), g.first_enumerator n y.2 z.2) }
+  prints_enumerators {p = p} (g.first_enumerator n {u = u} {v = v} x rest) f = enumerators_node p n f.0 (prints_value x (fit_left u v f.1)) (prints_enumerator_tail rest (fit_right u v f.1))
 
   prints_value : {T : List Name} {p : ℕ} {e : t.MaybeExpression} {u : List Word} → g.IsValue T p e u → AreFit u → Printed bare.maybe_expression (g.IsValue T) e (w.enumerator_value T e)
   prints_value g.no_value f = record { fit = tt; derives = λ q. (t.no_expression, refl, g.no_value) }
-  prints_value (g.a_value x) f = let a = in_conditional _ _ (prints_choice x f.1) in record { fit = (tt, a.fit); derives = λ q. let y = a.derives (suc q) in (t.an_expression y.0, cc y.1, g.a_value y.2) }
+  prints_value (g.a_value x) f = value_node (prints_choice x f.1)
 
   prints_enumerator_tail : {T : List Name} {p : ℕ} {es : t.Enumerators} {u : List Word} → g.EnumeratorTail T p es u → AreFit u → Printed bare.enumerators (g.EnumeratorTail T) es (w.enumerator_tail T es)
   prints_enumerator_tail g.last_enumerator f = record { fit = tt; derives = λ q. (t.no_enumerators, refl, g.last_enumerator) }
   prints_enumerator_tail g.last_comma f = record { fit = tt; derives = λ q. (t.no_enumerators, refl, g.last_enumerator) }
-  prints_enumerator_tail {T = T} (g.next_enumerator (g.first_enumerator n {e = e} {es = es} {u = u} {v = v} x rest)) f =
-      let a = prints_value x (fit_left u v f.1.1) in
-      let b = prints_enumerator_tail rest (fit_right u v f.1.1) in
-      record { fit = (tt, (f.1.0, fit_append (w.enumerator_value T e) (w.enumerator_tail T es) a.fit b.fit));
-        derives = λ q. let y = a.derives (suc (suc q)) in let z = b.derives (suc (suc q) + length (w.enumerator_value T e)) in
-          (t.more_enumerators (suc q) n y.0 z.0, cc (y.1, z.1), g.next_enumerator (g.first_enumerator n y.2 z.2)) }
+  prints_enumerator_tail {p = p} (g.next_enumerator (g.first_enumerator n {u = u} {v = v} x rest)) f = enumerator_tail_node (suc p) n f.1.0 (prints_value x (fit_left u v f.1.1)) (prints_enumerator_tail rest (fit_right u v f.1.1))
 
   pub parts_of : {T : List Name} {guarded : Bool} {p : ℕ} {d : t.Declarator} {u : List Word} → g.IsDeclarator T guarded p d u → AreFit u → Parts T guarded d
   parts_of (g.a_name n {u = u} {v = v} st ts) f = let r = fit_right u (name n ∷ v) f in a_named r.0 (suffix_parts ts r.1)
@@ -219,57 +158,26 @@ mutual
 
   prints_length : {T : List Name} {p : ℕ} {e : t.MaybeExpression} {u : List Word} → g.IsLength T p e u → AreFit u → Printed bare.maybe_expression (g.IsLength T) e (w.array_length T e)
   prints_length g.no_length f = record { fit = tt; derives = λ q. (t.no_expression, refl, g.no_length) }
-  prints_length (g.a_length x) f = let a = in_conditional _ _ (prints_choice x f) in record { fit = a.fit; derives = λ q. let y = a.derives q in (t.an_expression y.0, cc y.1, g.a_length y.2) }
+  prints_length (g.a_length x) f = length_node (prints_choice x f)
 
   prints_parameters : {T : List Name} {p : ℕ} {qs : t.Parameters} {u : List Word} → g.IsParameters T p qs u → AreFit u → Printed bare.parameters (g.IsParameters T) qs (w.parameters T qs)
   prints_parameters g.no_parameter f = record { fit = tt; derives = λ q. (t.no_parameters, refl, g.no_parameter) }
-  prints_parameters {T = T} (g.first_parameter {s = s} {d = d} {qs = qs} {u = u} {v = v} x rest) f =
-      let a = prints_parameter x (fit_left u v f) in
-      let b = prints_parameter_tail rest (fit_right u v f) in
-      let r = w.specifiers T s ++ w.maybe_declarator T d in
-      let same = append_assoc (w.specifiers T s) (w.maybe_declarator T d) (w.parameter_tail T qs) in
-      record { fit = subst AreFit same (fit_append r (w.parameter_tail T qs) a.fit b.fit);
-        derives = λ q. let y = a.derives q in let z = b.derives (q + length r) in
-          (t.more_parameters y.0 y.1 z.0, cc (y.2, y.3, z.1), subst (g.IsParameters T q (t.more_parameters y.0 y.1 z.0)) same (g.first_parameter y.4 z.2)) }
+  prints_parameters (g.first_parameter {u = u} {v = v} x rest) f = parameters_node (prints_parameter x (fit_left u v f)) (prints_parameter_tail rest (fit_right u v f))
 
   prints_parameter_tail : {T : List Name} {p : ℕ} {qs : t.Parameters} {u : List Word} → g.ParameterTail T p qs u → AreFit u → Printed bare.parameters (g.ParameterTail T) qs (w.parameter_tail T qs)
   prints_parameter_tail g.last_parameter f = record { fit = tt; derives = λ q. (t.no_parameters, refl, g.last_parameter) }
-  prints_parameter_tail {T = T} (g.next_parameter {s = s} {d = d} {qs = qs} {u = u} {v = v} x rest) f =
-      let a = prints_parameter x (fit_left u v f.1) in
-      let b = prints_parameter_tail rest (fit_right u v f.1) in
-      let r = w.specifiers T s ++ w.maybe_declarator T d in
-      let same = append_assoc (w.specifiers T s) (w.maybe_declarator T d) (w.parameter_tail T qs) in
-      record { fit = (tt, subst AreFit same (fit_append r (w.parameter_tail T qs) a.fit b.fit));
-        derives = λ q. let y = a.derives (suc q) in let z = b.derives (suc q + length r) in
-          (t.more_parameters y.0 y.1 z.0, cc (y.2, y.3, z.1), subst (λ k. g.ParameterTail T q (t.more_parameters y.0 y.1 z.0) (mark Comma ∷ k)) same (g.next_parameter y.4 z.2)) }
+  prints_parameter_tail (g.next_parameter {u = u} {v = v} x rest) f = parameter_tail_node (prints_parameter x (fit_left u v f.1)) (prints_parameter_tail rest (fit_right u v f.1))
 
   prints_parameter : {T : List Name} {p : ℕ} {s : t.Specifiers} {d : t.MaybeDeclarator} {u : List Word} → g.IsParameter T p s d u → AreFit u → AgainParameter T s d (w.specifiers T s ++ w.maybe_declarator T d)
-  prints_parameter {T = T} (g.named_parameter {s = s} {d = d} {u = u} {v = v} x free y) f =
-      let a = prints_specifiers x (fit_left u v f) in
-      let parts = parts_of y (fit_right u v f) in
-      let b = assembled parts in
-      record { fit = fit_append (w.specifiers T s) (w.declarator T d) a.fit b.fit;
-        derives = λ q. let k = a.derives q in let z = b.derives (q + length (w.specifiers T s)) in
-          (k.0, t.a_declarator z.0, k.1, cc z.1,
-            g.named_parameter k.2 (subst (λ h. g.GoesOnSpecifiers T h (w.declarator T d) → ⊥) (sym (has_again s k.0 k.1)) (named_free (has_type s) v parts (led y refl) free)) z.2) }
-  prints_parameter {T = T} (g.other_parameter {s = s} {d = d} {u = u} {v = v} x y) f =
-      let a = prints_specifiers x (fit_left u v f) in
-      let b = prints_maybe_abstract y (fit_right u v f) in
-      record { fit = fit_append (w.specifiers T s) (w.maybe_declarator T d) a.fit b.fit;
-        derives = λ q. let k = a.derives q in let z = b.derives (q + length (w.specifiers T s)) in (k.0, z.0, k.1, z.1, g.other_parameter k.2 z.2) }
+  prints_parameter (g.named_parameter {u = u} {v = v} x free y) f = named_parameter_node v free (led y refl) (prints_specifiers x (fit_left u v f)) (parts_of y (fit_right u v f))
+  prints_parameter (g.other_parameter {u = u} {v = v} x y) f = other_parameter_node (prints_specifiers x (fit_left u v f)) (prints_maybe_abstract y (fit_right u v f))
 
   prints_type_name : {T : List Name} {p : ℕ} {n : t.TypeName} {u : List Word} → g.IsTypeName T p n u → AreFit u → Printed bare.type_name (g.IsTypeName T) n (w.type_name T n)
-  prints_type_name {T = T} (g.a_type_name {s = s} {d = d} {u = u} {v = v} x y) f =
-      let a = prints_specifiers x (fit_left u v f) in
-      let b = prints_maybe_abstract y (fit_right u v f) in
-      record { fit = fit_append (w.specifiers T s) (w.maybe_declarator T d) a.fit b.fit;
-        derives = λ q. let k = a.derives q in let z = b.derives (q + length (w.specifiers T s)) in (t.type_name k.0 z.0, cc (k.1, z.1), g.a_type_name k.2 z.2) }
+  prints_type_name (g.a_type_name {u = u} {v = v} x y) f = type_name_node (prints_specifiers x (fit_left u v f)) (prints_maybe_abstract y (fit_right u v f))
 
   prints_maybe_abstract : {T : List Name} {p : ℕ} {d : t.MaybeDeclarator} {u : List Word} → g.IsMaybeAbstract T p d u → AreFit u → Printed bare.maybe_declarator (g.IsMaybeAbstract T) d (w.maybe_declarator T d)
   prints_maybe_abstract g.no_abstract f = record { fit = tt; derives = λ q. (t.no_declarator, refl, g.no_abstract) }
-  prints_maybe_abstract (g.an_abstract {d = d} x) f =
-      let a = abstract_assembled (abstract_parts x f) in
-      record { fit = a.fit; derives = λ q. let y = a.derives q in (t.a_declarator y.0, cc y.1, g.an_abstract y.2) }
+  prints_maybe_abstract (g.an_abstract x) f = maybe_abstract_node (abstract_parts x f)
 
   abstract_parts : {T : List Name} {p : ℕ} {d : t.Declarator} {u : List Word} → g.IsAbstract T p d u → AreFit u → AbstractParts T d
   abstract_parts (g.with_stars {u = u} {v = v} st ts) f = nothing_named refl (suffix_parts ts (fit_right u v f))

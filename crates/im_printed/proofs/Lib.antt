@@ -3,5 +3,11 @@ mod Bindings
 mod Bare
 mod Nodes
 mod Declarators
+mod Rows
 mod Expressions
 mod Units
+mod Spellings
+mod Elements
+mod Numerals
+mod Texts
+mod Tokens

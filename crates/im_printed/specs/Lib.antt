@@ -1,4 +1,5 @@
 pub mod Again
 pub mod Fit
 pub mod Printed
+pub mod Text
 pub mod Unnumbered
