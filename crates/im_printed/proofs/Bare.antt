@@ -1,5 +1,5 @@
 -- What depends on no numbers: types among specifiers, typedef names, the `if` that takes an `else`.
-use Rattle.std.proofs.Common.{◌≡◌, ℕ, Bool, true, false, ◌||◌, cond, List, [], ◌∷◌, ◌++◌, sym, ap, refl, ◌∙◌}
+use Rattle.std.proofs.Common.{◌≡◌, Bool, false, ◌||◌, cond, List, ◌++◌, sym, ap, refl, ◌∙◌}
 use Rattle.im_word.specs.Words.{Name}
 use Rattle.im_ctree.specs.Tree as t
 use Rattle.im_ctree.specs.Typedefs.{adds_type, has_type_from, has_type, is_typedef, has_typedef, declared_name, core_name, declared_names, typedef_names, names_behind_init, names_behind, names_behind_else, names_behind_block, names_behind_items, names_behind_external}

@@ -1,5 +1,5 @@
 -- Derivations of expressions at the level at which they bind, and at those that bind more loosely.
-use Rattle.std.proofs.Common.{◌≡◌, ℕ, zero, suc, ◌+◌, ◌-◌, ◌≤◌, ◌<◌, List, [], ◌∷◌, ◌++◌, length, sym, subst, ap, refl, ◌∙◌, arith, append_assoc, append-nil, length-append}
+use Rattle.std.proofs.Common.{◌≡◌, ℕ, zero, suc, ◌+◌, ◌-◌, ◌≤◌, ◌<◌, List, ◌∷◌, ◌++◌, length, sym, subst, ap, arith, append_assoc, append-nil, length-append}
 use Rattle.im_tok.specs.declared.punctuator.Punctuator.TheVariants.{OpenBracket, CloseBracket, OpenParen, CloseParen, Comma}
 use Rattle.im_word.specs.Words.{Name, Word, mark}
 use Rattle.im_ctree.specs.Tree as t

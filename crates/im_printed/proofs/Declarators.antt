@@ -1,12 +1,9 @@
 -- Declarators, by their parts: their words derive them again, in parentheses too, and merged with what stands round them.
-use Rattle.std.proofs.Common.{◌≡◌, ℕ, zero, suc, ◌+◌, ◌≤◌, Bool, true, false, not, ◌&&◌, ◌||◌, cond, true≢false, List, [], ◌∷◌, ◌++◌, length, sym, subst, ap, refl, ◌∙◌, arith, append_assoc, append-nil, bytes_eq, slice_index_or, ◌<◌}
+use Rattle.std.proofs.Common.{◌≡◌, ℕ, zero, suc, ◌+◌, Bool, true, false, not, ◌&&◌, ◌||◌, cond, true≢false, List, [], ◌∷◌, ◌++◌, length, sym, subst, ap, refl, ◌∙◌, arith, append_assoc, bytes_eq, slice_index_or, ◌<◌}
 use Rattle.std.proofs.lemmas.Cmp.{nat_list_eq_equiv}
 use Rattle.std.specs.List.{Contains}
-use Rattle.im_tok.specs.declared.keyword.Keyword.{Keyword}
 use Rattle.im_tok.specs.declared.punctuator.Punctuator.{Punctuator}
-use Rattle.im_tok.specs.declared.punctuator.Punctuator.TheVariants as punctuator
-use Rattle.im_tok.specs.declared.punctuator.Punctuator.TheVariants.{OpenParen, CloseParen, OpenBracket, CloseBracket, Star}
-use Rattle.im_tok.specs.declared.number.Number.{Number}
+use Rattle.im_tok.specs.declared.punctuator.Punctuator.TheVariants.{OpenParen, CloseParen, CloseBracket, Star}
 use Rattle.im_word.specs.Words.{Name, Word, name, keyword, number, character, text, mark, unknown}
 use Rattle.im_ctree.specs.Tree as t
 use Rattle.im_ctree.specs.Grammar as g
@@ -35,15 +32,19 @@ suffixes_printed no_part = record { fit = tt; derives = λ q. (t.no_suffixes, re
 suffixes_printed {T = T} (array_part {e = e} {ts = ts} one more) =
     let u = w.array_length T e in
     let rest = suffixes_printed more in
-    record { fit = (tt, fit_append u (mark CloseBracket ∷ w.suffixes T ts) one.fit (tt, rest.fit));
+    record {
+      fit = (tt, fit_append u (mark CloseBracket ∷ w.suffixes T ts) one.fit (tt, rest.fit));
       derives = λ q. let y = one.derives (suc q) in let z = rest.derives (suc (suc q + length u)) in
-        (t.array_suffix q y.0 z.0, cc (y.1, z.1), g.an_array y.2 z.2) }
+          (t.array_suffix q y.0 z.0, cc (y.1, z.1), g.an_array y.2 z.2);
+    }
 suffixes_printed {T = T} (function_part {qs = qs} {ts = ts} one more) =
     let u = w.parameters T qs in
     let rest = suffixes_printed more in
-    record { fit = (tt, fit_append u (mark CloseParen ∷ w.suffixes T ts) one.fit (tt, rest.fit));
+    record {
+      fit = (tt, fit_append u (mark CloseParen ∷ w.suffixes T ts) one.fit (tt, rest.fit));
       derives = λ q. let y = one.derives (suc q) in let z = rest.derives (suc (suc q + length u)) in
-        (t.function_suffix q y.0 z.0, cc (y.1, z.1), g.a_function y.2 z.2) }
+          (t.function_suffix q y.0 z.0, cc (y.1, z.1), g.a_function y.2 z.2);
+    }
 
 parts_append : {T : List Name} {ts us : t.Suffixes} → SuffixParts T ts → SuffixParts T us → SuffixParts T (t.append_suffixes ts us)
 parts_append no_part y = y
@@ -154,16 +155,22 @@ inner_fit T ns d ts a b =
 pub assembled : {T : List Name} {guarded : Bool} {d : t.Declarator} → Parts T guarded d → Again T guarded d
 assembled {T = T} (a_named {ns = ns} {n = n} {ts = ts} is more) =
     let rest = suffixes_printed more in
-    record { fit = fit_append (w.stars ns) (name n ∷ w.suffixes T ts) (fit_stars ns) (is, rest.fit);
+    record {
+      fit = fit_append (w.stars ns) (name n ∷ w.suffixes T ts) (fit_stars ns) (is, rest.fit);
       derives = λ q. let z = rest.derives (suc (q + length (w.stars ns))) in
-        (t.declarator q ns (t.name_core n) z.0, cc z.1, g.a_name n (stars_derived ns) z.2) }
+          (t.declarator q ns (t.name_core n) z.0, cc z.1, g.a_name n (stars_derived ns) z.2);
+    }
 assembled {T = T} {guarded = guarded} (a_kept {ns = ns} {d = d} {ts = ts} starred suffixed inner more) =
     let rest = suffixes_printed more in
-    record { fit = inner_fit T ns d ts inner.fit rest.fit;
-      derives = λ q. let y = inner.derives (suc (q + length (w.stars ns))) in let z = rest.derives (suc (suc (q + length (w.stars ns)) + length (w.declarator T d))) in
-        (t.around q ns y.0 z.0, kept_again q ns d y.0 ts z.0 starred suffixed y.1 z.1,
-          subst (g.IsDeclarator T guarded q (t.around q ns y.0 z.0)) (inner_words T ns d ts)
-            (g.an_inner (stars_derived ns) y.2 (λ is o. omega (arith, opens_starless o, starred_leads T d starred)) z.2)) }
+    record {
+      fit = inner_fit T ns d ts inner.fit rest.fit;
+      derives = λ q. let y = inner.derives (suc (q + length (w.stars ns))) in let z = rest.derives (suc (suc (q + length (w.stars ns)) + length (w.declarator T d))) in (
+        t.around q ns y.0 z.0,
+        kept_again q ns d y.0 ts z.0 starred suffixed y.1 z.1,
+        subst (g.IsDeclarator T guarded q (t.around q ns y.0 z.0)) (inner_words T ns d ts)
+            (g.an_inner (stars_derived ns) y.2 (λ is o. omega (arith, opens_starless o, starred_leads T d starred)) z.2),
+      );
+    }
 
 -- a declarator with more stars before it and more suffixes behind it
 merged : {T : List Name} {guarded : Bool} {q : ℕ} {ms : List ℕ} {c : t.Core} {ts us : t.Suffixes} (p : ℕ) (ns : List ℕ) → Parts T guarded (t.declarator q ms c ts) → SuffixParts T us → Parts T guarded (t.declarator p ns c (t.append_suffixes ts us))
@@ -205,9 +212,11 @@ opens_of (g.a_typedef_name is) = g.at_typedef_name is
 first_by : {T : List Name} {d : t.Declarator} → Parts T false d → (b : Bool) → Printed bare.declarator (g.IsDeclarator T false) d (cond b (w.in_parentheses (w.declarator T d)) (w.declarator T d))
 first_by {T = T} {d = d} x true =
     let z = assembled x in
-    record { fit = fit_parentheses (w.declarator T d) z.fit;
+    record {
+      fit = fit_parentheses (w.declarator T d) z.fit;
       derives = λ q. let y = z.derives (suc (q + length (w.stars []))) in
-        (t.around q [] y.0 t.no_suffixes, bare_none q y.0 ∙ y.1, g.an_inner (stars_derived []) y.2 (λ e o. true≢false (sym e)) g.no_suffix) }
+          (t.around q [] y.0 t.no_suffixes, bare_none q y.0 ∙ y.1, g.an_inner (stars_derived []) y.2 (λ e o. true≢false (sym e)) g.no_suffix);
+    }
 first_by x false = assembled x
 
 pub first_printed : {T : List Name} (typed : Bool) (d : t.Declarator) → Parts T false d → Printed bare.declarator (g.IsDeclarator T false) d (w.behind_specifiers T typed d (w.declarator T d))
@@ -270,8 +279,10 @@ pub data AbstractParts (T : List Name) : t.Declarator → Type 0 where
 pub abstract_assembled : {T : List Name} {d : t.Declarator} → AbstractParts T d → AgainAbstract T d
 abstract_assembled {T = T} (nothing_named {ns = n ∷ ns} {ts = ts} some more) =
     let rest = suffixes_printed more in
-    record { fit = fit_append (w.stars (n ∷ ns)) (w.suffixes T ts) (fit_stars (n ∷ ns)) rest.fit;
-      derives = λ q. let z = rest.derives (q + length (w.stars (n ∷ ns))) in (t.declarator q (n ∷ ns) t.absent_core z.0, cc z.1, g.with_stars (stars_derived (n ∷ ns)) z.2) }
+    record {
+      fit = fit_append (w.stars (n ∷ ns)) (w.suffixes T ts) (fit_stars (n ∷ ns)) rest.fit;
+      derives = λ q. let z = rest.derives (q + length (w.stars (n ∷ ns))) in (t.declarator q (n ∷ ns) t.absent_core z.0, cc z.1, g.with_stars (stars_derived (n ∷ ns)) z.2);
+    }
 abstract_assembled (nothing_named {ns = []} some no_part) = absurd (true≢false some)
 abstract_assembled (nothing_named {ns = []} some (array_part {p = r} one more)) =
     let rest = suffixes_printed (array_part {p = r} one more) in
@@ -283,10 +294,14 @@ abstract_assembled (inner_kept {d = t.declarator r [] c us} starred suffixed inn
 abstract_assembled {T = T} (inner_kept {ns = ns} {d = t.declarator r (m ∷ ms) c us} {ts = ts} starred suffixed inner more) =
     let d = t.declarator r (m ∷ ms) c us in
     let rest = suffixes_printed more in
-    record { fit = inner_fit T ns d ts inner.fit rest.fit;
-      derives = λ q. let y = inner.derives (suc (q + length (w.stars ns))) in let z = rest.derives (suc (suc (q + length (w.stars ns)) + length (w.declarator T d))) in
-        (t.around q ns y.0 z.0, kept_again q ns d y.0 ts z.0 starred suffixed y.1 z.1,
-          subst (g.IsAbstract T q (t.around q ns y.0 z.0)) (inner_words T ns d ts) (g.with_inner (stars_derived ns) y.2 z.2)) }
+    record {
+      fit = inner_fit T ns d ts inner.fit rest.fit;
+      derives = λ q. let y = inner.derives (suc (q + length (w.stars ns))) in let z = rest.derives (suc (suc (q + length (w.stars ns)) + length (w.declarator T d))) in (
+        t.around q ns y.0 z.0,
+        kept_again q ns d y.0 ts z.0 starred suffixed y.1 z.1,
+        subst (g.IsAbstract T q (t.around q ns y.0 z.0)) (inner_words T ns d ts) (g.with_inner (stars_derived ns) y.2 z.2),
+      );
+    }
 
 suffixes_starless : {T : List Name} {p : ℕ} {ts : t.Suffixes} {v : List Word} → g.IsSuffixes T p ts v → leading_star v ≡ 0
 suffixes_starless g.no_suffix = refl

@@ -1,10 +1,10 @@
 -- Literals as they are printed: which elements they have, and that no others stand at their front.
-use Rattle.std.proofs.Common.{◌≡◌, ◌≢◌, ℕ, zero, suc, ◌+◌, ◌-◌, ◌*◌, ◌/◌, ◌%◌, ◌≤◌, ◌<◌, ◌⊎◌, inl, inr, Bool, true, false, not, ◌&&◌, ◌==◌, cond, true≢false, nat_le, nat_lt, All, List, [], ◌∷◌, ◌++◌, length, drop, take, map, sym, subst, ap, refl, ◌∙◌, arith, append_assoc, length-append, fold}
+use Rattle.std.proofs.Common.{◌≡◌, ◌≢◌, ℕ, zero, suc, ◌+◌, ◌-◌, ◌*◌, ◌/◌, ◌%◌, ◌≤◌, ◌<◌, ◌⊎◌, inl, inr, Bool, true, false, not, ◌&&◌, ◌==◌, cond, true≢false, nat_le, nat_lt, All, List, [], ◌∷◌, ◌++◌, length, drop, take, map, sym, subst, ap, refl, ◌∙◌, arith, append_assoc, length-append}
 use Rattle.std.specs.Prelude.{slice_index, slice_range}
 use Rattle.std.specs.Char.{digit_value}
 use Rattle.std.proofs.lemmas.Bool.Decides.{nat_tests}
-use Rattle.im_tok.specs.Digits.{IsDigitOf, digits_value}
-use Rattle.im_tok.specs.Literals.{IsPlain, IsNumeric, IsElement, AreElements, elements_length, IsLiteral}
+use Rattle.im_tok.specs.Digits.{digits_value}
+use Rattle.im_tok.specs.Literals.{IsElement, AreElements, elements_length, IsLiteral}
 use Rattle.im_tok.specs.Literals.IsElement.{plain, octal}
 use Rattle.im_tok.specs.declared.literal.Element.{Element}
 use Rattle.im_tok.proofs.Elements.{one_element, no_quote}
@@ -138,9 +138,10 @@ elements_are : (q : ℕ) (bs v : List ℕ) → IsQuote q → AreBytes bs → Are
 elements_are q [] v quote are = tt
 elements_are q (b ∷ bs) v quote are =
     let same = append_assoc (byte_text b) (bytes_text bs) v in
-    let rest : drop (length (byte_text b)) ((byte_text b ++ bytes_text bs) ++ v) ≡ bytes_text bs ++ v = ap (λ z. drop (length (byte_text b)) z) same ∙ drop_front (byte_text b) (bytes_text bs ++ v) in
-    (subst (λ z. IsElement q z (element_of b)) (sym same) (element_is q b (bytes_text bs ++ v) quote are.0),
-      subst (λ z. AreElements q z (elements_of bs)) (sym rest) (elements_are q bs v quote are.1))
+    let rest : drop (length (byte_text b)) ((byte_text b ++ bytes_text bs) ++ v) ≡ bytes_text bs ++ v = ap (λ z. drop (length (byte_text b)) z) same ∙ drop_front (byte_text b) (bytes_text bs ++ v) in (
+      subst (λ z. IsElement q z (element_of b)) (sym same) (element_is q b (bytes_text bs ++ v) quote are.0),
+      subst (λ z. AreElements q z (elements_of bs)) (sym rest) (elements_are q bs v quote are.1),
+    )
 
 pub literal_is : (q : ℕ) (bs : List ℕ) → IsQuote q → AreBytes bs → IsLiteral q (literal_text q bs) (elements_of bs)
 literal_is q bs quote are =

@@ -1,22 +1,20 @@
 -- Whatever words derive an expression, specifiers or a declarator, the printed words derive it again.
-use Rattle.std.proofs.Common.{◌≡◌, ℕ, zero, suc, ◌+◌, ◌≤◌, ◌<◌, Bool, true, false, All, List, [], ◌∷◌, ◌++◌, length, sym, subst, ap, refl, ◌∙◌, arith, append_assoc, append-nil, length-append, Some, None}
+use Rattle.std.proofs.Common.{ℕ, suc, ◌+◌, ◌≤◌, Bool, List, ◌∷◌, ◌++◌, refl, arith}
 use Rattle.std.proofs.lemmas.List.Elements.{All-append}
-use Rattle.im_tok.specs.declared.punctuator.Punctuator.{Punctuator}
-use Rattle.im_tok.specs.declared.punctuator.Punctuator.TheVariants.{OpenBracket, CloseBracket, OpenParen, CloseParen, OpenBrace, CloseBrace, Semicolon, Star, Question, Colon, Comma}
+use Rattle.im_tok.specs.declared.punctuator.Punctuator.TheVariants.{CloseBracket, OpenParen, CloseParen, CloseBrace, Semicolon, Star, Question, Colon}
 use Rattle.im_word.specs.Words.{Name, Word, name, text, mark}
 use Rattle.im_ctree.specs.declared.specifier.SpecifierWord.{SpecifierWord}
 use Rattle.im_ctree.specs.declared.specifier.SpecifierWord.TheVariants as word
 use Rattle.im_ctree.specs.Operators as op
-use Rattle.im_ctree.specs.Typedefs.{adds_type, has_type}
 use Rattle.im_ctree.specs.Tree as t
 use Rattle.im_ctree.specs.Grammar as g
 use Rattle.im_printed.specs.Printed as w
 use Rattle.im_printed.specs.Unnumbered as bare
 use Rattle.im_printed.specs.Fit.{IsFit, AreFit}
-use Rattle.im_printed.proofs.Fit.{fit_append, fit_left, fit_right, fit_inner, fit_closed, Printed}
+use Rattle.im_printed.proofs.Fit.{fit_left, fit_right, fit_inner, Printed}
 use Rattle.im_printed.proofs.Rows.{arguments_node, argument_tail_node, specifiers_node, specifier_tail_node, struct_node, named_struct_node, enum_node, named_enum_node, members_node, member_tail_node, declarator_tail_node, enumerators_node, value_node, enumerator_tail_node, length_node, AgainParameter, parameters_node, parameter_tail_node, named_parameter_node, other_parameter_node, type_name_node, maybe_abstract_node}
 use Rattle.im_printed.proofs.Nodes.{Prints, prints_identifier, prints_number, prints_character, prints_text, prints_index, prints_call, prints_member, prints_arrow, prints_post_step, prints_pre_step, prints_unary, prints_sizeof, prints_sizeof_type, prints_cast, prints_binary, prints_conditional, prints_assign, prints_comma}
-use Rattle.im_printed.proofs.Declarators.{SuffixParts, no_part, array_part, function_part, Parts, a_named, a_kept, AbstractParts, nothing_named, inner_kept, parts_around, abstract_around, led, suffixed, abstract_starred}
+use Rattle.im_printed.proofs.Declarators.{SuffixParts, no_part, array_part, function_part, Parts, a_named, AbstractParts, nothing_named, parts_around, abstract_around, led, suffixed, abstract_starred}
 
 joined_fit : {s : Name} {u : List Word} → g.IsJoinedText s u → AreFit u → IsFit (text s)
 joined_fit (g.last_text s) f = f.0

@@ -1,5 +1,5 @@
 -- Words of tokens side by side, and what is printed as words of tokens that derive the same again.
-use Rattle.std.proofs.Common.{◌≡◌, ℕ, zero, suc, ◌≤◌, ◌<◌, List, [], ◌∷◌, ◌++◌, All, length, slice_index_or}
+use Rattle.std.proofs.Common.{◌≡◌, ℕ, zero, suc, List, [], ◌∷◌, ◌++◌}
 use Rattle.im_word.specs.Words.{Word, mark}
 use Rattle.im_tok.specs.declared.punctuator.Punctuator.TheVariants.{CloseParen}
 use Rattle.im_printed.specs.Fit.{IsFit, AreFit}

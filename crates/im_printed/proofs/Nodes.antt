@@ -1,12 +1,11 @@
 -- The words of each node of an expression derive the node again, where those of its parts do.
-use Rattle.std.proofs.Common.{◌≡◌, ℕ, zero, suc, ◌+◌, ◌≤◌, ◌<◌, Bool, true, false, cond, nat_lt, List, [], ◌∷◌, ◌++◌, length, sym, subst, ap, refl, ◌∙◌, arith, append_assoc, append-nil, length-append}
+use Rattle.std.proofs.Common.{◌≡◌, ℕ, suc, ◌+◌, ◌≤◌, ◌<◌, Bool, true, false, cond, nat_lt, List, [], ◌∷◌, ◌++◌, length, subst, refl, arith, append-nil}
 use Rattle.std.proofs.lemmas.Bool.Decides.{nat_tests}
 use Rattle.std.specs.List.{Contains}
 use Rattle.im_tok.specs.declared.number.Number.{Number}
-use Rattle.im_tok.specs.declared.keyword.Keyword.TheVariants.{Sizeof}
 use Rattle.im_tok.specs.declared.punctuator.Punctuator.{Punctuator}
 use Rattle.im_tok.specs.declared.punctuator.Punctuator.TheVariants.{OpenBracket, CloseBracket, OpenParen, CloseParen, Dot, Arrow, Question, Colon, Comma}
-use Rattle.im_word.specs.Words.{Name, Word, name, keyword, number, character, text, mark}
+use Rattle.im_word.specs.Words.{Name, Word, name, number, character, text, mark}
 use Rattle.im_ctree.specs.declared.operator.StepOp.{StepOp}
 use Rattle.im_ctree.specs.declared.operator.StepOp.TheVariants as step
 use Rattle.im_ctree.specs.declared.operator.UnaryOp.{UnaryOp}
@@ -83,32 +82,40 @@ prints_index {T = T} p {a = a} {b = b} one two =
     let x = in_postfix T a one in
     let u = w.at_binding 15 a (w.expression T a) in
     let v = w.expression T b in
-    record { fit = fit_append u (mark OpenBracket ∷ (v ++ (mark CloseBracket ∷ []))) x.fit (tt, fit_closed v (mark CloseBracket) tt two.fit);
+    record {
+      fit = fit_append u (mark OpenBracket ∷ (v ++ (mark CloseBracket ∷ []))) x.fit (tt, fit_closed v (mark CloseBracket) tt two.fit);
       derives = λ q. let y = x.derives q in let z = two.derives (suc (q + length u)) in
-        (t.index q y.0 z.0, cc (y.1, z.1), as_postfix (postfix_behind y.2 (g.indexes (to_expression z.2) g.no_postfix))) }
+          (t.index q y.0 z.0, cc (y.1, z.1), as_postfix (postfix_behind y.2 (g.indexes (to_expression z.2) g.no_postfix)));
+    }
 
 pub prints_call : {T : List Name} (p : ℕ) {a : t.Expression} {bs : t.Expressions} → Prints T a → Printed bare.expressions (g.IsArguments T) bs (w.arguments T bs) → Prints T (t.call p a bs)
 prints_call {T = T} p {a = a} {bs = bs} one two =
     let x = in_postfix T a one in
     let u = w.at_binding 15 a (w.expression T a) in
     let v = w.arguments T bs in
-    record { fit = fit_append u (mark OpenParen ∷ (v ++ (mark CloseParen ∷ []))) x.fit (tt, fit_closed v (mark CloseParen) tt two.fit);
+    record {
+      fit = fit_append u (mark OpenParen ∷ (v ++ (mark CloseParen ∷ []))) x.fit (tt, fit_closed v (mark CloseParen) tt two.fit);
       derives = λ q. let y = x.derives q in let z = two.derives (suc (q + length u)) in
-        (t.call q y.0 z.0, cc (y.1, z.1), as_postfix (postfix_behind y.2 (g.calls z.2 g.no_postfix))) }
+          (t.call q y.0 z.0, cc (y.1, z.1), as_postfix (postfix_behind y.2 (g.calls z.2 g.no_postfix)));
+    }
 
 pub prints_member : {T : List Name} (p : ℕ) {a : t.Expression} (n : Name) → IsFit (name n) → Prints T a → Prints T (t.member_of p a n)
 prints_member {T = T} p {a = a} n is one =
     let x = in_postfix T a one in
     let u = w.at_binding 15 a (w.expression T a) in
-    record { fit = fit_append u (mark Dot ∷ name n ∷ []) x.fit (tt, (is, tt));
-      derives = λ q. let y = x.derives q in (t.member_of q y.0 n, cc y.1, as_postfix (postfix_behind y.2 (g.dots n g.no_postfix))) }
+    record {
+      fit = fit_append u (mark Dot ∷ name n ∷ []) x.fit (tt, (is, tt));
+      derives = λ q. let y = x.derives q in (t.member_of q y.0 n, cc y.1, as_postfix (postfix_behind y.2 (g.dots n g.no_postfix)));
+    }
 
 pub prints_arrow : {T : List Name} (p : ℕ) {a : t.Expression} (n : Name) → IsFit (name n) → Prints T a → Prints T (t.arrow_to p a n)
 prints_arrow {T = T} p {a = a} n is one =
     let x = in_postfix T a one in
     let u = w.at_binding 15 a (w.expression T a) in
-    record { fit = fit_append u (mark Arrow ∷ name n ∷ []) x.fit (tt, (is, tt));
-      derives = λ q. let y = x.derives q in (t.arrow_to q y.0 n, cc y.1, as_postfix (postfix_behind y.2 (g.arrows n g.no_postfix))) }
+    record {
+      fit = fit_append u (mark Arrow ∷ name n ∷ []) x.fit (tt, (is, tt));
+      derives = λ q. let y = x.derives q in (t.arrow_to q y.0 n, cc y.1, as_postfix (postfix_behind y.2 (g.arrows n g.no_postfix)));
+    }
 
 pub step_is : (o : StepOp) → op.IsStep o (w.step_mark o)
 step_is step.Increment = op.increment
@@ -126,8 +133,10 @@ pub prints_post_step : {T : List Name} (p : ℕ) {a : t.Expression} (o : StepOp)
 prints_post_step {T = T} p {a = a} o one =
     let x = in_postfix T a one in
     let u = w.at_binding 15 a (w.expression T a) in
-    record { fit = fit_closed u (mark (w.step_mark o)) tt x.fit;
-      derives = λ q. let y = x.derives q in (t.post_step q o y.0, cc y.1, as_postfix (postfix_behind y.2 (g.steps (step_is o) g.no_postfix))) }
+    record {
+      fit = fit_closed u (mark (w.step_mark o)) tt x.fit;
+      derives = λ q. let y = x.derives q in (t.post_step q o y.0, cc y.1, as_postfix (postfix_behind y.2 (g.steps (step_is o) g.no_postfix)));
+    }
 
 pub prints_pre_step : {T : List Name} (p : ℕ) {a : t.Expression} (o : StepOp) → Prints T a → Prints T (t.pre_step p o a)
 prints_pre_step {T = T} p {a = a} o one =
@@ -146,17 +155,21 @@ prints_sizeof {T = T} p {a = a} one =
 
 pub prints_sizeof_type : {T : List Name} (p : ℕ) {n : t.TypeName} → Printed bare.type_name (g.IsTypeName T) n (w.type_name T n) → Prints T (t.size_of_type p n)
 prints_sizeof_type {T = T} p {n = n} x =
-    record { fit = (tt, (tt, fit_closed (w.type_name T n) (mark CloseParen) tt x.fit));
-      derives = λ q. let y = x.derives (suc (suc q)) in (t.size_of_type q y.0, cc y.1, as_unary (g.type_sized y.2)) }
+    record {
+      fit = (tt, (tt, fit_closed (w.type_name T n) (mark CloseParen) tt x.fit));
+      derives = λ q. let y = x.derives (suc (suc q)) in (t.size_of_type q y.0, cc y.1, as_unary (g.type_sized y.2));
+    }
 
 pub prints_cast : {T : List Name} (p : ℕ) {n : t.TypeName} {a : t.Expression} → Printed bare.type_name (g.IsTypeName T) n (w.type_name T n) → Prints T a → Prints T (t.cast p n a)
 prints_cast {T = T} p {n = n} {a = a} x one =
     let r = in_cast T a one in
     let u = w.type_name T n in
     let v = w.at_binding 13 a (w.expression T a) in
-    record { fit = (tt, fit_append u (mark CloseParen ∷ v) x.fit (tt, r.fit));
+    record {
+      fit = (tt, fit_append u (mark CloseParen ∷ v) x.fit (tt, r.fit));
       derives = λ q. let y = x.derives (suc q) in let z = r.derives (suc (suc q + length u)) in
-        (t.cast q y.0 z.0, cc (y.1, z.1), as_binary {n = 10} (omega arith) (g.casts (g.a_cast y.2 z.2))) }
+          (t.cast q y.0 z.0, cc (y.1, z.1), as_binary {n = 10} (omega arith) (g.casts (g.a_cast y.2 z.2)));
+    }
 
 operator_is : (o : BinaryOp) → op.IsBinaryOperator (w.operator_level o) o (w.operator_mark o)
 operator_is binary.Or = op.or
@@ -206,9 +219,11 @@ prints_binary {T = T} p {a = a} {b = b} o one two =
     let r = in_binary T b (suc n) (4 + n) (omega (arith, under)) (omega arith) two in
     let u = w.at_binding (3 + n) a (w.expression T a) in
     let v = w.at_binding (4 + n) b (w.expression T b) in
-    record { fit = fit_append u (mark (w.operator_mark o) ∷ v) x.fit (tt, r.fit);
+    record {
+      fit = fit_append u (mark (w.operator_mark o) ∷ v) x.fit (tt, r.fit);
       derives = λ q. let y = x.derives q in let z = r.derives (suc (q + length u)) in
-        (t.binary q o y.0 z.0, cc (y.1, z.1), as_binary (omega (arith, under)) (binary_behind under y.2 (subst (λ k. g.BinaryTail T q n (q + length u) y.0 (t.binary q o y.0 z.0) (mark (w.operator_mark o) ∷ k)) (append-nil v) (g.an_operator (operator_is o) z.2 g.no_operator)))) }
+          (t.binary q o y.0 z.0, cc (y.1, z.1), as_binary (omega (arith, under)) (binary_behind under y.2 (subst (λ k. g.BinaryTail T q n (q + length u) y.0 (t.binary q o y.0 z.0) (mark (w.operator_mark o) ∷ k)) (append-nil v) (g.an_operator (operator_is o) z.2 g.no_operator))));
+    }
 
 pub prints_conditional : {T : List Name} (p : ℕ) {c a b : t.Expression} → Prints T c → Prints T a → Prints T b → Prints T (t.conditional p c a b)
 prints_conditional {T = T} p {c = c} {a = a} {b = b} one two three =
@@ -217,9 +232,11 @@ prints_conditional {T = T} p {c = c} {a = a} {b = b} one two three =
     let u = w.at_binding 3 c (w.expression T c) in
     let v = w.expression T a in
     let s = w.at_binding 2 b (w.expression T b) in
-    record { fit = fit_append u (mark Question ∷ (v ++ (mark Colon ∷ s))) x.fit (tt, fit_append v (mark Colon ∷ s) two.fit (tt, r.fit));
+    record {
+      fit = fit_append u (mark Question ∷ (v ++ (mark Colon ∷ s))) x.fit (tt, fit_append v (mark Colon ∷ s) two.fit (tt, r.fit));
       derives = λ q. let y = x.derives q in let z = two.derives (suc (q + length u)) in let k = r.derives (suc (suc (q + length u) + length v)) in
-        (t.conditional q y.0 z.0 k.0, cc (y.1, z.1, k.1), as_conditional (g.a_choice y.2 (to_expression z.2) k.2)) }
+          (t.conditional q y.0 z.0 k.0, cc (y.1, z.1, k.1), as_conditional (g.a_choice y.2 (to_expression z.2) k.2));
+    }
 
 assign_is : (o : AssignOp) → op.IsAssignOperator o (w.assign_mark o)
 assign_is assign.Plain = op.assign
@@ -240,15 +257,19 @@ prints_assign {T = T} p {a = a} {b = b} o one two =
     let r = in_assignment T b two in
     let u = w.at_binding 14 a (w.expression T a) in
     let v = w.at_binding 1 b (w.expression T b) in
-    record { fit = fit_append u (mark (w.assign_mark o) ∷ v) x.fit (tt, r.fit);
+    record {
+      fit = fit_append u (mark (w.assign_mark o) ∷ v) x.fit (tt, r.fit);
       derives = λ q. let y = x.derives q in let z = r.derives (suc (q + length u)) in
-        (t.assign q o y.0 z.0, cc (y.1, z.1), as_assignment (g.assigned y.2 (assign_is o) z.2)) }
+          (t.assign q o y.0 z.0, cc (y.1, z.1), as_assignment (g.assigned y.2 (assign_is o) z.2));
+    }
 
 pub prints_comma : {T : List Name} (p : ℕ) {a b : t.Expression} → Prints T a → Prints T b → Prints T (t.comma p a b)
 prints_comma {T = T} p {a = a} {b = b} one two =
     let r = in_assignment T b two in
     let u = w.expression T a in
     let v = w.at_binding 1 b (w.expression T b) in
-    record { fit = fit_append u (mark Comma ∷ v) one.fit (tt, r.fit);
+    record {
+      fit = fit_append u (mark Comma ∷ v) one.fit (tt, r.fit);
       derives = λ q. let y = one.derives q in let z = r.derives (suc (q + length u)) in
-        (t.comma q y.0 z.0, cc (y.1, z.1), as_expression (comma_behind (to_expression y.2) (subst (λ k. g.CommaTail T q (q + length u) y.0 (t.comma q y.0 z.0) (mark Comma ∷ k)) (append-nil v) (g.a_comma z.2 g.no_comma)))) }
+          (t.comma q y.0 z.0, cc (y.1, z.1), as_expression (comma_behind (to_expression y.2) (subst (λ k. g.CommaTail T q (q + length u) y.0 (t.comma q y.0 z.0) (mark Comma ∷ k)) (append-nil v) (g.a_comma z.2 g.no_comma))));
+    }

@@ -1,20 +1,19 @@
 -- Integer constants as they are printed.
-use Rattle.std.proofs.Common.{◌≡◌, ◌≢◌, ℕ, zero, suc, ◌+◌, ◌-◌, ◌*◌, ◌^◌, ◌≤◌, ◌<◌, ◌⊎◌, inl, inr, Bool, true, false, cond, true≢false, nat_le, List, [], ◌∷◌, ◌++◌, length, drop, take, sym, subst, ap, refl, ◌∙◌, arith, length-append, decimal, codes, fold, Option, Some, None, find}
+use Rattle.std.proofs.Common.{◌≡◌, ℕ, zero, suc, ◌+◌, ◌-◌, ◌*◌, ◌^◌, ◌≤◌, ◌<◌, inl, inr, Bool, true, false, cond, nat_le, List, [], ◌∷◌, ◌++◌, length, take, sym, subst, ap, refl, ◌∙◌, arith, length-append, decimal, fold, Some, None, find}
 use Rattle.std.specs.Prelude.{slice_index, slice_range}
 use Rattle.std.specs.Char.{digit_value}
 use Rattle.std.specs.Str.Parse.{AllDigits, digits_value_after}
 use Rattle.std.proofs.lemmas.Fmt.{decimal_is_IsNumeral, first_decimal, decimal_digit}
 use Rattle.std.proofs.lemmas.Str.Parse.{digit_from_value}
-use Rattle.im_tok.specs.Digits.{IsDigitOf, digits_value}
+use Rattle.im_tok.specs.Digits.{digits_value}
 use Rattle.im_tok.specs.Numbers.{Begins, IsSuffix, greatest, candidates, IsNumeral}
-use Rattle.im_tok.specs.declared.number.Base.{Base}
-use Rattle.im_tok.specs.declared.number.Base.TheVariants.{Decimal, Octal, Hexadecimal}
+use Rattle.im_tok.specs.declared.number.Base.TheVariants.{Decimal, Octal}
 use Rattle.im_tok.specs.declared.number.Suffix.{Suffix}
 use Rattle.im_tok.specs.declared.number.Suffix.TheVariants.{Absent, U, L, Ul}
 use Rattle.im_tok.specs.declared.number.NumberType.{NumberType}
 use Rattle.im_tok.specs.declared.number.NumberType.TheVariants.{Int, UnsignedInt, Long, UnsignedLong}
 use Rattle.im_tok.specs.declared.number.Number.{Number}
-use Rattle.im_lex.specs.Bytes.{IsNameByte, GoesOn}
+use Rattle.im_lex.specs.Bytes.{IsNameByte}
 use Rattle.im_lex.specs.Pieces.{IsNumberRun}
 use Rattle.im_printed.specs.Text.{suffix_text}
 use Rattle.im_printed.proofs.Elements.{index_first, take_front, drop_front, least_of}

@@ -1,5 +1,5 @@
 -- What is seen of the spellings of keywords and punctuators: no blank stands in them, and what they begin with.
-use Rattle.std.proofs.Common.{◌≡◌, ℕ, nat_le, ◌==◌, ◌&&◌, ◌⊎◌, inl, inr, not, Bool, true, false, List, length, refl}
+use Rattle.std.proofs.Common.{◌≡◌, ℕ, nat_le, ◌==◌, ◌&&◌, ◌⊎◌, inl, inr, not, Bool, true, false, length, refl}
 use Rattle.std.specs.Prelude.{slice_index}
 use Rattle.std.specs.List.{list_all}
 use Rattle.im_tok.specs.Keywords.{keyword_text}

@@ -1,5 +1,5 @@
 -- The printed text of words lexes to tokens with these words: behind a word stands a blank, which goes on with no token.
-use Rattle.std.proofs.Common.{◌≡◌, ◌≢◌, ℕ, zero, suc, ◌+◌, ◌-◌, ◌^◌, ◌≤◌, ◌<◌, ◌⊎◌, inl, inr, Bool, true, false, true≢false, ◌==◌, ◌&&◌, nat_le, List, [], ◌∷◌, ◌++◌, length, take, drop, sym, subst, ap, refl, ◌∙◌, arith, append_assoc, append-nil, length-append, decimal, cond}
+use Rattle.std.proofs.Common.{◌≡◌, ◌≢◌, ℕ, zero, suc, ◌+◌, ◌-◌, ◌≤◌, ◌<◌, ◌⊎◌, inl, inr, Bool, true, false, true≢false, ◌==◌, ◌&&◌, nat_le, List, [], ◌∷◌, ◌++◌, length, take, drop, sym, subst, ap, refl, ◌∙◌, arith, length-append, decimal}
 use Rattle.std.specs.Prelude.{slice_index, slice_range}
 use Rattle.std.specs.List.{list_all}
 use Rattle.std.proofs.lemmas.Bool.{cases_lt}
@@ -11,22 +11,20 @@ use Rattle.im_tok.specs.declared.literal.Element.{Element}
 use Rattle.im_tok.specs.declared.keyword.Keyword.{Keyword}
 use Rattle.im_tok.specs.declared.punctuator.Punctuator.{Punctuator}
 use Rattle.im_tok.specs.declared.punctuator.Punctuator.TheVariants.{Slash, SlashAssign}
-use Rattle.im_tok.specs.declared.number.Number.{Number}
-use Rattle.im_tok.specs.declared.token.Token.{Token}
 use Rattle.im_tok.specs.declared.token.TokenKind.{TokenKind}
 use Rattle.im_tok.specs.declared.token.TokenKind.TheVariants as kind
 use Rattle.im_lex.specs.declared.piece.PieceKind.{PieceKind}
 use Rattle.im_lex.specs.declared.piece.PieceKind.TheVariants as piece
 use Rattle.im_lex.specs.declared.piece.Piece.{Piece}
-use Rattle.im_lex.specs.Bytes.{IsDigit, IsNameStart, IsNameByte, IsBlank, GoesOn}
-use Rattle.im_lex.specs.Pieces.{IsPiece, IsAccepted, IsLongest, IsNext, BeginsNumber}
-use Rattle.im_lex.specs.Lexing.{starts_line, line_at, IsCut, tokens_of, Lexes}
+use Rattle.im_lex.specs.Bytes.{IsNameStart, IsNameByte, IsBlank, GoesOn}
+use Rattle.im_lex.specs.Pieces.{IsPiece, IsAccepted, IsNext, BeginsNumber}
+use Rattle.im_lex.specs.Lexing.{starts_line, IsCut, tokens_of}
 use Rattle.im_word.specs.Words.{Word, name, keyword, number, character, text, mark, unknown}
 use Rattle.im_word.specs.Tokens.{IsWordOf}
 use Rattle.im_printed.specs.Fit.{IsFit, AreFit}
 use Rattle.im_printed.specs.Text.{word_text, literal_text, text_of, suffix_text, HaveWords, IsReadAs}
 use Rattle.im_printed.proofs.Spellings.{no_blank, no_quote, keyword_seen, mark_seen, slash_led, some_byte, some_letter}
-use Rattle.im_printed.proofs.Elements.{index_behind, index_first, take_front, drop_front, least_of, IsQuote, AreBytes, all_bytes, element_of, elements_of, values_are, literal_is, literal_ends}
+use Rattle.im_printed.proofs.Elements.{index_behind, index_first, take_front, drop_front, least_of, AreBytes, all_bytes, element_of, elements_of, values_are, literal_is, literal_ends}
 use Rattle.im_printed.proofs.Numerals.{first_digit, number_run, value_bound, value_small, numeral_is}
 
 -- what stands behind a word: a blank or an LF
@@ -268,12 +266,14 @@ next_word : (x : Word) → IsFit x → (b : ℕ) → IsSeparator b → (r : List
 next_word x fit b sep r start =
     let s = spelt x fit in
     let u = word_text x in
-    let front = sym (take_front u (b ∷ r)) in
-    (record {
-      within = omega (arith, length-append u (b ∷ r));
-      is = subst (λ z. IsPiece start (piece.Token (kind_of x)) z) front (s.is start);
-      longest = λ k n within is. longest_by s k n is (cases_lt (length u) n);
-    }, subst (λ z. IsAccepted (piece.Token (kind_of x)) z) front s.accepted)
+    let front = sym (take_front u (b ∷ r)) in (
+      record {
+        within = omega (arith, length-append u (b ∷ r));
+        is = subst (λ z. IsPiece start (piece.Token (kind_of x)) z) front (s.is start);
+        longest = λ k n within is. longest_by s k n is (cases_lt (length u) n);
+      },
+      subst (λ z. IsAccepted (piece.Token (kind_of x)) z) front s.accepted,
+    )
   where
     longest_by : Spelt x → (k : PieceKind) (n : ℕ) → IsPiece start k (take n (word_text x ++ (b ∷ r))) → (length (word_text x) < n) ⊎ (n ≤ length (word_text x)) → n ≤ length (word_text x)
     longest_by s k n is (inr le) = le
@@ -304,12 +304,14 @@ only_blank b r sep start piece.Marker is = absurd (let f : b ≡ 35 = is.1.hash 
 only_blank b r sep start piece.OpenComment is = absurd (let f : b ≡ 47 = is.slash in omega (arith, f, low b sep))
 
 next_blank : (b : ℕ) → IsSeparator b → (r : List ℕ) (start : Bool) → IsNext start (b ∷ r) blank_piece
-next_blank b sep r start =
-    (record {
-      within = omega arith;
-      is = (refl, is_blank b sep);
-      longest = λ k n within is. longest_by k n is within;
-    }, tt)
+next_blank b sep r start = (
+  record {
+    within = omega arith;
+    is = (refl, is_blank b sep);
+    longest = λ k n within is. longest_by k n is within;
+  },
+  tt,
+)
   where
     longest_by : (k : PieceKind) (n : ℕ) → IsPiece start k (take n (b ∷ r)) → n ≤ length (b ∷ r) → n ≤ 1
     longest_by k zero is within = omega arith
@@ -334,16 +336,18 @@ cut_into [] fit source at e =
     (subst (λ z. IsNext (starts_line source at) z blank_piece) (sym e) (next_blank 10 (inr refl) [] (starts_line source at)), last_place source at 10 e)
 cut_into (x ∷ []) fit source at e =
     let u = word_text x in
-    let f = behind source at u (10 ∷ []) e in
-    (subst (λ z. IsNext (starts_line source at) z (token_piece x)) (sym e) (next_word x fit.0 10 (inr refl) [] (starts_line source at)),
-      (subst (λ z. IsNext (starts_line source (at + length u)) z blank_piece) (sym f) (next_blank 10 (inr refl) [] (starts_line source (at + length u))), last_place source (at + length u) 10 f))
+    let f = behind source at u (10 ∷ []) e in (
+      subst (λ z. IsNext (starts_line source at) z (token_piece x)) (sym e) (next_word x fit.0 10 (inr refl) [] (starts_line source at)),
+      (subst (λ z. IsNext (starts_line source (at + length u)) z blank_piece) (sym f) (next_blank 10 (inr refl) [] (starts_line source (at + length u))), last_place source (at + length u) 10 f),
+    )
 cut_into (x ∷ y ∷ xs) fit source at e =
     let u = word_text x in
     let r = text_of (y ∷ xs) in
     let f = behind source at u (32 ∷ r) e in
-    let g = behind source (at + length u) (32 ∷ []) r f in
-    (subst (λ z. IsNext (starts_line source at) z (token_piece x)) (sym e) (next_word x fit.0 32 (inl refl) r (starts_line source at)),
-      (subst (λ z. IsNext (starts_line source (at + length u)) z blank_piece) (sym f) (next_blank 32 (inl refl) r (starts_line source (at + length u))), cut_into (y ∷ xs) fit.1 source (at + length u + 1) g))
+    let g = behind source (at + length u) (32 ∷ []) r f in (
+      subst (λ z. IsNext (starts_line source at) z (token_piece x)) (sym e) (next_word x fit.0 32 (inl refl) r (starts_line source at)),
+      (subst (λ z. IsNext (starts_line source (at + length u)) z blank_piece) (sym f) (next_blank 32 (inl refl) r (starts_line source (at + length u))), cut_into (y ∷ xs) fit.1 source (at + length u + 1) g),
+    )
 
 word_range : (source : List ℕ) (at : ℕ) (u v : List ℕ) → drop at source ≡ u ++ v → slice_range source at (at + length u) ≡ u
 word_range source at u v e = ap (λ k. take k (drop at source)) (let f : (at + length u) - at ≡ length u = omega arith in f) ∙ ap (λ z. take (length u) z) e ∙ take_front u v

@@ -1,5 +1,5 @@
 -- The words of the tokens of a text of bytes are those that tokens may have.
-use Rattle.std.proofs.Common.{◌≡◌, ℕ, zero, suc, ◌+◌, ◌-◌, ◌≤◌, ◌<◌, ◌⊎◌, Bool, true, false, ◌==◌, if◌then◌else◌, All, List, [], ◌∷◌, ◌++◌, length, take, drop, map, sym, subst, ap, refl, ◌∙◌, arith, Option, Some, None}
+use Rattle.std.proofs.Common.{◌≡◌, ℕ, zero, suc, ◌+◌, ◌-◌, ◌≤◌, Bool, true, false, ◌==◌, if◌then◌else◌, All, List, [], ◌∷◌, ◌++◌, length, take, drop, map, sym, subst, ap, refl, arith, Option, Some, None}
 use Rattle.std.specs.Prelude.{slice_index, slice_range}
 use Rattle.im_tok.specs.Literals.{simple_escape, IsElement, AreElements}
 use Rattle.im_tok.specs.Literals.IsElement.{plain, simple, octal, hexadecimal}
@@ -10,7 +10,7 @@ use Rattle.im_tok.specs.declared.token.TokenKind.TheVariants as kind
 use Rattle.im_lex.specs.declared.piece.PieceKind.{PieceKind}
 use Rattle.im_lex.specs.declared.piece.PieceKind.TheVariants as piece
 use Rattle.im_lex.specs.declared.piece.Piece.{Piece}
-use Rattle.im_lex.specs.Pieces.{IsPiece, IsAccepted, IsNext}
+use Rattle.im_lex.specs.Pieces.{IsPiece, IsAccepted}
 use Rattle.im_lex.specs.Lexing.{starts_line, IsCut, token_of, tokens_of, Lexes}
 use Rattle.im_word.specs.Words.{Word, name, keyword, number, character, text, mark, unknown}
 use Rattle.im_word.specs.Tokens.{IsWordOf}

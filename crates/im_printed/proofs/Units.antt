@@ -1,7 +1,7 @@
 -- Whatever words derive a declaration, a statement or a unit, the printed words derive it again.
-use Rattle.std.proofs.Common.{◌≡◌, ℕ, zero, suc, ◌+◌, ◌<◌, Bool, true, false, List, [], ◌∷◌, ◌++◌, length, sym, subst, ap, refl, ◌∙◌, arith, append_assoc, append-nil, length-append}
+use Rattle.std.proofs.Common.{ℕ, suc, ◌+◌, ◌<◌, Bool, false, List, [], ◌∷◌, ◌++◌, length, sym, subst, refl, ◌∙◌, arith, append_assoc, append-nil, length-append}
 use Rattle.im_tok.specs.declared.keyword.Keyword.TheVariants.{If, Else, While}
-use Rattle.im_tok.specs.declared.punctuator.Punctuator.TheVariants.{OpenParen, CloseParen, OpenBrace, CloseBrace, Colon, Semicolon, Assign, Comma}
+use Rattle.im_tok.specs.declared.punctuator.Punctuator.TheVariants.{OpenParen, CloseParen, OpenBrace, CloseBrace, Colon, Semicolon, Comma}
 use Rattle.im_word.specs.Words.{Name, Word, name, keyword, mark}
 use Rattle.im_ctree.specs.Typedefs.{has_type, typedef_names, names_behind, names_behind_init, names_behind_external}
 use Rattle.im_ctree.specs.Tree as t
@@ -9,7 +9,7 @@ use Rattle.im_ctree.specs.Grammar as g
 use Rattle.im_ctree.specs.Units as n
 use Rattle.im_printed.specs.Printed as w
 use Rattle.im_printed.specs.Unnumbered as bare
-use Rattle.im_printed.specs.Fit.{IsFit, AreFit}
+use Rattle.im_printed.specs.Fit.{AreFit}
 use Rattle.im_printed.specs.Again.{IsSpelledAgain}
 use Rattle.im_printed.proofs.Fit.{fit_append, fit_left, fit_right, fit_inner, fit_closed, Printed}
 use Rattle.im_printed.proofs.Bare.{has_again, declaration_again, init_again, statement_again, external_again, takes_again}
@@ -26,10 +26,14 @@ mutual
       let b = prints_initializer_tail rest (fit_inner v (mark CloseBrace) r) in
       let a' = w.initializer T x in
       let b' = w.initializer_tail T xs in
-      record { fit = (tt, fit_closed (a' ++ b') (mark CloseBrace) tt (fit_append a' b' a.fit b.fit));
-        derives = λ q. let y = a.derives (suc q) in let z = b.derives (suc q + length a') in
-          (t.braced_initializer q (t.more_initializers y.0 z.0), cc (y.1, z.1),
-            subst (λ k. n.IsInitializer T q (t.braced_initializer q (t.more_initializers y.0 z.0)) (mark OpenBrace ∷ k)) (sym (append_assoc a' b' (mark CloseBrace ∷ []))) (n.braced y.2 z.2)) }
+      record {
+        fit = (tt, fit_closed (a' ++ b') (mark CloseBrace) tt (fit_append a' b' a.fit b.fit));
+        derives = λ q. let y = a.derives (suc q) in let z = b.derives (suc q + length a') in (
+          t.braced_initializer q (t.more_initializers y.0 z.0),
+          cc (y.1, z.1),
+          subst (λ k. n.IsInitializer T q (t.braced_initializer q (t.more_initializers y.0 z.0)) (mark OpenBrace ∷ k)) (sym (append_assoc a' b' (mark CloseBrace ∷ []))) (n.braced y.2 z.2),
+        );
+      }
 
   prints_initializer_tail : {T : List Name} {p : ℕ} {xs : t.Initializers} {u : List Word} → n.InitializerTail T p xs u → AreFit u → Printed bare.initializers (n.InitializerTail T) xs (w.initializer_tail T xs)
   prints_initializer_tail n.last_initializer f = record { fit = tt; derives = λ q. (t.no_initializers, refl, n.last_initializer) }
@@ -37,8 +41,10 @@ mutual
   prints_initializer_tail {T = T} (n.next_initializer {x = x} {xs = xs} {u = u} {v = v} one rest) f =
       let a = prints_initializer one (fit_left u v f.1) in
       let b = prints_initializer_tail rest (fit_right u v f.1) in
-      record { fit = (tt, fit_append (w.initializer T x) (w.initializer_tail T xs) a.fit b.fit);
-        derives = λ q. let y = a.derives (suc q) in let z = b.derives (suc q + length (w.initializer T x)) in (t.more_initializers y.0 z.0, cc (y.1, z.1), n.next_initializer y.2 z.2) }
+      record {
+        fit = (tt, fit_append (w.initializer T x) (w.initializer_tail T xs) a.fit b.fit);
+        derives = λ q. let y = a.derives (suc q) in let z = b.derives (suc q + length (w.initializer T x)) in (t.more_initializers y.0 z.0, cc (y.1, z.1), n.next_initializer y.2 z.2);
+      }
 
 prints_maybe_initializer : {T : List Name} {p : ℕ} {i : t.MaybeInitializer} {u : List Word} → n.IsMaybeInitializer T p i u → AreFit u → Printed bare.maybe_initializer (n.IsMaybeInitializer T) i (w.maybe_initializer T i)
 prints_maybe_initializer n.not_initialized f = record { fit = tt; derives = λ q. (t.no_initializer, refl, n.not_initialized) }
@@ -60,8 +66,10 @@ prints_init_tail {T = T} (n.last_declarator {d = d} {i = i} {u = u} {v = v} x y)
     let b = prints_maybe_initializer y (fit_right u v f) in
     let a' = w.declarator T d in
     let b' = w.maybe_initializer T i in
-    record { fit = (tt, fit_append a' (b' ++ []) a.fit (fit_append b' [] b.fit tt));
-      derives = λ q. let k = a.derives (suc q) in let z = b.derives (suc q + length a') in (t.more_init_declarators k.0 z.0 t.no_init_declarators, cc (k.1, z.1), a_tail (with_tail k.2 z.2 no_tail)) }
+    record {
+      fit = (tt, fit_append a' (b' ++ []) a.fit (fit_append b' [] b.fit tt));
+      derives = λ q. let k = a.derives (suc q) in let z = b.derives (suc q + length a') in (t.more_init_declarators k.0 z.0 t.no_init_declarators, cc (k.1, z.1), a_tail (with_tail k.2 z.2 no_tail));
+    }
 prints_init_tail {T = T} (n.next_declarator {d = d} {i = i} {ds = ds} {u = u} {v = v} {w = x'} x y rest) f =
     let r = fit_right u (v ++ (mark Comma ∷ x')) f in
     let a = assembled (parts_of x (fit_left u (v ++ (mark Comma ∷ x')) f)) in
@@ -70,9 +78,11 @@ prints_init_tail {T = T} (n.next_declarator {d = d} {i = i} {ds = ds} {u = u} {v
     let a' = w.declarator T d in
     let b' = w.maybe_initializer T i in
     let c' = w.init_declarator_tail T ds in
-    record { fit = (tt, fit_append a' (b' ++ c') a.fit (fit_append b' c' b.fit c.fit));
+    record {
+      fit = (tt, fit_append a' (b' ++ c') a.fit (fit_append b' c' b.fit c.fit));
       derives = λ q. let k = a.derives (suc q) in let z = b.derives (suc q + length a') in let h = c.derives (suc q + length a' + length b') in
-        (t.more_init_declarators k.0 z.0 h.0, cc (k.1, z.1, h.1), a_tail (with_tail k.2 z.2 h.2)) }
+          (t.more_init_declarators k.0 z.0 h.0, cc (k.1, z.1, h.1), a_tail (with_tail k.2 z.2 h.2));
+    }
 
 -- the declarators behind specifiers of which the Bool says whether a type stands in them
 prints_inits : {T : List Name} {p : ℕ} {ds : t.InitDeclarators} {u : List Word} (typed : Bool) → n.IsInitDeclarators T p ds u → AreFit u → Printed bare.init_declarators (n.IsInitDeclarators T) ds (w.init_declarators T typed ds)
@@ -81,8 +91,10 @@ prints_inits {T = T} typed (n.last_declarator {d = d} {i = i} {u = u} {v = v} x 
     let b = prints_maybe_initializer y (fit_right u v f) in
     let a' = w.behind_specifiers T typed d (w.declarator T d) in
     let b' = w.maybe_initializer T i in
-    record { fit = fit_append a' (b' ++ []) a.fit (fit_append b' [] b.fit tt);
-      derives = λ q. let k = a.derives q in let z = b.derives (q + length a') in (t.more_init_declarators k.0 z.0 t.no_init_declarators, cc (k.1, z.1), with_tail k.2 z.2 no_tail) }
+    record {
+      fit = fit_append a' (b' ++ []) a.fit (fit_append b' [] b.fit tt);
+      derives = λ q. let k = a.derives q in let z = b.derives (q + length a') in (t.more_init_declarators k.0 z.0 t.no_init_declarators, cc (k.1, z.1), with_tail k.2 z.2 no_tail);
+    }
 prints_inits {T = T} typed (n.next_declarator {d = d} {i = i} {ds = ds} {u = u} {v = v} {w = x'} x y rest) f =
     let r = fit_right u (v ++ (mark Comma ∷ x')) f in
     let a = first_printed typed d (parts_of x (fit_left u (v ++ (mark Comma ∷ x')) f)) in
@@ -91,9 +103,11 @@ prints_inits {T = T} typed (n.next_declarator {d = d} {i = i} {ds = ds} {u = u} 
     let a' = w.behind_specifiers T typed d (w.declarator T d) in
     let b' = w.maybe_initializer T i in
     let c' = w.init_declarator_tail T ds in
-    record { fit = fit_append a' (b' ++ c') a.fit (fit_append b' c' b.fit c.fit);
+    record {
+      fit = fit_append a' (b' ++ c') a.fit (fit_append b' c' b.fit c.fit);
       derives = λ q. let k = a.derives q in let z = b.derives (q + length a') in let h = c.derives (q + length a' + length b') in
-        (t.more_init_declarators k.0 z.0 h.0, cc (k.1, z.1, h.1), with_tail k.2 z.2 h.2) }
+          (t.more_init_declarators k.0 z.0 h.0, cc (k.1, z.1, h.1), with_tail k.2 z.2 h.2);
+    }
 
 -- the words of the first declarator, and more behind them, don't go on with the specifiers
 goes_front : {T : List Name} {a : Bool} (u v : List Word) → 0 < length u → g.GoesOnSpecifiers T a (u ++ v) → g.GoesOnSpecifiers T a u
@@ -122,10 +136,14 @@ prints_declaration {T = T} (n.declares {s = s} {ds = ds} {u = u} {v = v} x free 
     let b = prints_inits (has_type s) y r in
     let a' = w.specifiers T s in
     let b' = w.init_declarators T (has_type s) ds in
-    record { fit = fit_append a' (b' ++ (mark Semicolon ∷ [])) a.fit (fit_closed b' (mark Semicolon) tt b.fit);
-      derives = λ q. let k = a.derives q in let z = b.derives (q + length a') in
-        (t.declaration k.0 z.0, cc (k.1, z.1),
-          n.declares k.2 (subst (λ h. g.GoesOnSpecifiers T h b' → ⊥) (sym (has_again s k.0 k.1)) (inits_free (has_type s) y r)) z.2) }
+    record {
+      fit = fit_append a' (b' ++ (mark Semicolon ∷ [])) a.fit (fit_closed b' (mark Semicolon) tt b.fit);
+      derives = λ q. let k = a.derives q in let z = b.derives (q + length a') in (
+        t.declaration k.0 z.0,
+        cc (k.1, z.1),
+        n.declares k.2 (subst (λ h. g.GoesOnSpecifiers T h b' → ⊥) (sym (has_again s k.0 k.1)) (inits_free (has_type s) y r)) z.2,
+      );
+    }
 
 prints_maybe : {T : List Name} {p : ℕ} {e : t.MaybeExpression} {u : List Word} → n.IsMaybeExpression T p e u → AreFit u → Printed bare.maybe_expression (n.IsMaybeExpression T) e (w.maybe_expression T e)
 prints_maybe n.nothing f = record { fit = tt; derives = λ q. (t.no_expression, refl, n.nothing) }
@@ -150,17 +168,21 @@ mutual
       let b = prints_items rest (fit_right u v f) in
       let a' = w.declaration T d in
       let b' = w.items (typedef_names T d) is in
-      record { fit = fit_append a' b' a.fit b.fit;
+      record {
+        fit = fit_append a' b' a.fit b.fit;
         derives = λ q. let y = a.derives q in let z = b.derives (q + length a') in
-          (t.declaration_item y.0 z.0, cc (y.1, z.1), n.next_declaration y.2 (subst (λ k. n.IsBlockItems k (q + length a') z.0 b') (sym (declaration_again T d y.0 y.1)) z.2)) }
+            (t.declaration_item y.0 z.0, cc (y.1, z.1), n.next_declaration y.2 (subst (λ k. n.IsBlockItems k (q + length a') z.0 b') (sym (declaration_again T d y.0 y.1)) z.2));
+      }
   prints_items {T = T} (n.next_statement {s = s} {is = is} {u = u} {v = v} x rest) f =
       let a = prints_statement x (fit_left u v f) in
       let b = prints_items rest (fit_right u v f) in
       let a' = w.statement T s in
       let b' = w.items (names_behind T s) is in
-      record { fit = fit_append a' b' a.fit b.fit;
+      record {
+        fit = fit_append a' b' a.fit b.fit;
         derives = λ q. let y = a.derives q in let z = b.derives (q + length a') in
-          (t.statement_item y.0 z.0, cc (y.1, z.1), n.next_statement y.2 (subst (λ k. n.IsBlockItems k (q + length a') z.0 b') (sym (statement_again T s y.0 y.1)) z.2)) }
+            (t.statement_item y.0 z.0, cc (y.1, z.1), n.next_statement y.2 (subst (λ k. n.IsBlockItems k (q + length a') z.0 b') (sym (statement_again T s y.0 y.1)) z.2));
+      }
 
   prints_statement : {T : List Name} {p : ℕ} {s : t.Statement} {u : List Word} → n.IsStatement T p s u → AreFit u → Printed bare.statement (n.IsStatement T) s (w.statement T s)
   prints_statement (n.blocks x) f = let a = prints_block x f in record { fit = a.fit; derives = λ q. let y = a.derives q in (t.block_statement q y.0, cc y.1, n.blocks y.2) }
@@ -172,10 +194,14 @@ mutual
       let b = prints_statement y (fit_right u (mark CloseParen ∷ v) f.1.1).1 in
       let a' = w.expression T e in
       let b' = w.statement T s in
-      record { fit = (tt, (tt, fit_append a' (mark CloseParen ∷ (b' ++ [])) a.fit (tt, fit_append b' [] b.fit tt)));
-        derives = λ q. let k = a.derives (suc (suc q)) in let z = b.derives (suc (suc (suc q) + length a')) in
-          (t.if_statement q k.0 z.0 t.no_statement, cc (k.1, z.1),
-            subst (λ h. n.IsStatement T q (t.if_statement q k.0 z.0 t.no_statement) (keyword If ∷ mark OpenParen ∷ (a' ++ (mark CloseParen ∷ h)))) (sym (append-nil b')) (n.ifs k.2 z.2)) }
+      record {
+        fit = (tt, (tt, fit_append a' (mark CloseParen ∷ (b' ++ [])) a.fit (tt, fit_append b' [] b.fit tt)));
+        derives = λ q. let k = a.derives (suc (suc q)) in let z = b.derives (suc (suc (suc q) + length a')) in (
+          t.if_statement q k.0 z.0 t.no_statement,
+          cc (k.1, z.1),
+          subst (λ h. n.IsStatement T q (t.if_statement q k.0 z.0 t.no_statement) (keyword If ∷ mark OpenParen ∷ (a' ++ (mark CloseParen ∷ h)))) (sym (append-nil b')) (n.ifs k.2 z.2),
+        );
+      }
   prints_statement {T = T} (n.if_elses {e = e} {s = s} {t = o} {u = u} {v = v} {w = x'} x y takes r) f =
       let f1 = (fit_right u (mark CloseParen ∷ (v ++ (keyword Else ∷ x'))) f.1.1).1 in
       let a = in_expression _ _ (prints_expression x (fit_left u (mark CloseParen ∷ (v ++ (keyword Else ∷ x'))) f.1.1)) in
@@ -184,17 +210,23 @@ mutual
       let a' = w.expression T e in
       let b' = w.statement T s in
       let c' = w.statement (names_behind T s) o in
-      record { fit = (tt, (tt, fit_append a' (mark CloseParen ∷ (b' ++ (keyword Else ∷ c'))) a.fit (tt, fit_append b' (keyword Else ∷ c') b.fit (tt, c.fit))));
-        derives = λ q. let k = a.derives (suc (suc q)) in let z = b.derives (suc (suc (suc q) + length a')) in let h = c.derives (suc (suc (suc (suc q) + length a') + length b')) in
-          (t.if_statement q k.0 z.0 (t.a_statement h.0), cc (k.1, z.1, h.1),
-            n.if_elses k.2 z.2 (takes_again s z.0 z.1 ∙ takes) (subst (λ j. n.IsStatement j (suc (suc (suc (suc q) + length a') + length b')) h.0 c') (sym (statement_again T s z.0 z.1)) h.2)) }
+      record {
+        fit = (tt, (tt, fit_append a' (mark CloseParen ∷ (b' ++ (keyword Else ∷ c'))) a.fit (tt, fit_append b' (keyword Else ∷ c') b.fit (tt, c.fit))));
+        derives = λ q. let k = a.derives (suc (suc q)) in let z = b.derives (suc (suc (suc q) + length a')) in let h = c.derives (suc (suc (suc (suc q) + length a') + length b')) in (
+          t.if_statement q k.0 z.0 (t.a_statement h.0),
+          cc (k.1, z.1, h.1),
+          n.if_elses k.2 z.2 (takes_again s z.0 z.1 ∙ takes) (subst (λ j. n.IsStatement j (suc (suc (suc (suc q) + length a') + length b')) h.0 c') (sym (statement_again T s z.0 z.1)) h.2),
+        );
+      }
   prints_statement {T = T} (n.whiles {e = e} {s = s} {u = u} {v = v} x y) f =
       let a = in_expression _ _ (prints_expression x (fit_left u (mark CloseParen ∷ v) f.1.1)) in
       let b = prints_statement y (fit_right u (mark CloseParen ∷ v) f.1.1).1 in
       let a' = w.expression T e in
       let b' = w.statement T s in
-      record { fit = (tt, (tt, fit_append a' (mark CloseParen ∷ b') a.fit (tt, b.fit)));
-        derives = λ q. let k = a.derives (suc (suc q)) in let z = b.derives (suc (suc (suc q) + length a')) in (t.while_statement q k.0 z.0, cc (k.1, z.1), n.whiles k.2 z.2) }
+      record {
+        fit = (tt, (tt, fit_append a' (mark CloseParen ∷ b') a.fit (tt, b.fit)));
+        derives = λ q. let k = a.derives (suc (suc q)) in let z = b.derives (suc (suc (suc q) + length a')) in (t.while_statement q k.0 z.0, cc (k.1, z.1), n.whiles k.2 z.2);
+      }
   prints_statement {T = T} (n.dos {s = s} {e = e} {u = u} {v = v} y x) f =
       let closing = mark CloseParen ∷ mark Semicolon ∷ [] in
       let f1 = fit_right u (keyword While ∷ mark OpenParen ∷ (v ++ closing)) f.1 in
@@ -202,9 +234,11 @@ mutual
       let a = in_expression _ _ (prints_expression x (fit_left v closing f1.1.1)) in
       let b' = w.statement T s in
       let a' = w.expression (names_behind T s) e in
-      record { fit = (tt, fit_append b' (keyword While ∷ mark OpenParen ∷ (a' ++ closing)) b.fit (tt, (tt, fit_append a' closing a.fit (tt, (tt, tt)))));
+      record {
+        fit = (tt, fit_append b' (keyword While ∷ mark OpenParen ∷ (a' ++ closing)) b.fit (tt, (tt, fit_append a' closing a.fit (tt, (tt, tt)))));
         derives = λ q. let z = b.derives (suc q) in let k = a.derives (suc (suc (suc q + length b'))) in
-          (t.do_statement q z.0 k.0, cc (z.1, k.1), n.dos z.2 (subst (λ j. g.IsExpression j (suc (suc (suc q + length b'))) k.0 a') (sym (statement_again T s z.0 z.1)) k.2)) }
+            (t.do_statement q z.0 k.0, cc (z.1, k.1), n.dos z.2 (subst (λ j. g.IsExpression j (suc (suc (suc q + length b'))) k.0 a') (sym (statement_again T s z.0 z.1)) k.2));
+      }
   prints_statement {T = T} (n.fors {i = i} {c = c} {n = m} {s = s} {u = u} {v = v} {w = x'} {x = y'} one two three four) f =
       let r3 = mark CloseParen ∷ y' in
       let r2 = mark Semicolon ∷ (x' ++ r3) in
@@ -219,29 +253,37 @@ mutual
       let b' = w.maybe_expression U c in
       let d' = w.maybe_expression U m in
       let e' = w.statement U s in
-      record { fit = (tt, (tt, fit_append a' (b' ++ (mark Semicolon ∷ (d' ++ (mark CloseParen ∷ e')))) a.fit (fit_append b' (mark Semicolon ∷ (d' ++ (mark CloseParen ∷ e'))) b.fit (tt, fit_append d' (mark CloseParen ∷ e') d.fit (tt, e.fit)))));
+      record {
+        fit = (tt, (tt, fit_append a' (b' ++ (mark Semicolon ∷ (d' ++ (mark CloseParen ∷ e')))) a.fit (fit_append b' (mark Semicolon ∷ (d' ++ (mark CloseParen ∷ e'))) b.fit (tt, fit_append d' (mark CloseParen ∷ e') d.fit (tt, e.fit)))));
         derives = λ q.
-          let q2 = suc (suc q) + length a' in
-          let q3 = suc (suc (suc q) + length a' + length b') in
-          let q4 = suc (suc (suc (suc q) + length a' + length b') + length d') in
-          let ya = a.derives (suc (suc q)) in let yb = b.derives q2 in let yd = d.derives q3 in let ye = e.derives q4 in
-          let same = sym (init_again T i ya.0 ya.1) in
-          (t.for_statement q ya.0 yb.0 yd.0 ye.0, cc (ya.1, yb.1, yd.1, ye.1),
-            n.fors ya.2 (subst (λ j. n.IsMaybeExpression j q2 yb.0 b') same yb.2) (subst (λ j. n.IsMaybeExpression j q3 yd.0 d') same yd.2) (subst (λ j. n.IsStatement j q4 ye.0 e') same ye.2)) }
+            let q2 = suc (suc q) + length a' in
+            let q3 = suc (suc (suc q) + length a' + length b') in
+            let q4 = suc (suc (suc (suc q) + length a' + length b') + length d') in
+            let ya = a.derives (suc (suc q)) in let yb = b.derives q2 in let yd = d.derives q3 in let ye = e.derives q4 in
+            let same = sym (init_again T i ya.0 ya.1) in (
+              t.for_statement q ya.0 yb.0 yd.0 ye.0,
+              cc (ya.1, yb.1, yd.1, ye.1),
+              n.fors ya.2 (subst (λ j. n.IsMaybeExpression j q2 yb.0 b') same yb.2) (subst (λ j. n.IsMaybeExpression j q3 yd.0 d') same yd.2) (subst (λ j. n.IsStatement j q4 ye.0 e') same ye.2),
+            );
+      }
   prints_statement {T = T} (n.switches {e = e} {b = b0} {u = u} {v = v} x y) f =
       let a = in_expression _ _ (prints_expression x (fit_left u (mark CloseParen ∷ v) f.1.1)) in
       let b = prints_block y (fit_right u (mark CloseParen ∷ v) f.1.1).1 in
       let a' = w.expression T e in
       let b' = w.block T b0 in
-      record { fit = (tt, (tt, fit_append a' (mark CloseParen ∷ b') a.fit (tt, b.fit)));
-        derives = λ q. let k = a.derives (suc (suc q)) in let z = b.derives (suc (suc (suc q) + length a')) in (t.switch_statement q k.0 z.0, cc (k.1, z.1), n.switches k.2 z.2) }
+      record {
+        fit = (tt, (tt, fit_append a' (mark CloseParen ∷ b') a.fit (tt, b.fit)));
+        derives = λ q. let k = a.derives (suc (suc q)) in let z = b.derives (suc (suc (suc q) + length a')) in (t.switch_statement q k.0 z.0, cc (k.1, z.1), n.switches k.2 z.2);
+      }
   prints_statement {T = T} (n.cases {e = e} {s = s} {u = u} {v = v} x y) f =
       let a = in_conditional _ _ (prints_choice x (fit_left u (mark Colon ∷ v) f.1)) in
       let b = prints_statement y (fit_right u (mark Colon ∷ v) f.1).1 in
       let a' = w.at_binding 2 e (w.expression T e) in
       let b' = w.statement T s in
-      record { fit = (tt, fit_append a' (mark Colon ∷ b') a.fit (tt, b.fit));
-        derives = λ q. let k = a.derives (suc q) in let z = b.derives (suc (suc q + length a')) in (t.case_statement q k.0 z.0, cc (k.1, z.1), n.cases k.2 z.2) }
+      record {
+        fit = (tt, fit_append a' (mark Colon ∷ b') a.fit (tt, b.fit));
+        derives = λ q. let k = a.derives (suc q) in let z = b.derives (suc (suc q + length a')) in (t.case_statement q k.0 z.0, cc (k.1, z.1), n.cases k.2 z.2);
+      }
   prints_statement (n.defaults x) f = let a = prints_statement x f.1.1 in record { fit = (tt, (tt, a.fit)); derives = λ q. let y = a.derives (suc (suc q)) in (t.default_statement q y.0, cc y.1, n.defaults y.2) }
   prints_statement n.breaks f = record { fit = (tt, (tt, tt)); derives = λ q. (t.break_statement q, refl, n.breaks) }
   prints_statement n.continues f = record { fit = (tt, (tt, tt)); derives = λ q. (t.continue_statement q, refl, n.continues) }
@@ -260,25 +302,33 @@ prints_external {T = T} (n.a_definition {s = s} {d = d} {b = b0} {u = u} {v = v}
     let a' = w.specifiers T s in
     let b' = w.behind_specifiers T (has_type s) d (w.declarator T d) in
     let c' = w.block T b0 in
-    record { fit = fit_append a' (b' ++ c') a.fit (fit_append b' c' b.fit c.fit);
-      derives = λ q. let k = a.derives q in let h = b.derives (q + length a') in let j = c.derives (q + length a' + length b') in
-        (t.function_definition k.0 h.0 j.0, cc (k.1, h.1, j.1),
-          n.a_definition k.2 (subst (λ i. g.GoesOnSpecifiers T i b' → ⊥) (sym (has_again s k.0 k.1)) (first_free (has_type s) d parts)) h.2 j.2) }
+    record {
+      fit = fit_append a' (b' ++ c') a.fit (fit_append b' c' b.fit c.fit);
+      derives = λ q. let k = a.derives q in let h = b.derives (q + length a') in let j = c.derives (q + length a' + length b') in (
+        t.function_definition k.0 h.0 j.0,
+        cc (k.1, h.1, j.1),
+        n.a_definition k.2 (subst (λ i. g.GoesOnSpecifiers T i b' → ⊥) (sym (has_again s k.0 k.1)) (first_free (has_type s) d parts)) h.2 j.2,
+      );
+    }
 
 prints_unit : {T : List Name} {p : ℕ} {x : t.Tree} {u : List Word} → n.IsUnit T p x u → AreFit u → Printed bare.unnumbered (n.IsUnit T) x (w.externals T x)
 prints_unit {T = T} (n.last_external {e = e} x) f =
     let a = prints_external x f in
     let a' = w.external T e in
-    record { fit = fit_append a' [] a.fit tt;
-      derives = λ q. let y = a.derives q in (t.more_externals y.0 t.no_externals, cc y.1, subst (n.IsUnit T q (t.more_externals y.0 t.no_externals)) (sym (append-nil a')) (n.last_external y.2)) }
+    record {
+      fit = fit_append a' [] a.fit tt;
+      derives = λ q. let y = a.derives q in (t.more_externals y.0 t.no_externals, cc y.1, subst (n.IsUnit T q (t.more_externals y.0 t.no_externals)) (sym (append-nil a')) (n.last_external y.2));
+    }
 prints_unit {T = T} (n.next_external {e = e} {t = rest} {u = u} {v = v} x more) f =
     let a = prints_external x (fit_left u v f) in
     let b = prints_unit more (fit_right u v f) in
     let a' = w.external T e in
     let b' = w.externals (names_behind_external T e) rest in
-    record { fit = fit_append a' b' a.fit b.fit;
+    record {
+      fit = fit_append a' b' a.fit b.fit;
       derives = λ q. let y = a.derives q in let z = b.derives (q + length a') in
-        (t.more_externals y.0 z.0, cc (y.1, z.1), n.next_external y.2 (subst (λ k. n.IsUnit k (q + length a') z.0 b') (sym (external_again T e y.0 y.1)) z.2)) }
+          (t.more_externals y.0 z.0, cc (y.1, z.1), n.next_external y.2 (subst (λ k. n.IsUnit k (q + length a') z.0 b') (sym (external_again T e y.0 y.1)) z.2));
+    }
 
 pub spelled_again : (tree : t.Tree) (words : List Word) → n.Spells tree words → AreFit words → IsSpelledAgain tree (w.words_of tree)
 spelled_again tree words x f =

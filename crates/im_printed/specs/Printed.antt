@@ -1,5 +1,5 @@
 -- The words that a tree is printed as: parentheses stand only where the grammar needs them. T holds the typedef names.
-use Rattle.std.specs.Prelude.{ℕ, zero, suc, ◌+◌, nat_lt, Bool, true, false, not, ◌&&◌, ◌||◌, cond, List, [], ◌∷◌, ◌++◌, Some, None, bytes_eq}
+use Rattle.std.specs.Prelude.{ℕ, zero, suc, ◌+◌, nat_lt, Bool, false, not, ◌&&◌, ◌||◌, cond, List, [], ◌∷◌, ◌++◌, Some, None, bytes_eq}
 use Rattle.im_tok.specs.declared.keyword.Keyword.{Keyword}
 use Rattle.im_tok.specs.declared.keyword.Keyword.TheVariants as key
 use Rattle.im_tok.specs.declared.punctuator.Punctuator.{Punctuator}
