@@ -4,16 +4,7 @@ use Rattle.im_tok.specs.declared.punctuator.Punctuator.TheVariants.{OpenBracket,
 use Rattle.im_word.specs.Words.{Name, Word, mark}
 use Rattle.im_ctree.specs.Tree as t
 use Rattle.im_ctree.specs.Grammar as g
-
--- a derivation at the level that binds as tightly as the number says
-pub data Tight (T : List Name) : ℕ → ℕ → t.Expression → List Word → Type 0 where
-  as_expression : {p : ℕ} {e : t.Expression} {u : List Word} → g.IsExpression T p e u → Tight T 0 p e u
-  as_assignment : {p : ℕ} {e : t.Expression} {u : List Word} → g.IsAssignment T p e u → Tight T 1 p e u
-  as_conditional : {p : ℕ} {e : t.Expression} {u : List Word} → g.IsConditional T p e u → Tight T 2 p e u
-  as_binary : {n p : ℕ} {e : t.Expression} {u : List Word} → n ≤ 10 → g.IsBinary T n p e u → Tight T (3 + n) p e u
-  as_unary : {p : ℕ} {e : t.Expression} {u : List Word} → g.IsUnary T p e u → Tight T 14 p e u
-  as_postfix : {p : ℕ} {e : t.Expression} {u : List Word} → g.IsPostfix T p e u → Tight T 15 p e u
-  as_primary : {p : ℕ} {e : t.Expression} {u : List Word} → g.IsPrimary T p e u → Tight T 16 p e u
+use Rattle.im_printed.specs.Levels.{BindsAt, as_expression, as_assignment, as_conditional, as_binary, as_unary, as_postfix, as_primary}
 
 -- a level without operators
 looser : {T : List Name} (n : ℕ) {p : ℕ} {e : t.Expression} {u : List Word} → n < 10 → g.IsBinary T (suc n) p e u → g.IsBinary T n p e u
@@ -26,7 +17,7 @@ lower (suc d) n m is under x = looser n (omega (arith, is, under)) (lower d (suc
 pub postfix_of : {T : List Name} {p : ℕ} {e : t.Expression} {u : List Word} → g.IsPrimary T p e u → g.IsPostfix T p e u
 postfix_of {T = T} {p = p} {e = e} {u = u} x = subst (g.IsPostfix T p e) (append-nil u) (g.primary x g.no_postfix)
 
-pub to_postfix : {T : List Name} {k p : ℕ} {e : t.Expression} {u : List Word} → Tight T k p e u → 15 ≤ k → g.IsPostfix T p e u
+pub to_postfix : {T : List Name} {k p : ℕ} {e : t.Expression} {u : List Word} → BindsAt T k p e u → 15 ≤ k → g.IsPostfix T p e u
 to_postfix (as_expression x) h = absurd (omega (arith, h))
 to_postfix (as_assignment x) h = absurd (omega (arith, h))
 to_postfix (as_conditional x) h = absurd (omega (arith, h))
@@ -35,7 +26,7 @@ to_postfix (as_unary x) h = absurd (omega (arith, h))
 to_postfix (as_postfix x) h = x
 to_postfix (as_primary x) h = postfix_of x
 
-pub to_unary : {T : List Name} {k p : ℕ} {e : t.Expression} {u : List Word} → Tight T k p e u → 14 ≤ k → g.IsUnary T p e u
+pub to_unary : {T : List Name} {k p : ℕ} {e : t.Expression} {u : List Word} → BindsAt T k p e u → 14 ≤ k → g.IsUnary T p e u
 to_unary (as_expression x) h = absurd (omega (arith, h))
 to_unary (as_assignment x) h = absurd (omega (arith, h))
 to_unary (as_conditional x) h = absurd (omega (arith, h))
@@ -48,7 +39,7 @@ cast_of : {T : List Name} {n p : ℕ} {e : t.Expression} {u : List Word} → g.I
 cast_of (g.casts x) is = x
 cast_of (g.level under x rest) is = absurd (omega (arith, under, is))
 
-pub to_cast : {T : List Name} {k p : ℕ} {e : t.Expression} {u : List Word} → Tight T k p e u → 13 ≤ k → g.IsCast T p e u
+pub to_cast : {T : List Name} {k p : ℕ} {e : t.Expression} {u : List Word} → BindsAt T k p e u → 13 ≤ k → g.IsCast T p e u
 to_cast (as_expression x) h = absurd (omega (arith, h))
 to_cast (as_assignment x) h = absurd (omega (arith, h))
 to_cast (as_conditional x) h = absurd (omega (arith, h))
@@ -60,7 +51,7 @@ to_cast (as_primary x) h = g.uncast (g.postfix (postfix_of x))
 lowest : {T : List Name} (n : ℕ) {p : ℕ} {e : t.Expression} {u : List Word} → n ≤ 10 → g.IsCast T p e u → g.IsBinary T n p e u
 lowest n under x = lower (10 - n) n 10 (omega (arith, under)) (omega arith) (g.casts x)
 
-pub to_binary : {T : List Name} {k p : ℕ} {e : t.Expression} {u : List Word} (n : ℕ) → n ≤ 10 → Tight T k p e u → 3 + n ≤ k → g.IsBinary T n p e u
+pub to_binary : {T : List Name} {k p : ℕ} {e : t.Expression} {u : List Word} (n : ℕ) → n ≤ 10 → BindsAt T k p e u → 3 + n ≤ k → g.IsBinary T n p e u
 to_binary n within (as_expression x) h = absurd (omega (arith, h))
 to_binary n within (as_assignment x) h = absurd (omega (arith, h))
 to_binary n within (as_conditional x) h = absurd (omega (arith, h))
@@ -69,7 +60,7 @@ to_binary n within (as_unary x) h = lowest n within (g.uncast x)
 to_binary n within (as_postfix x) h = lowest n within (g.uncast (g.postfix x))
 to_binary n within (as_primary x) h = lowest n within (g.uncast (g.postfix (postfix_of x)))
 
-pub to_conditional : {T : List Name} {k p : ℕ} {e : t.Expression} {u : List Word} → Tight T k p e u → 2 ≤ k → g.IsConditional T p e u
+pub to_conditional : {T : List Name} {k p : ℕ} {e : t.Expression} {u : List Word} → BindsAt T k p e u → 2 ≤ k → g.IsConditional T p e u
 to_conditional (as_expression x) h = absurd (omega (arith, h))
 to_conditional (as_assignment x) h = absurd (omega (arith, h))
 to_conditional (as_conditional x) h = x
@@ -78,7 +69,7 @@ to_conditional (as_unary x) h = g.operates (to_binary 0 (omega arith) (as_unary 
 to_conditional (as_postfix x) h = g.operates (to_binary 0 (omega arith) (as_postfix x) (omega arith))
 to_conditional (as_primary x) h = g.operates (to_binary 0 (omega arith) (as_primary x) (omega arith))
 
-pub to_assignment : {T : List Name} {k p : ℕ} {e : t.Expression} {u : List Word} → Tight T k p e u → 1 ≤ k → g.IsAssignment T p e u
+pub to_assignment : {T : List Name} {k p : ℕ} {e : t.Expression} {u : List Word} → BindsAt T k p e u → 1 ≤ k → g.IsAssignment T p e u
 to_assignment (as_expression x) h = absurd (omega (arith, h))
 to_assignment (as_assignment x) h = x
 to_assignment (as_conditional x) h = g.chooses x
@@ -90,7 +81,7 @@ to_assignment (as_primary x) h = g.chooses (to_conditional (as_primary x) (omega
 expression_of : {T : List Name} {p : ℕ} {e : t.Expression} {u : List Word} → g.IsAssignment T p e u → g.IsExpression T p e u
 expression_of {T = T} {p = p} {e = e} {u = u} x = subst (g.IsExpression T p e) (append-nil u) (g.assigns x g.no_comma)
 
-pub to_expression : {T : List Name} {k p : ℕ} {e : t.Expression} {u : List Word} → Tight T k p e u → g.IsExpression T p e u
+pub to_expression : {T : List Name} {k p : ℕ} {e : t.Expression} {u : List Word} → BindsAt T k p e u → g.IsExpression T p e u
 to_expression (as_expression x) = x
 to_expression (as_assignment x) = expression_of x
 to_expression (as_conditional x) = expression_of (g.chooses x)

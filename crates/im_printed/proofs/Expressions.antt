@@ -1,5 +1,5 @@
 -- Whatever words derive an expression, specifiers or a declarator, the printed words derive it again.
-use Rattle.std.proofs.Common.{ℕ, suc, ◌+◌, ◌≤◌, Bool, List, ◌∷◌, ◌++◌, refl, arith}
+use Rattle.std.proofs.Common.{ℕ, suc, ◌≤◌, Bool, List, ◌∷◌, ◌++◌, refl, arith}
 use Rattle.std.proofs.lemmas.List.Elements.{All-append}
 use Rattle.im_tok.specs.declared.punctuator.Punctuator.TheVariants.{CloseBracket, OpenParen, CloseParen, CloseBrace, Semicolon, Star, Question, Colon}
 use Rattle.im_word.specs.Words.{Name, Word, name, text, mark}

@@ -5,6 +5,7 @@ mod Nodes
 mod Declarators
 mod Rows
 mod Expressions
+mod Needed
 mod Units
 mod Spellings
 mod Elements

@@ -5,4 +5,4 @@ mod examples;
 mod laws;
 
 pub use examples::program_text_example;
-pub use laws::{printed_text_law, read_back_law, spelled_again_law};
+pub use laws::{needed_parentheses_law, printed_text_law, read_back_law, spelled_again_law};
