@@ -67,19 +67,79 @@ abbrev rule_at : ℕ → ℕ → Rule
 rule_at shape k = slice_index_or (command_shape shape).rules k (new_rule [])
 
 build_sound : AllSound (command_shape 0).rules
-build_sound = (text_sound (rule_at 0 0) (λ values rows. refl) refl (λ again rows e. no_kind _ _ e), refl, (text_sound (rule_at 0 1) (λ values rows. refl) refl (λ again rows e. no_kind _ _ e), refl, (set_sound (rule_at 0 2) (λ values rows. refl) (number_fit (rule_at 0 2) (codes "stack") refl (λ again rows e. no_kind _ _ e)
-    (λ again v vs rows e. kinds_accept false (Signed (pos 256) (pos 1048576)) (v ∷ vs) (none_then (repeat_fault again (codes "stack") rows) _ (none_then (range_kinds 1 1 (length (v ∷ vs))) _ e)))), refl, (set_sound (rule_at 0 3) (λ values rows. refl) (number_fit (rule_at 0 3) (codes "out-cap") refl (λ again rows e. no_kind _ _ e)
-    (λ again v vs rows e. kinds_accept false (Signed (pos 0) (pos 1048576)) (v ∷ vs) (none_then (repeat_fault again (codes "out-cap") rows) _ (none_then (range_kinds 1 1 (length (v ∷ vs))) _ e)))), refl, (λ again values rows e g. g, refl, tt)))))
+build_sound = (
+  text_sound (rule_at 0 0) (λ values rows. refl) refl (λ again rows e. no_kind _ _ e),
+  refl,
+  (
+    text_sound (rule_at 0 1) (λ values rows. refl) refl (λ again rows e. no_kind _ _ e),
+    refl,
+    (
+      set_sound (rule_at 0 2) (λ values rows. refl) (number_fit (rule_at 0 2) (codes "stack") refl (λ again rows e. no_kind _ _ e)
+          (λ again v vs rows e. kinds_accept false (Signed (pos 256) (pos 1048576)) (v ∷ vs) (none_then (repeat_fault again (codes "stack") rows) _ (none_then (range_kinds 1 1 (length (v ∷ vs))) _ e)))),
+      refl,
+      (
+        set_sound (rule_at 0 3) (λ values rows. refl) (number_fit (rule_at 0 3) (codes "out-cap") refl (λ again rows e. no_kind _ _ e)
+            (λ again v vs rows e. kinds_accept false (Signed (pos 0) (pos 1048576)) (v ∷ vs) (none_then (repeat_fault again (codes "out-cap") rows) _ (none_then (range_kinds 1 1 (length (v ∷ vs))) _ e)))),
+        refl,
+        (λ again values rows e g. g, refl, tt),
+      ),
+    ),
+  ),
+)
 
 run_sound : AllSound (command_shape 1).rules
-run_sound = (text_sound (rule_at 1 0) (λ values rows. refl) refl (λ again rows e. no_kind _ _ e), refl, (text_sound (rule_at 1 1) (λ values rows. refl) refl (λ again rows e. no_kind _ _ e), refl, (set_sound (rule_at 1 2) (λ values rows. refl) (number_fit (rule_at 1 2) (codes "stack") refl (λ again rows e. no_kind _ _ e)
-    (λ again v vs rows e. kinds_accept false (Signed (pos 256) (pos 1048576)) (v ∷ vs) (none_then (repeat_fault again (codes "stack") rows) _ (none_then (range_kinds 1 1 (length (v ∷ vs))) _ e)))), refl, (set_sound (rule_at 1 3) (λ values rows. refl) (number_fit (rule_at 1 3) (codes "out-cap") refl (λ again rows e. no_kind _ _ e)
-    (λ again v vs rows e. kinds_accept false (Signed (pos 0) (pos 1048576)) (v ∷ vs) (none_then (repeat_fault again (codes "out-cap") rows) _ (none_then (range_kinds 1 1 (length (v ∷ vs))) _ e)))), refl, (text_sound (rule_at 1 4) (λ values rows. refl) refl (λ again rows e. no_kind _ _ e), refl, (text_sound (rule_at 1 5) (λ values rows. refl) refl (λ again rows e. no_kind _ _ e), refl, (set_sound (rule_at 1 6) (λ values rows. refl) (number_fit (rule_at 1 6) (codes "steps") refl (λ again rows e. no_kind _ _ e)
-    (λ again v vs rows e. kinds_accept false (Signed (pos 0) (pos 4294967295)) (v ∷ vs) (none_then (repeat_fault again (codes "steps") rows) _ (none_then (range_kinds 1 1 (length (v ∷ vs))) _ e)))), refl, (set_sound (rule_at 1 7) (λ values rows. refl) (text_fit (rule_at 1 7) refl (λ again rows e. refl)), refl, (λ again values rows e g. g, refl, tt)))))))))
+run_sound = (
+  text_sound (rule_at 1 0) (λ values rows. refl) refl (λ again rows e. no_kind _ _ e),
+  refl,
+  (
+    text_sound (rule_at 1 1) (λ values rows. refl) refl (λ again rows e. no_kind _ _ e),
+    refl,
+    (
+      set_sound (rule_at 1 2) (λ values rows. refl) (number_fit (rule_at 1 2) (codes "stack") refl (λ again rows e. no_kind _ _ e)
+          (λ again v vs rows e. kinds_accept false (Signed (pos 256) (pos 1048576)) (v ∷ vs) (none_then (repeat_fault again (codes "stack") rows) _ (none_then (range_kinds 1 1 (length (v ∷ vs))) _ e)))),
+      refl,
+      (
+        set_sound (rule_at 1 3) (λ values rows. refl) (number_fit (rule_at 1 3) (codes "out-cap") refl (λ again rows e. no_kind _ _ e)
+            (λ again v vs rows e. kinds_accept false (Signed (pos 0) (pos 1048576)) (v ∷ vs) (none_then (repeat_fault again (codes "out-cap") rows) _ (none_then (range_kinds 1 1 (length (v ∷ vs))) _ e)))),
+        refl,
+        (
+          text_sound (rule_at 1 4) (λ values rows. refl) refl (λ again rows e. no_kind _ _ e),
+          refl,
+          (
+            text_sound (rule_at 1 5) (λ values rows. refl) refl (λ again rows e. no_kind _ _ e),
+            refl,
+            (
+              set_sound (rule_at 1 6) (λ values rows. refl) (number_fit (rule_at 1 6) (codes "steps") refl (λ again rows e. no_kind _ _ e)
+                  (λ again v vs rows e. kinds_accept false (Signed (pos 0) (pos 4294967295)) (v ∷ vs) (none_then (repeat_fault again (codes "steps") rows) _ (none_then (range_kinds 1 1 (length (v ∷ vs))) _ e)))),
+              refl,
+              (set_sound (rule_at 1 7) (λ values rows. refl) (text_fit (rule_at 1 7) refl (λ again rows e. refl)), refl, (λ again values rows e g. g, refl, tt)),
+            ),
+          ),
+        ),
+      ),
+    ),
+  ),
+)
 
 exec_sound : AllSound (command_shape 2).rules
-exec_sound = (text_sound (rule_at 2 0) (λ values rows. refl) refl (λ again rows e. no_kind _ _ e), refl, (text_sound (rule_at 2 1) (λ values rows. refl) refl (λ again rows e. no_kind _ _ e), refl, (text_sound (rule_at 2 2) (λ values rows. refl) refl (λ again rows e. no_kind _ _ e), refl, (set_sound (rule_at 2 3) (λ values rows. refl) (number_fit (rule_at 2 3) (codes "steps") refl (λ again rows e. no_kind _ _ e)
-    (λ again v vs rows e. kinds_accept false (Signed (pos 0) (pos 4294967295)) (v ∷ vs) (none_then (repeat_fault again (codes "steps") rows) _ (none_then (range_kinds 1 1 (length (v ∷ vs))) _ e)))), refl, (set_sound (rule_at 2 4) (λ values rows. refl) (text_fit (rule_at 2 4) refl (λ again rows e. refl)), refl, (λ again values rows e g. g, refl, tt))))))
+exec_sound = (
+  text_sound (rule_at 2 0) (λ values rows. refl) refl (λ again rows e. no_kind _ _ e),
+  refl,
+  (
+    text_sound (rule_at 2 1) (λ values rows. refl) refl (λ again rows e. no_kind _ _ e),
+    refl,
+    (
+      text_sound (rule_at 2 2) (λ values rows. refl) refl (λ again rows e. no_kind _ _ e),
+      refl,
+      (
+        set_sound (rule_at 2 3) (λ values rows. refl) (number_fit (rule_at 2 3) (codes "steps") refl (λ again rows e. no_kind _ _ e)
+            (λ again v vs rows e. kinds_accept false (Signed (pos 0) (pos 4294967295)) (v ∷ vs) (none_then (repeat_fault again (codes "steps") rows) _ (none_then (range_kinds 1 1 (length (v ∷ vs))) _ e)))),
+        refl,
+        (set_sound (rule_at 2 4) (λ values rows. refl) (text_fit (rule_at 2 4) refl (λ again rows e. refl)), refl, (λ again values rows e g. g, refl, tt)),
+      ),
+    ),
+  ),
+)
 
 dump_sound : AllSound (command_shape 3).rules
 dump_sound = (text_sound (rule_at 3 0) (λ values rows. refl) refl (λ again rows e. no_kind _ _ e), refl, (λ again values rows e g. g, refl, tt))
@@ -88,9 +148,21 @@ upgrade_sound : AllSound (command_shape 4).rules
 upgrade_sound = (text_sound (rule_at 4 0) (λ values rows. refl) refl (λ again rows e. no_kind _ _ e), refl, (text_sound (rule_at 4 1) (λ values rows. refl) refl (λ again rows e. no_kind _ _ e), refl, (λ again values rows e g. g, refl, tt)))
 
 report_sound : AllSound (command_shape 5).rules
-report_sound = (text_sound (rule_at 5 0) (λ values rows. refl) refl (λ again rows e. no_kind _ _ e), refl, (set_sound (rule_at 5 1) (λ values rows. refl) (number_fit (rule_at 5 1) (codes "stack") refl (λ again rows e. no_kind _ _ e)
-    (λ again v vs rows e. kinds_accept false (Signed (pos 256) (pos 1048576)) (v ∷ vs) (none_then (repeat_fault again (codes "stack") rows) _ (none_then (range_kinds 1 1 (length (v ∷ vs))) _ e)))), refl, (set_sound (rule_at 5 2) (λ values rows. refl) (number_fit (rule_at 5 2) (codes "out-cap") refl (λ again rows e. no_kind _ _ e)
-    (λ again v vs rows e. kinds_accept false (Signed (pos 0) (pos 1048576)) (v ∷ vs) (none_then (repeat_fault again (codes "out-cap") rows) _ (none_then (range_kinds 1 1 (length (v ∷ vs))) _ e)))), refl, (λ again values rows e g. g, refl, tt))))
+report_sound = (
+  text_sound (rule_at 5 0) (λ values rows. refl) refl (λ again rows e. no_kind _ _ e),
+  refl,
+  (
+    set_sound (rule_at 5 1) (λ values rows. refl) (number_fit (rule_at 5 1) (codes "stack") refl (λ again rows e. no_kind _ _ e)
+        (λ again v vs rows e. kinds_accept false (Signed (pos 256) (pos 1048576)) (v ∷ vs) (none_then (repeat_fault again (codes "stack") rows) _ (none_then (range_kinds 1 1 (length (v ∷ vs))) _ e)))),
+    refl,
+    (
+      set_sound (rule_at 5 2) (λ values rows. refl) (number_fit (rule_at 5 2) (codes "out-cap") refl (λ again rows e. no_kind _ _ e)
+          (λ again v vs rows e. kinds_accept false (Signed (pos 0) (pos 1048576)) (v ∷ vs) (none_then (repeat_fault again (codes "out-cap") rows) _ (none_then (range_kinds 1 1 (length (v ∷ vs))) _ e)))),
+      refl,
+      (λ again values rows e g. g, refl, tt),
+    ),
+  ),
+)
 
 -- ---- a level of the table without a fault
 

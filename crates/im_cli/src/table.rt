@@ -111,14 +111,7 @@ fn with_step_options<'a>(
     let steps = "Instructions of the one period without --trace, 0 to 4294967295";
     let vars = "Shows the program's variables at the end";
     command
-        .arg(numbered(
-            alloc,
-            "steps",
-            "100000000",
-            0,
-            4_294_967_295,
-            steps,
-        ))?
+        .arg(numbered(alloc, "steps", "100000000", 0, 4_294_967_295, steps))?
         .arg(flag(alloc, "vars", vars))
 }
 

@@ -38,7 +38,7 @@ at_same u v (a ∷ xs) (b ∷ ys) zero x e at =
     let one : a ≡ x = cc in
     let same : v b ≡ u a = cc in
     (b, refl, same ∙ ap u one)
-at_same u v (a ∷ xs) (b ∷ ys) (suc i) x e at = at_same u v xs ys i x cc at
+at_same u v (a ∷ xs) (b ∷ ys) (suc i) x e at = let rest : map u xs ≡ map v ys = cc in at_same u v xs ys i x rest at
 
 -- ---- what a frame may need
 

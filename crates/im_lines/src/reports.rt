@@ -12,12 +12,7 @@ use im_rv::Cut;
 use im_typed::Frame;
 use itoa::Buffer;
 
-fn send_report_head<S: Sink>(
-    sink: &mut S,
-    words: u32,
-    gap: u32,
-    statics: u32,
-) -> Result<(), Failed>
+fn send_report_head<S: Sink>(sink: &mut S, words: u32, gap: u32, statics: u32) -> Result<(), Failed>
     ensures { Sends (report_head words gap statics) result (S.state sink.old) (S.state sink.new) }
 {
     let mut words_text = Buffer::new();

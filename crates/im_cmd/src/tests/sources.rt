@@ -34,8 +34,7 @@ const READS: &[u8] = b"int main(void){int a;a=getchar();return a*1000+getchar();
 const TWO_BYTES: &[u8] = b"int main(void){int a;a=putchar(65);return putchar(66)-a;}";
 
 /// A hundred calls deep.
-const DEEP: &[u8] =
-    b"int f(int n){if(n==0)return 0;return f(n-1);}int main(void){return f(100);}";
+const DEEP: &[u8] = b"int f(int n){if(n==0)return 0;return f(n-1);}int main(void){return f(100);}";
 
 /// As that, and one deeper.
 const DEEPER: &[u8] =
