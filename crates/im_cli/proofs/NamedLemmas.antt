@@ -1,6 +1,6 @@
 -- What the table's matches say of the command that the words name.
-use Rattle.std.proofs.Common.{ap, refl, sym, true, false, inl, inr, ℕ, suc, arith, length, List, Option, Some, None, [], ◌∷◌, ◌≡◌, ◌≢◌, ◌∙◌}
-use Rattle.std.specs.Prelude.{◌==◌}
+use Rattle.std.proofs.Common.{ap, refl, sym, true, false, inl, inr, ℕ, suc, Bool, arith, length, List, Option, Some, None, [], ◌∷◌, ◌≡◌, ◌≢◌, ◌∙◌}
+use Rattle.std.specs.Prelude.{◌==◌, if◌then◌else◌}
 use Rattle.std.proofs.lemmas.Bool.Decides.{nat_tests}
 use Rattle.clap.specs.Kinds.{HasKind, Kinds}
 use Rattle.clap.specs.Values.{kind_of}
@@ -27,6 +27,17 @@ named_where_faultless table table_is words found what fault found_is asks =
     let faultless : is_faultless words ≡ true = ap is_empty (ap (λ (a : App). fault_of a words) (sym table_is) ∙ fault) in
     let same : found ≡ subcommand_of command_line words = found_is ∙ ap (λ (a : App). subcommand_of a words) table_is in
     rw (faultless, ← same) asks
+
+-- where clap's matches ask for nothing, the words name nothing
+pub none_where_unasked : (table : App) → table ≡ command_line → (words : List Text) (found : Option (Text × List Row)) → found ≡ subcommand_of table words → asked found ≡ None → named words ≡ None
+none_where_unasked table table_is words found found_is asks = go (is_faultless words)
+  where
+    same : found ≡ subcommand_of command_line words
+    same = found_is ∙ ap (λ (a : App). subcommand_of a words) table_is
+
+    go : (b : Bool) → (if b then asked (subcommand_of command_line words) else None) ≡ None
+    go true = ap asked (sym same) ∙ asks
+    go false = refl
 
 not_zero : (n : ℕ) → (suc n == 0) ≡ false
 not_zero n = grind (arith, nat_tests)

@@ -11,7 +11,7 @@ use Rattle.clap.proofs.FaultLemmas.{stopped_fault}
 use Rattle.clap.proofs.WalkLemmas.{walk_stopped}
 use Rattle.clap.proofs.OnLiterals.{clap_on_literals}
 use Rattle.im_cli.specs.Table.{command_line}
-use Rattle.im_cli.specs.Named.{Asked, asked, build_asked, builds, default_options, dump_asked, dumps, exec_asked, executes, is_option, named, run_asked, runs, upgrade_asked, upgrades}
+use Rattle.im_cli.specs.Named.{Asked, asked, build_asked, builds, default_building, default_options, dump_asked, dumps, exec_asked, executes, is_option, named, report_asked, reports, run_asked, runs, upgrade_asked, upgrades}
 
 -- ---- one word
 
@@ -150,6 +150,12 @@ upgrade_named program rest =
     name_answer (codes "upgrade") rest refl refl program
     ∙ ap (λ (k : Kinds). if is_empty k then upgrade_asked (rows_after (command_shape 4).rules [] rest) else None) (last_fault (level_fault (command_shape 4) [] nothing_held rest false []))
 
+pub report_named : (program : Text) (rest : List Text) → named (program ∷ codes "report" ∷ rest) ≡ asked_of report_asked (command_shape 5) rest
+unfolding clap_on_literals
+report_named program rest =
+    name_answer (codes "report") rest refl refl program
+    ∙ ap (λ (k : Kinds). if is_empty k then report_asked (rows_after (command_shape 5).rules [] rest) else None) (last_fault (level_fault (command_shape 5) [] nothing_held rest false []))
+
 -- ---- the words after it
 
 -- what the end of the walk and its fault ask for
@@ -193,14 +199,18 @@ unfolding clap_on_literals
 exec_files program image plain = exec_named program (image ∷ []) ∙ one_file exec_asked (command_shape 2) image plain
 
 pub build_files : (program source image : Text) → is_option source ≡ false → is_option image ≡ false
-    → named (program ∷ codes "build" ∷ source ∷ image ∷ []) ≡ Some (builds source image)
+    → named (program ∷ codes "build" ∷ source ∷ image ∷ []) ≡ Some (builds source image default_building)
 unfolding clap_on_literals
 build_files program source image plain also = build_named program (source ∷ image ∷ []) ∙ two_files build_asked (command_shape 0) source image plain also refl refl
 
 pub run_files : (program source image : Text) → is_option source ≡ false → is_option image ≡ false
-    → named (program ∷ codes "run" ∷ source ∷ image ∷ []) ≡ Some (runs source image default_options)
+    → named (program ∷ codes "run" ∷ source ∷ image ∷ []) ≡ Some (runs source image default_building default_options)
 unfolding clap_on_literals
 run_files program source image plain also = run_named program (source ∷ image ∷ []) ∙ two_files run_asked (command_shape 1) source image plain also refl refl
+
+pub report_files : (program source : Text) → is_option source ≡ false → named (program ∷ codes "report" ∷ source ∷ []) ≡ Some (reports source default_building)
+unfolding clap_on_literals
+report_files program source plain = report_named program (source ∷ []) ∙ one_file report_asked (command_shape 5) source plain
 
 pub upgrade_files : (program old new : Text) → is_option old ≡ false → is_option new ≡ false
     → named (program ∷ codes "upgrade" ∷ old ∷ new ∷ []) ≡ Some (upgrades old new)
@@ -248,3 +258,11 @@ upgrade_fault program rest = name_fault (codes "upgrade") rest refl refl program
 pub upgrade_found : (program : Text) (rest : List Text) → subcommand_of command_line (program ∷ codes "upgrade" ∷ rest) ≡ Some (codes "upgrade", rows_after (command_shape 4).rules [] rest)
 unfolding clap_on_literals
 upgrade_found program rest = name_found (codes "upgrade") rest refl refl program
+
+pub report_fault : (program : Text) (rest : List Text) → fault_of command_line (program ∷ codes "report" ∷ rest) ≡ level_fault (command_shape 5) [] nothing_held rest false []
+unfolding clap_on_literals
+report_fault program rest = name_fault (codes "report") rest refl refl program ∙ last_fault (level_fault (command_shape 5) [] nothing_held rest false [])
+
+pub report_found : (program : Text) (rest : List Text) → subcommand_of command_line (program ∷ codes "report" ∷ rest) ≡ Some (codes "report", rows_after (command_shape 5).rules [] rest)
+unfolding clap_on_literals
+report_found program rest = name_found (codes "report") rest refl refl program

@@ -14,7 +14,7 @@ use Rattle.clap.specs.declared.error.kind.ErrorKind.TheVariants.{ValueValidation
 use Rattle.clap.proofs.OnLiterals.{clap_on_literals}
 use Rattle.clap.proofs.WalkLemmas.{both}
 use Rattle.im_cli.specs.Numbers.{is_numeral, plain_number, starts_plainly}
-use Rattle.im_cli.specs.Named.{Asked, Options, exec_asked, executes, given, is_option, named, option_words, run_asked, runs}
+use Rattle.im_cli.specs.Named.{Asked, Options, default_building, exec_asked, executes, given, is_option, named, option_words, run_asked, runs}
 use Rattle.im_cli.proofs.OperandLemmas.{asked_of, command_shape, ended, exec_named, run_named, file_turn, file_walked, taken, taken_fault}
 
 -- ---- numbers
@@ -35,25 +35,25 @@ first_apart text byte plain below = go (bytes_eq text (codes "0")) refl
         let low = leb-true 49 (slice_index text 0) (both _ _ parts).0 in
         apart (omega arith)
 
-plain_value : (text : List ℕ) → starts_plainly text ≡ true → is_option text ≡ false
+pub plain_value : (text : List ℕ) → starts_plainly text ≡ true → is_option text ≡ false
 plain_value [] plain = refl
 plain_value (x ∷ []) plain = refl
 plain_value (x ∷ y ∷ rest) plain = first_apart (x ∷ y ∷ rest) 45 plain (omega arith)
 
 -- what clap's parser of numbers tests, by whether a sign stands first
-abbrev pub reads : List ℕ → Bool → Bool → Bool
-reads text minus plus =
+abbrev pub reads : ℕ → ℕ → List ℕ → Bool → Bool → Bool
+reads least most text minus plus =
     let digits = cond minus (drop 1 text) (drop (cond plus 1 0) text) in
     let value = cond minus (neg_ℤ (pos (digits_value 10 digits))) (pos (digits_value 10 digits)) in
-    is_numeral digits && (fits_i64 value && (int_le (pos 0) value && int_le value (pos 4294967295)))
+    is_numeral digits && (fits_i64 value && (int_le (pos least) value && int_le value (pos most)))
 
-number_accepted : (text : List ℕ) → starts_plainly text ≡ true → is_numeral text ≡ true → digits_value 10 text < 2 ^ 32
-    → is_signed_in (pos 0) (pos 4294967295) text ≡ true
-number_accepted text plain numeral below =
+pub number_accepted : (least most : ℕ) (text : List ℕ) → starts_plainly text ≡ true → is_numeral text ≡ true → digits_value 10 text < 2 ^ 32
+    → least ≤ digits_value 10 text → digits_value 10 text ≤ most → is_signed_in (pos least) (pos most) text ≡ true
+number_accepted least most text plain numeral below above under =
     let fits : nat_lt (digits_value 10 text) (2 ^ 63) ≡ true = lt-ltb _ _ (omega (arith, below)) in
-    let low : nat_le 0 (digits_value 10 text) ≡ true = le-leb _ _ (omega arith) in
-    let high : nat_le (digits_value 10 text) 4294967295 ≡ true = le-leb _ _ (omega (arith, below)) in
-    ap₂ (reads text) (first_apart text 45 plain (omega arith)) (first_apart text 43 plain (omega arith))
+    let low : nat_le least (digits_value 10 text) ≡ true = le-leb _ _ above in
+    let high : nat_le (digits_value 10 text) most ≡ true = le-leb _ _ under in
+    ap₂ (reads least most text) (first_apart text 45 plain (omega arith)) (first_apart text 43 plain (omega arith))
     ∙ (λ i. numeral i && (fits i && (low i && high i)))
 
 pub record IsPlain (text : List ℕ) (n : ℕ) : Type 0 where
@@ -61,7 +61,7 @@ pub record IsPlain (text : List ℕ) (n : ℕ) : Type 0 where
   pub numeral : is_numeral text ≡ true
   pub below : digits_value 10 text < 2 ^ 32
 
-plain_facts : (text : List ℕ) (n : ℕ) → plain_number text ≡ Some n → IsPlain text n
+pub plain_facts : (text : List ℕ) (n : ℕ) → plain_number text ≡ Some n → IsPlain text n
 plain_facts text n e = go (starts_plainly text && (is_numeral text && nat_lt (digits_value 10 text) (2 ^ 32))) refl
   where
     go : (b : Bool) → (starts_plainly text && (is_numeral text && nat_lt (digits_value 10 text) (2 ^ 32))) ≡ b → IsPlain text n
@@ -126,14 +126,14 @@ words_read asks s words g settles ends =
 -- ---- the options of a run
 
 -- the fault of a number that is read, by whether clap's parser takes it
-abbrev number_fault : Bool → Kinds
+abbrev pub number_fault : Bool → Kinds
 number_fault accepted = or_else (if accepted then [] else ValueValidation ∷ []) []
 
 -- the same, where the flag after it is what settles it
 abbrev before_flag : Bool → Kinds
 before_flag accepted = or_else (or_else (number_fault accepted) []) []
 
-abbrev given_words : Text → Option Text → List Word
+abbrev pub given_words : Text → Option Text → List Word
 given_words name None = []
 given_words name (Some text) = written name ∷ value text ∷ []
 
@@ -149,12 +149,12 @@ with_number asks input trace vars number =
     option_and_then (λ options. Some (asks options)) (option_map (λ n. record { input = input; trace = trace; steps = n; vars = vars }) number)
 
 number_taken : (text : Text) (number : ℕ) → plain_number text ≡ Some number → is_signed_in (pos 0) (pos 4294967295) text ≡ true
-number_taken text number e = let facts = plain_facts text number e in number_accepted text facts.begins facts.numeral facts.below
+number_taken text number e = let facts = plain_facts text number e in let below = facts.below in number_accepted 0 4294967295 text facts.begins facts.numeral below (omega arith) (omega (arith, below))
 
 number_plain : (text : Text) (number : ℕ) → plain_number text ≡ Some number → is_option text ≡ false
 number_plain text number e = plain_value text (plain_facts text number e).begins
 
-given_read : (name : Text) (text : Option Text) (rest : List Word) → map text_of (given_words name text ++ rest) ≡ given name text ++ map text_of rest
+pub given_read : (name : Text) (text : Option Text) (rest : List Word) → map text_of (given_words name text ++ rest) ≡ given name text ++ map text_of rest
 given_read name None rest = refl
 given_read name (Some text) rest = refl
 
@@ -234,61 +234,61 @@ exec_options program image input trace steps vars number a b c e =
     ∙ ap (λ words. asked_of exec_asked (command_shape 2) (image ∷ words)) (sym (texts_read input trace steps vars))
     ∙ exec_read image a input trace steps vars number b c e
 
-run_read : (source image : Text) → is_option source ≡ false → is_option image ≡ false → Reads (runs source image) run_asked (command_shape 1) (value source ∷ value image ∷ [])
+run_read : (source image : Text) → is_option source ≡ false → is_option image ≡ false → Reads (runs source image default_building) run_asked (command_shape 1) (value source ∷ value image ∷ [])
 unfolding clap_on_literals
 run_read source image a i None None None false number b c e =
     words_read run_asked (command_shape 1) (value source ∷ value image ∷ [] ++ options_read None None None false) (refl, refl, a, refl, (refl, refl, i, refl, tt)) refl refl
-    ∙ ap (with_number (runs source image) None None false) e
+    ∙ ap (with_number (runs source image default_building) None None false) e
 run_read source image a i None None None true number b c e =
     words_read run_asked (command_shape 1) (value source ∷ value image ∷ [] ++ options_read None None None true) (refl, refl, a, refl, (refl, refl, i, refl, (refl, tt))) refl refl
-    ∙ ap (with_number (runs source image) None None true) e
+    ∙ ap (with_number (runs source image default_building) None None true) e
 run_read source image a i None None (Some text) false number b c e =
     words_read run_asked (command_shape 1) (value source ∷ value image ∷ [] ++ options_read None None (Some text) false) (refl, refl, a, refl, (refl, refl, i, refl, (refl, (refl, refl, number_plain text number e, refl, tt)))) (ap number_fault (number_taken text number e)) refl
-    ∙ ap (with_number (runs source image) None None false) e
+    ∙ ap (with_number (runs source image default_building) None None false) e
 run_read source image a i None None (Some text) true number b c e =
     words_read run_asked (command_shape 1) (value source ∷ value image ∷ [] ++ options_read None None (Some text) true) (refl, refl, a, refl, (refl, refl, i, refl, (refl, (refl, refl, number_plain text number e, refl, (ap before_flag (number_taken text number e), tt))))) refl refl
-    ∙ ap (with_number (runs source image) None None true) e
+    ∙ ap (with_number (runs source image default_building) None None true) e
 run_read source image a i None (Some trace) None false number b c e =
     words_read run_asked (command_shape 1) (value source ∷ value image ∷ [] ++ options_read None (Some trace) None false) (refl, refl, a, refl, (refl, refl, i, refl, (refl, (refl, refl, c, refl, tt)))) refl refl
-    ∙ ap (with_number (runs source image) None (Some trace) false) e
+    ∙ ap (with_number (runs source image default_building) None (Some trace) false) e
 run_read source image a i None (Some trace) None true number b c e =
     words_read run_asked (command_shape 1) (value source ∷ value image ∷ [] ++ options_read None (Some trace) None true) (refl, refl, a, refl, (refl, refl, i, refl, (refl, (refl, refl, c, refl, (refl, tt))))) refl refl
-    ∙ ap (with_number (runs source image) None (Some trace) true) e
+    ∙ ap (with_number (runs source image default_building) None (Some trace) true) e
 run_read source image a i None (Some trace) (Some text) false number b c e =
     words_read run_asked (command_shape 1) (value source ∷ value image ∷ [] ++ options_read None (Some trace) (Some text) false) (refl, refl, a, refl, (refl, refl, i, refl, (refl, (refl, refl, c, refl, (refl, (refl, refl, number_plain text number e, refl, tt)))))) (ap number_fault (number_taken text number e)) refl
-    ∙ ap (with_number (runs source image) None (Some trace) false) e
+    ∙ ap (with_number (runs source image default_building) None (Some trace) false) e
 run_read source image a i None (Some trace) (Some text) true number b c e =
     words_read run_asked (command_shape 1) (value source ∷ value image ∷ [] ++ options_read None (Some trace) (Some text) true) (refl, refl, a, refl, (refl, refl, i, refl, (refl, (refl, refl, c, refl, (refl, (refl, refl, number_plain text number e, refl, (ap before_flag (number_taken text number e), tt))))))) refl refl
-    ∙ ap (with_number (runs source image) None (Some trace) true) e
+    ∙ ap (with_number (runs source image default_building) None (Some trace) true) e
 run_read source image a i (Some input) None None false number b c e =
     words_read run_asked (command_shape 1) (value source ∷ value image ∷ [] ++ options_read (Some input) None None false) (refl, refl, a, refl, (refl, refl, i, refl, (refl, (refl, refl, b, refl, tt)))) refl refl
-    ∙ ap (with_number (runs source image) (Some input) None false) e
+    ∙ ap (with_number (runs source image default_building) (Some input) None false) e
 run_read source image a i (Some input) None None true number b c e =
     words_read run_asked (command_shape 1) (value source ∷ value image ∷ [] ++ options_read (Some input) None None true) (refl, refl, a, refl, (refl, refl, i, refl, (refl, (refl, refl, b, refl, (refl, tt))))) refl refl
-    ∙ ap (with_number (runs source image) (Some input) None true) e
+    ∙ ap (with_number (runs source image default_building) (Some input) None true) e
 run_read source image a i (Some input) None (Some text) false number b c e =
     words_read run_asked (command_shape 1) (value source ∷ value image ∷ [] ++ options_read (Some input) None (Some text) false) (refl, refl, a, refl, (refl, refl, i, refl, (refl, (refl, refl, b, refl, (refl, (refl, refl, number_plain text number e, refl, tt)))))) (ap number_fault (number_taken text number e)) refl
-    ∙ ap (with_number (runs source image) (Some input) None false) e
+    ∙ ap (with_number (runs source image default_building) (Some input) None false) e
 run_read source image a i (Some input) None (Some text) true number b c e =
     words_read run_asked (command_shape 1) (value source ∷ value image ∷ [] ++ options_read (Some input) None (Some text) true) (refl, refl, a, refl, (refl, refl, i, refl, (refl, (refl, refl, b, refl, (refl, (refl, refl, number_plain text number e, refl, (ap before_flag (number_taken text number e), tt))))))) refl refl
-    ∙ ap (with_number (runs source image) (Some input) None true) e
+    ∙ ap (with_number (runs source image default_building) (Some input) None true) e
 run_read source image a i (Some input) (Some trace) None false number b c e =
     words_read run_asked (command_shape 1) (value source ∷ value image ∷ [] ++ options_read (Some input) (Some trace) None false) (refl, refl, a, refl, (refl, refl, i, refl, (refl, (refl, refl, b, refl, (refl, (refl, refl, c, refl, tt)))))) refl refl
-    ∙ ap (with_number (runs source image) (Some input) (Some trace) false) e
+    ∙ ap (with_number (runs source image default_building) (Some input) (Some trace) false) e
 run_read source image a i (Some input) (Some trace) None true number b c e =
     words_read run_asked (command_shape 1) (value source ∷ value image ∷ [] ++ options_read (Some input) (Some trace) None true) (refl, refl, a, refl, (refl, refl, i, refl, (refl, (refl, refl, b, refl, (refl, (refl, refl, c, refl, (refl, tt))))))) refl refl
-    ∙ ap (with_number (runs source image) (Some input) (Some trace) true) e
+    ∙ ap (with_number (runs source image default_building) (Some input) (Some trace) true) e
 run_read source image a i (Some input) (Some trace) (Some text) false number b c e =
     words_read run_asked (command_shape 1) (value source ∷ value image ∷ [] ++ options_read (Some input) (Some trace) (Some text) false) (refl, refl, a, refl, (refl, refl, i, refl, (refl, (refl, refl, b, refl, (refl, (refl, refl, c, refl, (refl, (refl, refl, number_plain text number e, refl, tt)))))))) (ap number_fault (number_taken text number e)) refl
-    ∙ ap (with_number (runs source image) (Some input) (Some trace) false) e
+    ∙ ap (with_number (runs source image default_building) (Some input) (Some trace) false) e
 run_read source image a i (Some input) (Some trace) (Some text) true number b c e =
     words_read run_asked (command_shape 1) (value source ∷ value image ∷ [] ++ options_read (Some input) (Some trace) (Some text) true) (refl, refl, a, refl, (refl, refl, i, refl, (refl, (refl, refl, b, refl, (refl, (refl, refl, c, refl, (refl, (refl, refl, number_plain text number e, refl, (ap before_flag (number_taken text number e), tt))))))))) refl refl
-    ∙ ap (with_number (runs source image) (Some input) (Some trace) true) e
+    ∙ ap (with_number (runs source image default_building) (Some input) (Some trace) true) e
 
 pub run_options : (program source image : Text) (input trace steps : Option Text) (vars : Bool) (number : ℕ) → is_option source ≡ false → is_option image ≡ false
     → IfSome input (λ file. is_option file ≡ false) → IfSome trace (λ file. is_option file ≡ false) → plain_number (unwrap_or steps (codes "100000000")) ≡ Some number
     → named (program ∷ codes "run" ∷ source ∷ image ∷ option_words input trace steps vars)
-    ≡ Some (runs source image (record { input = input; trace = trace; steps = number; vars = vars }))
+    ≡ Some (runs source image default_building (record { input = input; trace = trace; steps = number; vars = vars }))
 run_options program source image input trace steps vars number a i b c e =
     run_named program (source ∷ image ∷ option_words input trace steps vars)
     ∙ ap (λ words. asked_of run_asked (command_shape 1) (source ∷ image ∷ words)) (sym (texts_read input trace steps vars))

@@ -46,9 +46,19 @@ abbrev pub has_any : List Text → Bool
 has_any [] = false
 has_any (v ∷ vs) = true
 
--- a value of --steps is a number that clap's parser takes
+-- the options that have numbers, and the bounds of each
+abbrev pub is_number : Text → Bool
+is_number id = bytes_eq id (codes "steps") || (bytes_eq id (codes "stack") || bytes_eq id (codes "out-cap"))
+
+abbrev pub least : Text → ℕ
+least id = cond (bytes_eq id (codes "stack")) 256 0
+
+abbrev pub most : Text → ℕ
+most id = cond (bytes_eq id (codes "steps")) 4294967295 1048576
+
+-- a value of such an option is a number that clap's parser takes
 abbrev pub fits : Text → Text → Bool
-fits id v = not (bytes_eq id (codes "steps")) || is_signed_in (pos 0) (pos 4294967295) v
+fits id v = not (is_number id) || is_signed_in (pos (least id)) (pos (most id)) v
 
 abbrev pub good_values : Text → List Text → Bool
 good_values id values = has_any values && list_all (fits id) values
@@ -106,12 +116,12 @@ pub set_sound : (a : Rule) → Sets a → Fits a → Sound a
 set_sound a sets fit again values rows e g =
     subst AllGood (sym (sets values rows)) (with_values_good a.id (reading_by a) CommandLine (values_or_missing a values) (without a.id rows) (fit again values rows e) (without_good a.id rows g))
 
-all_fit : (id : Text) (vs : List Text) → bytes_eq id (codes "steps") ≡ false → list_all (fits id) vs ≡ true
+all_fit : (id : Text) (vs : List Text) → is_number id ≡ false → list_all (fits id) vs ≡ true
 all_fit id [] other = refl
-all_fit id (v ∷ vs) other = ap (λ b. (not b || is_signed_in (pos 0) (pos 4294967295) v) && list_all (fits id) vs) other ∙ all_fit id vs other
+all_fit id (v ∷ vs) other = ap (λ b. (not b || is_signed_in (pos (least id)) (pos (most id)) v) && list_all (fits id) vs) other ∙ all_fit id vs other
 
 -- values of other names
-pub text_fit : (a : Rule) → bytes_eq a.id (codes "steps") ≡ false → ((again : Bool) (rows : List Row) → use_fault again a [] rows ≡ [] → good_values a.id a.missing ≡ true) → Fits a
+pub text_fit : (a : Rule) → is_number a.id ≡ false → ((again : Bool) (rows : List Row) → use_fault again a [] rows ≡ [] → good_values a.id a.missing ≡ true) → Fits a
 text_fit a other none again [] rows e = none again rows e
 text_fit a other none again (v ∷ vs) rows e = all_fit a.id (v ∷ vs) other
 

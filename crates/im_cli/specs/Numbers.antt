@@ -1,5 +1,5 @@
 -- The numbers that words write.
-use Rattle.std.specs.Prelude.{ℕ, Bool, ◌&&◌, ◌||◌, ◌^◌, Option, Some, None, List, if◌then◌else◌}
+use Rattle.std.specs.Prelude.{ℕ, Bool, ◌&&◌, ◌||◌, ◌^◌, Option, Some, None, List, if◌then◌else◌, option_and_then}
 use Rattle.std.specs.Prelude.{codes, length, nat_le, nat_lt, slice_index}
 use Rattle.std.specs.Char.{is_digit}
 use Rattle.std.specs.List.{list_all}
@@ -20,3 +20,11 @@ abbrev pub plain_number : List ℕ → Option ℕ
 plain_number text =
     if starts_plainly text && (is_numeral text && nat_lt (digits_value 10 text) (2 ^ 32))
     then Some (digits_value 10 text) else None
+
+-- the number, where it isn't below the first bound or above the second
+abbrev pub within : ℕ → ℕ → ℕ → Option ℕ
+within least most number = if nat_lt number least || nat_lt most number then None else Some number
+
+-- the number in these bounds that decimal digits write so
+abbrev pub number_between : ℕ → ℕ → List ℕ → Option ℕ
+number_between least most text = option_and_then (within least most) (plain_number text)

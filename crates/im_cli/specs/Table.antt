@@ -1,5 +1,5 @@
 -- The table of commands, in clap's words.
-use Rattle.std.specs.Prelude.{◌++◌, pos, true, false, Some, List, [], ◌∷◌, codes, fold}
+use Rattle.std.specs.Prelude.{◌++◌, ℕ, pos, true, false, Some, List, [], ◌∷◌, codes, fold}
 use Rattle.clap.specs.Words.{App, Rule, Shape, Text, new_rule, with_rule}
 use Rattle.clap.specs.Simple.{new_shape}
 use Rattle.clap.specs.declared.builder.action.ArgAction.TheVariants.{SetTrue}
@@ -17,11 +17,11 @@ flag name = record (new_rule name) { long = Some name; action = Some SetTrue }
 abbrev pub valued : Text → Rule
 valued name = record (new_rule name) { long = Some name; value_names = 1 }
 
--- `--name N`, and N where it isn't given; a number below 2^32
-abbrev pub numbered : Text → Text → Rule
-numbered name default = record (valued name) {
+-- `--name N`, and N where it isn't given; a number from the one bound to the other
+abbrev pub numbered : Text → Text → ℕ → ℕ → Rule
+numbered name default least most = record (valued name) {
   defaults = default ∷ [];
-  parser = Some (Signed (pos 0) (pos 4294967295));
+  parser = Some (Signed (pos least) (pos most));
 }
 
 -- a command with more that may follow
@@ -38,18 +38,25 @@ file_options = valued (codes "input") ∷ valued (codes "trace") ∷ []
 
 -- --steps N --vars, how long a run lasts and whether its variables are shown
 abbrev pub step_options : List Rule
-step_options = numbered (codes "steps") (codes "100000000") ∷ flag (codes "vars") ∷ []
+step_options =
+    numbered (codes "steps") (codes "100000000") 0 4294967295 ∷ flag (codes "vars") ∷ []
 
 abbrev pub run_options : List Rule
 run_options = file_options ++ step_options
 
--- build SRC IMG
+-- --stack N --out-cap N, the bytes of an image's stack and of its output
+abbrev pub build_options : List Rule
+build_options = numbered (codes "stack") (codes "65536") 256 1048576
+    ∷ numbered (codes "out-cap") (codes "1048576") 0 1048576 ∷ []
+
+-- build SRC IMG, with options
 abbrev pub build_row : Shape
-build_row = row (codes "build") (operand (codes "SRC") ∷ operand (codes "IMG") ∷ [])
+build_row = row (codes "build") (operand (codes "SRC") ∷ operand (codes "IMG") ∷ build_options)
 
 -- run SRC IMG, with options
 abbrev pub run_row : Shape
-run_row = row (codes "run") (operand (codes "SRC") ∷ operand (codes "IMG") ∷ run_options)
+run_row = row (codes "run")
+    (operand (codes "SRC") ∷ operand (codes "IMG") ∷ build_options ++ run_options)
 
 -- exec IMG, with options
 abbrev pub exec_row : Shape
@@ -63,9 +70,13 @@ dump_row = row (codes "dump") (operand (codes "IMG") ∷ [])
 abbrev pub upgrade_row : Shape
 upgrade_row = row (codes "upgrade") (operand (codes "IN") ∷ operand (codes "OUT") ∷ [])
 
+-- report SRC, with options
+abbrev pub report_row : Shape
+report_row = row (codes "report") (operand (codes "SRC") ∷ build_options)
+
 -- the program's own name, and then one of the commands
 abbrev pub command_line : App
 command_line = record {
   top = record (new_shape (codes "intermit")) { is_leaf = false; subcommand_required = true };
-  subs = build_row ∷ run_row ∷ exec_row ∷ dump_row ∷ upgrade_row ∷ [];
+  subs = build_row ∷ run_row ∷ exec_row ∷ dump_row ∷ upgrade_row ∷ report_row ∷ [];
 }

@@ -5,11 +5,13 @@ pub enum Command<'a> {
     Build {
         source: &'a str,
         image: &'a str,
+        building: BuildOptions,
     },
     /// Build and store, and then run the stored image.
     Run {
         source: &'a str,
         image: &'a str,
+        building: BuildOptions,
         options: RunOptions<'a>,
     },
     /// Run an image.
@@ -26,6 +28,20 @@ pub enum Command<'a> {
         old: &'a str,
         new: &'a str,
     },
+    /// Build the source, and tell what was built.
+    Report {
+        source: &'a str,
+        building: BuildOptions,
+    },
+}
+
+/// How a source is built.
+#[derive(Clone, Copy, PartialEq, Eq, Debug)]
+pub struct BuildOptions {
+    /// Bytes of the image's stack, 256 to 1048576.
+    pub stack: u32,
+    /// Bytes of output that the image has room for, 0 to 1048576.
+    pub out_cap: u32,
 }
 
 /// How an image is run.

@@ -1,17 +1,22 @@
 ghost use Rattle.std.specs.Prelude.{◌≡◌, ℕ, ◌∷◌, [], Bool, IfSome, Option, Some, None, codes};
 ghost use Rattle.std.specs.Prelude.{List, false, is_some, true, unwrap_or};
 ghost use Rattle.clap.specs.Words.{Text};
-ghost use Rattle.im_cli.specs.Named.{builds, default_options, dumps, executes, is_faultless, is_option};
-ghost use Rattle.im_cli.specs.Named.{named, option_words, runs, steps_found, upgrades};
-ghost use Rattle.im_cli.specs.Numbers.{plain_number, starts_plainly};
+ghost use Rattle.im_cli.specs.Named.{building_words, builds, default_building, default_options};
+ghost use Rattle.im_cli.specs.Named.{dumps, executes, is_faultless, is_option, IsPlain, named};
+ghost use Rattle.im_cli.specs.Named.{option_words, reports, runs, upgrades};
+ghost use Rattle.im_cli.specs.Numbers.{number_between, plain_number};
 
 /// Words that name a command, one line for each.
 pub fn words_taken_law()
     ensures build { named (codes "intermit" ∷ codes "build" ∷ codes "a" ∷ codes "b" ∷ [])
-        ≡ Some (builds (codes "a") (codes "b")) }
+        ≡ Some (builds (codes "a") (codes "b") default_building) }
     ensures run { named (codes "intermit" ∷ codes "run" ∷ codes "a" ∷ codes "b" ∷ [])
-        ≡ Some (runs (codes "a") (codes "b")
+        ≡ Some (runs (codes "a") (codes "b") default_building
         (record { input = None; trace = None; steps = 100000000; vars = false })) }
+    ensures numbers { named (codes "intermit" ∷ codes "run" ∷ codes "--steps" ∷ codes "9"
+        ∷ codes "--out-cap=0" ∷ codes "a" ∷ codes "--stack" ∷ codes "256" ∷ codes "b" ∷ [])
+        ≡ Some (runs (codes "a") (codes "b") (record { stack = 256; out_cap = 0 })
+        (record { input = None; trace = None; steps = 9; vars = false })) }
     ensures exec { named (codes "p" ∷ codes "exec" ∷ codes "--vars"
         ∷ codes "--steps=7" ∷ codes "b" ∷ codes "--input" ∷ codes "f" ∷ [])
         ≡ Some (executes (codes "b")
@@ -20,16 +25,18 @@ pub fn words_taken_law()
         ∷ codes "b" ∷ []) ≡ Some (dumps (codes "b")) }
     ensures upgrade { named (codes "intermit" ∷ codes "upgrade" ∷ codes "a" ∷ codes "b" ∷ [])
         ≡ Some (upgrades (codes "a") (codes "b")) }
+    ensures report { named (codes "intermit" ∷ codes "report" ∷ codes "--out-cap" ∷ codes "9"
+        ∷ codes "a" ∷ []) ≡ Some (reports (codes "a") (record { stack = 65536; out_cap = 9 })) }
 {}
 
 /// Each command takes its files by their places, whatever their names are but options.
 pub fn files_law()
     ensures build { (program source image : Text) → is_option source ≡ false
         → is_option image ≡ false → named (program ∷ codes "build" ∷ source ∷ image ∷ [])
-        ≡ Some (builds source image) }
+        ≡ Some (builds source image default_building) }
     ensures run { (program source image : Text) → is_option source ≡ false
         → is_option image ≡ false → named (program ∷ codes "run" ∷ source ∷ image ∷ [])
-        ≡ Some (runs source image default_options) }
+        ≡ Some (runs source image default_building default_options) }
     ensures exec { (program image : Text) → is_option image ≡ false
         → named (program ∷ codes "exec" ∷ image ∷ []) ≡ Some (executes image default_options) }
     ensures dump { (program image : Text) → is_option image ≡ false
@@ -37,6 +44,30 @@ pub fn files_law()
     ensures upgrade { (program old new : Text) → is_option old ≡ false
         → is_option new ≡ false → named (program ∷ codes "upgrade" ∷ old ∷ new ∷ [])
         ≡ Some (upgrades old new) }
+    ensures report { (program source : Text) → is_option source ≡ false
+        → named (program ∷ codes "report" ∷ source ∷ []) ≡ Some (reports source default_building) }
+{}
+
+/// A build's options, each given or not, after the files.
+pub fn building_law()
+    ensures build { (program source image : Text) (stack out_cap : Option Text) (bytes most : ℕ)
+        → is_option source ≡ false → is_option image ≡ false
+        → number_between 256 1048576 (unwrap_or stack (codes "65536")) ≡ Some bytes
+        → number_between 0 1048576 (unwrap_or out_cap (codes "1048576")) ≡ Some most
+        → named (program ∷ codes "build" ∷ source ∷ image ∷ building_words stack out_cap)
+        ≡ Some (builds source image (record { stack = bytes; out_cap = most })) }
+    ensures run { (program source image : Text) (stack out_cap : Option Text) (bytes most : ℕ)
+        → is_option source ≡ false → is_option image ≡ false
+        → number_between 256 1048576 (unwrap_or stack (codes "65536")) ≡ Some bytes
+        → number_between 0 1048576 (unwrap_or out_cap (codes "1048576")) ≡ Some most
+        → named (program ∷ codes "run" ∷ source ∷ image ∷ building_words stack out_cap)
+        ≡ Some (runs source image (record { stack = bytes; out_cap = most }) default_options) }
+    ensures report { (program source : Text) (stack out_cap : Option Text) (bytes most : ℕ)
+        → is_option source ≡ false
+        → number_between 256 1048576 (unwrap_or stack (codes "65536")) ≡ Some bytes
+        → number_between 0 1048576 (unwrap_or out_cap (codes "1048576")) ≡ Some most
+        → named (program ∷ codes "report" ∷ source ∷ building_words stack out_cap)
+        ≡ Some (reports source (record { stack = bytes; out_cap = most })) }
 {}
 
 /// A run's options, each given or not, after the files.
@@ -54,15 +85,14 @@ pub fn options_law()
         → IfSome trace (λ file. is_option file ≡ false)
         → plain_number (unwrap_or steps (codes "100000000")) ≡ Some number
         → named (program ∷ codes "run" ∷ source ∷ image ∷ option_words input trace steps vars)
-        ≡ Some (runs source image
+        ≡ Some (runs source image default_building
         (record { input = input; trace = trace; steps = number; vars = vars })) }
 {}
 
-/// Words in which clap finds no fault name a command, unless the number of `--steps` has a sign or a
-/// zero before it.
+/// Words in which clap finds no fault name a command, unless a number has a sign or a zero before it.
 pub fn faultless_law()
-    ensures { (words : List Text) → is_faultless words ≡ true
-        → IfSome (steps_found words) (λ text. starts_plainly text ≡ true)
+    ensures { (words : List Text) → is_faultless words ≡ true → IsPlain (codes "steps") words
+        → IsPlain (codes "stack") words → IsPlain (codes "out-cap") words
         → is_some (named words) ≡ true }
 {}
 
@@ -77,6 +107,10 @@ pub fn words_refused_law()
     ensures option { named (codes "intermit" ∷ codes "run" ∷ codes "-x" ∷ codes "b" ∷ []) ≡ None }
     ensures range { named (codes "intermit" ∷ codes "exec" ∷ codes "b"
         ∷ codes "--steps" ∷ codes "4294967296" ∷ []) ≡ None }
+    ensures stack { named (codes "intermit" ∷ codes "report" ∷ codes "a"
+        ∷ codes "--stack" ∷ codes "255" ∷ []) ≡ None }
+    ensures output { named (codes "intermit" ∷ codes "report" ∷ codes "a"
+        ∷ codes "--out-cap" ∷ codes "1048577" ∷ []) ≡ None }
     ensures sign { named (codes "intermit" ∷ codes "exec" ∷ codes "b"
         ∷ codes "--steps" ∷ codes "+7" ∷ []) ≡ None }
     ensures zero { named (codes "intermit" ∷ codes "exec" ∷ codes "b"

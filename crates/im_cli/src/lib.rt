@@ -9,9 +9,11 @@ mod number;
 mod table;
 mod words;
 
-pub use command::{Command, RunOptions};
+pub use command::{BuildOptions, Command, RunOptions};
 pub use fault::WordsFault;
-pub use laws::{faultless_law, files_law, options_law, words_refused_law, words_taken_law};
+pub use laws::{
+    building_law, faultless_law, files_law, options_law, words_refused_law, words_taken_law,
+};
 pub use words::read_words;
 
 #[cfg(test)]

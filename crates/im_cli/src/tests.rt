@@ -1,6 +1,6 @@
 use crate::{
-    Command, RunOptions, WordsFault, faultless_law, files_law, options_law, read_words,
-    words_refused_law, words_taken_law,
+    BuildOptions, Command, RunOptions, WordsFault, building_law, faultless_law, files_law,
+    options_law, read_words, words_refused_law, words_taken_law,
 };
 use std::alloc::Global;
 use std::test::Fail;
@@ -19,6 +19,7 @@ fn names_the_command(rt: HostRuntime) -> Result<(), Fail> {
     faultless_law();
     files_law();
     options_law();
+    building_law();
     let alloc = rt.alloc();
     let plain = RunOptions {
         input: None,
@@ -32,16 +33,22 @@ fn names_the_command(rt: HostRuntime) -> Result<(), Fail> {
         steps: 4_294_967_295,
         vars: true,
     };
+    let building = BuildOptions {
+        stack: 65536,
+        out_cap: 1_048_576,
+    };
     let line = words(alloc, &["intermit", "build", "a.c", "a.img"])?;
     let expected = Command::Build {
         source: "a.c",
         image: "a.img",
+        building,
     };
     assert!(rt; read_words(alloc, line.as_slice())? == expected);
     let line = words(alloc, &["intermit", "run", "a.c", "a.img"])?;
     let expected = Command::Run {
         source: "a.c",
         image: "a.img",
+        building,
         options: plain,
     };
     assert!(rt; read_words(alloc, line.as_slice())? == expected);
@@ -72,6 +79,18 @@ fn names_the_command(rt: HostRuntime) -> Result<(), Fail> {
         new: "b.img",
     };
     assert!(rt; read_words(alloc, line.as_slice())? == expected);
+    let line = words(
+        alloc,
+        &["intermit", "report", "--stack=256", "a.c", "--out-cap", "0"],
+    )?;
+    let expected = Command::Report {
+        source: "a.c",
+        building: BuildOptions {
+            stack: 256,
+            out_cap: 0,
+        },
+    };
+    assert!(rt; read_words(alloc, line.as_slice())? == expected);
     Ok(())
 }
 
@@ -79,7 +98,7 @@ fn names_the_command(rt: HostRuntime) -> Result<(), Fail> {
 fn refuses_other_words(rt: HostRuntime) -> Result<(), Fail> {
     words_refused_law();
     let alloc = rt.alloc();
-    let lines: [&[&str]; 13] = [
+    let lines: [&[&str]; 16] = [
         &["intermit"],
         &["intermit", "run", "a.c"],
         &["intermit", "run", "a.c", "a.img", "more"],
@@ -93,6 +112,9 @@ fn refuses_other_words(rt: HostRuntime) -> Result<(), Fail> {
         &["intermit", "exec", "a.img", "--steps", "+7"],
         &["intermit", "exec", "a.img", "--steps", "07"],
         &["intermit", "exec", "a.img", "--steps=-0"],
+        &["intermit", "report", "a.c", "--stack", "1048577"],
+        &["intermit", "build", "a.c", "a.img", "--out-cap", "00"],
+        &["intermit", "exec", "a.img", "--stack", "256"],
     ];
     for line in lines.as_slice() {
         let line = words(alloc, *line)?;

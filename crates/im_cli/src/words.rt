@@ -1,7 +1,7 @@
 ghost use Rattle.std.specs.Prelude.{◌≡◌, ◌≢◌, IfOk, IfErr, Some, None, map};
 ghost use Rattle.std.specs.String.{string_bytes};
 ghost use Rattle.clap.specs.Words.{kind_of};
-ghost use Rattle.im_cli.specs.Named.{IsUsage, meaning, named};
+ghost use Rattle.im_cli.specs.Named.{HasBounds, IsUsage, meaning, named};
 
 use crate::matched::matched_command;
 use crate::table::command_table;
@@ -30,6 +30,7 @@ fn refusal(alloc: Global, error: clap::Error) -> WordsFault
 /// `Usage` is answered only where the words name none, or ask for help.
 pub fn read_words<'a>(alloc: Global, words: &'a [String]) -> Result<Command<'a>, WordsFault>
     ensures named { IfOk result (λ c. named (map string_bytes words.now) ≡ Some (meaning c)) }
+    ensures bounds { IfOk result HasBounds }
     ensures refused { IfErr result (λ e. IsUsage e → named (map string_bytes words.now) ≡ None) }
 {
     let table = command_table(alloc)?;

@@ -7,6 +7,9 @@ use Rattle.im_image.specs.Text.{image_text}
 use Rattle.im_lines.specs.Refusals.{Refused, CannotRead, SourceTooLong, BadSource, NotAnImage, CannotWrite, InputTooLong, FileTooLong, NotATrace, TornStores, NoMemory}
 use Rattle.im_fault.specs.declared.fault.SourceFault.{SourceFault}
 use Rattle.im_fault.specs.declared.fault.SourceFault.TheVariants.{OutOfMemory}
+use Rattle.im_compile.specs.declared.options.Options.{Options as BuildsWith}
+use Rattle.im_compile.specs.declared.built.Built.{Built}
+use Rattle.im_cli.specs.declared.command.BuildOptions.{BuildOptions}
 use Rattle.im_driver.specs.Compiled.{IsCompiled, IsRefused}
 use Rattle.im_cmd.specs.Files.{Unchanged, ReadsFile, Unreadable, IsOver}
 
@@ -14,11 +17,15 @@ use Rattle.im_cmd.specs.Files.{Unchanged, ReadsFile, Unreadable, IsOver}
 abbrev pub source_limit : ℕ
 source_limit = 4194304
 
--- The image is one, and keeps the meaning of the text's program with 65536 bytes of stack and 1048576 bytes of output,
--- the longest gap being so many instructions: the headline.
-pub record IsBuilt (text : List ℕ) (image : ImageValue) (gap : ℕ) : Type 0 where
-  pub is_image : IsImage image
-  pub compiled : IsCompiled text 65536 1048576 image gap
+-- what is compiled with: the bytes of stack and of output that the words give
+abbrev pub built_with : BuildOptions → BuildsWith
+built_with building = record { stack = building.stack; out_cap = building.out_cap }
+
+-- The image is one, and keeps the meaning of the text's program with so many bytes of stack and of output, with the frames
+-- and the longest gap that are told: the headline.
+pub record IsBuilt (text : List ℕ) (building : BuildOptions) (built : Built) : Type 0 where
+  pub is_image : IsImage built.image
+  pub compiled : IsCompiled text (built_with building) built
 
 -- the source file held the text, and the image's file now holds the image's text, no other file having changed
 pub record Compiles (source image_name text : List ℕ) (image : ImageValue) (old new : Told) : Type 0 where
@@ -33,20 +40,25 @@ pub record HalfCompiles (source image_name text : List ℕ) (image : ImageValue)
   pub stored : SameFiles old new ⊎ HoldsFirst image_name (image_text image) old new
 
 -- the source's text was compiled and its image stored, nothing having failed outside
-pub record Builds (source image_name : List ℕ) (image : ImageValue) (gap : ℕ) (old new : ShelfState) : Type 0 where
+pub record Builds (source image_name : List ℕ) (building : BuildOptions) (built : Built) (old new : ShelfState) : Type 0 where
   pub text : List ℕ
-  pub built : IsBuilt text image gap
+  pub is_built : IsBuilt text building built
   pub counts : SameCounts old new
-  pub files : WhereTold old.told new.told (Compiles source image_name text image)
+  pub files : WhereTold old.told new.told (Compiles source image_name text built.image)
+
+-- the source's text was compiled, and nothing stored
+pub record Reports (source : List ℕ) (building : BuildOptions) (built : Built) (old new : ShelfState) : Type 0 where
+  pub text : List ℕ
+  pub read : ReadsFile source text source_limit old new
+  pub is_built : IsBuilt text building built
 
 -- an image was built whose text couldn't be written whole
-pub record Unwritable (source image_name : List ℕ) (old new : ShelfState) : Type 0 where
+pub record Unwritable (source image_name : List ℕ) (building : BuildOptions) (old new : ShelfState) : Type 0 where
   pub text : List ℕ
-  pub image : ImageValue
-  pub gap : ℕ
-  pub built : IsBuilt text image gap
+  pub built : Built
+  pub is_built : IsBuilt text building built
   pub counts : WriteFaulted old new
-  pub files : WhereTold old.told new.told (HalfCompiles source image_name text image)
+  pub files : WhereTold old.told new.told (HalfCompiles source image_name text built.image)
 
 -- what is wrong with a text; want of memory is nothing of the text's
 abbrev pub IsFaulty : List ℕ → SourceFault → Type 0
@@ -59,15 +71,20 @@ pub record IsBadSource (source : List ℕ) (fault : SourceFault) (old new : Shel
   pub read : ReadsFile source text source_limit old new
   pub faulty : IsFaulty text fault
 
--- why a source isn't built or its image not stored, and what that leaves outside
-abbrev pub RefusesBuild : Refused → List ℕ → List ℕ → ShelfState → ShelfState → Type 0
-RefusesBuild (CannotRead name) source image_name old new = (name ≡ source) × Unreadable source old new
-RefusesBuild (SourceTooLong name) source image_name old new = (name ≡ source) × IsOver source source_limit old new
-RefusesBuild (BadSource name fault) source image_name old new = (name ≡ source) × IsBadSource source fault old new
-RefusesBuild (CannotWrite name) source image_name old new = (name ≡ image_name) × Unwritable source image_name old new
-RefusesBuild NoMemory source image_name old new = Unchanged old new
-RefusesBuild (NotAnImage name fault) source image_name old new = ⊥
-RefusesBuild (InputTooLong count most) source image_name old new = ⊥
-RefusesBuild (FileTooLong name most) source image_name old new = ⊥
-RefusesBuild (NotATrace name fault) source image_name old new = ⊥
-RefusesBuild TornStores source image_name old new = ⊥
+-- why a source isn't compiled, and what that leaves outside
+abbrev pub RefusesReport : Refused → List ℕ → ShelfState → ShelfState → Type 0
+RefusesReport (CannotRead name) source old new = (name ≡ source) × Unreadable source old new
+RefusesReport (SourceTooLong name) source old new = (name ≡ source) × IsOver source source_limit old new
+RefusesReport (BadSource name fault) source old new = (name ≡ source) × IsBadSource source fault old new
+RefusesReport NoMemory source old new = Unchanged old new
+RefusesReport (CannotWrite name) source old new = ⊥
+RefusesReport (NotAnImage name fault) source old new = ⊥
+RefusesReport (InputTooLong count most) source old new = ⊥
+RefusesReport (FileTooLong name most) source old new = ⊥
+RefusesReport (NotATrace name fault) source old new = ⊥
+RefusesReport TornStores source old new = ⊥
+
+-- why a source isn't built or its image not stored
+abbrev pub RefusesBuild : Refused → List ℕ → List ℕ → BuildOptions → ShelfState → ShelfState → Type 0
+RefusesBuild (CannotWrite name) source image_name building old new = (name ≡ image_name) × Unwritable source image_name building old new
+RefusesBuild refused source image_name building old new = RefusesReport refused source old new

@@ -11,6 +11,7 @@ use Rattle.im_io.specs.Sink.{SinkState}
 use Rattle.im_io.specs.Whole.{SentAll, SentFirst}
 use Rattle.im_lines.specs.declared.ending.Ending.{Ending}
 use Rattle.im_lines.specs.declared.ending.Ending.TheVariants.{Returned, StackExhausted, OutOfPower, MachineFault}
+use Rattle.im_compile.specs.declared.built.Built.{Built}
 use Rattle.im_lines.specs.Builds.{build_lines}
 use Rattle.im_lines.specs.Runs.{ending_of, run_lines}
 use Rattle.im_lines.specs.Variables.{variable_lines}
@@ -58,14 +59,18 @@ shown_lines image (Some variables) = variable_lines image.objects variables
 abbrev pub run_report : ImageValue → Device → Option (List Variable) → List ℕ
 run_report image ended variables = run_lines (ending ended) (status_of ended.mem) ended.commits ended.steps ++ shown_lines image variables
 
--- the lines of the build before it, where the image was built by the same command; given is its gap
-abbrev pub report_with : Option ℕ → ImageValue → Device → Option (List Variable) → List ℕ
+-- what a build tells
+abbrev pub built_lines : Built → List ℕ
+built_lines built = build_lines (length built.image.words) built.gap built.frames.frames.items
+
+-- the lines of the build before it, where the image was built by the same command
+abbrev pub report_with : Option Built → ImageValue → Device → Option (List Variable) → List ℕ
 report_with None image ended variables = run_report image ended variables
-report_with (Some gap) image ended variables = build_lines (length image.words) gap ++ run_report image ended variables
+report_with (Some built) image ended variables = built_lines built ++ run_report image ended variables
 
 -- what a run leaves on the second sink
-abbrev pub report : Option ℕ → Bool → ImageValue → Device → List ℕ
-report gap vars image ended = report_with gap image ended (shown vars image.objects ended.mem)
+abbrev pub report : Option Built → Bool → ImageValue → Device → List ℕ
+report built vars image ended = report_with built image ended (shown vars image.objects ended.mem)
 
 -- ---- what a sink got of a text: the whole, or the first bytes where its count of faults rose
 

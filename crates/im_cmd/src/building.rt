@@ -2,22 +2,20 @@ ghost use Rattle.std.specs.Prelude.{MatchResult};
 ghost use Rattle.im_image.specs.Text.{image_text};
 ghost use Rattle.im_lines.specs.Refusals.{refused_of};
 ghost use Rattle.im_cmd.specs.Files.{ReadsFile};
-ghost use Rattle.im_cmd.specs.Builds.{IsBuilt, Builds, RefusesBuild, source_limit};
+ghost use Rattle.im_cli.specs.Named.{IsInBounds};
+ghost use Rattle.im_cmd.specs.Builds.{IsBuilt, Builds, RefusesBuild, Reports, RefusesReport, source_limit};
 ghost use Rattle.im_cmd.specs.Stages.{RefusesSource, RefusesText, StoresText, RefusesStore};
 
+use im_cli::BuildOptions;
 use im_driver::{Built, Options, compile};
 use im_fault::SourceFault;
 use im_image::{Image, write_image};
 use im_io::{ReadFault, Shelf, read_whole, store};
 use im_lines::Refusal;
-use im_mem::OUTPUT_CAPACITY;
 use std::alloc::Global;
 
 /// Bytes of a source.
 const SOURCE_LIMIT: u64 = 4 * 1024 * 1024;
-
-/// Bytes of stack.
-const STACK: u32 = 65536;
 
 // The text of a source file.
 fn read_source<'a, H: Shelf>(
@@ -38,13 +36,19 @@ fn read_source<'a, H: Shelf>(
 }
 
 // The image of a source file's text.
-fn compile_text<'a>(alloc: Global, source: &'a str, text: &[u8]) -> Result<Built, Refusal<'a>>
-    ensures { MatchResult result (λ built. IsBuilt text.now built.image built.gap)
+fn compile_text<'a>(
+    alloc: Global,
+    source: &'a str,
+    building: BuildOptions,
+    text: &[u8],
+) -> Result<Built, Refusal<'a>>
+    requires { IsInBounds building }
+    ensures { MatchResult result (λ built. IsBuilt text.now building built)
         (λ refusal. RefusesText (refused_of refusal) source.now text.now) }
 {
     let options = Options {
-        stack: STACK,
-        out_cap: OUTPUT_CAPACITY,
+        stack: building.stack,
+        out_cap: building.out_cap,
     };
     match compile(alloc, text, options) {
         Ok(built) => Ok(built),
@@ -73,22 +77,42 @@ pub fn store_image<'a, H: Shelf>(
     }
 }
 
+/// Builds a source, and stores nothing.
+pub fn compile_source<'a, H: Shelf>(
+    alloc: Global,
+    shelf: &mut H,
+    source: &'a str,
+    building: BuildOptions,
+) -> Result<Built, Refusal<'a>>
+    requires { IsInBounds building }
+    ensures { MatchResult result (λ built. Reports source.now building built (H.state shelf.old)
+        (H.state shelf.new))
+        (λ refusal. RefusesReport (refused_of refusal) source.now (H.state shelf.old) (H.state shelf.new)) }
+{
+    let text = match read_source(alloc, shelf, source) {
+        Ok(text) => text,
+        Err(refusal) => return Err(refusal),
+    };
+    match compile_text(alloc, source, building, &text) {
+        Ok(built) => Ok(built),
+        Err(refusal) => Err(refusal),
+    }
+}
+
 /// Builds a source and stores its image.
 pub fn build<'a, H: Shelf>(
     alloc: Global,
     shelf: &mut H,
     source: &'a str,
     image_name: &'a str,
+    building: BuildOptions,
 ) -> Result<Built, Refusal<'a>>
-    ensures { MatchResult result (λ built. Builds source.now image_name.now built.image built.gap
+    requires { IsInBounds building }
+    ensures { MatchResult result (λ built. Builds source.now image_name.now building built
         (H.state shelf.old) (H.state shelf.new))
-        (λ refusal. RefusesBuild (refused_of refusal) source.now image_name.now (H.state shelf.old) (H.state shelf.new)) }
+        (λ refusal. RefusesBuild (refused_of refusal) source.now image_name.now building (H.state shelf.old) (H.state shelf.new)) }
 {
-    let text = match read_source(alloc, shelf, source) {
-        Ok(text) => text,
-        Err(refusal) => return Err(refusal),
-    };
-    let built = match compile_text(alloc, source, &text) {
+    let built = match compile_source(alloc, shelf, source, building) {
         Ok(built) => built,
         Err(refusal) => return Err(refusal),
     };

@@ -1,14 +1,14 @@
-ghost use Rattle.im_cli.specs.Named.{options_meaning};
-ghost use Rattle.im_cmd.specs.Answers.{BuildAnswers, RunAnswers, ExecAnswers, DumpAnswers, UpgradeAnswers};
+ghost use Rattle.im_cli.specs.Named.{IsInBounds, options_meaning};
+ghost use Rattle.im_cmd.specs.Answers.{BuildAnswers, RunAnswers, ExecAnswers, DumpAnswers, UpgradeAnswers, ReportAnswers};
 
-use crate::building::build;
+use crate::building::{build, compile_source};
 use crate::running::run_image;
 use crate::stored::read_stored;
-use crate::telling::{finish, tell_refusal, tell_run, word_count};
+use crate::telling::{finish, send_built, send_report_of, tell_refusal, tell_run};
 use crate::upgrading::upgrade_image;
-use im_cli::RunOptions;
+use im_cli::{BuildOptions, RunOptions};
 use im_io::{Shelf, Sink};
-use im_lines::{send_build_lines, send_dump_lines, send_upgrade_line};
+use im_lines::{send_dump_lines, send_upgrade_line};
 use std::alloc::Global;
 
 /// Builds a source and stores its image. `out` gets the lines of the build.
@@ -19,13 +19,16 @@ pub fn build_source<H: Shelf, O: Sink, E: Sink>(
     err: &mut E,
     source: &str,
     image_name: &str,
+    building: BuildOptions,
 ) -> u8
-    ensures { BuildAnswers source.now image_name.now (H.state shelf.old) (H.state shelf.new)
-        (O.state out.old) (O.state out.new) (E.state err.old) (E.state err.new) result }
+    requires { IsInBounds building }
+    ensures { BuildAnswers source.now image_name.now building (H.state shelf.old)
+        (H.state shelf.new) (O.state out.old) (O.state out.new) (E.state err.old) (E.state err.new)
+        result }
 {
-    match build(alloc, shelf, source, image_name) {
+    match build(alloc, shelf, source, image_name, building) {
         Ok(built) => {
-            let sent = send_build_lines(out, word_count(&built.image), built.gap);
+            let sent = send_built(out, &built);
             finish(err, sent)
         }
         Err(refusal) => tell_refusal(err, &refusal),
@@ -41,18 +44,20 @@ pub fn run_source<H: Shelf, O: Sink, E: Sink>(
     err: &mut E,
     source: &str,
     image_name: &str,
+    building: BuildOptions,
     options: RunOptions<'_>,
 ) -> u8
-    ensures { RunAnswers source.now image_name.now (options_meaning options.entry)
+    requires { IsInBounds building }
+    ensures { RunAnswers source.now image_name.now building (options_meaning options.entry)
         (H.state shelf.old) (H.state shelf.new) (O.state out.old) (O.state out.new)
         (E.state err.old) (E.state err.new) result }
 {
-    let built = match build(alloc, shelf, source, image_name) {
+    let built = match build(alloc, shelf, source, image_name, building) {
         Ok(built) => built,
         Err(refusal) => return tell_refusal(err, &refusal),
     };
     match run_image(alloc, shelf, &built.image, options) {
-        Ok(run) => tell_run(out, err, &built.image, Some(built.gap), &run),
+        Ok(run) => tell_run(out, err, &built.image, Some(&built), &run),
         Err(refusal) => tell_refusal(err, &refusal),
     }
 }
@@ -115,6 +120,28 @@ pub fn upgrade<H: Shelf, O: Sink, E: Sink>(
     match upgrade_image(alloc, shelf, old, new) {
         Ok(version) => {
             let sent = send_upgrade_line(out, version);
+            finish(err, sent)
+        }
+        Err(refusal) => tell_refusal(err, &refusal),
+    }
+}
+
+/// Builds a source and tells what was built; nothing is stored. `out` gets the lines.
+pub fn report<H: Shelf, O: Sink, E: Sink>(
+    alloc: Global,
+    shelf: &mut H,
+    out: &mut O,
+    err: &mut E,
+    source: &str,
+    building: BuildOptions,
+) -> u8
+    requires { IsInBounds building }
+    ensures { ReportAnswers source.now building (H.state shelf.old) (H.state shelf.new)
+        (O.state out.old) (O.state out.new) (E.state err.old) (E.state err.new) result }
+{
+    match compile_source(alloc, shelf, source, building) {
+        Ok(built) => {
+            let sent = send_report_of(out, &built);
             finish(err, sent)
         }
         Err(refusal) => tell_refusal(err, &refusal),

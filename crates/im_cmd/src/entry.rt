@@ -1,10 +1,10 @@
 ghost use Rattle.std.specs.Prelude.{map};
 ghost use Rattle.std.specs.String.{string_bytes};
-ghost use Rattle.im_cli.specs.Named.{meaning};
+ghost use Rattle.im_cli.specs.Named.{HasBounds, meaning};
 ghost use Rattle.im_cmd.specs.Stages.{TellsFault};
 ghost use Rattle.im_cmd.specs.Answers.{Answers, CarriesOut};
 
-use crate::commands::{build_source, dump, execute, run_source, upgrade};
+use crate::commands::{build_source, dump, execute, report, run_source, upgrade};
 use crate::status::USAGE;
 use crate::telling::tell_refusal;
 use im_cli::{Command, WordsFault, read_words};
@@ -67,18 +67,25 @@ fn carry_out<H: Shelf, O: Sink, E: Sink>(
     err: &mut E,
     command: Command<'_>,
 ) -> u8
+    requires { HasBounds command }
     ensures { CarriesOut (meaning command.entry) (H.state shelf.old) (H.state shelf.new)
         (O.state out.old) (O.state out.new) (E.state err.old) (E.state err.new) result }
 {
     match command {
-        Command::Build { source, image } => build_source(alloc, shelf, out, err, source, image),
+        Command::Build {
+            source,
+            image,
+            building,
+        } => build_source(alloc, shelf, out, err, source, image, building),
         Command::Run {
             source,
             image,
+            building,
             options,
-        } => run_source(alloc, shelf, out, err, source, image, options),
+        } => run_source(alloc, shelf, out, err, source, image, building, options),
         Command::Exec { image, options } => execute(alloc, shelf, out, err, image, options),
         Command::Dump { image } => dump(alloc, shelf, out, err, image),
         Command::Upgrade { old, new } => upgrade(alloc, shelf, out, err, old, new),
+        Command::Report { source, building } => report(alloc, shelf, out, err, source, building),
     }
 }

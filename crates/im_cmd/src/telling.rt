@@ -1,15 +1,18 @@
 ghost use Rattle.std.specs.Prelude.{◌≡◌, length, option_map, IfSome};
 ghost use Rattle.im_io.specs.Whole.{Sends};
 ghost use Rattle.im_lines.specs.Refusals.{refusal_line, refused_of};
-ghost use Rattle.im_cmd.specs.Outcome.{Got, TellsRun, ending, refusal_status, report_with, run_report, shown_lines};
+ghost use Rattle.im_lines.specs.Reports.{report_lines};
+ghost use Rattle.im_cmd.specs.Outcome.{Got, TellsRun, built_lines, ending, refusal_status, report_with, run_report, shown_lines};
 ghost use Rattle.im_cmd.specs.Stages.{Finishes, ended_of, variables_of};
 
 use crate::running::Run;
 use crate::status::{DONE, UNWRITABLE, status_of_ending, status_of_refusal};
+use im_driver::Built;
 use im_image::Image;
 use im_io::{Failed, Sink, send};
 use im_lines::{
-    Ending, Refusal, send_build_lines, send_refusal_line, send_run_lines, send_variable_lines,
+    Ending, Refusal, send_build_lines, send_refusal_line, send_report_lines, send_run_lines,
+    send_variable_lines,
 };
 use im_num::Var;
 
@@ -35,11 +38,46 @@ pub fn finish<E: Sink>(err: &mut E, sent: Result<(), Failed>) -> u8
     }
 }
 
-/// Words of an image's code.
-pub fn word_count(image: &Image) -> u32
+// Words of an image's code.
+fn word_count(image: &Image) -> u32
     ensures { result ≡ length image.now.words }
 {
     image.words.len() as u32
+}
+
+// Bytes of an image's statics.
+fn static_count(image: &Image) -> u32
+    ensures { result ≡ length image.now.statics }
+{
+    image.statics.len() as u32
+}
+
+/// Sends the lines of a build.
+pub fn send_built<S: Sink>(sink: &mut S, built: &Built) -> Result<(), Failed>
+    ensures { Sends (built_lines built.now) result (S.state sink.old) (S.state sink.new) }
+{
+    send_build_lines(
+        sink,
+        word_count(&built.image),
+        built.gap,
+        &built.frames.frames,
+    )
+}
+
+/// Sends the lines of a report.
+pub fn send_report_of<S: Sink>(sink: &mut S, built: &Built) -> Result<(), Failed>
+    ensures { Sends (report_lines (length built.now.image.words) built.now.gap
+        (length built.now.image.statics) built.now.frames.frames.items built.now.cuts.items)
+        result (S.state sink.old) (S.state sink.new) }
+{
+    send_report_lines(
+        sink,
+        word_count(&built.image),
+        built.gap,
+        static_count(&built.image),
+        &built.frames.frames,
+        &built.cuts,
+    )
 }
 
 // How a run ended.
@@ -88,15 +126,15 @@ fn send_run_report<S: Sink>(err: &mut S, image: &Image, run: &Run) -> Result<(),
 fn send_report<S: Sink>(
     err: &mut S,
     image: &Image,
-    gap: Option<u32>,
+    built: Option<&Built>,
     run: &Run,
 ) -> Result<(), Failed>
-    ensures { Sends (report_with gap image.now (ended_of run.now.machine)
+    ensures { Sends (report_with (option_map (λ b. b.now) built) image.now (ended_of run.now.machine)
         (variables_of (λ vars. vars.items) run.now.variables)) result (S.state err.old)
         (S.state err.new) }
 {
-    match gap {
-        Some(gap) => match send_build_lines(err, word_count(image), gap) {
+    match built {
+        Some(built) => match send_built(err, built) {
             Ok(()) => send_run_report(err, image, run),
             Err(fault) => Err(fault),
         },
@@ -109,11 +147,12 @@ pub fn tell_run<O: Sink, E: Sink>(
     out: &mut O,
     err: &mut E,
     image: &Image,
-    gap: Option<u32>,
+    built: Option<&Built>,
     run: &Run,
 ) -> u8
-    ensures { TellsRun (report_with gap image.now (ended_of run.now.machine)
-        (variables_of (λ vars. vars.items) run.now.variables)) run.now.machine.form
+    ensures { TellsRun (report_with (option_map (λ b. b.now) built) image.now
+        (ended_of run.now.machine) (variables_of (λ vars. vars.items) run.now.variables))
+        run.now.machine.form
         (ended_of run.now.machine) (O.state out.old) (O.state out.new) (E.state err.old)
         (E.state err.new) result }
 {
@@ -124,7 +163,7 @@ pub fn tell_run<O: Sink, E: Sink>(
             return UNWRITABLE;
         }
     }
-    match send_report(err, image, gap, run) {
+    match send_report(err, image, built, run) {
         Ok(()) => status_of_ending(ending_of(run)),
         Err(Failed) => UNWRITABLE,
     }

@@ -1,4 +1,5 @@
 pub mod Lexical
 pub mod Typed
 pub mod Programs
+pub mod Frames
 pub mod Refusals

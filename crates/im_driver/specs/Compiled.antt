@@ -1,5 +1,5 @@
 -- What is compiled of a source, and why it is refused.
-use Rattle.std.specs.Prelude.{◌≡◌, ◌⊎◌, ◌≤◌, ℕ, ◌+◌, List, length, Ok, Some}
+use Rattle.std.specs.Prelude.{◌≡◌, ◌⊎◌, ◌≤◌, ℕ, ◌+◌, List, length, Ok, Some, slice_get}
 use Rattle.im_fault.specs.declared.fault.LineFault.{LineFault}
 use Rattle.im_fault.specs.declared.fault.LineFault.TheVariants.{BadByte, OpenComment, OpenLiteral, BadEscape, BadNumber, BadDirective, Syntax, Nesting, Rule}
 use Rattle.im_fault.specs.declared.fault.Quantity.{Quantity}
@@ -12,17 +12,22 @@ use Rattle.im_ctree.specs.declared.unit.Tree.{Tree}
 use Rattle.im_ctree.specs.Shape.{tree_of}
 use Rattle.im_parse_unit.specs.Spelling.{IsParsedText}
 use Rattle.im_front.specs.Reading.{IsWrong, IsOver, line_of_token}
-use Rattle.im_typed.specs.Program.{Prog}
+use Rattle.im_typed.specs.Program.{Prog, Func}
+use Rattle.im_typed.specs.Counts.{func_need}
+use Rattle.im_typed.specs.declared.frames.Frame.{Frame}
 use Rattle.im_typed.specs.declared.program.Prog.{Prog as MadeProgram}
 use Rattle.im_typed.specs.ProgramOf.{program_of}
 use Rattle.im_rules.specs.TypedUnit.{TypedUnit}
 use Rattle.im_rules.specs.UnitBreaks.{UnitBroken}
 use Rattle.im_rule_limits.specs.Limits as limits
 use Rattle.im_plain.specs.Plain.{other_unit}
+use Rattle.im_compile.specs.declared.options.Options.{Options}
+use Rattle.im_compile.specs.declared.built.Built.{Built}
+use Rattle.im_compile.specs.Built.{IsBuilt}
 use Rattle.im_compile.specs.Faults.{HasLargeFrame, HasLargeCode, HasUnnamed}
-use Rattle.im_image.specs.Contents.{ImageValue}
 use Rattle.im_gap.specs.Gap.{recovery_steps}
 use Rattle.im_source.specs.Laws.{ProgramKeeps}
+use Rattle.im_built_keeps.specs.Laws.{frames_of}
 
 -- the tree that a source's tokens spell
 pub record IsTreeOf (source : List ℕ) (tokens : List Token) (tree : Tree) : Type 0 where
@@ -36,16 +41,27 @@ pub record IsProgramOf (source : List ℕ) (prog : Prog) : Type 0 where
   pub is_tree : IsTreeOf source tokens tree
   pub typed : TypedUnit (tree_of tree) prog
 
--- the image keeps the meaning of the source's program: the headline
-pub record IsCompiled (source : List ℕ) (stack out_cap : ℕ) (image : ImageValue) (gap : ℕ) : Type 0 where
-  pub prog : Prog
-  pub program : IsProgramOf source prog
-  -- bytes of each function's frame
-  pub frames : List ℕ
-  pub keeps : ProgramKeeps prog frames image gap
-  pub stack_is : image.stack ≡ stack
-  pub out_cap_is : image.out_cap ≡ out_cap
-  pub short : gap ≤ recovery_steps + length image.words
+-- the frame that is told of a function has its name, and no more bytes than it may need
+pub record IsFrameOf (f : Func) (frame : Frame) : Type 0 where
+  pub name : frame.name.items ≡ f.name
+  pub need : frame.size ≤ func_need f
+
+-- one frame for each function, in the order of their definitions
+pub record AreFrames (functions : List Func) (frames : List Frame) : Type 0 where
+  pub count : length frames ≡ length functions
+  pub each : (i : ℕ) (f : Func) (frame : Frame) → slice_get functions i ≡ Some f → slice_get frames i ≡ Some frame → IsFrameOf f frame
+
+-- the image keeps the meaning of the source's program, with the frames and the gap that are told: the headline
+pub record IsCompiled (source : List ℕ) (options : Options) (built : Built) : Type 0 where
+  pub made : MadeProgram
+  pub program : IsProgramOf source (program_of made)
+  pub keeps : ProgramKeeps (program_of made) (frames_of built) built.image built.gap
+  pub frames : AreFrames (program_of made).funcs built.frames.frames.items
+  pub stack_is : built.image.stack ≡ options.stack
+  pub out_cap_is : built.image.out_cap ≡ options.out_cap
+  pub short : built.gap ≤ recovery_steps + length built.image.words
+  -- pass by pass; the cuts that are told are those of the linked code, by address
+  pub passes : IsBuilt made options built
 
 -- a node of the source's tree, whose first token is of this line, breaks the rule
 pub record IsRuleBroken (source : List ℕ) (line rule : ℕ) : Type 0 where

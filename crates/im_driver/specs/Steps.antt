@@ -38,7 +38,7 @@ ProgramLaw =
 abbrev pub KeptLaw : Type 0
 KeptLaw =
     (source : List ℕ) (prog : Prog) (options : Options) (built : Built) → IsReady source prog → IsBuilt prog options built →
-    IsCompiled source options.stack options.out_cap built.image built.gap
+    IsCompiled source options built
 
 -- ---- faults of the steps as faults of the source
 

@@ -17,9 +17,7 @@ pub fn compile(alloc: Global, source: &[u8], options: Options) -> Result<Built, 
     requires some_stack { 256 ≤ options.stack }
     requires most_stack { options.stack ≤ stack_capacity }
     requires output { options.out_cap ≤ output_capacity }
-    ensures { MatchResult result
-        (λ built. IsCompiled source.now options.stack options.out_cap built.image built.gap)
-        (IsRefused source.now) }
+    ensures { MatchResult result (IsCompiled source.now options) (IsRefused source.now) }
 {
     program_law();
     kept_law();

@@ -1,7 +1,10 @@
 ghost use Rattle.im_driver.specs.Steps.{KeptLaw, ProgramLaw};
 
+use im_alloc_laws::placed_code_law;
 use im_built_keeps::built_keeps_law;
+use im_force::force_keeps_law;
 use im_plain_sizes::sizes_law;
+use im_recut::recut_keeps_law;
 use im_rules::laws::typed_once_law;
 use im_spelt_sound::{spelt_law, words_law};
 
@@ -15,9 +18,12 @@ pub(crate) fn program_law()
     sizes_law();
 }
 
-/// What is built of such a program keeps the source's meaning.
+/// What is built of such a program keeps the source's meaning, with the frames that are told.
 pub(crate) fn kept_law()
     ensures { KeptLaw }
 {
     built_keeps_law();
+    force_keeps_law();
+    placed_code_law();
+    recut_keeps_law();
 }

@@ -1,5 +1,6 @@
 pub mod Numerals
 pub mod Builds
+pub mod Reports
 pub mod Runs
 pub mod Upgrades
 pub mod Dumps

@@ -7,6 +7,7 @@ mod ending;
 mod instruction;
 mod numerals;
 mod refusal;
+mod reports;
 mod runs;
 mod source_fault;
 #[cfg(test)]
@@ -18,6 +19,7 @@ pub use builds::send_build_lines;
 pub use dumps::send_dump_lines;
 pub use ending::Ending;
 pub use refusal::{Refusal, send_refusal_line};
+pub use reports::send_report_lines;
 pub use runs::send_run_lines;
 pub use upgrades::send_upgrade_line;
 pub use variables::send_variable_lines;

@@ -1,14 +1,15 @@
 use crate::instruction::send_instruction;
 use crate::{
-    Ending, Refusal, send_build_lines, send_dump_lines, send_refusal_line, send_run_lines,
-    send_variable_lines,
+    Ending, Refusal, send_build_lines, send_dump_lines, send_refusal_line, send_report_lines,
+    send_run_lines, send_variable_lines,
 };
 use im_fault::{LineFault, Quantity, SourceFault};
 use im_image::{ImageFault, read_image};
 use im_io::{Failed, MemSink};
-use im_num::{CellValue, Var};
+use im_num::{Cause, CellValue, Var};
 use im_power::TraceFault;
-use im_rv::Went;
+use im_rv::{Cut, Went};
+use im_typed::Frame;
 use std::alloc::Global;
 use std::test::Fail;
 
@@ -96,9 +97,49 @@ fn runs(rt: HostRuntime) -> Result<(), Fail> {
         let lines = format!(in rt.alloc(); "{line}commits 3\ninstructions 42\n")?;
         assert_eq!(rt; sink.contents(), lines.as_bytes());
     }
-    let mut sink = sink(rt.alloc())?;
-    assert!(rt; send_build_lines(&mut sink, 73, 141) == Ok(()));
-    assert_eq!(rt; sink.contents(), b"code 73\ngap 141\n".as_slice());
+    Ok(())
+}
+
+#[test]
+fn builds(rt: HostRuntime) -> Result<(), Fail> {
+    let alloc = rt.alloc();
+    let rows: [(u32, &str, Cause); 2] = [
+        (0x1270, "f", Cause::Entry),
+        (
+            0x0010_0abc,
+            "main",
+            Cause::Dep {
+                read: 0x1284,
+                write: 0xffff_fff0,
+            },
+        ),
+    ];
+    let mut cuts = Vec::new(alloc);
+    let mut frames = Vec::new(alloc);
+    for (at, name, cause) in rows {
+        frames.push(Frame {
+            name: Vec::from_slice(alloc, name.as_bytes())?,
+            size: at / 16,
+        })?;
+        let function = String::from_str(alloc, name)?;
+        cuts.push(Cut {
+            at,
+            function,
+            cause,
+        })?;
+    }
+    let mut lines = sink(alloc)?;
+    assert!(rt; send_build_lines(&mut lines, 73, 141, &frames) == Ok(()));
+    assert_eq!(rt;
+        lines.contents(),
+        b"code 73\ngap 141\nframe f 295\nframe main 65707\n".as_slice()
+    );
+    let mut lines = sink(alloc)?;
+    assert!(rt; send_report_lines(&mut lines, 73, 141, 9, &frames, &cuts) == Ok(()));
+    assert_eq!(rt;
+        lines.contents(),
+        b"code 73\ngap 141\nstatics 9\nframe f 295\nframe main 65707\ncut 00001270 f entry\ncut 00100abc main dep 00001284 fffffff0\n".as_slice()
+    );
     Ok(())
 }
 

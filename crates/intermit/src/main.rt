@@ -5,7 +5,7 @@ use im_cmd::top;
 use im_io::{HostShelf, HostSink, Sink, send};
 use std::alloc::AllocError;
 use std::process::ExitCode;
-use std::{env, io};
+use std::{env, fs, io};
 
 /// The exit status of words that aren't text.
 const USAGE: u8 = 2;
@@ -13,7 +13,15 @@ const USAGE: u8 = 2;
 /// The exit status where memory ran out.
 const STARVED: u8 = 9;
 
+/// What stands in the place of a stream that is closed. It is opened to be read, so nothing that is
+/// sent there is taken.
+const NOTHING: &str = "/dev/null";
+
 fn main(rt: HostRuntime) -> ExitCode {
+    // An open file gets the lowest descriptor that is free: behind these none is a stream's.
+    let _input = fs::open(&rt, NOTHING);
+    let _output = fs::open(&rt, NOTHING);
+    let _errors = fs::open(&rt, NOTHING);
     let mut err = HostSink::new(rt.stderr());
     let words = match env::args(&rt) {
         Ok(words) => words,

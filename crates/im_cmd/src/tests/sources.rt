@@ -30,6 +30,16 @@ c=(signed char)200;x=-1;d=x>>1;x=2147483647;e=x+1;return 0;}";
 /// Two bytes of the input.
 const READS: &[u8] = b"int main(void){int a;a=getchar();return a*1000+getchar();}";
 
+/// Writes two bytes.
+const TWO_BYTES: &[u8] = b"int main(void){int a;a=putchar(65);return putchar(66)-a;}";
+
+/// A hundred calls deep.
+const DEEP: &[u8] = b"int f(int n){if(n==0)return 0;return f(n-1);}int main(void){return f(100);}";
+
+/// As that, and one deeper.
+const DEEPER: &[u8] =
+    b"int f(int n){if(n==0)return 0;return f(n-1);}int main(void){return f(101);}";
+
 // A source, traces, an input, and room for an image that isn't there yet.
 fn shelf(alloc: Global, source: &[u8], failing: u64) -> Result<MemShelf, Fail> {
     let mut files: Vec<File> = Vec::new(alloc);
@@ -75,7 +85,7 @@ fn tells(
 fn sources_are_run(rt: HostRuntime) -> Result<(), Fail> {
     let alloc = rt.alloc();
     // A source, the options, the status, the output, and lines among those of the run.
-    let table: [(&[u8], &str, u8, &[u8], &[u8]); 14] = [
+    let table: [(&[u8], &str, u8, &[u8], &[u8]); 16] = [
         (HELLO, "", 0, b"H", b"status 7"),
         (HELLO, " --trace long --vars", 0, b"H", b"status 7"),
         (
@@ -104,13 +114,9 @@ fn sources_are_run(rt: HostRuntime) -> Result<(), Fail> {
         ),
         (READS, "", 0, b"", b"status -1001"),
         (READS, " --input A", 0, b"", b"status 64999"),
-        (
-            b"int main(void){int a;a=putchar(65);return putchar(66)-a;}",
-            "",
-            0,
-            b"AB",
-            b"status 1",
-        ),
+        (TWO_BYTES, "", 0, b"AB", b"status 1"),
+        (TWO_BYTES, " --out-cap 0", 0, b"", b"status 0"),
+        (TWO_BYTES, " --vars --out-cap=1", 0, b"A", b"status -66"),
         (
             b"int main(void){int i;i=1;i=i++ + 2*i;return i;}",
             "",
@@ -118,13 +124,7 @@ fn sources_are_run(rt: HostRuntime) -> Result<(), Fail> {
             b"",
             b"status 5",
         ),
-        (
-            b"int f(int n){if(n==0)return 0;return f(n-1);}int main(void){return f(100);}",
-            "",
-            0,
-            b"",
-            b"status 0",
-        ),
+        (DEEP, "", 0, b"", b"status 0"),
         (
             b"int main(void){for(;;);}",
             " --steps 1000",
@@ -144,6 +144,75 @@ fn sources_are_run(rt: HostRuntime) -> Result<(), Fail> {
         tells(&rt, alloc, &mut shelf, &command, &wanted)?;
         let image = shelf.file("i").ok_or("no image")?;
         assert!(rt; image.starts_with(b"IMRV"));
+    }
+    Ok(())
+}
+
+// What a report of a source tells.
+fn reported(rt: &impl Abort, alloc: Global, source: &[u8]) -> Result<Vec<u8>, Fail> {
+    let words = words_of(alloc, "intermit report s.c")?;
+    let mut shelf = shelf(alloc, source, 0)?;
+    let mut out = MemSink::new(alloc, 2000, &[])?;
+    let mut err = MemSink::new(alloc, 1000, &[])?;
+    let status = top(alloc, &words, &mut shelf, &mut out, &mut err);
+    assert_eq!(rt; status, 0);
+    assert!(rt; shelf.file("i") == None);
+    Ok(Vec::from_slice(alloc, out.contents())?)
+}
+
+// The number at the end of the line that begins so.
+fn number_behind(told: &[u8], front: &[u8]) -> Option<u32> {
+    for line in told.split(|byte| *byte == b'\n') {
+        if let Some(rest) = line.strip_prefix(front) {
+            return core::str::from_utf8(rest).ok()?.parse::<u32>().ok();
+        }
+    }
+    None
+}
+
+#[test]
+fn frames_are_told(rt: HostRuntime) -> Result<(), Fail> {
+    let alloc = rt.alloc();
+    let told = reported(&rt, alloc, DEEP)?;
+    let main = number_behind(&told, b"frame main ").ok_or("a frame")?;
+    let f = number_behind(&told, b"frame f ").ok_or("a frame")?;
+    assert!(rt; main < 65536 && f < 65536);
+    let stack = main + 101 * f;
+    let rows: [(&[u8], u8, &[u8]); 2] = [
+        (DEEP, 0, b"status 0"),
+        (DEEPER, 1, b"intermit: stack exhausted"),
+    ];
+    for (source, status, lines) in rows {
+        let wanted = Wanted {
+            status,
+            output: b"",
+            lines,
+        };
+        let mut shelf = shelf(alloc, source, 0)?;
+        let command = format!(in alloc; "intermit run s.c i --stack {stack}")?;
+        tells(&rt, alloc, &mut shelf, &command, &wanted)?;
+    }
+    Ok(())
+}
+
+#[test]
+fn cuts_are_told(rt: HostRuntime) -> Result<(), Fail> {
+    let alloc = rt.alloc();
+    let told = reported(&rt, alloc, SQUARES)?;
+    assert!(rt; number_behind(&told, b"code ").is_some());
+    assert_eq!(rt; number_behind(&told, b"statics "), Some(8));
+    for ending in [
+        b" square entry".as_slice(),
+        b" main entry",
+        b" main return",
+        b" main loop",
+        b" putchar length",
+    ] {
+        let mut found = false;
+        for line in told.split(|byte| *byte == b'\n') {
+            found = found || (line.starts_with(b"cut 0000") && line.ends_with(ending));
+        }
+        assert!(rt; found);
     }
     Ok(())
 }

@@ -1,4 +1,4 @@
-use Rattle.im_cli.proofs.OperandLemmas.{build_files, dump_files, exec_files, run_files, upgrade_files}
+use Rattle.im_cli.proofs.OperandLemmas.{build_files, dump_files, exec_files, report_files, run_files, upgrade_files}
 use Rattle.im_cli.proofs.laws.files_law.Goals as goal
 
 pub returns-clause-build : goal.returns-clause-build
@@ -15,3 +15,6 @@ returns-clause-dump c = dump_files
 
 pub returns-clause-upgrade : goal.returns-clause-upgrade
 returns-clause-upgrade c = upgrade_files
+
+pub returns-clause-report : goal.returns-clause-report
+returns-clause-report c = report_files

@@ -29,3 +29,11 @@ returns-clause-sign c = refl
 pub returns-clause-zero : goal.returns-clause-zero
 unfolding clap_on_literals
 returns-clause-zero c = refl
+
+pub returns-clause-stack : goal.returns-clause-stack
+unfolding clap_on_literals
+returns-clause-stack c = refl
+
+pub returns-clause-output : goal.returns-clause-output
+unfolding clap_on_literals
+returns-clause-output c = refl

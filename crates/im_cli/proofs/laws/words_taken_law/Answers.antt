@@ -21,3 +21,11 @@ returns-clause-dump c = refl
 pub returns-clause-upgrade : goal.returns-clause-upgrade
 unfolding clap_on_literals
 returns-clause-upgrade c = refl
+
+pub returns-clause-numbers : goal.returns-clause-numbers
+unfolding clap_on_literals
+returns-clause-numbers c = refl
+
+pub returns-clause-report : goal.returns-clause-report
+unfolding clap_on_literals
+returns-clause-report c = refl

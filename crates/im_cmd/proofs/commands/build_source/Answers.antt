@@ -5,7 +5,7 @@ use Rattle.im_cmd.proofs.Reports.{tells_text}
 use Rattle.im_cmd.proofs.commands.build_source.Goals as goal
 
 pub returns-in-Ok : goal.returns-in-Ok
-returns-in-Ok g c = built _ _ c.in-Ok.ensures (tells_text _ _ _ _ _ _ _ _ _ (rw c.word_count.ensures at c.send_build_lines-sent.ensures) c.finish.ensures)
+returns-in-Ok g c = built c.in-Ok.built c.in-Ok.ensures (tells_text _ _ _ _ _ _ _ _ _ c.send_built-sent.ensures c.finish.ensures)
 
 pub returns-in-Err : goal.returns-in-Err
 returns-in-Err g c = build_refused (refused_of c.in-Err.refusal) c.in-Err.ensures (record { answered = c.tell_refusal.ensures.status; nothing = refl; line = c.tell_refusal.ensures.err })

@@ -14,3 +14,6 @@ returns-in-Dump g c = rw c.in-Dump.is c.dump.ensures
 
 pub returns-in-Upgrade : goal.returns-in-Upgrade
 returns-in-Upgrade g c = rw c.in-Upgrade.is c.upgrade.ensures
+
+pub returns-in-Report : goal.returns-in-Report
+returns-in-Report g c = rw c.in-Report.is c.report.ensures

@@ -1,0 +1,11 @@
+use Rattle.im_cli.proofs.BuildingLemmas.{build_options, report_options, run_building}
+use Rattle.im_cli.proofs.laws.building_law.Goals as goal
+
+pub returns-clause-build : goal.returns-clause-build
+returns-clause-build c = build_options
+
+pub returns-clause-run : goal.returns-clause-run
+returns-clause-run c = run_building
+
+pub returns-clause-report : goal.returns-clause-report
+returns-clause-report c = report_options
