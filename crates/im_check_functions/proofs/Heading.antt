@@ -64,8 +64,8 @@ none_told r (p ∷ ps) = sym (ne_eqb (length (p ∷ ps)) 0 (λ e. omega arith))
 pub lists_nothing : (kind : Kind) (s : Signature) (fs : Vec Formal Global) (none : Bool) → kind ≡ k.Function s fs → takes_nothing (type_of_function s) ≡ none → takes_nothing (type_by kind) ≡ none
 lists_nothing kind s fs none is h = ap (λ z. takes_nothing (type_by z)) is ∙ h
 
-pub named_suffix : (a : ℕ) (k : xk.SuffixKind) (ps : Vec Parameter Global) (rest : t.Suffixes) (named : Bool) → k ≡ xk.Function ps → named ≡ all_named (parameters_from ps.items) → has_named (suffix_or (with_suffix a k rest) bare) ≡ named
-named_suffix a k ps rest named is e = ap (λ z. has_named (suffix_or z bare)) (ap (λ z. with_suffix a z rest) is ∙ function_suffix a ps rest) ∙ sym e
+pub named_suffix : (a : ℕ) (k : xk.SuffixKind) (ps : Vec Parameter Global) (rest : t.Suffixes) (told : Bool) → k ≡ xk.Function ps → told ≡ all_named (parameters_from ps.items) → has_named (suffix_or (with_suffix a k rest) bare) ≡ told
+named_suffix a k ps rest told is e = ap (λ z. has_named (suffix_or z bare)) (ap (λ z. with_suffix a z rest) is ∙ function_suffix a ps rest) ∙ sym e
 
 pub nothing_other : (x : Option ℕ) → is_some x ≡ false → x ≡ None
 nothing_other None h = refl
