@@ -6,7 +6,7 @@ use Rattle.im_word.specs.Words.{Name}
 use Rattle.im_ctree.specs.Tree as t
 use Rattle.im_ctree.specs.Shape.{declarator_of}
 use Rattle.im_ctree.specs.declared.declarator.Declarator.{Declarator, out-Declarator}
-use Rattle.im_ctype.specs.Types.{CType, void, integer, pointer, array, unsized, struct, function, no_types, more_types, is_function}
+use Rattle.im_ctype.specs.Types.{CType, function}
 use Rattle.im_rules.specs.BodyBreaks.{declarator_token}
 use Rattle.im_rules.specs.Breaks.{a_declarator}
 use Rattle.im_rules.specs.Context.{in_new_scope}
@@ -57,35 +57,6 @@ use Rattle.im_check_functions.proofs.Strings.{specified_strings}
 
 -- what a body is asked, by the type and by what stands next to the name
 
-pub without_parameters : (n : Nearest) (a : CType) (own : Bool) → has_parameters n ≡ own → own ≡ false → has_own_parameters n && rule_11 a (own_parameters n) ≡ false
-without_parameters bare a own h g = refl
-without_parameters a_star a own h g = refl
-without_parameters a_length a own h g = refl
-without_parameters (parameters ps) a own h g = absurd cc
-
-empty_list : (a : CType) (named : Bool) → takes_nothing a ≡ true → is_function a && (takes_nothing a || named) ≡ true
-empty_list (function r no_types) named h = refl
-empty_list (function r (more_types b bs)) named h = absurd cc
-empty_list void named h = absurd cc
-empty_list (integer k) named h = absurd cc
-empty_list (pointer c b) named h = absurd cc
-empty_list (array e n) named h = absurd cc
-empty_list (unsized e) named h = absurd cc
-empty_list (struct n) named h = absurd cc
-
-pub of_nothing : (n : Nearest) (a : CType) (own nothing : Bool) → has_parameters n ≡ own → own ≡ true → takes_nothing a ≡ nothing → nothing ≡ true → has_own_parameters n && rule_11 a (own_parameters n) ≡ true
-of_nothing bare a own nothing h g f e = absurd cc
-of_nothing a_star a own nothing h g f e = absurd cc
-of_nothing a_length a own nothing h g f e = absurd cc
-of_nothing (parameters ps) a own nothing h g f e = empty_list a (all_named ps) (f ∙ e)
-
-pub of_named : (n : Nearest) (a : CType) (own nothing is named : Bool) → has_parameters n ≡ own → own ≡ true → takes_nothing a ≡ nothing → nothing ≡ false → is_function a ≡ is → has_named n ≡ named → has_own_parameters n && rule_11 a (own_parameters n) ≡ is && named
-of_named bare a own nothing is named h g f e k m = absurd cc
-of_named a_star a own nothing is named h g f e k m = absurd cc
-of_named a_length a own nothing is named h g f e k m = absurd cc
-of_named (parameters ps) a own nothing is named h g f e k m =
-    ap (λ z. is_function a && (z || all_named ps)) (f ∙ e) ∙ ap (λ z. z && all_named ps) k ∙ ap (λ z. is && z) m
-
 pub none_told : (r : CType) (ps : List PlainType) → takes_nothing (function r (types_in ps)) ≡ nat_eq (length ps) 0
 none_told r [] = refl
 none_told r (p ∷ ps) = sym (ne_eqb (length (p ∷ ps)) 0 (λ e. omega arith))
@@ -93,8 +64,8 @@ none_told r (p ∷ ps) = sym (ne_eqb (length (p ∷ ps)) 0 (λ e. omega arith))
 pub lists_nothing : (kind : Kind) (s : Signature) (fs : Vec Formal Global) (none : Bool) → kind ≡ k.Function s fs → takes_nothing (type_of_function s) ≡ none → takes_nothing (type_by kind) ≡ none
 lists_nothing kind s fs none is h = ap (λ z. takes_nothing (type_by z)) is ∙ h
 
-pub named_suffix : (a : ℕ) (k : xk.SuffixKind) (ps : Vec Parameter Global) (rest : t.Suffixes) (named : Bool) → k ≡ xk.Function ps → named ≡ all_named (parameters_from ps.items) → has_named (suffix_or (with_suffix a k rest) bare) ≡ named
-named_suffix a k ps rest named is e = ap (λ z. has_named (suffix_or z bare)) (ap (λ z. with_suffix a z rest) is ∙ function_suffix a ps rest) ∙ sym e
+pub named_suffix : (a : ℕ) (k : xk.SuffixKind) (ps : Vec Parameter Global) (rest : t.Suffixes) (told : Bool) → k ≡ xk.Function ps → told ≡ all_named (parameters_from ps.items) → has_named (suffix_or (with_suffix a k rest) bare) ≡ told
+named_suffix a k ps rest told is e = ap (λ z. has_named (suffix_or z bare)) (ap (λ z. with_suffix a z rest) is ∙ function_suffix a ps rest) ∙ sym e
 
 pub nothing_other : (x : Option ℕ) → is_some x ≡ false → x ≡ None
 nothing_other None h = refl
