@@ -22,29 +22,31 @@ fn layouts_of(alloc: Global, functions: &[Function]) -> Result<Vec<Layout>, Fail
 {
     let mut layouts = Vec::new(alloc);
     for number in 0..functions.len() {
-        layouts.push(lay_out(alloc, &functions[number])?)?;
+        let layout = lay_out(alloc, &functions[number])?;
+        layouts.push(layout)?;
     }
     Ok(layouts)
 }
 
-// So many names.
-fn names(alloc: Global, count: usize) -> Result<Vec<String>, Fail>
-    ensures { IfOk result (λ names. length names.items ≡ count) }
+// The same names, owned.
+fn owned(alloc: Global, names: &[&str]) -> Result<Vec<String>, Fail>
+    ensures { IfOk result (λ strings. length strings.items ≡ length names.now) }
 {
-    let mut names = Vec::new(alloc);
-    for _ in 0..count {
-        names.push(String::from_str(alloc, "f")?)?;
+    let mut strings = Vec::new(alloc);
+    for name in names {
+        strings.push(String::from_str(alloc, name)?)?;
     }
-    Ok(names)
+    Ok(strings)
 }
 
-/// The image of placed code: laid out, selected, linked and packed.
-pub fn image_of(alloc: Global, unit: &Unit) -> Result<Image, Fail>
-    requires { IsBuildable unit.now }
+/// The image of placed code, whose functions have these names: laid out, selected, linked and packed.
+pub fn image_of(alloc: Global, unit: &Unit, names: &[&str]) -> Result<Image, Fail>
+    requires buildable { IsBuildable unit.now }
+    requires named { length names.now ≡ length unit.now.functions.items }
 {
     linkable_law();
     let layouts = layouts_of(alloc, &unit.functions)?;
-    let names = names(alloc, unit.functions.len())?;
+    let names = owned(alloc, names)?;
     let statics = place_statics(alloc, &unit.statics)?;
     let program = Program {
         unit,
