@@ -18,7 +18,7 @@ use Rattle.im_block.specs.declared.code.Block.{Block}
 use Rattle.im_alloc.specs.Live.{uses, sets}
 use Rattle.im_lower.specs.Codes.{Point, before, ends, Begins, reads_of, writes_of, Codes}
 use Rattle.im_lower.specs.Statements.{zero_line, kind_in, start_at, CodesRest, Passes, CodesCases, CodesPiece, CodesPieces, CodesReturn, CodesStatement, CodesStatements}
-use Rattle.im_lower_live.proofs.Ways.{Or, OrPlace, OrRow, unplaced, Allows, weaker, lower, sets_none, sets_two, writes, writes_row, reads_row, at_block, jump, branch}
+use Rattle.im_lower_live.proofs.Ways.{Or, OrPlace, OrRow, unplaced, Allows, weaker, lower, sets_none, sets_two, writes, writes_row, reads_row, at_block, as_turn, jump, branch}
 use Rattle.im_lower_live.proofs.Values.{allows}
 
 pub strong : (P : ℕ → Type 0) → ((i : ℕ) → ((m : ℕ) → m < i → P m) → P i) → (i : ℕ) → P i
@@ -120,8 +120,8 @@ module _ (low : ℕ) (blocks : List Block) where
     edge : BodyCalm → Calm n t → (i : ℕ) → i ≤ n → ((m : ℕ) → m < i → Calm m test) → Calm i (ends (Jump k))
     edge turned out i less rec =
         at_block blocks i k (ends (Turn b)) (Below low) at_edge
-        (λ m lm. at_block blocks m b body (Below low) at_body
-        (λ q lq. turned q (omega (arith, less, lm, lq)) (at_block blocks q h test (Below low) at_test (λ r lr. rec r (omega (arith, lm, lq, lr)))) (leaves out q (omega (arith, less, lm, lq)))))
+        (λ m lm. as_turn blocks m b (Below low) (at_block blocks m b body (Below low) at_body
+        (λ q lq. turned q (omega (arith, less, lm, lq)) (at_block blocks q h test (Below low) at_test (λ r lr. rec r (omega (arith, lm, lq, lr)))) (leaves out q (omega (arith, less, lm, lq))))))
 
     pub loop_calm : TestCalm → BodyCalm → Calm n t → (i : ℕ) → i ≤ n → Calm i test
     loop_calm tested turned out i = strong (λ m. m ≤ n → Calm m test) (λ m rec less. tested m less
@@ -151,8 +151,8 @@ module _ (g : p.Prog) (f : p.Func) (first low : ℕ) (objects : List p.LocalObje
           expression_calm q.value s _ n d.4 (weaker blocks n _ _ (Or low (Below low)) taken (λ v y. unlocal low object q.offset (Below low) v y))
 
   return_calm : (e : Option p.Expr) (s : Point) (n : ℕ) → CodesReturn g first low objects blocks e s → Calm low blocks n s
-  return_calm None s n c = subst (λ z. Calm low blocks n z) (sym c) (λ k v le y. absurd (both_ways false refl y))
-  return_calm (Some e) s n c = expression_calm e s (ends (Return (Some low))) n c (λ k v le y. inl y)
+  return_calm None s n c = subst (λ z. Calm low blocks n z) (sym c) (record { is = λ k v le y. absurd (both_ways false refl y) })
+  return_calm (Some e) s n c = expression_calm e s (ends (Return (Some low))) n c (record { is = λ k v le y. inl y })
 
   mutual
     pub statement_calm : (a : p.Stmt) (bs cs : Bool) (breaks continues : ℕ) (s t : Point) (n : ℕ) → IsTypedStmt g f bs cs a → CodesStatement g first low objects blocks a breaks continues s t → Calm low blocks n t →

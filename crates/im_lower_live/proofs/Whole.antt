@@ -31,8 +31,8 @@ module _ (low : ℕ) (blocks : List Block) where
       known v (inr q) = unplaced (Below low) v q
 
   brace_calm : (is_main : Bool) (n : ℕ) → Calm low blocks n (brace low is_main)
-  brace_calm true n = sets_none blocks n (Put low (pos 0)) low (ends (Return (Some low))) (Below low) (λ v. refl) (λ v. refl) (λ k v le y. inl y)
-  brace_calm false n = λ k v le y. absurd (both_ways false refl y)
+  brace_calm true n = sets_none blocks n (Put low (pos 0)) low (ends (Return (Some low))) (Below low) (λ v. refl) (λ v. refl) (record { is = λ k v le y. inl y })
+  brace_calm false n = record { is = λ k v le y. absurd (both_ways false refl y) }
 
 function_calm : (g : p.Prog) (k : ℕ) (f : p.Func) (code : Function) → IsTypedFunc g f → CodesFunction g k f code → WritesFirst code
 function_calm g k f code typed c = record {
@@ -44,7 +44,7 @@ function_calm g k f code typed c = record {
       let few : length (take f.params f.objects) ≤ low = (let t = length-take f.params f.objects in omega (arith, t)) in
       let start : Calm low blocks n c.start = parameters_calm low blocks code.first_object 0 (take f.params f.objects) c.start c.body n (omega (arith, few)) c.passed body in
       let entered = jump blocks n code.entry c.start (Below low) c.entry start in
-      let small : v < low = entered n v (omega arith) e in
+      let small : v < low = entered.is n v (omega arith) e in
       let count = c.parameters in
       omega (arith, small, count);
 }

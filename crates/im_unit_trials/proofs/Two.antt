@@ -1,6 +1,8 @@
 -- A unit of two functions and one static.
 use Rattle.std.proofs.Common.{◌≡◌, ◌≤◌, ℕ, zero, suc, ◌+◌, List, [], ◌∷◌, ◌++◌, length, map, take, Some, refl, sym, ap, ◌∙◌, subst, arith}
 use Rattle.std.specs.Prelude.{slice_get, All}
+use Rattle.im_num.specs.declared.values.Cause.{Cause}
+use Rattle.im_num.specs.declared.values.Cause.TheVariants.{Entry, Return, Dep}
 use Rattle.im_mem.specs.Map.{statics_capacity}
 use Rattle.im_block.specs.declared.unit.Object.{Object}
 use Rattle.im_block.specs.declared.unit.Static.{Static as StaticOf}
@@ -43,6 +45,21 @@ each_of_two P f g one two zero h e = let same : f ≡ h = cc in subst P same one
 each_of_two P f g one two (suc zero) h e = let same : g ≡ h = cc in subst P same two
 each_of_two P f g one two (suc (suc i)) h e = cc
 
+add_names : NamesOwn (Entry ∷ Return ∷ Dep 4 5 ∷ []) (0 ∷ 1 ∷ 2 ∷ 3 ∷ 4 ∷ 5 ∷ [])
+add_names zero read write e = absurd (cc)
+add_names (suc zero) read write e = absurd (cc)
+add_names (suc (suc zero)) read write e =
+    let one : 4 ≡ read = cc in
+    let two : 5 ≡ write = cc in
+    ((4, ap (λ n. Some n) one), (5, ap (λ n. Some n) two))
+add_names (suc (suc (suc k))) read write e = absurd (cc)
+
+main_names : NamesOwn (Entry ∷ Return ∷ Return ∷ []) (6 ∷ 7 ∷ 8 ∷ 9 ∷ [])
+main_names zero read write e = absurd (cc)
+main_names (suc zero) read write e = absurd (cc)
+main_names (suc (suc zero)) read write e = absurd (cc)
+main_names (suc (suc (suc k))) read write e = absurd (cc)
+
 numbered : (f g : Function) → length f.objects.items ≡ 0 → f.first_object ≡ 1 → g.first_object ≡ 1 → (i : ℕ) (h : Function) → slice_get (f ∷ g ∷ []) i ≡ Some h → h.first_object ≡ 1 + sum_of (λ (k : Function). length k.objects.items) (take i (f ∷ g ∷ []))
 numbered f g none one two zero h e = let same : f ≡ h = cc in subst (λ (k : Function). k.first_object ≡ 1) same one
 numbered f g none one two (suc zero) h e =
@@ -52,12 +69,16 @@ numbered f g none one two (suc zero) h e =
 numbered f g none one two (suc (suc i)) h e = cc
 
 pub buildable : (u : Code) (s : StaticOf) (f g : Function) → u.statics.items ≡ s ∷ [] → u.functions.items ≡ f ∷ g ∷ [] → u.main ≡ 1 → IsStatic (s ∷ []) s → s.object.size ≡ 4 →
-    IsGiven 2 0 (0 ∷ 1 ∷ 2 ∷ 3 ∷ 4 ∷ 5 ∷ []) f → IsGiven 0 1 (6 ∷ 7 ∷ 8 ∷ 9 ∷ []) g → IsBuildable u
+    IsGiven 2 0 (0 ∷ 1 ∷ 2 ∷ 3 ∷ 4 ∷ 5 ∷ []) (Entry ∷ Return ∷ Dep 4 5 ∷ []) f → IsGiven 0 1 (6 ∷ 7 ∷ 8 ∷ 9 ∷ []) (Entry ∷ Return ∷ Return ∷ []) g → IsBuildable u
 buildable u s f g statics functions main is size one two =
     let called : Takes (slice_get (f ∷ g ∷ []) 0) 2 = one.parameters in
     let accesses : accesses_of_functions (f ∷ g ∷ []) ≡ 0 ∷ 1 ∷ 2 ∷ 3 ∷ 4 ∷ 5 ∷ 6 ∷ 7 ∷ 8 ∷ 9 ∷ [] =
     ap (λ xs. xs ++ accesses_of_blocks g.blocks.items ++ []) one.accesses ∙ ap (λ xs. (0 ∷ 1 ∷ 2 ∷ 3 ∷ 4 ∷ 5 ∷ []) ++ xs ++ []) two.accesses in
     let counted : Counted 0 (0 ∷ 1 ∷ 2 ∷ 3 ∷ 4 ∷ 5 ∷ 6 ∷ 7 ∷ 8 ∷ 9 ∷ []) = (refl, refl, refl, refl, refl, refl, refl, refl, refl, refl, tt) in
+    let names_one : NamesOwn (causes_of_blocks f.blocks.items) (accesses_of_blocks f.blocks.items) =
+    subst (λ cs. NamesOwn cs (accesses_of_blocks f.blocks.items)) (sym one.causes) (subst (λ xs. NamesOwn (Entry ∷ Return ∷ Dep 4 5 ∷ []) xs) (sym one.accesses) add_names) in
+    let names_two : NamesOwn (causes_of_blocks g.blocks.items) (accesses_of_blocks g.blocks.items) =
+    subst (λ cs. NamesOwn cs (accesses_of_blocks g.blocks.items)) (sym two.causes) (subst (λ xs. NamesOwn (Entry ∷ Return ∷ Return ∷ []) xs) (sym two.accesses) main_names) in
     let room : rooms (objects_of (s ∷ [])) ≤ statics_capacity = omega (arith, size) in
     record {
       well_formed = record {
@@ -71,7 +92,7 @@ buildable u s f g statics functions main is size one two =
       };
       placed = record { functions = subst (λ fs. All (IsPlacedFunction (length u.statics.items)) fs) (sym functions) (subst (λ (ss : List StaticOf). All (IsPlacedFunction (length ss)) (f ∷ g ∷ [])) (sym statics) (one.placed, two.placed, tt)) };
       named = record {
-        each = λ i h e. each_of_two (λ (k : Function). NamesOwn (causes_of_blocks k.blocks.items) (accesses_of_blocks k.blocks.items)) f g one.named two.named i h (subst (λ fs. slice_get fs i ≡ Some h) functions e);
+        each = λ i h e. each_of_two (λ (k : Function). NamesOwn (causes_of_blocks k.blocks.items) (accesses_of_blocks k.blocks.items)) f g names_one names_two i h (subst (λ fs. slice_get fs i ≡ Some h) functions e);
       };
       room = subst (λ ss. rooms (objects_of ss) ≤ statics_capacity) (sym statics) room;
     }

@@ -1,4 +1,5 @@
-ghost use Rattle.std.specs.Prelude.{◌≡◌, [], ◌∷◌, IfOk};
+ghost use Rattle.std.specs.Prelude.{◌≡◌, [], ◌∷◌, length, IfOk};
+ghost use Rattle.im_num.specs.declared.values.Cause.TheVariants.{Entry, Return, Dep};
 ghost use Rattle.im_block.specs.Wellformed.{IsStatic};
 ghost use Rattle.im_unit_trials.specs.Buildable.{IsBuildable, IsGiven};
 
@@ -13,7 +14,8 @@ use std::test::Fail;
 //
 // The arguments come in x10 and x11, and are kept in the slots 0 and 1 across the call.
 fn add(alloc: Global) -> Result<Function, Fail>
-    ensures { IfOk result (IsGiven 2 0 (0 ∷ 1 ∷ 2 ∷ 3 ∷ 4 ∷ 5 ∷ [])) }
+    ensures { IfOk result (IsGiven 2 0 (0 ∷ 1 ∷ 2 ∷ 3 ∷ 4 ∷ 5 ∷ [])
+        (Entry ∷ Return ∷ Dep 4 5 ∷ [])) }
 {
     let begin = vec![in alloc;
         Line::Cut(Cause::Entry),
@@ -116,7 +118,7 @@ fn add(alloc: Global) -> Result<Function, Fail>
 
 // int main(void) { int sum; sum = 0; add(&sum, 3); putchar(48 + sum); total = sum; return sum; }
 fn main_of(alloc: Global) -> Result<Function, Fail>
-    ensures { IfOk result (IsGiven 0 1 (6 ∷ 7 ∷ 8 ∷ 9 ∷ [])) }
+    ensures { IfOk result (IsGiven 0 1 (6 ∷ 7 ∷ 8 ∷ 9 ∷ []) (Entry ∷ Return ∷ Return ∷ [])) }
 {
     let sum = Place::Local {
         object: 1,
@@ -222,7 +224,8 @@ fn total(alloc: Global) -> Result<Static, Fail>
 /// A function that calls itself and writes through a pointer to an object of its first caller, and
 /// `main`, which has that object.
 pub fn unit(alloc: Global) -> Result<Unit, Fail>
-    ensures { IfOk result IsBuildable }
+    ensures buildable { IfOk result IsBuildable }
+    ensures two { IfOk result (λ u. length u.functions.items ≡ 2) }
 {
     Ok(Unit {
         statics: vec![in alloc; total(alloc)?]?,

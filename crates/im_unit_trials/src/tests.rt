@@ -33,11 +33,13 @@ fn total(alloc: Global, machine: &Machine<FlatMem>) -> Result<Option<CellValue>,
 // Whether a run has ended as C says: 1 + 2 + 3 is added up, put out, kept, and given.
 fn is_right(alloc: Global, machine: &Machine<FlatMem>) -> Result<bool, Fail> {
     let sum = total(alloc, machine)?;
-    Ok(machine.went() == Went::Halted
-        && machine.output() == b"6".as_slice()
-        && machine.status() == 6
-        && machine.reason() == 0
-        && sum == Some(CellValue::Number(6)))
+    Ok(
+        machine.went() == Went::Halted
+            && machine.output() == b"6".as_slice()
+            && machine.status() == 6
+            && machine.reason() == 0
+            && sum == Some(CellValue::Number(6)),
+    )
 }
 
 // From a commit to the next one: power fails after each number of instructions, by each mask.
