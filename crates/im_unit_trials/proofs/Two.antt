@@ -40,6 +40,15 @@ counted_apart xs h = record {
       omega (arith, one, two);
 }
 
+all_of_one : {X : Type 0} (P : X → Type 0) (x : X) → P x → All P (x ∷ [])
+all_of_one P x h zero d less = h
+all_of_one P x h (suc k) d less = absurd (omega (arith, less))
+
+all_of_two : {X : Type 0} (P : X → Type 0) (x y : X) → P x → P y → All P (x ∷ y ∷ [])
+all_of_two P x y h i zero d less = h
+all_of_two P x y h i (suc zero) d less = i
+all_of_two P x y h i (suc (suc k)) d less = absurd (omega (arith, less))
+
 each_of_two : (P : Function → Type 0) (f g : Function) → P f → P g → (i : ℕ) (h : Function) → slice_get (f ∷ g ∷ []) i ≡ Some h → P h
 each_of_two P f g one two zero h e = let same : f ≡ h = cc in subst P same one
 each_of_two P f g one two (suc zero) h e = let same : g ≡ h = cc in subst P same two
@@ -73,8 +82,8 @@ pub buildable : (u : Code) (s : StaticOf) (f g : Function) → u.statics.items �
 buildable u s f g statics functions main is size one two =
     let called : Takes (slice_get (f ∷ g ∷ []) 0) 2 = one.parameters in
     let accesses : accesses_of_functions (f ∷ g ∷ []) ≡ 0 ∷ 1 ∷ 2 ∷ 3 ∷ 4 ∷ 5 ∷ 6 ∷ 7 ∷ 8 ∷ 9 ∷ [] =
-    ap (λ xs. xs ++ accesses_of_blocks g.blocks.items ++ []) one.accesses ∙ ap (λ xs. (0 ∷ 1 ∷ 2 ∷ 3 ∷ 4 ∷ 5 ∷ []) ++ xs ++ []) two.accesses in
-    let counted : Counted 0 (0 ∷ 1 ∷ 2 ∷ 3 ∷ 4 ∷ 5 ∷ 6 ∷ 7 ∷ 8 ∷ 9 ∷ []) = (refl, refl, refl, refl, refl, refl, refl, refl, refl, refl, tt) in
+    ap (λ xs. xs ++ (accesses_of_blocks g.blocks.items ++ [])) one.accesses ∙ ap (λ xs. (0 ∷ 1 ∷ 2 ∷ 3 ∷ 4 ∷ 5 ∷ []) ++ (xs ++ [])) two.accesses in
+    let counted : Counted 0 (0 ∷ 1 ∷ 2 ∷ 3 ∷ 4 ∷ 5 ∷ 6 ∷ 7 ∷ 8 ∷ 9 ∷ []) = (refl, (refl, (refl, (refl, (refl, (refl, (refl, (refl, (refl, (refl, tt)))))))))) in
     let names_one : NamesOwn (causes_of_blocks f.blocks.items) (accesses_of_blocks f.blocks.items) =
     subst (λ cs. NamesOwn cs (accesses_of_blocks f.blocks.items)) (sym one.causes) (subst (λ xs. NamesOwn (Entry ∷ Return ∷ Dep 4 5 ∷ []) xs) (sym one.accesses) add_names) in
     let names_two : NamesOwn (causes_of_blocks g.blocks.items) (accesses_of_blocks g.blocks.items) =
@@ -82,15 +91,15 @@ buildable u s f g statics functions main is size one two =
     let room : rooms (objects_of (s ∷ [])) ≤ statics_capacity = omega (arith, size) in
     record {
       well_formed = record {
-        statics = subst (λ ss. All (IsStatic ss) ss) (sym statics) (is, tt);
-        functions = subst (λ fs. All (IsFunction fs) fs) (sym functions) (one.function (f ∷ g ∷ []) called, two.function (f ∷ g ∷ []) called, tt);
+        statics = subst (λ ss. All (IsStatic ss) ss) (sym statics) (all_of_one (IsStatic (s ∷ [])) s is);
+        functions = subst (λ fs. All (IsFunction fs) fs) (sym functions) (all_of_two (IsFunction (f ∷ g ∷ [])) f g (one.function (f ∷ g ∷ []) called) (two.function (f ∷ g ∷ []) called));
         numbered = λ i h e.
             let t = numbered f g one.objects one.first_object two.first_object i h (subst (λ fs. slice_get fs i ≡ Some h) functions e) in
             rw (statics, functions) t;
         main = rw (main, functions) two.parameters;
         accesses = subst (λ fs. AreApart (accesses_of_functions fs)) (sym functions) (subst AreApart (sym accesses) (counted_apart _ counted));
       };
-      placed = record { functions = subst (λ fs. All (IsPlacedFunction (length u.statics.items)) fs) (sym functions) (subst (λ (ss : List StaticOf). All (IsPlacedFunction (length ss)) (f ∷ g ∷ [])) (sym statics) (one.placed, two.placed, tt)) };
+      placed = record { functions = subst (λ fs. All (IsPlacedFunction (length u.statics.items)) fs) (sym functions) (subst (λ (ss : List StaticOf). All (IsPlacedFunction (length ss)) (f ∷ g ∷ [])) (sym statics) (all_of_two (IsPlacedFunction 1) f g one.placed two.placed)) };
       named = record {
         each = λ i h e. each_of_two (λ (k : Function). NamesOwn (causes_of_blocks k.blocks.items) (accesses_of_blocks k.blocks.items)) f g names_one names_two i h (subst (λ fs. slice_get fs i ≡ Some h) functions e);
       };

@@ -19,11 +19,11 @@ pub record IsBuildable (u : Code) : Type 0 where
   pub room : rooms (objects_of u.statics.items) ≤ statics_capacity
 
 -- a function beside one static, that calls function 0 alone, with two arguments
-pub record IsGiven (parameters objects : ℕ) (accesses : List ℕ) (causes : List Cause) (f : Function) : Type 0 where
-  pub parameters : f.parameters ≡ parameters
+pub record IsGiven (arguments locals : ℕ) (numbers : List ℕ) (reasons : List Cause) (f : Function) : Type 0 where
+  pub parameters : f.parameters ≡ arguments
   pub first_object : f.first_object ≡ 1
-  pub objects : length f.objects.items ≡ objects
+  pub objects : length f.objects.items ≡ locals
   pub function : (functions : List Function) → Takes (slice_get functions 0) 2 → IsFunction functions f
   pub placed : IsPlacedFunction 1 f
-  pub accesses : accesses_of_blocks f.blocks.items ≡ accesses
-  pub causes : causes_of_blocks f.blocks.items ≡ causes
+  pub accesses : accesses_of_blocks f.blocks.items ≡ numbers
+  pub causes : causes_of_blocks f.blocks.items ≡ reasons
