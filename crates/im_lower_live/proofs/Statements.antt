@@ -1,7 +1,7 @@
 -- The code of a statement reads none but the parameters' registers first.
-use Rattle.std.proofs.Common.{◌≡◌, ℕ, zero, suc, ◌+◌, ◌<◌, ◌≤◌, ◌⊎◌, inl, inr, Bool, true, false, not, List, [], ◌∷◌, length, refl, sym, ap, ◌∙◌, subst, arith}
-use Rattle.std.specs.Prelude.{pos, ◌==◌, IsTrue, if◌then◌else◌, Option, Some, None, slice_get}
-use Rattle.std.proofs.lemmas.Bool.{cases_Bool, both_ways}
+use Rattle.std.proofs.Common.{◌≡◌, ℕ, zero, suc, ◌+◌, ◌<◌, ◌≤◌, inl, inr, Bool, true, false, List, [], ◌∷◌, refl, sym, subst, arith}
+use Rattle.std.specs.Prelude.{◌==◌, IsTrue, if◌then◌else◌, Option, Some, None, slice_get}
+use Rattle.std.proofs.lemmas.Bool.{both_ways}
 use Rattle.im_num.specs.declared.kind.Kind.{Kind}
 use Rattle.im_num.specs.declared.kind.Kind.TheVariants.{I8, U8, I16, U16, I32, U32, Ptr}
 use Rattle.im_ctype.specs.declared.cell.Cell.{Cell}
@@ -11,14 +11,13 @@ use Rattle.im_typed.specs.Program as p
 use Rattle.im_typed.specs.Meaning.{is_among, given_offsets}
 use Rattle.im_typed.specs.Typing.{shape_of, cells_at, IsTypedStmt, AreTyped}
 use Rattle.im_block.specs.declared.code.Place.TheVariants.{Local}
-use Rattle.im_block.specs.declared.code.Line.{Line}
-use Rattle.im_block.specs.declared.code.Line.TheVariants.{Put, PutNull, Compare, Write}
+use Rattle.im_block.specs.declared.code.Line.TheVariants.{Put, Compare, Write}
 use Rattle.im_block.specs.declared.code.Exit.TheVariants.{Jump, Turn, Branch, Return}
 use Rattle.im_block.specs.declared.code.Block.{Block}
 use Rattle.im_alloc.specs.Live.{uses, sets}
-use Rattle.im_lower.specs.Codes.{Point, before, ends, Begins, reads_of, writes_of, Codes}
+use Rattle.im_lower.specs.Codes.{Point, before, ends, Begins, Codes}
 use Rattle.im_lower.specs.Statements.{zero_line, kind_in, start_at, CodesRest, Passes, CodesCases, CodesPiece, CodesPieces, CodesReturn, CodesStatement, CodesStatements}
-use Rattle.im_lower_live.proofs.Ways.{Or, OrPlace, OrRow, unplaced, Allows, weaker, lower, sets_none, sets_two, writes, writes_row, reads_row, at_block, as_turn, jump, branch}
+use Rattle.im_lower_live.proofs.Ways.{Or, OrPlace, unplaced, Allows, weaker, lower, sets_none, sets_two, writes, writes_row, reads_row, at_block, as_turn, jump, branch}
 use Rattle.im_lower_live.proofs.Values.{allows}
 
 pub strong : (P : ℕ → Type 0) → ((i : ℕ) → ((m : ℕ) → m < i → P m) → P i) → (i : ℕ) → P i
@@ -125,7 +124,7 @@ module _ (low : ℕ) (blocks : List Block) where
 
     pub loop_calm : TestCalm → BodyCalm → Calm n t → (i : ℕ) → i ≤ n → Calm i test
     loop_calm tested turned out i = strong (λ m. m ≤ n → Calm m test) (λ m rec less. tested m less
-      (branch blocks m low k j (Below low) (edge turned out m less (λ q lq. rec q lq (omega (arith, lq, less)))) (leaves out m less))) i
+        (branch blocks m low k j (Below low) (edge turned out m less (λ q lq. rec q lq (omega (arith, lq, less)))) (leaves out m less))) i
 
     pub edge_calm : TestCalm → BodyCalm → Calm n t → Calm n (ends (Jump k))
     edge_calm tested turned out = edge turned out n (omega arith) (λ m less. loop_calm tested turned out m (omega (arith, less)))

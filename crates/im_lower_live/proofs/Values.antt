@@ -1,18 +1,17 @@
 -- The code of an expression reads no register first; that which takes its value is written.
-use Rattle.std.proofs.Common.{◌≡◌, ℕ, zero, suc, ◌+◌, ◌<◌, ◌≤◌, ◌⊎◌, inl, inr, Bool, true, false, not, List, [], ◌∷◌, length, refl, sym, ap, ◌∙◌, subst, arith}
-use Rattle.std.specs.Prelude.{pos, ◌&&◌, ◌||◌, ◌==◌, nat_le, nat_lt, slice_get}
-use Rattle.std.proofs.lemmas.Bool.{and_parts, cases_Bool, eqb-true, eqb-false, both_ways, ltb-true, leb-true}
+use Rattle.std.proofs.Common.{◌≡◌, ℕ, suc, ◌+◌, ◌<◌, ◌≤◌, ◌⊎◌, inl, inr, true, false, List, refl, sym, subst, arith}
+use Rattle.std.specs.Prelude.{pos, ◌&&◌, ◌==◌, nat_le, nat_lt, slice_get}
+use Rattle.std.proofs.lemmas.Bool.{and_parts, cases_Bool, eqb-false, ltb-true, leb-true}
 use Rattle.im_num.specs.declared.kind.Kind.TheVariants.{Ptr}
-use Rattle.im_ctype.specs.declared.cell.Cell.{Cell}
 use Rattle.im_typed.specs.declared.expression.Change.TheVariants.{Number as NumberBy, Move as PointerBy}
 use Rattle.im_typed.specs.Program as p
 use Rattle.im_typed.specs.Typing.{shape_of}
 use Rattle.im_block.specs.declared.code.Place.{Place}
 use Rattle.im_block.specs.declared.code.Place.TheVariants.{Static, Local, Through}
-use Rattle.im_block.specs.declared.code.Line.TheVariants.{Put, PutNull, Convert, Unary, Not, Compute, Compare, Move, Distance, Address, Read, Write, Call, GetChar, PutChar}
-use Rattle.im_block.specs.declared.code.Exit.TheVariants.{Jump, Branch}
+use Rattle.im_block.specs.declared.code.Line.TheVariants.{Put, PutNull, Convert, Unary, Not, Compute, Compare, Move, Distance, Address, Read, Call, GetChar, PutChar}
+use Rattle.im_block.specs.declared.code.Exit.TheVariants.{Jump}
 use Rattle.im_block.specs.declared.code.Block.{Block}
-use Rattle.im_lower.specs.Codes.{Point, before, ends, further_in, above, cells_of_shape, offset_in, reads_of, writes_of, count_of, where_of, CodesPlace, Codes, CodesArguments}
+use Rattle.im_lower.specs.Codes.{Point, before, ends, above, cells_of_shape, offset_in, count_of, where_of, CodesPlace, Codes, CodesArguments}
 use Rattle.im_lower_live.proofs.Ways.{Or, OrPlace, OrRow, unplaced, placed_once, named_once, nearer, Allows, weaker, step, without, sets_none, sets_one, sets_two, sets_placed, writes, writes_row, reads_row, jump, branch}
 
 row_bounds : (from count v : ℕ) → (nat_le from v && nat_lt v (from + count)) ≡ true → (from ≤ v) × (v < from + count)

@@ -1,6 +1,6 @@
 -- What is read first from a point on, line by line and over jumps.
-use Rattle.std.proofs.Common.{◌≡◌, ℕ, zero, suc, ◌+◌, ◌<◌, ◌≤◌, ◌⊎◌, inl, inr, Bool, true, false, not, List, [], ◌∷◌, length, Some, refl, sym, ap, ◌∙◌, subst, arith}
-use Rattle.std.specs.Prelude.{◌&&◌, ◌||◌, ◌==◌, slice_get}
+use Rattle.std.proofs.Common.{◌≡◌, ℕ, zero, suc, ◌+◌, ◌<◌, ◌≤◌, ◌⊎◌, inl, inr, Bool, true, false, not, List, [], ◌∷◌, length, refl, sym, ap, ◌∙◌, arith}
+use Rattle.std.specs.Prelude.{◌&&◌, ◌||◌, ◌==◌}
 use Rattle.std.proofs.lemmas.Bool.{and_parts, or_cases, cases_Bool, not-true, both_ways, eqb-true, eqb-false}
 use Rattle.im_num.specs.declared.kind.Kind.{Kind}
 use Rattle.im_ctype.specs.declared.cell.Cell.{Cell}
@@ -70,9 +70,9 @@ module _ (blocks : List Block) where
   pub step : (n : ℕ) (line : Line) (t : Point) (P Q : ℕ → Type 0) → ((v : ℕ) → uses line v ≡ true → P v) → ((v : ℕ) → sets line v ≡ false → Q v → P v) → Allows blocks n t Q → Allows blocks n (before line t) P
   step n line t P Q used kept h = record {
     is = λ k v le e. elim (or_cases (uses line v) (not (sets line v) && reads_at blocks k t v) e) [
-        inl u ↦ used v u
+      | inl u ↦ used v u
       | inr r ↦ (let parts = and_parts (not (sets line v)) (reads_at blocks k t v) r in kept v (not-true (sets line v) parts.0) (h.is k v le parts.1))
-      ];
+    ];
   }
 
   -- a line that sets a register, by what it uses
@@ -120,8 +120,8 @@ module _ (blocks : List Block) where
       let rest = weaker n _ _ _ (writes_row n w (suc from) cs ks t P h) (λ v q. row_more from (length cs) (OrPlace w P) v q) in
       step n (Write (further_in w c.offset) c.kind from k) _ _ _
       (λ v y. elim (or_cases (place_uses (further_in w c.offset) v) (v == from) y) [
-        inl q ↦ inr (nearer w c.offset P v (inl q))
-      | inr q ↦ row_first from (length cs) (OrPlace w P) v q
+        | inl q ↦ inr (nearer w c.offset P v (inl q))
+        | inr q ↦ row_first from (length cs) (OrPlace w P) v q
       ])
       (λ v f q. q) rest
 
@@ -146,6 +146,7 @@ module _ (blocks : List Block) where
           row_or : (v : ℕ) → OrRow (suc to) (length cs) P v → OrRow (suc to) (length cs) (Or to P) v
           row_or v (inl b) = inl b
           row_or v (inr q) = inr (inr q)
+
       taken : (v : ℕ) → (v == to) ≡ false → Or pointer (Or to P) v → Or pointer P v
       taken v f (inl y) = inl y
       taken v f (inr q) = inr (without to P v f q)
@@ -171,7 +172,7 @@ module _ (blocks : List Block) where
   pub branch : (n on x y : ℕ) (P : ℕ → Type 0) → Allows blocks n (ends (Jump x)) P → Allows blocks n (ends (Jump y)) P → Allows blocks n (ends (Branch on x y)) (Or on P)
   branch n on x y P one other = record {
     is = λ k v le e. elim (or_cases (v == on || reads_first blocks k x v) (reads_first blocks k y v) e) [
-        inl a ↦ elim (or_cases (v == on) (reads_first blocks k x v) a) [ inl q ↦ inl q | inr q ↦ inr (one.is k v le q) ]
+      | inl a ↦ elim (or_cases (v == on) (reads_first blocks k x v) a) [ inl q ↦ inl q | inr q ↦ inr (one.is k v le q) ]
       | inr q ↦ inr (other.is k v le q)
-      ];
+    ];
   }

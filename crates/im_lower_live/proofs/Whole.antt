@@ -1,21 +1,21 @@
 -- Whole functions.
-use Rattle.std.proofs.Common.{◌≡◌, ℕ, zero, suc, ◌+◌, ◌<◌, ◌≤◌, ◌⊎◌, inl, inr, Bool, true, false, List, [], ◌∷◌, length, take, Some, None, refl, sym, ap, ◌∙◌, subst, arith}
-use Rattle.std.specs.Prelude.{pos, min, ◌==◌, IsTrue, slice_get}
+use Rattle.std.proofs.Common.{ℕ, suc, ◌+◌, ◌<◌, ◌≤◌, inl, inr, Bool, true, false, List, [], ◌∷◌, length, take, Some, refl, sym, subst, arith}
+use Rattle.std.specs.Prelude.{pos, ◌==◌, IsTrue}
 use Rattle.std.proofs.lemmas.List.{length-take}
 use Rattle.std.proofs.lemmas.Option.{slice_get_within, slice_get_cases}
 use Rattle.std.proofs.lemmas.Bool.{both_ways, eqb-true}
 use Rattle.im_typed.specs.Program as p
-use Rattle.im_typed.specs.Typing.{IsTypedFunc, IsWellTyped}
+use Rattle.im_typed.specs.Typing.{IsTypedFunc}
 use Rattle.im_typed.proofs.SoundCalls.{each-at}
 use Rattle.im_block.specs.declared.code.Place.TheVariants.{Local}
 use Rattle.im_block.specs.declared.code.Line.TheVariants.{Put}
 use Rattle.im_block.specs.declared.code.Exit.TheVariants.{Jump, Return}
 use Rattle.im_block.specs.declared.code.Block.{Block}
 use Rattle.im_block.specs.declared.unit.Function.{Function}
-use Rattle.im_lower.specs.Codes.{Point, before, ends}
-use Rattle.im_lower.specs.Lowered.{IsLowered, CodesFunction, CodesParameters, kind_of_one, brace}
+use Rattle.im_lower.specs.Codes.{Point, ends}
+use Rattle.im_lower.specs.Lowered.{CodesFunction, CodesParameters, kind_of_one, brace}
 use Rattle.im_lower_live.specs.Live.{WritesFirst, WrittenFirstLaw}
-use Rattle.im_lower_live.proofs.Ways.{Or, OrPlace, unplaced, Allows, weaker, sets_none, writes, jump}
+use Rattle.im_lower_live.proofs.Ways.{Or, OrPlace, unplaced, weaker, sets_none, writes, jump}
 use Rattle.im_lower_live.proofs.Statements.{Below, Calm, statement_calm}
 
 module _ (low : ℕ) (blocks : List Block) where
@@ -54,6 +54,6 @@ written_first g u typed is k code at =
     let inside = slice_get_within u.functions.items k code at in
     let count = is.count in
     elim ((slice_get_cases g.funcs k).1) [
-      inl x ↦ function_calm g k x.0 code (each-at (IsTypedFunc g) g.funcs k x.0 typed.funcs x.2) (is.functions k x.0 code x.2 at)
-    | inr e ↦ absurd (let past = e.0 in omega (arith, inside, count, past))
+      | inl x ↦ function_calm g k x.0 code (each-at (IsTypedFunc g) g.funcs k x.0 typed.funcs x.2) (is.functions k x.0 code x.2 at)
+      | inr e ↦ absurd (let past = e.0 in omega (arith, inside, count, past))
     ]

@@ -1,15 +1,13 @@
 -- A unit of two functions and one static.
-use Rattle.std.proofs.Common.{◌≡◌, ◌≤◌, ℕ, zero, suc, ◌+◌, List, [], ◌∷◌, ◌++◌, length, map, take, Some, refl, sym, ap, ◌∙◌, subst, arith}
+use Rattle.std.proofs.Common.{◌≡◌, ◌≤◌, ℕ, zero, suc, ◌+◌, List, [], ◌∷◌, ◌++◌, length, take, Some, refl, sym, ap, ◌∙◌, subst, arith}
 use Rattle.std.specs.Prelude.{slice_get, All}
-use Rattle.im_num.specs.declared.values.Cause.{Cause}
 use Rattle.im_num.specs.declared.values.Cause.TheVariants.{Entry, Return, Dep}
 use Rattle.im_mem.specs.Map.{statics_capacity}
-use Rattle.im_block.specs.declared.unit.Object.{Object}
 use Rattle.im_block.specs.declared.unit.Static.{Static as StaticOf}
 use Rattle.im_block.specs.declared.unit.Function.{Function}
 use Rattle.im_block.specs.declared.unit.Unit.{Unit as Code}
 use Rattle.im_block.specs.Shape.{sum_of}
-use Rattle.im_block.specs.Wellformed.{IsStatic, IsFunction, IsWellFormed, Takes, AreApart, accesses_of_blocks, accesses_of_functions, objects_below}
+use Rattle.im_block.specs.Wellformed.{IsStatic, IsFunction, Takes, AreApart, accesses_of_blocks, accesses_of_functions}
 use Rattle.im_frame.specs.Layout.{rooms}
 use Rattle.im_addresses.specs.Statics.{objects_of}
 use Rattle.im_placed.specs.Placed.{IsPlacedFunction}
