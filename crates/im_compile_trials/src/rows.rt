@@ -1,5 +1,5 @@
-// Programs, one for each construct: the source, the input, and what C says of it, the output and the
-// status (by gcc).
+// Programs, one for each construct: the source, the input, and the output and the status, which are
+// those of gcc's code.
 
 /// A program, and what its run gives.
 #[derive(Clone, Copy)]
@@ -9,7 +9,6 @@ pub struct Row {
     pub output: &'static [u8],
     pub status: i32,
 }
-
 
 pub const OPERATORS: [Row; 8] = [
     // constants and return

@@ -17,10 +17,12 @@ fn is_right(alloc: Global, built: &Built, row: &Row, n: u32) -> Result<bool, Fai
         count: 100_000,
         mask: n % 16,
     });
-    Ok(machine.went() == Went::Halted
-        && machine.output() == row.output
-        && machine.status() == row.status
-        && machine.reason() == 0)
+    Ok(
+        machine.went() == Went::Halted
+            && machine.output() == row.output
+            && machine.status() == row.status
+            && machine.reason() == 0,
+    )
 }
 
 // With power all the time, and with so little that each period makes one step of progress.
@@ -29,9 +31,7 @@ fn runs(alloc: Global, row: &Row) -> Result<bool, Fail> {
         stack: 65536,
         out_cap: 64,
     };
-    let built = compile(alloc, row.source, options)
-        .ok()
-        .ok_or("a program")?;
+    let built = compile(alloc, row.source, options).ok().ok_or("a program")?;
     Ok(is_right(alloc, &built, row, 10_000_000)? && is_right(alloc, &built, row, built.gap)?)
 }
 
