@@ -1,0 +1,4 @@
+pub mod Ways
+pub mod Values
+pub mod Statements
+pub mod Whole
