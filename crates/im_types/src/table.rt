@@ -1,6 +1,7 @@
 //! Types from a table and into one.
 ghost use Rattle.std.specs.Prelude.{◌≡◌, IfOk};
 ghost use Rattle.im_ctype.specs.Table.{IsIn, IsGrown, IsTypeOf, type_at};
+ghost use Rattle.im_ctype.specs.Types.{array};
 ghost use Rattle.im_types.specs.Shape.{type_of};
 
 use crate::build::{array_of, pointer_to};
