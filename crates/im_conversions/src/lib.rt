@@ -17,6 +17,8 @@ mod rules;
 mod stop;
 mod term;
 mod terms;
+#[cfg(test)]
+mod tests;
 
 pub use changes::{assign_term, step_term};
 pub use constancy::Constancy;
