@@ -1,6 +1,7 @@
 //! Whether types are the same (C11 6.2.7).
-ghost use Rattle.std.specs.Prelude.{◌≡◌, Bool};
+ghost use Rattle.std.specs.Prelude.{◌≡◌, ◌&&◌, Bool};
 ghost use Rattle.im_ctype.specs.Types as t;
+ghost use Rattle.im_types.specs.Compared.{same_result, same_parameters};
 ghost use Rattle.im_types.specs.Shape.{type_of, types_in};
 
 use crate::tree::Type;
@@ -117,13 +118,13 @@ fn is_unsized_too(element: &Type, other: &Type) -> bool
     }
 }
 
+/// Whether it is a function type of that result.
 #[cycle(same)]
-fn is_function_too(returned: &Type, parameters: &[Type], other: &Type) -> bool
-    ensures { result ≡ t.same_type (t.function (type_of returned.now) (types_in parameters.now))
-        (type_of other.now) }
+fn is_result_too(returned: &Type, other: &Type) -> bool
+    ensures { result ≡ same_result (type_of returned.now) (type_of other.now) }
 {
     match other {
-        Type::Function(r, ps) => same(returned, r) && all_same(parameters, ps),
+        Type::Function(r, _) => same(returned, r),
         Type::Void
         | Type::Integer(_)
         | Type::Pointer(_, _)
@@ -131,6 +132,28 @@ fn is_function_too(returned: &Type, parameters: &[Type], other: &Type) -> bool
         | Type::Unsized(_)
         | Type::Struct(_) => false,
     }
+}
+
+/// Whether it is a function type of those parameters.
+#[cycle(same)]
+fn are_parameters_too(parameters: &[Type], other: &Type) -> bool
+    ensures { result ≡ same_parameters (types_in parameters.now) (type_of other.now) }
+{
+    match other {
+        Type::Function(_, ps) => all_same(parameters, ps),
+        Type::Void
+        | Type::Integer(_)
+        | Type::Pointer(_, _)
+        | Type::Array(_, _)
+        | Type::Unsized(_)
+        | Type::Struct(_) => false,
+    }
+}
+
+fn both(first: bool, second: bool) -> bool
+    ensures { result ≡ (first && second) }
+{
+    first && second
 }
 
 /// Whether two types are equal in structure.
@@ -145,7 +168,10 @@ pub fn same(first: &Type, second: &Type) -> bool
         Type::Array(element, count) => is_array_too(element, *count, second),
         Type::Unsized(element) => is_unsized_too(element, second),
         Type::Struct(number) => is_struct_too(*number, second),
-        Type::Function(returned, parameters) => is_function_too(returned, parameters, second),
+        Type::Function(returned, parameters) => both(
+            is_result_too(returned, second),
+            are_parameters_too(parameters, second),
+        ),
     }
 }
 
