@@ -1,9 +1,9 @@
 -- Tables that grow, and the layouts of structs.
-use Rattle.std.proofs.Common.{◌≡◌, ℕ, zero, suc, ◌+◌, ◌<◌, ◌≤◌, nat_lt, Bool, true, false, List, [], ◌∷◌, length, get_or, refl, sym, ap, ◌∙◌, subst, arith}
+use Rattle.std.proofs.Common.{◌≡◌, ℕ, zero, suc, ◌+◌, ◌<◌, ◌≤◌, nat_lt, true, false, List, [], ◌∷◌, length, get_or, refl, sym, ap, ◌∙◌, subst, arith}
 use Rattle.std.specs.Prelude.{slice_get, Some}
 use Rattle.std.proofs.lemmas.Grind.{common_steps}
 use Rattle.std.proofs.lemmas.Bool.{ltb-true, ltb-false}
-use Rattle.im_ctype.specs.Types.{Member, Structs, struct, members_of}
+use Rattle.im_ctype.specs.Types.{Structs, struct, members_of}
 use Rattle.im_ctype.specs.Layout.{Layout, empty_layout, struct_in, layout, layouts, AreComplete, MembersAreComplete}
 use Rattle.im_ctype.specs.Table.{Table, IsGrown, IsIn, members_at, members_in, structs_of, types_of}
 use Rattle.im_ctype.proofs.Building.{length-built}

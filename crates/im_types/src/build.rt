@@ -66,11 +66,7 @@ pub fn unsized_of(alloc: Global, element: Type) -> Result<Type, NoMemory>
 }
 
 /// A function of these parameters.
-pub fn function_of(
-    alloc: Global,
-    returned: Type,
-    parameters: Vec<Type>,
-) -> Result<Type, NoMemory>
+pub fn function_of(alloc: Global, returned: Type, parameters: Vec<Type>) -> Result<Type, NoMemory>
     ensures { IfOk result
         (λ ty. type_of ty ≡ t.function (type_of returned) (types_in parameters.items)) }
 {

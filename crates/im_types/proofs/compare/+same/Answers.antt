@@ -1,5 +1,5 @@
 use Rattle.std.proofs.Common.{◌≡◌, ◌&&◌, sym, ap, ◌∙◌}
-use Rattle.im_ctype.specs.Types.{function, same_type}
+use Rattle.im_ctype.specs.Types.{function, same_type, same_types}
 use Rattle.im_types.specs.Compared.{same_result, same_parameters}
 use Rattle.im_types.specs.Shape.{type_of, types_in}
 use Rattle.im_types.proofs.Lists.{lengths-differ, by-parts}
@@ -22,3 +22,13 @@ same-returns-in-Function t c =
     ∙ ap (λ xs. same_result (type_of r.value) other && same_parameters (types_in xs) other) c.deref-in-Function-2.ensures.value
     ∙ sym (by-parts (type_of r.value) (types_in ps.items) other)
     ∙ ap (λ x. same_type x other) (sym e)
+
+pub are_parameters_too-returns-in-Function : goal.are_parameters_too-returns-in-Function
+are_parameters_too-returns-in-Function t c =
+    let ps = types_in c.args.parameters.now in
+    let r = c.in-Function.field-0 in
+    let qs = c.in-Function.ps in
+    let e : type_of c.args.other.now ≡ function (type_of r.value) (types_in qs.items) = ap type_of c.in-Function.is ∙ function-of r qs in
+    c.all_same.ensures
+    ∙ ap (λ xs. same_types ps (types_in xs)) c.deref.ensures.value
+    ∙ ap (λ x. same_parameters ps x) (sym e)
