@@ -22,12 +22,9 @@ compared_as op x y = Some (truth (compares op x y))
 abbrev pub Told : Constancy → Expr → Type 0
 Told k e = (is_constant e ≡ k.is_constant) × (evaluated e ≡ number_in k.value)
 
-abbrev pub constant_in : Constancy → Option ℤ
-constant_in k = value_if k.is_constant
-  where
-    value_if : Bool → Option ℤ
-    value_if true = number_in k.value
-    value_if false = None
+abbrev pub value_where : Bool → Option ℤ → Option ℤ
+value_where true value = value
+value_where false value = None
 
 -- what isn't a constant expression has no value as one
 abbrev pub variable : Constancy

@@ -102,13 +102,7 @@ fn changed_by(alloc: Global, op: BinaryOp, x: Integer, y: Value) -> Result<Value
 }
 
 /// The value stored.
-fn stored(
-    alloc: Global,
-    table: &TypeTable,
-    ty: Type,
-    place: Place,
-    y: Value,
-) -> Result<Value, Stop>
+fn stored(alloc: Global, table: &TypeTable, ty: Type, place: Place, y: Value) -> Result<Value, Stop>
     ensures { MatchResult result (λ v. value_in table.now v ≡ record {
       type = type_of ty;
       expr = c.assigned_by (structs_of table.now) None (type_of ty)

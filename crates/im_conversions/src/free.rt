@@ -1,5 +1,5 @@
 //! Which structs have no `const` among their members, nor among those of structs within them.
-ghost use Rattle.std.specs.Prelude.{◌≡◌, [], length, slice_index_or, true, IfOk};
+ghost use Rattle.std.specs.Prelude.{◌≡◌, ◌&&◌, not, length, slice_index_or, true};
 ghost use Rattle.im_ctype.specs.Kept.{AreMembersIn};
 ghost use Rattle.im_ctype.specs.Table.{IsIn, members_in, structs_of, type_at, types_of};
 ghost use Rattle.im_ctype.specs.Types.{members_of};
@@ -7,9 +7,7 @@ ghost use Rattle.im_rules.specs.Rules as u;
 ghost use Rattle.im_types.specs.Shape.{type_of};
 
 use im_ctype::{Member, TypeId, TypeNode, TypeTable};
-use im_num::NoMemory;
 use im_types::Type;
-use std::alloc::Global;
 
 fn is_free_at(free: &[bool], number: u32) -> bool
     ensures { result ≡ slice_index_or free.now number true }
@@ -43,12 +41,20 @@ fn is_free_type(free: &[bool], table: &TypeTable, ty: TypeId) -> bool
     }
 }
 
+fn is_member_free(free: &[bool], table: &TypeTable, member: &Member) -> bool
+    requires { IsIn table.now member.now.ty }
+    ensures { result ≡ (not member.now.constant &&
+        u.free_in free.now (type_at table.now member.now.ty)) }
+{
+    !member.constant && is_free_type(free, table, member.ty)
+}
+
 fn are_free(free: &[bool], table: &TypeTable, members: &[Member]) -> bool
     requires { AreMembersIn (length table.now.nodes) members.now }
     ensures { result ≡ u.members_free free.now (members_in (types_of table.now) members.now) }
 {
     for member in members {
-        if member.constant || !is_free_type(free, table, member.ty) {
+        if !is_member_free(free, table, member) {
             return false;
         }
     }

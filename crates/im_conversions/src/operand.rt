@@ -4,8 +4,11 @@ ghost use Rattle.im_typed.specs.ProgramOf.{expr_of};
 ghost use Rattle.im_rules.specs.Constants.{constant_value};
 ghost use Rattle.im_rules.specs.Terms as r;
 ghost use Rattle.im_conversions.specs.Shape.{seen, term_in};
+ghost use Rattle.im_conversions.specs.Told.{number_in, value_where};
 
+use crate::constancy::Constancy;
 use crate::term::{Term, Value};
+use im_store::Number;
 use im_types::Type;
 
 /// An expression as the rules see it.
@@ -19,16 +22,29 @@ pub struct Operand<'a> {
     pub is_null: bool,
 }
 
-fn is_null(v: &Value) -> bool
-    ensures { (types : Table) → result ≡ r.is_zero (constant_value (expr_of types v.now.expr)) }
+fn is_zero(value: Option<Number>) -> bool
+    ensures { result ≡ r.is_zero (number_in value) }
 {
-    if !v.constancy.is_constant {
-        return false;
-    }
-    match v.constancy.value {
+    match value {
         Some(z) => z.value == 0,
         None => false,
     }
+}
+
+fn is_zero_constant(k: Constancy) -> bool
+    ensures { result ≡ r.is_zero (value_where k.is_constant (number_in k.value)) }
+{
+    if k.is_constant {
+        is_zero(k.value)
+    } else {
+        false
+    }
+}
+
+fn is_null(v: &Value) -> bool
+    ensures { (types : Table) → result ≡ r.is_zero (constant_value (expr_of types v.now.expr)) }
+{
+    is_zero_constant(v.constancy)
 }
 
 /// What the rules see of a term.

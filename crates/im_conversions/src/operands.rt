@@ -1,6 +1,7 @@
 //! The rules that ask of operands: `true` says that the rule has nothing against the node.
-ghost use Rattle.std.specs.Prelude.{◌≡◌};
+ghost use Rattle.std.specs.Prelude.{◌≡◌, ◌&&◌, not};
 ghost use Rattle.im_ctype.specs.Table.{structs_of};
+ghost use Rattle.im_ctype.specs.Types as t;
 ghost use Rattle.im_rules.specs.Rules as u;
 ghost use Rattle.im_types.specs.Shape.{type_of};
 ghost use Rattle.im_conversions.specs.Shape.{seen};
@@ -9,18 +10,26 @@ use crate::asked::{
     are_like_pointers, are_same_pointers, is_integer_null, is_integer_value, is_of_struct,
     is_pointer_value, is_scalar_value, pointer_fits, points_to_complete,
 };
+use crate::free::is_free;
 use crate::operand::Operand;
 use im_ctree::BinaryOp;
 use im_ctype::TypeTable;
-use im_types::{Type, is_integer, is_pointer, is_struct, is_void, same};
+use im_types::{Type, is_array, is_integer, is_pointer, is_struct, is_void, same};
 
 /// Whether the value fits a type (C11 6.5.16.1).
 pub fn fits(ty: &Type, x: &Operand) -> bool
     ensures { result ≡ u.rule_17 (type_of ty.now) (seen x.now) }
 {
     (is_integer(ty) && is_integer_value(x))
-        || (pointer_fits(ty, x)
-            || ((is_pointer(ty) && is_integer_null(x)) || is_of_struct(ty, x)))
+        || (pointer_fits(ty, x) || ((is_pointer(ty) && is_integer_null(x)) || is_of_struct(ty, x)))
+}
+
+/// Whether it may be changed, where the structs without `const` are told by number (C11 6.3.2.1p1).
+pub fn is_changeable(free: &[bool], x: &Operand) -> bool
+    ensures { result ≡ (not (seen x.now).constant && (not (t.is_array (seen x.now).type) &&
+        u.free_in free.now (seen x.now).type)) }
+{
+    !x.constant && (!is_array(x.ty) && is_free(free, x.ty))
 }
 
 /// A pointer to a complete type and an integer, in either order.

@@ -7,13 +7,12 @@ ghost use Rattle.im_types.specs.Shape.{type_of};
 ghost use Rattle.im_conversions.specs.Shape.{term_in};
 
 use crate::asked::{is_integer_value, is_scalar_value, points_to_complete};
-use crate::free::is_free;
 use crate::operand::operand_of;
 use crate::operands;
 use crate::term::Term;
 use im_ctree::BinaryOp;
 use im_ctype::TypeTable;
-use im_types::{Type, is_array, is_complete};
+use im_types::{Type, is_complete};
 
 /// Whether the value fits a type (C11 6.5.16.1).
 pub fn fits(ty: &Type, x: &Term) -> bool
@@ -44,8 +43,7 @@ pub fn is_changeable(table: &TypeTable, free: &[bool], x: &Term) -> bool
     requires { free.now ≡ u.free_from [] (structs_of table.now) }
     ensures { result ≡ u.rule_23 (structs_of table.now) (operand_of (term_in table.now x.now)) }
 {
-    let operand = operand_of(x);
-    !operand.constant && (!is_array(operand.ty) && is_free(free, operand.ty))
+    operands::is_changeable(free, &operand_of(x))
 }
 
 /// A pointer to a complete type (C11 6.5.3.2p2).

@@ -11,13 +11,13 @@ ghost use Rattle.im_conversions.specs.Answers.{IsMade, IsNoRule};
 
 use crate::build::negation;
 use crate::convert::{literal, value_of};
+use crate::operands::rule_of;
 use crate::operations::{casted, chosen, joined, operation, promoted_value, unary_operation};
 use crate::pointers::{addressed, bytes_of, pointed, sum};
 use crate::rules::{
     allows, are_alike, casts, has_size, is_indexed, is_integer_term, is_lvalue,
     is_pointer_to_complete, is_scalar_term,
 };
-use crate::operands::rule_of;
 use crate::stop::Stop;
 use crate::term::Term;
 use im_ctree::{BinaryOp, UnaryOp};
@@ -58,13 +58,7 @@ pub fn size_term(table: &TypeTable, at: u32, ty: &Type) -> Result<Term, Stop>
 }
 
 /// `a[b]` (C11 6.5.2.1).
-pub fn index_term(
-    alloc: Global,
-    table: &TypeTable,
-    at: u32,
-    x: Term,
-    y: Term,
-) -> Result<Term, Stop>
+pub fn index_term(alloc: Global, table: &TypeTable, at: u32, x: Term, y: Term) -> Result<Term, Stop>
     ensures { IsMade table.now
         (d.index_asks (structs_of table.now) (term_in table.now x) (term_in table.now y))
         (c.pointed (c.sum (structs_of table.now)
@@ -218,13 +212,7 @@ pub fn conditional_term(
 }
 
 /// A cast (C11 6.5.4).
-pub fn cast_term(
-    alloc: Global,
-    table: &TypeTable,
-    at: u32,
-    ty: Type,
-    x: Term,
-) -> Result<Term, Stop>
+pub fn cast_term(alloc: Global, table: &TypeTable, at: u32, ty: Type, x: Term) -> Result<Term, Stop>
     ensures { IsMade table.now (d.cast_asks (type_of ty) (term_in table.now x)) (r.value
         (c.casted (type_of ty) (r.value_of (structs_of table.now) (term_in table.now x)))) at
         result }

@@ -20,7 +20,9 @@ fn terms_of_an_array(rt: HostRuntime) {
     let b = Term::Lvalue(false, other, Place::Local(0));
     let c = Term::Lvalue(false, third, Place::Local(0));
     let index = Term::Value(literal(Integer::Int, one));
-    let left = index_term(alloc, &table, 1, a, index).ok().expect(&rt, "an element");
+    let left = index_term(alloc, &table, 1, a, index)
+        .ok()
+        .expect(&rt, "an element");
     let first = unary_term(alloc, &table, 2, UnaryOp::Dereference, b)
         .ok()
         .expect(&rt, "an element");
@@ -32,7 +34,12 @@ fn terms_of_an_array(rt: HostRuntime) {
     assert!(rt; done.is_ok());
     let zero = Term::Value(literal(Integer::Int, one));
     match assign_term(alloc, &table, &[], 5, AssignOp::Plain, c, zero) {
-        Err(stop) => assert!(rt; stop == Stop::Rule { number: 23, token: 5 }),
+        Err(stop) => assert!(rt;
+            stop == Stop::Rule {
+                number: 23,
+                token: 5
+            }
+        ),
         Ok(_) => assert!(rt; false),
     }
 }
