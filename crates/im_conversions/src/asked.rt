@@ -1,4 +1,5 @@
-//! What the rules ask of the type that an operand has as a value: an array is a pointer to its first element there.
+//! What the rules ask of the type that an operand has as a value: an array is a pointer to its
+//! first element there.
 ghost use Rattle.std.specs.Prelude.{◌≡◌, ◌&&◌, ◌||◌, Bool};
 ghost use Rattle.im_ctype.specs.Table.{structs_of};
 ghost use Rattle.im_ctype.specs.Types as t;

@@ -24,7 +24,8 @@ use std::alloc::Global;
 
 /// A number of that type.
 pub fn number(ty: Integer, z: Number) -> Value
-    ensures { (types : Table) → value_in types result ≡ of_integer ty (p.Constant (kind_of ty) z.value) }
+    ensures { (types : Table) → value_in types result ≡ of_integer ty
+        (p.Constant (kind_of ty) z.value) }
 {
     Value {
         ty: Type::Integer(ty),
@@ -39,7 +40,8 @@ pub fn number(ty: Integer, z: Number) -> Value
 /// A value converted to an integer type of another kind.
 pub fn convert(alloc: Global, ty: Integer, operand: Value) -> Result<Value, Stop>
     ensures { (types : Table) → MatchResult result
-        (λ r. value_in types r ≡ of_integer ty (p.Convert (kind_of ty) (expr_of types operand.expr))) IsNoRule }
+        (λ r. value_in types r ≡ of_integer ty (p.Convert (kind_of ty)
+        (expr_of types operand.expr))) IsNoRule }
 {
     let constancy = Constancy {
         is_constant: operand.constancy.is_constant,
@@ -55,8 +57,8 @@ pub fn convert(alloc: Global, ty: Integer, operand: Value) -> Result<Value, Stop
 
 pub fn unary(alloc: Global, op: UnaryOp, ty: Integer, operand: Value) -> Result<Value, Stop>
     ensures { (types : Table) → MatchResult result
-        (λ r. value_in types r ≡ of_integer ty (p.Unary op (kind_of ty) (expr_of types operand.expr)))
-        IsNoRule }
+        (λ r. value_in types r ≡ of_integer ty (p.Unary op (kind_of ty)
+        (expr_of types operand.expr))) IsNoRule }
 {
     let constancy = Constancy {
         is_constant: operand.constancy.is_constant,
@@ -72,7 +74,8 @@ pub fn unary(alloc: Global, op: UnaryOp, ty: Integer, operand: Value) -> Result<
 
 pub fn negation(alloc: Global, operand: Value) -> Result<Value, Stop>
     ensures { (types : Table) → MatchResult result
-        (λ r. value_in types r ≡ of_integer Integer.Int (p.Not (expr_of types operand.expr))) IsNoRule }
+        (λ r. value_in types r ≡ of_integer Integer.Int (p.Not (expr_of types operand.expr)))
+        IsNoRule }
 {
     let constancy = Constancy {
         is_constant: operand.constancy.is_constant,
@@ -151,8 +154,8 @@ pub fn conjunction(alloc: Global, left: Value, right: Value) -> Result<Value, St
 
 pub fn disjunction(alloc: Global, left: Value, right: Value) -> Result<Value, Stop>
     ensures { (types : Table) → MatchResult result
-        (λ r. value_in types r ≡ of_integer Integer.Int (p.Or (expr_of types left.expr) (expr_of types right.expr)))
-        IsNoRule }
+        (λ r. value_in types r ≡ of_integer Integer.Int
+        (p.Or (expr_of types left.expr) (expr_of types right.expr))) IsNoRule }
 {
     let constancy = Constancy {
         is_constant: left.constancy.is_constant && right.constancy.is_constant,

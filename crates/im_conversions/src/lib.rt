@@ -1,4 +1,5 @@
-//! From the terms of a node's parts to its own: the rules are asked, and conversions are written out.
+//! From the terms of a node's parts to its own: the rules are asked, and conversions are written
+//! out.
 #![tactic(auto)]
 
 mod asked;

@@ -1,4 +1,5 @@
-//! The terms of nodes: the rules are asked of the terms of a node's parts, and what it becomes is made of them.
+//! The terms of nodes: the rules are asked of the terms of a node's parts, and what it becomes is
+//! made of them.
 ghost use Rattle.std.specs.Prelude.{◌≡◌, [], ◌∷◌, MatchResult};
 ghost use Rattle.im_ctype.specs.Table.{Table, structs_of};
 ghost use Rattle.im_rules.specs.Conversions as c;
