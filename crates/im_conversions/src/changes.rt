@@ -43,10 +43,10 @@ pub fn step_term(
         return Err(refused(30, at));
     }
     match x {
-        Term::Lvalue(_, ty, place) => {
+        Term::Lvalue(_constant, ty, place) => {
             Ok(Term::Value(stepped(alloc, table, op, old, ty, place)?))
         }
-        Term::Value(_) => Err(Stop::Memory),
+        Term::Value(_value) => Err(Stop::Memory),
     }
 }
 
@@ -97,9 +97,9 @@ pub fn assign_term(
     }
     let value = value_of(alloc, table, y)?;
     match x {
-        Term::Lvalue(_, ty, place) => {
+        Term::Lvalue(_constant, ty, place) => {
             Ok(Term::Value(assigned(alloc, table, op, ty, place, value)?))
         }
-        Term::Value(_) => Err(Stop::Memory),
+        Term::Value(_value) => Err(Stop::Memory),
     }
 }
