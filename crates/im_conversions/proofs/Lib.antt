@@ -1,2 +1,0 @@
-pub mod Frees
-pub mod Tolds
