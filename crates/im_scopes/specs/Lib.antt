@@ -1,0 +1,4 @@
+pub mod Shape
+pub mod Search
+pub mod Indexed
+pub mod Contexts

@@ -1,0 +1,98 @@
+//! What declarators declare.
+ghost use Rattle.std.specs.Prelude.{◌≡◌, map};
+ghost use Rattle.im_ctree.specs.Tree as t;
+ghost use Rattle.im_ctree.specs.Shape.{declarator_of, core_of};
+ghost use Rattle.im_rules.specs.Outline as o;
+ghost use Rattle.im_unit_outline.specs.Lists.{suffixes_from, with_suffix};
+ghost use Rattle.im_unit_outline.specs.Walked.{nearest_of};
+
+use im_ctree::{Core, Declarator, Parameter, Star, Suffix, SuffixKind};
+
+/// The name that a declarator declares; empty where it has none.
+pub fn name_of(d: &Declarator) -> &[u8]
+    ensures { result.now ≡ o.name_of (declarator_of d.now) }
+{
+    match &d.core {
+        Core::Absent => &[],
+        Core::Name(name) => name,
+        Core::Inner(inner) => name_of(inner),
+    }
+}
+
+/// What stands directly round the name (C11 6.7.6).
+#[derive(Clone, Copy)]
+pub enum Nearest<'a> {
+    /// Nothing but parentheses.
+    Bare,
+    Star,
+    Length,
+    Parameters(&'a [Parameter]),
+}
+
+fn in_suffix(suffix: &Suffix) -> Nearest<'_>
+    ensures { (rest : t.Suffixes) → (bare : o.Nearest) → nearest_of result
+        ≡ o.suffix_or (with_suffix suffix.now.at suffix.now.kind rest) bare }
+{
+    match &suffix.kind {
+        SuffixKind::Array(_) => Nearest::Length,
+        SuffixKind::Function(parameters) => Nearest::Parameters(parameters),
+    }
+}
+
+fn in_stars<'a>(stars: &[Star]) -> Nearest<'a>
+    ensures { nearest_of result ≡ o.star_or_bare (map (λ star. star.consts) stars.now) }
+{
+    if stars.len() > 0 {
+        Nearest::Star
+    } else {
+        Nearest::Bare
+    }
+}
+
+/// What stands round a core: a suffix binds tighter than a star.
+fn round_core<'a>(stars: &[Star], suffixes: &'a [Suffix]) -> Nearest<'a>
+    ensures { nearest_of result ≡ o.suffix_or (suffixes_from suffixes.now)
+        (o.star_or_bare (map (λ star. star.consts) stars.now)) }
+{
+    if suffixes.len() > 0 {
+        return in_suffix(&suffixes[0]);
+    }
+    in_stars(stars)
+}
+
+fn inner_or<'a>(inner: Nearest<'a>, outer: Nearest<'a>) -> Nearest<'a>
+    ensures { nearest_of result ≡ o.inner_or (nearest_of inner) (nearest_of outer) }
+{
+    match inner {
+        Nearest::Bare => outer,
+        found => found,
+    }
+}
+
+#[cycle(nearest)]
+pub fn nearest(d: &Declarator) -> Nearest<'_>
+    ensures { nearest_of result ≡ o.nearest (declarator_of d.now) }
+{
+    inner_or(nearest_in(&d.core), round_core(&d.stars, &d.suffixes))
+}
+
+#[cycle(nearest)]
+fn nearest_in(core: &Core) -> Nearest<'_>
+    ensures { nearest_of result ≡ o.nearest_in (core_of core.now) }
+{
+    match core {
+        Core::Absent | Core::Name(_) => Nearest::Bare,
+        Core::Inner(inner) => nearest(inner),
+    }
+}
+
+/// Whether a function is declared, where its specifiers are of a function type or not.
+pub(crate) fn gives_function(nearest: Nearest<'_>, of_function: bool) -> bool
+    ensures { result ≡ o.gives_function (nearest_of nearest) of_function }
+{
+    match nearest {
+        Nearest::Parameters(_) => true,
+        Nearest::Bare => of_function,
+        Nearest::Star | Nearest::Length => false,
+    }
+}
