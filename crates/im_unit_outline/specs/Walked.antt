@@ -12,7 +12,7 @@ use Rattle.im_unit_outline.specs.declared.item.Item.{Item}
 use Rattle.im_unit_outline.specs.declared.item.Walk as r
 use Rattle.im_unit_outline.specs.declared.declarator.Nearest.{Nearest}
 use Rattle.im_unit_outline.specs.declared.declarator.Nearest.TheVariants as n
-use Rattle.im_unit_outline.specs.Lists.{parameters_from}
+use Rattle.im_tree_parts.specs.Lists.{parameters_from}
 
 abbrev pub sort_of : Sort → o.Sort
 sort_of s.Type = o.a_type

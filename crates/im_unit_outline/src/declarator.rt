@@ -1,18 +1,26 @@
 //! What declarators declare.
-ghost use Rattle.std.specs.Prelude.{◌≡◌, map};
+ghost use Rattle.std.specs.Prelude.{◌≡◌};
 ghost use Rattle.im_ctree.specs.Tree as t;
 ghost use Rattle.im_ctree.specs.Shape.{declarator_of, core_of};
 ghost use Rattle.im_rules.specs.Outline as o;
-ghost use Rattle.im_unit_outline.specs.Lists.{suffixes_from, with_suffix};
+ghost use Rattle.im_tree_parts.specs.Lists.{suffixes_from, with_suffix, stars_in};
 ghost use Rattle.im_unit_outline.specs.Walked.{nearest_of};
 
 use im_ctree::{Core, Declarator, Parameter, Star, Suffix, SuffixKind};
 
 /// The name that a declarator declares; empty where it has none.
+#[cycle(names)]
 pub fn name_of(d: &Declarator) -> &[u8]
     ensures { result.now ≡ o.name_of (declarator_of d.now) }
 {
-    match &d.core {
+    core_name(&d.core)
+}
+
+#[cycle(names)]
+fn core_name(core: &Core) -> &[u8]
+    ensures { result.now ≡ o.core_name (core_of core.now) }
+{
+    match core {
         Core::Absent => &[],
         Core::Name(name) => name,
         Core::Inner(inner) => name_of(inner),
@@ -40,7 +48,7 @@ fn in_suffix(suffix: &Suffix) -> Nearest<'_>
 }
 
 fn in_stars<'a>(stars: &[Star]) -> Nearest<'a>
-    ensures { nearest_of result ≡ o.star_or_bare (map (λ star. star.consts) stars.now) }
+    ensures { nearest_of result ≡ o.star_or_bare (stars_in stars.now) }
 {
     if stars.len() > 0 {
         Nearest::Star
@@ -52,7 +60,7 @@ fn in_stars<'a>(stars: &[Star]) -> Nearest<'a>
 /// What stands round a core: a suffix binds tighter than a star.
 fn round_core<'a>(stars: &[Star], suffixes: &'a [Suffix]) -> Nearest<'a>
     ensures { nearest_of result ≡ o.suffix_or (suffixes_from suffixes.now)
-        (o.star_or_bare (map (λ star. star.consts) stars.now)) }
+        (o.star_or_bare (stars_in stars.now)) }
 {
     if suffixes.len() > 0 {
         return in_suffix(&suffixes[0]);

@@ -3,7 +3,7 @@ ghost use Rattle.std.specs.Prelude.{◌≡◌, ◌||◌};
 ghost use Rattle.im_ctree.specs.Tree as t;
 ghost use Rattle.im_rules.specs.Rules as u;
 ghost use Rattle.im_rules.specs.Outline as o;
-ghost use Rattle.im_unit_outline.specs.Lists.{list_from, specifier_in};
+ghost use Rattle.im_tree_parts.specs.Lists.{list_from, specifier_in};
 
 use im_ctree::{Specifier, SpecifierKind, SpecifierWord};
 

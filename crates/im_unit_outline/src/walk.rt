@@ -3,7 +3,7 @@ ghost use Rattle.std.specs.Prelude.{◌≡◌, ◌++◌, ◌∷◌, [], false, t
 ghost use Rattle.im_ctree.specs.Tree as t;
 ghost use Rattle.im_ctree.specs.Shape.{declarator_of, init_declarators_of, external_of, tree_of as unit_of};
 ghost use Rattle.im_rules.specs.Outline as o;
-ghost use Rattle.im_unit_outline.specs.Lists.{list_from};
+ghost use Rattle.im_tree_parts.specs.Lists.{list_from};
 ghost use Rattle.im_unit_outline.specs.Walked.{sort_of, outlined_of, walk_of, behind_one, with_outlined, with_function as with_function_name};
 
 use crate::declarator::{gives_function, name_of, nearest};

@@ -1,0 +1,47 @@
+-- One step more on the way through a unit.
+use Rattle.std.proofs.Common.{◌≡◌, ℕ, Bool, true, false, ◌&&◌, ◌||◌, List, [], ◌∷◌, ◌++◌, map, reverse, length, if◌then◌else◌, refl, sym, ap, ◌∙◌}
+use Rattle.std.proofs.lemmas.List.{map_push}
+use Rattle.im_word.specs.Words.{Name}
+use Rattle.im_ctree.specs.Tree as t
+use Rattle.im_ctree.specs.Shape.{specifiers_of}
+use Rattle.im_ctree.specs.declared.specifier.Specifiers.{Specifiers, out-Specifiers}
+use Rattle.im_rules.specs.TypeTests.{same_name}
+use Rattle.im_rules.specs.Rules.{is_typedef}
+use Rattle.im_rules.specs.Outline as o
+use Rattle.im_tree_parts.specs.Lists.{list_from}
+use Rattle.im_unit_outline.specs.Walked.{object_names, HasObjects}
+use Rattle.im_tree_parts.proofs.Shapes.{specifiers_shape}
+
+-- whether a name is in a list doesn't depend on the order
+
+or-first : (a b c : Bool) → (a || (b || c)) ≡ (b || (a || c))
+or-first true true c = refl
+or-first true false c = refl
+or-first false true c = refl
+or-first false false c = refl
+
+or-none : (a : Bool) → (a || false) ≡ a
+or-none true = refl
+or-none false = refl
+
+pub in-behind : (x y : Name) (ys : List Name) → o.is_in x (ys ++ y ∷ []) ≡ (same_name y x || o.is_in x ys)
+in-behind x y [] = refl
+in-behind x y (z ∷ zs) = ap (λ b. same_name z x || b) (in-behind x y zs) ∙ or-first (same_name z x) (same_name y x) (o.is_in x zs)
+
+-- the defined objects, by their names
+pub has-objects : (is : List o.Outlined) → HasObjects (object_names is) is
+has-objects [] x = refl
+has-objects (i ∷ is) x = by (o.defines_an_object i)
+  where
+    by : (b : Bool) → o.is_in x (if b then i.name ∷ object_names is else object_names is) ≡ ((b && same_name i.name x) || o.is_object_among x is)
+    by true = ap (λ b. same_name i.name x || b) (has-objects is x)
+    by false = has-objects is x
+
+-- a declaration, by its specifiers
+pub declaration-walk : (s : Specifiers) (ds : t.InitDeclarators) (w : o.Walk)
+    → o.with_declarators (list_from (out-Specifiers s).items.items) ds (o.with_lists (list_from (out-Specifiers s).items.items) w) ≡ o.with_external (t.external_declaration (t.declaration (specifiers_of s) ds)) w
+declaration-walk s ds w = sym (ap (λ z. o.with_external (t.external_declaration (t.declaration z ds)) w) (specifiers_shape s))
+
+pub function-walk : (s : Specifiers) (d : t.Declarator) (b : t.Block) (w : o.Walk)
+    → o.with_external (t.function_definition (t.specifiers (out-Specifiers s).at (list_from (out-Specifiers s).items.items)) d b) w ≡ o.with_external (t.function_definition (specifiers_of s) d b) w
+function-walk s d b w = sym (ap (λ z. o.with_external (t.function_definition z d b) w) (specifiers_shape s))
