@@ -11,10 +11,10 @@ use Rattle.im_built_keeps.specs.Laws.{BuiltSelectsLaw, BuiltKeepsLaw}
 use Rattle.im_built_keeps.proofs.Chained.{no_tags, gap_of, chain}
 
 pub kept : BuiltSelectsLaw → LowersLaw → MiddleLaw → ProgramKeepsLaw → GapBoundLaw → BuiltKeepsLaw
-kept selects lowers middle keeps bound prog options built source b numbers =
+kept selects lowers middle keeps bound prog options built source b =
     let passes =
     middle.whole (source_of (program_of prog)) (bytes_of b.layouts) built.image built.gap (no_tags b.code) refl
-    (chain lowers prog options built source b (selects prog options built source b numbers)) in
+    (chain lowers prog options built source b (selects prog options built source b)) in
     record {
       keeps = subst (λ (l : List ℕ). ProgramKeeps (program_of prog) l built.image built.gap) (sym b.frames.sizes)
           (keeps (program_of prog) (bytes_of b.layouts) built.image built.gap source.typed passes);

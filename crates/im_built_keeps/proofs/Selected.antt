@@ -2,7 +2,6 @@
 use Rattle.std.proofs.Common.{◌≡◌, ℕ, List, sym, ap, ◌∙◌, subst}
 use Rattle.std.specs.Prelude.{map}
 use Rattle.im_link.specs.Code.{IsLinkable}
-use Rattle.im_store.specs.Statics.{StaticObject}
 use Rattle.im_typed.specs.declared.program.Prog.{Prog}
 use Rattle.im_typed.specs.ProgramOf.{program_of}
 use Rattle.im_block.specs.declared.unit.Static.{Static as StaticOf}
@@ -11,7 +10,6 @@ use Rattle.im_block.specs.Meaning.{static_of, statics_of}
 use Rattle.im_recut.specs.Laws.{RecutKeepsLaw}
 use Rattle.im_alloc.specs.Settled.{IsSettled}
 use Rattle.im_alloc_laws.specs.Laws.{PlacedCodeLaw}
-use Rattle.im_statics.specs.Named.{HaveNumbers}
 use Rattle.im_linked.specs.Laws.{LinkableLaw}
 use Rattle.im_live.specs.Liveness.{IsLiveness, EntersByCuts}
 use Rattle.im_live_code.specs.Laws.{LiveCodeLaw}
@@ -30,13 +28,6 @@ use Rattle.im_built_keeps.specs.Laws.{BuiltSelectsLaw}
 settled : PlacedCodeLaw → RecutKeepsLaw → (prog : Prog) (code : Code) → IsPassed prog code → IsSettled code
 settled placing recut prog code p =
     placing.recut p.placed code (recut.same p.placed code p.recut) (placing.settled p.forced p.placed p.place.placed)
-
--- statics are the program's
-same_statics : (prog : Prog) (code : Code) → (p : IsPassed prog code) → statics_of code ≡ (program_of prog).statics
-same_statics prog code p =
-    ap (λ (z : List StaticOf). map {A = StaticOf} static_of z)
-    (ap (λ (u : Code). u.statics.items) p.recut.rest ∙ ap (λ (u : Code). u.statics.items) p.place.placed.rest ∙ ap (λ (u : Code). u.statics.items) p.force.rest)
-    ∙ p.lower.statics
 
 module _ (prog : Prog) (options : Options) (built : Built) (b : IsBuilt prog options built) (able : IsReady prog b.code) (links : LinkableLaw) where
   linkable : IsLinkable b.parts
@@ -71,10 +62,9 @@ module _ (prog : Prog) (options : Options) (built : Built) (b : IsBuilt prog opt
       (linking_in b.code b.addresses b.layouts b.parts b.linked built.image input) fits selectable there shown live
 
 pub selects : ReadyLaw → PlacedCodeLaw → RecutKeepsLaw → LinkableLaw → LiveCodeLaw → ExecutesLaw → SelectsLaw → BuiltSelectsLaw
-selects ready placing recut links living executes selecting prog options built source b numbers =
+selects ready placing recut links living executes selecting prog options built source b =
     let able = ready prog b.code source b.passed in
     let live = lives prog options built b able links living (settled placing recut prog b.code b.passed) in
     selecting b.code b.addresses b.layouts b.parts b.linked options.stack options.out_cap built.image
     (image_of prog options built b able links)
-    (subst (λ (l : List StaticObject). HaveNumbers l) (sym (same_statics prog b.code b.passed)) numbers)
     (execute prog options built b able links executes live)

@@ -4,7 +4,6 @@ use Rattle.im_gap.specs.Gap.{recovery_steps}
 use Rattle.im_typed.specs.declared.frames.Frame.{Frame}
 use Rattle.im_typed.specs.declared.program.Prog.{Prog}
 use Rattle.im_typed.specs.ProgramOf.{program_of}
-use Rattle.im_statics.specs.Named.{HaveNumbers}
 use Rattle.im_passes.specs.Passes.{Selects}
 use Rattle.im_source.specs.Laws.{ProgramKeeps}
 use Rattle.im_compile.specs.declared.options.Options.{Options}
@@ -12,17 +11,13 @@ use Rattle.im_compile.specs.declared.built.Built.{Built}
 use Rattle.im_compile.specs.Passed.{IsSource}
 use Rattle.im_compile.specs.Built.{IsBuilt, bytes_of}
 
--- no static holds a pointer
-abbrev pub HasNumbers : Prog → Type 0
-HasNumbers prog = HaveNumbers (program_of prog).statics
-
 -- the bytes of each function's frame
 abbrev pub frames_of : Built → List ℕ
 frames_of built = map (λ (f : Frame). f.size) built.frames.frames.items
 
 abbrev pub BuiltSelectsLaw : Type 0
 BuiltSelectsLaw =
-    (prog : Prog) (options : Options) (built : Built) → IsSource prog → (b : IsBuilt prog options built) → HasNumbers prog →
+    (prog : Prog) (options : Options) (built : Built) → IsSource prog → (b : IsBuilt prog options built) →
     Selects b.code (bytes_of b.layouts) built.image
 
 -- Keeps: for every input and every list of periods; and what follows where power never fails
@@ -33,5 +28,5 @@ pub record BuiltKeeps (prog : Prog) (built : Built) : Type 0 where
 
 abbrev pub BuiltKeepsLaw : Type 0
 BuiltKeepsLaw =
-    (prog : Prog) (options : Options) (built : Built) → IsSource prog → IsBuilt prog options built → HasNumbers prog →
+    (prog : Prog) (options : Options) (built : Built) → IsSource prog → IsBuilt prog options built →
     BuiltKeeps prog built

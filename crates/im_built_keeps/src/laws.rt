@@ -12,8 +12,7 @@ use im_middle::middle_law;
 use im_recut::recut_keeps_law;
 use im_source::program_keeps_law;
 
-/// Where statics hold numbers alone, the device's own run of an image follows the placed code that
-/// it is built of.
+/// The device's own run of an image follows the placed code that it is built of.
 pub fn built_selects_law()
     ensures { BuiltSelectsLaw }
 {
@@ -26,8 +25,7 @@ pub fn built_selects_law()
     selects_law();
 }
 
-/// Whatever power does, an image keeps the program that it is built of, whose statics hold numbers
-/// alone.
+/// Whatever power does, an image keeps the program that it is built of.
 pub fn built_keeps_law()
     ensures { BuiltKeepsLaw }
 {

@@ -11,7 +11,7 @@ use Rattle.im_typed.specs.declared.program.Prog.{Prog}
 use Rattle.im_typed.specs.ProgramOf.{program_of}
 use Rattle.im_rules.specs.Laws.{UnitOnce}
 use Rattle.im_rule_limits.specs.Limits.{Limit, of_parameters, of_size, of_statics, Exceeds, too_many_parameters, too_many_statics, IsWithinLimits}
-use Rattle.im_plain_sizes.specs.Laws.{NumbersLaw, SizesLaw}
+use Rattle.im_plain_sizes.specs.Laws.{SizesLaw}
 use Rattle.im_spelt_sound.specs.Laws.{WordsLaw, SourcesLaw}
 use Rattle.im_check.specs.Checked.{IsChecked}
 use Rattle.im_driver.specs.Compiled.{IsTreeOf}
@@ -30,11 +30,10 @@ module _ (once : UnitOnce) (sizes : SizesLaw) where
       let few = h.statics in
       absurd (omega arith)
 
-pub ready : UnitOnce → WordsLaw → SourcesLaw → SizesLaw → NumbersLaw → (source : List ℕ) (tokens : List Token) (tree : Tree) (prog : Prog) → AreSmall source → All (IsTokenOf source) tokens → IsTreeOf source tokens tree → IsChecked (tree_of tree) prog → IsReady source prog
-ready once words sources sizes numbers source tokens tree prog small all is_tree checked =
+pub ready : UnitOnce → WordsLaw → SourcesLaw → SizesLaw → (source : List ℕ) (tokens : List Token) (tree : Tree) (prog : Prog) → AreSmall source → All (IsTokenOf source) tokens → IsTreeOf source tokens tree → IsChecked (tree_of tree) prog → IsReady source prog
+ready once words sources sizes source tokens tree prog small all is_tree checked =
     let typed = well_typed source small words tokens tree (program_of prog) sources all is_tree.parsed checked.typed (within once sizes (tree_of tree) prog checked) in
     record {
       program = record { tokens = tokens; tree = tree; is_tree = is_tree; typed = checked.typed };
       is_source = record { known = checked.known; typed = typed.0; within = typed.1 };
-      numbers = numbers (tree_of tree) (program_of prog) checked.plain checked.typed;
     }

@@ -23,14 +23,12 @@ use Rattle.im_compile.specs.declared.options.Options.{Options}
 use Rattle.im_compile.specs.declared.built.Built.{Built}
 use Rattle.im_compile.specs.Passed.{IsSource}
 use Rattle.im_compile.specs.Built.{IsBuilt}
-use Rattle.im_built_keeps.specs.Laws.{HasNumbers}
 use Rattle.im_driver.specs.Compiled.{IsTreeOf, IsProgramOf, IsCompiled}
 
 -- a checked program is its source's, and what compiling asks
 pub record IsReady (source : List ℕ) (prog : Prog) : Type 0 where
   pub program : IsProgramOf source (program_of prog)
   pub is_source : IsSource prog
-  pub numbers : HasNumbers prog
 
 abbrev pub ProgramLaw : Type 0
 ProgramLaw =

@@ -5,8 +5,7 @@ use im_plain_sizes::sizes_law;
 use im_rules::laws::typed_once_law;
 use im_spelt_sound::{spelt_law, words_law};
 
-/// What the checker gives of a source's tree is well typed, within limits, and its statics are
-/// numbers.
+/// What the checker gives of a source's tree is well typed and within limits.
 pub(crate) fn program_law()
     ensures { ProgramLaw }
 {

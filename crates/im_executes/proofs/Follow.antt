@@ -243,7 +243,7 @@ pub executes : SelectKeeps → WrittenLaw → SurvivesLaw → ImageLaw → Execu
 executes keeps written survives lives image input u g p fits code within objects rest = all keeps written survives lives image input u g p fits code within objects rest
 
 pub named : ShownLaw → WrittenLaw → ObjectsLaw
-named shown_law written image input u g p fits code within numbers are = record {
+named shown_law written image input u g p fits code within are = record {
   variables = λ j reason status output variables right s.
-      shown_law p u image.objects (run_of image input j).mem variables code.well_formed numbers are (bytes (memory_of image input) (written.loaded image input within.written fits).resumes j) right.1 s;
+      shown_law p u image.objects (run_of image input j).mem variables code.well_formed within.linked.statics are (bytes (memory_of image input) (written.loaded image input within.written fits).resumes j) right.1 s;
 }

@@ -4,7 +4,7 @@ use Rattle.im_image.specs.Contents.{ImageValue}
 use Rattle.im_block.specs.declared.unit.Unit.{Unit as Code}
 use Rattle.im_block.specs.Meaning.{Setting, statics_of}
 use Rattle.im_select.specs.Linking.{Linking}
-use Rattle.im_statics.specs.Named.{AreNamed, HaveNumbers}
+use Rattle.im_statics.specs.Named.{AreNamed}
 use Rattle.im_keeps.specs.Keeps.{IsInput}
 use Rattle.im_passes.specs.Machine.{Executes}
 use Rattle.im_passes.specs.Passes.{IsSelectable}
@@ -15,8 +15,8 @@ ExecutesLaw =
     (image : ImageValue) (input : List ℕ) (u : Code) (g : Setting) (p : Linking) →
     IsInput input → IsSelectable u → IsInImage image input u g p → ShowsObjects image input u p → HasLiveness image → Executes u g image input
 
--- where statics hold numbers alone, and objects are named as they are
+-- where objects are named as they are
 abbrev pub ObjectsLaw : Type 0
 ObjectsLaw =
     (image : ImageValue) (input : List ℕ) (u : Code) (g : Setting) (p : Linking) →
-    IsInput input → IsSelectable u → IsInImage image input u g p → HaveNumbers (statics_of u) → AreNamed p 0 (statics_of u) image.objects → ShowsObjects image input u p
+    IsInput input → IsSelectable u → IsInImage image input u g p → AreNamed p 0 (statics_of u) image.objects → ShowsObjects image input u p

@@ -17,7 +17,7 @@ pub fn executes_law()
     image_law();
 }
 
-/// Where statics hold no pointers, the image's objects show them.
+/// The image's objects show the statics.
 pub fn objects_law()
     ensures { ObjectsLaw }
 {

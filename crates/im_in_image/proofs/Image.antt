@@ -38,7 +38,7 @@ layout_there (l ∷ ls) zero h = (l, refl, refl)
 layout_there (l ∷ ls) (suc i) h = layout_there ls i (omega arith)
 
 pub selects : InImageLaw → NamedLaw → PackedLaw → ObjectsLaw → WordsLaw → SelectsLaw
-selects in_law named_law packed_law objects_law words_law u statics layouts parts code stack out_cap image is numbers executes = record {
+selects in_law named_law packed_law objects_law words_law u statics layouts parts code stack out_cap image is executes = record {
   frames_are = λ i f e.
       (let within = slice_get_within u.functions.items i f e in
       let count = is.layouts_are.count in
@@ -50,7 +50,7 @@ selects in_law named_law packed_law objects_law words_law u statics layouts part
       let p = linking_in u statics layouts parts code image input in
       let inside = in_law u statics layouts parts code stack out_cap image input is fits in
       let named = named_law u statics code stack out_cap image layouts parts input is.statics_are is.packed in
-      executes input fits selectable inside (objects_law image input u g p fits selectable inside numbers named));
+      executes input fits selectable inside (objects_law image input u g p fits selectable inside named));
   small = λ selectable.
       (let few = words_law u statics layouts parts is.program selectable.apart in
       let size = is.linked.size in

@@ -4,11 +4,9 @@ use Rattle.im_rv.specs.declared.code.Part.{Part}
 use Rattle.im_rv.specs.declared.code.Code.{Code as Linked}
 use Rattle.im_image.specs.Contents.{ImageValue, IsImage}
 use Rattle.im_block.specs.declared.unit.Unit.{Unit as Code}
-use Rattle.im_block.specs.Meaning.{statics_of}
 use Rattle.im_block.specs.Wellformed.{IsWellFormed}
 use Rattle.im_frame.specs.declared.layout.Layout.{Layout}
 use Rattle.im_addresses.specs.Addresses.{AreLayouts}
-use Rattle.im_statics.specs.Named.{HaveNumbers}
 use Rattle.im_link.specs.Code.{IsLinkable, IsLinked as IsLinkedCode}
 use Rattle.im_linked.specs.Program.{IsProgram}
 use Rattle.im_keeps.specs.Keeps.{IsInput}
@@ -50,4 +48,4 @@ AllExecute u statics layouts parts code image =
 abbrev pub SelectsLaw : Type 0
 SelectsLaw =
     (u : Code) (statics : List ℕ) (layouts : List Layout) (parts : List Part) (code : Linked) (stack out_cap : ℕ) (image : ImageValue) →
-    IsImageOf u statics layouts parts code stack out_cap image → HaveNumbers (statics_of u) → AllExecute u statics layouts parts code image → Selects u (frames_of layouts) image
+    IsImageOf u statics layouts parts code stack out_cap image → AllExecute u statics layouts parts code image → Selects u (frames_of layouts) image

@@ -39,6 +39,7 @@ linked u statics layouts parts program code place image g at size linkable is_li
     record {
       functions = λ i f e. function_at u statics layouts parts program code place image g at size linkable is_linked places loaded.code_there objects i f e;
       first = objects.first;
+      near = objects.near;
       statics = objects.statics_there;
       initial = objects.initial;
       stack = loaded.stack;

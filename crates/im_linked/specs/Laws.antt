@@ -1,5 +1,5 @@
 -- What linked parts are in memory.
-use Rattle.std.specs.Prelude.{◌≡◌, ◌≤◌, ◌<◌, ℕ, ◌+◌, List, [], length, Some, slice_get, slice_index}
+use Rattle.std.specs.Prelude.{◌≡◌, ◌≤◌, ◌<◌, ℕ, ◌+◌, ◌^◌, List, [], length, Some, slice_get, slice_index}
 use Rattle.im_num.specs.declared.kind.Kind.{Kind}
 use Rattle.im_num.specs.declared.values.Cause.{Cause}
 use Rattle.im_num.specs.declared.values.Cause.TheVariants.{Dep}
@@ -43,6 +43,7 @@ pub record HasObjects (u : Code) (statics : List ℕ) (layouts : List Layout) (p
   pub sizes : (i : ℕ) (l : Layout) → slice_get layouts i ≡ Some l → frame_of g i ≡ l.frame
   pub first : p.at Link ≡ 0
   pub addresses : (n : ℕ) → n < length statics → p.at (Named n) ≡ slice_index statics n
+  pub near : (n : ℕ) → p.at (Named n) + p.size (Named n) < 2 ^ 31
   pub statics_there : LaidOut p (static_shapes (statics_of u)) statics_start (statics_start + statics_capacity)
   pub initial : (a : Name) (sh : Shape) (i : ℕ) (k : Kind) → static_shapes (statics_of u) a ≡ Some sh → sh.cells i ≡ Some k → Means p (static_values (statics_of u) a i) (cell_word p.image k (p.at a + i))
 

@@ -1,4 +1,5 @@
 pub mod Front
 pub mod Labels
 pub mod Memory
+pub mod Near
 pub mod Objects

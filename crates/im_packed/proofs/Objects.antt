@@ -1,5 +1,5 @@
 -- Statics in memory, and the objects that name them.
-use Rattle.std.proofs.Common.{◌≡◌, ◌<◌, ◌≤◌, ℕ, zero, suc, ◌+◌, ◌-◌, ◌*◌, ◌%◌, ◌^◌, Bool, true, false, List, [], ◌∷◌, Option, Some, None, map, length, refl, sym, ap, ◌∙◌, subst, arith}
+use Rattle.std.proofs.Common.{◌≡◌, ◌<◌, ◌≤◌, ℕ, zero, suc, ◌+◌, ◌-◌, ◌*◌, ◌%◌, ◌^◌, Bool, true, false, List, [], ◌∷◌, Option, Some, None, inl, map, length, refl, sym, ap, ◌∙◌, subst, arith}
 use Rattle.std.specs.Prelude.{slice_get, slice_index, slice_index_or, if◌then◌else◌, ◌==◌}
 use Rattle.std.proofs.lemmas.Bool.{eqb-true}
 use Rattle.std.proofs.lemmas.Option.{slice_get_within}
@@ -38,6 +38,7 @@ use Rattle.im_pack.proofs.Whole.{is_static}
 use Rattle.im_packed.specs.Places.{linking_in}
 use Rattle.im_packed.specs.Laws.{AreStaticsAt, HoldsObjectsLaw, NamedLaw}
 use Rattle.im_packed.proofs.Memory.{statics_there}
+use Rattle.im_packed.proofs.Near.{near_within, near_both, near_frames}
 
 -- ---- the cell at an offset, and its first value
 
@@ -107,6 +108,11 @@ count_sizes : (ss : List StaticOf) → length (map (λ (x : StaticOf). x.object.
 count_sizes [] = refl
 count_sizes (s ∷ ss) = ap suc (count_sizes ss)
 
+slice_get_some : (ss : List StaticOf) (n : ℕ) → n < length ss → (s : StaticOf) × (slice_get ss n ≡ Some s)
+slice_get_some [] n h = absurd (omega arith)
+slice_get_some (s ∷ ss) zero h = (s, refl)
+slice_get_some (s ∷ ss) (suc n) h = slice_get_some ss n (omega arith)
+
 count_objects : (ss : List StaticOf) → length (objects_of ss) ≡ length ss
 count_objects [] = refl
 count_objects (s ∷ ss) = ap suc (count_objects ss)
@@ -151,7 +157,7 @@ module _ (u : Code) (statics : List ℕ) (layouts : List Layout) (p : Linking) (
       let b = ends_by object s e in
       let z = size_of object s e in
       let w = whole_word (slice_index statics object + offset) (omega arith) in
-      (w ∙ (let q : slice_index statics object + offset ≡ (0 + p.at (Named object) + offset) % 4294967296 = omega arith in q), omega arith)
+      (w ∙ (let q : slice_index statics object + offset ≡ (0 + p.at (Named object) + offset) % 4294967296 = omega arith in q), omega arith, inl (object, refl))
 
   value_means : (k : Kind) (v : Constant) → Suits u.statics.items k v → Means p (constant v) (extended (kind_size k) (extension_of k) (word_of statics v % 2 ^ (8 * kind_size k)))
   value_means k (Fixed z) h = loaded_wrap k z ∙ ap word (wrap-same k z h.1)
@@ -174,12 +180,27 @@ objects u statics layouts parts code stack out_cap image input well at layouts_a
   sizes = λ i l e. frame_at layouts i l e;
   first = refl;
   addresses = λ n h. index_left statics (joined places_of layouts) n h;
+  near = near;
   statics_there = laid u p at.room (λ n h. address_is u statics layouts p at (λ a. refl) (λ a. refl) n h ∙ ap (λ z. slice_index z n) at.places) (λ n h. size_there n h);
   initial = initial;
 }
   where
     p : Linking
     p = linking_in u statics layouts parts code image input
+
+    near : (n : ℕ) → p.at (Named n) + p.size (Named n) < 2 ^ 31
+    near n =
+        near_both statics (map (λ (s : StaticOf). s.object.size) u.statics.items) (joined places_of layouts) (joined sizes_of u.functions.items)
+        (count_sizes u.statics.items ∙ sym (count u statics layouts p at (λ a. refl) (λ a. refl)))
+        (near_within statics (map (λ (s : StaticOf). s.object.size) u.statics.items) (count_sizes u.statics.items ∙ sym (count u statics layouts p at (λ a. refl) (λ a. refl))) (λ k h. near_static k (omega (arith, count u statics layouts p at (λ a. refl) (λ a. refl)))))
+        (near_frames u.functions.items layouts layouts_are.count layouts_are.each) n
+      where
+        near_static : (k : ℕ) → k < length u.statics.items → slice_index statics k + slice_index (map (λ (s : StaticOf). s.object.size) u.statics.items) k < 2 ^ 31
+        near_static k h =
+            let s = slice_get_some u.statics.items k h in
+            let ends = ends_by u statics layouts p at (λ a. refl) (λ a. refl) k s.0 s.1 in
+            let size = size_is u.statics.items k s.0 s.1 in
+            omega arith
 
     frame_at : (ls : List Layout) (i : ℕ) (l : Layout) → slice_get ls i ≡ Some l → slice_index_or (map (λ (x : Layout). x.frame) ls) i 0 ≡ l.frame
     frame_at [] i l e = (let bad : None ≡ Some l = e in absurd cc)
@@ -225,7 +246,7 @@ named_from p n (s ∷ ss) [] at places c each = absurd (omega arith)
 named_from p n (s ∷ ss) (o ∷ os) at places c each =
     let one = each 0 s o refl refl in
     let zero_more : n + 0 ≡ n = omega arith in (
-      record { name = one.name; at = one.at_is ∙ sym (places 0 (omega arith)) ∙ ap (λ z. p.at (Named z)) zero_more; cells = one.cells },
+      record { name = one.name; at = one.at_is ∙ sym (places 0 (omega arith)) ∙ ap (λ z. p.at (Named z)) zero_more; size = one.size; cells = one.cells },
       named_from p (suc n) ss os (λ i. at (suc i)) (λ i h. let q : suc n + i ≡ n + suc i = omega arith in ap (λ z. p.at (Named z)) q ∙ places (suc i) (omega arith)) (omega arith) (λ i t r e g. each (suc i) t r e g),
     )
 

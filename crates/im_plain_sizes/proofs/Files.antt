@@ -1,35 +1,27 @@
 -- Sizes and statics of a plain unit.
-use Rattle.std.proofs.Common.{◌≡◌, ℕ, zero, suc, ◌+◌, ◌≤◌, List, [], ◌∷◌, ◌++◌, map, length, Option, Some, None, arith}
-use Rattle.std.specs.Prelude.{◌≢◌}
+use Rattle.std.proofs.Common.{◌≡◌, ℕ, ◌+◌, ◌≤◌, List, [], ◌∷◌, Option, Some, None, arith}
 use Rattle.im_word.specs.Words.{Name}
-use Rattle.im_num.specs.declared.kind.Kind.TheVariants.{Ptr}
 use Rattle.im_ctree.specs.Tree as t
-use Rattle.im_ctype.specs.declared.integer.Integer.{Integer}
-use Rattle.im_ctype.specs.declared.integer.Integer.TheVariants.{Char, SignedChar, UnsignedChar, Short, UnsignedShort, Int, UnsignedInt, Long, UnsignedLong}
-use Rattle.im_ctype.specs.Types.{CType, void, integer, pointer, array, unsized, struct, function, Structs, kind_of}
-use Rattle.im_ctype.specs.Layout.{layout, repeated, scalar_layout}
-use Rattle.im_store.specs.Statics.{StaticObject}
-use Rattle.im_typed.specs.Program.{Prog}
+use Rattle.im_ctype.specs.Types.{struct, function}
 use Rattle.im_rules.specs.Rules.{named_in}
-use Rattle.im_rules.specs.Scopes.{Entity, an_object, a_function, an_enumerator, a_typedef, static_object, local_object, meaning}
+use Rattle.im_rules.specs.Scopes.{an_object, local_object}
 use Rattle.im_rules.specs.Outline.{nearest}
 use Rattle.im_rules.specs.Context.{Context, in_new_scope}
 use Rattle.im_rules.specs.Declared.{Declared, tags_in, behind_specifiers, with_name, with_parameter, with_parameters, parameters_of}
 use Rattle.im_rules.specs.Breaks.{Node}
 use Rattle.im_rules.specs.Initialisers.{completed}
 use Rattle.im_rules.specs.Statements.{name_of as name_in}
-use Rattle.im_rules.specs.FileScope.{FilePlace, of_the_file, object_type, own_parameters}
-use Rattle.im_rules.specs.TypedUnit.{FirstValues, TypedUnit, of_unit, past_head, layout_of_type, static_named, string_statics}
+use Rattle.im_rules.specs.FileScope.{FilePlace, of_the_file, own_parameters}
+use Rattle.im_rules.specs.TypedUnit.{past_head}
 use Rattle.im_rules.specs.UnitBreaks.{FileNode, FilePart, FileInner}
 use Rattle.im_rules.specs.UnitBreaks as b
 use Rattle.im_rule_limits.specs.Limits.{size_limit, FileSized, of_struct, of_static, size_in_file_part, size_in_file_inner, size_in_static_initialiser, size_in_body, Exceeds, of_size, too_large}
 use Rattle.im_plain.specs.Plain.{or_else, other_maybe, other_listed, other_enumerators, other_declarator, other_declared, other_specifiers, other_external, other_unit, other_block, IsPlain}
 use Rattle.im_plain_laws.proofs.Empty.{first_none, second_none}
-use Rattle.im_statics.specs.Named.{AreNumbers, HaveNumbers}
-use Rattle.im_plain_sizes.proofs.Types.{IsPlainType, IsPlainEntity, HasPlainTypedefs, IsPlainTypedef, WhereSome, meant, typedefs-plain, other_of, listed-named, tags-plain, IsPlainDeclarator, declarator-plain, declares-plain, completed-plain, plain-small}
+use Rattle.im_plain_sizes.proofs.Types.{IsPlainType, HasPlainTypedefs, IsPlainTypedef, typedefs-plain, other_of, listed-named, tags-plain, IsPlainDeclarator, declarator-plain, declares-plain, completed-plain, plain-small}
 use Rattle.im_plain_sizes.proofs.Nodes.{IsPlainNode, none-sized, none-given}
 use Rattle.im_plain_sizes.proofs.Bodies.{body-small}
-use Rattle.im_plain_sizes.proofs.Places.{IsPlainPlace, specify-plain, entity-plain, declarator-first, given-first, declared-rest, specifiers-listed, external-kept, externals-kept, start-plain}
+use Rattle.im_plain_sizes.proofs.Places.{IsPlainPlace, specify-plain, entity-plain, declarator-first, given-first, declared-rest, specifiers-listed, external-kept, start-plain}
 
 abbrev IsPlainFile : FileNode → Type 0
 IsPlainFile (b.some_externals u) = other_unit u ≡ None
@@ -120,50 +112,3 @@ file-small (size_in_body {g = g} {at = at} {at' = at'} {xs = xs} {d = d} {is = i
 
 pub no-size : (u : t.Tree) → IsPlain u → (n : ℕ) → Exceeds u of_size n → ⊥
 no-size u p n (too_large z more) = omega (arith, more, file-small z (start-plain u) p)
-
--- statics
-
-integer-number : (i : Integer) → kind_of i ≢ Ptr
-integer-number Char = λ e. absurd cc
-integer-number SignedChar = λ e. absurd cc
-integer-number UnsignedChar = λ e. absurd cc
-integer-number Short = λ e. absurd cc
-integer-number UnsignedShort = λ e. absurd cc
-integer-number Int = λ e. absurd cc
-integer-number UnsignedInt = λ e. absurd cc
-integer-number Long = λ e. absurd cc
-integer-number UnsignedLong = λ e. absurd cc
-
-type-numbers : (known : Structs) (a : CType) → IsPlainType a → AreNumbers (layout known a).cells
-type-numbers known void h = tt
-type-numbers known (integer i) h = (integer-number i, tt)
-type-numbers known (function r ps) h = tt
-type-numbers known (pointer c a) h = absurd h
-type-numbers known (array a n) h = absurd h
-type-numbers known (unsized a) h = absurd h
-type-numbers known (struct n) h = absurd h
-
-meant-numbers : (known : Structs) (m : Option Entity) → WhereSome IsPlainEntity m → AreNumbers (layout_of_type known (object_type m)).cells
-meant-numbers known None h = tt
-meant-numbers known (Some (an_object c a (static_object n))) h = type-numbers known a h
-meant-numbers known (Some (an_object c a (local_object n))) h = absurd h
-meant-numbers known (Some (a_function f a)) h = tt
-meant-numbers known (Some (an_enumerator z)) h = tt
-meant-numbers known (Some (a_typedef c a)) h = tt
-
-bytes-numbers : (at n : ℕ) → AreNumbers (repeated at n (scalar_layout (kind_of Char)))
-bytes-numbers at zero = tt
-bytes-numbers at (suc n) = (integer-number Char, bytes-numbers (at + 1) n)
-
-strings-numbers : (known : Structs) (k : ℕ) (ss : List Name) → HaveNumbers (string_statics known k ss)
-strings-numbers known k [] = tt
-strings-numbers known k (s ∷ ss) = (bytes-numbers 0 (length s + 1), strings-numbers known (k + 1) ss)
-
-objects-numbers : (e : FilePlace) (gs : List FirstValues) (xs : List Name) (rest : List StaticObject) → IsPlainPlace e → HaveNumbers rest → HaveNumbers (map (static_named e gs) xs ++ rest)
-objects-numbers e gs [] rest h r = r
-objects-numbers e gs (x ∷ xs) rest h r =
-    (meant-numbers e.context.known (meaning e.context.scopes x) (meant IsPlainEntity e.context.scopes x h), objects-numbers e gs xs rest h r)
-
-pub numbers : (u : t.Tree) (g : Prog) → IsPlain u → TypedUnit u g → HaveNumbers g.statics
-numbers u g p (of_unit {e = e} {gs = gs} d m) =
-    objects-numbers e gs e.context.unit.statics (string_statics e.context.known 1 e.strings) (externals-kept d (start-plain u) p) (strings-numbers e.context.known 1 e.strings)

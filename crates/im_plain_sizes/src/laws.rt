@@ -1,8 +1,7 @@
 //! What a plain tree's types come to. The law is a function with an empty body, whose contract says it.
-ghost use Rattle.im_plain_sizes.specs.Laws.{NumbersLaw, SizesLaw};
+ghost use Rattle.im_plain_sizes.specs.Laws.{SizesLaw};
 
-/// A plain tree exceeds no size, and the statics of its program are numbers.
+/// A plain tree exceeds no size.
 pub fn sizes_law()
-    ensures sizes { SizesLaw }
-    ensures numbers { NumbersLaw }
+    ensures { SizesLaw }
 {}

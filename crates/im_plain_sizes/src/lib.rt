@@ -1,4 +1,4 @@
-//! From plain trees to the sizes of their types, and the cells of their statics.
+//! From plain trees to the sizes of their types.
 #![tactic(auto)]
 
 mod laws;

@@ -104,7 +104,7 @@ ptr_back k w e = ap (λ z. back_word z w) e
 pub means_word : (p : Linking) (v : Value) (w : ℕ) → Means p v w → Means p v (w % 2 ^ 32)
 means_word p (Number z) w m = (let e : w % 2 ^ 32 ≡ w = (let s = Rattle.im_operators.proofs.Words.word_small z in let a = m in omega (arith, a)) in e ∙ m)
 means_word p Null w m = let a = m in omega (arith, a)
-means_word p (Pointer o i) w m = (let a = m.0 in omega (arith, a), m.1)
+means_word p (Pointer o i) w m = (let a = m.0 in omega (arith, a), m.1, m.2)
 means_word p Unset w m = tt
 
 -- what a cell takes of a value, and of its word

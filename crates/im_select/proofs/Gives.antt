@@ -17,10 +17,10 @@ use Rattle.im_reach.proofs.Reach.{plus_is, join, puts, loads, stores, data_load,
 use Rattle.im_reach.proofs.Orderly.{load_orderly, store_orderly}
 use Rattle.im_operators.specs.Tables.{load_op, store_op, extension_of, cell_word}
 use Rattle.im_store.specs.Checks.{Checked, Fine}
-use Rattle.im_store.specs.Objects.{Link, Object, Value, Pointer, Store}
+use Rattle.im_store.specs.Objects.{Link, Object, Value, Store}
 use Rattle.im_block.specs.declared.code.Line.{Line}
 use Rattle.im_block.specs.declared.unit.Unit.{Unit as Code}
-use Rattle.im_block.specs.Meaning.{Setting, Site, State, Reads, Writes, Found, Left, with_register, with_rest, computes, reads, writes}
+use Rattle.im_block.specs.Meaning.{Setting, Site, State, Reads, Writes, Location, Found, Left, with_register, with_rest, computes, reads, writes}
 use Rattle.im_select.specs.Linking.{Linking, pointer_at, frame_of, limit_of, address, Means}
 use Rattle.im_select.specs.Selected.{Stands}
 use Rattle.im_select.specs.Law.{Touches, Nothing, Reading, Writing}
@@ -112,12 +112,16 @@ store_row U32 pc a b imm = refl
 store_row Ptr pc a b imm = refl
 
 -- a live cell at the place that a register and an immediate make
-found_at : (p : Linking) (o : Object) (i : ℕ) (k : Kind) (w : ℕ) → Room p o i k → Means p (Pointer o i) w → w ≡ address p o + i
-found_at p o i k w rm mean = let a = mean.0 in let h = rm.high in omega arith
+-- the word is the place's address
+abbrev pub Lands : Linking → Location → ℕ → Type 0
+Lands p l w = w ≡ sum_of (address p l.object) l.offset
+
+found_at : (p : Linking) (l : Location) (k : Kind) (w : ℕ) → Room p l.object l.offset k → Lands p l w → w ≡ address p l.object + l.offset
+found_at p l k w rm lands = let a = lands in let h = rm.high in omega arith
 
 -- what is known of what a line finds
 pub record Finds (p : Linking) (store : Store) (w : ℕ) (k : Kind) (f : Found) : Type 0 where
-  pub means : Means p (Pointer f.at.object f.at.offset) w
+  pub lands : Lands p f.at w
   pub read : ReadOf p store f.at.object f.at.offset k f.value
 
 -- a line that reads
@@ -129,7 +133,7 @@ reads_after p u g s c m r to w base imm next k site o rest six size b h code fin
     let i : ℕ = f.at.offset in
     let cell = q.read.cell in
     let rm = room p s.store.shape _ ob i k r.mapped cell in
-    let at : sum_of (b.y base) imm ≡ address p ob + i = b.sum ∙ found_at p ob i k w rm q.means in
+    let at : sum_of (b.y base) imm ≡ address p ob + i = b.sum ∙ found_at p f.at k w rm q.lands in
     let word : ℕ = cell_word m k (address p ob + i) in
     let step = loads p.image m next b.y (with_immediate (load_op k) to base imm) (address p ob + i) (kind_size k) (extension_of k) r.fixed h (load_row k next (b.y base) (b.y 0) imm ∙ ap (λ a. Loads a (kind_size k) (extension_of k)) at) rm.place (data_load (in_runtime next) (address p ob + i) (kind_size k) (let z = rm.low in omega arith)) in
     let t : Touches p (Reads site s.frame.active ob i ∷ []) (Loaded (address p ob + i) (kind_size k) ∷ []) = subst (λ z. Touches p (Reads site s.frame.active ob i ∷ []) (Loaded (address p ob + i) z ∷ [])) size (Reading site s.frame.active ob i [] [] Nothing) in
@@ -149,7 +153,7 @@ reads_after p u g s c m r to w base imm next k site o rest six size b h code fin
 
 -- what is known of what a line leaves
 pub record Leaves_ (p : Linking) (store : Store) (w x : ℕ) (k : Kind) (l : Left) : Type 0 where
-  pub means : Means p (Pointer l.at.object l.at.offset) w
+  pub lands : Lands p l.at w
   pub taken : Value
   pub value : Means p taken (back_word k x)
   pub write : WriteOf p store l.at.object l.at.offset k taken l.store
@@ -163,7 +167,7 @@ writes_after p u g at0 s c m r from w base imm next k site o rest no5 size b h c
     let i : ℕ = l.at.offset in
     let cell = q.write.cell in
     let rm = room p s.store.shape _ ob i k r.mapped cell in
-    let at : sum_of (b.y base) imm ≡ address p ob + i = b.sum ∙ found_at p ob i k w rm q.means in
+    let at : sum_of (b.y base) imm ≡ address p ob + i = b.sum ∙ found_at p l.at k w rm q.lands in
     let k' : Mem = written m (address p ob + i) (bytes_of (kind_size k) (b.y from)) in
     let top : address p ob + i + kind_size k ≤ 3145728 = (let z = rm.high in omega arith) in
     let step = stores p.image m next b.y (storing (store_op k) base from imm) (address p ob + i) (kind_size k) (b.y from) r.fixed h (store_row k next (b.y base) (b.y from) imm ∙ ap (λ a. Stores a (kind_size k) (b.y from)) at) rm.place (output_written m (address p ob + i) (kind_size k) (b.y from) rm.low top) (data_store (in_runtime next) (address p ob + i) (kind_size k) rm.low) in

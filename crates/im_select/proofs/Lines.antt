@@ -54,7 +54,7 @@ use Rattle.im_select.proofs.Places.{Ready, means_mod, displaced, based}
 use Rattle.im_select.proofs.Operators.{Converts as Converted_, numbers_mean, truths_mean, converted_word, computed_row, condition_word, zero_test}
 use Rattle.im_select.proofs.Pointers.{in_use, places_word, moved_means, moved_word, distance_means}
 use Rattle.im_select.proofs.Computing.{gave_weak, gave_constant, gave_compared, gave_converted, gave_moved, gave_distance}
-use Rattle.im_select.proofs.Gives.{gave_one, gave_more, computes_after, reads_after, writes_after}
+use Rattle.im_select.proofs.Gives.{Lands, gave_one, gave_more, computes_after, reads_after, writes_after}
 
 pub after_more : (p : Linking) (u : Code) (g : Setting) (words more : ℕ) (c : Cpu) (m : Mem) (next : Next) → words ≤ more → After p u g words c m next → After p u g more c m next
 after_more p u g words more c m (Goes s events) le a = record { n = a.n; some = a.some; few = (let z = a.few in omega arith); d = a.d; k = a.k; ts = a.ts; touches = a.touches; orderly = a.orderly; reach = a.reach; rel = a.rel }
@@ -86,8 +86,8 @@ compared_word p store frames op k v w x y b (inr h) m e mv mw =
     ap number_as (s ∙ ap (λ q. outcome (word_less q) op x y) (sym h))
 
 -- where a slot lies
-slot_means : (p : Linking) (by : Active) (slot w : ℕ) (x : ℕ → ℕ) → 0 < by.number → x 2 ≡ pointer_at by.depth → sum_of (x 2) (p.at (Slot slot)) ≡ w → Means p (Pointer (object_of by (Slot slot)) 0) w
-slot_means p by slot w x some sp e = (let b = base_frame (object_of by (Slot slot)) by.number by.depth refl some refl in omega arith, omega arith)
+slot_lands : (p : Linking) (by : Active) (slot w : ℕ) (x : ℕ → ℕ) → 0 < by.number → x 2 ≡ pointer_at by.depth → sum_of (x 2) (p.at (Slot slot)) ≡ w → Lands p (record { object = object_of by (Slot slot); offset = 0 }) w
+slot_lands p by slot w x some sp e = let b = base_frame (object_of by (Slot slot)) by.number by.depth refl some refl in omega arith
 
 -- what a routine leaves of the state
 routine_rel : (p : Linking) (u : Code) (g : Setting) → p.at Link ≡ 0 → (s : State) (c : Cpu) (m : Mem) (r : Rel p u g s c m) (pc back : ℕ) (x : ℕ → ℕ) (output input : List ℕ) (d : Done (runtime p g) m pc x back output input) (rest : List Line) (registers : ℕ → Value) (fuel : ℕ) (output' input' : List ℕ) → output ≡ output' → input ≡ input' → Stands p s.frame.function (frame_of g s.frame.function) back rest s.frame.spot.exit → RegsMean p registers (pointer_at s.frame.active.depth) d.y → Rel p u g (record s { frame = record (with_rest s.frame rest) { registers = registers }; fuel = fuel; output = output'; input = input' }) (record { pc = back; x = d.y }) d.k
@@ -238,14 +238,14 @@ cut_line p u g l s c m r cause rest en imm entry lands h code =
 record SlotAt (p : Linking) (u : Code) (g : Setting) (s : State) (c : Cpu) (m : Mem) (slot base imm next : ℕ) : Type 0 where
   w : ℕ
   ready : Ready p s.frame.registers (pointer_at s.frame.active.depth) m c.pc c.x w base imm next
-  means : Means p (Pointer (object_of s.frame.active (Slot slot)) 0) w
+  lands : Lands p (record { object = object_of s.frame.active (Slot slot); offset = 0 }) w
   shaped : (sh : Shape) → s.store.shape (object_of s.frame.active (Slot slot)) ≡ Some sh → sh ≡ slot_shape
 
 slot_at : (p : Linking) (u : Code) (g : Setting) (s : State) (c : Cpu) (m : Mem) (r : Rel p u g s c m) (slot base imm next : ℕ) → Displaced p c.pc 2 (p.at (Slot slot)) base imm next → SlotAt p u g s c m slot base imm next
 slot_at p u g s c m r slot base imm next d = record {
   w = sum_of (c.x 2) (p.at (Slot slot));
   ready = displaced p s.frame.registers (pointer_at s.frame.active.depth) m c.pc c.x 2 (p.at (Slot slot)) base imm next r.fixed r.regs (omega arith) d;
-  means = slot_means p s.frame.active slot _ c.x r.linked.0 r.regs.stack refl;
+  lands = slot_lands p s.frame.active slot _ c.x r.linked.0 r.regs.stack refl;
   shaped = λ sh h. r.slots (object_of s.frame.active (Slot slot)) slot sh refl h;
 }
 
@@ -339,30 +339,30 @@ line_after p u g l s c m r line rest next (Measures to size left right mid home 
     (λ v e. numbers_mean p (distance_of s.store size (s.frame.registers left) (s.frame.registers right)) v _ e (λ z f.
     distance_means p s.store _ size (s.frame.registers left) (s.frame.registers right) (c.x left) (c.x right) z some small r.mapped f (r.regs.homes left a.0) (r.regs.homes right b.0)))
 line_after p u g l s c m r line rest next (Addresses to place base imm mid home based_ h) code =
-    let b = based p s.frame.registers s.frame.active s.store _ m c.pc c.x place base imm mid r.linked.0 r.fixed r.mapped r.regs based_ in
+    let b = based p s.frame.registers s.frame.active s.store _ m c.pc c.x place base imm mid (let d = r.ordered.0 in let q = l.at.stack in omega arith) l.at.near r.linked.0 r.fixed r.mapped r.regs based_ in
     let y = b.ready in
     computes_after p u g s c m r 3 to b.w (mid + 4) (place_of place s.frame.active s.frame.registers s.store) rest home.0
     (gave_more p.image m c.pc mid c.x y.y y.n 2 (with_immediate Addi to base imm) b.w y.few (let q = home.0 in omega arith) r.fixed y.reach (λ i ne n5 n6. y.kept i n5) h (ap (λ z. Puts z (sum_of mid 4)) y.sum) refl) code
     b.means
 line_after p u g l s c m r line rest next (Fetches to place kind access base imm mid home based_ h) code =
-    let b = based p s.frame.registers s.frame.active s.store _ m c.pc c.x place base imm mid r.linked.0 r.fixed r.mapped r.regs based_ in
+    let b = based p s.frame.registers s.frame.active s.store _ m c.pc c.x place base imm mid (let d = r.ordered.0 in let q = l.at.stack in omega arith) l.at.near r.linked.0 r.fixed r.mapped r.regs based_ in
     reads_after p u g s c m r to b.w base imm mid kind (site_of access kind) (read_place place kind s.frame.active s.frame.registers s.store) rest home.0 refl b.ready h code
-    (λ f e. let q = read_place_fine p place kind s.frame.active s.frame.registers s.store f e in record { means = b.means (Pointer f.at.object f.at.offset) q.place_is; read = q.read })
+    (λ f e. let q = read_place_fine p place kind s.frame.active s.frame.registers s.store f e in record { lands = (b.means (Pointer f.at.object f.at.offset) q.place_is).0; read = q.read })
 line_after p u g l s c m r line rest next (Keeps place kind from access base imm mid home based_ h) code =
-    let b = based p s.frame.registers s.frame.active s.store _ m c.pc c.x place base imm mid r.linked.0 r.fixed r.mapped r.regs based_ in
+    let b = based p s.frame.registers s.frame.active s.store _ m c.pc c.x place base imm mid (let d = r.ordered.0 in let q = l.at.stack in omega arith) l.at.near r.linked.0 r.fixed r.mapped r.regs based_ in
     writes_after p u g l.at.first s c m r from b.w base imm mid kind (site_of access kind) (write_place place kind (s.frame.registers from) s.frame.active s.frame.registers s.store) rest (let q = home.0 in omega arith) refl b.ready h code
     (λ f e. let q = write_place_fine p place kind (s.frame.registers from) s.frame.active s.frame.registers s.store f e in
-    record { means = b.means (Pointer f.at.object f.at.offset) q.place_is; taken = q.taken; value = stored_means p kind (s.frame.registers from) q.taken (c.x from) q.taken_is (r.regs.homes from home.0); write = q.write })
+    record { lands = (b.means (Pointer f.at.object f.at.offset) q.place_is).0; taken = q.taken; value = stored_means p kind (s.frame.registers from) q.taken (c.x from) q.taken_is (r.regs.homes from home.0); write = q.write })
 line_after p u g l s c m r line rest next (Reloads to slot access base imm mid home d h) code =
     let b = slot_at p u g s c m r slot base imm mid d in
     reads_after p u g s c m r to b.w base imm mid U32 (slot_site access slot) (read_slot (slot_of slot s.frame.active) s.store) rest home.0 refl b.ready h code
     (λ f e. let q = read_slot_fine p (slot_of slot s.frame.active) s.store f b.shaped refl e in
-    record { means = subst (λ (z : Location). Means p (Pointer z.object z.offset) b.w) (sym q.0) b.means; read = q.1 })
+    record { lands = subst (λ (z : Location). Lands p z b.w) (sym q.0) b.lands; read = q.1 })
 line_after p u g l s c m r line rest next (Spills slot from access base imm mid home d h) code =
     let b = slot_at p u g s c m r slot base imm mid d in
     writes_after p u g l.at.first s c m r from b.w base imm mid U32 (slot_site access slot) (write_slot (slot_of slot s.frame.active) (s.frame.registers from) s.store) rest (let q = home.0 in omega arith) refl b.ready h code
     (λ f e. let q = write_slot_fine p (slot_of slot s.frame.active) (s.frame.registers from) s.store f b.shaped refl e in
-    record { means = subst (λ (z : Location). Means p (Pointer z.object z.offset) b.w) (sym q.0) b.means; taken = s.frame.registers from; value = means_word p (s.frame.registers from) (c.x from) (r.regs.homes from home.0); write = q.1 })
+    record { lands = subst (λ (z : Location). Lands p z b.w) (sym q.0) b.lands; taken = s.frame.registers from; value = means_word p (s.frame.registers from) (c.x from) (r.regs.homes from home.0); write = q.1 })
 line_after p u g l s c m r line rest next (Cuts_ cause e imm entry lands h) code = cut_line p u g l s c m r cause rest e imm entry lands h code
 line_after p u g l s c m r line rest next (Calls i count imm lands h) code = after_more p u g 10 12 c m _ (omega arith) (call_after p u g l s c m r i count imm rest lands h code)
 line_after p u g l s c m r line rest next (Gets imm lands h) code = after_more p u g (p.longest + 1) (2 + p.longest) c m _ (omega arith) (get_line p u g l s c m r rest imm lands h code)

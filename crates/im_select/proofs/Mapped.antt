@@ -6,7 +6,7 @@ use Rattle.im_num.specs.declared.kind.Kind.{Kind}
 use Rattle.im_num.specs.Kinds.{kind_size}
 use Rattle.im_store.specs.Objects.{Name, Object, Shape, shape_with, shape_without}
 use Rattle.im_block.specs.Meaning.{Frame}
-use Rattle.im_select.specs.Linking.{Linking, pointer_at, base_of, address, HasCells, LaidOut}
+use Rattle.im_select.specs.Linking.{Linking, pointer_at, base_of, address, IsPlaced, HasCells, LaidOut}
 
 -- an activation, and the bytes of stack in use with its frame
 pub record Mark : Type 0 where
@@ -36,6 +36,7 @@ pub record Lies (p : Linking) (o : Object) (sh : Shape) (frames : List Mark) : T
   pub high : address p o + sh.size < 3145728
   pub even : address p o % 4 ≡ 0
   pub sized : p.size o.name ≡ sh.size
+  pub placed : IsPlaced p o
   pub cells : HasCells sh
 
 abbrev pub Apart : Linking → Object → Shape → Object → Shape → Type 0
@@ -142,6 +143,7 @@ mapped_enter p shape ws w objects depth a size m u is room even some l has = rec
           high = omega arith;
           even = omega arith;
           sized = l.sized o.name sh z;
+          placed = inr (omega arith, omega arith, (let s = l.sized o.name sh z in omega arith));
           cells = has o.name sh z;
         }
 
@@ -152,6 +154,7 @@ mapped_enter p shape ws w objects depth a size m u is room even some l has = rec
       high = k.high;
       even = k.even;
       sized = k.sized;
+      placed = k.placed;
       cells = k.cells;
     }
 
@@ -183,6 +186,7 @@ mapped_leave p shape w ws m = record {
     high = l.high;
     even = l.even;
     sized = l.sized;
+    placed = l.placed;
     cells = l.cells;
   };
   apart = λ o sh q th h k. m.apart o sh q th (closed shape w.activation o sh h).1 (closed shape w.activation q th k).1;

@@ -22,7 +22,7 @@ use Rattle.im_select.proofs.Checks.{fine_is}
 pub means_mod : (p : Linking) (v : Value) (w : ℕ) → Means p v w → Means p v (sum_of w 0)
 means_mod p (Number z) w m = (let e : sum_of w 0 ≡ w = (let s = word_small z in let a = m in omega (arith, a)) in e ∙ m)
 means_mod p Null w m = let a = m in omega (arith, a)
-means_mod p (Pointer o i) w m = (let a = m.0 in omega (arith, a), m.1)
+means_mod p (Pointer o i) w m = (let a = m.0 in omega (arith, a), m.1, m.2)
 means_mod p Unset w m = tt
 
 -- a place so many bytes behind another
@@ -78,8 +78,8 @@ pub record ReadyAt (p : Linking) (registers : ℕ → Value) (by : Active) (stor
   pub ready : Ready p registers (pointer_at by.depth) m pc x w base imm next
   pub means : (v : Value) → place_of place by registers store ≡ Fine v → Means p v w
 
-pub based : (p : Linking) (registers : ℕ → Value) (by : Active) (store : Store) (frames : List Mark) (m : Mem) (pc : ℕ) (x : ℕ → ℕ) (place : Place) (base imm next : ℕ) → 0 < by.number → Fixed p.image m → Mapped p store.shape frames → RegsMean p registers (pointer_at by.depth) x → Based p pc place base imm next → ReadyAt p registers by store m pc x place base imm next
-based p registers by store frames m pc x place base imm next some fixed mapped regs (InFrame object offset base' imm' next' d) =
+pub based : (p : Linking) (registers : ℕ → Value) (by : Active) (store : Store) (frames : List Mark) (m : Mem) (pc : ℕ) (x : ℕ → ℕ) (place : Place) (base imm next : ℕ) → by.depth ≤ 1048576 → ((n : ℕ) → p.at (Named n) + p.size (Named n) < 2 ^ 31) → 0 < by.number → Fixed p.image m → Mapped p store.shape frames → RegsMean p registers (pointer_at by.depth) x → Based p pc place base imm next → ReadyAt p registers by store m pc x place base imm next
+based p registers by store frames m pc x place base imm next deep near some fixed mapped regs (InFrame object offset base' imm' next' d) =
     let o = object_of by (Named object) in
     let b = base_frame o by.number by.depth refl some refl in
     let s = regs.stack in
@@ -87,9 +87,9 @@ based p registers by store frames m pc x place base imm next some fixed mapped r
     record {
       w = sum_of (x 2) (p.at (Named object) + offset);
       ready = displaced p registers (pointer_at by.depth) m pc x 2 (p.at (Named object) + offset) base' imm' next' fixed regs (omega arith) d;
-      means = λ v f. subst (λ z. Means p v z) e (further_means p store frames offset (Pointer o 0) v (sum_of (address p o) 0) mapped f (refl, omega arith));
+      means = λ v f. subst (λ z. Means p v z) e (further_means p store frames offset (Pointer o 0) v (sum_of (address p o) 0) mapped f (refl, omega arith, inr (some, omega arith, (let n = near object in omega arith))));
     }
-based p registers by store frames m pc x place base imm next some fixed mapped regs (InStatic object offset hi lo split h) =
+based p registers by store frames m pc x place base imm next deep near some fixed mapped regs (InStatic object offset hi lo split h) =
     let o = static object in
     let b = base_static o refl in
     let a : ℕ = hi * 4096 % 2 ^ 32 in
@@ -107,9 +107,9 @@ based p registers by store frames m pc x place base imm next some fixed mapped r
         kept = λ i ne. other_reg x 5 a i ne;
         sum = refl;
       };
-      means = λ v q. subst (λ z. Means p v z) e (further_means p store frames offset (Pointer o 0) v (sum_of (address p o) 0) mapped q (refl, omega arith));
+      means = λ v q. subst (λ z. Means p v z) e (further_means p store frames offset (Pointer o 0) v (sum_of (address p o) 0) mapped q (refl, omega arith, inl (object, refl)));
     }
-based p registers by store frames m pc x place base imm next some fixed mapped regs (Behind r offset base' imm' next' home d) = record {
+based p registers by store frames m pc x place base imm next deep near some fixed mapped regs (Behind r offset base' imm' next' home d) = record {
   w = sum_of (x r) offset;
   ready = displaced p registers (pointer_at by.depth) m pc x r offset base' imm' next' fixed regs (let q = home.0 in omega arith) d;
   means = λ v f. further_means p store frames offset (registers r) v (x r) mapped f (regs.homes r home.0);

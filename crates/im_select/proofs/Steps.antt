@@ -19,7 +19,7 @@ use Rattle.im_reach.specs.Instructions.{jumping}
 use Rattle.im_reach.proofs.Reach.{plus_is, no_back, leaps, begins_trans, before_or_after}
 use Rattle.im_reach.proofs.Orderly.{joined}
 use Rattle.im_operators.specs.Tables.{cell_word}
-use Rattle.im_store.specs.Objects.{Object, Value, Unset, Shape}
+use Rattle.im_store.specs.Objects.{Name, Named, Slot, Link, Object, static, Value, Unset, Shape}
 use Rattle.im_store.specs.Outcomes.{Outcome, Undef, More, End, IsDefined}
 use Rattle.im_store.specs.Statics.{static_shapes, static_values, with_statics}
 use Rattle.im_block.specs.declared.code.Line.{Line}
@@ -242,6 +242,14 @@ static_lies u o sh e = by (o.activation == 0) (o.depth == 0) refl refl e
     by true false x y h = absurd cc
     by false b x y h = absurd cc
 
+static_placed : (u : Code) (o : Object) (sh : Shape) → StaticLies u o sh → (n : ℕ) × (o ≡ static n)
+static_placed u o sh k = by o.name refl k.there
+  where
+    by : (a : Name) → o.name ≡ a → static_shapes (statics_of u) a ≡ Some sh → (n : ℕ) × (o ≡ static n)
+    by (Named n) e h = (n, object_is o (static n) k.activation k.depth e)
+    by (Slot n) e h = absurd cc
+    by Link e h = absurd cc
+
 mapped_first : (p : Linking) (u : Code) (g : Setting) → Premises p u g → Mapped p (with_statics (statics_of u)).shape []
 mapped_first p u g l = record {
   lies = λ o sh h.
@@ -256,6 +264,7 @@ mapped_first p u g l = record {
         high = omega arith;
         even = omega arith;
         sized = l.at.statics.sized o.name sh k.there;
+        placed = inl (static_placed u o sh k);
         cells = l.static_cells o.name sh k.there;
       };
   apart = λ o sh q th h k.

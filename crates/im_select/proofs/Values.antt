@@ -99,7 +99,7 @@ within_means p store frames o (pos i) v w m e h =
     let k = reached store.shape o i f.0 in
     let s = (m.lies o k.sh k.live).sized in
     let t = k.fits in
-    means_at p (Pointer o i) v w w (sym f.1) refl (h i refl, omega arith)
+    means_at p (Pointer o i) v w w (sym f.1) refl (h i refl, omega arith, (m.lies o k.sh k.live).placed)
 
 pub bool_means : (p : Linking) (b c : Bool) → c ≡ b → Means p (Number (pos (as_number b))) (as_number c)
 bool_means p true c e = ap as_number e ∙ sym (word_of 1 (omega arith))

@@ -1,5 +1,5 @@
 -- Where placed code lies as instructions, by static facts alone: functions, statics, routines, the lines that begin and end.
-use Rattle.std.specs.Prelude.{◌≡◌, ◌≤◌, ℕ, ◌+◌, ◌%◌, [], Some, slice_get}
+use Rattle.std.specs.Prelude.{◌≡◌, ◌<◌, ◌≤◌, ℕ, ◌+◌, ◌%◌, ◌^◌, [], Some, slice_get}
 use Rattle.im_num.specs.declared.kind.Kind.{Kind}
 use Rattle.im_mem.specs.Map.{statics_start, statics_capacity, stack_capacity, status_at, reason_at}
 use Rattle.im_rv.specs.declared.instr.Op.TheVariants.{Sw, Addi, Ebreak}
@@ -7,7 +7,7 @@ use Rattle.im_rv.specs.Steps.{sum_of}
 use Rattle.im_reach.specs.Shown.{shown, left}
 use Rattle.im_reach.specs.Instructions.{Holds, with_immediate, storing, jumping}
 use Rattle.im_reach.specs.Routines.{Words, PutsAt, GetsAt, SavesAt}
-use Rattle.im_store.specs.Objects.{Name, Link, Shape}
+use Rattle.im_store.specs.Objects.{Name, Named, Link, Shape}
 use Rattle.im_block.specs.declared.code.Block.{Block}
 use Rattle.im_block.specs.declared.unit.Registers.TheVariants.{Machine}
 use Rattle.im_block.specs.declared.unit.Function.{Function}
@@ -31,6 +31,8 @@ pub record FunctionAt (p : Linking) (g : Setting) (i : ℕ) (f : Function) : Typ
 pub record IsLinked (p : Linking) (u : Code) (g : Setting) : Type 0 where
   pub functions : (i : ℕ) (f : Function) → slice_get u.functions.items i ≡ Some f → FunctionAt p g i f
   pub first : p.at Link ≡ 0
+  -- no object reaches far behind where it lies
+  pub near : (n : ℕ) → p.at (Named n) + p.size (Named n) < 2 ^ 31
   pub statics : LaidOut p (static_shapes (statics_of u)) statics_start (statics_start + statics_capacity)
   pub initial : (a : Name) (sh : Shape) (i : ℕ) (k : Kind) → static_shapes (statics_of u) a ≡ Some sh → sh.cells i ≡ Some k → Means p (static_values (statics_of u) a i) (cell_word p.image k (p.at a + i))
   pub stack : g.stack ≤ stack_capacity

@@ -1,12 +1,12 @@
 -- Where all lies in memory, and what values are as words.
-use Rattle.std.specs.Prelude.{◌≡◌, ◌<◌, ◌≤◌, ◌⊎◌, ℕ, ◌+◌, ◌-◌, ◌%◌, ◌==◌, if◌then◌else◌, Option, Some, slice_index_or}
+use Rattle.std.specs.Prelude.{◌≡◌, ◌<◌, ◌≤◌, ◌⊎◌, ℕ, ◌+◌, ◌-◌, ◌%◌, ◌^◌, ◌==◌, if◌then◌else◌, Option, Some, slice_index_or}
 use Rattle.im_num.specs.declared.kind.Kind.{Kind}
 use Rattle.im_num.specs.Kinds.{kind_size, word}
-use Rattle.im_mem.specs.Map.{stack_end}
+use Rattle.im_mem.specs.Map.{stack_end, stack_capacity}
 use Rattle.im_mem.specs.Memory.{Mem}
 use Rattle.im_rv.specs.Steps.{sum_of}
 use Rattle.im_reach.specs.Routines.{Runtime}
-use Rattle.im_store.specs.Objects.{Name, Object, Value, Number, Null, Pointer, Unset, Shape}
+use Rattle.im_store.specs.Objects.{Name, Object, static, Value, Number, Null, Pointer, Unset, Shape}
 use Rattle.im_block.specs.Meaning.{Setting}
 
 -- an object's place by its name, in its frame or, for a static, in memory, and its bytes; functions and their blocks; the
@@ -49,11 +49,15 @@ base_of o = if o.activation == 0 then 0 else pointer_at o.depth
 abbrev pub address : Linking → Object → ℕ
 address p o = base_of o + p.at o.name
 
+-- a static; or an object of an activation, which is in the stack, even where it lives no more
+abbrev pub IsPlaced : Linking → Object → Type 0
+IsPlaced p o = ((n : ℕ) × (o ≡ static n)) ⊎ ((0 < o.activation) × (stack_end - stack_capacity ≤ address p o) × (address p o + p.size o.name < 2 ^ 32))
+
 -- the map from values to words
 abbrev pub Means : Linking → Value → ℕ → Type 0
 Means p (Number z) w = w ≡ word z
 Means p Null w = w ≡ 0
-Means p (Pointer o i) w = (w ≡ sum_of (address p o) i) × (i ≤ p.size o.name)
+Means p (Pointer o i) w = (w ≡ sum_of (address p o) i) × (i ≤ p.size o.name) × IsPlaced p o
 Means p Unset w = Unit {0}
 
 -- the cells of a shape lie in it, at multiples of their sizes, and apart

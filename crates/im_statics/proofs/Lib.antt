@@ -1,2 +1,3 @@
+mod Pointers
 mod Values
 mod Shown

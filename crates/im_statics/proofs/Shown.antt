@@ -10,6 +10,7 @@ use Rattle.im_num.specs.declared.kind.Kind.TheVariants.{I8, U8, I16, U16, I32, U
 use Rattle.im_num.specs.declared.values.CellValue.{CellValue}
 use Rattle.im_num.specs.Kinds.{kind_size}
 use Rattle.im_num.specs.Variables.{Variable}
+use Rattle.im_mem.specs.Map.{statics_start, statics_capacity}
 use Rattle.im_mem.specs.Memory.{Mem}
 use Rattle.im_image.specs.declared.object.CellRun.{CellRun}
 use Rattle.im_image.specs.Contents.{ObjectValue}
@@ -17,14 +18,14 @@ use Rattle.im_device.specs.Variables.{cell_of, cells_from, run_cells, variable}
 use Rattle.im_operators.specs.Tables.{cell_word}
 use Rattle.im_ctype.specs.declared.cell.Cell.{Cell}
 use Rattle.im_store.specs.Objects.{static, Value, Store, kind_at}
-use Rattle.im_store.specs.Statics.{StaticObject}
+use Rattle.im_store.specs.Statics.{StaticObject, static_shapes}
 use Rattle.im_store.specs.Outcomes.{cell_shown, cells_shown, variables_from}
 use Rattle.im_typed.specs.Sound.{AreShown, ShowEach}
 use Rattle.im_block.specs.declared.unit.Static.{Static as StaticOf}
 use Rattle.im_block.specs.Meaning.{static_of, statics_of}
 use Rattle.im_block.specs.Wellformed.{IsStatic}
-use Rattle.im_select.specs.Linking.{Linking, Means, address}
-use Rattle.im_statics.specs.Named.{cells_along, cells_of_run, AreNamed, AreNumbers, HaveNumbers, ShownLaw}
+use Rattle.im_select.specs.Linking.{Linking, Means, LaidOut, address}
+use Rattle.im_statics.specs.Named.{cells_along, cells_of_run, AreNamed, ShownLaw}
 use Rattle.im_statics.proofs.Values.{cell_same}
 
 -- runs of cells
@@ -94,33 +95,33 @@ own_kind (d ∷ ds) apart (suc i) c e =
     past_kind (d.offset == c.offset) d.kind (kind_at ds c.offset) (not_same d.offset c.offset (omega arith))
     ∙ own_kind ds (λ j k x y f g lt. apart (suc j) (suc k) x y f g (omega arith)) i c e
 
-module _ (p : Linking) (objects : List ObjectValue) (statics : List StaticObject) (m : Mem) (small : (a : ℕ) → m a < 256) where
-  cells_same : (at base : ℕ) (values : ℕ → Value) (cells : List Cell) → at ≡ base → AreNumbers cells → AreShown statics cells (cells_shown values cells) → EachCell (λ c. Means p (values c.offset) (cell_word m c.kind (base + c.offset))) cells
+module _ (p : Linking) (objects : List ObjectValue) (statics : List StaticObject) (laid : LaidOut p (static_shapes statics) statics_start (statics_start + statics_capacity)) (all_named : AreNamed p 0 statics objects) (m : Mem) (small : (a : ℕ) → m a < 256) where
+  cells_same : (at base : ℕ) (values : ℕ → Value) (cells : List Cell) → at ≡ base → AreShown statics cells (cells_shown values cells) → EachCell (λ c. Means p (values c.offset) (cell_word m c.kind (base + c.offset))) cells
       → map (value_in objects m at) cells ≡ cells_shown values cells
-  cells_same at base values [] e numbers shown means = refl
-  cells_same at base values (c ∷ cs) e numbers shown means =
-      let one : cell_of objects m c.kind (at + c.offset) ≡ cell_shown (values c.offset) = ap (λ a. cell_of objects m c.kind (a + c.offset)) e ∙ cell_same p objects statics m c.kind (base + c.offset) (values c.offset) small numbers.0 shown.0 means.0 in
-      ap (λ v. v ∷ map (value_in objects m at) cs) one ∙ ap (λ vs. cell_shown (values c.offset) ∷ vs) (cells_same at base values cs e numbers.1 shown.1 means.1)
+  cells_same at base values [] e shown means = refl
+  cells_same at base values (c ∷ cs) e shown means =
+      let one : cell_of objects m c.kind (at + c.offset) ≡ cell_shown (values c.offset) = ap (λ a. cell_of objects m c.kind (a + c.offset)) e ∙ cell_same p objects statics laid all_named m c.kind (base + c.offset) (values c.offset) small shown.0 means.0 in
+      ap (λ v. v ∷ map (value_in objects m at) cs) one ∙ ap (λ vs. cell_shown (values c.offset) ∷ vs) (cells_same at base values cs e shown.1 means.1)
 
   -- what is known of the statics from the n-th on
   abbrev AllMean : Store → ℕ → List StaticObject → Type 0
   AllMean store n [] = Unit {0}
   AllMean store n (s ∷ ss) = EachCell (λ c. Means p (store.values (static n) c.offset) (cell_word m c.kind (address p (static n) + c.offset))) s.cells × AllMean store (suc n) ss
 
-  each_same : (store : Store) (n : ℕ) (ss : List StaticObject) (os : List ObjectValue) → HaveNumbers ss → AreNamed p n ss os → ShowEach statics ss (variables_from n ss store) → AllMean store n ss
+  each_same : (store : Store) (n : ℕ) (ss : List StaticObject) (os : List ObjectValue) → AreNamed p n ss os → ShowEach statics ss (variables_from n ss store) → AllMean store n ss
       → map (variable objects m) os ≡ variables_from n ss store
-  each_same store n [] [] numbers named shown means = refl
-  each_same store n [] (o ∷ os) numbers named shown means = absurd named
-  each_same store n (s ∷ ss) [] numbers named shown means = absurd named
-  each_same store n (s ∷ ss) (o ∷ os) numbers named shown means =
+  each_same store n [] [] named shown means = refl
+  each_same store n [] (o ∷ os) named shown means = absurd named
+  each_same store n (s ∷ ss) [] named shown means = absurd named
+  each_same store n (s ∷ ss) (o ∷ os) named shown means =
       let is = named.0 in
       let place : o.at ≡ address p (static n) = (let q = is.at in omega arith) in
       let cells : flat_map (run_cells objects m o.at) o.runs ≡ cells_shown (store.values (static n)) s.cells =
-      in_runs objects m o.at o.runs ∙ ap (map (value_in objects m o.at)) is.cells ∙ cells_same o.at (address p (static n)) (store.values (static n)) s.cells place numbers.0 shown.1 means.0 in
+      in_runs objects m o.at o.runs ∙ ap (map (value_in objects m o.at)) is.cells ∙ cells_same o.at (address p (static n)) (store.values (static n)) s.cells place shown.1 means.0 in
       let one : variable objects m o ≡ record { name = s.name; cells = cells_shown (store.values (static n)) s.cells } =
       ap (λ c. record { name = o.name; cells = c }) cells ∙ ap (λ z. record { name = z; cells = cells_shown (store.values (static n)) s.cells }) is.name in
       ap (λ (v : Variable). v ∷ map (variable objects m) os) one
-      ∙ ap (λ vs. record { name = s.name; cells = cells_shown (store.values (static n)) s.cells } ∷ vs) (each_same store (suc n) ss os numbers.1 named.1 shown.2 means.1)
+      ∙ ap (λ vs. record { name = s.name; cells = cells_shown (store.values (static n)) s.cells } ∷ vs) (each_same store (suc n) ss os named.1 shown.2 means.1)
 
   all_mean : (store : Store) (n : ℕ) (ss : List StaticObject) → ((i : ℕ) (s : StaticObject) → slice_get ss i ≡ Some s → AreApart s.cells)
       → ((i : ℕ) (s : StaticObject) (offset : ℕ) (k : Kind) → slice_get ss i ≡ Some s → kind_at s.cells offset ≡ Some k → Means p (store.values (static (n + i)) offset) (cell_word m k (address p (static (n + i)) + offset)))
@@ -138,9 +139,9 @@ static_apart all (x ∷ xs) h zero s e = let one : static_of x ≡ s = cc in sub
 static_apart all (x ∷ xs) h (suc i) s e = static_apart all xs (All-tail (IsStatic all) x xs h) i s e
 
 pub shown : ShownLaw
-shown p u objects m vs well numbers named small right s =
+shown p u objects m vs well laid named small right s =
     let ss = statics_of u in
     let e = s.same in
     let right' : ShowEach ss ss (variables_from 0 ss s.store) = subst (ShowEach ss ss) e right in
-    let means = all_mean p objects ss m small s.store 0 ss (static_apart u.statics.items u.statics.items well.statics) (λ i t offset k f g. let q : i ≡ 0 + i = omega arith in subst (λ j. Means p (s.store.values (static j) offset) (cell_word m k (address p (static j) + offset))) q (s.cells i t offset k f g)) in
-    each_same p objects ss m small s.store 0 ss objects numbers named right' means ∙ sym e
+    let means = all_mean p objects ss laid named m small s.store 0 ss (static_apart u.statics.items u.statics.items well.statics) (λ i t offset k f g. let q : i ≡ 0 + i = omega arith in subst (λ j. Means p (s.store.values (static j) offset) (cell_word m k (address p (static j) + offset))) q (s.cells i t offset k f g)) in
+    each_same p objects ss laid named m small s.store 0 ss objects named right' means ∙ sym e

@@ -4,7 +4,7 @@ use Rattle.im_driver.proofs.laws.kept_law.Goals as goal
 
 pub returns : goal.returns
 returns c source prog options built ready is_built =
-    let kept = c.built_keeps_law.ensures prog options built ready.is_source is_built ready.numbers in
+    let kept = c.built_keeps_law.ensures prog options built ready.is_source is_built in
     record {
       prog = program_of prog;
       program = ready.program;
