@@ -18,11 +18,11 @@ pub(crate) fn with_lists(
 ) -> Result<TagList, NoMemory>
     ensures { IfOk result (λ new. new ≡ lists ++ o.lists_in (list_from specifiers.now)) }
 {
-    let mut lists = lists;
+    let mut done = lists;
     for specifier in specifiers {
-        lists = with_specifier(alloc, specifier, lists)?;
+        done = with_specifier(alloc, specifier, done)?;
     }
-    Ok(lists)
+    Ok(done)
 }
 
 #[cycle(lists)]
@@ -31,8 +31,8 @@ fn with_specifier(alloc: Global, specifier: &Specifier, lists: TagList) -> Resul
 {
     match &specifier.kind {
         SpecifierKind::Struct(tag, members) => {
-            let lists = with_members(alloc, members, lists)?;
-            with_tag(alloc, tag, lists)
+            let before = with_members(alloc, members, lists)?;
+            with_tag(alloc, tag, before)
         }
         _ => Ok(lists),
     }
@@ -42,20 +42,20 @@ fn with_specifier(alloc: Global, specifier: &Specifier, lists: TagList) -> Resul
 fn with_members(alloc: Global, members: &[Member], lists: TagList) -> Result<TagList, NoMemory>
     ensures { IfOk result (λ new. new ≡ lists ++ o.lists_of_members (members_from members.now)) }
 {
-    let mut lists = lists;
+    let mut done = lists;
     for member in members {
-        lists = with_lists(alloc, &member.specifiers.items, lists)?;
+        done = with_lists(alloc, &member.specifiers.items, done)?;
     }
-    Ok(lists)
+    Ok(done)
 }
 
 fn with_tag(alloc: Global, tag: &Option<Vec<u8>>, lists: TagList) -> Result<TagList, NoMemory>
     ensures { IfOk result (λ new. new ≡ lists ++ option_map (λ name. name.items) tag.now ∷ []) }
 {
-    let mut lists = lists;
+    let mut done = lists;
     match tag {
-        Some(name) => lists.push(alloc, name)?,
-        None => lists.push_untagged()?,
+        Some(name) => done.push(alloc, name)?,
+        None => done.push_untagged()?,
     }
-    Ok(lists)
+    Ok(done)
 }

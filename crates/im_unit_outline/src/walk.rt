@@ -55,9 +55,9 @@ fn item(
 fn with_item(walk: Walk, item: Item) -> Result<Walk, NoMemory>
     ensures { IfOk result (λ new. walk_of new ≡ with_outlined (outlined_of item) (walk_of walk)) }
 {
-    let mut walk = walk;
-    walk.items.push(item)?;
-    Ok(walk)
+    let mut done = walk;
+    done.items.push(item)?;
+    Ok(done)
 }
 
 /// Remembers a typedef name of a function type.
@@ -69,11 +69,11 @@ fn with_function_type(
 ) -> Result<Walk, NoMemory>
     ensures { IfOk result (λ new. walk_of new ≡ with_function_name is_one name.now (walk_of walk)) }
 {
-    let mut walk = walk;
+    let mut done = walk;
     if is_one {
-        walk.functions.push(alloc, name)?;
+        done.functions.push(alloc, name)?;
     }
-    Ok(walk)
+    Ok(done)
 }
 
 fn with_declarator(
@@ -98,8 +98,8 @@ fn with_declarator(
         is_extern(specifiers),
         is_whole,
     )?;
-    let walk = with_function_type(alloc, typedef && function, name, walk)?;
-    with_item(walk, one)
+    let behind = with_function_type(alloc, typedef && function, name, walk)?;
+    with_item(behind, one)
 }
 
 fn with_one(
@@ -125,11 +125,11 @@ fn with_declarators(
         ≡ o.with_declarators (list_from specifiers.now) (init_declarators_of declarators.now)
         (walk_of walk)) }
 {
-    let mut walk = walk;
+    let mut done = walk;
     for d in declarators {
-        walk = with_one(alloc, specifiers, d, walk)?;
+        done = with_one(alloc, specifiers, d, done)?;
     }
-    Ok(walk)
+    Ok(done)
 }
 
 fn with_member_lists(alloc: Global, specifiers: &[Specifier], walk: Walk) -> Result<Walk, NoMemory>
@@ -140,11 +140,11 @@ fn with_member_lists(alloc: Global, specifiers: &[Specifier], walk: Walk) -> Res
         items,
         lists,
     } = walk;
-    let lists = with_lists(alloc, specifiers, lists)?;
+    let all = with_lists(alloc, specifiers, lists)?;
     Ok(Walk {
         functions,
         items,
-        lists,
+        lists: all,
     })
 }
 
@@ -152,17 +152,17 @@ fn with_declaration(alloc: Global, d: &Declaration, walk: Walk) -> Result<Walk, 
     ensures { IfOk result (λ new. walk_of new
         ≡ o.with_external (external_of (External.Declaration d.now)) (walk_of walk)) }
 {
-    let walk = with_member_lists(alloc, &d.specifiers.items, walk)?;
-    with_declarators(alloc, &d.specifiers.items, &d.declarators, walk)
+    let behind = with_member_lists(alloc, &d.specifiers.items, walk)?;
+    with_declarators(alloc, &d.specifiers.items, &d.declarators, behind)
 }
 
 fn with_function(alloc: Global, f: &Function, walk: Walk) -> Result<Walk, NoMemory>
     ensures { IfOk result (λ new. walk_of new
         ≡ o.with_external (external_of (External.Function f.now)) (walk_of walk)) }
 {
-    let walk = with_member_lists(alloc, &f.specifiers.items, walk)?;
+    let behind = with_member_lists(alloc, &f.specifiers.items, walk)?;
     let one = item(alloc, name_of(&f.declarator), Sort::Function, false, true)?;
-    with_item(walk, one)
+    with_item(behind, one)
 }
 
 fn with_external(alloc: Global, external: &External, walk: Walk) -> Result<Walk, NoMemory>
@@ -178,13 +178,13 @@ fn with_external(alloc: Global, external: &External, walk: Walk) -> Result<Walk,
 pub(crate) fn walked(alloc: Global, tree: &Tree) -> Result<Walk, NoMemory>
     ensures { IfOk result (λ new. walk_of new ≡ o.whole_walk (unit_of tree.now)) }
 {
-    let mut walk = Walk {
+    let mut done = Walk {
         functions: NameList::new(alloc),
         items: Vec::new(alloc),
         lists: TagList::new(alloc),
     };
     for external in &tree.externals {
-        walk = with_external(alloc, external, walk)?;
+        done = with_external(alloc, external, done)?;
     }
-    Ok(walk)
+    Ok(done)
 }
