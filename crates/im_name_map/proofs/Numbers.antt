@@ -20,11 +20,13 @@ in_maybe (Some n) = n
 pub number-told : (es : Entries) (x : Name) → number_of (entries_of es) x ≡ in_maybe (lookup (λ k. pointwise nat_eq x k.items) es)
 number-told [] x = refl
 number-told (e ∷ es) x =
-    ap (λ b. if b then e.1 else number_of (entries_of es) x) (same-symmetric e.0.items x ∙ sym (pointwise-same x e.0.items)) ∙ by (pointwise nat_eq x e.0.items)
+    ap (λ b. if b then e.1 else number_of (entries_of es) x) (same-symmetric e.0.items x ∙ sym (pointwise-same x e.0.items)) ∙ by (pointwise nat_eq x e.0.items) (number-told es x)
   where
-    by : (b : Bool) → (if b then e.1 else number_of (entries_of es) x) ≡ in_maybe (cond b (Some e.1) (lookup (λ k. pointwise nat_eq x k.items) es))
-    by true = refl
-    by false = number-told es x
+    by : (b : Bool)
+        → number_of (entries_of es) x ≡ in_maybe (lookup (λ k. pointwise nat_eq x k.items) es)
+        → (if b then e.1 else number_of (entries_of es) x) ≡ in_maybe (cond b (Some e.1) (lookup (λ k. pointwise nat_eq x k.items) es))
+    by true h = refl
+    by false h = h
 
 twice : (c : Bool) (v n m : Option ℕ) → (if c then v else n) ≡ (if c then v else (if c then m else n))
 twice true v n m = refl
@@ -40,18 +42,20 @@ apart k e x h a b =
     let q : same_name k e ≡ true = subst (λ z. same_name k z ≡ true) (sym (same-equal e x a)) b in
     false≢true (sym h ∙ pointwise-same k e ∙ q)
 
-pub number-inserted : (es : Entries) (k : Vec ℕ Global) (v : Option ℕ) (x : Name)
-    → number_of (entries_of (insert_entry (λ a b. pointwise nat_eq a.items b.items) es k v)) x ≡ (if same_name k.items x then v else number_of (entries_of es) x)
+abbrev is_key : Vec ℕ Global → Vec ℕ Global → Bool
+is_key a b = pointwise nat_eq a.items b.items
+
+pub number-inserted : (es : Entries) (k : Vec ℕ Global) (v : Option ℕ) (x : Name) → number_of (entries_of (insert_entry is_key es k v)) x ≡ (if same_name k.items x then v else number_of (entries_of es) x)
 number-inserted [] k v x = refl
-number-inserted (e ∷ es) k v x = by (pointwise nat_eq k.items e.0.items) refl
+number-inserted (e ∷ es) k v x = by (pointwise nat_eq k.items e.0.items) refl (number-inserted es k v x)
   where
     by : (b : Bool)
         → pointwise nat_eq k.items e.0.items ≡ b
-        → number_of (entries_of (if b then (e.0, v) ∷ es else e ∷ insert_entry (λ a c. pointwise nat_eq a.items c.items) es k v)) x
-            ≡ (if same_name k.items x then v else number_of (entries_of (e ∷ es)) x)
-    by true h =
+        → number_of (entries_of (insert_entry is_key es k v)) x ≡ (if same_name k.items x then v else number_of (entries_of es) x)
+        → number_of (entries_of (if b then (e.0, v) ∷ es else e ∷ insert_entry is_key es k v)) x ≡ (if same_name k.items x then v else number_of (entries_of (e ∷ es)) x)
+    by true h rest =
         let s : k.items ≡ e.0.items = same-equal k.items e.0.items (sym (pointwise-same k.items e.0.items) ∙ h) in
         twice (same_name e.0.items x) v (number_of (entries_of es) x) e.1 ∙ ap (λ z. if same_name z x then v else number_of (entries_of (e ∷ es)) x) (sym s)
-    by false h =
-        ap (λ n. if same_name e.0.items x then e.1 else n) (number-inserted es k v x)
+    by false h rest =
+        ap (λ n. if same_name e.0.items x then e.1 else n) rest
         ∙ swapped (same_name e.0.items x) (same_name k.items x) e.1 v (number_of (entries_of es) x) (apart k.items e.0.items x h)

@@ -35,7 +35,7 @@ number-behind (y ∷ ys) t x =
   where
     by : (b : Bool) (r : Option ℕ) (c : Bool)
         → (if b then Some 0 else option_map suc (or_else r (if c then Some (length ys) else None)))
-            ≡ or_else (if b then Some 0 else option_map suc r) (if c then Some (suc (length ys)) else None)
+        ≡ or_else (if b then Some 0 else option_map suc r) (if c then Some (suc (length ys)) else None)
     by true r c = refl
     by false None true = refl
     by false None false = refl
@@ -59,6 +59,7 @@ tags-again ts y numbers h there x = h x ∙ by (same_name y x) refl ∙ sym (num
     some : (r m : Option ℕ) → is_some r ≡ true → r ≡ or_else r m
     some None m e = absurd cc
     some (Some n) m e = refl
+
     by : (b : Bool) → same_name y x ≡ b → list_number x ts ≡ or_else (list_number x ts) (if b then Some (length ts) else None)
     by true e =
         let same : y ≡ x = same-equal y x e in
@@ -76,9 +77,9 @@ pub names-pushed : (xs : List Name) (y : Name) (numbers more : List (Name × Opt
     → ((x : Name) → number_of more x ≡ (if same_name y x then Some (length xs) else number_of numbers x)) → HasPlaces (all_tags (xs ++ y ∷ [])) more
 names-pushed xs y numbers more h none set =
     subst
-        (λ ts. HasPlaces ts more)
-        (sym (all-pushed xs y))
-        (tags-pushed (all_tags xs) y numbers more h none (λ x. set x ∙ ap (λ n. if same_name y x then Some n else number_of numbers x) (sym (length-map xs Some))))
+    (λ ts. HasPlaces ts more)
+    (sym (all-pushed xs y))
+    (tags-pushed (all_tags xs) y numbers more h none (λ x. set x ∙ ap (λ n. if same_name y x then Some n else number_of numbers x) (sym (length-map xs Some))))
 
 pub names-again : (xs : List Name) (y : Name) (numbers : List (Name × Option ℕ)) → HasPlaces (all_tags xs) numbers → is_some (number_of numbers y) ≡ true → HasPlaces (all_tags (xs ++ y ∷ [])) numbers
 names-again xs y numbers h there = subst (λ ts. HasPlaces ts numbers) (sym (all-pushed xs y)) (tags-again (all_tags xs) y numbers h there)
@@ -107,3 +108,7 @@ place-told (y ∷ ys) x =
     by true r = refl
     by false None = refl
     by false (Some n) = refl
+
+pub none-told : (r : Option ℕ) → is_some r ≡ false → r ≡ None
+none-told None h = refl
+none-told (Some n) h = absurd cc

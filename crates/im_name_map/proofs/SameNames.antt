@@ -28,10 +28,10 @@ either_way false false f g = refl
 pub same-symmetric : (x y : List ℕ) → same_name x y ≡ same_name y x
 same-symmetric x y =
     either_way
-        (same_name x y)
-        (same_name y x)
-        (λ h. subst (λ z. same_name z x ≡ true) (same-equal x y h) (same-refl x))
-        (λ h. subst (λ z. same_name z y ≡ true) (same-equal y x h) (same-refl y))
+    (same_name x y)
+    (same_name y x)
+    (λ h. subst (λ z. same_name z x ≡ true) (same-equal x y h) (same-refl x))
+    (λ h. subst (λ z. same_name z y ≡ true) (same-equal y x h) (same-refl y))
 
 -- the comparison of the map's keys
 pub pointwise-same : (x y : List ℕ) → pointwise nat_eq x y ≡ same_name x y

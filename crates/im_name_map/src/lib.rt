@@ -4,6 +4,8 @@
 mod list;
 mod map;
 mod tags;
+#[cfg(test)]
+mod tests;
 
 pub use list::NameList;
 pub use map::NameMap;

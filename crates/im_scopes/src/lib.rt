@@ -4,6 +4,8 @@
 mod entity;
 mod scope;
 mod search;
+#[cfg(test)]
+mod tests;
 
 pub use entity::{Callee, Entity, Entry, Storage, Tag};
 pub use scope::Scope;
