@@ -1,6 +1,6 @@
 -- What is kept beside the entries, where one more is put behind them and where the last is taken back.
 use Rattle.std.proofs.Common.{◌≡◌, ℕ, Bool, true, false, List, [], ◌∷◌, ◌++◌, map, length, Option, Some, None, Vec, Global, if◌then◌else◌, refl, sym, ap, subst, ◌∙◌}
-use Rattle.std.proofs.lemmas.List.{append-nil, append-assoc, map_push, length-map}
+use Rattle.std.proofs.lemmas.List.{append-nil, append_assoc, map_push, length-map}
 use Rattle.im_word.specs.Words.{Name}
 use Rattle.im_rules.specs.TypeTests.{same_name}
 use Rattle.im_name_map.specs.Numbers.{number_of}
@@ -18,7 +18,7 @@ pub entries-pushed : (ks : List Kept) (k : Kept) → entries_of (ks ++ k ∷ [])
 entries-pushed ks k = map_push (λ x. x.entry) ks k
 
 between : (before : List Entry) (y : Entry) (es : List Entry) → (before ++ y ∷ []) ++ es ≡ before ++ y ∷ es
-between before y es = append-assoc before (y ∷ []) es
+between before y es = append_assoc before (y ∷ []) es
 
 shadowed-pushed : (before : List Entry) (ks : List Kept) (k : Kept) → AreShadowed before ks → k.shadowed ≡ last_place (is_alike k.entry) (before ++ entries_of ks) → AreShadowed before (ks ++ k ∷ [])
 shadowed-pushed before [] k h e = (e ∙ ap (last_place (is_alike k.entry)) (append-nil before), tt)

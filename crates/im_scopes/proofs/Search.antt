@@ -26,7 +26,7 @@ none-first None true h = absurd cc
 none-first (Some i) b h = absurd cc
 
 some-first : (i : ℕ) (b : Bool) → or_first None b ≡ Some i → (b ≡ true) × (i ≡ 0)
-some-first i true h = (refl, sym (same_Some h))
+some-first i true h = (refl, sym (same_Some 0 i h))
 some-first i false h = absurd cc
 
 module _ {R : Type 0} (S : Scopes → R) (test : Entry → Bool) (read : Entry → R) (step : (g : Scopes) (y : Entry) → S (with_entry g y) ≡ (if test y then read y else S g)) where
@@ -38,35 +38,39 @@ module _ {R : Type 0} (S : Scopes → R) (test : Entry → Bool) (read : Entry �
 
   pub searched-some : (g : Scopes) (es : List Entry) (i : ℕ) (d : Entry) → last_place test es ≡ Some i → S (with_entries g es) ≡ read (get_or es i d)
   searched-some g [] i d h = absurd cc
-  searched-some g (y ∷ ys) i d h = by (last_place test ys) refl h
+  searched-some g (y ∷ ys) i d h = by (last_place test ys) refl h (λ j e. searched-some (with_entry g y) ys j d e)
     where
-      by : (r : Option ℕ) → last_place test ys ≡ r → or_first r (test y) ≡ Some i → S (with_entries (with_entry g y) ys) ≡ read (get_or (y ∷ ys) i d)
-      by None e k =
+      by : (r : Option ℕ)
+          → last_place test ys ≡ r
+          → or_first r (test y) ≡ Some i
+          → ((j : ℕ) → last_place test ys ≡ Some j → S (with_entries (with_entry g y) ys) ≡ read (get_or ys j d))
+          → S (with_entries (with_entry g y) ys) ≡ read (get_or (y ∷ ys) i d)
+      by None e k rest =
           let p = some-first i (test y) k in
           searched-none (with_entry g y) ys e ∙ step g y ∙ ap (λ b. if b then read y else S g) p.0 ∙ ap (λ n. read (get_or (y ∷ ys) n d)) (sym p.1)
-      by (Some j) e k = searched-some (with_entry g y) ys j d e ∙ ap (λ n. read (get_or (y ∷ ys) n d)) (same_Some k)
+      by (Some j) e k rest = rest j e ∙ ap (λ n. read (get_or (y ∷ ys) n d)) (same_Some (suc j) i k)
 
 -- the place is one of the list, and what stands there passes
 pub last-within : (test : Entry → Bool) (es : List Entry) (i : ℕ) → last_place test es ≡ Some i → i < length es
 last-within test [] i h = absurd cc
-last-within test (y ∷ ys) i h = by (last_place test ys) refl h
+last-within test (y ∷ ys) i h = by (last_place test ys) refl h (λ j e. last-within test ys j e)
   where
-    by : (r : Option ℕ) → last_place test ys ≡ r → or_first r (test y) ≡ Some i → i < suc (length ys)
-    by None e k = let p = (some-first i (test y) k).1 in omega arith
-    by (Some j) e k =
-        let w = last-within test ys j e in
-        let p : suc j ≡ i = same_Some k in
+    by : (r : Option ℕ) → last_place test ys ≡ r → or_first r (test y) ≡ Some i → ((j : ℕ) → last_place test ys ≡ Some j → j < length ys) → i < suc (length ys)
+    by None e k rest = let p = (some-first i (test y) k).1 in omega arith
+    by (Some j) e k rest =
+        let w = rest j e in
+        let p : suc j ≡ i = same_Some (suc j) i k in
         omega arith
 
 pub last-passes : (test : Entry → Bool) (es : List Entry) (i : ℕ) (d : Entry) → last_place test es ≡ Some i → test (get_or es i d) ≡ true
 last-passes test [] i d h = absurd cc
-last-passes test (y ∷ ys) i d h = by (last_place test ys) refl h
+last-passes test (y ∷ ys) i d h = by (last_place test ys) refl h (λ j e. last-passes test ys j d e)
   where
-    by : (r : Option ℕ) → last_place test ys ≡ r → or_first r (test y) ≡ Some i → test (get_or (y ∷ ys) i d) ≡ true
-    by None e k =
+    by : (r : Option ℕ) → last_place test ys ≡ r → or_first r (test y) ≡ Some i → ((j : ℕ) → last_place test ys ≡ Some j → test (get_or ys j d) ≡ true) → test (get_or (y ∷ ys) i d) ≡ true
+    by None e k rest =
         let p = some-first i (test y) k in
         ap (λ n. test (get_or (y ∷ ys) n d)) p.1 ∙ p.0
-    by (Some j) e k = ap (λ n. test (get_or (y ∷ ys) n d)) (sym (same_Some k)) ∙ last-passes test ys j d e
+    by (Some j) e k rest = ap (λ n. test (get_or (y ∷ ys) n d)) (sym (same_Some (suc j) i k)) ∙ rest j e
 
 -- the later of two places
 abbrev pub later : Option ℕ → Option ℕ → Option ℕ

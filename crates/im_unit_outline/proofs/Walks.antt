@@ -31,11 +31,13 @@ in-behind x y (z ∷ zs) = ap (λ b. same_name z x || b) (in-behind x y zs) ∙ 
 -- the defined objects, by their names
 pub has-objects : (is : List o.Outlined) → HasObjects (object_names is) is
 has-objects [] x = refl
-has-objects (i ∷ is) x = by (o.defines_an_object i)
+has-objects (i ∷ is) x = by (o.defines_an_object i) (has-objects is x)
   where
-    by : (b : Bool) → o.is_in x (if b then i.name ∷ object_names is else object_names is) ≡ ((b && same_name i.name x) || o.is_object_among x is)
-    by true = ap (λ b. same_name i.name x || b) (has-objects is x)
-    by false = has-objects is x
+    by : (b : Bool)
+        → o.is_in x (object_names is) ≡ o.is_object_among x is
+        → o.is_in x (if b then i.name ∷ object_names is else object_names is) ≡ ((b && same_name i.name x) || o.is_object_among x is)
+    by true h = ap (λ b. same_name i.name x || b) h
+    by false h = h
 
 -- a declaration, by its specifiers
 pub declaration-walk : (s : Specifiers) (ds : t.InitDeclarators) (w : o.Walk)

@@ -14,6 +14,7 @@ pub returns-in-None : goal.returns-in-None
 returns-in-None c =
     let names = names_of c.self.inside.names.items in
     c.len.ensures
+    ∙ c.self.inside.names.ok.0
     ∙ sym (length-map c.self.inside.names.items (λ x. x.items))
     ∙ ap (λ r. or_length r (length names)) (c.in-None.ensures ∙ c.self.invariant c.args.name.now)
     ∙ sym (place-told names c.args.name.now)

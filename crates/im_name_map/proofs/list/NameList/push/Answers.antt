@@ -20,7 +20,7 @@ invariant_of-self-in-Ok c =
     let more : names_of c.push-2.new.self.items ≡ names ++ c.args.name.now ∷ [] =
     ap names_of c.in_ok-push-2.ensures.items ∙ map_push (λ x. x.items) c.self.inside.names.items c.in_ok-kept.kept ∙ ap (λ y. names ++ y ∷ []) c.in_ok-kept.ensures.items in
     let absent : number_of c.self.inside.places c.args.name.now ≡ None = none-told _ (sym (c.is_some.ensures ∙ ap is_some c.number.ensures) ∙ c.if-is_some.false) in
-    let place : c.len-place.result ≡ length names = c.len-place.ensures ∙ sym (length-map c.self.inside.names.items (λ x. x.items)) in
+    let place : c.len-place.result ≡ length names = c.len-place.ensures ∙ c.self.inside.names.ok.0 ∙ sym (length-map c.self.inside.names.items (λ x. x.items)) in
     let key : c.in_ok-key.key.items ≡ c.args.name.now = c.in_ok-key.ensures.items in
     subst
     (λ xs. HasPlaces (all_tags xs) c.set.new.self)

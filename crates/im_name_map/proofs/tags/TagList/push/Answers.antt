@@ -25,7 +25,7 @@ invariant_of-self-in-Ok c =
     ∙ map_push (option_map (λ x. x.items)) c.self.inside.tags.items (Some c.in_ok-kept.kept)
     ∙ ap (λ y. tags ++ Some y ∷ []) c.in_ok-kept.ensures.items in
     let absent : number_of c.self.inside.places c.args.tag.now ≡ None = none-told _ (sym (c.is_some.ensures ∙ ap is_some c.number.ensures) ∙ c.if-is_some.false) in
-    let place : c.len-place.result ≡ length tags = c.len-place.ensures ∙ sym (length-map c.self.inside.tags.items (option_map (λ x. x.items))) in
+    let place : c.len-place.result ≡ length tags = c.len-place.ensures ∙ c.self.inside.tags.ok.0 ∙ sym (length-map c.self.inside.tags.items (option_map (λ x. x.items))) in
     let key : c.in_ok-key.key.items ≡ c.args.tag.now = c.in_ok-key.ensures.items in
     subst
     (λ ts. HasPlaces ts c.set.new.self)
