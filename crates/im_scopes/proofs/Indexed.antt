@@ -44,7 +44,7 @@ pushed-other test ks k h = pushed-last test ks k ∙ ap (λ b. if b then Some (l
 pushed-one : (test : Entry → Bool) (ks : List Kept) (k : Kept) → test k.entry ≡ true → last_place test (entries_of (ks ++ k ∷ [])) ≡ Some (length ks)
 pushed-one test ks k h = pushed-last test ks k ∙ ap (λ b. if b then Some (length ks) else last_place test (entries_of ks)) h
 
-abbrev kept : Entry → Option ℕ → Kept
+abbrev pub kept : Entry → Option ℕ → Kept
 kept e p = record { entry = e; shadowed = p }
 
 module _ (ks : List Kept) (names tags more : List (Name × Option ℕ)) (inner : Option ℕ) (h : IsIndexed ks names tags inner) where

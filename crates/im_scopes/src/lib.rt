@@ -2,8 +2,8 @@
 #![tactic(auto)]
 
 mod entity;
+mod lookup;
 mod scope;
-mod search;
 #[cfg(test)]
 mod tests;
 

@@ -125,7 +125,7 @@ impl Scope {
     pub fn close(&mut self, mark: usize)
         ensures { self.new ≡ take mark self.old }
     {
-        while self.kept.len() > mark {
+        while self.mark() > mark {
             self.undo();
         }
     }
@@ -137,13 +137,14 @@ impl Scope {
         let Some(last) = self.kept.pop() else {
             return;
         };
-        match last.entry {
-            Entry::Opened => self.innermost = last.shadowed,
+        let Kept { entry, shadowed } = last;
+        match entry {
+            Entry::Opened => self.innermost = shadowed,
             Entry::Named(name, _) => {
-                let _ = self.names.set(name, last.shadowed);
+                let _ = self.names.set(name, shadowed);
             }
             Entry::Tagged(tag, _) => {
-                let _ = self.tags.set(tag, last.shadowed);
+                let _ = self.tags.set(tag, shadowed);
             }
         }
     }

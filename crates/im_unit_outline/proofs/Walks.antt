@@ -1,6 +1,6 @@
 -- One step more on the way through a unit.
 use Rattle.std.proofs.Common.{◌≡◌, ℕ, Bool, true, false, ◌&&◌, ◌||◌, List, [], ◌∷◌, ◌++◌, map, reverse, length, if◌then◌else◌, refl, sym, ap, ◌∙◌}
-use Rattle.std.proofs.lemmas.List.{map_push}
+use Rattle.std.proofs.lemmas.List.{reverse-append}
 use Rattle.im_word.specs.Words.{Name}
 use Rattle.im_ctree.specs.Tree as t
 use Rattle.im_ctree.specs.Shape.{specifiers_of}
@@ -9,7 +9,7 @@ use Rattle.im_rules.specs.TypeTests.{same_name}
 use Rattle.im_rules.specs.Rules.{is_typedef}
 use Rattle.im_rules.specs.Outline as o
 use Rattle.im_tree_parts.specs.Lists.{list_from}
-use Rattle.im_unit_outline.specs.Walked.{object_names, HasObjects}
+use Rattle.im_unit_outline.specs.Walked.{object_names, HasObjects, with_outlined, with_function}
 use Rattle.im_tree_parts.proofs.Shapes.{specifiers_shape}
 
 -- whether a name is in a list doesn't depend on the order
@@ -47,3 +47,27 @@ declaration-walk s ds w = sym (ap (λ z. o.with_external (t.external_declaration
 pub function-walk : (s : Specifiers) (d : t.Declarator) (b : t.Block) (w : o.Walk)
     → o.with_external (t.function_definition (t.specifiers (out-Specifiers s).at (list_from (out-Specifiers s).items.items)) d b) w ≡ o.with_external (t.function_definition (specifiers_of s) d b) w
 function-walk s d b w = sym (ap (λ z. o.with_external (t.function_definition z d b) w) (specifiers_shape s))
+
+-- one declarator more
+pub declared-walk : (xs : t.SpecifierList) (d : t.Declarator) (whole : Bool) (w : o.Walk) (function typedef external : Bool) (x : Name) (sort : o.Sort)
+    → function ≡ o.gives_function (o.nearest d) (o.is_in (o.typedef_in xs) w.functions)
+    → typedef ≡ is_typedef xs
+    → external ≡ o.is_extern xs
+    → x ≡ o.name_of d
+    → sort ≡ o.sort_of typedef function
+    → with_outlined (record { name = x; sort = sort; is_extern = external; is_whole = whole }) (with_function (typedef && function) x w) ≡ o.with_declarator xs d whole w
+declared-walk xs d whole w function typedef external x sort ef et ee ex es = λ i.
+    with_outlined
+    (record { name = ex i; sort = (es ∙ (λ j. o.sort_of (et j) (ef j))) i; is_extern = ee i; is_whole = whole })
+    (with_function (et i && ef i) (ex i) w)
+
+in-reversed-from : (x : Name) (ys : List Name) → o.is_in x (reverse ys) ≡ o.is_in x ys
+in-reversed-from x [] = refl
+in-reversed-from x (y ∷ ys) = ap (o.is_in x) (reverse-append (y ∷ []) ys) ∙ in-behind x y (reverse ys) ∙ ap (λ b. same_name y x || b) (in-reversed-from x ys)
+
+pub in-reversed : (x : Name) (ys : List Name) → o.is_in x ys ≡ o.is_in x (reverse ys)
+in-reversed x ys = sym (in-reversed-from x ys)
+
+pub function-pushed : (is_one : Bool) (xs : List Name) (x : Name) → reverse (if is_one then xs ++ x ∷ [] else xs) ≡ (if is_one then x ∷ reverse xs else reverse xs)
+function-pushed true xs x = reverse-append xs (x ∷ [])
+function-pushed false xs x = refl

@@ -1,5 +1,5 @@
 //! What specifiers say.
-ghost use Rattle.std.specs.Prelude.{◌≡◌, ◌||◌};
+ghost use Rattle.std.specs.Prelude.{◌≡◌, ◌||◌, MatchOption};
 ghost use Rattle.im_ctree.specs.Tree as t;
 ghost use Rattle.im_rules.specs.Rules as u;
 ghost use Rattle.im_rules.specs.Outline as o;
@@ -51,14 +51,25 @@ pub fn is_extern(specifiers: &[Specifier]) -> bool
     false
 }
 
+fn typedef_name(specifier: &Specifier) -> Option<&[u8]>
+    ensures { (rest : t.SpecifierList) → MatchOption result
+        (o.typedef_in (t.more_specifiers (specifier_in specifier.now) rest) ≡ o.typedef_in rest)
+        (λ x. x.now ≡ o.typedef_in (t.more_specifiers (specifier_in specifier.now) rest)) }
+{
+    match &specifier.kind {
+        SpecifierKind::TypedefName(name) => Some(name),
+        _ => None,
+    }
+}
+
 /// The first typedef name; empty where there is none.
 pub(crate) fn typedef_in(specifiers: &[Specifier]) -> &[u8]
     ensures { result.now ≡ o.typedef_in (list_from specifiers.now) }
 {
     for specifier in specifiers {
-        match &specifier.kind {
-            SpecifierKind::TypedefName(name) => return name,
-            _ => {}
+        match typedef_name(specifier) {
+            Some(name) => return name,
+            None => {}
         }
     }
     &[]
