@@ -1,5 +1,5 @@
 -- What is found by the places that are kept.
-use Rattle.std.proofs.Common.{◌≡◌, ℕ, ◌<◌, Bool, true, false, List, map, length, get_or, is_none, Option, Some, None, refl, sym, ap, subst, ◌∙◌, arith}
+use Rattle.std.proofs.Common.{◌≡◌, ℕ, ◌<◌, Bool, true, false, List, map, length, get_or, is_none, is_some, not, Option, Some, None, refl, sym, ap, subst, ◌∙◌, arith}
 use Rattle.std.proofs.lemmas.List.{get_or-map, length-map}
 use Rattle.im_word.specs.Words.{Name}
 use Rattle.im_rules.specs.Scopes.{meaning, meaning_here, tag_meaning, at_file_scope}
@@ -52,3 +52,9 @@ module _ (ks : List Kept) (names tags : List (Name × Option ℕ)) (inner : Opti
 
 pub at-file : (ks : List Kept) (names tags : List (Name × Option ℕ)) (inner : Option ℕ) → IsIndexed ks names tags inner → is_none inner ≡ at_file_scope (scopes_of (entries_of ks))
 at-file ks names tags inner h = ap is_none h.innermost ∙ file-told (entries_of ks)
+
+pub none-flag : (o : Option ℕ) (b : Bool) → is_some o ≡ not b → b ≡ is_none o
+none-flag None true h = refl
+none-flag None false h = absurd cc
+none-flag (Some i) true h = absurd cc
+none-flag (Some i) false h = refl

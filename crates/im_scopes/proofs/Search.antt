@@ -94,6 +94,13 @@ same-order i j = by (nat_lt i j) refl
 first-before : (j : ℕ) → nat_lt 0 (suc j) ≡ true
 first-before j = lt-ltb 0 (suc j) (omega arith)
 
+after-first : (i : ℕ) → nat_lt (suc i) 0 ≡ false
+after-first i = by (nat_lt (suc i) 0) refl
+  where
+    by : (b : Bool) → nat_lt (suc i) 0 ≡ b → b ≡ false
+    by false h = refl
+    by true h = let w = ltb-true (suc i) 0 h in absurd (omega arith)
+
 module _ (p q : Entry → Bool) where
   pub last-either : (es : List Entry) → last_place (λ y. q y || p y) es ≡ later (last_place p es) (last_place q es)
   last-either [] = refl
@@ -106,7 +113,7 @@ module _ (p q : Entry → Bool) where
       by None None false false = refl
       by None (Some j) true e = sym (ap (λ b. if b then Some (suc j) else Some 0) (first-before j))
       by None (Some j) false e = refl
-      by (Some i) None c true = refl
+      by (Some i) None c true = sym (ap (λ b. if b then Some 0 else Some (suc i)) (after-first i))
       by (Some i) None c false = refl
       by (Some i) (Some j) c e = inside (nat_lt i j) ∙ ap (λ b. if b then Some (suc j) else Some (suc i)) (same-order i j)
         where

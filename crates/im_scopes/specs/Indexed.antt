@@ -15,8 +15,8 @@ AreShadowed before [] = Unit {0}
 AreShadowed before (k ∷ ks) = (k.shadowed ≡ last_place (is_alike k.entry) before) × AreShadowed (before ++ k.entry ∷ []) ks
 
 -- names and tags have the places of their last entries
-pub record IsIndexed (ks : List Kept) (names tags : List (Name × Option ℕ)) (innermost : Option ℕ) : Type 0 where
-  pub names : (x : Name) → number_of names x ≡ last_place (is_named x) (entries_of ks)
-  pub tags : (x : Name) → number_of tags x ≡ last_place (is_tagged x) (entries_of ks)
-  pub innermost : innermost ≡ last_place is_opening (entries_of ks)
+pub record IsIndexed (ks : List Kept) (name_places tag_places : List (Name × Option ℕ)) (opening : Option ℕ) : Type 0 where
+  pub names : (x : Name) → number_of name_places x ≡ last_place (is_named x) (entries_of ks)
+  pub tags : (x : Name) → number_of tag_places x ≡ last_place (is_tagged x) (entries_of ks)
+  pub innermost : opening ≡ last_place is_opening (entries_of ks)
   pub shadowed : AreShadowed [] ks

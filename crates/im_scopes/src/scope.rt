@@ -28,8 +28,12 @@ pub struct Scope {
 impl std::marker::Model for Scope {
     ghost use Rattle.std.specs.Prelude.{List};
     ghost use Rattle.im_scopes.specs.declared.entity.Entry.{Entry};
+    ghost use Rattle.im_types.specs.contracts.tree.Type as types;
+    ghost use Rattle.std.specs.Coded.{codes};
 
     ghost Value = { List Entry };
+
+    ghost coded = { Prim.hlevel (codes, types.the_row.coded) };
 
     ghost use Rattle.im_scopes.specs.Indexed.{entries_of, IsIndexed};
 

@@ -71,3 +71,9 @@ in-reversed x ys = sym (in-reversed-from x ys)
 pub function-pushed : (is_one : Bool) (xs : List Name) (x : Name) → reverse (if is_one then xs ++ x ∷ [] else xs) ≡ (if is_one then x ∷ reverse xs else reverse xs)
 function-pushed true xs x = reverse-append xs (x ∷ [])
 function-pushed false xs x = refl
+
+abbrev named_body : Name → o.Outlined
+named_body x = record { name = x; sort = o.a_function; is_extern = false; is_whole = true }
+
+pub body-outlined : (d : t.Declarator) (x : Name) → x ≡ o.name_of d → named_body x ≡ o.body_item d
+body-outlined d x e = ap named_body e

@@ -1,5 +1,5 @@
 //! The declarators of a unit, in order.
-ghost use Rattle.std.specs.Prelude.{◌≡◌, ◌++◌, ◌∷◌, [], false, true, IfOk};
+ghost use Rattle.std.specs.Prelude.{◌≡◌, ◌&&◌, IfOk};
 ghost use Rattle.im_ctree.specs.Tree as t;
 ghost use Rattle.im_ctree.specs.Shape.{declarator_of, init_declarators_of, external_of, tree_of as unit_of};
 ghost use Rattle.im_rules.specs.Outline as o;
@@ -69,11 +69,18 @@ fn with_function_type(
 ) -> Result<Walk, NoMemory>
     ensures { IfOk result (λ new. walk_of new ≡ with_function_name is_one name.now (walk_of walk)) }
 {
-    let mut done = walk;
-    if is_one {
-        done.functions.push(alloc, name)?;
+    if !is_one {
+        return Ok(walk);
     }
+    let mut done = walk;
+    done.functions.push(alloc, name)?;
     Ok(done)
+}
+
+fn both(first: bool, second: bool) -> bool
+    ensures { result ≡ (first && second) }
+{
+    first && second
 }
 
 fn with_declarator(
@@ -98,7 +105,7 @@ fn with_declarator(
         is_extern(specifiers),
         is_whole,
     )?;
-    let behind = with_function_type(alloc, typedef && function, name, walk)?;
+    let behind = with_function_type(alloc, both(typedef, function), name, walk)?;
     with_item(behind, one)
 }
 
