@@ -77,3 +77,6 @@ named_body x = record { name = x; sort = o.a_function; is_extern = false; is_who
 
 pub body-outlined : (d : t.Declarator) (x : Name) → x ≡ o.name_of d → named_body x ≡ o.body_item d
 body-outlined d x e = ap named_body e
+
+pub objects-told : (is : List o.Outlined) (names : List Name) → names ≡ object_names is → HasObjects names is
+objects-told is names e x = ap (o.is_in x) e ∙ has-objects is x

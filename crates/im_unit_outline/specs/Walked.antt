@@ -10,8 +10,8 @@ use Rattle.im_unit_outline.specs.declared.item.Sort.{Sort}
 use Rattle.im_unit_outline.specs.declared.item.Sort.TheVariants as s
 use Rattle.im_unit_outline.specs.declared.item.Item.{Item}
 use Rattle.im_unit_outline.specs.declared.item.Walk as r
-use Rattle.im_unit_outline.specs.declared.declarator.Nearest.{Nearest}
-use Rattle.im_unit_outline.specs.declared.declarator.Nearest.TheVariants as n
+use Rattle.im_unit_outline.specs.declared.declarator.Neighbour.{Neighbour}
+use Rattle.im_unit_outline.specs.declared.declarator.Neighbour.TheVariants as n
 use Rattle.im_tree_parts.specs.Lists.{parameters_from}
 
 abbrev pub sort_of : Sort → o.Sort
@@ -19,7 +19,7 @@ sort_of s.Type = o.a_type
 sort_of s.Object = o.an_object
 sort_of s.Function = o.a_function
 
-abbrev pub nearest_of : Nearest → o.Nearest
+abbrev pub nearest_of : Neighbour → o.Nearest
 nearest_of n.Bare = o.bare
 nearest_of n.Star = o.a_star
 nearest_of n.Length = o.a_length

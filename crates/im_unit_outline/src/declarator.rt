@@ -29,7 +29,7 @@ fn core_name(core: &Core) -> &[u8]
 
 /// What stands directly round the name (C11 6.7.6).
 #[derive(Clone, Copy)]
-pub enum Nearest<'a> {
+pub enum Neighbour<'a> {
     /// Nothing but parentheses.
     Bare,
     Star,
@@ -37,28 +37,28 @@ pub enum Nearest<'a> {
     Parameters(&'a [Parameter]),
 }
 
-fn in_suffix(suffix: &Suffix) -> Nearest<'_>
+fn in_suffix(suffix: &Suffix) -> Neighbour<'_>
     ensures { (rest : t.Suffixes) → (bare : o.Nearest) → nearest_of result
         ≡ o.suffix_or (with_suffix suffix.now.at suffix.now.kind rest) bare }
 {
     match &suffix.kind {
-        SuffixKind::Array(_) => Nearest::Length,
-        SuffixKind::Function(parameters) => Nearest::Parameters(parameters),
+        SuffixKind::Array(_) => Neighbour::Length,
+        SuffixKind::Function(parameters) => Neighbour::Parameters(parameters),
     }
 }
 
-fn in_stars<'a>(stars: &[Star]) -> Nearest<'a>
+fn in_stars<'a>(stars: &[Star]) -> Neighbour<'a>
     ensures { nearest_of result ≡ o.star_or_bare (stars_in stars.now) }
 {
     if stars.len() > 0 {
-        Nearest::Star
+        Neighbour::Star
     } else {
-        Nearest::Bare
+        Neighbour::Bare
     }
 }
 
 /// What stands round a core: a suffix binds tighter than a star.
-fn round_core<'a>(stars: &[Star], suffixes: &'a [Suffix]) -> Nearest<'a>
+fn round_core<'a>(stars: &[Star], suffixes: &'a [Suffix]) -> Neighbour<'a>
     ensures { nearest_of result ≡ o.suffix_or (suffixes_from suffixes.now)
         (o.star_or_bare (stars_in stars.now)) }
 {
@@ -68,39 +68,39 @@ fn round_core<'a>(stars: &[Star], suffixes: &'a [Suffix]) -> Nearest<'a>
     in_stars(stars)
 }
 
-fn inner_or<'a>(inner: Nearest<'a>, outer: Nearest<'a>) -> Nearest<'a>
-    ensures { nearest_of result ≡ o.inner_or (nearest_of inner) (nearest_of outer) }
+fn inner_or<'a>(inner: Neighbour<'a>, outer: Neighbour<'a>) -> Neighbour<'a>
+    ensures { nearest_of result ≡ o.inner_or (nearest_of inner.entry) (nearest_of outer.entry) }
 {
     match inner {
-        Nearest::Bare => outer,
+        Neighbour::Bare => outer,
         found => found,
     }
 }
 
 #[cycle(nearest)]
-pub fn nearest(d: &Declarator) -> Nearest<'_>
+pub fn nearest(d: &Declarator) -> Neighbour<'_>
     ensures { nearest_of result ≡ o.nearest (declarator_of d.now) }
 {
     inner_or(nearest_in(&d.core), round_core(&d.stars, &d.suffixes))
 }
 
 #[cycle(nearest)]
-fn nearest_in(core: &Core) -> Nearest<'_>
+fn nearest_in(core: &Core) -> Neighbour<'_>
     ensures { nearest_of result ≡ o.nearest_in (core_of core.now) }
 {
     match core {
-        Core::Absent | Core::Name(_) => Nearest::Bare,
+        Core::Absent | Core::Name(_) => Neighbour::Bare,
         Core::Inner(inner) => nearest(inner),
     }
 }
 
 /// Whether a function is declared, where its specifiers are of a function type or not.
-pub(crate) fn gives_function(nearest: Nearest<'_>, of_function: bool) -> bool
-    ensures { result ≡ o.gives_function (nearest_of nearest) of_function }
+pub(crate) fn gives_function(nearest: Neighbour<'_>, of_function: bool) -> bool
+    ensures { result ≡ o.gives_function (nearest_of nearest.entry) of_function }
 {
     match nearest {
-        Nearest::Parameters(_) => true,
-        Nearest::Bare => of_function,
-        Nearest::Star | Nearest::Length => false,
+        Neighbour::Parameters(_) => true,
+        Neighbour::Bare => of_function,
+        Neighbour::Star | Neighbour::Length => false,
     }
 }

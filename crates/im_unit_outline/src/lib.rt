@@ -5,10 +5,10 @@ mod declarator;
 mod defined;
 mod item;
 mod lists;
-mod outline;
 mod specifier;
+mod unit;
 mod walk;
 
-pub use declarator::{Nearest, name_of, nearest};
-pub use outline::{Outline, outline};
+pub use declarator::{Neighbour, name_of, nearest};
 pub use specifier::{is_extern, is_typedef};
+pub use unit::{UnitOutline, outline};

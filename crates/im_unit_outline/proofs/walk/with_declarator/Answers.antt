@@ -12,8 +12,13 @@ returns c =
     let xs = list_from c.args.specifiers.now in
     let d = declarator_of c.args.d.now in
     let of_function = c.contains-of_function.ensures ∙ ap (λ x. o.is_in x c.args.walk.functions) c.typedef_in.ensures ∙ in-reversed (o.typedef_in xs) c.args.walk.functions in
-    let function = c.gives_function-function.ensures ∙ (λ i. o.gives_function (c.nearest.ensures i) (of_function i)) in
-    let made = λ i. with_outlined (c.in_ok-one.ensures i) ((c.in_ok-behind.ensures ∙ (λ j. with_function (c.both.ensures j) c.name_of-name.result.now w)) i) in
+    let function =
+    c.gives_function-function.ensures
+    ∙ ap (λ z. o.gives_function z c.contains-of_function.result) c.nearest.ensures
+    ∙ ap (o.gives_function (o.nearest d)) of_function in
+    let behind = c.in_ok-behind.ensures ∙ ap (λ b. with_function b c.name_of-name.result.now w) c.both.ensures in
+    let one : o.Outlined = record { name = c.name_of-name.result.now; sort = sort_of c.sort_by.result; is_extern = c.is_extern.result; is_whole = c.args.is_whole } in
+    let made = ap (λ x. with_outlined x (walk_of c.in_ok-behind.behind)) c.in_ok-one.ensures ∙ ap (with_outlined one) behind in
     let told =
     declared-walk
     xs

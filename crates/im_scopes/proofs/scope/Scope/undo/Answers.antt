@@ -38,10 +38,10 @@ invariant_of-self-in-Tagged c =
     c.in-Some.last
     c.self.invariant
     c.in-Some.ensures.items
-    c.set.new.self
+    c.set-in-Tagged.new.self
     c.in-Tagged.tag
     c.in-Tagged.field-1
-    c.set.result
+    c.set-in-Tagged.result
     c.in-Tagged.is
-    c.set.ensures.set
-    c.set.ensures.absent
+    c.set-in-Tagged.ensures.set
+    c.set-in-Tagged.ensures.absent

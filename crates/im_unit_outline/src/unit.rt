@@ -13,7 +13,7 @@ use std::alloc::Global;
 
 /// What can be told of a unit from its tree alone.
 #[derive(Drop)]
-pub struct Outline {
+pub struct UnitOutline {
     /// The defined objects, in the order of their first declaration.
     pub statics: NameList,
     /// The functions with a body, in order.
@@ -23,7 +23,7 @@ pub struct Outline {
 }
 
 /// The outline of a unit.
-pub fn outline(alloc: Global, tree: &Tree) -> Result<Outline, NoMemory>
+pub fn outline(alloc: Global, tree: &Tree) -> Result<UnitOutline, NoMemory>
     ensures { IfOk result (λ made. outline_in made ≡ o.outline (tree_of tree.now)) }
 {
     let Walk {
@@ -33,7 +33,7 @@ pub fn outline(alloc: Global, tree: &Tree) -> Result<Outline, NoMemory>
     } = walked(alloc, tree)?;
     let statics = statics_among(alloc, &items)?;
     let bodies = bodies_among(alloc, &items)?;
-    Ok(Outline {
+    Ok(UnitOutline {
         statics,
         bodies,
         lists,
