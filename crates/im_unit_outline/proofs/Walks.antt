@@ -1,5 +1,5 @@
 -- One step more on the way through a unit.
-use Rattle.std.proofs.Common.{◌≡◌, ℕ, Bool, true, false, ◌&&◌, ◌||◌, List, [], ◌∷◌, ◌++◌, map, reverse, length, if◌then◌else◌, refl, sym, ap, ◌∙◌}
+use Rattle.std.proofs.Common.{◌≡◌, ℕ, Bool, true, false, ◌&&◌, ◌||◌, List, [], ◌∷◌, ◌++◌, Option, map, reverse, length, if◌then◌else◌, refl, sym, ap, ◌∙◌}
 use Rattle.std.proofs.lemmas.List.{reverse-append}
 use Rattle.im_word.specs.Words.{Name}
 use Rattle.im_ctree.specs.Tree as t
@@ -9,7 +9,8 @@ use Rattle.im_rules.specs.TypeTests.{same_name}
 use Rattle.im_rules.specs.Rules.{is_typedef}
 use Rattle.im_rules.specs.Outline as o
 use Rattle.im_tree_parts.specs.Lists.{list_from}
-use Rattle.im_unit_outline.specs.Walked.{object_names, HasObjects, with_outlined, with_function}
+use Rattle.im_unit_outline.specs.Walked.{object_names, HasObjects, with_outlined, with_function, outlined_of, walk_of}
+use Rattle.im_unit_outline.specs.declared.item.Walk.{Walk}
 use Rattle.im_tree_parts.proofs.Shapes.{specifiers_shape}
 
 -- whether a name is in a list doesn't depend on the order
@@ -80,3 +81,13 @@ body-outlined d x e = ap named_body e
 
 pub objects-told : (is : List o.Outlined) (names : List Name) → names ≡ object_names is → HasObjects names is
 objects-told is names e x = ap (o.is_in x) e ∙ has-objects is x
+
+abbrev made : List Name → List Name → List (Option Name) → o.Outline
+made statics bodies lists = record { statics = statics; bodies = bodies; lists = lists }
+
+pub outline-made : (w : Walk) (whole : o.Walk) (statics bodies : List Name)
+    → walk_of w ≡ whole
+    → statics ≡ o.objects_among (map outlined_of w.items.items) [] (map outlined_of w.items.items)
+    → bodies ≡ o.bodies_among (map outlined_of w.items.items)
+    → made statics bodies w.lists ≡ o.outline_of whole
+outline-made w whole statics bodies e s b = (λ i. made (s i) (b i) w.lists) ∙ ap o.outline_of e

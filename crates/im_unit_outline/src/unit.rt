@@ -26,11 +26,12 @@ pub struct UnitOutline {
 pub fn outline(alloc: Global, tree: &Tree) -> Result<UnitOutline, NoMemory>
     ensures { IfOk result (λ made. outline_in made ≡ o.outline (tree_of tree.now)) }
 {
+    let walk = walked(alloc, tree)?;
     let Walk {
         functions: _functions,
         items,
         lists,
-    } = walked(alloc, tree)?;
+    } = walk;
     let statics = statics_among(alloc, &items)?;
     let bodies = bodies_among(alloc, &items)?;
     Ok(UnitOutline {
