@@ -5,7 +5,7 @@ use Rattle.im_word.specs.Words.{Name}
 use Rattle.im_ctree.specs.Tree as t
 use Rattle.im_ctree.specs.Shape.{declarator_of}
 use Rattle.im_ctree.specs.declared.declarator.Declarator.{Declarator, out-Declarator}
-use Rattle.im_ctype.specs.Types.{CType, is_function}
+use Rattle.im_ctype.specs.Types.{CType, void, integer, pointer, array, unsized, struct, function, no_types, more_types, is_function}
 use Rattle.im_rules.specs.BodyBreaks.{declarator_token}
 use Rattle.im_rules.specs.Breaks.{a_declarator}
 use Rattle.im_rules.specs.Context.{in_new_scope}
@@ -13,7 +13,7 @@ use Rattle.im_rules.specs.Declared as d
 use Rattle.im_rules.specs.Demands.{Meets, Refuses}
 use Rattle.im_rules.specs.FileScope.{FilePlace, of_the_file, file_asks, file_entity, own_parameters, has_own_parameters, body_asks}
 use Rattle.im_rules.specs.Outline.{Outline, Nearest, bare, a_star, a_length, parameters, nearest, suffix_or}
-use Rattle.im_rules.specs.Rules.{rule_9_void, all_named, rule_11, is_typedef}
+use Rattle.im_rules.specs.Rules.{all_named, takes_nothing, rule_11, is_typedef}
 use Rattle.im_rules.specs.Scopes.{Scopes, named}
 use Rattle.im_rules.specs.Strings.{strings_of_declarator}
 use Rattle.im_rules.specs.Typed.{AreParameters}
@@ -40,6 +40,7 @@ use Rattle.im_check_declarators.specs.Declarators.{DeclaratorDone, IsKind, IsFun
 use Rattle.im_check_declarators.specs.Formals as df
 use Rattle.im_check_declarators.specs.Formals.{declared_from}
 use Rattle.im_check_declarators.specs.Functions.{IsSame}
+use Rattle.im_outline.specs.Walked.{has_parameters}
 use Rattle.im_check_enums.specs.declared.specifiers.Base.{Base}
 use Rattle.im_check_enums.specs.Places.{Passed, past, place_at, IsBase, IsFileFault}
 use Rattle.im_check_names.specs.Asked.{asks_of, entity_in, IsNamed}
@@ -53,24 +54,37 @@ use Rattle.im_check_functions.proofs.Strings.{specified_strings}
 
 -- what a body is asked, by the type and by what stands next to the name
 
-other_kind : (a : Bool) → a && false ≡ false
-other_kind true = refl
-other_kind false = refl
+pub without_parameters : (n : Nearest) (a : CType) (own : Bool) → has_parameters n ≡ own → own ≡ false → has_own_parameters n && rule_11 a (own_parameters n) ≡ false
+without_parameters bare a own h g = refl
+without_parameters a_star a own h g = refl
+without_parameters a_length a own h g = refl
+without_parameters (parameters ps) a own h g = absurd cc
 
-by_nearest : (n : Nearest) (a : CType) → has_own_parameters n && rule_11 a (own_parameters n) ≡ is_function a && has_named n
-by_nearest bare a = sym (other_kind (is_function a))
-by_nearest a_star a = sym (other_kind (is_function a))
-by_nearest a_length a = sym (other_kind (is_function a))
-by_nearest (parameters ps) a = refl
+empty_list : (a : CType) (named : Bool) → takes_nothing a ≡ true → is_function a && (takes_nothing a || named) ≡ true
+empty_list (function r no_types) named h = refl
+empty_list (function r (more_types b bs)) named h = absurd cc
+empty_list void named h = absurd cc
+empty_list (integer k) named h = absurd cc
+empty_list (pointer c b) named h = absurd cc
+empty_list (array e n) named h = absurd cc
+empty_list (unsized e) named h = absurd cc
+empty_list (struct n) named h = absurd cc
 
-named_suffix : (a : ℕ) (k : xk.SuffixKind) (ps : Vec Parameter Global) (rest : t.Suffixes) → k ≡ xk.Function ps → has_named (suffix_or (with_suffix a k rest) bare) ≡ rule_9_void (parameters_from ps.items) || all_named (parameters_from ps.items)
-named_suffix a k ps rest is = ap (λ z. has_named (suffix_or z bare)) (ap (λ z. with_suffix a z rest) is ∙ function_suffix a ps rest)
+pub of_nothing : (n : Nearest) (a : CType) (own nothing : Bool) → has_parameters n ≡ own → own ≡ true → takes_nothing a ≡ nothing → nothing ≡ true → has_own_parameters n && rule_11 a (own_parameters n) ≡ true
+of_nothing bare a own nothing h g f e = absurd cc
+of_nothing a_star a own nothing h g f e = absurd cc
+of_nothing a_length a own nothing h g f e = absurd cc
+of_nothing (parameters ps) a own nothing h g f e = empty_list a (all_named ps) (f ∙ e)
 
-pub one_word : (a : ℕ) (k : xk.SuffixKind) (ps : Vec Parameter Global) (rest : t.Suffixes) (w : Bool) → k ≡ xk.Function ps → rule_9_void (parameters_from ps.items) ≡ w → w ≡ true → has_named (suffix_or (with_suffix a k rest) bare) ≡ w
-one_word a k ps rest w is h g = named_suffix a k ps rest is ∙ ap (λ z. z || all_named (parameters_from ps.items)) (h ∙ g) ∙ sym g
+pub of_named : (n : Nearest) (a : CType) (own nothing is named : Bool) → has_parameters n ≡ own → own ≡ true → takes_nothing a ≡ nothing → nothing ≡ false → is_function a ≡ is → has_named n ≡ named → has_own_parameters n && rule_11 a (own_parameters n) ≡ is && named
+of_named bare a own nothing is named h g f e k m = absurd cc
+of_named a_star a own nothing is named h g f e k m = absurd cc
+of_named a_length a own nothing is named h g f e k m = absurd cc
+of_named (parameters ps) a own nothing is named h g f e k m =
+    ap (λ z. is_function a && (z || all_named ps)) (f ∙ e) ∙ ap (λ z. z && all_named ps) k ∙ ap (λ z. is && z) m
 
-pub all_words : (a : ℕ) (k : xk.SuffixKind) (ps : Vec Parameter Global) (rest : t.Suffixes) (w n : Bool) → k ≡ xk.Function ps → rule_9_void (parameters_from ps.items) ≡ w → w ≡ false → n ≡ all_named (parameters_from ps.items) → has_named (suffix_or (with_suffix a k rest) bare) ≡ n
-all_words a k ps rest w n is h g e = named_suffix a k ps rest is ∙ ap (λ z. z || all_named (parameters_from ps.items)) (h ∙ g) ∙ sym e
+pub named_suffix : (a : ℕ) (k : xk.SuffixKind) (ps : Vec Parameter Global) (rest : t.Suffixes) (named : Bool) → k ≡ xk.Function ps → named ≡ all_named (parameters_from ps.items) → has_named (suffix_or (with_suffix a k rest) bare) ≡ named
+named_suffix a k ps rest named is e = ap (λ z. has_named (suffix_or z bare)) (ap (λ z. with_suffix a z rest) is ∙ function_suffix a ps rest) ∙ sym e
 
 pub nothing_other : (x : Option ℕ) → is_some x ≡ false → x ≡ None
 nothing_other None h = refl
@@ -79,10 +93,9 @@ nothing_other (Some k) h = absurd cc
 pub head_token : (e : Declarator) → declarator_token (declarator_of e) ≡ (out-Declarator e).at
 head_token e = ap declarator_token (declarator_shape e)
 
-pub named_by : (e : t.Declarator) (at : ℕ) (x : Name) (ss : t.Suffixes) (y : d.Declared) (is has : Bool) → e ≡ t.declarator at [] (t.name_core x) ss
-    → is_function y.type ≡ is → has_named (suffix_or ss bare) ≡ has → has_own_parameters (nearest e) && rule_11 y.type (own_parameters (nearest e)) ≡ is && has
-named_by e at x ss y is has shaped f g =
-    by_nearest (nearest e) y.type ∙ ap (λ (z : t.Declarator). is_function y.type && has_named (nearest z)) shaped ∙ ap (λ z. z && has_named (suffix_or ss bare)) f ∙ ap (λ z. is && z) g
+pub admitted_by : (e : t.Declarator) (at : ℕ) (x : Name) (ss : t.Suffixes) (y : d.Declared) (admits : Bool) → e ≡ t.declarator at [] (t.name_core x) ss
+    → has_own_parameters (suffix_or ss bare) && rule_11 y.type (own_parameters (suffix_or ss bare)) ≡ admits → has_own_parameters (nearest e) && rule_11 y.type (own_parameters (nearest e)) ≡ admits
+admitted_by e at x ss y admits shaped h = ap (λ (z : t.Declarator). has_own_parameters (nearest z) && rule_11 y.type (own_parameters (nearest z))) shaped ∙ h
 
 pub may_have : (e : t.Declarator) (y : d.Declared) → has_own_parameters (nearest e) && rule_11 y.type (own_parameters (nearest e)) ≡ true → Meets (body_asks e y)
 may_have e y h = (h, tt)

@@ -1,8 +1,8 @@
 -- What is answered of the head of a function definition.
-use Rattle.std.specs.Prelude.{◌≡◌, ℕ, Bool, true, false, ◌||◌, List, map, None}
+use Rattle.std.specs.Prelude.{◌≡◌, ℕ, Bool, true, false, List, map, None}
 use Rattle.im_ctree.specs.Tree as t
 use Rattle.im_rules.specs.TypeTests.{result_of}
-use Rattle.im_rules.specs.Rules.{rule_9_void, all_named}
+use Rattle.im_rules.specs.Rules.{all_named}
 use Rattle.im_rules.specs.Outline.{Nearest, parameters, nearest}
 use Rattle.im_rules.specs.Context.{in_new_scope}
 use Rattle.im_rules.specs.Demands.{Meets}
@@ -24,9 +24,9 @@ use Rattle.im_check_file.specs.declared.file.File.{File}
 use Rattle.im_check_file.specs.Files.{place_of, values_of, IsOfUnit}
 use Rattle.im_check_functions.specs.declared.heads.Headed.{Headed}
 
--- a body may stand behind a declarator with these parameters next to its name
+-- parameters stand next to the name, and have names
 abbrev pub has_named : Nearest → Bool
-has_named (parameters ps) = rule_9_void ps || all_named ps
+has_named (parameters ps) = all_named ps
 has_named n = false
 
 -- a head is typed and what is asked of it is so; the file's place behind it is that of the answer

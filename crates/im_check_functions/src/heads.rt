@@ -1,5 +1,5 @@
 //! Heads of function definitions (C11 6.9.1).
-ghost use Rattle.std.specs.Prelude.{◌≡◌, [], ◌∷◌, ◌&&◌, ◌||◌, true, map, length, nat_eq, MatchResult};
+ghost use Rattle.std.specs.Prelude.{◌≡◌, ◌∷◌, ◌&&◌, true, map, MatchResult};
 ghost use Rattle.im_ctree.specs.Tree as t;
 ghost use Rattle.im_ctree.specs.Shape.{declarator_of};
 ghost use Rattle.im_ctype.specs.Types as y;
@@ -21,7 +21,7 @@ use im_check_file::File;
 use im_check_names::{asked, declared};
 use im_ctree::{Core, Declarator, Parameter, Specifier, Suffix, SuffixKind};
 use im_names::{Name, Scope};
-use im_outline::name_in;
+use im_outline::{is_function as has_parameters, name_in};
 use im_plain::first_in_declarator;
 use im_terms::{PlainType, Stop};
 use std::alloc::Global;
@@ -67,37 +67,13 @@ fn all_named(parameters: &[Parameter]) -> bool
     true
 }
 
-fn is_one(specifiers: &[Specifier]) -> bool
-    ensures { result ≡ nat_eq (length specifiers.now) 1 }
-{
-    specifiers.len() == 1
-}
-
-fn is_unnamed_word(parameter: &Parameter) -> bool
-    ensures { u.rule_9_void (parameters_from (parameter.now ∷ [])) ≡ result }
-{
-    match &parameter.declarator {
-        None => is_one(&parameter.specifiers.items),
-        Some(_) => false,
-    }
-}
-
-fn is_one_word(parameters: &[Parameter]) -> bool
-    ensures { u.rule_9_void (parameters_from parameters.now) ≡ result }
-{
-    if parameters.len() != 1 {
-        return false;
-    }
-    is_unnamed_word(&parameters[0])
-}
-
 fn names_all(suffix: &Suffix) -> bool
     ensures { (rest : t.Suffixes) → has_named
         (o.suffix_or (with_suffix suffix.now.at suffix.now.kind rest) o.bare) ≡ result }
 {
     match &suffix.kind {
         SuffixKind::Array(_) => false,
-        SuffixKind::Function(parameters) => is_one_word(parameters) || all_named(parameters),
+        SuffixKind::Function(parameters) => all_named(parameters),
     }
 }
 
@@ -119,6 +95,29 @@ fn is_function(kind: &Kind) -> bool
     }
 }
 
+fn takes_nothing(kind: &Kind) -> bool
+    ensures { u.takes_nothing (type_by kind.now) ≡ result }
+{
+    match kind {
+        Kind::Plain(_) => false,
+        Kind::Function(signature, _) => signature.parameters.len() == 0,
+    }
+}
+
+/// Whether the type and the parameters next to the name let a body stand (C11 6.9.1p2, p5).
+fn admits_body(kind: &Kind, suffixes: &[Suffix]) -> bool
+    ensures { let n = o.suffix_or (suffixes_from suffixes.now) o.bare in
+        f.has_own_parameters n && u.rule_11 (type_by kind.now) (f.own_parameters n) ≡ result }
+{
+    if !has_parameters(suffixes) {
+        return false;
+    }
+    if takes_nothing(kind) {
+        return true;
+    }
+    is_function(kind) && are_named(suffixes)
+}
+
 /// Whether a body may stand behind it (rule 11). A declarator that no plain tree has is answered by want of memory.
 fn may_have_body(d: &Declarator, y: &Declared) -> Result<(), Stop>
     ensures { MatchResult result (λ _. Meets (f.body_asks (declarator_of d.now)
@@ -128,7 +127,7 @@ fn may_have_body(d: &Declarator, y: &Declared) -> Result<(), Stop>
     if name_in(d).is_none() {
         return Err(Stop::Memory);
     }
-    if is_function(&y.kind) && are_named(&d.suffixes) {
+    if admits_body(&y.kind, &d.suffixes) {
         Ok(())
     } else {
         Err(refused(11, d.at))

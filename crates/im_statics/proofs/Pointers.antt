@@ -29,6 +29,15 @@ there : (b : Bool) (x y : CellValue) → b ≡ false → (if b then x else y) �
 there true x y e = cc
 there false x y e = refl
 
+next : (k : ℕ) → k + 1 ≡ suc k
+next k = omega arith
+
+start : (n : ℕ) → n ≡ 0 + n
+start n = omega arith
+
+further : (k n : ℕ) → k + suc n ≡ suc k + n
+further k n = omega arith
+
 -- the word lies in none of the statics, nor directly behind one
 abbrev pub IsOutside : Linking → ℕ → ℕ → StaticObject → Type 0
 IsOutside p w n s = (w < p.at (Named n)) ⊎ (p.at (Named n) + s.size < w)
@@ -45,12 +54,8 @@ nowhere p k (s ∷ ss) [] w named out = absurd named
 nowhere p k (s ∷ ss) (o ∷ os) w named out =
     let first : IsOutside p w k s = (let q : k + 0 ≡ k = omega arith in subst (λ n. IsOutside p w n s) q (out 0 s refl)) in
     there (reaches o w) (Inside k (w - o.at)) (place_from (k + 1) os w) (not_reached p k s o w named.0 first)
-    ∙ further (k + 1) (omega arith)
-  where
-    further : (j : ℕ) → j ≡ suc k → place_from j os w ≡ Local
-    further j e =
-        subst (λ n. place_from n os w ≡ Local) (sym e)
-        (nowhere p (suc k) ss os w named.1 (λ n t f. let q : k + suc n ≡ suc k + n = omega arith in subst (λ n. IsOutside p w n t) q (out (suc n) t f)))
+    ∙ ap (λ n. place_from n os w) (next k)
+    ∙ nowhere p (suc k) ss os w named.1 (λ n t f. let q : k + suc n ≡ suc k + n = omega arith in subst (λ n. IsOutside p w n t) q (out (suc n) t f))
 
 -- it lies in the n-th of them, and in no other one
 found : (p : Linking) (k : ℕ) (ss : List StaticObject) (os : List ObjectValue) (w n i : ℕ) (s : StaticObject) → AreNamed p k ss os → slice_get ss n ≡ Some s → w ≡ p.at (Named (k + n)) + i → i ≤ s.size
@@ -71,15 +76,10 @@ found p k (t ∷ ss) (o ∷ os) w zero i s named is at fits out =
 found p k (t ∷ ss) (o ∷ os) w (suc n) i s named is at fits out =
     let first : IsOutside p w k t = (let q : k + 0 ≡ k = omega arith in subst (λ j. IsOutside p w j t) q (out 0 t refl (omega arith))) in
     there (reaches o w) (Inside k (w - o.at)) (place_from (k + 1) os w) (not_reached p k t o w named.0 first)
-    ∙ further (k + 1) (omega arith)
-  where
-    further : (j : ℕ) → j ≡ suc k → place_from j os w ≡ Inside (k + suc n) i
-    further j e =
-        let q : k + suc n ≡ suc k + n = omega arith in
-        let next : place_from (suc k) os w ≡ Inside (suc k + n) i =
-        found p (suc k) ss os w n i s named.1 is (at ∙ ap (λ z. p.at (Named z) + i) q) fits
-        (λ m u f ne. let r : k + suc m ≡ suc k + m = omega arith in subst (λ z. IsOutside p w z u) r (out (suc m) u f (omega arith))) in
-        ap (λ z. place_from z os w) e ∙ next ∙ ap (λ z. Inside z i) (sym q)
+    ∙ ap (λ z. place_from z os w) (next k)
+    ∙ found p (suc k) ss os w n i s named.1 is (at ∙ ap (λ z. p.at (Named z) + i) (further k n)) fits
+    (λ m u f ne. subst (λ z. IsOutside p w z u) (further k m) (out (suc m) u f (omega arith)))
+    ∙ ap (λ z. Inside z i) (sym (further k n))
 
 -- a static's shape is there
 pub shaped : (statics : List StaticObject) (n : ℕ) (s : StaticObject) → slice_get statics n ≡ Some s → static_shapes statics (Named n) ≡ Some (shape_of s.size s.cells)
@@ -89,7 +89,7 @@ shaped statics n s e = ap (λ (o : Option StaticObject). shape_in o) e
     shape_in None = None
     shape_in (Some s) = Some (shape_of s.size s.cells)
 
-number : Name → ℕ
+abbrev number : Name → ℕ
 number (Named n) = n
 number _ = 0
 
@@ -107,7 +107,9 @@ module _ (p : Linking) (statics : List StaticObject) (objects : List ObjectValue
   static_place w n i s is at fits =
       let from = laid.from (Named n) (shape_of s.size s.cells) (shaped statics n s is) in
       let some : (w == 0) ≡ false = not_zero w (omega arith) in
-      there (w == 0) ANull (place_from 0 objects w) some ∙ found p 0 statics objects w n i s named is at fits (others w n i s is at fits)
+      there (w == 0) ANull (place_from 0 objects w) some
+      ∙ found p 0 statics objects w n i s named is (at ∙ ap (λ z. p.at (Named z) + i) (start n)) fits (λ m t f ne. subst (λ z. IsOutside p w z t) (start m) (others w n i s is at fits m t f ne))
+      ∙ ap (λ z. Inside z i) (sym (start n))
     where
       not_zero : (w : ℕ) → 0 < w → (w == 0) ≡ false
       not_zero w l = grind (arith, nat_tests)
@@ -117,7 +119,7 @@ module _ (p : Linking) (statics : List StaticObject) (objects : List ObjectValue
   stack_place w high =
       let some : (w == 0) ≡ false = not_zero w (omega arith) in
       there (w == 0) ANull (place_from 0 objects w) some
-      ∙ nowhere p 0 statics objects w named (λ n s e. inr (let q = laid.inside (Named n) (shape_of s.size s.cells) (shaped statics n s e) in omega arith))
+      ∙ nowhere p 0 statics objects w named (λ n s e. subst (λ z. IsOutside p w z s) (start n) (inr (let q = laid.inside (Named n) (shape_of s.size s.cells) (shaped statics n s e) in omega arith)))
     where
       not_zero : (w : ℕ) → 0 < w → (w == 0) ≡ false
       not_zero w l = grind (arith, nat_tests)

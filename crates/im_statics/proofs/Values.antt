@@ -15,7 +15,7 @@ use Rattle.im_image.specs.Contents.{ObjectValue}
 use Rattle.im_device.specs.Variables.{value_of, pointer_of}
 use Rattle.im_operators.specs.Tables.{extension_of, cell_word}
 use Rattle.im_operators.proofs.Words.{as_word, word_of, loaded_wrap}
-use Rattle.im_store.specs.Objects.{Name, Named, Slot, Link, Object, Value, Number, Null, Pointer, Unset, shape_of}
+use Rattle.im_store.specs.Objects.{Name, Named, Slot, Link, Object, static, Value, Number, Null, Pointer, Unset, shape_of}
 use Rattle.im_store.specs.Statics.{StaticObject, static_shapes}
 use Rattle.im_store.specs.Outcomes.{static_shown, place_shown, cell_shown}
 use Rattle.im_typed.specs.Typing.{IsInteger, HasPlace}
@@ -115,7 +115,8 @@ module _ (p : Linking) (objects : List ObjectValue) (statics : List StaticObject
   placed_same : (o : Object) (i w : ℕ) → IsShown statics Ptr (place_shown o i) → w ≡ sum_of (address p o) i → i ≤ p.size o.name → IsPlaced p o → pointer_of objects w ≡ place_shown o i
   placed_same o i w shown at fits (inl (n, e)) =
       let right : IsShown statics Ptr (Inside n i) = subst (λ z. IsShown statics Ptr (place_shown z i)) e shown in
-      let place : w ≡ sum_of (p.at (Named n)) i = at ∙ ap (λ z. sum_of (address p z) i) e in
+      let there : w ≡ sum_of (address p (static n)) i = at ∙ ap (λ z. sum_of (address p z) i) e in
+      let place : w ≡ sum_of (p.at (Named n)) i = omega arith in
       in_static n i w (slice_get statics n) refl right.1 place ∙ ap (λ z. place_shown z i) (sym e)
   placed_same o i w shown at fits (inr (some, low, high)) =
       stack_place p statics objects laid named w (omega arith) ∙ sym (local_shown (o.activation == 0) o.name i (not_zero o.activation some))

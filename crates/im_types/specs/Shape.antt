@@ -1,4 +1,5 @@
 -- The types of the definitions that Rust values stand for.
+use Rattle.std.specs.Prelude.{List, [], ◌∷◌, map}
 use Rattle.im_ctype.specs.Types.{CType, void, integer, pointer, array, unsized, struct, function, CTypes, no_types, more_types}
 use Rattle.im_types.specs.declared.tree.Type as rust
 
@@ -15,3 +16,11 @@ abbrev mutual
   pub types_of : {m : _} → rust.Row_of-Type m → CTypes
   types_of rust.end_of-Type = no_types
   types_of (rust.more_of-Type t rest) = more_types (type_of t) (types_of rest)
+
+-- types in their order
+abbrev pub listed : List CType → CTypes
+listed [] = no_types
+listed (t ∷ ts) = more_types t (listed ts)
+
+abbrev pub types_in : List rust.Type → CTypes
+types_in ts = listed (map {A = rust.Type} type_of ts)

@@ -1,0 +1,8 @@
+use Rattle.std.proofs.Common.{◌≡◌, drop}
+use Rattle.im_ctype.specs.Table.{members_in, types_of}
+use Rattle.im_rules.specs.Rules as u
+use Rattle.im_conversions.proofs.free.are_free.Given as goal
+
+abbrev pub invariant-loop-member : goal.invariant-loop-member
+invariant-loop-member l =
+    u.members_free l.free (members_in (types_of l.table) l.members) ≡ u.members_free l.free (members_in (types_of l.table) (drop l.member-index l.members))
