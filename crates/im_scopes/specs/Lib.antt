@@ -2,3 +2,4 @@ pub mod Shape
 pub mod Search
 pub mod Indexed
 pub mod Contexts
+pub mod Predeclared

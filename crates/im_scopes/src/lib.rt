@@ -4,8 +4,10 @@
 mod entity;
 mod lookup;
 mod scope;
+mod start;
 #[cfg(test)]
 mod tests;
 
 pub use entity::{Callee, Entity, Entry, Storage, Tag};
 pub use scope::Scope;
+pub use start::predeclared;
