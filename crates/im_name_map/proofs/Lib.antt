@@ -1,0 +1,3 @@
+pub mod SameNames
+pub mod Numbers
+pub mod Places

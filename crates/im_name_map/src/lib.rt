@@ -1,0 +1,12 @@
+//! Names by their bytes: the number that a name has, and the place that it has in a list, each in near constant time.
+#![tactic(auto)]
+
+mod list;
+mod map;
+mod tags;
+#[cfg(test)]
+mod tests;
+
+pub use list::NameList;
+pub use map::NameMap;
+pub use tags::TagList;

@@ -1,0 +1,5 @@
+pub mod Search
+pub mod Meaning
+pub mod Indexed
+pub mod Found
+pub mod Steps

@@ -1,0 +1,5 @@
+pub mod Shape
+pub mod Search
+pub mod Indexed
+pub mod Contexts
+pub mod Predeclared
