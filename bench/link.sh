@@ -129,5 +129,5 @@ fn main(rt: HostRuntime) -> io::Result<()> {
 }
 MAIN
 cd "$work/crates/link_bench"
-rt try --seconds 300 > "$work/said" 2>&1 || { cat "$work/said"; exit 1; }
+rt try --seconds 600 > "$work/said" 2>&1 || { cat "$work/said"; exit 1; }
 grep 'words,' "$work/said"
