@@ -1,0 +1,4 @@
+pub mod Shown
+pub mod Plans
+pub mod Living
+pub mod Changes
