@@ -1,5 +1,6 @@
 -- Heads of function definitions.
-use Rattle.std.proofs.Common.{◌≡◌, ℕ, Bool, true, false, ◌&&◌, ◌||◌, is_some, List, [], ◌∷◌, ◌++◌, map, Option, Some, None, Vec, Global, inl, refl, sym, ap, ◌∙◌, subst}
+use Rattle.std.proofs.Common.{◌≡◌, ℕ, Bool, true, false, ◌&&◌, ◌||◌, is_some, List, [], ◌∷◌, ◌++◌, length, nat_eq, arith, map, Option, Some, None, Vec, Global, inl, refl, sym, ap, ◌∙◌, subst}
+use Rattle.std.proofs.lemmas.Bool.{ne_eqb}
 use Rattle.std.proofs.lemmas.List.{append-nil}
 use Rattle.im_word.specs.Words.{Name}
 use Rattle.im_ctree.specs.Tree as t
@@ -25,7 +26,8 @@ use Rattle.im_terms.specs.declared.stop.Stop.TheVariants.{Rule, Memory}
 use Rattle.im_terms.specs.Answers.{IsRefusal}
 use Rattle.im_names.specs.declared.entity.Signature.{Signature}
 use Rattle.im_names.specs.declared.scope.Scope.{Scope}
-use Rattle.im_names.specs.Shape.{context_of, bytes_of, scopes_of, outline_of}
+use Rattle.im_terms.specs.declared.plain.PlainType.{PlainType}
+use Rattle.im_names.specs.Shape.{context_of, bytes_of, scopes_of, outline_of, types_in, type_of_function}
 use Rattle.im_specifiers.specs.Specified.{qualified_of}
 use Rattle.im_plain.specs.Lists.{parameters_from, with_suffix}
 use Rattle.im_plain.specs.Plain.{other_suffix, other_declarator, other_parameters}
@@ -35,6 +37,7 @@ use Rattle.im_ctree.specs.declared.declarator.SuffixKind as xk
 use Rattle.im_check_declarators.specs.declared.formal.Formal.{Formal}
 use Rattle.im_check_declarators.specs.declared.heads.Declared.{Declared}
 use Rattle.im_check_declarators.specs.declared.heads.DeclaredHead.{DeclaredHead}
+use Rattle.im_check_declarators.specs.declared.heads.Kind.{Kind}
 use Rattle.im_check_declarators.specs.declared.heads.Kind.TheVariants as k
 use Rattle.im_check_declarators.specs.Declarators.{DeclaratorDone, IsKind, IsFunction, declared_of, type_by}
 use Rattle.im_check_declarators.specs.Formals as df
@@ -82,6 +85,13 @@ of_named a_star a own nothing is named h g f e k m = absurd cc
 of_named a_length a own nothing is named h g f e k m = absurd cc
 of_named (parameters ps) a own nothing is named h g f e k m =
     ap (λ z. is_function a && (z || all_named ps)) (f ∙ e) ∙ ap (λ z. z && all_named ps) k ∙ ap (λ z. is && z) m
+
+pub none_told : (r : CType) (ps : List PlainType) → takes_nothing (function r (types_in ps)) ≡ nat_eq (length ps) 0
+none_told r [] = refl
+none_told r (p ∷ ps) = sym (ne_eqb (length (p ∷ ps)) 0 (λ e. omega arith))
+
+pub lists_nothing : (kind : Kind) (s : Signature) (fs : Vec Formal Global) (none : Bool) → kind ≡ k.Function s fs → takes_nothing (type_of_function s) ≡ none → takes_nothing (type_by kind) ≡ none
+lists_nothing kind s fs none is h = ap (λ z. takes_nothing (type_by z)) is ∙ h
 
 pub named_suffix : (a : ℕ) (k : xk.SuffixKind) (ps : Vec Parameter Global) (rest : t.Suffixes) (named : Bool) → k ≡ xk.Function ps → named ≡ all_named (parameters_from ps.items) → has_named (suffix_or (with_suffix a k rest) bare) ≡ named
 named_suffix a k ps rest named is e = ap (λ z. has_named (suffix_or z bare)) (ap (λ z. with_suffix a z rest) is ∙ function_suffix a ps rest) ∙ sym e

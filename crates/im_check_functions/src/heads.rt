@@ -8,7 +8,7 @@ ghost use Rattle.im_rules.specs.Demands.{Meets};
 ghost use Rattle.im_rules.specs.FileScope as f;
 ghost use Rattle.im_rules.specs.Outline as o;
 ghost use Rattle.im_rules.specs.Rules as u;
-ghost use Rattle.im_names.specs.Shape.{bytes_of};
+ghost use Rattle.im_names.specs.Shape.{bytes_of, types_in};
 ghost use Rattle.im_terms.specs.Answers.{IsNoRule, IsRefusal};
 ghost use Rattle.im_specifiers.specs.Lists.{list_from};
 ghost use Rattle.im_plain.specs.Lists.{with_parameter, parameters_from, with_suffix, suffixes_from, declarator_from};
@@ -95,12 +95,18 @@ fn is_function(kind: &Kind) -> bool
     }
 }
 
+fn is_none(parameters: &[PlainType]) -> bool
+    ensures { (r : y.CType) → u.takes_nothing (y.function r (types_in parameters.now)) ≡ result }
+{
+    parameters.len() == 0
+}
+
 fn takes_nothing(kind: &Kind) -> bool
     ensures { u.takes_nothing (type_by kind.now) ≡ result }
 {
     match kind {
         Kind::Plain(_) => false,
-        Kind::Function(signature, _) => signature.parameters.len() == 0,
+        Kind::Function(signature, _) => is_none(&signature.parameters),
     }
 }
 

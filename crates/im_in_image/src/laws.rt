@@ -15,8 +15,8 @@ pub fn in_image_law()
     places_law();
 }
 
-/// Where statics hold numbers alone, a packed program meets the line of the passes that selection
-/// is, if the machine follows its code.
+/// A packed program meets the line of the passes that selection is, if the machine follows its
+/// code.
 pub fn selects_law()
     ensures { SelectsLaw }
 {

@@ -1,0 +1,14 @@
+mod Fit
+mod Bindings
+mod Bare
+mod Nodes
+mod Declarators
+mod Rows
+mod Expressions
+mod Needed
+mod Units
+mod Spellings
+mod Elements
+mod Numerals
+mod Texts
+mod Tokens
