@@ -129,9 +129,9 @@ fn send_report<S: Sink>(
     built: Option<&Built>,
     run: &Run,
 ) -> Result<(), Failed>
-    ensures { Sends (report_with (option_map (λ b. b.now) built) image.now (ended_of run.now.machine)
-        (variables_of (λ vars. vars.items) run.now.variables)) result (S.state err.old)
-        (S.state err.new) }
+    ensures { Sends (report_with (option_map (λ b. b.now) built.entry) image.now
+        (ended_of run.now.machine) (variables_of (λ vars. vars.items) run.now.variables)) result
+        (S.state err.old) (S.state err.new) }
 {
     match built {
         Some(built) => match send_built(err, built) {
@@ -150,7 +150,7 @@ pub fn tell_run<O: Sink, E: Sink>(
     built: Option<&Built>,
     run: &Run,
 ) -> u8
-    ensures { TellsRun (report_with (option_map (λ b. b.now) built) image.now
+    ensures { TellsRun (report_with (option_map (λ b. b.now) built.entry) image.now
         (ended_of run.now.machine) (variables_of (λ vars. vars.items) run.now.variables))
         run.now.machine.form
         (ended_of run.now.machine) (O.state out.old) (O.state out.new) (E.state err.old)

@@ -1,4 +1,15 @@
+use Rattle.std.proofs.Common.{subst}
+use Rattle.im_cli.specs.Named.{HasBounds}
 use Rattle.im_cmd.proofs.entry.carry_out.Goals as goal
+
+pub build_source-requires : goal.build_source-requires
+build_source-requires g c = subst HasBounds c.in-Build.is c.requires
+
+pub run_source-requires : goal.run_source-requires
+run_source-requires g c = subst HasBounds c.in-Run.is c.requires
+
+pub report-requires : goal.report-requires
+report-requires g c = subst HasBounds c.in-Report.is c.requires
 
 pub returns-in-Build : goal.returns-in-Build
 returns-in-Build g c = rw c.in-Build.is c.build_source.ensures
