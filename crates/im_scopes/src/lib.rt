@@ -4,8 +4,6 @@
 mod entity;
 mod lookup;
 mod scope;
-#[cfg(test)]
-mod tests;
 
 pub use entity::{Callee, Entity, Entry, Storage, Tag};
 pub use scope::Scope;

@@ -1,6 +1,6 @@
 -- One step more on the way through a unit.
-use Rattle.std.proofs.Common.{◌≡◌, ℕ, Bool, true, false, ◌&&◌, ◌||◌, List, [], ◌∷◌, ◌++◌, Option, map, reverse, length, if◌then◌else◌, refl, sym, ap, ◌∙◌}
-use Rattle.std.proofs.lemmas.List.{reverse-append}
+use Rattle.std.proofs.Common.{◌≡◌, ℕ, ◌+◌, ◌<◌, drop, get_or, Bool, true, false, ◌&&◌, ◌||◌, List, [], ◌∷◌, ◌++◌, Option, map, reverse, length, if◌then◌else◌, refl, sym, ap, ◌∙◌}
+use Rattle.std.proofs.lemmas.List.{reverse-append, drop_more}
 use Rattle.im_word.specs.Words.{Name}
 use Rattle.im_ctree.specs.Tree as t
 use Rattle.im_ctree.specs.Shape.{specifiers_of}
@@ -91,3 +91,7 @@ pub outline-made : (w : Walk) (whole : o.Walk) (statics bodies : List Name)
     → bodies ≡ o.bodies_among (map outlined_of w.items.items)
     → made statics bodies w.lists ≡ o.outline_of whole
 outline-made w whole statics bodies e s b = (λ i. made (s i) (b i) w.lists) ∙ ap o.outline_of e
+
+-- the items from the i-th on
+pub next : {X : Type 0} (xs : List X) (i : ℕ) (x : X) → i < length xs → x ≡ get_or xs i x → drop i xs ≡ x ∷ drop (i + 1) xs
+next xs i x within is = drop_more xs i x within ∙ ap (λ y. y ∷ drop (i + 1) xs) (sym is)

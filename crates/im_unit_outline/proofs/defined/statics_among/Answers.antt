@@ -1,6 +1,7 @@
-use Rattle.std.proofs.Common.{rules, map, drop, ◌+◌}
+use Rattle.std.proofs.Common.{[], map, drop, ◌+◌, ap, sym, ◌∙◌}
+use Rattle.im_rules.specs.Outline as o
 use Rattle.im_unit_outline.specs.Walked.{outlined_of}
-use Rattle.im_unit_outline.proofs.Walks.{objects-told}
+use Rattle.im_unit_outline.proofs.Walks.{objects-told, next}
 use Rattle.im_unit_outline.proofs.defined.statics_among.Goals as goal
 
 pub loop-item-preserved : goal.loop-item-preserved
@@ -9,4 +10,5 @@ loop-item-preserved c =
     let all = map outlined_of items in
     let told = objects-told all c.in_ok-defined.defined c.in_ok-defined.ensures in
     let step = c.in_ok-done.ensures all (map outlined_of (drop (c.loop-item.item-index + 1) items)) told in
-    search (rules, step)
+    let here = next items c.loop-item.item-index c.item-item.result c.loop-item-test.true c.item-item.is in
+    sym step ∙ ap (λ rest. o.objects_among all c.loop-item.done (map outlined_of rest)) (sym here) ∙ c.loop-item.invariant

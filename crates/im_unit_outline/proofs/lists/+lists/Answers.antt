@@ -1,18 +1,28 @@
-use Rattle.std.proofs.Common.{rules, IfOk, ◌≡◌, [], ◌∷◌, ◌++◌, ◌+◌, drop, ap, subst, sym, ◌∙◌, append_assoc}
+use Rattle.std.proofs.Common.{IfOk, ◌≡◌, [], ◌∷◌, ◌++◌, ◌+◌, drop, ap, subst, sym, ◌∙◌, append_assoc}
 use Rattle.std.specs.Option.{option_map}
 use Rattle.im_ctree.specs.Shape.{specifier_of}
 use Rattle.im_rules.specs.Outline as o
-use Rattle.im_tree_parts.specs.Lists.{list_from, members_from}
+use Rattle.im_ctree.specs.declared.specifier.Member.{out-Member}
+use Rattle.im_tree_parts.specs.Lists.{specifiers_in, members_from}
 use Rattle.im_tree_parts.proofs.Shapes.{struct_tree}
 use Rattle.im_unit_outline.proofs.Shapes.{member_lists}
+use Rattle.im_unit_outline.proofs.Walks.{next}
 use Rattle.im_unit_outline.proofs.lists.+lists.Goals as goal
 
 pub with_members-loop-member-preserved : goal.with_members-loop-member-preserved
 with_members-loop-member-preserved t c =
-    let rest = members_from (drop (c.loop-member.member-index + 1) c.args.members.now) in
-    let told = member_lists c.member-item.result rest in
+    let members = c.args.members.now in
+    let before = c.loop-member.done in
+    let item = c.member-item.result in
+    let rest = o.lists_of_members (members_from (drop (c.loop-member.member-index + 1) members)) in
+    let listed = o.lists_specified (specifiers_in (out-Member item).specifiers) in
+    let here = next members c.loop-member.member-index item c.loop-member-test.true c.member-item.is in
     let done = rw c.deref.ensures.value at c.in_ok-done.ensures in
-    search (rules, told, done, append_assoc)
+    ap (λ z. z ++ rest) done
+    ∙ append_assoc before listed rest
+    ∙ ap (λ z. before ++ z) (sym (member_lists item (members_from (drop (c.loop-member.member-index + 1) members))))
+    ∙ ap (λ z. before ++ o.lists_of_members (members_from z)) (sym here)
+    ∙ c.loop-member.invariant
 
 pub with_specifier-returns-in_ok-before-in-Struct : goal.with_specifier-returns-in_ok-before-in-Struct
 with_specifier-returns-in_ok-before-in-Struct t c =
