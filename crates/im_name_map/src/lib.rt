@@ -4,8 +4,6 @@
 mod list;
 mod map;
 mod tags;
-#[cfg(test)]
-mod tests;
 
 pub use list::NameList;
 pub use map::NameMap;

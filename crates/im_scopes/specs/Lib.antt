@@ -2,4 +2,3 @@ pub mod Shape
 pub mod Search
 pub mod Indexed
 pub mod Contexts
-pub mod Predeclared

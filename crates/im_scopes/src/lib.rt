@@ -4,10 +4,6 @@
 mod entity;
 mod lookup;
 mod scope;
-mod start;
-#[cfg(test)]
-mod tests;
 
 pub use entity::{Callee, Entity, Entry, Storage, Tag};
 pub use scope::Scope;
-pub use start::predeclared;
