@@ -1,0 +1,4 @@
+pub mod Small
+pub mod Shown
+pub mod Tasks
+pub mod Stack
