@@ -1,3 +1,5 @@
 pub mod Answers
+pub mod Calls
+pub mod Members
 pub mod Shape
 pub mod Told

@@ -5,11 +5,13 @@
 mod asked;
 mod assignments;
 mod build;
+mod calls;
 mod changes;
 mod constancy;
 mod convert;
 mod free;
 mod kinds;
+mod members;
 mod operand;
 mod operands;
 mod operations;
