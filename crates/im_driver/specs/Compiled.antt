@@ -14,7 +14,7 @@ use Rattle.im_parse_unit.specs.Spelling.{IsParsedText}
 use Rattle.im_front.specs.Reading.{IsWrong, IsOver, line_of_token}
 use Rattle.im_typed.specs.Program.{Prog, Func}
 use Rattle.im_typed.specs.Counts.{func_need}
-use Rattle.im_typed.specs.declared.frames.Frame.{Frame}
+use Rattle.im_typed.specs.declared.frames.Frame.{Frame as FrameOf}
 use Rattle.im_typed.specs.declared.program.Prog.{Prog as MadeProgram}
 use Rattle.im_typed.specs.ProgramOf.{program_of}
 use Rattle.im_rules.specs.TypedUnit.{TypedUnit}
@@ -42,14 +42,14 @@ pub record IsProgramOf (source : List ℕ) (prog : Prog) : Type 0 where
   pub typed : TypedUnit (tree_of tree) prog
 
 -- the frame that is told of a function has its name, and no more bytes than it may need
-pub record IsFrameOf (f : Func) (frame : Frame) : Type 0 where
+pub record IsFrameOf (f : Func) (frame : FrameOf) : Type 0 where
   pub name : frame.name.items ≡ f.name
   pub need : frame.size ≤ func_need f
 
 -- one frame for each function, in the order of their definitions
-pub record AreFrames (functions : List Func) (frames : List Frame) : Type 0 where
+pub record AreFrames (functions : List Func) (frames : List FrameOf) : Type 0 where
   pub count : length frames ≡ length functions
-  pub each : (i : ℕ) (f : Func) (frame : Frame) → slice_get functions i ≡ Some f → slice_get frames i ≡ Some frame → IsFrameOf f frame
+  pub each : (i : ℕ) (f : Func) (frame : FrameOf) → slice_get functions i ≡ Some f → slice_get frames i ≡ Some frame → IsFrameOf f frame
 
 -- the image keeps the meaning of the source's program, with the frames and the gap that are told: the headline
 pub record IsCompiled (source : List ℕ) (options : Options) (built : Built) : Type 0 where
