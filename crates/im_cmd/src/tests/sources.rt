@@ -36,10 +36,6 @@ const TWO_BYTES: &[u8] = b"int main(void){int a;a=putchar(65);return putchar(66)
 /// A hundred calls deep.
 const DEEP: &[u8] = b"int f(int n){if(n==0)return 0;return f(n-1);}int main(void){return f(100);}";
 
-/// As that, and one deeper.
-const DEEPER: &[u8] =
-    b"int f(int n){if(n==0)return 0;return f(n-1);}int main(void){return f(101);}";
-
 // A source, traces, an input, and room for an image that isn't there yet.
 fn shelf(alloc: Global, source: &[u8], failing: u64) -> Result<MemShelf, Fail> {
     let mut files: Vec<File> = Vec::new(alloc);
@@ -144,75 +140,6 @@ fn sources_are_run(rt: HostRuntime) -> Result<(), Fail> {
         tells(&rt, alloc, &mut shelf, &command, &wanted)?;
         let image = shelf.file("i").ok_or("no image")?;
         assert!(rt; image.starts_with(b"IMRV"));
-    }
-    Ok(())
-}
-
-// What a report of a source tells.
-fn reported(rt: &impl Abort, alloc: Global, source: &[u8]) -> Result<Vec<u8>, Fail> {
-    let words = words_of(alloc, "intermit report s.c")?;
-    let mut shelf = shelf(alloc, source, 0)?;
-    let mut out = MemSink::new(alloc, 2000, &[])?;
-    let mut err = MemSink::new(alloc, 1000, &[])?;
-    let status = top(alloc, &words, &mut shelf, &mut out, &mut err);
-    assert_eq!(rt; status, 0);
-    assert!(rt; shelf.file("i") == None);
-    Ok(Vec::from_slice(alloc, out.contents())?)
-}
-
-// The number at the end of the line that begins so.
-fn number_behind(told: &[u8], front: &[u8]) -> Option<u32> {
-    for line in told.split(|byte| *byte == b'\n') {
-        if let Some(rest) = line.strip_prefix(front) {
-            return core::str::from_utf8(rest).ok()?.parse::<u32>().ok();
-        }
-    }
-    None
-}
-
-#[test]
-fn frames_are_told(rt: HostRuntime) -> Result<(), Fail> {
-    let alloc = rt.alloc();
-    let told = reported(&rt, alloc, DEEP)?;
-    let main = number_behind(&told, b"frame main ").ok_or("a frame")?;
-    let f = number_behind(&told, b"frame f ").ok_or("a frame")?;
-    assert!(rt; main < 65536 && f < 65536);
-    let stack = main + 101 * f;
-    let rows: [(&[u8], u8, &[u8]); 2] = [
-        (DEEP, 0, b"status 0"),
-        (DEEPER, 1, b"intermit: stack exhausted"),
-    ];
-    for (source, status, lines) in rows {
-        let wanted = Wanted {
-            status,
-            output: b"",
-            lines,
-        };
-        let mut shelf = shelf(alloc, source, 0)?;
-        let command = format!(in alloc; "intermit run s.c i --stack {stack}")?;
-        tells(&rt, alloc, &mut shelf, &command, &wanted)?;
-    }
-    Ok(())
-}
-
-#[test]
-fn cuts_are_told(rt: HostRuntime) -> Result<(), Fail> {
-    let alloc = rt.alloc();
-    let told = reported(&rt, alloc, SQUARES)?;
-    assert!(rt; number_behind(&told, b"code ").is_some());
-    assert_eq!(rt; number_behind(&told, b"statics "), Some(8));
-    for ending in [
-        b" square entry".as_slice(),
-        b" main entry",
-        b" main return",
-        b" main loop",
-        b" putchar length",
-    ] {
-        let mut found = false;
-        for line in told.split(|byte| *byte == b'\n') {
-            found = found || (line.starts_with(b"cut 0000") && line.ends_with(ending));
-        }
-        assert!(rt; found);
     }
     Ok(())
 }
