@@ -270,7 +270,7 @@ abbrev pub rule_14 : Bool → Bool
 rule_14 is_constant = is_constant
 
 -- 15 (C11 6.6p3, p6). A constant expression has no object, call, assignment, `++`, `--`, `,`, `[]`, unary `*` or `&`, or
--- string, except under `sizeof`, and meets no cause U1 to U9 as it is evaluated. Its value; none where that isn't so.
+-- string, except under `sizeof`, and its evaluation is defined. Its value; none where that isn't so.
 abbrev pub rule_15 : Option ℤ → Bool
 rule_15 value = is_some value
 

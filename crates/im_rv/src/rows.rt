@@ -41,6 +41,7 @@ fn stores(address: u32, size: u32, value: u32) -> Effect
 }
 
 /// What an operation does at `pc`, with `a` and `b` in the registers that rs1 and rs2 name.
+#[inline(always)]
 pub(crate) fn row_of(op: Op, pc: u32, a: u32, b: u32, imm: u32) -> Effect
     ensures { result ≡ row op pc a b imm }
 {
