@@ -1,0 +1,101 @@
+ghost use Rattle.std.specs.Prelude.{◌≡◌, IfOk};
+ghost use Rattle.im_typed.specs.Programs.{start};
+ghost use Rattle.im_eval_machine.specs.Settings.{AreLayoutsOf, HasKnownTypes, setting_of};
+ghost use Rattle.im_eval_machine.specs.Shown.{IsIn};
+
+use crate::code::Code;
+use crate::machine::Machine;
+use crate::operator::small;
+use im_ctype::{Cell, TypeTable, cells, size_of};
+use im_eval_store::{Activation, Live, Memory, ObjectName, Place, Plan, Value};
+use im_num::NoMemory;
+use im_typed::{Constant, Static};
+use std::alloc::Global;
+
+/// The first value of a cell of a static.
+fn first_of(constant: Constant) -> Value {
+    match constant {
+        Constant::Number(value) => Value::Number(small(value)),
+        Constant::Null => Value::Null,
+        Constant::Inside { object, offset } => Value::Pointer(Place {
+            object: ObjectName {
+                activation: 0,
+                depth: 0,
+                number: object as u64,
+            },
+            offset,
+            level: 0,
+        }),
+    }
+}
+
+/// Cells get their first values; of several at one offset, the first one decides.
+fn set_cells(object: &mut Live, cells: &[Cell], constants: &[Constant]) {
+    let mut left = cells.len().min(constants.len());
+    while left > 0 {
+        left -= 1;
+        object.set(cells[left].offset, first_of(constants[left]));
+    }
+}
+
+/// A static object with its first values.
+fn static_object<'p>(
+    alloc: Global,
+    types: &TypeTable,
+    plan: &'p Plan,
+    variable: &Static,
+) -> Result<Live<'p>, NoMemory> {
+    let mut object = Live::new(alloc, plan)?;
+    let _bytes = size_of(variable.object.ty, types);
+    let cells = cells(alloc, variable.object.ty, types)?;
+    set_cells(&mut object, &cells, &variable.cells);
+    Ok(object)
+}
+
+/// The static objects before the start of `main` (C11 6.7.9).
+fn statics_of<'p>(
+    alloc: Global,
+    types: &TypeTable,
+    plans: &'p [Plan],
+    statics: &[Static],
+) -> Result<Vec<Live<'p>>, NoMemory> {
+    let mut objects = Vec::new(alloc);
+    for (number, plan) in plans.iter().enumerate() {
+        match statics.get(number) {
+            None => return Ok(objects),
+            Some(variable) => objects.push(static_object(alloc, types, plan, variable)?)?,
+        }
+    }
+    Ok(objects)
+}
+
+/// The machine on which a program starts, with so many units of fuel (C11 5.1.2).
+pub fn machine_of<'p>(
+    alloc: Global,
+    code: Code<'p>,
+    input: &'p [u8],
+    fuel: u64,
+) -> Result<Machine<'p>, NoMemory>
+    requires laid_out { AreLayoutsOf code.entry.prog.now code.entry.layouts.now }
+    requires known { HasKnownTypes code.entry.prog.now }
+    ensures { IfOk result (λ machine. IsIn machine
+        (start (setting_of code.entry) input.entry.now fuel)) }
+{
+    let prog = code.prog;
+    let objects = statics_of(alloc, &prog.types, &code.layouts.statics, &prog.statics)?;
+    let mut activations = Vec::new(alloc);
+    activations.push(Activation {
+        number: 0,
+        depth: 0,
+        first: 0,
+        objects,
+    })?;
+    Ok(Machine {
+        memory: Memory { activations },
+        activations: 0,
+        depth: 0,
+        input,
+        output: Vec::new(alloc),
+        fuel,
+    })
+}
