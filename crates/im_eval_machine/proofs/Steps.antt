@@ -62,26 +62,36 @@ stop-look f g why old run next first = record {
 }
 
 -- a unit of fuel is taken, and then the rest runs
-pub charged : {A : Type 0} (next : Run A) (s : State) → with_fuel next s ≡ goes_on (with_fuel (give tt) s) (λ _. next)
+pub charged : {A : Type 0} (next : Run A) (s : State) → with_fuel next s ≡ goes_on (with_fuel (give (tt {0})) s) (λ _. next)
 charged next s = paid s.fuel
   where
-    paid : (n : ℕ) → pay n s.world next ≡ goes_on (pay n s.world (give tt)) (λ _. next)
+    paid : (n : ℕ) → pay n s.world next ≡ goes_on (pay n s.world (give (tt {0}))) (λ _. next)
     paid zero = refl
     paid (suc n) = refl
 
 as-charged : {R A : Type 0} (show : R → A) (result : Either R Stopped) (old new : Machine) (next : Run A)
-    → IsStep show result old new (with_fuel (give tt) >>= (λ _. next)) → IsStep show result old new (with_fuel next)
+    → IsStep show result old new (with_fuel (give (tt {0})) >>= (λ _. next)) → IsStep show result old new (with_fuel next)
 as-charged show result old new next step = record {
   fuel = step.fuel;
-  ends = λ s h. ends-as show result new (goes_on (with_fuel (give tt) s) (λ _. next)) (with_fuel next s) (sym (charged next s)) (step.ends s h);
+  ends = λ s h. ends-as show result new (goes_on (with_fuel (give (tt {0})) s) (λ _. next)) (with_fuel next s) (sym (charged next s)) (step.ends s h);
 }
 
 pub then-charged : {R A : Type 0} (show : R → A) (result : Either R Stopped) (old mid new : Machine) (next : Run A)
-    → IsStep (nothing {Unit {0}}) (Ok tt) old mid (with_fuel (give tt)) → IsStep show result mid new next → IsStep show result old new (with_fuel next)
+    → IsStep (nothing {R = Unit {0}}) (Ok tt) old mid (with_fuel (give (tt {0}))) → IsStep show result mid new next → IsStep show result old new (with_fuel next)
 then-charged show result old mid new next first second =
-    as-charged show result old new next (then-step (nothing {Unit {0}}) show tt result old mid new (with_fuel (give tt)) (λ _. next) first second)
+    as-charged show result old new next (then-step (nothing {R = Unit {0}}) show tt result old mid new (with_fuel (give (tt {0}))) (λ _. next) first second)
 
 pub stop-charged : {R A : Type 0} (show : R → A) (why : Stopped) (old new : Machine) (next : Run A)
-    → IsStep (nothing {Unit {0}}) (Err why) old new (with_fuel (give tt)) → IsStep show (Err why) old new (with_fuel next)
+    → IsStep (nothing {R = Unit {0}}) (Err why) old new (with_fuel (give (tt {0}))) → IsStep show (Err why) old new (with_fuel next)
 stop-charged show why old new next first =
-    as-charged show (Err why) old new next (stop-step (nothing {Unit {0}}) show why old new (with_fuel (give tt)) (λ _. next) first)
+    as-charged show (Err why) old new next (stop-step (nothing {R = Unit {0}}) show why old new (with_fuel (give (tt {0}))) (λ _. next) first)
+
+pub paid : {U : Type 0} (done : U) (old : Machine) (fuel : ℕ) → old.fuel ≡ suc fuel → IsStep (nothing {R = U}) (Ok done) old (record old { fuel = fuel }) (with_fuel (give (tt {0})))
+paid done old fuel e = record {
+  fuel = omega (arith, e);
+  ends = λ s h. (
+    record { world = s.world; fuel = fuel },
+    record { held = h.held; activations = h.activations; depth = h.depth; input = h.input; output = h.output; fuel = refl },
+    ap (λ n. pay n s.world (give (tt {0}))) (h.fuel ∙ e),
+  );
+}

@@ -2,7 +2,9 @@ pub mod Small
 pub mod Operators
 pub mod Settings
 pub mod Shown
+pub mod Steps
 pub mod Activations
 pub mod Endings
+pub mod Fresh
 pub mod Accesses
 pub mod Initials

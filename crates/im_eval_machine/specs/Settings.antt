@@ -1,5 +1,6 @@
 -- How the objects of a program lie in memory, and the setting in which code is evaluated.
-use Rattle.std.specs.Prelude.{◌≡◌, ◌<◌, ◌^◌, ℕ, ◌+◌, List, [], ◌∷◌, get_or, slice_get, length, map, Option, Some, None}
+use Rattle.std.specs.Prelude.{◌≡◌, ◌<◌, ◌^◌, ℕ, ◌+◌, List, [], ◌∷◌, get_or, slice_get, length, map, Option, Some, None, Vec}
+use Rattle.std.specs.declared.alloc.Global.{Global}
 use Rattle.std.specs.List.{All}
 use Rattle.im_ctype.specs.declared.cell.Cell.{Cell}
 use Rattle.im_ctype.specs.Layout.{layouts, layout_at}
@@ -60,7 +61,7 @@ cells_at (Some cells) = cells
 pub record AreLayoutsOf (g : rust_prog.Prog) (all : Layouts) : Type 0 where
   pub statics : ArePlans (static_shapes (program_of g).statics) all.statics.items
   pub functions : AreLayouts (length (program_of g).statics) (program_of g).funcs all.functions.items
-  pub structs : (n : ℕ) → cells_at (slice_get (map {A = Vec Cell} (λ v. v.items) all.structs.items) n) ≡ (layout_at (layouts (structs_of g.types)) n).cells
+  pub structs : (n : ℕ) → cells_at (slice_get (map {A = Vec Cell Global} (λ v. v.items) all.structs.items) n) ≡ (layout_at (layouts (structs_of g.types)) n).cells
 
 -- the setting of code: its program with numbers that operators take
 abbrev pub setting_of : Code → Setting

@@ -86,7 +86,7 @@ pub fn read_at(
     access: Access,
     at: Value,
 ) -> Result<Found, Stopped>
-    requires { AreLayoutsOf code.entry.prog.now code.entry.layouts.now }
+    requires { AreLayoutsOf code.prog.now code.layouts.now }
     ensures { IsLook values result machine.now
         (typed_values.read_at (access_of code.entry.prog.now.types access) (shown at)) }
 {
@@ -132,7 +132,7 @@ fn write_found(
     at: Value,
     found: &Found,
 ) -> Result<(), Undefined>
-    requires { AreLayoutsOf code.entry.prog.now code.entry.layouts.now }
+    requires { AreLayoutsOf code.prog.now code.layouts.now }
     ensures { (last : ℕ) (store : Store) → Holds memory.old last store
         → Stores result memory.new last (at_place (shown at) (λ o offset. write_cells store o offset
         (typed_values.cells_of (access_of code.entry.prog.now.types access))
@@ -158,7 +158,7 @@ pub fn write_at(
     at: Value,
     found: &Found,
 ) -> Result<(), Stopped>
-    requires { AreLayoutsOf code.entry.prog.now code.entry.layouts.now }
+    requires { AreLayoutsOf code.prog.now code.layouts.now }
     ensures { IsStep (λ done. values found.now) result machine.old machine.new
         (typed_values.write_at (access_of code.entry.prog.now.types access) (shown at)
         (values found.now)) }

@@ -76,7 +76,7 @@ pub fn enter<'p>(
     function: u32,
     arguments: &[Value],
 ) -> Result<Here, Stopped>
-    requires { AreLayoutsOf code.entry.prog.now code.entry.layouts.now }
+    requires { AreLayoutsOf code.prog.now code.layouts.now }
     ensures { IsStep entered result machine.old machine.new
         (enters_function (setting_of code.entry) function (shown_all arguments.now)) }
 {

@@ -42,7 +42,7 @@ pub struct Code<'p> {
 impl<'p> Code<'p> {
     /// The cells of the struct of that number.
     pub fn cells_of(self, number: u32) -> &'p [Cell]
-        requires { AreLayoutsOf self.entry.prog.now self.entry.layouts.now }
+        requires { AreLayoutsOf self.prog.now self.layouts.now }
         ensures { result.now
             ≡ (layout_at (layouts (structs_of self.entry.prog.now.types)) number).cells }
     {

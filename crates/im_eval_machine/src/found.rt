@@ -44,7 +44,7 @@ pub fn part_of(
     access: Access,
     found: Found,
 ) -> Result<Found, NoMemory>
-    requires { AreLayoutsOf code.entry.prog.now code.entry.layouts.now }
+    requires { AreLayoutsOf code.prog.now code.layouts.now }
     ensures { IfOk result (λ part. values part
         ≡ take (length (typed_values.cells_of (access_of code.entry.prog.now.types access)))
         (drop from (values found))) }

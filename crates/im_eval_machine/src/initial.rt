@@ -16,7 +16,7 @@ use std::alloc::Global;
 
 /// The offsets of the cells that a piece gives, behind those of the pieces before it.
 fn push_given(code: Code, piece: &Piece, given: &mut Vec<u64>) -> Result<(), NoMemory>
-    requires { AreLayoutsOf code.entry.prog.now code.entry.layouts.now }
+    requires { AreLayoutsOf code.prog.now code.layouts.now }
     ensures { OnOk result (given.new.items
         ≡ given.old.items ++ given_by code.entry.prog.now.types piece.now) }
 {
@@ -47,7 +47,7 @@ pub fn given_offsets(
     code: Code,
     pieces: &[Piece],
 ) -> Result<Vec<u64>, NoMemory>
-    requires { AreLayoutsOf code.entry.prog.now code.entry.layouts.now }
+    requires { AreLayoutsOf code.prog.now code.layouts.now }
     ensures { IfOk result (λ given. given.items
         ≡ meaning.given_offsets (map (piece_of code.entry.prog.now.types) pieces.now)) }
 {

@@ -1,5 +1,6 @@
 ghost use Rattle.std.specs.Prelude.{◌≡◌, ℕ, length, map, slice_get, IfOk, Vec};
 ghost use Rattle.std.specs.List.{All};
+ghost use Rattle.std.specs.declared.alloc.Global.{Global};
 ghost use Rattle.im_ctype.specs.Layout.{layout_at, layouts};
 ghost use Rattle.im_ctype.specs.Table.{IsIn, layout_of, structs_of};
 ghost use Rattle.im_ctype.specs.declared.cell.Cell.{Cell};
@@ -86,7 +87,7 @@ fn function_layouts(
 /// The cells of each struct of the table.
 fn all_struct_cells(alloc: Global, types: &TypeTable) -> Result<Vec<Vec<Cell>>, NoMemory>
     ensures { IfOk result (λ found. (n : ℕ) → cells_at (slice_get
-        (map {A = Vec Cell} (λ v. v.items) found.items) n)
+        (map {A = Vec Cell Global} (λ v. v.items) found.items) n)
         ≡ (layout_at (layouts (structs_of types.now)) n).cells) }
 {
     let mut structs = Vec::new(alloc);

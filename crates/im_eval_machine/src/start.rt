@@ -76,8 +76,8 @@ pub fn machine_of<'p>(
     input: &'p [u8],
     fuel: u64,
 ) -> Result<Machine<'p>, NoMemory>
-    requires laid_out { AreLayoutsOf code.entry.prog.now code.entry.layouts.now }
-    requires known { HasKnownTypes code.entry.prog.now }
+    requires laid_out { AreLayoutsOf code.prog.now code.layouts.now }
+    requires known { HasKnownTypes code.prog.now }
     ensures { IfOk result (λ machine. IsIn machine
         (start (setting_of code.entry) input.entry.now fuel)) }
 {

@@ -1,9 +1,10 @@
-ghost use Rattle.std.specs.Prelude.{◌≡◌, nat_abs};
+ghost use Rattle.std.specs.Prelude.{◌≡◌, nat_abs, pos};
 ghost use Rattle.im_num.specs.Kinds.{wrap};
 ghost use Rattle.im_num.specs.declared.kind.Kind.TheVariants.{U8};
-ghost use Rattle.im_typed.specs.Meaning.{next_byte, put_byte};
-ghost use Rattle.im_typed.specs.Runs.{◌>>=◌, look, with_fuel};
+ghost use Rattle.im_typed.specs.Meaning.{put_byte};
+ghost use Rattle.im_typed.specs.Runs.{with_fuel};
 ghost use Rattle.im_eval_machine.specs.Shown.{IsStep, number_shown};
+ghost use Rattle.im_eval_machine.specs.Steps.{reads_byte};
 
 use crate::machine::{Machine, pay};
 use crate::stopped::Stopped;
@@ -14,8 +15,7 @@ const MINUS_ONE: Number = Number { value: -1 };
 
 /// Reads a byte for a unit of fuel: the byte, or -1 at the end of the input (C11 7.21.7.6).
 pub fn get_char(machine: &mut Machine) -> Result<Number, Stopped>
-    ensures { IsStep number_shown result machine.old machine.new
-        (with_fuel (look >>= (λ w. next_byte w.input))) }
+    ensures { IsStep number_shown result machine.old machine.new (with_fuel reads_byte) }
 {
     pay(machine)?;
     Ok(next_byte(machine))
@@ -23,18 +23,22 @@ pub fn get_char(machine: &mut Machine) -> Result<Number, Stopped>
 
 /// The next byte of input is taken from it.
 fn next_byte(machine: &mut Machine) -> Number
-    ensures { IsStep number_shown (Ok result) machine.old machine.new
-        (look >>= (λ w. next_byte w.input)) }
+    ensures { IsStep number_shown (Ok result) machine.old machine.new reads_byte }
 {
-    match machine.input.split_first() {
-        None => MINUS_ONE,
-        Some((byte, rest)) => {
-            let number = Number {
-                value: *byte as i64,
-            };
-            machine.input = rest;
-            number
-        }
+    let Some((byte, rest)) = machine.input.split_first() else {
+        return MINUS_ONE;
+    };
+    let number = byte_number(*byte);
+    machine.input = rest;
+    number
+}
+
+/// A byte as a number.
+fn byte_number(byte: u8) -> Number
+    ensures { result.value ≡ pos byte }
+{
+    Number {
+        value: byte as i64,
     }
 }
 
@@ -63,7 +67,5 @@ fn put_byte(machine: &mut Machine, capacity: u32, byte: u8) -> Result<Number, St
         return Ok(MINUS_ONE);
     }
     machine.output.push(byte)?;
-    Ok(Number {
-        value: byte as i64,
-    })
+    Ok(byte_number(byte))
 }

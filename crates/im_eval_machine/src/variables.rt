@@ -5,10 +5,12 @@ ghost use Rattle.im_store.specs.Objects.{Store};
 ghost use Rattle.im_store.specs.Objects as store_objects;
 ghost use Rattle.im_store.specs.Outcomes as outcomes;
 ghost use Rattle.im_typed.specs.Programs as programs;
+ghost use Rattle.im_typed.specs.ProgramOf.{object_of, program_of, static_of};
 ghost use Rattle.im_typed.specs.Runs.{Answer};
+ghost use Rattle.im_typed.specs.Values.{Values};
 ghost use Rattle.im_eval_store.specs.Living.{Holds};
 ghost use Rattle.im_eval_store.specs.Shown.{shown};
-ghost use Rattle.im_eval_machine.specs.Endings.{told};
+ghost use Rattle.im_eval_machine.specs.Endings.{AreLive, EndLive, told};
 ghost use Rattle.im_eval_machine.specs.Settings.{AreLayoutsOf, HasKnownTypes, setting_of};
 ghost use Rattle.im_eval_machine.specs.Shown.{Ends, values};
 
@@ -118,10 +120,11 @@ pub fn conclude(
     machine: Machine,
     end: Result<Found, Stopped>,
 ) -> Result<Outcome, NoMemory>
-    requires laid_out { AreLayoutsOf code.entry.prog.now code.entry.layouts.now }
-    requires known { HasKnownTypes code.entry.prog.now }
-    ensures { IfOk result (λ outcome. (answer : Answer (programs.Values)) → Ends values end machine.entry
-        answer → programs.outcome_of (setting_of code.entry) answer ≡ told outcome) }
+    requires laid_out { AreLayoutsOf code.prog.now code.layouts.now }
+    requires known { HasKnownTypes code.prog.now }
+    ensures { IfOk result (λ outcome. (answer : Answer Values) → Ends values end machine.entry answer
+        → EndLive (program_of code.entry.prog.now).statics answer
+        → programs.outcome_of (setting_of code.entry) answer ≡ told outcome) }
 {
     let (reason, status) = match end {
         Ok(found) => (Reason::Returned, status_of(&found)),
