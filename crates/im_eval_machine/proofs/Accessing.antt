@@ -1,5 +1,5 @@
 -- One cell is read and stored as several are; cells in their order.
-use Rattle.std.proofs.Common.{◌≡◌, ℕ, zero, suc, ◌+◌, List, [], ◌∷◌, ◌++◌, map, drop, refl, sym, ap, ◌∙◌, subst, arith, add-one, append_assoc, Ok, Err}
+use Rattle.std.proofs.Common.{◌≡◌, ℕ, zero, suc, ◌+◌, List, [], ◌∷◌, ◌++◌, map, take, drop, refl, sym, ap, ◌∙◌, subst, arith, add-one, append_assoc, Ok, Err}
 use Rattle.std.specs.Prelude.{Option, Some, None, slice_get, ℤ}
 use Rattle.im_num.specs.declared.kind.Kind.{Kind}
 use Rattle.im_ctype.specs.declared.cell.Cell.{Cell}
@@ -17,10 +17,13 @@ use Rattle.im_typed.specs.declared.expression.Change.{Change}
 use Rattle.im_typed.specs.Program.{Scalar}
 use Rattle.im_typed.specs.Runs.{State, Answer, Gives, Stops, Fails, Run, ◌>>=◌, goes_on, give, checked, in_store, leave_store}
 use Rattle.im_typed.specs.Values.{Values, cells_of, scalar, used, value_in, read_at, write_at, changed, changed_kind}
-use Rattle.im_eval_machine.specs.Shown.{IsIn, IsStep, IsLook, one, shown_all}
+use Rattle.im_eval_machine.specs.Shown.{Finds, IsIn, IsStep, IsLook, one, shown_all, values}
+use Rattle.im_eval_machine.specs.Accesses.{ReadsCells}
+use Rattle.im_eval_machine.specs.declared.stopped.Stopped.{Stopped}
 use Rattle.im_eval_machine.specs.Steps.{changes}
 use Rattle.im_eval_machine.specs.declared.machine.Machine.{Machine}
-use Rattle.im_eval_machine.specs.declared.stopped.Stopped.TheVariants.{Undefined}
+use Rattle.im_eval_machine.specs.declared.stopped.Stopped.TheVariants.{Undefined, MoreFuel, StackExhausted, OutOfMemory}
+use Rattle.std.proofs.lemmas.List.{append-nil}
 use Rattle.im_eval_machine.proofs.Stores.{with_store, stored}
 
 plus-none : (n : ℕ) → n + 0 ≡ n
@@ -172,3 +175,38 @@ look-fine m run f v same fine = λ s h. same s ∙ ap (λ r. checked r s) (fine 
 pub look-bad : (m : Machine) (run : Run o.Value) (f : Store → Checked o.Value) (why : causes.Undefined) → ((s : State) → run s ≡ checked (f s.world.store) s) → ((last : ℕ) (store : Store) → Holds m.memory last store → f store ≡ Bad why)
     → IsLook {R = Value} shown (Err (Undefined why)) m run
 look-bad m run f why same bad = λ s h. same s ∙ ap (λ r. checked r s) (bad m.activations s.world.store h.held)
+
+-- the first value that is stored
+pub first-write : (store : Store) (kind : Kind) (at v : o.Value) (vs : List o.Value) → Some v ≡ slice_get vs 0
+    → at_place at (λ q offset. write_cell store q offset kind v) ≡ at_place at (λ q offset. write_cells store q offset (cells_of (Scalar kind)) vs)
+first-write store kind at v [] e = absurd (cc)
+first-write store kind at v (w ∷ vs) e =
+    let same : v ≡ w = cc in
+    ap (λ x. at_place at (λ q offset. write_cell store q offset kind x)) same ∙ sym (one-write store kind at w vs)
+
+-- values are copied one by one
+pub copy-on : (whole acc vs : List o.Value) (v : o.Value) (k m n : ℕ) → whole ≡ acc ++ take m (drop k vs) → slice_get vs k ≡ Some v → m ≡ suc n → whole ≡ (acc ++ v ∷ []) ++ take n (drop (k + 1) vs)
+copy-on whole acc vs v k m n so_far got e =
+    so_far ∙ ap (λ x. acc ++ take m x) (got-dropped vs k v got) ∙ ap (λ j. acc ++ take j (v ∷ drop (k + 1) vs)) e
+    ∙ sym (append_assoc acc (v ∷ []) (take n (drop (k + 1) vs)))
+
+take-nil : {X : Type 0} (m : ℕ) → take {A = X} m [] ≡ []
+take-nil zero = refl
+take-nil (suc m) = refl
+
+pub copy-end : (whole acc vs : List o.Value) (k m : ℕ) → whole ≡ acc ++ take m (drop k vs) → slice_get vs k ≡ None → acc ≡ whole
+copy-end whole acc vs k m so_far gone =
+    sym (so_far ∙ ap (λ x. acc ++ take m x) (none-dropped vs k gone) ∙ ap (λ x. acc ++ x) (take-nil m) ∙ append-nil acc)
+
+pub take-none : (vs : List o.Value) (k : ℕ) → slice_get vs k ≡ None → [] ≡ take 1 (drop k vs)
+take-none vs k gone = sym (ap (take 1) (none-dropped vs k gone))
+
+pub take-one : (vs : List o.Value) (k : ℕ) (v : o.Value) → slice_get vs k ≡ Some v → v ∷ [] ≡ take 1 (drop k vs)
+take-one vs k v got = sym (ap (take 1) (got-dropped vs k v got))
+
+-- cells that could not be read
+pub cells-stop : (why : Stopped) (r : Checked (List o.Value)) (s : State) (a : Answer Values) → a ≡ checked r s → ReadsCells (Err why) r → Finds values (Err why) s a
+cells-stop (Undefined why) r s a e h = e ∙ ap (λ x. checked x s) h
+cells-stop MoreFuel r s a e h = absurd h
+cells-stop StackExhausted r s a e h = absurd h
+cells-stop OutOfMemory r s a e h = tt

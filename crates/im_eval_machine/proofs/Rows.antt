@@ -51,3 +51,16 @@ pub got-within : {X : Type 0} (xs : List X) (i : ℕ) (x : X) → slice_get xs i
 got-within [] i x e = absurd (cc)
 got-within (y ∷ ys) zero x e = omega arith
 got-within (y ∷ ys) (suc i) x e = let r = got-within ys i x e in omega arith
+
+pub some-dropped : {X : Type 0} (xs : List X) (i : ℕ) → i < length xs → (x : X) × (rest : List X) × (drop i xs ≡ x ∷ rest)
+some-dropped [] i lt = absurd (omega arith)
+some-dropped (x ∷ xs) zero lt = (x, xs, refl)
+some-dropped (x ∷ xs) (suc i) lt = some-dropped xs i (let less : i < length xs = omega arith in less)
+
+pub dropped-at : {X : Type 0} (d : X) (xs : List X) (i : ℕ) → i < length xs → drop i xs ≡ get_or xs i d ∷ drop (i + 1) xs
+dropped-at d xs i lt = go d xs i lt ∙ ap (λ n. get_or xs i d ∷ drop n xs) (sym (add-one i))
+  where
+    go : {X : Type 0} (d : X) (xs : List X) (i : ℕ) → i < length xs → drop i xs ≡ get_or xs i d ∷ drop (suc i) xs
+    go d [] i lt = absurd (omega arith)
+    go d (y ∷ ys) zero lt = refl
+    go d (y ∷ ys) (suc i) lt = go d ys i (let less : i < length ys = omega arith in less)

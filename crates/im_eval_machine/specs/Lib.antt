@@ -6,5 +6,6 @@ pub mod Steps
 pub mod Activations
 pub mod Endings
 pub mod Fresh
+pub mod Begun
 pub mod Accesses
 pub mod Initials

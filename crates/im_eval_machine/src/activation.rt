@@ -1,10 +1,12 @@
-ghost use Rattle.std.specs.Prelude.{◌≡◌, ◌<◌, ◌^◌, ◌≤◌, IfOk, IfErr};
+ghost use Rattle.std.specs.Prelude.{◌≡◌, ◌<◌, ◌^◌, Ok, IfOk, slice_get};
 ghost use Rattle.im_store.specs.Objects.{Named};
 ghost use Rattle.im_typed.specs.Programs.{leaving};
 ghost use Rattle.im_typed.specs.Runs as runs;
 ghost use Rattle.im_eval_store.specs.Shown.{object_of};
 ghost use Rattle.im_eval_machine.specs.Activations.{entered, enters_function, local_in};
 ghost use Rattle.im_eval_machine.specs.Settings.{AreLayoutsOf, setting_of};
+ghost use Rattle.im_eval_machine.specs.Begun.{HasBegun};
+ghost use Rattle.im_eval_machine.specs.Fresh.{AreFresh, IsFresh, argument_at, given_argument};
 ghost use Rattle.im_eval_machine.specs.Shown.{IsStep, nothing, shown_all};
 
 use crate::code::{Code, Layout};
@@ -46,7 +48,10 @@ fn objects_of<'p>(
     alloc: Global,
     plans: &'p [Plan],
     arguments: &[Value],
-) -> Result<Vec<Live<'p>>, NoMemory> {
+) -> Result<Vec<Live<'p>>, NoMemory>
+    ensures { IfOk result (λ objects. AreFresh plans.entry.now
+        (λ k. argument_at (slice_get (shown_all arguments.now) k)) objects.items) }
+{
     let mut objects = Vec::new(alloc);
     for (number, plan) in plans.iter().enumerate() {
         objects.push(new_object(alloc, plan, arguments.get(number).copied())?)?;
@@ -59,7 +64,9 @@ fn new_object<'p>(
     alloc: Global,
     plan: &'p Plan,
     argument: Option<Value>,
-) -> Result<Live<'p>, NoMemory> {
+) -> Result<Live<'p>, NoMemory>
+    ensures { IfOk result (IsFresh plan.entry.now (argument_at (given_argument argument))) }
+{
     let mut object = Live::new(alloc, plan)?;
     if let Some(value) = argument {
         object.set(0, value);
@@ -97,7 +104,11 @@ fn begin<'p>(
     machine: &mut Machine<'p>,
     depth: u32,
     arguments: &[Value],
-) -> Result<Here, NoMemory> {
+) -> Result<Here, NoMemory>
+    ensures fuel { machine.new.fuel ≡ machine.old.fuel }
+    ensures begun { IfOk result (λ here. HasBegun layout.entry.now depth (shown_all arguments.now)
+        machine.old machine.new here) }
+{
     let Some(number) = machine.activations.checked_add(1) else {
         return Err(NoMemory::OutOfMemory);
     };

@@ -4,7 +4,7 @@ ghost use Rattle.im_typed.specs.ProgramOf.{access_of};
 ghost use Rattle.im_typed.specs.Values as typed_values;
 ghost use Rattle.im_eval_store.specs.Shown.{shown};
 ghost use Rattle.im_eval_machine.specs.Settings.{AreLayoutsOf};
-ghost use Rattle.im_eval_machine.specs.Shown.{values};
+ghost use Rattle.im_eval_machine.specs.Shown.{shown_all, values};
 
 use crate::code::Code;
 use im_eval_store::Value;
@@ -50,14 +50,21 @@ pub fn part_of(
         (drop from (values found))) }
 {
     match access {
-        Access::Scalar(_) => match found.get(from as usize) {
-            None => Ok(Found::Nothing),
-            Some(value) => Ok(Found::One(value)),
-        },
+        Access::Scalar(_) => Ok(one_from(&found, from)),
         Access::Struct { number, .. } => {
             let count = code.cells_of(number).len();
-            Ok(Found::Cells(cells_from(alloc, &found, from as usize, count)?))
+            Ok(Found::Cells(cells_from(alloc, &found, from, count)?))
         }
+    }
+}
+
+/// The cell of that number, if there is one.
+fn one_from(found: &Found, from: u32) -> Found
+    ensures { values result ≡ take 1 (drop from (values found.now)) }
+{
+    match found.get(from as usize) {
+        None => Found::Nothing,
+        Some(value) => Found::One(value),
     }
 }
 
@@ -65,15 +72,15 @@ pub fn part_of(
 fn cells_from(
     alloc: Global,
     found: &Found,
-    from: usize,
+    from: u32,
     count: usize,
 ) -> Result<Vec<Value>, NoMemory>
-    ensures { IfOk result (λ part. values (Found.Cells part)
+    ensures { IfOk result (λ part. shown_all part.items
         ≡ take count (drop from (values found.now))) }
 {
     let mut part = Vec::new(alloc);
     'copy: while part.len() < count {
-        match found.get(from.saturating_add(part.len())) {
+        match found.get(from as usize + part.len()) {
             None => return Ok(part),
             Some(value) => part.push(value)?,
         }
