@@ -7,3 +7,5 @@ pub mod StructTable
 pub mod Entering
 pub mod Accessing
 pub mod Streaming
+pub mod EnterSteps
+pub mod FreshObjects

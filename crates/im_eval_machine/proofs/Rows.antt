@@ -64,3 +64,7 @@ dropped-at d xs i lt = go d xs i lt ∙ ap (λ n. get_or xs i d ∷ drop n xs) (
     go d [] i lt = absurd (omega arith)
     go d (y ∷ ys) zero lt = refl
     go d (y ∷ ys) (suc i) lt = go d ys i (let less : i < length ys = omega arith in less)
+
+pub length-mapped : {X Y : Type 0} (f : X → Y) (xs : List X) → length (map f xs) ≡ length xs
+length-mapped f [] = refl
+length-mapped f (x ∷ xs) = let h = length-mapped f xs in omega arith

@@ -6,7 +6,7 @@ use Rattle.im_store.specs.Objects.{Named, Object}
 use Rattle.im_typed.specs.Program.{Func}
 use Rattle.im_typed.specs.Runs.{World, Run, ◌>>=◌, give, undefined, exhaust, look, change, either}
 use Rattle.im_typed.specs.Programs.{Setting, entering, first_object, frame_of}
-use Rattle.im_eval_machine.specs.declared.activation.Here.{Here}
+use Rattle.im_eval_machine.specs.declared.here.Here.{Here}
 
 -- an activation: its number, the bytes of stack in use with its frame on it, and the number of its function's first object
 pub record Entered : Type 0 where

@@ -4,7 +4,7 @@ use Rattle.im_store.specs.Objects as o
 use Rattle.im_typed.specs.Program.{Func}
 use Rattle.im_typed.specs.Programs.{entering}
 use Rattle.im_typed.specs.Runs.{State}
-use Rattle.im_eval_machine.specs.declared.activation.Here.{Here}
+use Rattle.im_eval_machine.specs.declared.here.Here.{Here}
 use Rattle.im_eval_machine.specs.declared.code.Layout.{Layout}
 use Rattle.im_eval_machine.specs.declared.machine.Machine.{Machine}
 use Rattle.im_eval_machine.specs.Activations.{Entered, entered}

@@ -1,4 +1,4 @@
-ghost use Rattle.std.specs.Prelude.{◌≡◌, ◌<◌, ◌^◌, Ok, IfOk, slice_get};
+ghost use Rattle.std.specs.Prelude.{◌≡◌, IfOk, slice_get};
 ghost use Rattle.im_store.specs.Objects.{Named};
 ghost use Rattle.im_typed.specs.Programs.{leaving};
 ghost use Rattle.im_typed.specs.Runs as runs;
@@ -10,25 +10,13 @@ ghost use Rattle.im_eval_machine.specs.Fresh.{AreFresh, IsFresh, argument_at, gi
 ghost use Rattle.im_eval_machine.specs.Shown.{IsStep, nothing, shown_all};
 
 use crate::code::{Code, Layout};
+use crate::here::Here;
 use crate::machine::Machine;
 use crate::stopped::Stopped;
 use im_eval_store::{Activation, Live, ObjectName, Plan, Value};
 use im_num::NoMemory;
 use im_store::Undefined;
 use std::alloc::Global;
-
-/// An activation, as its body sees it.
-#[derive(Clone, Copy, Debug)]
-pub struct Here {
-    pub activation: u64,
-    /// The bytes of stack in use with its frame on it.
-    pub depth: u32,
-    /// The number of its first object.
-    pub first: u64,
-    /// How many activations stand below it.
-    pub level: usize,
-    pub ghost small: { first < 2 ^ 63 },
-}
 
 impl Here {
     /// The object of a parameter or local of the function, by its number there.
@@ -68,10 +56,13 @@ fn new_object<'p>(
     ensures { IfOk result (IsFresh plan.entry.now (argument_at (given_argument argument))) }
 {
     let mut object = Live::new(alloc, plan)?;
-    if let Some(value) = argument {
-        object.set(0, value);
+    match argument {
+        None => Ok(object),
+        Some(value) => {
+            object.set(0, value);
+            Ok(object)
+        }
     }
-    Ok(object)
 }
 
 /// A function is entered, where its frame has room: its objects come into being, the parameters

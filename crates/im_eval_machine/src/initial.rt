@@ -6,7 +6,7 @@ ghost use Rattle.im_eval_machine.specs.Initials.{given_by, offsets_from};
 ghost use Rattle.im_eval_machine.specs.Settings.{AreLayoutsOf};
 ghost use Rattle.im_eval_machine.specs.Shown.{IsStep, nothing};
 
-use crate::activation::Here;
+use crate::here::Here;
 use crate::code::Code;
 use crate::machine::Machine;
 use im_ctype::Cell;
