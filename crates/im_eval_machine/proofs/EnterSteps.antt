@@ -2,6 +2,7 @@
 use Rattle.std.proofs.Common.{◌≡◌, ℕ, zero, suc, ◌+◌, ◌<◌, ◌≤◌, List, [], ◌∷◌, map, take, length, refl, sym, ap, ◌∙◌, subst, arith, Ok, Err, true, false}
 use Rattle.std.specs.Prelude.{Option, Some, None, slice_get, sum_by, nat_le, Bool}
 use Rattle.std.proofs.lemmas.Bool.{le-leb, leb-true}
+use Rattle.std.proofs.lemmas.List.Sums.{sum_by-cons}
 use Rattle.im_store.specs.declared.undefined.Undefined.TheVariants.{MissingResult}
 use Rattle.im_store.specs.Objects as o
 use Rattle.im_eval_store.proofs.Finding.{by-test}
@@ -51,7 +52,8 @@ the-function first (f ∷ fs) (m ∷ ls) (suc k) l are e =
     (r.0, record {
       there = r.1.there;
       plans = r.1.plans;
-      begins = begins ∙ plus first (length f.objects) (sum_by (λ (g : Func). length g.objects) (take k (map small_func fs)));
+      begins = begins ∙ plus first (length f.objects) (sum_by (λ (g : Func). length g.objects) (take k (map small_func fs)))
+      ∙ ap (λ n. first + n) (sym (sum_by-cons (λ (g : Func). length g.objects) (small_func f) (take k (map small_func fs))));
     })
   where
     plus : (a b c : ℕ) → (a + b) + c ≡ a + (b + c)

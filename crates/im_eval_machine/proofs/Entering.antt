@@ -123,15 +123,15 @@ module _ (a d : ℕ) (base : Object → ℕ → o.Value) where
 
   -- and nothing else changes
   pub argument-elsewhere : (q : Object) (first : ℕ) (vs : List o.Value) (i : ℕ) → (q.activation == a) ≡ false → with_arguments a d first vs base q i ≡ base q i
-  argument-elsewhere q first [] i no = refl
-  argument-elsewhere q first (v ∷ vs) i no =
+  argument-elsewhere q first [] i away = refl
+  argument-elsewhere q first (v ∷ vs) i away =
       if-false (same_object q (parameter a d first) && i == 0) v (with_arguments a d (suc first) vs base q i)
-      (no-and (same_object q (parameter a d first)) (i == 0) (not-there q first no))
-      ∙ argument-elsewhere q (suc first) vs i no
+      (no-and (same_object q (parameter a d first)) (i == 0) (not-there q first away))
+      ∙ argument-elsewhere q (suc first) vs i away
     where
       not-there : (q : Object) (n : ℕ) → (q.activation == a) ≡ false → same_object q (parameter a d n) ≡ false
-      not-there q n no =
-          no-and (q.activation == a && q.depth == d) (o.same_name q.name (Named n)) (no-and (q.activation == a) (q.depth == d) no)
+      not-there q n away =
+          no-and (q.activation == a && q.depth == d) (o.same_name q.name (Named n)) (no-and (q.activation == a) (q.depth == d) away)
 
 shape-got : (objects : List LocalObject) (k : ℕ) → slice_get (local_shapes objects) k ≡ shape_in (slice_get objects k)
 shape-got [] k = refl
@@ -189,9 +189,9 @@ module _ (a : Activation) (f : Func) (plans : List Plan) (args : List o.Value) (
     pub has-begun : (last : ℕ) → last < a.number → IsBegun a last store new
     has-begun last lt = record {
       later = lt;
-      before = λ q no. (
-        if-false (q.activation == a.number) (if q.depth == a.depth then shapes_of a.first f.objects q.name else None) (store.shape q) no,
-        λ i. argument-elsewhere a.number a.depth base q a.first args i no ∙ if-false (q.activation == a.number) o.Unset (store.values q i) no,
+      before = λ q away. (
+        if-false (q.activation == a.number) (if q.depth == a.depth then shapes_of a.first f.objects q.name else None) (store.shape q) away,
+        λ i. argument-elsewhere a.number a.depth base q a.first args i away ∙ if-false (q.activation == a.number) o.Unset (store.values q i) away,
       );
       own = own-lives;
     }

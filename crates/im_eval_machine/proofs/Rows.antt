@@ -68,3 +68,8 @@ dropped-at d xs i lt = go d xs i lt ∙ ap (λ n. get_or xs i d ∷ drop n xs) (
 pub length-mapped : {X Y : Type 0} (f : X → Y) (xs : List X) → length (map f xs) ≡ length xs
 length-mapped f [] = refl
 length-mapped f (x ∷ xs) = let h = length-mapped f xs in omega arith
+
+pub got-mapped : {X Y Z : Type 0} (f : X → Y) (g : Y → Z) (xs : List X) (i : ℕ) (x : X) → i < length xs → x ≡ get_or xs i x → Some (g (f x)) ≡ slice_get (map g (map f xs)) i
+got-mapped f g [] i x lt e = absurd (omega arith)
+got-mapped f g (y ∷ ys) zero x lt e = ap (λ z. Some (g (f z))) e
+got-mapped f g (y ∷ ys) (suc i) x lt e = got-mapped f g ys i x (let less : i < length ys = omega arith in less) e

@@ -13,10 +13,6 @@ abbrev pub argument_at : Option o.Value → ℕ → o.Value
 argument_at None i = o.Unset
 argument_at (Some v) i = if i == 0 then v else o.Unset
 
-abbrev pub given_argument : Option Value → Option o.Value
-given_argument None = None
-given_argument (Some v) = Some (shown v)
-
 -- an object of that plan, whose cells have these values
 pub record IsFresh (plan : Plan) (values : ℕ → o.Value) (x : Live) : Type 0 where
   pub plan_is : x.plan.now ≡ plan

@@ -7,5 +7,6 @@ pub mod Activations
 pub mod Endings
 pub mod Fresh
 pub mod Begun
+pub mod Firsts
 pub mod Accesses
 pub mod Initials

@@ -1,12 +1,13 @@
 ghost use Rattle.std.specs.Prelude.{◌≡◌, IfOk, slice_get};
 ghost use Rattle.im_store.specs.Objects.{Named};
+ghost use Rattle.std.specs.Option.{option_map};
 ghost use Rattle.im_typed.specs.Programs.{leaving};
 ghost use Rattle.im_typed.specs.Runs as runs;
-ghost use Rattle.im_eval_store.specs.Shown.{object_of};
+ghost use Rattle.im_eval_store.specs.Shown.{object_of, shown};
 ghost use Rattle.im_eval_machine.specs.Activations.{entered, enters_function, local_in};
 ghost use Rattle.im_eval_machine.specs.Settings.{AreLayoutsOf, setting_of};
 ghost use Rattle.im_eval_machine.specs.Begun.{HasBegun};
-ghost use Rattle.im_eval_machine.specs.Fresh.{AreFresh, IsFresh, argument_at, given_argument};
+ghost use Rattle.im_eval_machine.specs.Fresh.{AreFresh, IsFresh, argument_at};
 ghost use Rattle.im_eval_machine.specs.Shown.{IsStep, nothing, shown_all};
 
 use crate::code::{Code, Layout};
@@ -42,9 +43,16 @@ fn objects_of<'p>(
 {
     let mut objects = Vec::new(alloc);
     for (number, plan) in plans.iter().enumerate() {
-        objects.push(new_object(alloc, plan, arguments.get(number).copied())?)?;
+        objects.push(new_object(alloc, plan, argument_of(arguments, number))?)?;
     }
     Ok(objects)
+}
+
+/// The argument of that number, if there is one.
+fn argument_of(arguments: &[Value], number: usize) -> Option<Value>
+    ensures { option_map shown result ≡ slice_get (shown_all arguments.now) number }
+{
+    arguments.get(number).copied()
 }
 
 /// A new object; a parameter holds its argument.
@@ -53,7 +61,7 @@ fn new_object<'p>(
     plan: &'p Plan,
     argument: Option<Value>,
 ) -> Result<Live<'p>, NoMemory>
-    ensures { IfOk result (IsFresh plan.entry.now (argument_at (given_argument argument))) }
+    ensures { IfOk result (IsFresh plan.entry.now (argument_at (option_map shown argument))) }
 {
     let mut object = Live::new(alloc, plan)?;
     match argument {
@@ -128,7 +136,7 @@ fn begin<'p>(
 /// An activation ends: its objects die, and its frame is given back, so that so many bytes of
 /// stack are in use (C11 6.2.4, 6.8.6.4).
 pub fn leave(machine: &mut Machine, here: Here, depth: u32)
-    ensures { IsStep nothing (Ok tt) machine.old machine.new
+    ensures { IsStep nothing (Ok (tt {0})) machine.old machine.new
         (runs.change (leaving here.activation depth)) }
 {
     machine.memory.end(here.activation, here.level);

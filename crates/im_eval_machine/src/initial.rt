@@ -60,7 +60,7 @@ pub fn given_offsets(
 
 /// A declaration is reached: its object has no value in any cell (C11 6.2.4p6).
 pub fn forget(machine: &mut Machine, here: Here, local: u32)
-    ensures { IsStep nothing (Ok tt) machine.old machine.new
+    ensures { IsStep nothing (Ok (tt {0})) machine.old machine.new
         (meaning.change_store (meaning.forgotten (local_in here local))) }
 {
     machine.memory.forget(here.local(local), here.level);
@@ -68,7 +68,7 @@ pub fn forget(machine: &mut Machine, here: Here, local: u32)
 
 /// The cells of a local but for those at these offsets become zero or null (C11 6.7.9p21).
 pub fn clear(machine: &mut Machine, here: Here, local: u32, given: &[u64])
-    ensures { IsStep nothing (Ok tt) machine.old machine.new
+    ensures { IsStep nothing (Ok (tt {0})) machine.old machine.new
         (meaning.change_store (meaning.cleared given.now (local_in here local))) }
 {
     machine.memory.clear(here.local(local), here.level, given);

@@ -15,5 +15,5 @@ returns c =
     let so_far = l.invariant.0 in
     let end = c.loop-number.auto in
     let done = c.loop-number-test.false in
-    let count = c.struct_count.ensures in
+    let count = c.struct_count-number-end.ensures in
     found-cells (layouts (structs_of types)) l.structs.items (omega arith) l.invariant.1

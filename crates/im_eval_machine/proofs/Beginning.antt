@@ -1,0 +1,129 @@
+-- The statics before the start of main.
+use Rattle.std.proofs.Common.{◌≡◌, ℕ, zero, suc, ◌+◌, ◌-◌, ◌<◌, ◌≤◌, ◌==◌, ◌&&◌, List, [], ◌∷◌, Bool, true, false, map, drop, length, get_or, refl, sym, ap, ◌∙◌, subst, arith}
+use Rattle.std.specs.Prelude.{Option, Some, None, slice_get, nat_le, nat_lt, Vec, if◌then◌else◌}
+use Rattle.std.specs.declared.alloc.Global.{Global}
+use Rattle.std.specs.Option.{option_map}
+use Rattle.std.proofs.lemmas.Bool.{eq-eqb, eqb-true, le-leb, lt-ltb}
+use Rattle.im_num.specs.declared.kind.Kind.{Kind}
+use Rattle.im_ctype.specs.declared.cell.Cell.{Cell}
+use Rattle.im_store.specs.Objects as o
+use Rattle.im_store.specs.Objects.{Name, Named, Slot, Link, Object, Shape, shape_of}
+use Rattle.im_store.specs.Statics as s
+use Rattle.im_store.specs.Statics.{StaticObject, first_value, value_at, with_statics}
+use Rattle.im_eval_store.specs.declared.memory.Activation.{Activation}
+use Rattle.im_eval_store.specs.declared.memory.Live.{Live}
+use Rattle.im_eval_store.specs.declared.plan.Plan.{Plan}
+use Rattle.im_eval_store.specs.declared.value.Value.{Value}
+use Rattle.im_eval_store.specs.declared.value.Value.TheVariants.{Unset}
+use Rattle.im_eval_store.specs.Changes.{with_cell}
+use Rattle.im_eval_store.specs.Living.{live_named, live_in, live_at, LivesAs, IsHeld}
+use Rattle.im_eval_store.specs.Shown.{shown}
+use Rattle.im_eval_store.proofs.Finding.{by-test, if-true, if-false}
+use Rattle.im_eval_store.proofs.Revised.{lives-again}
+use Rattle.im_eval_machine.specs.Small.{small_static}
+use Rattle.im_eval_machine.specs.Fresh.{IsFresh, AreFresh}
+use Rattle.im_eval_machine.specs.Settings.{ArePlans, static_shapes}
+use Rattle.im_eval_machine.proofs.Entering.{all-live}
+
+-- the shapes that plans were made of
+static-got : (statics : List StaticObject) (k : ℕ) → slice_get (static_shapes statics) k ≡ option_map {T = StaticObject} (λ x. shape_of x.size x.cells) (slice_get statics k)
+static-got [] k = refl
+static-got (x ∷ statics) zero = refl
+static-got (x ∷ statics) (suc k) = static-got statics k
+
+module _ (statics : List StaticObject) (plans : List Plan) (xs : List Live) (are : ArePlans (static_shapes statics) plans) (fresh : AreFresh plans (λ k. first_value (slice_get statics k)) xs) where
+  named-static : (n : ℕ) → LivesAs (live_named 0 xs (Named n)) (s.static_shapes statics (Named n)) (first_value (slice_get statics n))
+  named-static n =
+      let start : nat_le 0 n ≡ true = le-leb 0 n (omega arith) in
+      let same : n - 0 ≡ n = omega arith in
+      let there : live_named 0 xs (Named n) ≡ slice_get xs n = if-true (nat_le 0 n) (slice_get xs (n - 0)) None start ∙ ap (slice_get xs) same in
+      let one = all-live (static_shapes statics) plans (λ k. first_value (slice_get statics k)) xs n (first_value (slice_get statics n)) are fresh (λ i. refl) in
+      subst (λ r. LivesAs r (s.static_shapes statics (Named n)) (first_value (slice_get statics n))) (sym there)
+      (subst (λ r. LivesAs (slice_get xs n) r (first_value (slice_get statics n))) (static-got statics n) one)
+
+  name-static : (name : Name) → LivesAs (live_named 0 xs name) (s.static_shapes statics name) (s.static_values statics name)
+  name-static (Named n) = named-static n
+  name-static (Slot n) = tt
+  name-static Link = tt
+
+  module _ (objects : Vec Live Global) (items : objects.items ≡ xs) where
+    abbrev first_activation : Activation
+    first_activation = record { number = 0; depth = 0; first = 0; objects = objects }
+
+    flip : (m n : ℕ) → (m == n) ≡ false → (n == m) ≡ false
+    flip m n e =
+        by-test (n == m)
+        (λ t. absurd (let both : true ≡ false = sym (eq-eqb m n (sym (eqb-true n m t))) ∙ e in cc))
+        (λ t. t)
+
+    abbrev store : o.Store
+    store = with_statics statics
+
+    lives-there : (p : Object) → LivesAs (live_at (first_activation ∷ []) p) (store.shape p) (store.values p)
+    lives-there p =
+        by-test (p.activation == 0)
+        (λ t.
+        let e = eqb-true p.activation 0 t in
+        let shape-is = if-true (p.activation == 0) (if p.depth == 0 then s.static_shapes statics p.name else None) None t in
+        let live-is = ap (λ r. live_in r p) (if-true (0 == p.activation) (Some first_activation) None (eq-eqb 0 p.activation (sym e))) in
+        by-test (p.depth == 0)
+        (λ d.
+        lives-again (live_named 0 xs p.name) (live_at (first_activation ∷ []) p) (s.static_shapes statics p.name) (store.shape p) (s.static_values statics p.name) (store.values p)
+        (live-is ∙ if-true (0 == p.depth) (live_named 0 objects.items p.name) None (eq-eqb 0 p.depth (sym (eqb-true p.depth 0 d))) ∙ ap (λ zs. live_named 0 zs p.name) items)
+        (shape-is ∙ if-true (p.depth == 0) (s.static_shapes statics p.name) None d)
+        (λ i. if-true (p.activation == 0) (s.static_values statics p.name i) o.Unset t)
+        (name-static p.name))
+        (λ d.
+        lives-again None (live_at (first_activation ∷ []) p) None (store.shape p) (store.values p) (store.values p)
+        (live-is ∙ if-false (0 == p.depth) (live_named 0 objects.items p.name) None (flip p.depth 0 d))
+        (shape-is ∙ if-false (p.depth == 0) (s.static_shapes statics p.name) None d)
+        (λ i. refl) tt))
+        (λ t.
+        lives-again None (live_at (first_activation ∷ []) p) None (store.shape p) (store.values p) (store.values p)
+        (ap (λ r. live_in r p) (if-false (0 == p.activation) (Some first_activation) None (flip p.activation 0 t)))
+        (if-false (p.activation == 0) (if p.depth == 0 then s.static_shapes statics p.name else None) None t)
+        (λ i. refl) tt)
+
+    pub statics-held : IsHeld (first_activation ∷ []) 0 store
+    statics-held = record { ordered = (omega arith, omega arith); objects = lives-there }
+
+-- the numbers that operators take change no object's shape
+pub small-shapes : (statics : List StaticObject) → static_shapes (map small_static statics) ≡ static_shapes statics
+small-shapes [] = refl
+small-shapes (x ∷ statics) = ap (λ zs. shape_of x.size x.cells ∷ zs) (small-shapes statics)
+
+-- a cell more has its first value
+both : (b d : Bool) → b ≡ true → d ≡ true → (b && d) ≡ true
+both true true e f = refl
+both true false e f = absurd (cc)
+both false d e f = absurd (cc)
+
+neither : (b d : Bool) → b ≡ false → (b && d) ≡ false
+neither false d e = refl
+neither true d e = absurd (cc)
+
+flipped : (m n : ℕ) → (m == n) ≡ false → (n == m) ≡ false
+flipped m n e =
+    by-test (n == m)
+    (λ t. absurd (let both : true ≡ false = sym (eq-eqb m n (sym (eqb-true n m t))) ∙ e in cc))
+    (λ t. t)
+
+pub cell-more : (old : List Value) (new : Value) (i at : ℕ) (v : Value) (kind : Kind) (cs : List Cell) (vs : List o.Value) → i < length old → new ≡ with_cell old at v i → shown (get_or old i Unset) ≡ value_at cs vs i
+    → shown new ≡ value_at (record { offset = at; kind = kind } ∷ cs) (shown v ∷ vs) i
+cell-more old new i at v kind cs vs lt set rest =
+    by-test (i == at)
+    (λ t.
+    let e = eqb-true i at t in
+    let within : nat_lt at (length old) ≡ true = lt-ltb at (length old) (omega arith) in
+    ap shown (set ∙ if-true (i == at && nat_lt at (length old)) v (get_or old i Unset) (both (i == at) (nat_lt at (length old)) t within))
+    ∙ sym (if-true (at == i) (shown v) (value_at cs vs i) (eq-eqb at i (sym e))))
+    (λ t.
+    ap shown (set ∙ if-false (i == at && nat_lt at (length old)) v (get_or old i Unset) (neither (i == at) (nat_lt at (length old)) t))
+    ∙ rest ∙ sym (if-false (at == i) (shown v) (value_at cs vs i) (flipped i at t)))
+
+pub no-values : (cs : List Cell) (vs : List o.Value) (i : ℕ) → vs ≡ [] → o.Unset ≡ value_at cs vs i
+no-values [] vs i e = refl
+no-values (c ∷ cs) vs i e = sym (ap (λ ws. value_at (c ∷ cs) ws i) e)
+
+pub no-cells : (cs : List Cell) (vs : List o.Value) (i : ℕ) → cs ≡ [] → o.Unset ≡ value_at cs vs i
+no-cells cs vs i e = sym (ap (λ ds. value_at ds vs i) e)
