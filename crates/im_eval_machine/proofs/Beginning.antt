@@ -1,11 +1,12 @@
 -- The statics before the start of main.
-use Rattle.std.proofs.Common.{◌≡◌, ℕ, zero, suc, ◌+◌, ◌-◌, ◌<◌, ◌≤◌, ◌==◌, ◌&&◌, List, [], ◌∷◌, Bool, true, false, map, drop, length, get_or, refl, sym, ap, ◌∙◌, subst, arith}
+use Rattle.std.proofs.Common.{◌≡◌, ℕ, zero, suc, ◌+◌, ◌-◌, ◌<◌, ◌≤◌, ◌==◌, ◌&&◌, List, [], ◌∷◌, Bool, true, false, map, min, drop, length, get_or, refl, sym, ap, ◌∙◌, subst, arith}
 use Rattle.std.specs.Prelude.{Option, Some, None, slice_get, nat_le, nat_lt, Vec, if◌then◌else◌}
 use Rattle.std.specs.declared.alloc.Global.{Global}
 use Rattle.std.specs.Option.{option_map}
 use Rattle.std.proofs.lemmas.Bool.{eq-eqb, eqb-true, le-leb, lt-ltb}
 use Rattle.im_num.specs.declared.kind.Kind.{Kind}
 use Rattle.im_ctype.specs.declared.cell.Cell.{Cell}
+use Rattle.im_ctype.specs.Table.{Table}
 use Rattle.im_store.specs.Objects as o
 use Rattle.im_store.specs.Objects.{Name, Named, Slot, Link, Object, Shape, shape_of}
 use Rattle.im_store.specs.Statics as s
@@ -21,6 +22,8 @@ use Rattle.im_eval_store.specs.Shown.{shown}
 use Rattle.im_eval_store.proofs.Finding.{by-test, if-true, if-false}
 use Rattle.im_eval_store.proofs.Revised.{lives-again}
 use Rattle.im_eval_machine.specs.Small.{small_static}
+use Rattle.im_typed.specs.declared.program.Constant.{Constant}
+use Rattle.im_eval_machine.specs.Firsts.{first_values}
 use Rattle.im_eval_machine.specs.Fresh.{IsFresh, AreFresh}
 use Rattle.im_eval_machine.specs.Settings.{ArePlans, static_shapes}
 use Rattle.im_eval_machine.proofs.Entering.{all-live}
@@ -125,5 +128,11 @@ pub no-values : (cs : List Cell) (vs : List o.Value) (i : ℕ) → vs ≡ [] →
 no-values [] vs i e = refl
 no-values (c ∷ cs) vs i e = sym (ap (λ ws. value_at (c ∷ cs) ws i) e)
 
-pub no-cells : (cs : List Cell) (vs : List o.Value) (i : ℕ) → cs ≡ [] → o.Unset ≡ value_at cs vs i
-no-cells cs vs i e = sym (ap (λ ds. value_at ds vs i) e)
+-- behind the last cell, and behind the last value, there is none
+pub at-end : (types : Table) (cs : List Cell) (ks : List Constant) (m i : ℕ) → min (length cs) (length ks) ≤ m → o.Unset ≡ value_at (drop m cs) (first_values types (drop m ks)) i
+at-end types [] ks zero i le = refl
+at-end types [] ks (suc m) i le = refl
+at-end types (c ∷ cs) [] zero i le = refl
+at-end types (c ∷ cs) [] (suc m) i le = no-values (drop m cs) [] i refl
+at-end types (c ∷ cs) (k ∷ ks) zero i le = absurd (omega arith)
+at-end types (c ∷ cs) (k ∷ ks) (suc m) i le = at-end types cs ks m i (let less : min (length cs) (length ks) ≤ m = omega arith in less)

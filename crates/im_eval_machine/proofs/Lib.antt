@@ -9,3 +9,4 @@ pub mod Accessing
 pub mod Streaming
 pub mod EnterSteps
 pub mod FreshObjects
+pub mod Beginning

@@ -1,6 +1,6 @@
 ghost use Rattle.std.specs.Prelude.{◌≡◌, ℕ, ◌<◌, get_or, length, map, slice_get, Some, IfOk};
 ghost use Rattle.std.specs.List.{All};
-ghost use Rattle.im_ctype.specs.Table.{IsIn};
+ghost use Rattle.im_ctype.specs.Table.{IsIn, Table};
 ghost use Rattle.im_store.specs.Statics.{first_value, value_at};
 ghost use Rattle.im_typed.specs.ProgramOf.{first_of, static_of};
 ghost use Rattle.im_typed.specs.declared.program.Static as rust_static;
@@ -24,7 +24,7 @@ use std::alloc::Global;
 
 /// The first value of a cell of a static.
 fn first_of(constant: Constant) -> Value
-    ensures { shown result ≡ small_value (first_of constant) }
+    ensures { (types : Table) → shown result ≡ small_value (first_of types constant) }
 {
     match constant {
         Constant::Number(value) => Value::Number(small(value)),
@@ -44,13 +44,13 @@ fn first_of(constant: Constant) -> Value
 /// Cells get their first values; of several at one offset, the first one decides.
 fn set_cells(object: &mut Live, cells: &[Cell], constants: &[Constant])
     ensures plan { object.new.plan ≡ object.old.plan }
-    ensures values { ((i : ℕ) → get_or object.old.values.items i Unset ≡ Unset)
+    ensures values { (types : Table) → ((i : ℕ) → get_or object.old.values.items i Unset ≡ Unset)
         → (i : ℕ) → i < length object.old.plan.now.kinds.items
         → shown (get_or object.new.values.items i Unset)
-        ≡ value_at cells.now (first_values constants.now) i }
+        ≡ value_at cells.now (first_values types constants.now) i }
 {
     let mut left = cells.len().min(constants.len());
-    'set: while left > 0 {
+    'fill: while left > 0 {
         left -= 1;
         object.set(cells[left].offset, first_of(constants[left]));
     }
