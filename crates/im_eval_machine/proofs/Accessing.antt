@@ -1,6 +1,6 @@
 -- One cell is read and stored as several are; cells in their order.
-use Rattle.std.proofs.Common.{◌≡◌, ℕ, zero, suc, ◌+◌, List, [], ◌∷◌, ◌++◌, map, take, drop, refl, sym, ap, ◌∙◌, subst, arith, add-one, append_assoc, Ok, Err}
-use Rattle.std.specs.Prelude.{Option, Some, None, slice_get, ℤ}
+use Rattle.std.proofs.Common.{◌≡◌, ℕ, zero, suc, ◌+◌, List, [], ◌∷◌, ◌++◌, take, drop, refl, sym, ap, ◌∙◌, arith, add-one, append_assoc, Ok, Err}
+use Rattle.std.specs.Prelude.{Some, None, slice_get, ℤ}
 use Rattle.im_num.specs.declared.kind.Kind.{Kind}
 use Rattle.im_ctype.specs.declared.cell.Cell.{Cell}
 use Rattle.im_store.specs.declared.undefined.Undefined as causes
@@ -15,9 +15,9 @@ use Rattle.im_eval_store.specs.Living.{Holds}
 use Rattle.im_eval_store.specs.Shown.{shown}
 use Rattle.im_typed.specs.declared.expression.Change.{Change}
 use Rattle.im_typed.specs.Program.{Scalar}
-use Rattle.im_typed.specs.Runs.{State, Answer, Gives, Stops, Fails, Run, ◌>>=◌, goes_on, give, checked, in_store, leave_store}
+use Rattle.im_typed.specs.Runs.{State, Answer, Run, ◌>>=◌, goes_on, give, checked, leave_store}
 use Rattle.im_typed.specs.Values.{Values, cells_of, scalar, used, value_in, read_at, write_at, changed, changed_kind}
-use Rattle.im_eval_machine.specs.Shown.{Finds, IsIn, IsStep, IsLook, one, shown_all, values}
+use Rattle.im_eval_machine.specs.Shown.{Finds, IsStep, IsLook, one, shown_all, values}
 use Rattle.im_eval_machine.specs.Accesses.{ReadsCells}
 use Rattle.im_eval_machine.specs.declared.stopped.Stopped.{Stopped}
 use Rattle.im_eval_machine.specs.Steps.{changes}

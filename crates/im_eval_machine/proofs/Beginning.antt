@@ -1,6 +1,6 @@
 -- The statics before the start of main.
 use Rattle.std.proofs.Common.{◌≡◌, ℕ, zero, suc, ◌+◌, ◌-◌, ◌<◌, ◌≤◌, ◌==◌, ◌&&◌, List, [], ◌∷◌, Bool, true, false, map, min, drop, length, get_or, refl, sym, ap, ◌∙◌, subst, arith}
-use Rattle.std.specs.Prelude.{Option, Some, None, slice_get, nat_le, nat_lt, Vec, if◌then◌else◌}
+use Rattle.std.specs.Prelude.{Some, None, slice_get, nat_le, nat_lt, Vec, if◌then◌else◌}
 use Rattle.std.specs.declared.alloc.Global.{Global}
 use Rattle.std.specs.Option.{option_map}
 use Rattle.std.proofs.lemmas.Bool.{eq-eqb, eqb-true, le-leb, lt-ltb}
@@ -21,10 +21,12 @@ use Rattle.im_eval_store.specs.Living.{live_named, live_in, live_at, LivesAs, Is
 use Rattle.im_eval_store.specs.Shown.{shown}
 use Rattle.im_eval_store.proofs.Finding.{by-test, if-true, if-false}
 use Rattle.im_eval_store.proofs.Revised.{lives-again}
-use Rattle.im_eval_machine.specs.Small.{small_static}
+use Rattle.im_eval_machine.specs.Small.{small_static, small_value}
+use Rattle.im_typed.specs.ProgramOf.{first_of}
+use Rattle.im_eval_machine.proofs.Rows.{dropped-at}
 use Rattle.im_typed.specs.declared.program.Constant.{Constant}
 use Rattle.im_eval_machine.specs.Firsts.{first_values}
-use Rattle.im_eval_machine.specs.Fresh.{IsFresh, AreFresh}
+use Rattle.im_eval_machine.specs.Fresh.{AreFresh}
 use Rattle.im_eval_machine.specs.Settings.{ArePlans, static_shapes}
 use Rattle.im_eval_machine.proofs.Entering.{all-live}
 
@@ -136,3 +138,19 @@ at-end types (c ∷ cs) [] zero i le = refl
 at-end types (c ∷ cs) [] (suc m) i le = no-values (drop m cs) [] i refl
 at-end types (c ∷ cs) (k ∷ ks) zero i le = absurd (omega arith)
 at-end types (c ∷ cs) (k ∷ ks) (suc m) i le = at-end types cs ks m i (let less : min (length cs) (length ks) ≤ m = omega arith in less)
+
+pub set-on : (types : Table) (cs : List Cell) (ks : List Constant) (left i : ℕ) (dc : Cell) (dk : Constant) (old : List Value) (new v : Value) → 0 < left → left ≤ length cs → left ≤ length ks → i < length old
+    → new ≡ with_cell old (get_or cs (left - 1) dc).offset v i → shown v ≡ small_value (first_of types (get_or ks (left - 1) dk))
+    → shown (get_or old i Unset) ≡ value_at (drop left cs) (first_values types (drop left ks)) i
+    → shown new ≡ value_at (drop (left - 1) cs) (first_values types (drop (left - 1) ks)) i
+set-on types cs ks left i dc dk old new v some few_cells few_values lt set first rest =
+    let k = left - 1 in
+    let c = get_or cs k dc in
+    let x = get_or ks k dk in
+    let back : k + 1 ≡ left = omega arith in
+    let cells : drop k cs ≡ c ∷ drop left cs = dropped-at dc cs k (omega arith) ∙ ap (λ n. c ∷ drop n cs) back in
+    let constants : drop k ks ≡ x ∷ drop left ks = dropped-at dk ks k (omega arith) ∙ ap (λ n. x ∷ drop n ks) back in
+    cell-more old new i c.offset v c.kind (drop left cs) (first_values types (drop left ks)) lt set rest
+    ∙ ap (λ w. value_at (c ∷ drop left cs) (w ∷ first_values types (drop left ks)) i) first
+    ∙ sym (ap (λ (ds : List Cell). value_at ds (first_values types (x ∷ drop left ks)) i) cells)
+    ∙ sym (ap (λ (js : List Constant). value_at (drop k cs) (first_values types js) i) constants)

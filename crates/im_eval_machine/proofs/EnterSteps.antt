@@ -1,22 +1,22 @@
 -- A function is entered, or not.
-use Rattle.std.proofs.Common.{◌≡◌, ℕ, zero, suc, ◌+◌, ◌<◌, ◌≤◌, List, [], ◌∷◌, map, take, length, refl, sym, ap, ◌∙◌, subst, arith, Ok, Err, true, false}
-use Rattle.std.specs.Prelude.{Option, Some, None, slice_get, sum_by, nat_le, Bool}
+use Rattle.std.proofs.Common.{◌≡◌, ℕ, zero, suc, ◌+◌, ◌<◌, ◌≤◌, List, [], ◌∷◌, map, take, length, refl, sym, ap, ◌∙◌, subst, arith, Ok, Err}
+use Rattle.std.specs.Prelude.{Some, None, slice_get, sum_by, nat_le, Bool}
 use Rattle.std.proofs.lemmas.Bool.{le-leb, leb-true}
 use Rattle.std.proofs.lemmas.List.Sums.{sum_by-cons}
 use Rattle.im_store.specs.declared.undefined.Undefined.TheVariants.{MissingResult}
 use Rattle.im_store.specs.Objects as o
 use Rattle.im_eval_store.proofs.Finding.{by-test}
 use Rattle.im_typed.specs.Program.{Func}
-use Rattle.im_typed.specs.Runs.{State, World, Answer, Gives, Stops, Exhausts, Run, either, exhaust}
+use Rattle.im_typed.specs.Runs.{State, Answer, Gives, Stops, Exhausts, either, exhaust}
 use Rattle.im_typed.specs.Programs.{Setting, entering, first_object, frame_of}
 use Rattle.im_eval_machine.specs.declared.code.Layout.{Layout}
 use Rattle.im_eval_machine.specs.declared.here.Here.{Here}
 use Rattle.im_eval_machine.specs.declared.machine.Machine.{Machine}
 use Rattle.im_eval_machine.specs.declared.stopped.Stopped.TheVariants.{Undefined, StackExhausted}
-use Rattle.im_eval_machine.specs.Activations.{Entered, entered, begin_in, enter_one, enters_function, next_activation}
+use Rattle.im_eval_machine.specs.Activations.{Entered, entered, begin_in, enter_one, enters_function}
 use Rattle.im_eval_machine.specs.Begun.{HasBegun}
 use Rattle.im_eval_machine.specs.Settings.{ArePlans, AreLayouts, local_shapes}
-use Rattle.im_eval_machine.specs.Shown.{IsIn, IsStep}
+use Rattle.im_eval_machine.specs.Shown.{IsStep}
 use Rattle.im_eval_machine.specs.Small.{small_func}
 
 pub no-function : (first : ℕ) (fs : List Func) (ls : List Layout) (k : ℕ) → AreLayouts first fs ls → slice_get ls k ≡ None → slice_get (map small_func fs) k ≡ None

@@ -1,19 +1,15 @@
 -- The objects of an activation that begins.
-use Rattle.std.proofs.Common.{◌≡◌, ℕ, zero, suc, ◌+◌, ◌-◌, ◌<◌, ◌≤◌, ◌==◌, ◌&&◌, List, [], ◌∷◌, Bool, true, false, map, length, get_or, refl, sym, ap, ◌∙◌, subst, arith}
+use Rattle.std.proofs.Common.{◌≡◌, ℕ, zero, suc, ◌+◌, ◌-◌, ◌<◌, ◌≤◌, ◌==◌, ◌&&◌, List, [], ◌∷◌, Bool, true, false, length, get_or, refl, sym, ap, ◌∙◌, subst, arith}
 use Rattle.std.specs.Prelude.{Option, Some, None, slice_get, nat_le, if◌then◌else◌}
-use Rattle.std.proofs.lemmas.Bool.{eq-eqb, eqb-true, le-leb, leb-true}
-use Rattle.im_num.specs.declared.kind.Kind.{Kind}
-use Rattle.im_store.specs.Access.{with_value}
+use Rattle.std.proofs.lemmas.Bool.{eq-eqb, eqb-true, leb-true}
 use Rattle.im_store.specs.Objects as o
 use Rattle.im_store.specs.Objects.{Name, Named, Slot, Link, Object, Shape, Store, same_object, values_with, begins}
 use Rattle.im_store.proofs.Same.{same_object-is, same_object-self}
 use Rattle.im_eval_store.specs.declared.memory.Activation.{Activation}
 use Rattle.im_eval_store.specs.declared.memory.Live.{Live}
 use Rattle.im_eval_store.specs.declared.plan.Plan.{Plan}
-use Rattle.im_eval_store.specs.declared.value.Value.TheVariants.{Unset}
 use Rattle.im_eval_store.specs.Changes.{IsBegun}
 use Rattle.im_eval_store.specs.Living.{live_named, live_in, IsLiveAs, LivesAs}
-use Rattle.im_eval_store.specs.Shown.{shown}
 use Rattle.im_eval_store.proofs.Finding.{if-true, if-false, by-test}
 use Rattle.im_typed.specs.Program.{Func, LocalObject}
 use Rattle.im_typed.specs.Programs.{shape_in, shapes_of, with_arguments, with_objects}

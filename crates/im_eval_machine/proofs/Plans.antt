@@ -1,5 +1,5 @@
 -- Plans and layouts, one more at a time.
-use Rattle.std.proofs.Common.{◌≡◌, ℕ, zero, suc, ◌+◌, List, [], ◌∷◌, ◌++◌, length, refl, sym, ap, ◌∙◌, subst, arith}
+use Rattle.std.proofs.Common.{◌≡◌, ℕ, ◌+◌, List, [], ◌∷◌, ◌++◌, length, refl}
 use Rattle.im_store.specs.Objects.{Shape}
 use Rattle.im_typed.specs.Program.{Func}
 use Rattle.im_eval_store.specs.declared.plan.Plan.{Plan}

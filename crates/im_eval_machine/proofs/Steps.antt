@@ -1,11 +1,8 @@
 -- A step and then the next; looks before steps; fuel.
-use Rattle.std.proofs.Common.{◌≡◌, ◌≤◌, ◌∙◌, ℕ, zero, suc, List, refl, sym, ap, subst, arith, Ok, Err}
+use Rattle.std.proofs.Common.{◌≡◌, ◌∙◌, ℕ, zero, suc, refl, sym, ap, subst, arith, Ok, Err}
 use Rattle.std.specs.Prelude.{Result as Either}
-use Rattle.im_store.specs.Checks.{Checked, Fine, Bad}
-use Rattle.im_store.specs.Objects.{Store}
-use Rattle.im_store.specs.declared.undefined.Undefined as causes
-use Rattle.im_typed.specs.Runs.{State, World, Fails, Answer, Gives, Stops, Run, ◌>>=◌, goes_on, give, pay, with_fuel, in_store}
-use Rattle.im_eval_machine.specs.Shown.{IsIn, Halts, Ends, IsStep, Finds, IsLook, nothing}
+use Rattle.im_typed.specs.Runs.{State, Answer, Run, ◌>>=◌, goes_on, give, pay, with_fuel}
+use Rattle.im_eval_machine.specs.Shown.{Halts, Ends, IsStep, Finds, IsLook, nothing}
 use Rattle.im_eval_machine.specs.declared.machine.Machine.{Machine}
 use Rattle.im_eval_machine.specs.declared.stopped.Stopped.{Stopped}
 use Rattle.im_eval_machine.specs.declared.stopped.Stopped.TheVariants.{Undefined, MoreFuel, StackExhausted, OutOfMemory}

@@ -1,6 +1,5 @@
 -- Steps that store in memory alone.
-use Rattle.std.proofs.Common.{◌≡◌, ℕ, List, [], ◌∷◌, refl, sym, ap, ◌∙◌, subst, arith, Ok, Err}
-use Rattle.std.specs.Prelude.{Result as Either}
+use Rattle.std.proofs.Common.{◌≡◌, ℕ, List, [], ◌∷◌, refl, sym, ap, ◌∙◌, arith, Ok, Err}
 use Rattle.std.specs.Prelude.{Option, Some, None, ◌==◌, true, if◌then◌else◌}
 use Rattle.im_num.specs.declared.kind.Kind.{Kind}
 use Rattle.im_num.specs.declared.kind.Kind.TheVariants.{I8, U8, I16, U16, I32, U32, Ptr}
@@ -17,7 +16,7 @@ use Rattle.im_eval_store.specs.Living.{Holds, live_at}
 use Rattle.im_eval_store.proofs.Finding.{by-test, if-true, if-false}
 use Rattle.im_eval_store.proofs.Revised.{lives-again}
 use Rattle.im_typed.specs.Program as p
-use Rattle.im_typed.specs.Runs.{State, World, Fails, Answer, Gives, Stops, Run, ◌>>=◌, goes_on, give, change, checked, in_store, leave_store}
+use Rattle.im_typed.specs.Runs.{State, ◌>>=◌, goes_on, give, change, checked, leave_store}
 use Rattle.im_typed.specs.Meaning as meaning
 use Rattle.im_typed.specs.Meaning.{change_store, is_among, kind_of_cell}
 use Rattle.im_typed.specs.Programs.{leaving}

@@ -1,13 +1,13 @@
 -- A byte read, a byte written.
-use Rattle.std.proofs.Common.{◌≡◌, ℕ, List, [], ◌∷◌, ◌++◌, length, refl, sym, ap, ◌∙◌, arith, Ok, true, false, Bor}
+use Rattle.std.proofs.Common.{◌≡◌, ℕ, List, [], ◌∷◌, ◌++◌, length, refl, sym, ap, ◌∙◌, arith, Ok, true, Bor}
 use Rattle.std.specs.Prelude.{pos, negsuc, nat_lt, Bool, Vec}
 use Rattle.std.specs.declared.alloc.Global.{Global}
 use Rattle.im_store.specs.Objects as o
 use Rattle.im_store.specs.declared.number.Number.{Number}
 use Rattle.im_typed.specs.Meaning.{next_byte, put_byte}
-use Rattle.im_typed.specs.Runs.{State, Answer, Gives, Run, ◌>>=◌, goes_on, change, either}
+use Rattle.im_typed.specs.Runs.{State, Answer, Gives, ◌>>=◌, change, either}
 use Rattle.im_typed.specs.Values.{Values, number}
-use Rattle.im_eval_machine.specs.Shown.{IsIn, IsStep, number_shown}
+use Rattle.im_eval_machine.specs.Shown.{IsStep, number_shown}
 use Rattle.im_eval_machine.specs.Steps.{reads_byte}
 use Rattle.im_eval_machine.specs.declared.machine.Machine.{Machine}
 

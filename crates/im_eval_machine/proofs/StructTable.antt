@@ -1,5 +1,5 @@
 -- The cells of all structs of a table, as they are listed.
-use Rattle.std.proofs.Common.{◌≡◌, ℕ, zero, suc, List, [], ◌∷◌, map, length, refl, sym, ap, ◌∙◌, arith}
+use Rattle.std.proofs.Common.{◌≡◌, ℕ, zero, suc, List, [], ◌∷◌, map, length, refl, arith}
 use Rattle.std.specs.Prelude.{Some, slice_get, Vec}
 use Rattle.std.specs.declared.alloc.Global.{Global}
 use Rattle.im_ctype.specs.declared.cell.Cell.{Cell}

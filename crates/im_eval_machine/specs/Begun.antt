@@ -7,7 +7,7 @@ use Rattle.im_typed.specs.Runs.{State}
 use Rattle.im_eval_machine.specs.declared.here.Here.{Here}
 use Rattle.im_eval_machine.specs.declared.code.Layout.{Layout}
 use Rattle.im_eval_machine.specs.declared.machine.Machine.{Machine}
-use Rattle.im_eval_machine.specs.Activations.{Entered, entered}
+use Rattle.im_eval_machine.specs.Activations.{entered}
 use Rattle.im_eval_machine.specs.Settings.{ArePlans, local_shapes}
 use Rattle.im_eval_machine.specs.Shown.{IsIn}
 

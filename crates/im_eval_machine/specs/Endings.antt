@@ -1,5 +1,5 @@
 -- How an end of a run is told.
-use Rattle.std.specs.Prelude.{◌≡◌, ℕ, pos, map, List, Some, slice_get}
+use Rattle.std.specs.Prelude.{◌≡◌, ℕ, map, List, Some, slice_get}
 use Rattle.im_num.specs.declared.values.Var.{Var}
 use Rattle.im_num.specs.Variables.{variable_of}
 use Rattle.im_store.specs.Outcomes.{Undef, More, End}

@@ -4,7 +4,6 @@ use Rattle.im_num.specs.declared.kind.Kind.{Kind}
 use Rattle.im_store.specs.Objects as o
 use Rattle.im_eval_store.specs.declared.memory.Live.{Live}
 use Rattle.im_eval_store.specs.declared.plan.Plan.{Plan}
-use Rattle.im_eval_store.specs.declared.value.Value.{Value}
 use Rattle.im_eval_store.specs.declared.value.Value.TheVariants.{Unset}
 use Rattle.im_eval_store.specs.Shown.{shown}
 

@@ -1,5 +1,5 @@
 -- How the objects of a program lie in memory, and the setting in which code is evaluated.
-use Rattle.std.specs.Prelude.{◌≡◌, ◌<◌, ◌^◌, ℕ, ◌+◌, List, [], ◌∷◌, get_or, slice_get, length, map, Option, Some, None, Vec}
+use Rattle.std.specs.Prelude.{◌≡◌, ℕ, ◌+◌, List, [], ◌∷◌, get_or, slice_get, length, map, Option, Some, None, Vec}
 use Rattle.std.specs.declared.alloc.Global.{Global}
 use Rattle.std.specs.List.{All}
 use Rattle.im_ctype.specs.declared.cell.Cell.{Cell}
@@ -12,7 +12,7 @@ use Rattle.im_typed.specs.declared.program.Object as rust
 use Rattle.im_typed.specs.declared.program.Static as rust_static
 use Rattle.im_typed.specs.declared.program.Func as rust_func
 use Rattle.im_typed.specs.declared.program.Prog as rust_prog
-use Rattle.im_typed.specs.Program.{LocalObject, Func, Prog}
+use Rattle.im_typed.specs.Program.{LocalObject, Func}
 use Rattle.im_typed.specs.ProgramOf.{program_of}
 use Rattle.im_typed.specs.Programs.{Setting}
 use Rattle.im_eval_machine.specs.Small.{small_prog}

@@ -1,5 +1,5 @@
 -- What a machine holds of the meaning's states, and what its steps give of the meaning's answers.
-use Rattle.std.specs.Prelude.{◌≡◌, ◌≤◌, ℕ, List, [], ◌∷◌, map, Ok, Err}
+use Rattle.std.specs.Prelude.{◌≡◌, ◌≤◌, List, [], ◌∷◌, map, Ok, Err}
 use Rattle.std.specs.Prelude.{Result as Either}
 use Rattle.im_store.specs.Objects as o
 use Rattle.im_store.specs.Objects.{Store}

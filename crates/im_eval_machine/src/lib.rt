@@ -16,7 +16,6 @@ mod outcome;
 mod start;
 mod stopped;
 mod streams;
-mod variables;
 
 pub use access::{read_at, used, write_at};
 pub use activation::{enter, leave};
@@ -32,4 +31,3 @@ pub use outcome::{Outcome, Reason};
 pub use start::machine_of;
 pub use stopped::Stopped;
 pub use streams::{get_char, put_char};
-pub use variables::conclude;

@@ -1,13 +1,11 @@
-use Rattle.std.proofs.Common.{◌∙◌, sym, ap, subst, refl, Err}
+use Rattle.std.proofs.Common.{◌∙◌, ap, subst, refl, Err}
 use Rattle.im_ctype.specs.Layout.{layout_at, layouts}
 use Rattle.im_ctype.specs.Table.{structs_of}
 use Rattle.std.proofs.lemmas.Result.{err_from_is_err_and}
-use Rattle.im_store.specs.Access.{at_place, read_cells}
-use Rattle.im_typed.specs.ProgramOf.{access_of}
+use Rattle.im_store.specs.Access.{read_cells}
 use Rattle.im_typed.specs.Runs.{checked, goes_on}
 use Rattle.im_typed.specs.Values.{scalar}
 use Rattle.im_eval_store.specs.Shown.{object_of, shown}
-use Rattle.im_eval_machine.specs.Shown.{values}
 use Rattle.im_eval_machine.proofs.Accessing.{one-read, cells-stop}
 use Rattle.im_eval_machine.specs.Accesses.{ReadsCells}
 use Rattle.im_eval_machine.proofs.access.read_at.Goals as goal

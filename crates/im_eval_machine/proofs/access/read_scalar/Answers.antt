@@ -1,4 +1,4 @@
-use Rattle.std.proofs.Common.{subst, sym}
+use Rattle.std.proofs.Common.{subst}
 use Rattle.im_eval_store.specs.Shown.{Checks, object_of}
 use Rattle.im_eval_machine.proofs.Accessing.{read-here}
 use Rattle.im_eval_machine.proofs.access.read_scalar.Goals as goal

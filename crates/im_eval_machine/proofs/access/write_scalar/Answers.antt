@@ -1,4 +1,4 @@
-use Rattle.std.proofs.Common.{subst, sym}
+use Rattle.std.proofs.Common.{subst}
 use Rattle.im_eval_store.specs.Changes.{Stores}
 use Rattle.im_eval_store.specs.Shown.{object_of, shown}
 use Rattle.im_eval_machine.proofs.Accessing.{write-here}

@@ -1,9 +1,7 @@
-use Rattle.std.proofs.Common.{◌≡◌, ◌<◌, suc, ℕ, List, refl, arith, subst, ap}
+use Rattle.std.proofs.Common.{◌≡◌, ◌<◌, suc, List, refl, arith, subst, ap}
 use Rattle.std.specs.Prelude.{slice_get}
-use Rattle.im_store.specs.Objects as o
 use Rattle.im_eval_store.specs.declared.memory.Activation.{Activation}
 use Rattle.im_eval_store.specs.declared.plan.Plan.{Plan}
-use Rattle.im_typed.specs.Runs.{State}
 use Rattle.im_typed.specs.Programs.{entering, with_objects}
 use Rattle.im_eval_machine.specs.declared.machine.Machine.{Machine}
 use Rattle.im_eval_machine.specs.Activations.{Entered}

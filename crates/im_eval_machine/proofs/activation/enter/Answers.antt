@@ -1,5 +1,5 @@
-use Rattle.std.proofs.Common.{◌≡◌, ◌+◌, ◌<◌, ◌≤◌, ◌∙◌, ℕ, List, length, map, take, refl, sym, ap, subst, arith, slice_index_or}
-use Rattle.std.specs.Prelude.{Some, None, slice_get, sum_by}
+use Rattle.std.proofs.Common.{◌≡◌, ◌+◌, ◌<◌, ◌≤◌, ◌∙◌, List, length, map, take, refl, sym, ap, subst, slice_index_or}
+use Rattle.std.specs.Prelude.{Some, slice_get, sum_by}
 use Rattle.std.proofs.lemmas.Option.{slice_get_read}
 use Rattle.im_typed.specs.Program.{Func}
 use Rattle.im_typed.specs.ProgramOf.{program_of}

@@ -1,4 +1,4 @@
-use Rattle.std.proofs.Common.{◌≡◌, ◌≤◌, ℕ, length}
+use Rattle.std.proofs.Common.{◌≡◌, ℕ, length}
 use Rattle.std.specs.Prelude.{Some, slice_get}
 use Rattle.im_eval_store.specs.declared.memory.Live.{Live}
 use Rattle.im_eval_store.specs.declared.plan.Plan.{Plan}

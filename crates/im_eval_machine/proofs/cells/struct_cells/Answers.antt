@@ -1,4 +1,4 @@
-use Rattle.std.proofs.Common.{◌≡◌, ◌≤◌, length, arith}
+use Rattle.std.proofs.Common.{◌≤◌, length, arith}
 use Rattle.im_ctype.specs.Table.{structs_of}
 use Rattle.im_eval_machine.proofs.StructCells.{none_left, no_more, finished}
 use Rattle.im_eval_machine.proofs.cells.struct_cells.Goals as goal

@@ -1,5 +1,4 @@
 use Rattle.std.proofs.Common.{◌≡◌, ◌++◌, drop}
-use Rattle.im_ctype.specs.Layout.{moved}
 use Rattle.im_eval_machine.proofs.StructCells.{row_cells}
 use Rattle.im_eval_machine.proofs.cells.struct_cells.Given as goal
 

@@ -1,4 +1,4 @@
-use Rattle.std.proofs.Common.{◌≡◌, ℕ, ap, subst}
+use Rattle.std.proofs.Common.{◌≡◌, subst}
 use Rattle.std.proofs.lemmas.Result.{err_from_is_err_and}
 use Rattle.im_num.specs.declared.kind.Kind.{Kind}
 use Rattle.im_store.specs.Access.{at_place, read_cell, taken}

@@ -1,4 +1,4 @@
-use Rattle.std.proofs.Common.{◌≡◌, ◌+◌, ◌<◌, suc, List, [], ◌∷◌, ◌++◌, map, drop, length, arith, sym, ap, ◌∙◌, append_assoc}
+use Rattle.std.proofs.Common.{◌+◌, ◌<◌, List, ◌++◌, map, drop, length, arith, sym, ap, ◌∙◌, append_assoc}
 use Rattle.im_typed.specs.declared.statement.Piece.{Piece}
 use Rattle.im_typed.specs.Meaning.{given_offsets}
 use Rattle.im_typed.specs.ProgramOf.{piece_of}

@@ -1,4 +1,4 @@
-use Rattle.std.proofs.Common.{◌≡◌, ◌∙◌, length, sym, arith, refl}
+use Rattle.std.proofs.Common.{arith}
 use Rattle.im_ctype.specs.Layout.{layouts, struct_in}
 use Rattle.im_ctype.specs.Table.{structs_of, types_of, members_in}
 use Rattle.im_ctype.proofs.Building.{length-built}

@@ -1,4 +1,4 @@
-use Rattle.std.proofs.Common.{◌≡◌, ◌+◌, ◌<◌, List, [], ◌∷◌, ◌++◌, map, take, length, arith, subst, sym}
+use Rattle.std.proofs.Common.{◌+◌, ◌<◌, List, [], ◌∷◌, ◌++◌, map, take, length, arith, subst, sym}
 use Rattle.im_store.specs.Objects.{Shape, shape_of}
 use Rattle.im_ctype.specs.Table.{layout_of}
 use Rattle.im_typed.specs.Program.{LocalObject}

@@ -1,4 +1,4 @@
-use Rattle.std.proofs.Common.{◌≡◌, ◌<◌, List, ap, sym, ◌∙◌, length, subst}
+use Rattle.std.proofs.Common.{◌<◌, List, ap, sym, ◌∙◌, length, subst}
 use Rattle.im_ctype.specs.declared.cell.Cell.{Cell}
 use Rattle.im_ctype.specs.Table.{layout_of}
 use Rattle.im_store.specs.Statics.{value_at}

@@ -1,4 +1,4 @@
-use Rattle.std.proofs.Common.{◌≡◌, ◌+◌, ◌<◌, ℕ, List, ◌++◌, ◌∷◌, [], map, length, arith, subst, sym, length-append}
+use Rattle.std.proofs.Common.{◌≡◌, ◌+◌, ◌<◌, ℕ, List, ◌∷◌, [], map, length, arith, subst, sym, length-append}
 use Rattle.std.specs.Prelude.{Option, Some, slice_get}
 use Rattle.im_store.specs.Statics.{StaticObject, first_value}
 use Rattle.im_typed.specs.ProgramOf.{static_of}

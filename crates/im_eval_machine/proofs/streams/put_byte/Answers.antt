@@ -1,4 +1,4 @@
-use Rattle.std.proofs.Common.{refl, arith}
+use Rattle.std.proofs.Common.{arith}
 use Rattle.std.proofs.lemmas.Bool.{lt-ltb}
 use Rattle.im_eval_machine.proofs.Streaming.{byte-put}
 use Rattle.im_eval_machine.proofs.streams.put_byte.Goals as goal
