@@ -156,7 +156,7 @@ module _ (m : Machine) (memory : Memory) (by : Change) (before : o.Value) (z : �
           with_store s w.0,
           stored m memory s w.0 h w.2,
           ap (λ r. goes_on (checked r s) (λ w. write_at (Scalar (changed_kind by)) at (w ∷ []))) (computed m.activations s.world.store h.held)
-          ∙ ap (λ r. goes_on (checked r s) (λ store. leave_store store >>= (λ _. give (shown after ∷ [])))) (one-write s.world.store (changed_kind by) at (shown after) [] ∙ w.1),
+              ∙ ap (λ r. goes_on (checked r s) (λ store. leave_store store >>= (λ _. give (shown after ∷ [])))) (one-write s.world.store (changed_kind by) at (shown after) [] ∙ w.1),
         );
   }
 

@@ -37,24 +37,28 @@ the-function first [] [] k l are e = absurd (cc)
 the-function first [] (m ∷ ls) k l are e = absurd are
 the-function first (f ∷ fs) [] k l are e = absurd are
 the-function first (f ∷ fs) (m ∷ ls) zero l are e =
-    let same : m ≡ l = cc in
-    (small_func f, record {
-      there = refl;
-      plans = subst (λ (x : Layout). ArePlans (local_shapes f.objects) x.plans.items) same are.1;
-      begins = sym (ap (λ (x : Layout). x.first) same) ∙ are.0 ∙ plus first;
-    })
+    let same : m ≡ l = cc in (
+      small_func f,
+      record {
+        there = refl;
+        plans = subst (λ (x : Layout). ArePlans (local_shapes f.objects) x.plans.items) same are.1;
+        begins = sym (ap (λ (x : Layout). x.first) same) ∙ are.0 ∙ plus first;
+      },
+    )
   where
     plus : (n : ℕ) → n ≡ n + 0
     plus n = omega arith
 the-function first (f ∷ fs) (m ∷ ls) (suc k) l are e =
     let r = the-function (first + length f.objects) fs ls k l are.2 e in
-    let begins = r.1.begins in
-    (r.0, record {
-      there = r.1.there;
-      plans = r.1.plans;
-      begins = begins ∙ plus first (length f.objects) (sum_by (λ (g : Func). length g.objects) (take k (map small_func fs)))
-      ∙ ap (λ n. first + n) (sym (sum_by-cons (λ (g : Func). length g.objects) (small_func f) (take k (map small_func fs))));
-    })
+    let begins = r.1.begins in (
+      r.0,
+      record {
+        there = r.1.there;
+        plans = r.1.plans;
+        begins = begins ∙ plus first (length f.objects) (sum_by (λ (g : Func). length g.objects) (take k (map small_func fs)))
+            ∙ ap (λ n. first + n) (sym (sum_by-cons (λ (g : Func). length g.objects) (small_func f) (take k (map small_func fs))));
+      },
+    )
   where
     plus : (a b c : ℕ) → (a + b) + c ≡ a + (b + c)
     plus a b c = omega arith
@@ -75,7 +79,7 @@ module _ (g : Setting) (k : ℕ) (args : List o.Value) where
     ends = λ s h. (
       s.world.store,
       ap (λ r. enter_one g k r args s) e ∙ full f s (subst (λ d. g.stack < d + frame_of g k) (sym h.depth) lt)
-      ∙ ap (λ (bytes : List ℕ). let r : Answer Entered = Stops (Exhausts bytes s.world.store) in r) h.output,
+          ∙ ap (λ (bytes : List ℕ). let r : Answer Entered = Stops (Exhausts bytes s.world.store) in r) h.output,
       h.held,
     );
   }
@@ -95,9 +99,9 @@ module _ (g : Setting) (k : ℕ) (args : List o.Value) where
           record { world = entering (suc old.activations) depth l.first f args s.world; fuel = s.fuel },
           begun.held f s plans h,
           ap (λ r. enter_one g k r args s) e ∙ room f s (subst (λ n. n ≤ g.stack) (sym d) fits)
-          ∙ ap (λ n. arrives f s (suc n) (s.world.depth + frame_of g k) (first_object g.prog k)) h.activations
-          ∙ ap (λ n. arrives f s (suc old.activations) n (first_object g.prog k)) d
-          ∙ ap (λ n. arrives f s (suc old.activations) depth n) (sym begins)
-          ∙ ap (λ x. let r : Answer Entered = Gives x (record { world = entering (suc old.activations) depth l.first f args s.world; fuel = s.fuel }) in r) (sym begun.here_is),
+              ∙ ap (λ n. arrives f s (suc n) (s.world.depth + frame_of g k) (first_object g.prog k)) h.activations
+              ∙ ap (λ n. arrives f s (suc old.activations) n (first_object g.prog k)) d
+              ∙ ap (λ n. arrives f s (suc old.activations) depth n) (sym begins)
+              ∙ ap (λ x. let r : Answer Entered = Gives x (record { world = entering (suc old.activations) depth l.first f args s.world; fuel = s.fuel }) in r) (sym begun.here_is),
         );
   }

@@ -69,12 +69,7 @@ fn one_from(found: &Found, from: u32) -> Found
 }
 
 /// So many cells at most, from one of them on.
-fn cells_from(
-    alloc: Global,
-    found: &Found,
-    from: u32,
-    count: usize,
-) -> Result<Vec<Value>, NoMemory>
+fn cells_from(alloc: Global, found: &Found, from: u32, count: usize) -> Result<Vec<Value>, NoMemory>
     ensures { IfOk result (λ part. shown_all part.items
         ≡ take count (drop from (values found.now))) }
 {

@@ -6,8 +6,8 @@ ghost use Rattle.im_eval_machine.specs.Initials.{given_by, offsets_from};
 ghost use Rattle.im_eval_machine.specs.Settings.{AreLayoutsOf};
 ghost use Rattle.im_eval_machine.specs.Shown.{IsStep, nothing};
 
-use crate::here::Here;
 use crate::code::Code;
+use crate::here::Here;
 use crate::machine::Machine;
 use im_ctype::Cell;
 use im_num::NoMemory;
@@ -42,11 +42,7 @@ fn push_offsets(given: &mut Vec<u64>, by: u32, cells: &[Cell]) -> Result<(), NoM
 }
 
 /// The offsets in bytes of the cells that expressions of an initialiser give (C11 6.7.9p19).
-pub fn given_offsets(
-    alloc: Global,
-    code: Code,
-    pieces: &[Piece],
-) -> Result<Vec<u64>, NoMemory>
+pub fn given_offsets(alloc: Global, code: Code, pieces: &[Piece]) -> Result<Vec<u64>, NoMemory>
     requires { AreLayoutsOf code.prog.now code.layouts.now }
     ensures { IfOk result (λ given. given.items
         ≡ meaning.given_offsets (map (piece_of code.entry.prog.now.types) pieces.now)) }

@@ -43,11 +43,7 @@ fn plans_of(alloc: Global, types: &TypeTable, objects: &[Object]) -> Result<Vec<
 }
 
 /// The plans of statics, in their order.
-fn static_plans(
-    alloc: Global,
-    types: &TypeTable,
-    statics: &[Static],
-) -> Result<Vec<Plan>, NoMemory>
+fn static_plans(alloc: Global, types: &TypeTable, statics: &[Static]) -> Result<Vec<Plan>, NoMemory>
     requires { All (λ (s : rust_static.Static). IsIn types.now s.object.ty) statics.now }
     ensures { IfOk result (λ plans. ArePlans
         (static_shapes (map (static_of types.now) statics.now)) plans.items) }

@@ -53,7 +53,7 @@ loop-number-preserved c = λ last store h.
       w.0,
       w.2,
       write-on (object_of p.object) p.offset store i.0 w.0 cells vs (drop l.number cells) (drop l.number vs) (get_or cells l.number no_cell) (shown c.in-Some.value) (drop (l.number + 1) cells) (drop (l.number + 1) vs) i.2
-      (dropped-at no_cell cells l.number within) (got-dropped vs l.number (shown c.in-Some.value) got) w.1,
+          (dropped-at no_cell cells l.number within) (got-dropped vs l.number (shown c.in-Some.value) got) w.1,
     )
 
 pub returns : goal.returns

@@ -42,6 +42,6 @@ copy-preserved c =
     subst P (sym c.in_ok-push-in-Some.ensures.items) (
       shorter,
       on ∙ ap (λ (acc : List o.Value). acc ++ take (c.args.count - (n + 1)) (drop (c.args.from + n + 1) vs)) (sym (shown-more l.part.items v))
-      ∙ ap (λ k. shown_all (l.part.items ++ v ∷ []) ++ take (c.args.count - k) (drop (c.args.from + n + 1) vs)) (sym longer)
-      ∙ ap (λ k. shown_all (l.part.items ++ v ∷ []) ++ take (c.args.count - length (l.part.items ++ v ∷ [])) (drop k vs)) (sym further),
+          ∙ ap (λ k. shown_all (l.part.items ++ v ∷ []) ++ take (c.args.count - k) (drop (c.args.from + n + 1) vs)) (sym longer)
+          ∙ ap (λ k. shown_all (l.part.items ++ v ∷ []) ++ take (c.args.count - length (l.part.items ++ v ∷ [])) (drop k vs)) (sym further),
     )

@@ -24,7 +24,7 @@ loop-func-preserved c =
     let sum = c.in-Some.ensures in
     let so_far = l.invariant.0 in
     let next : c.in-Some.past ≡ past first (before ++ func_of types x ∷ []) =
-        sum.1 ∙ ap (λ n. n + c.len.result) so_far ∙ ap (λ n. past first before + n) (said ∙ whole.0 ∙ sym count) ∙ sym plus in
+    sum.1 ∙ ap (λ n. n + c.len.result) so_far ∙ ap (λ n. past first before + n) (said ∙ whole.0 ∙ sym count) ∙ sym plus in
     let plans = subst (λ (os : List Object). ArePlans (local_shapes (map (object_of types) os)) c.in_ok-plans.plans.items) c.deref.ensures.value c.in_ok-plans.ensures in
     let more = layouts-more first before l.layouts.items (func_of types x) _ l.invariant.1 so_far plans in
     subst (λ (fs : List Func). (c.in-Some.past ≡ past first fs) × AreLayouts first fs c.push.new.self.items) (sym same)

@@ -35,8 +35,8 @@ returns c =
     let objects = c.in_ok-objects.objects in
     let are = subst (λ (shapes : List Shape). ArePlans shapes plans) (sym (small-shapes (program_of code.prog.now).statics)) c.requires.laid_out.statics in
     let fresh =
-        subst (λ (ps : List Plan). AreFresh ps (λ k. first_value (slice_get statics k)) objects.items) c.deref.ensures.value
-        (subst (λ (ss : List Static). AreFresh c.deref.result.now (λ k. first_value (slice_get (map small_static (map (static_of types) ss)) k)) objects.items) c.deref-2.ensures.value c.in_ok-objects.ensures) in
+    subst (λ (ps : List Plan). AreFresh ps (λ k. first_value (slice_get statics k)) objects.items) c.deref.ensures.value
+    (subst (λ (ss : List Static). AreFresh c.deref.result.now (λ k. first_value (slice_get (map small_static (map (static_of types) ss)) k)) objects.items) c.deref-2.ensures.value c.in_ok-objects.ensures) in
     let first : Activation = record { number = 0; depth = 0; first = 0; objects = objects } in
     let alone = c.in_ok-push.ensures.items ∙ ap (λ (xs : List Activation). xs ++ first ∷ []) c.new-activations.ensures.items in
     record {

@@ -25,8 +25,8 @@ fill-preserved c =
       omega arith,
       c.set.ensures.plan ∙ same,
       λ types empty i lt.
-      let inside : i < length l.object.values.items = subst (λ n. i < n) (sym (l.object.full ∙ ap (λ b. length b.now.kinds.items) same)) lt in
-      set-on types c.args.cells.now c.args.constants.now l.left i _ _ l.object.values.items _ c.first_of.result positive few_cells few_values inside (c.set.ensures.values i) (c.first_of.ensures types) (l.invariant.3 types empty i lt),
+          let inside : i < length l.object.values.items = subst (λ n. i < n) (sym (l.object.full ∙ ap (λ b. length b.now.kinds.items) same)) lt in
+          set-on types c.args.cells.now c.args.constants.now l.left i _ _ l.object.values.items _ c.first_of.result positive few_cells few_values inside (c.set.ensures.values i) (c.first_of.ensures types) (l.invariant.3 types empty i lt),
     )
 
 pub returns-clause-values : goal.returns-clause-values
