@@ -2,6 +2,12 @@
 #![tactic(auto)]
 
 #[cfg(test)]
+mod images;
+#[cfg(test)]
+mod losses;
+#[cfg(test)]
+mod sums;
+#[cfg(test)]
 mod tests;
 #[cfg(test)]
 mod words;

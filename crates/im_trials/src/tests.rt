@@ -1,10 +1,9 @@
+use crate::images::{StaticWord, image_of, loaded, period, value_of};
 use crate::words::WORDS;
 use im_ckpt::{checkpoint_lines, recovery_lines};
-use im_emu::Machine;
-use im_image::{Image, read_image};
-use im_mem::FlatMem;
+use im_image::Image;
 use im_num::CellValue;
-use im_power::{Period, read_trace};
+use im_power::read_trace;
 use im_rtlib::{getchar_lines, putchar_lines};
 use im_rv::decode::decode;
 use im_rv::{Line, Went};
@@ -58,27 +57,11 @@ fn the_runtime_is_that_of_the_assembler(rt: HostRuntime) -> Result<(), Fail> {
     Ok(())
 }
 
-fn put_words(text: &mut Vec<u8>, words: &[u32]) -> Result<(), Fail> {
-    for word in words {
-        text.extend_from_slice(&word.to_le_bytes())?;
-    }
-    Ok(())
-}
-
-/// The image of these words, which begins at this address. Its one variable is a word.
-fn image_of(alloc: Global, words: &[u32], entry: u32) -> Result<Image, Fail> {
-    let mut text = Vec::new(alloc);
-    let count = u32::try_from(words.len()).ok().ok_or("few words")?;
-    put_words(
-        &mut text,
-        &[0x5652_4d49, 2, count, 8, 256, 8192, entry, 1, 1],
-    )?;
-    put_words(&mut text, words)?;
-    put_words(&mut text, &[0, 0, 0x10_0000, 4, 1, 1])?;
-    text.push(b'n')?;
-    put_words(&mut text, &[0, 5, 1])?;
-    Ok(read_image(alloc, &text).ok().ok_or("an image")?)
-}
+/// The example's one variable.
+const LETTERS: StaticWord = StaticWord {
+    name: b'n',
+    first: 0,
+};
 
 /// A loop of one cut behind recovery and the checkpoint: jal x3, E4; jal x0, -4. Its longest gap is
 /// 45 instructions: 33 of recovery, the return, the jump back, and 10 up to the flip.
@@ -86,7 +69,7 @@ fn loop_image(alloc: Global) -> Result<Image, Fail> {
     let mut words = Vec::new(alloc);
     words.extend_from_slice(&WORDS[..237])?;
     words.extend_from_slice(&[0xd4df_f1ef, 0xffdf_f06f])?;
-    image_of(alloc, &words, 0x13b4)
+    image_of(alloc, &words, 0x13b4, &[LETTERS])
 }
 
 #[test]
@@ -107,9 +90,7 @@ fn a_loop_commits_in_each_period_of_its_gap(rt: HostRuntime) -> Result<(), Fail>
     let image = loop_image(rt.alloc())?;
     for (lines, commits, instructions) in rows {
         let trace = read_trace(rt.alloc(), lines).ok().ok_or("a trace")?;
-        let mut machine = Machine::load(rt.alloc(), &image, &[])
-            .ok()
-            .ok_or("a machine")?;
+        let mut machine = loaded(rt.alloc(), &image, &[])?;
         assert!(rt; machine.run(&trace) == Went::On);
         assert_eq!(rt; machine.commits(), commits, "at {instructions}");
         assert_eq!(rt; machine.instructions(), instructions);
@@ -117,42 +98,8 @@ fn a_loop_commits_in_each_period_of_its_gap(rt: HostRuntime) -> Result<(), Fail>
     Ok(())
 }
 
-/// A period of so many instructions.
-fn period(n: u32, mask: u32) -> Period {
-    Period {
-        n,
-        junk: 0xa5a5_a5a5,
-        count: 1,
-        mask,
-    }
-}
-
 /// How many instructions of recovery are executed when power fails again.
 const AGAIN: [u32; 5] = [0, 1, 17, 32, 33];
-
-/// The value of the image's one variable.
-fn letters(alloc: Global, machine: &Machine<FlatMem>) -> Result<Option<CellValue>, Fail> {
-    let vars = machine.vars(alloc)?;
-    Ok(vars.first().and_then(|var| var.cells.first().copied()))
-}
-
-/// Before the first cut and behind the last one.
-#[test]
-fn power_fails_at_the_beginning_and_at_the_end(rt: HostRuntime) -> Result<(), Fail> {
-    let image = image_of(rt.alloc(), &WORDS, 0x1494)?;
-    for n in [0, 17, 33, 35, 36, 60, 165, 170, 175, 176, 177] {
-        let mut machine = Machine::load(rt.alloc(), &image, b"a")
-            .ok()
-            .ok_or("a machine")?;
-        machine.power(period(n, 5));
-        machine.power(period(AGAIN[(n % 5) as usize], 15));
-        assert!(rt; machine.power(period(1000, 0)) == Went::Halted, "after {n}");
-        assert_eq!(rt; machine.output(), b"A".as_slice());
-        assert_eq!(rt; machine.status(), 1);
-        assert_eq!(rt; letters(rt.alloc(), &machine)?, Some(CellValue::Number(1)));
-    }
-    Ok(())
-}
 
 /// A text of small letters, capitals and signs, and the same in capitals.
 fn texts(alloc: Global, count: usize) -> Result<(Vec<u8>, Vec<u8>), Fail> {
@@ -169,11 +116,9 @@ fn texts(alloc: Global, count: usize) -> Result<(Vec<u8>, Vec<u8>), Fail> {
 /// fails, and again within the recovery that follows.
 #[test]
 fn power_fails_in_each_section_with_each_mask(rt: HostRuntime) -> Result<(), Fail> {
-    let image = image_of(rt.alloc(), &WORDS, 0x1494)?;
+    let image = image_of(rt.alloc(), &WORDS, 0x1494, &[LETTERS])?;
     let (text, capitals) = texts(rt.alloc(), 8000)?;
-    let mut machine = Machine::load(rt.alloc(), &image, &text)
-        .ok()
-        .ok_or("a machine")?;
+    let mut machine = loaded(rt.alloc(), &image, &text)?;
     for mask in 0..16 {
         for n in 33..70 {
             for round in 0..16 {
@@ -188,7 +133,7 @@ fn power_fails_in_each_section_with_each_mask(rt: HostRuntime) -> Result<(), Fai
     assert_eq!(rt; machine.output(), capitals.as_slice());
     assert_eq!(rt; machine.status(), 4000);
     assert_eq!(rt;
-        letters(rt.alloc(), &machine)?,
+        value_of(rt.alloc(), &machine, 0)?,
         Some(CellValue::Number(4000))
     );
     Ok(())

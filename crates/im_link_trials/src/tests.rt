@@ -1,0 +1,46 @@
+use crate::parts::largest_parts;
+use im_gap::longest_gap;
+use im_link::link;
+use im_num::Cause;
+use std::test::Fail;
+
+// The words of the last function stand from 0x0FFFE0 on; by llvm-mc.
+const LAST: [u32; 8] = [
+    0x8200_11ef,
+    0x0001_2283,
+    0x0002_9463,
+    0x8140_11ef,
+    0x0051_2023,
+    0xfcdf_f0ef,
+    0x8080_11ef,
+    0x0000_8067,
+];
+
+#[test]
+fn the_largest_code(rt: HostRuntime) -> Result<(), Fail> {
+    let parts = largest_parts(rt.alloc())?;
+    let code = link(rt.alloc(), &parts)?;
+    assert_eq!(rt; code.words.len(), 261120);
+    assert_eq!(rt; code.entry, 0x1020);
+    assert_eq!(rt; &code.words[261112..], LAST.as_slice());
+    // three in each of 32639 functions
+    assert_eq!(rt; code.cuts.len(), 97917);
+    for (cut, (at, cause)) in code.cuts[97914..].iter().zip(&[
+        (0xF_FFE0, Cause::Entry),
+        (
+            0xF_FFEC,
+            Cause::Dep {
+                read: 0xF_FFE4,
+                write: 0xF_FFF0,
+            },
+        ),
+        (0xF_FFF8, Cause::Return),
+    ]) {
+        assert_eq!(rt; cut.at, *at);
+        assert_eq!(rt; cut.cause, *cause);
+        assert_eq!(rt; cut.function.as_str(), "functions");
+    }
+    // recovery; the read, the branch, the write, the call; the callee's cut, six lines, the flip
+    assert_eq!(rt; longest_gap(rt.alloc(), &code)?, Some(33 + 4 + 8));
+    Ok(())
+}
