@@ -130,11 +130,7 @@ pub fn comparison(
     Ok(Annotated { tree, constancy })
 }
 
-pub fn conjunction(
-    alloc: Global,
-    left: Annotated,
-    right: Annotated,
-) -> Result<Annotated, NoMemory>
+pub fn conjunction(alloc: Global, left: Annotated, right: Annotated) -> Result<Annotated, NoMemory>
     ensures { (types : Table) → IfOk result
         (λ e. expr_of types e.tree ≡ p.And (expr_of types left.tree) (expr_of types right.tree)) }
 {
@@ -148,11 +144,7 @@ pub fn conjunction(
     Ok(Annotated { tree, constancy })
 }
 
-pub fn disjunction(
-    alloc: Global,
-    left: Annotated,
-    right: Annotated,
-) -> Result<Annotated, NoMemory>
+pub fn disjunction(alloc: Global, left: Annotated, right: Annotated) -> Result<Annotated, NoMemory>
     ensures { (types : Table) → IfOk result
         (λ e. expr_of types e.tree ≡ p.Or (expr_of types left.tree) (expr_of types right.tree)) }
 {

@@ -70,10 +70,7 @@ fn first_element(
     }) }
 {
     let array = Box::new(alloc, place)?;
-    Ok(of_variable(
-        Type::Pointer(constant, element),
-        Expr::Address(array),
-    ))
+    Ok(of_variable(Type::Pointer(constant, element), Expr::Address(array)))
 }
 
 /// What an lvalue gives.

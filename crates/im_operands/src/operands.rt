@@ -21,8 +21,7 @@ pub fn fits(ty: &Type, x: &Operand) -> bool
     ensures { result ≡ u.rule_17 (type_of ty.now) (seen x.now) }
 {
     (is_integer(ty) && is_integer_value(x))
-        || (pointer_fits(ty, x)
-            || ((is_pointer(ty) && is_integer_null(x)) || is_of_struct(ty, x)))
+        || (pointer_fits(ty, x) || ((is_pointer(ty) && is_integer_null(x)) || is_of_struct(ty, x)))
 }
 
 /// Whether it may be changed, by the structs that have no `const` in them (C11 6.3.2.1p1).
