@@ -3,4 +3,4 @@
 
 mod stop;
 
-pub use stop::Stop;
+pub use stop::{Stop, refused};

@@ -37,3 +37,10 @@ impl From<NoMemory> for Stop {
         Stop::Memory
     }
 }
+
+/// A rule that refuses a node whose first token is that one.
+pub fn refused(number: u32, token: u32) -> Stop
+    ensures { result ≡ Stop.Rule number token }
+{
+    Stop::Rule { number, token }
+}

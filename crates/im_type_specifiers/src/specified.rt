@@ -19,15 +19,9 @@ use im_ctree::{Specifier, SpecifierKind};
 use im_ctype::Integer;
 use im_name_map::TagList;
 use im_scopes::{Entity, Scope, Tag};
-use im_stop::Stop;
+use im_stop::{Stop, refused};
 use im_types::{Type, copy};
 use std::alloc::Global;
-
-fn refused(number: u32, token: u32) -> Stop
-    ensures { result ≡ Stop.Rule number token }
-{
-    Stop::Rule { number, token }
-}
 
 /// The first struct, enum or typedef name.
 pub fn first_named(specifiers: &[Specifier]) -> Option<&Specifier>

@@ -1,0 +1,4 @@
+pub mod Functions
+pub mod Parameters
+pub mod Stars
+pub mod Suffixes
