@@ -1,4 +1,4 @@
-pub mod Functions
-pub mod Parameters
-pub mod Stars
-pub mod Suffixes
+pub mod Formals
+pub mod Named
+pub mod Reached
+pub mod Steps

@@ -1,5 +1,5 @@
 //! Function types (C11 6.7.6.3).
-ghost use Rattle.std.specs.Prelude.{◌≡◌, ◌∷◌, [], map, length, nat_eq, IfOk};
+ghost use Rattle.std.specs.Prelude.{◌≡◌, ◌&&◌, ◌∷◌, [], map, length, nat_eq, IfOk};
 ghost use Rattle.im_ctree.specs.declared.specifier.Specifiers.{out-Specifiers};
 ghost use Rattle.im_rules.specs.Declared as d;
 ghost use Rattle.im_rules.specs.Rules as u;
@@ -91,7 +91,8 @@ fn types(alloc: Global, declared: &[Declared]) -> Result<Vec<Type>, NoMemory>
 {
     let mut done = Vec::new(alloc);
     for parameter in declared {
-        done.push(copy(alloc, &parameter.ty)?)?;
+        let ty = copy(alloc, &parameter.ty)?;
+        done.push(ty)?;
     }
     Ok(done)
 }
@@ -100,6 +101,13 @@ fn may_be_result(ty: &Type) -> bool
     ensures { result ≡ u.rule_9_result (type_of ty.now) }
 {
     is_void(ty) || is_scalar(ty)
+}
+
+fn may_be_function(returned: &Type, declared: &[Declared]) -> bool
+    ensures { result ≡ (u.rule_9_result (type_of returned.now) && d.are_scalars
+        (map declared_of declared.now)) }
+{
+    may_be_result(returned) && are_scalars(declared)
 }
 
 /// A function of these parameters, by how they are written and how they are declared; `at` is the
@@ -117,12 +125,13 @@ pub fn function(
         result }
 {
     let kept = without_void(parameters, declared);
-    if !may_be_result(&q.ty) || !are_scalars(kept) {
+    if !may_be_function(&q.ty, kept) {
         return Err(refused(9, at));
     }
     let types = types(alloc, kept)?;
+    let ty = function_of(alloc, q.ty, types)?;
     Ok(Qualified {
         constant: false,
-        ty: function_of(alloc, q.ty, types)?,
+        ty,
     })
 }

@@ -3,6 +3,7 @@ ghost use Rattle.std.specs.Prelude.{◌≡◌, ◌∷◌, List, length, Bool};
 ghost use Rattle.im_ctree.specs.Tree as t;
 ghost use Rattle.im_rules.specs.Context.{Context};
 ghost use Rattle.im_rules.specs.Declared as d;
+ghost use Rattle.im_rules.specs.Rules.{rule_6_length};
 ghost use Rattle.im_tree_parts.specs.Lists.{maybe_from, parameters_from, suffixes_from, with_suffix};
 ghost use Rattle.im_types.specs.Shape.{type_of};
 ghost use Rattle.im_type_specifiers.specs.Specified.{IsQualified, qualified_of};
@@ -32,6 +33,12 @@ fn element(known: usize, at: u32, ty: &Type) -> Result<(), Stop>
     Ok(())
 }
 
+fn is_count(value: i64) -> bool
+    ensures { result ≡ rule_6_length (Some value) }
+{
+    value > 0
+}
+
 /// An array of these elements, by the value of its length as a constant expression, if it is one;
 /// `at` is the first token of its suffix.
 pub fn array(
@@ -48,13 +55,17 @@ pub fn array(
     let Some(count) = value else {
         return Err(refused(15, at));
     };
-    if count < 1 {
-        return Err(refused(6, at));
+    if !is_count(count) {
+        return Err(Stop::Rule {
+            number: 6,
+            token: at,
+        });
     }
     element(known, at, &q.ty)?;
+    let ty = array_of(alloc, q.ty, count.unsigned_abs())?;
     Ok(Qualified {
         constant: q.constant,
-        ty: array_of(alloc, q.ty, count as u64)?,
+        ty,
     })
 }
 
@@ -70,9 +81,10 @@ pub fn open_array(
         result }
 {
     element(known, at, &q.ty)?;
+    let ty = unsized_of(alloc, q.ty)?;
     Ok(Qualified {
         constant: q.constant,
-        ty: unsized_of(alloc, q.ty)?,
+        ty,
     })
 }
 

@@ -1,19 +1,23 @@
 -- Suffixes, the last one first.
-use Rattle.std.proofs.Common.{◌≡◌, ℕ, zero, suc, ℤ, List, [], ◌∷◌, map, length, drop, Option, Some, None, Result, Ok, Err, Box, Global, refl, sym, ap, subst, ◌∙◌}
+use Rattle.std.proofs.Common.{arith, ◌≡◌, ◌<◌, ◌≤◌, ◌+◌, ◌-◌, Bool, true, false, pos, negsuc, unsigned_abs, get_or, ℕ, zero, suc, ℤ, List, [], ◌∷◌, map, length, drop, Option, Some, None, Result, Ok, Err, Box, Global, inl, inr, refl, sym, ap, subst, ◌∙◌}
+use Rattle.std.proofs.lemmas.List.{drop_more, drop_all}
 use Rattle.im_ctree.specs.declared.declarator.Suffix.{Suffix}
+use Rattle.im_ctype.specs.Types.{CType, array}
+use Rattle.im_rules.specs.Rules.{rule_6_length}
 use Rattle.im_ctree.specs.declared.declarator.SuffixKind as xk
 use Rattle.im_ctree.specs.declared.expression.Expression.{Expression}
 use Rattle.im_ctree.specs.Shape.{expression_of, parameters_of as parameters_in}
 use Rattle.im_ctree.specs.Tree as t
 use Rattle.im_rules.specs.Context.{Context, in_new_scope, behind, behind_parameters}
-use Rattle.im_rules.specs.Declared.{Qualified, Declared, length_asks, array_of, element_asks, open_array_of, function_asks, function_of, parameters_of}
+use Rattle.im_rules.specs.Declared.{Qualified, Declared, length_asks, count_of, array_of, element_asks, open_array_of, function_asks, function_of, parameters_of}
 use Rattle.im_rules.specs.Demands.{Meets, Refuses}
 use Rattle.im_rules.specs.Terms.{constant_in}
-use Rattle.im_rules.specs.Typed.{Suffixed, of_array, of_open_array, of_function, AreParameters}
+use Rattle.im_rules.specs.Typed.{Suffixed, no_suffix, of_array, of_open_array, of_function, AreParameters}
 use Rattle.im_rules.specs.Breaks.{some_suffixes, Broken, here, within, at_array, at_open_array, at_function, Part, behind_length, behind_no_length, behind_function}
 use Rattle.im_tree_parts.specs.Lists.{maybe_from, suffixes_from, with_suffix}
 use Rattle.im_stop.specs.declared.stop.Stop.{Stop}
 use Rattle.im_stop.specs.declared.stop.Stop.TheVariants.{Rule, Memory}
+use Rattle.im_stop.specs.Answers.{IsRefusal}
 use Rattle.im_type_specifiers.specs.declared.qualified.Qualified as y
 use Rattle.im_type_specifiers.specs.Specified.{IsQualified, qualified_of}
 use Rattle.im_declarators.specs.declared.given.Given.{Given}
@@ -124,3 +128,35 @@ one_fault known base s ss x gs q rule token all has i step h e f =
 pub all_done : (known : ℕ) (base : Qualified) (ss : List Suffix) (gs : List Given) (r : y.Qualified) (i : ℕ) → i ≡ 0
     → AreSuffixed known base (suffixes_from (drop i ss)) (drop i gs) (qualified_of r) → AreSuffixed known base (suffixes_from ss) gs (qualified_of r)
 all_done known base ss gs r i e h = subst (λ (j : ℕ). AreSuffixed known base (suffixes_from (drop j ss)) (drop j gs) (qualified_of r)) e h
+
+pub step_fault : (known : ℕ) (base : Qualified) (s : Suffix) (ss : List Suffix) (x : Given) (gs : List Given) (q : Qualified) (stop : Stop) (all : List Suffix) (has : List Given) (i : ℕ)
+    → IsStep known s.at s.kind x q (Err stop) → AreSuffixed known base (suffixes_from ss) gs q → drop i all ≡ s ∷ ss → drop i has ≡ x ∷ gs
+    → (c : Context) → length c.known ≡ known → AreGiven c (suffixes_from all) has → IsFault c (some_suffixes base (suffixes_from all)) stop
+step_fault known base s ss x gs q (Rule rule token) all has i step h e f = one_fault known base s ss x gs q rule token all has i step h e f
+step_fault known base s ss x gs q Memory all has i step h e f = λ c k a. tt
+
+-- before the last suffix
+pub none_done : (known : ℕ) (base : Qualified) (ss : List Suffix) (gs : List Given) (i : ℕ) → length ss ≤ i → AreSuffixed known base (suffixes_from (drop i ss)) (drop i gs) base
+none_done known base ss gs i e = rw (drop_all i ss e) (λ c k g. no_suffix)
+
+pub before : {X : Type 0} (xs : List X) (i : ℕ) (x : X) → 0 < i → i ≤ length xs → x ≡ get_or xs (i - 1) x → drop (i - 1) xs ≡ x ∷ drop i xs
+before {X = X} xs i x some inside is =
+    let below : i - 1 < length xs = omega arith in
+    let same : i - 1 + 1 ≡ i = omega arith in
+    drop_more xs (i - 1) x below ∙ ap (λ (y : X). y ∷ drop (i - 1 + 1) xs) (sym is) ∙ ap (λ (j : ℕ). x ∷ drop j xs) same
+
+counted : (z : ℤ) → true ≡ rule_6_length (Some z) → count_of (Some z) ≡ unsigned_abs z
+counted (pos n) h = refl
+counted (negsuc n) h = absurd cc
+
+-- an array of so many elements
+pub array_made : (c : Context) (q : Qualified) (z : ℤ) (n : ℕ) (a : CType) → rule_6_length (Some z) ≡ true → Meets (element_asks c q) → n ≡ unsigned_abs z → a ≡ array q.type n
+    → Meets (length_asks c q (Some z)) × (record { constant = q.constant; type = a } ≡ array_of q (Some z))
+array_made c q z n a h m e f =
+    let plain : CType → Qualified = λ b. record { constant = q.constant; type = b } in
+    ((refl, (h, m)), ap plain (f ∙ ap (λ (k : ℕ). array q.type k) (e ∙ sym (counted z (sym h)))))
+
+-- what refuses an element refuses the array
+pub array_fault : (c : Context) (q : Qualified) (z : Option ℤ) (at : ℕ) (stop : Stop) → IsRefusal (element_asks c q) at stop → IsRefusal (length_asks c q z) at stop
+array_fault c q z at (Rule rule token) r = (inr (inr r.0), r.1)
+array_fault c q z at Memory r = tt
