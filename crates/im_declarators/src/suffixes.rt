@@ -70,12 +70,7 @@ pub fn array(
 }
 
 /// An array of these elements whose length isn't written.
-pub fn open_array(
-    alloc: Global,
-    known: usize,
-    at: u32,
-    q: Qualified,
-) -> Result<Qualified, Stop>
+pub fn open_array(alloc: Global, known: usize, at: u32, q: Qualified) -> Result<Qualified, Stop>
     ensures { (c : Context) → length c.known ≡ known
         → IsQualified (d.element_asks c (qualified_of q)) (d.open_array_of (qualified_of q)) at
         result }
@@ -157,7 +152,7 @@ fn function_suffix(
     ensures { (c : Context) (base : d.Qualified) (rest : t.Suffixes) (others : List Given)
         → length c.known ≡ known
         → AreGiven c (t.function_suffix at (parameters_from parameters.now) rest)
-            (given.now ∷ others)
+        (given.now ∷ others)
         → AreSuffixed known base rest others (qualified_of q)
         → SuffixesDone c base (t.function_suffix at (parameters_from parameters.now) rest) result }
 {

@@ -43,7 +43,13 @@ fn declared_types(rt: HostRuntime) {
     assert!(rt; !first.constant && is_pointer(&first.ty));
     let again = Vec::from_slice(alloc, b"text").expect(&rt, "memory");
     let twice = parameter(alloc, &mut scope, 1, 9, called(again, int()));
-    assert!(rt; twice.err() == Some(Stop::Rule { number: 3, token: 9 }));
+    assert!(rt;
+        twice.err()
+            == Some(Stop::Rule {
+                number: 3,
+                token: 9
+            })
+    );
     let declared = [first, unnamed(int())];
     assert!(rt; function(alloc, 2, &[], &declared, int()).is_ok());
 
@@ -52,6 +58,12 @@ fn declared_types(rt: HostRuntime) {
         ty: Type::Void,
     };
     let refused = with_stars(alloc, 7, &[star], nothing);
-    assert!(rt; refused.err() == Some(Stop::Rule { number: 10, token: 7 }));
+    assert!(rt;
+        refused.err()
+            == Some(Stop::Rule {
+                number: 10,
+                token: 7
+            })
+    );
     assert!(rt; sized_type(0, unnamed(int())).is_ok());
 }

@@ -39,12 +39,7 @@ fn narrowed(number: usize) -> Result<u32, NoMemory>
 }
 
 /// The number of the struct that a tag declares whose first token is that one.
-pub fn tag_number(
-    scope: &Scope,
-    lists: &TagList,
-    first: u32,
-    tag: &[u8],
-) -> Result<u32, NoMemory>
+pub fn tag_number(scope: &Scope, lists: &TagList, first: u32, tag: &[u8]) -> Result<u32, NoMemory>
     ensures { IfOk result
         (λ n. (k : Context) → c.tag_number (at_place k scope.now lists.now) first tag.now ≡ n) }
 {

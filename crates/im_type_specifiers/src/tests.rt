@@ -25,7 +25,9 @@ fn types_of_specifiers(rt: HostRuntime) {
     lists.push(alloc, b"list").expect(&rt, "memory");
     let text = pointer_to(alloc, false, Type::Integer(Integer::Char)).expect(&rt, "memory");
     let name = Vec::from_slice(alloc, b"text").expect(&rt, "memory");
-    scope.declare(alloc, name, Entity::Typedef(false, text)).expect(&rt, "memory");
+    scope
+        .declare(alloc, name, Entity::Typedef(false, text))
+        .expect(&rt, "memory");
 
     let long = [
         word(0, SpecifierWord::Unsigned),
@@ -58,5 +60,11 @@ fn types_of_specifiers(rt: HostRuntime) {
     let stored = [word(7, SpecifierWord::Static), word(8, SpecifierWord::Int)];
     assert!(rt; type_at_file(alloc, &scope, &lists, 7, &stored).is_ok());
     let refused = specified_type(alloc, &scope, &lists, 7, &stored);
-    assert!(rt; refused.err() == Some(Stop::Rule { number: 2, token: 7 }));
+    assert!(rt;
+        refused.err()
+            == Some(Stop::Rule {
+                number: 2,
+                token: 7
+            })
+    );
 }
