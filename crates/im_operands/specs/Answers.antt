@@ -3,16 +3,11 @@ use Rattle.std.specs.Prelude.{◌≡◌, ℕ, List, MatchResult, Result, Option,
 use Rattle.im_ctree.specs.declared.operator.BinaryOp.{BinaryOp}
 use Rattle.im_ctype.specs.Table.{Table}
 use Rattle.im_rules.specs.Terms as r
-use Rattle.im_rules.specs.Demands.{Demand, Meets, Refuses}
-use Rattle.im_operands.specs.declared.stop.Stop.{Stop}
-use Rattle.im_operands.specs.declared.stop.Stop.TheVariants.{Rule, Memory}
+use Rattle.im_rules.specs.Demands.{Demand, Meets}
+use Rattle.im_stop.specs.Answers.{IsRefusal}
+use Rattle.im_stop.specs.declared.stop.Stop.{Stop}
 use Rattle.im_operands.specs.declared.term.Term.{Term}
 use Rattle.im_operands.specs.Shape.{term_in}
-
--- a rule that refuses, at this token
-abbrev pub IsRefusal : List Demand → ℕ → Stop → Type 0
-IsRefusal asked at (Rule rule token) = Refuses rule asked × (token ≡ at)
-IsRefusal asked at Memory = Unit {0}
 
 -- a term is made where all that is asked is so, and else the answer is a rule that refuses
 abbrev pub IsMade : Table → List Demand → r.Term → ℕ → Result Term Stop → Type 0

@@ -6,7 +6,6 @@ mod free;
 mod operand;
 mod operands;
 mod rules;
-mod stop;
 mod term;
 
 pub use free::{is_free, is_struct_free};
@@ -16,5 +15,4 @@ pub use rules::{
     allows, are_alike, casts, fits, has_size, is_changeable, is_indexed, is_integer_term,
     is_lvalue, is_pointer_to_complete, is_scalar_term, may_step, may_update,
 };
-pub use stop::Stop;
 pub use term::{Term, Value};

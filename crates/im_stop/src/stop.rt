@@ -1,5 +1,6 @@
+//! Why a node is not typed.
 ghost use Rattle.std.specs.Prelude.{◌≡◌};
-ghost use Rattle.im_operands.specs.declared.stop.Stop.TheVariants.{Memory};
+ghost use Rattle.im_stop.specs.declared.stop.Stop.TheVariants.{Memory};
 
 use im_num::NoMemory;
 use std::alloc::{AllocError, AllocFailed};
@@ -35,4 +36,11 @@ impl From<NoMemory> for Stop {
     fn from(_fault: NoMemory) -> Stop {
         Stop::Memory
     }
+}
+
+/// A rule that refuses a node whose first token is that one.
+pub fn refused(number: u32, token: u32) -> Stop
+    ensures { result ≡ Stop.Rule number token }
+{
+    Stop::Rule { number, token }
 }
