@@ -1,0 +1,4 @@
+pub mod Formals
+pub mod Named
+pub mod Reached
+pub mod Steps
