@@ -1,0 +1,4 @@
+pub mod Found
+pub mod Small
+pub mod Stack
+pub mod Tasks

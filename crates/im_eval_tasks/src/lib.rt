@@ -1,0 +1,21 @@
+//! From an expression or a statement to what is done first and what is then still to do: the tasks of a run.
+#![tactic(auto)]
+
+mod completion;
+mod expression;
+mod labels;
+mod operator;
+mod statement;
+mod steps;
+mod tasks;
+
+pub use completion::{Ended, Found};
+pub use expression::{begin, begin_place, local_of, small};
+pub use labels::enter_switch;
+pub use operator::{number_of, onward};
+pub use statement::{begin_statement, go_after, next_statement};
+pub use steps::{Next, Now};
+pub use tasks::{
+    At, Call, Caller, Here, Initialiser, Last, Left, Loop, Operand, Rest, Statements, Switch, Task,
+    Use, Whole,
+};
