@@ -1,5 +1,6 @@
 -- The numbers of a well-typed program are small: it is its own small view.
 use Rattle.std.proofs.Common.{◌≡◌, ◌∙◌, refl, ap, ℕ, ◌^◌, ◌+◌, ◌<◌, List, [], ◌∷◌, map, Bool, true, false, arith, rules}
+use Rattle.std.proofs.lemmas.Int.{ints}
 use Rattle.std.specs.Prelude.{ℤ, pos, negsuc, neg_ℤ, int_lt, ◌<ℤ◌, ◌&&◌, Option, Some, None, slice_get, if◌then◌else◌}
 use Rattle.std.specs.Option.{option_map}
 use Rattle.im_num.specs.declared.kind.Kind.{Kind}
@@ -19,18 +20,18 @@ within-neg : (m : ℕ) → m + 1 < 2 ^ 63 → small (negsuc m) ≡ negsuc m
 within-neg m h = search rules
 
 pub same_number : (kind : Kind) (z : ℤ) → IsInteger kind → IsOfKind kind z → small z ≡ z
-same_number I8 (pos m) h k = let high = k.high in within m (omega arith)
-same_number U8 (pos m) h k = let high = k.high in within m (omega arith)
-same_number I16 (pos m) h k = let high = k.high in within m (omega arith)
-same_number U16 (pos m) h k = let high = k.high in within m (omega arith)
-same_number I32 (pos m) h k = let high = k.high in within m (omega arith)
-same_number U32 (pos m) h k = let high = k.high in within m (omega arith)
-same_number I8 (negsuc m) h k = let low = k.low in within-neg m (omega arith)
-same_number U8 (negsuc m) h k = let low = k.low in within-neg m (omega arith)
-same_number I16 (negsuc m) h k = let low = k.low in within-neg m (omega arith)
-same_number U16 (negsuc m) h k = let low = k.low in within-neg m (omega arith)
-same_number I32 (negsuc m) h k = let low = k.low in within-neg m (omega arith)
-same_number U32 (negsuc m) h k = let low = k.low in within-neg m (omega arith)
+same_number I8 (pos m) h k = within m (omega (arith, ints, k.high))
+same_number U8 (pos m) h k = within m (omega (arith, ints, k.high))
+same_number I16 (pos m) h k = within m (omega (arith, ints, k.high))
+same_number U16 (pos m) h k = within m (omega (arith, ints, k.high))
+same_number I32 (pos m) h k = within m (omega (arith, ints, k.high))
+same_number U32 (pos m) h k = within m (omega (arith, ints, k.high))
+same_number I8 (negsuc m) h k = within-neg m (omega (arith, ints, k.low))
+same_number I16 (negsuc m) h k = within-neg m (omega (arith, ints, k.low))
+same_number I32 (negsuc m) h k = within-neg m (omega (arith, ints, k.low))
+same_number U8 (negsuc m) h k = absurd (omega (arith, ints, k.low))
+same_number U16 (negsuc m) h k = absurd (omega (arith, ints, k.low))
+same_number U32 (negsuc m) h k = absurd (omega (arith, ints, k.low))
 same_number Ptr z h k = absurd h
 
 module _ (g : Prog) (f : Func) where
