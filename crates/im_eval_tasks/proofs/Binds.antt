@@ -32,12 +32,6 @@ strict-number r f g k h =
     ap (λ x. goes_on x k) (assoc (goes_on r used) (λ v. checked (number_of v)) f)
     ∙ strict r (λ v s. goes_on (checked (number_of v) s) f) g k h
 
--- what a check gives, as a value
-pub shows : {C : Type 0} {A : Type 0} (r : Checked A) (f : A → o.Value) (s : State) (k : Values → Run C)
-    → goes_on (goes_on (checked r s) (λ a. scalar (f a))) k ≡ goes_on (goes_on (checked (then_ r (λ a. Fine (f a))) s) scalar) k
-shows (Fine a) f s k = refl
-shows (Bad why) f s k = refl
-
 -- what is looked up in the store for a number
 pub looks : {C : Type 0} (r : Checked ℤ) (f : ℤ → Store → Checked o.Value) (s : State) (k : Values → Run C)
     → goes_on (goes_on (checked r s) (λ m. in_store (f m) >>= scalar)) k ≡ goes_on (goes_on (checked (then_ r (λ m. f m s.world.store)) s) scalar) k

@@ -1,4 +1,5 @@
 pub mod Found
+pub mod Laws
 pub mod Small
 pub mod Stack
 pub mod Tasks

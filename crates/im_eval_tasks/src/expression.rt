@@ -66,8 +66,14 @@ pub fn begin_place<'p>(here: Here, place: &'p typed::Place) -> Next<'p>
             offset: 0,
             level: here.level,
         }))),
-        typed::Place::Target(pointer) => Next::Before(Now::Evaluate(pointer), Task::Operand(Operand::Target)),
-        typed::Place::Member(whole, offset) => Next::Before(Now::Locate(whole), Task::Member(*offset)),
+        typed::Place::Target(pointer) => Next::Before(
+            Now::Evaluate(pointer),
+            Task::Operand(Operand::Target),
+        ),
+        typed::Place::Member(whole, offset) => Next::Before(
+            Now::Locate(whole),
+            Task::Member(*offset),
+        ),
     }
 }
 
@@ -98,13 +104,25 @@ pub fn begin<'p>(alloc: Global, expr: &'p Expr) -> Next<'p>
             Next::Before(Now::Locate(place), Task::At(At::Increment(*change, *old)))
         }
         Expr::Convert(kind, operand) => {
-            Next::Before(Now::Evaluate(operand), Task::Operand(Operand::Last(Last::Convert(*kind))))
+            Next::Before(
+                Now::Evaluate(operand),
+                Task::Operand(Operand::Last(Last::Convert(*kind))),
+            )
         }
         Expr::Unary(op, kind, operand) => {
-            Next::Before(Now::Evaluate(operand), Task::Operand(Operand::Last(Last::Unary(*op, *kind))))
+            Next::Before(
+                Now::Evaluate(operand),
+                Task::Operand(Operand::Last(Last::Unary(*op, *kind))),
+            )
         }
-        Expr::Not(operand) => Next::Before(Now::Evaluate(operand), Task::Operand(Operand::Last(Last::Not))),
-        Expr::Putchar(operand) => Next::Before(Now::Evaluate(operand), Task::Operand(Operand::Putchar)),
+        Expr::Not(operand) => Next::Before(
+            Now::Evaluate(operand),
+            Task::Operand(Operand::Last(Last::Not)),
+        ),
+        Expr::Putchar(operand) => Next::Before(
+            Now::Evaluate(operand),
+            Task::Operand(Operand::Putchar),
+        ),
         Expr::Comma(left, right) => {
             Next::Before(Now::Evaluate(left), Task::Whole(Whole::Comma(right)))
         }

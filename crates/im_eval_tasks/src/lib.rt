@@ -1,9 +1,10 @@
-//! From an expression or a statement to what is done first and what is then still to do: the tasks of a run.
+//! From an expression or a statement to what is done first: the tasks of a run.
 #![tactic(auto)]
 
 mod completion;
 mod expression;
 mod labels;
+mod laws;
 mod operator;
 mod statement;
 mod steps;
@@ -12,6 +13,7 @@ mod tasks;
 pub use completion::{Ended, Found};
 pub use expression::{begin, begin_place, local_of, small};
 pub use labels::enter_switch;
+pub use laws::{call_law, small_view_law, turn_law};
 pub use operator::{number_of, onward};
 pub use statement::{begin_statement, go_after, next_statement};
 pub use steps::{Next, Now};

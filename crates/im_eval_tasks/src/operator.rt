@@ -28,11 +28,7 @@ pub fn number_of(value: Value) -> Result<Number, Undefined>
 }
 
 /// How an operator goes on, once its left operand is there.
-pub fn onward<'p>(
-    left: Left,
-    right: &'p Box<Expr>,
-    value: Value,
-) -> Result<Next<'p>, Undefined>
+pub fn onward<'p>(left: Left, right: &'p Box<Expr>, value: Value) -> Result<Next<'p>, Undefined>
     ensures { (types : Table) (g : Setting) (n : ℕ) (here : Here) (ts : List Task) (s : State)
         → Leads types g n here ts result s (then_valued types g n here ts
         (lefts types (in_activation types g n here) left right.entry (shown value)) s) }
@@ -70,7 +66,10 @@ pub fn onward<'p>(
         }
         Left::And => {
             if value.holds() {
-                Ok(Next::Before(Now::Evaluate(right), Task::Operand(Operand::Last(Last::Holds))))
+                Ok(Next::Before(
+                    Now::Evaluate(right),
+                    Task::Operand(Operand::Last(Last::Holds)),
+                ))
             } else {
                 Ok(Next::Just(Now::Value(Found::One(Value::truth(false)))))
             }
@@ -79,7 +78,10 @@ pub fn onward<'p>(
             if value.holds() {
                 Ok(Next::Just(Now::Value(Found::One(Value::truth(true)))))
             } else {
-                Ok(Next::Before(Now::Evaluate(right), Task::Operand(Operand::Last(Last::Holds))))
+                Ok(Next::Before(
+                    Now::Evaluate(right),
+                    Task::Operand(Operand::Last(Last::Holds)),
+                ))
             }
         }
     }
