@@ -1,5 +1,5 @@
 -- Arguments, statements and pieces that stand in vectors, as those of the plain program.
-use Rattle.std.proofs.Common.{◌≡◌, ◌∙◌, refl, ap, ℕ, zero, suc, ℤ, List, [], ◌∷◌, map, drop, Vec, Global}
+use Rattle.std.proofs.Common.{◌≡◌, ◌∙◌, refl, ap, ℕ, zero, suc, List, [], ◌∷◌, map, drop, Vec, Global}
 use mathlib.Core.Former.{Count}
 use Rattle.im_ctype.specs.Table.{Table}
 use Rattle.im_typed.specs.declared.expression.Expr.{Expr, Row_of-Expr, end_of-Expr, more_of-Expr, items-the_row-Expr, items_hidden-the_row-Expr-0}
@@ -10,8 +10,7 @@ use Rattle.im_typed.specs.declared.statement.Stmt.{Stmt, Row_of-Stmt, end_of-Stm
 use Rattle.im_typed.specs.declared.statement.Stmt.TheVariants.{Block, Block', Switch}
 use Rattle.im_typed.specs.Program as p
 use Rattle.im_typed.specs.ProgramOf.{expr_of, exprs_of, stmt_of, stmts_of, piece_of}
-use Rattle.im_typed.specs.Runs.{Run, ◌>>=◌}
-use Rattle.im_typed.specs.Meaning.{Around, Flow, after, does, does_from}
+use Rattle.im_typed.specs.Meaning.{Around, does_from}
 use Rattle.im_eval_tasks.specs.Small.{small_expr, small_exprs, small_stmt, small_stmts, small_piece}
 use Rattle.im_eval_tasks.specs.Tasks.{does_all, exprs_in, stmts_in, piece_in}
 

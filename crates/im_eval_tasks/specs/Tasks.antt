@@ -1,16 +1,16 @@
 -- What tasks mean: what is still to do in an activation, in the terms of the meaning of programs.
-use Rattle.std.specs.Prelude.{ℕ, List, [], ◌∷◌, ◌++◌, map, drop, take, length, ℤ, pos, nat_abs, Option, Some, None, Bool, true, false, not, if◌then◌else◌}
+use Rattle.std.specs.Prelude.{ℕ, List, [], ◌∷◌, ◌++◌, map, drop, take, length, ℤ, pos, nat_abs, Option, Some, None, true, false, not, if◌then◌else◌}
 use denote.Bor.{Bor}
 use Rattle.std.specs.Prelude.{Box}
 use Rattle.std.specs.declared.alloc.Global.{Global}
 use Rattle.im_num.specs.declared.kind.Kind.TheVariants.{U8}
 use Rattle.im_num.specs.Kinds.{wrap}
 use Rattle.im_ctype.specs.Table.{Table}
-use Rattle.im_store.specs.Checks.{Checked, Fine, Bad, then_}
+use Rattle.im_store.specs.Checks.{Checked, Fine, then_}
 use Rattle.im_store.specs.Numbers.{apply, apply_one}
 use Rattle.im_store.specs.Objects as o
 use Rattle.im_store.specs.Objects.{Store}
-use Rattle.im_store.specs.Pointers.{moved_by, bytes_moved, member_at, distance, compare_values, holds}
+use Rattle.im_store.specs.Pointers.{moved_by, bytes_moved, distance, compare_values, holds}
 use Rattle.im_eval_store.specs.declared.value.Value.{Value}
 use Rattle.im_eval_store.specs.Shown.{shown}
 use Rattle.im_typed.specs.declared.expression.Expr.{Expr}
@@ -20,8 +20,8 @@ use Rattle.im_typed.specs.declared.statement.Piece.{Piece}
 use Rattle.im_typed.specs.Program as p
 use Rattle.im_typed.specs.ProgramOf.{access_of, place_of as typed_place, expr_of as typed_expr, stmt_of as typed_stmt, piece_of as typed_piece}
 use Rattle.im_typed.specs.Runs.{Run, ◌>>=◌, give, with_fuel, either, checked, in_store}
-use Rattle.im_typed.specs.Values.{Values, scalar, number, truth, used, value_in, number_in, number_of, cells_of, read_at, write_at, update, changed, changed_kind}
-use Rattle.im_typed.specs.Meaning.{Around, Flow, Next, Returned, after, after_turn, change_store, cleared, does, does_from, entered, given_offsets, initialise, local, out_of_switch, place_of, put_byte, turns, value_of, values_of}
+use Rattle.im_typed.specs.Values.{Values, scalar, number, truth, used, value_in, number_in, number_of, cells_of, read_at, write_at, update}
+use Rattle.im_typed.specs.Meaning.{Around, Flow, Next, Returned, after, after_turn, change_store, cleared, does, does_from, entered, given_offsets, initialise, local, out_of_switch, put_byte, turns, value_of, values_of}
 use Rattle.im_eval_tasks.specs.Small.{small_place, small_expr, small_stmt, small_piece}
 use Rattle.im_eval_tasks.specs.declared.tasks.Last.{Last}
 use Rattle.im_eval_tasks.specs.declared.tasks.Last.TheVariants as last
@@ -34,13 +34,11 @@ use Rattle.im_eval_tasks.specs.declared.tasks.At.TheVariants.{Read, Address, Ass
 use Rattle.im_eval_tasks.specs.declared.tasks.Call.{Call}
 use Rattle.im_eval_tasks.specs.declared.tasks.Loop.{Loop}
 use Rattle.im_eval_tasks.specs.declared.tasks.Switch.{Switch}
-use Rattle.im_eval_tasks.specs.declared.tasks.Initialiser.{Initialiser}
 use Rattle.im_eval_tasks.specs.declared.tasks.Use.{Use}
 use Rattle.im_eval_tasks.specs.declared.tasks.Use.TheVariants.{Drop, Return, Piece as PieceOf, Branch, Turn, Again, Enter}
 use Rattle.im_eval_tasks.specs.declared.tasks.Rest.{Rest}
 use Rattle.im_eval_tasks.specs.declared.tasks.Statements.{Statements as Left_of_block}
 use Rattle.im_eval_tasks.specs.declared.tasks.Rest.TheVariants.{Statements, Body, First, Switch as SwitchDone}
-use Rattle.im_eval_tasks.specs.Found.{values}
 
 -- what an operator gives, once its last operand is there
 abbrev pub gives : Last → o.Value → Store → Checked o.Value

@@ -1,15 +1,12 @@
 use Rattle.std.proofs.Common.{◌≡◌, ◌∙◌, ap, sym, List, map, ◌++◌, Bor}
-use Rattle.im_store.specs.Objects as o
 use Rattle.im_typed.specs.Program as p
 use Rattle.im_typed.specs.ProgramOf.{expr_of, place_of as typed_place}
 use Rattle.im_typed.specs.Runs.{◌>>=◌}
-use Rattle.im_typed.specs.Meaning.{place_of, value_of, values_of}
+use Rattle.im_typed.specs.Meaning.{value_of, values_of}
 use Rattle.im_eval_store.specs.declared.value.Value.{Value}
 use Rattle.im_eval_store.specs.Shown.{shown}
-use Rattle.im_eval_tasks.specs.declared.tasks.At.TheVariants.{Update}
-use Rattle.im_eval_tasks.specs.declared.tasks.Task.TheVariants.{At}
 use Rattle.im_eval_tasks.specs.Small.{small_expr, small_place}
-use Rattle.im_eval_tasks.specs.Stack.{in_activation, continues, then_placed, then_valued}
+use Rattle.im_eval_tasks.specs.Stack.{in_activation, continues, then_valued}
 use Rattle.im_eval_tasks.specs.Tasks.{exprs_in}
 use Rattle.im_eval_tasks.proofs.Expressions.{update_}
 use Rattle.im_eval_tasks.proofs.Rows.{call_is}

@@ -5,7 +5,7 @@ use Rattle.im_typed.specs.Runs.{◌>>=◌, give}
 use Rattle.im_typed.specs.Meaning.{does, does_from, entered, out_of_switch, value_of}
 use Rattle.im_eval_tasks.specs.Small.{small_expr, small_stmt}
 use Rattle.im_eval_tasks.specs.Stack.{Flowed, continues, in_activation, then_flowed}
-use Rattle.im_eval_tasks.specs.Tasks.{does_all, stmts_in, switches}
+use Rattle.im_eval_tasks.specs.Tasks.{stmts_in}
 use Rattle.im_eval_tasks.proofs.Binds.{switch_goes}
 use Rattle.im_eval_tasks.proofs.Rows.{block_is, does_later, pieces_are, switch_is}
 use Rattle.im_eval_tasks.proofs.statement.begin_statement.Goals as goal
