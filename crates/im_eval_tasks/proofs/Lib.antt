@@ -1,0 +1,5 @@
+pub mod Binds
+pub mod Bounds
+pub mod Expressions
+pub mod Rows
+pub mod SmallNumbers
