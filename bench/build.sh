@@ -1,0 +1,90 @@
+#!/bin/sh
+# How fast sources become images: bytes of source per second on three sizes, the exponent of the time between each two of
+# them (1 where twice the source takes twice the time), and the memory, beside `gcc -O0 -c` on the same sources. Times are
+# the processor's, of ten runs each. It is no part of the gate.
+set -eu
+top=$(CDPATH= cd -- "$(dirname -- "$0")/.." && pwd)
+work=$(mktemp -d)
+trap 'rm -rf "$work"' EXIT
+
+# plain code, with names of their own in each copy
+code() {
+    cat <<'CODE'
+static unsigned state_@ = 1;
+unsigned next_@(unsigned limit)
+{
+    state_@ = state_@ * 1103515245u + 12345u;
+    return (state_@ >> 16) % limit;
+}
+int digits_@(int number)
+{
+    int count = 0;
+    if (number < 0)
+        number = -number;
+    do {
+        number /= 10;
+        count++;
+    } while (number != 0);
+    return count;
+}
+void print_@(int number)
+{
+    if (number < 0) {
+        putchar('-');
+        number = -number;
+    }
+    if (number > 9)
+        print_@(number / 10);
+    putchar('0' + number % 10);
+}
+int name_@(int key)
+{
+    switch (key % 4) {
+    case 0: return digits_@(key);
+    case 1: break;
+    default: return key > 2 && next_@(5u) != 3u ? key : -1;
+    }
+    for (int i = 0; i < key; i++)
+        state_@ ^= (unsigned char)i;
+    return 0;
+}
+CODE
+}
+source_of() { # BYTES FILE
+    { code | awk -v size="$1" '{ text = text $0 "\n" } END {
+        while (bytes < size) {
+            copy = text
+            gsub(/@/, copies++, copy)
+            bytes += length(copy)
+            printf "%s", copy
+        }
+    }'; echo 'int main(void) { return name_0(7); }'; } > "$2"
+}
+milliseconds() { # COMMAND..: the processor's time for ten runs of it
+    (for run in 1 2 3 4 5 6 7 8 9 10; do "$@" > "$work/printed" 2>&1; done; times) | awk 'END {
+        split($1, user, "m"); split($2, kernel, "m")
+        printf "%d\n", (user[1] * 60 + user[2] + kernel[1] * 60 + kernel[2]) * 1000
+    }'
+}
+kilobytes() { # COMMAND..: the most memory that it holds at once
+    /usr/bin/time -f %M "$@" 2>&1 > /dev/null | tail -n 1
+}
+
+"$top/intermit" --help > /dev/null 2>&1 || true
+program=$top/crates/intermit/out/intermit
+before=0
+for size in 65536 131072 262144; do
+    source_of "$size" "$work/source.c"
+    bytes=$(wc -c < "$work/source.c")
+    time=$(milliseconds "$program" build "$work/source.c" "$work/source.img")
+    code=$(sed -n 1p "$work/printed")
+    theirs=$(milliseconds gcc -O0 -w -c "$work/source.c" -o "$work/source.o")
+    memory=$(kilobytes "$program" build "$work/source.c" "$work/source.img")
+    echo "$bytes bytes, $code words: $((time / 10)) ms, $((bytes * 10000 / time)) bytes per second," \
+        "$memory KiB ($((memory * 1024 / bytes)) times the source); gcc -O0 -c: $((theirs / 10)) ms"
+    if [ "$before" -gt 0 ]; then
+        awk -v t="$time" -v u="$before" -v b="$bytes" -v c="$smaller" \
+            'BEGIN { printf "exponent %.2f\n", log(t / u) / log(b / c) }'
+    fi
+    before=$time smaller=$bytes
+done
