@@ -15,7 +15,7 @@ use Rattle.im_typed.proofs.Related.{more, Linked, Related, rel-bind, rel-give, r
 use Rattle.im_typed.proofs.Parts.{rel-decides, rel-after_turn}
 use Rattle.im_typed.proofs.Induction.{RelatedCalls, rel-value, rel-does, rel-turns}
 use Rattle.im_typed.proofs.Whole.{rel-calls}
-use Rattle.im_eval_tasks.specs.declared.tasks.Here.{Here}
+use Rattle.im_eval_machine.specs.declared.here.Here.{Here}
 use Rattle.im_eval_tasks.specs.declared.tasks.Loop.{Loop}
 use Rattle.im_eval_tasks.specs.declared.tasks.Use.TheVariants.{Turn}
 use Rattle.im_eval_tasks.specs.Stack.{in_activation}

@@ -15,10 +15,10 @@ use Rattle.im_typed.specs.Runs.{State, Run, goes_on, ◌>>=◌, checked, in_stor
 use Rattle.im_typed.specs.Values.{Values, scalar, used, number_of, number_in, update}
 use Rattle.im_typed.specs.Meaning.{Around, value_of, place_of}
 use Rattle.im_typed.specs.Programs.{Setting}
-use Rattle.im_eval_tasks.specs.declared.tasks.Here.{Here}
+use Rattle.im_eval_machine.specs.declared.here.Here.{Here}
 use Rattle.im_eval_tasks.specs.declared.tasks.Task.TheVariants as task
 use Rattle.im_eval_tasks.specs.declared.tasks.At.TheVariants as at
-use Rattle.im_eval_tasks.specs.declared.tasks.Last.TheVariants as last
+use Rattle.im_eval_machine.specs.declared.operator.Last.TheVariants as last
 use Rattle.im_eval_tasks.specs.declared.tasks.Operand.{Operand}
 use Rattle.im_eval_tasks.specs.declared.tasks.Operand.TheVariants.{Last}
 use Rattle.im_eval_tasks.specs.Tasks.{operand_in}

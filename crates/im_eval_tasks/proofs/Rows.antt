@@ -11,7 +11,7 @@ use Rattle.im_typed.specs.declared.statement.Stmt.TheVariants.{Block, Block', Sw
 use Rattle.im_typed.specs.Program as p
 use Rattle.im_typed.specs.ProgramOf.{expr_of, exprs_of, stmt_of, stmts_of, piece_of}
 use Rattle.im_typed.specs.Meaning.{Around, does_from}
-use Rattle.im_eval_tasks.specs.Small.{small_expr, small_exprs, small_stmt, small_stmts, small_piece}
+use Rattle.im_eval_machine.specs.Small.{small_expr, small_exprs, small_stmt, small_stmts, small_piece}
 use Rattle.im_eval_tasks.specs.Tasks.{does_all, exprs_in, stmts_in, piece_in}
 
 -- the statements of a block, as a row

@@ -11,7 +11,7 @@ use Rattle.im_store.specs.Objects as o
 use Rattle.im_store.specs.Statics.{StaticObject}
 use Rattle.im_typed.specs.Program.{Place, Static, Local, Target, Member, Expr, Constant, NullPointer, Read, Address, Convert, Unary, Binary, Move, MoveBy, Distance, Compare, Not, And, Or, Choose, Comma, Discard, Assign, Update, Increment, Part, Call, Getchar, Putchar, Exprs, no_exprs, more_exprs, Piece, Stmt, Do, Forget, Initialise, Block, If, While, DoWhile, For, Switch, Break, Continue, Return, Stmts, no_stmts, more_stmts, LocalObject, Func, Prog}
 use Rattle.im_typed.specs.Typing.{Each, IsInteger, IsTypedPlace, IsTyped, AreArguments, IsPieceOf, IsReturned, IsTypedStmt, AreTyped, IsTypedFunc, IsFirstValue, AreFirstValues, IsTypedStatic, IsWellTyped, cells_at, parameters}
-use Rattle.im_eval_tasks.specs.Small.{small, small_place, small_expr, small_exprs, small_piece, small_stmt, small_stmts, small_func, small_value, small_static, small_prog}
+use Rattle.im_eval_machine.specs.Small.{small, small_place, small_expr, small_exprs, small_piece, small_stmt, small_stmts, small_func, small_value, small_static, small_prog}
 
 within : (m : ℕ) → m < 2 ^ 63 → small (pos m) ≡ pos m
 within m h = search rules

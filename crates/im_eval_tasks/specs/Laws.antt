@@ -7,10 +7,10 @@ use Rattle.im_typed.specs.Program.{Prog}
 use Rattle.im_typed.specs.Programs.{Setting, called, calls_of}
 use Rattle.im_typed.specs.Runs.{State, ◌>>=◌, with_fuel}
 use Rattle.im_typed.specs.Typing.{IsWellTyped}
-use Rattle.im_eval_tasks.specs.declared.tasks.Here.{Here}
+use Rattle.im_eval_machine.specs.declared.here.Here.{Here}
 use Rattle.im_eval_tasks.specs.declared.tasks.Loop.{Loop}
 use Rattle.im_eval_tasks.specs.declared.tasks.Use.TheVariants.{Turn}
-use Rattle.im_eval_tasks.specs.Small.{small_prog}
+use Rattle.im_eval_machine.specs.Small.{small_prog}
 use Rattle.im_eval_tasks.specs.Stack.{in_activation}
 use Rattle.im_eval_tasks.specs.Tasks.{expr_in, loops, uses}
 

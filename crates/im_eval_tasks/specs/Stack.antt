@@ -15,12 +15,13 @@ use Rattle.im_eval_tasks.specs.declared.steps.Now.{Now}
 use Rattle.im_eval_tasks.specs.declared.steps.Now.TheVariants.{Evaluate, Locate, Arguments, Getchar, Execute, Forget, Statements, Pieces, Turn, Enter, Value as ValueNow, At as AtNow, Ended as EndedNow}
 use Rattle.im_eval_tasks.specs.declared.steps.Next.{Next}
 use Rattle.im_eval_tasks.specs.declared.steps.Next.TheVariants.{Just, Before}
-use Rattle.im_eval_tasks.specs.declared.tasks.Here.{Here}
+use Rattle.im_eval_machine.specs.declared.here.Here.{Here}
 use Rattle.im_eval_tasks.specs.declared.tasks.Task.{Task}
 use Rattle.im_eval_tasks.specs.declared.tasks.Operand.{Operand}
 use Rattle.im_eval_tasks.specs.declared.tasks.Operand.TheVariants.{Last, Left, Choose, Putchar, Change, Target, Argument}
 use Rattle.im_eval_tasks.specs.declared.tasks.Task.TheVariants.{Operand as OperandTask, Whole, Use as UseTask, At, Member, Rest as RestTask, Leave}
-use Rattle.im_eval_tasks.specs.Found.{values, flow}
+use Rattle.im_eval_machine.specs.Shown.{values}
+use Rattle.im_eval_tasks.specs.Found.{flow}
 use Rattle.im_eval_tasks.specs.Tasks.{place_in, expr_in, stmt_in, lasts, lefts, chooses, puts, wholes, ats, calls_on, takes_argument, initialises, does_left, loops, enters_body, uses, goes_after}
 
 -- the value of an expression, a place, or the way in which a statement ended

@@ -22,9 +22,9 @@ use Rattle.im_typed.specs.ProgramOf.{access_of, place_of as typed_place, expr_of
 use Rattle.im_typed.specs.Runs.{Run, ◌>>=◌, give, with_fuel, either, checked, in_store}
 use Rattle.im_typed.specs.Values.{Values, scalar, number, truth, used, value_in, number_in, number_of, cells_of, read_at, write_at, update}
 use Rattle.im_typed.specs.Meaning.{Around, Flow, Next, Returned, after, after_turn, change_store, cleared, does, does_from, entered, given_offsets, initialise, local, out_of_switch, put_byte, turns, value_of, values_of}
-use Rattle.im_eval_tasks.specs.Small.{small_place, small_expr, small_stmt, small_piece}
-use Rattle.im_eval_tasks.specs.declared.tasks.Last.{Last}
-use Rattle.im_eval_tasks.specs.declared.tasks.Last.TheVariants as last
+use Rattle.im_eval_machine.specs.Small.{small_place, small_expr, small_stmt, small_piece}
+use Rattle.im_eval_machine.specs.declared.operator.Last.{Last}
+use Rattle.im_eval_machine.specs.Operators.{gives}
 use Rattle.im_eval_tasks.specs.declared.tasks.Left.{Left}
 use Rattle.im_eval_tasks.specs.declared.tasks.Left.TheVariants as left
 use Rattle.im_eval_tasks.specs.declared.tasks.Whole.{Whole}
@@ -39,18 +39,6 @@ use Rattle.im_eval_tasks.specs.declared.tasks.Use.TheVariants.{Drop, Return, Pie
 use Rattle.im_eval_tasks.specs.declared.tasks.Rest.{Rest}
 use Rattle.im_eval_tasks.specs.declared.tasks.Statements.{Statements as Left_of_block}
 use Rattle.im_eval_tasks.specs.declared.tasks.Rest.TheVariants.{Statements, Body, First, Switch as SwitchDone}
-
--- what an operator gives, once its last operand is there
-abbrev pub gives : Last → o.Value → Store → Checked o.Value
-gives (last.Convert k) v store = then_ (number_of v) (λ z. Fine (o.Number (wrap k z)))
-gives (last.Unary op k) v store = then_ (number_of v) (λ z. Fine (o.Number (apply_one op k z)))
-gives (last.Binary op k a) v store = then_ (number_of v) (λ b. then_ (apply op k a.value b) (λ z. Fine (o.Number z)))
-gives (last.Move size back p) v store = then_ (number_of v) (λ n. moved_by store (bytes_moved size back n) (shown p))
-gives (last.MoveBy size n) v store = moved_by store (bytes_moved size false n.value) v
-gives (last.Distance size p) v store = then_ (distance size (shown p) v) (λ n. Fine (o.Number n))
-gives (last.Compare op x) v store = then_ (compare_values op (shown x) v) (λ b. Fine (o.Number (if b then pos 1 else pos 0)))
-gives last.Not v store = Fine (o.Number (if not (holds v) then pos 1 else pos 0))
-gives last.Holds v store = Fine (o.Number (if holds v then pos 1 else pos 0))
 
 abbrev pub lasts : Last → o.Value → Run Values
 lasts l v = in_store (gives l v) >>= scalar

@@ -1,12 +1,4 @@
-use im_eval_store::Value;
-
-/// What an expression gives: the values of its cells.
-#[derive(Drop)]
-pub enum Found {
-    Nothing,
-    One(Value),
-    Cells(Vec<Value>),
-}
+use im_eval_machine::Found;
 
 /// How a statement ended.
 #[derive(Drop)]

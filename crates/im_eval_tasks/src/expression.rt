@@ -1,49 +1,20 @@
 ghost use Rattle.std.specs.Prelude.{◌≡◌, ℕ, List};
 ghost use Rattle.im_ctype.specs.Table.{Table};
-ghost use Rattle.im_store.specs.Objects as store;
-ghost use Rattle.im_eval_store.specs.Shown.{object_of};
-ghost use Rattle.im_typed.specs.Meaning.{local, place_of, value_of};
+ghost use Rattle.im_typed.specs.Meaning.{place_of, value_of};
 ghost use Rattle.im_typed.specs.Programs.{Setting};
 ghost use Rattle.im_typed.specs.Runs.{State};
-ghost use Rattle.im_eval_tasks.specs.Small as small_numbers;
 ghost use Rattle.im_eval_tasks.specs.Stack.{in_activation, leads, then_placed, then_valued};
 ghost use Rattle.im_eval_tasks.specs.Tasks.{expr_in, place_in};
 ghost use Rattle.im_eval_tasks.specs.declared.tasks.Task.{Task};
-ghost use Rattle.im_eval_tasks.specs.declared.tasks.Here.{Here};
+ghost use Rattle.im_eval_machine.specs.declared.here.Here.{Here};
 
-use crate::completion::Found;
 use crate::steps::{Next, Now};
-use crate::tasks::{At, Call, Here, Last, Left, Operand, Task, Whole};
+use crate::tasks::{At, Call, Left, Operand, Task, Whole};
+use im_eval_machine::{Found, Here, Last, small};
 use im_eval_store::{ObjectName, Place, Value};
-use im_store::Number;
 use im_typed as typed;
 use im_typed::Expr;
 use std::alloc::Global;
-
-/// The object of a function of that number, in an activation of it.
-pub fn local_of(here: Here, number: u32) -> ObjectName
-    ensures { (types : Table) (g : Setting) (n : ℕ)
-        → object_of result ≡ local (in_activation types g n here) number }
-{
-    ObjectName {
-        activation: here.activation,
-        depth: here.depth,
-        number: here.first + number as u64,
-    }
-}
-
-/// A number as the operators take it; of a number with more bits, 0.
-pub fn small(value: i128) -> Number
-    ensures { result.value ≡ small_numbers.small value }
-{
-    if value > i64::MIN as i128 && value <= i64::MAX as i128 {
-        Number {
-            value: value as i64,
-        }
-    } else {
-        Number::ZERO
-    }
-}
 
 /// How the place that an expression designates is found.
 pub fn begin_place<'p>(here: Here, place: &'p typed::Place) -> Next<'p>
@@ -62,7 +33,7 @@ pub fn begin_place<'p>(here: Here, place: &'p typed::Place) -> Next<'p>
             level: 0,
         }))),
         typed::Place::Local(number) => Next::Just(Now::At(Value::Pointer(Place {
-            object: local_of(here, *number),
+            object: here.local(*number),
             offset: 0,
             level: here.level,
         }))),

@@ -5,7 +5,7 @@ ghost use Rattle.im_typed.specs.Programs.{Setting};
 ghost use Rattle.im_typed.specs.Runs.{State};
 ghost use Rattle.im_eval_tasks.specs.Stack.{in_activation, leads, then_flowed};
 ghost use Rattle.im_eval_tasks.specs.Tasks.{switches};
-ghost use Rattle.im_eval_tasks.specs.declared.tasks.Here.{Here};
+ghost use Rattle.im_eval_machine.specs.declared.here.Here.{Here};
 ghost use Rattle.im_eval_tasks.specs.declared.tasks.Task.{Task};
 
 use crate::steps::{Next, Now};

@@ -10,14 +10,14 @@ mod statement;
 mod steps;
 mod tasks;
 
-pub use completion::{Ended, Found};
-pub use expression::{begin, begin_place, local_of, small};
+pub use completion::Ended;
+pub use expression::{begin, begin_place};
 pub use labels::enter_switch;
 pub use laws::{call_law, small_view_law, turn_law};
-pub use operator::{number_of, onward};
+pub use operator::onward;
 pub use statement::{begin_statement, go_after, next_statement};
 pub use steps::{Next, Now};
 pub use tasks::{
-    At, Call, Caller, Here, Initialiser, Last, Left, Loop, Operand, Rest, Statements, Switch, Task,
+    At, Call, Caller, Initialiser, Left, Loop, Operand, Rest, Statements, Switch, Task,
     Use, Whole,
 };

@@ -1,31 +1,19 @@
 ghost use Rattle.std.specs.Prelude.{◌≡◌, ℕ, List};
 ghost use Rattle.im_ctype.specs.Table.{Table};
-ghost use Rattle.im_store.specs.Applied.{Applies};
 ghost use Rattle.im_typed.specs.Programs.{Setting};
 ghost use Rattle.im_typed.specs.Runs.{State};
-ghost use Rattle.im_typed.specs.Values as typed_values;
 ghost use Rattle.im_eval_store.specs.Shown.{shown};
 ghost use Rattle.im_eval_tasks.specs.Stack.{Leads, in_activation, then_valued};
 ghost use Rattle.im_eval_tasks.specs.Tasks.{lefts};
-ghost use Rattle.im_eval_tasks.specs.declared.tasks.Here.{Here};
+ghost use Rattle.im_eval_machine.specs.declared.here.Here.{Here};
 ghost use Rattle.im_eval_tasks.specs.declared.tasks.Task.{Task};
 
-use crate::completion::Found;
 use crate::steps::{Next, Now};
-use crate::tasks::{Last, Left, Operand, Task};
+use crate::tasks::{Left, Operand, Task};
+use im_eval_machine::{Found, Last, number_of};
 use im_eval_store::Value;
-use im_store::{Number, Undefined};
+use im_store::Undefined;
 use im_typed::Expr;
-
-/// The number that a value is.
-pub fn number_of(value: Value) -> Result<Number, Undefined>
-    ensures { Applies result (typed_values.number_of (shown value)) }
-{
-    match value {
-        Value::Number(number) => Ok(number),
-        Value::Null | Value::Pointer(_) | Value::Unset => Err(Undefined::NoSuchCell),
-    }
-}
 
 /// How an operator goes on, once its left operand is there.
 pub fn onward<'p>(left: Left, right: &'p Box<Expr>, value: Value) -> Result<Next<'p>, Undefined>

@@ -6,12 +6,13 @@ ghost use Rattle.im_typed.specs.Runs.{State};
 ghost use Rattle.im_eval_tasks.specs.Found.{flow};
 ghost use Rattle.im_eval_tasks.specs.Stack.{in_activation, leads, then_flowed};
 ghost use Rattle.im_eval_tasks.specs.Tasks.{does_left, ends_turn, goes_after, stmt_in};
-ghost use Rattle.im_eval_tasks.specs.declared.tasks.Here.{Here};
+ghost use Rattle.im_eval_machine.specs.declared.here.Here.{Here};
 ghost use Rattle.im_eval_tasks.specs.declared.tasks.Task.{Task};
 
-use crate::completion::{Ended, Found};
+use crate::completion::Ended;
 use crate::steps::{Next, Now};
 use crate::tasks::{Initialiser, Loop, Rest, Statements, Switch, Task, Use};
+use im_eval_machine::Found;
 use im_typed::Stmt;
 
 /// How a statement begins.

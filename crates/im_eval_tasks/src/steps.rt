@@ -1,5 +1,6 @@
-use crate::completion::{Ended, Found};
+use crate::completion::Ended;
 use crate::tasks::{Call, Initialiser, Loop, Statements, Task};
+use im_eval_machine::Found;
 use im_eval_store::Value;
 use im_typed::{Expr, Place, Stmt};
 

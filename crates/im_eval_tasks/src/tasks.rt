@@ -1,36 +1,9 @@
-ghost use Rattle.std.specs.Prelude.{◌<◌, ◌^◌};
 
+use im_eval_machine::{Here, Last};
 use im_eval_store::Value;
 use im_num::Kind;
-use im_store::{BinaryOp, Comparison, Number, UnaryOp};
+use im_store::{BinaryOp, Comparison};
 use im_typed::{Access, Case, Change, Expr, Piece, Stmt};
-
-/// An operator whose operands are there but for the last one.
-#[derive(Clone, Copy)]
-pub enum Last {
-    Convert(Kind),
-    Unary(UnaryOp, Kind),
-    Binary(BinaryOp, Kind, Number),
-    /// The number of elements comes.
-    Move {
-        size: u32,
-        back: bool,
-        pointer: Value,
-    },
-    /// The pointer comes.
-    MoveBy {
-        size: u32,
-        by: Number,
-    },
-    Distance {
-        size: u32,
-        left: Value,
-    },
-    Compare(Comparison, Value),
-    Not,
-    /// The right operand of `&&` or `||`.
-    Holds,
-}
 
 /// An operator whose left operand comes.
 #[derive(Clone, Copy)]
@@ -137,19 +110,6 @@ pub enum Rest<'p> {
     First(Loop<'p>),
     /// The block of a switch ended.
     Switch,
-}
-
-/// An activation, as its body sees it.
-#[derive(Clone, Copy)]
-pub struct Here {
-    pub activation: u64,
-    /// The bytes of stack in use with its frame on it.
-    pub depth: u32,
-    /// The number of its first object.
-    pub first: u64,
-    /// How many activations stand below it.
-    pub level: usize,
-    pub ghost small: { first < 2 ^ 63 },
 }
 
 /// Where a call goes on when its function's body ended.

@@ -5,7 +5,7 @@ use Rattle.im_typed.specs.Runs.{◌>>=◌}
 use Rattle.im_typed.specs.Meaning.{value_of, values_of}
 use Rattle.im_eval_store.specs.declared.value.Value.{Value}
 use Rattle.im_eval_store.specs.Shown.{shown}
-use Rattle.im_eval_tasks.specs.Small.{small_expr, small_place}
+use Rattle.im_eval_machine.specs.Small.{small_expr, small_place}
 use Rattle.im_eval_tasks.specs.Stack.{in_activation, continues, then_valued}
 use Rattle.im_eval_tasks.specs.Tasks.{exprs_in}
 use Rattle.im_eval_tasks.proofs.Expressions.{update_}

@@ -6,4 +6,4 @@ use Rattle.im_eval_tasks.proofs.expression.begin_place.Goals as goal
 pub returns-in-Local : goal.returns-in-Local
 returns-in-Local c = λ types g n ts s.
     rw c.in-Local.is
-    (ap (λ x. continues types g n c.args.here ts (Placed (o.Pointer x 0)) s) (c.local_of.ensures types g n))
+    (ap (λ x. continues types g n c.args.here ts (Placed (o.Pointer x 0)) s) (c.local.ensures))

@@ -1,5 +1,5 @@
 use Rattle.im_typed.specs.ProgramOf.{expr_of}
-use Rattle.im_eval_tasks.specs.Small.{small_expr}
+use Rattle.im_eval_machine.specs.Small.{small_expr}
 use Rattle.im_eval_tasks.specs.Stack.{continues}
 use Rattle.im_eval_tasks.proofs.Expressions.{moved}
 use Rattle.im_eval_tasks.proofs.operator.onward.Goals as goal

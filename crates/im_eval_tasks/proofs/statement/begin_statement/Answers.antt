@@ -3,7 +3,7 @@ use Rattle.im_typed.specs.Program as p
 use Rattle.im_typed.specs.ProgramOf.{expr_of, stmt_of}
 use Rattle.im_typed.specs.Runs.{◌>>=◌, give}
 use Rattle.im_typed.specs.Meaning.{does, does_from, entered, out_of_switch, value_of}
-use Rattle.im_eval_tasks.specs.Small.{small_expr, small_stmt}
+use Rattle.im_eval_machine.specs.Small.{small_expr, small_stmt}
 use Rattle.im_eval_tasks.specs.Stack.{Flowed, continues, in_activation, then_flowed}
 use Rattle.im_eval_tasks.specs.Tasks.{stmts_in}
 use Rattle.im_eval_tasks.proofs.Binds.{switch_goes}

@@ -1,0 +1,4 @@
+pub mod Calls
+pub mod Carried
+pub mod Endings
+pub mod Going
