@@ -7,7 +7,7 @@ use Rattle.im_eval_machine.specs.Shown.{IsIn}
 use Rattle.im_eval_tasks.specs.declared.steps.Now.{Now}
 use Rattle.im_eval_tasks.specs.Stack.{runs}
 use Rattle.im_eval.specs.declared.run.Run.{Run}
-use Rattle.im_eval.specs.Going.{pending, types_of}
+use Rattle.im_eval_steps.specs.Going.{pending, types_of}
 
 pub record CarriedIn (code : Code) (begun : Run) (first : Now) (run : Run) (now : Now) : Type 0 where
   pub fuel : run.machine.fuel ≤ begun.machine.fuel

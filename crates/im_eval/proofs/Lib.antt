@@ -1,4 +1,2 @@
-pub mod Calls
 pub mod Carried
 pub mod Endings
-pub mod Going

@@ -9,9 +9,9 @@ ghost use Rattle.im_eval_machine.specs.Endings.{told};
 ghost use Rattle.im_eval_machine.specs.Settings.{AreLayoutsOf, HasKnownTypes, setting_of};
 ghost use Rattle.im_eval_machine.specs.Shown.{Ends, IsIn, values};
 ghost use Rattle.im_eval_tasks.specs.Stack.{runs};
-ghost use Rattle.im_eval.specs.Going.{pending, types_of};
+ghost use Rattle.im_eval_steps.specs.Going.{pending, types_of};
 
-use crate::call::enter_function;
+use im_eval_steps::enter_function;
 use crate::run::Run;
 use crate::step::{push_next, step};
 use im_eval_machine::{

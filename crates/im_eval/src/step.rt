@@ -12,16 +12,14 @@ ghost use Rattle.im_eval_tasks.specs.Found.{flow};
 ghost use Rattle.im_eval_tasks.specs.Stack.{Flowed, Placed, Valued, runs};
 ghost use Rattle.im_eval_tasks.specs.declared.steps.Now.TheVariants as now;
 ghost use Rattle.im_eval_tasks.specs.declared.tasks.Task.{Task};
-ghost use Rattle.im_eval.specs.Going.{Goes, GoesNow, follows, pending, types_of};
+ghost use Rattle.im_eval_steps.specs.Going.{Goes, GoesNow, follows, pending, types_of};
 
-use crate::call::{next_argument, result_of};
-use crate::place::{resume_at, resume_member};
-use crate::resume::resume_operand;
 use crate::run::Run;
-use crate::using::use_value;
-use crate::whole::resume_whole;
 use im_eval_machine::{
     Code, Found, Here, Machine, Stopped, clear, forget, get_char, given_offsets, leave, pay, used,
+};
+use im_eval_steps::{
+    next_argument, resume_at, resume_member, resume_operand, resume_whole, result_of, use_value,
 };
 use im_eval_store::Value;
 use im_eval_tasks::{

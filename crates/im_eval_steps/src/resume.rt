@@ -7,7 +7,7 @@ ghost use Rattle.im_eval_machine.specs.declared.here.Here.{Here};
 ghost use Rattle.im_eval_machine.specs.declared.stopped.Stopped.TheVariants as stopped;
 ghost use Rattle.im_eval_tasks.specs.Stack.{operand_goes};
 ghost use Rattle.im_eval_tasks.specs.declared.tasks.Task.{Task};
-ghost use Rattle.im_eval.specs.Going.{Goes, follows, types_of};
+ghost use Rattle.im_eval_steps.specs.Going.{Goes, follows, types_of};
 
 use im_eval_machine::{Code, Found, Machine, Stopped, change_by, finished, number_of, put_char};
 use im_eval_store::Value;
@@ -37,7 +37,7 @@ fn take_argument<'p>(call: Call<'p>, value: Value) -> Result<Call<'p>, Stopped>
 }
 
 /// An operator takes the value of an operand.
-pub(crate) fn resume_operand<'p>(
+pub fn resume_operand<'p>(
     code: Code<'p>,
     machine: &mut Machine<'p>,
     operand: Operand<'p>,

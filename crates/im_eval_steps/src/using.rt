@@ -7,7 +7,7 @@ ghost use Rattle.im_eval_tasks.specs.Stack.{Flowed, in_activation, value_goes};
 ghost use Rattle.im_eval_tasks.specs.Tasks.{takes_piece};
 ghost use Rattle.im_eval_tasks.specs.declared.tasks.Task.{Task};
 ghost use Rattle.im_eval_tasks.specs.declared.tasks.Task.TheVariants as task;
-ghost use Rattle.im_eval.specs.Going.{Goes, follows, types_of};
+ghost use Rattle.im_eval_steps.specs.Going.{Goes, follows, types_of};
 
 use im_eval_machine::{Code, Found, Here, Machine, Stopped, number_of, used, write_at};
 use im_eval_store::{Place, Value};
@@ -55,7 +55,7 @@ fn store_piece<'p>(
 }
 
 /// A statement goes on from the value of its expression.
-pub(crate) fn use_value<'p>(
+pub fn use_value<'p>(
     code: Code<'p>,
     machine: &mut Machine<'p>,
     here: Here,

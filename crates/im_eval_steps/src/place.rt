@@ -7,7 +7,7 @@ ghost use Rattle.im_eval_machine.specs.declared.here.Here.{Here};
 ghost use Rattle.im_eval_tasks.specs.Stack.{place_goes};
 ghost use Rattle.im_eval_tasks.specs.declared.tasks.Task.{Task};
 ghost use Rattle.im_eval_tasks.specs.declared.tasks.Task.TheVariants as task;
-ghost use Rattle.im_eval.specs.Going.{Goes, follows, types_of};
+ghost use Rattle.im_eval_steps.specs.Going.{Goes, follows, types_of};
 
 use im_eval_machine::{Code, Found, Machine, Stopped, before_change, change_by, member, read_at};
 use im_eval_store::Value;
@@ -16,7 +16,7 @@ use im_store::Number;
 use std::alloc::Global;
 
 /// What is done at a place.
-pub(crate) fn resume_at<'p>(
+pub fn resume_at<'p>(
     alloc: Global,
     code: Code<'p>,
     machine: &mut Machine<'p>,
@@ -65,7 +65,7 @@ pub(crate) fn resume_at<'p>(
 }
 
 /// The place of a member.
-pub(crate) fn resume_member<'p>(
+pub fn resume_member<'p>(
     code: Code<'p>,
     machine: &Machine<'p>,
     offset: u32,

@@ -6,14 +6,14 @@ ghost use Rattle.im_eval_machine.specs.declared.here.Here.{Here};
 ghost use Rattle.im_eval_tasks.specs.Stack.{value_goes};
 ghost use Rattle.im_eval_tasks.specs.declared.tasks.Task.{Task};
 ghost use Rattle.im_eval_tasks.specs.declared.tasks.Task.TheVariants as task;
-ghost use Rattle.im_eval.specs.Going.{Goes, follows, types_of};
+ghost use Rattle.im_eval_steps.specs.Going.{Goes, follows, types_of};
 
 use im_eval_machine::{Code, Found, Machine, Stopped, part_of, used, write_at};
 use im_eval_tasks::{Next, Now, Whole};
 use std::alloc::Global;
 
 /// What is done with a value, whatever it is.
-pub(crate) fn resume_whole<'p>(
+pub fn resume_whole<'p>(
     alloc: Global,
     code: Code<'p>,
     machine: &mut Machine<'p>,

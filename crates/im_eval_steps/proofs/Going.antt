@@ -14,7 +14,7 @@ use Rattle.im_eval_machine.specs.Shown.{IsIn, Halts, Ends, Finds}
 use Rattle.im_eval_tasks.specs.declared.steps.Next.{Next}
 use Rattle.im_eval_tasks.specs.declared.tasks.Task.{Task}
 use Rattle.im_eval_tasks.specs.Stack.{leads}
-use Rattle.im_eval.specs.Going.{Goes, pending, types_of}
+use Rattle.im_eval_steps.specs.Going.{Goes, pending, types_of}
 
 -- what stopped stays stopped
 pub halted : {A B : Type 0} (why : Stopped) (m : Machine) (r : Answer A) (k : A → Run B) → Halts why m r → Halts why m (goes_on r k)

@@ -8,7 +8,7 @@ ghost use Rattle.im_eval_tasks.specs.Found.{flow};
 ghost use Rattle.im_eval_tasks.specs.Stack.{Valued, in_activation, then_valued};
 ghost use Rattle.im_eval_tasks.specs.Tasks.{calls_on};
 ghost use Rattle.im_eval_tasks.specs.declared.tasks.Task.{Task};
-ghost use Rattle.im_eval.specs.Going.{Goes, follows, types_of};
+ghost use Rattle.im_eval_steps.specs.Going.{Goes, follows, types_of};
 
 use im_eval_machine::{Code, Found, Here, Machine, Stopped, enter, pay};
 use im_eval_store::Value;
@@ -17,7 +17,7 @@ use im_store::{Number, Undefined};
 use std::alloc::Global;
 
 /// A function is entered, where its frame has room; its body is next.
-pub(crate) fn enter_function<'p>(
+pub fn enter_function<'p>(
     alloc: Global,
     code: Code<'p>,
     machine: &mut Machine<'p>,
@@ -77,7 +77,7 @@ fn call_function<'p>(
 }
 
 /// The next argument of a call, or the call.
-pub(crate) fn next_argument<'p>(
+pub fn next_argument<'p>(
     alloc: Global,
     code: Code<'p>,
     machine: &mut Machine<'p>,
@@ -119,7 +119,7 @@ pub(crate) fn next_argument<'p>(
 
 /// What a call gives: what its function returned; at the brace 0 from `main`, and nothing from
 /// another function (C11 5.1.2.2.3, 6.9.1).
-pub(crate) fn result_of(main: u32, function: u32, ended: Ended) -> Found
+pub fn result_of(main: u32, function: u32, ended: Ended) -> Found
     ensures { values result ≡ call_result (function == main) (flow ended) }
 {
     match ended {

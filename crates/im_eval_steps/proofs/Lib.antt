@@ -1,0 +1,5 @@
+pub mod Calls
+pub mod Changing
+pub mod Entering
+pub mod Going
+pub mod Taking
