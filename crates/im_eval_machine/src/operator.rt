@@ -10,7 +10,7 @@ ghost use Rattle.im_eval_machine.specs.Small as small_numbers;
 use im_eval_store::{Memory, Value};
 use im_num::Kind;
 use im_store::{
-    BinaryOp, Comparison, Number, Undefined, UnaryOp, applied, applied_to_one, converted,
+    BinaryOp, Comparison, Number, UnaryOp, Undefined, applied, applied_to_one, converted,
 };
 use im_typed::Change;
 
@@ -99,12 +99,7 @@ pub fn finished(memory: &Memory, last: Last, value: Value) -> Result<Value, Unde
 }
 
 /// What a change makes of the old value (C11 6.5.16.2).
-pub fn changed(
-    memory: &Memory,
-    change: Change,
-    old: Value,
-    by: Number,
-) -> Result<Value, Undefined>
+pub fn changed(memory: &Memory, change: Change, old: Value, by: Number) -> Result<Value, Undefined>
     ensures { (last : ℕ) (store : Store) → Holds memory.now last store
         → Checks result (typed_values.changed change (shown old) by.value store) }
 {

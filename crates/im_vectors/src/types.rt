@@ -1,5 +1,5 @@
-use super::*;
 use im_ctype::{Integer, TypeTable};
+use im_types::{Type, array_of, copy, id_of, pointer_to, same, size, type_from};
 use std::process::Abort;
 
 /// Pointers to const arrays of 10 pointers to struct 3 go into a table and come back the same.

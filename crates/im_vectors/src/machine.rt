@@ -1,4 +1,4 @@
-use crate::{LoadFault, Machine};
+use im_emu::{LoadFault, Machine};
 use im_image::{Version, read_image};
 use im_num::CellValue;
 use im_power::{Period, read_trace};

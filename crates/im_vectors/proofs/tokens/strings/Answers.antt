@@ -1,6 +1,6 @@
 use Rattle.std.proofs.Common.{refl, [], ◌∷◌, arith, lit<, lit≤}
 use Rattle.im_tok.specs.Literals.IsElement.{plain, simple}
-use Rattle.im_tok.proofs.tests.strings.Goals as goal
+use Rattle.im_vectors.proofs.tokens.strings.Goals as goal
 
 pub text_bytes-requires : goal.text_bytes-requires
 text_bytes-requires g c = (

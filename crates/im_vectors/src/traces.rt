@@ -1,4 +1,4 @@
-use super::*;
+use im_power::{Period, Trace, read_trace};
 use std::test::Fail;
 
 /// Whether a text is refused with this line.

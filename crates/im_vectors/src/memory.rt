@@ -1,5 +1,4 @@
-use crate::flat::FlatMem;
-use crate::memory::Memory;
+use im_mem::{FlatMem, Memory};
 use std::test::Fail;
 
 #[test]

@@ -1,4 +1,4 @@
-use crate::{boot_buffer, checkpoint_lines, recovery_lines};
+use im_ckpt::{boot_buffer, checkpoint_lines, recovery_lines};
 use im_rv::Line;
 use im_rv::encode::encode;
 use std::test::Fail;

@@ -1,4 +1,4 @@
-use crate::{Kind, of_word, put_word, to_word, word_at, wrap};
+use im_num::{Kind, of_word, put_word, to_word, word_at, wrap};
 
 // C11 6.3.1.3: modulo the number of values; a signed kind as two's complement.
 #[test]

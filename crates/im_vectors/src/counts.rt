@@ -1,7 +1,10 @@
-use super::*;
 use im_ctype::TypeId;
 use im_num::Kind;
 use im_store::{BinaryOp, Comparison, UnaryOp};
+use im_typed::{
+    Access, Case, Change, Expr, Frame, Frames, Func, Object, Piece, Place, Static, Stmt, need,
+    nodes,
+};
 use std::alloc::Global;
 use std::process::Abort;
 

@@ -1,8 +1,8 @@
-use crate::decode::decode;
-use crate::encode::encode;
-use crate::instr::Op;
-use crate::step::{Regs, Went, step};
 use im_mem::{FlatMem, Memory};
+use im_rv::decode::decode;
+use im_rv::encode::encode;
+use im_rv::step::step;
+use im_rv::{Op, Regs, Went};
 use std::process::Abort;
 use std::test::Fail;
 

@@ -1,4 +1,4 @@
-use crate::{exit_lines, getchar_lines, putchar_lines, stack_lines};
+use im_rtlib::{exit_lines, getchar_lines, putchar_lines, stack_lines};
 use im_rv::Line;
 use im_rv::encode::encode;
 use std::test::Fail;

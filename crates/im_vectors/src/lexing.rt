@@ -1,4 +1,4 @@
-use crate::{LexFault, LexFaultKind, lex};
+use im_lex::{LexFault, LexFaultKind, lex};
 use im_tok::{Punctuator, TokenKind};
 use std::test::Fail;
 

@@ -1,6 +1,6 @@
-use super::*;
 use im_num::NoMemory;
 use im_tok::{Keyword, Number, NumberType, Punctuator, Token, TokenKind};
+use im_word::{Word, first_too_deep, word_of};
 use std::alloc::Global;
 use std::test::Fail;
 

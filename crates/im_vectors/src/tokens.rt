@@ -1,4 +1,4 @@
-use crate::{
+use im_tok::{
     Keyword, NumberType, Punctuator, Token, TokenKind, character_of, keyword_of, number_of,
     punctuator_of, text_bytes,
 };

@@ -1,4 +1,4 @@
-use super::*;
+use im_image::{Form, Version, read_image, upgrade, write_image};
 use im_num::Kind;
 use std::test::Fail;
 
