@@ -37,14 +37,14 @@ module _ (code : Code) (n k : ℕ) (args : List o.Value) (here : Here) (ts : Lis
   abbrev enters : Entered → Run Values
   enters = body_then (setting_of code) n k args s next (small_func (func_of code.prog.now.types f))
 
-  is : goes_on (called (setting_of code) (calls_of (setting_of code) n) n k args s) next ≡ goes_on (enters_function (setting_of code) k args s) enters
-  is =
+  enters_is : goes_on (called (setting_of code) (calls_of (setting_of code) n) n k args s) next ≡ goes_on (enters_function (setting_of code) k args s) enters
+  enters_is =
       called_is (setting_of code) n k args s next (small_func (func_of code.prog.now.types f))
       (sym (got-mapped (func_of code.prog.now.types) small_func code.prog.now.funcs.items k f within same))
 
   pub not_entered : (why : Stopped) (m : Machine) → Halts why m (enters_function (setting_of code) k args s)
       → Halts why m (goes_on (called (setting_of code) (calls_of (setting_of code) n) n k args s) next)
-  not_entered why m h = subst (Halts why m) (sym is) (halted why m (enters_function (setting_of code) k args s) enters h)
+  not_entered why m h = subst (Halts why m) (sym enters_is) (halted why m (enters_function (setting_of code) k args s) enters h)
 
   -- the body of the function, and the end of its activation
   abbrev ends_with : Here → ℕ → Stmt → Run Values
@@ -58,7 +58,7 @@ module _ (code : Code) (n k : ℕ) (args : List o.Value) (here : Here) (ts : Lis
       Goes code n inside ts (Ok (Before (Execute body) (Leave caller))) m (goes_on (called (setting_of code) (calls_of (setting_of code) n) n k args s) next)
   is_entered inside body depth m b d e =
       let caller : Caller = record { function = k; here = here; depth = depth } in
-      let then = Before (Execute body) (Leave caller) in
-      subst (Goes code n inside ts (Ok then) m) (sym is)
-      (went code n inside ts entered inside then m (enters_function (setting_of code) k args s) enters e
+      let step = Before (Execute body) (Leave caller) in
+      subst (Goes code n inside ts (Ok step) m) (sym enters_is)
+      (went code n inside ts entered inside step m (enters_function (setting_of code) k args s) enters e
       (λ t. ap (λ x. ends_with inside depth x t) b ∙ ap (λ x. ends_with inside x f.body t) (sym d)))
