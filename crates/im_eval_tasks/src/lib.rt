@@ -18,6 +18,5 @@ pub use operator::onward;
 pub use statement::{begin_statement, go_after, next_statement};
 pub use steps::{Next, Now};
 pub use tasks::{
-    At, Call, Caller, Initialiser, Left, Loop, Operand, Rest, Statements, Switch, Task,
-    Use, Whole,
+    At, Call, Caller, Initialiser, Left, Loop, Operand, Rest, Statements, Switch, Task, Use, Whole,
 };

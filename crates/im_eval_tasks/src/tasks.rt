@@ -1,4 +1,3 @@
-
 use im_eval_machine::{Here, Last};
 use im_eval_store::Value;
 use im_num::Kind;
