@@ -1,0 +1,67 @@
+//! The arguments of calls (C11 6.5.2.2): each is converted to its parameter's type.
+ghost use Rattle.std.specs.Prelude.{◌≡◌, length, map, IfOk};
+ghost use Rattle.im_ctype.specs.Table.{Table, structs_of};
+ghost use Rattle.im_rules.specs.Conversions as c;
+ghost use Rattle.im_rules.specs.Demands as d;
+ghost use Rattle.im_rules.specs.Terms as r;
+ghost use Rattle.im_typed.specs.ProgramOf.{expr_of};
+ghost use Rattle.im_types.specs.Shape.{type_of, types_in};
+ghost use Rattle.im_operands.specs.declared.term.Term as rust;
+ghost use Rattle.im_forms.specs.Calls.{exprs_from};
+ghost use Rattle.im_operands.specs.Shape.{term_in};
+
+use im_conversions::{as_type, value_of};
+use im_ctype::TypeTable;
+use im_num::NoMemory;
+use im_operands::{Term, fits};
+use im_typed::Expr;
+use im_types::Type;
+use std::alloc::Global;
+
+/// Whether each argument fits its parameter.
+pub fn all_fit(parameters: &[Type], arguments: &[Term]) -> bool
+    requires { length parameters.now ≡ length arguments.now }
+    ensures { (types : Table) → result ≡ d.all_fit (types_in parameters.now)
+        (map {A = rust.Term} (term_in types) arguments.now) }
+{
+    for (ty, argument) in parameters.iter().zip(arguments) {
+        if !fits(ty, argument) {
+            return false;
+        }
+    }
+    true
+}
+
+/// An argument, converted to its parameter's type.
+fn passed(alloc: Global, table: &TypeTable, ty: &Type, argument: Term) -> Result<Expr, NoMemory>
+    ensures { IfOk result (λ e. expr_of table.now e ≡ c.as_type (type_of ty.now)
+        (r.value_of (structs_of table.now) (term_in table.now argument))) }
+{
+    let value = value_of(alloc, table, argument)?;
+    let converted = as_type(alloc, ty, value)?;
+    Ok(converted.tree)
+}
+
+/// The arguments' values, each converted to its parameter's type.
+pub fn converted(
+    alloc: Global,
+    table: &TypeTable,
+    parameters: &[Type],
+    arguments: Vec<Term>,
+) -> Result<Vec<Expr>, NoMemory>
+    requires { length parameters.now ≡ length arguments.items }
+    ensures { IfOk result (λ es. exprs_from table.now es.items ≡ c.converted
+        (structs_of table.now) (types_in parameters.now)
+        (map {A = rust.Term} (term_in table.now) arguments.items)) }
+{
+    let mut done = Vec::new(alloc);
+    let mut i = 0;
+    for argument in arguments {
+        if i >= parameters.len() {
+            return Err(NoMemory::OutOfMemory);
+        }
+        done.push(passed(alloc, table, &parameters[i], argument)?)?;
+        i += 1;
+    }
+    Ok(done)
+}
