@@ -1,1 +1,5 @@
+pub mod Endings
+pub mod Names
+pub mod Rows
+pub mod Steps
 pub mod Writing

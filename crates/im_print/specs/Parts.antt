@@ -1,5 +1,5 @@
 -- The words of one item of a list in a tree, for private contracts.
-use Rattle.std.specs.Prelude.{ℕ, Bool, List, [], ◌∷◌, ◌++◌, Option, Some, None, Box}
+use Rattle.std.specs.Prelude.{ℕ, false, List, [], ◌∷◌, ◌++◌, Option, Some, None, Box}
 use Rattle.std.specs.declared.vec.Vec.{Vec}
 use Rattle.std.specs.Global.{Global}
 use Rattle.im_tok.specs.declared.keyword.Keyword.{Keyword}
@@ -21,7 +21,7 @@ use Rattle.im_ctree.specs.declared.statement.BlockItem as bi
 use Rattle.im_ctree.specs.declared.unit.Function.{Function}
 use Rattle.im_ctree.specs.Tree as t
 use Rattle.im_ctree.specs.Shape.{declarator_of, initializer_of, maybe_initializer_of, declaration_of, statement_of}
-use Rattle.im_ctree.specs.Typedefs.{has_type_from, declared_name, typedef_names, names_behind}
+use Rattle.im_ctree.specs.Typedefs.{has_type_from, typedef_names, names_behind}
 use Rattle.im_printed.specs.Printed as printed
 use Rattle.im_tree_parts.specs.Lists.{expression_in, maybe_from, specifier_in, list_from, declarators_from, declarator_from, with_suffix, statement_in}
 
@@ -74,11 +74,6 @@ next_init_declarator T d = mark punctuator.Comma ∷ (printed.declarator T (decl
 abbrev pub tag_words : Keyword → Option (Vec ℕ Global) → List Word
 tag_words k None = keyword k ∷ []
 tag_words k (Some n) = keyword k ∷ name n.items ∷ []
-
--- the names that these declarators declare
-abbrev pub names_in : List InitDeclarator → List Name
-names_in [] = []
-names_in (x ∷ xs) = declared_name (declarator_of x.declarator) ++ names_in xs
 
 -- an item of a block, and the typedef names behind it
 abbrev pub item_words : List Name → bi.BlockItem → List Word

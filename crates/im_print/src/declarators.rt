@@ -19,8 +19,10 @@ fn put_star(out: &mut Vec<u8>, star: Star) -> Result<(), NoMemory>
     ensures { OnOk result (Writes out.old.items out.new.items (parts.star_words star)) }
 {
     put_mark(out, Punctuator::Star)?;
-    for _ in 0..star.consts {
+    let mut left = star.consts;
+    while left > 0 {
         put_keyword(out, Keyword::Const)?;
+        left -= 1;
     }
     Ok(())
 }

@@ -18,7 +18,6 @@ use im_tok::{Keyword, Punctuator};
 
 /// Writes an expression where one stands that binds as tightly as `level` says.
 #[cycle(printing)]
-#[tactic(auto, using(crate::proofs::Writing::writes_append, crate::proofs::Writing::writes_first))]
 pub fn put_at(
     out: &mut Vec<u8>,
     names: &[&[u8]],
@@ -40,7 +39,6 @@ pub fn put_at(
 
 /// Writes an expression and another in brackets behind it (C11 6.5.2.1).
 #[cycle(printing)]
-#[tactic(auto, using(crate::proofs::Writing::writes_append, crate::proofs::Writing::writes_first))]
 fn put_index(
     out: &mut Vec<u8>,
     names: &[&[u8]],
@@ -59,7 +57,6 @@ fn put_index(
 
 /// Writes an expression, a punctuator and a name behind it (C11 6.5.2.3).
 #[cycle(printing)]
-#[tactic(auto, using(crate::proofs::Writing::writes_append, crate::proofs::Writing::writes_first))]
 fn put_member(
     out: &mut Vec<u8>,
     names: &[&[u8]],
@@ -79,7 +76,6 @@ fn put_member(
 
 /// Writes an expression and a punctuator behind it (C11 6.5.2.4).
 #[cycle(printing)]
-#[tactic(auto, using(crate::proofs::Writing::writes_append, crate::proofs::Writing::writes_first))]
 fn put_behind(
     out: &mut Vec<u8>,
     names: &[&[u8]],
@@ -97,7 +93,6 @@ fn put_behind(
 
 /// Writes a punctuator and an operand behind it (C11 6.5.3).
 #[cycle(printing)]
-#[tactic(auto, using(crate::proofs::Writing::writes_append, crate::proofs::Writing::writes_first))]
 fn put_prefixed(
     out: &mut Vec<u8>,
     names: &[&[u8]],
@@ -116,7 +111,6 @@ fn put_prefixed(
 
 /// Writes `sizeof` and an operand behind it (C11 6.5.3.4).
 #[cycle(printing)]
-#[tactic(auto, using(crate::proofs::Writing::writes_append, crate::proofs::Writing::writes_first))]
 fn put_size(
     out: &mut Vec<u8>,
     names: &[&[u8]],
@@ -132,7 +126,6 @@ fn put_size(
 
 /// Writes `sizeof` and a type name in parentheses (C11 6.5.3.4).
 #[cycle(printing)]
-#[tactic(auto, using(crate::proofs::Writing::writes_append, crate::proofs::Writing::writes_first))]
 fn put_size_of_type(
     out: &mut Vec<u8>,
     names: &[&[u8]],
@@ -150,7 +143,6 @@ fn put_size_of_type(
 
 /// Writes a type name in parentheses and an operand behind it (C11 6.5.4).
 #[cycle(printing)]
-#[tactic(auto, using(crate::proofs::Writing::writes_append, crate::proofs::Writing::writes_first))]
 fn put_cast(
     out: &mut Vec<u8>,
     names: &[&[u8]],
@@ -169,7 +161,6 @@ fn put_cast(
 
 /// Writes two operands and a punctuator between them (C11 6.5.5 to 6.5.16).
 #[cycle(printing)]
-#[tactic(auto, using(crate::proofs::Writing::writes_append, crate::proofs::Writing::writes_first))]
 fn put_between(
     out: &mut Vec<u8>,
     names: &[&[u8]],
@@ -191,7 +182,6 @@ fn put_between(
 
 /// Writes two expressions and a comma between them (C11 6.5.17).
 #[cycle(printing)]
-#[tactic(auto, using(crate::proofs::Writing::writes_append, crate::proofs::Writing::writes_first))]
 fn put_comma(
     out: &mut Vec<u8>,
     names: &[&[u8]],
@@ -209,7 +199,6 @@ fn put_comma(
 
 /// Writes `a ? b : c` (C11 6.5.15).
 #[cycle(printing)]
-#[tactic(auto, using(crate::proofs::Writing::writes_append, crate::proofs::Writing::writes_first))]
 fn put_choice(
     out: &mut Vec<u8>,
     names: &[&[u8]],
@@ -286,7 +275,6 @@ pub fn put_expression(out: &mut Vec<u8>, names: &[&[u8]], e: &Expression) -> Res
 
 /// Writes an expression and arguments in parentheses behind it (C11 6.5.2.2).
 #[cycle(printing)]
-#[tactic(auto, using(crate::proofs::Writing::writes_append, crate::proofs::Writing::writes_first))]
 fn put_call(
     out: &mut Vec<u8>,
     names: &[&[u8]],
@@ -305,7 +293,6 @@ fn put_call(
 
 /// Writes arguments with commas between them.
 #[cycle(printing)]
-#[tactic(auto, using(crate::proofs::Writing::writes_append, crate::proofs::Writing::writes_none))]
 fn put_arguments(
     out: &mut Vec<u8>,
     names: &[&[u8]],
@@ -318,7 +305,7 @@ fn put_arguments(
         [] => Ok(()),
         [first, rest @ ..] => {
             put_at(out, names, 1, first)?;
-            put_argument_tail(out, names, rest)?;
+            put_next_arguments(out, names, rest)?;
             Ok(())
         }
     }
@@ -326,7 +313,7 @@ fn put_arguments(
 
 /// Writes arguments with a comma before each.
 #[cycle(printing)]
-fn put_argument_tail(
+fn put_next_arguments(
     out: &mut Vec<u8>,
     names: &[&[u8]],
     arguments: &[Expression],

@@ -1,10 +1,9 @@
-ghost use Rattle.std.specs.Prelude.{◌≡◌, ◌||◌, [], ◌∷◌, ◌++◌, MatchOption, OnOk};
+ghost use Rattle.std.specs.Prelude.{◌≡◌, ◌||◌, Bool, false, [], ◌∷◌, ◌++◌, MatchOption, OnOk};
 ghost use Rattle.im_ctree.specs.Tree as t;
-ghost use Rattle.im_ctree.specs.Shape.{declaration_of, declarator_of};
+ghost use Rattle.im_ctree.specs.Shape.{declaration_of, declarator_of, init_declarators_of};
 ghost use Rattle.im_ctree.specs.Typedefs as typedefs;
 ghost use Rattle.im_printed.specs.Printed as printed;
 ghost use Rattle.im_print.specs.Output.{known};
-ghost use Rattle.im_print.specs.Parts.{names_in};
 ghost use Rattle.im_tree_parts.specs.Lists.{list_from, specifier_in};
 
 use im_ctree::{
@@ -92,10 +91,13 @@ fn push_name<'a>(names: &mut Vec<&'a [u8]>, declarator: &'a Declarator) -> Resul
     ensures { OnOk result (known names.new.items
         ≡ typedefs.declared_name (declarator_of declarator.now) ++ known names.old.items) }
 {
-    if let Some(name) = declared_name(declarator) {
-        names.push(name)?;
+    match declared_name(declarator) {
+        None => Ok(()),
+        Some(name) => {
+            names.push(name)?;
+            Ok(())
+        }
     }
-    Ok(())
 }
 
 /// Puts the names that declarators declare before those that are known.
@@ -104,7 +106,8 @@ fn push_names<'a>(
     declarators: &'a [InitDeclarator],
 ) -> Result<(), NoMemory>
     ensures { OnOk result (known names.new.items
-        ≡ names_in declarators.now ++ known names.old.items) }
+        ≡ typedefs.declared_names (init_declarators_of declarators.now)
+        ++ known names.old.items) }
 {
     let mut left = declarators.len();
     while left > 0 {
@@ -122,9 +125,10 @@ pub fn remember<'a>(
     ensures { OnOk result (known names.new.items ≡ typedefs.typedef_names
         (known names.old.items) (declaration_of declaration.now)) }
 {
-    if has_typedef(&declaration.specifiers.items) {
-        push_names(names, &declaration.declarators)?;
+    if !has_typedef(&declaration.specifiers.items) {
+        return Ok(());
     }
+    push_names(names, &declaration.declarators)?;
     Ok(())
 }
 
@@ -144,8 +148,11 @@ pub fn begins_with_typedef(names: &[&[u8]], declarator: &Declarator) -> bool
     ensures { result ≡ printed.begins_with_typedef (known names.now)
         (declarator_of declarator.now) }
 {
+    if declarator.stars.len() > 0 {
+        return false;
+    }
     match &declarator.core {
-        Core::Name(name) => declarator.stars.is_empty() && is_among(names, name),
-        _ => false,
+        Core::Name(name) => is_among(names, name),
+        Core::Absent | Core::Inner(_) => false,
     }
 }

@@ -49,12 +49,12 @@ fn put_specifier(out: &mut Vec<u8>, names: &[&[u8]], specifier: &Specifier) -> R
 }
 
 /// Writes a keyword and a name behind it.
-fn put_named(out: &mut Vec<u8>, word: Keyword, name: &[u8]) -> Result<(), NoMemory>
+fn put_named(out: &mut Vec<u8>, word: Keyword, bytes: &[u8]) -> Result<(), NoMemory>
     ensures { OnOk result (Writes out.old.items out.new.items
-        (keyword word ∷ name name.now ∷ [])) }
+        (keyword word ∷ name bytes.now ∷ [])) }
 {
     put_keyword(out, word)?;
-    put_name(out, name)?;
+    put_name(out, bytes)?;
     Ok(())
 }
 
