@@ -1,5 +1,5 @@
 pub mod Endings
-pub mod Names
+pub mod NameFacts
 pub mod Rows
 pub mod Steps
 pub mod Writing

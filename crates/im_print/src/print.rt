@@ -92,6 +92,9 @@ fn put_externals(alloc: Global, externals: &[External]) -> Result<Vec<u8>, NoMem
 }
 
 /// The text of a tree: a blank between two tokens, an LF at the end, and parentheses only where the grammar needs them.
+///
+/// It goes down the tree by recursion. In a tree that was read the nesting bounds how deep, but for casts, calls, indices and
+/// commas behind one another, of which each goes one step deeper.
 pub fn print_tree(alloc: Global, tree: &Tree) -> Result<Vec<u8>, NoMemory>
     ensures { IfOk result (λ text. text.items ≡ text_of (words_of (tree_of tree.now))) }
 {

@@ -1,6 +1,6 @@
 use Rattle.std.proofs.Common.{◌++◌, sym, ap, ◌∙◌}
 use Rattle.im_print.specs.Output.{known}
-use Rattle.im_print.proofs.Names.{known_pushed}
+use Rattle.im_print.proofs.NameFacts.{known_pushed}
 use Rattle.im_print.proofs.names.push_name.Goals as goal
 
 pub returns-in-None : goal.returns-in-None

@@ -3,7 +3,7 @@ use Rattle.im_ctree.specs.Shape.{init_declarators_of}
 use Rattle.im_ctree.specs.Typedefs.{has_typedef, declared_names}
 use Rattle.im_tree_parts.specs.Lists.{list_from}
 use Rattle.im_print.specs.Output.{known}
-use Rattle.im_print.proofs.Names.{remembers_none, remembers_some}
+use Rattle.im_print.proofs.NameFacts.{remembers_none, remembers_some}
 use Rattle.im_print.proofs.names.remember.Goals as goal
 
 pub returns-then-not-has_typedef : goal.returns-then-not-has_typedef
