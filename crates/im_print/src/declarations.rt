@@ -3,17 +3,14 @@ ghost use Rattle.im_ctree.specs.Shape.{declaration_of, init_declarators_of, init
 ghost use Rattle.im_ctree.specs.Tree as t;
 ghost use Rattle.im_ctree.specs.Typedefs.{typedef_names};
 ghost use Rattle.im_printed.specs.Printed as printed;
-ghost use Rattle.im_print.specs.Output.{Writes, each, known};
-ghost use Rattle.im_print.specs.Parts as parts;
+ghost use Rattle.im_print_words.specs.Output.{Writes, each, known};
+ghost use Rattle.im_print_parts.specs.Parts as parts;
 ghost use Rattle.im_tree_parts.specs.Lists.{initializers_from};
 
-use crate::declarators::put_declarator;
-use crate::expressions::put_at;
-use crate::names::{has_type, remember};
-use crate::output::put_mark;
-use crate::specifiers::{put_behind_specifiers, put_specifiers};
 use im_ctree::{Declaration, InitDeclarator, Initializer};
 use im_num::NoMemory;
+use im_print_parts::{put_at, put_behind_specifiers, put_declarator, put_specifiers};
+use im_print_words::{has_type, put_mark, remember};
 use im_tok::Punctuator;
 
 /// Writes an initialiser (C11 6.7.9).

@@ -5,15 +5,15 @@ ghost use Rattle.im_ctree.specs.Units.{predeclared_names};
 ghost use Rattle.im_printed.specs.Printed as printed;
 ghost use Rattle.im_printed.specs.Printed.{words_of};
 ghost use Rattle.im_printed.specs.Text.{text_of};
-ghost use Rattle.im_print.specs.Output.{Writes, known};
-ghost use Rattle.im_print.specs.Parts.{signature_words};
+ghost use Rattle.im_print_words.specs.Output.{Writes, known};
+ghost use Rattle.im_print_parts.specs.Parts.{signature_words};
 
 use crate::declarations::put_declaration;
-use crate::names::has_type;
-use crate::specifiers::{put_behind_specifiers, put_specifiers};
 use crate::statements::put_block;
 use im_ctree::{External, Function, Tree};
 use im_num::NoMemory;
+use im_print_parts::{put_behind_specifiers, put_specifiers};
+use im_print_words::has_type;
 use std::alloc::Global;
 
 /// The typedef names that stand in for headers, the first one last.

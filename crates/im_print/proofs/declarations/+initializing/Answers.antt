@@ -1,10 +1,10 @@
 use Rattle.std.proofs.Common.{rules, ap, ◌∙◌}
 use Rattle.im_ctree.specs.Shape.{initializer_of}
 use Rattle.im_printed.specs.Printed as printed
-use Rattle.im_print.specs.Output.{known}
-use Rattle.im_print.specs.Parts as parts
-use Rattle.im_print.proofs.Writing.{writes_append, writes_first, each_step}
-use Rattle.im_print.proofs.Rows.{list_words}
+use Rattle.im_print_words.specs.Output.{known}
+use Rattle.im_print_parts.specs.Parts as parts
+use Rattle.im_print_words.proofs.Writing.{writes_append, writes_first, each_step}
+use Rattle.im_print_parts.proofs.Rows.{list_words}
 use Rattle.im_print.proofs.declarations.+initializing.Goals as goal
 
 pub put_braced-returns : goal.put_braced-returns

@@ -1,6 +1,6 @@
 use Rattle.std.proofs.Common.{◌≡◌, ◌++◌, drop}
-use Rattle.im_print.specs.Output.{spaced, each, known}
-use Rattle.im_print.specs.Parts as parts
+use Rattle.im_print_words.specs.Output.{spaced, each, known}
+use Rattle.im_print_parts.specs.Parts as parts
 use Rattle.im_print.proofs.declarations.put_next_declarators.Given as goal
 
 abbrev pub invariant-loop-one : goal.invariant-loop-one

@@ -1,6 +1,6 @@
-use Rattle.im_print.specs.Output.{known}
-use Rattle.im_print.proofs.Writing.{writes_append, writes_same}
-use Rattle.im_print.proofs.Rows.{definition_words}
+use Rattle.im_print_words.specs.Output.{known}
+use Rattle.im_print_words.proofs.Writing.{writes_append, writes_same}
+use Rattle.im_print_parts.proofs.Rows.{definition_words}
 use Rattle.im_print.proofs.print.put_function.Goals as goal
 
 pub returns-clause-written : goal.returns-clause-written

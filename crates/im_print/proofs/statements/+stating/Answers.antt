@@ -4,14 +4,14 @@ use Rattle.im_ctree.specs.Typedefs.{names_behind, names_behind_else}
 use Rattle.im_tree_parts.specs.Lists.{statement_in}
 use Rattle.im_tree_parts.proofs.Shapes.{block_tree, switch_tree}
 use Rattle.im_printed.specs.Printed as printed
-use Rattle.im_print.specs.Output.{Writes, known}
-use Rattle.im_print.specs.Parts as parts
-use Rattle.im_print.proofs.Writing.{writes_append, writes_first, writes_same, writes_behind, writes_headed}
+use Rattle.im_print_words.specs.Output.{Writes, known}
+use Rattle.im_print_parts.specs.Parts as parts
+use Rattle.im_print_words.proofs.Writing.{writes_append, writes_first, writes_same, writes_behind, writes_headed}
 use Rattle.im_print.proofs.Steps.{items_step, items_known_step, if_tree}
 use Rattle.im_print.proofs.statements.+stating.Goals as goal
 
 pub put_if-returns-clause-written : goal.put_if-returns-clause-written
-put_if-returns-clause-written t c = writes_headed (rw c.deref.ensures.value at c.in_ok-put_head.ensures) (writes_append c.in_ok-put_statement.ensures.written (rw c.in_ok-put_statement.ensures.known at c.in_ok-put_else.ensures.written))
+put_if-returns-clause-written t c = writes_headed _ _ (rw c.deref.ensures.value at c.in_ok-put_head.ensures) (writes_append c.in_ok-put_statement.ensures.written (rw c.in_ok-put_statement.ensures.known at c.in_ok-put_else.ensures.written))
 
 pub put_if-returns-clause-known : goal.put_if-returns-clause-known
 put_if-returns-clause-known t c = c.in_ok-put_else.ensures.known ∙ ap (λ z. names_behind_else z (parts.other_from c.args.other.now)) c.in_ok-put_statement.ensures.known
@@ -20,19 +20,19 @@ pub put_else-returns-in-Some-clause-written : goal.put_else-returns-in-Some-clau
 put_else-returns-in-Some-clause-written t c = writes_same (sym (ap (λ v. printed.else_part (known c.args.names.now.items) (parts.other_from v)) c.in-Some.is)) (writes_first c.in_ok-put_keyword.ensures (rw c.deref.ensures at c.in_ok-put_statement.ensures.written))
 
 pub put_while-returns-clause-written : goal.put_while-returns-clause-written
-put_while-returns-clause-written t c = writes_headed (rw c.deref.ensures.value at c.in_ok-put_head.ensures) c.in_ok-put_statement.ensures.written
+put_while-returns-clause-written t c = writes_headed _ _ (rw c.deref.ensures.value at c.in_ok-put_head.ensures) c.in_ok-put_statement.ensures.written
 
 pub put_do-returns-clause-written : goal.put_do-returns-clause-written
-put_do-returns-clause-written t c = writes_first c.in_ok-put_keyword.ensures (writes_append c.in_ok-put_statement.ensures.written (writes_headed (rw (c.deref.ensures.value, c.in_ok-put_statement.ensures.known) at c.in_ok-put_head.ensures) c.in_ok-put_mark.ensures))
+put_do-returns-clause-written t c = writes_first c.in_ok-put_keyword.ensures (writes_append c.in_ok-put_statement.ensures.written (writes_headed _ _ (rw (c.deref.ensures.value, c.in_ok-put_statement.ensures.known) at c.in_ok-put_head.ensures) c.in_ok-put_mark.ensures))
 
 pub put_for-returns-clause-written : goal.put_for-returns-clause-written
-put_for-returns-clause-written t c = writes_first c.in_ok-put_keyword.ensures (writes_first c.in_ok-put_mark.ensures (writes_append c.in_ok-put_init.ensures.written (writes_behind (rw (c.deref.ensures.value, c.in_ok-put_init.ensures.known) at c.in_ok-put_line.ensures) (writes_append (rw (c.deref-2.ensures.value, c.in_ok-put_init.ensures.known) at c.in_ok-put_maybe.ensures) (writes_first c.in_ok-put_mark-2.ensures (rw c.in_ok-put_init.ensures.known at c.in_ok-put_statement.ensures.written))))))
+put_for-returns-clause-written t c = writes_first c.in_ok-put_keyword.ensures (writes_first c.in_ok-put_mark.ensures (writes_append c.in_ok-put_init.ensures.written (writes_behind _ _ (rw (c.deref.ensures.value, c.in_ok-put_init.ensures.known) at c.in_ok-put_line.ensures) (writes_append (rw (c.deref-2.ensures.value, c.in_ok-put_init.ensures.known) at c.in_ok-put_maybe.ensures) (writes_first c.in_ok-put_mark-2.ensures (rw c.in_ok-put_init.ensures.known at c.in_ok-put_statement.ensures.written))))))
 
 pub put_for-returns-clause-known : goal.put_for-returns-clause-known
 put_for-returns-clause-known t c = c.in_ok-put_statement.ensures.known ∙ ap (λ z. names_behind z (statement_in c.args.body.now)) c.in_ok-put_init.ensures.known
 
 pub put_switch-returns-clause-written : goal.put_switch-returns-clause-written
-put_switch-returns-clause-written t c = writes_headed (rw c.deref.ensures.value at c.in_ok-put_head.ensures) c.in_ok-put_block.ensures.written
+put_switch-returns-clause-written t c = writes_headed _ _ (rw c.deref.ensures.value at c.in_ok-put_head.ensures) c.in_ok-put_block.ensures.written
 
 pub put_case-returns-clause-written : goal.put_case-returns-clause-written
 put_case-returns-clause-written t c = writes_first c.in_ok-put_keyword.ensures (writes_append (rw c.deref.ensures.value at c.in_ok-put_at.ensures) (writes_first c.in_ok-put_mark.ensures c.in_ok-put_statement.ensures.written))
