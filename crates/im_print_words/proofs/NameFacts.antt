@@ -6,7 +6,6 @@ use Rattle.im_word.specs.Words.{Name}
 use Rattle.im_ctree.specs.declared.specifier.Specifiers as ss
 use Rattle.im_ctree.specs.declared.declaration.Declaration.{Declaration}
 use Rattle.im_ctree.specs.declared.declarator.Declarator as dc
-use Rattle.im_ctree.specs.declared.declarator.Star.{Star}
 use Rattle.im_ctree.specs.Tree as t
 use Rattle.im_ctree.specs.Shape.{declarator_of, init_declarators_of, declaration_of, core_of}
 use Rattle.im_ctree.specs.Typedefs.{adds_type, has_type_from, has_typedef, declared_names, typedef_names}
