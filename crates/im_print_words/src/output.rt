@@ -17,6 +17,7 @@ fn put(out: &mut Vec<u8>, bytes: &[u8]) -> Result<(), NoMemory>
     Ok(())
 }
 
+/// Writes a name (C11 6.4.2) and a blank.
 pub fn put_name(out: &mut Vec<u8>, bytes: &[u8]) -> Result<(), NoMemory>
     ensures { OnOk result (Writes out.old.items out.new.items (name bytes.now ∷ [])) }
 {
@@ -24,6 +25,7 @@ pub fn put_name(out: &mut Vec<u8>, bytes: &[u8]) -> Result<(), NoMemory>
     Ok(())
 }
 
+/// Writes a keyword (C11 6.4.1) and a blank.
 pub fn put_keyword(out: &mut Vec<u8>, word: Keyword) -> Result<(), NoMemory>
     ensures { OnOk result (Writes out.old.items out.new.items (keyword word ∷ [])) }
 {
@@ -31,6 +33,7 @@ pub fn put_keyword(out: &mut Vec<u8>, word: Keyword) -> Result<(), NoMemory>
     Ok(())
 }
 
+/// Writes a punctuator (C11 6.4.6) and a blank.
 pub fn put_mark(out: &mut Vec<u8>, punctuator: Punctuator) -> Result<(), NoMemory>
     ensures { OnOk result (Writes out.old.items out.new.items (mark punctuator ∷ [])) }
 {
@@ -73,6 +76,7 @@ fn put_literal(out: &mut Vec<u8>, quote: u8, bytes: &[u8]) -> Result<(), NoMemor
     Ok(())
 }
 
+/// Writes a character constant (C11 6.4.4.4) and a blank.
 pub fn put_character(out: &mut Vec<u8>, byte: u8) -> Result<(), NoMemory>
     ensures { OnOk result (Writes out.old.items out.new.items (character byte ∷ [])) }
 {
@@ -80,6 +84,7 @@ pub fn put_character(out: &mut Vec<u8>, byte: u8) -> Result<(), NoMemory>
     Ok(())
 }
 
+/// Writes a string literal (C11 6.4.5) and a blank.
 pub fn put_text(out: &mut Vec<u8>, bytes: &[u8]) -> Result<(), NoMemory>
     ensures { OnOk result (Writes out.old.items out.new.items (text bytes.now ∷ [])) }
 {
@@ -99,6 +104,7 @@ fn suffix_of(number_type: NumberType) -> &'static [u8]
     }
 }
 
+/// Writes an integer constant in decimal, with its type's suffix (C11 6.4.4.1), and a blank.
 pub fn put_number(out: &mut Vec<u8>, value: Number) -> Result<(), NoMemory>
     ensures { OnOk result (Writes out.old.items out.new.items (number value ∷ [])) }
 {

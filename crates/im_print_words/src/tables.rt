@@ -5,6 +5,7 @@ ghost use Rattle.im_tree_parts.specs.Lists.{expression_in};
 use im_ctree::{AssignOp, BinaryOp, Expression, ExpressionKind, SpecifierWord, StepOp, UnaryOp};
 use im_tok::{Keyword, Punctuator};
 
+/// The level of a binary operator, of which 0 binds loosest (C11 6.5.5 to 6.5.14).
 pub fn operator_level(op: BinaryOp) -> u8
     ensures { result ≡ printed.operator_level op }
 {
@@ -22,6 +23,7 @@ pub fn operator_level(op: BinaryOp) -> u8
     }
 }
 
+/// The punctuator of a binary operator (C11 6.5.5 to 6.5.14).
 pub fn operator_mark(op: BinaryOp) -> Punctuator
     ensures { result ≡ printed.operator_mark op }
 {
@@ -47,6 +49,7 @@ pub fn operator_mark(op: BinaryOp) -> Punctuator
     }
 }
 
+/// The punctuator of an assignment (C11 6.5.16).
 pub fn assign_mark(op: AssignOp) -> Punctuator
     ensures { result ≡ printed.assign_mark op }
 {
@@ -65,6 +68,7 @@ pub fn assign_mark(op: AssignOp) -> Punctuator
     }
 }
 
+/// The punctuator of `++` or `--` (C11 6.5.2.4, 6.5.3.1).
 pub fn step_mark(op: StepOp) -> Punctuator
     ensures { result ≡ printed.step_mark op }
 {
@@ -74,6 +78,7 @@ pub fn step_mark(op: StepOp) -> Punctuator
     }
 }
 
+/// The punctuator of a unary operator (C11 6.5.3).
 pub fn prefix_mark(op: UnaryOp) -> Punctuator
     ensures { result ≡ printed.prefix_mark op }
 {
@@ -87,6 +92,7 @@ pub fn prefix_mark(op: UnaryOp) -> Punctuator
     }
 }
 
+/// The keyword of a declaration specifier (C11 6.7.1 to 6.7.3).
 pub fn specifier_keyword(word: SpecifierWord) -> Keyword
     ensures { result ≡ printed.specifier_keyword word }
 {
