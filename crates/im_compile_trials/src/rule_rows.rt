@@ -61,7 +61,11 @@ pub(crate) const UNITS: Rules = Rules {
     broken: &[
         (12, "int f(void);", "int main(void){return f();}"),
         (12, "extern int x;", "int main(void){return x;}"),
-        (12, "", "int putchar(int c){return c;}int main(void){return 0;}"),
+        (
+            12,
+            "",
+            "int putchar(int c){return c;}int main(void){return 0;}",
+        ),
         (13, "", "int f(void){return 0;}"),
         (13, "", "void main(void){}"),
     ],

@@ -40,7 +40,8 @@ fn loaded(alloc: Global, image: &Image, row: &Row) -> Result<Machine<FlatMem>, F
 
 fn holds(var: &Var, wanted: &(&str, i128)) -> bool {
     let (name, number) = wanted;
-    var.name.as_slice() == name.as_bytes() && var.cells.as_slice() == [CellValue::Number(*number)].as_slice()
+    var.name.as_slice() == name.as_bytes()
+        && var.cells.as_slice() == [CellValue::Number(*number)].as_slice()
 }
 
 // Whether the statics hold what they should.
@@ -98,7 +99,9 @@ fn loses_power_once(
 ) -> Result<(), Fail> {
     let whole = u32::try_from(whole).ok().ok_or("a short run")?;
     for place in 0..LOSSES {
-        let n = (whole / LOSSES).saturating_mul(place).saturating_add(place % 3);
+        let n = (whole / LOSSES)
+            .saturating_mul(place)
+            .saturating_add(place % 3);
         let mut machine = loaded(alloc, image, row)?;
         machine.power(period(n, 1, n % 16));
         machine.power(period(10_000_000, 1, 0));
