@@ -1,3 +1,4 @@
 pub mod Parts
 pub mod Assembling
 pub mod One
+pub mod Naming

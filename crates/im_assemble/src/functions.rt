@@ -1,4 +1,6 @@
-ghost use Rattle.std.specs.Prelude.{◌≡◌, ◌<◌, ◌+◌, ◌^◌, length, OnOk, IfOk};
+ghost use Rattle.std.specs.Prelude.{◌≡◌, ◌<◌, ◌+◌, ◌^◌, ◌++◌, [], ◌∷◌, Some, length, map, slice_get, string_bytes, String, OnOk, IfOk};
+ghost use Rattle.std.specs.Global.{Global};
+ghost use Rattle.im_assemble.specs.Names.{part_names};
 ghost use Rattle.im_selecting.specs.Emitted.{entry_label};
 ghost use Rattle.im_linked.specs.Program.{first_label};
 ghost use Rattle.im_assemble.specs.Assembled.{IsAssemblable, IsNextLabel, AddsFunction, AddsFunctions};
@@ -36,7 +38,10 @@ fn push_function(
     requires number { number < functions }
     requires first { first_block ≡ first_label program.now.unit.now.functions.items number }
     requires fits { IsNextLabel program.now.unit.now.functions.items number }
-    ensures { OnOk result (AddsFunction program.now number parts.old.items parts.new.items) }
+    ensures adds { OnOk result (AddsFunction program.now number parts.old.items parts.new.items) }
+    ensures named { OnOk result ((name : String Global)
+        → slice_get program.now.names.now number ≡ Some name
+        → part_names parts.new.items ≡ part_names parts.old.items ++ (string_bytes name ∷ [])) }
 {
     let names = Names {
         statics: program.statics,
@@ -59,6 +64,8 @@ pub(crate) fn push_functions(
     requires { IsAssemblable program.now }
     ensures adds { OnOk result (AddsFunctions program.now
         (length program.now.unit.now.functions.items) parts.old.items parts.new.items) }
+    ensures named { OnOk result (part_names parts.new.items ≡ part_names parts.old.items
+        ++ map string_bytes program.now.names.now) }
     ensures labels { OnOk result
         (entry_label (length program.now.unit.now.functions.items) < 2 ^ 32) }
 {

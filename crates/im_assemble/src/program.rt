@@ -1,6 +1,7 @@
-ghost use Rattle.std.specs.Prelude.{IfOk};
+ghost use Rattle.std.specs.Prelude.{◌≡◌, map, string_bytes, IfOk};
 ghost use Rattle.im_linked.specs.Program.{IsProgram};
 ghost use Rattle.im_assemble.specs.Assembled.{IsAssemblable};
+ghost use Rattle.im_assemble.specs.Names.{part_names, program_names};
 
 use crate::functions::push_functions;
 use crate::runtime::{push_start, runtime_parts};
@@ -26,8 +27,10 @@ pub struct Program<'a> {
 /// and the lines that begin.
 pub fn assemble(alloc: Global, program: &Program) -> Result<Vec<Part>, NoMemory>
     requires { IsAssemblable program.now }
-    ensures { IfOk result (λ parts. IsProgram program.now.unit.now
+    ensures program { IfOk result (λ parts. IsProgram program.now.unit.now
         program.now.statics.now program.now.layouts.now parts.items) }
+    ensures named { IfOk result (λ parts. part_names parts.items
+        ≡ program_names (map string_bytes program.now.names.now)) }
 {
     let mut parts = runtime_parts(alloc)?;
     push_functions(alloc, &mut parts, program)?;

@@ -1,8 +1,9 @@
-ghost use Rattle.std.specs.Prelude.{◌≡◌, ◌<◌, ◌+◌, ◌^◌, ◌++◌, ◌∷◌, [], OnOk, IfOk};
+ghost use Rattle.std.specs.Prelude.{◌≡◌, ◌<◌, ◌+◌, ◌^◌, ◌++◌, ◌∷◌, [], OnOk, IfOk, codes};
 ghost use Rattle.im_rv.specs.Lines.{code_lines};
 ghost use Rattle.im_selecting.specs.Emitted.{entry_label};
 ghost use Rattle.im_linked.specs.Program.{start_code};
 ghost use Rattle.im_assemble.specs.Assembled.{Adds, IsRuntime};
+ghost use Rattle.im_assemble.specs.Names.{part_names, runtime_names};
 
 use im_ckpt::{checkpoint_lines, recovery_lines};
 use im_num::NoMemory;
@@ -18,7 +19,9 @@ pub(crate) fn push_part(
     name: &str,
     lines: Vec<Line>,
 ) -> Result<(), NoMemory>
-    ensures { OnOk result (Adds parts.old.items parts.new.items (code_lines lines.items)) }
+    ensures adds { OnOk result (Adds parts.old.items parts.new.items (code_lines lines.items)) }
+    ensures named { OnOk result
+        (part_names parts.new.items ≡ part_names parts.old.items ++ (name.now ∷ [])) }
 {
     let name = String::from_str(alloc, name)?;
     parts.push(Part { name, lines })?;
@@ -27,7 +30,8 @@ pub(crate) fn push_part(
 
 /// Recovery, the checkpoint, and the routines.
 pub(crate) fn runtime_parts(alloc: Global) -> Result<Vec<Part>, NoMemory>
-    ensures { IfOk result (λ parts. IsRuntime parts.items) }
+    ensures adds { IfOk result (λ parts. IsRuntime parts.items) }
+    ensures named { IfOk result (λ parts. part_names parts.items ≡ runtime_names) }
 {
     let mut parts = Vec::new(alloc);
     push_part(alloc, &mut parts, "recovery", recovery_lines(alloc)?)?;
@@ -54,7 +58,9 @@ fn start_lines(alloc: Global, main: u32) -> Result<Vec<Line>, NoMemory>
 /// Adds the lines that begin.
 pub(crate) fn push_start(alloc: Global, parts: &mut Vec<Part>, main: u32) -> Result<(), NoMemory>
     requires { entry_label main < 2 ^ 32 }
-    ensures { OnOk result (Adds parts.old.items parts.new.items (start_code main)) }
+    ensures adds { OnOk result (Adds parts.old.items parts.new.items (start_code main)) }
+    ensures named { OnOk result
+        (part_names parts.new.items ≡ part_names parts.old.items ++ (codes "start" ∷ [])) }
 {
     push_part(alloc, parts, "start", start_lines(alloc, main)?)
 }

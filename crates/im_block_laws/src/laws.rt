@@ -1,5 +1,6 @@
 ghost use Rattle.im_block_laws.specs.Laws.{CutsKeepCodeLaw};
 ghost use Rattle.im_block_laws.specs.PointsTo.{PointsLaw};
+ghost use Rattle.im_block_laws.specs.Refining.{RefinesReflexive, RefinesTransitive};
 ghost use Rattle.im_block_laws.specs.Row.{RowLaw};
 ghost use Rattle.im_block_laws.specs.Sample.{SampleLaw};
 
@@ -21,4 +22,10 @@ pub fn row_law()
 /// The tags of a closed points-to assignment are sound.
 pub fn points_law()
     ensures { PointsLaw }
+{}
+
+/// Refinement of outcomes is an order, so a chain of passes, each of which refines, refines.
+pub fn refines_transitive_law()
+    ensures reflexive { RefinesReflexive }
+    ensures transitive { RefinesTransitive }
 {}

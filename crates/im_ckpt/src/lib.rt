@@ -9,6 +9,3 @@ mod recovery;
 pub use checkpoint::checkpoint_lines;
 pub use laws::{checkpoint_law, resume_law};
 pub use recovery::{boot_buffer, recovery_lines};
-
-#[cfg(test)]
-mod tests;

@@ -48,6 +48,10 @@ assemblable prog program ready layouts statics names =
           subst (λ (l : List ℕ). slice_index l n < statics_start + statics_capacity) (sym statics) (omega (arith, less, all));
     }
 
+pub names_count : (names : List String) (funcs : List Func) → map string_bytes names ≡ function_names funcs → length names ≡ length funcs
+names_count names funcs e =
+    sym (length-map {A = String} names string_bytes) ∙ ap (λ (l : List (List ℕ)). length l) e ∙ length-map {A = Func} funcs (λ (f : Func). encode_utf8_all f.name.items)
+
 -- what was made of slices of a unit
 
 pub laid_out : (u : Code) (fs : List Function) (made ls : List Layout) → fs ≡ u.functions.items → ls ≡ made → AreLayouts fs made → AreLayouts u.functions.items ls

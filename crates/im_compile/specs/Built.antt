@@ -1,5 +1,5 @@
 -- What is built of a program, pass by pass.
-use Rattle.std.specs.Prelude.{◌≡◌, ℕ, List, length, map, Some, slice_get}
+use Rattle.std.specs.Prelude.{◌≡◌, ℕ, List, length, map, Some, slice_get, encode_utf8_all}
 use Rattle.im_mem.specs.Map.{statics_start}
 use Rattle.im_rv.specs.declared.code.Part.{Part}
 use Rattle.im_rv.specs.declared.code.Code.{Code as Linked}
@@ -15,6 +15,7 @@ use Rattle.im_frame.specs.Layout.{places_from}
 use Rattle.im_addresses.specs.Addresses.{AreLayouts}
 use Rattle.im_addresses.specs.Statics.{objects_of}
 use Rattle.im_linked.specs.Program.{IsProgram}
+use Rattle.im_assemble.specs.Names.{part_names, program_names}
 use Rattle.im_pack.specs.Packed.{IsPacked}
 use Rattle.im_compile.specs.declared.options.Options.{Options}
 use Rattle.im_compile.specs.declared.built.Built.{Built}
@@ -29,6 +30,10 @@ pub record AreFrames (funcs : List Func) (layouts : List Layout) (frames : List 
   pub names : map (λ (f : Frame). f.name.items) frames ≡ map (λ (f : Func). f.name.items) funcs
   pub sizes : map (λ (f : Frame). f.size) frames ≡ bytes_of layouts
 
+-- the functions' names as text, each byte a character
+abbrev pub function_names : List Func → List (List ℕ)
+function_names funcs = map (λ (f : Func). encode_utf8_all f.name.items) funcs
+
 -- lower, force, place, recut; frames; statics; assemble, link, gap, pack
 pub record IsBuilt (prog : Prog) (options : Options) (built : Built) : Type 0 where
   pub code : Code
@@ -39,6 +44,7 @@ pub record IsBuilt (prog : Prog) (options : Options) (built : Built) : Type 0 wh
   pub place_statics : addresses ≡ places_from statics_start (objects_of code.statics.items)
   pub parts : List Part
   pub assemble : IsProgram code addresses layouts parts
+  pub named : part_names parts ≡ program_names (function_names prog.funcs.items)
   pub linked : Linked
   pub link : IsLinked parts linked
   pub measure : IsGap linked.words.items linked.entry built.gap

@@ -14,6 +14,7 @@ use Rattle.im_frame.specs.declared.layout.Layout.{Layout}
 use Rattle.im_frame.specs.declared.fault.FrameFault.{FrameFault}
 use Rattle.im_frame.specs.declared.fault.FrameFault.TheVariants.{Limit as TooLarge, OutOfMemory as NoHeap}
 use Rattle.im_linked.specs.Program.{IsProgram}
+use Rattle.im_assemble.specs.Names.{part_names, program_names}
 use Rattle.im_pack.specs.declared.fault.PackFault.{PackFault}
 use Rattle.im_pack.specs.declared.fault.PackFault.TheVariants.{Unnamed as NoName, OutOfMemory as NoSpace}
 use Rattle.im_compile.specs.declared.fault.CompileFault.{CompileFault}
@@ -32,9 +33,10 @@ pub record IsFrameOf (func : Func) (layout : Layout) (frame : FrameOf) : Type 0 
   pub size : frame.size ≡ layout.frame
 
 -- the parts of placed code with its statics and frames, in their places
-pub record IsLinkedFrom (code : Code) (addresses : List ℕ) (layouts : List Layout) (linked : Linked) : Type 0 where
+pub record IsLinkedFrom (code : Code) (addresses : List ℕ) (layouts : List Layout) (names : List (List ℕ)) (linked : Linked) : Type 0 where
   pub parts : List Part
   pub assemble : IsProgram code addresses layouts parts
+  pub named : part_names parts ≡ program_names names
   pub linkable : IsLinkable parts
   pub link : IsLinked parts linked
 

@@ -13,6 +13,3 @@ mod vars;
 pub use fault::LoadFault;
 pub use laws::{periods_law, place_law};
 pub use machine::Machine;
-
-#[cfg(test)]
-mod tests;

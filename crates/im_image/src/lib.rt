@@ -25,6 +25,3 @@ pub use reading::read_image;
 pub use upgrading::upgrade;
 pub use version::Version;
 pub use writing::write_image;
-
-#[cfg(test)]
-mod tests;

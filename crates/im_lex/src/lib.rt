@@ -8,8 +8,6 @@ mod opening;
 mod piece;
 mod pieces;
 mod runs;
-#[cfg(test)]
-mod tests;
 
 pub use fault::{LexFault, LexFaultKind};
 pub use lexing::{lex, one_reading};

@@ -12,6 +12,3 @@ pub use map::{
     REASON, STACK_CAPACITY, STACK_END, STACK_LIM, STATICS_CAPACITY, STATICS_START, STATUS,
 };
 pub use memory::Memory;
-
-#[cfg(test)]
-mod tests;

@@ -11,6 +11,3 @@ pub use fault::TraceFault;
 pub use period::Period;
 pub use reading::read_trace;
 pub use trace::Trace;
-
-#[cfg(test)]
-mod tests;

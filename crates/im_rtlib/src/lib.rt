@@ -13,6 +13,3 @@ pub use getchar::getchar_lines;
 pub use labels::{EXIT, FIRST_FREE, GETCHAR, PUTCHAR, STACK};
 pub use laws::lines_law;
 pub use putchar::putchar_lines;
-
-#[cfg(test)]
-mod tests;

@@ -14,8 +14,6 @@ mod laws;
 mod operands;
 mod rows;
 pub mod step;
-#[cfg(test)]
-mod tests;
 mod torn;
 mod transfer;
 

@@ -6,8 +6,6 @@ mod keyword;
 mod literal;
 mod number;
 mod punctuator;
-#[cfg(test)]
-mod tests;
 mod token;
 
 pub use keyword::{Keyword, keyword_of};

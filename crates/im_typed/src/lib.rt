@@ -8,8 +8,6 @@ mod frames;
 mod laws;
 mod program;
 mod statement;
-#[cfg(test)]
-mod tests;
 
 pub use counts::{need, nodes};
 pub use examples::{

@@ -8,8 +8,6 @@ mod copies;
 mod forms;
 mod measure;
 mod table;
-#[cfg(test)]
-mod tests;
 mod tree;
 
 pub use build::{array_of, function_of, pointer_to, unsized_of};

@@ -3,8 +3,6 @@
 
 mod nesting;
 mod role;
-#[cfg(test)]
-mod tests;
 mod word;
 
 pub use nesting::{NESTING_LIMIT, first_too_deep};

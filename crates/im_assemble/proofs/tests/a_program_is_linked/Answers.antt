@@ -21,4 +21,4 @@ assemble-requires g c =
     }
 
 pub link-requires : goal.link-requires
-link-requires g c = subst IsLinkable (sym c.deref-3.ensures.value) (linkable c.in_ok-unit.unit [] c.deref.result.now c.in_ok-parts.parts.items c.in_ok-parts.ensures c.in_ok-unit.ensures.named)
+link-requires g c = subst IsLinkable (sym c.deref-3.ensures.value) (linkable c.in_ok-unit.unit [] c.deref.result.now c.in_ok-parts.parts.items c.in_ok-parts.ensures.program c.in_ok-unit.ensures.named)

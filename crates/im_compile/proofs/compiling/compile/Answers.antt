@@ -1,14 +1,16 @@
-use Rattle.std.proofs.Common.{◌≡◌, ℕ, length, List, refl, sym, ap, ◌∙◌, subst}
+use Rattle.std.proofs.Common.{◌≡◌, ℕ, length, map, List, refl, sym, ap, ◌∙◌, subst}
+use Rattle.std.specs.Prelude.{string_bytes}
 use Rattle.std.proofs.lemmas.Result.{err_from_is_err_and}
 use Rattle.im_typed.specs.declared.program.Func.{Func}
 use Rattle.im_block.specs.declared.unit.Function.{Function}
 use Rattle.im_frame.specs.declared.layout.Layout.{Layout}
 use Rattle.im_image.specs.Contents.{IsImage}
 use Rattle.im_pack.specs.Packed.{IsPacked}
-use Rattle.im_compile.specs.Built.{AreFrames}
+use Rattle.im_assemble.specs.Names.{program_names}
+use Rattle.im_compile.specs.Built.{AreFrames, function_names}
 use Rattle.im_compile.specs.Ready.{IsFrameFault}
 use Rattle.im_compile.proofs.Faulty.{HasPlaces, of_frames, of_linking, of_image}
-use Rattle.im_compile.proofs.Layouts.{assemblable, laid_out, placed_at}
+use Rattle.im_compile.proofs.Layouts.{names_count, assemblable, laid_out, placed_at}
 use Rattle.im_compile.proofs.compiling.compile.Goals as goal
 
 pub returns-in_err-layouts : goal.returns-in_err-layouts
@@ -22,7 +24,7 @@ linked_code-requires-clause-assemblable c =
     let unit = c.in_ok-unit.unit in
     let lay_out = laid_out unit c.deref.result.now c.in_ok-layouts.layouts.items c.deref-4.result.now c.deref.ensures.value c.deref-4.ensures.value c.in_ok-layouts.ensures in
     let places = placed_at unit c.deref-2.result.now c.in_ok-addresses.addresses.items c.deref-5.result.now c.deref-2.ensures.value c.deref-5.ensures.value c.in_ok-addresses.ensures in
-    assemblable c.args.prog.now _ c.in_ok-unit.ensures.ready lay_out places (ap (λ l. length l) c.deref-6.ensures.value ∙ c.in_ok-names.ensures ∙ ap (λ (l : List Func). length l) c.deref-3.ensures.value)
+    assemblable c.args.prog.now _ c.in_ok-unit.ensures.ready lay_out places (ap (λ l. length l) c.deref-6.ensures.value ∙ names_count c.in_ok-names.names.items c.deref-3.result.now c.in_ok-names.ensures ∙ ap (λ (l : List Func). length l) c.deref-3.ensures.value)
 
 pub returns-in_err-code : goal.returns-in_err-code
 returns-in_err-code c =
@@ -59,6 +61,7 @@ returns c =
       place_statics = places;
       parts = l.parts;
       assemble = l.assemble;
+      named = l.named ∙ ap program_names (ap (map string_bytes) c.deref-6.ensures.value ∙ c.in_ok-names.ensures ∙ ap function_names c.deref-3.ensures.value);
       linked = c.in_ok-code.code;
       link = l.link;
       measure = c.in_ok-gap.ensures;

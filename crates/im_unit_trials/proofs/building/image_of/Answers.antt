@@ -21,4 +21,4 @@ assemble-requires c =
 pub link-requires : goal.link-requires
 link-requires c =
     subst IsLinkable (sym c.deref-6.ensures.value)
-    (c.linkable_law.ensures c.args.unit.now c.deref-4.result.now c.deref-3.result.now c.in_ok-parts.parts.items c.in_ok-parts.ensures c.requires.buildable.named)
+    (c.linkable_law.ensures c.args.unit.now c.deref-4.result.now c.deref-3.result.now c.in_ok-parts.parts.items c.in_ok-parts.ensures.program c.requires.buildable.named)

@@ -1,0 +1,12 @@
+pub mod Steps
+pub mod StructCells
+pub mod Rows
+pub mod Plans
+pub mod Stores
+pub mod StructTable
+pub mod Entering
+pub mod Accessing
+pub mod Streaming
+pub mod EnterSteps
+pub mod FreshObjects
+pub mod Beginning

@@ -1,0 +1,12 @@
+pub mod Small
+pub mod Operators
+pub mod Settings
+pub mod Shown
+pub mod Steps
+pub mod Activations
+pub mod Endings
+pub mod Fresh
+pub mod Begun
+pub mod Firsts
+pub mod Accesses
+pub mod Initials

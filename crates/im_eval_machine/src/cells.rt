@@ -1,0 +1,48 @@
+ghost use Rattle.std.specs.Prelude.{◌≡◌, ◌++◌, IfOk, OnOk};
+ghost use Rattle.im_ctype.specs.Layout.{layout_at, layouts, moved};
+ghost use Rattle.im_ctype.specs.Table.{structs_of};
+
+use im_ctype::laws::member_law;
+use im_ctype::{Cell, TypeTable, cells, size_of};
+use im_num::NoMemory;
+use std::alloc::Global;
+
+/// The cells of a struct of the table, in order: those of its members, each at its place.
+pub(crate) fn struct_cells(
+    alloc: Global,
+    number: u32,
+    types: &TypeTable,
+) -> Result<Vec<Cell>, NoMemory>
+    ensures { IfOk result (λ found. found.items
+        ≡ (layout_at (layouts (structs_of types.now)) number).cells) }
+{
+    member_law();
+    let mut found = Vec::new(alloc);
+    let members = types.members(number);
+    let places = types.places(number);
+    for (index, member) in members.iter().enumerate() {
+        if index >= places.len() {
+            return Ok(found);
+        }
+        let _size = size_of(member.ty, types);
+        let part = cells(alloc, member.ty, types)?;
+        push_moved(&mut found, places[index].offset, &part)?;
+    }
+    Ok(found)
+}
+
+/// Cells of a member, so many bytes further on.
+fn push_moved(found: &mut Vec<Cell>, by: u64, cells: &[Cell]) -> Result<(), NoMemory>
+    ensures { OnOk result (found.new.items ≡ found.old.items ++ moved by cells.now) }
+{
+    for cell in cells {
+        let Some(offset) = by.checked_add(cell.offset) else {
+            return Err(NoMemory::OutOfMemory);
+        };
+        found.push(Cell {
+            offset,
+            kind: cell.kind,
+        })?;
+    }
+    Ok(())
+}
