@@ -1,6 +1,7 @@
 -- Layouts, addresses and names make a unit that may be assembled.
-use Rattle.std.proofs.Common.{◌≡◌, ◌≤◌, ◌<◌, ℕ, zero, suc, ◌+◌, ◌*◌, List, [], ◌∷◌, length, map, Some, refl, sym, ap, ◌∙◌, subst, arith}
-use Rattle.std.specs.Prelude.{◌/◌, slice_get, slice_index}
+use Rattle.std.proofs.Common.{String, ◌≡◌, ◌≤◌, ◌<◌, ℕ, zero, suc, ◌+◌, ◌*◌, List, [], ◌∷◌, length, map, Some, refl, sym, ap, ◌∙◌, subst, arith}
+use Rattle.std.specs.Prelude.{◌/◌, slice_get, slice_index, string_bytes, encode_utf8_all}
+use Rattle.std.specs.Global.{Global}
 use Rattle.std.proofs.lemmas.List.{length-map}
 use Rattle.im_mem.specs.Map.{statics_start, statics_capacity}
 use Rattle.im_typed.specs.declared.program.Prog.{Prog}
@@ -14,6 +15,8 @@ use Rattle.im_addresses.specs.Addresses.{AreLayouts}
 use Rattle.im_addresses.specs.Statics.{objects_of}
 use Rattle.im_assemble.specs.declared.program.Program.{Program}
 use Rattle.im_assemble.specs.Assembled.{IsAssemblable}
+use Rattle.im_typed.specs.declared.program.Func.{Func}
+use Rattle.im_compile.specs.Built.{function_names}
 use Rattle.im_compile.specs.Passed.{IsReady}
 
 places_count : (start : ℕ) (os : List Object) → length (places_from start os) ≡ length os
@@ -48,9 +51,9 @@ assemblable prog program ready layouts statics names =
           subst (λ (l : List ℕ). slice_index l n < statics_start + statics_capacity) (sym statics) (omega (arith, less, all));
     }
 
-pub names_count : (names : List String) (funcs : List Func) → map string_bytes names ≡ function_names funcs → length names ≡ length funcs
+pub names_count : (names : List (String Global)) (funcs : List Func) → map string_bytes names ≡ function_names funcs → length names ≡ length funcs
 names_count names funcs e =
-    sym (length-map {A = String} names string_bytes) ∙ ap (λ (l : List (List ℕ)). length l) e ∙ length-map {A = Func} funcs (λ (f : Func). encode_utf8_all f.name.items)
+    sym (length-map {A = String Global} names string_bytes) ∙ ap (λ (l : List (List ℕ)). length l) e ∙ length-map {A = Func} funcs (λ (f : Func). encode_utf8_all f.name.items)
 
 -- what was made of slices of a unit
 

@@ -1,4 +1,5 @@
 mod Faulty
 mod Ready
 mod Layouts
+mod Names
 mod Rows
