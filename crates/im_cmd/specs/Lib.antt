@@ -1,7 +1,6 @@
 pub mod Files
 pub mod Builds
 pub mod Images
-pub mod Upgrades
 pub mod Runs
 pub mod Outcome
 pub mod Answers

@@ -1,5 +1,5 @@
-ghost use Rattle.im_cli.specs.Named.{IsInBounds, options_meaning};
-ghost use Rattle.im_cmd.specs.Answers.{BuildAnswers, RunAnswers, ExecAnswers, DumpAnswers, UpgradeAnswers, ReportAnswers};
+ghost use Rattle.im_cli.specs.Named.{IsInBounds, options_meaning, builds, runs, executes, dumps, upgrades, reports};
+ghost use Rattle.im_cmd.specs.Answers.{CarriesOut};
 
 use crate::building::{build, compile_source};
 use crate::running::run_image;
@@ -22,7 +22,7 @@ pub fn build_source<H: Shelf, O: Sink, E: Sink>(
     building: BuildOptions,
 ) -> u8
     requires { IsInBounds building }
-    ensures { BuildAnswers source.now image_name.now building (H.state shelf.old)
+    ensures { CarriesOut (builds source.now image_name.now building) (H.state shelf.old)
         (H.state shelf.new) (O.state out.old) (O.state out.new) (E.state err.old) (E.state err.new)
         result }
 {
@@ -48,7 +48,7 @@ pub fn run_source<H: Shelf, O: Sink, E: Sink>(
     options: RunOptions<'_>,
 ) -> u8
     requires { IsInBounds building }
-    ensures { RunAnswers source.now image_name.now building (options_meaning options.entry)
+    ensures { CarriesOut (runs source.now image_name.now building (options_meaning options.entry))
         (H.state shelf.old) (H.state shelf.new) (O.state out.old) (O.state out.new)
         (E.state err.old) (E.state err.new) result }
 {
@@ -71,7 +71,7 @@ pub fn execute<H: Shelf, O: Sink, E: Sink>(
     image_name: &str,
     options: RunOptions<'_>,
 ) -> u8
-    ensures { ExecAnswers image_name.now (options_meaning options.entry) (H.state shelf.old)
+    ensures { CarriesOut (executes image_name.now (options_meaning options.entry)) (H.state shelf.old)
         (H.state shelf.new) (O.state out.old) (O.state out.new) (E.state err.old) (E.state err.new)
         result }
 {
@@ -93,7 +93,7 @@ pub fn dump<H: Shelf, O: Sink, E: Sink>(
     err: &mut E,
     image_name: &str,
 ) -> u8
-    ensures { DumpAnswers image_name.now (H.state shelf.old) (H.state shelf.new) (O.state out.old)
+    ensures { CarriesOut (dumps image_name.now) (H.state shelf.old) (H.state shelf.new) (O.state out.old)
         (O.state out.new) (E.state err.old) (E.state err.new) result }
 {
     match read_stored(alloc, shelf, image_name) {
@@ -114,7 +114,7 @@ pub fn upgrade<H: Shelf, O: Sink, E: Sink>(
     old: &str,
     new: &str,
 ) -> u8
-    ensures { UpgradeAnswers old.now new.now (H.state shelf.old) (H.state shelf.new)
+    ensures { CarriesOut (upgrades old.now new.now) (H.state shelf.old) (H.state shelf.new)
         (O.state out.old) (O.state out.new) (E.state err.old) (E.state err.new) result }
 {
     match upgrade_image(alloc, shelf, old, new) {
@@ -136,7 +136,7 @@ pub fn report<H: Shelf, O: Sink, E: Sink>(
     building: BuildOptions,
 ) -> u8
     requires { IsInBounds building }
-    ensures { ReportAnswers source.now building (H.state shelf.old) (H.state shelf.new)
+    ensures { CarriesOut (reports source.now building) (H.state shelf.old) (H.state shelf.new)
         (O.state out.old) (O.state out.new) (E.state err.old) (E.state err.new) result }
 {
     match compile_source(alloc, shelf, source, building) {

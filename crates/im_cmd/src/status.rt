@@ -49,7 +49,7 @@ pub fn status_of_refusal(refusal: &Refusal) -> u8
 {
     match refusal {
         Refusal::CannotRead(_) => UNREADABLE,
-        Refusal::SourceTooLong(_) | Refusal::BadSource(_, _) => REFUSED_SOURCE,
+        Refusal::BadSource(_, _) => REFUSED_SOURCE,
         Refusal::NotAnImage(_, _) => REFUSED_IMAGE,
         Refusal::CannotWrite(_) => UNWRITABLE,
         Refusal::InputTooLong(_, _) => INPUT_TOO_LONG,

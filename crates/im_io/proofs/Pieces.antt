@@ -1,10 +1,10 @@
 -- A text sent in pieces.
-use Rattle.std.proofs.Common.{◌≡◌, ◌≤◌, ◌<◌, ℕ, suc, ◌+◌, min, List, [], ◌++◌, take, drop, length, get_or, refl, sym, ap, ◌∙◌, subst, drop-cons, arith}
+use Rattle.std.proofs.Common.{◌≡◌, ◌≤◌, ◌<◌, ℕ, suc, ◌+◌, List, [], ◌++◌, take, drop, length, get_or, refl, sym, ap, ◌∙◌, subst, drop-cons, arith}
 use Rattle.std.specs.List.{flat_map}
 use Rattle.std.proofs.Math.Seq.{take-append-add}
-use Rattle.std.proofs.lemmas.List.{take_min, take-append-le, take-append-drop}
+use Rattle.std.proofs.lemmas.List.{take-append-le, take-append-drop, length-append}
 use Rattle.std.proofs.lemmas.Grind.{flat_map-append}
-use Rattle.im_io.specs.Counts.{Rose}
+use Rattle.im_io.specs.Counts.{one_more}
 use Rattle.im_io.specs.Sink.{SinkState, Appended}
 use Rattle.im_io.specs.Whole.{SentAll, SentFirst}
 use Rattle.im_io.proofs.Appending.{appended_none, appended_more}
@@ -18,14 +18,15 @@ sent_then xs ys a b c h k = record { taken = appended_more xs ys a.contents b.co
 -- the first bytes of one piece, behind whole ones and before others
 pub first_then : (xs ys zs : List ℕ) (a b c : SinkState) → SentAll xs a b → SentFirst ys b c → SentFirst (xs ++ (ys ++ zs)) a c
 first_then xs ys zs a b c h k =
-    let n = min k.count (length ys) in
-    let inside : n ≤ length ys = omega arith in
-    let here : take n (ys ++ zs) ≡ take k.count ys = take-append-le n ys zs inside ∙ take_min k.count ys in
-    let all : take (length xs + n) (xs ++ (ys ++ zs)) ≡ xs ++ take k.count ys = take-append-add xs (ys ++ zs) n ∙ ap (λ v. xs ++ v) here in
+    let short : k.count < length ys = k.short in
+    let here : take k.count (ys ++ zs) ≡ take k.count ys = take-append-le k.count ys zs (omega arith) in
+    let all : take (length xs + k.count) (xs ++ (ys ++ zs)) ≡ xs ++ take k.count ys = take-append-add xs (ys ++ zs) k.count ∙ ap (λ v. xs ++ v) here in
+    let long : length (xs ++ (ys ++ zs)) ≡ length xs + (length ys + length zs) = length-append xs (ys ++ zs) ∙ ap (λ n. length xs + n) (length-append ys zs) in
     record {
-      count = length xs + n;
+      count = length xs + k.count;
+      short = rw long (omega (arith, short));
       taken = subst (λ v. Appended v a.contents c.contents) (sym all) (appended_more xs (take k.count ys) a.contents b.contents c.contents h.taken k.taken);
-      faults = subst (λ m. Rose m c.faults) h.faults k.faults;
+      faults = k.faults ∙ ap one_more h.faults;
     }
 
 -- a list of pieces, cut at one of them

@@ -2,7 +2,7 @@
 use Rattle.std.specs.Prelude.{◌≡◌, ℕ, ◌+◌, ◌≤◌, ◌<◌, ◌⊎◌, ⊤, Some, Result, Ok, Err, List, length, take}
 use Rattle.im_io.specs.declared.fault.ReadFault.{ReadFault}
 use Rattle.im_io.specs.declared.fault.ReadFault.TheVariants.{Absent, Fault, TooLong, OutOfMemory}
-use Rattle.im_io.specs.Counts.{Rose}
+use Rattle.im_io.specs.Counts.{one_more}
 use Rattle.im_io.specs.Shelf.{Told, ShelfState, SameCounts, ReadFaulted, WasAbsent, SameFiles, NotThere, with_file}
 use Rattle.im_io.specs.Sink.{SinkState, Appended}
 
@@ -78,11 +78,12 @@ Stores name text (Err fault) old new = SameFiles old new ⊎ HoldsFirst name tex
 
 -- ---- sending a whole text
 
--- the first bytes of a text were taken, and the count rose
+-- the first bytes of a text were taken and not all of it, and the count rose by one: one write was refused, the last
 pub record SentFirst (text : List ℕ) (old new : SinkState) : Type 0 where
   pub count : ℕ
+  pub short : count < length text
   pub taken : Appended (take count text) old.contents new.contents
-  pub faults : Rose old.faults new.faults
+  pub faults : new.faults ≡ one_more old.faults
 
 pub record SentAll (text : List ℕ) (old new : SinkState) : Type 0 where
   pub taken : Appended text old.contents new.contents

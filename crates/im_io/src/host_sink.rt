@@ -11,7 +11,7 @@ pub struct HostSink<W> {
 
 impl<W: Write> HostSink<W> {
     ghost use Rattle.std.specs.Prelude.{◌≡◌, None};
-    ghost use Rattle.im_io.specs.Counts.{Rose};
+    ghost use Rattle.im_io.specs.Counts.{one_more};
 
     pub fn new(stream: W) -> HostSink<W>
         ensures { ⟦<HostSink<W> as Sink>⟧.state result ≡ record { contents = None; faults = 0 } }
@@ -21,7 +21,7 @@ impl<W: Write> HostSink<W> {
 
     fn fault(&mut self) -> Failed
         ensures stream { self.new.stream ≡ self.old.stream }
-        ensures faults { Rose self.old.faults self.new.faults }
+        ensures faults { self.new.faults ≡ one_more self.old.faults }
     {
         self.faults = self.faults.saturating_add(1);
         Failed

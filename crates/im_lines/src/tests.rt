@@ -156,7 +156,7 @@ fn refusals(rt: HostRuntime) -> Result<(), Fail> {
     let rows: [(Refusal, &str); 23] = [
         (Refusal::CannotRead("a.c"), "cannot read a.c"),
         (
-            Refusal::SourceTooLong("a.c"),
+            over(Quantity::Source, 4194305),
             "a.c: source 4194305 over 4194304",
         ),
         (
