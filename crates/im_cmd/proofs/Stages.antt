@@ -14,9 +14,9 @@ use Rattle.im_num.specs.Variables.{Variable}
 use Rattle.im_cli.specs.Named.{Options}
 use Rattle.im_lines.specs.Refusals.{Refused, TornStores, NoMemory}
 use Rattle.im_cmd.specs.Files.{Unchanged, ReadsFile, RefusesFile, file_starved}
-use Rattle.im_cmd.specs.Runs.{ReadsInput, ReadsPeriods, ReadsTrace, TakesInput, RefusesTrace, trace_unread, RefusesRun, input_unread, input_too_long, periods_unread, torn_stores, run_starved, needs_form, run_file_limit}
+use Rattle.im_cmd.specs.Runs.{ReadsInput, ReadsPeriods, ReadsTrace, TakesInput, RefusesInput, input_unread, input_too_long, RefusesTrace, trace_unread, RefusesRun, no_input, periods_unread, torn_stores, run_starved, needs_form, run_file_limit}
 use Rattle.im_cmd.specs.Outcome.{shown}
-use Rattle.im_cmd.specs.Stages.{RefusesInput, Loads, RefusesLoad, long_input, load_starved, TakesPeriods, RefusesPeriods, trace_refused, periods_starved, Ran, ended_of}
+use Rattle.im_cmd.specs.Stages.{Loads, RefusesLoad, long_input, load_starved, TakesPeriods, RefusesPeriods, trace_refused, periods_starved, Ran, ended_of}
 use Rattle.im_cmd.proofs.Bounds.{trace_is}
 use Rattle.im_cmd.proofs.Counts.{trace_run}
 use Rattle.im_cmd.proofs.Refusing.{unchanged_none, unchanged_then, unchanged_read}
@@ -25,7 +25,7 @@ bytes_all : (xs : List ℕ) → ((k : ℕ) → slice_index xs k < 256) → All (
 bytes_all [] h = All-nil (λ byte. byte < 256)
 bytes_all (x ∷ xs) h = All-cons (λ byte. byte < 256) x xs (h 0) (bytes_all xs (λ k. h (suc k)))
 
-takes : (options : Options) (image : ImageValue) (input : List ℕ) (loaded : Held (List ℕ)) (a b : ShelfState) → ReadsInput options.input input a b → Loads image input loaded → TakesInput options input a b
+takes : (options : Options) (image : ImageValue) (input : List ℕ) (loaded : Held (List ℕ)) (a b : ShelfState) → ReadsInput options.input input a b → Loads image input loaded → TakesInput options.input input a b
 takes options image input loaded a b read l = record { reads = read; fits = l.fits; bytes = bytes_all input l.bytes }
 
 -- ---- the input
@@ -34,7 +34,7 @@ pub input_read : (named : Option (List ℕ)) (name input : List ℕ) (a b : Shel
 input_read named name input a b e h = subst (λ (n : Option (List ℕ)). ReadsInput n input a b) (sym e) h
 
 pub input_refused : (named : Option (List ℕ)) (name : List ℕ) (a b : ShelfState) → named ≡ Some name → (r : Refused) → RefusesFile name run_file_limit a b r → RefusesInput named a b r
-input_refused named name a b e r h = record { name = name; is_named = e; refused = h }
+input_refused named name a b e r h = input_unread name r e h
 
 input_unchanged : (named : Option (List ℕ)) (input : List ℕ) (a b : ShelfState) → ReadsInput named input a b → Unchanged a b
 input_unchanged None input a b h = subst (λ c. Unchanged a c) (sym h.1) (unchanged_none a)
@@ -61,10 +61,10 @@ periods_unchanged (Some name) steps periods a b h = unchanged_read name h.text r
 -- ---- the run
 
 pub run_input_refused : (image : ImageValue) (options : Options) (a b : ShelfState) (r : Refused) → RefusesInput options.input a b r → RefusesRun image options a b r
-run_input_refused image options a b r h = input_unread h.name r h.is_named h.refused
+run_input_refused image options a b r h = no_input r h
 
 pub run_load_refused : (image : ImageValue) (options : Options) (input : List ℕ) (a b : ShelfState) → ReadsInput options.input input a b → (r : Refused) → RefusesLoad input r → RefusesRun image options a b r
-run_load_refused image options input a b read r (long_input over) = input_too_long input read over
+run_load_refused image options input a b read r (long_input over) = no_input r (input_too_long input read over)
 run_load_refused image options input a b read r load_starved = run_starved (input_unchanged options.input input a b read)
 
 pub run_periods_refused : (options : Options) (image : ImageValue) (input : List ℕ) (loaded : Held (List ℕ)) (a b c : ShelfState) → ReadsInput options.input input a b → Loads image input loaded

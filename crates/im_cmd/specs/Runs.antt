@@ -25,10 +25,16 @@ ReadsInput None input old new = (input ≡ []) × (new ≡ old)
 ReadsInput (Some name) input old new = ReadsFile name input run_file_limit old new
 
 -- an input was read, which the machine has room for
-pub record TakesInput (options : Options) (input : List ℕ) (old new : ShelfState) : Type 0 where
-  pub reads : ReadsInput options.input input old new
+pub record TakesInput (named : Option (List ℕ)) (input : List ℕ) (old new : ShelfState) : Type 0 where
+  pub reads : ReadsInput named input old new
   pub fits : length input ≤ input_capacity
   pub bytes : All (λ byte. byte < 256) input
+
+-- why none is taken: its file isn't read, or holds more than the machine has room for
+pub data RefusesInput (named : Option (List ℕ)) (old new : ShelfState) : Refused → Type 0 where
+  input_unread : (name : List ℕ) (r : Refused) → named ≡ Some name → RefusesFile name run_file_limit old new r → RefusesInput named old new r
+  input_too_long : (input : List ℕ) → ReadsInput named input old new → input_capacity < length input
+      → RefusesInput named old new (InputTooLong (length input) input_capacity)
 
 -- the named file's text is a trace's, of these periods
 pub record ReadsTrace (name : List ℕ) (periods : List Period) (old new : ShelfState) : Type 0 where
@@ -54,7 +60,7 @@ needs_form TwoLengths periods = false
 pub record RunsImage (options : Options) (image : ImageValue) (ended : Device) (old new : ShelfState) : Type 0 where
   pub input : List ℕ
   pub taken : ShelfState
-  pub takes : TakesInput options input old taken
+  pub takes : TakesInput options.input input old taken
   pub periods : List Period
   pub reads : ReadsPeriods options.trace options.steps periods taken new
   pub allowed : needs_form image.form periods ≡ false
@@ -68,13 +74,10 @@ pub data RefusesTrace (name : List ℕ) (old new : ShelfState) : Refused → Typ
 
 -- why an image isn't run
 pub data RefusesRun (image : ImageValue) (options : Options) (old new : ShelfState) : Refused → Type 0 where
-  input_unread : (name : List ℕ) (r : Refused) → options.input ≡ Some name → RefusesFile name run_file_limit old new r
-      → RefusesRun image options old new r
-  input_too_long : (input : List ℕ) → ReadsInput options.input input old new → input_capacity < length input
-      → RefusesRun image options old new (InputTooLong (length input) input_capacity)
-  periods_unread : (input : List ℕ) (taken : ShelfState) (name : List ℕ) (r : Refused) → TakesInput options input old taken
+  no_input : (r : Refused) → RefusesInput options.input old new r → RefusesRun image options old new r
+  periods_unread : (input : List ℕ) (taken : ShelfState) (name : List ℕ) (r : Refused) → TakesInput options.input input old taken
       → options.trace ≡ Some name → RefusesTrace name taken new r → RefusesRun image options old new r
-  torn_stores : (input : List ℕ) (taken : ShelfState) (periods : List Period) → TakesInput options input old taken
+  torn_stores : (input : List ℕ) (taken : ShelfState) (periods : List Period) → TakesInput options.input input old taken
       → ReadsPeriods options.trace options.steps periods taken new → needs_form image.form periods ≡ true
       → RefusesRun image options old new TornStores
   run_starved : Unchanged old new → RefusesRun image options old new NoMemory

@@ -19,9 +19,9 @@ use Rattle.im_cli.specs.declared.fault.WordsFault.{WordsFault}
 use Rattle.im_cli.specs.declared.fault.WordsFault.TheVariants as fault
 use Rattle.im_cli.specs.Named.{Options}
 use Rattle.im_lines.specs.Refusals.{Refused, CannotRead, FileTooLong, BadSource, CannotWrite, InputTooLong, NoMemory, refusal_line}
-use Rattle.im_cmd.specs.Files.{Unchanged, RefusesFile, StoresPart}
+use Rattle.im_cmd.specs.Files.{Unchanged, StoresPart}
 use Rattle.im_cmd.specs.Builds.{IsFaulty}
-use Rattle.im_cmd.specs.Runs.{ReadsPeriods, RunsImage, RefusesTrace, run_file_limit}
+use Rattle.im_cmd.specs.Runs.{ReadsPeriods, RunsImage, RefusesTrace}
 use Rattle.im_cmd.specs.Outcome.{Got, shown, no_output_line, refusal_status}
 
 -- the machine as the end of a run
@@ -41,12 +41,6 @@ pub data RefusesText (source text : List ℕ) : Refused → Type 0 where
 pub data RefusesStore (name text : List ℕ) (old new : ShelfState) : Refused → Type 0 where
   store_failed : StoresPart name text old new → RefusesStore name text old new (CannotWrite name)
   store_starved : Unchanged old new → RefusesStore name text old new NoMemory
-
--- why the input's file isn't read
-pub record RefusesInput (named : Option (List ℕ)) (old new : ShelfState) (r : Refused) : Type 0 where
-  pub name : List ℕ
-  pub is_named : named ≡ Some name
-  pub refused : RefusesFile name run_file_limit old new r
 
 -- a machine on which nothing was run
 pub record Loads (image : ImageValue) (input : List ℕ) (machine : Held (List ℕ)) : Type 0 where

@@ -2,9 +2,9 @@ ghost use Rattle.std.specs.Prelude.{◌≡◌, ◌∷◌, [], IfOk, MatchResult}
 ghost use Rattle.im_mem.specs.Memory.{view};
 ghost use Rattle.im_cli.specs.Named.{options_meaning};
 ghost use Rattle.im_lines.specs.Refusals.{refused_of};
-ghost use Rattle.im_cmd.specs.Runs.{ReadsInput, ReadsTrace, RefusesTrace, RefusesRun, has_torn, needs_form};
+ghost use Rattle.im_cmd.specs.Runs.{ReadsInput, RefusesInput, ReadsTrace, RefusesTrace, RefusesRun, has_torn, needs_form};
 ghost use Rattle.im_cmd.specs.Outcome.{shown};
-ghost use Rattle.im_cmd.specs.Stages.{ended_of, variables_of, RefusesInput, Loads, RefusesLoad, TakesPeriods, RefusesPeriods, Ran};
+ghost use Rattle.im_cmd.specs.Stages.{ended_of, variables_of, Loads, RefusesLoad, TakesPeriods, RefusesPeriods, Ran};
 
 use crate::files::read_file;
 use im_cli::RunOptions;
