@@ -5,7 +5,7 @@ use Rattle.im_io.specs.Sink.{SinkState}
 use Rattle.im_image.specs.Contents.{ImageValue}
 use Rattle.im_device.specs.Periods.{Device}
 use Rattle.im_cli.specs.declared.command.BuildOptions.{BuildOptions}
-use Rattle.im_cli.specs.Named.{Asked, Options, builds, runs, executes, dumps, upgrades, reports, named}
+use Rattle.im_cli.specs.Named.{Asked, Evaluation, Options, builds, runs, executes, dumps, upgrades, reports, evaluates, named}
 use Rattle.im_compile.specs.declared.built.Built.{Built}
 use Rattle.im_lines.specs.Dumps.{dump_lines}
 use Rattle.im_lines.specs.Upgrades.{upgrade_line}
@@ -13,6 +13,8 @@ use Rattle.im_lines.specs.Refusals.{Refused, NoMemory}
 use Rattle.im_cmd.specs.Builds.{Builds, RefusesBuild, Compiles, RefusesSource}
 use Rattle.im_cmd.specs.Images.{ReadsImage, RefusesImage, Upgrades, RefusesUpgrade}
 use Rattle.im_cmd.specs.Runs.{RunsImage, RefusesRun}
+use Rattle.im_store.specs.Outcomes.{Outcome as EndOfRun}
+use Rattle.im_cmd.specs.Evaluations.{Evaluates, RefusesEvaluation, evaluation_outcome}
 use Rattle.im_cmd.specs.Outcome.{Outcome, refused, done, Got, Tells, built_lines, reported_lines, run_outcome}
 
 -- what comes of what a command asks for, by the files of the shelf before and after it
@@ -50,6 +52,11 @@ pub data Comes (old new : ShelfState) : Asked → Outcome → Type 0 where
       → Comes old new (reports source building) (refused r)
   reported : (source : List ℕ) (building : BuildOptions) (b : Built) → Compiles source building b old new
       → Comes old new (reports source building) (done (reported_lines b) [] 0)
+  -- a source is built and its meaning evaluated, and nothing is stored
+  eval_refused : (source : List ℕ) (building : BuildOptions) (evaluation : Evaluation) (r : Refused) → RefusesEvaluation source building evaluation old new r
+      → Comes old new (evaluates source building evaluation) (refused r)
+  evaluated : (source : List ℕ) (building : BuildOptions) (evaluation : Evaluation) (b : Built) (end : EndOfRun) → Evaluates source building evaluation b end old new
+      → Comes old new (evaluates source building evaluation) (evaluation_outcome b evaluation.vars end)
 
 -- what comes of it is told
 pub record CarriesOut (asked : Asked) (old new : ShelfState) (out out' err err' : SinkState) (status : ℕ) : Type 0 where

@@ -1,0 +1,55 @@
+-- A source is evaluated: what its program means, with the frames of the same build.
+use Rattle.std.specs.Prelude.{◌≡◌, ℕ, ℤ, ◌==◌, Bool, true, false, List, [], ◌++◌, if◌then◌else◌}
+use Rattle.im_io.specs.Shelf.{ShelfState}
+use Rattle.im_num.specs.Variables.{Variable}
+use Rattle.im_store.specs.Outcomes.{Outcome as EndOfRun, Undef, More, End}
+use Rattle.im_typed.specs.Program.{Prog}
+use Rattle.im_source.specs.Laws.{meaning_of}
+use Rattle.im_compile.specs.declared.built.Built.{Built}
+use Rattle.im_built_keeps.specs.Laws.{frames_of}
+use Rattle.im_driver.specs.Compiled.{IsProgramOf}
+use Rattle.im_cli.specs.declared.command.BuildOptions.{BuildOptions}
+use Rattle.im_cli.specs.Named.{Evaluation}
+use Rattle.im_lines.specs.declared.evaluations.Evaluated.{Evaluated}
+use Rattle.im_lines.specs.declared.evaluations.Evaluated.TheVariants.{Returned, StackExhausted, Undefined, OutOfFuel}
+use Rattle.im_lines.specs.Evaluations.{evaluation_lines}
+use Rattle.im_lines.specs.Variables.{variable_lines}
+use Rattle.im_lines.specs.Refusals.{Refused}
+use Rattle.im_cmd.specs.Builds.{Compiles, RefusesSource}
+use Rattle.im_cmd.specs.Runs.{TakesInput, RefusesInput}
+use Rattle.im_cmd.specs.Outcome.{Outcome, done}
+
+-- a source was compiled and an input taken, and this is what the source's program means on it: with the frames that were
+-- told, and the stack, the room for output and the fuel that the words give
+pub record Evaluates (source : List ℕ) (building : BuildOptions) (evaluation : Evaluation) (built : Built) (end : EndOfRun) (old new : ShelfState) : Type 0 where
+  pub read : ShelfState
+  pub compiles : Compiles source building built old read
+  pub prog : Prog
+  pub is_program : IsProgramOf compiles.text prog
+  pub input : List ℕ
+  pub takes : TakesInput evaluation.input input read new
+  pub is_meaning : end ≡ meaning_of prog (frames_of built) built.image input evaluation.fuel
+
+-- why it isn't evaluated
+pub data RefusesEvaluation (source : List ℕ) (building : BuildOptions) (evaluation : Evaluation) (old new : ShelfState) : Refused → Type 0 where
+  eval_uncompiled : (r : Refused) → RefusesSource source old new r → RefusesEvaluation source building evaluation old new r
+  eval_no_input : (built : Built) (read : ShelfState) (r : Refused) → Compiles source building built old read
+      → RefusesInput evaluation.input read new r → RefusesEvaluation source building evaluation old new r
+
+-- a reason other than 0 is want of stack
+abbrev pub ended_with : ℕ → ℤ → Evaluated
+ended_with reason status = if reason == 0 then Returned status else StackExhausted
+
+abbrev pub end_status : ℕ → ℕ
+end_status reason = if reason == 0 then 0 else 1
+
+abbrev pub shown_at : Bool → Built → List Variable → List ℕ
+shown_at true built variables = variable_lines built.image.objects variables
+shown_at false built variables = []
+
+-- what comes of it: the output, also where fuel ran out, and nothing where it is undefined
+abbrev pub evaluation_outcome : Built → Bool → EndOfRun → Outcome
+evaluation_outcome built vars (Undef why) = done [] (evaluation_lines built.frames.frames.items (Undefined why)) 11
+evaluation_outcome built vars (More output) = done output (evaluation_lines built.frames.frames.items OutOfFuel) 12
+evaluation_outcome built vars (End reason status output variables) =
+    done output (evaluation_lines built.frames.frames.items (ended_with reason status) ++ shown_at vars built variables) (end_status reason)
