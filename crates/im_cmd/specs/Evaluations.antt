@@ -3,11 +3,10 @@ use Rattle.std.specs.Prelude.{◌≡◌, ℕ, ℤ, ◌==◌, Bool, true, false, 
 use Rattle.im_io.specs.Shelf.{ShelfState}
 use Rattle.im_num.specs.Variables.{Variable}
 use Rattle.im_store.specs.Outcomes.{Outcome as EndOfRun, Undef, More, End}
-use Rattle.im_typed.specs.Program.{Prog}
+use Rattle.im_typed.specs.ProgramOf.{program_of}
 use Rattle.im_source.specs.Laws.{meaning_of}
 use Rattle.im_compile.specs.declared.built.Built.{Built}
 use Rattle.im_built_keeps.specs.Laws.{frames_of}
-use Rattle.im_driver.specs.Compiled.{IsProgramOf}
 use Rattle.im_cli.specs.declared.command.BuildOptions.{BuildOptions}
 use Rattle.im_cli.specs.Named.{Evaluation}
 use Rattle.im_lines.specs.declared.evaluations.Evaluated.{Evaluated}
@@ -19,16 +18,14 @@ use Rattle.im_cmd.specs.Builds.{Compiles, RefusesSource}
 use Rattle.im_cmd.specs.Runs.{TakesInput, RefusesInput}
 use Rattle.im_cmd.specs.Outcome.{Outcome, done}
 
--- a source was compiled and an input taken, and this is what the source's program means on it: with the frames that were
--- told, and the stack, the room for output and the fuel that the words give
+-- a source was compiled and an input taken, and this is what the source's program means on it, the one whose meaning the
+-- image keeps: with the frames that are told, and the stack, the room for output and the fuel that the words give
 pub record Evaluates (source : List ℕ) (building : BuildOptions) (evaluation : Evaluation) (built : Built) (end : EndOfRun) (old new : ShelfState) : Type 0 where
   pub read : ShelfState
   pub compiles : Compiles source building built old read
-  pub prog : Prog
-  pub is_program : IsProgramOf compiles.text prog
   pub input : List ℕ
   pub takes : TakesInput evaluation.input input read new
-  pub is_meaning : end ≡ meaning_of prog (frames_of built) built.image input evaluation.fuel
+  pub is_meaning : end ≡ meaning_of (program_of compiles.is_built.compiled.made) (frames_of built) built.image input evaluation.fuel
 
 -- why it isn't evaluated
 pub data RefusesEvaluation (source : List ℕ) (building : BuildOptions) (evaluation : Evaluation) (old new : ShelfState) : Refused → Type 0 where
