@@ -8,7 +8,7 @@ use Rattle.im_cmd.specs.Outcome.{Got, whole, part, refused, done, Tells, refusal
 use Rattle.im_cmd.specs.Stages.{Finishes}
 
 pub got_of : (A F : Type 0) (text : List ℕ) (r : Result A F) (old new : SinkState) → Sends text r old new → Got text old new
-got_of A F text (Ok done) old new h = whole h
+got_of A F text (Ok sent) old new h = whole h
 got_of A F text (Err fault) old new h = part h
 
 pub tells_refusal : (r : Refused) (out err err' : SinkState) (status : ℕ) → status ≡ refusal_status r → Got (refusal_line r) err err' → Tells out out err err' (refused r) status
