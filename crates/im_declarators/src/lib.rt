@@ -8,8 +8,6 @@ mod parameters;
 mod sized;
 mod stars;
 mod suffixes;
-#[cfg(test)]
-mod tests;
 
 pub use declared::{Declared, called, unnamed};
 pub use functions::{are_scalars, function, without_void};
