@@ -41,7 +41,7 @@ pub unit_stops : (u : t.Tree) (stop : Stop) (x : CheckFault) → x ≡ fault_of 
 unit_stops u stop x same plain h = subst (IsCheckFault u) (sym same) (unit_stop u stop plain h)
 
 pub parameters_stop : (u : t.Tree) (x : CheckFault) → IsPlain u → IsOverParameters u x → IsCheckFault u x
-parameters_stop u (f.Limit w.Parameters count limit) plain h = (plain, (l.too_many_parameters h.0 h.1.0, h.1.1))
+parameters_stop u (f.Limit w.Parameters count limit) plain h = (plain, (l.too_many_parameters h.0, h.1))
 parameters_stop u (f.Limit w.Statics count limit) plain h = absurd h
 parameters_stop u (f.Rule rule token) plain h = absurd h
 parameters_stop u (f.NotYet token) plain h = absurd h

@@ -1,15 +1,15 @@
 -- What is answered of counts over their limits.
-use Rattle.std.specs.Prelude.{◌≡◌, ◌<◌, Contains}
+use Rattle.std.specs.Prelude.{◌≡◌, ◌<◌}
 use Rattle.im_ctree.specs.Tree as t
 use Rattle.im_typed.specs.Limits.{static_bytes}
 use Rattle.im_typed.specs.Program.{Prog}
-use Rattle.im_rule_limits.specs.Limits.{parameter_counts}
+use Rattle.im_rule_limits.specs.Limits.{parameter_counts, IsFirstOver}
 use Rattle.im_check.specs.declared.fault.CheckFault.{CheckFault}
 use Rattle.im_check.specs.declared.fault.CheckFault.TheVariants.{Limit, OutOfMemory}
 use Rattle.im_check.specs.declared.fault.Limit.TheVariants.{Parameters, Statics}
 
 abbrev pub IsOverParameters : t.Tree → CheckFault → Type 0
-IsOverParameters u (Limit Parameters count limit) = Contains (parameter_counts u) count × ((8 < count) × (limit ≡ 8))
+IsOverParameters u (Limit Parameters count limit) = IsFirstOver (parameter_counts u) count × (limit ≡ 8)
 IsOverParameters u OutOfMemory = Unit {0}
 IsOverParameters u _ = ⊥
 

@@ -1,16 +1,16 @@
 -- Counts of a unit, one behind the other.
-use Rattle.std.proofs.Common.{◌≡◌, ℕ, ◌≤◌, ◌⊎◌, List, [], ◌∷◌, ◌++◌, length, Option, Some, None, inl, inr, nat_eq, refl, sym, ap, arith, ◌+◌, ◌<◌, drop, get_or, ◌∙◌}
+use Rattle.std.proofs.Common.{◌≡◌, ℕ, ◌≤◌, List, [], ◌∷◌, ◌++◌, length, Option, Some, None, nat_eq, refl, sym, ap, arith, ◌+◌, ◌<◌, drop, get_or, ◌∙◌}
 use Rattle.std.proofs.lemmas.List.{drop_more}
 use Rattle.std.specs.List.{Contains}
 use Rattle.std.proofs.lemmas.Bool.{ne_eqb}
-use Rattle.std.proofs.lemmas.List.Elements.{Contains-append_left, Contains-append_right, Contains-append_cases}
 use Rattle.im_ctree.specs.declared.declarator.Parameter as pm
 use Rattle.im_ctype.specs.Types.{no_types, same_types}
 use Rattle.im_rule_limits.specs.Limits.{count_parameters}
+use Rattle.im_rule_limits.proofs.First.{first-here, first-behind, within-both}
 use Rattle.im_terms.specs.declared.plain.PlainType.{PlainType}
 use Rattle.im_names.specs.Shape.{types_in}
 use Rattle.im_plain.specs.Lists.{parameters_from}
-use Rattle.im_check_counts.specs.Counts.{most, IsOver}
+use Rattle.im_check_counts.specs.Counts.{IsOver}
 
 pub none_told : (ps : List PlainType) → nat_eq (length ps) 0 ≡ same_types (types_in ps) no_types
 none_told [] = refl
@@ -21,15 +21,11 @@ count_list [] = refl
 count_list (pm.Parameter' s d ∷ ps) = omega (arith, count_list ps)
 
 pub over_here : (ms ns : List ℕ) (n : ℕ) → IsOver ms (Some n) → IsOver (ms ++ ns) (Some n)
-over_here ms ns n h = (Contains-append_left ms ns n h.0, h.1)
-
-none_of : (ms ns : List ℕ) → IsOver ms None → IsOver ns None → (n : ℕ) → Contains ms n ⊎ Contains ns n → n ≤ most
-none_of ms ns h g n (inl c) = h n c
-none_of ms ns h g n (inr c) = g n c
+over_here ms ns n h = first-here ms ns n h
 
 pub over_behind : (ms ns : List ℕ) (r : Option ℕ) → IsOver ms None → IsOver ns r → IsOver (ms ++ ns) r
-over_behind ms ns None h g = λ n c. none_of ms ns h g n (Contains-append_cases ms ns n c)
-over_behind ms ns (Some n) h g = (Contains-append_right ms ns n g.0, g.1)
+over_behind ms ns None h g = within-both ms ns h g
+over_behind ms ns (Some n) h g = first-behind ms ns n h g
 
 pub over_none : IsOver [] None
 over_none n c = let below = c.1 in absurd (omega arith)

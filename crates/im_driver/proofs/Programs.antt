@@ -10,7 +10,8 @@ use Rattle.im_typed.specs.Program as p
 use Rattle.im_typed.specs.declared.program.Prog.{Prog}
 use Rattle.im_typed.specs.ProgramOf.{program_of}
 use Rattle.im_rules.specs.Laws.{UnitOnce}
-use Rattle.im_rule_limits.specs.Limits.{Limit, of_parameters, of_size, of_statics, Exceeds, too_many_parameters, too_many_statics, IsWithinLimits}
+use Rattle.im_rule_limits.specs.Limits.{Limit, of_parameters, of_size, of_statics, parameter_counts, Exceeds, too_many_parameters, too_many_statics, IsWithinLimits}
+use Rattle.im_rule_limits.proofs.First.{first-among}
 use Rattle.im_plain_sizes.specs.Laws.{SizesLaw}
 use Rattle.im_spelt_sound.specs.Laws.{WordsLaw, SourcesLaw}
 use Rattle.im_check.specs.Checked.{IsChecked}
@@ -23,7 +24,10 @@ module _ (once : UnitOnce) (sizes : SizesLaw) where
   same_bytes u g h e f = ap (λ (z : p.Prog). static_bytes z.statics) f
 
   within : (u : t.Tree) (prog : Prog) → IsChecked u prog → IsWithinLimits u
-  within u prog h of_parameters n (too_many_parameters c over) = (let few = h.parameters n c in absurd (omega arith))
+  within u prog h of_parameters n (too_many_parameters first) =
+      let few = h.parameters n (first-among (parameter_counts u) n first) in
+      let over = first.over in
+      absurd (omega arith)
   within u prog h of_size n e = sizes u h.plain n e
   within u prog h of_statics n (too_many_statics {g} typed over) =
       let same = same_bytes u g (program_of prog) refl (once u g (program_of prog) typed h.typed) in

@@ -1,6 +1,6 @@
 -- What a unit is refused for beside the rules: a count over its limit. Counts are the parameters of one function, the bytes
 -- of one type, and the bytes of all statics.
-use Rattle.std.specs.Prelude.{◌≡◌, ℕ, suc, ◌+◌, ◌<◌, ◌≤◌, List, [], ◌∷◌, ◌++◌, length, Option, Some, Contains}
+use Rattle.std.specs.Prelude.{◌≡◌, ℕ, suc, ◌+◌, ◌<◌, ◌≤◌, List, [], ◌∷◌, ◌++◌, length, Option, Contains}
 use Rattle.im_word.specs.Words.{Name}
 use Rattle.im_ctree.specs.Tree as t
 use Rattle.im_ctype.specs.declared.member.MemberPlace.{MemberPlace}
@@ -44,6 +44,18 @@ counts_external (t.function_definition s d b) = counted_of (nearest d)
 abbrev pub parameter_counts : t.Tree → List ℕ
 parameter_counts t.no_externals = []
 parameter_counts (t.more_externals x xs) = counts_external x ++ parameter_counts xs
+
+-- the most parameters of a function
+abbrev pub parameter_limit : ℕ
+parameter_limit = 8
+
+-- the first of these counts that is over that limit
+pub record IsFirstOver (counts : List ℕ) (n : ℕ) : Type 0 where
+  pub before : List ℕ
+  pub behind : List ℕ
+  pub place : counts ≡ before ++ n ∷ behind
+  pub within : (m : ℕ) → Contains before m → m ≤ parameter_limit
+  pub over : parameter_limit < n
 
 -- sizes, of each type that a node names or completes. Of types in one another the innermost over the limit is counted, so an
 -- array's element and a struct's members are within it
@@ -131,7 +143,7 @@ pub data Limit : Type 0 where
 
 -- a count of the unit is over its limit
 pub data Exceeds (u : t.Tree) : Limit → ℕ → Type 0 where
-  too_many_parameters : {n : ℕ} → Contains (parameter_counts u) n → 8 < n → Exceeds u of_parameters n
+  too_many_parameters : {n : ℕ} → IsFirstOver (parameter_counts u) n → Exceeds u of_parameters n
   too_large : {n : ℕ} → FileSized (file_start u) (some_externals u) n → size_limit < n → Exceeds u of_size n
   too_many_statics : {g : Prog} → TypedUnit u g → 1048576 < static_bytes g.statics → Exceeds u of_statics (static_bytes g.statics)
 

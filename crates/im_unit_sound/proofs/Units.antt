@@ -20,6 +20,7 @@ use Rattle.im_rules.specs.Outline.{Outline, is_in, place_in}
 use Rattle.im_rules.specs.FileScope.{FilePlace, file_start, main_name, body_type, callee_named}
 use Rattle.im_rules.specs.TypedUnit.{FirstValues, program, TypedUnit, of_unit}
 use Rattle.im_rules.specs.UnitBreaks.{some_externals}
+use Rattle.im_rule_limits.proofs.First.{all-within}
 use Rattle.im_rule_limits.specs.Limits.{size_limit, parameter_counts, of_parameters, of_size, of_statics, too_many_parameters, too_large, too_many_statics, IsWithinLimits}
 use Rattle.im_rules_sound.specs.Sound.{gives, TakeTypes}
 use Rattle.im_expressions_sound.proofs.Types.{each-at}
@@ -97,7 +98,7 @@ pub units : (u : t.Tree) (g : Prog) → TypedUnit u g → IsWrittenUnit u → Is
 units u _ (of_unit {e = e} {gs = gs} {ks = ks} d m) w l =
     let start = start-fine u in
     let within : IsFileWithin (file_start u) (some_externals u) = λ k z. no-more k size_limit (λ lt. l of_size k (too_large z lt)) in
-    let few : (n : ℕ) → Contains (parameter_counts u) n → n ≤ 8 = λ n c. no-more n 8 (λ lt. l of_parameters n (too_many_parameters c lt)) in
+    let few : (n : ℕ) → Contains (parameter_counts u) n → n ≤ 8 = all-within (parameter_counts u) (λ n first. l of_parameters n (too_many_parameters first)) in
     let small : static_bytes (program e gs ks).statics ≤ 1048576 = no-more (static_bytes (program e gs ks).statics) 1048576 (λ lt. l of_statics (static_bytes (program e gs ks).statics) (too_many_statics (of_unit d m) lt)) in
     let all = externals-step d start w within in
     let headed = externals-headed d start w within in
