@@ -2,6 +2,7 @@
 #![tactic(auto)]
 
 mod reading;
+mod runs;
 #[cfg(test)]
 mod tests;
 

@@ -2,6 +2,7 @@ ghost use Rattle.std.specs.Prelude.{◌≡◌, ◌<◌, ◌^◌, length, MatchRe
 ghost use Rattle.im_lex.specs.Lexing.{line_at};
 ghost use Rattle.im_front.specs.Reading.{IsRead, IsTokenFault, AreTokens, of_token, line_of_token};
 
+use crate::runs::has_long_run;
 use im_ctree::Tree;
 use im_fault::{LineFault, Quantity, SourceFault};
 use im_lex::{LexFault, LexFaultKind, lex};
@@ -67,7 +68,8 @@ fn lexed(alloc: Global, source: &[u8]) -> Result<Vec<Token>, SourceFault>
 }
 
 /// The tokens and the tree of a source (C11 6.4, 6.9), or why it has none: its length is looked at
-/// first, then its tokens, their nesting, and the unit.
+/// first, then its tokens, their nesting, and the unit. A tree that would go further down than the
+/// stack surely has room for is answered by want of memory.
 pub fn read_source(alloc: Global, source: &[u8]) -> Result<Text, SourceFault>
     ensures { IsRead source.now result }
 {
@@ -78,6 +80,10 @@ pub fn read_source(alloc: Global, source: &[u8]) -> Result<Text, SourceFault>
         });
     }
     let tokens = lexed(alloc, source)?;
+    match has_long_run(alloc, source, &tokens) {
+        Ok(false) => {}
+        Ok(true) | Err(_) => return Err(SourceFault::OutOfMemory),
+    }
     match parse(alloc, source, &tokens) {
         Ok(tree) => Ok(Text { tokens, tree }),
         Err(ParseFault::Depth(number)) => Err(SourceFault::Line {

@@ -1,3 +1,4 @@
 mod declarations;
+mod runs;
 mod statements;
 mod texts;
