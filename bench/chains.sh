@@ -1,0 +1,43 @@
+#!/bin/sh
+# That no chain of casts, calls, indices, commas, suffixes, stars, operators or statements overflows a stack of 2 MiB: each
+# is built with 200, 1000 and 500000 links, and the status, which is never that of a signal, is told beside the time in
+# milliseconds. It is no part of the gate.
+set -eu
+top=$(CDPATH= cd -- "$(dirname -- "$0")/.." && pwd)
+program=$top/crates/intermit/out/intermit
+work=$(mktemp -d)
+trap 'rm -rf "$work"' EXIT
+ulimit -s 2048
+
+# front, link, end
+chain() {
+    name=$1
+    for links in 200 1000 500000; do
+        awk -v front="$2" -v link="$3" -v end="$4" -v links="$links" \
+            'BEGIN { printf "%s", front; for (i = 0; i < links; i++) printf "%s", link; printf "%s\n", end }' > "$work/chain.c"
+        before=$(date +%s%N)
+        status=0
+        "$program" build "$work/chain.c" "$work/chain.img" > "$work/out" 2> "$work/err" || status=$?
+        after=$(date +%s%N)
+        printf '%-12s %7s links: status %3s, %5s ms: %s\n' "$name" "$links" "$status" "$(((after - before) / 1000000))" "$(head -n 1 "$work/err" | cut -c 1-60)"
+        if [ "$status" -ge 128 ]; then
+            echo "$name: stopped by a signal"
+            exit 1
+        fi
+    done
+}
+
+chain casts 'int main(void) { return ' '(int)' '7; }'
+chain calls 'int f(int a) { return a; } int main(void) { return f(7)' '()' '; }'
+chain arguments 'int f(int a) { return a; } int main(void) { return f(7' ',7' '); }'
+chain indices 'int main(void) { int a = 0; return a' '[0]' '; }'
+chain commas 'int main(void) { return 7' ', 7' '; }'
+chain suffixes 'int a' '[1]' '; int main(void) { return 7; }'
+chain stars 'int main(void) { int ' '*' 'a; return 7; }'
+chain minus 'int main(void) { return ' '- ' '7; }'
+chain sums 'int main(void) { return 7' '+7' '; }'
+chain else 'int main(void) { ' 'if (0) ; else ' '; return 7; }'
+chain blocks 'int main(void) { ' '{' '; return 7; }'
+chain statements 'int main(void) { ' ';' ' return 7; }'
+chain names 'int a' ', a' '; int main(void) { return 7; }'
+chain enumerators 'enum { a' ', b' '}; int main(void) { return 7; }'
