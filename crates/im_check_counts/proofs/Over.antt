@@ -1,11 +1,10 @@
 -- Counts of a unit, one behind the other.
-use Rattle.std.proofs.Common.{◌≡◌, ℕ, ◌≤◌, List, [], ◌∷◌, ◌++◌, length, Option, Some, None, nat_eq, refl, sym, ap, arith, ◌+◌, ◌<◌, drop, get_or, ◌∙◌}
+use Rattle.std.proofs.Common.{◌≡◌, ℕ, List, [], ◌∷◌, ◌++◌, length, Option, Some, None, nat_eq, refl, sym, ap, arith, ◌+◌, ◌<◌, drop, get_or, ◌∙◌}
 use Rattle.std.proofs.lemmas.List.{drop_more}
-use Rattle.std.specs.List.{Contains}
 use Rattle.std.proofs.lemmas.Bool.{ne_eqb}
 use Rattle.im_ctree.specs.declared.declarator.Parameter as pm
 use Rattle.im_ctype.specs.Types.{no_types, same_types}
-use Rattle.im_rule_limits.specs.Limits.{count_parameters}
+use Rattle.im_rule_limits.specs.Limits.{count_parameters, parameter_limit, IsFirstOver}
 use Rattle.im_rule_limits.proofs.First.{first-here, first-behind, within-both}
 use Rattle.im_terms.specs.declared.plain.PlainType.{PlainType}
 use Rattle.im_names.specs.Shape.{types_in}
@@ -19,6 +18,16 @@ none_told (p ∷ ps) = ne_eqb (length (p ∷ ps)) 0 (λ e. omega arith)
 pub count_list : (ps : List pm.Parameter) → count_parameters (parameters_from ps) ≡ length ps
 count_list [] = refl
 count_list (pm.Parameter' s d ∷ ps) = omega (arith, count_list ps)
+
+pub one_over : (n : ℕ) → parameter_limit < n → IsFirstOver (n ∷ []) n
+one_over n h =
+    record {
+      before = [];
+      behind = [];
+      place = refl;
+      within = λ m c. (let below = c.1 in absurd (omega arith));
+      over = h;
+    }
 
 pub over_here : (ms ns : List ℕ) (n : ℕ) → IsOver ms (Some n) → IsOver (ms ++ ns) (Some n)
 over_here ms ns n h = first-here ms ns n h

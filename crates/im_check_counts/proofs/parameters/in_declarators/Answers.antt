@@ -1,5 +1,5 @@
-use Rattle.std.proofs.Common.{◌+◌, ◌∷◌, Some, None, List, drop, ap, sym, subst, ◌∙◌}
-use Rattle.std.proofs.lemmas.List.{drop_all, drop_more}
+use Rattle.std.proofs.Common.{◌+◌, Some, None, List, drop, sym, subst}
+use Rattle.std.proofs.lemmas.List.{drop_all}
 use Rattle.im_ctree.specs.Shape.{declarator_of, init_declarators_of}
 use Rattle.im_ctree.specs.declared.declaration.InitDeclarator.{InitDeclarator}
 use Rattle.im_rules.specs.Outline.{nearest}

@@ -1,5 +1,5 @@
-use Rattle.std.proofs.Common.{◌+◌, ◌∷◌, Some, None, List, drop, ap, sym, subst, ◌∙◌}
-use Rattle.std.proofs.lemmas.List.{drop_all, drop_more}
+use Rattle.std.proofs.Common.{◌+◌, Some, None, List, drop, sym, subst}
+use Rattle.std.proofs.lemmas.List.{drop_all}
 use Rattle.im_ctree.specs.Shape.{external_of, externals_of}
 use Rattle.im_ctree.specs.declared.unit.External.{External}
 use Rattle.im_rule_limits.specs.Limits.{counts_external, parameter_counts}
