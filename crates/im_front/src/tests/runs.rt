@@ -1,47 +1,72 @@
 use crate::read_source;
 use im_fault::SourceFault;
+use im_num::NoMemory;
 use std::alloc::Global;
-use std::process::Abort;
 use std::test::Fail;
 
 /// A text with so many links in one statement.
-fn chain(rt: &HostRuntime, front: &[u8], link: &[u8], end: &[u8], links: usize) -> Vec<u8> {
-    let mut text = Vec::from_slice(rt.alloc(), front).expect(rt, "memory");
+fn chain(
+    alloc: Global,
+    front: &[u8],
+    link: &[u8],
+    end: &[u8],
+    links: usize,
+) -> Result<Vec<u8>, NoMemory> {
+    let mut text = Vec::from_slice(alloc, front)?;
     for _ in 0..links {
-        text.extend_from_slice(link).expect(rt, "memory");
+        text.extend_from_slice(link)?;
     }
-    text.extend_from_slice(end).expect(rt, "memory");
-    text
+    text.extend_from_slice(end)?;
+    Ok(text)
 }
 
 /// Whether such a text is read, or refused for want of memory.
-fn is_read(alloc: Global, text: &[u8]) -> Option<bool> {
-    match read_source(alloc, text) {
-        Ok(_) => Some(true),
-        Err(SourceFault::OutOfMemory) => Some(false),
-        Err(_) => None,
+fn is_read(
+    alloc: Global,
+    front: &[u8],
+    link: &[u8],
+    end: &[u8],
+    links: usize,
+) -> Result<Option<bool>, NoMemory> {
+    let text = chain(alloc, front, link, end, links)?;
+    match read_source(alloc, &text) {
+        Ok(_) => Ok(Some(true)),
+        Err(SourceFault::OutOfMemory) => Ok(Some(false)),
+        Err(_) => Ok(None),
     }
 }
 
 #[test]
 fn chains_are_read_or_want_memory(rt: HostRuntime) -> Result<(), Fail> {
     let alloc = rt.alloc();
-    let casts = chain(&rt, b"int main(void){return ", b"(int)", b"7;}", 1000);
-    assert_eq!(rt; is_read(alloc, &casts), Some(true));
-    let casts = chain(&rt, b"int main(void){return ", b"(int)", b"7;}", 500000);
-    assert_eq!(rt; is_read(alloc, &casts), Some(false));
-    let calls = chain(&rt, b"int main(void){return f", b"()", b";}", 500000);
-    assert_eq!(rt; is_read(alloc, &calls), Some(false));
-    let indices = chain(&rt, b"int main(void){return a", b"[0]", b";}", 500000);
-    assert_eq!(rt; is_read(alloc, &indices), Some(false));
-    let commas = chain(&rt, b"int main(void){return 1", b",2", b";}", 500000);
-    assert_eq!(rt; is_read(alloc, &commas), Some(false));
-    let suffixes = chain(&rt, b"int a", b"[1]", b";", 500000);
-    assert_eq!(rt; is_read(alloc, &suffixes), Some(false));
+    let main = b"int main(void){return ";
+    assert_eq!(rt;
+        is_read(alloc, main, b"(int)", b"7;}", 1000),
+        Ok(Some(true))
+    );
+    assert_eq!(rt;
+        is_read(alloc, main, b"(int)", b"7;}", 100000),
+        Ok(Some(false))
+    );
+    let call = b"int main(void){return f";
+    assert_eq!(rt; is_read(alloc, call, b"()", b";}", 100000), Ok(Some(false)));
+    assert_eq!(rt;
+        is_read(alloc, call, b"[0]", b";}", 100000),
+        Ok(Some(false))
+    );
+    assert_eq!(rt; is_read(alloc, call, b",2", b";}", 100000), Ok(Some(false)));
+    assert_eq!(rt;
+        is_read(alloc, b"int a", b"[1]", b";", 100000),
+        Ok(Some(false))
+    );
     // a list isn't gone down
-    let table = chain(&rt, b"int a[]={0", b",1", b"};", 500000);
-    assert_eq!(rt; is_read(alloc, &table), Some(true));
-    let names = chain(&rt, b"enum e{a", b",b", b"};", 5000);
-    assert_eq!(rt; is_read(alloc, &names), Some(true));
+    assert_eq!(rt;
+        is_read(alloc, b"int a[]={0", b",1", b"};", 20000),
+        Ok(Some(true))
+    );
+    assert_eq!(rt;
+        is_read(alloc, b"enum e{a", b",b", b"};", 5000),
+        Ok(Some(true))
+    );
     Ok(())
 }
