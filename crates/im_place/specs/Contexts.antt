@@ -1,0 +1,15 @@
+-- The context of the definitions that stands at a place.
+use Rattle.std.specs.Prelude.{◌+◌, List, length}
+use Rattle.im_word.specs.Words.{Name}
+use Rattle.im_ctype.specs.Table.{structs_of}
+use Rattle.im_rules.specs.Context.{Context}
+use Rattle.im_scopes.specs.Shape.{scopes_of}
+use Rattle.im_unit_outline.specs.Outlines.{outline_in}
+use Rattle.im_place.specs.declared.place.Place.{Place}
+
+abbrev pub context_of : Place → Context
+context_of p = record { scopes = scopes_of p.scope; known = structs_of p.structs; next_string = p.next_string; unit = outline_in p.outline }
+
+-- the place behind these string literals
+abbrev pub behind_strings : List Name → Place → Place
+behind_strings ss p = record p { next_string = p.next_string + length ss }
