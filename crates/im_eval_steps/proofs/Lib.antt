@@ -1,0 +1,10 @@
+pub mod Arguments
+pub mod Calls
+pub mod Changing
+pub mod Entering
+pub mod Going
+pub mod Orders
+pub mod Paying
+pub mod Pieces
+pub mod Putting
+pub mod Using

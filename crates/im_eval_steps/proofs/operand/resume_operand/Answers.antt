@@ -1,0 +1,31 @@
+use Rattle.std.proofs.Common.{refl}
+use Rattle.std.proofs.lemmas.Result.{err_from_is_err_and}
+use Rattle.im_eval_store.specs.Shown.{shown}
+use Rattle.im_eval_machine.specs.Settings.{setting_of}
+use Rattle.im_eval_machine.specs.Shown.{one}
+use Rattle.im_eval_machine.specs.declared.found.Found.TheVariants.{One}
+use Rattle.im_eval_tasks.specs.Stack.{Valued}
+use Rattle.im_eval_tasks.specs.declared.steps.Next.TheVariants.{Just}
+use Rattle.im_eval_tasks.specs.declared.steps.Now.TheVariants.{Value}
+use Rattle.im_eval_steps.specs.Going.{changes_to, follows, types_of}
+use Rattle.im_eval_steps.proofs.Going.{went}
+use Rattle.im_eval_steps.proofs.Putting.{put-goes}
+use Rattle.im_eval_steps.proofs.operand.resume_operand.Goals as goal
+
+pub returns-in_err-onward-in-Left-clause-goes : goal.returns-in_err-onward-in-Left-clause-goes
+returns-in_err-onward-in-Left-clause-goes c =
+    let p = err_from_is_err_and c.from_residual-in_err-onward-in-Left.result c.from_residual-in_err-onward-in-Left.ensures.1 in
+    let code = c.args.code in
+    rw (p.1, p.2, c.in-Left.is) (λ n here ts s i. c.in_err-onward-in-Left.ensures (types_of code) (setting_of code) n here ts s)
+
+pub returns-in_ok-written-in-Putchar-clause-goes : goal.returns-in_ok-written-in-Putchar-clause-goes
+returns-in_ok-written-in-Putchar-clause-goes c =
+    rw c.in-Putchar.is (λ n here ts s i.
+    put-goes c.args.code n here ts s (shown c.args.value) c.in_ok-number-in-Putchar.number.value c.in_ok-number-in-Putchar.ensures c.in_ok-written-in-Putchar.written c.put_char.new.machine (c.in_ok-written-in-Putchar.ensures.ends s i))
+
+pub returns-in_ok-after-in-Change-clause-goes : goal.returns-in_ok-after-in-Change-clause-goes
+returns-in_ok-after-in-Change-clause-goes c =
+    let w = c.in-Change in
+    let after = c.in_ok-after-in-Change.after in
+    rw w.is (λ n here ts s i.
+    went c.args.code n here ts one after (Just (Value (One after))) c.change_to.new.machine (changes_to w.change (shown w.before) (shown w.place) (shown c.args.value) s) (λ vs. follows c.args.code n here ts (Valued vs)) (c.in_ok-after-in-Change.ensures.ends s i) (λ t. refl))

@@ -1,0 +1,89 @@
+use Rattle.std.proofs.Common.{refl}
+use Rattle.std.proofs.lemmas.Result.{err_from_is_err_and}
+use Rattle.im_store.specs.Objects as o
+use Rattle.im_typed.specs.Program.{Scalar}
+use Rattle.im_typed.specs.ProgramOf.{access_of}
+use Rattle.im_typed.specs.Meaning.{value_of}
+use Rattle.im_typed.specs.Runs.{◌>>=◌, give, in_store}
+use Rattle.im_typed.specs.Values.{changed, changed_kind, read_at, scalar, update, used, value_in, write_at}
+use Rattle.std.specs.Prelude.{pos, ℤ, ◌∷◌, []}
+use Rattle.im_eval_store.specs.Shown.{shown}
+use Rattle.im_eval_machine.specs.Settings.{setting_of}
+use Rattle.im_eval_machine.specs.Shown.{one, values}
+use Rattle.im_eval_machine.specs.declared.found.Found.TheVariants.{One}
+use Rattle.im_eval_machine.proofs.Steps.{halts-on}
+use Rattle.im_eval_tasks.specs.Stack.{Valued, in_activation}
+use Rattle.im_eval_tasks.specs.Tasks.{operand_in}
+use Rattle.im_eval_tasks.specs.declared.steps.Next.TheVariants.{Just}
+use Rattle.im_eval_tasks.specs.declared.steps.Now.TheVariants.{Value}
+use Rattle.im_eval_tasks.proofs.Binds.{assoc}
+use Rattle.im_eval_steps.specs.Going.{follows, types_of}
+use Rattle.im_eval_steps.proofs.Going.{seen, unfound, went}
+use Rattle.im_eval_steps.proofs.Orders.{amount-comes}
+use Rattle.im_eval_steps.proofs.place.resume_at.Goals as goal
+
+pub returns-in_err-found-in-Read-clause-goes : goal.returns-in_err-found-in-Read-clause-goes
+returns-in_err-found-in-Read-clause-goes c =
+    let p = err_from_is_err_and c.from_residual.result c.from_residual.ensures.1 in
+    let code = c.args.code in
+    rw (p.1, p.2, c.in-Read.is) (λ n here ts s i.
+    unfound values c.in_err-found-in-Read.field-0.0 c.args.machine.now s (read_at (access_of (types_of code) c.in-Read.access) (shown c.args.place) s) (λ vs. follows code n here ts (Valued vs)) (c.in_err-found-in-Read.ensures s i))
+
+pub returns-in_ok-found-in-Read-clause-goes : goal.returns-in_ok-found-in-Read-clause-goes
+returns-in_ok-found-in-Read-clause-goes c =
+    let code = c.args.code in
+    let found = c.in_ok-found-in-Read.found in
+    rw c.in-Read.is (λ n here ts s i.
+    seen code n here ts values found (Just (Value found)) c.args.machine.now s (read_at (access_of (types_of code) c.in-Read.access) (shown c.args.place) s) (λ vs. follows code n here ts (Valued vs)) i (c.in_ok-found-in-Read.ensures s i) refl)
+
+pub returns-in-Assign-clause-goes : goal.returns-in-Assign-clause-goes
+returns-in-Assign-clause-goes c =
+    let code = c.args.code in
+    let access = access_of (types_of code) c.in-Assign.access in
+    rw (c.in-Assign.is, c.deref.ensures) (λ n here ts s i. (
+      s,
+      i,
+      assoc (value_of (in_activation (types_of code) (setting_of code) n here) (operand_in (types_of code) c.in-Assign.value) s)
+          (λ vs. used vs >>= (λ _. write_at access (shown c.args.place) vs)) (λ vs. follows code n here ts (Valued vs)),
+    ))
+
+pub returns-in_err-before-in-Update-clause-goes : goal.returns-in_err-before-in-Update-clause-goes
+returns-in_err-before-in-Update-clause-goes c =
+    let p = err_from_is_err_and c.from_residual-in_err-before-in-Update.result c.from_residual-in_err-before-in-Update.ensures.1 in
+    let code = c.args.code in
+    let by = c.in-Update.change in
+    let at = shown c.args.place in
+    rw (p.1, p.2, c.in-Update.is) (λ n here ts s i.
+    halts-on c.in_err-before-in-Update.field-0.0 c.args.machine.now _ (λ vs. follows code n here ts (Valued vs))
+    (unfound shown c.in_err-before-in-Update.field-0.0 c.args.machine.now s (value_in (read_at (Scalar (changed_kind by)) at) s) _ (c.in_err-before-in-Update.ensures s i)))
+
+pub returns-in_ok-before-in-Update-clause-goes : goal.returns-in_ok-before-in-Update-clause-goes
+returns-in_ok-before-in-Update-clause-goes c =
+    let code = c.args.code in
+    let by = c.in-Update.change in
+    let at = shown c.args.place in
+    let before = shown c.in_ok-before-in-Update.before in
+    rw (c.in-Update.is, c.deref-in-Update.ensures) (λ n here ts s i. (
+      s,
+      i,
+      amount-comes (value_in (read_at (Scalar (changed_kind by)) at) s) before s
+          (value_of (in_activation (types_of code) (setting_of code) n here) (operand_in (types_of code) c.in-Update.by))
+          (λ (b : o.Value) (z : ℤ). in_store (changed by b z) >>= (λ w. write_at (Scalar (changed_kind by)) at (w ∷ []) >>= (λ _. scalar w)))
+          (λ vs. follows code n here ts (Valued vs)) (c.in_ok-before-in-Update.ensures s i),
+    ))
+
+pub returns-in_err-value-in-Increment-clause-goes : goal.returns-in_err-value-in-Increment-clause-goes
+returns-in_err-value-in-Increment-clause-goes c =
+    let p = err_from_is_err_and c.from_residual-in_err-value-in-Increment.result c.from_residual-in_err-value-in-Increment.ensures.1 in
+    let code = c.args.code in
+    let w = c.in-Increment in
+    rw (p.1, p.2, w.is) (λ n here ts s i.
+    halts-on c.in_err-value-in-Increment.field-0.0 c.increment.new.machine (update w.change w.old (give (pos 1)) (shown c.args.place) s) (λ vs. follows code n here ts (Valued vs)) (c.in_err-value-in-Increment.ensures.ends s i))
+
+pub returns-in_ok-value-in-Increment-clause-goes : goal.returns-in_ok-value-in-Increment-clause-goes
+returns-in_ok-value-in-Increment-clause-goes c =
+    let code = c.args.code in
+    let w = c.in-Increment in
+    let value = c.in_ok-value-in-Increment.value in
+    rw w.is (λ n here ts s i.
+    went code n here ts one value (Just (Value (One value))) c.increment.new.machine (update w.change w.old (give (pos 1)) (shown c.args.place) s) (λ vs. follows code n here ts (Valued vs)) (c.in_ok-value-in-Increment.ensures.ends s i) (λ t. refl))
