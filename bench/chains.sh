@@ -1,18 +1,18 @@
 #!/bin/sh
-# That no chain of casts, calls, indices, commas, suffixes, stars, operators or statements overflows a stack of 2 MiB: each
-# is built with 200, 1000 and 500000 links, and the status, which is never that of a signal, is told beside the time in
+# That no chain of casts, calls, indices, commas, suffixes, stars, operators or statements overflows a stack of 4 MiB: each
+# is built with 200, 500 and 500000 links, and the status, which is never that of a signal, is told beside the time in
 # milliseconds. It is no part of the gate.
 set -eu
 top=$(CDPATH= cd -- "$(dirname -- "$0")/.." && pwd)
 program=$top/crates/intermit/out/intermit
 work=$(mktemp -d)
 trap 'rm -rf "$work"' EXIT
-ulimit -s 2048
+ulimit -s 4096
 
 # front, link, end
 chain() {
     name=$1
-    for links in 200 1000 500000; do
+    for links in 200 500 500000; do
         awk -v front="$2" -v link="$3" -v end="$4" -v links="$links" \
             'BEGIN { printf "%s", front; for (i = 0; i < links; i++) printf "%s", link; printf "%s\n", end }' > "$work/chain.c"
         before=$(date +%s%N)

@@ -6,8 +6,8 @@ use im_tok::{Token, TokenKind};
 use std::alloc::Global;
 
 /// The most such links from one statement, declaration or initialiser to the next. A tree of more
-/// might go deeper than a stack of 2 MiB.
-const LINKS: usize = 1024;
+/// might go deeper than a stack of 4 MiB allows.
+const LINKS: usize = 512;
 
 /// What braces stand around.
 #[derive(Clone, Copy, PartialEq, Eq)]

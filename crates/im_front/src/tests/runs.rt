@@ -40,10 +40,7 @@ fn is_read(
 fn chains_are_read_or_want_memory(rt: HostRuntime) -> Result<(), Fail> {
     let alloc = rt.alloc();
     let main = b"int main(void){return ";
-    assert_eq!(rt;
-        is_read(alloc, main, b"(int)", b"7;}", 1000),
-        Ok(Some(true))
-    );
+    assert_eq!(rt; is_read(alloc, main, b"(int)", b"7;}", 500), Ok(Some(true)));
     assert_eq!(rt;
         is_read(alloc, main, b"(int)", b"7;}", 100000),
         Ok(Some(false))
