@@ -1,0 +1,3 @@
+pub mod Alone
+pub mod Falls
+pub mod Texts
