@@ -11,8 +11,6 @@ use Rattle.im_placed.specs.Apart.{AllApart}
 use Rattle.im_force.specs.Laws.{ForceKeepsLaw}
 use Rattle.im_alloc_laws.specs.Laws.{PlacedCodeLaw}
 use Rattle.im_recut.specs.Laws.{RecutKeepsLaw}
-use Rattle.im_selecting.specs.Given.{Given}
-use Rattle.im_selecting.specs.Selects.{IsSelection}
 use Rattle.im_function_bound.specs.Bound.{IsMadeOf, FunctionBoundLaw}
 use Rattle.im_function_bound.proofs.Rows.{same_at, placed_at, placed_cost_at}
 
