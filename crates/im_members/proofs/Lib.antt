@@ -1,0 +1,4 @@
+pub mod Named
+pub mod Walk
+pub mod Rule
+pub mod Made

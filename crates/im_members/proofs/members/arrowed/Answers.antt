@@ -1,0 +1,20 @@
+use Rattle.std.proofs.Common.{◌∷◌, [], ap, ◌∙◌, subst}
+use Rattle.im_ctype.specs.Table.{structs_of}
+use Rattle.im_rules.specs.Conversions.{arrowed}
+use Rattle.im_rules.specs.Demands.{arrow_asks, asks}
+use Rattle.im_rules.specs.Rules.{rule_21_arrow}
+use Rattle.im_rules.specs.Terms as r
+use Rattle.im_rules.specs.Terms.{value, value_of, operand_of}
+use Rattle.im_operands.specs.Answers.{IsMade}
+use Rattle.im_operands.specs.Shape.{term_in}
+use Rattle.im_members.proofs.Rule.{as-value}
+use Rattle.im_members.proofs.members.arrowed.Goals as goal
+
+pub returns : goal.returns
+returns c =
+    let t = c.args.table.now in
+    let y = term_in t c.args.x in
+    let x = c.args.name.now in
+    let v = value_of (structs_of t) y in
+    let e = subst (λ (z : r.Value). IsMade t (arrow_asks (structs_of t) (value z) x) (arrowed (structs_of t) z x) c.args.at c.pointer_member.result) c.in_ok-pointer.ensures c.pointer_member.ensures in
+    subst (λ b. IsMade t (asks 21 b ∷ []) (arrowed (structs_of t) v x) c.args.at c.pointer_member.result) (as-value (structs_of t) y x) e
