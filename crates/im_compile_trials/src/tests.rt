@@ -1,0 +1,159 @@
+use crate::functions::FUNCTIONS;
+use crate::kinds::KINDS;
+use crate::operators::OPERATORS;
+use crate::row::Row;
+use crate::rule_rows::{DECLARATIONS, EXPRESSIONS, STATEMENTS as STATEMENT_RULES, UNITS};
+use crate::rules::{Rules, keep_rules, name_lines};
+use crate::sequences::SEQUENCES;
+use crate::statements::STATEMENTS;
+use crate::statics::STATICS;
+use im_driver::{Options, compile};
+use im_emu::Machine;
+use im_image::Image;
+use im_mem::FlatMem;
+use im_num::{CellValue, Var};
+use im_power::Period;
+use im_rv::Went;
+use std::alloc::Global;
+use std::process::Abort;
+use std::test::Fail;
+
+/// At how many places power is lost in turn.
+const LOSSES: u32 = 12;
+
+// So many instructions, so often.
+fn period(n: u32, count: u32, mask: u32) -> Period {
+    Period {
+        n,
+        junk: 0xa5a5_a5a5,
+        count,
+        mask,
+    }
+}
+
+fn loaded(alloc: Global, image: &Image, row: &Row) -> Result<Machine<FlatMem>, Fail> {
+    let machine = Machine::load(alloc, image, row.input)
+        .ok()
+        .ok_or("a machine")?;
+    Ok(machine)
+}
+
+fn holds(var: &Var, wanted: &(&str, i128)) -> bool {
+    let (name, number) = wanted;
+    var.name.as_slice() == name.as_bytes()
+        && var.cells.as_slice() == [CellValue::Number(*number)].as_slice()
+}
+
+// Whether the statics hold what they should.
+fn hold(vars: &[Var], wanted: &[(&str, i128)]) -> bool {
+    if vars.len() != wanted.len() {
+        return false;
+    }
+    for (var, static_wanted) in vars.iter().zip(wanted) {
+        if !holds(var, static_wanted) {
+            return false;
+        }
+    }
+    true
+}
+
+// Sees that a run has ended as C says.
+fn is_right(
+    rt: &impl Abort,
+    alloc: Global,
+    machine: &Machine<FlatMem>,
+    row: &Row,
+) -> Result<(), Fail> {
+    let what = row.what;
+    let after = machine.instructions();
+    assert_eq!(rt;
+        machine.output(),
+        row.output,
+        "{what}, {after} instructions"
+    );
+    assert_eq!(rt;
+        machine.status(),
+        row.status,
+        "{what}, {after} instructions"
+    );
+    assert!(rt;
+        machine.went() == Went::Halted,
+        "{what}, {after} instructions"
+    );
+    assert_eq!(rt; machine.reason(), 0);
+    let vars = machine.vars(alloc)?;
+    assert!(rt;
+        hold(&vars, row.statics),
+        "statics, {what}, {after} instructions"
+    );
+    Ok(())
+}
+
+// Power is lost once, at places spread over the run.
+fn loses_power_once(
+    rt: &impl Abort,
+    alloc: Global,
+    image: &Image,
+    whole: u64,
+    row: &Row,
+) -> Result<(), Fail> {
+    let whole = u32::try_from(whole).ok().ok_or("a short run")?;
+    for place in 0..LOSSES {
+        let n = (whole / LOSSES)
+            .saturating_mul(place)
+            .saturating_add(place % 3);
+        let mut machine = loaded(alloc, image, row)?;
+        machine.power(period(n, 1, n % 16));
+        machine.power(period(10_000_000, 1, 0));
+        is_right(rt, alloc, &machine, row)?;
+    }
+    Ok(())
+}
+
+// With power all the time, in periods as long as the longest gap, and with power lost once.
+fn runs(rt: &impl Abort, alloc: Global, row: &Row) -> Result<(), Fail> {
+    let options = Options {
+        stack: 65536,
+        out_cap: 64,
+    };
+    let built = compile(alloc, row.source, options).ok().ok_or(row.what)?;
+    let mut whole = loaded(alloc, &built.image, row)?;
+    whole.power(period(10_000_000, 1, 0));
+    is_right(rt, alloc, &whole, row)?;
+    let mut weak = loaded(alloc, &built.image, row)?;
+    weak.power(period(built.gap, 1_000_000, 0));
+    is_right(rt, alloc, &weak, row)?;
+    loses_power_once(rt, alloc, &built.image, whole.instructions(), row)
+}
+
+fn run_all(rt: &impl Abort, alloc: Global, rows: &[Row]) -> Result<(), Fail> {
+    for row in rows {
+        runs(rt, alloc, row)?;
+    }
+    Ok(())
+}
+
+#[test]
+fn programs_run_as_c_says(rt: HostRuntime) -> Result<(), Fail> {
+    let alloc = rt.alloc();
+    run_all(&rt, alloc, &OPERATORS)?;
+    run_all(&rt, alloc, &KINDS)?;
+    run_all(&rt, alloc, &SEQUENCES)?;
+    run_all(&rt, alloc, &STATEMENTS)?;
+    run_all(&rt, alloc, &FUNCTIONS)?;
+    run_all(&rt, alloc, &STATICS)
+}
+
+fn hold_all(rt: &impl Abort, alloc: Global, rules: &Rules) -> Result<(), Fail> {
+    name_lines(rt, alloc, rules)?;
+    keep_rules(rt, alloc, rules)
+}
+
+#[test]
+fn sources_that_break_a_rule_are_refused(rt: HostRuntime) -> Result<(), Fail> {
+    let alloc = rt.alloc();
+    hold_all(&rt, alloc, &DECLARATIONS)?;
+    hold_all(&rt, alloc, &UNITS)?;
+    hold_all(&rt, alloc, &EXPRESSIONS)?;
+    hold_all(&rt, alloc, &STATEMENT_RULES)
+}
