@@ -1,5 +1,5 @@
 -- A walk over a struct's members: what those that it has passed leave to those that are left.
-use Rattle.std.proofs.Common.{◌≡◌, ℕ, zero, suc, ◌+◌, ◌<◌, ◌≤◌, Bool, true, false, ◌||◌, List, [], ◌∷◌, length, drop, get_or, refl, sym, ap, ◌∙◌, subst, arith}
+use Rattle.std.proofs.Common.{◌≡◌, ℕ, ◌+◌, ◌<◌, ◌≤◌, Bool, true, false, ◌||◌, List, ◌∷◌, length, drop, get_or, refl, sym, ap, ◌∙◌, subst}
 use Rattle.std.specs.Prelude.{if◌then◌else◌}
 use Rattle.std.proofs.lemmas.List.{drop_more, drop_all, length-map}
 use Rattle.std.proofs.lemmas.Option.{slice_get-get_or, get_or_from_slice_get}
@@ -8,13 +8,12 @@ use Rattle.im_ctype.specs.declared.member.Member as rust
 use Rattle.im_ctype.specs.declared.member.MemberPlace.{MemberPlace}
 use Rattle.im_ctype.specs.Layout.{layouts, empty_layout}
 use Rattle.im_ctype.specs.Members.{places}
-use Rattle.im_ctype.specs.Table.{Table, IsIn, members_at, members_in, member_in, type_at, types_of, structs_of}
+use Rattle.im_ctype.specs.Table.{Table, IsIn, members_at, members_in, member_in, types_of, structs_of}
 use Rattle.im_ctype.specs.Types.{CType, Member, members_of, struct}
 use Rattle.im_ctype.proofs.Steps.{length-places, plain-members}
 use Rattle.im_rules.specs.Conversions.{member_among, place_among}
 use Rattle.im_rules.specs.TypeTests.{same_name, has_member}
 use Rattle.im_members.specs.Found.{IsFound}
-use Rattle.im_members.specs.declared.found.Found.{Found}
 
 -- the rest of the members tells of that name what all of them tell
 pub record Left (types : List CType) (x : Name) (ms : List rust.Member) (ps : List MemberPlace) (i : ℕ) : Type 0 where

@@ -1,4 +1,4 @@
-use Rattle.std.proofs.Common.{◌≡◌, ◌<◌, ◌∙◌, sym, subst, length, get_or, arith}
+use Rattle.std.proofs.Common.{◌<◌, ◌∙◌, sym, subst, length, get_or, arith}
 use Rattle.im_ctype.specs.declared.member.Member as rust
 use Rattle.im_ctype.specs.declared.member.MemberPlace.{MemberPlace}
 use Rattle.im_ctype.specs.Table.{IsIn, types_of}

@@ -1,10 +1,9 @@
-use Rattle.std.proofs.Common.{◌∷◌, [], ap, ◌∙◌, subst}
+use Rattle.std.proofs.Common.{◌∷◌, [], subst}
 use Rattle.im_ctype.specs.Table.{structs_of}
 use Rattle.im_rules.specs.Conversions.{arrowed}
 use Rattle.im_rules.specs.Demands.{arrow_asks, asks}
-use Rattle.im_rules.specs.Rules.{rule_21_arrow}
 use Rattle.im_rules.specs.Terms as r
-use Rattle.im_rules.specs.Terms.{value, value_of, operand_of}
+use Rattle.im_rules.specs.Terms.{value, value_of}
 use Rattle.im_operands.specs.Answers.{IsMade}
 use Rattle.im_operands.specs.Shape.{term_in}
 use Rattle.im_members.proofs.Rule.{as-value}

@@ -1,13 +1,11 @@
-use Rattle.std.proofs.Common.{◌∙◌}
 use Rattle.im_ctype.specs.Table.{structs_of}
 use Rattle.im_ctype.specs.Types.{pointer}
 use Rattle.im_rules.specs.Rules.{rule_21_arrow}
 use Rattle.im_rules.specs.Terms.{value, operand_of}
-use Rattle.im_typed.specs.Program.{Target}
 use Rattle.im_typed.specs.ProgramOf.{expr_of}
 use Rattle.im_types.specs.Shape.{type_of}
-use Rattle.im_members.proofs.Made.{at_place, not_met}
-use Rattle.im_members.proofs.Rule.{arrow-has, arrow-none}
+use Rattle.im_members.proofs.Made.{not_met}
+use Rattle.im_members.proofs.Rule.{arrow-none}
 use Rattle.im_members.proofs.members.target_member.Goals as goal
 
 pub returns-in-None : goal.returns-in-None
