@@ -1,0 +1,10 @@
+//! From a typed program and an input to what the program does.
+#![tactic(auto)]
+
+mod program;
+mod resume;
+mod run;
+mod step;
+
+pub use im_eval_machine::{Outcome, Reason};
+pub use program::eval;
