@@ -1,18 +1,17 @@
 -- The part of one function.
-use Rattle.std.proofs.Common.{◌≡◌, ◌≤◌, ◌<◌, inl, inr, ℕ, ◌+◌, ◌*◌, List, length, map, Some, refl, sym, ap, ◌∙◌, subst, arith}
+use Rattle.std.proofs.Common.{◌≡◌, ◌≤◌, inl, inr, ℕ, ◌+◌, ◌*◌, List, length, Some, refl, sym, ap, ◌∙◌, arith}
 use Rattle.std.specs.Prelude.{slice_get}
 use Rattle.std.proofs.lemmas.List.{length-map}
 use Rattle.std.proofs.lemmas.Option.{slice_get_within, slice_get_cases}
 use Rattle.im_rv.specs.declared.code.Line.{Line}
 use Rattle.im_rv.specs.declared.code.Part.{Part}
-use Rattle.im_rv.specs.Lines.{CodeLine, code_line, code_lines}
+use Rattle.im_rv.specs.Lines.{CodeLine, code_line}
 use Rattle.im_link.specs.Parts.{IsPart, part_size}
 use Rattle.im_typed.specs.declared.program.Func.{Func as TypedFunction}
 use Rattle.im_typed.specs.declared.program.Prog.{Prog}
 use Rattle.im_typed.specs.ProgramOf.{func_of, program_of}
 use Rattle.im_typed.specs.Program.{Func}
 use Rattle.im_typed.specs.Counts.{func_nodes}
-use Rattle.im_block.specs.declared.unit.Function.{Function}
 use Rattle.im_function_bound.specs.Bound.{IsMadeOf, FunctionBoundLaw}
 use Rattle.im_linked.specs.Program.{part_of, given_at, HasCode}
 use Rattle.im_compile.specs.declared.options.Options.{Options}

@@ -5,7 +5,7 @@ use Rattle.im_typed.specs.Program.{Prog, Func}
 use Rattle.im_typed.specs.Counts.{func_nodes}
 use Rattle.im_block.specs.declared.unit.Function.{Function}
 use Rattle.im_block.specs.declared.unit.Unit.{Unit as Code}
-use Rattle.im_block.specs.Shape.{function_cost, placed_cost}
+use Rattle.im_block.specs.Shape.{placed_cost}
 use Rattle.im_block_laws.specs.Laws.{CutsKeepCodeLaw}
 use Rattle.im_placed.specs.Apart.{AllApart}
 use Rattle.im_force.specs.Laws.{ForceKeepsLaw}
