@@ -4,66 +4,100 @@ use im_num::NoMemory;
 use std::alloc::Global;
 use std::test::Fail;
 
-/// A text with so many links in one statement.
-fn chain(
-    alloc: Global,
-    front: &[u8],
-    link: &[u8],
-    end: &[u8],
+/// A text with so many links in one statement, declaration or list.
+struct Chain {
+    front: &'static [u8],
+    link: &'static [u8],
+    end: &'static [u8],
     links: usize,
-) -> Result<Vec<u8>, NoMemory> {
-    let mut text = Vec::from_slice(alloc, front)?;
-    for _ in 0..links {
-        text.extend_from_slice(link)?;
+    /// Whether it is read, and not refused for want of memory.
+    is_read: bool,
+}
+
+const MAIN: &[u8] = b"int main(void){return f";
+
+const CHAINS: [Chain; 8] = [
+    Chain {
+        front: b"int main(void){return ",
+        link: b"(int)",
+        end: b"7;}",
+        links: 500,
+        is_read: true,
+    },
+    Chain {
+        front: b"int main(void){return ",
+        link: b"(int)",
+        end: b"7;}",
+        links: 100000,
+        is_read: false,
+    },
+    Chain {
+        front: MAIN,
+        link: b"()",
+        end: b";}",
+        links: 100000,
+        is_read: false,
+    },
+    Chain {
+        front: MAIN,
+        link: b"[0]",
+        end: b";}",
+        links: 100000,
+        is_read: false,
+    },
+    Chain {
+        front: MAIN,
+        link: b",2",
+        end: b";}",
+        links: 100000,
+        is_read: false,
+    },
+    Chain {
+        front: b"int a",
+        link: b"[1]",
+        end: b";",
+        links: 100000,
+        is_read: false,
+    },
+    // a list isn't gone down
+    Chain {
+        front: b"int a[]={0",
+        link: b",1",
+        end: b"};",
+        links: 20000,
+        is_read: true,
+    },
+    Chain {
+        front: b"enum e{a",
+        link: b",b",
+        end: b"};",
+        links: 5000,
+        is_read: true,
+    },
+];
+
+fn text_of(alloc: Global, chain: &Chain) -> Result<Vec<u8>, NoMemory> {
+    let mut text = Vec::from_slice(alloc, chain.front)?;
+    for _ in 0..chain.links {
+        text.extend_from_slice(chain.link)?;
     }
-    text.extend_from_slice(end)?;
+    text.extend_from_slice(chain.end)?;
     Ok(text)
 }
 
-/// Whether such a text is read, or refused for want of memory.
-fn is_read(
-    alloc: Global,
-    front: &[u8],
-    link: &[u8],
-    end: &[u8],
-    links: usize,
-) -> Result<Option<bool>, NoMemory> {
-    let text = chain(alloc, front, link, end, links)?;
+fn is_right(alloc: Global, chain: &Chain) -> Result<bool, NoMemory> {
+    let text = text_of(alloc, chain)?;
     match read_source(alloc, &text) {
-        Ok(_) => Ok(Some(true)),
-        Err(SourceFault::OutOfMemory) => Ok(Some(false)),
-        Err(_) => Ok(None),
+        Ok(_) => Ok(chain.is_read),
+        Err(SourceFault::OutOfMemory) => Ok(!chain.is_read),
+        Err(_) => Ok(false),
     }
 }
 
 #[test]
 fn chains_are_read_or_want_memory(rt: HostRuntime) -> Result<(), Fail> {
-    let alloc = rt.alloc();
-    let main = b"int main(void){return ";
-    assert_eq!(rt; is_read(alloc, main, b"(int)", b"7;}", 500), Ok(Some(true)));
-    assert_eq!(rt;
-        is_read(alloc, main, b"(int)", b"7;}", 100000),
-        Ok(Some(false))
-    );
-    let call = b"int main(void){return f";
-    assert_eq!(rt; is_read(alloc, call, b"()", b";}", 100000), Ok(Some(false)));
-    assert_eq!(rt;
-        is_read(alloc, call, b"[0]", b";}", 100000),
-        Ok(Some(false))
-    );
-    assert_eq!(rt; is_read(alloc, call, b",2", b";}", 100000), Ok(Some(false)));
-    assert_eq!(rt;
-        is_read(alloc, b"int a", b"[1]", b";", 100000),
-        Ok(Some(false))
-    );
-    // a list isn't gone down
-    assert_eq!(rt;
-        is_read(alloc, b"int a[]={0", b",1", b"};", 20000),
-        Ok(Some(true))
-    );
-    assert_eq!(rt;
-        is_read(alloc, b"enum e{a", b",b", b"};", 5000),
-        Ok(Some(true))
-    );
+    for chain in &CHAINS {
+        assert!(rt; is_right(rt.alloc(), chain)?, "{} links", chain.links);
+    }
     Ok(())
 }
