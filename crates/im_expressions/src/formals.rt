@@ -1,0 +1,102 @@
+//! The parameters of functions (C11 6.7.6.3).
+ghost use Rattle.std.specs.Prelude.{MatchResult, ◌≡◌, false, map};
+ghost use Rattle.im_ctree.specs.Tree as t;
+ghost use Rattle.im_rules.specs.Breaks.{some_parameters};
+ghost use Rattle.im_rules.specs.Context as k;
+ghost use Rattle.im_rules.specs.Declared as d;
+ghost use Rattle.im_rules.specs.Scopes.{at_file_scope};
+ghost use Rattle.im_rules.specs.Strings.{strings_of_parameters};
+ghost use Rattle.im_rules.specs.Typed.{AreParameters};
+ghost use Rattle.im_scopes.specs.Shape.{scopes_of};
+ghost use Rattle.im_tree_parts.specs.Lists.{parameters_from, with_parameter};
+ghost use Rattle.im_declarators.specs.Shape.{declared_of};
+ghost use Rattle.im_declarators.specs.Suffixes.{IsFault};
+ghost use Rattle.im_place.specs.Contexts.{context_of, behind_strings};
+ghost use Rattle.im_expression_parts.specs.Walked.{IsBehind, GoesOnParameters};
+
+use crate::declarators::declarator_if_any;
+use im_ctree::Parameter;
+use im_declarators::{Declared, parameter};
+use im_place::Place;
+use im_stop::Stop;
+use im_type_specifiers::{mention, specified_type};
+use std::alloc::Global;
+
+/// The parameters of a function, as they are declared in a scope of their own, which ends with them.
+#[cycle(walk)]
+pub fn parameters(
+    alloc: Global,
+    written: &[Parameter],
+    place: &mut Place,
+) -> Result<Vec<Declared>, Stop>
+    ensures { let ps = parameters_from written.now in
+        let c = k.in_new_scope (context_of place.old) in
+        MatchResult result (λ ds. AreParameters c 0 ps (map declared_of ds.items)
+        × (place.new ≡ behind_strings (strings_of_parameters ps) place.old))
+        (IsFault c (some_parameters 0 ps)) }
+{
+    let mark = place.scope.mark();
+    place.scope.open()?;
+    let declared = parameters_here(alloc, written, place)?;
+    place.scope.close(mark);
+    Ok(declared)
+}
+
+/// The parameters of a function, as they are declared in the innermost scope, where they stay: the
+/// body of a function stands in it (C11 6.2.1p4). The file's own scope has none.
+#[cycle(walk)]
+pub fn parameters_here(
+    alloc: Global,
+    written: &[Parameter],
+    place: &mut Place,
+) -> Result<Vec<Declared>, Stop>
+    requires { at_file_scope (scopes_of place.old.scope) ≡ false }
+    ensures { let ps = parameters_from written.now in MatchResult result
+        (λ ds. AreParameters (context_of place.old) 0 ps (map declared_of ds.items)
+        × (scopes_of place.new.scope ≡ (d.with_parameters 0 ps (map declared_of ds.items)
+        (context_of place.old)).scopes)
+        × IsBehind (strings_of_parameters ps) place.old place.new)
+        (IsFault (context_of place.old) (some_parameters 0 ps)) }
+{
+    let mut done = Vec::new(alloc);
+    let mut number = 0u32;
+    for one in written {
+        let declared = parameter_here(alloc, number, one, place)?;
+        done.push(declared)?;
+        let Some(next) = number.checked_add(1) else {
+            return Err(Stop::Memory);
+        };
+        number = next;
+    }
+    Ok(done)
+}
+
+#[cycle(walk)]
+fn parameter_here(
+    alloc: Global,
+    number: u32,
+    one: &Parameter,
+    place: &mut Place,
+) -> Result<Declared, Stop>
+    requires { at_file_scope (scopes_of place.old.scope) ≡ false }
+    ensures { (rest : t.Parameters) → let ps = with_parameter one.now rest in
+        MatchResult result (λ y. GoesOnParameters place.old number ps (declared_of y) rest place.new)
+        (IsFault (context_of place.old) (some_parameters number ps)) }
+{
+    let at = one.specifiers.at;
+    let q = specified_type(
+        alloc,
+        &place.scope,
+        &place.outline.lists,
+        at,
+        &one.specifiers.items,
+    )?;
+    mention(
+        alloc,
+        &mut place.scope,
+        &place.outline.lists,
+        &one.specifiers.items,
+    )?;
+    let declared = declarator_if_any(alloc, q, &one.declarator, place)?;
+    parameter(alloc, &mut place.scope, number, at, declared)
+}
