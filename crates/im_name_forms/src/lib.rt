@@ -5,8 +5,6 @@ mod arguments;
 mod calls;
 mod literals;
 mod names;
-#[cfg(test)]
-mod tests;
 
 pub use calls::{call_term, callee_in};
 pub use literals::{character_term, number_term, string_term};
