@@ -11,7 +11,7 @@ use Rattle.im_ctype.specs.declared.member.Member as rust
 use Rattle.im_ctype.specs.Table.{Table, members_at, members_in, structs_of, type_in, types_of}
 use Rattle.im_ctype.specs.Types.{CType, void, Member, Structs, members_of}
 use Rattle.im_ctype.proofs.Steps.{plain-members}
-use Rattle.im_rules.specs.Initialisers.{Slots, side_by_side, in_order, first_slot, other_slots, slots_of, strings_given, strings_among}
+use Rattle.im_rules.specs.Initialisers.{Slots, in_order, first_slot, other_slots, slots_of, strings_given, strings_among}
 use Rattle.im_rules.specs.Rules.{is_string_for}
 use Rattle.im_rules.specs.Strings.{strings_in}
 use Rattle.im_tree_parts.specs.Lists.{initializers_from}
@@ -64,15 +64,6 @@ passed done end whole ss rest e f = omega (arith, length-append ss rest)
 
 abbrev left : Structs → Slots → List ini.Initializer → ℕ
 left known k is = length (strings_among known k (initializers_from is))
-
--- one element more
-pub element_more : (known : Structs) (a : CType) (xs : List ini.Initializer) (i done end whole : ℕ) (x : ini.Initializer) → i < length xs → x ≡ get_or xs i x
-    → done + left known (side_by_side a) (drop i xs) ≡ whole
-    → end ≡ done + length (strings_given known a (initializer_of x))
-    → end + left known (side_by_side a) (drop (i + 1) xs) ≡ whole
-element_more known a xs i done end whole x within is so_far this =
-    let e = ap (λ z. done + left known (side_by_side a) z) (items_from xs i x within is) in
-    passed done end whole (strings_given known a (initializer_of x)) (strings_among known (side_by_side a) (initializers_from (drop (i + 1) xs))) (sym e ∙ so_far) this
 
 -- one member more
 pub member_more : (known : Structs) (ms : List Member) (xs : List ini.Initializer) (i j done end whole : ℕ) (x : ini.Initializer) (a : CType) → i < length xs → x ≡ get_or xs i x
