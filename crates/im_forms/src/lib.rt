@@ -3,6 +3,8 @@
 
 mod changes;
 mod terms;
+#[cfg(test)]
+mod tests;
 
 pub use changes::{assign_term, step_term};
 pub use terms::{

@@ -6,7 +6,7 @@ ghost use Rattle.im_rules.specs.Demands as d;
 ghost use Rattle.im_rules.specs.Rules as u;
 ghost use Rattle.im_rules.specs.Terms as r;
 ghost use Rattle.im_types.specs.Shape.{type_of};
-ghost use Rattle.im_operands.specs.Shape.{term_in};
+ghost use Rattle.im_operands.specs.Shape.{term_in, value_in};
 ghost use Rattle.im_operands.specs.Answers.{IsMade};
 
 use im_conversions::{literal, value_of};
@@ -14,7 +14,7 @@ use im_ctree::{BinaryOp, UnaryOp};
 use im_ctype::{Integer, TypeTable};
 use im_num::NoMemory;
 use im_operands::{
-    Term, allows, are_alike, casts, has_size, is_indexed, is_integer_term, is_lvalue,
+    Term, Value, allows, are_alike, casts, has_size, is_indexed, is_integer_term, is_lvalue,
     is_pointer_to_complete, is_scalar_term, rule_of,
 };
 use im_operations::{
@@ -186,6 +186,26 @@ pub fn binary_term(
     Ok(Term::Value(made))
 }
 
+/// What `?:` gives of its parts.
+fn conditional_value(
+    alloc: Global,
+    table: &TypeTable,
+    test: Term,
+    x: Term,
+    y: Term,
+) -> Result<Value, NoMemory>
+    ensures { IfOk result (λ v. value_in table.now v ≡ c.chosen (structs_of table.now)
+        (r.value_of (structs_of table.now) (term_in table.now test))
+        (r.value_of (structs_of table.now) (term_in table.now x))
+        (r.value_of (structs_of table.now) (term_in table.now y))) }
+{
+    let condition = value_of(alloc, table, test)?;
+    let first = value_of(alloc, table, x)?;
+    let second = value_of(alloc, table, y)?;
+    let made = chosen(alloc, condition, first, second)?;
+    Ok(made)
+}
+
 /// `?:` (C11 6.5.15).
 pub fn conditional_term(
     alloc: Global,
@@ -207,10 +227,7 @@ pub fn conditional_term(
     if !are_alike(&x, &y) {
         return Err(refused(31, at));
     }
-    let condition = value_of(alloc, table, test)?;
-    let first = value_of(alloc, table, x)?;
-    let second = value_of(alloc, table, y)?;
-    let made = chosen(alloc, condition, first, second)?;
+    let made = conditional_value(alloc, table, test, x, y)?;
     Ok(Term::Value(made))
 }
 

@@ -1,5 +1,5 @@
 -- Initialisers one by one, and the expression that stands alone among them.
-use Rattle.std.proofs.Common.{◌≡◌, ℕ, true, false, List, [], ◌∷◌, length, map, get_or, nat_le, Bor, Option, Some, None, MatchOption, refl, sym, ap, ◌∙◌, subst, arith}
+use Rattle.std.proofs.Common.{◌≡◌, ℕ, true, false, List, [], ◌∷◌, length, nat_le, Bor, Option, Some, None, MatchOption, refl, sym, ap, ◌∙◌, subst}
 use Rattle.std.proofs.lemmas.List.{length-map}
 use Rattle.im_ctree.specs.declared.declaration.Initializer as ini
 use Rattle.im_ctree.specs.declared.expression.Expression.{Expression}
@@ -20,11 +20,6 @@ not_single [] h = refl
 not_single (x ∷ []) h = absurd (h refl)
 not_single (ini.Value e ∷ y ∷ zs) h = refl
 not_single (ini.List' k n row ∷ y ∷ zs) h = refl
-
-pub only_item : (xs : List ini.Initializer) (x : ini.Initializer) → length xs ≡ 1 → x ≡ get_or xs 0 x → xs ≡ x ∷ []
-only_item [] x h e = absurd (omega arith)
-only_item (y ∷ []) x h e = ap (λ z. z ∷ []) (sym e)
-only_item (y ∷ z ∷ zs) x h e = absurd (omega arith)
 
 -- the expression of a single initialiser
 pub only_made : (xs : List ini.Initializer) (x : ini.Initializer) (result : Option (Bor Expression))

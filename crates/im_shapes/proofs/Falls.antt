@@ -1,5 +1,5 @@
 -- What stands in the braces of an initialiser is smaller than the initialiser.
-use Rattle.std.proofs.Common.{ℕ, ◌+◌, ◌<◌, ◌≤◌, Bool, true, false, arith, subst, ◌≡◌, if◌then◌else◌}
+use Rattle.std.proofs.Common.{ℕ, ◌+◌, ◌<◌, Bool, true, false, arith, if◌then◌else◌}
 use Rattle.im_ctree.specs.Tree as t
 use Rattle.im_ctype.specs.Types.{CType, void, integer, pointer, array, unsized, struct, function}
 use Rattle.im_rules.specs.Initialisers as n

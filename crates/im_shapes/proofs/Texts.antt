@@ -1,9 +1,9 @@
 -- What the string that an initialiser is tells of it.
-use Rattle.std.proofs.Common.{◌≡◌, ℕ, ◌+◌, true, false, ◌&&◌, nat_le, length, List, Bor, Option, Some, None, MatchOption, refl, ap, ◌∙◌, subst, if◌then◌else◌}
+use Rattle.std.proofs.Common.{◌≡◌, ℕ, ◌+◌, false, ◌&&◌, nat_le, length, List, Bor, Option, Some, None, MatchOption, refl, ap, ◌∙◌, subst, if◌then◌else◌}
 use Rattle.im_word.specs.Words.{Name}
 use Rattle.im_ctree.specs.Tree as t
 use Rattle.im_ctype.specs.Types.{CType, array, unsized, is_character}
-use Rattle.im_rules.specs.Initialisers.{bytes, misshapen, shape, string_shape, element_shape, counted, completed}
+use Rattle.im_rules.specs.Initialisers.{bytes, misshapen, string_shape, counted, completed}
 use Rattle.im_rules.specs.Rules.{initializer_count, is_string_for}
 use Rattle.im_shapes.specs.Parts.{text_of, only_expression, text_if, string_alone}
 
@@ -44,13 +44,6 @@ no_string i h = subst (λ z. StringFacts i z) h (string_facts i)
 pub is_string : (i : t.Initializer) (s : Name) → string_alone i ≡ Some s → IsString i s
 is_string i s h = subst (λ z. StringFacts i z) h (string_facts i)
 
--- an array is initialised by a string, or by a list
-pub string_array : (e : CType) (n : ℕ) (i : t.Initializer) → is_string_for (array e n) i ≡ true → shape (array e n) i ≡ string_shape e i
-string_array e n i h = ap (λ b. if b then string_shape e i else element_shape e i) h
-
-pub list_array : (e : CType) (n : ℕ) (i : t.Initializer) → is_string_for (array e n) i ≡ false → shape (array e n) i ≡ element_shape e i
-list_array e n i h = ap (λ b. if b then string_shape e i else element_shape e i) h
-
 -- how many elements an expression gives
 abbrev value_count : Option Name → ℕ
 value_count None = 0
@@ -62,9 +55,6 @@ counted_value a _ = refl
 
 pub counted_text : (a : CType) (e : t.Expression) (s : Name) → text_of e ≡ Some s → counted a (t.value_initializer e) ≡ length s + 1
 counted_text a e s h = counted_value a e ∙ ap value_count h
-
-pub counted_none : (a : CType) (e : t.Expression) → text_of e ≡ None → counted a (t.value_initializer e) ≡ 0
-counted_none a e h = counted_value a e ∙ ap value_count h
 
 -- how many elements a list in braces gives
 abbrev list_count : CType → t.Initializers → Option Name → ℕ
@@ -79,9 +69,6 @@ counted_braced a at _ _ = refl
 counted_list : (a : CType) (at : ℕ) (is : t.Initializers) → counted a (t.braced_initializer at is) ≡ list_count a is (text_if (only_expression is))
 counted_list a at (t.more_initializers (t.value_initializer e) rest) = counted_braced a at rest e
 counted_list a at _ = refl
-
-pub counted_string : (a : CType) (at : ℕ) (is : t.Initializers) (s : Name) → is_character a ≡ true → text_if (only_expression is) ≡ Some s → counted a (t.braced_initializer at is) ≡ length s + 1
-counted_string a at is s c h = counted_list a at is ∙ ap (list_count a is) h ∙ ap (λ b. if b then length s + 1 else initializer_count is) c
 
 pub counted_items : (a : CType) (at : ℕ) (is : t.Initializers) → text_if (only_expression is) ≡ None → counted a (t.braced_initializer at is) ≡ initializer_count is
 counted_items a at is h = counted_list a at is ∙ ap (list_count a is) h

@@ -1,8 +1,5 @@
 use Rattle.std.proofs.Common.{refl, sym, ap, inl, inr, ◌∙◌}
-use Rattle.im_ctype.specs.Table.{structs_of}
-use Rattle.im_rules.specs.Conversions as cv
 use Rattle.im_rules.specs.Terms as r
-use Rattle.im_forms.proofs.Made.{of_three}
 use Rattle.im_forms.proofs.terms.conditional_term.Goals as goal
 
 pub returns-then-not-is_scalar_term : goal.returns-then-not-is_scalar_term
@@ -20,4 +17,4 @@ returns c =
     let t = c.args.table.now in
     let m = sym (c.is_scalar_term.ensures t) ∙ c.if-not-is_scalar_term.false in
     let n = sym (c.are_alike.ensures t) ∙ c.if-not-are_alike.false in
-    ((m, (n, tt)), ap r.value (c.in_ok-made.ensures t ∙ of_three (cv.chosen (structs_of t)) c.in_ok-condition.ensures c.in_ok-first.ensures c.in_ok-second.ensures))
+    ((m, (n, tt)), ap r.value c.in_ok-made.ensures)

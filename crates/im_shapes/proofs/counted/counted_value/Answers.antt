@@ -1,5 +1,5 @@
 use Rattle.im_tree_parts.specs.Lists.{expression_in}
-use Rattle.im_shapes.proofs.Texts.{counted_text, counted_none}
+use Rattle.im_shapes.proofs.Texts.{counted_text}
 use Rattle.im_shapes.proofs.counted.counted_value.Goals as goal
 
 pub returns-in-Some : goal.returns-in-Some
