@@ -9,13 +9,17 @@ use std::alloc::Global;
 /// might go deeper than a stack of 4 MiB allows.
 const LINKS: usize = 512;
 
-/// What braces stand around.
+/// What brackets stand around.
 #[derive(Clone, Copy, PartialEq, Eq)]
-enum Braces {
+enum Inside {
     /// Statements or declarations.
     Block,
     /// Initialisers or enumerators.
     List,
+    /// Arguments or parameters, behind a name.
+    Arguments,
+    /// Any other part of an expression or a declarator.
+    Part,
 }
 
 /// What is known before a token.
@@ -25,10 +29,12 @@ struct Run {
     links: usize,
     /// Parentheses and brackets that are open.
     open: usize,
-    /// What the braces stand around that are open, the innermost last.
-    around: Vec<Braces>,
-    /// What a brace stands around that opens next.
-    next: Braces,
+    /// What stands in the brackets that are open, the innermost last.
+    inside: Vec<Inside>,
+    /// What stands in a brace that opens next.
+    next: Inside,
+    /// Whether the token before is a name.
+    behind_name: bool,
 }
 
 impl Run {
@@ -36,15 +42,16 @@ impl Run {
         Run {
             links: 0,
             open: 0,
-            around: Vec::new(alloc),
-            next: Braces::Block,
+            inside: Vec::new(alloc),
+            next: Inside::Block,
+            behind_name: false,
         }
     }
 
-    fn innermost(&self) -> Braces {
-        match self.around.last() {
-            Some(braces) => *braces,
-            None => Braces::Block,
+    fn innermost(&self) -> Inside {
+        match self.inside.last() {
+            Some(inside) => *inside,
+            None => Inside::Block,
         }
     }
 
@@ -59,52 +66,65 @@ impl Run {
         }
     }
 
-    fn open(&mut self) {
+    fn open(&mut self, inside: Inside) -> Result<(), NoMemory> {
         self.link();
         self.open = self.open.saturating_add(1);
-        self.next = Braces::Block;
+        self.next = Inside::Block;
+        self.inside.push(inside)?;
+        Ok(())
     }
 
     fn close(&mut self) {
         self.open = self.open.saturating_sub(1);
-        self.next = Braces::Block;
+        self.next = Inside::Block;
+        let _ = self.inside.pop();
+    }
+
+    fn open_parenthesis(&mut self) -> Result<(), NoMemory> {
+        if self.behind_name {
+            self.open(Inside::Arguments)
+        } else {
+            self.open(Inside::Part)
+        }
     }
 
     fn open_brace(&mut self) -> Result<(), NoMemory> {
         self.end();
-        self.around.push(self.next)?;
+        self.inside.push(self.next)?;
         Ok(())
     }
 
     fn close_brace(&mut self) {
         self.end();
-        let _ = self.around.pop();
-        self.next = Braces::Block;
+        let _ = self.inside.pop();
+        self.next = Inside::Block;
     }
 
     fn comma(&mut self) {
-        if self.innermost() == Braces::List {
-            self.end();
+        match self.innermost() {
+            Inside::List => self.end(),
+            Inside::Arguments => {}
+            Inside::Block | Inside::Part => self.link(),
         }
-        self.link();
-        self.next = Braces::List;
+        self.next = Inside::List;
     }
 
     fn semicolon(&mut self) {
         self.end();
-        self.next = Braces::Block;
+        self.next = Inside::Block;
     }
 
     fn punctuator(&mut self, text: &[u8]) -> Result<(), NoMemory> {
         match text {
-            b"(" | b"[" => self.open(),
+            b"(" => self.open_parenthesis()?,
+            b"[" => self.open(Inside::Part)?,
             b")" | b"]" => self.close(),
             b"{" => self.open_brace()?,
             b"}" => self.close_brace(),
             b"," => self.comma(),
             b";" => self.semicolon(),
-            b"=" => self.next = Braces::List,
-            _ => self.next = Braces::Block,
+            b"=" => self.next = Inside::List,
+            _ => self.next = Inside::Block,
         }
         Ok(())
     }
@@ -112,9 +132,9 @@ impl Run {
     /// A keyword; behind `enum` stand enumerators.
     fn keyword(&mut self, text: &[u8]) {
         self.next = if text == b"enum".as_slice() {
-            Braces::List
+            Inside::List
         } else {
-            Braces::Block
+            Inside::Block
         };
     }
 
@@ -127,9 +147,10 @@ impl Run {
             TokenKind::Keyword => self.keyword(text),
             TokenKind::Name => {}
             TokenKind::Number | TokenKind::Character | TokenKind::Text => {
-                self.next = Braces::Block;
+                self.next = Inside::Block;
             }
         }
+        self.behind_name = token.kind == TokenKind::Name;
         Ok(())
     }
 }
