@@ -1,9 +1,17 @@
 #!/bin/sh
-# How fast the machine is: instructions per second of `intermit exec` on a loop of 100 million of them in
-# one period of power, beside a plain interpreter in C that runs the same image over flat memory. Times
-# are the processor's, the process's start and its files included. Run it at the top of the repository.
+# How fast the machine is: instructions per second of `exec` on a loop of 100 million of them in one period
+# of power, beside a plain interpreter in C that runs the same image over flat memory. Words name the
+# programs that are measured, each in the place of ./intermit: one of before a change and one of after it,
+# say. They take turns, and the least of five times counts. Times are the processor's, the process's start
+# and its files included. Run it at the top of the repository.
 set -e
-top=$(pwd)
+[ $# -gt 0 ] || set -- ./intermit
+count=$#
+for program in "$@"; do
+    case $program in /*) ;; *) program=$(pwd)/$program ;; esac
+    set -- "$@" "$program"
+done
+shift "$count"
 work=$(mktemp -d)
 trap 'rm -rf "$work"' EXIT
 cat > "$work/plain.c" <<'PLAIN'
@@ -176,8 +184,18 @@ milliseconds() { # COMMAND..: the processor's time for it; what it prints goes t
     }'
 }
 
-run_ours() { # the run ends as its period does, with status 4
-    "$top/intermit" exec loop.image --steps "$n" 2> told || [ $? -eq 4 ]
+run_ours() { # PROGRAM; the run ends as its period does, with status 4
+    "$1" exec loop.image --steps "$n" 2> told || [ $? -eq 4 ]
+}
+
+measure() { # NUMBER COMMAND..: puts its time into the file times
+    number=$1
+    shift
+    echo "$number $(milliseconds "$@")" >> times
+}
+
+least() { # NUMBER: the least of its times
+    awk -v number="$1" '$1 == number && (least == "" || $2 < least) { least = $2 } END { print least + 0 }' times
 }
 
 cd "$work"
@@ -197,14 +215,27 @@ cd "$work"
 } > loop.image
 gcc -O2 -o plain plain.c
 n=100000000
-"$top/intermit" exec loop.image --steps 0 > /dev/null 2>&1 || [ $? -eq 4 ]
-ours=$(milliseconds run_ours)
-left=$(od -An -tu1 printed)
-theirs=$(milliseconds ./plain "$n")
-if [ "$(echo $n $left)" != "$(cat printed)" ] || ! grep -q "^instructions $n$" told; then
-    echo "they differ: '$left' and '$(cat printed)'"
-    exit 1
-fi
-echo "intermit exec: $n instructions in $ours ms, $((n / (ours + 1) * 1000)) per second"
-echo "plain C: $n instructions in $theirs ms, $((n / (theirs + 1) * 1000)) per second"
-echo "ratio: $((ours * 100 / (theirs + 1))) %"
+# The first run of ./intermit proves and builds it.
+for program in "$@"; do "$program" exec loop.image --steps 0 > /dev/null 2>&1 || [ $? -eq 4 ]; done
+for round in 1 2 3 4 5; do
+    measure 0 ./plain "$n"
+    mv printed wanted
+    place=0
+    for program in "$@"; do
+        place=$((place + 1))
+        measure "$place" run_ours "$program"
+        left=$(od -An -tu1 printed)
+        if [ "$(echo $n $left)" != "$(cat wanted)" ] || ! grep -q "^instructions $n$" told; then
+            echo "they differ: '$left' of $program and '$(cat wanted)'"
+            exit 1
+        fi
+    done
+done
+plain=$(least 0)
+echo "plain C: $n instructions in $plain ms, $((n / (plain + 1) * 1000)) per second"
+place=0
+for program in "$@"; do
+    place=$((place + 1))
+    ours=$(least "$place")
+    echo "$program: $n instructions in $ours ms, $((n / (ours + 1) * 1000)) per second, $((ours * 100 / (plain + 1))) % of plain C's time"
+done

@@ -51,12 +51,12 @@ others [] (suc i) = refl
 others (m ∷ ms) zero = refl
 others (m ∷ ms) (suc i) = others ms i
 
-others_on : (ms : List Member) (i : ℕ) → other_slots (in_order (drop i ms)) ≡ in_order (drop (i + 1) ms)
+pub others_on : (ms : List Member) (i : ℕ) → other_slots (in_order (drop i ms)) ≡ in_order (drop (i + 1) ms)
 others_on ms i =
     let e : suc i ≡ i + 1 = omega arith in
     others ms i ∙ ap (λ k. in_order (drop k ms)) e
 
-items_from : (xs : List ini.Initializer) (i : ℕ) (x : ini.Initializer) → i < length xs → x ≡ get_or xs i x → drop i xs ≡ x ∷ drop (i + 1) xs
+pub items_from : (xs : List ini.Initializer) (i : ℕ) (x : ini.Initializer) → i < length xs → x ≡ get_or xs i x → drop i xs ≡ x ∷ drop (i + 1) xs
 items_from xs i x within is = drop_more xs i x within ∙ ap (λ y. y ∷ drop (i + 1) xs) (sym is)
 
 passed : (done end whole : ℕ) (ss : List Name) (rest : List Name) → done + length (ss ++ rest) ≡ whole → end ≡ done + length ss → end + length rest ≡ whole

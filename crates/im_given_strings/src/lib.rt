@@ -5,3 +5,4 @@ mod given;
 mod slots;
 
 pub use given::behind_given;
+pub use slots::member_type;

@@ -11,7 +11,7 @@ use im_types::{Type, type_from};
 use std::alloc::Global;
 
 /// The type of the member at that place; void past the members.
-pub(crate) fn member_type(
+pub fn member_type(
     alloc: Global,
     table: &TypeTable,
     number: u32,

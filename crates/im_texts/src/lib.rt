@@ -1,0 +1,17 @@
+//! From the parts of a tree to the bytes of the string literals that stand in them.
+#![tactic(auto)]
+
+mod declarator;
+mod expression;
+mod given;
+mod specifier;
+mod step;
+
+pub use declarator::{
+    append_core, append_declarator, append_declarator_if_any, append_parameters, append_suffixes,
+};
+pub use expression::{
+    append_expression, append_expression_if_any, append_expressions, append_type_name,
+};
+pub use given::{append_given, append_given_if_any};
+pub use specifier::append_specifiers;
