@@ -1,5 +1,5 @@
 -- Words after the command's name, a build's options among them.
-use Rattle.std.proofs.Common.{ap, refl, sym, true, false, ℕ, pos, Bool, List, [], ◌∷◌, ◌++◌, Option, Some, None, ◌≡◌, ◌∙◌, ◌&&◌, ◌||◌, ◌<◌, ◌^◌, ◌≤◌, arith, codes, map, nat_lt}
+use Rattle.std.proofs.Common.{ap, refl, sym, true, false, ℕ, pos, Bool, List, [], ◌∷◌, ◌++◌, Option, Some, None, ◌≡◌, ◌∙◌, ◌&&◌, ◌||◌, ◌^◌, ◌≤◌, codes, map, nat_lt}
 use Rattle.std.specs.Prelude.{if◌then◌else◌, option_and_then, option_map, unwrap_or}
 use Rattle.std.specs.Str.Parse.{digits_value}
 use Rattle.std.proofs.lemmas.Bool.{ltb-false, ltb-true}
@@ -10,9 +10,9 @@ use Rattle.clap.proofs.OnLiterals.{clap_on_literals}
 use Rattle.clap.proofs.WalkLemmas.{both}
 use Rattle.im_cli.specs.declared.command.BuildOptions.{BuildOptions}
 use Rattle.im_cli.specs.Numbers.{is_numeral, number_between, starts_plainly, within}
-use Rattle.im_cli.specs.Named.{Asked, build_asked, building_words, builds, default_options, given, is_option, named, report_asked, reports, run_asked, runs}
-use Rattle.im_cli.proofs.OperandLemmas.{asked_of, build_named, command_shape, report_named, run_named}
-use Rattle.im_cli.proofs.OptionLemmas.{Word, given_read, given_words, number_accepted, number_fault, plain_value, text_of, value, words_read, written}
+use Rattle.im_cli.specs.Named.{Asked, build_asked, building_words, builds, default_evaluation, default_options, eval_asked, evaluates, is_option, named, report_asked, reports, run_asked, runs}
+use Rattle.im_cli.proofs.OperandLemmas.{asked_of, build_named, command_shape, eval_named, report_named, run_named}
+use Rattle.im_cli.proofs.OptionLemmas.{Word, given_words, number_accepted, number_fault, plain_value, text_of, value, words_read}
 
 -- ---- numbers in bounds
 
@@ -129,6 +129,25 @@ report_read source a (Some stack) (Some out_cap) bytes most d e =
     words_read report_asked (command_shape 5) (value source ∷ [] ++ building_read (Some stack) (Some out_cap)) (refl, refl, a, refl, (refl, (refl, refl, b.is_value, refl, (ap before_option b.accepted, (refl, refl, m.is_value, refl, tt))))) (ap number_fault m.accepted) refl
     ∙ (λ i. with_numbers (reports source) (d i) (e i))
 
+eval_read : (source : Text) → is_option source ≡ false → Reads (λ building. evaluates source building default_evaluation) eval_asked (command_shape 6) (value source ∷ [])
+unfolding clap_on_literals
+eval_read source a None None bytes most d e =
+    words_read eval_asked (command_shape 6) (value source ∷ [] ++ building_read None None) (refl, refl, a, refl, tt) refl refl
+    ∙ (λ i. with_numbers (λ building. evaluates source building default_evaluation) (d i) (e i))
+eval_read source a None (Some out_cap) bytes most d e =
+    let m = taken_between 0 1048576 out_cap most e in
+    words_read eval_asked (command_shape 6) (value source ∷ [] ++ building_read None (Some out_cap)) (refl, refl, a, refl, (refl, (refl, refl, m.is_value, refl, tt))) (ap number_fault m.accepted) refl
+    ∙ (λ i. with_numbers (λ building. evaluates source building default_evaluation) (d i) (e i))
+eval_read source a (Some stack) None bytes most d e =
+    let b = taken_between 256 1048576 stack bytes d in
+    words_read eval_asked (command_shape 6) (value source ∷ [] ++ building_read (Some stack) None) (refl, refl, a, refl, (refl, (refl, refl, b.is_value, refl, tt))) (ap number_fault b.accepted) refl
+    ∙ (λ i. with_numbers (λ building. evaluates source building default_evaluation) (d i) (e i))
+eval_read source a (Some stack) (Some out_cap) bytes most d e =
+    let b = taken_between 256 1048576 stack bytes d in
+    let m = taken_between 0 1048576 out_cap most e in
+    words_read eval_asked (command_shape 6) (value source ∷ [] ++ building_read (Some stack) (Some out_cap)) (refl, refl, a, refl, (refl, (refl, refl, b.is_value, refl, (ap before_option b.accepted, (refl, refl, m.is_value, refl, tt))))) (ap number_fault m.accepted) refl
+    ∙ (λ i. with_numbers (λ building. evaluates source building default_evaluation) (d i) (e i))
+
 pub build_options : (program source image : Text) (stack out_cap : Option Text) (bytes most : ℕ) → is_option source ≡ false → is_option image ≡ false
     → number_between 256 1048576 (unwrap_or stack (codes "65536")) ≡ Some bytes
     → number_between 0 1048576 (unwrap_or out_cap (codes "1048576")) ≡ Some most
@@ -156,3 +175,13 @@ report_options program source stack out_cap bytes most a d e =
     report_named program (source ∷ building_words stack out_cap)
     ∙ ap (λ words. asked_of report_asked (command_shape 5) (source ∷ words)) (sym (texts_read stack out_cap))
     ∙ report_read source a stack out_cap bytes most d e
+
+pub eval_building : (program source : Text) (stack out_cap : Option Text) (bytes most : ℕ) → is_option source ≡ false
+    → number_between 256 1048576 (unwrap_or stack (codes "65536")) ≡ Some bytes
+    → number_between 0 1048576 (unwrap_or out_cap (codes "1048576")) ≡ Some most
+    → named (program ∷ codes "eval" ∷ source ∷ building_words stack out_cap)
+    ≡ Some (evaluates source (record { stack = bytes; out_cap = most }) default_evaluation)
+eval_building program source stack out_cap bytes most a d e =
+    eval_named program (source ∷ building_words stack out_cap)
+    ∙ ap (λ words. asked_of eval_asked (command_shape 6) (source ∷ words)) (sym (texts_read stack out_cap))
+    ∙ eval_read source a stack out_cap bytes most d e

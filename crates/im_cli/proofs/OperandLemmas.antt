@@ -11,7 +11,7 @@ use Rattle.clap.proofs.FaultLemmas.{stopped_fault}
 use Rattle.clap.proofs.WalkLemmas.{walk_stopped}
 use Rattle.clap.proofs.OnLiterals.{clap_on_literals}
 use Rattle.im_cli.specs.Table.{command_line}
-use Rattle.im_cli.specs.Named.{Asked, asked, build_asked, builds, default_building, default_options, dump_asked, dumps, exec_asked, executes, is_option, named, report_asked, reports, run_asked, runs, upgrade_asked, upgrades}
+use Rattle.im_cli.specs.Named.{Asked, asked, build_asked, builds, default_building, default_evaluation, default_options, dump_asked, dumps, eval_asked, evaluates, exec_asked, executes, is_option, named, report_asked, reports, run_asked, runs, upgrade_asked, upgrades}
 
 -- ---- one word
 
@@ -156,6 +156,12 @@ report_named program rest =
     name_answer (codes "report") rest refl refl program
     ∙ ap (λ (k : Kinds). if is_empty k then report_asked (rows_after (command_shape 5).rules [] rest) else None) (last_fault (level_fault (command_shape 5) [] nothing_held rest false []))
 
+pub eval_named : (program : Text) (rest : List Text) → named (program ∷ codes "eval" ∷ rest) ≡ asked_of eval_asked (command_shape 6) rest
+unfolding clap_on_literals
+eval_named program rest =
+    name_answer (codes "eval") rest refl refl program
+    ∙ ap (λ (k : Kinds). if is_empty k then eval_asked (rows_after (command_shape 6).rules [] rest) else None) (last_fault (level_fault (command_shape 6) [] nothing_held rest false []))
+
 -- ---- the words after it
 
 -- what the end of the walk and its fault ask for
@@ -212,6 +218,10 @@ pub report_files : (program source : Text) → is_option source ≡ false → na
 unfolding clap_on_literals
 report_files program source plain = report_named program (source ∷ []) ∙ one_file report_asked (command_shape 5) source plain
 
+pub eval_files : (program source : Text) → is_option source ≡ false → named (program ∷ codes "eval" ∷ source ∷ []) ≡ Some (evaluates source default_building default_evaluation)
+unfolding clap_on_literals
+eval_files program source plain = eval_named program (source ∷ []) ∙ one_file eval_asked (command_shape 6) source plain
+
 pub upgrade_files : (program old new : Text) → is_option old ≡ false → is_option new ≡ false
     → named (program ∷ codes "upgrade" ∷ old ∷ new ∷ []) ≡ Some (upgrades old new)
 unfolding clap_on_literals
@@ -266,3 +276,11 @@ report_fault program rest = name_fault (codes "report") rest refl refl program �
 pub report_found : (program : Text) (rest : List Text) → subcommand_of command_line (program ∷ codes "report" ∷ rest) ≡ Some (codes "report", rows_after (command_shape 5).rules [] rest)
 unfolding clap_on_literals
 report_found program rest = name_found (codes "report") rest refl refl program
+
+pub eval_fault : (program : Text) (rest : List Text) → fault_of command_line (program ∷ codes "eval" ∷ rest) ≡ level_fault (command_shape 6) [] nothing_held rest false []
+unfolding clap_on_literals
+eval_fault program rest = name_fault (codes "eval") rest refl refl program ∙ last_fault (level_fault (command_shape 6) [] nothing_held rest false [])
+
+pub eval_found : (program : Text) (rest : List Text) → subcommand_of command_line (program ∷ codes "eval" ∷ rest) ≡ Some (codes "eval", rows_after (command_shape 6).rules [] rest)
+unfolding clap_on_literals
+eval_found program rest = name_found (codes "eval") rest refl refl program

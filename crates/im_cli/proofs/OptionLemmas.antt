@@ -130,14 +130,14 @@ abbrev pub number_fault : Bool → Kinds
 number_fault accepted = or_else (if accepted then [] else ValueValidation ∷ []) []
 
 -- the same, where the flag after it is what settles it
-abbrev before_flag : Bool → Kinds
+abbrev pub before_flag : Bool → Kinds
 before_flag accepted = or_else (or_else (number_fault accepted) []) []
 
 abbrev pub given_words : Text → Option Text → List Word
 given_words name None = []
 given_words name (Some text) = written name ∷ value text ∷ []
 
-abbrev flag_words : Bool → List Word
+abbrev pub flag_words : Bool → List Word
 flag_words vars = if vars then written (codes "--vars") ∷ [] else []
 
 abbrev options_read : Option Text → Option Text → Option Text → Bool → List Word
@@ -148,17 +148,17 @@ abbrev with_number : (Options → Asked) → Option Text → Option Text → Boo
 with_number asks input trace vars number =
     option_and_then (λ options. Some (asks options)) (option_map (λ n. record { input = input; trace = trace; steps = n; vars = vars }) number)
 
-number_taken : (text : Text) (number : ℕ) → plain_number text ≡ Some number → is_signed_in (pos 0) (pos 4294967295) text ≡ true
+pub number_taken : (text : Text) (number : ℕ) → plain_number text ≡ Some number → is_signed_in (pos 0) (pos 4294967295) text ≡ true
 number_taken text number e = let facts = plain_facts text number e in let below = facts.below in number_accepted 0 4294967295 text facts.begins facts.numeral below (omega arith) (omega (arith, below))
 
-number_plain : (text : Text) (number : ℕ) → plain_number text ≡ Some number → is_option text ≡ false
+pub number_plain : (text : Text) (number : ℕ) → plain_number text ≡ Some number → is_option text ≡ false
 number_plain text number e = plain_value text (plain_facts text number e).begins
 
 pub given_read : (name : Text) (text : Option Text) (rest : List Word) → map text_of (given_words name text ++ rest) ≡ given name text ++ map text_of rest
 given_read name None rest = refl
 given_read name (Some text) rest = refl
 
-flag_read : (vars : Bool) → map text_of (flag_words vars) ≡ (if vars then codes "--vars" ∷ [] else [])
+pub flag_read : (vars : Bool) → map text_of (flag_words vars) ≡ (if vars then codes "--vars" ∷ [] else [])
 flag_read true = refl
 flag_read false = refl
 

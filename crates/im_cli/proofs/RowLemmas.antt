@@ -48,13 +48,13 @@ has_any (v ∷ vs) = true
 
 -- the options that have numbers, and the bounds of each
 abbrev pub is_number : Text → Bool
-is_number id = bytes_eq id (codes "steps") || (bytes_eq id (codes "stack") || bytes_eq id (codes "out-cap"))
+is_number id = bytes_eq id (codes "steps") || (bytes_eq id (codes "fuel") || (bytes_eq id (codes "stack") || bytes_eq id (codes "out-cap")))
 
 abbrev pub least : Text → ℕ
 least id = cond (bytes_eq id (codes "stack")) 256 0
 
 abbrev pub most : Text → ℕ
-most id = cond (bytes_eq id (codes "steps")) 4294967295 1048576
+most id = cond (bytes_eq id (codes "steps") || bytes_eq id (codes "fuel")) 4294967295 1048576
 
 -- a value of such an option is a number that clap's parser takes
 abbrev pub fits : Text → Text → Bool

@@ -1,5 +1,5 @@
 -- Words in which clap finds no fault name a command.
-use Rattle.std.proofs.Common.{ap, ap₂, arith, refl, sym, subst, true, false, not, ℕ, pos, Bool, List, [], ◌∷◌, Option, Some, None, ◌≡◌, ◌∙◌, ◌&&◌, ◌||◌, ◌^◌, ◌<◌, codes, cond, drop, take, is_some, length, nat_le, nat_lt, ◌≤◌}
+use Rattle.std.proofs.Common.{ap, ap₂, arith, refl, sym, subst, true, false, not, ℕ, pos, Bool, List, [], ◌∷◌, Option, Some, None, ◌≡◌, ◌∙◌, ◌&&◌, ◌||◌, ◌^◌, ◌<◌, codes, cond, drop, take, is_some, length, nat_lt, ◌≤◌}
 use Rattle.std.specs.Prelude.{if◌then◌else◌, IfSome, option_and_then, option_map, slice_index_or}
 use Rattle.std.specs.List.{list_all}
 use Rattle.std.specs.Str.{bytes_eq}
@@ -19,8 +19,8 @@ use Rattle.im_cli.specs.Table.{command_line}
 use Rattle.clap.proofs.WalkLemmas.{both}
 use Rattle.im_cli.specs.Numbers.{is_numeral, number_between, plain_number, starts_plainly, within}
 use Rattle.im_cli.specs.declared.command.BuildOptions.{BuildOptions}
-use Rattle.im_cli.specs.Named.{Asked, build_asked, building_asked, builds, dump_asked, dumps, exec_asked, executes, is_faultless, IsPlain, is_set, named, number_asked, report_asked, reports, run_asked, runs, text_found, upgrade_asked, upgrades}
-use Rattle.im_cli.proofs.OperandLemmas.{asked_of, build_fault, build_found, build_named, command_shape, dump_fault, dump_found, dump_named, exec_fault, exec_found, exec_named, report_fault, report_found, report_named, run_fault, run_found, run_named, upgrade_fault, upgrade_found, upgrade_named}
+use Rattle.im_cli.specs.Named.{Asked, build_asked, building_asked, builds, dump_asked, dumps, eval_asked, evaluates, exec_asked, executes, is_faultless, IsPlain, is_set, named, number_asked, report_asked, reports, run_asked, runs, text_found, upgrade_asked, upgrades}
+use Rattle.im_cli.proofs.OperandLemmas.{asked_of, build_fault, build_found, build_named, command_shape, dump_fault, dump_found, dump_named, eval_fault, eval_found, eval_named, exec_fault, exec_found, exec_named, report_fault, report_found, report_named, run_fault, run_found, run_named, upgrade_fault, upgrade_found, upgrade_named}
 use Rattle.im_cli.proofs.FirstWordLemmas.{dashes_refused, first_refused, help_refused, name_refused, no_command, nothing_refused, stray_kind}
 use Rattle.im_cli.proofs.OptionLemmas.{first_apart, reads}
 use Rattle.im_cli.proofs.RowLemmas.{AllGood, AllSound, Fits, Holds, Sets, Sound, defaults_give, first_good, fits, given_holds, kinds_accept, level_good, no_kind, none_first, none_then, set_sound, text_fit, is_number}
@@ -164,6 +164,32 @@ report_sound = (
   ),
 )
 
+eval_sound : AllSound (command_shape 6).rules
+eval_sound = (
+  text_sound (rule_at 6 0) (λ values rows. refl) refl (λ again rows e. no_kind _ _ e),
+  refl,
+  (
+    set_sound (rule_at 6 1) (λ values rows. refl) (number_fit (rule_at 6 1) (codes "stack") refl (λ again rows e. no_kind _ _ e)
+        (λ again v vs rows e. kinds_accept false (Signed (pos 256) (pos 1048576)) (v ∷ vs) (none_then (repeat_fault again (codes "stack") rows) _ (none_then (range_kinds 1 1 (length (v ∷ vs))) _ e)))),
+    refl,
+    (
+      set_sound (rule_at 6 2) (λ values rows. refl) (number_fit (rule_at 6 2) (codes "out-cap") refl (λ again rows e. no_kind _ _ e)
+          (λ again v vs rows e. kinds_accept false (Signed (pos 0) (pos 1048576)) (v ∷ vs) (none_then (repeat_fault again (codes "out-cap") rows) _ (none_then (range_kinds 1 1 (length (v ∷ vs))) _ e)))),
+      refl,
+      (
+        text_sound (rule_at 6 3) (λ values rows. refl) refl (λ again rows e. no_kind _ _ e),
+        refl,
+        (
+          set_sound (rule_at 6 4) (λ values rows. refl) (number_fit (rule_at 6 4) (codes "fuel") refl (λ again rows e. no_kind _ _ e)
+              (λ again v vs rows e. kinds_accept false (Signed (pos 0) (pos 4294967295)) (v ∷ vs) (none_then (repeat_fault again (codes "fuel") rows) _ (none_then (range_kinds 1 1 (length (v ∷ vs))) _ e)))),
+          refl,
+          (set_sound (rule_at 6 5) (λ values rows. refl) (text_fit (rule_at 6 5) refl (λ again rows e. refl)), refl, (λ again values rows e g. g, refl, tt)),
+        ),
+      ),
+    ),
+  ),
+)
+
 -- ---- a level of the table without a fault
 
 level_facts : (s : Shape) → AllSound s.rules → (words : List Text) → level_fault s [] nothing_held words false [] ≡ []
@@ -197,6 +223,7 @@ Plainly text = IfSome text (λ text. starts_plainly text ≡ true)
 -- the numbers of the options begin plainly
 pub record ArePlain (found : Text → Option Text) : Type 0 where
   pub steps : Plainly (found (codes "steps"))
+  pub fuel : Plainly (found (codes "fuel"))
   pub stack : Plainly (found (codes "stack"))
   pub out_cap : Plainly (found (codes "out-cap"))
 
@@ -207,6 +234,11 @@ in_rows rows name = first_of name rows
 steps_of : (rows : List Row) → Holds (codes "steps") rows → ArePlain (in_rows rows) → (n : ℕ) × (option_and_then plain_number (first_of (codes "steps") rows) ≡ Some n)
 steps_of rows held plain =
     let begins : starts_plainly held.text ≡ true = subst Plainly held.is_first plain.steps in
+    (digits_value 10 held.text, ap (option_and_then plain_number) held.is_first ∙ (number_read 0 4294967295 held.text (omega arith) held.fit begins).number)
+
+fuel_of : (rows : List Row) → Holds (codes "fuel") rows → ArePlain (in_rows rows) → (n : ℕ) × (option_and_then plain_number (first_of (codes "fuel") rows) ≡ Some n)
+fuel_of rows held plain =
+    let begins : starts_plainly held.text ≡ true = subst Plainly held.is_first plain.fuel in
     (digits_value 10 held.text, ap (option_and_then plain_number) held.is_first ∙ (number_read 0 4294967295 held.text (omega arith) held.fit begins).number)
 
 stack_of : (rows : List Row) → Holds (codes "stack") rows → ArePlain (in_rows rows) → (n : ℕ) × (number_asked (codes "stack") 256 1048576 rows ≡ Some n)
@@ -253,6 +285,25 @@ report_read words e plain =
     (defaults_give (take 2 (command_shape 5).rules) (drop 3 (command_shape 5).rules) (rule_at 5 2) (rows_before 5 words) refl refl) in
     let building = building_of rows stack out_cap plain in
     (λ i. is_some (option_and_then (λ b. option_map (λ s. reports s b) (source.is_first i)) (building.1 i)))
+
+eval_read : (words : List Text) → Passes 6 words → ArePlain (in_rows (rows_at 6 words)) → is_some (eval_asked (rows_at 6 words)) ≡ true
+eval_read words e plain =
+    let rows = rows_at 6 words in
+    let facts = level_facts (command_shape 6) eval_sound words e in
+    let source = given_holds (codes "SRC") rows facts.0 (required_one _ facts.1) in
+    let stack = first_good (codes "stack") rows facts.0
+    (defaults_give (take 1 (command_shape 6).rules) (drop 2 (command_shape 6).rules) (rule_at 6 1) (rows_before 6 words) refl refl) in
+    let out_cap = first_good (codes "out-cap") rows facts.0
+    (defaults_give (take 2 (command_shape 6).rules) (drop 3 (command_shape 6).rules) (rule_at 6 2) (rows_before 6 words) refl refl) in
+    let fuel = first_good (codes "fuel") rows facts.0
+    (defaults_give (take 4 (command_shape 6).rules) (drop 5 (command_shape 6).rules) (rule_at 6 4) (rows_before 6 words) refl refl) in
+    let building = building_of rows stack out_cap plain in
+    let number = fuel_of rows fuel plain in
+    (λ i. is_some (option_and_then (λ b. option_and_then (λ evaluation. option_map (λ s. evaluates s b evaluation) (source.is_first i)) (option_map (λ n. record {
+      input = first_of (codes "input") rows;
+      fuel = n;
+      vars = is_set (codes "vars") rows;
+    }) (number.1 i))) (building.1 i)))
 
 dump_read : (words : List Text) → Passes 3 words → is_some (dump_asked (rows_at 3 words)) ≡ true
 dump_read words e =
@@ -343,34 +394,39 @@ report_taken : (program : Text) (rest : List Text) → Taken (program ∷ codes 
 report_taken program rest = row_taken report_asked (codes "report") 5 (program ∷ codes "report" ∷ rest) rest
     (report_named program rest) (report_fault program rest) (report_found program rest) (report_read rest)
 
+eval_taken : (program : Text) (rest : List Text) → Taken (program ∷ codes "eval" ∷ rest)
+eval_taken program rest = row_taken eval_asked (codes "eval") 6 (program ∷ codes "eval" ∷ rest) rest
+    (eval_named program rest) (eval_fault program rest) (eval_found program rest) (eval_read rest)
+
 -- a first word that is this text
 same_taken : (text name program : Text) (rest : List Text) → bytes_eq text name ≡ true → Taken (program ∷ text ∷ rest) → Taken (program ∷ name ∷ rest)
 same_taken text name program rest same taken = subst (λ (n : Text). Taken (program ∷ n ∷ rest)) ((bytes_eq-Decides text name).0 same) taken
 
 other_taken : (name program : Text) (rest : List Text) → bytes_eq (codes "build") name ≡ false → bytes_eq (codes "run") name ≡ false → bytes_eq (codes "exec") name ≡ false
-    → bytes_eq (codes "dump") name ≡ false → bytes_eq (codes "upgrade") name ≡ false → bytes_eq (codes "report") name ≡ false → bytes_eq (codes "help") name ≡ false
+    → bytes_eq (codes "dump") name ≡ false → bytes_eq (codes "upgrade") name ≡ false → bytes_eq (codes "report") name ≡ false → bytes_eq (codes "eval") name ≡ false → bytes_eq (codes "help") name ≡ false
     → (b : Bool) → bytes_eq name (codes "--") ≡ b → Taken (program ∷ name ∷ rest)
-other_taken name program rest b r x d u p h true t =
+other_taken name program rest b r x d u p v h true t =
     subst (λ (n : Text). Taken (program ∷ n ∷ rest)) (sym ((bytes_eq-Decides name (codes "--")).0 t)) (λ faultless plain. absurd (dashes_refused program rest faultless))
-other_taken name program rest b r x d u p h false t = λ faultless plain. absurd (first_refused program name rest (stray_kind name (no_command name b r x d u p h) t) faultless)
+other_taken name program rest b r x d u p v h false t = λ faultless plain. absurd (first_refused program name rest (stray_kind name (no_command name b r x d u p v h) t) faultless)
 
-word_taken : (name program : Text) (rest : List Text) (b r x d u p h : Bool) → bytes_eq (codes "build") name ≡ b → bytes_eq (codes "run") name ≡ r
+word_taken : (name program : Text) (rest : List Text) (b r x d u p v h : Bool) → bytes_eq (codes "build") name ≡ b → bytes_eq (codes "run") name ≡ r
     → bytes_eq (codes "exec") name ≡ x → bytes_eq (codes "dump") name ≡ d → bytes_eq (codes "upgrade") name ≡ u → bytes_eq (codes "report") name ≡ p
-    → bytes_eq (codes "help") name ≡ h → Taken (program ∷ name ∷ rest)
-word_taken name program rest true r x d u p h bt rt xt dt ut pt ht = same_taken (codes "build") name program rest bt (build_taken program rest)
-word_taken name program rest false true x d u p h bt rt xt dt ut pt ht = same_taken (codes "run") name program rest rt (run_taken program rest)
-word_taken name program rest false false true d u p h bt rt xt dt ut pt ht = same_taken (codes "exec") name program rest xt (exec_taken program rest)
-word_taken name program rest false false false true u p h bt rt xt dt ut pt ht = same_taken (codes "dump") name program rest dt (dump_taken program rest)
-word_taken name program rest false false false false true p h bt rt xt dt ut pt ht = same_taken (codes "upgrade") name program rest ut (upgrade_taken program rest)
-word_taken name program rest false false false false false true h bt rt xt dt ut pt ht = same_taken (codes "report") name program rest pt (report_taken program rest)
-word_taken name program rest false false false false false false true bt rt xt dt ut pt ht =
+    → bytes_eq (codes "eval") name ≡ v → bytes_eq (codes "help") name ≡ h → Taken (program ∷ name ∷ rest)
+word_taken name program rest true r x d u p v h bt rt xt dt ut pt vt ht = same_taken (codes "build") name program rest bt (build_taken program rest)
+word_taken name program rest false true x d u p v h bt rt xt dt ut pt vt ht = same_taken (codes "run") name program rest rt (run_taken program rest)
+word_taken name program rest false false true d u p v h bt rt xt dt ut pt vt ht = same_taken (codes "exec") name program rest xt (exec_taken program rest)
+word_taken name program rest false false false true u p v h bt rt xt dt ut pt vt ht = same_taken (codes "dump") name program rest dt (dump_taken program rest)
+word_taken name program rest false false false false true p v h bt rt xt dt ut pt vt ht = same_taken (codes "upgrade") name program rest ut (upgrade_taken program rest)
+word_taken name program rest false false false false false true v h bt rt xt dt ut pt vt ht = same_taken (codes "report") name program rest pt (report_taken program rest)
+word_taken name program rest false false false false false false true h bt rt xt dt ut pt vt ht = same_taken (codes "eval") name program rest vt (eval_taken program rest)
+word_taken name program rest false false false false false false false true bt rt xt dt ut pt vt ht =
     same_taken (codes "help") name program rest ht (λ faultless plain. absurd (help_refused program rest faultless))
-word_taken name program rest false false false false false false false bt rt xt dt ut pt ht =
-    other_taken name program rest bt rt xt dt ut pt ht (bytes_eq name (codes "--")) refl
+word_taken name program rest false false false false false false false false bt rt xt dt ut pt vt ht =
+    other_taken name program rest bt rt xt dt ut pt vt ht (bytes_eq name (codes "--")) refl
 
-pub faultless_taken : (words : List Text) → is_faultless words ≡ true → IsPlain (codes "steps") words → IsPlain (codes "stack") words → IsPlain (codes "out-cap") words
-    → is_some (named words) ≡ true
-faultless_taken [] e steps stack out_cap = absurd (nothing_refused e)
-faultless_taken (program ∷ []) e steps stack out_cap = absurd (name_refused program e)
-faultless_taken (program ∷ name ∷ rest) e steps stack out_cap =
-    word_taken name program rest _ _ _ _ _ _ _ refl refl refl refl refl refl refl e (record { steps = steps; stack = stack; out_cap = out_cap })
+pub faultless_taken : (words : List Text) → is_faultless words ≡ true → IsPlain (codes "steps") words → IsPlain (codes "fuel") words → IsPlain (codes "stack") words
+    → IsPlain (codes "out-cap") words → is_some (named words) ≡ true
+faultless_taken [] e steps fuel stack out_cap = absurd (nothing_refused e)
+faultless_taken (program ∷ []) e steps fuel stack out_cap = absurd (name_refused program e)
+faultless_taken (program ∷ name ∷ rest) e steps fuel stack out_cap =
+    word_taken name program rest _ _ _ _ _ _ _ _ refl refl refl refl refl refl refl refl e (record { steps = steps; fuel = fuel; stack = stack; out_cap = out_cap })

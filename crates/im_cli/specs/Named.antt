@@ -9,6 +9,7 @@ use Rattle.clap.specs.Walk.{is_empty}
 use Rattle.im_cli.specs.Numbers.{number_between, plain_number, starts_plainly}
 use Rattle.im_cli.specs.Table.{command_line}
 use Rattle.im_cli.specs.declared.command.BuildOptions.{BuildOptions}
+use Rattle.im_cli.specs.declared.command.EvalOptions.{EvalOptions}
 use Rattle.im_cli.specs.declared.command.RunOptions.{RunOptions}
 use Rattle.im_cli.specs.declared.command.Command.{Command}
 use Rattle.im_cli.specs.declared.command.Command.TheVariants as command
@@ -27,6 +28,16 @@ pub record Options : Type 0 where
 -- the options where no word gives any
 abbrev pub default_options : Options
 default_options = record { input = None; trace = None; steps = 100000000; vars = false }
+
+-- how a source is evaluated: the file that is named for its input, its fuel, and whether the variables
+-- are shown
+pub record Evaluation : Type 0 where
+  pub input : Option Text
+  pub fuel : ℕ
+  pub vars : Bool
+
+abbrev pub default_evaluation : Evaluation
+default_evaluation = record { input = None; fuel = 1000000; vars = false }
 
 abbrev pub default_building : BuildOptions
 default_building = record { stack = 65536; out_cap = 1048576 }
@@ -47,6 +58,11 @@ option_words input trace steps vars = given (codes "--input") input
     ++ (given (codes "--trace") trace ++ (given (codes "--steps") steps
     ++ (if vars then codes "--vars" ∷ [] else [])))
 
+-- the words of an evaluation's options
+abbrev pub evaluation_words : Option Text → Option Text → Bool → List Text
+evaluation_words input fuel vars = given (codes "--input") input
+    ++ (given (codes "--fuel") fuel ++ (if vars then codes "--vars" ∷ [] else []))
+
 -- the words of a build's options
 abbrev pub building_words : Option Text → Option Text → List Text
 building_words stack out_cap = given (codes "--stack") stack ++ given (codes "--out-cap") out_cap
@@ -59,6 +75,7 @@ pub data Asked : Type 0 where
   dumps : Text → Asked
   upgrades : Text → Text → Asked
   reports : Text → BuildOptions → Asked
+  evaluates : Text → BuildOptions → Evaluation → Asked
 
 -- SRC and IMG
 abbrev pub pair_asked : (Text → Text → Asked) → List Row → Option Asked
@@ -113,6 +130,18 @@ abbrev pub report_asked : List Row → Option Asked
 report_asked rows = option_and_then (λ building. option_map (λ source. reports source building)
     (first_of (codes "SRC") rows)) (building_asked rows)
 
+abbrev pub evaluation_asked : List Row → Option Evaluation
+evaluation_asked rows = option_map (λ fuel. record {
+  input = first_of (codes "input") rows;
+  fuel = fuel;
+  vars = is_set (codes "vars") rows;
+}) (option_and_then plain_number (first_of (codes "fuel") rows))
+
+abbrev pub eval_asked : List Row → Option Asked
+eval_asked rows = option_and_then (λ building. option_and_then (λ evaluation.
+    option_map (λ source. evaluates source building evaluation) (first_of (codes "SRC") rows))
+    (evaluation_asked rows)) (building_asked rows)
+
 -- what the command of this name asks for, by what was found for the words after it
 abbrev pub asked_by : Text → List Row → Option Asked
 asked_by name rows = if bytes_eq name (codes "build") then build_asked rows
@@ -120,7 +149,8 @@ asked_by name rows = if bytes_eq name (codes "build") then build_asked rows
     else (if bytes_eq name (codes "exec") then exec_asked rows
     else (if bytes_eq name (codes "dump") then dump_asked rows
     else (if bytes_eq name (codes "upgrade") then upgrade_asked rows
-    else (if bytes_eq name (codes "report") then report_asked rows else None)))))
+    else (if bytes_eq name (codes "report") then report_asked rows
+    else (if bytes_eq name (codes "eval") then eval_asked rows else None))))))
 
 abbrev pub asked : Option (Text × List Row) → Option Asked
 asked = option_and_then (λ found. asked_by found.0 found.1)
@@ -155,6 +185,7 @@ abbrev pub HasBounds : Command → Type 0
 HasBounds (command.Build source image building) = IsInBounds building
 HasBounds (command.Run source image building options) = IsInBounds building
 HasBounds (command.Report source building) = IsInBounds building
+HasBounds (command.Eval source building options) = IsInBounds building
 HasBounds (command.Exec image options) = ⊤
 HasBounds (command.Dump image) = ⊤
 HasBounds (command.Upgrade old new) = ⊤
@@ -167,6 +198,13 @@ options_meaning options = record {
   vars = options.vars;
 }
 
+abbrev pub evaluation_meaning : EvalOptions → Evaluation
+evaluation_meaning options = record {
+  input = option_map (λ file. file.now) options.input;
+  fuel = options.fuel;
+  vars = options.vars;
+}
+
 -- what a command of the program's asks for
 abbrev pub meaning : Command → Asked
 meaning (command.Build source image building) = builds source.now image.now building
@@ -176,6 +214,8 @@ meaning (command.Exec image options) = executes image.now (options_meaning optio
 meaning (command.Dump image) = dumps image.now
 meaning (command.Upgrade old new) = upgrades old.now new.now
 meaning (command.Report source building) = reports source.now building
+meaning (command.Eval source building options) =
+    evaluates source.now building (evaluation_meaning options)
 
 abbrev pub IsUsage : WordsFault → Type 0
 IsUsage (fault.Usage text) = ⊤

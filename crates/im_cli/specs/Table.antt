@@ -74,9 +74,18 @@ upgrade_row = row (codes "upgrade") (operand (codes "IN") ∷ operand (codes "OU
 abbrev pub report_row : Shape
 report_row = row (codes "report") (operand (codes "SRC") ∷ build_options)
 
+-- --input F --fuel N --vars, what a source is evaluated with
+abbrev pub eval_options : List Rule
+eval_options = valued (codes "input")
+    ∷ numbered (codes "fuel") (codes "1000000") 0 4294967295 ∷ flag (codes "vars") ∷ []
+
+-- eval SRC, with options
+abbrev pub eval_row : Shape
+eval_row = row (codes "eval") (operand (codes "SRC") ∷ build_options ++ eval_options)
+
 -- the program's own name, and then one of the commands
 abbrev pub command_line : App
 command_line = record {
   top = record (new_shape (codes "intermit")) { is_leaf = false; subcommand_required = true };
-  subs = build_row ∷ run_row ∷ exec_row ∷ dump_row ∷ upgrade_row ∷ report_row ∷ [];
+  subs = build_row ∷ run_row ∷ exec_row ∷ dump_row ∷ upgrade_row ∷ report_row ∷ eval_row ∷ [];
 }

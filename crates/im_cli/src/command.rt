@@ -33,6 +33,12 @@ pub enum Command<'a> {
         source: &'a str,
         building: BuildOptions,
     },
+    /// Evaluate what the source means, with the frames of the same build.
+    Eval {
+        source: &'a str,
+        building: BuildOptions,
+        options: EvalOptions<'a>,
+    },
 }
 
 /// How a source is built.
@@ -42,6 +48,17 @@ pub struct BuildOptions {
     pub stack: u32,
     /// Bytes of output that the image has room for, 0 to 1048576.
     pub out_cap: u32,
+}
+
+/// How a source is evaluated.
+#[derive(Clone, Copy, PartialEq, Eq, Debug)]
+pub struct EvalOptions<'a> {
+    /// The file that the program reads. Where none is named its input is empty.
+    pub input: Option<&'a str>,
+    /// How much fuel there is: a call, a turn of a loop, a byte read and a byte written take a unit each.
+    pub fuel: u32,
+    /// Whether the variables are shown at the end.
+    pub vars: bool,
 }
 
 /// How an image is run.

@@ -2,6 +2,7 @@ ghost use Rattle.std.specs.Prelude.{◌≡◌, ℕ, ◌∷◌, [], Bool, IfSome,
 ghost use Rattle.std.specs.Prelude.{List, false, is_some, true, unwrap_or};
 ghost use Rattle.clap.specs.Words.{Text};
 ghost use Rattle.im_cli.specs.Named.{building_words, builds, default_building, default_options};
+ghost use Rattle.im_cli.specs.Named.{default_evaluation, evaluates, evaluation_words};
 ghost use Rattle.im_cli.specs.Named.{dumps, executes, is_faultless, is_option, IsPlain, named};
 ghost use Rattle.im_cli.specs.Named.{option_words, reports, runs, upgrades};
 ghost use Rattle.im_cli.specs.Numbers.{number_between, plain_number};
@@ -27,6 +28,10 @@ pub fn words_taken_law()
         ≡ Some (upgrades (codes "a") (codes "b")) }
     ensures report { named (codes "intermit" ∷ codes "report" ∷ codes "--out-cap" ∷ codes "9"
         ∷ codes "a" ∷ []) ≡ Some (reports (codes "a") (record { stack = 65536; out_cap = 9 })) }
+    ensures eval { named (codes "intermit" ∷ codes "eval" ∷ codes "--fuel" ∷ codes "9" ∷ codes "a"
+        ∷ codes "--vars" ∷ codes "--stack=256" ∷ codes "--input" ∷ codes "f" ∷ [])
+        ≡ Some (evaluates (codes "a") (record { stack = 256; out_cap = 1048576 })
+        (record { input = Some (codes "f"); fuel = 9; vars = true })) }
 {}
 
 /// Each command takes its files by their places, whatever their names are but options.
@@ -46,6 +51,9 @@ pub fn files_law()
         ≡ Some (upgrades old new) }
     ensures report { (program source : Text) → is_option source ≡ false
         → named (program ∷ codes "report" ∷ source ∷ []) ≡ Some (reports source default_building) }
+    ensures eval { (program source : Text) → is_option source ≡ false
+        → named (program ∷ codes "eval" ∷ source ∷ [])
+        ≡ Some (evaluates source default_building default_evaluation) }
 {}
 
 /// A build's options, each given or not, after the files.
@@ -68,6 +76,12 @@ pub fn building_law()
         → number_between 0 1048576 (unwrap_or out_cap (codes "1048576")) ≡ Some most
         → named (program ∷ codes "report" ∷ source ∷ building_words stack out_cap)
         ≡ Some (reports source (record { stack = bytes; out_cap = most })) }
+    ensures eval { (program source : Text) (stack out_cap : Option Text) (bytes most : ℕ)
+        → is_option source ≡ false
+        → number_between 256 1048576 (unwrap_or stack (codes "65536")) ≡ Some bytes
+        → number_between 0 1048576 (unwrap_or out_cap (codes "1048576")) ≡ Some most
+        → named (program ∷ codes "eval" ∷ source ∷ building_words stack out_cap)
+        ≡ Some (evaluates source (record { stack = bytes; out_cap = most }) default_evaluation) }
 {}
 
 /// A run's options, each given or not, after the files.
@@ -89,10 +103,21 @@ pub fn options_law()
         (record { input = input; trace = trace; steps = number; vars = vars })) }
 {}
 
+/// An evaluation's options, each given or not, after the file.
+pub fn evaluation_law()
+    ensures { (program source : Text) (input fuel : Option Text) (vars : Bool) (number : ℕ)
+        → is_option source ≡ false → IfSome input (λ file. is_option file ≡ false)
+        → plain_number (unwrap_or fuel (codes "1000000")) ≡ Some number
+        → named (program ∷ codes "eval" ∷ source ∷ evaluation_words input fuel vars)
+        ≡ Some (evaluates source default_building
+        (record { input = input; fuel = number; vars = vars })) }
+{}
+
 /// Words in which clap finds no fault name a command, unless a number has a sign or a zero before it.
 pub fn faultless_law()
     ensures { (words : List Text) → is_faultless words ≡ true → IsPlain (codes "steps") words
-        → IsPlain (codes "stack") words → IsPlain (codes "out-cap") words
+        → IsPlain (codes "fuel") words → IsPlain (codes "stack") words
+        → IsPlain (codes "out-cap") words
         → is_some (named words) ≡ true }
 {}
 
@@ -111,6 +136,8 @@ pub fn words_refused_law()
         ∷ codes "--stack" ∷ codes "255" ∷ []) ≡ None }
     ensures output { named (codes "intermit" ∷ codes "report" ∷ codes "a"
         ∷ codes "--out-cap" ∷ codes "1048577" ∷ []) ≡ None }
+    ensures fuel { named (codes "intermit" ∷ codes "eval" ∷ codes "a"
+        ∷ codes "--fuel" ∷ codes "4294967296" ∷ []) ≡ None }
     ensures sign { named (codes "intermit" ∷ codes "exec" ∷ codes "b"
         ∷ codes "--steps" ∷ codes "+7" ∷ []) ≡ None }
     ensures zero { named (codes "intermit" ∷ codes "exec" ∷ codes "b"

@@ -1,11 +1,12 @@
 ghost use Rattle.std.specs.Prelude.{◌≡◌, ◌≤◌, IfSome, option_map};
 ghost use Rattle.clap.specs.Words.{first_of, found_of, rows_of, subcommand_rows_of};
 ghost use Rattle.im_cli.specs.Named.{asked, asked_by, build_asked, building_asked, dump_asked, exec_asked};
+ghost use Rattle.im_cli.specs.Named.{eval_asked, evaluation_asked, evaluation_meaning};
 ghost use Rattle.im_cli.specs.Named.{is_set, meaning, number_asked, options_asked, options_meaning};
 ghost use Rattle.im_cli.specs.Named.{HasBounds, IsInBounds, report_asked, run_asked, upgrade_asked};
 
 use crate::number::{number_between, plain_number};
-use crate::{BuildOptions, Command, RunOptions};
+use crate::{BuildOptions, Command, EvalOptions, RunOptions};
 use clap::ArgMatches;
 
 /// The value of the operand or option of this name, where the words give one.
@@ -32,6 +33,15 @@ fn run_options<'a>(found: &ArgMatches<'a>) -> Option<RunOptions<'a>>
         steps,
         vars: is_set(found, "vars"),
     })
+}
+
+fn eval_options<'a>(found: &ArgMatches<'a>) -> Option<EvalOptions<'a>>
+    ensures { option_map evaluation_meaning result ≡ evaluation_asked (rows_of (found_of found.now)) }
+{
+    let fuel = plain_number(value_of(found, "fuel")?)?;
+    let input = value_of(found, "input");
+    let vars = is_set(found, "vars");
+    Some(EvalOptions { input, fuel, vars })
 }
 
 /// The number that the option of this name has.
@@ -117,6 +127,20 @@ fn report_command<'a>(found: &ArgMatches<'a>) -> Option<Command<'a>>
     Some(Command::Report { source, building })
 }
 
+fn eval_command<'a>(found: &ArgMatches<'a>) -> Option<Command<'a>>
+    ensures asked { option_map meaning result ≡ eval_asked (rows_of (found_of found.now)) }
+    ensures bounds { IfSome result HasBounds }
+{
+    let building = build_options(found)?;
+    let options = eval_options(found)?;
+    let source = value_of(found, "SRC")?;
+    Some(Command::Eval {
+        source,
+        building,
+        options,
+    })
+}
+
 /// The command of this name, with what was found for the words after it.
 fn command_of<'a>(name: &str, found: &ArgMatches<'a>) -> Option<Command<'a>>
     ensures asked { option_map meaning result ≡ asked_by name.now (rows_of (found_of found.now)) }
@@ -129,6 +153,7 @@ fn command_of<'a>(name: &str, found: &ArgMatches<'a>) -> Option<Command<'a>>
         "dump" => dump_command(found),
         "upgrade" => upgrade_command(found),
         "report" => report_command(found),
+        "eval" => eval_command(found),
         _ => None,
     }
 }

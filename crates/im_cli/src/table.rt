@@ -2,6 +2,7 @@ ghost use Rattle.std.specs.Prelude.{◌≡◌, IfOk, false};
 ghost use Rattle.clap.specs.Words.{app_of, rule_of, shape_of};
 ghost use Rattle.clap.specs.declared.builder.command.Command.TheViews.{out-Command};
 ghost use Rattle.im_cli.specs.Table.{build_options, build_row, command_line, dump_row, exec_row};
+ghost use Rattle.im_cli.specs.Table.{eval_options, eval_row};
 ghost use Rattle.im_cli.specs.Table.{file_options, flag, numbered, operand, report_row, run_row};
 ghost use Rattle.im_cli.specs.Table.{step_options, upgrade_row, valued, with_rules};
 
@@ -177,6 +178,35 @@ fn report_row<'a>(alloc: Global) -> Result<clap::Command<'a>, AllocError>
     with_build_options(alloc, command)
 }
 
+/// What a source is evaluated with.
+fn with_eval_options<'a>(
+    alloc: Global,
+    command: clap::Command<'a>,
+) -> Result<clap::Command<'a>, AllocError>
+    requires local { (out-Command command).has_globals ≡ false }
+    ensures row { IfOk result (λ c. app_of c ≡ with_rules (app_of command.entry) eval_options) }
+    ensures local { IfOk result (λ c. (out-Command c).has_globals ≡ false) }
+{
+    let input = "The file that the program reads; the input is empty without it";
+    let fuel = "Calls, turns of loops, bytes read and written at most, 0 to 4294967295";
+    let vars = "Shows the program's variables at the end";
+    command
+        .arg(valued(alloc, "input", "F", input))?
+        .arg(numbered(alloc, "fuel", "1000000", 0, 4_294_967_295, fuel))?
+        .arg(flag(alloc, "vars", vars))
+}
+
+fn eval_row<'a>(alloc: Global) -> Result<clap::Command<'a>, AllocError>
+    ensures row { IfOk result (λ c. shape_of c ≡ eval_row) }
+    ensures local { IfOk result (λ c. (out-Command c).has_globals ≡ false) }
+{
+    let command = clap::Command::new(alloc, "eval")
+        .about("Evaluates what a C source means, with the frames of its build")
+        .arg(operand(alloc, "SRC", "The C source"))?;
+    let command = with_build_options(alloc, command)?;
+    with_eval_options(alloc, command)
+}
+
 /// The table of commands, as clap reads it.
 pub(crate) fn command_table<'a>(alloc: Global) -> Result<clap::Command<'a>, AllocError>
     ensures { IfOk result (λ c. app_of c ≡ command_line) }
@@ -190,5 +220,6 @@ pub(crate) fn command_table<'a>(alloc: Global) -> Result<clap::Command<'a>, Allo
         .subcommand(exec_row(alloc)?)?
         .subcommand(dump_row(alloc)?)?
         .subcommand(upgrade_row(alloc)?)?
-        .subcommand(report_row(alloc)?)
+        .subcommand(report_row(alloc)?)?
+        .subcommand(eval_row(alloc)?)
 }

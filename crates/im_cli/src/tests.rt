@@ -1,6 +1,6 @@
 use crate::{
-    BuildOptions, Command, RunOptions, WordsFault, building_law, faultless_law, files_law,
-    options_law, read_words, words_refused_law, words_taken_law,
+    BuildOptions, Command, EvalOptions, RunOptions, WordsFault, building_law, evaluation_law,
+    faultless_law, files_law, options_law, read_words, words_refused_law, words_taken_law,
 };
 use std::alloc::Global;
 use std::test::Fail;
@@ -20,6 +20,7 @@ fn names_the_command(rt: HostRuntime) -> Result<(), Fail> {
     files_law();
     options_law();
     building_law();
+    evaluation_law();
     let alloc = rt.alloc();
     let plain = RunOptions {
         input: None,
@@ -91,6 +92,20 @@ fn names_the_command(rt: HostRuntime) -> Result<(), Fail> {
         },
     };
     assert!(rt; read_words(alloc, line.as_slice())? == expected);
+    let line = words(
+        alloc,
+        &["intermit", "eval", "a.c", "--fuel", "9", "--input=in"],
+    )?;
+    let expected = Command::Eval {
+        source: "a.c",
+        building,
+        options: EvalOptions {
+            input: Some("in"),
+            fuel: 9,
+            vars: false,
+        },
+    };
+    assert!(rt; read_words(alloc, line.as_slice())? == expected);
     Ok(())
 }
 
@@ -98,7 +113,7 @@ fn names_the_command(rt: HostRuntime) -> Result<(), Fail> {
 fn refuses_other_words(rt: HostRuntime) -> Result<(), Fail> {
     words_refused_law();
     let alloc = rt.alloc();
-    let lines: [&[&str]; 16] = [
+    let lines: [&[&str]; 18] = [
         &["intermit"],
         &["intermit", "run", "a.c"],
         &["intermit", "run", "a.c", "a.img", "more"],
@@ -115,6 +130,8 @@ fn refuses_other_words(rt: HostRuntime) -> Result<(), Fail> {
         &["intermit", "report", "a.c", "--stack", "1048577"],
         &["intermit", "build", "a.c", "a.img", "--out-cap", "00"],
         &["intermit", "exec", "a.img", "--stack", "256"],
+        &["intermit", "eval", "a.c", "--fuel", "07"],
+        &["intermit", "eval", "a.c", "--steps", "7"],
     ];
     for line in lines.as_slice() {
         let line = words(alloc, *line)?;

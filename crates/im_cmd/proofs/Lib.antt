@@ -1,9 +1,9 @@
 pub mod Builds
 pub mod Images
-pub mod Upgrades
 pub mod Bounds
 pub mod Counts
 pub mod Refusing
 pub mod Stages
 pub mod Reports
 pub mod Entries
+pub mod Evaluations

@@ -1,8 +1,8 @@
--- What a file gave, or why it gave nothing, and what that leaves outside.
-use Rattle.std.specs.Prelude.{◌≡◌, ℕ, ◌≤◌, List, length}
-use Rattle.im_io.specs.Shelf.{ShelfState, WhereTold, SameCounts, ReadFaulted, WasAbsent, SameFiles, NotThere}
-use Rattle.im_io.specs.Whole.{HasWhole, IsLonger}
-use Rattle.im_lines.specs.Refusals.{Refused, CannotRead, SourceTooLong, BadSource, NotAnImage, CannotWrite, InputTooLong, FileTooLong, NotATrace, TornStores, NoMemory}
+-- What a file gave or got, or why not, and what that leaves outside.
+use Rattle.std.specs.Prelude.{ℕ, ◌≤◌, ◌⊎◌, List, length}
+use Rattle.im_io.specs.Shelf.{ShelfState, WhereTold, SameCounts, ReadFaulted, WriteFaulted, WasAbsent, SameFiles, NotThere}
+use Rattle.im_io.specs.Whole.{HasWhole, IsLonger, HoldsText, HoldsFirst}
+use Rattle.im_lines.specs.Refusals.{Refused, CannotRead, FileTooLong, NoMemory}
 
 -- no count rose, and no file changed
 pub record Unchanged (old new : ShelfState) : Type 0 where
@@ -15,25 +15,19 @@ pub record ReadsFile (name bytes : List ℕ) (limit : ℕ) (old new : ShelfState
   pub files : WhereTold old.told new.told (HasWhole name bytes limit)
   pub short : length bytes ≤ limit
 
--- the file couldn't be read: a read failed, or it isn't there
-pub data Unreadable (name : List ℕ) (old new : ShelfState) : Type 0 where
-  failed : ReadFaulted old new → WhereTold old.told new.told SameFiles → Unreadable name old new
-  absent : WasAbsent old new → WhereTold old.told new.told (NotThere name) → Unreadable name old new
+-- why a file of at most so many bytes isn't read: a read failed, it isn't there, it has more bytes, or memory ran out
+pub data RefusesFile (name : List ℕ) (limit : ℕ) (old new : ShelfState) : Refused → Type 0 where
+  file_failed : ReadFaulted old new → WhereTold old.told new.told SameFiles → RefusesFile name limit old new (CannotRead name)
+  file_absent : WasAbsent old new → WhereTold old.told new.told (NotThere name) → RefusesFile name limit old new (CannotRead name)
+  file_too_long : SameCounts old new → WhereTold old.told new.told (IsLonger name limit) → RefusesFile name limit old new (FileTooLong name limit)
+  file_starved : Unchanged old new → RefusesFile name limit old new NoMemory
 
--- the file has more bytes than it may have
-pub record IsOver (name : List ℕ) (limit : ℕ) (old new : ShelfState) : Type 0 where
+-- the file holds the text, and no other file changed
+pub record StoresText (name text : List ℕ) (old new : ShelfState) : Type 0 where
   pub counts : SameCounts old new
-  pub files : WhereTold old.told new.told (IsLonger name limit)
+  pub files : WhereTold old.told new.told (HoldsText name text)
 
--- why a file of at most so many bytes isn't read
-abbrev pub RefusesFile : Refused → List ℕ → ℕ → ShelfState → ShelfState → Type 0
-RefusesFile (CannotRead other) name limit old new = (other ≡ name) × Unreadable name old new
-RefusesFile (FileTooLong other most) name limit old new = (other ≡ name) × (most ≡ limit) × IsOver name limit old new
-RefusesFile NoMemory name limit old new = Unchanged old new
-RefusesFile (SourceTooLong other) name limit old new = ⊥
-RefusesFile (BadSource other fault) name limit old new = ⊥
-RefusesFile (NotAnImage other fault) name limit old new = ⊥
-RefusesFile (CannotWrite other) name limit old new = ⊥
-RefusesFile (InputTooLong count most) name limit old new = ⊥
-RefusesFile (NotATrace other fault) name limit old new = ⊥
-RefusesFile TornStores name limit old new = ⊥
+-- a write failed: the file holds first bytes of the text or is as it was, and no other file changed
+pub record StoresPart (name text : List ℕ) (old new : ShelfState) : Type 0 where
+  pub counts : WriteFaulted old new
+  pub files : WhereTold old.told new.told (λ before after. SameFiles before after ⊎ HoldsFirst name text before after)

@@ -3,7 +3,6 @@ use Rattle.std.specs.Prelude.{◌≡◌, ℕ, Bool, true, false, Option, Some, N
 use Rattle.im_mem.specs.Memory.{Mem}
 use Rattle.im_image.specs.Contents.{ImageValue, ObjectValue}
 use Rattle.im_device.specs.Periods.{Device}
-use Rattle.im_image.specs.declared.form.Form.{Form}
 use Rattle.im_device.specs.Shows.{output_of, status_of, reason_of}
 use Rattle.im_num.specs.Variables.{Variable}
 use Rattle.im_device.specs.Variables.{vars_of}
@@ -13,15 +12,20 @@ use Rattle.im_lines.specs.declared.ending.Ending.{Ending}
 use Rattle.im_lines.specs.declared.ending.Ending.TheVariants.{Returned, StackExhausted, OutOfPower, MachineFault}
 use Rattle.im_compile.specs.declared.built.Built.{Built}
 use Rattle.im_lines.specs.Builds.{build_lines}
+use Rattle.im_lines.specs.Reports.{report_lines}
 use Rattle.im_lines.specs.Runs.{ending_of, run_lines}
 use Rattle.im_lines.specs.Variables.{variable_lines}
-use Rattle.im_lines.specs.Refusals.{Refused, CannotRead, SourceTooLong, BadSource, NotAnImage, CannotWrite, InputTooLong, FileTooLong, NotATrace, TornStores, NoMemory, refusal_line}
+use Rattle.im_lines.specs.Refusals.{Refused, CannotRead, BadSource, NotAnImage, CannotWrite, InputTooLong, FileTooLong, NotATrace, TornStores, NoMemory, refusal_line}
+
+-- what comes of a command: why it isn't carried out; or a text for the first sink, one for the second, and the exit status
+pub data Outcome : Type 0 where
+  refused : Refused → Outcome
+  done : List ℕ → List ℕ → ℕ → Outcome
 
 -- ---- exit statuses
 
 abbrev pub refusal_status : Refused → ℕ
 refusal_status (CannotRead name) = 7
-refusal_status (SourceTooLong name) = 3
 refusal_status (BadSource name fault) = 3
 refusal_status (NotAnImage name fault) = 5
 refusal_status (CannotWrite name) = 8
@@ -63,16 +67,21 @@ run_report image ended variables = run_lines (ending ended) (status_of ended.mem
 abbrev pub built_lines : Built → List ℕ
 built_lines built = build_lines (length built.image.words) built.gap built.frames.frames.items
 
+-- what a report tells
+abbrev pub reported_lines : Built → List ℕ
+reported_lines built = report_lines (length built.image.words) built.gap (length built.image.statics) built.frames.frames.items built.cuts.items
+
 -- the lines of the build before it, where the image was built by the same command
 abbrev pub report_with : Option Built → ImageValue → Device → Option (List Variable) → List ℕ
 report_with None image ended variables = run_report image ended variables
 report_with (Some built) image ended variables = built_lines built ++ run_report image ended variables
 
--- what a run leaves on the second sink
-abbrev pub report : Option Built → Bool → ImageValue → Device → List ℕ
-report built vars image ended = report_with built image ended (shown vars image.objects ended.mem)
+-- what comes of a run: its output, its report, and a status by how it ended
+abbrev pub run_outcome : Option Built → Bool → ImageValue → Device → Outcome
+run_outcome built vars image ended =
+    done (output_of image.form ended.mem) (report_with built image ended (shown vars image.objects ended.mem)) (ending_status (ending ended))
 
--- ---- what a sink got of a text: the whole, or the first bytes where its count of faults rose
+-- ---- what a sink got of a text: the whole, or first bytes up to the write that it refused, which its count of faults tells
 
 pub data Got (text : List ℕ) (old new : SinkState) : Type 0 where
   whole : SentAll text old new → Got text old new
@@ -80,20 +89,10 @@ pub data Got (text : List ℕ) (old new : SinkState) : Type 0 where
 
 -- ---- both sinks and the exit status
 
--- a refusal's line goes to the second sink, and nothing to the first
-pub record TellsRefusal (refused : Refused) (out out' err err' : SinkState) (status : ℕ) : Type 0 where
-  pub answered : status ≡ refusal_status refused
-  pub nothing : out' ≡ out
-  pub line : Got (refusal_line refused) err err'
-
--- a text goes to the first sink; where that refuses, the status is 8, and the second sink gets the line that says so
-pub data TellsText (text : List ℕ) (out out' err err' : SinkState) : ℕ → Type 0 where
-  text_told : SentAll text out out' → err' ≡ err → TellsText text out out' err err' 0
-  text_cut : SentFirst text out out' → Got no_output_line err err' → TellsText text out out' err err' 8
-
--- the output goes to the first sink and the report to the second; a sink that refuses turns the status into 8, and one
--- that refuses output has its own line on the second in the report's place
-pub data TellsRun (lines : List ℕ) (form : Form) (ended : Device) (out out' err err' : SinkState) : ℕ → Type 0 where
-  told : SentAll (output_of form ended.mem) out out' → SentAll lines err err' → TellsRun lines form ended out out' err err' (ending_status (ending ended))
-  report_cut : SentAll (output_of form ended.mem) out out' → SentFirst lines err err' → TellsRun lines form ended out out' err err' 8
-  output_cut : SentFirst (output_of form ended.mem) out out' → Got no_output_line err err' → TellsRun lines form ended out out' err err' 8
+-- A refusal's line goes to the second sink, and nothing to the first. A sink that refuses a text turns the status into 8, and
+-- one that refuses the first has a line of its own on the second in the place of the second text.
+pub data Tells (out out' err err' : SinkState) : Outcome → ℕ → Type 0 where
+  refusal_told : (r : Refused) → out' ≡ out → Got (refusal_line r) err err' → Tells out out' err err' (refused r) (refusal_status r)
+  told : (first second : List ℕ) (status : ℕ) → SentAll first out out' → SentAll second err err' → Tells out out' err err' (done first second status) status
+  second_cut : (first second : List ℕ) (status : ℕ) → SentAll first out out' → SentFirst second err err' → Tells out out' err err' (done first second status) 8
+  first_cut : (first second : List ℕ) (status : ℕ) → SentFirst first out out' → Got no_output_line err err' → Tells out out' err err' (done first second status) 8

@@ -1,7 +1,7 @@
 -- An image is run, with the input and under the periods that the options name.
 use Rattle.std.specs.List.{list_any}
-use Rattle.std.specs.Prelude.{◌≡◌, ℕ, ◌==◌, not, Bool, true, false, ◌≤◌, ◌<◌, ◌⊎◌, List, [], ◌∷◌, length, All, Option, Some, None, Ok, Err, IfSome}
-use Rattle.im_io.specs.Shelf.{ShelfState, Told}
+use Rattle.std.specs.Prelude.{◌≡◌, ℕ, ◌==◌, not, Bool, true, false, ◌≤◌, ◌<◌, List, [], ◌∷◌, length, All, Option, Some, None, Ok, Err}
+use Rattle.im_io.specs.Shelf.{ShelfState}
 use Rattle.im_image.specs.declared.form.Form.{Form}
 use Rattle.im_image.specs.declared.form.Form.TheVariants.{OneLength, TwoLengths}
 use Rattle.im_image.specs.Contents.{ImageValue}
@@ -12,43 +12,40 @@ use Rattle.im_mem.specs.Map.{input_capacity}
 use Rattle.im_device.specs.Periods.{Device, fresh, power}
 use Rattle.im_device.specs.Load.{memory_of}
 use Rattle.im_cli.specs.Named.{Options}
-use Rattle.im_lines.specs.Refusals.{Refused, CannotRead, SourceTooLong, BadSource, NotAnImage, CannotWrite, InputTooLong, FileTooLong, NotATrace, TornStores, NoMemory}
-use Rattle.im_cmd.specs.Files.{Unchanged, Unreadable, IsOver}
+use Rattle.im_lines.specs.Refusals.{Refused, InputTooLong, NotATrace, TornStores, NoMemory}
+use Rattle.im_cmd.specs.Files.{Unchanged, ReadsFile, RefusesFile}
 
 -- bytes of an input's or a trace's file
 abbrev pub run_file_limit : ℕ
 run_file_limit = 16777216
 
--- where files are told, the file of this name holds these bytes
-abbrev pub IsFile : List ℕ → List ℕ → Option Told → Type 0
-IsFile name bytes told = IfSome told (λ t. t.files name ≡ Some bytes)
+-- the input is what the named file holds; without a name there is none, and nothing is read
+abbrev pub ReadsInput : Option (List ℕ) → List ℕ → ShelfState → ShelfState → Type 0
+ReadsInput None input old new = (input ≡ []) × (new ≡ old)
+ReadsInput (Some name) input old new = ReadsFile name input run_file_limit old new
 
--- a named file that was read: its bytes, of which there are no more than such a file may have
-pub record Holds (name bytes : List ℕ) (told : Option Told) : Type 0 where
-  pub there : IsFile name bytes told
-  pub short : length bytes ≤ run_file_limit
+-- an input was read, which the machine has room for
+pub record TakesInput (named : Option (List ℕ)) (input : List ℕ) (old new : ShelfState) : Type 0 where
+  pub reads : ReadsInput named input old new
+  pub fits : length input ≤ input_capacity
+  pub bytes : All (λ byte. byte < 256) input
 
--- the input is what the named file holds; without a name there is none
-abbrev pub IsInput : Option (List ℕ) → List ℕ → Option Told → Type 0
-IsInput None input told = input ≡ []
-IsInput (Some name) input told = Holds name input told
+-- why none is taken: its file isn't read, or holds more than the machine has room for
+pub data RefusesInput (named : Option (List ℕ)) (old new : ShelfState) : Refused → Type 0 where
+  input_unread : (name : List ℕ) (r : Refused) → named ≡ Some name → RefusesFile name run_file_limit old new r → RefusesInput named old new r
+  input_too_long : (input : List ℕ) → ReadsInput named input old new → input_capacity < length input
+      → RefusesInput named old new (InputTooLong (length input) input_capacity)
 
 -- the named file's text is a trace's, of these periods
-pub record HoldsTrace (name : List ℕ) (periods : List Period) (told : Option Told) : Type 0 where
+pub record ReadsTrace (name : List ℕ) (periods : List Period) (old new : ShelfState) : Type 0 where
   pub text : List ℕ
-  pub held : Holds name text told
+  pub reads : ReadsFile name text run_file_limit old new
   pub lists : trace_of text ≡ Ok periods
 
 -- the periods are those of the named file; without a name there is one of so many instructions, with zeros in the registers
-abbrev pub ArePeriods : Option (List ℕ) → ℕ → List Period → Option Told → Type 0
-ArePeriods None steps periods told = periods ≡ (record { n = steps; junk = 0; count = 1; mask = 0 }) ∷ []
-ArePeriods (Some name) steps periods told = HoldsTrace name periods told
-
--- an input was taken, which the machine has room for
-pub record TakesInput (options : Options) (input : List ℕ) (told : Option Told) : Type 0 where
-  pub is_input : IsInput options.input input told
-  pub fits : length input ≤ input_capacity
-  pub bytes : All (λ byte. byte < 256) input
+abbrev pub ReadsPeriods : Option (List ℕ) → ℕ → List Period → ShelfState → ShelfState → Type 0
+ReadsPeriods None steps periods old new = (periods ≡ (record { n = steps; junk = 0; count = 1; mask = 0 }) ∷ []) × (new ≡ old)
+ReadsPeriods (Some name) steps periods old new = ReadsTrace name periods old new
 
 -- some period ends within a store
 abbrev pub has_torn : List Period → Bool
@@ -59,60 +56,28 @@ abbrev pub needs_form : Form → List Period → Bool
 needs_form OneLength periods = has_torn periods
 needs_form TwoLengths periods = false
 
--- the run of an image, nothing having failed outside
+-- the run of an image: the input was read, then the periods, and nothing failed outside
 pub record RunsImage (options : Options) (image : ImageValue) (ended : Device) (old new : ShelfState) : Type 0 where
-  pub unchanged : Unchanged old new
   pub input : List ℕ
-  pub takes : TakesInput options input new.told
+  pub taken : ShelfState
+  pub takes : TakesInput options.input input old taken
   pub periods : List Period
-  pub are_periods : ArePeriods options.trace options.steps periods new.told
+  pub reads : ReadsPeriods options.trace options.steps periods taken new
   pub allowed : needs_form image.form periods ≡ false
   pub run : ended ≡ power periods (fresh (memory_of image input))
 
--- ---- why an image isn't run, and what that leaves outside
+-- why a trace isn't read: its file isn't, or holds a text that is no trace's, by its first fault
+pub data RefusesTrace (name : List ℕ) (old new : ShelfState) : Refused → Type 0 where
+  trace_unread : (r : Refused) → RefusesFile name run_file_limit old new r → RefusesTrace name old new r
+  no_trace : (text : List ℕ) (fault : TraceFault) → ReadsFile name text run_file_limit old new → trace_of text ≡ Err fault
+      → RefusesTrace name old new (NotATrace name fault)
 
--- an input was taken before
-abbrev pub HasInput : Options → Option Told → Type 0
-HasInput options told = (input : List ℕ) × TakesInput options input told
-
--- the file is the input's; or it is the trace's, and an input was taken before
-abbrev pub IsNext : List ℕ → Options → Option Told → Type 0
-IsNext name options told = (options.input ≡ Some name) ⊎ ((options.trace ≡ Some name) × HasInput options told)
-
--- the input is longer than the machine has room for
-pub record HasLongInput (count limit : ℕ) (options : Options) (old new : ShelfState) : Type 0 where
-  pub unchanged : Unchanged old new
-  pub input : List ℕ
-  pub is_input : IsInput options.input input new.told
-  pub length_is : count ≡ length input
-  pub limit_is : limit ≡ input_capacity
-  pub over : limit < count
-
--- an input was taken, and the text of the file that is named for the periods is no trace's, by its first fault
-pub record HasNoTrace (name : List ℕ) (fault : TraceFault) (options : Options) (old new : ShelfState) : Type 0 where
-  pub unchanged : Unchanged old new
-  pub before : HasInput options new.told
-  pub named : options.trace ≡ Some name
-  pub text : List ℕ
-  pub held : Holds name text new.told
-  pub faulty : trace_of text ≡ Err fault
-
--- an input and periods were taken, of which one ends within a store, and the image's form is 0
-pub record HasTornStores (image : ImageValue) (options : Options) (old new : ShelfState) : Type 0 where
-  pub unchanged : Unchanged old new
-  pub before : HasInput options new.told
-  pub periods : List Period
-  pub are_periods : ArePeriods options.trace options.steps periods new.told
-  pub needs : needs_form image.form periods ≡ true
-
-abbrev pub RefusesRun : Refused → ImageValue → Options → ShelfState → ShelfState → Type 0
-RefusesRun (CannotRead name) image options old new = IsNext name options new.told × Unreadable name old new
-RefusesRun (FileTooLong name limit) image options old new = IsNext name options new.told × (limit ≡ run_file_limit) × IsOver name run_file_limit old new
-RefusesRun (InputTooLong count limit) image options old new = HasLongInput count limit options old new
-RefusesRun (NotATrace name fault) image options old new = HasNoTrace name fault options old new
-RefusesRun TornStores image options old new = HasTornStores image options old new
-RefusesRun NoMemory image options old new = Unchanged old new
-RefusesRun (SourceTooLong name) image options old new = ⊥
-RefusesRun (BadSource name fault) image options old new = ⊥
-RefusesRun (NotAnImage name fault) image options old new = ⊥
-RefusesRun (CannotWrite name) image options old new = ⊥
+-- why an image isn't run
+pub data RefusesRun (image : ImageValue) (options : Options) (old new : ShelfState) : Refused → Type 0 where
+  no_input : (r : Refused) → RefusesInput options.input old new r → RefusesRun image options old new r
+  periods_unread : (input : List ℕ) (taken : ShelfState) (name : List ℕ) (r : Refused) → TakesInput options.input input old taken
+      → options.trace ≡ Some name → RefusesTrace name taken new r → RefusesRun image options old new r
+  torn_stores : (input : List ℕ) (taken : ShelfState) (periods : List Period) → TakesInput options.input input old taken
+      → ReadsPeriods options.trace options.steps periods taken new → needs_form image.form periods ≡ true
+      → RefusesRun image options old new TornStores
+  run_starved : Unchanged old new → RefusesRun image options old new NoMemory

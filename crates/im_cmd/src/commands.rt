@@ -1,12 +1,14 @@
-ghost use Rattle.im_cli.specs.Named.{IsInBounds, options_meaning};
-ghost use Rattle.im_cmd.specs.Answers.{BuildAnswers, RunAnswers, ExecAnswers, DumpAnswers, UpgradeAnswers, ReportAnswers};
+ghost use Rattle.im_cli.specs.Named.{IsInBounds, evaluation_meaning, options_meaning, builds, runs, executes, dumps, upgrades, reports, evaluates};
+ghost use Rattle.im_cmd.specs.Answers.{CarriesOut};
 
 use crate::building::{build, compile_source};
+use crate::evaluated::tell_evaluation;
+use crate::evaluating::evaluate;
 use crate::running::run_image;
 use crate::stored::read_stored;
 use crate::telling::{finish, send_built, send_report_of, tell_refusal, tell_run};
 use crate::upgrading::upgrade_image;
-use im_cli::{BuildOptions, RunOptions};
+use im_cli::{BuildOptions, EvalOptions, RunOptions};
 use im_io::{Shelf, Sink};
 use im_lines::{send_dump_lines, send_upgrade_line};
 use std::alloc::Global;
@@ -22,7 +24,7 @@ pub fn build_source<H: Shelf, O: Sink, E: Sink>(
     building: BuildOptions,
 ) -> u8
     requires { IsInBounds building }
-    ensures { BuildAnswers source.now image_name.now building (H.state shelf.old)
+    ensures { CarriesOut (builds source.now image_name.now building) (H.state shelf.old)
         (H.state shelf.new) (O.state out.old) (O.state out.new) (E.state err.old) (E.state err.new)
         result }
 {
@@ -48,7 +50,7 @@ pub fn run_source<H: Shelf, O: Sink, E: Sink>(
     options: RunOptions<'_>,
 ) -> u8
     requires { IsInBounds building }
-    ensures { RunAnswers source.now image_name.now building (options_meaning options.entry)
+    ensures { CarriesOut (runs source.now image_name.now building (options_meaning options.entry))
         (H.state shelf.old) (H.state shelf.new) (O.state out.old) (O.state out.new)
         (E.state err.old) (E.state err.new) result }
 {
@@ -71,7 +73,7 @@ pub fn execute<H: Shelf, O: Sink, E: Sink>(
     image_name: &str,
     options: RunOptions<'_>,
 ) -> u8
-    ensures { ExecAnswers image_name.now (options_meaning options.entry) (H.state shelf.old)
+    ensures { CarriesOut (executes image_name.now (options_meaning options.entry)) (H.state shelf.old)
         (H.state shelf.new) (O.state out.old) (O.state out.new) (E.state err.old) (E.state err.new)
         result }
 {
@@ -93,7 +95,7 @@ pub fn dump<H: Shelf, O: Sink, E: Sink>(
     err: &mut E,
     image_name: &str,
 ) -> u8
-    ensures { DumpAnswers image_name.now (H.state shelf.old) (H.state shelf.new) (O.state out.old)
+    ensures { CarriesOut (dumps image_name.now) (H.state shelf.old) (H.state shelf.new) (O.state out.old)
         (O.state out.new) (E.state err.old) (E.state err.new) result }
 {
     match read_stored(alloc, shelf, image_name) {
@@ -114,7 +116,7 @@ pub fn upgrade<H: Shelf, O: Sink, E: Sink>(
     old: &str,
     new: &str,
 ) -> u8
-    ensures { UpgradeAnswers old.now new.now (H.state shelf.old) (H.state shelf.new)
+    ensures { CarriesOut (upgrades old.now new.now) (H.state shelf.old) (H.state shelf.new)
         (O.state out.old) (O.state out.new) (E.state err.old) (E.state err.new) result }
 {
     match upgrade_image(alloc, shelf, old, new) {
@@ -136,7 +138,7 @@ pub fn report<H: Shelf, O: Sink, E: Sink>(
     building: BuildOptions,
 ) -> u8
     requires { IsInBounds building }
-    ensures { ReportAnswers source.now building (H.state shelf.old) (H.state shelf.new)
+    ensures { CarriesOut (reports source.now building) (H.state shelf.old) (H.state shelf.new)
         (O.state out.old) (O.state out.new) (E.state err.old) (E.state err.new) result }
 {
     match compile_source(alloc, shelf, source, building) {
@@ -144,6 +146,28 @@ pub fn report<H: Shelf, O: Sink, E: Sink>(
             let sent = send_report_of(out, &built);
             finish(err, sent)
         }
+        Err(refusal) => tell_refusal(err, &refusal),
+    }
+}
+
+/// Builds a source, stores nothing, and evaluates what it means with the frames of that build. `out` gets
+/// the output, and `err` the frames, how it ended and the variables.
+pub fn evaluate_source<H: Shelf, O: Sink, E: Sink>(
+    alloc: Global,
+    shelf: &mut H,
+    out: &mut O,
+    err: &mut E,
+    source: &str,
+    building: BuildOptions,
+    options: EvalOptions<'_>,
+) -> u8
+    requires { IsInBounds building }
+    ensures { CarriesOut (evaluates source.now building (evaluation_meaning options.entry))
+        (H.state shelf.old) (H.state shelf.new) (O.state out.old) (O.state out.new)
+        (E.state err.old) (E.state err.new) result }
+{
+    match evaluate(alloc, shelf, source, building, options) {
+        Ok(evaluation) => tell_evaluation(out, err, &evaluation, options.vars),
         Err(refusal) => tell_refusal(err, &refusal),
     }
 }

@@ -4,7 +4,7 @@ ghost use Rattle.im_cli.specs.Named.{HasBounds, meaning};
 ghost use Rattle.im_cmd.specs.Stages.{TellsFault};
 ghost use Rattle.im_cmd.specs.Answers.{Answers, CarriesOut};
 
-use crate::commands::{build_source, dump, execute, report, run_source, upgrade};
+use crate::commands::{build_source, dump, evaluate_source, execute, report, run_source, upgrade};
 use crate::status::USAGE;
 use crate::telling::tell_refusal;
 use im_cli::{Command, WordsFault, read_words};
@@ -18,8 +18,8 @@ use std::alloc::Global;
 ///
 /// | Status | Comes |
 /// |---|---|
-/// | 0 | all was done; a run halted, and not for want of stack |
-/// | 1 | a run halted for want of stack |
+/// | 0 | all was done; a run halted or an evaluation ended, and not for want of stack |
+/// | 1 | a run halted for want of stack, or an evaluation ended so |
 /// | 2 | the words name no command, or ask for help |
 /// | 3 | the source is refused: it is no C, breaks a rule, is over a limit, or isn't compiled yet |
 /// | 4 | a run neither halted nor faulted in the periods of power that it had |
@@ -29,6 +29,8 @@ use std::alloc::Global;
 /// | 8 | the image, the output or the report can't be written |
 /// | 9 | memory ran out |
 /// | 10 | a run ended by a machine fault |
+/// | 11 | what a source that is evaluated does is undefined |
+/// | 12 | an evaluation ran out of fuel |
 /// | 13 | the input is longer than 1048576 bytes |
 /// | 14 | another file is longer than files of its kind may be |
 /// | 16 | a period of the trace ends within a store, and the image's form is 0 |
@@ -87,5 +89,10 @@ fn carry_out<H: Shelf, O: Sink, E: Sink>(
         Command::Dump { image } => dump(alloc, shelf, out, err, image),
         Command::Upgrade { old, new } => upgrade(alloc, shelf, out, err, old, new),
         Command::Report { source, building } => report(alloc, shelf, out, err, source, building),
+        Command::Eval {
+            source,
+            building,
+            options,
+        } => evaluate_source(alloc, shelf, out, err, source, building, options),
     }
 }

@@ -15,11 +15,12 @@ pub fn read_file<'a, H: Shelf>(
 ) -> Result<Vec<u8>, Refusal<'a>>
     ensures { MatchResult result (λ bytes. ReadsFile name.now bytes.items limit (H.state shelf.old)
         (H.state shelf.new))
-        (λ refusal. RefusesFile (refused_of refusal) name.now limit (H.state shelf.old) (H.state shelf.new)) }
+        (λ refusal. RefusesFile name.now limit (H.state shelf.old) (H.state shelf.new) (refused_of refusal)) }
 {
     match read_whole(alloc, shelf, name, limit) {
         Ok(bytes) => Ok(bytes),
-        Err(ReadFault::Absent) | Err(ReadFault::Fault) => Err(Refusal::CannotRead(name)),
+        Err(ReadFault::Absent) => Err(Refusal::CannotRead(name)),
+        Err(ReadFault::Fault) => Err(Refusal::CannotRead(name)),
         Err(ReadFault::TooLong(most)) => Err(Refusal::FileTooLong(name, most)),
         Err(ReadFault::OutOfMemory) => Err(Refusal::OutOfMemory),
     }

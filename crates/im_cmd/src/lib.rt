@@ -1,9 +1,12 @@
-// The commands: sources become images, and images are run and shown.
+//! From the words of a command to its texts and its exit status: sources become images or are evaluated,
+//! and images are run and shown.
 #![tactic(auto)]
 
 mod building;
 mod commands;
 mod entry;
+mod evaluated;
+mod evaluating;
 mod files;
 mod running;
 mod status;

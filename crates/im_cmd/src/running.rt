@@ -1,10 +1,10 @@
-ghost use Rattle.std.specs.Prelude.{◌≡◌, ◌∷◌, [], IfOk, MatchResult};
+ghost use Rattle.std.specs.Prelude.{◌≡◌, ◌∷◌, [], IfOk, MatchResult, option_map};
 ghost use Rattle.im_mem.specs.Memory.{view};
 ghost use Rattle.im_cli.specs.Named.{options_meaning};
 ghost use Rattle.im_lines.specs.Refusals.{refused_of};
-ghost use Rattle.im_cmd.specs.Runs.{RefusesRun, has_torn, needs_form};
+ghost use Rattle.im_cmd.specs.Runs.{ReadsInput, RefusesInput, ReadsTrace, RefusesTrace, RefusesRun, has_torn, needs_form};
 ghost use Rattle.im_cmd.specs.Outcome.{shown};
-ghost use Rattle.im_cmd.specs.Stages.{ended_of, variables_of, ReadsInput, RefusesInput, Loads, RefusesLoad, ReadsTrace, RefusesTrace, ReadsPeriods, RefusesPeriods, Ran};
+ghost use Rattle.im_cmd.specs.Stages.{ended_of, variables_of, Loads, RefusesLoad, TakesPeriods, RefusesPeriods, Ran};
 
 use crate::files::read_file;
 use im_cli::RunOptions;
@@ -28,17 +28,17 @@ pub struct Run {
     pub variables: Option<Vec<Var>>,
 }
 
-// The bytes of the file that is named for the input; none without a name.
-fn read_input<'a, H: Shelf>(
+/// The bytes of the file that is named for the input; none without a name.
+pub fn read_input<'a, H: Shelf>(
     alloc: Global,
     shelf: &mut H,
-    options: RunOptions<'a>,
+    file: Option<&'a str>,
 ) -> Result<Vec<u8>, Refusal<'a>>
-    ensures { MatchResult result (λ input. ReadsInput (options_meaning options.entry) input.items
-        (H.state shelf.old) (H.state shelf.new))
-        (λ refusal. RefusesInput (refused_of refusal) (options_meaning options.entry) (H.state shelf.old) (H.state shelf.new)) }
+    ensures { let named = option_map (λ file. file.now) file.entry in MatchResult result
+        (λ input. ReadsInput named input.items (H.state shelf.old) (H.state shelf.new))
+        (λ refusal. RefusesInput named (H.state shelf.old) (H.state shelf.new) (refused_of refusal)) }
 {
-    match options.input {
+    match file {
         Some(name) => match read_file(alloc, shelf, name, RUN_FILE_LIMIT) {
             Ok(input) => Ok(input),
             Err(refusal) => Err(refusal),
@@ -50,7 +50,7 @@ fn read_input<'a, H: Shelf>(
 // A machine with an image and an input.
 fn load<'a>(alloc: Global, image: &Image, input: &[u8]) -> Result<Machine<FlatMem>, Refusal<'a>>
     ensures { MatchResult result (λ machine. Loads image.now input.now machine)
-        (λ refusal. RefusesLoad (refused_of refusal) input.now) }
+        (λ refusal. RefusesLoad input.now (refused_of refusal)) }
 {
     match Machine::load(alloc, image, input) {
         Ok(machine) => Ok(machine),
@@ -82,7 +82,7 @@ fn read_trace_file<'a, H: Shelf>(
 ) -> Result<Trace, Refusal<'a>>
     ensures { MatchResult result (λ periods. ReadsTrace name.now periods (H.state shelf.old)
         (H.state shelf.new))
-        (λ refusal. RefusesTrace (refused_of refusal) name.now (H.state shelf.old) (H.state shelf.new)) }
+        (λ refusal. RefusesTrace name.now (H.state shelf.old) (H.state shelf.new) (refused_of refusal)) }
 {
     let text = match read_file(alloc, shelf, name, RUN_FILE_LIMIT) {
         Ok(text) => text,
@@ -101,9 +101,9 @@ fn read_periods<'a, H: Shelf>(
     shelf: &mut H,
     options: RunOptions<'a>,
 ) -> Result<Trace, Refusal<'a>>
-    ensures { MatchResult result (λ periods. ReadsPeriods (options_meaning options.entry) periods
+    ensures { MatchResult result (λ periods. TakesPeriods (options_meaning options.entry) periods
         (H.state shelf.old) (H.state shelf.new))
-        (λ refusal. RefusesPeriods (refused_of refusal) (options_meaning options.entry) (H.state shelf.old) (H.state shelf.new)) }
+        (λ refusal. RefusesPeriods (options_meaning options.entry).trace (H.state shelf.old) (H.state shelf.new) (refused_of refusal)) }
 {
     match options.trace {
         Some(name) => match read_trace_file(alloc, shelf, name) {
@@ -160,9 +160,9 @@ pub fn run_image<'a, H: Shelf>(
     ensures { MatchResult result (λ run. Ran (options_meaning options.entry) image.now
         run.machine.form (ended_of run.machine) (variables_of (λ vars. vars.items) run.variables)
         (H.state shelf.old) (H.state shelf.new))
-        (λ refusal. RefusesRun (refused_of refusal) image.now (options_meaning options.entry) (H.state shelf.old) (H.state shelf.new)) }
+        (λ refusal. RefusesRun image.now (options_meaning options.entry) (H.state shelf.old) (H.state shelf.new) (refused_of refusal)) }
 {
-    let input = match read_input(alloc, shelf, options) {
+    let input = match read_input(alloc, shelf, options.input) {
         Ok(input) => input,
         Err(refusal) => return Err(refusal),
     };

@@ -7,7 +7,7 @@ use im_lines::{Ending, Refusal};
 /// All was done, and a run halted.
 pub const DONE: u8 = 0;
 
-/// A run halted for want of stack.
+/// A run halted for want of stack, or an evaluation ended so.
 pub const STACK_EXHAUSTED: u8 = 1;
 
 /// The words name no command.
@@ -34,6 +34,12 @@ pub const STARVED: u8 = 9;
 
 pub const MACHINE_FAULT: u8 = 10;
 
+/// What a source does on the input is undefined.
+pub const UNDEFINED: u8 = 11;
+
+/// Fuel ran out.
+pub const OUT_OF_FUEL: u8 = 12;
+
 /// The input is longer than the machine has room for.
 pub const INPUT_TOO_LONG: u8 = 13;
 
@@ -49,7 +55,7 @@ pub fn status_of_refusal(refusal: &Refusal) -> u8
 {
     match refusal {
         Refusal::CannotRead(_) => UNREADABLE,
-        Refusal::SourceTooLong(_) | Refusal::BadSource(_, _) => REFUSED_SOURCE,
+        Refusal::BadSource(_, _) => REFUSED_SOURCE,
         Refusal::NotAnImage(_, _) => REFUSED_IMAGE,
         Refusal::CannotWrite(_) => UNWRITABLE,
         Refusal::InputTooLong(_, _) => INPUT_TOO_LONG,

@@ -1,8 +1,8 @@
 ghost use Rattle.std.specs.Prelude.{◌≡◌, length, option_map, IfSome};
 ghost use Rattle.im_io.specs.Whole.{Sends};
 ghost use Rattle.im_lines.specs.Refusals.{refusal_line, refused_of};
-ghost use Rattle.im_lines.specs.Reports.{report_lines};
-ghost use Rattle.im_cmd.specs.Outcome.{Got, TellsRun, built_lines, ending, refusal_status, report_with, run_report, shown_lines};
+ghost use Rattle.im_device.specs.Shows.{output_of};
+ghost use Rattle.im_cmd.specs.Outcome.{Got, Tells, built_lines, done, ending, ending_status, refusal_status, report_with, reported_lines, run_report, shown_lines};
 ghost use Rattle.im_cmd.specs.Stages.{Finishes, ended_of, variables_of};
 
 use crate::running::Run;
@@ -66,9 +66,7 @@ pub fn send_built<S: Sink>(sink: &mut S, built: &Built) -> Result<(), Failed>
 
 /// Sends the lines of a report.
 pub fn send_report_of<S: Sink>(sink: &mut S, built: &Built) -> Result<(), Failed>
-    ensures { Sends (report_lines (length built.now.image.words) built.now.gap
-        (length built.now.image.statics) built.now.frames.frames.items built.now.cuts.items)
-        result (S.state sink.old) (S.state sink.new) }
+    ensures { Sends (reported_lines built.now) result (S.state sink.old) (S.state sink.new) }
 {
     send_report_lines(
         sink,
@@ -150,11 +148,11 @@ pub fn tell_run<O: Sink, E: Sink>(
     built: Option<&Built>,
     run: &Run,
 ) -> u8
-    ensures { TellsRun (report_with (option_map (λ b. b.now) built.entry) image.now
-        (ended_of run.now.machine) (variables_of (λ vars. vars.items) run.now.variables))
-        run.now.machine.form
-        (ended_of run.now.machine) (O.state out.old) (O.state out.new) (E.state err.old)
-        (E.state err.new) result }
+    ensures { Tells (O.state out.old) (O.state out.new) (E.state err.old) (E.state err.new)
+        (done (output_of run.now.machine.form (ended_of run.now.machine).mem)
+        (report_with (option_map (λ b. b.now) built.entry) image.now (ended_of run.now.machine)
+        (variables_of (λ vars. vars.items) run.now.variables))
+        (ending_status (ending (ended_of run.now.machine)))) result }
 {
     match send(out, run.machine.output()) {
         Ok(()) => {}

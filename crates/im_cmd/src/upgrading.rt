@@ -1,7 +1,7 @@
 ghost use Rattle.std.specs.Prelude.{◌≡◌, MatchResult};
 ghost use Rattle.im_image.specs.Contents.{ImageValue};
 ghost use Rattle.im_lines.specs.Refusals.{refused_of};
-ghost use Rattle.im_cmd.specs.Upgrades.{Upgrades, RefusesUpgrade};
+ghost use Rattle.im_cmd.specs.Images.{Upgrades, RefusesUpgrade};
 
 use crate::building::store_image;
 use crate::stored::read_stored;
@@ -20,7 +20,7 @@ pub fn upgrade_image<'a, H: Shelf>(
     ensures { MatchResult result
         (λ version. (image : ImageValue) × (version ≡ image.version)
         × Upgrades old.now new.now image (H.state shelf.old) (H.state shelf.new))
-        (λ refusal. RefusesUpgrade (refused_of refusal) old.now new.now (H.state shelf.old) (H.state shelf.new)) }
+        (λ refusal. RefusesUpgrade old.now new.now (H.state shelf.old) (H.state shelf.new) (refused_of refusal)) }
 {
     let image = match read_stored(alloc, shelf, old) {
         Ok(image) => image,

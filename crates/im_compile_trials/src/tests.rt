@@ -1,3 +1,4 @@
+use crate::examples::EXAMPLES;
 use crate::functions::FUNCTIONS;
 use crate::kinds::KINDS;
 use crate::operators::OPERATORS;
@@ -141,7 +142,8 @@ fn programs_run_as_c_says(rt: HostRuntime) -> Result<(), Fail> {
     run_all(&rt, alloc, &SEQUENCES)?;
     run_all(&rt, alloc, &STATEMENTS)?;
     run_all(&rt, alloc, &FUNCTIONS)?;
-    run_all(&rt, alloc, &STATICS)
+    run_all(&rt, alloc, &STATICS)?;
+    run_all(&rt, alloc, &EXAMPLES)
 }
 
 fn hold_all(rt: &impl Abort, alloc: Global, rules: &Rules) -> Result<(), Fail> {

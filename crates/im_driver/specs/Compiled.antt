@@ -23,6 +23,7 @@ use Rattle.im_rule_limits.specs.Limits as limits
 use Rattle.im_plain.specs.Plain.{other_unit}
 use Rattle.im_compile.specs.declared.options.Options.{Options}
 use Rattle.im_compile.specs.declared.built.Built.{Built}
+use Rattle.im_compile.specs.Passed.{IsSource}
 use Rattle.im_compile.specs.Built.{IsBuilt}
 use Rattle.im_compile.specs.Faults.{HasLargeFrame, HasLargeCode, HasUnnamed}
 use Rattle.im_gap.specs.Gap.{recovery_steps}
@@ -62,6 +63,12 @@ pub record IsCompiled (source : List ℕ) (options : Options) (built : Built) : 
   pub short : built.gap ≤ recovery_steps + length built.image.words
   -- pass by pass; the cuts that are told are those of the linked code, by address
   pub passes : IsBuilt made options built
+
+-- the same of this program, which can be evaluated: it is well typed, and the types of its objects are in its table
+pub record IsCompiledFrom (source : List ℕ) (options : Options) (prog : MadeProgram) (built : Built) : Type 0 where
+  pub compiled : IsCompiled source options built
+  pub is_made : compiled.made ≡ prog
+  pub is_source : IsSource prog
 
 -- a node of the source's tree, whose first token is of this line, breaks the rule
 pub record IsRuleBroken (source : List ℕ) (line rule : ℕ) : Type 0 where

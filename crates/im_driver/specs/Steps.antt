@@ -23,7 +23,7 @@ use Rattle.im_compile.specs.declared.options.Options.{Options}
 use Rattle.im_compile.specs.declared.built.Built.{Built}
 use Rattle.im_compile.specs.Passed.{IsSource}
 use Rattle.im_compile.specs.Built.{IsBuilt}
-use Rattle.im_driver.specs.Compiled.{IsTreeOf, IsProgramOf, IsCompiled}
+use Rattle.im_driver.specs.Compiled.{IsTreeOf, IsProgramOf, IsCompiledFrom}
 
 -- a checked program is its source's, and what compiling asks
 pub record IsReady (source : List ℕ) (prog : Prog) : Type 0 where
@@ -38,7 +38,7 @@ ProgramLaw =
 abbrev pub KeptLaw : Type 0
 KeptLaw =
     (source : List ℕ) (prog : Prog) (options : Options) (built : Built) → IsReady source prog → IsBuilt prog options built →
-    IsCompiled source options built
+    IsCompiledFrom source options prog built
 
 -- ---- faults of the steps as faults of the source
 

@@ -1,6 +1,6 @@
 ghost use Rattle.std.specs.Prelude.{◌≡◌, ◌≤◌, MatchResult};
 ghost use Rattle.im_mem.specs.Map.{stack_capacity, output_capacity};
-ghost use Rattle.im_driver.specs.Compiled.{IsCompiled, IsRefused};
+ghost use Rattle.im_driver.specs.Compiled.{IsCompiled, IsCompiledFrom, IsRefused};
 
 use crate::checking::{unmade, untyped};
 use crate::laws::{kept_law, program_law};
@@ -8,16 +8,29 @@ use im_check::check;
 use im_compile::{Built, Options, compile as compile_program};
 use im_fault::SourceFault;
 use im_front::read_source;
+use im_typed::Prog;
 use std::alloc::Global;
 
-/// The image of a source, which keeps its meaning whatever power does, or why the source is refused:
-/// its length is looked at first, then its tokens, their nesting, the unit, whether it is plain, the
-/// typing rules, and the limits.
-pub fn compile(alloc: Global, source: &[u8], options: Options) -> Result<Built, SourceFault>
+/// A source's typed program, and what is built of it.
+#[derive(Drop)]
+pub struct Compiled {
+    pub prog: Prog,
+    pub built: Built,
+}
+
+/// The typed program of a source and the image that keeps its meaning whatever power does, or why the
+/// source is refused: its length is looked at first, then its tokens, their nesting, the unit, whether
+/// it is plain, the typing rules, and the limits.
+pub fn compile_whole(
+    alloc: Global,
+    source: &[u8],
+    options: Options,
+) -> Result<Compiled, SourceFault>
     requires some_stack { 256 ≤ options.stack }
     requires most_stack { options.stack ≤ stack_capacity }
     requires output { options.out_cap ≤ output_capacity }
-    ensures { MatchResult result (IsCompiled source.now options) (IsRefused source.now) }
+    ensures { MatchResult result
+        (λ whole. IsCompiledFrom source.now options whole.prog whole.built) (IsRefused source.now) }
 {
     program_law();
     kept_law();
@@ -30,7 +43,20 @@ pub fn compile(alloc: Global, source: &[u8], options: Options) -> Result<Built, 
         Err(fault) => return Err(untyped(source, &text.tokens, fault)),
     };
     match compile_program(alloc, &prog, options) {
-        Ok(built) => Ok(built),
+        Ok(built) => Ok(Compiled { prog, built }),
         Err(fault) => Err(unmade(fault)),
+    }
+}
+
+/// The image of a source, or why the source is refused, as `compile_whole` gives them.
+pub fn compile(alloc: Global, source: &[u8], options: Options) -> Result<Built, SourceFault>
+    requires some_stack { 256 ≤ options.stack }
+    requires most_stack { options.stack ≤ stack_capacity }
+    requires output { options.out_cap ≤ output_capacity }
+    ensures { MatchResult result (IsCompiled source.now options) (IsRefused source.now) }
+{
+    match compile_whole(alloc, source, options) {
+        Ok(whole) => Ok(whole.built),
+        Err(fault) => Err(fault),
     }
 }

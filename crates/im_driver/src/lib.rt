@@ -5,5 +5,5 @@ mod checking;
 mod compiling;
 mod laws;
 
-pub use compiling::compile;
+pub use compiling::{Compiled, compile, compile_whole};
 pub use im_compile::{Built, Options};

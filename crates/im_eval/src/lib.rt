@@ -7,4 +7,4 @@ mod run;
 mod step;
 
 pub use im_eval_machine::{Outcome, Reason};
-pub use program::eval;
+pub use program::{eval, eval_framed};

@@ -97,9 +97,29 @@ fn evaluated(
     conclude(alloc, code, run.machine, end)
 }
 
-/// What a program does on an input (C11 5.1.2.3), with a frame table, a stack and an output of so
-/// many bytes, and so much fuel: each call but the start of `main`, each turn of a loop, each
-/// `getchar` and each `putchar` takes a unit. It takes memory for what lives and what is to be done.
+/// What a program does on an input (C11 5.1.2.3), with frames of so many bytes, in the order of its
+/// functions, a stack and an output of so many bytes, and so much fuel: each call but the start of
+/// `main`, each turn of a loop, each `getchar` and each `putchar` takes a unit. It takes memory for
+/// what lives and what is to be done.
+pub fn eval_framed(
+    alloc: Global,
+    prog: &Prog,
+    frames: &[u32],
+    stack: u32,
+    cap: u32,
+    input: &[u8],
+    fuel: u64,
+) -> Result<Outcome, NoMemory>
+    requires typed { IsWellTyped (program_of prog.now) }
+    requires known { HasKnownTypes prog.now }
+    ensures { let g = program_of prog.now in IfOk result (λ outcome. told outcome ≡ meaning
+        (record { prog = g; frames = frames.now; stack = stack; capacity = cap }) input.now fuel) }
+{
+    bytes_law(input);
+    evaluated(alloc, prog, frames, stack, cap, input, fuel)
+}
+
+/// The same with the frames that a table has, by the names of the functions.
 pub fn eval(
     alloc: Global,
     prog: &Prog,
@@ -114,7 +134,6 @@ pub fn eval(
     ensures { IfOk result (λ outcome. told outcome ≡ meaning
         (setting (program_of prog.now) frames.now.frames.items stack cap) input.now fuel) }
 {
-    bytes_law(input);
     let sizes = frames.sizes(alloc, &prog.funcs)?;
-    evaluated(alloc, prog, &sizes, stack, cap, input, fuel)
+    eval_framed(alloc, prog, &sizes, stack, cap, input, fuel)
 }

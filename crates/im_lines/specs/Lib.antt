@@ -2,6 +2,7 @@ pub mod Numerals
 pub mod Builds
 pub mod Reports
 pub mod Runs
+pub mod Evaluations
 pub mod Upgrades
 pub mod Dumps
 pub mod Refusals

@@ -12,7 +12,6 @@ use Rattle.im_lines.specs.declared.refusal.Refusal.TheVariants as refusal
 -- why a command isn't carried out, with the name of the file that is the cause
 pub data Refused : Type 0 where
   CannotRead : List ℕ → Refused
-  SourceTooLong : List ℕ → Refused
   BadSource : List ℕ → SourceFault → Refused
   NotAnImage : List ℕ → ImageFault → Refused
   CannotWrite : List ℕ → Refused
@@ -40,7 +39,6 @@ trace_fault_text trace_fault.OutOfMemory = codes "no memory"
 
 abbrev pub refusal_text : Refused → List ℕ
 refusal_text (CannotRead name) = codes "cannot read " ++ name
-refusal_text (SourceTooLong name) = name ++ codes ": source 4194305 over 4194304"
 refusal_text (BadSource name fault) = name ++ source_fault_text fault
 refusal_text (NotAnImage name fault) = name ++ codes ": " ++ image_fault_text fault
 refusal_text (CannotWrite name) = codes "cannot write " ++ name
@@ -57,7 +55,6 @@ refusal_line refused = codes "intermit: " ++ refusal_text refused ++ codes "\n"
 -- the code's refusal
 abbrev pub refused_of : Refusal → Refused
 refused_of (refusal.CannotRead name) = CannotRead name.now
-refused_of (refusal.SourceTooLong name) = SourceTooLong name.now
 refused_of (refusal.BadSource name fault) = BadSource name.now fault
 refused_of (refusal.NotAnImage name fault) = NotAnImage name.now fault
 refused_of (refusal.CannotWrite name) = CannotWrite name.now

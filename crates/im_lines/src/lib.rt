@@ -4,6 +4,7 @@
 mod builds;
 mod dumps;
 mod ending;
+mod evaluations;
 mod instruction;
 mod numerals;
 mod refusal;
@@ -18,6 +19,7 @@ mod variables;
 pub use builds::send_build_lines;
 pub use dumps::send_dump_lines;
 pub use ending::Ending;
+pub use evaluations::{Evaluated, send_evaluation_lines};
 pub use refusal::{Refusal, send_refusal_line};
 pub use reports::send_report_lines;
 pub use runs::send_run_lines;

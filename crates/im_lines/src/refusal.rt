@@ -14,7 +14,6 @@ use itoa::Buffer;
 #[derive(Debug, Drop)]
 pub enum Refusal<'a> {
     CannotRead(&'a str),
-    SourceTooLong(&'a str),
     BadSource(&'a str, SourceFault),
     NotAnImage(&'a str, ImageFault),
     CannotWrite(&'a str),
@@ -141,7 +140,6 @@ pub fn send_refusal_line<S: Sink>(sink: &mut S, refusal: &Refusal) -> Result<(),
             sink,
             &[b"intermit: cannot read ", name.as_bytes(), b"\n"],
         ),
-        Refusal::SourceTooLong(name) => send_about(sink, name, b"source 4194305 over 4194304"),
         Refusal::BadSource(name, fault) => send_source_fault(sink, name, fault),
         Refusal::NotAnImage(name, fault) => send_image_fault(sink, name, fault),
         Refusal::CannotWrite(name) => send_pieces(

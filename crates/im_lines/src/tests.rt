@@ -1,7 +1,7 @@
 use crate::instruction::send_instruction;
 use crate::{
-    Ending, Refusal, send_build_lines, send_dump_lines, send_refusal_line, send_report_lines,
-    send_run_lines, send_variable_lines,
+    Ending, Evaluated, Refusal, send_build_lines, send_dump_lines, send_evaluation_lines,
+    send_refusal_line, send_report_lines, send_run_lines, send_variable_lines,
 };
 use im_fault::{LineFault, Quantity, SourceFault};
 use im_image::{ImageFault, read_image};
@@ -9,6 +9,7 @@ use im_io::{Failed, MemSink};
 use im_num::{Cause, CellValue, Var};
 use im_power::TraceFault;
 use im_rv::{Cut, Went};
+use im_store::Undefined;
 use im_typed::Frame;
 use std::alloc::Global;
 use std::test::Fail;
@@ -143,6 +144,37 @@ fn builds(rt: HostRuntime) -> Result<(), Fail> {
     Ok(())
 }
 
+#[test]
+fn evaluations(rt: HostRuntime) -> Result<(), Fail> {
+    let alloc = rt.alloc();
+    let rows: [(Evaluated, &str); 4] = [
+        (Evaluated::Returned(-5), "frame main 32\nstatus -5\n"),
+        (
+            Evaluated::StackExhausted,
+            "frame main 32\nintermit: stack exhausted\n",
+        ),
+        (
+            Evaluated::Undefined(Undefined::ZeroDivisor),
+            "frame main 32\nintermit: undefined U5\n",
+        ),
+        (
+            Evaluated::OutOfFuel,
+            "frame main 32\nintermit: out of fuel\n",
+        ),
+    ];
+    let mut frames = Vec::new(alloc);
+    frames.push(Frame {
+        name: Vec::from_slice(alloc, b"main")?,
+        size: 32,
+    })?;
+    for (evaluated, text) in rows {
+        let mut lines = sink(alloc)?;
+        assert!(rt; send_evaluation_lines(&mut lines, &frames, evaluated) == Ok(()));
+        assert_eq!(rt; lines.contents(), text.as_bytes());
+    }
+    Ok(())
+}
+
 fn in_line<'a>(line: u32, why: LineFault) -> Refusal<'a> {
     Refusal::BadSource("a.c", SourceFault::Line { line, why })
 }
@@ -156,7 +188,7 @@ fn refusals(rt: HostRuntime) -> Result<(), Fail> {
     let rows: [(Refusal, &str); 23] = [
         (Refusal::CannotRead("a.c"), "cannot read a.c"),
         (
-            Refusal::SourceTooLong("a.c"),
+            over(Quantity::Source, 4194305),
             "a.c: source 4194305 over 4194304",
         ),
         (

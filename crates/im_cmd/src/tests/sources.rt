@@ -37,7 +37,7 @@ const TWO_BYTES: &[u8] = b"int main(void){int a;a=putchar(65);return putchar(66)
 const DEEP: &[u8] = b"int f(int n){if(n==0)return 0;return f(n-1);}int main(void){return f(100);}";
 
 // A source, traces, an input, and room for an image that isn't there yet.
-fn shelf(alloc: Global, source: &[u8], failing: u64) -> Result<MemShelf, Fail> {
+pub(super) fn shelf(alloc: Global, source: &[u8], failing: u64) -> Result<MemShelf, Fail> {
     let mut files: Vec<File> = Vec::new(alloc);
     files.push(file(alloc, "s.c", source)?)?;
     files.push(file(alloc, "short", b"10 0 50\n")?)?;
@@ -58,7 +58,7 @@ fn has_line(told: &[u8], wanted: &[u8]) -> bool {
 }
 
 // Carries out a command, and looks for each of the wanted lines.
-fn tells(
+pub(super) fn tells(
     rt: &impl Abort,
     alloc: Global,
     shelf: &mut MemShelf,

@@ -1,4 +1,4 @@
-use Rattle.im_cli.proofs.BuildingLemmas.{build_options, report_options, run_building}
+use Rattle.im_cli.proofs.BuildingLemmas.{build_options, eval_building, report_options, run_building}
 use Rattle.im_cli.proofs.laws.building_law.Goals as goal
 
 pub returns-clause-build : goal.returns-clause-build
@@ -9,3 +9,6 @@ returns-clause-run c = run_building
 
 pub returns-clause-report : goal.returns-clause-report
 returns-clause-report c = report_options
+
+pub returns-clause-eval : goal.returns-clause-eval
+returns-clause-eval c = eval_building

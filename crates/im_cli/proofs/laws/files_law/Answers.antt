@@ -1,4 +1,4 @@
-use Rattle.im_cli.proofs.OperandLemmas.{build_files, dump_files, exec_files, report_files, run_files, upgrade_files}
+use Rattle.im_cli.proofs.OperandLemmas.{build_files, dump_files, eval_files, exec_files, report_files, run_files, upgrade_files}
 use Rattle.im_cli.proofs.laws.files_law.Goals as goal
 
 pub returns-clause-build : goal.returns-clause-build
@@ -18,3 +18,6 @@ returns-clause-upgrade c = upgrade_files
 
 pub returns-clause-report : goal.returns-clause-report
 returns-clause-report c = report_files
+
+pub returns-clause-eval : goal.returns-clause-eval
+returns-clause-eval c = eval_files

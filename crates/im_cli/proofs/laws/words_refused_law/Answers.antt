@@ -22,6 +22,10 @@ pub returns-clause-range : goal.returns-clause-range
 unfolding clap_on_literals
 returns-clause-range c = refl
 
+pub returns-clause-fuel : goal.returns-clause-fuel
+unfolding clap_on_literals
+returns-clause-fuel c = refl
+
 pub returns-clause-sign : goal.returns-clause-sign
 unfolding clap_on_literals
 returns-clause-sign c = refl

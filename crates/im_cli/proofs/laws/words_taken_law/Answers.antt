@@ -29,3 +29,7 @@ returns-clause-numbers c = refl
 pub returns-clause-report : goal.returns-clause-report
 unfolding clap_on_literals
 returns-clause-report c = refl
+
+pub returns-clause-eval : goal.returns-clause-eval
+unfolding clap_on_literals
+returns-clause-eval c = refl

@@ -11,6 +11,9 @@ run_source-requires g c = subst HasBounds c.in-Run.is c.requires
 pub report-requires : goal.report-requires
 report-requires g c = subst HasBounds c.in-Report.is c.requires
 
+pub evaluate_source-requires : goal.evaluate_source-requires
+evaluate_source-requires g c = subst HasBounds c.in-Eval.is c.requires
+
 pub returns-in-Build : goal.returns-in-Build
 returns-in-Build g c = rw c.in-Build.is c.build_source.ensures
 
@@ -28,3 +31,6 @@ returns-in-Upgrade g c = rw c.in-Upgrade.is c.upgrade.ensures
 
 pub returns-in-Report : goal.returns-in-Report
 returns-in-Report g c = rw c.in-Report.is c.report.ensures
+
+pub returns-in-Eval : goal.returns-in-Eval
+returns-in-Eval g c = rw c.in-Eval.is c.evaluate_source.ensures

@@ -16,4 +16,4 @@ returns-then-needs_form g c =
 
 pub returns-in-Err-read_periods : goal.returns-in-Err-read_periods
 returns-in-Err-read_periods g c =
-    run_periods_refused (refused_of c.in-Err-read_periods.refusal) _ _ _ _ _ _ _ c.in-Ok.ensures (rw c.deref.ensures.value at c.in-Ok-load.ensures) c.in-Err-read_periods.ensures
+    run_periods_refused _ _ _ _ _ _ _ c.in-Ok.ensures (rw c.deref.ensures.value at c.in-Ok-load.ensures) (refused_of c.in-Err-read_periods.refusal) c.in-Err-read_periods.ensures

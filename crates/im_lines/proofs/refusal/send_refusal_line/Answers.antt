@@ -3,8 +3,5 @@ use Rattle.im_lines.proofs.refusal.send_refusal_line.Goals as goal
 pub returns-in-CannotRead : goal.returns-in-CannotRead
 returns-in-CannotRead g c = rw c.in-CannotRead.is (rw c.as_bytes.ensures.value at c.send_pieces.ensures)
 
-pub returns-in-SourceTooLong : goal.returns-in-SourceTooLong
-returns-in-SourceTooLong g c = rw c.in-SourceTooLong.is c.send_about.ensures
-
 pub returns-in-BadSource : goal.returns-in-BadSource
 returns-in-BadSource g c = rw c.in-BadSource.is c.send_source_fault.ensures

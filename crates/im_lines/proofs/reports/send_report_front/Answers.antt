@@ -1,4 +1,3 @@
-use Rattle.std.proofs.Common.{◌++◌}
 use Rattle.std.specs.List.{flat_map}
 use Rattle.im_lines.specs.Builds.{frame_line}
 use Rattle.im_lines.specs.Reports.{report_head}

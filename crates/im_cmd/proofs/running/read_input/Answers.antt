@@ -1,0 +1,8 @@
+use Rattle.std.proofs.Common.{Bor, ap}
+use Rattle.std.specs.Prelude.{ℕ, List, option_map}
+use Rattle.im_lines.specs.Refusals.{refused_of}
+use Rattle.im_cmd.proofs.Stages.{input_refused}
+use Rattle.im_cmd.proofs.running.read_input.Goals as goal
+
+pub returns-in-Err : goal.returns-in-Err
+returns-in-Err g c = input_refused _ c.in-Some.name.now _ _ (ap (option_map (λ (file : Bor (List ℕ)). file.now)) c.in-Some.is) (refused_of c.in-Err.refusal) c.in-Err.ensures
