@@ -1,10 +1,9 @@
 -- One stage after another: what both leave outside.
-use Rattle.std.proofs.Common.{◌≡◌, ℕ, List, Option, Some, None, refl, ◌∙◌}
-use Rattle.im_io.specs.Shelf.{ShelfState, Told, WhereTold, SameCounts, SameFiles}
-use Rattle.im_io.specs.Whole.{HasWhole, IsLonger}
+use Rattle.std.proofs.Common.{ℕ, List, Option, Some, None, refl, ◌∙◌}
+use Rattle.im_io.specs.Shelf.{ShelfState, Told, WhereTold, SameFiles}
+use Rattle.im_io.specs.Whole.{HasWhole}
 use Rattle.im_io.proofs.Files.{told_then, told_as, same_counts}
-use Rattle.im_lines.specs.Refusals.{FileTooLong}
-use Rattle.im_cmd.specs.Files.{Unchanged, ReadsFile, RefusesFile, file_too_long}
+use Rattle.im_cmd.specs.Files.{Unchanged, ReadsFile}
 
 same_files : (x y z : Told) → SameFiles x y → SameFiles y z → SameFiles x z
 same_files x y z h k = record { files = k.files ∙ h.files }
@@ -18,15 +17,6 @@ unchanged_none a = record { counts = record { read_faults = refl; write_faults =
 
 pub unchanged_then : (a b c : ShelfState) → Unchanged a b → Unchanged b c → Unchanged a c
 unchanged_then a b c h k = record { counts = same_counts a b c h.counts k.counts; files = told_then SameFiles SameFiles SameFiles a.told b.told c.told same_files h.files k.files }
-
-longer : (name : List ℕ) (limit most : ℕ) (x y : Told) → (most ≡ limit) × IsLonger name limit x y → IsLonger name limit x y
-longer name limit most x y h = h.1
-
--- a file that is too long, by the limit that was asked
-pub file_over : (name : List ℕ) (limit most : ℕ) (a b : ShelfState) → SameCounts a b → WhereTold a.told b.told (λ x y. (most ≡ limit) × IsLonger name limit x y)
-    → RefusesFile name limit a b (FileTooLong name limit)
-file_over name limit most a b counts told =
-    file_too_long counts (told_as (λ x y. (most ≡ limit) × IsLonger name limit x y) (IsLonger name limit) a.told b.told (longer name limit most) told)
 
 same_whole : (name bytes : List ℕ) (limit : ℕ) (x y : Told) → HasWhole name bytes limit x y → SameFiles x y
 same_whole name bytes limit x y h = record { files = h.files }

@@ -1,4 +1,3 @@
-use crate::examples::EXAMPLES;
 use crate::functions::FUNCTIONS;
 use crate::kinds::KINDS;
 use crate::operators::OPERATORS;
@@ -142,8 +141,7 @@ fn programs_run_as_c_says(rt: HostRuntime) -> Result<(), Fail> {
     run_all(&rt, alloc, &SEQUENCES)?;
     run_all(&rt, alloc, &STATEMENTS)?;
     run_all(&rt, alloc, &FUNCTIONS)?;
-    run_all(&rt, alloc, &STATICS)?;
-    run_all(&rt, alloc, &EXAMPLES)
+    run_all(&rt, alloc, &STATICS)
 }
 
 fn hold_all(rt: &impl Abort, alloc: Global, rules: &Rules) -> Result<(), Fail> {
