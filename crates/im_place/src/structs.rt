@@ -1,9 +1,15 @@
 //! The structs of a unit.
-ghost use Rattle.std.specs.Prelude.{◌≡◌, [], length};
+ghost use Rattle.std.specs.Prelude.{◌≡◌, ◌++◌, ◌∷◌, [], length, IfOk, OnOk, OnErr};
 ghost use Rattle.im_ctype.specs.Table.{structs_of};
 ghost use Rattle.im_rules.specs.Rules as u;
+ghost use Rattle.im_place.specs.Fields.{fields_of};
 
+use crate::entered::entered;
+use crate::field::Field;
+use crate::free::are_free;
+use crate::held::held;
 use im_ctype::TypeTable;
+use im_num::NoMemory;
 use std::alloc::Global;
 
 /// The structs whose member lists have ended, with the types of their members, and of each whether
@@ -55,5 +61,25 @@ impl Structs {
         ensures { result ≡ length (structs_of self.now) }
     {
         self.table.struct_count()
+    }
+    /// Adds a struct whose member list has ended; gives its number. Its members are to have complete
+    /// object types and its bytes to be a number of 64 bits, else it is answered by want of memory.
+    pub fn add(&mut self, alloc: Global, fields: &[Field]) -> Result<u32, NoMemory>
+        ensures number { IfOk result (λ n. n ≡ length (structs_of self.old)) }
+        ensures added { OnOk result (structs_of self.new
+            ≡ structs_of self.old ++ fields_of fields.now ∷ []) }
+        ensures refused { OnErr result (structs_of self.new ≡ structs_of self.old) }
+    {
+        let members = entered(alloc, &mut self.table, fields)?;
+        held(&self.table, &members)?;
+        let is_free = are_free(&self.free, fields);
+        self.free.push(is_free)?;
+        match self.table.add_struct(alloc, members) {
+            Ok(number) => Ok(number),
+            Err(_) => {
+                let _ = self.free.pop();
+                Err(NoMemory::OutOfMemory)
+            }
+        }
     }
 }

@@ -1,0 +1,5 @@
+pub mod Declared
+pub mod Forms
+pub mod Members
+pub mod Put
+pub mod Reached

@@ -1,0 +1,38 @@
+-- What the walk over an initialiser answers, and the place behind it.
+use Rattle.std.specs.Prelude.{◌≡◌, ℕ, List, ◌++◌}
+use Rattle.im_word.specs.Words.{Name}
+use Rattle.im_ctree.specs.Tree as t
+use Rattle.im_ctype.specs.Table.{structs_of}
+use Rattle.im_ctype.specs.Types.{CType}
+use Rattle.im_rules.specs.BodyBreaks.{Given, an_initialiser, GivenBroken}
+use Rattle.im_rules.specs.Context.{Context}
+use Rattle.im_rules.specs.Initialisers as n
+use Rattle.im_items.specs.declared.item.Item as ri
+use Rattle.im_items.specs.Shape.{items_in}
+use Rattle.im_place.specs.declared.place.Place.{Place}
+use Rattle.im_place.specs.Contexts.{context_of, behind_strings}
+use Rattle.im_stop.specs.declared.stop.Stop.{Stop}
+use Rattle.im_stop.specs.declared.stop.Stop.TheVariants.{Rule, Memory}
+
+-- a node of an initialiser breaks the rule at the token; or memory ran out
+abbrev pub IsGivenFault : Context → Given → Stop → Type 0
+IsGivenFault c g (Rule rule token) = GivenBroken c g rule token
+IsGivenFault c g Memory = Unit {0}
+
+-- behind the items there are those that the definitions give of a part, and these string literals of it are read
+pub record IsPut (Gives : List n.Item → Type 0) (strings : List Name) (before : Place) (old : List ri.Item) (after : Place) (new : List ri.Item) : Type 0 where
+  pub added : List n.Item
+  pub given : Gives added
+  pub items : items_in before.structs new ≡ items_in before.structs old ++ added
+  pub place : after ≡ behind_strings strings before
+
+-- an object is initialised: what goes where stands behind the items
+abbrev pub IsInitialised : Place → CType → ℕ → t.Initializer → List ri.Item → Place → List ri.Item → Type 0
+IsInitialised before a at i old after new =
+    IsPut (n.Initialised (context_of before) a at i) (n.strings_given (structs_of before.structs) a i) before old after new
+
+-- what an object's declaration breaks where it can't be initialised: without an initialiser it breaks no rule
+abbrev pub IsInitialisationFault : Context → CType → t.MaybeInitializer → Stop → Type 0
+IsInitialisationFault c a t.no_initializer (Rule rule token) = ⊥
+IsInitialisationFault c a (t.an_initializer i) (Rule rule token) = GivenBroken c (an_initialiser a 0 i) rule token
+IsInitialisationFault c a i Memory = Unit {0}

@@ -1,0 +1,5 @@
+pub mod Behind
+pub mod Demands
+pub mod Locals
+pub mod Reaching
+pub mod Specifying

@@ -1,0 +1,26 @@
+-- What is answered of declarations in a block.
+use Rattle.std.specs.Prelude.{◌≡◌, List, ◌++◌}
+use Rattle.im_ctree.specs.Tree as t
+use Rattle.im_typed.specs.declared.statement.Stmt as rs
+use Rattle.im_rules.specs.Statements.{Added, TypedDeclaration}
+use Rattle.im_rules.specs.BodyBreaks.{a_declaration}
+use Rattle.im_stop.specs.declared.stop.Stop.{Stop}
+use Rattle.im_scopes.specs.declared.entity.Entry.{Entry}
+use Rattle.im_sites.specs.declared.body.Body.{Body}
+use Rattle.im_sites.specs.declared.position.Position.{Position}
+use Rattle.im_sites.specs.Sites.{site_of, IsDeclared, IsBodyFault}
+use Rattle.im_sites.specs.Stmts.{stmts_from}
+
+-- what a declaration leaves: its names, its objects and its string literals behind those before it; what it does stands
+-- behind what was done
+pub record DeclarationDone (before after : Body) (done done' : List rs.Stmt) (d : t.Declaration) : Type 0 where
+  pub entries : List Entry
+  pub added : Added
+  pub behind : IsDeclared entries added before after
+  pub statements : List rs.Stmt
+  pub done_grown : done' ≡ done ++ statements
+  pub typed : (w : Position) → TypedDeclaration (site_of before w) d (stmts_from before.place.structs statements) added (site_of after w)
+
+-- wherever it stands
+abbrev pub IsDeclarationFault : Body → t.Declaration → Stop → Type 0
+IsDeclarationFault before d f = (w : Position) → IsBodyFault before w (a_declaration d) f
