@@ -1,0 +1,6 @@
+pub mod Constants
+pub mod Enumerations
+pub mod Members
+pub mod Names
+pub mod Places
+pub mod Specifiers

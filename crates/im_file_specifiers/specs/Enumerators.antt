@@ -1,0 +1,29 @@
+-- For private contracts: what is answered of enumeration constants.
+use Rattle.std.specs.Prelude.{◌≡◌, ℕ, ℤ, Option}
+use Rattle.im_ctree.specs.Tree as t
+use Rattle.im_rules.specs.Breaks.{Broken, an_expression}
+use Rattle.im_rules.specs.FileScope.{FilePlace, past_strings}
+use Rattle.im_rules.specs.Strings.{strings_maybe}
+use Rattle.im_rules.specs.TypedUnit.{AreEnumerators, IsNumber}
+use Rattle.im_rules.specs.UnitBreaks.{FileBroken, some_enumerators}
+use Rattle.im_stop.specs.declared.stop.Stop.{Stop}
+use Rattle.im_stop.specs.declared.stop.Stop.TheVariants.{Rule, Memory}
+
+-- a constant has that number, if it is a constant expression, and the place is behind it
+abbrev pub IsNumbered : FilePlace → ℤ → t.MaybeExpression → FilePlace → Option ℤ → Type 0
+IsNumbered before next e after z = IsNumber before.context next e z × (after ≡ past_strings (strings_maybe e) before)
+
+-- what is written breaks a rule
+abbrev pub ValueBroken : FilePlace → t.MaybeExpression → ℕ → ℕ → Type 0
+ValueBroken f t.no_expression rule token = ⊥
+ValueBroken f (t.an_expression e) rule token = Broken f.context (an_expression e) rule token
+
+abbrev pub IsValueFault : FilePlace → t.MaybeExpression → Stop → Type 0
+IsValueFault f e (Rule rule token) = ValueBroken f e rule token
+IsValueFault f e Memory = Unit {0}
+
+-- the first of constants is declared: whatever stands behind it is declared with it, and a node of the others that breaks
+-- a rule is one of all
+pub record GoesOnEnumerators (before : FilePlace) (next : ℤ) (all : t.Enumerators) (then : ℤ) (rest : t.Enumerators) (after : FilePlace) : Type 0 where
+  pub gives : (g : FilePlace) → AreEnumerators after then rest g → AreEnumerators before next all g
+  pub breaks : (rule token : ℕ) → FileBroken after (some_enumerators then rest) rule token → FileBroken before (some_enumerators next all) rule token
