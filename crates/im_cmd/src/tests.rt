@@ -1,4 +1,3 @@
-mod evaluations;
 mod images;
 mod limits;
 mod runs;
