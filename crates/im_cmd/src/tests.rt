@@ -1,3 +1,4 @@
+mod evaluations;
 mod images;
 mod limits;
 mod runs;

@@ -16,6 +16,7 @@ fn inputs_as_long_as_they_may_be(rt: HostRuntime) -> Result<(), Fail> {
     let alloc = rt.alloc();
     let mut files: Vec<File> = Vec::new(alloc);
     files.push(file(alloc, "x.img", &image_text(alloc, 0x1000, &[0x0010_0073])?)?)?;
+    files.push(file(alloc, "s.c", b"int main(void){return 0;}")?)?;
     files.push(filled(alloc, "most", b'x', 1_048_576)?)?;
     files.push(filled(alloc, "more", b'x', 1_048_577)?)?;
     let mut shelf = MemShelf::new(alloc, &files, &[])?;
@@ -43,6 +44,14 @@ fn inputs_as_long_as_they_may_be(rt: HostRuntime) -> Result<(), Fail> {
         &mut shelf,
         1000,
         "intermit exec x.img --input more",
+        &more,
+    )?;
+    tries(
+        &rt,
+        alloc,
+        &mut shelf,
+        1000,
+        "intermit eval s.c --input more",
         &more,
     )?;
     // The input comes before the trace.

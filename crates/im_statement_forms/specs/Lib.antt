@@ -1,4 +1,0 @@
-pub mod Asked
-pub mod Done
-pub mod Labelling
-pub mod Opening
