@@ -5,7 +5,7 @@ use Rattle.im_ctype.specs.Types.{CType}
 use Rattle.im_rules.specs.Context.{Context}
 use Rattle.im_rules.specs.Declared.{Declared, is_typedef_name, declared_asks, parameter_asks, is_sized}
 use Rattle.im_stop.specs.declared.stop.Stop.{Stop}
-use Rattle.im_stop.specs.declared.stop.Stop.TheVariants.{Rule, Memory}
+use Rattle.im_stop.specs.declared.stop.Stop.TheVariants.{Rule, Large, Memory}
 use Rattle.im_stop.specs.Answers.{IsRefusal}
 use Rattle.im_rules.specs.Demands.{Meets, Refuses}
 use Rattle.im_rules.specs.Rules.{rule_3, rule_4}
@@ -52,4 +52,5 @@ pub asked_done : (c : Context) (n : ℕ) (y : Declared) (at : ℕ) (result : Res
     → MatchResult result (λ u. Meets (parameter_asks c n y)) (IsRefusal (parameter_asks c n y) at)
 asked_done c n y at (Ok u) h m = (h, m)
 asked_done c n y at (Err (Rule rule token)) h m = (inr m.0, m.1)
+asked_done c n y at (Err (Large bytes)) h m = absurd m
 asked_done c n y at (Err Memory) h m = tt

@@ -7,7 +7,7 @@ use Rattle.im_rules.specs.Rules.{rule_10}
 use Rattle.im_ctree.specs.declared.declarator.Star.{Star}
 use Rattle.im_tree_parts.specs.Lists.{stars_in}
 use Rattle.im_stop.specs.declared.stop.Stop.{Stop}
-use Rattle.im_stop.specs.declared.stop.Stop.TheVariants.{Rule, Memory}
+use Rattle.im_stop.specs.declared.stop.Stop.TheVariants.{Rule, Large, Memory}
 use Rattle.im_stop.specs.Answers.{IsRefusal}
 
 pub next : {X : Type 0} (xs : List X) (i : ℕ) (x : X) → i < length xs → x ≡ get_or xs i x → drop i xs ≡ x ∷ drop (i + 1) xs
@@ -52,4 +52,5 @@ pub star_fault : (base : Qualified) (stars : List Star) (i : ℕ) (d : Star) (q 
 star_fault base stars i d q at (Rule rule token) below h r =
     let now : StarsReached base (stars_in stars) q ((get_or stars i d).consts ∷ stars_in (drop (i + 1) stars)) = subst (λ (ks : List ℕ). StarsReached base (stars_in stars) q ks) (star_at stars i d below) h in
     (reached_fault base (stars_in stars) q (get_or stars i d).consts (stars_in (drop (i + 1) stars)) rule now r.0, r.1)
+star_fault base stars i d q at (Large bytes) below h r = absurd r
 star_fault base stars i d q at Memory below h r = tt

@@ -6,3 +6,4 @@ pub mod NoStrings
 pub mod ParametersBehind
 pub mod Places
 pub mod SuffixesBehind
+pub mod Within

@@ -10,9 +10,9 @@ use Rattle.im_rules.specs.Rules.{named_in}
 use Rattle.im_rules.specs.Scopes.{Scopes, nothing, at_file_scope}
 use Rattle.im_rules.specs.Strings.{strings_of_parameters}
 use Rattle.im_rules.specs.Typed.{AreParameters, no_parameter}
-use Rattle.im_rules.specs.Breaks.{Broken, some_parameters}
+use Rattle.im_rules.specs.Breaks.{some_parameters}
+use Rattle.im_rule_limits.specs.Limits.{IsWithin}
 use Rattle.im_stop.specs.declared.stop.Stop.{Stop}
-use Rattle.im_stop.specs.declared.stop.Stop.TheVariants.{Rule, Memory}
 use Rattle.im_scopes.specs.declared.entity.Entry.{Entry}
 use Rattle.im_scopes.specs.declared.entity.Entry.TheVariants as n
 use Rattle.im_scopes.specs.Shape.{with_entry, with_entries, scopes_of}
@@ -25,6 +25,7 @@ use Rattle.im_place.specs.declared.place.Place.{Place}
 use Rattle.im_place.specs.Contexts.{context_of, behind_strings}
 use Rattle.im_expression_parts.specs.Walked.{IsBehind, GoesOnParameters}
 use Rattle.im_expression_parts.proofs.Places.{behind_none}
+use Rattle.im_expression_parts.proofs.Within.{no_parameters_within}
 
 -- scopes that are opened stay so
 
@@ -76,13 +77,14 @@ scopes_same ss n (t.more_parameters (t.specifiers at xs) m ps) (y ∷ ds) c =
 
 pub record ParametersReached (before : Place) (ps : List Parameter) (i : ℕ) (ds : List Declared) (now : Place) : Type 0 where
   pub gives : (others : List d.Declared) → AreParameters (context_of now) i (parameters_from (drop i ps)) others → AreParameters (context_of before) 0 (parameters_from ps) (map declared_of ds ++ others)
-  pub breaks : (rule token : ℕ) → Broken (context_of now) (some_parameters i (parameters_from (drop i ps))) rule token → Broken (context_of before) (some_parameters 0 (parameters_from ps)) rule token
+  pub faults : (stop : Stop) → IsFault (context_of now) (some_parameters i (parameters_from (drop i ps))) stop → IsFault (context_of before) (some_parameters 0 (parameters_from ps)) stop
+  pub within : IsWithin (context_of now) (some_parameters i (parameters_from (drop i ps))) → IsWithin (context_of before) (some_parameters 0 (parameters_from ps))
   pub scopes : (others : List d.Declared) → (d.with_parameters i (parameters_from (drop i ps)) others (context_of now)).scopes ≡ (d.with_parameters 0 (parameters_from ps) (map declared_of ds ++ others) (context_of before)).scopes
   pub grown : IsGrown before.scope now.scope
   pub place : record (behind_strings (strings_of_parameters (parameters_from (drop i ps))) now) { scope = before.scope } ≡ behind_strings (strings_of_parameters (parameters_from ps)) before
 
 pub parameters_none : (p : Place) (ps : List Parameter) → ParametersReached p ps 0 [] p
-parameters_none p ps = record { gives = λ others h. h; breaks = λ rule token b. b; scopes = λ others. refl; grown = grown_not p.scope; place = refl }
+parameters_none p ps = record { gives = λ others h. h; faults = λ stop f. f; within = λ w. w; scopes = λ others. refl; grown = grown_not p.scope; place = refl }
 
 pub parameters_more : {before now after : Place} {ps : List Parameter} {i : ℕ} {p : Parameter} (ds : List Declared) (y : Declared)
     → drop i ps ≡ p ∷ drop (i + 1) ps
@@ -97,9 +99,12 @@ parameters_more {before = before} {now = now} {after = after} {ps = ps} {i = i} 
       gives = λ others h.
           let h₁ : AreParameters (context_of now) i (parameters_from (drop i ps)) (declared_of y ∷ others) = rw at (on.gives others h) in
           subst (λ zs. AreParameters (context_of before) 0 (parameters_from ps) zs) (told others) (reached.gives (declared_of y ∷ others) h₁);
-      breaks = λ rule token b.
-          let b₁ : Broken (context_of now) (some_parameters i (parameters_from (drop i ps))) rule token = rw at (on.breaks rule token b) in
-          reached.breaks rule token b₁;
+      faults = λ stop f.
+          let f₁ : IsFault (context_of now) (some_parameters i (parameters_from (drop i ps))) stop = rw at (on.faults stop f) in
+          reached.faults stop f₁;
+      within = λ w.
+          let w₁ : IsWithin (context_of now) (some_parameters i (parameters_from (drop i ps))) = rw at (on.within w) in
+          reached.within w₁;
       scopes = λ others.
           on.scopes others
           ∙ ap (λ zs. (d.with_parameters i (parameters_from zs) (declared_of y ∷ others) (context_of now)).scopes) (sym at)
@@ -114,20 +119,21 @@ pub parameters_fault : {before now : Place} {ps : List Parameter} {i : ℕ} {p :
     → ParametersReached before ps i ds now
     → ((rest : t.Parameters) → IsFault (context_of now) (some_parameters i (with_parameter p rest)) f)
     → IsFault (context_of before) (some_parameters 0 (parameters_from ps)) f
-parameters_fault {now = now} {ps = ps} {i = i} ds (Rule rule token) at reached broken =
-    let b : Broken (context_of now) (some_parameters i (parameters_from (drop i ps))) rule token = rw at (broken (parameters_from (drop (i + 1) ps))) in
-    reached.breaks rule token b
-parameters_fault ds Memory at reached broken = tt
+parameters_fault {now = now} {ps = ps} {i = i} ds f at reached h =
+    let h₁ : IsFault (context_of now) (some_parameters i (parameters_from (drop i ps))) f = rw at (h (parameters_from (drop (i + 1) ps))) in
+    reached.faults f h₁
 
 pub parameters_all : {before now : Place} {ps : List Parameter} {i : ℕ} (ds : List Declared)
     → drop i ps ≡ []
     → ParametersReached before ps i ds now
-    → AreParameters (context_of before) 0 (parameters_from ps) (map declared_of ds) × (scopes_of now.scope ≡ (d.with_parameters 0 (parameters_from ps) (map declared_of ds) (context_of before)).scopes) × IsBehind (strings_of_parameters (parameters_from ps)) before now
+    → AreParameters (context_of before) 0 (parameters_from ps) (map declared_of ds) × (scopes_of now.scope ≡ (d.with_parameters 0 (parameters_from ps) (map declared_of ds) (context_of before)).scopes) × IsBehind (strings_of_parameters (parameters_from ps)) before now × IsWithin (context_of before) (some_parameters 0 (parameters_from ps))
 parameters_all {before = before} {now = now} {ps = ps} {i = i} ds ends reached =
     let h : AreParameters (context_of now) i (parameters_from (drop i ps)) [] = rw ends no_parameter in
+    let w : IsWithin (context_of now) (some_parameters i (parameters_from (drop i ps))) = rw ends no_parameters_within in
     let p : with_scope before.scope (behind_strings (strings_of_parameters (parameters_from [])) now) ≡ behind_strings (strings_of_parameters (parameters_from ps)) before = rw ends at reached.place in
     let ends_scopes : scopes_of now.scope ≡ (d.with_parameters i (parameters_from (drop i ps)) [] (context_of now)).scopes = ap (λ zs. (d.with_parameters i (parameters_from zs) [] (context_of now)).scopes) (sym ends) in (
       subst (λ zs. AreParameters (context_of before) 0 (parameters_from ps) zs) (append-nil (map declared_of ds)) (reached.gives [] h),
       ends_scopes ∙ reached.scopes [] ∙ ap (λ zs. (d.with_parameters 0 (parameters_from ps) zs (context_of before)).scopes) (append-nil (map declared_of ds)),
       record { grown = reached.grown; all_else = sym (behind_none now) ∙ ap (with_scope now.scope) p },
+      reached.within w,
     )

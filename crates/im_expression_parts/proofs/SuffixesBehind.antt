@@ -8,9 +8,9 @@ use Rattle.im_rules.specs.Declared as d
 use Rattle.im_rules.specs.Strings.{strings_in, strings_of_suffixes, strings_of_parameters}
 use Rattle.im_rules.specs.Terms.{constant_in}
 use Rattle.im_rules.specs.Typed.{Typed, AreParameters}
-use Rattle.im_rules.specs.Breaks.{Broken, within, some_suffixes, behind_length, behind_no_length, behind_function}
+use Rattle.im_rules.specs.Breaks.{an_expression, some_suffixes, some_parameters, behind_length, behind_no_length, behind_function}
+use Rattle.im_rule_limits.specs.Limits.{IsWithin}
 use Rattle.im_stop.specs.declared.stop.Stop.{Stop}
-use Rattle.im_stop.specs.declared.stop.Stop.TheVariants.{Rule, Memory}
 use Rattle.im_tree_parts.specs.Lists.{suffixes_from, with_suffix}
 use Rattle.im_operands.specs.declared.term.Term.{Term}
 use Rattle.im_operands.specs.Shape.{term_in}
@@ -23,30 +23,31 @@ use Rattle.im_place.specs.declared.place.Place.{Place}
 use Rattle.im_place.specs.Contexts.{context_of, behind_strings}
 use Rattle.im_expression_parts.specs.Walked.{GoesOnGiven}
 use Rattle.im_expression_parts.proofs.Places.{behind_none, behind_two}
+use Rattle.im_expression_parts.proofs.Made.{fault_of}
 
 -- one suffix
 
 pub open_given : (p : Place) (at : ℕ) (rest : t.Suffixes) → GoesOnGiven p (t.array_suffix at t.no_expression rest) g.Open rest p
-open_given p at rest = record { gives = λ gs h. h; breaks = λ q rule token b. within behind_no_length b; place = refl }
+open_given p at rest = record { gives = λ gs h. h; faults = λ q stop f. fault_of behind_no_length stop f; place = refl }
 
 pub length_given : {p after : Place} {e : t.Expression} (x : Term) (z : Option ℤ) (at : ℕ) (rest : t.Suffixes)
-    → Typed (context_of p) e (term_in p.structs x) × (after ≡ behind_strings (strings_in e) p)
+    → Typed (context_of p) e (term_in p.structs x) × (after ≡ behind_strings (strings_in e) p) × IsWithin (context_of p) (an_expression e)
     → z ≡ constant_in (term_in p.structs x)
     → GoesOnGiven p (t.array_suffix at (t.an_expression e) rest) (g.Length z) rest after
 length_given {p = p} {e = e} x z at rest typed is =
     record {
-      gives = λ gs h. (record { term = term_in p.structs x; typed = typed.0; value = sym is }, rw typed.1 at h);
-      breaks = λ q rule token b. within behind_length (rw typed.1 at b);
+      gives = λ gs h. (record { term = term_in p.structs x; typed = typed.0; value = sym is; within = typed.2 }, rw typed.1 at h);
+      faults = λ q stop f. fault_of behind_length stop (rw typed.1 at f);
       place = ap (behind_strings (strings_of_suffixes rest)) typed.1 ∙ behind_two (strings_in e) (strings_of_suffixes rest) p;
     }
 
 pub function_given : {p after : Place} {ps : t.Parameters} (ds : Vec Declared Global) (at : ℕ) (rest : t.Suffixes)
-    → AreParameters (in_new_scope (context_of p)) 0 ps (map declared_of ds.items) × (after ≡ behind_strings (strings_of_parameters ps) p)
+    → AreParameters (in_new_scope (context_of p)) 0 ps (map declared_of ds.items) × (after ≡ behind_strings (strings_of_parameters ps) p) × IsWithin (in_new_scope (context_of p)) (some_parameters 0 ps)
     → GoesOnGiven p (t.function_suffix at ps rest) (g.Parameters ds) rest after
 function_given {p = p} {ps = ps} ds at rest declared =
     record {
-      gives = λ gs h. (declared.0, rw declared.1 at h);
-      breaks = λ q rule token b. within behind_function (rw declared.1 at b);
+      gives = λ gs h. (declared.0, declared.2, rw declared.1 at h);
+      faults = λ q stop f. fault_of behind_function stop (rw declared.1 at f);
       place = ap (behind_strings (strings_of_suffixes rest)) declared.1 ∙ behind_two (strings_of_parameters ps) (strings_of_suffixes rest) p;
     }
 
@@ -54,11 +55,11 @@ function_given {p = p} {ps = ps} ds at rest declared =
 
 pub record GivenReached (before : Place) (ss : List Suffix) (i : ℕ) (gs : List Given) (now : Place) : Type 0 where
   pub gives : (others : List Given) → AreGiven (context_of now) (suffixes_from (drop i ss)) others → AreGiven (context_of before) (suffixes_from ss) (gs ++ others)
-  pub breaks : (q : d.Qualified) (rule token : ℕ) → Broken (context_of now) (some_suffixes q (suffixes_from (drop i ss))) rule token → Broken (context_of before) (some_suffixes q (suffixes_from ss)) rule token
+  pub faults : (q : d.Qualified) (stop : Stop) → IsFault (context_of now) (some_suffixes q (suffixes_from (drop i ss))) stop → IsFault (context_of before) (some_suffixes q (suffixes_from ss)) stop
   pub place : behind_strings (strings_of_suffixes (suffixes_from (drop i ss))) now ≡ behind_strings (strings_of_suffixes (suffixes_from ss)) before
 
 pub given_none : (p : Place) (ss : List Suffix) → GivenReached p ss 0 [] p
-given_none p ss = record { gives = λ gs h. h; breaks = λ q rule token b. b; place = refl }
+given_none p ss = record { gives = λ gs h. h; faults = λ q stop f. f; place = refl }
 
 pub given_more : {before now after : Place} {ss : List Suffix} {i : ℕ} {s : Suffix} (gs : List Given) (y : Given)
     → drop i ss ≡ s ∷ drop (i + 1) ss
@@ -72,9 +73,9 @@ given_more {before = before} {now = now} {after = after} {ss = ss} {i = i} {s = 
       gives = λ others h.
           let h₁ : AreGiven (context_of now) (suffixes_from (drop i ss)) (y ∷ others) = rw at (on.gives others h) in
           subst (λ zs. AreGiven (context_of before) (suffixes_from ss) zs) (sym (append_assoc gs (y ∷ []) others)) (reached.gives (y ∷ others) h₁);
-      breaks = λ q rule token b.
-          let b₁ : Broken (context_of now) (some_suffixes q (suffixes_from (drop i ss))) rule token = rw at (on.breaks q rule token b) in
-          reached.breaks q rule token b₁;
+      faults = λ q stop f.
+          let f₁ : IsFault (context_of now) (some_suffixes q (suffixes_from (drop i ss))) stop = rw at (on.faults q stop f) in
+          reached.faults q stop f₁;
       place = on.place ∙ ap (λ zs. behind_strings (strings_of_suffixes (suffixes_from zs)) now) (sym at) ∙ reached.place;
     }
 
@@ -83,10 +84,9 @@ pub given_fault : {before now : Place} {ss : List Suffix} {i : ℕ} {s : Suffix}
     → GivenReached before ss i gs now
     → ((rest : t.Suffixes) (q : d.Qualified) → IsFault (context_of now) (some_suffixes q (with_suffix s.at s.kind rest)) f)
     → (q : d.Qualified) → IsFault (context_of before) (some_suffixes q (suffixes_from ss)) f
-given_fault {now = now} {ss = ss} {i = i} gs (Rule rule token) at reached broken = λ q.
-    let b : Broken (context_of now) (some_suffixes q (suffixes_from (drop i ss))) rule token = rw at (broken (suffixes_from (drop (i + 1) ss)) q) in
-    reached.breaks q rule token b
-given_fault gs Memory at reached broken = λ q. tt
+given_fault {now = now} {ss = ss} {i = i} gs f at reached h = λ q.
+    let h₁ : IsFault (context_of now) (some_suffixes q (suffixes_from (drop i ss))) f = rw at (h (suffixes_from (drop (i + 1) ss)) q) in
+    reached.faults q f h₁
 
 pub given_all : {before now : Place} {ss : List Suffix} {i : ℕ} (gs : List Given)
     → drop i ss ≡ []

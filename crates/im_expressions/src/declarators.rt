@@ -4,6 +4,7 @@ ghost use Rattle.im_ctree.specs.Shape.{declarator_of, core_of};
 ghost use Rattle.im_rules.specs.Breaks.{a_declarator, a_core, maybe_declarator};
 ghost use Rattle.im_rules.specs.Strings.{strings_may, strings_of_declarator, strings_of_core};
 ghost use Rattle.im_rules.specs.Typed.{MayDeclare, Declares, DeclaresIn};
+ghost use Rattle.im_rule_limits.specs.Limits.{IsWithin};
 ghost use Rattle.im_tree_parts.specs.Lists.{declarator_from};
 ghost use Rattle.im_type_specifiers.specs.Specified.{qualified_of};
 ghost use Rattle.im_declarators.specs.Shape.{declared_of};
@@ -29,7 +30,8 @@ pub fn declarator_if_any(
 ) -> Result<Declared, Stop>
     ensures { let m = declarator_from written.now in MatchResult result
         (λ y. MayDeclare (context_of place.old) (qualified_of q) m (declared_of y)
-        × (place.new ≡ behind_strings (strings_may m) place.old))
+        × (place.new ≡ behind_strings (strings_may m) place.old)
+        × IsWithin (context_of place.old) (maybe_declarator (qualified_of q) m))
         (IsFault (context_of place.old) (maybe_declarator (qualified_of q) m)) }
 {
     match written {
@@ -49,14 +51,15 @@ pub fn declarator(
 ) -> Result<Declared, Stop>
     ensures { let e = declarator_of d.now in MatchResult result
         (λ y. Declares (context_of place.old) (qualified_of q) e (declared_of y)
-        × (place.new ≡ behind_strings (strings_of_declarator e) place.old))
+        × (place.new ≡ behind_strings (strings_of_declarator e) place.old)
+        × IsWithin (context_of place.old) (a_declarator (qualified_of q) e))
         (IsFault (context_of place.old) (a_declarator (qualified_of q) e)) }
 {
     let base = with_stars(alloc, d.at, &d.stars, q)?;
     let start = place.next_string;
     place.next_string = behind_core(start, &d.core)?;
     let parts = given(alloc, &d.suffixes, place)?;
-    let ty = suffixed(alloc, place.structs.count(), &d.suffixes, &parts, base)?;
+    let ty = suffixed(alloc, place.structs.table(), &d.suffixes, &parts, base)?;
     let end = place.next_string;
     place.next_string = start;
     let declared = middle(alloc, ty, &d.core, place)?;
@@ -69,7 +72,8 @@ pub fn declarator(
 fn middle(alloc: Global, q: Qualified, core: &Core, place: &mut Place) -> Result<Declared, Stop>
     ensures { let k = core_of core.now in MatchResult result
         (λ y. DeclaresIn (context_of place.old) (qualified_of q) k (declared_of y)
-        × (place.new ≡ behind_strings (strings_of_core k) place.old))
+        × (place.new ≡ behind_strings (strings_of_core k) place.old)
+        × IsWithin (context_of place.old) (a_core (qualified_of q) k))
         (IsFault (context_of place.old) (a_core (qualified_of q) k)) }
 {
     match core {

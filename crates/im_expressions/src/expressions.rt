@@ -3,6 +3,7 @@ ghost use Rattle.std.specs.Prelude.{MatchResult, ◌≡◌};
 ghost use Rattle.im_rules.specs.Breaks.{some_expressions};
 ghost use Rattle.im_rules.specs.Strings.{strings_among};
 ghost use Rattle.im_rules.specs.Typed.{AreTyped};
+ghost use Rattle.im_rule_limits.specs.Limits.{IsWithin};
 ghost use Rattle.im_tree_parts.specs.Lists.{expression_in, expressions_from};
 ghost use Rattle.im_declarators.specs.Suffixes.{IsFault};
 ghost use Rattle.im_place.specs.Contexts.{context_of, behind_strings};
@@ -136,7 +137,8 @@ pub fn expression(alloc: Global, e: &Expression, place: &mut Place) -> Result<Te
 fn terms(alloc: Global, arguments: &[Expression], place: &mut Place) -> Result<Vec<Term>, Stop>
     ensures { let es = expressions_from arguments.now in MatchResult result
         (λ xs. AreTyped (context_of place.old) es (terms_in place.old.structs xs.items)
-        × (place.new ≡ behind_strings (strings_among es) place.old))
+        × (place.new ≡ behind_strings (strings_among es) place.old)
+        × IsWithin (context_of place.old) (some_expressions es))
         (IsFault (context_of place.old) (some_expressions es)) }
 {
     let mut done = Vec::new(alloc);

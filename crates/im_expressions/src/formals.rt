@@ -7,6 +7,7 @@ ghost use Rattle.im_rules.specs.Declared as d;
 ghost use Rattle.im_rules.specs.Scopes.{at_file_scope};
 ghost use Rattle.im_rules.specs.Strings.{strings_of_parameters};
 ghost use Rattle.im_rules.specs.Typed.{AreParameters};
+ghost use Rattle.im_rule_limits.specs.Limits.{IsWithin};
 ghost use Rattle.im_scopes.specs.Shape.{scopes_of};
 ghost use Rattle.im_tree_parts.specs.Lists.{parameters_from, with_parameter};
 ghost use Rattle.im_declarators.specs.Shape.{declared_of};
@@ -32,7 +33,8 @@ pub fn parameters(
     ensures { let ps = parameters_from written.now in
         let c = k.in_new_scope (context_of place.old) in
         MatchResult result (λ ds. AreParameters c 0 ps (map declared_of ds.items)
-        × (place.new ≡ behind_strings (strings_of_parameters ps) place.old))
+        × (place.new ≡ behind_strings (strings_of_parameters ps) place.old)
+        × IsWithin c (some_parameters 0 ps))
         (IsFault c (some_parameters 0 ps)) }
 {
     let mark = place.scope.mark();
@@ -55,7 +57,8 @@ pub fn parameters_here(
         (λ ds. AreParameters (context_of place.old) 0 ps (map declared_of ds.items)
         × (scopes_of place.new.scope ≡ (d.with_parameters 0 ps (map declared_of ds.items)
         (context_of place.old)).scopes)
-        × IsBehind (strings_of_parameters ps) place.old place.new)
+        × IsBehind (strings_of_parameters ps) place.old place.new
+        × IsWithin (context_of place.old) (some_parameters 0 ps))
         (IsFault (context_of place.old) (some_parameters 0 ps)) }
 {
     let mut done = Vec::new(alloc);

@@ -1,11 +1,13 @@
 //! What stands in no cycle: string literals, and calls whose arguments are typed.
-ghost use Rattle.std.specs.Prelude.{◌≡◌, ℕ};
+ghost use Rattle.std.specs.Prelude.{◌≡◌, ◌+◌, ◌≤◌, ℕ, length, MatchResult};
 ghost use Rattle.im_ctype.specs.Table.{structs_of};
 ghost use Rattle.im_ctree.specs.Tree as t;
 ghost use Rattle.im_rules.specs.Conversions as c;
 ghost use Rattle.im_rules.specs.Demands as d;
 ghost use Rattle.im_rules.specs.Terms as r;
+ghost use Rattle.im_rule_limits.specs.Limits.{size_limit};
 ghost use Rattle.im_scopes.specs.Shape.{scopes_of};
+ghost use Rattle.im_sizes.specs.Sizes.{IsTooLarge};
 ghost use Rattle.im_tree_parts.specs.Lists.{expression_in};
 ghost use Rattle.im_operands.specs.Answers.{IsMade};
 ghost use Rattle.im_expression_parts.specs.Walked.{IsTyped, terms_in};
@@ -18,10 +20,25 @@ use im_scopes::Scope;
 use im_stop::{Stop, refused};
 use std::alloc::Global;
 
+/// Whether a string literal is within the limit of sizes with its null character.
+fn text_fits(bytes: &[u8]) -> Result<(), Stop>
+    ensures { let size = length bytes.now + 1 in
+        MatchResult result (λ _. size ≤ size_limit) (IsTooLarge size) }
+{
+    let Some(size) = (bytes.len() as u64).checked_add(1) else {
+        return Err(Stop::Memory);
+    };
+    if size > 1_048_576 {
+        return Err(Stop::Large { bytes: size });
+    }
+    Ok(())
+}
+
 /// A string literal (C11 6.4.5).
 pub(crate) fn text(alloc: Global, bytes: &[u8], place: &mut Place) -> Result<Term, Stop>
     ensures { (at : ℕ) → IsTyped place.old (t.string_literal at bytes.now) place.new result }
 {
+    text_fits(bytes)?;
     let term = string_term(alloc, place.next_string, bytes)?;
     place.pass_string()?;
     Ok(term)

@@ -4,6 +4,7 @@ ghost use Rattle.im_ctree.specs.Shape.{type_name_of};
 ghost use Rattle.im_rules.specs.Breaks.{a_type_name};
 ghost use Rattle.im_rules.specs.Strings.{strings_named};
 ghost use Rattle.im_rules.specs.Typed.{Names};
+ghost use Rattle.im_rule_limits.specs.Limits.{IsWithin};
 ghost use Rattle.im_type_specifiers.specs.Specified.{qualified_of};
 ghost use Rattle.im_declarators.specs.Suffixes.{IsFault};
 ghost use Rattle.im_place.specs.Contexts.{context_of, behind_strings};
@@ -21,7 +22,8 @@ use std::alloc::Global;
 pub fn type_name(alloc: Global, name: &TypeName, place: &mut Place) -> Result<Qualified, Stop>
     ensures { let n = type_name_of name.now in MatchResult result
         (λ q. Names (context_of place.old) n (qualified_of q)
-        × (place.new ≡ behind_strings (strings_named n) place.old))
+        × (place.new ≡ behind_strings (strings_named n) place.old)
+        × IsWithin (context_of place.old) (a_type_name n))
         (IsFault (context_of place.old) (a_type_name n)) }
 {
     let at = name.specifiers.at;

@@ -15,8 +15,8 @@ use Rattle.im_rules.specs.Terms.{constant_in}
 use Rattle.im_rules.specs.Declared.{Qualified, Declared, specified, typedef_meant, tag_meant, line_meant, type_of_specifiers, behind_specifiers, tags_in, declared_tag, with_stars, starred, array_of, parameter, with_parameter, with_name, parameters_of, types_of, is_only_void, are_scalars}
 use Rattle.im_rules.specs.Typed.{Names, of_type_name, Declares, of_declarator, DeclaresIn, of_nothing, of_name, of_inner, Suffixed, no_suffix, of_array, of_open_array, of_function, AreParameters, no_parameter, a_parameter, MayDeclare, of_no_declarator, of_a_declarator}
 use Rattle.im_rules.specs.Breaks.{a_type_name, a_declarator, a_core, some_suffixes, some_parameters, maybe_declarator, name_declarator, suffixes_part, core_part, inner_part, behind_length, behind_no_length, behind_function, parameters_part, parameter_declarator, parameters_behind, declarator_part}
-use Rattle.im_rule_limits.specs.Limits.{size_here, size_within, of_array as size_of_array}
-use Rattle.im_expressions_sound.specs.Bounded.{IsBounded, AreScalars, AreBoundedTypes, AreBoundedStructs, EachEntity, IsBoundedTypedef, AreBoundedTypedefs, IsWithin}
+use Rattle.im_rule_limits.specs.Limits.{size_here, size_within, of_array as size_of_array, IsWithin}
+use Rattle.im_expressions_sound.specs.Bounded.{IsBounded, AreScalars, AreBoundedTypes, AreBoundedStructs, EachEntity, IsBoundedTypedef, AreBoundedTypedefs}
 use Rattle.im_expressions_sound.proofs.Types.{each-meaning, sized-bounded}
 
 types-scalar : (ds : List Declared) → are_scalars ds ≡ true → AreScalars (types_of ds)

@@ -33,9 +33,9 @@ use Rattle.im_rules.specs.Demands.{Meets, call_asks, callee_of, is_function_mean
 use Rattle.im_rules.specs.Conversions.{number_type, called, measured, operation, sum, difference, moved, comparison, unary_term, casted, chosen, assigned, stepped, call_of, dotted, arrowed, member_among, member_at, part_of, struct_number}
 use Rattle.im_rules.specs.Typed.{Typed, of_identifier, of_number, of_character, of_string, of_index, of_call, of_member, of_arrow, of_post_step, of_pre_step, of_unary, of_size, of_type_size, of_cast, of_binary, of_conditional, of_assign, of_comma, AreTyped, no_argument, an_argument}
 use Rattle.im_rules.specs.Breaks.{an_expression, some_expressions, indexed, subscript, arguments, whole, pointer_to_whole, post_stepped, pre_stepped, operand, measured_expression, measured_type, cast_type, cast_operand, left_operand, right_operand, condition, first_arm, second_arm, left_side, right_side, before_comma, behind_comma, first_argument, other_arguments}
-use Rattle.im_rule_limits.specs.Limits.{size_here, size_within, of_string as size_of_string}
+use Rattle.im_rule_limits.specs.Limits.{size_here, size_within, of_string as size_of_string, IsWithin}
 use Rattle.im_rules_sound.specs.Sound.{IsSoundValue, IsSoundPlace, IsSoundTerm, AreSound}
-use Rattle.im_expressions_sound.specs.Bounded.{IsBounded, AreBoundedStructs, IsBoundedTypedef, AreBoundedTypedefs, IsSoundEntity, IsSoundContext, HasStrings, IsWithin}
+use Rattle.im_expressions_sound.specs.Bounded.{IsBounded, AreBoundedStructs, IsBoundedTypedef, AreBoundedTypedefs, IsSoundEntity, IsSoundContext, HasStrings}
 use Rattle.im_expressions_sound.specs.Written.{IsWritten, AreWritten}
 use Rattle.im_rules_sound.proofs.Operations.{integer-kind, pointer-shape, type-seen, operations}
 use Rattle.im_rules_sound.proofs.Terms.{reads, complete-object, unary, casts, commas}

@@ -13,8 +13,7 @@ use Rattle.im_rules.specs.Scopes.{Entity, an_object, a_function, an_enumerator, 
 use Rattle.im_rules.specs.Outline.{Outline, place_in}
 use Rattle.im_rules.specs.Context.{Context}
 use Rattle.im_rules.specs.Terms.{size_in}
-use Rattle.im_rules.specs.Breaks.{Node}
-use Rattle.im_rule_limits.specs.Limits.{size_limit, Sized}
+use Rattle.im_rule_limits.specs.Limits.{size_limit}
 use Rattle.im_rules_sound.specs.Sound.{IsSoundCallee}
 
 abbrev pub AreScalars : CTypes → Type 0
@@ -78,7 +77,3 @@ pub record IsSoundContext (g : Prog) (f : Func) (c : Context) : Type 0 where
 -- the program has these string literals
 abbrev pub HasStrings : Prog → Context → List Name → Type 0
 HasStrings g c ss = c.next_string + length ss ≤ length g.statics
-
--- no size in a node is over the limit
-abbrev pub IsWithin : Context → Node → Type 0
-IsWithin c n = (k : ℕ) → Sized c n k → k ≤ size_limit

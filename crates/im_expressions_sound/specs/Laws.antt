@@ -12,8 +12,9 @@ use Rattle.im_rules.specs.Conversions.{struct_number, part_of}
 use Rattle.im_rules.specs.Declared.{Qualified, Declared}
 use Rattle.im_rules.specs.Typed.{Typed, Names, Declares}
 use Rattle.im_rules.specs.Breaks.{an_expression, a_type_name, a_declarator}
+use Rattle.im_rule_limits.specs.Limits.{IsWithin}
 use Rattle.im_rules_sound.specs.Sound.{IsSoundValue, IsSoundTerm}
-use Rattle.im_expressions_sound.specs.Bounded.{IsBounded, AreBoundedStructs, AreBoundedTypedefs, IsSoundContext, HasStrings, IsWithin}
+use Rattle.im_expressions_sound.specs.Bounded.{IsBounded, AreBoundedStructs, AreBoundedTypedefs, IsSoundContext, HasStrings}
 use Rattle.im_expressions_sound.specs.Written.{IsWritten}
 
 -- a member of a struct that stands at no place

@@ -3,3 +3,4 @@ pub mod Forms
 pub mod Members
 pub mod Put
 pub mod Reached
+pub mod Within

@@ -1,5 +1,5 @@
 -- What the walk over an initialiser answers, and the place behind it.
-use Rattle.std.specs.Prelude.{◌≡◌, ℕ, List, ◌++◌}
+use Rattle.std.specs.Prelude.{◌≡◌, ◌<◌, ℕ, List, ◌++◌}
 use Rattle.im_word.specs.Words.{Name}
 use Rattle.im_ctree.specs.Tree as t
 use Rattle.im_ctype.specs.Table.{structs_of}
@@ -7,16 +7,18 @@ use Rattle.im_ctype.specs.Types.{CType}
 use Rattle.im_rules.specs.BodyBreaks.{Given, an_initialiser, GivenBroken}
 use Rattle.im_rules.specs.Context.{Context}
 use Rattle.im_rules.specs.Initialisers as n
+use Rattle.im_rule_limits.specs.Limits.{size_limit, GivenSized, IsGivenWithin}
 use Rattle.im_items.specs.declared.item.Item as ri
 use Rattle.im_items.specs.Shape.{items_in}
 use Rattle.im_place.specs.declared.place.Place.{Place}
 use Rattle.im_place.specs.Contexts.{context_of, behind_strings}
 use Rattle.im_stop.specs.declared.stop.Stop.{Stop}
-use Rattle.im_stop.specs.declared.stop.Stop.TheVariants.{Rule, Memory}
+use Rattle.im_stop.specs.declared.stop.Stop.TheVariants.{Rule, Large, Memory}
 
--- a node of an initialiser breaks the rule at the token; or memory ran out
+-- a node of an initialiser breaks the rule at the token, or names a type of so many bytes, over the limit; or memory ran out
 abbrev pub IsGivenFault : Context → Given → Stop → Type 0
 IsGivenFault c g (Rule rule token) = GivenBroken c g rule token
+IsGivenFault c g (Large bytes) = GivenSized c g bytes × (size_limit < bytes)
 IsGivenFault c g Memory = Unit {0}
 
 -- behind the items there are those that the definitions give of a part, and these string literals of it are read
@@ -35,4 +37,11 @@ IsInitialised before a at i old after new =
 abbrev pub IsInitialisationFault : Context → CType → t.MaybeInitializer → Stop → Type 0
 IsInitialisationFault c a t.no_initializer (Rule rule token) = ⊥
 IsInitialisationFault c a (t.an_initializer i) (Rule rule token) = GivenBroken c (an_initialiser a 0 i) rule token
+IsInitialisationFault c a t.no_initializer (Large bytes) = ⊥
+IsInitialisationFault c a (t.an_initializer i) (Large bytes) = GivenSized c (an_initialiser a 0 i) bytes × (size_limit < bytes)
 IsInitialisationFault c a i Memory = Unit {0}
+
+-- no size in what initialises an object is over the limit
+abbrev pub IsInitialisationWithin : Context → CType → t.MaybeInitializer → Type 0
+IsInitialisationWithin c a t.no_initializer = Unit {0}
+IsInitialisationWithin c a (t.an_initializer i) = IsGivenWithin c (an_initialiser a 0 i)

@@ -7,7 +7,7 @@ ghost use Rattle.im_rules.specs.Statements.{initialised_strings, MayInitialise};
 ghost use Rattle.im_typed.specs.ProgramOf.{stmt_of};
 ghost use Rattle.im_types.specs.Shape.{type_of};
 ghost use Rattle.im_place.specs.Contexts.{context_of, behind_strings};
-ghost use Rattle.im_initialisers.specs.Given.{IsInitialisationFault};
+ghost use Rattle.im_initialisers.specs.Given.{IsInitialisationFault, IsInitialisationWithin};
 
 use crate::cells::{cell_count, narrow};
 use crate::walk::initialised;
@@ -21,7 +21,7 @@ use std::alloc::Global;
 
 /// What the declaration of the object of that number, among those of its function, does: the object
 /// is uninitialised again, or initialised. It goes on behind the string literals of the initialiser
-/// that initialise no array. An initialiser breaks rules as it does at `initialised`. Want of memory
+/// that initialise no array. An initialiser is at fault as it is at `initialised`. Want of memory
 /// also where an offset or the number of cells is no number of 32 bits.
 pub fn initialisation(
     alloc: Global,
@@ -33,7 +33,8 @@ pub fn initialisation(
     ensures { let a = type_of ty.now in let i = maybe_initializer_of initializer.now in
         MatchResult result (λ u. MayInitialise (context_of place.old) local a i
         (stmt_of place.old.structs u) × (place.new
-        ≡ behind_strings (initialised_strings (structs_of place.old.structs) a i) place.old))
+        ≡ behind_strings (initialised_strings (structs_of place.old.structs) a i) place.old)
+        × IsInitialisationWithin (context_of place.old) a i)
         (IsInitialisationFault (context_of place.old) a i) }
 {
     match initializer {
@@ -52,7 +53,8 @@ fn given(
     ensures { let a = type_of ty.now in let i = t.an_initializer (initializer_of i.now) in
         MatchResult result (λ u. MayInitialise (context_of place.old) local a i
         (stmt_of place.old.structs u) × (place.new
-        ≡ behind_strings (initialised_strings (structs_of place.old.structs) a i) place.old))
+        ≡ behind_strings (initialised_strings (structs_of place.old.structs) a i) place.old)
+        × IsInitialisationWithin (context_of place.old) a i)
         (IsInitialisationFault (context_of place.old) a i) }
 {
     let mut items = Vec::new(alloc);

@@ -6,6 +6,7 @@ ghost use Rattle.im_ctype.specs.Table.{structs_of};
 ghost use Rattle.im_rules.specs.BodyBreaks.{an_initialiser};
 ghost use Rattle.im_rules.specs.Demands.{Meets};
 ghost use Rattle.im_rules.specs.Initialisers as n;
+ghost use Rattle.im_rule_limits.specs.Limits.{IsGivenWithin};
 ghost use Rattle.im_types.specs.Shape.{type_of};
 ghost use Rattle.im_place.specs.Contexts.{context_of};
 ghost use Rattle.im_initialisers.specs.Given.{IsGivenFault, IsInitialised};
@@ -33,7 +34,8 @@ pub(crate) fn value<'a>(
     ensures { let a = type_of ty.now in let given = initializer_of i.now in
         (e : t.Expression) → n.shape a given ≡ n.one e
         → Meets (n.shape_asks (structs_of place.old.structs) a given) → MatchResult result
-        (λ _. IsInitialised place.old a at given items.old.items place.new items.new.items)
+        (λ _. IsInitialised place.old a at given items.old.items place.new items.new.items
+        × IsGivenWithin (context_of place.old) (an_initialiser a at given))
         (IsGivenFault (context_of place.old) (an_initialiser a at given)) }
 {
     let Some(e) = expression_of(i) else {

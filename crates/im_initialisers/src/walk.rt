@@ -6,6 +6,7 @@ ghost use Rattle.im_ctype.specs.Table.{structs_of};
 ghost use Rattle.im_ctype.specs.Types.{members_of};
 ghost use Rattle.im_rules.specs.BodyBreaks.{an_initialiser, some_elements, some_members};
 ghost use Rattle.im_rules.specs.Initialisers.{Elements, InMembers, strings_among, side_by_side, in_order};
+ghost use Rattle.im_rule_limits.specs.Limits.{IsGivenWithin};
 ghost use Rattle.im_tree_parts.specs.Lists.{initializers_from};
 ghost use Rattle.im_types.specs.Shape.{type_of};
 ghost use Rattle.im_place.specs.Contexts.{context_of};
@@ -24,9 +25,10 @@ use std::alloc::Global;
 
 /// Puts what goes where in an object behind the items: an object of that type, which lies so many
 /// bytes from the start of the whole. It goes on behind the string literals of the initialiser that
-/// initialise no array. An initialiser that is no form of the type breaks rule 16, and an
-/// expression that doesn't fit breaks rule 17. Want of memory where an offset is no number of 64
-/// bits, or a string literal's number none of 32. It recurs as deep as the tree is.
+/// initialise no array. An initialiser that is no form of the type breaks rule 16, an expression
+/// that doesn't fit breaks rule 17, and a type in an expression may be over the limit of sizes. Want
+/// of memory where an offset is no number of 64 bits, or a string literal's number none of 32. It
+/// recurs as deep as the tree is.
 #[cycle(walk)]
 pub fn initialised<'a>(
     alloc: Global,
@@ -37,7 +39,8 @@ pub fn initialised<'a>(
     items: &mut Vec<Item<'a>>,
 ) -> Result<(), Stop>
     ensures { let a = type_of ty.now in let given = initializer_of i.now in MatchResult result
-        (λ _. IsInitialised place.old a at given items.old.items place.new items.new.items)
+        (λ _. IsInitialised place.old a at given items.old.items place.new items.new.items
+        × IsGivenWithin (context_of place.old) (an_initialiser a at given))
         (IsGivenFault (context_of place.old) (an_initialiser a at given)) }
 {
     match shaped(place.structs.table(), ty, i)? {
@@ -63,7 +66,8 @@ fn elements<'a>(
         let is = initializers_from written.now in MatchResult result
         (λ _. IsPut (Elements c b at is)
         (strings_among (structs_of place.old.structs) (side_by_side b) is)
-        place.old items.old.items place.new items.new.items)
+        place.old items.old.items place.new items.new.items
+        × IsGivenWithin c (some_elements b at is))
         (IsGivenFault c (some_elements b at is)) }
 {
     let each = size(place.structs.table(), element)?;
@@ -89,7 +93,8 @@ fn members<'a>(
         let is = initializers_from written.now in MatchResult result
         (λ _. IsPut (InMembers c (members_of known number) (places known number) at is)
         (strings_among known (in_order (members_of known number)) is)
-        place.old items.old.items place.new items.new.items)
+        place.old items.old.items place.new items.new.items
+        × IsGivenWithin c (some_members (members_of known number) (places known number) at is))
         (IsGivenFault c (some_members (members_of known number) (places known number) at is)) }
 {
     let mut index = 0;

@@ -13,7 +13,7 @@ use Rattle.im_rules.specs.Rules.{rule_5, rule_6_absent}
 use Rattle.im_rules.specs.Statements.{name_of}
 use Rattle.im_scopes.specs.Shape.{scopes_of}
 use Rattle.im_stop.specs.declared.stop.Stop.{Stop}
-use Rattle.im_stop.specs.declared.stop.Stop.TheVariants.{Rule, Memory}
+use Rattle.im_stop.specs.declared.stop.Stop.TheVariants.{Rule, Large, Memory}
 use Rattle.im_stop.specs.Answers.{IsRefusal}
 use Rattle.im_place.specs.declared.place.Place.{Place}
 use Rattle.im_locals.specs.Objects.{name_asks, object_asks}
@@ -29,6 +29,7 @@ refused_before r (x ∷ xs) ys (inr h) = inr (refused_before r xs ys h)
 
 refusal_before : (xs ys : List Demand) (at : ℕ) (f : Stop) → IsRefusal xs at f → IsRefusal (xs ++ ys) at f
 refusal_before xs ys at (Rule rule token) h = (refused_before rule xs ys h.0, h.1)
+refusal_before xs ys at (Large bytes) h = absurd h
 refusal_before xs ys at Memory h = tt
 
 pub name_refused : (p : Place) (n at : ℕ) (y : d.Declared) (a : CType) (initialised : Bool) (x : Name) (f : Stop)

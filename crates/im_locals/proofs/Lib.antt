@@ -3,3 +3,4 @@ pub mod Demands
 pub mod Locals
 pub mod Reaching
 pub mod Specifying
+pub mod Within

@@ -1,5 +1,5 @@
 -- One declarator of a declaration in a block.
-use Rattle.std.proofs.Common.{◌≡◌, ℕ, ◌+◌, Bool, List, [], ◌∷◌, ◌++◌, length, Result, Ok, Err, MatchResult, refl, sym, ap, ◌∙◌, subst, arith}
+use Rattle.std.proofs.Common.{◌≡◌, ℕ, ◌+◌, ◌≤◌, Bool, List, [], ◌∷◌, ◌++◌, length, Result, Ok, Err, MatchResult, refl, sym, ap, ◌∙◌, subst, arith}
 use Rattle.std.proofs.lemmas.List.{append-nil}
 use Rattle.im_word.specs.Words.{Name}
 use Rattle.im_ctree.specs.Tree as t
@@ -18,13 +18,16 @@ use Rattle.im_rules.specs.Initialisers.{completed}
 use Rattle.im_rules.specs.Outline.{is_initialised}
 use Rattle.im_rules.specs.Statements.{Site, Added, just_strings, and_then, local_asks, local_added, name_of, object_of, with_local, behind_initializer, initialised_strings, declared_strings, MayInitialise, AreLocals, a_local}
 use Rattle.im_rules.specs.Strings.{strings_of_declarator}
+use Rattle.im_rules.specs.Terms.{size_in}
 use Rattle.im_rules.specs.Typed.{Declares}
 use Rattle.im_rules.specs.Breaks.{a_declarator}
 use Rattle.im_rules.specs.BodyBreaks.{BodyBroken, here_in_body, within_body, in_inner, in_local_initialiser, at_local, local_declarator, locals_behind, some_locals, GivenBroken, an_initialiser, declarator_token}
+use Rattle.im_rule_limits.specs.Limits.{size_limit, GivenSized, BodySized, of_local, size_in_part, size_in_inner, size_in_local_initialiser, IsWithin, IsBodyWithin}
 use Rattle.im_types.specs.Shape.{type_of}
 use Rattle.im_stop.specs.declared.stop.Stop.{Stop}
-use Rattle.im_stop.specs.declared.stop.Stop.TheVariants.{Rule, Memory}
+use Rattle.im_stop.specs.declared.stop.Stop.TheVariants.{Rule, Large, Memory}
 use Rattle.im_stop.specs.Answers.{IsNoRule, IsRefusal}
+use Rattle.im_sizes.specs.Sizes.{IsTooLarge}
 use Rattle.im_tree_parts.proofs.Shapes.{declarator_shape}
 use Rattle.im_declarators.specs.Suffixes.{IsFault}
 use Rattle.im_place.specs.Contexts.{context_of}
@@ -32,10 +35,11 @@ use Rattle.im_sites.specs.declared.body.Body.{Body}
 use Rattle.im_sites.specs.declared.position.Position.{Position}
 use Rattle.im_sites.specs.Sites.{site_of, IsDeclared, IsPast, IsBodyFault}
 use Rattle.im_sites.proofs.Sites.{structs_stay, more_locals, declared_past, declared_then}
-use Rattle.im_initialisers.specs.Given.{IsInitialisationFault}
+use Rattle.im_initialisers.specs.Given.{IsInitialisationFault, IsInitialisationWithin}
 use Rattle.im_locals.specs.declared.objects.Object.{Object}
 use Rattle.im_locals.specs.Objects.{object_asks, IsObject, IsKept, LocalDone, IsLocalFault}
 use Rattle.im_locals.proofs.Behind.{site_named, site_begun}
+use Rattle.im_locals.proofs.Within.{local_within}
 
 -- what each step adds is what the declarator adds
 
@@ -69,6 +73,8 @@ pub record Steps (q : d.Qualified) (b0 b1 b2 : Body) (x : InitDeclarator) (y : d
   pub meets : (m : ℕ) → Meets (object_asks b1.place m y (completed y.type (maybe_initializer_of x.initializer)) (is_initialised (maybe_initializer_of x.initializer)))
   pub is : IsObject y (maybe_initializer_of x.initializer) o
   pub kept : IsKept b1 b2 o n
+  pub within : IsWithin (context_of b0.place) (a_declarator q (declarator_of x.declarator))
+  pub size : size_in (structs_of b1.place.structs) (type_of o.ty) ≤ size_limit
 
 named_site : {q : d.Qualified} {b0 b1 b2 : Body} {x : InitDeclarator} {y : d.Declared} {o : Object} {n : ℕ}
     → Steps q b0 b1 b2 x y o n
@@ -81,12 +87,31 @@ numbered {b0 = b0} {b1 = b1} {n = n} s =
     let number : n ≡ length b1.locals.items = s.kept.number in
     omega (arith, number, more)
 
+-- the sizes of the object and of its initialiser, seen from before the declarator
+
+object_within : {q : d.Qualified} {b0 b1 b2 : Body} {x : InitDeclarator} {y : d.Declared} {o : Object} {n : ℕ}
+    → Steps q b0 b1 b2 x y o n
+    → size_in (structs_of b0.place.structs) (completed y.type (maybe_initializer_of x.initializer)) ≤ size_limit
+object_within {b0 = b0} {b1 = b1} {o = o} s =
+    subst (λ z. size_in (structs_of b0.place.structs) z ≤ size_limit) s.is.type
+    (subst (λ (z : Table). size_in (structs_of z) (type_of o.ty) ≤ size_limit) (structs_stay s.past.added) s.size)
+
+given_within : {q : d.Qualified} {b0 b1 b2 : Body} {x : InitDeclarator} {y : d.Declared} {o : Object} {n : ℕ}
+    → Steps q b0 b1 b2 x y o n
+    → IsInitialisationWithin (context_of b2.place) (type_of o.ty) (maybe_initializer_of x.initializer)
+    → (w : Position) → let a = completed y.type (maybe_initializer_of x.initializer) in IsInitialisationWithin (with_local (declarator_of x.declarator) y a (site_of b0 w)).context a (maybe_initializer_of x.initializer)
+given_within {b2 = b2} {x = x} {y = y} s within w =
+    let i = maybe_initializer_of x.initializer in
+    subst (λ (z : Site). IsInitialisationWithin z.context (completed y.type i) i) (named_site s w)
+    (subst (λ a. IsInitialisationWithin (context_of b2.place) a i) s.is.type within)
+
 pub local_done : {q : d.Qualified} {b0 b1 b2 b3 : Body} {x : InitDeclarator} {y : d.Declared} {o : Object} {n : ℕ} (u : rs.Stmt)
     → Steps q b0 b1 b2 x y o n
     → MayInitialise (context_of b2.place) n (type_of o.ty) (maybe_initializer_of x.initializer) (stmt_of b2.place.structs u)
     → IsPast (just_strings (initialised_strings (structs_of b2.place.structs) (type_of o.ty) (maybe_initializer_of x.initializer))) b2 b3
+    → IsInitialisationWithin (context_of b2.place) (type_of o.ty) (maybe_initializer_of x.initializer)
     → LocalDone q b0 b3 x u
-local_done {q = q} {b0 = b0} {b1 = b1} {b2 = b2} {b3 = b3} {x = x} {y = y} {o = o} {n = n} u s begins past =
+local_done {q = q} {b0 = b0} {b1 = b1} {b2 = b2} {b3 = b3} {x = x} {y = y} {o = o} {n = n} u s begins past within =
     let e = declarator_of x.declarator in
     let i = maybe_initializer_of x.initializer in
     let a = completed y.type i in
@@ -111,12 +136,17 @@ local_done {q = q} {b0 = b0} {b1 = b1} {b2 = b2} {b3 = b3} {x = x} {y = y} {o = 
           (subst (λ z. AreLocals q z (init_declarators_of ds) us m end) (behind w) rest);
       breaks_on = λ w ds rule token b.
           within_body (locals_behind s.declares) (subst (λ z. BodyBroken z (some_locals q (init_declarators_of ds)) rule token) (behind w) b);
+      sizes_on = λ w ds k z.
+          size_in_part (locals_behind s.declares) (subst (λ z. BodySized z (some_locals q (init_declarators_of ds)) k) (behind w) z);
+      within_on = λ w ds rest.
+          local_within s.declares s.within (object_within s) (given_within s within w) (subst (λ z. IsBodyWithin z (some_locals q (init_declarators_of ds))) (behind w) rest);
     }
 
 -- faults
 
 pub undeclared : (q : d.Qualified) (b : Body) (x : InitDeclarator) (f : Stop) → IsFault (context_of b.place) (a_declarator q (declarator_of x.declarator)) f → IsLocalFault q b x f
 undeclared q b x (Rule rule token) h = λ w ds. in_inner local_declarator h
+undeclared q b x (Large bytes) h = λ w ds. (size_in_inner local_declarator h.0, h.1)
 undeclared q b x Memory h = λ w ds. tt
 
 token_so : (x : InitDeclarator) → declarator_token (declarator_of x.declarator) ≡ (out-Declarator x.declarator).at
@@ -132,10 +162,25 @@ object_refused {q = q} {b0 = b0} x {y = y} (Rule rule token) declares past h = �
     let k = h (length b0.locals.items) in
     subst (λ z. BodyBroken (site_of b0 w) (some_locals q (init_declarators_of (x ∷ ds))) rule z) (token_so x ∙ sym k.1)
     (here_in_body (at_local declares (asked_before y (completed y.type i) (is_initialised i) (λ asked. Refuses rule asked) w past k.0)))
+object_refused x (Large bytes) declares past h = absurd (h 0)
 object_refused x Memory declares past h = λ w ds. tt
+
+pub object_too_large : {q : d.Qualified} {b0 b1 : Body} (x : InitDeclarator) {y : d.Declared} {o : Object} (types : Table) (f : Stop)
+    → Declares (context_of b0.place) q (declarator_of x.declarator) y
+    → IsPast (just_strings (strings_of_declarator (declarator_of x.declarator))) b0 b1
+    → IsObject y (maybe_initializer_of x.initializer) o
+    → types ≡ b1.place.structs
+    → IsTooLarge (size_in (structs_of types) (type_of o.ty)) f
+    → IsLocalFault q b0 x f
+object_too_large x types (Rule rule token) declares past is table h = absurd h
+object_too_large {q = q} {b0 = b0} x {o = o} types (Large bytes) declares past is table h = λ w ds.
+    let same = ap (λ (z : Table). size_in (structs_of z) (type_of o.ty)) (table ∙ structs_stay past.added) ∙ ap (λ a. size_in (structs_of b0.place.structs) a) is.type in
+    (subst (λ k. BodySized (site_of b0 w) (some_locals q (init_declarators_of (x ∷ ds))) k) (sym (h.0 ∙ same)) (of_local declares), h.1)
+object_too_large x types Memory declares past is table h = λ w ds. tt
 
 pub local_no_rule : (q : d.Qualified) (b : Body) (x : InitDeclarator) (f : Stop) → IsNoRule f → IsLocalFault q b x f
 local_no_rule q b x (Rule rule token) h = absurd h
+local_no_rule q b x (Large bytes) h = absurd h
 local_no_rule q b x Memory h = λ w ds. tt
 
 -- whatever the initialiser breaks
@@ -146,17 +191,23 @@ given_fault : {q : d.Qualified} (b : Body) {e : t.Declarator} {y : d.Declared} {
     → IsInitialisationFault c a i f
     → (w : Position) (ds : t.InitDeclarators) → IsBodyFault b w (some_locals q (t.more_init_declarators e i ds)) f
 given_fault b t.no_initializer a (Rule rule token) declares g h k = absurd k
+given_fault b t.no_initializer a (Large bytes) declares g h k = absurd k
 given_fault b t.no_initializer a Memory declares g h k = λ w ds. tt
 given_fault b {e = e} {y = y} (t.an_initializer i) a (Rule rule token) declares g h k = λ w ds.
     in_local_initialiser declares (subst (λ z. GivenBroken (with_local e y (completed y.type (t.an_initializer i)) (site_of b w)).context (an_initialiser z 0 i) rule token) h (subst (λ z. GivenBroken z (an_initialiser a 0 i) rule token) (g w) k))
+given_fault b {e = e} {y = y} (t.an_initializer i) a (Large bytes) declares g h k = λ w ds. (
+  size_in_local_initialiser declares (subst (λ z. GivenSized (with_local e y (completed y.type (t.an_initializer i)) (site_of b w)).context (an_initialiser z 0 i) bytes) h (subst (λ z. GivenSized z (an_initialiser a 0 i) bytes) (g w) k.0)),
+  k.1,
+)
 given_fault b (t.an_initializer i) a Memory declares g h k = λ w ds. tt
 
 -- what initialises the object
 pub local_made : {q : d.Qualified} {b0 b1 b2 : Body} (b3 : Body) {x : InitDeclarator} {y : d.Declared} {o : Object} {n : ℕ} (result : Result rs.Stmt Stop)
     → Steps q b0 b1 b2 x y o n
     → MatchResult result (λ u. MayInitialise (context_of b2.place) n (type_of o.ty) (maybe_initializer_of x.initializer) (stmt_of b2.place.structs u)
-    × IsPast (just_strings (initialised_strings (structs_of b2.place.structs) (type_of o.ty) (maybe_initializer_of x.initializer))) b2 b3) (IsInitialisationFault (context_of b2.place) (type_of o.ty) (maybe_initializer_of x.initializer))
+    × IsPast (just_strings (initialised_strings (structs_of b2.place.structs) (type_of o.ty) (maybe_initializer_of x.initializer))) b2 b3
+    × IsInitialisationWithin (context_of b2.place) (type_of o.ty) (maybe_initializer_of x.initializer)) (IsInitialisationFault (context_of b2.place) (type_of o.ty) (maybe_initializer_of x.initializer))
     → MatchResult result (LocalDone q b0 b3 x) (IsLocalFault q b0 x)
-local_made b3 (Ok u) s h = local_done u s h.0 h.1
+local_made b3 (Ok u) s h = local_done u s h.0 h.1 h.2
 local_made {b0 = b0} b3 {x = x} {o = o} (Err f) s h = λ w ds.
     given_fault b0 (maybe_initializer_of x.initializer) (type_of o.ty) f s.declares (λ w. ap (λ (z : Site). z.context) (named_site s w)) s.is.type h w (init_declarators_of ds)

@@ -6,9 +6,10 @@ use Rattle.im_rules.specs.Declared as d
 use Rattle.im_rules.specs.Breaks.{Broken, here, at_specifiers, some_specifiers}
 use Rattle.im_rules.specs.Statements.{in_context, AreLocals, of_declaration}
 use Rattle.im_rules.specs.BodyBreaks.{BodyBroken, within_body, in_inner, declared_locals, declared_specifiers, some_locals}
+use Rattle.im_rule_limits.specs.Limits.{BodySized, size_in_part, IsBodyWithin}
 use Rattle.im_types.specs.Shape.{type_of}
 use Rattle.im_stop.specs.declared.stop.Stop.{Stop}
-use Rattle.im_stop.specs.declared.stop.Stop.TheVariants.{Rule, Memory}
+use Rattle.im_stop.specs.declared.stop.Stop.TheVariants.{Rule, Large, Memory}
 use Rattle.im_stop.specs.Answers.{IsRefusal}
 use Rattle.im_type_specifiers.specs.declared.qualified.Qualified.{Qualified}
 use Rattle.im_type_specifiers.specs.Specified.{qualified_of}
@@ -20,12 +21,14 @@ use Rattle.im_sites.specs.Stmts.{stmts_from}
 use Rattle.im_sites.proofs.Sites.{same_site, structs_stay, more_locals, declared_then}
 use Rattle.im_locals.specs.Declarations.{DeclarationDone, IsDeclarationFault}
 use Rattle.im_locals.specs.Objects.{LocalsDone, AreLocalsFault, IsSpecified}
+use Rattle.im_locals.proofs.Within.{declaration_within}
 
 pub specifiers_fault : (b : Body) (at : ℕ) (xs : t.SpecifierList) (ds : t.InitDeclarators) (f : Stop)
     → IsRefusal (d.specifiers_ask (context_of b.place) xs) at f
     → IsDeclarationFault b (t.declaration (t.specifiers at xs) ds) f
 specifiers_fault b at xs ds (Rule rule token) h = λ w.
     in_inner declared_specifiers (subst (λ z. Broken (context_of b.place) (some_specifiers (t.specifiers at xs)) rule z) (sym h.1) (here (at_specifiers h.0)))
+specifiers_fault b at xs ds (Large bytes) h = absurd h
 specifiers_fault b at xs ds Memory h = λ w. tt
 
 -- the site of the first declarator
@@ -48,6 +51,12 @@ declarators_fault {b0 = b0} {b1 = b1} {xs = xs} at ds (Rule rule token) s h = λ
     within_body (declared_locals s.meets)
     (subst (λ z. BodyBroken z (some_locals (d.type_of_specifiers (context_of b0.place) xs) ds) rule token) (behind_them s w)
     (subst (λ (z : d.Qualified). BodyBroken (site_of b1 w) (some_locals z ds) rule token) s.type (h w)))
+declarators_fault {b0 = b0} {b1 = b1} {xs = xs} at ds (Large bytes) s h = λ w. (
+  size_in_part (declared_locals s.meets)
+      (subst (λ z. BodySized z (some_locals (d.type_of_specifiers (context_of b0.place) xs) ds) bytes) (behind_them s w)
+      (subst (λ (z : d.Qualified). BodySized (site_of b1 w) (some_locals z ds) bytes) s.type (h w).0)),
+  (h w).1,
+)
 declarators_fault at ds Memory s h = λ w. tt
 
 declarators_done : {b0 b1 b2 : Body} {xs : t.SpecifierList} {q : Qualified} {done done' : List rs.Stmt} (at : ℕ) (ds : t.InitDeclarators)
@@ -67,6 +76,10 @@ declarators_done {b0 = b0} {b1 = b1} {b2 = b2} {xs = xs} {q = q} at ds s r = rec
       let h₂ : AreLocals (d.type_of_specifiers (context_of b0.place) xs) (site_of b1 w) ds (stmts_from b0.place.structs r.statements) r.added end =
       subst (λ (z : d.Qualified). AreLocals z (site_of b1 w) ds (stmts_from b0.place.structs r.statements) r.added end) s.type h₁ in
       of_declaration s.meets (subst (λ z. AreLocals (d.type_of_specifiers (context_of b0.place) xs) z ds (stmts_from b0.place.structs r.statements) r.added end) (behind_them s w) h₂);
+  within = λ w.
+      let h₁ : IsBodyWithin (site_of b1 w) (some_locals (d.type_of_specifiers (context_of b0.place) xs) ds) =
+      subst (λ (z : d.Qualified). IsBodyWithin (site_of b1 w) (some_locals z ds)) s.type (r.within w) in
+      declaration_within (subst (λ z. IsBodyWithin z (some_locals (d.type_of_specifiers (context_of b0.place) xs) ds)) (behind_them s w) h₁);
 }
 
 pub declaration_done : {b0 b1 : Body} {xs : t.SpecifierList} {q : Qualified} (b2 : Body) (done done' : List rs.Stmt) (at : ℕ) (ds : t.InitDeclarators) (result : Result Unit Stop)

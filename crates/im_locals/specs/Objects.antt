@@ -16,6 +16,7 @@ use Rattle.im_rules.specs.Rules.{rule_3, rule_4, rule_5, rule_6_absent}
 use Rattle.im_rules.specs.Scopes.{Scopes, named, meaning, meaning_here, at_file_scope}
 use Rattle.im_rules.specs.Statements.{Site, Added, nothing_added, and_then, local_entity, name_of, object_of, AreLocals}
 use Rattle.im_rules.specs.BodyBreaks.{BodyBroken, some_locals}
+use Rattle.im_rule_limits.specs.Limits.{BodySized, IsBodyWithin}
 use Rattle.im_types.specs.Shape.{type_of}
 use Rattle.im_scopes.specs.declared.entity.Entry.{Entry}
 use Rattle.im_scopes.specs.Shape.{scopes_of}
@@ -59,7 +60,7 @@ pub record IsKept (before after : Body) (o : Object) (n : ℕ) : Type 0 where
   pub behind : IsDeclared (entry ∷ []) (record { objects = object_of (structs_of before.place.structs) o.name.items (type_of o.ty) ∷ []; strings = [] }) before after
   pub scopes : scopes_of after.place.scope ≡ named o.name.items (local_entity n o.constant (type_of o.ty)) (scopes_of before.place.scope)
 
--- what a declarator leaves: whatever is typed behind it is typed with it
+-- what a declarator leaves: whatever is typed behind it is typed with it, and is within the limit of sizes with it
 pub record LocalDone (q : d.Qualified) (before after : Body) (x : InitDeclarator) (u : rs.Stmt) : Type 0 where
   pub entries : List Entry
   pub added : Added
@@ -70,6 +71,12 @@ pub record LocalDone (q : d.Qualified) (before after : Body) (x : InitDeclarator
   pub breaks_on : (w : Position) (ds : List InitDeclarator) (rule token : ℕ)
       → BodyBroken (site_of after w) (some_locals q (init_declarators_of ds)) rule token
       → BodyBroken (site_of before w) (some_locals q (init_declarators_of (x ∷ ds))) rule token
+  pub sizes_on : (w : Position) (ds : List InitDeclarator) (k : ℕ)
+      → BodySized (site_of after w) (some_locals q (init_declarators_of ds)) k
+      → BodySized (site_of before w) (some_locals q (init_declarators_of (x ∷ ds))) k
+  pub within_on : (w : Position) (ds : List InitDeclarator)
+      → IsBodyWithin (site_of after w) (some_locals q (init_declarators_of ds))
+      → IsBodyWithin (site_of before w) (some_locals q (init_declarators_of (x ∷ ds)))
 
 -- a declarator's fault is one of the declarators that it begins
 abbrev pub IsLocalFault : d.Qualified → Body → InitDeclarator → Stop → Type 0
@@ -83,6 +90,7 @@ pub record LocalsDone (q : d.Qualified) (before after : Body) (done done' : List
   pub statements : List rs.Stmt
   pub done_grown : done' ≡ done ++ statements
   pub typed : (w : Position) → AreLocals q (site_of before w) ds (stmts_from before.place.structs statements) added (site_of after w)
+  pub within : (w : Position) → IsBodyWithin (site_of before w) (some_locals q ds)
 
 abbrev pub AreLocalsFault : d.Qualified → Body → t.InitDeclarators → Stop → Type 0
 AreLocalsFault q before ds f = (w : Position) → IsBodyFault before w (some_locals q ds) f

@@ -8,6 +8,7 @@ ghost use Rattle.im_rules.specs.Declared as d;
 ghost use Rattle.im_rules.specs.Statements.{just_strings, initialised_strings, MayInitialise};
 ghost use Rattle.im_rules.specs.Strings.{strings_of_declarator};
 ghost use Rattle.im_rules.specs.Typed.{Declares};
+ghost use Rattle.im_rule_limits.specs.Limits.{IsWithin};
 ghost use Rattle.im_stop.specs.Answers.{IsRefusal};
 ghost use Rattle.im_tree_parts.specs.Lists.{list_from};
 ghost use Rattle.im_typed.specs.ProgramOf.{stmt_of};
@@ -17,7 +18,7 @@ ghost use Rattle.im_declarators.specs.Shape.{declared_of};
 ghost use Rattle.im_declarators.specs.Suffixes.{IsFault};
 ghost use Rattle.im_place.specs.Contexts.{context_of};
 ghost use Rattle.im_sites.specs.Sites.{IsPast};
-ghost use Rattle.im_initialisers.specs.Given.{IsInitialisationFault};
+ghost use Rattle.im_initialisers.specs.Given.{IsInitialisationFault, IsInitialisationWithin};
 ghost use Rattle.im_locals.specs.Objects.{IsSpecified};
 
 use im_ctree::{Declarator, Initializer, Specifiers};
@@ -68,7 +69,8 @@ pub(crate) fn declared(
 ) -> Result<Declared, Stop>
     ensures { let e = declarator_of written.now in MatchResult result
         (λ y. Declares (context_of body.old.place) (qualified_of q) e (declared_of y)
-        × IsPast (just_strings (strings_of_declarator e)) body.old body.new)
+        × IsPast (just_strings (strings_of_declarator e)) body.old body.new
+        × IsWithin (context_of body.old.place) (a_declarator (qualified_of q) e))
         (IsFault (context_of body.old.place) (a_declarator (qualified_of q) e)) }
 {
     let y = declarator(alloc, q, written, &mut body.place)?;
@@ -87,7 +89,8 @@ pub(crate) fn begun(
     ensures { let i = maybe_initializer_of initializer.now in let a = type_of ty.now in
         let c = context_of body.old.place in MatchResult result
         (λ u. MayInitialise c number a i (stmt_of body.old.place.structs u)
-        × IsPast (just_strings (initialised_strings c.known a i)) body.old body.new)
+        × IsPast (just_strings (initialised_strings c.known a i)) body.old body.new
+        × IsInitialisationWithin c a i)
         (IsInitialisationFault c a i) }
 {
     let done = initialisation(alloc, number, ty, initializer, &mut body.place)?;

@@ -49,6 +49,13 @@ impl Structs {
         &self.table
     }
 
+    /// The table of the types alone.
+    pub fn into_table(self) -> TypeTable
+        ensures { result ≡ self }
+    {
+        self.table
+    }
+
     /// Of each struct, whether it has no `const` in its members, nor in those of structs within them.
     pub fn free(&self) -> &[bool]
         ensures { result.now ≡ u.free_from [] (structs_of self.now) }

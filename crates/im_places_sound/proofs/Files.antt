@@ -21,13 +21,13 @@ use Rattle.im_rules.specs.Typed.{Declares}
 use Rattle.im_rules.specs.FileScope.{FilePlace, past_strings, file_start, file_asks, file_entity, is_object_entity, keeps_builtin, callee_named, getchar_name, putchar_name, getchar_type, putchar_type, with_declared, of_the_file}
 use Rattle.im_rules.specs.TypedUnit.{Specify, FirstValues, past_declarator, past_head, given_strings, AreDeclared, none_declared, one_declared, TypedExternal, of_declaration, of_function, AreExternals, no_external, an_external}
 use Rattle.im_rules.specs.UnitBreaks.{some_declared, an_external as external_node, some_externals, first_external, other_externals, declaration_specifiers, declared_part, function_specifiers, other_declared, file_declarator, function_declarator}
-use Rattle.im_rule_limits.specs.Limits.{size_limit, of_static, size_in_file_part, size_in_file_inner}
+use Rattle.im_rule_limits.specs.Limits.{size_limit, of_static, size_in_file_part, size_in_file_inner, IsFileWithin}
 use Rattle.im_expressions_sound.specs.Bounded.{IsBounded}
 use Rattle.im_expressions_sound.specs.Written.{AllBytes, MayBeInitialised}
 use Rattle.im_expressions_sound.proofs.Types.{same-name-is, each-meaning}
 use Rattle.im_expressions_sound.proofs.Declarators.{declares-bounded}
 use Rattle.im_places_sound.specs.Units.{AreNamed, IsWrittenExternal, IsWrittenUnit}
-use Rattle.im_places_sound.specs.Places.{IsFileEntity, IsFine, IsStep, IsFileWithin}
+use Rattle.im_places_sound.specs.Places.{IsFileEntity, IsFine, IsStep}
 use Rattle.im_places_sound.proofs.Places.{step-trans, step-none, step-strings, step-named, here-means, rule-same, typedefs-at}
 use Rattle.im_places_sound.proofs.Bytes.{bytes-given, bytes-items}
 use Rattle.im_places_sound.proofs.Specifiers.{specify-step}

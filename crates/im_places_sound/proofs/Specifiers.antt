@@ -19,13 +19,13 @@ use Rattle.im_rules.specs.Terms.{size_in}
 use Rattle.im_rules.specs.FileScope.{FilePlace, past_strings, Level, with_list_begun, tag_here, with_struct, member_of, number_in, with_enumerator, with_enum_tag, constant_fits}
 use Rattle.im_rules.specs.TypedUnit.{AreEnumerators, no_enumerator, an_enumerator, Specify, of_specifiers, NamesType, no_list, a_struct, an_enum, AreMembers, no_member, some_members, AreFields, no_field, a_field}
 use Rattle.im_rules.specs.UnitBreaks.{file_specifiers, some_named, some_members as members_node, some_fields, named_part, struct_members, member_specifiers, member_fields, other_members, other_fields, field_declarator}
-use Rattle.im_rule_limits.specs.Limits.{size_limit, of_struct, size_in_file_part, size_in_file_inner}
+use Rattle.im_rule_limits.specs.Limits.{size_limit, of_struct, size_in_file_part, size_in_file_inner, IsFileWithin}
 use Rattle.im_expressions_sound.specs.Bounded.{IsBounded}
 use Rattle.im_expressions_sound.proofs.Types.{each-kept}
 use Rattle.im_expressions_sound.proofs.Declarators.{declares-bounded, specified-bounded}
 use Rattle.im_places_sound.specs.Units.{HasDeclarator, HasMember, AreBytesIn, AreWrittenEnumerators, HaveMembers, ListsMembers, MembersHave}
 use Rattle.im_places_sound.proofs.Growing.{IsGoodMember, members-more, push-structs}
-use Rattle.im_places_sound.specs.Places.{IsFileEntity, IsFine, Grows, IsStep, IsFileWithin}
+use Rattle.im_places_sound.specs.Places.{IsFileEntity, IsFine, Grows, IsStep}
 use Rattle.im_places_sound.proofs.Places.{step-trans, step-none, step-strings, IsTagged, step-tagged, step-named, here-means, entity-more, typedefs-at}
 use Rattle.im_places_sound.proofs.Bytes.{bytes-maybe}
 

@@ -5,8 +5,9 @@ use Rattle.im_typed.specs.Program.{Func}
 use Rattle.im_rules.specs.FileScope.{FilePlace, file_start}
 use Rattle.im_rules.specs.TypedUnit.{FirstValues, AreExternals}
 use Rattle.im_rules.specs.UnitBreaks.{some_externals}
+use Rattle.im_rule_limits.specs.Limits.{IsFileWithin}
 use Rattle.im_places_sound.specs.Units.{IsWrittenUnit}
-use Rattle.im_places_sound.specs.Places.{IsFine, IsStep, IsFileWithin}
+use Rattle.im_places_sound.specs.Places.{IsFine, IsStep}
 
 abbrev pub StartLaw : Type 0
 StartLaw = (u : t.Tree) → IsFine (file_start u)

@@ -8,8 +8,6 @@ use Rattle.im_rules.specs.TypeTests.{same_name, is_complete_in}
 use Rattle.im_rules.specs.Scopes.{Entity, an_object, a_function, an_enumerator, a_typedef, static_object, local_object, Scopes, meaning, at_file_scope}
 use Rattle.im_rules.specs.Outline.{Outline, place_in}
 use Rattle.im_rules.specs.FileScope.{FilePlace, getchar_name, putchar_name, getchar_type, putchar_type, callee_named}
-use Rattle.im_rules.specs.UnitBreaks.{FileNode}
-use Rattle.im_rule_limits.specs.Limits.{size_limit, FileSized}
 use Rattle.im_expressions_sound.specs.Bounded.{IsBounded, AreBoundedStructs, EachEntity}
 use Rattle.im_expressions_sound.specs.Written.{AllBytes}
 
@@ -50,7 +48,3 @@ pub record Grows (f h : FilePlace) : Type 0 where
 pub record IsStep (f h : FilePlace) : Type 0 where
   pub fine : IsFine h
   pub grows : Grows f h
-
--- no size in a node at file scope is over the limit
-abbrev pub IsFileWithin : FilePlace → FileNode → Type 0
-IsFileWithin f n = (k : ℕ) → FileSized f n k → k ≤ size_limit

@@ -138,6 +138,20 @@ pub data FileSized : FilePlace → FileNode → ℕ → Type 0 where
       → BodySized (body_site (past_head xs d y g) (result_of y.type) (own_parameters (nearest d)) (parameters_of (own_parameters (nearest d)) ps)) (some_items is) k
       → FileSized f (an_external (t.function_definition (t.specifiers at xs) d (t.block at' is))) k
 
+-- no size in a node is over the limit
+
+abbrev pub IsWithin : Context → Node → Type 0
+IsWithin c n = (k : ℕ) → Sized c n k → k ≤ size_limit
+
+abbrev pub IsGivenWithin : Context → Given → Type 0
+IsGivenWithin c n = (k : ℕ) → GivenSized c n k → k ≤ size_limit
+
+abbrev pub IsBodyWithin : Site → BodyNode → Type 0
+IsBodyWithin s n = (k : ℕ) → BodySized s n k → k ≤ size_limit
+
+abbrev pub IsFileWithin : FilePlace → FileNode → Type 0
+IsFileWithin f n = (k : ℕ) → FileSized f n k → k ≤ size_limit
+
 pub data Limit : Type 0 where
   of_parameters of_size of_statics : Limit
 

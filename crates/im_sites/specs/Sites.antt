@@ -1,5 +1,5 @@
 -- The places of a function's body that Rust values stand for, and what stands behind a part.
-use Rattle.std.specs.Prelude.{◌≡◌, ℕ, false, List, ◌++◌, map, length, Vec}
+use Rattle.std.specs.Prelude.{◌≡◌, ◌<◌, ℕ, false, List, ◌++◌, map, length, Vec}
 use Rattle.std.specs.Global.{Global}
 use Rattle.im_word.specs.Words.{Name}
 use Rattle.im_ctype.specs.Table.{Table, structs_of}
@@ -8,9 +8,10 @@ use Rattle.im_types.specs.Shape.{type_of}
 use Rattle.im_rules.specs.Rules as u
 use Rattle.im_rules.specs.Statements.{Site, Added, object_of}
 use Rattle.im_rules.specs.BodyBreaks.{BodyNode, BodyBroken}
+use Rattle.im_rule_limits.specs.Limits.{size_limit, BodySized}
 use Rattle.im_scopes.specs.declared.entity.Entry.{Entry}
 use Rattle.im_stop.specs.declared.stop.Stop.{Stop}
-use Rattle.im_stop.specs.declared.stop.Stop.TheVariants.{Rule, Memory}
+use Rattle.im_stop.specs.declared.stop.Stop.TheVariants.{Rule, Large, Memory}
 use Rattle.im_place.specs.Contexts.{context_of, behind_strings}
 use Rattle.im_sites.specs.declared.body.Body.{Body}
 use Rattle.im_sites.specs.declared.body.Local.{Local}
@@ -59,7 +60,8 @@ pub record IsPast (more : Added) (before after : Body) : Type 0 where
   pub added : IsAdded more before after
   pub scope : after.place.scope ≡ before.place.scope
 
--- a node of this one breaks the rule at the token; or memory ran out
+-- a node of this one breaks the rule at the token, or has a type of so many bytes, over the limit; or memory ran out
 abbrev pub IsBodyFault : Body → Position → BodyNode → Stop → Type 0
 IsBodyFault b w n (Rule rule token) = BodyBroken (site_of b w) n rule token
+IsBodyFault b w n (Large bytes) = BodySized (site_of b w) n bytes × (size_limit < bytes)
 IsBodyFault b w n Memory = Unit {0}

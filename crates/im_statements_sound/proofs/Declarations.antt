@@ -18,13 +18,13 @@ use Rattle.im_rules.specs.Typed.{Declares}
 use Rattle.im_rules.specs.Initialisers.{completed, strings_given, pieces_of}
 use Rattle.im_rules.specs.Statements.{Site, Added, name_of, object_of, with_local, declared_strings, initialised_strings, behind_initializer, MayInitialise, forgets, initialises, AreLocals, no_local, a_local, in_context, TypedDeclaration, of_declaration}
 use Rattle.im_rules.specs.BodyBreaks.{some_locals, a_declaration, an_initialiser, local_declarator, locals_behind, declared_locals}
-use Rattle.im_rule_limits.specs.Limits.{size_limit, of_local, size_in_part, size_in_inner, size_in_local_initialiser}
+use Rattle.im_rule_limits.specs.Limits.{size_limit, of_local, size_in_part, size_in_inner, size_in_local_initialiser, IsGivenWithin, IsBodyWithin}
 use Rattle.im_expressions_sound.specs.Bounded.{IsBounded, IsSoundEntity, IsSoundContext, HasStrings}
 use Rattle.im_expressions_sound.specs.Written.{MayBeInitialised, AreWrittenDeclarators, IsWrittenDeclaration}
 use Rattle.im_expressions_sound.proofs.Types.{complete-is-object}
 use Rattle.im_expressions_sound.proofs.Declarators.{declares-bounded, specifiers-bounded, tags-kept}
 use Rattle.im_expressions_sound.proofs.Expressions.{typedefs-bounded}
-use Rattle.im_statements_sound.specs.Sites.{StandFrom, IsSoundSite, IsBodyWithin, IsGivenWithin, AreObjects}
+use Rattle.im_statements_sound.specs.Sites.{StandFrom, IsSoundSite, AreObjects}
 use Rattle.im_statements_sound.proofs.Initialisers.{initialisers}
 use Rattle.im_statements_sound.proofs.Sites.{IsPast, stand-right, past-strings-sound}
 

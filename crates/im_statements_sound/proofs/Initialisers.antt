@@ -26,14 +26,13 @@ use Rattle.im_rules.specs.Context.{Context, behind_strings}
 use Rattle.im_rules.specs.Terms.{Term, access_of, size_in}
 use Rattle.im_rules.specs.Initialisers.{Shape, side_by_side, in_order, strings_given, strings_among, Item, from_term, byte_items, Initialised, initialised, Shaped, of_one, of_bytes, of_elements, of_members, Elements, no_element, an_element, InMembers, no_member, a_member, piece_of, pieces_of}
 use Rattle.im_rules.specs.BodyBreaks.{an_initialiser, some_elements, some_members}
-use Rattle.im_rule_limits.specs.Limits.{size_in_first_element, size_in_other_elements, size_in_first_member, size_in_other_members}
+use Rattle.im_rule_limits.specs.Limits.{size_in_first_element, size_in_other_elements, size_in_first_member, size_in_other_members, IsGivenWithin}
 use Rattle.im_expressions_sound.specs.Bounded.{IsBounded, IsSoundContext, HasStrings}
 use Rattle.im_expressions_sound.specs.Written.{IsWrittenInitialiser, AreWrittenInitialisers}
 use Rattle.im_rules_sound.proofs.Operations.{integer-kind}
 use Rattle.im_expressions_sound.proofs.Types.{sized-bounded}
 use Rattle.im_expressions_sound.proofs.Parts.{access-cells, access-sound}
 use Rattle.im_expressions_sound.proofs.Expressions.{expressions, first-strings, last-strings}
-use Rattle.im_statements_sound.specs.Sites.{IsGivenWithin}
 use Rattle.im_statements_sound.proofs.Fits.{IsFitted, fitted}
 use Rattle.im_statements_sound.proofs.Shapes.{Info, info}
 use Rattle.im_statements_sound.proofs.Standing.{Ascending, ascending-lower, ascending-higher, ascending-append, ascending-distinct, type-ascending, stand-first, stand-last, stand-moved, element-stands, elements-stand, own-cells-stand}

@@ -14,11 +14,10 @@ use Rattle.im_rules.specs.Context.{Context}
 use Rattle.im_rules.specs.Breaks.{an_expression}
 use Rattle.im_rules.specs.Initialisers.{Shape, one, bytes, elements, members, misshapen, string_shape, element_shape, shape, side_by_side, in_order, strings_given, strings_among}
 use Rattle.im_rules.specs.BodyBreaks.{an_initialiser, some_elements, some_members}
-use Rattle.im_rule_limits.specs.Limits.{size_in_value, size_in_elements, size_in_members}
-use Rattle.im_expressions_sound.specs.Bounded.{HasStrings, IsWithin}
+use Rattle.im_rule_limits.specs.Limits.{size_in_value, size_in_elements, size_in_members, IsWithin, IsGivenWithin}
+use Rattle.im_expressions_sound.specs.Bounded.{HasStrings}
 use Rattle.im_expressions_sound.specs.Written.{IsWritten, IsWrittenInitialiser, AreWrittenInitialisers}
 use Rattle.im_expressions_sound.proofs.Expressions.{first-strings}
-use Rattle.im_statements_sound.specs.Sites.{IsGivenWithin}
 
 pub record IsOne (g : Prog) (c : Context) (a : CType) (e : t.Expression) : Type 0 where
   pub plain : is_array a ≡ false

@@ -23,14 +23,14 @@ use Rattle.im_rules.specs.Breaks.{an_expression}
 use Rattle.im_rules.specs.TypedUnit.{result_kind}
 use Rattle.im_rules.specs.Statements.{Site, Added, and_then, just_strings, past, past_expression, past_maybe, in_block, in_loop, condition_asks, value_in, switch_type, Labels, Cases, label_value, count_stmts, MayTest, no_test, a_test, MayStep, no_step, a_step, Begins, by_declaration, by_nothing, by_expression, TypedStatement, of_block, of_nothing, of_expression, of_if, of_while, of_do, of_for, of_switch, of_break, of_continue, of_return, of_return_value, MayBeTyped, no_else, an_else, TypedItems, no_item, a_declaration, a_statement, TypedCases, no_case, between_cases, a_labelled, Labelled, no_label, of_case, of_default}
 use Rattle.im_rules.specs.BodyBreaks.{a_beginning, a_statement as statement_node, an_else as else_node, some_items, some_cases, a_labelled as labelled_node, is_label, begun, evaluated, if_condition, while_condition, do_condition, switched, returned, for_condition, for_step, begun_by, block_items, first_branch, second_branch, else_statement, while_body, do_body, for_beginning, for_body, switch_block, item_declaration, behind_declaration, item_statement, behind_statement, case_declaration, cases_behind_declaration, case_statement, cases_behind_statement, unlabelled, behind_case, behind_default}
-use Rattle.im_rule_limits.specs.Limits.{size_in_part, size_in_inner, size_in_step}
+use Rattle.im_rule_limits.specs.Limits.{size_in_part, size_in_inner, size_in_step, IsWithin, IsBodyWithin}
 use Rattle.im_rules_sound.specs.Sound.{IsSoundValue}
-use Rattle.im_expressions_sound.specs.Bounded.{IsSoundContext, HasStrings, IsWithin}
+use Rattle.im_expressions_sound.specs.Bounded.{IsSoundContext, HasStrings}
 use Rattle.im_expressions_sound.specs.Written.{IsWritten, MayBeWritten, IsWrittenBeginning, IsWrittenStatement, MayBeWrittenStatement, AreWrittenItems}
 use Rattle.im_rules_sound.proofs.Operations.{type-seen, scalar-shape, promoted-kind, as-integer-sound}
 use Rattle.im_rules_sound.proofs.Terms.{reads, integer-seen}
 use Rattle.im_expressions_sound.proofs.Expressions.{expressions, first-strings, last-strings}
-use Rattle.im_statements_sound.specs.Sites.{IsSoundSite, IsBodyWithin, AreObjects, IsTypedAt}
+use Rattle.im_statements_sound.specs.Sites.{IsSoundSite, AreObjects, IsTypedAt}
 use Rattle.im_statements_sound.proofs.Fits.{fitted}
 use Rattle.im_statements_sound.proofs.Declarations.{declaration-typed}
 use Rattle.im_statements_sound.proofs.Sites.{IsPast, objects-append, first-site, last-site, past-strings-sound, past-expression-is, behind-added, behind-expression, block-site, loop-site, switch-site}

@@ -12,9 +12,10 @@ use Rattle.im_rules.specs.Context.{Context}
 use Rattle.im_rules.specs.Initialisers.{Item, Initialised, strings_given, pieces_of}
 use Rattle.im_rules.specs.Statements.{Site, Added, TypedStatement, TypedItems}
 use Rattle.im_rules.specs.BodyBreaks.{an_initialiser, a_statement, some_items}
+use Rattle.im_rule_limits.specs.Limits.{IsGivenWithin, IsBodyWithin}
 use Rattle.im_expressions_sound.specs.Bounded.{IsBounded, IsSoundContext, HasStrings}
 use Rattle.im_expressions_sound.specs.Written.{IsWrittenInitialiser, IsWrittenStatement, AreWrittenItems}
-use Rattle.im_statements_sound.specs.Sites.{IsSoundSite, IsGivenWithin, IsBodyWithin, AreObjects, IsTypedAt}
+use Rattle.im_statements_sound.specs.Sites.{IsSoundSite, AreObjects, IsTypedAt}
 
 -- each piece of an initialiser fits cells of its object, and no two give the same cell (C11 6.7.9)
 abbrev pub InitialisersLaw : Type 0

@@ -3,11 +3,8 @@ use Rattle.std.specs.Prelude.{◌≡◌, ℕ, ◌+◌, ◌≤◌, true, List, So
 use Rattle.im_typed.specs.Program.{LocalObject, Stmt, Func, Prog}
 use Rattle.im_typed.specs.Typing.{Each, IsObject, IsTypedStmt}
 use Rattle.im_rules.specs.Rules.{rule_9_result, rule_34_break, rule_34_continue}
-use Rattle.im_rules.specs.Context.{Context}
 use Rattle.im_rules.specs.Statements.{Site, Added}
-use Rattle.im_rules.specs.BodyBreaks.{Given, BodyNode}
 use Rattle.im_rules.specs.TypedUnit.{result_kind}
-use Rattle.im_rule_limits.specs.Limits.{size_limit, GivenSized, BodySized}
 use Rattle.im_expressions_sound.specs.Bounded.{IsSoundContext, HasStrings}
 
 -- these objects are some of all, from a number on
@@ -21,13 +18,6 @@ pub record IsSoundSite (g : Prog) (f : Func) (s : Site) (added : Added) : Type 0
   pub objects : StandFrom f.objects s.locals added.objects
   pub result : f.result ≡ result_kind s.result
   pub scalar : rule_9_result s.result ≡ true
-
--- no size in a node is over the limit
-abbrev pub IsGivenWithin : Context → Given → Type 0
-IsGivenWithin c n = (k : ℕ) → GivenSized c n k → k ≤ size_limit
-
-abbrev pub IsBodyWithin : Site → BodyNode → Type 0
-IsBodyWithin s n = (k : ℕ) → BodySized s n k → k ≤ size_limit
 
 abbrev pub AreObjects : List LocalObject → Type 0
 AreObjects os = Each {A = LocalObject} (λ o. IsObject o.size o.cells) os

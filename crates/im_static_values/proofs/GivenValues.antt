@@ -12,7 +12,7 @@ use Rattle.im_typed.specs.ProgramOf.{first_of}
 use Rattle.im_rules.specs.Initialisers.{Source, from_term, from_byte, Item, piece_by, piece_of, pieces_of}
 use Rattle.im_rules.specs.StaticValues.{constant_asks, item_token, static_value, value_or, zero_of, cell_value, cell_values}
 use Rattle.im_stop.specs.declared.stop.Stop.{Stop}
-use Rattle.im_stop.specs.declared.stop.Stop.TheVariants.{Rule, Memory}
+use Rattle.im_stop.specs.declared.stop.Stop.TheVariants.{Rule, Large, Memory}
 use Rattle.im_stop.specs.Answers.{IsRefusal}
 use Rattle.im_items.specs.declared.item.Item as rust
 use Rattle.im_items.specs.Shape.{item_in, items_in}
@@ -43,10 +43,12 @@ given_item types size is gs now x g e h i =
 
 this : (size : ℕ → ℕ) (known : Structs) (p : Item) (qs : List Item) (f : Stop) → IsRefusal (constant_asks size known p) (item_token p) f → IsUnfit size known (p ∷ qs) f
 this size known p qs (Rule rule token) h = rw h.1 (this_item h.0)
+this size known p qs (Large bytes) h = absurd h
 this size known p qs Memory h = tt
 
 other : (size : ℕ → ℕ) (known : Structs) (p : Item) (qs : List Item) (f : Stop) → IsUnfit size known qs f → IsUnfit size known (p ∷ qs) f
 other size known p qs (Rule rule token) h = other_item h
+other size known p qs (Large bytes) h = absurd h
 other size known p qs Memory h = tt
 
 pub unfit_at : (types : Table) (size : ℕ → ℕ) (is : List rust.Item) (i : ℕ) (x : rust.Item) (f : Stop) → i < length is → x ≡ get_or is i x

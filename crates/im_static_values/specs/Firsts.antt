@@ -5,7 +5,7 @@ use Rattle.im_rules.specs.Demands.{Meets, Refuses}
 use Rattle.im_rules.specs.Initialisers.{Item}
 use Rattle.im_rules.specs.StaticValues.{constant_asks, item_token}
 use Rattle.im_stop.specs.declared.stop.Stop.{Stop}
-use Rattle.im_stop.specs.declared.stop.Stop.TheVariants.{Rule, Memory}
+use Rattle.im_stop.specs.declared.stop.Stop.TheVariants.{Rule, Large, Memory}
 
 -- every item is a constant
 abbrev pub AreConstant : (ℕ → ℕ) → Structs → List Item → Type 0
@@ -20,4 +20,5 @@ pub data RefusesItem (size : ℕ → ℕ) (known : Structs) (r : ℕ) : ℕ → 
 -- a rule that refuses an item, at its first token
 abbrev pub IsUnfit : (ℕ → ℕ) → Structs → List Item → Stop → Type 0
 IsUnfit size known ps (Rule rule token) = RefusesItem size known rule token ps
+IsUnfit size known ps (Large bytes) = ⊥
 IsUnfit size known ps Memory = Unit {0}

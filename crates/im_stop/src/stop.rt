@@ -10,6 +10,8 @@ use std::alloc::{AllocError, AllocFailed};
 pub enum Stop {
     /// The rule of that number is broken by a node whose first token is that one.
     Rule { number: u32, token: u32 },
+    /// A type has that many bytes, which is over the limit of one type.
+    Large { bytes: u64 },
     /// Memory ran out.
     Memory,
 }

@@ -9,7 +9,7 @@ use Rattle.im_rules.specs.Demands.{Demand, asks, Meets, Refuses}
 use Rattle.im_rules.specs.Declared.{Qualified, specified, specified_asks, specifiers_ask, line_meant}
 use Rattle.im_ctype.specs.Types.{CType}
 use Rattle.im_stop.specs.declared.stop.Stop.{Stop}
-use Rattle.im_stop.specs.declared.stop.Stop.TheVariants.{Rule, Memory}
+use Rattle.im_stop.specs.declared.stop.Stop.TheVariants.{Rule, Large, Memory}
 use Rattle.im_type_specifiers.specs.declared.qualified.Qualified as y
 use Rattle.im_type_specifiers.specs.Specified.{IsQualified, file_asks, base_of}
 
@@ -60,6 +60,7 @@ made_of_name c xs s at (Err (Rule rule token)) n k few h =
     let p = h [] in
     let q : Refuses rule (specified_asks c (named_in xs)) = rw n p.0 in
     (inr q, p.1)
+made_of_name c xs s at (Err (Large bytes)) n k few h = absurd (h [])
 made_of_name c xs s at (Err Memory) n k few h = tt
 
 behind_one : {rule : ℕ} (a z : Demand) (ds : List Demand) → Refuses rule (a ∷ ds) → Refuses rule (a ∷ z ∷ ds)
@@ -71,6 +72,7 @@ pub elsewhere : (c : Context) (xs : t.SpecifierList) (q : Qualified) (at : ℕ) 
     → IsQualified (file_asks c xs) q at result → IsQualified (specifiers_ask c xs) q at result
 elsewhere c xs q at (Ok y) e h = ((h.0.0, (eq-eqb (length (storage_in xs)) 0 e, h.0.1)), h.1)
 elsewhere c xs q at (Err (Rule rule token)) e h = (behind_one (asks 1 (rule_1 xs)) (asks 2 (rule_2_elsewhere xs)) (specified_asks c (named_in xs)) h.0, h.1)
+elsewhere c xs q at (Err (Large bytes)) e h = absurd h
 elsewhere c xs q at (Err Memory) e h = tt
 
 alone : (zs : List t.Specifier) (s : t.Specifier) → length (s ∷ zs) ≡ 1 → zs ≡ []

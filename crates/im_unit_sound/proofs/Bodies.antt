@@ -24,13 +24,13 @@ use Rattle.im_rules.specs.Statements.{Added, name_of as name_in, object_of}
 use Rattle.im_rules.specs.FileScope.{FilePlace, past_strings, file_start, Level, of_the_file, of_members, level_asks, file_asks, file_entity, body_asks, callee_named, own_parameters, has_own_parameters}
 use Rattle.im_rules.specs.TypedUnit.{FirstValues, Specify, of_specifiers, NamesType, no_list, a_struct, an_enum, MayGive, gives_nothing, gives_values, past_declarator, past_head, given_strings, AreDeclared, none_declared, one_declared, result_kind, parameter_objects, function_made, TypedExternal, of_declaration, of_function, AreExternals, no_external, an_external}
 use Rattle.im_rules.specs.UnitBreaks.{some_declared, an_external as external_node, some_externals, first_external, other_externals, declaration_specifiers, declared_part, function_specifiers, other_declared}
-use Rattle.im_rule_limits.specs.Limits.{size_in_file_part}
+use Rattle.im_rule_limits.specs.Limits.{size_in_file_part, IsFileWithin}
 use Rattle.im_rules.proofs.Once.{parameters_once}
 use Rattle.im_rules_sound.specs.Sound.{gives, TakeTypes}
 use Rattle.im_expressions_sound.specs.Bounded.{IsBounded, AreScalars, AreBoundedTypes}
 use Rattle.im_expressions_sound.proofs.Types.{same-name-is}
 use Rattle.im_places_sound.specs.Units.{IsNamed, AreNamed, IsWrittenExternal, IsWrittenUnit}
-use Rattle.im_places_sound.specs.Places.{IsFine, Grows, IsFileWithin}
+use Rattle.im_places_sound.specs.Places.{IsFine, Grows}
 use Rattle.im_places_sound.proofs.Places.{grows-trans, self-named}
 use Rattle.im_places_sound.proofs.Specifiers.{specify-step}
 use Rattle.im_places_sound.proofs.Heads.{declared-name, function-declared, own-parameters}

@@ -26,7 +26,7 @@ use Rattle.im_rules.specs.Statements.{Added, TypedItems, name_of as name_in, obj
 use Rattle.im_rules.specs.FileScope.{FilePlace, past_strings, file_entity, file_asks, is_object_entity, callee_named, getchar_name, putchar_name, body_asks, has_own_parameters, own_parameters, static_size, of_the_file}
 use Rattle.im_rules.specs.TypedUnit.{Specify, FirstValues, AreConstants, MayGive, gives_nothing, gives_values, past_declarator, past_head, given_strings, AreDeclared, none_declared, one_declared, parameter_objects, body_site, function_made, string_statics, static_named, program, TypedExternal, of_declaration, of_function, AreExternals, no_external, an_external}
 use Rattle.im_rules.specs.UnitBreaks.{some_declared, an_external as external_node, some_externals, first_external, other_externals, declaration_specifiers, declared_part, function_specifiers, other_declared}
-use Rattle.im_rule_limits.specs.Limits.{count_parameters, counted_of, counts_external, parameter_counts, size_in_file_part, size_in_static_initialiser, size_in_body}
+use Rattle.im_rule_limits.specs.Limits.{count_parameters, counted_of, counts_external, parameter_counts, size_in_file_part, size_in_static_initialiser, size_in_body, IsFileWithin}
 use Rattle.im_rules_sound.specs.Sound.{gives, TakeTypes, IsSoundCallee}
 use Rattle.im_expressions_sound.specs.Bounded.{IsBounded, AreScalars, AreBoundedTypes, EachEntity, IsSoundEntity, IsSoundContext, HasStrings}
 use Rattle.im_expressions_sound.proofs.Types.{each-at, each-kept, complete-is-object, kind-small}
@@ -38,7 +38,7 @@ use Rattle.im_statements_sound.proofs.Standing.{own-cells-stand}
 use Rattle.im_statements_sound.proofs.Statements.{items}
 use Rattle.im_statements_sound.proofs.Sites.{stand-right, objects-append}
 use Rattle.im_places_sound.specs.Units.{AreNamed, IsWrittenExternal, IsWrittenUnit}
-use Rattle.im_places_sound.specs.Places.{IsFileEntity, Means, IsFine, Grows, IsFileWithin}
+use Rattle.im_places_sound.specs.Places.{IsFileEntity, Means, IsFine, Grows}
 use Rattle.im_places_sound.proofs.Places.{grows-trans, self-named}
 use Rattle.im_places_sound.proofs.Specifiers.{specify-step}
 use Rattle.im_places_sound.proofs.Files.{declarator-step, declared-step, head-step, external-step, externals-step}

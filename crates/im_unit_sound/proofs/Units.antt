@@ -21,12 +21,12 @@ use Rattle.im_rules.specs.FileScope.{FilePlace, file_start, main_name, body_type
 use Rattle.im_rules.specs.TypedUnit.{FirstValues, program, TypedUnit, of_unit}
 use Rattle.im_rules.specs.UnitBreaks.{some_externals}
 use Rattle.im_rule_limits.proofs.First.{all-within}
-use Rattle.im_rule_limits.specs.Limits.{size_limit, parameter_counts, of_parameters, of_size, of_statics, too_many_parameters, too_large, too_many_statics, IsWithinLimits}
+use Rattle.im_rule_limits.specs.Limits.{size_limit, parameter_counts, of_parameters, of_size, of_statics, too_many_parameters, too_large, too_many_statics, IsWithinLimits, IsFileWithin}
 use Rattle.im_rules_sound.specs.Sound.{gives, TakeTypes}
 use Rattle.im_expressions_sound.proofs.Types.{each-at}
 use Rattle.im_places_sound.specs.Units.{IsWrittenUnit}
 use Rattle.im_places_sound.proofs.Growing.{each-weaker}
-use Rattle.im_places_sound.specs.Places.{IsFine, IsFileWithin}
+use Rattle.im_places_sound.specs.Places.{IsFine}
 use Rattle.im_places_sound.proofs.Files.{start-fine, externals-step, entity-at}
 use Rattle.im_unit_sound.proofs.Values.{statics-good}
 use Rattle.im_unit_sound.proofs.Bodies.{IsHeaded, externals-headed, names_made, bodies-made, made-found}

@@ -277,16 +277,16 @@ declarators::declarator-returns-in_err-parts t c =
 pub declarators::declarator-returns-in_err-ty : goal.declarators::declarator-returns-in_err-ty
 declarators::declarator-returns-in_err-ty t c =
     let p = err_from_is_err_and c.from_residual-in_err-ty.result c.from_residual-in_err-ty.ensures.1 in
-    rw (p.1, p.2, declarator_shape c.args.d.now) (suffixed_fault c.args.place.now _ _ _ _ _ _ c.args.q c.in_ok-base.base _ c.in_ok-place.ensures (rw c.deref.ensures.value at c.in_ok-base.ensures).1 (rw c.deref-2.ensures.value at c.in_ok-parts.ensures) c.count.ensures (rw (c.deref-3.ensures.value, c.deref-4.ensures.value) at c.in_err-ty.ensures))
+    rw (p.1, p.2, declarator_shape c.args.d.now) (suffixed_fault c.args.place.now _ _ _ _ _ _ c.args.q c.in_ok-base.base _ c.in_ok-place.ensures (rw c.deref.ensures.value at c.in_ok-base.ensures).1 (rw c.deref-2.ensures.value at c.in_ok-parts.ensures) c.table.ensures (rw (c.deref-3.ensures.value, c.deref-4.ensures.value) at c.in_err-ty.ensures))
 
 pub declarators::declarator-returns-in_err-declared : goal.declarators::declarator-returns-in_err-declared
 declarators::declarator-returns-in_err-declared t c =
     let p = err_from_is_err_and c.from_residual-in_err-declared.result c.from_residual-in_err-declared.ensures.1 in
-    rw (p.1, p.2, declarator_shape c.args.d.now) (core_fault c.args.place.now _ _ _ _ _ _ _ _ c.in_ok-place.ensures (rw c.deref-2.ensures.value at c.in_ok-parts.ensures).1 (suffixed_before (at_string _ c.args.place.now) (stars_in (out-Declarator c.args.d.now).stars.items) _ _ c.args.q c.in_ok-base.base c.in_ok-ty.ty (rw c.deref.ensures.value at c.in_ok-base.ensures).1 (rw c.deref-2.ensures.value at c.in_ok-parts.ensures) c.count.ensures (rw (c.deref-3.ensures.value, c.deref-4.ensures.value) at c.in_ok-ty.ensures)) c.in_err-declared.ensures)
+    rw (p.1, p.2, declarator_shape c.args.d.now) (core_fault c.args.place.now _ _ _ _ _ _ _ _ c.in_ok-place.ensures (rw c.deref-2.ensures.value at c.in_ok-parts.ensures).1 (suffixed_before (at_string _ c.args.place.now) (stars_in (out-Declarator c.args.d.now).stars.items) _ _ c.args.q c.in_ok-base.base c.in_ok-ty.ty (rw c.deref.ensures.value at c.in_ok-base.ensures).1 (rw c.deref-2.ensures.value at c.in_ok-parts.ensures) c.table.ensures (rw (c.deref-3.ensures.value, c.deref-4.ensures.value) at c.in_ok-ty.ensures)) c.in_err-declared.ensures)
 
 pub declarators::declarator-returns : goal.declarators::declarator-returns
 declarators::declarator-returns t c =
-    rw (declarator_shape c.args.d.now) (declarator_done c.args.place.now _ _ _ _ _ _ _ _ (rw c.deref.ensures.value at c.in_ok-base.ensures).0 c.in_ok-place.ensures (rw c.deref-2.ensures.value at c.in_ok-parts.ensures).1 (suffixed_before (at_string _ c.args.place.now) (stars_in (out-Declarator c.args.d.now).stars.items) _ _ c.args.q c.in_ok-base.base c.in_ok-ty.ty (rw c.deref.ensures.value at c.in_ok-base.ensures).1 (rw c.deref-2.ensures.value at c.in_ok-parts.ensures) c.count.ensures (rw (c.deref-3.ensures.value, c.deref-4.ensures.value) at c.in_ok-ty.ensures)) c.in_ok-declared.ensures)
+    rw (declarator_shape c.args.d.now) (declarator_done c.args.place.now _ _ _ _ _ _ _ _ (rw c.deref.ensures.value at c.in_ok-base.ensures).0 c.in_ok-place.ensures (rw c.deref-2.ensures.value at c.in_ok-parts.ensures).1 (suffixed_before (at_string _ c.args.place.now) (stars_in (out-Declarator c.args.d.now).stars.items) _ _ c.args.q c.in_ok-base.base c.in_ok-ty.ty (rw c.deref.ensures.value at c.in_ok-base.ensures).1 (rw c.deref-2.ensures.value at c.in_ok-parts.ensures) c.table.ensures (rw (c.deref-3.ensures.value, c.deref-4.ensures.value) at c.in_ok-ty.ensures)) c.in_ok-declared.ensures)
 
 pub suffixes::given-loop-suffix-init : goal.suffixes::given-loop-suffix-init
 suffixes::given-loop-suffix-init t c =

@@ -1,30 +1,19 @@
-use Rattle.std.proofs.Common.{ℤ, Some, unsigned_abs, refl, sym, ap, inl, inr, rules, w64, ◌≡◌, ◌∙◌}
-use Rattle.std.proofs.lemmas.Int.{to_z-of_z}
 use Rattle.std.proofs.lemmas.Result.{err_from_is_err_and}
-use Rattle.im_rules.specs.Rules.{rule_6_length}
+use Rattle.im_ctype.specs.Table.{structs_of}
 use Rattle.im_type_specifiers.specs.Specified.{qualified_of}
-use Rattle.im_declarators.proofs.Steps.{array_made, array_fault}
+use Rattle.im_declarators.proofs.Steps.{array_made, array_refused, array_too_large}
 use Rattle.im_declarators.proofs.suffixes.array.Goals as goal
-use mir.Val.{SFits}
 
-pub returns-then-not-is_count : goal.returns-then-not-is_count
-returns-then-not-is_count c =
-    let f : SFits w64 c.in-Some.count = search rules in
-    let e = to_z-of_z w64 c.in-Some.count f in
-    let same = ap (λ (z : ℤ). rule_6_length (Some z)) e in
-    let n = sym same ∙ sym c.is_count.ensures ∙ c.if-not-is_count.true in
-    rw c.in-Some.is (λ k known. (inr (inl (refl, n)), refl))
-
-pub returns-in_err-element : goal.returns-in_err-element
-returns-in_err-element c =
+pub returns-in_err-count : goal.returns-in_err-count
+returns-in_err-count c =
     let p = err_from_is_err_and c.from_residual.result c.from_residual.ensures.1 in
-    rw (p.1, p.2) (λ k e. array_fault k (qualified_of c.args.q) c.args.value c.args.at _ (c.in_err-element.ensures k c.args.q.constant e))
+    rw (p.1, p.2) (λ k known. array_refused k (qualified_of c.args.q) c.args.value c.args.at _ (c.in_err-count.ensures k c.args.q.constant known))
+
+pub returns-in_err-fits : goal.returns-in_err-fits
+returns-in_err-fits c =
+    let p = err_from_is_err_and c.from_residual-in_err-fits.result c.from_residual-in_err-fits.ensures.1 in
+    rw (p.1, p.2) (λ k known. array_too_large k (structs_of c.args.table.now) (qualified_of c.args.q) c.args.value c.in_ok-count.count _ c.args.at _ known (c.in_ok-count.ensures k c.args.q.constant known) c.in_ok-ty.ensures c.in_ok-is_within.ensures c.in_err-fits.ensures)
 
 pub returns : goal.returns
-returns c =
-    let f : SFits w64 c.in-Some.count = search rules in
-    let e = to_z-of_z w64 c.in-Some.count f in
-    let same = ap (λ (z : ℤ). rule_6_length (Some z)) e in
-    let positive = sym same ∙ sym c.is_count.ensures ∙ c.if-not-is_count.false in
-    let counted = c.unsigned_abs.ensures.value ∙ ap unsigned_abs e in
-    rw c.in-Some.is (λ k known. array_made k (qualified_of c.args.q) c.in-Some.count c.unsigned_abs.result _ positive (c.in_ok-element.ensures k c.args.q.constant known) counted c.in_ok-ty.ensures)
+returns c = λ k known.
+    array_made k (structs_of c.args.table.now) (qualified_of c.args.q) c.args.value c.in_ok-count.count _ known (c.in_ok-count.ensures k c.args.q.constant known) c.in_ok-ty.ensures c.in_ok-fits.ensures

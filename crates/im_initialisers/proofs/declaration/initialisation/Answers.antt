@@ -4,4 +4,4 @@ use Rattle.im_expression_parts.proofs.Places.{behind_none}
 use Rattle.im_initialisers.proofs.declaration.initialisation.Goals as goal
 
 pub returns-in-None : goal.returns-in-None
-returns-in-None c = rw c.in-None.is (forgets, sym (behind_none c.args.place.now))
+returns-in-None c = rw c.in-None.is (forgets, sym (behind_none c.args.place.now), tt)

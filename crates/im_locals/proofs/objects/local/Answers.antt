@@ -1,6 +1,7 @@
+use Rattle.std.proofs.Common.{sym}
 use Rattle.std.proofs.lemmas.Result.{err_from_is_err_and}
 use Rattle.im_type_specifiers.specs.Specified.{qualified_of}
-use Rattle.im_locals.proofs.Locals.{undeclared, object_refused, local_no_rule, local_made}
+use Rattle.im_locals.proofs.Locals.{undeclared, object_refused, object_too_large, local_no_rule, local_made}
 use Rattle.im_locals.proofs.objects.local.Goals as goal
 
 pub returns-in_err-written : goal.returns-in_err-written
@@ -12,6 +13,11 @@ pub returns-in_err-object : goal.returns-in_err-object
 returns-in_err-object c =
     let p = err_from_is_err_and c.from_residual-in_err-object.result c.from_residual-in_err-object.ensures.1 in
     rw (p.1, p.2) (object_refused c.args.x.now _ c.in_ok-written.ensures.0 c.in_ok-written.ensures.1 c.in_err-object.ensures)
+
+pub returns-in_err-fits : goal.returns-in_err-fits
+returns-in_err-fits c =
+    let p = err_from_is_err_and c.from_residual-in_err-fits.result c.from_residual-in_err-fits.ensures.1 in
+    rw (p.1, p.2) (object_too_large c.args.x.now c.table.result.now _ c.in_ok-written.ensures.0 c.in_ok-written.ensures.1 (c.in_ok-object.ensures 0).1 c.table.ensures c.in_err-fits.ensures)
 
 pub returns-in_err-number : goal.returns-in_err-number
 returns-in_err-number c =
@@ -26,4 +32,6 @@ returns c =
       meets = λ m. (c.in_ok-object.ensures m).0;
       is = (c.in_ok-object.ensures 0).1;
       kept = c.in_ok-number.ensures;
+      within = c.in_ok-written.ensures.2;
+      size = rw (sym c.table.ensures) c.in_ok-fits.ensures;
     }) c.begun.ensures

@@ -1,0 +1,4 @@
+pub mod Longer
+pub mod Defined
+pub mod Within
+pub mod Reached

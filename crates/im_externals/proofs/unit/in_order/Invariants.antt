@@ -1,0 +1,5 @@
+use Rattle.im_externals.proofs.Reached.{Reached}
+use Rattle.im_externals.proofs.unit.in_order.Given as goal
+
+abbrev pub invariant-loop-x : goal.invariant-loop-x
+invariant-loop-x l = Reached l.fn.file l.file l.done l.list l.x-index

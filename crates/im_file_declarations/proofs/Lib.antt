@@ -1,0 +1,4 @@
+pub mod Declarators
+pub mod External
+pub mod Firsts
+pub mod Within

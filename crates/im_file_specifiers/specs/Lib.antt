@@ -1,0 +1,4 @@
+pub mod Answers
+pub mod Enumerators
+pub mod Lists
+pub mod Words

@@ -1,0 +1,6 @@
+//! Whether types are within the limit of sizes.
+#![tactic(auto)]
+
+mod within;
+
+pub use within::fits;

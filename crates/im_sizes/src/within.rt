@@ -1,0 +1,23 @@
+//! The limit of one type's size.
+ghost use Rattle.std.specs.Prelude.{◌≤◌, MatchResult};
+ghost use Rattle.im_ctype.specs.Table.{structs_of};
+ghost use Rattle.im_rules.specs.Terms.{size_in};
+ghost use Rattle.im_rule_limits.specs.Limits.{size_limit};
+ghost use Rattle.im_sizes.specs.Sizes.{IsTooLarge};
+ghost use Rattle.im_types.specs.Shape.{type_of};
+
+use im_ctype::TypeTable;
+use im_stop::Stop;
+use im_types::{Type, size};
+
+/// Whether a type is within the limit of sizes, 1048576 bytes.
+pub fn fits(table: &TypeTable, ty: &Type) -> Result<(), Stop>
+    ensures { let bytes = size_in (structs_of table.now) (type_of ty.now) in
+        MatchResult result (λ _. bytes ≤ size_limit) (IsTooLarge bytes) }
+{
+    let bytes = size(table, ty)?;
+    if bytes > 1_048_576 {
+        return Err(Stop::Large { bytes });
+    }
+    Ok(())
+}

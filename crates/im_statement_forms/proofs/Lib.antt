@@ -1,0 +1,9 @@
+pub mod Adding
+pub mod Alone
+pub mod Asking
+pub mod Behind
+pub mod Begun
+pub mod Parts
+pub mod Rows
+pub mod Valuing
+pub mod Within

@@ -1,0 +1,4 @@
+pub mod Asked
+pub mod Done
+pub mod Labelling
+pub mod Opening
