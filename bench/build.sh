@@ -7,7 +7,7 @@ top=$(CDPATH= cd -- "$(dirname -- "$0")/.." && pwd)
 work=$(mktemp -d)
 trap 'rm -rf "$work"' EXIT
 
-# plain code, with names of their own in each copy
+# code of integers alone, with names of their own in each copy
 code() {
     cat <<'CODE'
 static unsigned state_@ = 1;

@@ -1,5 +1,5 @@
 -- What is compiled of a source, and why it is refused.
-use Rattle.std.specs.Prelude.{◌≡◌, ◌⊎◌, ◌≤◌, ℕ, ◌+◌, List, length, Ok, Some, slice_get}
+use Rattle.std.specs.Prelude.{◌≡◌, ◌≤◌, ℕ, ◌+◌, List, length, Ok, Some, slice_get}
 use Rattle.im_fault.specs.declared.fault.LineFault.{LineFault}
 use Rattle.im_fault.specs.declared.fault.LineFault.TheVariants.{BadByte, OpenComment, OpenLiteral, BadEscape, BadNumber, BadDirective, Syntax, Nesting, Rule}
 use Rattle.im_fault.specs.declared.fault.Quantity.{Quantity}
@@ -20,7 +20,6 @@ use Rattle.im_typed.specs.ProgramOf.{program_of}
 use Rattle.im_rules.specs.TypedUnit.{TypedUnit}
 use Rattle.im_rules.specs.UnitBreaks.{UnitBroken}
 use Rattle.im_rule_limits.specs.Limits as limits
-use Rattle.im_plain.specs.Plain.{other_unit}
 use Rattle.im_compile.specs.declared.options.Options.{Options}
 use Rattle.im_compile.specs.declared.built.Built.{Built}
 use Rattle.im_compile.specs.Passed.{IsSource}
@@ -103,14 +102,6 @@ IsLimitRefused source Statics count = IsExceeded source limits.of_statics count
 IsLimitRefused source Frame count = IsMadeTooLarge source (λ made. (function : ℕ) × HasLargeFrame made function count)
 IsLimitRefused source Code count = IsMadeTooLarge source (λ made. HasLargeCode made count)
 
--- the source's tree has a node that no plain tree has
-pub record IsNotPlain (source : List ℕ) : Type 0 where
-  pub tokens : List Token
-  pub tree : Tree
-  pub is_tree : IsTreeOf source tokens tree
-  pub token : ℕ
-  pub first : other_unit (tree_of tree) ≡ Some token
-
 -- a static of the source's program has no name that an image can have
 pub record IsUnnamed (source : List ℕ) : Type 0 where
   pub made : MadeProgram
@@ -122,5 +113,5 @@ pub record IsUnnamed (source : List ℕ) : Type 0 where
 abbrev pub IsRefused : List ℕ → SourceFault → Type 0
 IsRefused source (Line line why) = IsLineRefused source line why
 IsRefused source (Limit quantity count) = IsLimitRefused source quantity count
-IsRefused source NotYet = IsNotPlain source ⊎ IsUnnamed source
+IsRefused source NotYet = IsUnnamed source
 IsRefused source OutOfMemory = Unit {0}

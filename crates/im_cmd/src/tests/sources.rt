@@ -170,8 +170,8 @@ fn sources_are_refused(rt: HostRuntime) -> Result<(), Fail> {
             b"intermit: s.c: parameters 9 over 8\n",
         ),
         (
-            b"int x;void f(int*p,int*q){*p=*q+1;}int main(void){f(&x,&x);f(&x,&x);return x;}",
-            b"intermit: s.c: not yet compiled\n",
+            b"char a[1048577];int main(void){return 0;}",
+            b"intermit: s.c: size 1048577 over 1048576\n",
         ),
     ];
     for (source, lines) in table {

@@ -1,4 +1,0 @@
-pub mod Checked
-pub mod Counts
-pub mod Stops
-pub mod Units
