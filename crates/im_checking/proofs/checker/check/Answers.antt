@@ -1,0 +1,23 @@
+use Rattle.std.proofs.lemmas.Result.{err_from_is_err_and}
+use Rattle.im_ctree.specs.Shape.{tree_of}
+use Rattle.im_checking.proofs.Answering.{checked, unit_stops, parameters_stop, statics_stop}
+use Rattle.im_checking.proofs.checker.check.Goals as goal
+
+pub returns-in_err-typed : goal.returns-in_err-typed
+returns-in_err-typed c =
+    let p = err_from_is_err_and c.from_residual.result c.from_residual.ensures.1 in
+    rw p.1 (unit_stops (tree_of c.args.tree.now) _ p.0 p.2 c.in_err-typed.ensures)
+
+pub returns-in_err-are_few : goal.returns-in_err-are_few
+returns-in_err-are_few c =
+    let p = err_from_is_err_and c.from_residual-in_err-are_few.result c.from_residual-in_err-are_few.ensures.1 in
+    rw (p.1, p.2) (parameters_stop (tree_of c.args.tree.now) _ c.in_err-are_few.ensures)
+
+pub returns-in_err-are_small : goal.returns-in_err-are_small
+returns-in_err-are_small c =
+    let p = err_from_is_err_and c.from_residual-in_err-are_small.result c.from_residual-in_err-are_small.ensures.1 in
+    rw (p.1, p.2) (statics_stop c.in_ok-typed.ensures c.in_ok-prog.prog _ c.in_ok-prog.ensures c.in_err-are_small.ensures)
+
+pub returns : goal.returns
+returns c =
+    checked c.more_structs_law.ensures.statements c.more_structs_law.ensures.objects c.units_law.ensures c.in_ok-typed.ensures c.in_ok-prog.prog c.in_ok-prog.ensures c.requires c.in_ok-are_few.ensures c.in_ok-are_small.ensures

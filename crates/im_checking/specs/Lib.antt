@@ -1,0 +1,4 @@
+pub mod Checked
+pub mod Counts
+pub mod Stops
+pub mod Units
