@@ -1,13 +1,14 @@
 #!/bin/sh
-# How fast sources become images: bytes of source per second on three sizes, the exponent of the time between each two of
-# them (1 where twice the source takes twice the time), and the memory, beside `gcc -O0 -c` on the same sources. Times are
-# the processor's, of ten runs each. It is no part of the gate.
+# How fast sources become images, and how fast they are checked alone: bytes of source per second on three sizes, the exponent
+# of the time between each two of them (1 where twice the source takes twice the time), and the memory, beside `gcc -O0 -c` and
+# `gcc -fsyntax-only` on the same sources. What is checked alone has a name at its end that nothing declares, so it is refused
+# once all before it is read and typed. Times are the processor's, of ten runs each. It is no part of the gate.
 set -eu
 top=$(CDPATH= cd -- "$(dirname -- "$0")/.." && pwd)
 work=$(mktemp -d)
 trap 'rm -rf "$work"' EXIT
 
-# plain code, with names of their own in each copy
+# code of integers alone, with names of their own in each copy
 code() {
     cat <<'CODE'
 static unsigned state_@ = 1;
@@ -61,7 +62,7 @@ source_of() { # BYTES FILE
     }'; echo 'int main(void) { return name_0(7); }'; } > "$2"
 }
 milliseconds() { # COMMAND..: the processor's time for ten runs of it
-    (for run in 1 2 3 4 5 6 7 8 9 10; do "$@" > "$work/printed" 2>&1; done; times) | awk 'END {
+    (for run in 1 2 3 4 5 6 7 8 9 10; do "$@" > "$work/printed" 2>&1 || true; done; times) | awk 'END {
         split($1, user, "m"); split($2, kernel, "m")
         printf "%d\n", (user[1] * 60 + user[2] + kernel[1] * 60 + kernel[2]) * 1000
     }'
@@ -72,7 +73,12 @@ kilobytes() { # COMMAND..: the most memory that it holds at once
 
 "$top/intermit" --help > /dev/null 2>&1 || true
 program=$top/crates/intermit/out/intermit
-before=0
+exponent() { # TIME BEFORE
+    if [ "$2" -gt 0 ]; then
+        awk -v t="$1" -v u="$2" -v b="$bytes" -v c="$smaller" 'BEGIN { printf ", exponent %.2f", log(t / u) / log(b / c) }'
+    fi
+}
+before=0 checked_before=0
 for size in 65536 131072 262144; do
     source_of "$size" "$work/source.c"
     bytes=$(wc -c < "$work/source.c")
@@ -81,10 +87,12 @@ for size in 65536 131072 262144; do
     theirs=$(milliseconds gcc -O0 -w -c "$work/source.c" -o "$work/source.o")
     memory=$(kilobytes "$program" build "$work/source.c" "$work/source.img")
     echo "$bytes bytes, $code words: $((time / 10)) ms, $((bytes * 10000 / time)) bytes per second," \
-        "$memory KiB ($((memory * 1024 / bytes)) times the source); gcc -O0 -c: $((theirs / 10)) ms"
-    if [ "$before" -gt 0 ]; then
-        awk -v t="$time" -v u="$before" -v b="$bytes" -v c="$smaller" \
-            'BEGIN { printf "exponent %.2f\n", log(t / u) / log(b / c) }'
-    fi
-    before=$time smaller=$bytes
+        "$memory KiB ($((memory * 1024 / bytes)) times the source)$(exponent "$time" "$before"); gcc -O0 -c: $((theirs / 10)) ms"
+    echo 'int last(void) { return nowhere; }' >> "$work/source.c"
+    checked=$(milliseconds "$program" build "$work/source.c" "$work/source.img")
+    grep -q ': rule ' "$work/printed" || { echo 'the source is not refused as it should be'; exit 1; }
+    theirs=$(milliseconds gcc -fsyntax-only -w "$work/source.c")
+    echo "    checked alone: $((checked / 10)) ms, $((bytes * 10000 / checked)) bytes per" \
+        "second$(exponent "$checked" "$checked_before"); gcc -fsyntax-only: $((theirs / 10)) ms"
+    before=$time checked_before=$checked smaller=$bytes
 done

@@ -1,7 +1,7 @@
 #!/bin/sh
-# That no chain of casts, calls, indices, commas, suffixes, stars, operators or statements overflows a stack of 4 MiB: each
-# is built with 200, 500 and 500000 links, and the status, which is never that of a signal, is told beside the time in
-# milliseconds. It is no part of the gate.
+# That no chain of casts, calls, indices, commas, suffixes, stars, operators, statements or typedef names overflows a stack of
+# 4 MiB: each is built with 200, 500 and 500000 links (of typedef names 100000, since a source has 4 MiB at most), and the
+# status, which is never that of a signal, is told beside the time in milliseconds. It is no part of the gate.
 set -eu
 top=$(CDPATH= cd -- "$(dirname -- "$0")/.." && pwd)
 program=$top/crates/intermit/out/intermit
@@ -9,12 +9,16 @@ work=$(mktemp -d)
 trap 'rm -rf "$work"' EXIT
 ulimit -s 4096
 
-# front, link, end
+# front, link (# stands for its number, @ for the next one), end, most links
 chain() {
     name=$1
-    for links in 200 500 500000; do
+    for links in 200 500 "${5:-500000}"; do
         awk -v front="$2" -v link="$3" -v end="$4" -v links="$links" \
-            'BEGIN { printf "%s", front; for (i = 0; i < links; i++) printf "%s", link; printf "%s\n", end }' > "$work/chain.c"
+            'BEGIN {
+                printf "%s", front
+                for (i = 0; i < links; i++) { one = link; gsub(/#/, i, one); gsub(/@/, i + 1, one); printf "%s", one }
+                gsub(/#/, links, end); printf "%s\n", end
+            }' > "$work/chain.c"
         before=$(date +%s%N)
         status=0
         "$program" build "$work/chain.c" "$work/chain.img" > "$work/out" 2> "$work/err" || status=$?
@@ -41,3 +45,5 @@ chain blocks 'int main(void) { ' '{' '; return 7; }'
 chain statements 'int main(void) { ' ';' ' return 7; }'
 chain names 'int a' ', a' '; int main(void) { return 7; }'
 chain enumerators 'enum { a' ', b' '}; int main(void) { return 7; }'
+chain typedefs 'typedef int t0;' ' typedef t# *t@;' ' t# last; int main(void) { return 7; }' 100000
+chain arrays 'typedef int t0;' ' typedef t# t@[1];' ' t# last; int main(void) { return 7; }' 100000

@@ -34,8 +34,6 @@ pub data RefusesEvaluation (source : List ℕ) (building : BuildOptions) (evalua
   eval_no_input : (built : Built) (read : ShelfState) (r : Refused) → Compiles source building built old read
       → RefusesInput evaluation.input read new r → RefusesEvaluation source building evaluation old new r
 
--- ---- what comes of it
-
 -- a reason other than 0 is want of stack
 abbrev pub evaluated_by : EndOfRun → Evaluated
 evaluated_by (Undef why) = Undefined why

@@ -22,8 +22,6 @@ pub data Outcome : Type 0 where
   refused : Refused → Outcome
   done : List ℕ → List ℕ → ℕ → Outcome
 
--- ---- exit statuses
-
 abbrev pub refusal_status : Refused → ℕ
 refusal_status (CannotRead name) = 7
 refusal_status (BadSource name fault) = 3
@@ -43,8 +41,6 @@ ending_status (MachineFault at) = 10
 
 abbrev pub ending : Device → Ending
 ending ended = ending_of ended.went (reason_of ended.mem)
-
--- ---- texts
 
 -- the line of a command whose output can't be written
 abbrev pub no_output_line : List ℕ
@@ -86,8 +82,6 @@ run_outcome built vars image ended =
 pub data Got (text : List ℕ) (old new : SinkState) : Type 0 where
   whole : SentAll text old new → Got text old new
   part : SentFirst text old new → Got text old new
-
--- ---- both sinks and the exit status
 
 -- A refusal's line goes to the second sink, and nothing to the first. A sink that refuses a text turns the status into 8, and
 -- one that refuses the first has a line of its own on the second in the place of the second text.

@@ -1,6 +1,7 @@
 mod evaluations;
 mod images;
 mod limits;
+mod profile;
 mod runs;
 mod sources;
 mod upgrades;

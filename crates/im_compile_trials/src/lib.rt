@@ -2,11 +2,19 @@
 #![tactic(auto)]
 
 #[cfg(test)]
+mod arrays;
+#[cfg(test)]
 mod functions;
+#[cfg(test)]
+mod given;
 #[cfg(test)]
 mod kinds;
 #[cfg(test)]
+mod limits;
+#[cfg(test)]
 mod operators;
+#[cfg(test)]
+mod pointers;
 #[cfg(test)]
 mod row;
 #[cfg(test)]
@@ -20,4 +28,12 @@ mod statements;
 #[cfg(test)]
 mod statics;
 #[cfg(test)]
+mod strings;
+#[cfg(test)]
+mod structs;
+#[cfg(test)]
 mod tests;
+#[cfg(test)]
+mod typed;
+#[cfg(test)]
+mod whole_rows;

@@ -8,6 +8,6 @@ pub(crate) struct Row {
     pub(crate) output: &'static [u8],
     /// What `main` gives.
     pub(crate) status: i32,
-    /// The statics in order, and what they hold at the end.
+    /// Those statics in order that are one number each, and what they hold at the end.
     pub(crate) statics: &'static [(&'static str, i128)],
 }

@@ -18,8 +18,8 @@ pub(crate) struct Rules {
     pub(crate) kept: &'static [&'static str],
 }
 
-// Why a source is refused, if it is.
-fn refusal(alloc: Global, source: &str) -> Option<SourceFault> {
+/// Why a source is refused, if it is.
+pub(crate) fn refusal(alloc: Global, source: &str) -> Option<SourceFault> {
     let options = Options {
         stack: 256,
         out_cap: 0,

@@ -1,5 +1,5 @@
 -- Refusals of the driver's steps are refusals of the source.
-use Rattle.std.proofs.Common.{◌≡◌, ◌⊎◌, inl, inr, ℕ, List, Err, refl}
+use Rattle.std.proofs.Common.{◌≡◌, ℕ, List, Err, refl}
 use Rattle.im_fault.specs.declared.fault.LineFault.{LineFault}
 use Rattle.im_fault.specs.declared.fault.LineFault.TheVariants.{BadByte, OpenComment, OpenLiteral, BadEscape, BadNumber, BadDirective, Syntax, Nesting, Rule}
 use Rattle.im_fault.specs.declared.fault.Quantity.{Quantity}
@@ -12,10 +12,10 @@ use Rattle.im_typed.specs.ProgramOf.{program_of}
 use Rattle.im_tok.specs.declared.token.Token.{Token}
 use Rattle.im_ctree.specs.declared.unit.Tree.{Tree}
 use Rattle.im_ctree.specs.Shape.{tree_of}
-use Rattle.im_check.specs.declared.fault.CheckFault.{CheckFault}
-use Rattle.im_check.specs.declared.fault.CheckFault.TheVariants as check
-use Rattle.im_check.specs.declared.fault.Limit.TheVariants as which
-use Rattle.im_check.specs.Checked.{IsCheckFault}
+use Rattle.im_checking.specs.declared.fault.CheckFault.{CheckFault}
+use Rattle.im_checking.specs.declared.fault.CheckFault.TheVariants as check
+use Rattle.im_checking.specs.declared.fault.Limit.TheVariants as which
+use Rattle.im_checking.specs.Checked.{IsCheckFault}
 use Rattle.im_compile.specs.declared.fault.CompileFault.{CompileFault}
 use Rattle.im_compile.specs.declared.fault.CompileFault.TheVariants as compile
 use Rattle.im_compile.specs.Faults.{IsFaultOf}
@@ -45,14 +45,14 @@ read_refused source NotYet h = absurd h
 read_refused source OutOfMemory h = tt
 
 pub check_refused : (source : List ℕ) (tokens : List Token) (tree : Tree) (fault : CheckFault) → IsTreeOf source tokens tree → IsCheckFault (tree_of tree) fault → IsRefused source (fault_at source tokens fault)
-check_refused source tokens tree (check.Rule number token) is_tree h = record { tokens = tokens; tree = tree; is_tree = is_tree; token = token; broken = h.1; is_line = refl }
-check_refused source tokens tree (check.Limit which.Parameters count limit) is_tree h = record { tokens = tokens; tree = tree; is_tree = is_tree; exceeds = h.1.0 }
-check_refused source tokens tree (check.Limit which.Statics count limit) is_tree h = record { tokens = tokens; tree = tree; is_tree = is_tree; exceeds = h.1.0 }
-check_refused source tokens tree (check.NotYet token) is_tree h = inl (record { tokens = tokens; tree = tree; is_tree = is_tree; token = token; first = h })
+check_refused source tokens tree (check.Rule number token) is_tree h = record { tokens = tokens; tree = tree; is_tree = is_tree; token = token; broken = h; is_line = refl }
+check_refused source tokens tree (check.Limit which.Parameters count) is_tree h = record { tokens = tokens; tree = tree; is_tree = is_tree; exceeds = h }
+check_refused source tokens tree (check.Limit which.Size count) is_tree h = record { tokens = tokens; tree = tree; is_tree = is_tree; exceeds = h }
+check_refused source tokens tree (check.Limit which.Statics count) is_tree h = record { tokens = tokens; tree = tree; is_tree = is_tree; exceeds = h.0; sizes = h.1 }
 check_refused source tokens tree check.OutOfMemory is_tree h = tt
 
 pub made_refused : (source : List ℕ) (made : Prog) (fault : CompileFault) → IsProgramOf source (program_of made) → IsFaultOf made fault → IsRefused source (of_compile fault)
 made_refused source made (compile.Frame function bytes) p h = record { made = made; program = p; large = (function, h) }
 made_refused source made (compile.Code bytes) p h = record { made = made; program = p; large = h }
-made_refused source made (compile.Unnamed number) p h = inr (record { made = made; program = p; number = number; unnamed = h })
+made_refused source made (compile.Unnamed number) p h = record { made = made; program = p; number = number; unnamed = h }
 made_refused source made compile.OutOfMemory p h = tt

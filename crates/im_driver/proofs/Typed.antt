@@ -12,9 +12,10 @@ use Rattle.im_typed.specs.Limits as typed
 use Rattle.im_typed.specs.Typing.{IsWellTyped}
 use Rattle.im_rules.specs.TypedUnit.{TypedUnit}
 use Rattle.im_rule_limits.specs.Limits.{IsWithinLimits}
+use Rattle.im_places_sound.specs.Units.{IsWrittenUnit}
 use Rattle.im_expressions_sound.specs.Written.{AreBytes}
 use Rattle.im_spelt_sound.specs.Words.{IsLexical, AreLexical}
-use Rattle.im_spelt_sound.specs.Laws.{WordsLaw, SourcesLaw}
+use Rattle.im_spelt_sound.specs.Laws.{WordsLaw, SpeltLaw, SourcesLaw}
 use Rattle.im_driver.proofs.Lexical.{token_some}
 
 -- bytes of a text
@@ -46,6 +47,9 @@ module _ (source : List ℕ) (small : AreSmall source) (law : WordsLaw) where
             (take_bytes (token.span.1 - token.span.0) (drop token.span.0 source) (drop_bytes token.span.0 source (all_bytes source small))),
         are_lexical tokens words (All-tail (IsTokenOf source) token tokens all) ws,
       )
+
+  pub is_written : (tokens : List Token) (tree : Tree) → SpeltLaw → All (IsTokenOf source) tokens → IsParsedText source tokens (Ok tree) → IsWrittenUnit (tree_of tree)
+  is_written tokens tree spelt all parsed = spelt (tree_of tree) parsed.0 parsed.2.1 (are_lexical tokens parsed.0 all parsed.1)
 
   pub well_typed : (tokens : List Token) (tree : Tree) (g : Prog) → SourcesLaw → All (IsTokenOf source) tokens → IsParsedText source tokens (Ok tree) → TypedUnit (tree_of tree) g → IsWithinLimits (tree_of tree) → IsWellTyped g × typed.IsWithinLimits g
   well_typed tokens tree g sources all parsed typed within = sources (tree_of tree) parsed.0 g parsed.2.1 (are_lexical tokens parsed.0 all parsed.1) typed within

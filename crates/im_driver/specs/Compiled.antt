@@ -1,5 +1,5 @@
 -- What is compiled of a source, and why it is refused.
-use Rattle.std.specs.Prelude.{◌≡◌, ◌⊎◌, ◌≤◌, ℕ, ◌+◌, List, length, Ok, Some, slice_get}
+use Rattle.std.specs.Prelude.{◌≡◌, ◌≤◌, ℕ, ◌+◌, List, length, Ok, Some, slice_get}
 use Rattle.im_fault.specs.declared.fault.LineFault.{LineFault}
 use Rattle.im_fault.specs.declared.fault.LineFault.TheVariants.{BadByte, OpenComment, OpenLiteral, BadEscape, BadNumber, BadDirective, Syntax, Nesting, Rule}
 use Rattle.im_fault.specs.declared.fault.Quantity.{Quantity}
@@ -20,7 +20,7 @@ use Rattle.im_typed.specs.ProgramOf.{program_of}
 use Rattle.im_rules.specs.TypedUnit.{TypedUnit}
 use Rattle.im_rules.specs.UnitBreaks.{UnitBroken}
 use Rattle.im_rule_limits.specs.Limits as limits
-use Rattle.im_plain.specs.Plain.{other_unit}
+use Rattle.im_checking.specs.Checked.{HasNoLargeType}
 use Rattle.im_compile.specs.declared.options.Options.{Options}
 use Rattle.im_compile.specs.declared.built.Built.{Built}
 use Rattle.im_compile.specs.Passed.{IsSource}
@@ -35,12 +35,13 @@ pub record IsTreeOf (source : List ℕ) (tokens : List Token) (tree : Tree) : Ty
   pub lexes : Lexes source tokens
   pub parsed : IsParsedText source tokens (Ok tree)
 
--- a source that has a tree, and the program that this is typed to
+-- a source that has a tree, which is within the limits, and the program that this is typed to
 pub record IsProgramOf (source : List ℕ) (prog : Prog) : Type 0 where
   pub tokens : List Token
   pub tree : Tree
   pub is_tree : IsTreeOf source tokens tree
   pub typed : TypedUnit (tree_of tree) prog
+  pub within : limits.IsWithinLimits (tree_of tree)
 
 -- the frame that is told of a function has its name, and no more bytes than it may need
 pub record IsFrameOf (f : Func) (frame : FrameOf) : Type 0 where
@@ -85,6 +86,14 @@ pub record IsExceeded (source : List ℕ) (limit : limits.Limit) (count : ℕ) :
   pub is_tree : IsTreeOf source tokens tree
   pub exceeds : limits.Exceeds (tree_of tree) limit count
 
+-- the bytes of all statics are over their limit, and no type is over that of sizes
+pub record IsExceededByStatics (source : List ℕ) (count : ℕ) : Type 0 where
+  pub tokens : List Token
+  pub tree : Tree
+  pub is_tree : IsTreeOf source tokens tree
+  pub exceeds : limits.Exceeds (tree_of tree) limits.of_statics count
+  pub sizes : HasNoLargeType (tree_of tree)
+
 -- what is made of the source's program is larger than it may be
 pub record IsMadeTooLarge (source : List ℕ) (is_large : MadeProgram → Type 0) : Type 0 where
   pub made : MadeProgram
@@ -99,17 +108,9 @@ abbrev pub IsLimitRefused : List ℕ → Quantity → ℕ → Type 0
 IsLimitRefused source Source count = IsOver source Source count
 IsLimitRefused source Parameters count = IsExceeded source limits.of_parameters count
 IsLimitRefused source Size count = IsExceeded source limits.of_size count
-IsLimitRefused source Statics count = IsExceeded source limits.of_statics count
+IsLimitRefused source Statics count = IsExceededByStatics source count
 IsLimitRefused source Frame count = IsMadeTooLarge source (λ made. (function : ℕ) × HasLargeFrame made function count)
 IsLimitRefused source Code count = IsMadeTooLarge source (λ made. HasLargeCode made count)
-
--- the source's tree has a node that no plain tree has
-pub record IsNotPlain (source : List ℕ) : Type 0 where
-  pub tokens : List Token
-  pub tree : Tree
-  pub is_tree : IsTreeOf source tokens tree
-  pub token : ℕ
-  pub first : other_unit (tree_of tree) ≡ Some token
 
 -- a static of the source's program has no name that an image can have
 pub record IsUnnamed (source : List ℕ) : Type 0 where
@@ -122,5 +123,5 @@ pub record IsUnnamed (source : List ℕ) : Type 0 where
 abbrev pub IsRefused : List ℕ → SourceFault → Type 0
 IsRefused source (Line line why) = IsLineRefused source line why
 IsRefused source (Limit quantity count) = IsLimitRefused source quantity count
-IsRefused source NotYet = IsNotPlain source ⊎ IsUnnamed source
+IsRefused source NotYet = IsUnnamed source
 IsRefused source OutOfMemory = Unit {0}

@@ -2,14 +2,14 @@
 use Rattle.std.specs.Prelude.{ℕ, ◌<◌, List, All, slice_index}
 use Rattle.im_fault.specs.declared.fault.LineFault.TheVariants.{Rule}
 use Rattle.im_fault.specs.declared.fault.Quantity.{Quantity}
-use Rattle.im_fault.specs.declared.fault.Quantity.TheVariants.{Parameters, Statics, Frame, Code}
+use Rattle.im_fault.specs.declared.fault.Quantity.TheVariants.{Parameters, Size, Statics, Frame, Code}
 use Rattle.im_fault.specs.declared.fault.SourceFault.{SourceFault}
 use Rattle.im_fault.specs.declared.fault.SourceFault.TheVariants.{Line, Limit, NotYet, OutOfMemory}
 use Rattle.im_front.specs.Reading.{line_of_token}
-use Rattle.im_check.specs.declared.fault.CheckFault.{CheckFault}
-use Rattle.im_check.specs.declared.fault.CheckFault.TheVariants as check
-use Rattle.im_check.specs.declared.fault.Limit as k
-use Rattle.im_check.specs.declared.fault.Limit.TheVariants as which
+use Rattle.im_checking.specs.declared.fault.CheckFault.{CheckFault}
+use Rattle.im_checking.specs.declared.fault.CheckFault.TheVariants as check
+use Rattle.im_checking.specs.declared.fault.Limit as k
+use Rattle.im_checking.specs.declared.fault.Limit.TheVariants as which
 use Rattle.im_compile.specs.declared.fault.CompileFault.{CompileFault}
 use Rattle.im_compile.specs.declared.fault.CompileFault.TheVariants as compile
 use Rattle.im_tok.specs.declared.token.Token.{Token}
@@ -18,7 +18,8 @@ use Rattle.im_ctree.specs.declared.unit.Tree.{Tree}
 use Rattle.im_ctree.specs.Shape.{tree_of}
 use Rattle.im_typed.specs.declared.program.Prog.{Prog}
 use Rattle.im_typed.specs.ProgramOf.{program_of}
-use Rattle.im_check.specs.Checked.{IsChecked}
+use Rattle.im_places_sound.specs.Units.{IsWrittenUnit}
+use Rattle.im_checking.specs.Checked.{IsChecked}
 use Rattle.im_compile.specs.declared.options.Options.{Options}
 use Rattle.im_compile.specs.declared.built.Built.{Built}
 use Rattle.im_compile.specs.Passed.{IsSource}
@@ -29,6 +30,11 @@ use Rattle.im_driver.specs.Compiled.{IsTreeOf, IsProgramOf, IsCompiledFrom}
 pub record IsReady (source : List ℕ) (prog : Prog) : Type 0 where
   pub program : IsProgramOf source (program_of prog)
   pub is_source : IsSource prog
+
+abbrev pub WrittenLaw : Type 0
+WrittenLaw =
+    (source : List ℕ) (tokens : List Token) (tree : Tree) → ((i : ℕ) → slice_index source i < 256) →
+    All (IsTokenOf source) tokens → IsTreeOf source tokens tree → IsWrittenUnit (tree_of tree)
 
 abbrev pub ProgramLaw : Type 0
 ProgramLaw =
@@ -44,12 +50,12 @@ KeptLaw =
 
 abbrev pub quantity_of : k.Limit → Quantity
 quantity_of which.Parameters = Parameters
+quantity_of which.Size = Size
 quantity_of which.Statics = Statics
 
 abbrev pub fault_at : List ℕ → List Token → CheckFault → SourceFault
 fault_at source tokens (check.Rule number token) = Line (line_of_token source tokens token) (Rule number)
-fault_at source tokens (check.Limit which count limit) = Limit (quantity_of which) count
-fault_at source tokens (check.NotYet token) = NotYet
+fault_at source tokens (check.Limit which count) = Limit (quantity_of which) count
 fault_at source tokens check.OutOfMemory = OutOfMemory
 
 abbrev pub of_compile : CompileFault → SourceFault

@@ -1,7 +1,7 @@
 ghost use Rattle.std.specs.Prelude.{◌≡◌, ◌<◌, ◌^◌, length};
 ghost use Rattle.im_driver.specs.Steps.{fault_at, of_compile, quantity_of};
 
-use im_check::{CheckFault, Limit};
+use im_checking::{CheckFault, Limit};
 use im_compile::CompileFault;
 use im_fault::{LineFault, Quantity, SourceFault};
 use im_front::line_of;
@@ -12,6 +12,7 @@ fn quantity(which: Limit) -> Quantity
 {
     match which {
         Limit::Parameters => Quantity::Parameters,
+        Limit::Size => Quantity::Size,
         Limit::Statics => Quantity::Statics,
     }
 }
@@ -26,11 +27,10 @@ pub(crate) fn untyped(source: &[u8], tokens: &[Token], fault: CheckFault) -> Sou
             line: line_of(source, tokens, token),
             why: LineFault::Rule(number),
         },
-        CheckFault::Limit { which, count, .. } => SourceFault::Limit {
+        CheckFault::Limit { which, count } => SourceFault::Limit {
             quantity: quantity(which),
             count,
         },
-        CheckFault::NotYet { .. } => SourceFault::NotYet,
         CheckFault::OutOfMemory => SourceFault::OutOfMemory,
     }
 }

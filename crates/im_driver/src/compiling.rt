@@ -3,8 +3,8 @@ ghost use Rattle.im_mem.specs.Map.{stack_capacity, output_capacity};
 ghost use Rattle.im_driver.specs.Compiled.{IsCompiled, IsCompiledFrom, IsRefused};
 
 use crate::checking::{unmade, untyped};
-use crate::laws::{kept_law, program_law};
-use im_check::check;
+use crate::laws::{kept_law, program_law, written_law};
+use im_checking::check;
 use im_compile::{Built, Options, compile as compile_program};
 use im_fault::SourceFault;
 use im_front::read_source;
@@ -19,8 +19,8 @@ pub struct Compiled {
 }
 
 /// The typed program of a source and the image that keeps its meaning whatever power does, or why the
-/// source is refused: its length is looked at first, then its tokens, their nesting, the unit, whether
-/// it is plain, the typing rules, and the limits.
+/// source is refused: its length is looked at first, then its tokens, their nesting, the unit, the
+/// typing rules, and the limits.
 pub fn compile_whole(
     alloc: Global,
     source: &[u8],
@@ -32,6 +32,7 @@ pub fn compile_whole(
     ensures { MatchResult result
         (λ whole. IsCompiledFrom source.now options whole.prog whole.built) (IsRefused source.now) }
 {
+    written_law();
     program_law();
     kept_law();
     let text = match read_source(alloc, source) {

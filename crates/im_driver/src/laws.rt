@@ -1,21 +1,25 @@
-ghost use Rattle.im_driver.specs.Steps.{KeptLaw, ProgramLaw};
+ghost use Rattle.im_driver.specs.Steps.{KeptLaw, ProgramLaw, WrittenLaw};
 
 use im_alloc_laws::placed_code_law;
 use im_built_keeps::built_keeps_law;
 use im_force::force_keeps_law;
-use im_plain_sizes::sizes_law;
 use im_recut::recut_keeps_law;
-use im_rules::laws::typed_once_law;
 use im_spelt_sound::{spelt_law, words_law};
+
+/// The tree of a source is as the checker wants it.
+pub(crate) fn written_law()
+    ensures { WrittenLaw }
+{
+    words_law();
+    spelt_law();
+}
 
 /// What the checker gives of a source's tree is well typed and within limits.
 pub(crate) fn program_law()
     ensures { ProgramLaw }
 {
-    typed_once_law();
     words_law();
     spelt_law();
-    sizes_law();
 }
 
 /// What is built of such a program keeps the source's meaning, with the frames that are told.

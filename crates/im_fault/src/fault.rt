@@ -46,9 +46,7 @@ pub enum SourceFault {
     Line { line: u32, why: LineFault },
     /// A quantity over its limit, and how much there is.
     Limit { quantity: Quantity, count: u64 },
-    /// The source isn't compiled yet: it has pointers, arrays, structs or strings, a declarator in parentheses, a
-    /// function declarator that isn't at file scope, a named parameter of `void`, or a typedef of `void` or of a
-    /// function type.
+    /// The source has a static without a cell, or without a name that an image can have (docs/packing.md).
     NotYet,
     /// Memory ran out.
     OutOfMemory,

@@ -6,7 +6,7 @@ use std::test::Fail;
 fn sources_are_evaluated(rt: HostRuntime) -> Result<(), Fail> {
     let alloc = rt.alloc();
     // A source, the options, the status, the output, and lines among those of the evaluation.
-    let table: [(&[u8], &str, u8, &[u8], &[u8]); 9] = [
+    let table: [(&[u8], &str, u8, &[u8], &[u8]); 10] = [
         (
             b"int main(void){int z;z=0;return 1/z;}",
             "",
@@ -65,6 +65,13 @@ fn sources_are_evaluated(rt: HostRuntime) -> Result<(), Fail> {
             b"intermit: stack exhausted",
         ),
         (
+            b"struct s{char c;int i;};struct s a[2]={{1,2},{3,4}},*p=a+1;int main(void){struct s t;t=a[0];a[0]=*p;*p=t;return p->i;}",
+            " --vars",
+            0,
+            b"",
+            b"status 2\nvar a 3 4 1 2\nvar p a+8",
+        ),
+        (
             b"int main(void){return x;}",
             "",
             3,
@@ -81,6 +88,114 @@ fn sources_are_evaluated(rt: HostRuntime) -> Result<(), Fail> {
         let mut shelf = shelf(alloc, source, 0)?;
         let command = format!(in alloc; "intermit eval s.c{options}")?;
         tells(&rt, alloc, &mut shelf, &command, &wanted)?;
+    }
+    Ok(())
+}
+
+#[test]
+fn what_is_undefined_is_told(rt: HostRuntime) -> Result<(), Fail> {
+    let alloc = rt.alloc();
+    // A source for each cause, and its line.
+    let table: [(&[u8], &[u8]); 9] = [
+        (
+            b"int main(void){int sum;for(int i=0;i<3;i++)sum+=i;return sum;}",
+            b"intermit: undefined U1",
+        ),
+        (
+            b"int a[4];int main(void){int sum=0;for(int i=0;i<=4;i++)sum+=a[i];return sum;}",
+            b"intermit: undefined U2",
+        ),
+        (
+            b"int a[4];int main(void){int n=0;for(int*p=a+3;p>=a;p--)n++;return n;}",
+            b"intermit: undefined U3",
+        ),
+        (
+            b"int a[4],b[4];int main(void){int n=0;for(int*p=a;p<b;p++)n++;return n;}",
+            b"intermit: undefined U4",
+        ),
+        (
+            b"int main(void){int n=0,sum=0,c;while((c=getchar())>=0){sum+=c;n++;}return sum/n;}",
+            b"intermit: undefined U5",
+        ),
+        (
+            b"int main(void){int x=-2147483647-1,y=-1;return x/y;}",
+            b"intermit: undefined U6",
+        ),
+        (
+            b"unsigned mask(int bits){return(1u<<bits)-1;}int main(void){return mask(32)>>24;}",
+            b"intermit: undefined U7",
+        ),
+        (
+            b"int sign(int n){if(n<0)return-1;if(n>0)return 1;}int main(void){return sign(0);}",
+            b"intermit: undefined U8",
+        ),
+        (
+            b"int*square(int n){int x=n*n;return&x;}int main(void){return*square(3);}",
+            b"intermit: undefined U9",
+        ),
+    ];
+    for (source, lines) in table {
+        let wanted = Wanted {
+            status: 11,
+            output: b"",
+            lines,
+        };
+        let mut shelf = shelf(alloc, source, 0)?;
+        tells(&rt, alloc, &mut shelf, "intermit eval s.c", &wanted)?;
+    }
+    Ok(())
+}
+
+#[test]
+fn what_is_mended_has_an_end(rt: HostRuntime) -> Result<(), Fail> {
+    let alloc = rt.alloc();
+    // The sources of the table above, mended, and a line of each.
+    let table: [(&[u8], &[u8]); 9] = [
+        (
+            b"int main(void){int sum=0;for(int i=0;i<3;i++)sum+=i;return sum;}",
+            b"status 3",
+        ),
+        (
+            b"int a[4];int main(void){int sum=0;for(unsigned i=0;i<sizeof a/sizeof a[0];i++)sum+=a[i];return sum;}",
+            b"status 0",
+        ),
+        (
+            b"int a[4];int main(void){int n=0;for(int*p=a+4;p>a;){p--;n++;}return n;}",
+            b"status 4",
+        ),
+        (
+            b"int a[4],b[4];int main(void){int n=0;for(int*p=a;p<a+4;p++)n++;return n;}",
+            b"status 4",
+        ),
+        (
+            b"int main(void){int n=0,sum=0,c;while((c=getchar())>=0){sum+=c;n++;}return n?sum/n:0;}",
+            b"status 0",
+        ),
+        (
+            b"int main(void){int x=-2147483647-1,y=-1;return y==-1?-x:x/y;}",
+            b"status -2147483648",
+        ),
+        (
+            b"unsigned mask(int bits){return bits<32?(1u<<bits)-1:~0u;}int main(void){return mask(32)>>24;}",
+            b"status 255",
+        ),
+        (
+            b"int sign(int n){if(n<0)return-1;if(n>0)return 1;return 0;}int main(void){return sign(0);}",
+            b"status 0",
+        ),
+        (
+            b"void square(int n,int*to){*to=n*n;}int main(void){int x;square(3,&x);return x;}",
+            b"status 9",
+        ),
+    ];
+    for (source, lines) in table {
+        let wanted = Wanted {
+            status: 0,
+            output: b"",
+            lines,
+        };
+        let mut shelf = shelf(alloc, source, 0)?;
+        tells(&rt, alloc, &mut shelf, "intermit eval s.c", &wanted)?;
     }
     Ok(())
 }

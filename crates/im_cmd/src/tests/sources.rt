@@ -170,8 +170,8 @@ fn sources_are_refused(rt: HostRuntime) -> Result<(), Fail> {
             b"intermit: s.c: parameters 9 over 8\n",
         ),
         (
-            b"int x;void f(int*p,int*q){*p=*q+1;}int main(void){f(&x,&x);f(&x,&x);return x;}",
-            b"intermit: s.c: not yet compiled\n",
+            b"char a[1048577];int main(void){return 0;}",
+            b"intermit: s.c: size 1048577 over 1048576\n",
         ),
     ];
     for (source, lines) in table {
@@ -308,33 +308,37 @@ fn cut_after(alloc: Global, image: &[u8], instructions: u32) -> Result<MemShelf,
     Ok(MemShelf::new(alloc, &files, &[])?)
 }
 
+// Builds a source, and loses power once after each of the first instructions of its image.
+pub(super) fn loses_power_once(
+    rt: &impl Abort,
+    alloc: Global,
+    source: &[u8],
+    wanted: &Wanted<'_>,
+) -> Result<(), Fail> {
+    let mut first = shelf(alloc, source, 0)?;
+    tells(rt, alloc, &mut first, "intermit run s.c i --vars", wanted)?;
+    let image = first.file("i").ok_or("no image")?;
+    for instructions in 0..500 {
+        let mut shelf = cut_after(alloc, image, instructions)?;
+        tells(
+            rt,
+            alloc,
+            &mut shelf,
+            "intermit exec i --trace cut --vars",
+            wanted,
+        )?;
+    }
+    Ok(())
+}
+
 #[test]
 fn power_is_lost_once(rt: HostRuntime) -> Result<(), Fail> {
-    let alloc = rt.alloc();
-    let mut first = shelf(alloc, TWICE, 0)?;
-    let built = Wanted {
-        status: 0,
-        output: b"\x02",
-        lines: b"status 2",
-    };
-    tells(&rt, alloc, &mut first, "intermit run s.c i", &built)?;
-    let image = first.file("i").ok_or("no image")?;
     let wanted = Wanted {
         status: 0,
         output: b"\x02",
         lines: b"status 2\nvar g 2",
     };
-    for instructions in 0..500 {
-        let mut shelf = cut_after(alloc, image, instructions)?;
-        tells(
-            &rt,
-            alloc,
-            &mut shelf,
-            "intermit exec i --trace cut --vars",
-            &wanted,
-        )?;
-    }
-    Ok(())
+    loses_power_once(&rt, rt.alloc(), TWICE, &wanted)
 }
 
 #[test]

@@ -10,6 +10,11 @@ returns-in-Err-check c =
     let read = c.in-Ok.ensures in
     rw (c.untyped.ensures, c.deref.ensures.value) (check_refused c.args.source.now c.in-Ok.text.tokens.items c.in-Ok.text.tree c.in-Err-check.fault (record { lexes = read.1.0; parsed = read.2 }) c.in-Err-check.ensures)
 
+pub check-requires : goal.check-requires
+check-requires c =
+    let read = c.in-Ok.ensures in
+    c.written_law.ensures c.args.source.now c.in-Ok.text.tokens.items c.in-Ok.text.tree (λ i. omega (arith, c.type_inv.source i)) read.1.1 (record { lexes = read.1.0; parsed = read.2 })
+
 pub compile-requires-clause-source : goal.compile-requires-clause-source
 compile-requires-clause-source c =
     let read = c.in-Ok.ensures in

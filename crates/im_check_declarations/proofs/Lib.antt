@@ -1,8 +1,0 @@
-pub mod Askings
-pub mod Initials
-pub mod Locals
-pub mod Plain
-pub mod Reaching
-pub mod Rows
-pub mod Specifying
-pub mod Sites

@@ -1,6 +1,0 @@
-pub mod Asked
-pub mod Declarations
-pub mod Lists
-pub mod Sites
-pub mod Stmts
-pub mod Strings

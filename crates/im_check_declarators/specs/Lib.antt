@@ -1,3 +1,0 @@
-pub mod Declarators
-pub mod Formals
-pub mod Functions

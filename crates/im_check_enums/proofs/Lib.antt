@@ -1,4 +1,0 @@
-pub mod Constants
-pub mod Reached
-pub mod Specified
-pub mod Tags

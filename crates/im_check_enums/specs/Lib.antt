@@ -1,2 +1,0 @@
-pub mod Enumerators
-pub mod Places

@@ -1,4 +1,0 @@
-pub mod Declared
-pub mod External
-pub mod Initial
-pub mod Reached

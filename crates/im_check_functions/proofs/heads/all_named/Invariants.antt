@@ -1,7 +1,0 @@
-use Rattle.std.proofs.Common.{◌≡◌, drop}
-use Rattle.im_rules.specs.Rules as u
-use Rattle.im_plain.specs.Lists.{parameters_from}
-use Rattle.im_check_functions.proofs.heads.all_named.Given as goal
-
-abbrev pub invariant-loop-parameter : goal.invariant-loop-parameter
-invariant-loop-parameter l = u.all_named (parameters_from l.parameters) ≡ u.all_named (parameters_from (drop l.parameter-index l.parameters))

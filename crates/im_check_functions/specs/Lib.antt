@@ -1,3 +1,0 @@
-pub mod Bodies
-pub mod Functions
-pub mod Heads

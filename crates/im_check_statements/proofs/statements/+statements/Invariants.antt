@@ -1,8 +1,0 @@
-use Rattle.im_check_statements.specs.Checked.{ItemsReached, CasesReached}
-use Rattle.im_check_statements.proofs.statements.+statements.Given as goal
-
-abbrev pub invariant-items-loop-x : goal.invariant-items-loop-x
-invariant-items-loop-x l = ItemsReached l.around l.fn.scope l.scope l.fn.locals.items l.locals.items l.done.items l.list l.x-index
-
-abbrev pub invariant-cases-loop-x : goal.invariant-cases-loop-x
-invariant-cases-loop-x l = CasesReached l.ty l.around l.fn.scope l.scope l.fn.locals.items l.locals.items l.done.items l.labels l.list l.x-index

@@ -1,4 +1,0 @@
-pub mod Checked
-pub mod Labelling
-pub mod Literals
-pub mod Trees

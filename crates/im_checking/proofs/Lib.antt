@@ -1,0 +1,4 @@
+pub mod Functions
+pub mod Programs
+pub mod Answering
+pub mod Whole

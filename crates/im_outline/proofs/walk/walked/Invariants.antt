@@ -1,9 +1,0 @@
-use Rattle.std.proofs.Common.{◌≡◌, [], drop}
-use Rattle.im_ctree.specs.Shape.{externals_of}
-use Rattle.im_rules.specs.Outline as o
-use Rattle.im_outline.specs.Walked.{walk_of}
-use Rattle.im_outline.proofs.walk.walked.Given as goal
-
-abbrev pub invariant-loop-external : goal.invariant-loop-external
-invariant-loop-external l =
-    o.walked (externals_of (drop l.external-index l.tree.externals.items)) (walk_of l.done.items) ≡ o.walked (externals_of l.tree.externals.items) (walk_of [])

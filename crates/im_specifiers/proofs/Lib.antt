@@ -1,4 +1,0 @@
-pub mod Made
-pub mod Rows
-pub mod Steps
-pub mod TypeLines

@@ -1,3 +1,0 @@
-pub mod Lines
-pub mod Lists
-pub mod Specified

@@ -1,4 +1,0 @@
-pub mod Answers
-pub mod Exprs
-pub mod Shape
-pub mod Told
