@@ -1,0 +1,16 @@
+pub mod Plain
+pub mod Begun
+pub mod Rows
+pub mod Passing
+pub mod States
+pub mod Steps
+pub mod Enters
+pub mod Reaching
+pub mod Starting
+pub mod Showing
+pub mod Accessing
+pub mod Paying
+pub mod Losing
+pub mod Leaving
+pub mod Telling
+pub mod Serving

@@ -1,0 +1,13 @@
+use Rattle.std.proofs.Common.{◌≡◌, ℕ, take, map}
+use Rattle.im_num.specs.declared.values.Var.{Var}
+use Rattle.im_num.specs.Variables.{variable_of}
+use Rattle.im_store.specs.Objects.{Store}
+use Rattle.im_store.specs.Outcomes as outcomes
+use Rattle.im_block.specs.Meaning.{static_of}
+use Rattle.im_eval_store.specs.Living.{Holds}
+use Rattle.im_block_run.specs.Shown.{plain}
+use Rattle.im_block_run.proofs.finish.variables.Given as goal
+
+abbrev pub invariant-loop-number : goal.invariant-loop-number
+invariant-loop-number l =
+    (last : ℕ) (store : Store) → Holds l.memory last (plain store) → map {A = Var} variable_of l.shown.items ≡ outcomes.variables (map static_of (take l.number l.statics)) store

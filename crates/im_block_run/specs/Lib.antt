@@ -1,0 +1,5 @@
+pub mod Shown
+pub mod Found
+pub mod Laid
+pub mod Entered
+pub mod Ends
