@@ -9,15 +9,15 @@ work=$(mktemp -d)
 trap 'rm -rf "$work"' EXIT
 ulimit -s 4096
 
-# front, link (# stands for its number, @ for the next one), end, most links
+# front, link and end as formats (of the link's number and the next one, and of the last one), most links
 chain() {
     name=$1
     for links in 200 500 "${5:-500000}"; do
         awk -v front="$2" -v link="$3" -v end="$4" -v links="$links" \
             'BEGIN {
                 printf "%s", front
-                for (i = 0; i < links; i++) { one = link; gsub(/#/, i, one); gsub(/@/, i + 1, one); printf "%s", one }
-                gsub(/#/, links, end); printf "%s\n", end
+                for (i = 0; i < links; i++) printf link, i, i + 1
+                printf end "\n", links
             }' > "$work/chain.c"
         before=$(date +%s%N)
         status=0
@@ -45,5 +45,5 @@ chain blocks 'int main(void) { ' '{' '; return 7; }'
 chain statements 'int main(void) { ' ';' ' return 7; }'
 chain names 'int a' ', a' '; int main(void) { return 7; }'
 chain enumerators 'enum { a' ', b' '}; int main(void) { return 7; }'
-chain typedefs 'typedef int t0;' ' typedef t# *t@;' ' t# last; int main(void) { return 7; }' 100000
-chain arrays 'typedef int t0;' ' typedef t# t@[1];' ' t# last; int main(void) { return 7; }' 100000
+chain typedefs 'typedef int t0;' ' typedef t%d *t%d;' ' t%d last; int main(void) { return 7; }' 100000
+chain arrays 'typedef int t0;' ' typedef t%d t%d[1];' ' t%d last; int main(void) { return 7; }' 100000
