@@ -1,7 +1,7 @@
 #!/bin/sh
 # What compiled code costs: of each of the ten examples the words of its code beside those of `riscv64-unknown-elf-gcc -O0
-# -march=rv32im` (of .text, without a library), and the instructions and checkpoints of its run where power stays. It is no
-# part of the gate.
+# -march=rv32im` (of .text, without a library), and the instructions and checkpoints of its run where power stays, with the
+# instructions that are no checkpoint's, of which each takes 35 or 36 with its jal. It is no part of the gate.
 set -eu
 top=$(CDPATH= cd -- "$(dirname -- "$0")/.." && pwd)
 work=$(mktemp -d)
@@ -19,5 +19,5 @@ for source in "$top"/crates/im_examples/data/*.c; do
     instructions=$(sed -n 's/^instructions //p' "$work/err")
     riscv64-unknown-elf-gcc -O0 -march=rv32im -mabi=ilp32 -funsigned-char -ffreestanding -w -include "$work/front.h" -c "$source" -o "$work/theirs.o"
     theirs=$(($(riscv64-unknown-elf-size -A "$work/theirs.o" | awk '$1 ~ /^\.text/ { sum += $2 } END { print sum }') / 4))
-    echo "$name: $words words, gcc $theirs; $instructions instructions, $commits checkpoints"
+    echo "$name: $words words, gcc $theirs; $instructions instructions, $commits checkpoints, $((instructions - commits * 71 / 2)) instructions without"
 done
