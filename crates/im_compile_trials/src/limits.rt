@@ -11,11 +11,17 @@ fn with_main(alloc: Global, part: &str) -> Result<String, Fail> {
 
 /// Sees that what is over a limit is told with its count.
 pub(crate) fn tell_counts(rt: &impl Abort, alloc: Global) -> Result<(), Fail> {
-    let table: [(Quantity, u64, &str); 10] = [
+    let table: [(Quantity, u64, &str); 12] = [
         (Quantity::Size, 1_048_577, "char a[1048577];"),
         (Quantity::Size, 1_048_580, "typedef int t[262145];"),
         (Quantity::Size, 1_048_577, "char(*p)[1048577];"),
         (Quantity::Size, 1_600_000, "int a[2][200000];"),
+        (Quantity::Size, 8_000_000, "int a[2][2000000];"),
+        (
+            Quantity::Size,
+            2_000_000,
+            "struct s{int b;char a[2000000];};",
+        ),
         (
             Quantity::Size,
             1_200_000,

@@ -20,7 +20,7 @@ pub(crate) const OBJECTS: Rules = Rules {
         (7, "struct s{int a;};", "struct s{int a;};"),
         (7, "", "struct s{int a;char a;};"),
         (7, "int f(void){", "struct s{int a;};return 0;}"),
-        (8, "struct s{int a;};", "enum s{A};"),
+        (3, "struct s{int a;};", "enum s{A};"),
         (9, "struct s{int a;};", "struct s f(void);"),
         (9, "struct s{int a;};", "void f(struct s x);"),
         (9, "", "int f(void)[2];"),

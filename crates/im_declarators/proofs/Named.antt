@@ -24,14 +24,14 @@ told_type : (old : Option Entity) (k : Bool) (ty : CType) (s : Storage) → is_t
 told_type None k ty s h = refl
 told_type (Some (a_typedef c a)) k ty s h = absurd cc
 told_type (Some (an_object c a b)) k ty s h = refl
-told_type (Some (a_function f a)) k ty s h = refl
+told_type (Some (a_function f c a)) k ty s h = refl
 told_type (Some (an_enumerator z)) k ty s h = refl
 
 refused_type : (old : Option Entity) (k : Bool) (ty : CType) (s : Storage) → is_typedef_name old ≡ true → rule_4 old (an_object k ty s) ≡ false
 refused_type None k ty s h = absurd cc
 refused_type (Some (a_typedef c a)) k ty s h = refl
 refused_type (Some (an_object c a b)) k ty s h = absurd cc
-refused_type (Some (a_function f a)) k ty s h = absurd cc
+refused_type (Some (a_function f c a)) k ty s h = absurd cc
 refused_type (Some (an_enumerator z)) k ty s h = absurd cc
 
 pub name_meets : (x : Name) (k : Bool) (ty : CType) (s : Storage) (g : Scopes) → at_file_scope g ≡ false → false ≡ is_some (meaning_here g x) → false ≡ is_typedef_name (meaning g x)

@@ -9,7 +9,7 @@ use im_type_specifiers::Qualified;
 use im_types::Type;
 
 /// What a declarator declares: a name, unless it is an abstract one, and its type; whether it is
-/// const, or its elements are.
+/// const, or its elements are, or its result is.
 #[derive(Drop)]
 pub struct Declared {
     pub name: Option<Name>,

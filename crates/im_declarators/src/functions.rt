@@ -131,7 +131,7 @@ pub fn function(
     let types = types(alloc, kept)?;
     let ty = function_of(alloc, q.ty, types)?;
     Ok(Qualified {
-        constant: false,
+        constant: q.constant,
         ty,
     })
 }

@@ -113,7 +113,7 @@ fn declare(
 }
 
 /// The parameter of that number, by what its declarator declares; its name is in scope behind it.
-/// `at` is its first token.
+/// `at` is the token at which it is refused.
 pub fn parameter(
     alloc: Global,
     scope: &mut Scope,

@@ -11,7 +11,7 @@ use Rattle.im_rules.specs.Rules.{named_in}
 use Rattle.im_rules.specs.Scopes.{opened, at_file_scope}
 use Rattle.im_rules.specs.Strings.{strings_named, strings_may, strings_of_core, strings_of_suffixes, strings_of_declarator, strings_of_parameters}
 use Rattle.im_rules.specs.Typed.{Names, of_type_name, MayDeclare, of_no_declarator, of_a_declarator, Declares, of_declarator, DeclaresIn, of_nothing, of_name, of_inner, Suffixed, AreParameters, a_parameter}
-use Rattle.im_rules.specs.Breaks.{a_type_name, maybe_declarator, a_declarator, a_core, some_suffixes, some_parameters, at_specifiers, at_type_name, at_stars, at_parameter, name_specifiers, name_declarator, suffixes_part, core_part, inner_part, declarator_part, parameter_specifiers, parameter_declarator, parameters_behind}
+use Rattle.im_rules.specs.Breaks.{a_type_name, maybe_declarator, a_declarator, a_core, some_suffixes, some_parameters, at_specifiers, at_type_name, at_stars, at_parameter, parameter_token, name_specifiers, name_declarator, suffixes_part, core_part, inner_part, declarator_part, parameter_specifiers, parameter_declarator, parameters_behind}
 use Rattle.im_rule_limits.specs.Limits.{IsWithin}
 use Rattle.im_stop.specs.declared.stop.Stop.{Stop}
 use Rattle.im_stop.specs.Answers.{IsRefusal}
@@ -229,10 +229,10 @@ module _ (p p₂ : Place) (es es₃ : List Entry) (number at : ℕ) (xs : t.Spec
   behind_it : context_of p₂ ≡ behind_may m c
   behind_it = ap context_of h.1 ∙ ap (behind_may m) (specified_context p es xs e)
 
-  pub parameter_refused : (f : Stop) → IsRefusal (d.parameter_asks (context_of p₂) number (d.parameter (declared_of y))) at f
+  pub parameter_refused : (f : Stop) → IsRefusal (d.parameter_asks (context_of p₂) number (d.parameter (declared_of y))) (parameter_token at m) f
       → IsFault (context_of p) (some_parameters number (t.more_parameters (t.specifiers at xs) m rest)) f
   parameter_refused f r =
-      let r₁ : IsRefusal (d.parameter_asks (behind_may m c) number (d.parameter (declared_of y))) at f = subst (λ (k : Context). IsRefusal (d.parameter_asks k number (d.parameter (declared_of y))) at f) behind_it r in
+      let r₁ : IsRefusal (d.parameter_asks (behind_may m c) number (d.parameter (declared_of y))) (parameter_token at m) f = subst (λ (k : Context). IsRefusal (d.parameter_asks k number (d.parameter (declared_of y))) (parameter_token at m) f) behind_it r in
       refused_here (d.parameter_asks c number (d.parameter (declared_of y))) (λ rule. at_parameter s.0 declared) f r₁
 
   pub parameter_done : (z : Declared)
@@ -268,7 +268,7 @@ module _ (p p₂ : Place) (es es₃ : List Entry) (number at : ℕ) (xs : t.Spec
       }
 
   pub parameter_made : (result : Result Declared Stop)
-      → MatchResult result (λ z. Meets (d.parameter_asks (context_of p₂) number (d.parameter (declared_of y)))) (IsRefusal (d.parameter_asks (context_of p₂) number (d.parameter (declared_of y))) at)
+      → MatchResult result (λ z. Meets (d.parameter_asks (context_of p₂) number (d.parameter (declared_of y)))) (IsRefusal (d.parameter_asks (context_of p₂) number (d.parameter (declared_of y))) (parameter_token at m))
       → IfOk result (λ z. declared_of z ≡ d.parameter (declared_of y))
       → OnOk result (scopes_of es₃ ≡ (d.with_parameter number (d.parameter (declared_of y)) (context_of p₂)).scopes)
       → OnOk result (IsGrown p₂.scope es₃)

@@ -1,7 +1,7 @@
 //! The parameters of functions (C11 6.7.6.3).
 ghost use Rattle.std.specs.Prelude.{MatchResult, ◌≡◌, false, map};
 ghost use Rattle.im_ctree.specs.Tree as t;
-ghost use Rattle.im_rules.specs.Breaks.{some_parameters};
+ghost use Rattle.im_rules.specs.Breaks.{parameter_token, some_parameters};
 ghost use Rattle.im_rules.specs.Context as k;
 ghost use Rattle.im_rules.specs.Declared as d;
 ghost use Rattle.im_rules.specs.Scopes.{at_file_scope};
@@ -9,14 +9,14 @@ ghost use Rattle.im_rules.specs.Strings.{strings_of_parameters};
 ghost use Rattle.im_rules.specs.Typed.{AreParameters};
 ghost use Rattle.im_rule_limits.specs.Limits.{IsWithin};
 ghost use Rattle.im_scopes.specs.Shape.{scopes_of};
-ghost use Rattle.im_tree_parts.specs.Lists.{parameters_from, with_parameter};
+ghost use Rattle.im_tree_parts.specs.Lists.{declarator_from, parameters_from, with_parameter};
 ghost use Rattle.im_declarators.specs.Shape.{declared_of};
 ghost use Rattle.im_declarators.specs.Suffixes.{IsFault};
 ghost use Rattle.im_place.specs.Contexts.{context_of, behind_strings};
 ghost use Rattle.im_expression_parts.specs.Walked.{IsBehind, GoesOnParameters};
 
 use crate::declarators::declarator_if_any;
-use im_ctree::Parameter;
+use im_ctree::{Declarator, Parameter};
 use im_declarators::{Declared, parameter};
 use im_place::Place;
 use im_stop::Stop;
@@ -74,6 +74,17 @@ pub fn parameters_here(
     Ok(done)
 }
 
+/// The token at which a parameter is refused: the first one of its declarator, or its own where it
+/// has none.
+fn token_of(first: u32, declarator: &Option<Box<Declarator>>) -> u32
+    ensures { result ≡ parameter_token first (declarator_from declarator.now) }
+{
+    match declarator {
+        None => first,
+        Some(d) => d.at,
+    }
+}
+
 #[cycle(walk)]
 fn parameter_here(
     alloc: Global,
@@ -101,5 +112,6 @@ fn parameter_here(
         &one.specifiers.items,
     )?;
     let declared = declarator_if_any(alloc, q, &one.declarator, place)?;
-    parameter(alloc, &mut place.scope, number, at, declared)
+    let token = token_of(at, &one.declarator);
+    parameter(alloc, &mut place.scope, number, token, declared)
 }

@@ -33,7 +33,7 @@ module _ (known : Structs) where
   typedef-bounded None h = tt
   typedef-bounded (Some (a_typedef k a)) h = h (a_typedef k a) refl
   typedef-bounded (Some (an_object k a s)) h = tt
-  typedef-bounded (Some (a_function f a)) h = tt
+  typedef-bounded (Some (a_function f k a)) h = tt
   typedef-bounded (Some (an_enumerator z)) h = tt
 
   tag-bounded : (n : ℕ) (g : Option Tag) → IsFine (tag_meant n g).type
@@ -87,7 +87,7 @@ specified-bounded c (t.typedef_specifier at x ∷ ss) ks h = typedef-bounded c.k
   where
     any-name : (y : Name) (d : Entity) → IsBoundedTypedef c.known y d → IsBoundedTypedef c.known [] d
     any-name y (an_object k a s) b = b
-    any-name y (a_function f a) b = b
+    any-name y (a_function f k a) b = b
     any-name y (an_enumerator z) b = b
     any-name y (a_typedef k a) b = b
 specified-bounded c (t.struct_tag at x ∷ ss) ks h = tag-bounded c.known (tag_number c at x) (tag_meaning c.scopes x)

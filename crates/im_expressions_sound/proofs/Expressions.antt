@@ -214,23 +214,24 @@ module _ (g : Prog) (f : Func) where
   meant c x (Some (an_enumerator z)) h is e d =
       let own = each-meaning (IsSoundEntity g f c.known c.unit) c.scopes x (an_enumerator z) h.entities is in
       record { sound = record { plain = refl; typed = (tt, own); shape = refl }; bounded = tt }
-  meant c x (Some (a_function k a)) h is e d = absurd (cc)
+  meant c x (Some (a_function o k a)) h is e d = absurd (cc)
   meant c x (Some (a_typedef k a)) h is e d = absurd (cc)
 
   -- a function that is called
   record IsCalled (c : Context) (m : Option Entity) : Type 0 where
     pub callee : Callee
+    pub constant : Bool
     pub type : CType
-    pub is : m ≡ Some (a_function callee type)
-    pub own : IsSoundEntity g f c.known c.unit [] (a_function callee type)
+    pub is : m ≡ Some (a_function callee constant type)
+    pub own : IsSoundEntity g f c.known c.unit [] (a_function callee constant type)
 
   called-function : (c : Context) (e : t.Expression) → IsSoundContext g f c → is_function_meant (callee_of c.scopes e) ≡ true → IsCalled c (callee_of c.scopes e)
   called-function c (t.identifier at x) h e = by-meaning (meaning c.scopes x) refl e
     where
       by-meaning : (m : Option Entity) → meaning c.scopes x ≡ m → is_function_meant m ≡ true → IsCalled c m
       by-meaning None is e = absurd (cc)
-      by-meaning (Some (a_function k a)) is e =
-          record { callee = k; type = a; is = refl; own = each-meaning (IsSoundEntity g f c.known c.unit) c.scopes x (a_function k a) h.entities is }
+      by-meaning (Some (a_function d k a)) is e =
+          record { callee = d; constant = k; type = a; is = refl; own = each-meaning (IsSoundEntity g f c.known c.unit) c.scopes x (a_function d k a) h.entities is }
       by-meaning (Some (an_object k a s)) is e = absurd (cc)
       by-meaning (Some (an_enumerator z)) is e = absurd (cc)
       by-meaning (Some (a_typedef k a)) is e = absurd (cc)
@@ -255,7 +256,7 @@ module _ (g : Prog) (f : Func) where
   call-good : (c : Context) (m : Option Entity) (xs : List Term) → IsCalled c m → AreSound g f c.known xs → Meets (call_asks m xs) → IsGood c.known (value (call_of c.known m xs))
   call-good c m xs h sound e =
       subst (λ n. Meets (call_asks n xs) → IsGood c.known (value (call_of c.known n xs))) (sym h.is)
-      (λ e. record { sound = calls g f c.known h.callee h.type xs h.own.1 sound e; bounded = result-bounded c.known h.type h.own.0 }) e
+      (λ e. record { sound = calls g f c.known h.callee h.constant h.type xs h.own.1 sound e; bounded = result-bounded c.known h.type h.own.0 }) e
 
   -- members
 
@@ -354,7 +355,7 @@ module _ (g : Prog) (f : Func) where
     where
       one : (x : Name) (e : Entity) → IsSoundEntity g f c.known c.unit x e → IsBoundedTypedef c.known x e
       one x (an_object k a s) own = tt
-      one x (a_function k a) own = tt
+      one x (a_function d k a) own = tt
       one x (an_enumerator z) own = tt
       one x (a_typedef k a) own = own
 

@@ -65,7 +65,7 @@ IsSoundEntity g f known unit x (an_object k t (static_object n)) =
     IsBounded known t × (is_complete_in known t ≡ true) × (n ≡ place_in x unit.statics)
 IsSoundEntity g f known unit x (an_object k t (local_object n)) =
     IsBounded known t × (is_complete_in known t ≡ true) × (n < length f.objects)
-IsSoundEntity g f known unit x (a_function c t) = IsBounded known t × IsSoundCallee g known c t
+IsSoundEntity g f known unit x (a_function c k t) = IsBounded known t × IsSoundCallee g known c t
 IsSoundEntity g f known unit x (an_enumerator z) = IsOfKind I32 z
 IsSoundEntity g f known unit x (a_typedef k t) = IsBounded known t
 

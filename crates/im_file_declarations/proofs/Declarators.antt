@@ -45,7 +45,7 @@ refused_name : (f : FilePlace) (xs : t.SpecifierList) (q : Qualified) (d : dc.De
 refused_name f xs q d i rest y (Rule rule token) dd h =
     subst (λ z. FileBroken f (some_declared xs q (t.more_init_declarators (declarator_of d) i rest)) rule z) (ap declarator_token (declarator_shape d) ∙ sym h.1) (here_in_file (at_declarator dd h.0))
 refused_name f xs q d i rest y (Large bytes) dd h =
-    (subst (λ k. FileSized f (some_declared xs q (t.more_init_declarators (declarator_of d) i rest)) k) (sym h.0) (of_static dd), h.1)
+    (of_static dd h.0, h.1)
 refused_name f xs q d i rest y Memory dd h = tt
 
 name_before : (f : FilePlace) (xs : t.SpecifierList) (d : t.Declarator) (i : t.MaybeInitializer) (y : Declared) (at : ℕ) (stop : Stop)

@@ -1,12 +1,12 @@
 -- What an initialiser gives a static, put together.
-use Rattle.std.proofs.Common.{◌≡◌, ℕ, ◌≤◌, Bool, List, [], ◌∷◌, ◌++◌, map, Vec, Global, Option, Some, None, is_some, Result, Ok, Err, MatchResult, IfOk, IfErr, refl, sym, ap, ◌∙◌, subst}
+use Rattle.std.proofs.Common.{◌≡◌, ℕ, Bool, List, [], ◌∷◌, ◌++◌, map, Vec, Global, Option, Some, None, is_some, Result, Ok, Err, MatchResult, IfOk, IfErr, refl, sym, ap, ◌∙◌, subst}
 use Rattle.std.proofs.lemmas.List.{append-nil, map_push}
 use Rattle.im_word.specs.Words.{Name}
 use Rattle.im_ctree.specs.Tree as t
 use Rattle.im_ctree.specs.Shape.{maybe_initializer_of}
 use Rattle.im_ctree.specs.declared.declaration.Initializer.{Initializer}
 use Rattle.im_ctype.specs.Table.{Table, structs_of}
-use Rattle.im_ctype.specs.Types.{CType}
+use Rattle.im_ctype.specs.Types.{CType, Structs}
 use Rattle.im_typed.specs.declared.program.Constant.{Constant}
 use Rattle.im_typed.specs.ProgramOf as q
 use Rattle.im_rules.specs.Declared.{Declared}
@@ -15,10 +15,9 @@ use Rattle.im_rules.specs.FileScope.{FilePlace, past_strings, static_size, file_
 use Rattle.im_rules.specs.Initialisers.{Item, completed, strings_given, pieces_of}
 use Rattle.im_rules.specs.Outline.{is_initialised}
 use Rattle.im_rules.specs.StaticValues.{cell_values}
-use Rattle.im_rules.specs.Terms.{size_in}
 use Rattle.im_rules.specs.TypedUnit.{MayGive, gives_nothing, gives_values, AreConstants, cells_in, values_given}
-use Rattle.im_rule_limits.specs.Limits.{size_limit}
-use Rattle.im_sizes.specs.Sizes.{IsTooLarge}
+use Rattle.im_rule_limits.specs.Limits.{Counted}
+use Rattle.im_sizes.specs.Sizes.{AllFit, IsOver}
 use Rattle.im_stop.specs.declared.stop.Stop.{Stop}
 use Rattle.im_stop.specs.declared.stop.Stop.TheVariants.{Rule, Large, Memory}
 use Rattle.im_stop.specs.Answers.{IsRefusal}
@@ -96,33 +95,30 @@ name_refused f xs y i at a whole (Rule rule token) e w h =
 name_refused f xs y i at a whole (Large bytes) e w h = absurd h
 name_refused f xs y i at a whole Memory e w h = tt
 
-pub same_size : (old new : File) (table : Table) (a b : CType)
-    → KeepsOthers old new
-    → table ≡ new.place.structs
-    → a ≡ b
-    → size_in (structs_of table) a ≡ size_in (file_place_of old).context.known b
-same_size old new table a b kept e s =
-    ap (λ (z : Table). size_in (structs_of z) a) (e ∙ ap (λ (z : File). z.place.structs) kept) ∙ ap (λ z. size_in (structs_of old.place.structs) z) s
+pub same_known : (old new : File) (table : Table) → KeepsOthers old new → table ≡ new.place.structs → structs_of table ≡ (file_place_of old).context.known
+same_known old new table kept e = ap structs_of (e ∙ ap (λ (z : File). z.place.structs) kept)
 
-pub name_large : (f : FilePlace) (xs : t.SpecifierList) (y : Declared) (i : t.MaybeInitializer) (at bytes : ℕ) (stop : Stop)
-    → bytes ≡ size_in f.context.known (completed y.type i)
-    → IsTooLarge bytes stop
+pub name_large : (f : FilePlace) (xs : t.SpecifierList) (y : Declared) (i : t.MaybeInitializer) (at : ℕ) (known : Structs) (a : CType) (stop : Stop)
+    → known ≡ f.context.known
+    → a ≡ completed y.type i
+    → IsOver known a stop
     → IsNameFault f xs y i at stop
-name_large f xs y i at bytes (Rule rule token) e h = absurd h
-name_large f xs y i at bytes (Large k) e h = (h.0 ∙ e, h.1)
-name_large f xs y i at bytes Memory e h = tt
+name_large f xs y i at known a (Rule rule token) same e h = absurd h
+name_large f xs y i at known a (Large bytes) same e h =
+    (subst (λ z. Counted f.context.known z bytes) e (subst (λ z. Counted z a bytes) same h.0), h.1)
+name_large f xs y i at known a Memory same e h = tt
 
-pub name_done : (f g : FilePlace) (xs : t.SpecifierList) (y : Declared) (i : t.MaybeInitializer) (a : CType) (whole : Bool) (bytes : ℕ)
+pub name_done : (f g : FilePlace) (xs : t.SpecifierList) (y : Declared) (i : t.MaybeInitializer) (a : CType) (whole : Bool) (known : Structs)
     → a ≡ completed y.type i
     → whole ≡ is_initialised i
     → Meets (file_asks f xs y a whole)
     → g ≡ with_declared xs y a whole f
-    → bytes ≡ size_in f.context.known (completed y.type i)
-    → bytes ≤ size_limit
+    → known ≡ f.context.known
+    → AllFit known a
     → IsEntered f xs y i g
-name_done f g xs y i a whole bytes e w meets place size fits =
+name_done f g xs y i a whole known e w meets place same fits =
     record {
       meets = subst (λ z. Meets (file_asks f xs y (completed y.type i) z)) w (subst (λ z. Meets (file_asks f xs y z whole)) e meets);
-      fits = subst (λ k. k ≤ size_limit) size fits;
+      fits = subst (λ z. AllFit f.context.known z) e (subst (λ z. AllFit z a) same fits);
       place = place ∙ ap (λ z. with_declared xs y z whole f) e ∙ ap (λ z. with_declared xs y (completed y.type i) z f) w;
     }

@@ -5,14 +5,14 @@ use Rattle.im_rules.specs.Breaks.{a_declarator}
 use Rattle.im_rules.specs.BodyBreaks.{an_initialiser}
 use Rattle.im_rules.specs.Declared.{Qualified, Declared}
 use Rattle.im_rules.specs.Initialisers.{completed}
-use Rattle.im_rules.specs.Terms.{size_in}
 use Rattle.im_rules.specs.Typed.{Declares}
 use Rattle.im_rules.specs.FileScope.{FilePlace, past_strings, of_the_file}
 use Rattle.im_rules.specs.TypedUnit.{Specify, given_strings, past_declarator}
 use Rattle.im_rules.specs.UnitBreaks.{an_external, some_declared, file_specifiers, declaration_specifiers, declared_part, other_declared, file_declarator}
 use Rattle.im_rules.proofs.Once.{declares_once}
 use Rattle.im_rules.proofs.UnitOnce.{specify_once}
-use Rattle.im_rule_limits.specs.Limits.{size_limit, GivenSized, FileSized, of_static, size_in_file_part, size_in_file_inner, size_in_static_initialiser, IsWithin, IsFileWithin}
+use Rattle.im_rule_limits.specs.Limits.{size_limit, Counted, GivenSized, FileSized, of_static, size_in_file_part, size_in_file_inner, size_in_static_initialiser, IsWithin, IsFileWithin}
+use Rattle.im_sizes.specs.Sizes.{AllFit}
 use Rattle.im_initialisers.specs.Given.{IsInitialisationWithin}
 
 pub nothing_within : (f : FilePlace) (xs : t.SpecifierList) (q : Qualified) (k : ℕ) → FileSized f (some_declared xs q t.no_init_declarators) k → k ≤ size_limit
@@ -21,12 +21,13 @@ nothing_within f xs q k (size_in_file_inner p s) = elim p [ ]
 
 pub declared_within : (f : FilePlace) (xs : t.SpecifierList) (q : Qualified) (d : t.Declarator) (i : t.MaybeInitializer) (ds : t.InitDeclarators) (y : Declared)
     → Declares f.context q d y
-    → size_in f.context.known (completed y.type i) ≤ size_limit
+    → AllFit f.context.known (completed y.type i)
     → IsWithin f.context (a_declarator q d)
     → IsInitialisationWithin (past_declarator xs d y i f).context (completed y.type i) i
     → IsFileWithin (past_strings (given_strings f (completed y.type i) i) (past_declarator xs d y i f)) (some_declared xs q ds)
     → (k : ℕ) → FileSized f (some_declared xs q (t.more_init_declarators d i ds)) k → k ≤ size_limit
-declared_within f xs q d i ds y dd fits v u w k (of_static dd') = subst (λ (z : Declared). size_in f.context.known (completed z.type i) ≤ size_limit) (declares_once dd dd') fits
+declared_within f xs q d i ds y dd fits v u w k (of_static dd' counted) =
+    fits k (subst (λ (z : Declared). Counted f.context.known (completed z.type i) k) (sym (declares_once dd dd')) counted)
 declared_within f xs q d i ds y dd fits v u w k (size_in_file_part (other_declared dd') s) =
     w k (subst (λ (z : Declared). FileSized (past_strings (given_strings f (completed z.type i) i) (past_declarator xs d z i f)) (some_declared xs q ds) k) (sym (declares_once dd dd')) s)
 declared_within f xs q d i ds y dd fits v u w k (size_in_file_inner file_declarator s) = v k s

@@ -1,5 +1,5 @@
 -- For private contracts: what is answered of one declarator at file scope.
-use Rattle.std.specs.Prelude.{◌≡◌, ◌⊎◌, ◌<◌, ◌≤◌, ℕ, List, ◌++◌}
+use Rattle.std.specs.Prelude.{◌≡◌, ◌⊎◌, ◌<◌, ℕ, List, ◌++◌}
 use Rattle.im_word.specs.Words.{Name}
 use Rattle.im_ctree.specs.Tree as t
 use Rattle.im_ctree.specs.Shape.{declarator_of, maybe_initializer_of}
@@ -11,10 +11,10 @@ use Rattle.im_rules.specs.Demands.{Meets, Refuses}
 use Rattle.im_rules.specs.FileScope.{FilePlace, past_strings, file_asks, with_declared}
 use Rattle.im_rules.specs.Initialisers.{Item, Initialised, completed, strings_given}
 use Rattle.im_rules.specs.Outline.{is_initialised}
-use Rattle.im_rules.specs.Terms.{size_in}
 use Rattle.im_rules.specs.TypedUnit.{FirstValues, AreDeclared, MayGive, AreConstants, given_strings, values_given}
 use Rattle.im_rules.specs.UnitBreaks.{RefusedItem, some_declared}
-use Rattle.im_rule_limits.specs.Limits.{size_limit, GivenSized, IsGivenWithin}
+use Rattle.im_rule_limits.specs.Limits.{size_limit, Counted, GivenSized, IsGivenWithin}
+use Rattle.im_sizes.specs.Sizes.{AllFit}
 use Rattle.im_stop.specs.declared.stop.Stop.{Stop}
 use Rattle.im_stop.specs.declared.stop.Stop.TheVariants.{Rule, Large, Memory}
 use Rattle.im_initialisers.specs.Given.{IsInitialisationWithin}
@@ -25,16 +25,16 @@ use Rattle.im_defined.specs.Values.{first_values_in}
 abbrev pub with_declarator : InitDeclarator → t.InitDeclarators → t.InitDeclarators
 with_declarator x rest = t.more_init_declarators (declarator_of x.declarator) (maybe_initializer_of x.initializer) rest
 
--- its name is in scope with its whole type, which is within the limit
+-- its name is in scope with its whole type, whose sizes that count are within the limit
 pub record IsEntered (before : FilePlace) (xs : t.SpecifierList) (y : Declared) (i : t.MaybeInitializer) (after : FilePlace) : Type 0 where
   pub meets : Meets (file_asks before xs y (completed y.type i) (is_initialised i))
-  pub fits : size_in before.context.known (completed y.type i) ≤ size_limit
+  pub fits : AllFit before.context.known (completed y.type i)
   pub place : after ≡ with_declared xs y (completed y.type i) (is_initialised i) before
 
--- a rule refuses it at this token, or its type is over the limit
+-- a rule refuses it at this token, or a size that counts of its type is over the limit
 abbrev pub IsNameFault : FilePlace → t.SpecifierList → Declared → t.MaybeInitializer → ℕ → Stop → Type 0
 IsNameFault f xs y i at (Rule rule token) = Refuses rule (file_asks f xs y (completed y.type i) (is_initialised i)) × (token ≡ at)
-IsNameFault f xs y i at (Large bytes) = (bytes ≡ size_in f.context.known (completed y.type i)) × (size_limit < bytes)
+IsNameFault f xs y i at (Large bytes) = Counted f.context.known (completed y.type i) bytes × (size_limit < bytes)
 IsNameFault f xs y i at Memory = Unit {0}
 
 -- an item is no constant

@@ -21,7 +21,7 @@ use im_expressions::declarator;
 use im_file_names::declared_in_file;
 use im_file_place::File;
 use im_shapes::completed;
-use im_sizes::fits;
+use im_sizes::all_fit;
 use im_stop::Stop;
 use im_texts::append_declarator;
 use im_type_specifiers::Qualified;
@@ -64,6 +64,6 @@ pub(crate) fn entered(
     let ty = completed(copy(alloc, &y.ty)?, initializer)?;
     let whole = initializer.is_some();
     declared_in_file(alloc, specifiers, at, y, &ty, whole, file)?;
-    fits(file.place.structs.table(), &ty)?;
+    all_fit(file.place.structs.table(), &ty)?;
     Ok(ty)
 }

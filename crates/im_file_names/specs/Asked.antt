@@ -3,21 +3,22 @@ use Rattle.std.specs.Prelude.{Bool, true, not, ◌&&◌, ◌||◌, List, [], ◌
 use Rattle.im_word.specs.Words.{Name}
 use Rattle.im_ctype.specs.Types.{CType}
 use Rattle.im_rules.specs.Context.{with_entity}
+use Rattle.im_rules.specs.Declared.{Declared}
 use Rattle.im_rules.specs.Demands.{Demand, asks}
 use Rattle.im_rules.specs.FileScope.{FilePlace, is_object_entity, keeps_builtin}
 use Rattle.im_rules.specs.Outline.{is_in}
 use Rattle.im_rules.specs.Rules.{rule_3, rule_4, rule_5, rule_6_absent}
 use Rattle.im_rules.specs.Scopes.{Entity, meaning, meaning_here}
 
-abbrev pub asks_of : FilePlace → Bool → Name → CType → CType → Entity → Bool → List Demand
-asks_of f typedef x written a e whole =
+abbrev pub asks_of : FilePlace → Bool → Name → Declared → CType → Entity → Bool → List Demand
+asks_of f typedef x y a e whole =
     let g = f.context.scopes in
     asks 2 (not (typedef && whole))
     ∷ asks 3 (rule_3 (meaning_here g x) e true (is_in x f.whole) whole)
     ∷ asks 4 (rule_4 (meaning g x) e)
-    ∷ asks 6 (rule_6_absent written whole)
+    ∷ asks 6 (rule_6_absent y.type whole)
     ∷ asks 5 (not (is_object_entity e) || rule_5 f.context.known a)
-    ∷ asks 12 (typedef || keeps_builtin x a whole)
+    ∷ asks 12 (typedef || keeps_builtin x y.constant a whole)
     ∷ []
 
 abbrev pub with_whole : Bool → Name → List Name → List Name

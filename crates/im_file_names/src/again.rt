@@ -15,16 +15,16 @@ fn agrees_with_object(constant: bool, ty: &Type, new: &Entity) -> bool
 {
     match new {
         Entity::Object(c, a, _) => same(ty, a) && same_bool(constant, *c),
-        Entity::Function(_, _) | Entity::Enumerator(_) | Entity::Typedef(_, _) => false,
+        Entity::Function(_, _, _) | Entity::Enumerator(_) | Entity::Typedef(_, _) => false,
     }
 }
 
-fn agrees_with_function(ty: &Type, new: &Entity) -> bool
-    ensures { (k : s.Callee) → result ≡ u.agrees (s.a_function k (type_of ty.now))
+fn agrees_with_function(constant: bool, ty: &Type, new: &Entity) -> bool
+    ensures { (k : s.Callee) → result ≡ u.agrees (s.a_function k constant (type_of ty.now))
         (entity_of new.now) }
 {
     match new {
-        Entity::Function(_, a) => same(ty, a),
+        Entity::Function(_, c, a) => same(ty, a) && same_bool(constant, *c),
         Entity::Object(_, _, _) | Entity::Enumerator(_) | Entity::Typedef(_, _) => false,
     }
 }
@@ -34,7 +34,7 @@ fn agrees_with_typedef(constant: bool, ty: &Type, new: &Entity) -> bool
 {
     match new {
         Entity::Typedef(c, a) => same(ty, a) && same_bool(constant, *c),
-        Entity::Object(_, _, _) | Entity::Function(_, _) | Entity::Enumerator(_) => false,
+        Entity::Object(_, _, _) | Entity::Function(_, _, _) | Entity::Enumerator(_) => false,
     }
 }
 
@@ -44,7 +44,7 @@ fn agrees(old: &Entity, new: &Entity) -> bool
 {
     match old {
         Entity::Object(constant, ty, _) => agrees_with_object(*constant, ty, new),
-        Entity::Function(_, ty) => agrees_with_function(ty, new),
+        Entity::Function(_, constant, ty) => agrees_with_function(*constant, ty, new),
         Entity::Typedef(constant, ty) => agrees_with_typedef(*constant, ty, new),
         Entity::Enumerator(_) => false,
     }
@@ -68,7 +68,7 @@ fn is_type(entity: &Entity) -> bool
 {
     match entity {
         Entity::Typedef(_, _) => true,
-        Entity::Object(_, _, _) | Entity::Function(_, _) | Entity::Enumerator(_) => false,
+        Entity::Object(_, _, _) | Entity::Function(_, _, _) | Entity::Enumerator(_) => false,
     }
 }
 
@@ -78,7 +78,7 @@ fn keeps(old: &Entity, new: &Entity) -> bool
 {
     match old {
         Entity::Typedef(_, _) => is_type(new),
-        Entity::Object(_, _, _) | Entity::Function(_, _) | Entity::Enumerator(_) => true,
+        Entity::Object(_, _, _) | Entity::Function(_, _, _) | Entity::Enumerator(_) => true,
     }
 }
 

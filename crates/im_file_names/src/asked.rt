@@ -2,6 +2,7 @@
 ghost use Rattle.std.specs.Prelude.{◌≡◌, not, ◌&&◌, MatchResult};
 ghost use Rattle.im_rules.specs.Demands.{Meets};
 ghost use Rattle.im_rules.specs.Outline as o;
+ghost use Rattle.im_declarators.specs.Shape.{declared_of};
 ghost use Rattle.im_file_place.specs.Files.{file_place_of};
 ghost use Rattle.im_file_names.specs.Asked.{asks_of};
 ghost use Rattle.im_scopes.specs.Shape.{entity_of};
@@ -11,6 +12,7 @@ ghost use Rattle.im_types.specs.Shape.{type_of};
 use crate::again::{keeps_type, may_repeat};
 use crate::builtin::may_be_builtin;
 use crate::sized::{has_lengths, is_whole_object};
+use im_declarators::Declared;
 use im_file_place::File;
 use im_scopes::Entity;
 use im_stop::{Stop, refused};
@@ -30,21 +32,22 @@ fn was_whole(file: &File, name: &[u8]) -> bool
     file.whole.contains(name)
 }
 
-/// Whether a name with this meaning may be declared at file scope. `written` is its type as it is
-/// written and `ty` with its length; `whole`, whether an initialiser or a body stands behind it.
+/// Whether a name with this meaning may be declared at file scope. `written` is declared as it is
+/// written, and `ty` is its type with its length; `whole`, whether an initialiser or a body stands
+/// behind it.
 pub(crate) fn asked(
     alloc: Global,
     file: &File,
     at: u32,
     typedef: bool,
     name: &[u8],
-    written: &Type,
+    written: &Declared,
     ty: &Type,
     entity: &Entity,
     whole: bool,
 ) -> Result<(), Stop>
-    ensures { let asked = asks_of (file_place_of file.now) typedef name.now (type_of written.now)
-        (type_of ty.now) (entity_of entity.now) whole in
+    ensures { let asked = asks_of (file_place_of file.now) typedef name.now
+        (declared_of written.now) (type_of ty.now) (entity_of entity.now) whole in
         MatchResult result (λ _. Meets asked) (IsRefusal asked at) }
 {
     if !may_define(typedef, whole) {
@@ -62,13 +65,13 @@ pub(crate) fn asked(
     if !keeps_type(&file.place.scope, name, entity) {
         return Err(refused(4, at));
     }
-    if !has_lengths(written, whole) {
+    if !has_lengths(&written.ty, whole) {
         return Err(refused(6, at));
     }
     if !is_whole_object(&file.place.structs, entity, ty) {
         return Err(refused(5, at));
     }
-    if !may_be_builtin(alloc, typedef, name, ty, whole)? {
+    if !may_be_builtin(alloc, typedef, name, written.constant, ty, whole)? {
         return Err(refused(12, at));
     }
     Ok(())

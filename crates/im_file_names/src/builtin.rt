@@ -11,40 +11,54 @@ use im_num::NoMemory;
 use im_types::{Type, function_of, same};
 use std::alloc::Global;
 
-/// Whether it is the type of a function of these parameters that gives an int, and has no body.
-fn is_own(alloc: Global, parameters: Vec<Type>, ty: &Type, has_body: bool) -> Result<bool, NoMemory>
+/// Whether it is the type of a function of these parameters that gives an int, not a const one, and
+/// has no body.
+fn is_own(
+    alloc: Global,
+    parameters: Vec<Type>,
+    constant: bool,
+    ty: &Type,
+    has_body: bool,
+) -> Result<bool, NoMemory>
     ensures { IfOk result (λ own. own ≡ u.rule_12_builtin
-        (t.function (t.integer Integer.Int) (types_in parameters.items)) (type_of ty.now)
+        (t.function (t.integer Integer.Int) (types_in parameters.items)) constant (type_of ty.now)
         has_body) }
 {
     let own = function_of(alloc, Type::Integer(Integer::Int), parameters)?;
-    Ok(same(&own, ty) && !has_body)
+    Ok(same(&own, ty) && !constant && !has_body)
 }
 
-fn keeps_getchar(alloc: Global, ty: &Type, has_body: bool) -> Result<bool, NoMemory>
-    ensures { IfOk result (λ own. own ≡ u.rule_12_builtin f.getchar_type (type_of ty.now)
+fn keeps_getchar(alloc: Global, constant: bool, ty: &Type, has_body: bool) -> Result<bool, NoMemory>
+    ensures { IfOk result (λ own. own ≡ u.rule_12_builtin f.getchar_type constant (type_of ty.now)
         has_body) }
 {
-    is_own(alloc, Vec::new(alloc), ty, has_body)
+    is_own(alloc, Vec::new(alloc), constant, ty, has_body)
 }
 
-fn keeps_putchar(alloc: Global, ty: &Type, has_body: bool) -> Result<bool, NoMemory>
-    ensures { IfOk result (λ own. own ≡ u.rule_12_builtin f.putchar_type (type_of ty.now)
+fn keeps_putchar(alloc: Global, constant: bool, ty: &Type, has_body: bool) -> Result<bool, NoMemory>
+    ensures { IfOk result (λ own. own ≡ u.rule_12_builtin f.putchar_type constant (type_of ty.now)
         has_body) }
 {
     let mut parameters = Vec::new(alloc);
     parameters.push(Type::Integer(Integer::Int))?;
-    is_own(alloc, parameters, ty, has_body)
+    is_own(alloc, parameters, constant, ty, has_body)
 }
 
-fn keeps_builtin(alloc: Global, name: &[u8], ty: &Type, has_body: bool) -> Result<bool, NoMemory>
-    ensures { IfOk result (λ own. own ≡ f.keeps_builtin name.now (type_of ty.now) has_body) }
+fn keeps_builtin(
+    alloc: Global,
+    name: &[u8],
+    constant: bool,
+    ty: &Type,
+    has_body: bool,
+) -> Result<bool, NoMemory>
+    ensures { IfOk result (λ own. own
+        ≡ f.keeps_builtin name.now constant (type_of ty.now) has_body) }
 {
     if same_name(b"getchar", name) {
-        return keeps_getchar(alloc, ty, has_body);
+        return keeps_getchar(alloc, constant, ty, has_body);
     }
     if same_name(b"putchar", name) {
-        return keeps_putchar(alloc, ty, has_body);
+        return keeps_putchar(alloc, constant, ty, has_body);
     }
     Ok(true)
 }
@@ -54,14 +68,15 @@ pub(crate) fn may_be_builtin(
     alloc: Global,
     typedef: bool,
     name: &[u8],
+    constant: bool,
     ty: &Type,
     has_body: bool,
 ) -> Result<bool, NoMemory>
     ensures { IfOk result (λ may. may
-        ≡ (typedef || f.keeps_builtin name.now (type_of ty.now) has_body)) }
+        ≡ (typedef || f.keeps_builtin name.now constant (type_of ty.now) has_body)) }
 {
     if typedef {
         return Ok(true);
     }
-    keeps_builtin(alloc, name, ty, has_body)
+    keeps_builtin(alloc, name, constant, ty, has_body)
 }

@@ -74,7 +74,7 @@ pub fn declared_in_file(
     let name = name_in(y);
     let typedef = is_typedef(specifiers);
     let meaning = entity(alloc, &file.place.outline, specifiers, name, y.constant, ty)?;
-    asked(alloc, file, at, typedef, name, &y.ty, ty, &meaning, whole)?;
+    asked(alloc, file, at, typedef, name, y, ty, &meaning, whole)?;
     declare(alloc, name, meaning, whole, file)?;
     Ok(())
 }

@@ -52,14 +52,15 @@ fn function(
     alloc: Global,
     outline: &UnitOutline,
     name: &[u8],
+    constant: bool,
     ty: &Type,
 ) -> Result<Entity, NoMemory>
-    ensures { IfOk result (λ e. entity_of e
-        ≡ s.a_function (f.callee_named (outline_in outline.now) name.now) (type_of ty.now)) }
+    ensures { IfOk result (λ e. entity_of e ≡ s.a_function
+        (f.callee_named (outline_in outline.now) name.now) constant (type_of ty.now)) }
 {
     let callee = callee(outline, name)?;
     let kept = copy(alloc, ty)?;
-    Ok(Entity::Function(callee, kept))
+    Ok(Entity::Function(callee, constant, kept))
 }
 
 fn object(
@@ -93,7 +94,7 @@ pub(crate) fn entity(
         return typedef_name(alloc, constant, ty);
     }
     if is_function(ty) {
-        return function(alloc, outline, name, ty);
+        return function(alloc, outline, name, constant, ty);
     }
     object(alloc, outline, name, constant, ty)
 }

@@ -15,14 +15,14 @@ use im_stop::{Stop, refused};
 use im_types::{Type, function_of, same};
 use std::alloc::Global;
 
-/// The type of a function that has a body.
+/// The type of a function that has a body and whose result isn't const.
 fn type_with_body(entity: &Entity) -> Option<&Type>
     ensures { MatchOption result (f.body_type (Some (entity_of entity.now)) ≡ None)
         (λ ty. f.body_type (Some (entity_of entity.now)) ≡ Some (type_of ty.now)) }
 {
     match entity {
-        Entity::Function(Callee::Body(_), ty) => Some(ty),
-        Entity::Function(Callee::NoBody | Callee::Getchar | Callee::Putchar, _)
+        Entity::Function(Callee::Body(_), false, ty) => Some(ty),
+        Entity::Function(_, _, _)
         | Entity::Object(_, _, _)
         | Entity::Enumerator(_)
         | Entity::Typedef(_, _) => None,

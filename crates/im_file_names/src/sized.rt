@@ -43,7 +43,7 @@ fn is_object(entity: &Entity) -> bool
 {
     match entity {
         Entity::Object(_, _, _) => true,
-        Entity::Function(_, _) | Entity::Enumerator(_) | Entity::Typedef(_, _) => false,
+        Entity::Function(_, _, _) | Entity::Enumerator(_) | Entity::Typedef(_, _) => false,
     }
 }
 

@@ -1,5 +1,5 @@
 -- The functions that are predeclared.
-use Rattle.std.specs.Prelude.{List}
+use Rattle.std.specs.Prelude.{false, List}
 use Rattle.im_word.specs.Words.{Name}
 use Rattle.im_ctype.specs.declared.integer.Integer.TheVariants.{Int}
 use Rattle.im_ctype.specs.Types.{integer, function}
@@ -10,8 +10,8 @@ use Rattle.im_rules.specs.FileScope.{getchar_name, getchar_type, putchar_name, p
 
 -- a function of these parameters that gives an int
 abbrev pub with_function : Name → Callee → List rust.Type → Scopes → Scopes
-with_function x callee ps g = named x (a_function callee (function (integer Int) (types_in ps))) g
+with_function x callee ps g = named x (a_function callee false (function (integer Int) (types_in ps))) g
 
 -- the innermost of what is predeclared
 abbrev pub predeclared_functions : Scopes
-predeclared_functions = named getchar_name (a_function get_character getchar_type) (named putchar_name (a_function put_character putchar_type) nothing)
+predeclared_functions = named getchar_name (a_function get_character false getchar_type) (named putchar_name (a_function put_character false putchar_type) nothing)

@@ -45,7 +45,7 @@ fn with_character_function(
         ≡ with_function name.now (callee_of callee) parameters.items (scopes_of scope)) }
 {
     let ty = function_of(alloc, Type::Integer(Integer::Int), parameters)?;
-    with_entity(alloc, name, Entity::Function(callee, ty), scope)
+    with_entity(alloc, name, Entity::Function(callee, false, ty), scope)
 }
 
 fn functions(alloc: Global) -> Result<Scope, NoMemory>

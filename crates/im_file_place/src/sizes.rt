@@ -20,7 +20,7 @@ fn size_of_meaning(table: &TypeTable, meaning: &Entity) -> Result<u64, NoMemory>
 {
     match meaning {
         Entity::Object(_, ty, _) => size(table, ty),
-        Entity::Function(_, _) | Entity::Enumerator(_) | Entity::Typedef(_, _) => Ok(0),
+        Entity::Function(_, _, _) | Entity::Enumerator(_) | Entity::Typedef(_, _) => Ok(0),
     }
 }
 

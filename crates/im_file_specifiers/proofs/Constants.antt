@@ -27,7 +27,7 @@ use Rattle.im_file_specifiers.proofs.Within.{no_enumerators_within, enumerators_
 -- a constant is new in its scope
 pub never_twice : (old : s.Entity) (z : ℤ) (b : _) → rule_3 (Some old) (s.an_enumerator z) b false false ≡ false
 never_twice (s.an_object c a k) z true = refl
-never_twice (s.a_function f a) z true = refl
+never_twice (s.a_function f c a) z true = refl
 never_twice (s.an_enumerator y) z true = refl
 never_twice (s.a_typedef c a) z true = refl
 never_twice old z false = refl
@@ -39,7 +39,7 @@ new_or_not (Some old) z b = never_twice old z b
 pub typedef_or_not : (old : Option s.Entity) (z : ℤ) → rule_4 old (s.an_enumerator z) ≡ not (is_typedef_name old)
 typedef_or_not None z = refl
 typedef_or_not (Some (s.an_object c a k)) z = refl
-typedef_or_not (Some (s.a_function f a)) z = refl
+typedef_or_not (Some (s.a_function f c a)) z = refl
 typedef_or_not (Some (s.an_enumerator y)) z = refl
 typedef_or_not (Some (s.a_typedef c a)) z = refl
 

@@ -1,5 +1,6 @@
 pub mod Constants
 pub mod Enumerations
+pub mod MemberSizes
 pub mod Members
 pub mod Names
 pub mod Places

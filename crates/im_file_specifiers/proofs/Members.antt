@@ -1,5 +1,5 @@
 -- Members, one behind the other, and their lists.
-use Rattle.std.proofs.Common.{◌≡◌, ℕ, ◌+◌, ◌≤◌, List, [], ◌∷◌, ◌++◌, length, drop, Option, Result, Ok, Err, MatchResult, refl, sym, ap, ◌∙◌, subst, append_assoc}
+use Rattle.std.proofs.Common.{◌≡◌, ℕ, ◌+◌, List, [], ◌∷◌, ◌++◌, length, drop, inl, inr, Option, Result, Ok, Err, MatchResult, refl, sym, ap, ◌∙◌, subst, append_assoc}
 use Rattle.std.proofs.lemmas.List.{append-nil}
 use Rattle.im_word.specs.Words.{Name}
 use Rattle.im_ctree.specs.Tree as t
@@ -19,8 +19,7 @@ use Rattle.im_rules.specs.Typed.{Declares}
 use Rattle.im_rules.specs.TypedUnit.{Specify, NamesType, a_struct, AreMembers, no_member, some_members, AreFields, no_field, a_field}
 use Rattle.im_rules.specs.UnitBreaks as b
 use Rattle.im_rules.specs.UnitBreaks.{FileBroken, here_in_file, within_file, in_file_inner, some_fields, some_named}
-use Rattle.im_rule_limits.specs.Limits.{size_limit, FileSized, of_struct, size_in_file_part, size_in_file_inner, IsWithin, IsFileWithin}
-use Rattle.im_sizes.specs.Sizes.{IsTooLarge}
+use Rattle.im_rule_limits.specs.Limits.{FileSized, of_struct, of_member, Counted, AreMembersWithin, size_in_file_part, size_in_file_inner, IsWithin, IsFileWithin}
 use Rattle.im_stop.specs.declared.stop.Stop.{Stop}
 use Rattle.im_stop.specs.declared.stop.Stop.TheVariants.{Rule, Large, Memory}
 use Rattle.im_stop.specs.Answers.{IsRefusal}
@@ -31,6 +30,7 @@ use Rattle.im_file_specifiers.specs.Answers.{IsFileFault, IsRest, list_of}
 use Rattle.im_place.specs.Fields.{fields_of}
 use Rattle.im_place.specs.declared.field.Field.{Field}
 use Rattle.im_file_specifiers.specs.Lists.{FieldsAdded, GoesOnFields, GoesOnMembers, IsEnded, struct_type}
+use Rattle.im_file_specifiers.specs.Sizes.{StructFits, StructCounted, IsStructOver}
 use Rattle.im_file_specifiers.proofs.Rests.{rest_itself, rest_then, rest_fault}
 use Rattle.im_file_specifiers.proofs.Within.{no_fields_within, fields_within, no_members_within, members_within, struct_within}
 
@@ -247,32 +247,43 @@ list_refused f g at first x ms ss fs (Rule rule token) d r = subst (λ z. FileBr
 list_refused f g at first x ms ss fs (Large bytes) d r = absurd r
 list_refused f g at first x ms ss fs Memory d r = tt
 
--- the bytes of a struct whose list has ended
-abbrev struct_bytes : FilePlace → ℕ → ℕ
-struct_bytes h n = size_in h.context.known (struct n)
+-- the structs that are known where a list has ended
+known_then : (g h : FilePlace) (n : ℕ) (fs : List Member) (known : Structs) → IsEnded g fs n h → known ≡ h.context.known → known ≡ (with_struct fs g).context.known
+known_then g h n fs known e same = same ∙ ap (λ (p : FilePlace). p.context.known) e.place
 
-same_bytes : (g h : FilePlace) (n : ℕ) (fs : List Member) → IsEnded g fs n h → struct_bytes h n ≡ struct_bytes (with_struct fs g) (length g.context.known)
-same_bytes g h n fs e = ap (λ k. struct_bytes h k) e.number ∙ ap (λ p. struct_bytes p (length g.context.known)) e.place
+large_by : (f g : FilePlace) (known : Structs) (at first n bytes : ℕ) (x : Option Name) (ms : t.Members) (ss : List t.Specifier) (fs : List Member)
+    → AreMembers (with_list_begun at x f) ms fs g
+    → n ≡ length g.context.known
+    → known ≡ (with_struct fs g).context.known
+    → StructCounted known fs n bytes
+    → FileSized f (some_named first (t.struct_specifier at x ms ∷ ss)) bytes
+large_by f g known at first n bytes x ms ss fs d number same (inl c) = of_member d c.1 (subst (λ (z : Structs). Counted z c.0.type bytes) same c.2)
+large_by f g known at first n bytes x ms ss fs d number same (inr c) =
+    let there = (with_struct fs g).context.known in
+    let size : bytes ≡ size_in there (struct (length g.context.known)) = c.1 ∙ ap (λ z. size_in z (struct n)) same ∙ ap (λ k. size_in there (struct k)) number in
+    subst (λ k. FileSized f (some_named first (t.struct_specifier at x ms ∷ ss)) k) (sym size) (of_struct d (subst (λ (z : Structs). AreMembersWithin z fs) same c.0))
 
 pub list_large : (f g h : FilePlace) (known : Structs) (at first n : ℕ) (x : Option Name) (ms : t.Members) (ss : List t.Specifier) (fs : List Member) (stop : Stop)
     → AreMembers (with_list_begun at x f) ms fs g
     → IsEnded g fs n h
     → known ≡ h.context.known
-    → IsTooLarge (size_in known (struct n)) stop
+    → IsStructOver known fs n stop
     → IsFileFault f (some_named first (t.struct_specifier at x ms ∷ ss)) stop
-list_large f g h known at first n x ms ss fs (Rule rule token) d e same large = absurd large
-list_large f g h known at first n x ms ss fs (Large bytes) d e same large =
-    (subst (λ k. FileSized f (some_named first (t.struct_specifier at x ms ∷ ss)) k) (sym (large.0 ∙ ap (λ z. size_in z (struct n)) same ∙ same_bytes g h n fs e)) (of_struct d), large.1)
-list_large f g h known at first n x ms ss fs Memory d e same large = tt
+list_large f g h known at first n x ms ss fs (Rule rule token) d e same over = absurd over
+list_large f g h known at first n x ms ss fs (Large bytes) d e same over =
+    (large_by f g known at first n bytes x ms ss fs d e.number (known_then g h n fs known e same) over.0, over.1)
+list_large f g h known at first n x ms ss fs Memory d e same over = tt
 
 pub list_done : (f g h : FilePlace) (known : Structs) (at first n : ℕ) (x : Option Name) (ms : t.Members) (ss : List t.Specifier) (ks : List SpecifierWord) (fs : List Member)
     → AreMembers (with_list_begun at x f) ms fs g × IsFileWithin (with_list_begun at x f) (b.some_members ms)
     → Meets (struct_asks f x fs)
     → IsEnded g fs n h
     → known ≡ h.context.known
-    → size_in known (struct n) ≤ size_limit
+    → StructFits known fs n
     → NamesType f (t.struct_specifier at x ms ∷ ss) ks (struct_type n) h × IsFileWithin f (some_named first (t.struct_specifier at x ms ∷ ss))
 list_done f g h known at first n x ms ss ks fs d meets e same fits =
     let named = subst (λ z. NamesType f (t.struct_specifier at x ms ∷ ss) ks (struct_type n) z) (sym e.place)
     (subst (λ k. NamesType f (t.struct_specifier at x ms ∷ ss) ks (struct_type k) (with_struct fs g)) (sym e.number) (a_struct d.0 meets)) in
-    (named, struct_within f g first at x ms ss fs d.0 (subst (λ k. k ≤ size_limit) (ap (λ z. size_in z (struct n)) same ∙ same_bytes g h n fs e) fits) d.1)
+    let fits₁ = subst (λ (z : Structs). StructFits z fs n) (known_then g h n fs known e same) fits in
+    let fits₂ = subst (λ (k : ℕ). StructFits (with_struct fs g).context.known fs k) e.number fits₁ in
+    (named, struct_within f g first at x ms ss fs d.0 fits₂ d.1)

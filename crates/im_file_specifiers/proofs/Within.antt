@@ -13,13 +13,15 @@ use Rattle.im_rules.specs.FileScope.{FilePlace, past_strings, Level, of_members,
 use Rattle.im_rules.specs.TypedUnit.{IsNumber, Specify, AreMembers, AreFields}
 use Rattle.im_rules.specs.UnitBreaks.{FileNode, file_specifiers, some_named, some_members, some_fields, some_enumerators, begins_with_list, named_part, struct_members, enum_constants, other_enumerators, member_specifiers, member_fields, other_members, other_fields, enumerator_value, field_declarator}
 use Rattle.im_rules.proofs.UnitOnce.{number_once, specify_once, members_once, fields_once}
-use Rattle.im_rule_limits.specs.Limits.{size_limit, FileSized, of_struct, size_in_file_part, size_in_file_inner, IsWithin, IsFileWithin}
+use Rattle.im_rule_limits.specs.Limits.{size_limit, FileSized, of_struct, of_member, size_in_file_part, size_in_file_inner, IsWithin, IsFileWithin}
 use Rattle.im_file_specifiers.specs.Enumerators.{IsValueWithin}
+use Rattle.im_file_specifiers.specs.Sizes.{MembersFit, StructFits}
 
 -- without a list
 
 unlisted_within : (f : FilePlace) (first : ℕ) (ss : List t.Specifier) (k : ℕ) → begins_with_list ss ≡ false → FileSized f (some_named first ss) k → k ≤ size_limit
-unlisted_within f first ss k none (of_struct d) = absurd cc
+unlisted_within f first ss k none (of_struct d w) = absurd cc
+unlisted_within f first ss k none (of_member d c s) = absurd cc
 unlisted_within f first ss k none (size_in_file_part struct_members s) = absurd cc
 unlisted_within f first ss k none (size_in_file_part enum_constants s) = absurd cc
 unlisted_within f first ss k none (size_in_file_inner p s) = elim p [ ]
@@ -90,12 +92,17 @@ members_within f g h at xs q ds ms fields s a u v w k (size_in_file_part (other_
 
 pub struct_within : (f g : FilePlace) (first at : ℕ) (x : Option Name) (ms : t.Members) (ss : List t.Specifier) (fields : List Member)
     → AreMembers (with_list_begun at x f) ms fields g
-    → size_in (with_struct fields g).context.known (struct (length g.context.known)) ≤ size_limit
+    → StructFits (with_struct fields g).context.known fields (length g.context.known)
     → IsFileWithin (with_list_begun at x f) (some_members ms)
     → (k : ℕ) → FileSized f (some_named first (t.struct_specifier at x ms ∷ ss)) k → k ≤ size_limit
-struct_within f g first at x ms ss fields d fits w k (of_struct {g = g'} {fields = fields'} d') =
+struct_within f g first at x ms ss fields d fits w k (of_struct {g = g'} {fields = fields'} d' small) =
     let p = members_once d d' in
-    let fits₁ = subst (λ (j : FilePlace). size_in (with_struct fields j).context.known (struct (length j.context.known)) ≤ size_limit) p.1 fits in
+    let fits₁ = subst (λ (j : FilePlace). size_in (with_struct fields j).context.known (struct (length j.context.known)) ≤ size_limit) p.1 fits.1 in
     subst (λ (y : List Member). size_in (with_struct y g').context.known (struct (length g'.context.known)) ≤ size_limit) p.0 fits₁
+struct_within f g first at x ms ss fields d fits w k (of_member {g = g'} {fields = fields'} {m = m} d' among counted) =
+    let p = members_once d d' in
+    let fit₁ = subst (λ (j : FilePlace). MembersFit (with_struct fields j).context.known fields) p.1 fits.0 in
+    let fit₂ : MembersFit (with_struct fields' g').context.known fields' = subst (λ (y : List Member). MembersFit (with_struct y g').context.known y) p.0 fit₁ in
+    fit₂ m among k counted
 struct_within f g first at x ms ss fields d fits w k (size_in_file_part struct_members s) = w k s
 struct_within f g first at x ms ss fields d fits w k (size_in_file_inner p s) = elim p [ ]

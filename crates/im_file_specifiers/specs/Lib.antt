@@ -1,4 +1,5 @@
 pub mod Answers
 pub mod Enumerators
 pub mod Lists
+pub mod Sizes
 pub mod Words

@@ -4,6 +4,7 @@ ghost use Rattle.im_ctree.specs.Tree as t;
 ghost use Rattle.im_ctree.specs.declared.specifier.SpecifierWord.{SpecifierWord};
 ghost use Rattle.im_rules.specs.Demands.{Meets};
 ghost use Rattle.im_rules.specs.FileScope as f;
+ghost use Rattle.im_rules.specs.Rules as u;
 ghost use Rattle.im_rules.specs.TypedUnit.{NamesType};
 ghost use Rattle.im_rules.specs.UnitBreaks.{some_named};
 ghost use Rattle.im_rule_limits.specs.Limits.{IsFileWithin};
@@ -22,24 +23,47 @@ use im_scopes::{Scope, Tag};
 use im_stop::{Stop, refused};
 use std::alloc::Global;
 
+/// Whether that tag is no struct's.
+fn is_no_struct(scope: &Scope, tag: &Option<Vec<u8>>) -> bool
+    ensures { result ≡ f.enum_tag_asked (scopes_of scope.now) (tag_of tag.now) }
+{
+    match tag {
+        None => true,
+        Some(name) => match scope.tag_meaning(name) {
+            Some(Tag::Struct(_)) => false,
+            _ => true,
+        },
+    }
+}
+
+/// Whether a list of that tag stands at file scope, and is the first one of its tag.
+fn is_first(scope: &Scope, tag: &Option<Vec<u8>>) -> bool
+    ensures { result ≡ u.rule_8_list (scopes_of scope.now) (tag_of tag.now) }
+{
+    if !scope.at_file_scope() {
+        return false;
+    }
+    match tag {
+        None => true,
+        Some(name) => match scope.tag_meaning(name) {
+            Some(Tag::Enum) => false,
+            _ => true,
+        },
+    }
+}
+
 /// A list of enumerators may stand there (C11 6.7.2.3p1).
 fn may_list(scope: &Scope, at: u32, tag: &Option<Vec<u8>>) -> Result<(), Stop>
     ensures { let asked = f.enum_asks (scopes_of scope.now) (tag_of tag.now) in
         MatchResult result (λ _. Meets asked) (IsRefusal asked at) }
 {
-    if !scope.at_file_scope() {
+    if !is_no_struct(scope, tag) {
+        return Err(refused(3, at));
+    }
+    if !is_first(scope, tag) {
         return Err(refused(8, at));
     }
-    match tag {
-        None => Ok(()),
-        Some(name) => {
-            if scope.tag_meaning(name).is_some() {
-                Err(refused(8, at))
-            } else {
-                Ok(())
-            }
-        }
-    }
+    Ok(())
 }
 
 /// Declares an enum's tag.

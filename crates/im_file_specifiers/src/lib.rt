@@ -7,6 +7,7 @@ mod enums;
 mod fields;
 mod level;
 mod lists;
+mod sizes;
 mod specified;
 mod unlisted;
 mod words;

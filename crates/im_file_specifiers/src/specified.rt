@@ -18,13 +18,13 @@ use crate::enums::enumeration;
 use crate::fields::with_fields;
 use crate::level::Level;
 use crate::lists::{begin, end, may_list, where_it_stands};
+use crate::sizes::struct_fits;
 use crate::unlisted::unlisted;
 use crate::words::{is_list, may_stand};
 use im_ctree::{Member, Specifier, SpecifierKind, Specifiers};
 use im_ctype::Integer;
 use im_file_place::File;
 use im_place::Field;
-use im_sizes::fits;
 use im_stop::Stop;
 use im_type_specifiers::{Qualified, has_const};
 use im_types::Type;
@@ -103,7 +103,7 @@ fn structure(
     let fields = members(alloc, written, file)?;
     may_list(alloc, place, at, &fields)?;
     let number = end(alloc, &fields, file)?;
-    fits(file.place.structs.table(), &Type::Struct(number))?;
+    struct_fits(file.place.structs.table(), &fields, number)?;
     Ok(number)
 }
 

@@ -1,5 +1,5 @@
 -- One declarator of a declaration in a block.
-use Rattle.std.proofs.Common.{◌≡◌, ℕ, ◌+◌, ◌≤◌, Bool, List, [], ◌∷◌, ◌++◌, length, Result, Ok, Err, MatchResult, refl, sym, ap, ◌∙◌, subst, arith}
+use Rattle.std.proofs.Common.{◌≡◌, ℕ, ◌+◌, Bool, List, [], ◌∷◌, ◌++◌, length, Result, Ok, Err, MatchResult, refl, sym, ap, ◌∙◌, subst, arith}
 use Rattle.std.proofs.lemmas.List.{append-nil}
 use Rattle.im_word.specs.Words.{Name}
 use Rattle.im_ctree.specs.Tree as t
@@ -18,16 +18,15 @@ use Rattle.im_rules.specs.Initialisers.{completed}
 use Rattle.im_rules.specs.Outline.{is_initialised}
 use Rattle.im_rules.specs.Statements.{Site, Added, just_strings, and_then, local_asks, local_added, name_of, object_of, with_local, behind_initializer, initialised_strings, declared_strings, MayInitialise, AreLocals, a_local}
 use Rattle.im_rules.specs.Strings.{strings_of_declarator}
-use Rattle.im_rules.specs.Terms.{size_in}
 use Rattle.im_rules.specs.Typed.{Declares}
 use Rattle.im_rules.specs.Breaks.{a_declarator}
 use Rattle.im_rules.specs.BodyBreaks.{BodyBroken, here_in_body, within_body, in_inner, in_local_initialiser, at_local, local_declarator, locals_behind, some_locals, GivenBroken, an_initialiser, declarator_token}
-use Rattle.im_rule_limits.specs.Limits.{size_limit, GivenSized, BodySized, of_local, size_in_part, size_in_inner, size_in_local_initialiser, IsWithin, IsBodyWithin}
+use Rattle.im_rule_limits.specs.Limits.{Counted, GivenSized, BodySized, of_local, size_in_part, size_in_inner, size_in_local_initialiser, IsWithin, IsBodyWithin}
 use Rattle.im_types.specs.Shape.{type_of}
 use Rattle.im_stop.specs.declared.stop.Stop.{Stop}
 use Rattle.im_stop.specs.declared.stop.Stop.TheVariants.{Rule, Large, Memory}
 use Rattle.im_stop.specs.Answers.{IsNoRule, IsRefusal}
-use Rattle.im_sizes.specs.Sizes.{IsTooLarge}
+use Rattle.im_sizes.specs.Sizes.{AllFit, IsOver}
 use Rattle.im_tree_parts.proofs.Shapes.{declarator_shape}
 use Rattle.im_declarators.specs.Suffixes.{IsFault}
 use Rattle.im_place.specs.Contexts.{context_of}
@@ -74,7 +73,7 @@ pub record Steps (q : d.Qualified) (b0 b1 b2 : Body) (x : InitDeclarator) (y : d
   pub is : IsObject y (maybe_initializer_of x.initializer) o
   pub kept : IsKept b1 b2 o n
   pub within : IsWithin (context_of b0.place) (a_declarator q (declarator_of x.declarator))
-  pub size : size_in (structs_of b1.place.structs) (type_of o.ty) ≤ size_limit
+  pub sizes : AllFit (structs_of b1.place.structs) (type_of o.ty)
 
 named_site : {q : d.Qualified} {b0 b1 b2 : Body} {x : InitDeclarator} {y : d.Declared} {o : Object} {n : ℕ}
     → Steps q b0 b1 b2 x y o n
@@ -91,10 +90,10 @@ numbered {b0 = b0} {b1 = b1} {n = n} s =
 
 object_within : {q : d.Qualified} {b0 b1 b2 : Body} {x : InitDeclarator} {y : d.Declared} {o : Object} {n : ℕ}
     → Steps q b0 b1 b2 x y o n
-    → size_in (structs_of b0.place.structs) (completed y.type (maybe_initializer_of x.initializer)) ≤ size_limit
+    → AllFit (structs_of b0.place.structs) (completed y.type (maybe_initializer_of x.initializer))
 object_within {b0 = b0} {b1 = b1} {o = o} s =
-    subst (λ z. size_in (structs_of b0.place.structs) z ≤ size_limit) s.is.type
-    (subst (λ (z : Table). size_in (structs_of z) (type_of o.ty) ≤ size_limit) (structs_stay s.past.added) s.size)
+    subst (λ z. AllFit (structs_of b0.place.structs) z) s.is.type
+    (subst (λ (z : Table). AllFit (structs_of z) (type_of o.ty)) (structs_stay s.past.added) s.sizes)
 
 given_within : {q : d.Qualified} {b0 b1 b2 : Body} {x : InitDeclarator} {y : d.Declared} {o : Object} {n : ℕ}
     → Steps q b0 b1 b2 x y o n
@@ -165,18 +164,18 @@ object_refused {q = q} {b0 = b0} x {y = y} (Rule rule token) declares past h = �
 object_refused x (Large bytes) declares past h = absurd (h 0)
 object_refused x Memory declares past h = λ w ds. tt
 
-pub object_too_large : {q : d.Qualified} {b0 b1 : Body} (x : InitDeclarator) {y : d.Declared} {o : Object} (types : Table) (f : Stop)
+pub object_over : {q : d.Qualified} {b0 b1 : Body} (x : InitDeclarator) {y : d.Declared} {o : Object} (types : Table) (f : Stop)
     → Declares (context_of b0.place) q (declarator_of x.declarator) y
     → IsPast (just_strings (strings_of_declarator (declarator_of x.declarator))) b0 b1
     → IsObject y (maybe_initializer_of x.initializer) o
     → types ≡ b1.place.structs
-    → IsTooLarge (size_in (structs_of types) (type_of o.ty)) f
+    → IsOver (structs_of types) (type_of o.ty) f
     → IsLocalFault q b0 x f
-object_too_large x types (Rule rule token) declares past is table h = absurd h
-object_too_large {q = q} {b0 = b0} x {o = o} types (Large bytes) declares past is table h = λ w ds.
-    let same = ap (λ (z : Table). size_in (structs_of z) (type_of o.ty)) (table ∙ structs_stay past.added) ∙ ap (λ a. size_in (structs_of b0.place.structs) a) is.type in
-    (subst (λ k. BodySized (site_of b0 w) (some_locals q (init_declarators_of (x ∷ ds))) k) (sym (h.0 ∙ same)) (of_local declares), h.1)
-object_too_large x types Memory declares past is table h = λ w ds. tt
+object_over x types (Rule rule token) declares past is table h = absurd h
+object_over {q = q} {b0 = b0} x {o = o} types (Large bytes) declares past is table h = λ w ds.
+    let counted = subst (λ (z : Table). Counted (structs_of z) (type_of o.ty) bytes) (table ∙ structs_stay past.added) h.0 in
+    (of_local declares (subst (λ a. Counted (structs_of b0.place.structs) a bytes) is.type counted), h.1)
+object_over x types Memory declares past is table h = λ w ds. tt
 
 pub local_no_rule : (q : d.Qualified) (b : Body) (x : InitDeclarator) (f : Stop) → IsNoRule f → IsLocalFault q b x f
 local_no_rule q b x (Rule rule token) h = absurd h

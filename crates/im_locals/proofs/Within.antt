@@ -1,5 +1,5 @@
 -- No size in declarators of a block is over the limit, where none in their parts is.
-use Rattle.std.proofs.Common.{ℕ, ◌≤◌, sym, subst}
+use Rattle.std.proofs.Common.{ℕ, sym, subst}
 use Rattle.im_ctree.specs.Tree as t
 use Rattle.im_rules.specs.Breaks.{a_declarator, some_specifiers}
 use Rattle.im_rules.specs.BodyBreaks.{an_initialiser, some_locals, a_declaration, local_declarator, declared_specifiers, locals_behind, declared_locals}
@@ -7,10 +7,10 @@ use Rattle.im_rules.specs.Context.{Context}
 use Rattle.im_rules.specs.Declared as d
 use Rattle.im_rules.specs.Initialisers.{completed}
 use Rattle.im_rules.specs.Statements.{Site, in_context, with_local, behind_initializer}
-use Rattle.im_rules.specs.Terms.{size_in}
 use Rattle.im_rules.specs.Typed.{Declares}
 use Rattle.im_rules.proofs.Once.{declares_once}
-use Rattle.im_rule_limits.specs.Limits.{size_limit, Sized, size_here, size_within, GivenSized, BodySized, of_local, size_in_part, size_in_inner, size_in_step, size_in_local_initialiser, IsWithin, IsBodyWithin}
+use Rattle.im_rule_limits.specs.Limits.{Counted, Sized, size_here, size_within, GivenSized, BodySized, of_local, size_in_part, size_in_inner, size_in_step, size_in_local_initialiser, IsWithin, IsBodyWithin}
+use Rattle.im_sizes.specs.Sizes.{AllFit}
 use Rattle.im_initialisers.specs.Given.{IsInitialisationWithin}
 
 pub no_local_within : {s : Site} {q : d.Qualified} → IsBodyWithin s (some_locals q t.no_init_declarators)
@@ -21,12 +21,12 @@ no_local_within k (size_in_step part sized) = elim part [ ]
 pub local_within : {s : Site} {q : d.Qualified} {e : t.Declarator} {i : t.MaybeInitializer} {ds : t.InitDeclarators} {y : d.Declared}
     → Declares s.context q e y
     → IsWithin s.context (a_declarator q e)
-    → size_in s.context.known (completed y.type i) ≤ size_limit
+    → AllFit s.context.known (completed y.type i)
     → IsInitialisationWithin (with_local e y (completed y.type i) s).context (completed y.type i) i
     → IsBodyWithin (behind_initializer (completed y.type i) i (with_local e y (completed y.type i) s)) (some_locals q ds)
     → IsBodyWithin s (some_locals q (t.more_init_declarators e i ds))
-local_within {s = s} {i = i} declares declarator fits given rest k (of_local other) =
-    subst (λ (z : d.Declared). size_in s.context.known (completed z.type i) ≤ size_limit) (declares_once declares other) fits
+local_within {s = s} {i = i} declares declarator fits given rest k (of_local other counted) =
+    fits k (subst (λ (z : d.Declared). Counted s.context.known (completed z.type i) k) (sym (declares_once declares other)) counted)
 local_within {s = s} {q = q} {e = e} {i = i} {ds = ds} declares declarator fits given rest k (size_in_part (locals_behind other) sized) =
     rest k (subst (λ (z : d.Declared). BodySized (behind_initializer (completed z.type i) i (with_local e z (completed z.type i) s)) (some_locals q ds) k) (sym (declares_once declares other)) sized)
 local_within declares declarator fits given rest k (size_in_inner local_declarator sized) = declarator k sized

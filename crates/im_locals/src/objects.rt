@@ -20,7 +20,7 @@ use im_place::Place;
 use im_scopes::{Entity, Storage};
 use im_shapes::completed;
 use im_sites::{Body, Local};
-use im_sizes::fits;
+use im_sizes::all_fit;
 use im_stop::{Stop, refused};
 use im_type_specifiers::Qualified;
 use im_typed::Stmt;
@@ -91,7 +91,8 @@ fn keep(alloc: Global, object: &Object, body: &mut Body) -> Result<u32, Stop>
     Ok(number)
 }
 
-/// A declarator with its initialiser; the object's type is within the limit of sizes.
+/// A declarator with its initialiser; the object's type, and those within it, are within the limit
+/// of sizes.
 pub(crate) fn local(
     alloc: Global,
     q: Qualified,
@@ -103,7 +104,7 @@ pub(crate) fn local(
 {
     let written = declared(alloc, q, &x.declarator, body)?;
     let object = declared_object(alloc, x.declarator.at, written, &x.initializer, &body.place)?;
-    fits(body.place.structs.table(), &object.ty)?;
+    all_fit(body.place.structs.table(), &object.ty)?;
     let number = keep(alloc, &object, body)?;
     begun(alloc, number, &object.ty, &x.initializer, body)
 }

@@ -1,5 +1,5 @@
 //! Calls (C11 6.5.2.2), of which the arguments are typed.
-ghost use Rattle.std.specs.Prelude.{◌≡◌, false, true, length, Some, IfOk, IsTrue, MatchOption};
+ghost use Rattle.std.specs.Prelude.{◌≡◌, Bool, false, true, length, Some, IfOk, IsTrue, MatchOption};
 ghost use Rattle.im_ctype.specs.Table.{Table, structs_of};
 ghost use Rattle.im_ctype.specs.Types as t;
 ghost use Rattle.im_typed.specs.Program as p;
@@ -32,7 +32,7 @@ fn is_function(entity: &Entity) -> bool
     ensures { result ≡ d.is_function_meant (Some (entity_of entity.now)) }
 {
     match entity {
-        Entity::Function(_, _) => true,
+        Entity::Function(_, _, _) => true,
         Entity::Object(_, _, _) | Entity::Enumerator(_) | Entity::Typedef(_, _) => false,
     }
 }
@@ -97,8 +97,8 @@ fn called(alloc: Global, ty: Type, callee: Callee, arguments: Vec<Expr>) -> Resu
 }
 
 fn has_body(callee: Callee) -> bool
-    ensures { (ty : t.CType) → result
-        ≡ d.is_function_defined (Some (s.a_function (callee_of callee) ty)) }
+    ensures { (constant : Bool) (ty : t.CType) → result
+        ≡ d.is_function_defined (Some (s.a_function (callee_of callee) constant ty)) }
 {
     match callee {
         Callee::NoBody => false,
@@ -108,8 +108,9 @@ fn has_body(callee: Callee) -> bool
 
 /// Whether so many arguments stand there as parameters.
 fn takes(parameters: &[Type], arguments: &[Term]) -> bool
-    ensures value { (types : Table) → (f : s.Callee) → (returned : t.CType) → result ≡ rule_19
-        (Some (s.a_function f (t.function returned (types_in parameters.now))))
+    ensures value { (types : Table) (f : s.Callee) (constant : Bool) (returned : t.CType)
+        → result ≡ rule_19
+        (Some (s.a_function f constant (t.function returned (types_in parameters.now))))
         (length (terms_in types arguments.now)) }
     ensures same { IsTrue result → length parameters.now ≡ length arguments.now }
 {
@@ -126,8 +127,9 @@ fn call_value(
     arguments: Vec<Term>,
 ) -> Result<Value, NoMemory>
     requires { length parameters.now ≡ length arguments.items }
-    ensures { IfOk result (λ v. value_in table.now v ≡ c.call_of (structs_of table.now)
-        (Some (s.a_function (callee_of callee)
+    ensures { (constant : Bool)
+        → IfOk result (λ v. value_in table.now v ≡ c.call_of (structs_of table.now)
+        (Some (s.a_function (callee_of callee) constant
         (t.function (type_of returned.now) (types_in parameters.now))))
         (terms_in table.now arguments.items)) }
 {
@@ -145,10 +147,11 @@ fn function_term(
     parameters: &[Type],
     arguments: Vec<Term>,
 ) -> Result<Term, Stop>
-    ensures { IsMade table.now (d.call_asks (Some (s.a_function (callee_of callee)
+    ensures { (constant : Bool)
+        → IsMade table.now (d.call_asks (Some (s.a_function (callee_of callee) constant
         (t.function (type_of returned.now) (types_in parameters.now))))
         (terms_in table.now arguments.items)) (r.value (c.call_of (structs_of table.now)
-        (Some (s.a_function (callee_of callee)
+        (Some (s.a_function (callee_of callee) constant
         (t.function (type_of returned.now) (types_in parameters.now))))
         (terms_in table.now arguments.items))) at result }
 {
@@ -173,10 +176,10 @@ fn typed_call(
     ty: &Type,
     arguments: Vec<Term>,
 ) -> Result<Term, Stop>
-    ensures { IsMade table.now (d.call_asks
-        (Some (s.a_function (callee_of callee) (type_of ty.now)))
+    ensures { (constant : Bool) → IsMade table.now (d.call_asks
+        (Some (s.a_function (callee_of callee) constant (type_of ty.now)))
         (terms_in table.now arguments.items)) (r.value (c.call_of (structs_of table.now)
-        (Some (s.a_function (callee_of callee) (type_of ty.now)))
+        (Some (s.a_function (callee_of callee) constant (type_of ty.now)))
         (terms_in table.now arguments.items))) at result }
 {
     match ty {
@@ -205,7 +208,7 @@ pub fn call_term(
         (Some (entity_of function.now)) (terms_in table.now arguments.items))) at result }
 {
     match function {
-        Entity::Function(callee, ty) => typed_call(alloc, table, at, *callee, ty, arguments),
+        Entity::Function(callee, _, ty) => typed_call(alloc, table, at, *callee, ty, arguments),
         Entity::Object(_, _, _) | Entity::Enumerator(_) | Entity::Typedef(_, _) => {
             Err(refused(19, at))
         }

@@ -83,7 +83,7 @@ fn entity_term(
             object_term(alloc, unit, at, name, *constant, ty, *storage)
         }
         Entity::Enumerator(z) => Ok(Term::Value(literal(Integer::Int, *z))),
-        Entity::Function(_, _) | Entity::Typedef(_, _) => Err(refused(18, at)),
+        Entity::Function(_, _, _) | Entity::Typedef(_, _) => Err(refused(18, at)),
     }
 }
 

@@ -21,6 +21,7 @@ use Rattle.im_rules.specs.Typed.{Declares}
 use Rattle.im_rules.specs.FileScope.{FilePlace, past_strings, file_start, file_asks, file_entity, is_object_entity, keeps_builtin, callee_named, getchar_name, putchar_name, getchar_type, putchar_type, with_declared, of_the_file}
 use Rattle.im_rules.specs.TypedUnit.{Specify, FirstValues, past_declarator, past_head, given_strings, AreDeclared, none_declared, one_declared, TypedExternal, of_declaration, of_function, AreExternals, no_external, an_external}
 use Rattle.im_rules.specs.UnitBreaks.{some_declared, an_external as external_node, some_externals, first_external, other_externals, declaration_specifiers, declared_part, function_specifiers, other_declared, file_declarator, function_declarator}
+use Rattle.im_rule_limits.proofs.Counted.{counted-within}
 use Rattle.im_rule_limits.specs.Limits.{size_limit, of_static, size_in_file_part, size_in_file_inner, IsFileWithin}
 use Rattle.im_expressions_sound.specs.Bounded.{IsBounded}
 use Rattle.im_expressions_sound.specs.Written.{AllBytes, MayBeInitialised}
@@ -34,28 +35,30 @@ use Rattle.im_places_sound.proofs.Specifiers.{specify-step}
 
 -- what is declared
 
-builtin-same : (own a : CType) (whole : Bool) → rule_12_builtin own a whole ≡ true → a ≡ own
-builtin-same own a whole e = sym (same-is own a (both-true (same_type own a) (not whole) e).0)
+builtin-same : (own : CType) (c : Bool) (a : CType) (whole : Bool) → rule_12_builtin own c a whole ≡ true → a ≡ own
+builtin-same own c a whole e =
+    let plain = (both-true (same_type own a && not c) (not whole) e).0 in
+    sym (same-is own a (both-true (same_type own a) (not c) plain).0)
 
-keeps-getchar : (x : Name) (a : CType) (whole : Bool) → keeps_builtin x a whole ≡ true → same_name getchar_name x ≡ true → a ≡ getchar_type
-keeps-getchar x a whole k e =
-    builtin-same getchar_type a whole (ap (λ b. if b then rule_12_builtin getchar_type a whole else (if same_name putchar_name x then rule_12_builtin putchar_type a whole else true)) (sym e) ∙ k)
+keeps-getchar : (x : Name) (c : Bool) (a : CType) (whole : Bool) → keeps_builtin x c a whole ≡ true → same_name getchar_name x ≡ true → a ≡ getchar_type
+keeps-getchar x c a whole k e =
+    builtin-same getchar_type c a whole (ap (λ b. if b then rule_12_builtin getchar_type c a whole else (if same_name putchar_name x then rule_12_builtin putchar_type c a whole else true)) (sym e) ∙ k)
 
-keeps-putchar : (x : Name) (a : CType) (whole : Bool) → keeps_builtin x a whole ≡ true → same_name putchar_name x ≡ true → a ≡ putchar_type
-keeps-putchar x a whole k e =
+keeps-putchar : (x : Name) (c : Bool) (a : CType) (whole : Bool) → keeps_builtin x c a whole ≡ true → same_name putchar_name x ≡ true → a ≡ putchar_type
+keeps-putchar x c a whole k e =
     let is : putchar_name ≡ x = same-name-is putchar_name x e in
-    builtin-same putchar_type a whole (subst (λ y. keeps_builtin y a whole ≡ true) (sym is) k)
+    builtin-same putchar_type c a whole (subst (λ y. keeps_builtin y c a whole ≡ true) (sym is) k)
 
 module _ (known : Structs) (unit : Outline) (xs : t.SpecifierList) (x : Name) (c : Bool) (a : CType) where
   abbrev entity : Bool → Bool → Entity
   entity typedefs functions =
       if typedefs then a_typedef c a
-      else if functions then a_function (callee_named unit x) a
+      else if functions then a_function (callee_named unit x) c a
       else an_object c a (static_object (place_in x unit.statics))
 
-  entity-fine : (whole typedefs functions : Bool) → is_function a ≡ functions → IsBounded known a → (not (is_object_entity (entity typedefs functions)) || rule_5 known a) ≡ true → (typedefs || keeps_builtin x a whole) ≡ true → IsFileEntity known unit x (entity typedefs functions)
+  entity-fine : (whole typedefs functions : Bool) → is_function a ≡ functions → IsBounded known a → (not (is_object_entity (entity typedefs functions)) || rule_5 known a) ≡ true → (typedefs || keeps_builtin x c a whole) ≡ true → IsFileEntity known unit x (entity typedefs functions)
   entity-fine whole true functions is b r k = b
-  entity-fine whole false true is b r k = (b, is, refl, keeps-getchar x a whole k, keeps-putchar x a whole k)
+  entity-fine whole false true is b r k = (b, is, refl, keeps-getchar x c a whole k, keeps-putchar x c a whole k)
   entity-fine whole false false is b r k = (b, r, refl)
 
 pub declared-bounded : (known : Structs) (unit : Outline) (xs : t.SpecifierList) (x : Name) (c : Bool) (a : CType) (i : t.MaybeInitializer) → IsBounded known a → rule_2 xs (is_initialised i) ≡ true → (not (is_object_entity (file_entity unit xs x c (completed a i))) || rule_5 known (completed a i)) ≡ true → size_in known (completed a i) ≤ size_limit → IsBounded known (completed a i)
@@ -108,7 +111,7 @@ declarator-step {xs = xs} {q = q} {f = f} {d = d} {i = i} {y = y} p m h b ws wi 
     let here = past_strings (strings_of_declarator d) f in
     let next = past_declarator xs d y i f in
     let own = declares-bounded f.context q d y p h.structs (typedefs-at f h) b (λ n z. l n (size_in_file_inner file_declarator z)) in
-    let bounded = declared-bounded f.context.known f.context.unit xs (name_in y.name) y.constant y.type i own m.0 m.1.1.1.1.0 (l _ (of_static p)) in
+    let bounded = declared-bounded f.context.known f.context.unit xs (name_in y.name) y.constant y.type i own m.0 m.1.1.1.1.0 (counted-within f.context.known (completed y.type i) (λ n z. l n (of_static p z))) in
     let one = step-strings (strings_of_declarator d) f ws h in
     let two = step-declared xs y a (is_initialised i) here one.fine bounded m in
     let both = step-trans f here next one two in
@@ -162,8 +165,8 @@ start-fine u = record {
   bytes = tt;
 }
   where
-    getchar : IsFileEntity [] (outline u) getchar_name (a_function (callee_named (outline u) getchar_name) getchar_type)
+    getchar : IsFileEntity [] (outline u) getchar_name (a_function (callee_named (outline u) getchar_name) false getchar_type)
     getchar = ((tt, tt, refl, tt), refl, refl, (λ e. refl), (λ e. absurd (cc)))
 
-    putchar : IsFileEntity [] (outline u) putchar_name (a_function (callee_named (outline u) putchar_name) putchar_type)
+    putchar : IsFileEntity [] (outline u) putchar_name (a_function (callee_named (outline u) putchar_name) false putchar_type)
     putchar = ((tt, (tt, tt), refl, (refl, tt)), refl, refl, (λ e. absurd (cc)), (λ e. refl))

@@ -134,8 +134,10 @@ agreed known unit x (an_object k a (static_object m)) (an_object l b (static_obj
     cc
 agreed known unit x (an_object k a (static_object m)) (an_object l b (local_object n)) h q e = absurd q
 agreed known unit x (an_object k a (local_object m)) other h q e = absurd h
-agreed known unit x (a_function c a) (a_function d b) h q e =
-    let type : a ≡ b = same-is a b e in
+agreed known unit x (a_function c k a) (a_function d l b) h q e =
+    let both = both-true (same_type a b) (same_bool k l) e in
+    let type : a ≡ b = same-is a b both.0 in
+    let constant : k ≡ l = same-bool-is k l both.1 in
     let callee : c ≡ d = h.2 ∙ sym q.2 in
     cc
 agreed known unit x (a_typedef k a) (a_typedef l b) h q e =
@@ -143,18 +145,18 @@ agreed known unit x (a_typedef k a) (a_typedef l b) h q e =
     let type : a ≡ b = same-is a b both.0 in
     let constant : k ≡ l = same-bool-is k l both.1 in
     cc
-agreed known unit x (an_object k a (static_object m)) (a_function c b) h q e = absurd (cc)
+agreed known unit x (an_object k a (static_object m)) (a_function c l b) h q e = absurd (cc)
 agreed known unit x (an_object k a (static_object m)) (an_enumerator z) h q e = absurd (cc)
 agreed known unit x (an_object k a (static_object m)) (a_typedef l b) h q e = absurd (cc)
-agreed known unit x (a_function c a) (an_object k b s) h q e = absurd (cc)
-agreed known unit x (a_function c a) (an_enumerator z) h q e = absurd (cc)
-agreed known unit x (a_function c a) (a_typedef l b) h q e = absurd (cc)
+agreed known unit x (a_function c k a) (an_object l b s) h q e = absurd (cc)
+agreed known unit x (a_function c k a) (an_enumerator z) h q e = absurd (cc)
+agreed known unit x (a_function c k a) (a_typedef l b) h q e = absurd (cc)
 agreed known unit x (an_enumerator z) (an_object k b s) h q e = absurd (cc)
-agreed known unit x (an_enumerator z) (a_function c b) h q e = absurd (cc)
+agreed known unit x (an_enumerator z) (a_function c l b) h q e = absurd (cc)
 agreed known unit x (an_enumerator z) (an_enumerator y) h q e = absurd (cc)
 agreed known unit x (an_enumerator z) (a_typedef l b) h q e = absurd (cc)
 agreed known unit x (a_typedef k a) (an_object l b s) h q e = absurd (cc)
-agreed known unit x (a_typedef k a) (a_function c b) h q e = absurd (cc)
+agreed known unit x (a_typedef k a) (a_function c l b) h q e = absurd (cc)
 agreed known unit x (a_typedef k a) (an_enumerator z) h q e = absurd (cc)
 
 -- by the rule on names, a name that is declared again means the same
@@ -169,7 +171,7 @@ rule-same known unit x (Some c) e before here own q r d is =
 pub entity-more : (known more : Structs) (unit : Outline) (x : Name) (e : Entity) → IsFileEntity known unit x e → IsFileEntity (known ++ more) unit x e
 entity-more known more unit x (an_object k a (static_object n)) h = (bounded-more known more a h.0, complete-in-more known more a h.1, h.2)
 entity-more known more unit x (an_object k a (local_object n)) h = h
-entity-more known more unit x (a_function c a) h = (bounded-more known more a h.0, h.1, h.2, h.3, h.4)
+entity-more known more unit x (a_function c k a) h = (bounded-more known more a h.0, h.1, h.2, h.3, h.4)
 entity-more known more unit x (an_enumerator z) h = h
 entity-more known more unit x (a_typedef k a) h = bounded-more known more a h
 
@@ -178,6 +180,6 @@ typedefs-at f h = each-kept (IsFileEntity f.context.known f.context.unit) (IsBou
   where
     one : (x : Name) (e : Entity) → IsFileEntity f.context.known f.context.unit x e → IsBoundedTypedef f.context.known x e
     one x (an_object k a s) own = tt
-    one x (a_function k a) own = tt
+    one x (a_function c k a) own = tt
     one x (an_enumerator z) own = tt
     one x (a_typedef k a) own = own

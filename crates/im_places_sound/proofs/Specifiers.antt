@@ -19,7 +19,8 @@ use Rattle.im_rules.specs.Terms.{size_in}
 use Rattle.im_rules.specs.FileScope.{FilePlace, past_strings, Level, with_list_begun, tag_here, with_struct, member_of, number_in, with_enumerator, with_enum_tag, constant_fits}
 use Rattle.im_rules.specs.TypedUnit.{AreEnumerators, no_enumerator, an_enumerator, Specify, of_specifiers, NamesType, no_list, a_struct, an_enum, AreMembers, no_member, some_members, AreFields, no_field, a_field}
 use Rattle.im_rules.specs.UnitBreaks.{file_specifiers, some_named, some_members as members_node, some_fields, named_part, struct_members, member_specifiers, member_fields, other_members, other_fields, field_declarator}
-use Rattle.im_rule_limits.specs.Limits.{size_limit, of_struct, size_in_file_part, size_in_file_inner, IsFileWithin}
+use Rattle.im_rule_limits.proofs.Counted.{counted-within}
+use Rattle.im_rule_limits.specs.Limits.{size_limit, AreMembersWithin, of_struct, of_member, size_in_file_part, size_in_file_inner, IsFileWithin}
 use Rattle.im_expressions_sound.specs.Bounded.{IsBounded}
 use Rattle.im_expressions_sound.proofs.Types.{each-kept}
 use Rattle.im_expressions_sound.proofs.Declarators.{declares-bounded, specified-bounded}
@@ -90,7 +91,7 @@ new-name s x z top r d is =
   where
     by-entity : (d : Entity) → rule_3 (Some d) (an_enumerator z) true false false ≡ true → ⊥
     by-entity (an_object k a c) e = absurd (cc)
-    by-entity (a_function c a) e = absurd (cc)
+    by-entity (a_function c k a) e = absurd (cc)
     by-entity (an_enumerator y) e = absurd (cc)
     by-entity (a_typedef k a) e = absurd (cc)
 
@@ -163,7 +164,9 @@ mutual
   names-step {f = f} (a_struct {g = g} {at = at} {x = x} {fields = fields} ms m) h w l =
       let one = step-list-begun at x f h in
       let all = members-step ms one.fine w.0.1 (λ k z. l k (size_in_file_part struct_members z)) in
-      let two = step-struct fields g all.step.fine all.good (some-listed ms w.0.0) (l _ (of_struct ms)) in
+      let known = (with_struct fields g).context.known in
+      let within : AreMembersWithin known fields = λ o c. counted-within known o.type (λ k z. l k (of_member ms c z)) in
+      let two = step-struct fields g all.step.fine all.good (some-listed ms w.0.0) (l _ (of_struct ms within)) in
       record { step = step-trans f (with_list_begun at x f) (with_struct fields g) one (step-trans (with_list_begun at x f) g (with_struct fields g) all.step two); bounded = tt }
   names-step {f = f} (an_enum {g = g} {x = x} m es) h w l =
       let all = enumerators-step es h w.0 in

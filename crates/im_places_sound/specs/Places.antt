@@ -16,7 +16,7 @@ abbrev pub IsFileEntity : Structs → Outline → Name → Entity → Type 0
 IsFileEntity known unit x (an_object k a (static_object n)) =
     IsBounded known a × (is_complete_in known a ≡ true) × (n ≡ place_in x unit.statics)
 IsFileEntity known unit x (an_object k a (local_object n)) = ⊥
-IsFileEntity known unit x (a_function c a) =
+IsFileEntity known unit x (a_function c k a) =
     IsBounded known a × (is_function a ≡ true) × (c ≡ callee_named unit x)
     × (same_name getchar_name x ≡ true → a ≡ getchar_type) × (same_name putchar_name x ≡ true → a ≡ putchar_type)
 IsFileEntity known unit x (an_enumerator z) = IsOfKind I32 z

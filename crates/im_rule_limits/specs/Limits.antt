@@ -4,7 +4,7 @@ use Rattle.std.specs.Prelude.{◌≡◌, ℕ, suc, ◌+◌, ◌<◌, ◌≤◌, 
 use Rattle.im_word.specs.Words.{Name}
 use Rattle.im_ctree.specs.Tree as t
 use Rattle.im_ctype.specs.declared.member.MemberPlace.{MemberPlace}
-use Rattle.im_ctype.specs.Types.{CType, struct, Member, members_of}
+use Rattle.im_ctype.specs.Types.{CType, array, struct, Member, Structs, members_of}
 use Rattle.im_ctype.specs.Members.{places}
 use Rattle.im_typed.specs.Limits.{static_bytes}
 use Rattle.im_typed.specs.Program.{Prog}
@@ -63,6 +63,18 @@ pub record IsFirstOver (counts : List ℕ) (n : ℕ) : Type 0 where
 abbrev pub size_limit : ℕ
 size_limit = 1048576
 
+abbrev pub size_of_element : Structs → CType → ℕ
+size_of_element known (array e n) = size_in known e
+size_of_element known a = 0
+
+-- the type's own size counts, or that of its elements, and so on inward
+pub data Counted (known : Structs) : CType → ℕ → Type 0 where
+  own_size : {a : CType} → size_of_element known a ≤ size_limit → Counted known a (size_in known a)
+  size_in_element : {e : CType} {n k : ℕ} → Counted known e k → Counted known (array e n) k
+
+abbrev pub AreMembersWithin : Structs → List Member → Type 0
+AreMembersWithin known ms = (m : Member) → Contains ms m → size_in known m.type ≤ size_limit
+
 pub data HasSize (c : Context) : Node → ℕ → Type 0 where
   of_array : {at : ℕ} {q r : Qualified} {e : t.Expression} {ss : t.Suffixes} {x : Term}
       → Suffixed (behind e c) q ss r
@@ -106,9 +118,10 @@ pub data GivenSized : Context → Given → ℕ → Type 0 where
 
 -- in a body; an array whose length its initialiser gives is completed there
 pub data BodySized : Site → BodyNode → ℕ → Type 0 where
-  of_local : {s : Site} {q : Qualified} {d : t.Declarator} {i : t.MaybeInitializer} {ds : t.InitDeclarators} {y : Declared}
+  of_local : {s : Site} {q : Qualified} {d : t.Declarator} {i : t.MaybeInitializer} {ds : t.InitDeclarators} {y : Declared} {k : ℕ}
       → Declares s.context q d y
-      → BodySized s (some_locals q (t.more_init_declarators d i ds)) (size_in s.context.known (completed y.type i))
+      → Counted s.context.known (completed y.type i) k
+      → BodySized s (some_locals q (t.more_init_declarators d i ds)) k
   size_in_part : {s z : Site} {n m : BodyNode} {k : ℕ} → BodyPart s n z m → BodySized z m k → BodySized s n k
   size_in_inner : {s : Site} {c : Context} {n : BodyNode} {m : Node} {k : ℕ} → InnerPart s n c m → Sized c m k → BodySized s n k
   size_in_step : {s : Site} {c : Context} {n : BodyNode} {m : Node} {k : ℕ} → StepPart s n c m → Sized c m k → BodySized s n k
@@ -121,10 +134,17 @@ pub data BodySized : Site → BodyNode → ℕ → Type 0 where
 pub data FileSized : FilePlace → FileNode → ℕ → Type 0 where
   of_struct : {f g : FilePlace} {first at : ℕ} {x : Option Name} {ms : t.Members} {ss : List t.Specifier} {fields : List Member}
       → AreMembers (with_list_begun at x f) ms fields g
+      → AreMembersWithin (with_struct fields g).context.known fields
       → FileSized f (some_named first (t.struct_specifier at x ms ∷ ss)) (size_in (with_struct fields g).context.known (struct (length g.context.known)))
-  of_static : {f : FilePlace} {xs : t.SpecifierList} {q : Qualified} {d : t.Declarator} {i : t.MaybeInitializer} {ds : t.InitDeclarators} {y : Declared}
+  of_member : {f g : FilePlace} {first at k : ℕ} {x : Option Name} {ms : t.Members} {ss : List t.Specifier} {fields : List Member} {m : Member}
+      → AreMembers (with_list_begun at x f) ms fields g
+      → Contains fields m
+      → Counted (with_struct fields g).context.known m.type k
+      → FileSized f (some_named first (t.struct_specifier at x ms ∷ ss)) k
+  of_static : {f : FilePlace} {xs : t.SpecifierList} {q : Qualified} {d : t.Declarator} {i : t.MaybeInitializer} {ds : t.InitDeclarators} {y : Declared} {k : ℕ}
       → Declares f.context q d y
-      → FileSized f (some_declared xs q (t.more_init_declarators d i ds)) (size_in f.context.known (completed y.type i))
+      → Counted f.context.known (completed y.type i) k
+      → FileSized f (some_declared xs q (t.more_init_declarators d i ds)) k
   size_in_file_part : {f g : FilePlace} {n m : FileNode} {k : ℕ} → FilePart f n g m → FileSized g m k → FileSized f n k
   size_in_file_inner : {f : FilePlace} {c : Context} {n : FileNode} {m : Node} {k : ℕ} → FileInner f n c m → Sized c m k → FileSized f n k
   size_in_static_initialiser : {f : FilePlace} {xs : t.SpecifierList} {q : Qualified} {d : t.Declarator} {i : t.Initializer} {ds : t.InitDeclarators} {y : Declared} {k : ℕ}

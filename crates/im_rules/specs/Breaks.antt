@@ -147,6 +147,11 @@ first_token (t.conditional at d a b) = at
 first_token (t.assign at op a b) = at
 first_token (t.comma at a b) = at
 
+-- a parameter's declarator; of one without, its specifiers
+abbrev pub parameter_token : ℕ → t.MaybeDeclarator → ℕ
+parameter_token first t.no_declarator = first
+parameter_token first (t.a_declarator (t.declarator at stars core ss)) = at
+
 abbrev pub token_of : Node → ℕ
 token_of (an_expression e) = first_token e
 token_of (some_specifiers (t.specifiers at xs)) = at
@@ -154,7 +159,7 @@ token_of (a_type_name (t.type_name (t.specifiers at xs) m)) = at
 token_of (a_declarator q (t.declarator at stars core ss)) = at
 token_of (some_suffixes q (t.array_suffix at e ss)) = at
 token_of (some_suffixes q (t.function_suffix at ps ss)) = at
-token_of (some_parameters n (t.more_parameters (t.specifiers at xs) m ps)) = at
+token_of (some_parameters n (t.more_parameters (t.specifiers at xs) m ps)) = parameter_token at m
 token_of n = 0
 
 -- a node in it whose first token is the k-th breaks the rule r

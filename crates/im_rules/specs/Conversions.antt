@@ -345,5 +345,5 @@ call_by get_character es = Getchar
 call_by put_character es = Putchar (first_of es)
 
 abbrev pub call_of : Structs → Option Entity → List Term → Value
-call_of known (Some (a_function f t)) xs = record { type = result_of t; expr = call_by f (converted known (parameters_of t) xs) }
+call_of known (Some (a_function f c t)) xs = record { type = result_of t; expr = call_by f (converted known (parameters_of t) xs) }
 call_of known e xs = int_value NullPointer

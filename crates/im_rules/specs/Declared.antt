@@ -12,7 +12,7 @@ use Rattle.im_rules.specs.Context.{Context, tag_number}
 use Rattle.im_rules.specs.Demands.{Demand, asks}
 use Rattle.im_rules.specs.Rules.{line_type, lines, keywords_in, named_in, rule_1, rule_2_elsewhere, rule_3, rule_4, rule_5, rule_6_length, rule_8_use, rule_9_result, rule_9_parameter, rule_9_void, rule_10, rule_15}
 
--- a type with the const of what has it (C11 6.7.3); of an array it is its elements'
+-- a type with the const of what has it (C11 6.7.3); of an array it is its elements', of a function its result's
 pub record Qualified : Type 0 where
   pub constant : Bool
   pub type : CType
@@ -178,9 +178,8 @@ abbrev pub are_scalars : List Declared → Bool
 are_scalars [] = true
 are_scalars (d ∷ ds) = rule_9_parameter d.type && are_scalars ds
 
--- a result's own const is no part of the type
 abbrev pub function_of : Qualified → List Declared → Qualified
-function_of q ds = record { constant = false; type = function q.type (types_of ds) }
+function_of q ds = record { constant = q.constant; type = function q.type (types_of ds) }
 
 abbrev pub function_asks : Qualified → List Declared → List Demand
 function_asks q ds = asks 9 (rule_9_result q.type && are_scalars ds) ∷ []

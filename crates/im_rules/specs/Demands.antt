@@ -41,7 +41,7 @@ is_object_defined c x e = true
 
 -- a function that is called has a body in the unit, or is predeclared
 abbrev pub is_function_defined : Option Entity → Bool
-is_function_defined (Some (a_function no_body a)) = false
+is_function_defined (Some (a_function no_body c a)) = false
 is_function_defined e = true
 
 abbrev pub name_asks : Context → Name → List Demand
@@ -56,7 +56,7 @@ all_fit (more_types p ps) [] = true
 all_fit (more_types p ps) (x ∷ xs) = rule_17 p (operand_of x) && all_fit ps xs
 
 abbrev pub parameters_in : Option Entity → CTypes
-parameters_in (Some (a_function f a)) = parameters_of a
+parameters_in (Some (a_function f c a)) = parameters_of a
 parameters_in e = no_types
 
 -- what the callee's name means, and the arguments
@@ -109,5 +109,5 @@ callee_of g (t.identifier at x) = meaning g x
 callee_of g e = None
 
 abbrev pub is_function_meant : Option Entity → Bool
-is_function_meant (Some (a_function f a)) = true
+is_function_meant (Some (a_function f c a)) = true
 is_function_meant e = false

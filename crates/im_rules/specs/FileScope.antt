@@ -6,7 +6,7 @@ use Rattle.im_ctype.specs.declared.integer.Integer.{Integer}
 use Rattle.im_ctype.specs.declared.integer.Integer.TheVariants.{SignedChar, UnsignedChar, Short, UnsignedShort, Int, UnsignedInt}
 use Rattle.im_ctype.specs.Types.{CType, integer, function, no_types, more_types, Member, Structs, is_function}
 use Rattle.im_rules.specs.TypeTests.{same_name}
-use Rattle.im_rules.specs.Scopes.{Scopes, nothing, named, tagged, meaning, meaning_here, tag_meaning, at_file_scope, Entity, an_object, a_function, an_enumerator, a_typedef, static_object, Callee, a_body, no_body, get_character, put_character, enum_tag}
+use Rattle.im_rules.specs.Scopes.{Tag, struct_tag, Scopes, nothing, named, tagged, meaning, meaning_here, tag_meaning, at_file_scope, Entity, an_object, a_function, an_enumerator, a_typedef, static_object, Callee, a_body, no_body, get_character, put_character, enum_tag}
 use Rattle.im_rules.specs.Rules.{is_typedef, rule_1, rule_2, rule_2_elsewhere, rule_3, rule_4, rule_5, rule_6_absent, rule_7, rule_8_list, rule_8_constant, rule_11, rule_12_builtin, rule_13, rule_15}
 use Rattle.im_rules.specs.Outline.{Outline, outline, is_in, place_in, nearest, Nearest, parameters}
 use Rattle.im_rules.specs.Context.{Context, with_entity, behind_strings}
@@ -56,8 +56,8 @@ predeclared =
     (predeclared_type (codes "int32_t") Int
     (predeclared_type (codes "uint32_t") UnsignedInt
     (predeclared_type (codes "size_t") UnsignedInt
-    (named getchar_name (a_function get_character getchar_type)
-    (named putchar_name (a_function put_character putchar_type) nothing))))))))
+    (named getchar_name (a_function get_character false getchar_type)
+    (named putchar_name (a_function put_character false putchar_type) nothing))))))))
 
 -- before the first declaration of a unit
 abbrev pub file_start : t.Tree → FilePlace
@@ -81,7 +81,7 @@ callee_named o x =
 abbrev pub file_entity : Outline → t.SpecifierList → Name → Bool → CType → Entity
 file_entity o xs x c a =
     if is_typedef xs then a_typedef c a
-    else if is_function a then a_function (callee_named o x) a
+    else if is_function a then a_function (callee_named o x) c a
     else an_object c a (static_object (place_in x o.statics))
 
 abbrev pub is_object_entity : Entity → Bool
@@ -89,10 +89,10 @@ is_object_entity (an_object c a s) = true
 is_object_entity e = false
 
 -- `getchar` and `putchar` keep their types and have no body
-abbrev pub keeps_builtin : Name → CType → Bool → Bool
-keeps_builtin x a whole =
-    if same_name getchar_name x then rule_12_builtin getchar_type a whole
-    else if same_name putchar_name x then rule_12_builtin putchar_type a whole
+abbrev pub keeps_builtin : Name → Bool → CType → Bool → Bool
+keeps_builtin x c a whole =
+    if same_name getchar_name x then rule_12_builtin getchar_type c a whole
+    else if same_name putchar_name x then rule_12_builtin putchar_type c a whole
     else true
 
 -- of a declarator, with the type that is declared (a length that isn't written is `a`'s, from the initialiser); `whole`:
@@ -107,7 +107,7 @@ file_asks f xs y a whole =
     ∷ asks 4 (rule_4 (meaning g x) e)
     ∷ asks 6 (rule_6_absent y.type whole)
     ∷ asks 5 (not (is_object_entity e) || rule_5 f.context.known a)
-    ∷ asks 12 (is_typedef xs || keeps_builtin x a whole)
+    ∷ asks 12 (is_typedef xs || keeps_builtin x y.constant a whole)
     ∷ []
 
 -- behind a declarator: its name is in scope, also in its own initialiser (C11 6.2.1p7)
@@ -180,8 +180,17 @@ member_of y = record { name = name_in y.name; constant = y.constant; type = y.ty
 
 -- enums (C11 6.7.2.2)
 
+abbrev pub is_no_struct : Option Tag → Bool
+is_no_struct (Some (struct_tag n)) = false
+is_no_struct _ = true
+
+abbrev pub enum_tag_asked : Scopes → Option Name → Bool
+enum_tag_asked g None = true
+enum_tag_asked g (Some x) = is_no_struct (tag_meaning g x)
+
+-- its tag is no struct's (rule 3); its list is the first of its tag
 abbrev pub enum_asks : Scopes → Option Name → List Demand
-enum_asks g x = asks 8 (rule_8_list g x) ∷ []
+enum_asks g x = asks 3 (enum_tag_asked g x) ∷ asks 8 (rule_8_list g x) ∷ []
 
 abbrev pub constant_fits : Option ℤ → Bool
 constant_fits None = true
@@ -214,7 +223,7 @@ abbrev pub main_name : Name
 main_name = codes "main"
 
 abbrev pub body_type : Option Entity → Option CType
-body_type (Some (a_function (a_body n) a)) = Some a
+body_type (Some (a_function (a_body n) false a)) = Some a
 body_type e = None
 
 abbrev pub main_asks : Scopes → List Demand

@@ -1,6 +1,6 @@
 -- The 34 typing rules, each as what it asks of a node: of the types of its parts, and of the names in scope. `true` says
 -- that the rule has nothing against the node.
-use Rattle.std.specs.Prelude.{ℕ, suc, ◌+◌, ℤ, pos, Bool, true, false, not, ◌&&◌, ◌||◌, List, [], ◌∷◌, ◌++◌, length, Option, Some, None, nat_eq, nat_lt, nat_le, int_lt, int_le, is_none, is_some, if◌then◌else◌, ◌^◌, neg_ℤ, slice_index_or}
+use Rattle.std.specs.Prelude.{ℕ, suc, ◌+◌, ℤ, pos, Bool, true, false, not, ◌&&◌, ◌||◌, List, [], ◌∷◌, ◌++◌, length, Option, Some, None, nat_eq, nat_lt, nat_le, int_lt, int_le, is_some, if◌then◌else◌, ◌^◌, neg_ℤ, slice_index_or}
 use Rattle.std.specs.Ordering.{int_eq}
 use Rattle.im_word.specs.Words.{Name}
 use Rattle.im_ctree.specs.declared.operator.BinaryOp.{BinaryOp}
@@ -142,7 +142,7 @@ rule_2 xs defines = not (is_typedef xs && defines)
 -- typedef may be declared again with the same type, with at most one body or initialiser.
 abbrev pub agrees : Entity → Entity → Bool
 agrees (an_object c a s) (an_object d b u) = same_type a b && same_bool c d
-agrees (a_function f a) (a_function g b) = same_type a b
+agrees (a_function f c a) (a_function g d b) = same_type a b && same_bool c d
 agrees (a_typedef c a) (a_typedef d b) = same_type a b && same_bool c d
 agrees _ _ = false
 
@@ -192,13 +192,13 @@ rule_7 g has_list ms = at_file_scope g && (not has_list && differ ms)
 
 -- 8 (C11 6.7.2.2p2, 6.7.2.3p3). An enum's list stands once for its tag, at file scope, and before its use; each
 -- constant fits int.
-abbrev pub rule_8_list : Scopes → Option Name → Bool
-rule_8_list g None = at_file_scope g
-rule_8_list g (Some x) = at_file_scope g && is_none (tag_meaning g x)
-
 abbrev pub rule_8_use : Option Tag → Bool
 rule_8_use (Some enum_tag) = true
 rule_8_use _ = false
+
+abbrev pub rule_8_list : Scopes → Option Name → Bool
+rule_8_list g None = at_file_scope g
+rule_8_list g (Some x) = at_file_scope g && not (rule_8_use (tag_meaning g x))
 
 abbrev pub rule_8_constant : ℤ → Bool
 rule_8_constant z = int_le (neg_ℤ (pos (2 ^ 31))) z && int_lt z (pos (2 ^ 31))
@@ -252,8 +252,9 @@ rule_12_use is_defined = is_defined
 abbrev pub defines_object : Bool → Bool → Bool
 defines_object is_extern has_initializer = not is_extern || has_initializer
 
-abbrev pub rule_12_builtin : CType → CType → Bool → Bool
-rule_12_builtin own a has_body = same_type own a && not has_body
+-- neither has a result that is const
+abbrev pub rule_12_builtin : CType → Bool → CType → Bool → Bool
+rule_12_builtin own c a has_body = same_type own a && not c && not has_body
 
 -- 13 (C11 5.1.2.2.1). There is a body of `int main(void)`; the node is the unit.
 abbrev pub rule_13 : Option CType → Bool
@@ -333,7 +334,7 @@ rule_18 _ = false
 
 -- 19 (C11 6.5.2.2p2). What is called is a function's name, with as many arguments as parameters.
 abbrev pub rule_19 : Option Entity → ℕ → Bool
-rule_19 (Some (a_function f (function r ps))) arguments = nat_eq arguments (count_types ps)
+rule_19 (Some (a_function f c (function r ps))) arguments = nat_eq arguments (count_types ps)
 rule_19 _ arguments = false
 
 -- 20 (C11 6.5.2.1p1). `a[b]` has a pointer to a complete type and an integer, in either order.

@@ -13,10 +13,10 @@ pub data Callee : Type 0 where
   a_body : ℕ → Callee
   no_body get_character put_character : Callee
 
--- what an ordinary name means
+-- what an ordinary name means; `constant` is the const of an object, of a function's result, of what a typedef name means
 pub data Entity : Type 0 where
   an_object : (constant : Bool) → CType → Storage → Entity
-  a_function : Callee → CType → Entity
+  a_function : Callee → (constant : Bool) → CType → Entity
   an_enumerator : ℤ → Entity
   a_typedef : (constant : Bool) → CType → Entity
 

@@ -93,28 +93,28 @@ module _ (g : Prog) (f : Func) (known : Structs) where
           (or-true (points_to_complete known v.type && is_integer w.type) (is_integer v.type && points_to_complete known w.type) h)
 
   -- calls
-  pub calls : (c : Callee) (t : CType) (xs : List Term) → IsSoundCallee g known c t → AreSound g f known xs → Meets (call_asks (Some (a_function c t)) xs) → IsSoundValue g f known (call_of known (Some (a_function c t)) xs)
-  calls (a_body n) (function r ps) xs sound h e = record {
+  pub calls : (c : Callee) (k : Bool) (t : CType) (xs : List Term) → IsSoundCallee g known c t → AreSound g f known xs → Meets (call_asks (Some (a_function c k t)) xs) → IsSoundValue g f known (call_of known (Some (a_function c k t)) xs)
+  calls (a_body n) k (function r ps) xs sound h e = record {
     plain = sound.3;
     typed = (sound.0, arguments ps xs (parameters (slice_get g.funcs n)) h sound.1 (eqb-true (length xs) (count_types ps) e.0) e.1.1.0);
     shape = sound.2;
   }
-  calls get_character (function r ps) xs sound h e = record { plain = ap (λ t. is_array (result_of t)) sound; typed = tt; shape = sym (ap (λ t. gives known (result_of t)) sound) }
-  calls put_character (function r ps) xs sound h e =
-      subst (λ t. Meets (call_asks (Some (a_function put_character t)) xs) → IsSoundValue g f known (call_of known (Some (a_function put_character t)) xs)) (sym sound) (puts xs h) e
+  calls get_character k (function r ps) xs sound h e = record { plain = ap (λ t. is_array (result_of t)) sound; typed = tt; shape = sym (ap (λ t. gives known (result_of t)) sound) }
+  calls put_character k (function r ps) xs sound h e =
+      subst (λ t. Meets (call_asks (Some (a_function put_character k t)) xs) → IsSoundValue g f known (call_of known (Some (a_function put_character k t)) xs)) (sym sound) (puts xs h) e
     where
-      puts : (ys : List Term) → AreSound g f known ys → Meets (call_asks (Some (a_function put_character (function (integer Int) (more_types (integer Int) no_types)))) ys)
-          → IsSoundValue g f known (call_of known (Some (a_function put_character (function (integer Int) (more_types (integer Int) no_types)))) ys)
-      puts [] k d = absurd (let none = d.0 in cc)
-      puts (y ∷ ys) k d =
+      puts : (ys : List Term) → AreSound g f known ys → Meets (call_asks (Some (a_function put_character k (function (integer Int) (more_types (integer Int) no_types)))) ys)
+          → IsSoundValue g f known (call_of known (Some (a_function put_character k (function (integer Int) (more_types (integer Int) no_types)))) ys)
+      puts [] own d = absurd (let none = d.0 in cc)
+      puts (y ∷ ys) own d =
           let fit = (both-true (rule_17 (integer Int) (operand_of y)) (all_fit no_types ys) d.1.1.0).0 in
           let int : is_integer (value_type (operand_of y)) ≡ true = ⊎_elim (λ z. z) (λ z. absurd (cc)) (or-true (is_integer (value_type (operand_of y))) false fit) in
-          let part = as-integer-sound g f known Int (value_of known y) (reads g f known y k.0) (integer-seen g f known y k.0 int) in
+          let part = as-integer-sound g f known Int (value_of known y) (reads g f known y own.0) (integer-seen g f known y own.0 int) in
           record { plain = refl; typed = (part.typed, part.shape); shape = refl }
-  calls no_body (function r ps) xs sound h e = absurd (let none = e.1.0 in cc)
-  calls c void xs sound h e = absurd (let none = e.0 in cc)
-  calls c (integer i) xs sound h e = absurd (let none = e.0 in cc)
-  calls c (pointer d t) xs sound h e = absurd (let none = e.0 in cc)
-  calls c (array t n) xs sound h e = absurd (let none = e.0 in cc)
-  calls c (unsized t) xs sound h e = absurd (let none = e.0 in cc)
-  calls c (struct n) xs sound h e = absurd (let none = e.0 in cc)
+  calls no_body k (function r ps) xs sound h e = absurd (let none = e.1.0 in cc)
+  calls c k void xs sound h e = absurd (let none = e.0 in cc)
+  calls c k (integer i) xs sound h e = absurd (let none = e.0 in cc)
+  calls c k (pointer d t) xs sound h e = absurd (let none = e.0 in cc)
+  calls c k (array t n) xs sound h e = absurd (let none = e.0 in cc)
+  calls c k (unsized t) xs sound h e = absurd (let none = e.0 in cc)
+  calls c k (struct n) xs sound h e = absurd (let none = e.0 in cc)

@@ -76,8 +76,8 @@ SubscriptsLaw =
 
 abbrev pub CallsLaw : Type 0
 CallsLaw =
-    (g : Prog) (f : Func) (known : Structs) (c : Callee) (t : CType) (xs : List Term) → IsSoundCallee g known c t → AreSound g f known xs
-    → Meets (call_asks (Some (a_function c t)) xs) → IsSoundValue g f known (call_of known (Some (a_function c t)) xs)
+    (g : Prog) (f : Func) (known : Structs) (c : Callee) (k : Bool) (t : CType) (xs : List Term) → IsSoundCallee g known c t → AreSound g f known xs
+    → Meets (call_asks (Some (a_function c k t)) xs) → IsSoundValue g f known (call_of known (Some (a_function c k t)) xs)
 
 -- a member of a struct at a place (C11 6.5.2.3), where each struct of the unit holds only those before it
 abbrev pub MembersLaw : Type 0

@@ -25,7 +25,7 @@ callee_of k.Putchar = s.put_character
 
 abbrev pub entity_of : Entity → s.Entity
 entity_of (e.Object constant ty storage) = s.an_object constant (type_of ty) (storage_of storage)
-entity_of (e.Function callee ty) = s.a_function (callee_of callee) (type_of ty)
+entity_of (e.Function callee constant ty) = s.a_function (callee_of callee) constant (type_of ty)
 entity_of (e.Enumerator z) = s.an_enumerator z.value
 entity_of (e.Typedef constant ty) = s.a_typedef constant (type_of ty)
 

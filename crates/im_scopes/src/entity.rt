@@ -25,7 +25,8 @@ pub enum Callee {
 pub enum Entity {
     /// An object, const or not.
     Object(bool, Type, Storage),
-    Function(Callee, Type),
+    /// A function, whose result is const or not.
+    Function(Callee, bool, Type),
     /// An enumeration constant.
     Enumerator(Number),
     /// A typedef name for a type, const or not.

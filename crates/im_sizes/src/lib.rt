@@ -3,4 +3,4 @@
 
 mod within;
 
-pub use within::fits;
+pub use within::{all_fit, fits};

@@ -3,7 +3,7 @@ ghost use Rattle.std.specs.Prelude.{◌≤◌, MatchResult};
 ghost use Rattle.im_ctype.specs.Table.{structs_of};
 ghost use Rattle.im_rules.specs.Terms.{size_in};
 ghost use Rattle.im_rule_limits.specs.Limits.{size_limit};
-ghost use Rattle.im_sizes.specs.Sizes.{IsTooLarge};
+ghost use Rattle.im_sizes.specs.Sizes.{IsTooLarge, AllFit, IsOver};
 ghost use Rattle.im_types.specs.Shape.{type_of};
 
 use im_ctype::TypeTable;
@@ -20,4 +20,19 @@ pub fn fits(table: &TypeTable, ty: &Type) -> Result<(), Stop>
         return Err(Stop::Large { bytes });
     }
     Ok(())
+}
+
+/// Whether a type and, where it is an array, its elements and theirs are within the limit of
+/// sizes; the innermost that isn't is answered.
+pub fn all_fit(table: &TypeTable, ty: &Type) -> Result<(), Stop>
+    ensures { let known = structs_of table.now in let a = type_of ty.now in
+        MatchResult result (λ _. AllFit known a) (IsOver known a) }
+{
+    match ty {
+        Type::Array(element, _) => {
+            all_fit(table, element)?;
+            fits(table, ty)
+        }
+        _ => fits(table, ty),
+    }
 }

@@ -18,6 +18,7 @@ use Rattle.im_rules.specs.Typed.{Declares}
 use Rattle.im_rules.specs.Initialisers.{completed, strings_given, pieces_of}
 use Rattle.im_rules.specs.Statements.{Site, Added, name_of, object_of, with_local, declared_strings, initialised_strings, behind_initializer, MayInitialise, forgets, initialises, AreLocals, no_local, a_local, in_context, TypedDeclaration, of_declaration}
 use Rattle.im_rules.specs.BodyBreaks.{some_locals, a_declaration, an_initialiser, local_declarator, locals_behind, declared_locals}
+use Rattle.im_rule_limits.proofs.Counted.{counted-within}
 use Rattle.im_rule_limits.specs.Limits.{size_limit, of_local, size_in_part, size_in_inner, size_in_local_initialiser, IsGivenWithin, IsBodyWithin}
 use Rattle.im_expressions_sound.specs.Bounded.{IsBounded, IsSoundEntity, IsSoundContext, HasStrings}
 use Rattle.im_expressions_sound.specs.Written.{MayBeInitialised, AreWrittenDeclarators, IsWrittenDeclaration}
@@ -78,7 +79,7 @@ module _ (g : Prog) (f : Func) where
       let next = behind_initializer a i inner in
       let own = declares-bounded s.context q d y p h.context.structs (typedefs-bounded g f s.context h.context) bounded (λ n z. l n (size_in_inner local_declarator z)) in
       let complete : is_complete_in known a ≡ true = m.1.1.1.0 in
-      let size : size_in known a ≤ size_limit = l (size_in known a) (of_local p) in
+      let size : size_in known a ≤ size_limit = counted-within known a (λ n z. l n (of_local p z)) in
       let whole = completed-bounded known y.type i own complete size in
       let there = first-object f.objects more.objects s.locals (object_of known (name_of y.name) a) h.objects in
       let inside = slice_get_within f.objects s.locals (object_of known (name_of y.name) a) there in

@@ -40,8 +40,9 @@ use Rattle.im_places_sound.proofs.Files.{declarator-step, head-step, external-st
 
 -- a function, and the type that its name has at the end
 pub record IsHeaded (e : FilePlace) (f : Func) : Type 0 where
+  pub constant : Bool
   pub type : CType
-  pub means : meaning e.context.scopes f.name ≡ Some (a_function (callee_named e.context.unit f.name) type)
+  pub means : meaning e.context.scopes f.name ≡ Some (a_function (callee_named e.context.unit f.name) constant type)
   pub takes : TakeTypes (types_given type) (take f.params f.objects)
   pub result : option_map Scalar f.result ≡ gives e.context.known (result_of type)
 
@@ -101,12 +102,12 @@ head-known {g = g} {d = d} {y = y} {ps = ps} p m k b =
     record { result = own.result; type = type; scalar = bounded.2; scalars = bounded.3; bounded = bounded.1 }
 
 -- an entity at file scope that is no typedef's and of a function type
-function-entity : (unit : Outline) (xs : t.SpecifierList) (x : Name) (c : Bool) (a : CType) → rule_2 xs true ≡ true → is_function a ≡ true → file_entity unit xs x c a ≡ a_function (callee_named unit x) a
+function-entity : (unit : Outline) (xs : t.SpecifierList) (x : Name) (c : Bool) (a : CType) → rule_2 xs true ≡ true → is_function a ≡ true → file_entity unit xs x c a ≡ a_function (callee_named unit x) c a
 function-entity unit xs x c a r e = by-typedef (is_typedef xs) r
   where
-    by-typedef : (b : Bool) → not (b && true) ≡ true → (if b then a_typedef c a else if is_function a then a_function (callee_named unit x) a else an_object c a (static_object (place_in x unit.statics))) ≡ a_function (callee_named unit x) a
+    by-typedef : (b : Bool) → not (b && true) ≡ true → (if b then a_typedef c a else if is_function a then a_function (callee_named unit x) c a else an_object c a (static_object (place_in x unit.statics))) ≡ a_function (callee_named unit x) c a
     by-typedef true r = absurd (cc)
-    by-typedef false r = ap (λ b. if b then a_function (callee_named unit x) a else an_object c a (static_object (place_in x unit.statics))) e
+    by-typedef false r = ap (λ b. if b then a_function (callee_named unit x) c a else an_object c a (static_object (place_in x unit.statics))) e
 
 headed : {last : FilePlace} {q : Qualified} {d : t.Declarator} {y : Declared} {ps : List Declared} (g : FilePlace) (xs : t.SpecifierList) (us : Stmts) (m : Added) → Declares g.context q d y → Meets (body_asks d y) → Meets (file_asks g xs y y.type true) → AreParameters (in_new_scope g.context) 0 (own_parameters (nearest d)) ps
     → IsBounded g.context.known y.type → Grows (past_head xs d y g) last → IsHeaded last (function_made (past_head xs d y g) y (parameters_of (own_parameters (nearest d)) ps) us m)
@@ -115,13 +116,14 @@ headed {last = last} {d = d} {y = y} {ps = ps} g xs us m p k a r b grown =
     let x = name_in y.name in
     let head = head-known {g = g} p k r b in
     let known = g.context.known in
-    let entity : file_entity g.context.unit xs x y.constant y.type ≡ a_function (callee_named g.context.unit x) y.type = function-entity g.context.unit xs x y.constant y.type a.0 (ap is_function head.type) in
+    let entity : file_entity g.context.unit xs x y.constant y.type ≡ a_function (callee_named g.context.unit x) y.constant y.type = function-entity g.context.unit xs x y.constant y.type a.0 (ap is_function head.type) in
     let here : meaning (past_head xs d y g).context.scopes x ≡ Some (file_entity g.context.unit xs x y.constant y.type) = ap (λ z. if z then Some (file_entity g.context.unit xs x y.constant y.type) else meaning g.context.scopes x) (self-named x) in
-    let there = grown.means x (a_function (callee_named g.context.unit x) y.type) (here ∙ ap Some entity) in
+    let there = grown.means x (a_function (callee_named g.context.unit x) y.constant y.type) (here ∙ ap Some entity) in
     let count = count-objects known ds in
     record {
+      constant = y.constant;
       type = y.type;
-      means = there ∙ ap (λ u. Some (a_function (callee_named u x) y.type)) (sym grown.unit);
+      means = there ∙ ap (λ u. Some (a_function (callee_named u x) y.constant y.type)) (sym grown.unit);
       takes = subst (λ a. TakeTypes (types_given a) (take (length ds) (parameter_objects known ds ++ m.objects))) (sym head.type)
           (subst (TakeTypes (types_of ds)) (sym (ap (λ n. take n (parameter_objects known ds ++ m.objects)) (sym count) ∙ take-front (parameter_objects known ds) m.objects)) (takes-types known ds head.scalars));
       result = ap (λ a. option_map Scalar (result_kind (result_of a))) head.type ∙ result-gives last.context.known head.result head.scalar ∙ ap (λ a. gives last.context.known (result_of a)) (sym head.type);
@@ -219,7 +221,7 @@ typedef-meant : (f : FilePlace) (x : Name) (m : Option Entity) → meaning f.con
 typedef-meant f x None is e = absurd (cc)
 typedef-meant f x (Some (a_typedef k a)) is e = (k, a, is, refl)
 typedef-meant f x (Some (an_object k a s)) is e = absurd (cc)
-typedef-meant f x (Some (a_function c a)) is e = absurd (cc)
+typedef-meant f x (Some (a_function c k a)) is e = absurd (cc)
 typedef-meant f x (Some (an_enumerator z)) is e = absurd (cc)
 
 names-meant : {f g : FilePlace} {ss : List t.Specifier} {ks : List SpecifierWord} {q : Qualified} (at : ℕ) (x : Name) → NamesType f ss ks q g → ss ≡ t.typedef_specifier at x ∷ [] → IsMeantBy f x q
@@ -290,7 +292,7 @@ not-empty [] h = absurd (h refl)
 not-empty (a ∷ x) h = refl
 
 typedef-entity : (unit : Outline) (xs : t.SpecifierList) (x : Name) (c : Bool) (a : CType) → is_typedef xs ≡ true → file_entity unit xs x c a ≡ a_typedef c a
-typedef-entity unit xs x c a e = ap (λ b. if b then a_typedef c a else if is_function a then a_function (callee_named unit x) a else an_object c a (static_object (place_in x unit.statics))) e
+typedef-entity unit xs x c a e = ap (λ b. if b then a_typedef c a else if is_function a then a_function (callee_named unit x) c a else an_object c a (static_object (place_in x unit.statics))) e
 
 abbrev says : t.SpecifierList → t.Declarator → Walk → Bool
 says xs d o = gives_function (nearest d) (is_in (typedef_in xs) o.functions)

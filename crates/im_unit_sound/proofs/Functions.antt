@@ -139,14 +139,14 @@ module _ (last : FilePlace) (gs : List FirstValues) (ks : List Func) (fine : IsF
 
   -- what is called
 
-  body-sound : (known : Structs) (x : Name) (a : CType) → IsBounded known a → is_function a ≡ true → meaning last.context.scopes x ≡ Some (a_function (callee_named last.context.unit x) a) → is_in x last.context.unit.bodies ≡ true → IsSoundCallee g known (a_body (place_in x last.context.unit.bodies)) a
-  body-sound known x a b fn means e =
+  body-sound : (known : Structs) (x : Name) (k : Bool) (a : CType) → IsBounded known a → is_function a ≡ true → meaning last.context.scopes x ≡ Some (a_function (callee_named last.context.unit x) k a) → is_in x last.context.unit.bodies ≡ true → IsSoundCallee g known (a_body (place_in x last.context.unit.bodies)) a
+  body-sound known x k a b fn means e =
       let found = made-found ks x (ap (λ z. is_in x z) (sym bodies) ∙ e) in
       let number : place_in x last.context.unit.bodies ≡ place_in x (names_made ks) = ap (place_in x) bodies in
       let there : slice_get ks (place_in x last.context.unit.bodies) ≡ Some found.made = ap (slice_get ks) number ∙ found.there in
       let own = each-at (IsHeaded last) ks (place_in x (names_made ks)) found.made headed found.there in
-      let named_so : meaning last.context.scopes x ≡ Some (a_function (callee_named last.context.unit found.made.name) own.type) = ap (meaning last.context.scopes) found.name ∙ own.means in
-      let is : Some (a_function (callee_named last.context.unit x) a) ≡ Some (a_function (callee_named last.context.unit found.made.name) own.type) = sym means ∙ named_so in
+      let named_so : meaning last.context.scopes x ≡ Some (a_function (callee_named last.context.unit found.made.name) own.constant own.type) = ap (meaning last.context.scopes) found.name ∙ own.means in
+      let is : Some (a_function (callee_named last.context.unit x) k a) ≡ Some (a_function (callee_named last.context.unit found.made.name) own.constant own.type) = sym means ∙ named_so in
       let type : own.type ≡ a = cc in
       let scalar = result-scalar known a b fn in (
         slice_get_within ks (place_in x last.context.unit.bodies) found.made there,
@@ -155,11 +155,11 @@ module _ (last : FilePlace) (gs : List FirstValues) (ks : List Func) (fine : IsF
         plain-result (result_of a) scalar,
       )
 
-  callee-sound : (known : Structs) (x : Name) (a : CType) → IsFileEntity known last.context.unit x (a_function (callee_named last.context.unit x) a) → meaning last.context.scopes x ≡ Some (a_function (callee_named last.context.unit x) a) → IsSoundCallee g known (callee_named last.context.unit x) a
-  callee-sound known x a own means = by-get (same_name getchar_name x) refl
+  callee-sound : (known : Structs) (x : Name) (k : Bool) (a : CType) → IsFileEntity known last.context.unit x (a_function (callee_named last.context.unit x) k a) → meaning last.context.scopes x ≡ Some (a_function (callee_named last.context.unit x) k a) → IsSoundCallee g known (callee_named last.context.unit x) a
+  callee-sound known x k a own means = by-get (same_name getchar_name x) refl
     where
       by-body : (b : Bool) → is_in x last.context.unit.bodies ≡ b → IsSoundCallee g known (if b then a_body (place_in x last.context.unit.bodies) else no_body) a
-      by-body true e = body-sound known x a own.0 own.1 means e
+      by-body true e = body-sound known x k a own.0 own.1 means e
       by-body false e = tt
 
       by-put : (b : Bool) → same_name putchar_name x ≡ b → IsSoundCallee g known (if b then put_character else if is_in x last.context.unit.bodies then a_body (place_in x last.context.unit.bodies) else no_body) a
@@ -175,11 +175,11 @@ module _ (last : FilePlace) (gs : List FirstValues) (ks : List Func) (fine : IsF
   entity-sound : (f : FilePlace) (fn : Func) → Grows f last → (x : Name) (e : Entity) → IsFileEntity f.context.known f.context.unit x e × Means f.context.scopes x e → IsSoundEntity g fn f.context.known f.context.unit x e
   entity-sound f fn k x (an_object c a (static_object n)) h = h.0
   entity-sound f fn k x (an_object c a (local_object n)) h = absurd h.0
-  entity-sound f fn k x (a_function c a) h =
-      let callee : c ≡ callee_named last.context.unit x = h.0.2 ∙ ap (λ u. callee_named u x) (sym k.unit) in
-      let means : meaning last.context.scopes x ≡ Some (a_function (callee_named last.context.unit x) a) = k.means x (a_function c a) h.1 ∙ ap (λ d. Some (a_function d a)) callee in
-      let own : IsFileEntity f.context.known last.context.unit x (a_function (callee_named last.context.unit x) a) = (h.0.0, h.0.1, refl, h.0.3, h.0.4) in
-      (h.0.0, subst (λ d. IsSoundCallee g f.context.known d a) (sym callee) (callee-sound f.context.known x a own means))
+  entity-sound f fn grown x (a_function c k a) h =
+      let callee : c ≡ callee_named last.context.unit x = h.0.2 ∙ ap (λ u. callee_named u x) (sym grown.unit) in
+      let means : meaning last.context.scopes x ≡ Some (a_function (callee_named last.context.unit x) k a) = grown.means x (a_function c k a) h.1 ∙ ap (λ d. Some (a_function d k a)) callee in
+      let own : IsFileEntity f.context.known last.context.unit x (a_function (callee_named last.context.unit x) k a) = (h.0.0, h.0.1, refl, h.0.3, h.0.4) in
+      (h.0.0, subst (λ d. IsSoundCallee g f.context.known d a) (sym callee) (callee-sound f.context.known x k a own means))
   entity-sound f fn k x (an_enumerator z) h = h.0
   entity-sound f fn k x (a_typedef c a) h = h.0
 
@@ -212,9 +212,9 @@ module _ (last : FilePlace) (gs : List FirstValues) (ks : List Func) (fine : IsF
   object-entity : (unit : Outline) (xs : t.SpecifierList) (x : Name) (c : Bool) (a : CType) → rule_2 xs true ≡ true → is_function a ≡ false → file_entity unit xs x c a ≡ an_object c a (static_object (place_in x unit.statics))
   object-entity unit xs x c a r e = by-typedef (is_typedef xs) r
     where
-      by-typedef : (b : Bool) → not (b && true) ≡ true → (if b then a_typedef c a else if is_function a then a_function (callee_named unit x) a else an_object c a (static_object (place_in x unit.statics))) ≡ an_object c a (static_object (place_in x unit.statics))
+      by-typedef : (b : Bool) → not (b && true) ≡ true → (if b then a_typedef c a else if is_function a then a_function (callee_named unit x) c a else an_object c a (static_object (place_in x unit.statics))) ≡ an_object c a (static_object (place_in x unit.statics))
       by-typedef true r = absurd (cc)
-      by-typedef false r = ap (λ b. if b then a_function (callee_named unit x) a else an_object c a (static_object (place_in x unit.statics))) e
+      by-typedef false r = ap (λ b. if b then a_function (callee_named unit x) c a else an_object c a (static_object (place_in x unit.statics))) e
 
   no-function-is : (b : Bool) → (b ≡ true → ⊥) → b ≡ false
   no-function-is true h = absurd (h refl)

@@ -52,7 +52,7 @@ gives-int (Some k) e = let same : k ≡ I32 = cc in ap Some same
 
 -- what `main` means
 record HasMain (e : FilePlace) : Type 0 where
-  pub means : meaning e.context.scopes main_name ≡ Some (a_function (callee_named e.context.unit main_name) (function (integer Int) no_types))
+  pub means : meaning e.context.scopes main_name ≡ Some (a_function (callee_named e.context.unit main_name) false (function (integer Int) no_types))
   pub inside : is_in main_name e.context.unit.bodies ≡ true
 
 main-callee : (unit : Outline) (n : ℕ) → a_body n ≡ callee_named unit main_name → is_in main_name unit.bodies ≡ true
@@ -67,16 +67,17 @@ main-there e h r = by-meaning (meaning e.context.scopes main_name) refl r
   where
     by-meaning : (m : Option Entity) → meaning e.context.scopes main_name ≡ m → rule_13 (body_type m) ≡ true → HasMain e
     by-meaning None is k = absurd (cc)
-    by-meaning (Some (a_function (a_body n) a)) is k =
-        let own = entity-at e main_name (a_function (a_body n) a) h is in
+    by-meaning (Some (a_function (a_body n) true a)) is k = absurd (cc)
+    by-meaning (Some (a_function (a_body n) false a)) is k =
+        let own = entity-at e main_name (a_function (a_body n) false a) h is in
         let type : a ≡ function (integer Int) no_types = same-is a (function (integer Int) no_types) k in
         record {
-          means = is ∙ ap (λ c. Some (a_function c a)) own.2 ∙ ap (λ b. Some (a_function (callee_named e.context.unit main_name) b)) type;
+          means = is ∙ ap (λ c. Some (a_function c false a)) own.2 ∙ ap (λ b. Some (a_function (callee_named e.context.unit main_name) false b)) type;
           inside = main-callee e.context.unit n own.2;
         }
-    by-meaning (Some (a_function no_body a)) is k = absurd (cc)
-    by-meaning (Some (a_function get_character a)) is k = absurd (cc)
-    by-meaning (Some (a_function put_character a)) is k = absurd (cc)
+    by-meaning (Some (a_function no_body c a)) is k = absurd (cc)
+    by-meaning (Some (a_function get_character c a)) is k = absurd (cc)
+    by-meaning (Some (a_function put_character c a)) is k = absurd (cc)
     by-meaning (Some (an_object c a s)) is k = absurd (cc)
     by-meaning (Some (an_enumerator z)) is k = absurd (cc)
     by-meaning (Some (a_typedef c a)) is k = absurd (cc)
@@ -87,8 +88,8 @@ main-good e gs ks h bodies headed typed =
     let there : slice_get ks (place_in main_name e.context.unit.bodies) ≡ Some found.made = ap (λ z. slice_get ks (place_in main_name z)) bodies ∙ found.there in
     let own = each-at (IsHeaded e) ks (place_in main_name (names_made ks)) found.made headed found.there in
     let good = each-at (IsTypedFunc (program e gs ks)) ks (place_in main_name (names_made ks)) found.made typed found.there in
-    let named_so : meaning e.context.scopes main_name ≡ Some (a_function (callee_named e.context.unit found.made.name) own.type) = ap (meaning e.context.scopes) found.name ∙ own.means in
-    let is : Some (a_function (callee_named e.context.unit main_name) (function (integer Int) no_types)) ≡ Some (a_function (callee_named e.context.unit found.made.name) own.type) = sym h.means ∙ named_so in
+    let named_so : meaning e.context.scopes main_name ≡ Some (a_function (callee_named e.context.unit found.made.name) own.constant own.type) = ap (meaning e.context.scopes) found.name ∙ own.means in
+    let is : Some (a_function (callee_named e.context.unit main_name) false (function (integer Int) no_types)) ≡ Some (a_function (callee_named e.context.unit found.made.name) own.constant own.type) = sym h.means ∙ named_so in
     let type : own.type ≡ function (integer Int) no_types = cc in
     let takes : TakeTypes no_types (take found.made.params found.made.objects) = subst (λ a. TakeTypes (parameters_of a) (take found.made.params found.made.objects)) type own.takes in
     let result : option_map Scalar found.made.result ≡ Some (Scalar I32) = own.result ∙ ap (λ a. gives e.context.known (result_of a)) type in

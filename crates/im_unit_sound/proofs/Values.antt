@@ -92,7 +92,7 @@ static-fits f e gs ks h g n o is = by-name (slice_get f.context.unit.statics n) 
         let own = object-complete f.context.known f.context.unit x k a s (entity-at f x (an_object k a s) h q) in
         let later = g.means x (an_object k a s) q in
         subst (λ m. size_in f.context.known a ≤ (layout_of_type e.context.known (object_type m)).size) (sym later) (let same = size-later f e a g own in omega (arith, same))
-    by-meaning x (Some (a_function c a)) q = omega arith
+    by-meaning x (Some (a_function c k a)) q = omega arith
     by-meaning x (Some (an_enumerator z)) q = omega arith
     by-meaning x (Some (a_typedef k a)) q = omega arith
 

@@ -378,4 +378,4 @@ formals::parameter_here-parameter-requires t c =
 
 pub formals::parameter_here-returns : goal.formals::parameter_here-returns
 formals::parameter_here-returns t c =
-    λ rest. rw (parameter_shape c.args.one.now rest) (parameter_made c.args.place.now _ _ _ _ _ _ _ rest c.in_ok-q.q c.in_ok-declared.declared (rw c.deref.ensures.value at (c.in_ok-q.ensures (context_of c.args.place.now))) c.in_ok-mention.ensures.grown (rw c.deref-2.ensures.value at (c.in_ok-mention.ensures.scopes (context_of c.args.place.now))) c.in_ok-declared.ensures c.parameter.result (c.parameter.ensures.asked (context_of c.args.place.now) c.args.place.now.outline.lists) c.parameter.ensures.adjusted (c.parameter.ensures.scopes (context_of c.args.place.now) c.args.place.now.outline.lists) c.parameter.ensures.grown)
+    λ rest. rw (parameter_shape c.args.one.now rest) (parameter_made c.args.place.now _ _ _ _ _ _ _ rest c.in_ok-q.q c.in_ok-declared.declared (rw c.deref.ensures.value at (c.in_ok-q.ensures (context_of c.args.place.now))) c.in_ok-mention.ensures.grown (rw c.deref-2.ensures.value at (c.in_ok-mention.ensures.scopes (context_of c.args.place.now))) c.in_ok-declared.ensures c.parameter.result (rw c.token_of-token.ensures at (c.parameter.ensures.asked (context_of c.args.place.now) c.args.place.now.outline.lists)) c.parameter.ensures.adjusted (c.parameter.ensures.scopes (context_of c.args.place.now) c.args.place.now.outline.lists) c.parameter.ensures.grown)

@@ -113,20 +113,20 @@ structure-returns-in_err-may_list t c = λ first ss ks.
     let r = rw c.deref.ensures.value at (c.in_err-may_list.ensures (file_place_of c.args.file.now) x c.where_it_stands-place.ensures) in
     rw (p.1, p.2) (list_refused (file_place_of c.args.file.now) _ c.args.at first x (members_from c.args.written.now) ss _ _ d.0 r)
 
-pub structure-returns-in_err-fits : goal.structure-returns-in_err-fits
-structure-returns-in_err-fits t c = λ first ss ks.
-    let p = err_from_is_err_and c.from_residual-in_err-fits.result c.from_residual-in_err-fits.ensures.1 in
+pub structure-returns-in_err-struct_fits : goal.structure-returns-in_err-struct_fits
+structure-returns-in_err-struct_fits t c = λ first ss ks.
+    let p = err_from_is_err_and c.from_residual-in_err-struct_fits.result c.from_residual-in_err-struct_fits.ensures.1 in
     let x = tag_of c.args.tag.now in
     let d = rw c.in_ok-begin.ensures at c.in_ok-fields.ensures in
     let e = rw c.deref-2.ensures.value at c.in_ok-number.ensures in
-    rw (p.1, p.2) (list_large (file_place_of c.args.file.now) _ _ _ c.args.at first _ x (members_from c.args.written.now) ss _ _ d.0 e (ap structs_of c.table.ensures) c.in_err-fits.ensures)
+    rw (p.1, p.2) (list_large (file_place_of c.args.file.now) _ _ _ c.args.at first _ x (members_from c.args.written.now) ss _ _ d.0 e (ap structs_of c.table.ensures) (rw c.deref-3.ensures.value at c.in_err-struct_fits.ensures))
 
 pub structure-returns : goal.structure-returns
 structure-returns t c = λ first ss ks.
     let x = tag_of c.args.tag.now in
     let d = rw c.in_ok-begin.ensures at c.in_ok-fields.ensures in
     let m = rw c.deref.ensures.value at (c.in_ok-may_list.ensures (file_place_of c.args.file.now) x c.where_it_stands-place.ensures) in
-    list_done (file_place_of c.args.file.now) _ _ _ c.args.at first _ x (members_from c.args.written.now) ss ks _ d m (rw c.deref-2.ensures.value at c.in_ok-number.ensures) (ap structs_of c.table.ensures) c.in_ok-fits.ensures
+    list_done (file_place_of c.args.file.now) _ _ _ c.args.at first _ x (members_from c.args.written.now) ss ks _ d m (rw c.deref-2.ensures.value at c.in_ok-number.ensures) (ap structs_of c.table.ensures) (rw c.deref-3.ensures.value at c.in_ok-struct_fits.ensures)
 
 pub members-loop-member-init : goal.members-loop-member-init
 members-loop-member-init t c = rw c.new-fields.ensures.items (members_none _ _)

@@ -1,7 +1,7 @@
 use Rattle.std.proofs.Common.{sym}
 use Rattle.std.proofs.lemmas.Result.{err_from_is_err_and}
 use Rattle.im_type_specifiers.specs.Specified.{qualified_of}
-use Rattle.im_locals.proofs.Locals.{undeclared, object_refused, object_too_large, local_no_rule, local_made}
+use Rattle.im_locals.proofs.Locals.{undeclared, object_refused, object_over, local_no_rule, local_made}
 use Rattle.im_locals.proofs.objects.local.Goals as goal
 
 pub returns-in_err-written : goal.returns-in_err-written
@@ -14,10 +14,10 @@ returns-in_err-object c =
     let p = err_from_is_err_and c.from_residual-in_err-object.result c.from_residual-in_err-object.ensures.1 in
     rw (p.1, p.2) (object_refused c.args.x.now _ c.in_ok-written.ensures.0 c.in_ok-written.ensures.1 c.in_err-object.ensures)
 
-pub returns-in_err-fits : goal.returns-in_err-fits
-returns-in_err-fits c =
-    let p = err_from_is_err_and c.from_residual-in_err-fits.result c.from_residual-in_err-fits.ensures.1 in
-    rw (p.1, p.2) (object_too_large c.args.x.now c.table.result.now _ c.in_ok-written.ensures.0 c.in_ok-written.ensures.1 (c.in_ok-object.ensures 0).1 c.table.ensures c.in_err-fits.ensures)
+pub returns-in_err-all_fit : goal.returns-in_err-all_fit
+returns-in_err-all_fit c =
+    let p = err_from_is_err_and c.from_residual-in_err-all_fit.result c.from_residual-in_err-all_fit.ensures.1 in
+    rw (p.1, p.2) (object_over c.args.x.now c.table.result.now _ c.in_ok-written.ensures.0 c.in_ok-written.ensures.1 (c.in_ok-object.ensures 0).1 c.table.ensures c.in_err-all_fit.ensures)
 
 pub returns-in_err-number : goal.returns-in_err-number
 returns-in_err-number c =
@@ -33,5 +33,5 @@ returns c =
       is = (c.in_ok-object.ensures 0).1;
       kept = c.in_ok-number.ensures;
       within = c.in_ok-written.ensures.2;
-      size = rw (sym c.table.ensures) c.in_ok-fits.ensures;
+      sizes = rw (sym c.table.ensures) c.in_ok-all_fit.ensures;
     }) c.begun.ensures

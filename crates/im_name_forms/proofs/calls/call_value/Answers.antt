@@ -10,4 +10,4 @@ use Rattle.im_name_forms.proofs.calls.call_value.Goals as goal
 pub returns : goal.returns
 returns c =
     let given : CType → p.Exprs → Value = λ a es. record { type = a; expr = call_by (callee_of c.args.callee) es } in
-    subst (λ (z : Value). IfOk c.called.result (λ v. value_in c.args.table.now v ≡ z)) (λ i. given (c.in_ok-ty.ensures i) (c.in_ok-exprs.ensures i)) (c.called.ensures c.args.table.now)
+    λ constant. subst (λ (z : Value). IfOk c.called.result (λ v. value_in c.args.table.now v ≡ z)) (λ i. given (c.in_ok-ty.ensures i) (c.in_ok-exprs.ensures i)) (c.called.ensures c.args.table.now)

@@ -1,4 +1,4 @@
-use Rattle.std.proofs.Common.{length, ap, arith, inl, inr, refl, sym, ◌∙◌}
+use Rattle.std.proofs.Common.{Bool, length, ap, arith, inl, inr, refl, sym, ◌∙◌}
 use Rattle.im_ctype.specs.Types.{function}
 use Rattle.im_types.specs.Shape.{type_of, types_in}
 use Rattle.im_scopes.specs.Shape.{callee_of}
@@ -13,17 +13,17 @@ call_value-requires c = omega (arith, ap length c.deref.ensures.value, c.if-not-
 
 pub returns-then-not-takes : goal.returns-then-not-takes
 returns-then-not-takes c =
-    let told = rw c.deref.ensures.value at (c.takes.ensures.value c.args.table.now (callee_of c.args.callee) (type_of c.args.returned.now)) in
-    rw c.refused.ensures (inl (refl, sym told ∙ c.if-not-takes.true), refl)
+    let told = rw c.deref.ensures.value at (λ (constant : Bool). c.takes.ensures.value c.args.table.now (callee_of c.args.callee) constant (type_of c.args.returned.now)) in
+    rw c.refused.ensures (λ constant. (inl (refl, sym (told constant) ∙ c.if-not-takes.true), refl))
 
 pub returns-then-not-all_fit : goal.returns-then-not-all_fit
 returns-then-not-all_fit c =
     let told = rw c.deref-2.ensures.value at (c.all_fit.ensures c.args.table.now) in
-    rw c.refused-then-not-all_fit.ensures (inr (inr (inl (refl, sym told ∙ c.if-not-all_fit.true))), refl)
+    rw c.refused-then-not-all_fit.ensures (λ constant. (inr (inr (inl (refl, sym told ∙ c.if-not-all_fit.true))), refl))
 
 pub returns : goal.returns
 returns c =
-    let taken = rw c.deref.ensures.value at (c.takes.ensures.value c.args.table.now (callee_of c.args.callee) (type_of c.args.returned.now)) in
-    let defined = c.has_body.ensures (function (type_of c.args.returned.now) (types_in c.args.parameters.now)) in
+    let taken = rw c.deref.ensures.value at (λ (constant : Bool). c.takes.ensures.value c.args.table.now (callee_of c.args.callee) constant (type_of c.args.returned.now)) in
+    let defined = λ (constant : Bool). c.has_body.ensures constant (function (type_of c.args.returned.now) (types_in c.args.parameters.now)) in
     let fit = rw c.deref-2.ensures.value at (c.all_fit.ensures c.args.table.now) in
-    ((sym taken ∙ c.if-not-takes.false, (sym defined ∙ c.if-not-has_body.false, (sym fit ∙ c.if-not-all_fit.false, tt))), ap r.value c.in_ok-value.ensures)
+    λ constant. ((sym (taken constant) ∙ c.if-not-takes.false, (sym (defined constant) ∙ c.if-not-has_body.false, (sym fit ∙ c.if-not-all_fit.false, tt))), ap r.value (c.in_ok-value.ensures constant))
