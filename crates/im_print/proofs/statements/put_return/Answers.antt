@@ -1,0 +1,5 @@
+use Rattle.im_print_words.proofs.Writing.{writes_first}
+use Rattle.im_print.proofs.statements.put_return.Goals as goal
+
+pub returns : goal.returns
+returns c = writes_first c.in_ok-put_keyword.ensures c.in_ok-put_line.ensures

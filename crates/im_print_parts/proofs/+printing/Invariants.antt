@@ -1,0 +1,27 @@
+use Rattle.std.proofs.Common.{◌≡◌, ◌++◌, drop, false}
+use Rattle.im_print_words.specs.Output.{spaced, each, known}
+use Rattle.im_print_parts.specs.Parts as parts
+use Rattle.im_printed.specs.Printed as printed
+use Rattle.im_tree_parts.specs.Lists.{list_from}
+use Rattle.im_print_parts.proofs.+printing.Given as goal
+
+abbrev pub invariant-expressions::put_arguments-loop-argument : goal.invariant-expressions::put_arguments-loop-argument
+invariant-expressions::put_arguments-loop-argument l = l.out.items ++ spaced (parts.separated (parts.argument_words (known l.names)) l.behind (drop l.argument-index l.arguments)) ≡ l.initial.out.items ++ spaced (parts.separated (parts.argument_words (known l.names)) false l.arguments)
+
+abbrev pub invariant-declarators::put_suffixes-loop-suffix : goal.invariant-declarators::put_suffixes-loop-suffix
+invariant-declarators::put_suffixes-loop-suffix l = l.out.items ++ spaced (each (parts.suffix_words (known l.names)) (drop l.suffix-index l.suffixes)) ≡ l.initial.out.items ++ spaced (each (parts.suffix_words (known l.names)) l.suffixes)
+
+abbrev pub invariant-declarators::put_parameters-loop-parameter : goal.invariant-declarators::put_parameters-loop-parameter
+invariant-declarators::put_parameters-loop-parameter l = l.out.items ++ spaced (parts.separated (parts.parameter_words (known l.names)) l.behind (drop l.parameter-index l.parameters)) ≡ l.initial.out.items ++ spaced (parts.separated (parts.parameter_words (known l.names)) false l.parameters)
+
+abbrev pub invariant-specifiers::put_members-loop-member : goal.invariant-specifiers::put_members-loop-member
+invariant-specifiers::put_members-loop-member l = l.out.items ++ spaced (each (parts.member_words (known l.names)) (drop l.member-index l.members)) ≡ l.initial.out.items ++ spaced (each (parts.member_words (known l.names)) l.members)
+
+abbrev pub invariant-specifiers::put_next_declarators-loop-declarator : goal.invariant-specifiers::put_next_declarators-loop-declarator
+invariant-specifiers::put_next_declarators-loop-declarator l = l.out.items ++ spaced (each (parts.next_declarator (known l.names)) (drop l.declarator-index l.declarators)) ≡ l.initial.out.items ++ spaced (each (parts.next_declarator (known l.names)) l.declarators)
+
+abbrev pub invariant-specifiers::put_enumerators-loop-enumerator : goal.invariant-specifiers::put_enumerators-loop-enumerator
+invariant-specifiers::put_enumerators-loop-enumerator l = l.out.items ++ spaced (parts.separated (parts.enumerator_words (known l.names)) l.behind (drop l.enumerator-index l.enumerators)) ≡ l.initial.out.items ++ spaced (parts.separated (parts.enumerator_words (known l.names)) false l.enumerators)
+
+abbrev pub invariant-specifiers::put_specifiers-loop-specifier : goal.invariant-specifiers::put_specifiers-loop-specifier
+invariant-specifiers::put_specifiers-loop-specifier l = l.out.items ++ spaced (printed.specifier_list (known l.names) (list_from (drop l.specifier-index l.specifiers))) ≡ l.initial.out.items ++ spaced (printed.specifier_list (known l.names) (list_from l.specifiers))
