@@ -19,6 +19,3 @@ mod values;
 
 pub use code::Setting;
 pub use runs::run;
-
-#[cfg(test)]
-mod tests;

@@ -16,6 +16,3 @@ pub use laws::{
     words_taken_law,
 };
 pub use words::read_words;
-
-#[cfg(test)]
-mod tests;

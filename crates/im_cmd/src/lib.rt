@@ -12,8 +12,6 @@ mod running;
 mod status;
 mod stored;
 mod telling;
-#[cfg(test)]
-mod tests;
 mod upgrading;
 
 pub use entry::top;

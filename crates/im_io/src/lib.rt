@@ -11,8 +11,6 @@ mod mem_sink;
 mod room;
 mod shelf;
 mod sink;
-#[cfg(test)]
-mod tests;
 mod whole;
 
 pub use fault::{Failed, OpenFault, ReadFault};

@@ -11,8 +11,6 @@ mod refusal;
 mod reports;
 mod runs;
 mod source_fault;
-#[cfg(test)]
-mod tests;
 mod upgrades;
 mod variables;
 
@@ -20,6 +18,7 @@ pub use builds::send_build_lines;
 pub use dumps::send_dump_lines;
 pub use ending::Ending;
 pub use evaluations::{Evaluated, send_evaluation_lines};
+pub use instruction::send_instruction;
 pub use refusal::{Refusal, send_refusal_line};
 pub use reports::send_report_lines;
 pub use runs::send_run_lines;

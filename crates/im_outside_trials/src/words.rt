@@ -1,4 +1,4 @@
-use crate::{
+use im_cli::{
     BuildOptions, Command, EvalOptions, RunOptions, WordsFault, building_law, evaluation_law,
     faultless_law, files_law, options_law, read_words, words_refused_law, words_taken_law,
 };

@@ -1,5 +1,5 @@
 use super::{File, Wanted, file, tries, words_of};
-use crate::top;
+use im_cmd::top;
 use im_io::{MemShelf, MemSink};
 use std::alloc::Global;
 use std::process::Abort;

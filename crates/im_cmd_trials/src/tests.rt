@@ -6,7 +6,7 @@ mod runs;
 mod sources;
 mod upgrades;
 
-use crate::top;
+use im_cmd::top;
 use im_io::{MemShelf, MemSink};
 use std::alloc::Global;
 use std::process::Abort;

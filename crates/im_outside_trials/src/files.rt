@@ -1,4 +1,4 @@
-use crate::{Failed, HostShelf, HostSink, MemShelf, MemSink, ReadFault, read_whole, send, store};
+use im_io::{Failed, HostShelf, HostSink, MemShelf, MemSink, ReadFault, read_whole, send, store};
 use std::alloc::Global;
 use std::fs;
 use std::test::Fail;

@@ -1,5 +1,5 @@
-use crate::{Setting, run};
 use im_block::{Block, Constant, Exit, Function, Line, Object, Place, Registers, Static, Unit};
+use im_block_run::{Setting, run};
 use im_ctype::Cell;
 use im_eval_machine::{Outcome, Reason};
 use im_num::{CellValue, Kind, Var};
