@@ -4,3 +4,4 @@ pub mod Mains
 pub mod Pending
 pub mod Telling
 pub mod Turns
+pub mod Unmeant
