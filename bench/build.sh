@@ -1,9 +1,10 @@
 #!/bin/sh
 # How fast sources become images, how fast they become block code, and how fast they are checked alone: bytes of source per
 # second on three sizes, the exponent of the time between each two of them (1 where twice the source takes twice the time), and
-# the memory, beside `gcc -O0 -c` and `gcc -fsyntax-only` on the same sources. The time up to block code is the build's, by the
-# share of its instructions, which valgrind counts. What is checked alone has a name at its end that nothing declares, so it is
-# refused once all before it is read and typed. Times are the processor's, of ten runs each. It is no part of the gate.
+# the memory, beside `gcc -O0 -c` and `gcc -fsyntax-only` on the same sources. What is checked alone has a name at its end that
+# nothing declares, so it is refused once all before it is read and typed. The time up to block code is that of the check and,
+# by its share of the build's instructions, which valgrind counts, that of lowering. Times are the processor's, of ten runs
+# each. It is no part of the gate.
 set -eu
 top=$(CDPATH= cd -- "$(dirname -- "$0")/.." && pwd)
 work=$(mktemp -d)
@@ -72,14 +73,13 @@ kilobytes() { # COMMAND..: the most memory that it holds at once
     /usr/bin/time -f %M "$@" 2>&1 > /dev/null | tail -n 1
 }
 
-share() { # SOURCE: of the instructions of its build those up to its block code, in thousandths, as callgrind counts them
+lowering() { # SOURCE: of the instructions of its build those of lowering, in thousandths, as callgrind counts them
     valgrind --tool=callgrind --callgrind-out-file="$work/calls" "$program" build "$1" "$work/source.img" > /dev/null 2>&1
     callgrind_annotate --inclusive=yes --threshold=100 "$work/calls" | awk '
         { gsub(/,/, "", $1) }
         /PROGRAM TOTALS/ { total = $1 }
-        /:im_compile::compiling::compile / { passes = $1 }
-        /:im_lowering::/ && $1 + 0 > lowering { lowering = $1 + 0 }
-        END { printf "%d\n", 1000 * (total - passes + lowering) / total }'
+        /:im_lowering::/ && $1 + 0 > most { most = $1 + 0 }
+        END { printf "%d\n", 1000 * most / total }'
 }
 
 "$top/intermit" --help > /dev/null 2>&1 || true
@@ -99,13 +99,15 @@ for size in 65536 131072 262144; do
     memory=$(kilobytes "$program" build "$work/source.c" "$work/source.img")
     echo "$bytes bytes, $code words: $((time / 10)) ms, $((bytes * 10000 / time)) bytes per second," \
         "$memory KiB ($((memory * 1024 / bytes)) times the source)$(exponent "$time" "$before"); gcc -O0 -c: $((theirs / 10)) ms"
-    lowered=$((time * $(share "$work/source.c") / 1000))
-    echo "    to its block code: $((lowered / 10)) ms, $((bytes * 10000 / lowered)) bytes per second$(exponent "$lowered" "$lowered_before")"
+    share=$(lowering "$work/source.c")
     echo 'int last(void) { return nowhere; }' >> "$work/source.c"
     checked=$(milliseconds "$program" build "$work/source.c" "$work/source.img")
     grep -q ': rule ' "$work/printed" || { echo 'the source is not refused as it should be'; exit 1; }
     theirs=$(milliseconds gcc -fsyntax-only -w "$work/source.c")
     echo "    checked alone: $((checked / 10)) ms, $((bytes * 10000 / checked)) bytes per" \
         "second$(exponent "$checked" "$checked_before"); gcc -fsyntax-only: $((theirs / 10)) ms"
+    lowered=$((checked + time * share / 1000))
+    echo "    to its block code: $((lowered / 10)) ms, $((bytes * 10000 / lowered)) bytes per" \
+        "second$(exponent "$lowered" "$lowered_before")"
     before=$time checked_before=$checked lowered_before=$lowered smaller=$bytes
 done
