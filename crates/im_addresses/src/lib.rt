@@ -3,8 +3,6 @@
 
 mod laws;
 mod placing;
-#[cfg(test)]
-mod tests;
 
 pub use laws::{frames_law, statics_law};
 pub use placing::place_statics;

@@ -4,7 +4,5 @@
 mod functions;
 mod program;
 mod runtime;
-#[cfg(test)]
-mod tests;
 
 pub use program::{Program, assemble};

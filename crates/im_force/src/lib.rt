@@ -3,8 +3,6 @@
 
 mod cuts;
 mod laws;
-#[cfg(test)]
-mod tests;
 
 pub use cuts::force;
 pub use laws::force_keeps_law;

@@ -3,8 +3,6 @@
 
 mod fault;
 mod layout;
-#[cfg(test)]
-mod tests;
 
 pub use fault::FrameFault;
 pub use layout::{Layout, frame_bytes, lay_out};

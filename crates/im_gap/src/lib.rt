@@ -5,8 +5,6 @@ mod flow;
 mod laws;
 mod longest;
 mod table;
-#[cfg(test)]
-mod tests;
 
 pub use laws::{calls_law, rank_law};
 pub use longest::{gap, longest_gap};

@@ -1,6 +1,8 @@
-//! From the largest code to its words, cuts and longest gap: a trial of linking at full size.
+//! From code to its longest gap, and from the largest code to its words, cuts and longest gap: trials of linking.
 #![tactic(auto)]
 
+#[cfg(test)]
+mod gaps;
 #[cfg(test)]
 mod lines;
 #[cfg(test)]

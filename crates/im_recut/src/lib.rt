@@ -3,8 +3,6 @@
 
 mod cuts;
 mod laws;
-#[cfg(test)]
-mod tests;
 
 pub use cuts::recut;
 pub use laws::recut_keeps_law;

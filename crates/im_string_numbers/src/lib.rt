@@ -5,8 +5,6 @@ mod declarator;
 mod expression;
 mod specifier;
 mod step;
-#[cfg(test)]
-mod tests;
 
 pub use declarator::{
     behind_core, behind_declarator, behind_declarator_if_any, behind_parameters, behind_suffixes,

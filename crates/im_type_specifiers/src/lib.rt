@@ -5,8 +5,6 @@ mod line;
 mod qualified;
 mod specified;
 mod tags;
-#[cfg(test)]
-mod tests;
 mod words;
 
 pub use line::{Counts, Line, WordType, line_of};
