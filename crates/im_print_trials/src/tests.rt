@@ -1,6 +1,8 @@
 mod chains;
+mod faults;
+mod fronts;
 
-use im_fault::SourceFault;
+use im_fault::{LineFault, SourceFault};
 use im_front::read_source;
 use im_num::NoMemory;
 use im_print::print_tree;
@@ -14,6 +16,20 @@ pub(crate) fn printed(alloc: Global, source: &[u8]) -> Result<Vec<u8>, SourceFau
         Ok(bytes) => Ok(bytes),
         Err(NoMemory::OutOfMemory) => Err(SourceFault::OutOfMemory),
     }
+}
+
+/// How many external declarations a text has.
+pub(crate) fn count(alloc: Global, text: &[u8]) -> Result<usize, SourceFault> {
+    let text = read_source(alloc, text)?;
+    Ok(text.tree.externals.len())
+}
+
+/// The answer where no unit goes on with what stands on a line.
+pub(crate) fn refused(line: u32) -> Result<usize, SourceFault> {
+    Err(SourceFault::Line {
+        line,
+        why: LineFault::Syntax,
+    })
 }
 
 /// Sources, and what they are printed as by the grammar (C11 6.5 to 6.9), by hand.
