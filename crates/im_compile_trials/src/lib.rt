@@ -36,4 +36,6 @@ mod tests;
 #[cfg(test)]
 mod typed;
 #[cfg(test)]
+mod typed_source;
+#[cfg(test)]
 mod whole_rows;
