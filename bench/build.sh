@@ -1,10 +1,11 @@
 #!/bin/sh
-# How fast sources become images, how fast they become block code, and how fast they are checked alone: bytes of source per
-# second on three sizes, the exponent of the time between each two of them (1 where twice the source takes twice the time), and
-# the memory, beside `gcc -O0 -c` and `gcc -fsyntax-only` on the same sources. What is checked alone has a name at its end that
-# nothing declares, so it is refused once all before it is read and typed. The time up to block code is that of the check and,
-# by its share of the build's instructions, which valgrind counts, that of lowering. Times are the processor's, of ten runs
-# each. It is no part of the gate.
+# How fast sources become images, how fast they are checked alone, and how fast they become block code: bytes of source per
+# second, and the exponent of the time between each two sizes (1 where twice the source takes twice the time). Images are made
+# of sources of up to 256 KiB, as larger ones have more code than a device has room for; the memory is told beside them, and
+# what `gcc -O0 -c` and `gcc -fsyntax-only` take. Block code is made of sources of up to 4 MiB: the time up to it is that of
+# the check and, by its share of the instructions, which valgrind counts, that of lowering, where the larger ones are refused
+# for their code once it is selected. What is checked alone has a name at its end that nothing declares, so it is refused once
+# all before it is read and typed. Times are the processor's, of ten runs each. It is no part of the gate.
 set -eu
 top=$(CDPATH= cd -- "$(dirname -- "$0")/.." && pwd)
 work=$(mktemp -d)
@@ -89,25 +90,43 @@ exponent() { # TIME BEFORE
         awk -v t="$1" -v u="$2" -v b="$bytes" -v c="$smaller" 'BEGIN { printf ", exponent %.2f", log(t / u) / log(b / c) }'
     fi
 }
-before=0 checked_before=0 lowered_before=0
+per_second() { # TIME
+    echo "$(($1 / 10)) ms, $((bytes * 10000 / $1)) bytes per second"
+}
+expect() { # TEXT: stops where it isn't in what was printed
+    grep -q "$1" "$work/printed" || { echo "not answered '$1' as it should be:" && head -n 1 "$work/printed" && exit 1; }
+}
+
+echo 'images:'
+before=0
 for size in 65536 131072 262144; do
     source_of "$size" "$work/source.c"
     bytes=$(wc -c < "$work/source.c")
     time=$(milliseconds "$program" build "$work/source.c" "$work/source.img")
+    expect '^code '
     code=$(sed -n 1p "$work/printed")
     theirs=$(milliseconds gcc -O0 -w -c "$work/source.c" -o "$work/source.o")
     memory=$(kilobytes "$program" build "$work/source.c" "$work/source.img")
-    echo "$bytes bytes, $code words: $((time / 10)) ms, $((bytes * 10000 / time)) bytes per second," \
-        "$memory KiB ($((memory * 1024 / bytes)) times the source)$(exponent "$time" "$before"); gcc -O0 -c: $((theirs / 10)) ms"
+    echo "$bytes bytes, $code words: $(per_second "$time"), $memory KiB ($((memory * 1024 / bytes)) times the" \
+        "source)$(exponent "$time" "$before"); gcc -O0 -c: $((theirs / 10)) ms"
+    before=$time smaller=$bytes
+done
+
+echo 'block code:'
+before=0 checked_before=0
+for size in 65536 524288 4190000; do
+    source_of "$size" "$work/source.c"
+    bytes=$(wc -c < "$work/source.c")
+    time=$(milliseconds "$program" build "$work/source.c" "$work/source.img")
+    if [ "$size" -gt 262144 ]; then expect 'code .* over 1044480'; fi
     share=$(lowering "$work/source.c")
     echo 'int last(void) { return nowhere; }' >> "$work/source.c"
     checked=$(milliseconds "$program" build "$work/source.c" "$work/source.img")
-    grep -q ': rule ' "$work/printed" || { echo 'the source is not refused as it should be'; exit 1; }
+    expect ': rule '
     theirs=$(milliseconds gcc -fsyntax-only -w "$work/source.c")
-    echo "    checked alone: $((checked / 10)) ms, $((bytes * 10000 / checked)) bytes per" \
-        "second$(exponent "$checked" "$checked_before"); gcc -fsyntax-only: $((theirs / 10)) ms"
+    echo "$bytes bytes checked alone: $(per_second "$checked")$(exponent "$checked" "$checked_before");" \
+        "gcc -fsyntax-only: $((theirs / 10)) ms"
     lowered=$((checked + time * share / 1000))
-    echo "    to its block code: $((lowered / 10)) ms, $((bytes * 10000 / lowered)) bytes per" \
-        "second$(exponent "$lowered" "$lowered_before")"
-    before=$time checked_before=$checked lowered_before=$lowered smaller=$bytes
+    echo "    to its block code: $(per_second "$lowered")$(exponent "$lowered" "$before")"
+    before=$lowered checked_before=$checked smaller=$bytes
 done
