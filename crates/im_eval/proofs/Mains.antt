@@ -1,5 +1,5 @@
 -- The run of `main`, behind which nothing is to do.
-use Rattle.std.proofs.Common.{◌≡◌, ◌≤◌, subst, sym, ℕ, List, [], Ok, Err, arith}
+use Rattle.std.proofs.Common.{◌≤◌, subst, sym, ℕ, List, [], Ok, arith}
 use Rattle.std.specs.Prelude.{Result as Either}
 use Rattle.im_typed.specs.Runs.{State, Answer, goes_on}
 use Rattle.im_typed.specs.Values.{Values}

@@ -1,6 +1,7 @@
 //! From a typed program and an input to what the program does.
 #![tactic(auto)]
 
+mod at_once;
 mod program;
 mod resume;
 mod run;

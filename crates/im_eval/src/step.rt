@@ -8,13 +8,14 @@ ghost use Rattle.im_eval_machine.specs.declared.machine.Machine.{Machine};
 ghost use Rattle.im_eval_tasks.specs.Stack.{pending, runs};
 ghost use Rattle.im_eval_steps.specs.Going.{Goes, GoesNow, types_of};
 
+use crate::at_once::{begin_tasks, hasten};
 use crate::resume::{resume_ended, resume_place, resume_value};
 use crate::run::Run;
 use im_eval_machine::{Code, Found, Stopped, forget, get_char, pay};
 use im_eval_steps::{next_argument, next_piece};
 use im_eval_store::Value;
 use im_eval_tasks::{
-    Ended, Next, Now, Rest, Task, Use, begin, begin_place, begin_statement, next_statement,
+    Ended, Next, Now, Rest, Task, Use, begin_place, begin_statement, next_statement,
 };
 use std::alloc::Global;
 
@@ -33,7 +34,7 @@ fn next_of<'p>(
         (pending run.old.tasks.items) now.entry s) }
 {
     match now {
-        Now::Evaluate(expr) => Ok(begin(alloc, expr)),
+        Now::Evaluate(expr) => begin_tasks(alloc, code, &mut run.machine, run.here, expr),
         Now::Locate(place) => Ok(begin_place(run.here, place)),
         Now::Arguments(call) => next_argument(alloc, code, &mut run.machine, &mut run.here, call),
         Now::Getchar => {
@@ -88,7 +89,8 @@ pub(crate) fn step<'p>(
         (pending run.old.tasks.items) now.entry s) }
 {
     let next = next_of(alloc, code, run, now)?;
-    push_next(run, next)
+    let hastened = hasten(alloc, code, run, next)?;
+    push_next(run, hastened)
 }
 
 /// The task that a step leaves is put on the stack.

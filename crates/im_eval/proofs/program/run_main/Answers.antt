@@ -1,4 +1,4 @@
-use Rattle.std.proofs.Common.{◌≡◌, ◌≤◌, ap, sym, subst, List, [], Ok, arith}
+use Rattle.std.proofs.Common.{◌≤◌, ap, sym, subst, List, [], Ok, arith}
 use Rattle.std.proofs.lemmas.Result.{err_from_is_err_and}
 use Rattle.im_typed.specs.Programs.{called, calls_of}
 use Rattle.im_eval_machine.specs.Settings.{setting_of}

@@ -67,3 +67,7 @@ returns-in-Some-pop-2-clause-goes c =
     rw c.in-Ended.is (λ n s i le.
     subst (λ (ts : List Task). Goes code n c.resume_ended.new.here (pending left) (Ok c.resume_ended.result) c.resume_ended.new.machine (follows code n run.here ts (Flowed ended) s)) (sym (taken run.tasks.items left c.in-Some-pop-2.task c.in-Some-pop-2.ensures.items))
     (c.resume_ended.ensures.goes n (pending left) s i))
+
+pub returns-in-Evaluate-clause-goes : goal.returns-in-Evaluate-clause-goes
+returns-in-Evaluate-clause-goes c =
+    rw c.in-Evaluate.is (λ n s i le. c.begin_tasks.ensures.goes n (pending c.args.run.now.tasks.items) s i)
