@@ -1,5 +1,5 @@
 -- A look and what follows it.
-use Rattle.std.proofs.Common.{◌≡◌, ◌∙◌, ℕ, ap, subst, sym, Ok, Err}
+use Rattle.std.proofs.Common.{ap, subst, sym, Ok, Err}
 use Rattle.std.specs.Prelude.{Result as Either}
 use Rattle.im_typed.specs.Runs.{State, Answer, Run, goes_on}
 use Rattle.im_eval_looks.specs.declared.unseen.Unseen.{Unseen}

@@ -10,7 +10,7 @@ use Rattle.im_typed.specs.declared.expression.Place.{Place}
 use Rattle.im_typed.specs.Meaning.{place_of, value_of}
 use Rattle.im_typed.specs.ProgramOf.{access_of, expr_of, place_of as typed_place}
 use Rattle.im_typed.specs.Programs.{Setting}
-use Rattle.im_typed.specs.Runs.{Run, State, checked, either, goes_on, in_store}
+use Rattle.im_typed.specs.Runs.{Run, checked, either, goes_on, in_store}
 use Rattle.im_typed.specs.Values.{Values, number, number_in, read_at, scalar, truth, value_in}
 use Rattle.im_eval_store.specs.Shown.{shown}
 use Rattle.im_eval_machine.specs.Shown.{one}

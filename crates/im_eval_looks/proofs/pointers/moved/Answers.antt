@@ -1,7 +1,6 @@
 use Rattle.std.proofs.Common.{subst}
 use Rattle.im_typed.specs.Runs.{checked, goes_on}
 use Rattle.im_typed.specs.Values.{number_of, used}
-use Rattle.im_eval_store.specs.Shown.{shown}
 use Rattle.im_eval_machine.specs.Shown.{one}
 use Rattle.im_eval_looks.specs.Seen.{Sees, whole_of}
 use Rattle.im_eval_looks.proofs.Seeing.{unseen}
