@@ -1,18 +1,25 @@
 #!/bin/sh
 # That no chain of casts, calls, indices, commas, suffixes, stars, operators, statements or typedef names overflows a stack of
-# 4 MiB: each is built with 200, 500 and 500000 links (of typedef names 100000, since a source has 4 MiB at most), and the
-# status, which is never that of a signal, is told beside the time in milliseconds. It is no part of the gate.
+# 2 MiB, nor one of them within as many operators or blocks as may stand in one another: each is built, and evaluated, with
+# 100, LINKS, one more and 500000 links (of typedef names 100000, since a source has 4 MiB at most), where LINKS is the most
+# that are read. The status, which is never that of a signal, is told beside the time of the build in milliseconds. It is no
+# part of the gate.
 set -eu
 top=$(CDPATH= cd -- "$(dirname -- "$0")/.." && pwd)
 program=$top/crates/intermit/out/intermit
 work=$(mktemp -d)
 trap 'rm -rf "$work"' EXIT
-ulimit -s 4096
+ulimit -s 2048
+LINKS=256
 
-# front, link and end as formats (of the link's number and the next one, and of the last one), most links
+# as many of them as stand in one another, in a row
+many() { # TEXT
+    awk -v text="$1" 'BEGIN { for (i = 0; i < 190; i++) printf "%s", text }'
+}
+# name, front, link and end as formats (of the link's number and the next one, and of the last one), most links
 chain() {
     name=$1
-    for links in 200 500 "${5:-500000}"; do
+    for links in 100 "$LINKS" "$((LINKS + 1))" "${5:-500000}"; do
         awk -v front="$2" -v link="$3" -v end="$4" -v links="$links" \
             'BEGIN {
                 printf "%s", front
@@ -23,8 +30,11 @@ chain() {
         status=0
         "$program" build "$work/chain.c" "$work/chain.img" > "$work/out" 2> "$work/err" || status=$?
         after=$(date +%s%N)
-        printf '%-12s %7s links: status %3s, %5s ms: %s\n' "$name" "$links" "$status" "$(((after - before) / 1000000))" "$(head -n 1 "$work/err" | cut -c 1-60)"
-        if [ "$status" -ge 128 ]; then
+        evaluated=0
+        "$program" eval "$work/chain.c" > /dev/null 2>&1 || evaluated=$?
+        printf '%-16s %6s links: status %3s, %5s ms: %s\n' "$name" "$links" "$status" "$(((after - before) / 1000000))" \
+            "$(head -n 1 "$work/err" | cut -c 1-60)"
+        if [ "$status" -ge 128 ] || [ "$evaluated" -ge 128 ]; then
             echo "$name: stopped by a signal"
             exit 1
         fi
@@ -47,3 +57,9 @@ chain names 'int a' ', a' '; int main(void) { return 7; }'
 chain enumerators 'enum { a' ', b' '}; int main(void) { return 7; }'
 chain typedefs 'typedef int t0;' ' typedef t%d *t%d;' ' t%d last; int main(void) { return 7; }' 100000
 chain arrays 'typedef int t0;' ' typedef t%d t%d[1];' ' t%d last; int main(void) { return 7; }' 100000
+chain minus-casts "int main(void) { return $(many '- ')" '(int)' '7; }'
+chain minus-calls "int f(int a) { return a; } int main(void) { return $(many '- ')f(7)" '()' '; }'
+chain minus-indices "int a[2]; int main(void) { return $(many '- ')a" '[0]' '; }'
+chain minus-commas "int main(void) { return $(many '- ')(7" ', 7' '); }'
+chain blocks-casts "int main(void) { $(many '{ ')return " '(int)' "7; $(many '} ')}"
+chain blocks-names "int main(void) { $(many '{ ')int a" ', a' "; $(many '} ')}"

@@ -4,6 +4,8 @@
 #[cfg(test)]
 mod arrays;
 #[cfg(test)]
+mod counts;
+#[cfg(test)]
 mod functions;
 #[cfg(test)]
 mod given;

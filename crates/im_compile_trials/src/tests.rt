@@ -1,4 +1,5 @@
 use crate::arrays::ARRAYS;
+use crate::counts::see_counts;
 use crate::functions::FUNCTIONS;
 use crate::given::GIVEN;
 use crate::kinds::KINDS;
@@ -220,4 +221,9 @@ fn constructs_are_typed_as_the_table_says(rt: HostRuntime) -> Result<(), Fail> {
 #[test]
 fn types_over_a_chain_of_names_are_bounded(rt: HostRuntime) -> Result<(), Fail> {
     bound_types(&rt, rt.alloc())
+}
+
+#[test]
+fn functions_have_the_nodes_and_the_needs_that_were_counted(rt: HostRuntime) -> Result<(), Fail> {
+    see_counts(&rt, rt.alloc())
 }

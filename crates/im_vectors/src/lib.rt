@@ -4,8 +4,6 @@
 #[cfg(test)]
 mod checkpoints;
 #[cfg(test)]
-mod counts;
-#[cfg(test)]
 mod images;
 #[cfg(test)]
 mod instructions;
