@@ -75,7 +75,8 @@ kilobytes() { # COMMAND..: the most memory that it holds at once
 }
 
 lowering() { # SOURCE: of the instructions of its build those of lowering, in thousandths, as callgrind counts them
-    valgrind --tool=callgrind --callgrind-out-file="$work/calls" "$program" build "$1" "$work/source.img" > /dev/null 2>&1
+    valgrind --tool=callgrind --callgrind-out-file="$work/calls" "$program" build "$1" "$work/source.img" \
+        > /dev/null 2>&1 || true
     callgrind_annotate --inclusive=yes --threshold=100 "$work/calls" | awk '
         { gsub(/,/, "", $1) }
         /PROGRAM TOTALS/ { total = $1 }
