@@ -1,6 +1,6 @@
 #!/bin/sh
 # That no chain of casts, calls, indices, commas, suffixes, stars, operators, statements or typedef names overflows a stack of
-# 6 MiB, nor one of them within as many operators or blocks as may stand in one another: each is built, and evaluated, with
+# 2 MiB, nor one of them within as many operators or blocks as may stand in one another: each is built, and evaluated, with
 # 100, LINKS, one more and 500000 links (of typedef names 100000, since a source has 4 MiB at most), where LINKS is the most
 # that are read. The status, which is never that of a signal, is told beside the time of the build in milliseconds. It is no
 # part of the gate.
@@ -9,7 +9,7 @@ top=$(CDPATH= cd -- "$(dirname -- "$0")/.." && pwd)
 program=$top/crates/intermit/out/intermit
 work=$(mktemp -d)
 trap 'rm -rf "$work"' EXIT
-ulimit -s 6144
+ulimit -s 2048
 LINKS=512
 
 # as many of them as stand in one another, in a row
@@ -61,5 +61,7 @@ chain minus-casts "int main(void) { return $(many '- ')" '(int)' '7; }'
 chain minus-calls "int f(int a) { return a; } int main(void) { return $(many '- ')f(7)" '()' '; }'
 chain minus-indices "int a[2]; int main(void) { return $(many '- ')a" '[0]' '; }'
 chain minus-commas "int main(void) { return $(many '- ')(7" ', 7' '); }'
+chain ifs-casts "int main(void) { $(many 'if (0) ; else ')return " '(int)' '7; }'
+chain ifs-indices "int a[2]; int main(void) { $(many 'if (0) ; else ')return a" '[0]' '; }'
 chain blocks-casts "int main(void) { $(many '{ ')return " '(int)' "7; $(many '} ')}"
 chain blocks-names "int main(void) { $(many '{ ')int a" ', a' "; $(many '} ')}"

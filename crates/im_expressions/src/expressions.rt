@@ -9,15 +9,9 @@ ghost use Rattle.im_declarators.specs.Suffixes.{IsFault};
 ghost use Rattle.im_place.specs.Contexts.{context_of, behind_strings};
 ghost use Rattle.im_expression_parts.specs.Walked.{IsTyped, terms_in};
 
-use crate::leaves::{called, names_function, not_called, text};
-use crate::type_names::type_name;
-use im_conversions::type_in;
+use crate::leaves::text;
+use crate::operands::{call, cast, comma, member, operation, subscript, unary};
 use im_ctree::{Expression, ExpressionKind};
-use im_forms::{
-    assign_term, binary_term, cast_term, comma_term, conditional_term, index_term, size_term,
-    step_term, unary_term,
-};
-use im_members::{arrowed, dotted};
 use im_name_forms::{character_term, name_term, number_term};
 use im_operands::Term;
 use im_place::Place;
@@ -36,105 +30,29 @@ pub fn expression(alloc: Global, e: &Expression, place: &mut Place) -> Result<Te
         ExpressionKind::Number(number) => Ok(number_term(*number)),
         ExpressionKind::Character(value) => Ok(character_term(*value)),
         ExpressionKind::Text(bytes) => text(alloc, bytes, place),
-        ExpressionKind::Index(whole, by) => {
-            let x = expression(alloc, whole, place)?;
-            let y = expression(alloc, by, place)?;
-            index_term(alloc, place.structs.table(), e.at, x, y)
-        }
-        ExpressionKind::Call(callee, arguments) => {
-            if names_function(&place.scope, callee) {
-                let xs = terms(alloc, arguments, place)?;
-                called(alloc, place, e.at, callee, xs)
-            } else {
-                let x = expression(alloc, callee, place)?;
-                let xs = terms(alloc, arguments, place)?;
-                Err(not_called(e.at, x, xs))
-            }
-        }
-        ExpressionKind::Member(whole, name) => {
-            let x = expression(alloc, whole, place)?;
-            dotted(alloc, place.structs.table(), e.at, x, name)
-        }
-        ExpressionKind::Arrow(pointer, name) => {
-            let x = expression(alloc, pointer, place)?;
-            arrowed(alloc, place.structs.table(), e.at, x, name)
-        }
-        ExpressionKind::PostStep(op, operand) => {
-            let x = expression(alloc, operand, place)?;
-            step_term(
-                alloc,
-                place.structs.table(),
-                place.structs.free(),
-                e.at,
-                *op,
-                true,
-                x,
-            )
-        }
-        ExpressionKind::PreStep(op, operand) => {
-            let x = expression(alloc, operand, place)?;
-            step_term(
-                alloc,
-                place.structs.table(),
-                place.structs.free(),
-                e.at,
-                *op,
-                false,
-                x,
-            )
-        }
-        ExpressionKind::Unary(op, operand) => {
-            let x = expression(alloc, operand, place)?;
-            unary_term(alloc, place.structs.table(), e.at, *op, x)
-        }
-        ExpressionKind::SizeOfExpression(operand) => {
-            let x = expression(alloc, operand, place)?;
-            size_term(place.structs.table(), e.at, type_in(&x))
-        }
-        ExpressionKind::SizeOfType(name) => {
-            let q = type_name(alloc, name, place)?;
-            size_term(place.structs.table(), e.at, &q.ty)
-        }
-        ExpressionKind::Cast(name, operand) => {
-            let q = type_name(alloc, name, place)?;
-            let x = expression(alloc, operand, place)?;
-            cast_term(alloc, place.structs.table(), e.at, q.ty, x)
-        }
-        ExpressionKind::Binary(op, left, right) => {
-            let x = expression(alloc, left, place)?;
-            let y = expression(alloc, right, place)?;
-            binary_term(alloc, place.structs.table(), e.at, *op, x, y)
-        }
-        ExpressionKind::Conditional(test, first, second) => {
-            let w = expression(alloc, test, place)?;
-            let x = expression(alloc, first, place)?;
-            let y = expression(alloc, second, place)?;
-            conditional_term(alloc, place.structs.table(), e.at, w, x, y)
-        }
-        ExpressionKind::Assign(op, left, right) => {
-            let x = expression(alloc, left, place)?;
-            let y = expression(alloc, right, place)?;
-            assign_term(
-                alloc,
-                place.structs.table(),
-                place.structs.free(),
-                e.at,
-                *op,
-                x,
-                y,
-            )
-        }
-        ExpressionKind::Comma(left, right) => {
-            let x = expression(alloc, left, place)?;
-            let y = expression(alloc, right, place)?;
-            Ok(comma_term(alloc, place.structs.table(), x, y)?)
-        }
+        ExpressionKind::Index(_, _) => subscript(alloc, e, place),
+        ExpressionKind::Call(_, _) => call(alloc, e, place),
+        ExpressionKind::Member(_, _) | ExpressionKind::Arrow(_, _) => member(alloc, e, place),
+        ExpressionKind::PostStep(_, _)
+        | ExpressionKind::PreStep(_, _)
+        | ExpressionKind::Unary(_, _)
+        | ExpressionKind::SizeOfExpression(_)
+        | ExpressionKind::SizeOfType(_) => unary(alloc, e, place),
+        ExpressionKind::Cast(_, _) => cast(alloc, e, place),
+        ExpressionKind::Binary(_, _, _)
+        | ExpressionKind::Conditional(_, _, _)
+        | ExpressionKind::Assign(_, _, _) => operation(alloc, e, place),
+        ExpressionKind::Comma(_, _) => comma(alloc, e, place),
     }
 }
 
 /// The terms of arguments, in order.
 #[cycle(walk)]
-fn terms(alloc: Global, arguments: &[Expression], place: &mut Place) -> Result<Vec<Term>, Stop>
+pub(crate) fn terms(
+    alloc: Global,
+    arguments: &[Expression],
+    place: &mut Place,
+) -> Result<Vec<Term>, Stop>
     ensures { let es = expressions_from arguments.now in MatchResult result
         (λ xs. AreTyped (context_of place.old) es (terms_in place.old.structs xs.items)
         × (place.new ≡ behind_strings (strings_among es) place.old)

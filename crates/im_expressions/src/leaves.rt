@@ -35,6 +35,7 @@ fn text_fits(bytes: &[u8]) -> Result<(), Stop>
 }
 
 /// A string literal (C11 6.4.5).
+#[inline(never)]
 pub(crate) fn text(alloc: Global, bytes: &[u8], place: &mut Place) -> Result<Term, Stop>
     ensures { (at : ℕ) → IsTyped place.old (t.string_literal at bytes.now) place.new result }
 {

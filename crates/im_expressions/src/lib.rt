@@ -5,6 +5,7 @@ mod declarators;
 mod expressions;
 mod formals;
 mod leaves;
+mod operands;
 mod suffixes;
 mod type_names;
 

@@ -53,6 +53,7 @@ pub fn size_term(table: &TypeTable, at: u32, ty: &Type) -> Result<Term, Stop>
 }
 
 /// `a[b]` (C11 6.5.2.1).
+#[inline(never)]
 pub fn index_term(alloc: Global, table: &TypeTable, at: u32, x: Term, y: Term) -> Result<Term, Stop>
     ensures { IsMade table.now
         (d.index_asks (structs_of table.now) (term_in table.now x) (term_in table.now y))

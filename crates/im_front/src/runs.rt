@@ -6,7 +6,7 @@ use im_tok::{Token, TokenKind};
 use std::alloc::Global;
 
 /// The most such links from one statement, declaration or initialiser to the next. A tree of more
-/// might go deeper than a stack of 4 MiB allows.
+/// might go deeper than a stack of 2 MiB allows.
 const LINKS: usize = 512;
 
 /// What brackets stand around.

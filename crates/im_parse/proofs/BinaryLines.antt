@@ -1,5 +1,5 @@
 -- The lines of binary, cast and unary expressions, part by part.
-use Rattle.std.proofs.Common.{◌≡◌, ℕ, suc, ◌+◌, ◌-◌, ◌<◌, ◌≤◌, List, [], ◌∷◌, ◌++◌, length, drop, sym, refl, ap, ◌∙◌, subst, arith, append_assoc, add-one}
+use Rattle.std.proofs.Common.{◌≡◌, ℕ, zero, suc, ◌+◌, ◌-◌, ◌<◌, ◌≤◌, List, [], ◌∷◌, ◌++◌, length, drop, sym, refl, ap, ◌∙◌, subst, arith, append_assoc, add-one}
 use Rattle.std.specs.Prelude.{Option, Some, None, map, Result}
 use Rattle.std.proofs.lemmas.List.{append-nil}
 use Rattle.im_tok.specs.declared.punctuator.Punctuator.{Punctuator}
@@ -102,6 +102,26 @@ pub as_cast : {R : Type 0} (shape : R → tree.Expression) (T : List Name) (word
 as_cast shape T words p n e result one =
     subst (λ z. Parses shape (g.IsBinary T z) (Below (z + 4)) words p result) (sym e)
     (handed shape words (line (g.IsCast T) (λ t u d. g.casts d) (λ t u r h d f. cast_level T 10 p t u refl d) (start (g.IsBinary T 10) (Below 14) p (drop p words))) result one)
+
+-- what a tighter level refuses, a looser one refuses
+looser : (words : List Word) {T : List Name} {p k : ℕ} (d n : ℕ) → n + d ≤ 10 → Refuses (g.IsBinary T (n + d)) (Below ((n + d) + 4)) p (drop p words) k (drop k words) → Refuses (g.IsBinary T n) (Below (n + 4)) p (drop p words) k (drop k words)
+looser words {T = T} {p = p} {k = k} zero n h one =
+    let same : n + 0 ≡ n = omega arith in
+    subst (λ z. Refuses (g.IsBinary T z) (Below (z + 4)) p (drop p words) k (drop k words)) same one
+looser words {T = T} {p = p} {k = k} (suc d) n h one =
+    let same : n + suc d ≡ (n + 1) + d = omega arith in
+    refuses_level words (omega (arith, h)) (looser words d (n + 1) (omega (arith, h)) (subst (λ z. Refuses (g.IsBinary T z) (Below (z + 4)) p (drop p words) k (drop k words)) same one))
+
+pub refuses_looser : (words : List Word) {T : List Name} {p k : ℕ} (n l : ℕ) → n ≤ l → l ≤ 10 → Refuses (g.IsBinary T l) (Below (l + 4)) p (drop p words) k (drop k words) → Refuses (g.IsBinary T n) (Below (n + 4)) p (drop p words) k (drop k words)
+refuses_looser words {T = T} {p = p} {k = k} n l h most one =
+    let same : l ≡ n + (l - n) = omega (arith, h) in
+    looser words (l - n) n (omega (arith, h, most)) (subst (λ z. Refuses (g.IsBinary T z) (Below (z + 4)) p (drop p words) k (drop k words)) same one)
+
+-- what was read of a level goes on with the operators of the next looser one
+pub tails_from : (words : List Word) {T : List Name} {p q : ℕ} {a : tree.Expression} (l : ℕ) → 0 < l → l ≤ 10 → Reads (g.IsBinary T l) (Below (l + 4)) p (drop p words) a q (drop q words) → InTails T words (l - 1) p a q
+tails_from words {T = T} {p = p} {q = q} {a = a} l some most one =
+    let same : l ≡ (l - 1) + 1 = omega (arith, some) in
+    tails_start words (omega (arith, some, most)) (subst (λ z. Reads (g.IsBinary T z) (Below (z + 4)) p (drop p words) a q (drop q words)) same one)
 
 -- what a type name begins with
 pub begins : {T : List Name} {x : Word} → StartsSpecifier T x → BeginsSpecifiers T (Some x)

@@ -335,3 +335,17 @@ string_back T q s t u r v eq d = absurd (omega (arith, primary_code d r, ap head
 pub string_start : {T : List Name} {words : List Word} {p k : ℕ} {s : Name} → IsAt (text s) words p k → Within (g.IsPrimary T) (Below 19) p (drop p words) IsText NoTextBehind p (drop p words) (tree.string_literal p)
 string_start {T = T} {words = words} {p = p} {s = s} at =
     node (line_at (text s) (Made (tree.string_literal p) IsText) (ap head at.here) (string_into T p) (λ t u r v eq d e. string_back T p s t u r v eq d) (start (g.IsPrimary T) (Below 19) p (drop p words)))
+
+-- a postfix expression that goes on from a, read so far as b
+abbrev pub InPostfix : List Name → List Word → ℕ → ℕ → tree.Expression → ℕ → tree.Expression → Type 0
+InPostfix T words s p a q b = Within (Postfixes T s a) (Below 14) p (drop p words) (Postfixes T s b) (Below 14) q (drop q words) (λ t. t)
+
+pub postfix_goes : (words : List Word) {T : List Name} (s p : ℕ) (a : tree.Expression) → InPostfix T words s p a p a
+postfix_goes words {T = T} s p a = start (Postfixes T s a) (Below 14) p (drop p words)
+
+-- one part more
+pub postfix_more : (words : List Word) {T : List Name} {s p q k : ℕ} {a b d : tree.Expression} → InPostfix T words s p a q b → InPostfix T words s q b k d → InPostfix T words s p a k d
+postfix_more words so_far part = record {
+  reads = λ t n rest h. so_far.reads t n rest (part.reads t n rest h);
+  refuses = λ n rest h. so_far.refuses n rest (part.refuses n rest h);
+}

@@ -1,6 +1,5 @@
 -- What the parsing functions of the grammar promise.
-use Rattle.std.specs.Prelude.{ℕ, suc, ◌<◌, ◌≡◌, Bool, true, false, ◌||◌, List, [], ◌∷◌, ◌++◌, map, drop, Result, MatchResult, Option, Some, None}
-use Rattle.std.proofs.Common.{Bor}
+use Rattle.std.specs.Prelude.{ℕ, suc, ◌<◌, ◌≡◌, Bool, true, false, ◌||◌, List, [], ◌∷◌, ◌++◌, drop, Result, MatchResult, Option, Some, None}
 use Rattle.std.specs.declared.vec.Vec.{Vec}
 use Rattle.im_tok.specs.declared.punctuator.Punctuator.{Punctuator}
 use Rattle.im_tok.specs.declared.keyword.Keyword.{Keyword}
@@ -17,9 +16,6 @@ use Rattle.im_ctree.specs.declared.expression.Expression.{Expression}
 use Rattle.im_ctree.specs.Tree as t
 use Rattle.im_ctree.specs.Shape.{expression_of}
 use Rattle.im_ctree.specs.Follow.{head_rank, keyword_specifier}
-
-abbrev pub names_of : List (Bor Name) → List Name
-names_of names = map (λ (known : Bor Name). known.now) names
 
 abbrev pub tree_of : Expression → t.Expression
 tree_of e = expression_of e.at e.kind

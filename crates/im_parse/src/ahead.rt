@@ -4,7 +4,7 @@ ghost use Rattle.im_word.specs.Words.{mark};
 ghost use Rattle.im_ctree.specs.Grammar.{OpensParameters};
 ghost use Rattle.im_ctree.specs.Typedefs as typedefs;
 ghost use Rattle.im_parse_core.specs.Reads.{head};
-ghost use Rattle.im_parse.specs.Parsing.{names_of};
+ghost use Rattle.im_parse_core.specs.Names.{names_of};
 ghost use Rattle.im_parse.specs.Declaring.{GoesOn, BeginsForm, BeginsSuffix, HasName, MayBeNameless, IsNamed, specifier_tree};
 
 use super::form::Form;

@@ -4,7 +4,7 @@ ghost use Rattle.im_parse_core.specs.Reads.{head};
 ghost use Rattle.im_parse_core.specs.Places.{IsAt};
 ghost use Rattle.im_parse.specs.Declaring.{HasName, MayBeNameless, BeginsSuffix};
 ghost use Rattle.im_word.specs.Shown.{shown};
-ghost use Rattle.im_parse.specs.Parsing.{names_of};
+ghost use Rattle.im_parse_core.specs.Names.{names_of};
 ghost use Rattle.im_parse.specs.Cores.{IsCoreAt, IsInnerAt};
 
 use super::ahead::{has_mark, may_be_nameless, may_have_name, opens_parameters, suffix_ahead};

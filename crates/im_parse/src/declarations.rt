@@ -3,7 +3,8 @@ ghost use Rattle.im_tok.specs.declared.punctuator.Punctuator.TheVariants.{Semico
 ghost use Rattle.im_word.specs.Shown.{shown};
 ghost use Rattle.im_ctree.specs.Shape.{declaration_of, declarator_of};
 ghost use Rattle.im_ctree.specs.Units.{IsDeclaration, IsInitDeclarators, IsMaybeInitializer};
-ghost use Rattle.im_parse.specs.Parsing.{Parses, Below, Anything, Closed, names_of};
+ghost use Rattle.im_parse_core.specs.Names.{names_of};
+ghost use Rattle.im_parse.specs.Parsing.{Parses, Below, Anything, Closed};
 ghost use Rattle.im_parse.specs.Declaring.{AfterParameter};
 ghost use Rattle.im_parse.specs.Initializing.{InitsBehind, IsInitDeclarator, init_declarator_tree, init_declarators_tree, maybe_initializer_tree};
 

@@ -2,7 +2,8 @@ ghost use Rattle.std.specs.Prelude.{◌<◌, ◌^◌, length, map};
 ghost use Rattle.im_word.specs.Shown.{shown};
 ghost use Rattle.im_ctree.specs.Shape.{declarator_of};
 ghost use Rattle.im_ctree.specs.Grammar.{IsSuffixes};
-ghost use Rattle.im_parse.specs.Parsing.{Parses, Below, Anything, names_of};
+ghost use Rattle.im_parse_core.specs.Names.{names_of};
+ghost use Rattle.im_parse.specs.Parsing.{Parses, Below, Anything};
 ghost use Rattle.im_parse.specs.Declaring.{IsForm, IsMaybeForm, IsSuffix, AfterDeclarator, AfterParameter, maybe_tree, suffix_tree, suffixes_tree};
 
 use super::ahead::{declarator_ahead, suffix_ahead};

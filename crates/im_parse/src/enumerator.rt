@@ -2,7 +2,8 @@ ghost use Rattle.std.specs.Prelude.{◌<◌, ◌^◌, length, map};
 ghost use Rattle.im_tok.specs.declared.punctuator.Punctuator.TheVariants.{CloseBrace};
 ghost use Rattle.im_word.specs.Shown.{shown};
 ghost use Rattle.im_ctree.specs.Grammar.{IsEnumerators};
-ghost use Rattle.im_parse.specs.Parsing.{Parses, Below, Anything, Closed, names_of};
+ghost use Rattle.im_parse_core.specs.Names.{names_of};
+ghost use Rattle.im_parse.specs.Parsing.{Parses, Below, Anything, Closed};
 ghost use Rattle.im_parse.specs.Declaring.{IsEnumerator, enumerator_tree, enumerators_tree};
 
 use super::expressions::conditional;

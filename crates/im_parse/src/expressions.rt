@@ -1,7 +1,8 @@
 ghost use Rattle.std.specs.Prelude.{◌≡◌, ◌<◌, ◌≤◌, ◌+◌, ◌^◌, ◌↔◌, IsTrue, false, length, map};
 ghost use Rattle.im_word.specs.Shown.{shown};
 ghost use Rattle.im_ctree.specs.Grammar.{IsExpression, IsAssignment, IsConditional, IsBinary, IsCast, IsUnary};
-ghost use Rattle.im_parse.specs.Parsing.{Parses, Below, IsSized, names_of, tree_of, number_of, is_looser};
+ghost use Rattle.im_parse_core.specs.Names.{names_of};
+ghost use Rattle.im_parse.specs.Parsing.{Parses, Below, IsSized, tree_of, number_of, is_looser};
 ghost use Rattle.im_parse_core.specs.Parts.{Made};
 ghost use Rattle.im_ctree.specs.Tree.{size_of_expression};
 
@@ -116,14 +117,15 @@ fn binary(
     ensures { Parses tree_of (IsBinary (names_of names.now) level) (Below (level + 4))
         (map shown words.now) at result }
 {
-    if level == 10 {
-        return cast(alloc, words, names, at);
-    }
-    let (mut tree, mut next) = binary(alloc, words, names, level + 1, at)?;
-    while let Some((operator, behind)) = binary_at(words, next, level) {
-        let (right, end) = binary(alloc, words, names, level + 1, behind)?;
-        tree = build::binary(alloc, at, operator, tree, right)?;
-        next = end;
+    let (mut tree, mut next) = cast(alloc, words, names, at)?;
+    let mut tightest = 10;
+    while tightest > level {
+        tightest -= 1;
+        while let Some((operator, behind)) = binary_at(words, next, tightest) {
+            let (right, end) = binary(alloc, words, names, tightest + 1, behind)?;
+            tree = build::binary(alloc, at, operator, tree, right)?;
+            next = end;
+        }
     }
     Ok((tree, next))
 }

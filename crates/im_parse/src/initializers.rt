@@ -3,7 +3,8 @@ ghost use Rattle.im_tok.specs.declared.punctuator.Punctuator.TheVariants.{CloseB
 ghost use Rattle.im_word.specs.Shown.{shown};
 ghost use Rattle.im_ctree.specs.Shape.{initializer_of};
 ghost use Rattle.im_ctree.specs.Units.{IsInitializer};
-ghost use Rattle.im_parse.specs.Parsing.{Parses, Below, Anything, Closed, names_of};
+ghost use Rattle.im_parse_core.specs.Names.{names_of};
+ghost use Rattle.im_parse.specs.Parsing.{Parses, Below, Anything, Closed};
 ghost use Rattle.im_parse.specs.Initializing.{IsInitializers, initializers_tree};
 
 use super::expressions::assignment;

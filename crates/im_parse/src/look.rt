@@ -7,7 +7,8 @@ ghost use Rattle.im_parse_core.specs.Reads.{head};
 ghost use Rattle.im_parse_core.specs.Places.{IsAt};
 ghost use Rattle.im_ctree.specs.Operators as op;
 ghost use Rattle.im_ctree.specs.Follow.{keyword_specifier};
-ghost use Rattle.im_parse.specs.Parsing.{names_of, OperatorAt, NoOperator, BeginsSpecifiers, IsMarkAt};
+ghost use Rattle.im_parse_core.specs.Names.{names_of};
+ghost use Rattle.im_parse.specs.Parsing.{OperatorAt, NoOperator, BeginsSpecifiers, IsMarkAt};
 ghost use Rattle.im_parse.specs.Declaring.{WordAt, NoWord};
 
 use super::table::{

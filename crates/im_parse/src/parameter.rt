@@ -2,7 +2,8 @@ ghost use Rattle.std.specs.Prelude.{◌<◌, ◌^◌, length, map};
 ghost use Rattle.im_tok.specs.declared.punctuator.Punctuator.TheVariants.{CloseParen};
 ghost use Rattle.im_word.specs.Shown.{shown};
 ghost use Rattle.im_ctree.specs.Grammar.{IsParameters};
-ghost use Rattle.im_parse.specs.Parsing.{Parses, Anything, Closed, names_of};
+ghost use Rattle.im_parse_core.specs.Names.{names_of};
+ghost use Rattle.im_parse.specs.Parsing.{Parses, Anything, Closed};
 ghost use Rattle.im_parse.specs.Declaring as d;
 
 use super::declarators::maybe_declarator;

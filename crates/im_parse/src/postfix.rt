@@ -4,7 +4,8 @@ ghost use Rattle.im_parse_core.specs.Reads.{head};
 ghost use Rattle.im_tok.specs.declared.punctuator.Punctuator.TheVariants.{OpenParen, CloseParen};
 ghost use Rattle.im_word.specs.Shown.{shown};
 ghost use Rattle.im_ctree.specs.Grammar.{IsPostfix, IsPrimary, IsArguments};
-ghost use Rattle.im_parse.specs.Parsing.{Parses, Below, Anything, Closed, Postfixes, names_of, tree_of, items_tree};
+ghost use Rattle.im_parse_core.specs.Names.{names_of};
+ghost use Rattle.im_parse.specs.Parsing.{Parses, Below, Anything, Closed, Postfixes, tree_of, items_tree};
 
 use super::build;
 use super::expressions::{assignment, expression};
@@ -32,52 +33,59 @@ pub fn postfix(
     postfix_from(alloc, words, names, at, tree, next)
 }
 
-/// What goes on with a postfix expression that begins at place `at` and ends before `next`.
+/// What goes on with a postfix expression that begins at place `at` and so far ends before
+/// `behind_first`.
 #[cycle(expression)]
 fn postfix_from(
     alloc: Global,
     words: &[Word],
     names: &[&[u8]],
     at: u32,
-    tree: Expression,
-    next: u32,
+    first: Expression,
+    behind_first: u32,
 ) -> Result<(Expression, u32), Stop>
     requires { length words.now < 2 ^ 32 }
-    ensures { Parses tree_of (Postfixes (names_of names.now) at (tree_of tree)) (Below 14)
-        (map shown words.now) next result }
+    ensures { Parses tree_of (Postfixes (names_of names.now) at (tree_of first)) (Below 14)
+        (map shown words.now) behind_first result }
 {
-    if let Some(behind) = after_mark(words, next, Punctuator::OpenBracket) {
-        let (index, close) = expression(alloc, words, names, behind)?;
-        let end = expect_mark(words, close, Punctuator::CloseBracket)?;
-        let whole = build::index(alloc, at, tree, index)?;
-        return postfix_from(alloc, words, names, at, whole, end);
-    }
-    if let Some(behind) = after_mark(words, next, Punctuator::OpenParen) {
-        let (arguments, end) = closed_arguments(alloc, words, names, behind)?;
-        let whole = build::call(alloc, at, tree, arguments)?;
-        return postfix_from(alloc, words, names, at, whole, end);
-    }
-    if let Some(behind) = after_mark(words, next, Punctuator::Dot) {
-        let (name, end) = expect_name(words, behind)?;
-        let whole = build::member(alloc, at, tree, name)?;
-        return postfix_from(alloc, words, names, at, whole, end);
-    }
-    if let Some(behind) = after_mark(words, next, Punctuator::Arrow) {
-        let (name, end) = expect_name(words, behind)?;
-        let whole = build::arrow(alloc, at, tree, name)?;
-        return postfix_from(alloc, words, names, at, whole, end);
-    }
-    match step_at(words, next) {
-        None => Ok((tree, next)),
-        Some((operator, end)) => {
-            let whole = build::post_step(alloc, at, operator, tree)?;
-            postfix_from(alloc, words, names, at, whole, end)
+    let mut tree = first;
+    let mut next = behind_first;
+    loop {
+        if let Some(behind) = after_mark(words, next, Punctuator::OpenBracket) {
+            let (index, close) = expression(alloc, words, names, behind)?;
+            next = expect_mark(words, close, Punctuator::CloseBracket)?;
+            tree = build::index(alloc, at, tree, index)?;
+            continue;
         }
+        if let Some(behind) = after_mark(words, next, Punctuator::OpenParen) {
+            let (arguments, end) = closed_arguments(alloc, words, names, behind)?;
+            tree = build::call(alloc, at, tree, arguments)?;
+            next = end;
+            continue;
+        }
+        if let Some(behind) = after_mark(words, next, Punctuator::Dot) {
+            let (name, end) = expect_name(words, behind)?;
+            tree = build::member(alloc, at, tree, name)?;
+            next = end;
+            continue;
+        }
+        if let Some(behind) = after_mark(words, next, Punctuator::Arrow) {
+            let (name, end) = expect_name(words, behind)?;
+            tree = build::arrow(alloc, at, tree, name)?;
+            next = end;
+            continue;
+        }
+        let Some((operator, end)) = step_at(words, next) else {
+            return Ok((tree, next));
+        };
+        tree = build::post_step(alloc, at, operator, tree)?;
+        next = end;
     }
 }
 
 /// The arguments of a call and the parenthesis that closes them (C11 6.5.2.2), and the place behind all.
 #[cycle(expression)]
+#[inline(never)]
 fn closed_arguments(
     alloc: Global,
     words: &[Word],
@@ -105,6 +113,7 @@ fn closed_arguments(
 
 /// A primary expression (C11 6.5.1), and the place behind it.
 #[cycle(expression)]
+#[inline(never)]
 fn primary(
     alloc: Global,
     words: &[Word],
@@ -124,6 +133,7 @@ fn primary(
 }
 
 /// A primary expression without parentheses (C11 6.5.1), and the place behind it.
+#[inline(never)]
 fn single(
     alloc: Global,
     words: &[Word],

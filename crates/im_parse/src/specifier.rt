@@ -6,7 +6,8 @@ ghost use Rattle.im_ctree.specs.Shape.{specifiers_of};
 ghost use Rattle.im_ctree.specs.Typedefs.{has_type};
 ghost use Rattle.im_ctree.specs.Grammar.{IsSpecifier, IsSpecifiers};
 ghost use Rattle.im_parse_core.specs.Reads.{head};
-ghost use Rattle.im_parse.specs.Parsing.{Parses, names_of};
+ghost use Rattle.im_parse_core.specs.Names.{names_of};
+ghost use Rattle.im_parse.specs.Parsing.{Parses};
 ghost use Rattle.im_parse.specs.Declaring.{GoesOn, Unbraced, AfterSpecifiers, IsStructRest, IsEnumRest, specifier_tree};
 
 use super::ahead::{adds_type, specifier_ahead};

@@ -3,7 +3,8 @@ ghost use Rattle.im_tok.specs.declared.punctuator.Punctuator.TheVariants.{CloseP
 ghost use Rattle.im_word.specs.Shown.{shown};
 ghost use Rattle.im_ctree.specs.Shape.{type_name_of};
 ghost use Rattle.im_ctree.specs.Grammar.{IsTypeName};
-ghost use Rattle.im_parse.specs.Parsing.{Parses, Anything, Closed, names_of};
+ghost use Rattle.im_parse_core.specs.Names.{names_of};
+ghost use Rattle.im_parse.specs.Parsing.{Parses, Anything, Closed};
 
 use super::declarators::maybe_declarator;
 use super::form::Form;

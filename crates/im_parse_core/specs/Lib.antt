@@ -1,3 +1,4 @@
+pub mod Names
 pub mod Reads
 pub mod Parts
 pub mod Places

@@ -2,6 +2,7 @@ ghost use Rattle.std.specs.Prelude.{◌≡◌, ◌∷◌, [], ◌↔◌, ◌<◌
 ghost use Rattle.std.specs.List.{Contains};
 ghost use Rattle.im_word.specs.Shown.{shown};
 ghost use Rattle.im_word.specs.Words.{name, keyword, mark};
+ghost use Rattle.im_parse_core.specs.Names.{names_of};
 ghost use Rattle.im_parse_core.specs.Reads.{head};
 ghost use Rattle.im_parse_core.specs.Places.{IsAt};
 
@@ -85,8 +86,8 @@ fn is_same(name: &[u8], other: &[u8]) -> bool
     name == other
 }
 
-/// Whether a name is one of the typedef names.
-pub fn is_typedef_name(names: &[&[u8]], name: &[u8]) -> bool
+/// Whether a name is one of these.
+fn is_among(names: &[&[u8]], name: &[u8]) -> bool
     ensures { IsTrue result ↔ Contains (map (λ known. known.now) names.now) name.now }
 {
     for known in names {
@@ -95,4 +96,11 @@ pub fn is_typedef_name(names: &[&[u8]], name: &[u8]) -> bool
         }
     }
     false
+}
+
+/// Whether a name is one of the typedef names in hand, of which the one declared last stands last.
+pub fn is_typedef_name(names: &[&[u8]], name: &[u8]) -> bool
+    ensures { IsTrue result ↔ Contains (names_of names.now) name.now }
+{
+    is_among(names, name)
 }

@@ -14,6 +14,7 @@ use Rattle.im_ctree.specs.Shape.{declaration_of, statement_of, block_items_of}
 use Rattle.im_ctree.specs.declared.statement.Statement.{Statement}
 use Rattle.im_ctree.specs.declared.statement.Block.{Block}
 use Rattle.im_ctree.specs.declared.statement.BlockItem as bi
+use Rattle.im_parse_core.specs.Names.{names_of}
 use Rattle.im_parse_core.specs.Reads.{Family, Ending, head}
 use Rattle.im_parse_core.specs.Parts.{Both, After, Made, Done}
 use Rattle.im_parse_core.specs.Lists.{before}
@@ -114,5 +115,6 @@ ExpressionLine T s = Both (u'.IsMaybeExpression T) (λ e. After (mark Semicolon)
 abbrev pub BlockLine : List Name → ℕ → Family t.Statement
 BlockLine T s = Made (t.block_statement s) (u'.IsBlock T)
 
+-- the typedef names in hand
 abbrev pub known_names : {G : Type 0} → Vec (Bor Name) G → List Name
-known_names names = map (λ (known : Bor Name). known.now) names.items
+known_names names = names_of names.items

@@ -3,7 +3,8 @@ ghost use Rattle.im_tok.specs.declared.punctuator.Punctuator.TheVariants.{CloseP
 ghost use Rattle.im_word.specs.Shown.{shown};
 ghost use Rattle.im_ctree.specs.Shape.{optional_expression_of};
 ghost use Rattle.im_ctree.specs.Units.{IsMaybeExpression};
-ghost use Rattle.im_parse.specs.Parsing.{Parses, Anything, Closed, names_of, tree_of};
+ghost use Rattle.im_parse_core.specs.Names.{names_of};
+ghost use Rattle.im_parse.specs.Parsing.{Parses, Anything, Closed, tree_of};
 ghost use Rattle.im_parse_statement.specs.Statements.{Condition};
 
 use im_ctree::Expression;

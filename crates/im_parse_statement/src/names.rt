@@ -1,12 +1,12 @@
 ghost use Rattle.std.specs.Prelude.{◌≡◌, ◌<◌, ◌^◌, ◌||◌, [], ◌∷◌, ◌++◌, MatchOption, MatchResult, IfOk, IfSome, length, map};
 ghost use Rattle.im_word.specs.Shown.{shown};
 ghost use Rattle.im_ctree.specs.Tree as t;
-ghost use Rattle.im_ctree.specs.Shape.{declaration_of, declarator_of};
+ghost use Rattle.im_ctree.specs.Shape.{declaration_of, declarator_of, init_declarators_of};
 ghost use Rattle.im_ctree.specs.Typedefs as typedefs;
 ghost use Rattle.im_ctree.specs.Units.{IsDeclaration};
 ghost use Rattle.im_parse_core.specs.declared.stop.Stop.TheVariants.{Memory};
 ghost use Rattle.im_parse.specs.Parsing.{Parses, Anything};
-ghost use Rattle.im_parse_statement.specs.Names.{specifier_tree, specifiers_list, names_in};
+ghost use Rattle.im_parse_statement.specs.Names.{specifier_tree, specifiers_list};
 ghost use Rattle.im_parse_statement.specs.Statements.{known_names};
 
 use im_ctree::{
@@ -21,7 +21,8 @@ use std::alloc::Global;
 fn find_name<'b>(words: &[Word<'b>], at: u32, name: &[u8]) -> Option<&'b [u8]>
     ensures { IfSome result (λ found. found.now ≡ name.now) }
 {
-    for word in words.iter().skip(at as usize) {
+    let rest = words.get(at as usize..)?;
+    for word in rest {
         if let Word::Name(bytes) = word {
             if *bytes == name {
                 return Some(*bytes);
@@ -66,52 +67,50 @@ fn declared_name(declarator: &Declarator) -> Option<&[u8]>
     }
 }
 
-/// Puts the name that a declarator at this place or behind it declares behind those that were found.
+/// Puts the name that a declarator declares before those that are known. Its bytes are those of the
+/// first such word from the declarator's first word on.
 fn push_name<'b>(
     words: &[Word<'b>],
-    at: u32,
+    names: &mut Vec<&'b [u8]>,
     declarator: &Declarator,
-    found: &mut Vec<&'b [u8]>,
 ) -> Result<(), Stop>
-    ensures { MatchResult result (λ done. known_names found.new ≡ known_names found.old ++
-        typedefs.declared_name (declarator_of declarator.now)) (λ stop. stop ≡ Memory) }
+    ensures { MatchResult result (λ done. known_names names.new ≡ typedefs.declared_name
+        (declarator_of declarator.now) ++ known_names names.old) (λ stop. stop ≡ Memory) }
 {
     match declared_name(declarator) {
         None => Ok(()),
-        Some(name) => match find_name(words, at, name) {
+        Some(name) => match find_name(words, declarator.at, name) {
             None => Err(Stop::Memory),
             Some(bytes) => {
-                found.push(bytes)?;
+                names.push(bytes)?;
                 Ok(())
             }
         },
     }
 }
 
-/// The names that these declarators declare, which stand at this place or behind it.
-fn declared_names<'b>(
-    alloc: Global,
+/// Puts the names that these declarators declare before those that are known.
+fn push_names<'b>(
     words: &[Word<'b>],
-    at: u32,
+    names: &mut Vec<&'b [u8]>,
     declarators: &[InitDeclarator],
-) -> Result<Vec<&'b [u8]>, Stop>
-    ensures { MatchResult result (λ found. known_names found ≡ names_in declarators.now)
-        (λ stop. stop ≡ Memory) }
+) -> Result<(), Stop>
+    ensures { MatchResult result (λ done. known_names names.new ≡ typedefs.declared_names
+        (init_declarators_of declarators.now) ++ known_names names.old) (λ stop. stop ≡ Memory) }
 {
-    let mut found = Vec::new(alloc);
-    for item in declarators {
-        push_name(words, at, &item.declarator, &mut found)?;
+    let mut left = declarators.len();
+    while left > 0 {
+        left -= 1;
+        push_name(words, names, &declarators[left].declarator)?;
     }
-    Ok(found)
+    Ok(())
 }
 
-/// Puts the names that a declaration at this place makes typedef names before those that are known.
+/// Puts the names that a declaration makes typedef names before those that are known (C11 6.7.8).
 pub fn remember<'b>(
-    alloc: Global,
     words: &[Word<'b>],
     names: &mut Vec<&'b [u8]>,
     tree: &Declaration,
-    at: u32,
 ) -> Result<(), Stop>
     ensures { MatchResult result (λ done. known_names names.new ≡ typedefs.typedef_names
         (known_names names.old) (declaration_of tree.now)) (λ stop. stop ≡ Memory) }
@@ -119,9 +118,7 @@ pub fn remember<'b>(
     if !has_typedef(&tree.specifiers.items) {
         return Ok(());
     }
-    let mut all = declared_names(alloc, words, at, &tree.declarators)?;
-    all.append(names)?;
-    *names = all;
+    push_names(words, names, &tree.declarators)?;
     Ok(())
 }
 
@@ -139,6 +136,6 @@ pub fn declared<'b>(
         (known_names names.old) (declaration_of read.0)) }
 {
     let (tree, end) = declaration(alloc, words, names, at)?;
-    remember(alloc, words, names, &tree, at)?;
+    remember(words, names, &tree)?;
     Ok((tree, end))
 }

@@ -4,7 +4,8 @@ ghost use Rattle.im_word.specs.Words.{keyword};
 ghost use Rattle.im_ctree.specs.Typedefs.{names_behind};
 ghost use Rattle.im_ctree.specs.Units.{IsStatement};
 ghost use Rattle.im_parse_core.specs.Places.{IsAt};
-ghost use Rattle.im_parse.specs.Parsing.{Parses, Anything, names_of};
+ghost use Rattle.im_parse_core.specs.Names.{names_of};
+ghost use Rattle.im_parse.specs.Parsing.{Parses, Anything};
 ghost use Rattle.im_parse_statement.specs.Statements.{statement_tree, AfterStatement, RestOf, ExpressionLine, BlockLine, known_names, start_keyword};
 
 use super::blocks::block;
@@ -79,6 +80,7 @@ fn started<'b>(
 
 /// A block as a statement (C11 6.8.2), and the place behind it.
 #[cycle(statement)]
+#[inline(never)]
 fn block_statement<'b>(
     alloc: Global,
     words: &[Word<'b>],
@@ -98,6 +100,7 @@ fn block_statement<'b>(
 }
 
 /// An expression statement (C11 6.8.3), and the place behind it.
+#[inline(never)]
 fn expression_statement<'b>(
     alloc: Global,
     words: &[Word<'b>],
@@ -118,6 +121,7 @@ fn expression_statement<'b>(
 }
 
 /// The rest of a `break` statement at place `at` (C11 6.8.6.3), and the place behind it.
+#[inline(never)]
 fn break_statement<'b>(
     words: &[Word<'b>],
     names: &mut Vec<&'b [u8]>,
@@ -138,6 +142,7 @@ fn break_statement<'b>(
 }
 
 /// The rest of a `continue` statement at place `at` (C11 6.8.6.2), and the place behind it.
+#[inline(never)]
 fn continue_statement<'b>(
     words: &[Word<'b>],
     names: &mut Vec<&'b [u8]>,
@@ -159,6 +164,7 @@ fn continue_statement<'b>(
 }
 
 /// The rest of a `return` statement at place `at` (C11 6.8.6.4), and the place behind it.
+#[inline(never)]
 fn return_statement<'b>(
     alloc: Global,
     words: &[Word<'b>],

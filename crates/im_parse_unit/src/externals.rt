@@ -51,6 +51,6 @@ pub fn external<'b>(
         specifiers,
         declarators,
     };
-    remember(alloc, words, names, &tree, at)?;
+    remember(words, names, &tree)?;
     Ok((External::Declaration(tree), end))
 }

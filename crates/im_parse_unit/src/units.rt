@@ -12,19 +12,19 @@ use im_parse_core::Stop;
 use im_word::Word;
 use std::alloc::Global;
 
-/// The typedef names that stand in for headers.
+/// The typedef names that stand in for headers, the first one last.
 fn predeclared(alloc: Global) -> Result<Vec<&'static [u8]>, Stop>
     ensures { MatchResult result (λ names. known_names names ≡ predeclared_names)
         (λ stop. stop ≡ Memory) }
 {
     let mut names: Vec<&'static [u8]> = Vec::new(alloc);
-    names.push(b"int8_t")?;
-    names.push(b"uint8_t")?;
-    names.push(b"int16_t")?;
-    names.push(b"uint16_t")?;
-    names.push(b"int32_t")?;
-    names.push(b"uint32_t")?;
     names.push(b"size_t")?;
+    names.push(b"uint32_t")?;
+    names.push(b"int32_t")?;
+    names.push(b"uint16_t")?;
+    names.push(b"int16_t")?;
+    names.push(b"uint8_t")?;
+    names.push(b"int8_t")?;
     Ok(names)
 }
 

@@ -36,180 +36,180 @@ pub expressions::expression-returns-in-Text : goal.expressions::expression-retur
 expressions::expression-returns-in-Text t c =
     rw c.in-Text.is (rw c.deref-in-Text.ensures.value at (c.text.ensures c.args.e.now.at))
 
-pub expressions::expression-returns-in_err-x-in-Index : goal.expressions::expression-returns-in_err-x-in-Index
-expressions::expression-returns-in_err-x-in-Index t c =
+pub operands::subscript-returns-in_err-x : goal.operands::subscript-returns-in_err-x
+operands::subscript-returns-in_err-x t c =
     let p = err_from_is_err_and c.from_residual.result c.from_residual.ensures.1 in
-    rw (p.1, p.2, c.in-Index.is) (fault_of b.indexed _ (rw c.deref-in-Index.ensures at c.in_err-x-in-Index.ensures))
+    rw (p.1, p.2, c.in-Index.is) (fault_of b.indexed _ (rw c.deref.ensures at c.in_err-x.ensures))
 
-pub expressions::expression-returns-in_err-y-in-Index : goal.expressions::expression-returns-in_err-y-in-Index
-expressions::expression-returns-in_err-y-in-Index t c =
-    let p = err_from_is_err_and c.from_residual-in_err-y-in-Index.result c.from_residual-in_err-y-in-Index.ensures.1 in
-    rw (p.1, p.2, c.in-Index.is) (second_fault c.args.place.now (strings_in (expression_in c.in-Index.whole.value)) b.subscript (rw c.deref-in-Index.ensures at c.in_ok-x-in-Index.ensures).1 _ (rw c.deref-in-Index-2.ensures at c.in_err-y-in-Index.ensures))
+pub operands::subscript-returns-in_err-y : goal.operands::subscript-returns-in_err-y
+operands::subscript-returns-in_err-y t c =
+    let p = err_from_is_err_and c.from_residual-in_err-y.result c.from_residual-in_err-y.ensures.1 in
+    rw (p.1, p.2, c.in-Index.is) (second_fault c.args.place.now (strings_in (expression_in c.in-Index.whole.value)) b.subscript (rw c.deref.ensures at c.in_ok-x.ensures).1 _ (rw c.deref-2.ensures at c.in_err-y.ensures))
 
-pub expressions::expression-returns-in_ok-y-in-Index : goal.expressions::expression-returns-in_ok-y-in-Index
-expressions::expression-returns-in_ok-y-in-Index t c =
-    rw c.in-Index.is (index c.args.place.now _ c.in_ok-x-in-Index.x c.in_ok-y-in-Index.y c.index_term.result (rw c.deref-in-Index.ensures at c.in_ok-x-in-Index.ensures) (rw c.deref-in-Index-2.ensures at c.in_ok-y-in-Index.ensures) c.table.ensures c.index_term.ensures)
+pub operands::subscript-returns : goal.operands::subscript-returns
+operands::subscript-returns t c =
+    rw c.in-Index.is (index c.args.place.now _ c.in_ok-x.x c.in_ok-y.y c.index_term.result (rw c.deref.ensures at c.in_ok-x.ensures) (rw c.deref-2.ensures at c.in_ok-y.ensures) c.table.ensures c.index_term.ensures)
 
-pub expressions::expression-returns-in_err-xs-in-Call : goal.expressions::expression-returns-in_err-xs-in-Call
-expressions::expression-returns-in_err-xs-in-Call t c =
-    let p = err_from_is_err_and c.from_residual-in_err-xs-in-Call.result c.from_residual-in_err-xs-in-Call.ensures.1 in
-    rw (p.1, p.2, (ap (expression_of c.args.e.now.at) c.in-Call.is ∙ call_tree c.args.e.now.at c.in-Call.callee c.in-Call.arguments)) (call_fault c.args.place.now _ _ _ _ (rw c.deref-in-Call.ensures at (sym c.names_function.ensures ∙ c.if-names_function.true)) (rw c.deref-then-names_function.ensures.value at c.in_err-xs-in-Call.ensures))
+pub operands::call-returns-in_err-xs : goal.operands::call-returns-in_err-xs
+operands::call-returns-in_err-xs t c =
+    let p = err_from_is_err_and c.from_residual.result c.from_residual.ensures.1 in
+    rw (p.1, p.2, (ap (expression_of c.args.e.now.at) c.in-Call.is ∙ call_tree c.args.e.now.at c.in-Call.callee c.in-Call.arguments)) (call_fault c.args.place.now _ _ _ _ (rw c.deref.ensures at (sym c.names_function.ensures ∙ c.if-names_function.true)) (rw c.deref-then-names_function.ensures.value at c.in_err-xs.ensures))
 
-pub expressions::expression-returns-in_ok-xs-in-Call : goal.expressions::expression-returns-in_ok-xs-in-Call
-expressions::expression-returns-in_ok-xs-in-Call t c =
-    rw (ap (expression_of c.args.e.now.at) c.in-Call.is ∙ call_tree c.args.e.now.at c.in-Call.callee c.in-Call.arguments) (call c.args.place.now _ _ _ c.in_ok-xs-in-Call.xs.items c.called.result (rw c.deref-in-Call.ensures at (sym c.names_function.ensures ∙ c.if-names_function.true)) (rw c.deref-then-names_function.ensures.value at c.in_ok-xs-in-Call.ensures) (rw c.deref-then-names_function-2.ensures at c.called.ensures))
+pub operands::call-returns-in_ok-xs : goal.operands::call-returns-in_ok-xs
+operands::call-returns-in_ok-xs t c =
+    rw (ap (expression_of c.args.e.now.at) c.in-Call.is ∙ call_tree c.args.e.now.at c.in-Call.callee c.in-Call.arguments) (call c.args.place.now _ _ _ c.in_ok-xs.xs.items c.called.result (rw c.deref.ensures at (sym c.names_function.ensures ∙ c.if-names_function.true)) (rw c.deref-then-names_function.ensures.value at c.in_ok-xs.ensures) (rw c.deref-then-names_function-2.ensures at c.called.ensures))
 
-pub expressions::expression-returns-in_err-x-in-Call : goal.expressions::expression-returns-in_err-x-in-Call
-expressions::expression-returns-in_err-x-in-Call t c =
-    let p = err_from_is_err_and c.from_residual-in_err-x-in-Call.result c.from_residual-in_err-x-in-Call.ensures.1 in
-    rw (p.1, p.2, (ap (expression_of c.args.e.now.at) c.in-Call.is ∙ call_tree c.args.e.now.at c.in-Call.callee c.in-Call.arguments)) (callee_fault c.args.place.now _ _ _ _ (rw c.deref-in-Call.ensures at (sym c.names_function.ensures ∙ c.if-names_function.false)) (rw c.deref-else-names_function.ensures at c.in_err-x-in-Call.ensures))
+pub operands::call-returns-in_err-x : goal.operands::call-returns-in_err-x
+operands::call-returns-in_err-x t c =
+    let p = err_from_is_err_and c.from_residual-in_err-x.result c.from_residual-in_err-x.ensures.1 in
+    rw (p.1, p.2, (ap (expression_of c.args.e.now.at) c.in-Call.is ∙ call_tree c.args.e.now.at c.in-Call.callee c.in-Call.arguments)) (callee_fault c.args.place.now _ _ _ _ (rw c.deref.ensures at (sym c.names_function.ensures ∙ c.if-names_function.false)) (rw c.deref-else-names_function.ensures at c.in_err-x.ensures))
 
-pub expressions::expression-returns-in_err-xs-in-Call-2 : goal.expressions::expression-returns-in_err-xs-in-Call-2
-expressions::expression-returns-in_err-xs-in-Call-2 t c =
-    let p = err_from_is_err_and c.from_residual-in_err-xs-in-Call-2.result c.from_residual-in_err-xs-in-Call-2.ensures.1 in
-    rw (p.1, p.2, (ap (expression_of c.args.e.now.at) c.in-Call.is ∙ call_tree c.args.e.now.at c.in-Call.callee c.in-Call.arguments)) (arguments_fault c.args.place.now _ _ _ _ (rw c.deref-else-names_function.ensures at c.in_ok-x-in-Call.ensures).1 (rw c.deref-else-names_function-2.ensures.value at c.in_err-xs-in-Call-2.ensures))
+pub operands::call-returns-in_err-xs-2 : goal.operands::call-returns-in_err-xs-2
+operands::call-returns-in_err-xs-2 t c =
+    let p = err_from_is_err_and c.from_residual-in_err-xs-2.result c.from_residual-in_err-xs-2.ensures.1 in
+    rw (p.1, p.2, (ap (expression_of c.args.e.now.at) c.in-Call.is ∙ call_tree c.args.e.now.at c.in-Call.callee c.in-Call.arguments)) (arguments_fault c.args.place.now _ _ _ _ (rw c.deref-else-names_function.ensures at c.in_ok-x.ensures).1 (rw c.deref-else-names_function-2.ensures.value at c.in_err-xs-2.ensures))
 
-pub expressions::expression-returns-in_ok-xs-in-Call-2 : goal.expressions::expression-returns-in_ok-xs-in-Call-2
-expressions::expression-returns-in_ok-xs-in-Call-2 t c =
-    rw (c.not_called.ensures, (ap (expression_of c.args.e.now.at) c.in-Call.is ∙ call_tree c.args.e.now.at c.in-Call.callee c.in-Call.arguments)) (uncalled c.args.place.now _ _ _ c.in_ok-x-in-Call.x c.in_ok-xs-in-Call-2.xs.items (rw c.deref-in-Call.ensures at (sym c.names_function.ensures ∙ c.if-names_function.false)) (rw c.deref-else-names_function.ensures at c.in_ok-x-in-Call.ensures) (rw c.deref-else-names_function-2.ensures.value at c.in_ok-xs-in-Call-2.ensures))
+pub operands::call-returns-in_ok-xs-2 : goal.operands::call-returns-in_ok-xs-2
+operands::call-returns-in_ok-xs-2 t c =
+    rw (c.not_called.ensures, (ap (expression_of c.args.e.now.at) c.in-Call.is ∙ call_tree c.args.e.now.at c.in-Call.callee c.in-Call.arguments)) (uncalled c.args.place.now _ _ _ c.in_ok-x.x c.in_ok-xs-2.xs.items (rw c.deref.ensures at (sym c.names_function.ensures ∙ c.if-names_function.false)) (rw c.deref-else-names_function.ensures at c.in_ok-x.ensures) (rw c.deref-else-names_function-2.ensures.value at c.in_ok-xs-2.ensures))
 
-pub expressions::expression-returns-in_err-x-in-Member : goal.expressions::expression-returns-in_err-x-in-Member
-expressions::expression-returns-in_err-x-in-Member t c =
-    let p = err_from_is_err_and c.from_residual-in_err-x-in-Member.result c.from_residual-in_err-x-in-Member.ensures.1 in
-    rw (p.1, p.2, c.in-Member.is) (fault_of b.whole _ (rw c.deref-in-Member.ensures at c.in_err-x-in-Member.ensures))
+pub operands::member-returns-in_err-x-in-Member : goal.operands::member-returns-in_err-x-in-Member
+operands::member-returns-in_err-x-in-Member t c =
+    let p = err_from_is_err_and c.from_residual.result c.from_residual.ensures.1 in
+    rw (p.1, p.2, c.in-Member.is) (fault_of b.whole _ (rw c.deref.ensures at c.in_err-x-in-Member.ensures))
 
-pub expressions::expression-returns-in_ok-x-in-Member : goal.expressions::expression-returns-in_ok-x-in-Member
-expressions::expression-returns-in_ok-x-in-Member t c =
-    rw c.in-Member.is (member c.args.place.now _ _ c.in_ok-x-in-Member.x c.dotted.result (rw c.deref-in-Member.ensures at c.in_ok-x-in-Member.ensures) c.table-in-Member.ensures (rw c.deref-in-Member-2.ensures.value at c.dotted.ensures))
+pub operands::member-returns-in_ok-x-in-Member : goal.operands::member-returns-in_ok-x-in-Member
+operands::member-returns-in_ok-x-in-Member t c =
+    rw c.in-Member.is (member c.args.place.now _ _ c.in_ok-x-in-Member.x c.dotted.result (rw c.deref.ensures at c.in_ok-x-in-Member.ensures) c.table.ensures (rw c.deref-in-Member.ensures.value at c.dotted.ensures))
 
-pub expressions::expression-returns-in_err-x-in-Arrow : goal.expressions::expression-returns-in_err-x-in-Arrow
-expressions::expression-returns-in_err-x-in-Arrow t c =
+pub operands::member-returns-in_err-x-in-Arrow : goal.operands::member-returns-in_err-x-in-Arrow
+operands::member-returns-in_err-x-in-Arrow t c =
     let p = err_from_is_err_and c.from_residual-in_err-x-in-Arrow.result c.from_residual-in_err-x-in-Arrow.ensures.1 in
     rw (p.1, p.2, c.in-Arrow.is) (fault_of b.pointer_to_whole _ (rw c.deref-in-Arrow.ensures at c.in_err-x-in-Arrow.ensures))
 
-pub expressions::expression-returns-in_ok-x-in-Arrow : goal.expressions::expression-returns-in_ok-x-in-Arrow
-expressions::expression-returns-in_ok-x-in-Arrow t c =
+pub operands::member-returns-in_ok-x-in-Arrow : goal.operands::member-returns-in_ok-x-in-Arrow
+operands::member-returns-in_ok-x-in-Arrow t c =
     rw c.in-Arrow.is (arrow c.args.place.now _ _ c.in_ok-x-in-Arrow.x c.arrowed.result (rw c.deref-in-Arrow.ensures at c.in_ok-x-in-Arrow.ensures) c.table-in-Arrow.ensures (rw c.deref-in-Arrow-2.ensures.value at c.arrowed.ensures))
 
-pub expressions::expression-returns-in_err-x-in-PostStep : goal.expressions::expression-returns-in_err-x-in-PostStep
-expressions::expression-returns-in_err-x-in-PostStep t c =
-    let p = err_from_is_err_and c.from_residual-in_err-x-in-PostStep.result c.from_residual-in_err-x-in-PostStep.ensures.1 in
-    rw (p.1, p.2, c.in-PostStep.is) (fault_of b.post_stepped _ (rw c.deref-in-PostStep.ensures at c.in_err-x-in-PostStep.ensures))
+pub operands::unary-returns-in_err-x-in-PostStep : goal.operands::unary-returns-in_err-x-in-PostStep
+operands::unary-returns-in_err-x-in-PostStep t c =
+    let p = err_from_is_err_and c.from_residual.result c.from_residual.ensures.1 in
+    rw (p.1, p.2, c.in-PostStep.is) (fault_of b.post_stepped _ (rw c.deref.ensures at c.in_err-x-in-PostStep.ensures))
 
-pub expressions::expression-returns-in_ok-x-in-PostStep : goal.expressions::expression-returns-in_ok-x-in-PostStep
-expressions::expression-returns-in_ok-x-in-PostStep t c =
-    rw c.in-PostStep.is (post_step c.args.place.now _ _ c.in_ok-x-in-PostStep.x c.step_term.result (rw c.deref-in-PostStep.ensures at c.in_ok-x-in-PostStep.ensures) c.table-in-PostStep.ensures c.step_term.ensures)
+pub operands::unary-returns-in_ok-x-in-PostStep : goal.operands::unary-returns-in_ok-x-in-PostStep
+operands::unary-returns-in_ok-x-in-PostStep t c =
+    rw c.in-PostStep.is (post_step c.args.place.now _ _ c.in_ok-x-in-PostStep.x c.step_term.result (rw c.deref.ensures at c.in_ok-x-in-PostStep.ensures) c.table.ensures c.step_term.ensures)
 
-pub expressions::expression-returns-in_err-x-in-PreStep : goal.expressions::expression-returns-in_err-x-in-PreStep
-expressions::expression-returns-in_err-x-in-PreStep t c =
+pub operands::unary-returns-in_err-x-in-PreStep : goal.operands::unary-returns-in_err-x-in-PreStep
+operands::unary-returns-in_err-x-in-PreStep t c =
     let p = err_from_is_err_and c.from_residual-in_err-x-in-PreStep.result c.from_residual-in_err-x-in-PreStep.ensures.1 in
     rw (p.1, p.2, c.in-PreStep.is) (fault_of b.pre_stepped _ (rw c.deref-in-PreStep.ensures at c.in_err-x-in-PreStep.ensures))
 
-pub expressions::expression-returns-in_ok-x-in-PreStep : goal.expressions::expression-returns-in_ok-x-in-PreStep
-expressions::expression-returns-in_ok-x-in-PreStep t c =
+pub operands::unary-returns-in_ok-x-in-PreStep : goal.operands::unary-returns-in_ok-x-in-PreStep
+operands::unary-returns-in_ok-x-in-PreStep t c =
     rw c.in-PreStep.is (pre_step c.args.place.now _ _ c.in_ok-x-in-PreStep.x c.step_term-in-PreStep.result (rw c.deref-in-PreStep.ensures at c.in_ok-x-in-PreStep.ensures) c.table-in-PreStep.ensures c.step_term-in-PreStep.ensures)
 
-pub expressions::expression-returns-in_err-x-in-Unary : goal.expressions::expression-returns-in_err-x-in-Unary
-expressions::expression-returns-in_err-x-in-Unary t c =
+pub operands::unary-returns-in_err-x-in-Unary : goal.operands::unary-returns-in_err-x-in-Unary
+operands::unary-returns-in_err-x-in-Unary t c =
     let p = err_from_is_err_and c.from_residual-in_err-x-in-Unary.result c.from_residual-in_err-x-in-Unary.ensures.1 in
     rw (p.1, p.2, c.in-Unary.is) (fault_of b.operand _ (rw c.deref-in-Unary.ensures at c.in_err-x-in-Unary.ensures))
 
-pub expressions::expression-returns-in_ok-x-in-Unary : goal.expressions::expression-returns-in_ok-x-in-Unary
-expressions::expression-returns-in_ok-x-in-Unary t c =
+pub operands::unary-returns-in_ok-x-in-Unary : goal.operands::unary-returns-in_ok-x-in-Unary
+operands::unary-returns-in_ok-x-in-Unary t c =
     rw c.in-Unary.is (unary c.args.place.now _ _ c.in_ok-x-in-Unary.x c.unary_term.result (rw c.deref-in-Unary.ensures at c.in_ok-x-in-Unary.ensures) c.table-in-Unary.ensures c.unary_term.ensures)
 
-pub expressions::expression-returns-in_err-x-in-SizeOfExpression : goal.expressions::expression-returns-in_err-x-in-SizeOfExpression
-expressions::expression-returns-in_err-x-in-SizeOfExpression t c =
+pub operands::unary-returns-in_err-x-in-SizeOfExpression : goal.operands::unary-returns-in_err-x-in-SizeOfExpression
+operands::unary-returns-in_err-x-in-SizeOfExpression t c =
     let p = err_from_is_err_and c.from_residual-in_err-x-in-SizeOfExpression.result c.from_residual-in_err-x-in-SizeOfExpression.ensures.1 in
     rw (p.1, p.2, c.in-SizeOfExpression.is) (fault_of b.measured_expression _ (rw c.deref-in-SizeOfExpression.ensures at c.in_err-x-in-SizeOfExpression.ensures))
 
-pub expressions::expression-returns-in_ok-x-in-SizeOfExpression : goal.expressions::expression-returns-in_ok-x-in-SizeOfExpression
-expressions::expression-returns-in_ok-x-in-SizeOfExpression t c =
+pub operands::unary-returns-in_ok-x-in-SizeOfExpression : goal.operands::unary-returns-in_ok-x-in-SizeOfExpression
+operands::unary-returns-in_ok-x-in-SizeOfExpression t c =
     rw c.in-SizeOfExpression.is (size c.args.place.now _ c.in_ok-x-in-SizeOfExpression.x c.size_term.result (rw c.deref-in-SizeOfExpression.ensures at c.in_ok-x-in-SizeOfExpression.ensures) c.table-in-SizeOfExpression.ensures (rw (c.type_in.ensures c.table-in-SizeOfExpression.result.now) at c.size_term.ensures))
 
-pub expressions::expression-returns-in_err-q-in-SizeOfType : goal.expressions::expression-returns-in_err-q-in-SizeOfType
-expressions::expression-returns-in_err-q-in-SizeOfType t c =
+pub operands::unary-returns-in_err-q-in-SizeOfType : goal.operands::unary-returns-in_err-q-in-SizeOfType
+operands::unary-returns-in_err-q-in-SizeOfType t c =
     let p = err_from_is_err_and c.from_residual-in_err-q-in-SizeOfType.result c.from_residual-in_err-q-in-SizeOfType.ensures.1 in
     rw (p.1, p.2, c.in-SizeOfType.is) (fault_of b.measured_type _ (rw c.deref-in-SizeOfType.ensures at c.in_err-q-in-SizeOfType.ensures))
 
-pub expressions::expression-returns-in_ok-q-in-SizeOfType : goal.expressions::expression-returns-in_ok-q-in-SizeOfType
-expressions::expression-returns-in_ok-q-in-SizeOfType t c =
+pub operands::unary-returns-in_ok-q-in-SizeOfType : goal.operands::unary-returns-in_ok-q-in-SizeOfType
+operands::unary-returns-in_ok-q-in-SizeOfType t c =
     rw c.in-SizeOfType.is (type_size c.args.place.now _ c.in_ok-q-in-SizeOfType.q c.size_term-in-SizeOfType.result (rw c.deref-in-SizeOfType.ensures at c.in_ok-q-in-SizeOfType.ensures) c.table-in-SizeOfType.ensures c.size_term-in-SizeOfType.ensures)
 
-pub expressions::expression-returns-in_err-q-in-Cast : goal.expressions::expression-returns-in_err-q-in-Cast
-expressions::expression-returns-in_err-q-in-Cast t c =
-    let p = err_from_is_err_and c.from_residual-in_err-q-in-Cast.result c.from_residual-in_err-q-in-Cast.ensures.1 in
-    rw (p.1, p.2, c.in-Cast.is) (fault_of b.cast_type _ (rw c.deref-in-Cast.ensures at c.in_err-q-in-Cast.ensures))
+pub operands::cast-returns-in_err-q : goal.operands::cast-returns-in_err-q
+operands::cast-returns-in_err-q t c =
+    let p = err_from_is_err_and c.from_residual.result c.from_residual.ensures.1 in
+    rw (p.1, p.2, c.in-Cast.is) (fault_of b.cast_type _ (rw c.deref.ensures at c.in_err-q.ensures))
 
-pub expressions::expression-returns-in_err-x-in-Cast : goal.expressions::expression-returns-in_err-x-in-Cast
-expressions::expression-returns-in_err-x-in-Cast t c =
-    let p = err_from_is_err_and c.from_residual-in_err-x-in-Cast.result c.from_residual-in_err-x-in-Cast.ensures.1 in
-    rw (p.1, p.2, c.in-Cast.is) (second_fault c.args.place.now (strings_named (type_name_of c.in-Cast.name.value)) b.cast_operand (rw c.deref-in-Cast.ensures at c.in_ok-q-in-Cast.ensures).1 _ (rw c.deref-in-Cast-2.ensures at c.in_err-x-in-Cast.ensures))
+pub operands::cast-returns-in_err-x : goal.operands::cast-returns-in_err-x
+operands::cast-returns-in_err-x t c =
+    let p = err_from_is_err_and c.from_residual-in_err-x.result c.from_residual-in_err-x.ensures.1 in
+    rw (p.1, p.2, c.in-Cast.is) (second_fault c.args.place.now (strings_named (type_name_of c.in-Cast.name.value)) b.cast_operand (rw c.deref.ensures at c.in_ok-q.ensures).1 _ (rw c.deref-2.ensures at c.in_err-x.ensures))
 
-pub expressions::expression-returns-in_ok-x-in-Cast : goal.expressions::expression-returns-in_ok-x-in-Cast
-expressions::expression-returns-in_ok-x-in-Cast t c =
-    rw c.in-Cast.is (cast c.args.place.now _ c.in_ok-q-in-Cast.q c.in_ok-x-in-Cast.x c.cast_term.result (rw c.deref-in-Cast.ensures at c.in_ok-q-in-Cast.ensures) (rw c.deref-in-Cast-2.ensures at c.in_ok-x-in-Cast.ensures) c.table-in-Cast.ensures c.cast_term.ensures)
+pub operands::cast-returns : goal.operands::cast-returns
+operands::cast-returns t c =
+    rw c.in-Cast.is (cast c.args.place.now _ c.in_ok-q.q c.in_ok-x.x c.cast_term.result (rw c.deref.ensures at c.in_ok-q.ensures) (rw c.deref-2.ensures at c.in_ok-x.ensures) c.table.ensures c.cast_term.ensures)
 
-pub expressions::expression-returns-in_err-x-in-Binary : goal.expressions::expression-returns-in_err-x-in-Binary
-expressions::expression-returns-in_err-x-in-Binary t c =
-    let p = err_from_is_err_and c.from_residual-in_err-x-in-Binary.result c.from_residual-in_err-x-in-Binary.ensures.1 in
-    rw (p.1, p.2, c.in-Binary.is) (fault_of b.left_operand _ (rw c.deref-in-Binary.ensures at c.in_err-x-in-Binary.ensures))
+pub operands::operation-returns-in_err-x-in-Binary : goal.operands::operation-returns-in_err-x-in-Binary
+operands::operation-returns-in_err-x-in-Binary t c =
+    let p = err_from_is_err_and c.from_residual.result c.from_residual.ensures.1 in
+    rw (p.1, p.2, c.in-Binary.is) (fault_of b.left_operand _ (rw c.deref.ensures at c.in_err-x-in-Binary.ensures))
 
-pub expressions::expression-returns-in_err-y-in-Binary : goal.expressions::expression-returns-in_err-y-in-Binary
-expressions::expression-returns-in_err-y-in-Binary t c =
+pub operands::operation-returns-in_err-y-in-Binary : goal.operands::operation-returns-in_err-y-in-Binary
+operands::operation-returns-in_err-y-in-Binary t c =
     let p = err_from_is_err_and c.from_residual-in_err-y-in-Binary.result c.from_residual-in_err-y-in-Binary.ensures.1 in
-    rw (p.1, p.2, c.in-Binary.is) (second_fault c.args.place.now (strings_in (expression_in c.in-Binary.left.value)) b.right_operand (rw c.deref-in-Binary.ensures at c.in_ok-x-in-Binary.ensures).1 _ (rw c.deref-in-Binary-2.ensures at c.in_err-y-in-Binary.ensures))
+    rw (p.1, p.2, c.in-Binary.is) (second_fault c.args.place.now (strings_in (expression_in c.in-Binary.left.value)) b.right_operand (rw c.deref.ensures at c.in_ok-x-in-Binary.ensures).1 _ (rw c.deref-in-Binary.ensures at c.in_err-y-in-Binary.ensures))
 
-pub expressions::expression-returns-in_ok-y-in-Binary : goal.expressions::expression-returns-in_ok-y-in-Binary
-expressions::expression-returns-in_ok-y-in-Binary t c =
-    rw c.in-Binary.is (binary c.args.place.now _ _ c.in_ok-x-in-Binary.x c.in_ok-y-in-Binary.y c.binary_term.result (rw c.deref-in-Binary.ensures at c.in_ok-x-in-Binary.ensures) (rw c.deref-in-Binary-2.ensures at c.in_ok-y-in-Binary.ensures) c.table-in-Binary.ensures c.binary_term.ensures)
+pub operands::operation-returns-in_ok-y-in-Binary : goal.operands::operation-returns-in_ok-y-in-Binary
+operands::operation-returns-in_ok-y-in-Binary t c =
+    rw c.in-Binary.is (binary c.args.place.now _ _ c.in_ok-x-in-Binary.x c.in_ok-y-in-Binary.y c.binary_term.result (rw c.deref.ensures at c.in_ok-x-in-Binary.ensures) (rw c.deref-in-Binary.ensures at c.in_ok-y-in-Binary.ensures) c.table.ensures c.binary_term.ensures)
 
-pub expressions::expression-returns-in_err-w-in-Conditional : goal.expressions::expression-returns-in_err-w-in-Conditional
-expressions::expression-returns-in_err-w-in-Conditional t c =
+pub operands::operation-returns-in_err-w-in-Conditional : goal.operands::operation-returns-in_err-w-in-Conditional
+operands::operation-returns-in_err-w-in-Conditional t c =
     let p = err_from_is_err_and c.from_residual-in_err-w-in-Conditional.result c.from_residual-in_err-w-in-Conditional.ensures.1 in
     rw (p.1, p.2, c.in-Conditional.is) (fault_of b.condition _ (rw c.deref-in-Conditional.ensures at c.in_err-w-in-Conditional.ensures))
 
-pub expressions::expression-returns-in_err-x-in-Conditional : goal.expressions::expression-returns-in_err-x-in-Conditional
-expressions::expression-returns-in_err-x-in-Conditional t c =
+pub operands::operation-returns-in_err-x-in-Conditional : goal.operands::operation-returns-in_err-x-in-Conditional
+operands::operation-returns-in_err-x-in-Conditional t c =
     let p = err_from_is_err_and c.from_residual-in_err-x-in-Conditional.result c.from_residual-in_err-x-in-Conditional.ensures.1 in
     rw (p.1, p.2, c.in-Conditional.is) (second_fault c.args.place.now (strings_in (expression_in c.in-Conditional.test.value)) b.first_arm (rw c.deref-in-Conditional.ensures at c.in_ok-w-in-Conditional.ensures).1 _ (rw c.deref-in-Conditional-2.ensures at c.in_err-x-in-Conditional.ensures))
 
-pub expressions::expression-returns-in_err-y-in-Conditional : goal.expressions::expression-returns-in_err-y-in-Conditional
-expressions::expression-returns-in_err-y-in-Conditional t c =
+pub operands::operation-returns-in_err-y-in-Conditional : goal.operands::operation-returns-in_err-y-in-Conditional
+operands::operation-returns-in_err-y-in-Conditional t c =
     let p = err_from_is_err_and c.from_residual-in_err-y-in-Conditional.result c.from_residual-in_err-y-in-Conditional.ensures.1 in
     rw (p.1, p.2, c.in-Conditional.is) (third_fault c.args.place.now (strings_in (expression_in c.in-Conditional.test.value)) (strings_in (expression_in c.in-Conditional.first.value)) b.second_arm (rw c.deref-in-Conditional.ensures at c.in_ok-w-in-Conditional.ensures).1 (rw c.deref-in-Conditional-2.ensures at c.in_ok-x-in-Conditional.ensures).1 _ (rw c.deref-in-Conditional-3.ensures at c.in_err-y-in-Conditional.ensures))
 
-pub expressions::expression-returns-in_ok-y-in-Conditional : goal.expressions::expression-returns-in_ok-y-in-Conditional
-expressions::expression-returns-in_ok-y-in-Conditional t c =
+pub operands::operation-returns-in_ok-y-in-Conditional : goal.operands::operation-returns-in_ok-y-in-Conditional
+operands::operation-returns-in_ok-y-in-Conditional t c =
     rw c.in-Conditional.is (conditional c.args.place.now _ c.in_ok-w-in-Conditional.w c.in_ok-x-in-Conditional.x c.in_ok-y-in-Conditional.y c.conditional_term.result (rw c.deref-in-Conditional.ensures at c.in_ok-w-in-Conditional.ensures) (rw c.deref-in-Conditional-2.ensures at c.in_ok-x-in-Conditional.ensures) (rw c.deref-in-Conditional-3.ensures at c.in_ok-y-in-Conditional.ensures) c.table-in-Conditional.ensures c.conditional_term.ensures)
 
-pub expressions::expression-returns-in_err-x-in-Assign : goal.expressions::expression-returns-in_err-x-in-Assign
-expressions::expression-returns-in_err-x-in-Assign t c =
+pub operands::operation-returns-in_err-x-in-Assign : goal.operands::operation-returns-in_err-x-in-Assign
+operands::operation-returns-in_err-x-in-Assign t c =
     let p = err_from_is_err_and c.from_residual-in_err-x-in-Assign.result c.from_residual-in_err-x-in-Assign.ensures.1 in
     rw (p.1, p.2, c.in-Assign.is) (fault_of b.left_side _ (rw c.deref-in-Assign.ensures at c.in_err-x-in-Assign.ensures))
 
-pub expressions::expression-returns-in_err-y-in-Assign : goal.expressions::expression-returns-in_err-y-in-Assign
-expressions::expression-returns-in_err-y-in-Assign t c =
+pub operands::operation-returns-in_err-y-in-Assign : goal.operands::operation-returns-in_err-y-in-Assign
+operands::operation-returns-in_err-y-in-Assign t c =
     let p = err_from_is_err_and c.from_residual-in_err-y-in-Assign.result c.from_residual-in_err-y-in-Assign.ensures.1 in
     rw (p.1, p.2, c.in-Assign.is) (second_fault c.args.place.now (strings_in (expression_in c.in-Assign.left.value)) b.right_side (rw c.deref-in-Assign.ensures at c.in_ok-x-in-Assign.ensures).1 _ (rw c.deref-in-Assign-2.ensures at c.in_err-y-in-Assign.ensures))
 
-pub expressions::expression-returns-in_ok-y-in-Assign : goal.expressions::expression-returns-in_ok-y-in-Assign
-expressions::expression-returns-in_ok-y-in-Assign t c =
+pub operands::operation-returns-in_ok-y-in-Assign : goal.operands::operation-returns-in_ok-y-in-Assign
+operands::operation-returns-in_ok-y-in-Assign t c =
     rw c.in-Assign.is (assign c.args.place.now _ _ c.in_ok-x-in-Assign.x c.in_ok-y-in-Assign.y c.assign_term.result (rw c.deref-in-Assign.ensures at c.in_ok-x-in-Assign.ensures) (rw c.deref-in-Assign-2.ensures at c.in_ok-y-in-Assign.ensures) c.table-in-Assign.ensures c.assign_term.ensures)
 
-pub expressions::expression-returns-in_err-x-in-Comma : goal.expressions::expression-returns-in_err-x-in-Comma
-expressions::expression-returns-in_err-x-in-Comma t c =
-    let p = err_from_is_err_and c.from_residual-in_err-x-in-Comma.result c.from_residual-in_err-x-in-Comma.ensures.1 in
-    rw (p.1, p.2, c.in-Comma.is) (fault_of b.before_comma _ (rw c.deref-in-Comma.ensures at c.in_err-x-in-Comma.ensures))
+pub operands::comma-returns-in_err-x : goal.operands::comma-returns-in_err-x
+operands::comma-returns-in_err-x t c =
+    let p = err_from_is_err_and c.from_residual.result c.from_residual.ensures.1 in
+    rw (p.1, p.2, c.in-Comma.is) (fault_of b.before_comma _ (rw c.deref.ensures at c.in_err-x.ensures))
 
-pub expressions::expression-returns-in_err-y-in-Comma : goal.expressions::expression-returns-in_err-y-in-Comma
-expressions::expression-returns-in_err-y-in-Comma t c =
-    let p = err_from_is_err_and c.from_residual-in_err-y-in-Comma.result c.from_residual-in_err-y-in-Comma.ensures.1 in
-    rw (p.1, p.2, c.in-Comma.is) (second_fault c.args.place.now (strings_in (expression_in c.in-Comma.left.value)) b.behind_comma (rw c.deref-in-Comma.ensures at c.in_ok-x-in-Comma.ensures).1 _ (rw c.deref-in-Comma-2.ensures at c.in_err-y-in-Comma.ensures))
+pub operands::comma-returns-in_err-y : goal.operands::comma-returns-in_err-y
+operands::comma-returns-in_err-y t c =
+    let p = err_from_is_err_and c.from_residual-in_err-y.result c.from_residual-in_err-y.ensures.1 in
+    rw (p.1, p.2, c.in-Comma.is) (second_fault c.args.place.now (strings_in (expression_in c.in-Comma.left.value)) b.behind_comma (rw c.deref.ensures at c.in_ok-x.ensures).1 _ (rw c.deref-2.ensures at c.in_err-y.ensures))
 
-pub expressions::expression-returns-in_ok-comma_term-in-Comma : goal.expressions::expression-returns-in_ok-comma_term-in-Comma
-expressions::expression-returns-in_ok-comma_term-in-Comma t c =
-    rw c.in-Comma.is (comma c.args.place.now _ c.in_ok-x-in-Comma.x c.in_ok-y-in-Comma.y _ (rw c.deref-in-Comma.ensures at c.in_ok-x-in-Comma.ensures) (rw c.deref-in-Comma-2.ensures at c.in_ok-y-in-Comma.ensures) c.table-in-Comma.ensures c.in_ok-comma_term-in-Comma.ensures)
+pub operands::comma-returns : goal.operands::comma-returns
+operands::comma-returns t c =
+    rw c.in-Comma.is (comma c.args.place.now _ c.in_ok-x.x c.in_ok-y.y _ (rw c.deref.ensures at c.in_ok-x.ensures) (rw c.deref-2.ensures at c.in_ok-y.ensures) c.table.ensures c.in_ok-comma_term.ensures)
 
 pub expressions::terms-loop-argument-init : goal.expressions::terms-loop-argument-init
 expressions::terms-loop-argument-init t c =

@@ -1,17 +1,20 @@
 use Rattle.im_parse.proofs.ArgumentLines.{arguments_more, arguments_next, arguments_start, misses_close, reads_arguments, reads_none, refuses_argument, with_item}
 use Rattle.im_parse.proofs.AssignLines.{reads_left, refuses_left, refuses_loose, right}
-use Rattle.im_parse.proofs.BinaryLines.{after_operator, as_cast, cast_start, reads_cast, refuses_cast, refuses_level, refuses_operand, refuses_type, tails_done, tails_more, tails_start, unparenthesised, untyped}
+use Rattle.im_parse.proofs.BinaryLines.{after_operator, as_cast, cast_start, reads_cast, refuses_cast, refuses_looser, refuses_operand, refuses_type, tails_done, tails_from, tails_more, unparenthesised, untyped}
 use Rattle.im_parse.proofs.Exits.{handed, isnt, itis, stopped}
 use Rattle.im_parse.proofs.ExpressionLines.{alternative, chosen_start, commas_done, commas_more, commas_next, commas_start, misses_colon, reads_choice, reads_condition, refuses_chosen, refuses_comma, refuses_condition, refuses_expression, refuses_other}
-use Rattle.im_parse.proofs.PostfixLines.{after_primary, arrow_start, bracket, call_start, called, dot_start, group_start, index_start, misses_bracket, misses_name, misses_paren, named, post_stepped, postfix_done, reads_group, refuses_call, refuses_group, refuses_index, refuses_primary}
+use Rattle.im_parse.proofs.PostfixLines.{after_primary, postfix_goes, postfix_more, arrow_start, bracket, call_start, called, dot_start, group_start, index_start, misses_bracket, misses_name, misses_paren, named, post_stepped, postfix_done, reads_group, refuses_call, refuses_group, refuses_index, refuses_primary}
 use Rattle.im_parse.proofs.UnaryLines.{as_postfix, prefix_start, reads_made, reads_sized, refuses_made, refuses_sized, sized_other, sized_start, sized_untyped, sizeof_start, step_start}
-use Rattle.im_parse.specs.Parsing.{names_of, tree_of}
+use Rattle.im_parse_core.specs.Names.{names_of}
+use Rattle.im_parse.specs.Parsing.{Below, tree_of}
 use Rattle.im_parse_core.proofs.Steps.{last, last_refused, word}
 use Rattle.im_word.specs.Shown.{shown}
 use Rattle.std.proofs.Common.{[], arith}
 use Rattle.std.proofs.lemmas.Result.{err_from_is_err_and}
 use Rattle.std.specs.Prelude.{map}
-use Rattle.std.proofs.Common.{refl, sym, ap, ◌∙◌}
+use Rattle.std.proofs.Common.{◌≡◌, ◌+◌, drop, refl, sym, ap, subst, ◌∙◌, Ok, Err}
+use Rattle.im_ctree.specs.Grammar as g
+use Rattle.im_parse_core.specs.Places.{ReadsAt}
 use Rattle.im_ctree.specs.Shape.{declarator_of}
 use Rattle.im_parse.specs.Declaring.{specifier_tree, member_tree, enumerator_tree, suffix_tree, parameter_tree}
 use Rattle.im_parse.proofs.Exits.{shorter}
@@ -81,26 +84,35 @@ expressions::conditional-returns-in_err-other-in-Some t c = let p = err_from_is_
 pub expressions::conditional-returns-in_ok-tree-in-Some : goal.expressions::conditional-returns-in_ok-tree-in-Some
 expressions::conditional-returns-in_ok-tree-in-Some t c = rw c.in_ok-tree-in-Some.ensures (reads_choice (map shown c.args.words.now) (alternative (map shown c.args.words.now) (chosen_start (map shown c.args.words.now) c.in-Some.ensures c.in_ok-condition.ensures) c.in_ok-chosen-in-Some.ensures) c.in_ok-last-in-Some.ensures c.in_ok-other-in-Some.ensures)
 
-pub expressions::binary-returns-then-level-eq10 : goal.expressions::binary-returns-then-level-eq10
-expressions::binary-returns-then-level-eq10 t c = as_cast tree_of (names_of c.args.names.now) (map shown c.args.words.now) c.args.at c.args.level c.if-level-eq10.true c.cast.result c.cast.ensures
-
 pub expressions::binary-returns-in_err-tree : goal.expressions::binary-returns-in_err-tree
-expressions::binary-returns-in_err-tree t c = let p = err_from_is_err_and c.from_residual.result c.from_residual.ensures.1 in rw (p.1, p.2) (stopped (map shown c.args.words.now) (λ n h. refuses_level (map shown c.args.words.now) (omega arith) h) _ c.in_err-tree.ensures)
+expressions::binary-returns-in_err-tree t c =
+    let p = err_from_is_err_and c.from_residual.result c.from_residual.ensures.1 in
+    rw (p.1, p.2) (stopped (map shown c.args.words.now) (λ n h. refuses_looser (map shown c.args.words.now) c.args.level 10 (omega (arith, c.requires.level)) (omega arith) h) _ (as_cast tree_of (names_of c.args.names.now) (map shown c.args.words.now) c.args.at 10 refl (Err _) c.in_err-tree.ensures))
+
+pub expressions::binary-loop-tightest-init : goal.expressions::binary-loop-tightest-init
+expressions::binary-loop-tightest-init t c = (as_cast tree_of (names_of c.args.names.now) (map shown c.args.words.now) c.args.at 10 refl (Ok (c.in_ok-tree.tree, c.in_ok-tree.next)) c.in_ok-tree.ensures, omega (arith, c.in_ok-tree.ensures.place), omega (arith, c.requires.level), omega arith)
 
 pub expressions::binary-loop-operator-init : goal.expressions::binary-loop-operator-init
-expressions::binary-loop-operator-init t c = (tails_start (map shown c.args.words.now) (omega arith) c.in_ok-tree.ensures, omega (arith, c.in_ok-tree.ensures.place))
+expressions::binary-loop-operator-init t c = (tails_from (map shown c.args.words.now) c.loop-tightest.tightest (omega (arith, c.loop-tightest-test.true)) c.loop-tightest.invariant.3 c.loop-tightest.invariant.0, c.loop-tightest.invariant.1, omega (arith, c.loop-tightest-test.true), omega (arith, c.loop-tightest.invariant.3))
 
 pub expressions::binary-returns-in_err-right : goal.expressions::binary-returns-in_err-right
-expressions::binary-returns-in_err-right t c = let p = err_from_is_err_and c.from_residual-in_err-right.result c.from_residual-in_err-right.ensures.1 in rw (p.1, p.2) (stopped (map shown c.args.words.now) (λ n h. refuses_operand (map shown c.args.words.now) (after_operator (map shown c.args.words.now) c.in-Some.ensures c.loop-operator.invariant.0) h) _ c.in_err-right.ensures)
+expressions::binary-returns-in_err-right t c =
+    let p = err_from_is_err_and c.from_residual-in_err-right.result c.from_residual-in_err-right.ensures.1 in
+    rw (p.1, p.2) (stopped (map shown c.args.words.now) (λ n h. refuses_looser (map shown c.args.words.now) c.args.level _ c.loop-operator.invariant.2 (omega (arith, c.loop-operator.invariant.3)) (refuses_operand (map shown c.args.words.now) (after_operator (map shown c.args.words.now) c.in-Some.ensures c.loop-operator.invariant.0) h)) _ c.in_err-right.ensures)
 
 pub expressions::binary-loop-operator-preserved : goal.expressions::binary-loop-operator-preserved
-expressions::binary-loop-operator-preserved t c = (rw c.in_ok-tree-2.ensures (tails_more (map shown c.args.words.now) (after_operator (map shown c.args.words.now) c.in-Some.ensures c.loop-operator.invariant.0) c.in_ok-right.ensures), omega (arith, c.in-Some.ensures.at, c.in_ok-right.ensures.place))
+expressions::binary-loop-operator-preserved t c = (rw c.in_ok-tree-2.ensures (tails_more (map shown c.args.words.now) (after_operator (map shown c.args.words.now) c.in-Some.ensures c.loop-operator.invariant.0) c.in_ok-right.ensures), omega (arith, c.loop-operator.invariant.1, c.in-Some.ensures.at, c.in_ok-right.ensures.place), c.loop-operator.invariant.2, c.loop-operator.invariant.3)
 
 pub expressions::binary-loop-operator-smaller : goal.expressions::binary-loop-operator-smaller
 expressions::binary-loop-operator-smaller t c = omega (arith, c.in-Some.ensures.at, c.in_ok-right.ensures.place)
 
+pub expressions::binary-loop-tightest-preserved : goal.expressions::binary-loop-tightest-preserved
+expressions::binary-loop-tightest-preserved t c = (tails_done (map shown c.args.words.now) c.in_default.ensures c.loop-operator.invariant.0, c.loop-operator.invariant.1, c.loop-operator.invariant.2, omega (arith, c.loop-operator.invariant.3))
+
 pub expressions::binary-returns : goal.expressions::binary-returns
-expressions::binary-returns t c = tails_done (map shown c.args.words.now) c.in_default.ensures c.loop-operator.invariant.0
+expressions::binary-returns t c =
+    let same : c.loop-tightest.tightest ≡ c.args.level = omega (arith, c.loop-tightest-test.false, c.loop-tightest.invariant.2) in
+    subst (λ z. ReadsAt (g.IsBinary (names_of c.args.names.now) z) (Below (z + 4)) (map shown c.args.words.now) c.args.at (tree_of c.loop-tightest.tree) c.loop-tightest.next) same c.loop-tightest.invariant.0
 
 pub expressions::cast-returns-in-None : goal.expressions::cast-returns-in-None
 expressions::cast-returns-in-None t c = unparenthesised tree_of (names_of c.args.names.now) (map shown c.args.words.now) c.args.at c.in-None.ensures c.unary.result c.unary.ensures
@@ -159,38 +171,56 @@ postfix::postfix-returns-in_err-tree t c = let p = err_from_is_err_and c.from_re
 pub postfix::postfix-returns : goal.postfix::postfix-returns
 postfix::postfix-returns t c = handed tree_of (map shown c.args.words.now) (after_primary (map shown c.args.words.now) c.in_ok-tree.ensures) c.postfix_from.result c.postfix_from.ensures
 
+pub postfix::postfix_from-loop-behind-init : goal.postfix::postfix_from-loop-behind-init
+postfix::postfix_from-loop-behind-init t c = (postfix_goes (map shown c.args.words.now) c.args.at c.args.behind_first (tree_of c.args.first), omega arith)
+
 pub postfix::postfix_from-returns-in_err-index : goal.postfix::postfix_from-returns-in_err-index
-postfix::postfix_from-returns-in_err-index t c = let p = err_from_is_err_and c.from_residual.result c.from_residual.ensures.1 in rw (p.1, p.2) (stopped (map shown c.args.words.now) (λ n h. refuses_index (map shown c.args.words.now) (index_start (map shown c.args.words.now) c.args.at (tree_of c.args.tree) c.in-Some.ensures) h) _ c.in_err-index.ensures)
+postfix::postfix_from-returns-in_err-index t c = let p = err_from_is_err_and c.from_residual.result c.from_residual.ensures.1 in rw (p.1, p.2) (stopped (map shown c.args.words.now) (λ n h. c.loop-behind.invariant.0.refuses n (drop n (map shown c.args.words.now)) (refuses_index (map shown c.args.words.now) (index_start (map shown c.args.words.now) c.args.at (tree_of c.loop-behind.tree) c.in-Some.ensures) h)) _ c.in_err-index.ensures)
 
-pub postfix::postfix_from-returns-in_err-end : goal.postfix::postfix_from-returns-in_err-end
-postfix::postfix_from-returns-in_err-end t c = let p = err_from_is_err_and c.from_residual-in_err-end.result c.from_residual-in_err-end.ensures.1 in rw (p.1, p.2, c.in_err-end.ensures.0) (misses_bracket (map shown c.args.words.now) (bracket (map shown c.args.words.now) (index_start (map shown c.args.words.now) c.args.at (tree_of c.args.tree) c.in-Some.ensures) c.in_ok-index.ensures) c.in_err-end.ensures.1)
-
-pub postfix::postfix_from-returns-in-Some : goal.postfix::postfix_from-returns-in-Some
-postfix::postfix_from-returns-in-Some t c = handed tree_of (map shown c.args.words.now) (word c.in_ok-end.ensures (bracket (map shown c.args.words.now) (index_start (map shown c.args.words.now) c.args.at (tree_of c.args.tree) c.in-Some.ensures) c.in_ok-index.ensures)) c.postfix_from.result (rw c.in_ok-whole.ensures at c.postfix_from.ensures)
+pub postfix::postfix_from-returns-in_err-next : goal.postfix::postfix_from-returns-in_err-next
+postfix::postfix_from-returns-in_err-next t c = let p = err_from_is_err_and c.from_residual-in_err-next.result c.from_residual-in_err-next.ensures.1 in rw (p.1, p.2, c.in_err-next.ensures.0) (c.loop-behind.invariant.0.refuses _ _ (misses_bracket (map shown c.args.words.now) (bracket (map shown c.args.words.now) (index_start (map shown c.args.words.now) c.args.at (tree_of c.loop-behind.tree) c.in-Some.ensures) c.in_ok-index.ensures) c.in_err-next.ensures.1))
 
 pub postfix::postfix_from-returns-in_err-arguments : goal.postfix::postfix_from-returns-in_err-arguments
-postfix::postfix_from-returns-in_err-arguments t c = let p = err_from_is_err_and c.from_residual-in_err-arguments.result c.from_residual-in_err-arguments.ensures.1 in rw (p.1, p.2) (stopped (map shown c.args.words.now) (λ n h. refuses_call (map shown c.args.words.now) (call_start (map shown c.args.words.now) c.args.at (tree_of c.args.tree) c.in-Some-after_mark.ensures) h) _ c.in_err-arguments.ensures)
-
-pub postfix::postfix_from-returns-in-Some-after_mark : goal.postfix::postfix_from-returns-in-Some-after_mark
-postfix::postfix_from-returns-in-Some-after_mark t c = handed tree_of (map shown c.args.words.now) (called (map shown c.args.words.now) (call_start (map shown c.args.words.now) c.args.at (tree_of c.args.tree) c.in-Some-after_mark.ensures) c.in_ok-arguments.ensures) c.postfix_from-in-Some-after_mark.result (rw c.in_ok-whole-2.ensures at c.postfix_from-in-Some-after_mark.ensures)
+postfix::postfix_from-returns-in_err-arguments t c = let p = err_from_is_err_and c.from_residual-in_err-arguments.result c.from_residual-in_err-arguments.ensures.1 in rw (p.1, p.2) (stopped (map shown c.args.words.now) (λ n h. c.loop-behind.invariant.0.refuses n (drop n (map shown c.args.words.now)) (refuses_call (map shown c.args.words.now) (call_start (map shown c.args.words.now) c.args.at (tree_of c.loop-behind.tree) c.in-Some-after_mark.ensures) h)) _ c.in_err-arguments.ensures)
 
 pub postfix::postfix_from-returns-in_err-name : goal.postfix::postfix_from-returns-in_err-name
-postfix::postfix_from-returns-in_err-name t c = let p = err_from_is_err_and c.from_residual-in_err-name.result c.from_residual-in_err-name.ensures.1 in rw (p.1, p.2, c.in_err-name.ensures.0) (misses_name (map shown c.args.words.now) (tree.member_of c.args.at (tree_of c.args.tree)) (dot_start (map shown c.args.words.now) (names_of c.args.names.now) c.args.at (tree_of c.args.tree) c.in-Some-after_mark-2.ensures) c.in_err-name.ensures.1)
-
-pub postfix::postfix_from-returns-in-Some-after_mark-2 : goal.postfix::postfix_from-returns-in-Some-after_mark-2
-postfix::postfix_from-returns-in-Some-after_mark-2 t c = handed tree_of (map shown c.args.words.now) (named (map shown c.args.words.now) (tree.member_of c.args.at (tree_of c.args.tree)) (dot_start (map shown c.args.words.now) (names_of c.args.names.now) c.args.at (tree_of c.args.tree) c.in-Some-after_mark-2.ensures) c.in_ok-name.ensures) c.postfix_from-in-Some-after_mark-2.result (rw c.in_ok-whole-3.ensures at c.postfix_from-in-Some-after_mark-2.ensures)
+postfix::postfix_from-returns-in_err-name t c = let p = err_from_is_err_and c.from_residual-in_err-name.result c.from_residual-in_err-name.ensures.1 in rw (p.1, p.2, c.in_err-name.ensures.0) (c.loop-behind.invariant.0.refuses _ _ (misses_name (map shown c.args.words.now) (tree.member_of c.args.at (tree_of c.loop-behind.tree)) (dot_start (map shown c.args.words.now) (names_of c.args.names.now) c.args.at (tree_of c.loop-behind.tree) c.in-Some-after_mark-2.ensures) c.in_err-name.ensures.1))
 
 pub postfix::postfix_from-returns-in_err-name-2 : goal.postfix::postfix_from-returns-in_err-name-2
-postfix::postfix_from-returns-in_err-name-2 t c = let p = err_from_is_err_and c.from_residual-in_err-name-2.result c.from_residual-in_err-name-2.ensures.1 in rw (p.1, p.2, c.in_err-name-2.ensures.0) (misses_name (map shown c.args.words.now) (tree.arrow_to c.args.at (tree_of c.args.tree)) (arrow_start (map shown c.args.words.now) (names_of c.args.names.now) c.args.at (tree_of c.args.tree) c.in-Some-after_mark-3.ensures) c.in_err-name-2.ensures.1)
+postfix::postfix_from-returns-in_err-name-2 t c = let p = err_from_is_err_and c.from_residual-in_err-name-2.result c.from_residual-in_err-name-2.ensures.1 in rw (p.1, p.2, c.in_err-name-2.ensures.0) (c.loop-behind.invariant.0.refuses _ _ (misses_name (map shown c.args.words.now) (tree.arrow_to c.args.at (tree_of c.loop-behind.tree)) (arrow_start (map shown c.args.words.now) (names_of c.args.names.now) c.args.at (tree_of c.loop-behind.tree) c.in-Some-after_mark-3.ensures) c.in_err-name-2.ensures.1))
 
-pub postfix::postfix_from-returns-in-Some-after_mark-3 : goal.postfix::postfix_from-returns-in-Some-after_mark-3
-postfix::postfix_from-returns-in-Some-after_mark-3 t c = handed tree_of (map shown c.args.words.now) (named (map shown c.args.words.now) (tree.arrow_to c.args.at (tree_of c.args.tree)) (arrow_start (map shown c.args.words.now) (names_of c.args.names.now) c.args.at (tree_of c.args.tree) c.in-Some-after_mark-3.ensures) c.in_ok-name-2.ensures) c.postfix_from-in-Some-after_mark-3.result (rw c.in_ok-whole-4.ensures at c.postfix_from-in-Some-after_mark-3.ensures)
+pub postfix::postfix_from-loop-behind-preserved-in-Some : goal.postfix::postfix_from-loop-behind-preserved-in-Some
+postfix::postfix_from-loop-behind-preserved-in-Some t c = (
+  rw c.in_ok-tree.ensures (postfix_more (map shown c.args.words.now) c.loop-behind.invariant.0 (word c.in_ok-next.ensures (bracket (map shown c.args.words.now) (index_start (map shown c.args.words.now) c.args.at (tree_of c.loop-behind.tree) c.in-Some.ensures) c.in_ok-index.ensures))),
+  omega (arith, c.loop-behind.invariant.1, c.in-Some.ensures.next, c.in_ok-index.ensures.place, c.in_ok-next.ensures.next),
+)
 
-pub postfix::postfix_from-returns-in-None : goal.postfix::postfix_from-returns-in-None
-postfix::postfix_from-returns-in-None t c = postfix_done (map shown c.args.words.now) c.args.at (tree_of c.args.tree) (record { bracket = c.in_default.ensures; paren = c.in_default-after_mark.ensures; dot = c.in_default-after_mark-2.ensures; arrow = c.in_default-after_mark-3.ensures; step = c.in-None.ensures })
+pub postfix::postfix_from-loop-behind-preserved-in-Some-after_mark : goal.postfix::postfix_from-loop-behind-preserved-in-Some-after_mark
+postfix::postfix_from-loop-behind-preserved-in-Some-after_mark t c = (
+  rw c.in_ok-tree-2.ensures (postfix_more (map shown c.args.words.now) c.loop-behind.invariant.0 (called (map shown c.args.words.now) (call_start (map shown c.args.words.now) c.args.at (tree_of c.loop-behind.tree) c.in-Some-after_mark.ensures) c.in_ok-arguments.ensures)),
+  omega (arith, c.loop-behind.invariant.1, c.in-Some-after_mark.ensures.next, c.in_ok-arguments.ensures.place),
+)
 
-pub postfix::postfix_from-returns-in_ok-whole-in-Some-step_at : goal.postfix::postfix_from-returns-in_ok-whole-in-Some-step_at
-postfix::postfix_from-returns-in_ok-whole-in-Some-step_at t c = handed tree_of (map shown c.args.words.now) (post_stepped (map shown c.args.words.now) c.args.at (tree_of c.args.tree) c.in-Some-step_at.ensures) c.postfix_from-in-Some-step_at.result (rw c.in_ok-whole-in-Some-step_at.ensures at c.postfix_from-in-Some-step_at.ensures)
+pub postfix::postfix_from-loop-behind-preserved-in-Some-after_mark-2 : goal.postfix::postfix_from-loop-behind-preserved-in-Some-after_mark-2
+postfix::postfix_from-loop-behind-preserved-in-Some-after_mark-2 t c = (
+  rw c.in_ok-tree-3.ensures (postfix_more (map shown c.args.words.now) c.loop-behind.invariant.0 (named (map shown c.args.words.now) (tree.member_of c.args.at (tree_of c.loop-behind.tree)) (dot_start (map shown c.args.words.now) (names_of c.args.names.now) c.args.at (tree_of c.loop-behind.tree) c.in-Some-after_mark-2.ensures) c.in_ok-name.ensures)),
+  omega (arith, c.loop-behind.invariant.1, c.in-Some-after_mark-2.ensures.next, c.in_ok-name.ensures.next),
+)
+
+pub postfix::postfix_from-loop-behind-preserved-in-Some-after_mark-3 : goal.postfix::postfix_from-loop-behind-preserved-in-Some-after_mark-3
+postfix::postfix_from-loop-behind-preserved-in-Some-after_mark-3 t c = (
+  rw c.in_ok-tree-4.ensures (postfix_more (map shown c.args.words.now) c.loop-behind.invariant.0 (named (map shown c.args.words.now) (tree.arrow_to c.args.at (tree_of c.loop-behind.tree)) (arrow_start (map shown c.args.words.now) (names_of c.args.names.now) c.args.at (tree_of c.loop-behind.tree) c.in-Some-after_mark-3.ensures) c.in_ok-name-2.ensures)),
+  omega (arith, c.loop-behind.invariant.1, c.in-Some-after_mark-3.ensures.next, c.in_ok-name-2.ensures.next),
+)
+
+pub postfix::postfix_from-loop-behind-preserved : goal.postfix::postfix_from-loop-behind-preserved
+postfix::postfix_from-loop-behind-preserved t c = (
+  rw c.in_ok-tree-5.ensures (postfix_more (map shown c.args.words.now) c.loop-behind.invariant.0 (post_stepped (map shown c.args.words.now) c.args.at (tree_of c.loop-behind.tree) c.in-Some-step_at.ensures)),
+  omega (arith, c.loop-behind.invariant.1, c.in-Some-step_at.ensures.at.next),
+)
+
+pub postfix::postfix_from-returns-in_default-step_at : goal.postfix::postfix_from-returns-in_default-step_at
+postfix::postfix_from-returns-in_default-step_at t c = c.loop-behind.invariant.0.reads _ _ _ (postfix_done (map shown c.args.words.now) c.args.at (tree_of c.loop-behind.tree) (record { bracket = c.in_default.ensures; paren = c.in_default-after_mark.ensures; dot = c.in_default-after_mark-2.ensures; arrow = c.in_default-after_mark-3.ensures; step = c.in_default-step_at.ensures }))
 
 pub postfix::primary-returns-in_err-tree : goal.postfix::primary-returns-in_err-tree
 postfix::primary-returns-in_err-tree t c = let p = err_from_is_err_and c.from_residual.result c.from_residual.ensures.1 in rw (p.1, p.2) (stopped (map shown c.args.words.now) (λ n h. refuses_group (map shown c.args.words.now) (group_start (map shown c.args.words.now) c.in-Some.ensures) h) _ c.in_err-tree.ensures)

@@ -1,11 +1,14 @@
 use Rattle.std.proofs.Common.{◌≡◌, ◌<◌, ◌≤◌, ◌+◌, ◌^◌, ◌↔◌, IsTrue, false, length, map, ℕ, ◌-◌, ◌*◌}
 use Rattle.im_word.specs.Shown.{shown}
 use Rattle.im_ctree.specs.Grammar.{IsExpression, IsAssignment, IsConditional, IsBinary, IsCast, IsUnary}
-use Rattle.im_parse.specs.Parsing.{Parses, Below, IsSized, names_of, tree_of, number_of, is_looser}
+use Rattle.im_parse_core.specs.Names.{names_of}
+use Rattle.im_parse.specs.Parsing.{Parses, Below, IsSized, tree_of, number_of, is_looser}
 use Rattle.im_parse_core.specs.Parts.{Made}
+use Rattle.im_parse_core.specs.Places.{ReadsAt}
 use Rattle.im_ctree.specs.Tree.{size_of_expression}
 use Rattle.im_parse.proofs.ExpressionLines.{InCommas}
 use Rattle.im_parse.proofs.BinaryLines.{InTails}
+use Rattle.im_parse.proofs.PostfixLines.{InPostfix}
 use Rattle.im_parse.proofs.ArgumentLines.{InArguments}
 use Rattle.im_ctree.specs.Typedefs.{adds_type}
 use Rattle.im_ctree.specs.Shape.{declarator_of}
@@ -48,15 +51,31 @@ decreases-postfix::closed_arguments l = 32 * (length (map shown l.words.now) - l
 abbrev pub decreases-postfix::postfix : goal.decreases-postfix::postfix
 decreases-postfix::postfix l = 32 * (length (map shown l.words.now) - l.at) + 4
 
+abbrev pub invariant-postfix::postfix_from-loop-behind :
+    goal.invariant-postfix::postfix_from-loop-behind
+invariant-postfix::postfix_from-loop-behind l = InPostfix (names_of l.names) (map shown l.words) l.at l.behind_first (tree_of l.fn.first) l.next (tree_of l.tree) × (l.behind_first ≤ l.next)
+
+abbrev pub decreases-postfix::postfix_from-loop-behind :
+    goal.decreases-postfix::postfix_from-loop-behind
+decreases-postfix::postfix_from-loop-behind l = length (map shown l.words) - l.next
+
 abbrev pub decreases-postfix::postfix_from : goal.decreases-postfix::postfix_from
-decreases-postfix::postfix_from l = 32 * (length (map shown l.words.now) - l.next) + 2
+decreases-postfix::postfix_from l = 32 * (length (map shown l.words.now) - l.behind_first) + 2
 
 abbrev pub decreases-postfix::primary : goal.decreases-postfix::primary
 decreases-postfix::primary l = 32 * (length (map shown l.words.now) - l.at) + 3
 
+abbrev pub invariant-expressions::binary-loop-tightest :
+    goal.invariant-expressions::binary-loop-tightest
+invariant-expressions::binary-loop-tightest l = ReadsAt (IsBinary (names_of l.names) l.tightest) (Below (l.tightest + 4)) (map shown l.words) l.at (tree_of l.tree) l.next × (l.at ≤ l.next) × (l.level ≤ l.tightest) × (l.tightest ≤ 10)
+
+abbrev pub decreases-expressions::binary-loop-tightest :
+    goal.decreases-expressions::binary-loop-tightest
+decreases-expressions::binary-loop-tightest l = l.tightest
+
 abbrev pub invariant-expressions::binary-loop-operator :
     goal.invariant-expressions::binary-loop-operator
-invariant-expressions::binary-loop-operator l = InTails (names_of l.names) (map shown l.words) l.level l.at (tree_of l.tree) l.next × (l.at ≤ l.next)
+invariant-expressions::binary-loop-operator l = InTails (names_of l.names) (map shown l.words) l.tightest l.at (tree_of l.tree) l.next × (l.at ≤ l.next) × (l.level ≤ l.tightest) × (l.tightest < 10)
 
 abbrev pub decreases-expressions::binary-loop-operator :
     goal.decreases-expressions::binary-loop-operator

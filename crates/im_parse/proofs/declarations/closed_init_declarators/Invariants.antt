@@ -1,7 +1,7 @@
 use Rattle.std.proofs.Common.{◌≤◌, ◌-◌, length, map, ℕ}
 use Rattle.im_word.specs.Shown.{shown}
 use Rattle.im_ctree.specs.Units.{IsInitDeclarators}
-use Rattle.im_parse.specs.Parsing.{names_of}
+use Rattle.im_parse_core.specs.Names.{names_of}
 use Rattle.im_parse.specs.Initializing.{init_declarator_tree}
 use Rattle.im_parse.proofs.DeclarationLines.{InInits}
 use Rattle.im_parse.proofs.declarations.closed_init_declarators.Given as goal

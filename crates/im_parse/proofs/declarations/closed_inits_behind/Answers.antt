@@ -4,7 +4,7 @@ use Rattle.im_word.specs.Shown.{shown}
 use Rattle.im_ctree.specs.Shape.{initializer_of}
 use Rattle.im_ctree.specs.Shape.{declarator_of}
 use Rattle.im_parse_core.proofs.Steps.{last, last_refused}
-use Rattle.im_parse.specs.Parsing.{names_of}
+use Rattle.im_parse_core.specs.Names.{names_of}
 use Rattle.im_parse.proofs.Exits.{stopped}
 use Rattle.im_parse.specs.Initializing.{init_declarator_tree}
 use Rattle.im_parse.proofs.DeclarationLines.{behind_start, first_next, refuses_first, inits_more, refuses_init, inits_next, inits_item, misses_semicolon, reads_inits}

@@ -1,7 +1,7 @@
 use Rattle.std.proofs.Common.{◌≤◌, ◌-◌, length, map, ℕ}
 use Rattle.im_word.specs.Shown.{shown}
 use Rattle.im_ctree.specs.Shape.{declarator_of}
-use Rattle.im_parse.specs.Parsing.{names_of}
+use Rattle.im_parse_core.specs.Names.{names_of}
 use Rattle.im_parse.specs.Initializing.{InitsBehind, init_declarator_tree}
 use Rattle.im_parse.proofs.DeclarationLines.{InInits}
 use Rattle.im_parse.proofs.declarations.closed_inits_behind.Given as goal

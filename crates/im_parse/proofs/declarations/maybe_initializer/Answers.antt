@@ -3,7 +3,7 @@ use Rattle.std.proofs.lemmas.Result.{err_from_is_err_and}
 use Rattle.im_word.specs.Shown.{shown}
 use Rattle.im_ctree.specs.Shape.{initializer_of}
 use Rattle.im_parse_core.proofs.Steps.{last, last_refused}
-use Rattle.im_parse.specs.Parsing.{names_of}
+use Rattle.im_parse_core.specs.Names.{names_of}
 use Rattle.im_parse.proofs.Exits.{stopped}
 use Rattle.im_parse.proofs.DeclarationLines.{init_start, reads_uninitialized}
 use Rattle.im_parse.proofs.declarations.maybe_initializer.Goals as goal

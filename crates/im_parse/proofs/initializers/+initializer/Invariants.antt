@@ -1,7 +1,7 @@
 use Rattle.std.proofs.Common.{◌≤◌, ◌+◌, ◌-◌, ◌*◌, length, map, ℕ}
 use Rattle.im_word.specs.Shown.{shown}
 use Rattle.im_ctree.specs.Shape.{initializer_of}
-use Rattle.im_parse.specs.Parsing.{names_of}
+use Rattle.im_parse_core.specs.Names.{names_of}
 use Rattle.im_parse.proofs.InitializerLines.{InInitializers}
 use Rattle.im_parse.proofs.initializers.+initializer.Given as goal
 

@@ -1,6 +1,8 @@
-use Rattle.std.proofs.Common.{below_more}
-use Rattle.im_parse_core.proofs.PlacesAt.{not_there}
+use Rattle.std.proofs.Common.{map, Bor}
+use Rattle.im_parse_core.proofs.PlacesAt.{backwards, forwards}
 use Rattle.im_parse_core.proofs.cursor.is_typedef_name.Goals as goal
 
-pub loop-known-preserved : goal.loop-known-preserved
-loop-known-preserved c = below_more _ _ c.loop-known.invariant (not_there c.args.names.now c.loop-known.known-index c.args.name.now _ c.is_same.result c.loop-known-test.true c.is_same.ensures.1 c.if-is_same.false)
+pub returns : goal.returns
+returns c =
+    let names = map (λ (known : Bor _). known.now) c.args.names.now in
+    (λ so. backwards names c.args.name.now (c.is_among.ensures.0 so), λ has. c.is_among.ensures.1 (forwards names c.args.name.now has))

@@ -1,8 +1,6 @@
-use Rattle.std.proofs.Common.{map, sym, ap, ◌∙◌, Bor}
-use Rattle.std.proofs.lemmas.List.{map-append}
-use Rattle.im_word.specs.Words.{Name}
+use Rattle.std.proofs.Common.{sym, ap, ◌∙◌}
 use Rattle.im_ctree.specs.Typedefs.{has_typedef}
-use Rattle.im_parse_statement.specs.Names.{names_in, specifiers_list}
+use Rattle.im_parse_statement.specs.Names.{specifiers_list}
 use Rattle.im_parse_statement.specs.Statements.{known_names}
 use Rattle.im_parse_statement.proofs.NameFacts.{remembers_none, remembers_some}
 use Rattle.im_parse_statement.proofs.names.remember.Goals as goal
@@ -12,8 +10,6 @@ returns-then-not-has_typedef c = remembers_none (known_names c.args.names.now) c
 
 pub returns : goal.returns
 returns c =
-    ap (λ z. map (λ (known : Bor Name). known.now) z) c.in_ok-append.ensures.items
-    ∙ map-append (λ (known : Bor Name). known.now) c.in_ok-all.all.items c.args.names.now.items
-    ∙ remembers_some (known_names c.args.names.now) (known_names c.in_ok-all.all) c.args.tree.now
-    (ap (λ z. has_typedef (specifiers_list z)) (sym c.deref.ensures.value) ∙ sym c.has_typedef.ensures ∙ c.if-not-has_typedef.false)
-    (c.in_ok-all.ensures ∙ ap names_in c.deref-2.ensures.value)
+    let T = known_names c.args.names.now in
+    rw c.deref-2.ensures.value at c.in_ok-push_names.ensures
+    ∙ remembers_some T c.args.tree.now (ap (λ z. has_typedef (specifiers_list z)) (sym c.deref.ensures.value) ∙ sym c.has_typedef.ensures ∙ c.if-not-has_typedef.false)
