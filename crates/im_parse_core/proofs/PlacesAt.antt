@@ -1,5 +1,5 @@
 -- The word at a place of a slice, and names among names.
-use Rattle.std.proofs.Common.{◌≡◌, ℕ, suc, ◌+◌, ◌-◌, ◌<◌, List, ◌∷◌, map, length, drop, get_or, reverse, sym, ap, subst, ◌∙◌, add-one, arith, Bool, false, Bor, IsTrue}
+use Rattle.std.proofs.Common.{◌≡◌, ℕ, suc, ◌+◌, ◌-◌, ◌<◌, ◌≤◌, List, ◌∷◌, map, length, drop, get_or, reverse, sym, ap, subst, ◌∙◌, add-one, arith, Bool, false, Bor, IsTrue, ⊎_elim, ◌⊎◌}
 use Rattle.std.specs.List.{Contains, drop-map}
 use Rattle.std.proofs.Math.Seq.{drop-cons}
 use Rattle.std.proofs.lemmas.List.{length-map, length-reverse, get_or-map, get_or-reverse, reverse-reverse}
@@ -7,6 +7,9 @@ use Rattle.im_word.specs.Words.{Name}
 use Rattle.im_word.specs.Shown.{shown}
 use Rattle.im_word.specs.declared.word.Word as w
 use Rattle.im_parse_core.specs.Places.{IsAt}
+
+at_or_behind : (k i : ℕ) → i - 1 ≤ k → (k ≡ i - 1) ⊎ (i ≤ k)
+at_or_behind k i h = grind (arith, h)
 
 pub word_is_at : (words : List w.Word) (i : ℕ) (x : w.Word) → i < length words → x ≡ get_or words i x → IsAt (shown x) (map shown words) i (i + 1)
 word_is_at words i x h g =
@@ -17,11 +20,26 @@ word_is_at words i x h g =
       within = omega (arith, k, h);
     }
 
--- a name that isn't the one at this place
-pub not_there : (names : List (Bor Name)) (i : ℕ) (n : Name) (d : Bor Name) (b : Bool) → i < length names → ((get_or names i d).now ≡ n → IsTrue b) → b ≡ false → get_or (map (λ (known : Bor Name). known.now) names) i n ≡ n → ⊥
-not_there names i n d b h same isnt e =
-    let t : IsTrue b = same (sym (get_or-map (λ (known : Bor Name). known.now) names i d n h) ∙ e) in
-    grind (arith, t, isnt)
+-- no name at this place or behind it is that one
+abbrev pub NoneFrom : List (Bor Name) → Name → ℕ → Type 0
+NoneFrom names n i = (k : ℕ) → i ≤ k → k < length names → get_or (map (λ (known : Bor Name). known.now) names) k n ≡ n → ⊥
+
+pub none_yet : (names : List (Bor Name)) (n : Name) → NoneFrom names n (length names)
+none_yet names n k behind within e = absurd (omega (arith, behind, within))
+
+-- one place more, whose name isn't that one
+pub none_here : (names : List (Bor Name)) (n : Name) (i : ℕ) (d : Bor Name) (b : Bool) → 0 < i → i ≤ length names → NoneFrom names n i → ((get_or names (i - 1) d).now ≡ n → IsTrue b) → b ≡ false → NoneFrom names n (i - 1)
+none_here names n i d b some most none same isnt k behind within e =
+    ⊎_elim
+    (λ here. let t : IsTrue b = same (sym (get_or-map (λ (known : Bor Name). known.now) names (i - 1) d n (omega (arith, some, most))) ∙ ap (λ z. get_or (map (λ (known : Bor Name). known.now) names) z n) (sym here) ∙ e) in absurd (grind (arith, t, isnt)))
+    (λ later. none k later within e)
+    (at_or_behind k i behind)
+
+-- a name that is that one
+pub one_here : (names : List (Bor Name)) (n : Name) (i : ℕ) (d : Bor Name) → i < length names → (get_or names i d).now ≡ n → Contains (map (λ (known : Bor Name). known.now) names) n
+one_here names n i d within same =
+    let long = length-map names (λ (known : Bor Name). known.now) in
+    (i, omega (arith, long, within), get_or-map (λ (known : Bor Name). known.now) names i d n within ∙ same)
 
 -- the names of a list backwards are its names
 pub backwards : (xs : List Name) (n : Name) → Contains xs n → Contains (reverse xs) n

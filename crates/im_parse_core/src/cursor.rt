@@ -86,12 +86,14 @@ fn is_same(name: &[u8], other: &[u8]) -> bool
     name == other
 }
 
-/// Whether a name is one of these.
+/// Whether a name is one of these, which are looked at from the last one on.
 fn is_among(names: &[&[u8]], name: &[u8]) -> bool
     ensures { IsTrue result ↔ Contains (map (λ known. known.now) names.now) name.now }
 {
-    for known in names {
-        if is_same(known, name) {
+    let mut left = names.len();
+    while left > 0 {
+        left -= 1;
+        if is_same(names[left], name) {
             return true;
         }
     }

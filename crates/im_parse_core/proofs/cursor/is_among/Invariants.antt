@@ -1,5 +1,9 @@
-use Rattle.std.proofs.Common.{◌≡◌, ℕ, ◌<◌, map, get_or}
+use Rattle.std.proofs.Common.{◌≤◌, length}
+use Rattle.im_parse_core.proofs.PlacesAt.{NoneFrom}
 use Rattle.im_parse_core.proofs.cursor.is_among.Given as goal
 
-abbrev pub invariant-loop-known : goal.invariant-loop-known
-invariant-loop-known l = (k : ℕ) → k < l.known-index → get_or (map (λ known. known.now) l.names) k l.name ≡ l.name → ⊥
+abbrev pub invariant-loop-left : goal.invariant-loop-left
+invariant-loop-left l = (l.left ≤ length l.names) × NoneFrom l.names l.name l.left
+
+abbrev pub decreases-loop-left : goal.decreases-loop-left
+decreases-loop-left l = l.left
