@@ -7,7 +7,7 @@ use Rattle.im_rv.specs.declared.code.Line.{Line}
 use Rattle.im_rv.specs.Decode.{Line as Instruction, decode}
 use Rattle.im_rv.specs.Lines.{line_of}
 use Rattle.im_link.specs.Links.{StandsAt, Reaches, IsAimed, Does, AreWordsOf}
-use Rattle.im_link.specs.State.{ArePlaceable, ArePlacesOf, IsDone, AreFirstWords}
+use Rattle.im_link.specs.State.{ArePlaceable, ArePlacesOf, HasPlaceNear, DoesBy, IsWordBy, IsDone, AreFirstWords}
 
 same_or : (a b : ℕ) → (a ≡ b) ⊎ (a ≢ b)
 same_or a b = grind arith
@@ -63,28 +63,58 @@ module _ (lines : List Line) (placeable : ArePlaceable lines) where
   pub placed_on : (i : ℕ) (line : Line) (old new : ℕ → Option ℕ) → ArePlacesOf lines i old → slice_get lines i ≡ Some line → IfSome line.label (λ l. new l ≡ Some i) → ((q : ℕ) → line.label ≢ Some q → new q ≡ old q) → ArePlacesOf lines (i + 1) new
   placed_on i line old new p g here others = placed_by i line old new line.label refl p g here others
 
-  pub reaches : (i l j : ℕ) (line : Line) (found : ℕ → Option ℕ) → ArePlacesOf lines (length lines) found → slice_get lines i ≡ Some line → line.target ≡ Some l → found l ≡ Some j → Reaches line.instr i j
-  reaches i l j line found p g t f =
+  -- the next line, by the number that it is called with
+  pub placed_next : (i n k : ℕ) (line : Line) (old new : ℕ → Option ℕ) → i + k ≡ n → ArePlacesOf lines (i + k) old → slice_get lines n ≡ Some line → IfSome line.label (λ l. new l ≡ Some (i + k)) → ((q : ℕ) → line.label ≢ Some q → new q ≡ old q) → ArePlacesOf lines (i + (k + 1)) new
+  placed_next i n k line old new e p g here others = subst (λ (z : ℕ). ArePlacesOf lines z new) (let z : i + k + 1 ≡ i + (k + 1) = omega arith in z)
+      (placed_on (i + k) line old new p (subst (λ (z : ℕ). slice_get lines z ≡ Some line) (sym e) g) here others)
+
+  -- the label that a line leads to has a place, in its reach
+  near : (i : ℕ) (line : Line) (found : ℕ → Option ℕ) → ArePlacesOf lines (length lines) found → slice_get lines i ≡ Some line → HasPlaceNear found i line
+  near i line found p g = λ l t.
       let r = placeable.targets i line l g t in
-      let same : r.0 ≡ j = placeable.apart l r.0 j r.1 (p.stands l j f) in
-      subst (λ (z : ℕ). Reaches line.instr i z) same r.2
+      let inside = slice_get_within lines r.0 r.1.line r.1.is_line in
+      let few = placeable.few in
+      (r.0, p.known l r.0 inside r.1, (let small : r.0 < 261120 = omega arith in small), r.2)
 
-  pub found_inside : (l j : ℕ) (found : ℕ → Option ℕ) → ArePlacesOf lines (length lines) found → found l ≡ Some j → j < length lines
-  found_inside l j found p f = (let s = p.stands l j f in slice_get_within lines j s.line s.is_line)
+  pub near_at : (i n : ℕ) (line : Line) (found : ℕ → Option ℕ) → i ≡ n → ArePlacesOf lines (length lines) found → slice_get lines n ≡ Some line → HasPlaceNear found i line
+  near_at i n line found e p g = near i line found p (subst (λ (z : ℕ). slice_get lines z ≡ Some line) (sym e) g)
 
-  pub never_missing : (i l : ℕ) (line : Line) (found : ℕ → Option ℕ) → ArePlacesOf lines (length lines) found → slice_get lines i ≡ Some line → line.target ≡ Some l → found l ≡ None → ⊥
-  never_missing i l line found p g t none =
-      let r = placeable.targets i line l g t in
-      let f = p.known l r.0 (slice_get_within lines r.0 r.1.line r.1.is_line) r.1 in
-      let bad : None ≡ Some r.0 = sym none ∙ f in cc
+  pub inside_few : (i n : ℕ) (line : Line) → i ≡ n → slice_get lines n ≡ Some line → i < 261120
+  inside_few i n line e g = (let l = slice_get_within lines n line g in let few = placeable.few in omega arith)
 
-  pub done_plain : (i w : ℕ) (line : Line) → slice_get lines i ≡ Some line → line.target ≡ None → decode w ≡ Some (line_of line.instr) → IsDone lines i w
-  done_plain i w line g t d = λ other h. subst (λ (z : Line). (to : Instruction) × (decode w ≡ Some to) × Does lines i z z.target to) (one_line lines i line other g h)
-      (line_of line.instr, d, subst (λ (o : Option ℕ). Does lines i line o (line_of line.instr)) (sym t) refl)
+does_by : (lines : List Line) (i : ℕ) (line : Line) (found : ℕ → Option ℕ) (o : Option ℕ) (to : Instruction) → ArePlacesOf lines (length lines) found → DoesBy found i line o to → Does lines i line o to
+does_by lines i line found None to p d = d
+does_by lines i line found (Some l) to p d = (d.0, p.stands l d.0 d.1, d.2)
 
-  pub done_aimed : (i l j w : ℕ) (line : Line) (to : Instruction) (found : ℕ → Option ℕ) → ArePlacesOf lines (length lines) found → slice_get lines i ≡ Some line → line.target ≡ Some l → found l ≡ Some j → IsAimed (line_of line.instr) i j to → decode w ≡ Some to → IsDone lines i w
-  done_aimed i l j w line to found p g t f a d = λ other h. subst (λ (z : Line). (to : Instruction) × (decode w ≡ Some to) × Does lines i z z.target to) (one_line lines i line other g h)
-      (to, d, subst (λ (o : Option ℕ). Does lines i line o to) (sym t) (j, p.stands l j f, a))
+-- what the map's places make of a line is its word
+pub done_by : (lines : List Line) (i w : ℕ) (line : Line) (found : ℕ → Option ℕ) → ArePlacesOf lines (length lines) found → slice_get lines i ≡ Some line → IsWordBy found i line w → IsDone lines i w
+done_by lines i w line found p g d = λ other h. subst (λ (z : Line). (to : Instruction) × (decode w ≡ Some to) × Does lines i z z.target to) (one_line lines i line other g h)
+    (d.0, d.1, does_by lines i line found line.target d.0 p d.2)
+
+by_plain : (found : ℕ → Option ℕ) (i : ℕ) (line : Line) (o : Option ℕ) (w : ℕ) → o ≡ None → decode w ≡ Some (line_of line.instr) → (to : Instruction) × (decode w ≡ Some to) × DoesBy found i line o to
+by_plain found i line None w t d = (line_of line.instr, d, refl)
+by_plain found i line (Some l) w t d = absurd (let bad : Some l ≡ None = t in cc)
+
+by_aimed : (found : ℕ → Option ℕ) (i l j : ℕ) (line : Line) (o : Option ℕ) (to : Instruction) (w : ℕ) → o ≡ Some l → found l ≡ Some j → IsAimed (line_of line.instr) i j to → decode w ≡ Some to → (to : Instruction) × (decode w ≡ Some to) × DoesBy found i line o to
+by_aimed found i l j line None to w t f a d = absurd (let bad : None ≡ Some l = t in cc)
+by_aimed found i l j line (Some m) to w t f a d = (let same : m ≡ l = cc in (to, d, (j, ap found same ∙ f, a)))
+
+pub word_plain : (found : ℕ → Option ℕ) (i : ℕ) (line : Line) (w : ℕ) → line.target ≡ None → decode w ≡ Some (line_of line.instr) → IsWordBy found i line w
+word_plain found i line w t d = by_plain found i line line.target w t d
+
+pub word_aimed : (found : ℕ → Option ℕ) (i l j : ℕ) (line : Line) (to : Instruction) (w : ℕ) → line.target ≡ Some l → found l ≡ Some j → IsAimed (line_of line.instr) i j to → decode w ≡ Some to → IsWordBy found i line w
+word_aimed found i l j line to w t f a d = by_aimed found i l j line line.target to w t f a d
+
+-- of a label that a line leads to, the place that the map has is the one in its reach
+pub place_near : (found : ℕ → Option ℕ) (i l j : ℕ) (line : Line) → HasPlaceNear found i line → line.target ≡ Some l → found l ≡ Some j → (j < 261120) × Reaches line.instr i j
+place_near found i l j line near t f =
+    let n = near l t in
+    let e : Some n.0 ≡ Some j = sym n.1 ∙ f in
+    let same : n.0 ≡ j = cc in
+    (subst (λ (z : ℕ). z < 261120) same n.2, subst (λ (z : ℕ). Reaches line.instr i z) same n.3)
+
+pub never_missing : (found : ℕ → Option ℕ) (i l : ℕ) (line : Line) → HasPlaceNear found i line → line.target ≡ Some l → found l ≡ None → ⊥
+never_missing found i l line near t none = (let n = near l t in let bad : None ≡ Some n.0 = sym none ∙ n.1 in cc)
 
 pub linked_on : (lines : List Line) (i w : ℕ) (words new : List ℕ) → AreFirstWords lines i words → IsDone lines i w → new ≡ words ++ w ∷ [] → AreFirstWords lines (i + 1) new
 linked_on lines i w words new k d q =
@@ -96,6 +126,11 @@ linked_on lines i w words new k d q =
         | inr x ↦ subst (λ (z : ℕ). IsDone lines z (slice_index new z)) (sym x) (subst (λ (z : ℕ). IsDone lines i z) (sym (ap (λ (z : List ℕ). slice_index z i) q ∙ get_or_push words w 0 i c)) d)
       ];
     }
+
+pub words_next : (lines : List Line) (f k i w : ℕ) (line : Line) (found : ℕ → Option ℕ) (words new : List ℕ) → i ≡ f + k → AreFirstWords lines (f + k) words → ArePlacesOf lines (length lines) found → slice_get lines (f + k) ≡ Some line → IsWordBy found i line w → new ≡ words ++ w ∷ [] → AreFirstWords lines (f + (k + 1)) new
+words_next lines f k i w line found words new e old p g by q =
+    let done : IsDone lines (f + k) w = done_by lines (f + k) w line found p g (subst (λ (z : ℕ). IsWordBy found z line w) e by) in
+    subst (λ (z : ℕ). AreFirstWords lines z new) (let z : f + k + 1 ≡ f + (k + 1) = omega arith in z) (linked_on lines (f + k) w words new old done q)
 
 pub all_words : (lines : List Line) (words : List ℕ) → AreFirstWords lines (length lines) words → AreWordsOf lines words
 all_words lines words k = record { count = k.count; each = λ i line g. k.done i (slice_get_within lines i line g) line g }

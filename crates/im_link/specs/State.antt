@@ -5,9 +5,11 @@ use Rattle.im_num.specs.declared.values.Cause.TheVariants.{Dep}
 use Rattle.im_rv.specs.declared.code.Line.{Line}
 use Rattle.im_rv.specs.declared.code.Part.{Part}
 use Rattle.im_rv.specs.declared.code.Cut.{Cut}
+use Rattle.im_rv.specs.Decode.{Line as Instruction, decode}
+use Rattle.im_rv.specs.Lines.{line_of}
 use Rattle.im_rv.specs.Code.{address}
 use Rattle.im_link.specs.Parts.{lines_of}
-use Rattle.im_link.specs.Links.{StandsAt, IsWordOf, AreLabelsApart, AreTargetsNear}
+use Rattle.im_link.specs.Links.{StandsAt, Reaches, IsAimed, IsWordOf, AreLabelsApart, AreTargetsNear}
 use Rattle.im_link.specs.Cuts.{IsAccessAt, HasAccesses, IsCutOf, IsCutIn}
 
 -- lines that can be given words
@@ -20,6 +22,18 @@ pub record ArePlaceable (lines : List Line) : Type 0 where
 pub record ArePlacesOf (lines : List Line) (n : ℕ) (found : ℕ → Option ℕ) : Type 0 where
   pub stands : (l j : ℕ) → found l ≡ Some j → StandsAt lines l j
   pub known : (l j : ℕ) → j < n → StandsAt lines l j → found l ≡ Some j
+
+-- the label that a line at word i leads to has a place, in its reach
+abbrev pub HasPlaceNear : (ℕ → Option ℕ) → ℕ → Line → Type 0
+HasPlaceNear found i line = (l : ℕ) → line.target ≡ Some l → (j : ℕ) × (found l ≡ Some j) × (j < 261120) × Reaches line.instr i j
+
+-- what word i has to be, where the map has the places
+abbrev pub DoesBy : (ℕ → Option ℕ) → ℕ → Line → Option ℕ → Instruction → Type 0
+DoesBy found i line None to = to ≡ line_of line.instr
+DoesBy found i line (Some l) to = (j : ℕ) × (found l ≡ Some j) × IsAimed (line_of line.instr) i j to
+
+abbrev pub IsWordBy : (ℕ → Option ℕ) → ℕ → Line → ℕ → Type 0
+IsWordBy found i line w = (to : Instruction) × (decode w ≡ Some to) × DoesBy found i line line.target to
 
 abbrev pub IsDone : List Line → ℕ → ℕ → Type 0
 IsDone lines i w = (line : Line) → slice_get lines i ≡ Some line → IsWordOf lines i line w

@@ -1,13 +1,13 @@
 ghost use Rattle.std.specs.Prelude.{◌≡◌, ◌+◌, ◌-◌, ◌<◌, ◌≤◌, ◌^◌, min, length, IfOk, IfErr, Err};
 ghost use Rattle.im_rv.specs.Code.{address};
-ghost use Rattle.im_link.specs.Parts.{lines_of, word_count, byte_count, first_of, last_of, HasLastLine};
+ghost use Rattle.im_link.specs.Parts.{word_count, byte_count, first_of, last_of, HasLastLine};
 ghost use Rattle.im_link.specs.Code.{IsLinkable, IsLinked, IsFaultOf, byte_limit, told_count};
 
 use crate::cuts::cuts_of;
 use crate::fault::LinkFault;
 use crate::words::words_of;
 use im_num::NoMemory;
-use im_rv::{Code, Line, Part};
+use im_rv::{Code, Part};
 use std::alloc::Global;
 
 // The most words that a code may have.
@@ -22,17 +22,6 @@ fn count_words(parts: &[Part]) -> u64
         words = words.saturating_add(part.lines.len() as u64);
     }
     words
-}
-
-// The lines of all parts, in order.
-fn joined_lines(alloc: Global, parts: &[Part]) -> Result<Vec<Line>, NoMemory>
-    ensures { IfOk result (λ lines. lines.items ≡ lines_of parts.now) }
-{
-    let mut lines = Vec::new(alloc);
-    for part in parts {
-        lines.extend_from_slice(&part.lines)?;
-    }
-    Ok(lines)
 }
 
 // The address of the last part's first word.
@@ -60,8 +49,7 @@ pub fn link(alloc: Global, parts: &[Part]) -> Result<Code, LinkFault>
     if count > MOST_WORDS {
         return Err(LinkFault::Limit(count.saturating_mul(4)));
     }
-    let lines = joined_lines(alloc, parts)?;
-    let words = words_of(alloc, &lines)?;
+    let words = words_of(alloc, parts)?;
     let cuts = cuts_of(alloc, parts)?;
     let entry = entry_of(parts, words.len());
     Ok(Code { words, entry, cuts })

@@ -1,9 +1,10 @@
-ghost use Rattle.std.specs.Prelude.{◌≡◌, ◌≢◌, ◌≤◌, ℕ, length, nat_eq, OnOk, IfOk, IfSome, Some};
+ghost use Rattle.std.specs.Prelude.{◌≡◌, ◌≢◌, ◌+◌, ◌<◌, ℕ, length, nat_eq, OnOk, IfOk, IfSome, Some};
 ghost use Rattle.std.specs.HashMap as hash;
+ghost use Rattle.im_link.specs.Parts.{lines_of, first_of};
 ghost use Rattle.im_link.specs.State.{ArePlaceable, ArePlacesOf, AreAccessesOf};
 
 use im_num::NoMemory;
-use im_rv::Line;
+use im_rv::{Line, Part};
 use std::alloc::Global;
 use std::collections::HashMap;
 
@@ -31,15 +32,33 @@ pub fn find(places: &Places, label: u32) -> Option<usize>
     places.get(&label).copied()
 }
 
-/// The places of the labels of these lines.
-pub fn places_of(alloc: Global, lines: &[Line]) -> Result<Places, NoMemory>
-    requires { ArePlaceable lines.now }
-    ensures { IfOk result
-        (λ places. ArePlacesOf lines.now (length lines.now) (hash.get nat_eq places)) }
+// Notes the places of the labels of part p, whose first line has the number `first`.
+fn note_labels(places: &mut Places, parts: &[Part], p: usize, first: usize) -> Result<(), NoMemory>
+    requires placeable { ArePlaceable (lines_of parts.now) }
+    requires inside { p < length parts.now }
+    requires first { first ≡ first_of parts.now p }
+    requires places { ArePlacesOf (lines_of parts.now) first (hash.get nat_eq places.old) }
+    ensures { OnOk result
+        (ArePlacesOf (lines_of parts.now) (first_of parts.now (p + 1)) (hash.get nat_eq places.new)) }
+{
+    let part = &parts[p];
+    for k in 0..part.lines.len() {
+        note(places, part.lines[k].label, first + k)?;
+    }
+    Ok(())
+}
+
+/// The places of the labels of these parts, among the lines of all.
+pub fn places_of(alloc: Global, parts: &[Part]) -> Result<Places, NoMemory>
+    requires { ArePlaceable (lines_of parts.now) }
+    ensures { IfOk result (λ places. ArePlacesOf (lines_of parts.now)
+        (length (lines_of parts.now)) (hash.get nat_eq places)) }
 {
     let mut places = HashMap::new(alloc);
-    for i in 0..lines.len() {
-        note(&mut places, lines[i].label, i)?;
+    let mut first = 0;
+    for p in 0..parts.len() {
+        note_labels(&mut places, parts, p, first)?;
+        first += parts[p].lines.len();
     }
     Ok(places)
 }

@@ -1,14 +1,23 @@
-use Rattle.std.proofs.Common.{arith, ◌≡◌, ℕ, length, get_or, subst}
+use Rattle.std.proofs.Common.{arith, rules, refl, ◌≡◌, ℕ, length, ap, subst, sym, ◌∙◌}
+use Rattle.std.proofs.lemmas.Option.{slice_get_read}
 use Rattle.std.specs.Prelude.{nat_eq}
 use Rattle.std.specs.HashMap as hash
-use Rattle.std.proofs.lemmas.Option.{slice_get-get_or}
+use Rattle.im_link.specs.Parts.{lines_of, first_of}
 use Rattle.im_link.specs.State.{ArePlacesOf}
-use Rattle.im_link.proofs.Placing.{placed_on}
+use Rattle.im_link.proofs.Joining.{first_whole, first_inside, lines_count}
 use Rattle.im_link.proofs.places.places_of.Goals as goal
 
-pub loop-i-preserved : goal.loop-i-preserved
-loop-i-preserved c = placed_on _ c.requires c.loop-i.i (get_or c.args.lines.now c.loop-i.i c.index-lines-i.result) _ (hash.get nat_eq c.note.new.places) c.loop-i.invariant
-    (slice_get-get_or _ _ _ c.loop-i-test.true) c.in_ok-note.ensures.here c.in_ok-note.ensures.others
-
 pub returns : goal.returns
-returns c = let e : c.loop-i.i ≡ length c.args.lines.now = omega arith in subst (λ (z : ℕ). ArePlacesOf c.args.lines.now z (hash.get nat_eq c.loop-i.places)) e c.loop-i.invariant
+returns c =
+    let end : c.loop-p.p ≡ length c.args.parts.now = omega arith in
+    let whole : c.loop-p.first ≡ length (lines_of c.args.parts.now) = c.loop-p.invariant.0 ∙ ap (first_of c.args.parts.now) end ∙ first_whole c.args.parts.now ∙ sym (lines_count c.args.parts.now) in
+    subst (λ (z : ℕ). ArePlacesOf (lines_of c.args.parts.now) z (hash.get nat_eq c.loop-p.places)) whole c.loop-p.invariant.1
+
+pub overflow_add-first : goal.overflow_add-first
+overflow_add-first c =
+    let inside = first_inside c.args.parts.now c.loop-p.p c.index-parts-p.result (slice_get_read _ _ _ _ refl c.loop-p-test.true c.index-parts-p.is) in
+    let size : c.len-first.result ≡ length c.index-parts-p.result.lines.items = search rules in
+    let count = lines_count c.args.parts.now in
+    let few = c.requires.few in
+    let first = c.loop-p.invariant.0 in
+    omega arith
