@@ -1,11 +1,14 @@
-ghost use Rattle.std.specs.Prelude.{◌≡◌, ◌<◌, ◌^◌, length};
-ghost use Rattle.im_driver.specs.Steps.{fault_at, of_compile, quantity_of};
+ghost use Rattle.std.specs.Prelude.{◌≡◌, ◌<◌, ◌^◌, length, MatchResult};
+ghost use Rattle.im_driver.specs.Compiled.{IsRefused};
+ghost use Rattle.im_driver.specs.Steps.{IsReady, fault_at, quantity_of};
 
-use im_checking::{CheckFault, Limit};
-use im_compile::CompileFault;
+use crate::laws::{program_law, written_law};
+use im_checking::{CheckFault, Limit, check};
 use im_fault::{LineFault, Quantity, SourceFault};
-use im_front::line_of;
+use im_front::{line_of, read_source};
 use im_tok::Token;
+use im_typed::Prog;
+use std::alloc::Global;
 
 fn quantity(which: Limit) -> Quantity
     ensures { result ≡ quantity_of which }
@@ -17,8 +20,8 @@ fn quantity(which: Limit) -> Quantity
     }
 }
 
-/// Why a source has no program, of whose tree this is told.
-pub(crate) fn untyped(source: &[u8], tokens: &[Token], fault: CheckFault) -> SourceFault
+// Why a source has no program, of whose tree this is told.
+fn untyped(source: &[u8], tokens: &[Token], fault: CheckFault) -> SourceFault
     requires { length source.now < 2 ^ 31 }
     ensures { result ≡ fault_at source.now tokens.now fault }
 {
@@ -35,20 +38,18 @@ pub(crate) fn untyped(source: &[u8], tokens: &[Token], fault: CheckFault) -> Sou
     }
 }
 
-/// Why a source has no image, of whose program this is told.
-pub(crate) fn unmade(fault: CompileFault) -> SourceFault
-    ensures { result ≡ of_compile fault }
+/// The typed program of a source, or why it has none. Tokens and tree are given back at its end.
+pub(crate) fn typed_program(alloc: Global, source: &[u8]) -> Result<Prog, SourceFault>
+    ensures { MatchResult result (IsReady source.now) (IsRefused source.now) }
 {
-    match fault {
-        CompileFault::Frame { bytes, .. } => SourceFault::Limit {
-            quantity: Quantity::Frame,
-            count: bytes,
-        },
-        CompileFault::Code(bytes) => SourceFault::Limit {
-            quantity: Quantity::Code,
-            count: bytes,
-        },
-        CompileFault::Unnamed(_) => SourceFault::NotYet,
-        CompileFault::OutOfMemory => SourceFault::OutOfMemory,
+    written_law();
+    program_law();
+    let text = match read_source(alloc, source) {
+        Ok(text) => text,
+        Err(fault) => return Err(fault),
+    };
+    match check(alloc, &text.tree) {
+        Ok(prog) => Ok(prog),
+        Err(fault) => Err(untyped(source, &text.tokens, fault)),
     }
 }

@@ -1,13 +1,12 @@
 ghost use Rattle.std.specs.Prelude.{◌≡◌, ◌≤◌, MatchResult};
 ghost use Rattle.im_mem.specs.Map.{stack_capacity, output_capacity};
 ghost use Rattle.im_driver.specs.Compiled.{IsCompiled, IsCompiledFrom, IsRefused};
+ghost use Rattle.im_driver.specs.Steps.{of_compile};
 
-use crate::checking::{unmade, untyped};
-use crate::laws::{kept_law, program_law, written_law};
-use im_checking::check;
-use im_compile::{Built, Options, compile as compile_program};
-use im_fault::SourceFault;
-use im_front::read_source;
+use crate::checking::typed_program;
+use crate::laws::kept_law;
+use im_compile::{Built, CompileFault, Options, compile as compile_program};
+use im_fault::{Quantity, SourceFault};
 use im_typed::Prog;
 use std::alloc::Global;
 
@@ -16,6 +15,24 @@ use std::alloc::Global;
 pub struct Compiled {
     pub prog: Prog,
     pub built: Built,
+}
+
+// Why a source has no image, of whose program this is told.
+fn unmade(fault: CompileFault) -> SourceFault
+    ensures { result ≡ of_compile fault }
+{
+    match fault {
+        CompileFault::Frame { bytes, .. } => SourceFault::Limit {
+            quantity: Quantity::Frame,
+            count: bytes,
+        },
+        CompileFault::Code(bytes) => SourceFault::Limit {
+            quantity: Quantity::Code,
+            count: bytes,
+        },
+        CompileFault::Unnamed(_) => SourceFault::NotYet,
+        CompileFault::OutOfMemory => SourceFault::OutOfMemory,
+    }
 }
 
 /// The typed program of a source and the image that keeps its meaning whatever power does, or why the
@@ -32,17 +49,8 @@ pub fn compile_whole(
     ensures { MatchResult result
         (λ whole. IsCompiledFrom source.now options whole.prog whole.built) (IsRefused source.now) }
 {
-    written_law();
-    program_law();
     kept_law();
-    let text = match read_source(alloc, source) {
-        Ok(text) => text,
-        Err(fault) => return Err(fault),
-    };
-    let prog = match check(alloc, &text.tree) {
-        Ok(prog) => prog,
-        Err(fault) => return Err(untyped(source, &text.tokens, fault)),
-    };
+    let prog = typed_program(alloc, source)?;
     match compile_program(alloc, &prog, options) {
         Ok(built) => Ok(Compiled { prog, built }),
         Err(fault) => Err(unmade(fault)),
