@@ -22,7 +22,7 @@ pub struct StaticWord {
 }
 
 /// The image of these words, which begins at this address. Its statics stand 8 bytes apart.
-pub fn image_of(
+pub(crate) fn image_of(
     alloc: Global,
     words: &[u32],
     entry: u32,
@@ -49,12 +49,12 @@ pub fn image_of(
 }
 
 /// A machine with the image and this input.
-pub fn loaded(alloc: Global, image: &Image, input: &[u8]) -> Result<Machine<FlatMem>, Fail> {
+pub(crate) fn loaded(alloc: Global, image: &Image, input: &[u8]) -> Result<Machine<FlatMem>, Fail> {
     Ok(Machine::load(alloc, image, input).ok().ok_or("a machine")?)
 }
 
 /// A period of so many instructions.
-pub fn period(n: u32, mask: u32) -> Period {
+pub(crate) fn period(n: u32, mask: u32) -> Period {
     Period {
         n,
         junk: 0xa5a5_a5a5,
@@ -64,7 +64,7 @@ pub fn period(n: u32, mask: u32) -> Period {
 }
 
 /// What the static of this number holds.
-pub fn value_of(
+pub(crate) fn value_of(
     alloc: Global,
     machine: &Machine<FlatMem>,
     number: usize,

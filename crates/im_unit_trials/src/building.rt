@@ -40,7 +40,7 @@ fn owned(alloc: Global, names: &[&str]) -> Result<Vec<String>, Fail>
 }
 
 /// The image of placed code, whose functions have these names: laid out, selected, linked and packed.
-pub fn image_of(alloc: Global, unit: &Unit, names: &[&str]) -> Result<Image, Fail>
+pub(crate) fn image_of(alloc: Global, unit: &Unit, names: &[&str]) -> Result<Image, Fail>
     requires buildable { IsBuildable unit.now }
     requires named { length names.now ≡ length unit.now.functions.items }
 {

@@ -223,7 +223,7 @@ fn total(alloc: Global) -> Result<Static, Fail>
 
 /// A function that calls itself and writes through a pointer to an object of its first caller, and
 /// `main`, which has that object.
-pub fn unit(alloc: Global) -> Result<Unit, Fail>
+pub(crate) fn unit(alloc: Global) -> Result<Unit, Fail>
     ensures buildable { IfOk result IsBuildable }
     ensures two { IfOk result (λ u. length u.functions.items ≡ 2) }
 {
