@@ -1,5 +1,5 @@
 #!/bin/sh
-# Measures `intermit run` on the longest source of the form that is compiled: 1000 calls of putchar.
+# Measures `intermit run` on a source of 1000 calls of putchar.
 # It is no part of the gate. bench/exec.sh measures the steps of a long loop.
 set -eu
 top=$(CDPATH= cd -- "$(dirname -- "$0")/.." && pwd)
