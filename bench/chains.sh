@@ -62,6 +62,7 @@ chain minus-calls "int f(int a) { return a; } int main(void) { return $(many '- 
 chain minus-indices "int a[2]; int main(void) { return $(many '- ')a" '[0]' '; }'
 chain minus-commas "int main(void) { return $(many '- ')(7" ', 7' '); }'
 chain ifs-casts "int main(void) { $(many 'if (0) ; else ')return " '(int)' '7; }'
+chain ifs-commas "int main(void) { $(many 'if (0) ; else ')return 7" ', 7' '; }'
 chain ifs-indices "int a[2]; int main(void) { $(many 'if (0) ; else ')return a" '[0]' '; }'
 chain blocks-casts "int main(void) { $(many '{ ')return " '(int)' "7; $(many '} ')}"
 chain blocks-names "int main(void) { $(many '{ ')int a" ', a' "; $(many '} ')}"
