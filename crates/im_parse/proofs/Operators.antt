@@ -1,5 +1,5 @@
 -- The tables as functions and as relations say the same.
-use Rattle.std.proofs.Common.{◌≡◌, ℕ, List, ◌∷◌, sym, ap, refl, ◌∙◌, subst}
+use Rattle.std.proofs.Common.{◌≡◌, ℕ, List, sym, ap, refl, ◌∙◌, subst}
 use Rattle.std.specs.Prelude.{Option, Some, None, drop, Bool, IsTrue, ◌↔◌}
 use Rattle.std.specs.List.{Contains}
 use Rattle.im_tok.specs.declared.keyword.Keyword.{Keyword}
@@ -18,7 +18,7 @@ use Rattle.im_ctree.specs.declared.specifier.SpecifierWord.{SpecifierWord}
 use Rattle.im_tok.specs.declared.keyword.Keyword.TheVariants as ky
 use Rattle.im_parse.specs.Declaring.{WordAt, NoWord}
 use Rattle.im_parse.specs.Tables as table
-use Rattle.im_parse.specs.Parsing.{OperatorAt, NoOperator, BeginsSpecifiers, by_name, by_keyword}
+use Rattle.im_parse.specs.Parsing.{NoOperator, BeginsSpecifiers, by_name, by_keyword}
 
 some_same : {A : Type 0} {a b : A} → Some a ≡ Some b → a ≡ b
 some_same e = cc

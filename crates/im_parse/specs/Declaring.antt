@@ -2,7 +2,6 @@
 use Rattle.std.specs.Prelude.{ℕ, suc, ◌+◌, ◌<◌, ◌≡◌, ◌⊎◌, Bool, true, false, List, [], ◌∷◌, ◌++◌, length, map, drop, Result, MatchResult, Option, Some, None}
 use Rattle.std.specs.List.{Contains}
 use Rattle.std.specs.declared.vec.Vec.{Vec}
-use Rattle.im_tok.specs.declared.punctuator.Punctuator.{Punctuator}
 use Rattle.im_tok.specs.declared.punctuator.Punctuator.TheVariants as punctuator
 use Rattle.im_tok.specs.declared.punctuator.Punctuator.TheVariants.{OpenParen, CloseParen, OpenBrace, CloseBrace, OpenBracket, CloseBracket, Semicolon, Comma}
 use Rattle.im_tok.specs.declared.keyword.Keyword.{Keyword}
@@ -11,7 +10,7 @@ use Rattle.im_ctree.specs.declared.specifier.SpecifierWord.{SpecifierWord}
 use Rattle.im_ctree.specs.Operators as op
 use Rattle.im_ctree.specs.Tree as t
 use Rattle.im_ctree.specs.Grammar as g
-use Rattle.im_ctree.specs.Typedefs.{has_type, adds_type}
+use Rattle.im_ctree.specs.Typedefs.{has_type}
 use Rattle.im_ctree.specs.Follow.{head_rank, head_brace, head_star, keyword_specifier, SpecifierEnds, Separated}
 use Rattle.im_ctree.specs.Shape.{specifier_of, specifiers_of, declarator_of, declarators_of, maybe_expression_of, maybe_declarator_of, parameters_of}
 use Rattle.im_ctree.specs.declared.specifier.Specifier.{Specifier}
@@ -24,9 +23,9 @@ use Rattle.im_ctree.specs.declared.declarator.SuffixKind as xk
 use Rattle.im_ctree.specs.declared.declarator.Parameter as pm
 use Rattle.im_parse_core.specs.Reads.{Family, Ending, head}
 use Rattle.im_parse_core.specs.Lists.{before}
-use Rattle.im_parse_core.specs.Places.{IsAt, StopsAt}
+use Rattle.im_parse_core.specs.Places.{IsAt}
 use Rattle.im_parse_core.specs.declared.stop.Stop.{Stop}
-use Rattle.im_parse_core.specs.declared.stop.Stop.TheVariants.{Syntax, Memory}
+use Rattle.im_parse_core.specs.declared.stop.Stop.TheVariants.{Memory}
 use Rattle.im_parse.specs.declared.form.Form.{Form}
 use Rattle.im_parse.specs.declared.form.Form.TheVariants.{Declared, Guarded, Either, Abstract}
 

@@ -1,5 +1,5 @@
 -- What the parsing functions of the grammar promise.
-use Rattle.std.specs.Prelude.{ℕ, suc, ◌<◌, ◌≡◌, Bool, true, false, ◌||◌, List, [], ◌∷◌, ◌++◌, drop, Result, MatchResult, Option, Some, None}
+use Rattle.std.specs.Prelude.{ℕ, suc, ◌<◌, ◌≡◌, Bool, true, false, List, [], ◌∷◌, ◌++◌, drop, Result, MatchResult, Option, Some}
 use Rattle.std.specs.declared.vec.Vec.{Vec}
 use Rattle.im_tok.specs.declared.punctuator.Punctuator.{Punctuator}
 use Rattle.im_tok.specs.declared.keyword.Keyword.{Keyword}

@@ -4,13 +4,12 @@ ghost use Rattle.im_word.specs.Words.{mark};
 ghost use Rattle.im_ctree.specs.Grammar.{OpensParameters};
 ghost use Rattle.im_ctree.specs.Typedefs as typedefs;
 ghost use Rattle.im_parse_core.specs.Reads.{head};
-ghost use Rattle.im_parse_core.specs.Names.{names_of};
 ghost use Rattle.im_parse.specs.Declaring.{GoesOn, BeginsForm, BeginsSuffix, HasName, MayBeNameless, IsNamed, specifier_tree};
 
 use super::form::Form;
 use super::look::begins_specifiers;
 use im_ctree::{Specifier, SpecifierKind, SpecifierWord};
-use im_parse_core::{after_mark, name_at};
+use im_parse_core::{TypedefNames, after_mark, name_at};
 use im_tok::Punctuator;
 use im_word::Word;
 
@@ -37,10 +36,9 @@ fn has_name(words: &[Word], at: u32) -> bool
 }
 
 /// Whether specifiers go on at this place, where `typed` says whether a type stands in those before it.
-pub fn specifier_ahead(words: &[Word], names: &[&[u8]], typed: bool, at: u32) -> bool
+pub fn specifier_ahead(words: &[Word], names: &TypedefNames, typed: bool, at: u32) -> bool
     requires { length words.now < 2 ^ 32 }
-    ensures { IsTrue result ↔ GoesOn (names_of names.now) typed
-        (head (drop at (map shown words.now))) }
+    ensures { IsTrue result ↔ GoesOn names.now typed (head (drop at (map shown words.now))) }
 {
     if !typed {
         return begins_specifiers(words, names, at);
@@ -74,9 +72,9 @@ pub fn adds_type(before: bool, item: &Specifier) -> bool
 }
 
 /// Whether a parameter list opens here, behind a parenthesis in a parameter's declarator (C11 6.7.6.3p11).
-pub fn opens_parameters(words: &[Word], names: &[&[u8]], at: u32) -> bool
+pub fn opens_parameters(words: &[Word], names: &TypedefNames, at: u32) -> bool
     requires { length words.now < 2 ^ 32 }
-    ensures { IsTrue result ↔ OpensParameters (names_of names.now) (drop at (map shown words.now)) }
+    ensures { IsTrue result ↔ OpensParameters names.now (drop at (map shown words.now)) }
 {
     if has_mark(words, at, Punctuator::CloseParen) {
         return true;

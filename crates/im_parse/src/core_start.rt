@@ -4,12 +4,11 @@ ghost use Rattle.im_parse_core.specs.Reads.{head};
 ghost use Rattle.im_parse_core.specs.Places.{IsAt};
 ghost use Rattle.im_parse.specs.Declaring.{HasName, MayBeNameless, BeginsSuffix};
 ghost use Rattle.im_word.specs.Shown.{shown};
-ghost use Rattle.im_parse_core.specs.Names.{names_of};
 ghost use Rattle.im_parse.specs.Cores.{IsCoreAt, IsInnerAt};
 
 use super::ahead::{has_mark, may_be_nameless, may_have_name, opens_parameters, suffix_ahead};
 use super::form::Form;
-use im_parse_core::{Stop, after_mark, name_at};
+use im_parse_core::{Stop, TypedefNames, after_mark, name_at};
 use im_tok::Punctuator;
 use im_word::Word;
 
@@ -25,9 +24,14 @@ pub enum CoreStart<'b> {
 }
 
 /// What a parenthesis before this place begins in a declarator of this form.
-fn inner_at(words: &[Word], names: &[&[u8]], form: Form, behind: u32) -> Result<Option<Form>, Stop>
+fn inner_at(
+    words: &[Word],
+    names: &TypedefNames,
+    form: Form,
+    behind: u32,
+) -> Result<Option<Form>, Stop>
     requires { length words.now < 2 ^ 32 }
-    ensures { IsInnerAt (names_of names.now) form (map shown words.now) behind result }
+    ensures { IsInnerAt names.now form (map shown words.now) behind result }
 {
     let starred = has_mark(words, behind, Punctuator::Star);
     let opened = opens_parameters(words, names, behind);
@@ -74,13 +78,13 @@ fn is_nameless(words: &[Word], form: Form, unstarred: bool, at: u32) -> bool
 /// How a declarator of this form goes on behind its stars, where `unstarred` says that it has none.
 pub fn core_at<'b>(
     words: &[Word<'b>],
-    names: &[&[u8]],
+    names: &TypedefNames,
     form: Form,
     unstarred: bool,
     at: u32,
 ) -> Result<CoreStart<'b>, Stop>
     requires { length words.now < 2 ^ 32 }
-    ensures { IsCoreAt (names_of names.now) form unstarred (map shown words.now) at result }
+    ensures { IsCoreAt names.now form unstarred (map shown words.now) at result }
 {
     if let Some(behind) = after_mark(words, at, Punctuator::OpenParen) {
         let inner = inner_at(words, names, form, behind)?;

@@ -3,7 +3,6 @@ ghost use Rattle.im_tok.specs.declared.punctuator.Punctuator.TheVariants.{Semico
 ghost use Rattle.im_word.specs.Shown.{shown};
 ghost use Rattle.im_ctree.specs.Shape.{declaration_of, declarator_of};
 ghost use Rattle.im_ctree.specs.Units.{IsDeclaration, IsInitDeclarators, IsMaybeInitializer};
-ghost use Rattle.im_parse_core.specs.Names.{names_of};
 ghost use Rattle.im_parse.specs.Parsing.{Parses, Below, Anything, Closed};
 ghost use Rattle.im_parse.specs.Declaring.{AfterParameter};
 ghost use Rattle.im_parse.specs.Initializing.{InitsBehind, IsInitDeclarator, init_declarator_tree, init_declarators_tree, maybe_initializer_tree};
@@ -14,7 +13,7 @@ use super::initializers::initializer;
 use super::look::expect_mark;
 use super::specifier::specifiers;
 use im_ctree::{Declaration, Declarator, InitDeclarator, Initializer};
-use im_parse_core::{Stop, after_mark};
+use im_parse_core::{Stop, TypedefNames, after_mark};
 use im_tok::Punctuator;
 use im_word::Word;
 use std::alloc::Global;
@@ -23,11 +22,11 @@ use std::alloc::Global;
 pub fn declaration(
     alloc: Global,
     words: &[Word],
-    names: &[&[u8]],
+    names: &TypedefNames,
     at: u32,
 ) -> Result<(Declaration, u32), Stop>
     requires { length words.now < 2 ^ 32 }
-    ensures { Parses declaration_of (IsDeclaration (names_of names.now)) Anything
+    ensures { Parses declaration_of (IsDeclaration names.now) Anything
         (map shown words.now) at result }
 {
     let (specifiers, next) = specifiers(alloc, words, names, at)?;
@@ -55,13 +54,12 @@ pub fn declaration(
 pub fn closed_init_declarators(
     alloc: Global,
     words: &[Word],
-    names: &[&[u8]],
+    names: &TypedefNames,
     at: u32,
 ) -> Result<(Vec<InitDeclarator>, u32), Stop>
     requires { length words.now < 2 ^ 32 }
-    ensures { Parses init_declarators_tree
-        (Closed Semicolon (IsInitDeclarators (names_of names.now))) Anything (map shown words.now)
-        at result }
+    ensures { Parses init_declarators_tree (Closed Semicolon (IsInitDeclarators names.now)) Anything
+        (map shown words.now) at result }
 {
     let mut items = Vec::new(alloc);
     let (first, mut next) = init_declarator(alloc, words, names, at)?;
@@ -79,13 +77,13 @@ pub fn closed_init_declarators(
 pub fn closed_inits_behind(
     alloc: Global,
     words: &[Word],
-    names: &[&[u8]],
+    names: &TypedefNames,
     first: Declarator,
     at: u32,
 ) -> Result<(Vec<InitDeclarator>, u32), Stop>
     requires { length words.now < 2 ^ 32 }
     ensures { Parses init_declarators_tree
-        (Closed Semicolon (InitsBehind (names_of names.now) (declarator_of first))) Anything
+        (Closed Semicolon (InitsBehind names.now (declarator_of first))) Anything
         (map shown words.now) at result }
 {
     let mut items = Vec::new(alloc);
@@ -107,11 +105,11 @@ pub fn closed_inits_behind(
 fn init_declarator(
     alloc: Global,
     words: &[Word],
-    names: &[&[u8]],
+    names: &TypedefNames,
     at: u32,
 ) -> Result<(InitDeclarator, u32), Stop>
     requires { length words.now < 2 ^ 32 }
-    ensures { Parses init_declarator_tree (IsInitDeclarator (names_of names.now)) AfterParameter
+    ensures { Parses init_declarator_tree (IsInitDeclarator names.now) AfterParameter
         (map shown words.now) at result }
 {
     let (declarator, next) = declarator(alloc, words, names, Form::Declared, at)?;
@@ -129,11 +127,11 @@ fn init_declarator(
 fn maybe_initializer(
     alloc: Global,
     words: &[Word],
-    names: &[&[u8]],
+    names: &TypedefNames,
     at: u32,
 ) -> Result<(Option<Initializer>, u32), Stop>
     requires { length words.now < 2 ^ 32 }
-    ensures { Parses maybe_initializer_tree (IsMaybeInitializer (names_of names.now)) (Below 2)
+    ensures { Parses maybe_initializer_tree (IsMaybeInitializer names.now) (Below 2)
         (map shown words.now) at result }
 {
     match after_mark(words, at, Punctuator::Assign) {

@@ -2,7 +2,6 @@ ghost use Rattle.std.specs.Prelude.{◌<◌, ◌^◌, length, map};
 ghost use Rattle.im_word.specs.Shown.{shown};
 ghost use Rattle.im_ctree.specs.Shape.{declarator_of};
 ghost use Rattle.im_ctree.specs.Grammar.{IsSuffixes};
-ghost use Rattle.im_parse_core.specs.Names.{names_of};
 ghost use Rattle.im_parse.specs.Parsing.{Parses, Below, Anything};
 ghost use Rattle.im_parse.specs.Declaring.{IsForm, IsMaybeForm, IsSuffix, AfterDeclarator, AfterParameter, maybe_tree, suffix_tree, suffixes_tree};
 
@@ -16,7 +15,7 @@ use super::make;
 use super::parameter::closed_parameters;
 use super::stars::stars;
 use im_ctree::{Declarator, Suffix};
-use im_parse_core::{Stop, after_mark};
+use im_parse_core::{Stop, TypedefNames, after_mark};
 use im_tok::Punctuator;
 use im_word::Word;
 use std::alloc::Global;
@@ -26,12 +25,12 @@ use std::alloc::Global;
 pub fn maybe_declarator(
     alloc: Global,
     words: &[Word],
-    names: &[&[u8]],
+    names: &TypedefNames,
     form: Form,
     at: u32,
 ) -> Result<(Option<Declarator>, u32), Stop>
     requires { length words.now < 2 ^ 32 }
-    ensures { Parses maybe_tree (IsMaybeForm (names_of names.now) form) AfterParameter
+    ensures { Parses maybe_tree (IsMaybeForm names.now form) AfterParameter
         (map shown words.now) at result }
 {
     if !declarator_ahead(words, form, at) {
@@ -46,12 +45,12 @@ pub fn maybe_declarator(
 pub fn declarator(
     alloc: Global,
     words: &[Word],
-    names: &[&[u8]],
+    names: &TypedefNames,
     form: Form,
     at: u32,
 ) -> Result<(Declarator, u32), Stop>
     requires { length words.now < 2 ^ 32 }
-    ensures { Parses declarator_of (IsForm (names_of names.now) form) AfterDeclarator
+    ensures { Parses declarator_of (IsForm names.now form) AfterDeclarator
         (map shown words.now) at result }
 {
     let (stars, next) = stars(alloc, words, at)?;
@@ -80,11 +79,11 @@ pub fn declarator(
 fn suffixes(
     alloc: Global,
     words: &[Word],
-    names: &[&[u8]],
+    names: &TypedefNames,
     at: u32,
 ) -> Result<(Vec<Suffix>, u32), Stop>
     requires { length words.now < 2 ^ 32 }
-    ensures { Parses suffixes_tree (IsSuffixes (names_of names.now)) (Below 14)
+    ensures { Parses suffixes_tree (IsSuffixes names.now) (Below 14)
         (map shown words.now) at result }
 {
     let mut items = Vec::new(alloc);
@@ -99,10 +98,14 @@ fn suffixes(
 
 /// One suffix of a declarator (C11 6.7.6.2, 6.7.6.3), and the place behind it.
 #[cycle(expression)]
-fn suffix(alloc: Global, words: &[Word], names: &[&[u8]], at: u32) -> Result<(Suffix, u32), Stop>
+fn suffix(
+    alloc: Global,
+    words: &[Word],
+    names: &TypedefNames,
+    at: u32,
+) -> Result<(Suffix, u32), Stop>
     requires { length words.now < 2 ^ 32 }
-    ensures { Parses suffix_tree (IsSuffix (names_of names.now)) Anything (map shown words.now) at
-        result }
+    ensures { Parses suffix_tree (IsSuffix names.now) Anything (map shown words.now) at result }
 {
     let Some(inside) = after_mark(words, at, Punctuator::OpenBracket) else {
         let first = expect_mark(words, at, Punctuator::OpenParen)?;

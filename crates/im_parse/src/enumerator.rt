@@ -2,7 +2,6 @@ ghost use Rattle.std.specs.Prelude.{◌<◌, ◌^◌, length, map};
 ghost use Rattle.im_tok.specs.declared.punctuator.Punctuator.TheVariants.{CloseBrace};
 ghost use Rattle.im_word.specs.Shown.{shown};
 ghost use Rattle.im_ctree.specs.Grammar.{IsEnumerators};
-ghost use Rattle.im_parse_core.specs.Names.{names_of};
 ghost use Rattle.im_parse.specs.Parsing.{Parses, Below, Anything, Closed};
 ghost use Rattle.im_parse.specs.Declaring.{IsEnumerator, enumerator_tree, enumerators_tree};
 
@@ -10,7 +9,7 @@ use super::expressions::conditional;
 use super::look::{expect_mark, expect_name};
 use super::make;
 use im_ctree::Enumerator;
-use im_parse_core::{Stop, after_mark};
+use im_parse_core::{Stop, TypedefNames, after_mark};
 use im_tok::Punctuator;
 use im_word::Word;
 use std::alloc::Global;
@@ -20,11 +19,11 @@ use std::alloc::Global;
 pub fn closed_enumerators(
     alloc: Global,
     words: &[Word],
-    names: &[&[u8]],
+    names: &TypedefNames,
     at: u32,
 ) -> Result<(Vec<Enumerator>, u32), Stop>
     requires { length words.now < 2 ^ 32 }
-    ensures { Parses enumerators_tree (Closed CloseBrace (IsEnumerators (names_of names.now)))
+    ensures { Parses enumerators_tree (Closed CloseBrace (IsEnumerators names.now))
         Anything (map shown words.now) at result }
 {
     let mut items = Vec::new(alloc);
@@ -47,11 +46,11 @@ pub fn closed_enumerators(
 fn enumerator(
     alloc: Global,
     words: &[Word],
-    names: &[&[u8]],
+    names: &TypedefNames,
     at: u32,
 ) -> Result<(Enumerator, u32), Stop>
     requires { length words.now < 2 ^ 32 }
-    ensures { Parses enumerator_tree (IsEnumerator (names_of names.now)) (Below 2)
+    ensures { Parses enumerator_tree (IsEnumerator names.now) (Below 2)
         (map shown words.now) at result }
 {
     let (name, next) = expect_name(words, at)?;

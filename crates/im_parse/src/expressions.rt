@@ -1,7 +1,6 @@
 ghost use Rattle.std.specs.Prelude.{◌≡◌, ◌<◌, ◌≤◌, ◌+◌, ◌^◌, ◌↔◌, IsTrue, false, length, map};
 ghost use Rattle.im_word.specs.Shown.{shown};
 ghost use Rattle.im_ctree.specs.Grammar.{IsExpression, IsAssignment, IsConditional, IsBinary, IsCast, IsUnary};
-ghost use Rattle.im_parse_core.specs.Names.{names_of};
 ghost use Rattle.im_parse.specs.Parsing.{Parses, Below, IsSized, tree_of, number_of, is_looser};
 ghost use Rattle.im_parse_core.specs.Parts.{Made};
 ghost use Rattle.im_ctree.specs.Tree.{size_of_expression};
@@ -11,7 +10,7 @@ use super::look::{assign_at, begins_specifiers, binary_at, expect_mark, prefix_a
 use super::postfix::postfix;
 use super::type_name::closed_type_name;
 use im_ctree::{Expression, ExpressionKind};
-use im_parse_core::{Stop, after_keyword, after_mark};
+use im_parse_core::{Stop, TypedefNames, after_keyword, after_mark};
 use im_tok::{Keyword, Punctuator};
 use im_word::Word;
 use std::alloc::Global;
@@ -21,12 +20,11 @@ use std::alloc::Global;
 pub fn expression(
     alloc: Global,
     words: &[Word],
-    names: &[&[u8]],
+    names: &TypedefNames,
     at: u32,
 ) -> Result<(Expression, u32), Stop>
     requires { length words.now < 2 ^ 32 }
-    ensures { Parses tree_of (IsExpression (names_of names.now)) (Below 1) (map shown words.now) at
-        result }
+    ensures { Parses tree_of (IsExpression names.now) (Below 1) (map shown words.now) at result }
 {
     let (mut tree, mut next) = assignment(alloc, words, names, at)?;
     while let Some(behind) = after_mark(words, next, Punctuator::Comma) {
@@ -57,12 +55,11 @@ fn is_unary(tree: &Expression, at: u32) -> bool
 pub fn assignment(
     alloc: Global,
     words: &[Word],
-    names: &[&[u8]],
+    names: &TypedefNames,
     at: u32,
 ) -> Result<(Expression, u32), Stop>
     requires { length words.now < 2 ^ 32 }
-    ensures { Parses tree_of (IsAssignment (names_of names.now)) (Below 2) (map shown words.now) at
-        result }
+    ensures { Parses tree_of (IsAssignment names.now) (Below 2) (map shown words.now) at result }
 {
     let (left, next) = conditional(alloc, words, names, at)?;
     match assign_at(words, next) {
@@ -83,12 +80,11 @@ pub fn assignment(
 pub fn conditional(
     alloc: Global,
     words: &[Word],
-    names: &[&[u8]],
+    names: &TypedefNames,
     at: u32,
 ) -> Result<(Expression, u32), Stop>
     requires { length words.now < 2 ^ 32 }
-    ensures { Parses tree_of (IsConditional (names_of names.now)) (Below 3) (map shown words.now) at
-        result }
+    ensures { Parses tree_of (IsConditional names.now) (Below 3) (map shown words.now) at result }
 {
     let (condition, next) = binary(alloc, words, names, 0, at)?;
     match after_mark(words, next, Punctuator::Question) {
@@ -108,13 +104,13 @@ pub fn conditional(
 fn binary(
     alloc: Global,
     words: &[Word],
-    names: &[&[u8]],
+    names: &TypedefNames,
     level: u32,
     at: u32,
 ) -> Result<(Expression, u32), Stop>
     requires short { length words.now < 2 ^ 32 }
     requires level { level ≤ 10 }
-    ensures { Parses tree_of (IsBinary (names_of names.now) level) (Below (level + 4))
+    ensures { Parses tree_of (IsBinary names.now level) (Below (level + 4))
         (map shown words.now) at result }
 {
     let (mut tree, mut next) = cast(alloc, words, names, at)?;
@@ -132,10 +128,14 @@ fn binary(
 
 /// A cast expression (C11 6.5.4), and the place behind it.
 #[cycle(expression)]
-fn cast(alloc: Global, words: &[Word], names: &[&[u8]], at: u32) -> Result<(Expression, u32), Stop>
+fn cast(
+    alloc: Global,
+    words: &[Word],
+    names: &TypedefNames,
+    at: u32,
+) -> Result<(Expression, u32), Stop>
     requires { length words.now < 2 ^ 32 }
-    ensures { Parses tree_of (IsCast (names_of names.now)) (Below 14) (map shown words.now) at
-        result }
+    ensures { Parses tree_of (IsCast names.now) (Below 14) (map shown words.now) at result }
 {
     match after_mark(words, at, Punctuator::OpenParen) {
         None => unary(alloc, words, names, at),
@@ -153,10 +153,14 @@ fn cast(alloc: Global, words: &[Word], names: &[&[u8]], at: u32) -> Result<(Expr
 
 /// A unary expression (C11 6.5.3), and the place behind it.
 #[cycle(expression)]
-fn unary(alloc: Global, words: &[Word], names: &[&[u8]], at: u32) -> Result<(Expression, u32), Stop>
+fn unary(
+    alloc: Global,
+    words: &[Word],
+    names: &TypedefNames,
+    at: u32,
+) -> Result<(Expression, u32), Stop>
     requires { length words.now < 2 ^ 32 }
-    ensures { Parses tree_of (IsUnary (names_of names.now)) (Below 14) (map shown words.now) at
-        result }
+    ensures { Parses tree_of (IsUnary names.now) (Below 14) (map shown words.now) at result }
 {
     if let Some((operator, behind)) = step_at(words, at) {
         let (operand, end) = unary(alloc, words, names, behind)?;
@@ -179,13 +183,12 @@ fn unary(alloc: Global, words: &[Word], names: &[&[u8]], at: u32) -> Result<(Exp
 fn sized(
     alloc: Global,
     words: &[Word],
-    names: &[&[u8]],
+    names: &TypedefNames,
     at: u32,
     behind: u32,
 ) -> Result<(Expression, u32), Stop>
     requires { length words.now < 2 ^ 32 }
-    ensures { Parses tree_of (IsSized (names_of names.now) at) (Below 14) (map shown words.now)
-        behind result }
+    ensures { Parses tree_of (IsSized names.now at) (Below 14) (map shown words.now) behind result }
 {
     match after_mark(words, behind, Punctuator::OpenParen) {
         None => sized_operand(alloc, words, names, at, behind),
@@ -205,12 +208,12 @@ fn sized(
 fn sized_operand(
     alloc: Global,
     words: &[Word],
-    names: &[&[u8]],
+    names: &TypedefNames,
     at: u32,
     behind: u32,
 ) -> Result<(Expression, u32), Stop>
     requires { length words.now < 2 ^ 32 }
-    ensures { Parses tree_of (Made (size_of_expression at) (IsUnary (names_of names.now)))
+    ensures { Parses tree_of (Made (size_of_expression at) (IsUnary names.now))
         (Below 14) (map shown words.now) behind result }
 {
     let (operand, end) = unary(alloc, words, names, behind)?;

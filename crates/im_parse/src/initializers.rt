@@ -3,7 +3,6 @@ ghost use Rattle.im_tok.specs.declared.punctuator.Punctuator.TheVariants.{CloseB
 ghost use Rattle.im_word.specs.Shown.{shown};
 ghost use Rattle.im_ctree.specs.Shape.{initializer_of};
 ghost use Rattle.im_ctree.specs.Units.{IsInitializer};
-ghost use Rattle.im_parse_core.specs.Names.{names_of};
 ghost use Rattle.im_parse.specs.Parsing.{Parses, Below, Anything, Closed};
 ghost use Rattle.im_parse.specs.Initializing.{IsInitializers, initializers_tree};
 
@@ -11,7 +10,7 @@ use super::expressions::assignment;
 use super::look::expect_mark;
 use super::make;
 use im_ctree::Initializer;
-use im_parse_core::{Stop, after_mark};
+use im_parse_core::{Stop, TypedefNames, after_mark};
 use im_tok::Punctuator;
 use im_word::Word;
 use std::alloc::Global;
@@ -21,11 +20,11 @@ use std::alloc::Global;
 pub fn initializer(
     alloc: Global,
     words: &[Word],
-    names: &[&[u8]],
+    names: &TypedefNames,
     at: u32,
 ) -> Result<(Initializer, u32), Stop>
     requires { length words.now < 2 ^ 32 }
-    ensures { Parses initializer_of (IsInitializer (names_of names.now)) (Below 2)
+    ensures { Parses initializer_of (IsInitializer names.now) (Below 2)
         (map shown words.now) at result }
 {
     match after_mark(words, at, Punctuator::OpenBrace) {
@@ -45,11 +44,11 @@ pub fn initializer(
 fn closed_initializers(
     alloc: Global,
     words: &[Word],
-    names: &[&[u8]],
+    names: &TypedefNames,
     at: u32,
 ) -> Result<(Vec<Initializer>, u32), Stop>
     requires { length words.now < 2 ^ 32 }
-    ensures { Parses initializers_tree (Closed CloseBrace (IsInitializers (names_of names.now)))
+    ensures { Parses initializers_tree (Closed CloseBrace (IsInitializers names.now))
         Anything (map shown words.now) at result }
 {
     let mut items = Vec::new(alloc);

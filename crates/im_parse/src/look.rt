@@ -7,7 +7,6 @@ ghost use Rattle.im_parse_core.specs.Reads.{head};
 ghost use Rattle.im_parse_core.specs.Places.{IsAt};
 ghost use Rattle.im_ctree.specs.Operators as op;
 ghost use Rattle.im_ctree.specs.Follow.{keyword_specifier};
-ghost use Rattle.im_parse_core.specs.Names.{names_of};
 ghost use Rattle.im_parse.specs.Parsing.{OperatorAt, NoOperator, BeginsSpecifiers, IsMarkAt};
 ghost use Rattle.im_parse.specs.Declaring.{WordAt, NoWord};
 
@@ -15,7 +14,7 @@ use super::table::{
     assign_operator, binary_operator, prefix_operator, specifier_word, step_operator,
 };
 use im_ctree::{AssignOp, BinaryOp, SpecifierWord, StepOp, UnaryOp};
-use im_parse_core::{Stop, after_mark, is_typedef_name, name_at, word_at};
+use im_parse_core::{Stop, TypedefNames, after_mark, name_at, word_at};
 use im_tok::{Keyword, Punctuator};
 use im_word::Word;
 
@@ -132,15 +131,14 @@ fn is_specifier_keyword(keyword: Keyword) -> bool
 }
 
 /// Whether specifiers begin at this place: a keyword of theirs stands there, or a typedef name.
-pub fn begins_specifiers(words: &[Word], names: &[&[u8]], at: u32) -> bool
+pub fn begins_specifiers(words: &[Word], names: &TypedefNames, at: u32) -> bool
     requires { length words.now < 2 ^ 32 }
-    ensures { IsTrue result ↔ BeginsSpecifiers (names_of names.now)
-        (head (drop at (map shown words.now))) }
+    ensures { IsTrue result ↔ BeginsSpecifiers names.now (head (drop at (map shown words.now))) }
 {
     match word_at(words, at) {
         None => false,
         Some(found) => match found.0 {
-            Word::Name(name) => is_typedef_name(names, name),
+            Word::Name(name) => names.contains(name),
             Word::Keyword(keyword) => is_specifier_keyword(*keyword),
             _ => false,
         },

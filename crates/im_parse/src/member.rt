@@ -2,7 +2,6 @@ ghost use Rattle.std.specs.Prelude.{◌<◌, ◌^◌, length, map};
 ghost use Rattle.im_tok.specs.declared.punctuator.Punctuator.TheVariants.{CloseBrace, Semicolon};
 ghost use Rattle.im_word.specs.Shown.{shown};
 ghost use Rattle.im_ctree.specs.Grammar.{IsMembers};
-ghost use Rattle.im_parse_core.specs.Names.{names_of};
 ghost use Rattle.im_parse.specs.Parsing.{Parses, Anything, Closed};
 ghost use Rattle.im_parse.specs.Declaring.{IsMember, IsDeclarators, member_tree, members_tree, declarators_tree};
 
@@ -12,7 +11,7 @@ use super::look::{begins_specifiers, expect_mark};
 use super::make;
 use super::specifier::specifiers;
 use im_ctree::{Declarator, Member};
-use im_parse_core::{Stop, after_mark};
+use im_parse_core::{Stop, TypedefNames, after_mark};
 use im_tok::Punctuator;
 use im_word::Word;
 use std::alloc::Global;
@@ -22,11 +21,11 @@ use std::alloc::Global;
 pub fn closed_members(
     alloc: Global,
     words: &[Word],
-    names: &[&[u8]],
+    names: &TypedefNames,
     at: u32,
 ) -> Result<(Vec<Member>, u32), Stop>
     requires { length words.now < 2 ^ 32 }
-    ensures { Parses members_tree (Closed CloseBrace (IsMembers (names_of names.now))) Anything
+    ensures { Parses members_tree (Closed CloseBrace (IsMembers names.now)) Anything
         (map shown words.now) at result }
 {
     let mut items = Vec::new(alloc);
@@ -43,10 +42,14 @@ pub fn closed_members(
 
 /// A declaration of members (C11 6.7.2.1), and the place behind it.
 #[cycle(expression)]
-fn member(alloc: Global, words: &[Word], names: &[&[u8]], at: u32) -> Result<(Member, u32), Stop>
+fn member(
+    alloc: Global,
+    words: &[Word],
+    names: &TypedefNames,
+    at: u32,
+) -> Result<(Member, u32), Stop>
     requires { length words.now < 2 ^ 32 }
-    ensures { Parses member_tree (IsMember (names_of names.now)) Anything (map shown words.now) at
-        result }
+    ensures { Parses member_tree (IsMember names.now) Anything (map shown words.now) at result }
 {
     let (specifiers, next) = specifiers(alloc, words, names, at)?;
     let (declarators, end) = closed_declarators(alloc, words, names, next)?;
@@ -58,11 +61,11 @@ fn member(alloc: Global, words: &[Word], names: &[&[u8]], at: u32) -> Result<(Me
 fn closed_declarators(
     alloc: Global,
     words: &[Word],
-    names: &[&[u8]],
+    names: &TypedefNames,
     at: u32,
 ) -> Result<(Vec<Declarator>, u32), Stop>
     requires { length words.now < 2 ^ 32 }
-    ensures { Parses declarators_tree (Closed Semicolon (IsDeclarators (names_of names.now)))
+    ensures { Parses declarators_tree (Closed Semicolon (IsDeclarators names.now))
         Anything (map shown words.now) at result }
 {
     let mut items = Vec::new(alloc);

@@ -2,7 +2,6 @@ ghost use Rattle.std.specs.Prelude.{◌<◌, ◌^◌, length, map};
 ghost use Rattle.im_tok.specs.declared.punctuator.Punctuator.TheVariants.{CloseParen};
 ghost use Rattle.im_word.specs.Shown.{shown};
 ghost use Rattle.im_ctree.specs.Grammar.{IsParameters};
-ghost use Rattle.im_parse_core.specs.Names.{names_of};
 ghost use Rattle.im_parse.specs.Parsing.{Parses, Anything, Closed};
 ghost use Rattle.im_parse.specs.Declaring as d;
 
@@ -12,7 +11,7 @@ use super::look::expect_mark;
 use super::make;
 use super::specifier::specifiers;
 use im_ctree::Parameter;
-use im_parse_core::{Stop, after_mark};
+use im_parse_core::{Stop, TypedefNames, after_mark};
 use im_tok::Punctuator;
 use im_word::Word;
 use std::alloc::Global;
@@ -22,11 +21,11 @@ use std::alloc::Global;
 pub fn closed_parameters(
     alloc: Global,
     words: &[Word],
-    names: &[&[u8]],
+    names: &TypedefNames,
     at: u32,
 ) -> Result<(Vec<Parameter>, u32), Stop>
     requires { length words.now < 2 ^ 32 }
-    ensures { Parses d.parameters_tree (Closed CloseParen (IsParameters (names_of names.now)))
+    ensures { Parses d.parameters_tree (Closed CloseParen (IsParameters names.now))
         Anything (map shown words.now) at result }
 {
     let mut items = Vec::new(alloc);
@@ -49,11 +48,11 @@ pub fn closed_parameters(
 fn parameter(
     alloc: Global,
     words: &[Word],
-    names: &[&[u8]],
+    names: &TypedefNames,
     at: u32,
 ) -> Result<(Parameter, u32), Stop>
     requires { length words.now < 2 ^ 32 }
-    ensures { Parses d.parameter_tree (d.Parameter (names_of names.now)) d.AfterParameter
+    ensures { Parses d.parameter_tree (d.Parameter names.now) d.AfterParameter
         (map shown words.now) at result }
 {
     let (specifiers, next) = specifiers(alloc, words, names, at)?;

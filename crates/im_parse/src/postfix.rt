@@ -4,7 +4,6 @@ ghost use Rattle.im_parse_core.specs.Reads.{head};
 ghost use Rattle.im_tok.specs.declared.punctuator.Punctuator.TheVariants.{OpenParen, CloseParen};
 ghost use Rattle.im_word.specs.Shown.{shown};
 ghost use Rattle.im_ctree.specs.Grammar.{IsPostfix, IsPrimary, IsArguments};
-ghost use Rattle.im_parse_core.specs.Names.{names_of};
 ghost use Rattle.im_parse.specs.Parsing.{Parses, Below, Anything, Closed, Postfixes, tree_of, items_tree};
 
 use super::build;
@@ -12,7 +11,7 @@ use super::expressions::{assignment, expression};
 use super::look::{expect_mark, expect_name, step_at};
 use super::text::joined_text;
 use im_ctree::{Expression, ExpressionKind};
-use im_parse_core::{Stop, after_mark, is_typedef_name, word_at};
+use im_parse_core::{Stop, TypedefNames, after_mark, word_at};
 use im_tok::Punctuator;
 use im_word::Word;
 use std::alloc::Global;
@@ -22,12 +21,11 @@ use std::alloc::Global;
 pub fn postfix(
     alloc: Global,
     words: &[Word],
-    names: &[&[u8]],
+    names: &TypedefNames,
     at: u32,
 ) -> Result<(Expression, u32), Stop>
     requires { length words.now < 2 ^ 32 }
-    ensures { Parses tree_of (IsPostfix (names_of names.now)) (Below 14) (map shown words.now) at
-        result }
+    ensures { Parses tree_of (IsPostfix names.now) (Below 14) (map shown words.now) at result }
 {
     let (tree, next) = primary(alloc, words, names, at)?;
     postfix_from(alloc, words, names, at, tree, next)
@@ -39,13 +37,13 @@ pub fn postfix(
 fn postfix_from(
     alloc: Global,
     words: &[Word],
-    names: &[&[u8]],
+    names: &TypedefNames,
     at: u32,
     first: Expression,
     behind_first: u32,
 ) -> Result<(Expression, u32), Stop>
     requires { length words.now < 2 ^ 32 }
-    ensures { Parses tree_of (Postfixes (names_of names.now) at (tree_of first)) (Below 14)
+    ensures { Parses tree_of (Postfixes names.now at (tree_of first)) (Below 14)
         (map shown words.now) behind_first result }
 {
     let mut tree = first;
@@ -89,11 +87,11 @@ fn postfix_from(
 fn closed_arguments(
     alloc: Global,
     words: &[Word],
-    names: &[&[u8]],
+    names: &TypedefNames,
     at: u32,
 ) -> Result<(Vec<Expression>, u32), Stop>
     requires { length words.now < 2 ^ 32 }
-    ensures { Parses items_tree (Closed CloseParen (IsArguments (names_of names.now))) Anything
+    ensures { Parses items_tree (Closed CloseParen (IsArguments names.now)) Anything
         (map shown words.now) at result }
 {
     let mut items = Vec::new(alloc);
@@ -117,12 +115,11 @@ fn closed_arguments(
 fn primary(
     alloc: Global,
     words: &[Word],
-    names: &[&[u8]],
+    names: &TypedefNames,
     at: u32,
 ) -> Result<(Expression, u32), Stop>
     requires { length words.now < 2 ^ 32 }
-    ensures { Parses tree_of (IsPrimary (names_of names.now)) (Below 19) (map shown words.now) at
-        result }
+    ensures { Parses tree_of (IsPrimary names.now) (Below 19) (map shown words.now) at result }
 {
     if let Some(inside) = after_mark(words, at, Punctuator::OpenParen) {
         let (tree, close) = expression(alloc, words, names, inside)?;
@@ -137,13 +134,12 @@ fn primary(
 fn single(
     alloc: Global,
     words: &[Word],
-    names: &[&[u8]],
+    names: &TypedefNames,
     at: u32,
 ) -> Result<(Expression, u32), Stop>
     requires short { length words.now < 2 ^ 32 }
     requires other { head (drop at (map shown words.now)) ≡ Some (mark OpenParen) → ⊥ }
-    ensures { Parses tree_of (IsPrimary (names_of names.now)) (Below 19) (map shown words.now) at
-        result }
+    ensures { Parses tree_of (IsPrimary names.now) (Below 19) (map shown words.now) at result }
 {
     let Some(found) = word_at(words, at) else {
         return Err(Stop::Syntax(at));
@@ -151,7 +147,7 @@ fn single(
     let next = found.1;
     match found.0 {
         Word::Name(name) => {
-            if is_typedef_name(names, name) {
+            if names.contains(name) {
                 return Err(Stop::Syntax(at));
             }
             let kind = ExpressionKind::Identifier(Vec::from_slice(alloc, name)?);

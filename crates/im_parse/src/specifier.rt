@@ -6,7 +6,6 @@ ghost use Rattle.im_ctree.specs.Shape.{specifiers_of};
 ghost use Rattle.im_ctree.specs.Typedefs.{has_type};
 ghost use Rattle.im_ctree.specs.Grammar.{IsSpecifier, IsSpecifiers};
 ghost use Rattle.im_parse_core.specs.Reads.{head};
-ghost use Rattle.im_parse_core.specs.Names.{names_of};
 ghost use Rattle.im_parse.specs.Parsing.{Parses};
 ghost use Rattle.im_parse.specs.Declaring.{GoesOn, Unbraced, AfterSpecifiers, IsStructRest, IsEnumRest, specifier_tree};
 
@@ -16,7 +15,7 @@ use super::look::{expect_mark, specifier_word_at};
 use super::make;
 use super::member::closed_members;
 use im_ctree::{Specifier, SpecifierKind, Specifiers};
-use im_parse_core::{Stop, after_keyword, after_mark, is_typedef_name, name_at};
+use im_parse_core::{Stop, TypedefNames, after_keyword, after_mark, name_at};
 use im_tok::{Keyword, Punctuator};
 use im_word::Word;
 use std::alloc::Global;
@@ -26,13 +25,13 @@ use std::alloc::Global;
 pub fn specifiers(
     alloc: Global,
     words: &[Word],
-    names: &[&[u8]],
+    names: &TypedefNames,
     at: u32,
 ) -> Result<(Specifiers, u32), Stop>
     requires { length words.now < 2 ^ 32 }
-    ensures parses { Parses specifiers_of (IsSpecifiers (names_of names.now))
-        (AfterSpecifiers (names_of names.now)) (map shown words.now) at result }
-    ensures behind { IfOk result (λ read. GoesOn (names_of names.now)
+    ensures parses { Parses specifiers_of (IsSpecifiers names.now)
+        (AfterSpecifiers names.now) (map shown words.now) at result }
+    ensures behind { IfOk result (λ read. GoesOn names.now
         (has_type (specifiers_of read.0)) (head (drop read.1 (map shown words.now))) → ⊥) }
 {
     let (first, mut next) = specifier(alloc, words, names, false, at)?;
@@ -53,12 +52,12 @@ pub fn specifiers(
 fn specifier(
     alloc: Global,
     words: &[Word],
-    names: &[&[u8]],
+    names: &TypedefNames,
     typed: bool,
     at: u32,
 ) -> Result<(Specifier, u32), Stop>
     requires { length words.now < 2 ^ 32 }
-    ensures { Parses specifier_tree (IsSpecifier (names_of names.now) typed) Unbraced
+    ensures { Parses specifier_tree (IsSpecifier names.now typed) Unbraced
         (map shown words.now) at result }
 {
     if let Some(behind) = after_keyword(words, at, Keyword::Struct) {
@@ -74,14 +73,14 @@ fn specifier(
 fn single_specifier(
     alloc: Global,
     words: &[Word],
-    names: &[&[u8]],
+    names: &TypedefNames,
     typed: bool,
     at: u32,
 ) -> Result<(Specifier, u32), Stop>
     requires short { length words.now < 2 ^ 32 }
     requires no_struct { head (drop at (map shown words.now)) ≡ Some (keyword Struct) → ⊥ }
     requires no_enum { head (drop at (map shown words.now)) ≡ Some (keyword Enum) → ⊥ }
-    ensures { Parses specifier_tree (IsSpecifier (names_of names.now) typed) Unbraced
+    ensures { Parses specifier_tree (IsSpecifier names.now typed) Unbraced
         (map shown words.now) at result }
 {
     if let Some((word, next)) = specifier_word_at(words, at) {
@@ -93,7 +92,7 @@ fn single_specifier(
             if typed {
                 return Err(Stop::Syntax(at));
             }
-            if !is_typedef_name(names, name) {
+            if !names.contains(name) {
                 return Err(Stop::Syntax(at));
             }
             let tree = make::typedef_name(alloc, at, name)?;
@@ -108,12 +107,12 @@ fn single_specifier(
 fn struct_specifier(
     alloc: Global,
     words: &[Word],
-    names: &[&[u8]],
+    names: &TypedefNames,
     at: u32,
     behind: u32,
 ) -> Result<(Specifier, u32), Stop>
     requires { length words.now < 2 ^ 32 }
-    ensures { Parses specifier_tree (IsStructRest (names_of names.now) at) Unbraced
+    ensures { Parses specifier_tree (IsStructRest names.now at) Unbraced
         (map shown words.now) behind result }
 {
     match name_at(words, behind) {
@@ -141,12 +140,12 @@ fn struct_specifier(
 fn enum_specifier(
     alloc: Global,
     words: &[Word],
-    names: &[&[u8]],
+    names: &TypedefNames,
     at: u32,
     behind: u32,
 ) -> Result<(Specifier, u32), Stop>
     requires { length words.now < 2 ^ 32 }
-    ensures { Parses specifier_tree (IsEnumRest (names_of names.now) at) Unbraced
+    ensures { Parses specifier_tree (IsEnumRest names.now at) Unbraced
         (map shown words.now) behind result }
 {
     match name_at(words, behind) {

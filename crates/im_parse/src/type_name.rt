@@ -3,7 +3,6 @@ ghost use Rattle.im_tok.specs.declared.punctuator.Punctuator.TheVariants.{CloseP
 ghost use Rattle.im_word.specs.Shown.{shown};
 ghost use Rattle.im_ctree.specs.Shape.{type_name_of};
 ghost use Rattle.im_ctree.specs.Grammar.{IsTypeName};
-ghost use Rattle.im_parse_core.specs.Names.{names_of};
 ghost use Rattle.im_parse.specs.Parsing.{Parses, Anything, Closed};
 
 use super::declarators::maybe_declarator;
@@ -12,7 +11,7 @@ use super::look::expect_mark;
 use super::make;
 use super::specifier::specifiers;
 use im_ctree::TypeName;
-use im_parse_core::Stop;
+use im_parse_core::{Stop, TypedefNames};
 use im_tok::Punctuator;
 use im_word::Word;
 use std::alloc::Global;
@@ -22,11 +21,11 @@ use std::alloc::Global;
 pub fn closed_type_name(
     alloc: Global,
     words: &[Word],
-    names: &[&[u8]],
+    names: &TypedefNames,
     at: u32,
 ) -> Result<(TypeName, u32), Stop>
     requires { length words.now < 2 ^ 32 }
-    ensures { Parses type_name_of (Closed CloseParen (IsTypeName (names_of names.now))) Anything
+    ensures { Parses type_name_of (Closed CloseParen (IsTypeName names.now)) Anything
         (map shown words.now) at result }
 {
     let (specifiers, next) = specifiers(alloc, words, names, at)?;

@@ -1,4 +1,5 @@
 pub mod PlacesAt
+pub mod KnownNames
 pub mod Steps
 pub mod Lists
 pub mod Repeats

@@ -1,8 +1,6 @@
 ghost use Rattle.std.specs.Prelude.{◌≡◌, ◌∷◌, [], ◌↔◌, ◌<◌, ◌^◌, ℕ, List, Some, IsTrue, MatchOption, length, map, drop};
-ghost use Rattle.std.specs.List.{Contains};
 ghost use Rattle.im_word.specs.Shown.{shown};
 ghost use Rattle.im_word.specs.Words.{name, keyword, mark};
-ghost use Rattle.im_parse_core.specs.Names.{names_of};
 ghost use Rattle.im_parse_core.specs.Reads.{head};
 ghost use Rattle.im_parse_core.specs.Places.{IsAt};
 
@@ -78,31 +76,4 @@ pub fn name_at<'b>(words: &[Word<'b>], at: u32) -> Option<(&'b [u8], u32)>
         Word::Name(bytes) => Some((*bytes, found.1)),
         _ => None,
     }
-}
-
-fn is_same(name: &[u8], other: &[u8]) -> bool
-    ensures { IsTrue result ↔ name.now ≡ other.now }
-{
-    name == other
-}
-
-/// Whether a name is one of these, which are looked at from the last one on.
-fn is_among(names: &[&[u8]], name: &[u8]) -> bool
-    ensures { IsTrue result ↔ Contains (map (λ known. known.now) names.now) name.now }
-{
-    let mut left = names.len();
-    while left > 0 {
-        left -= 1;
-        if is_same(names[left], name) {
-            return true;
-        }
-    }
-    false
-}
-
-/// Whether a name is one of the typedef names in hand, of which the one declared last stands last.
-pub fn is_typedef_name(names: &[&[u8]], name: &[u8]) -> bool
-    ensures { IsTrue result ↔ Contains (names_of names.now) name.now }
-{
-    is_among(names, name)
 }

@@ -1,8 +1,11 @@
-//! From words to what stands at a place among them; and what every parsing function promises.
+//! From words to what stands at a place among them; the typedef names in hand; and what every
+//! parsing function promises.
 #![tactic(auto)]
 
 mod cursor;
 mod stop;
+mod typedef_names;
 
-pub use cursor::{after_keyword, after_mark, is_typedef_name, name_at, word_at};
+pub use cursor::{after_keyword, after_mark, name_at, word_at};
 pub use stop::Stop;
+pub use typedef_names::TypedefNames;

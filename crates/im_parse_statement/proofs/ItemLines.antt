@@ -1,5 +1,5 @@
 -- Blocks and what stands in them, part by part.
-use Rattle.std.proofs.Common.{◌≡◌, ℕ, ◌<◌, List, [], ◌∷◌, ◌++◌, length, map, drop, sym, refl, ap, ◌∙◌, subst, arith, append_assoc, Bor}
+use Rattle.std.proofs.Common.{◌≡◌, ℕ, ◌<◌, List, [], ◌∷◌, ◌++◌, length, map, drop, sym, refl, ap, ◌∙◌, subst, arith, append_assoc}
 use Rattle.std.specs.Prelude.{Option, Some, None}
 use Rattle.im_tok.specs.declared.keyword.Keyword.TheVariants as key
 use Rattle.im_tok.specs.declared.punctuator.Punctuator.TheVariants.{OpenBrace, CloseBrace, Semicolon}
@@ -19,7 +19,6 @@ use Rattle.im_parse_core.specs.Repeats.{Repeated, no_more, one_more, moved}
 use Rattle.im_parse_core.proofs.Steps.{Apart, Into, start, line, word, missing, part, refused, node, all, as_closed, first_line}
 use Rattle.im_parse_core.proofs.Repeats as rows
 use Rattle.im_parse_core.proofs.SeparatedLists.{closed_apart}
-use Rattle.im_parse_core.specs.Names.{names_of}
 use Rattle.im_parse.specs.Parsing.{Anything, Closed, BeginsSpecifiers, by_keyword}
 use Rattle.im_parse.proofs.BinaryLines.{starts_of}
 use Rattle.im_parse.proofs.MemberLines.{specifiers_begin}
@@ -266,10 +265,3 @@ valued_back T q m other t _ r e (units.begins_with_expression x) = made (both x 
 pub init_valued : (words : List Word) (T : List Name) {p : ℕ} → (BeginsSpecifiers T (head (drop p words)) → ⊥) → Within (units.IsForInit T) Anything p (drop p words) (Closed Semicolon (units.IsMaybeExpression T)) Anything p (drop p words) tree.for_expression
 init_valued words T {p = p} other =
     node (line (Made tree.for_expression (Closed Semicolon (units.IsMaybeExpression T))) (valued_into T p) (λ t u r e d f. valued_back T p (drop p words) other t u r e d) (start (units.IsForInit T) Anything p (drop p words)))
-
--- the same typedef names, in a vector and in its slice
-pub begins_known : {ns ms : List (Bor Name)} {o : Option Word} → ns ≡ ms → BeginsSpecifiers (names_of ns) o → BeginsSpecifiers (names_of ms) o
-begins_known {o = o} same h = subst (λ z. BeginsSpecifiers (names_of z) o) same h
-
-pub begins_not : {ns ms : List (Bor Name)} {o : Option Word} → ns ≡ ms → (BeginsSpecifiers (names_of ns) o → ⊥) → BeginsSpecifiers (names_of ms) o → ⊥
-begins_not {o = o} same other h = other (subst (λ z. BeginsSpecifiers (names_of z) o) (sym same) h)

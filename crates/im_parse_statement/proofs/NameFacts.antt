@@ -1,8 +1,7 @@
 -- Typedef names, by the vectors that a declaration was made of.
-use Rattle.std.proofs.Common.{◌≡◌, List, [], ◌∷◌, ◌++◌, map, reverse, sym, refl, ap, ◌∙◌, true, false, Bor, Global}
+use Rattle.std.proofs.Common.{◌≡◌, List, ◌++◌, sym, refl, ap, ◌∙◌, true, false, Global}
 use Rattle.std.specs.Prelude.{cond}
 use Rattle.std.specs.declared.vec.Vec.{Vec}
-use Rattle.std.proofs.lemmas.List.{reverse-append, map-append}
 use Rattle.im_word.specs.Words.{Name}
 use Rattle.im_ctree.specs.declared.specifier.Specifier.{Specifier}
 use Rattle.im_ctree.specs.declared.specifier.Specifiers.{Specifiers, Row_of-Specifier, end_of-Specifier, more_of-Specifier, items-the_row-Specifier, items_hidden-the_row-Specifier-6, out-Specifiers, is-Specifiers'}
@@ -11,7 +10,6 @@ use Rattle.im_ctree.specs.declared.declaration.Declaration.{Declaration}
 use Rattle.im_ctree.specs.Tree as t
 use Rattle.im_ctree.specs.Shape.{specifiers_of, specifier_of, specifier_list_of, init_declarators_of, declaration_of}
 use Rattle.im_ctree.specs.Typedefs.{has_typedef, declared_names, typedef_names}
-use Rattle.im_parse_core.specs.Names.{names_of}
 use Rattle.im_parse_statement.specs.Names.{specifiers_list}
 
 specifiers_row : (n : _) (row : Row_of-Specifier n) → specifier_list_of row ≡ specifiers_list (items-the_row-Specifier n row)
@@ -23,12 +21,6 @@ specifiers_made items = specifiers_row _ (hidden-the_row-Specifier-6 items) ∙ 
 
 specifiers_shape : (s : Specifiers) → specifiers_of s ≡ t.specifiers (out-Specifiers s).at (specifiers_list (out-Specifiers s).items.items)
 specifiers_shape s = ap specifiers_of (is-Specifiers' s) ∙ ap (λ z. t.specifiers (out-Specifiers s).at z) (specifiers_made (out-Specifiers s).items)
-
--- one name more, which stands last in hand
-pub name_pushed : (xs : List (Bor Name)) (x : Bor Name) → names_of (xs ++ x ∷ []) ≡ x.now ∷ names_of xs
-name_pushed xs x =
-    ap reverse (map-append (λ (known : Bor Name). known.now) xs (x ∷ []))
-    ∙ reverse-append (map (λ (known : Bor Name). known.now) xs) (x.now ∷ [])
 
 behind_declaration : (T : List Name) (d : Declaration) → typedef_names T (declaration_of d) ≡ cond (has_typedef (specifiers_list (out-Specifiers d.specifiers).items.items)) (declared_names (init_declarators_of d.declarators.items) ++ T) T
 behind_declaration T d = ap (λ z. typedef_names T (t.declaration z (init_declarators_of d.declarators.items))) (specifiers_shape d.specifiers)

@@ -1,7 +1,6 @@
 -- What the parsing functions of statements promise, for their private contracts.
 use Rattle.std.specs.Prelude.{ℕ, suc, ◌≡◌, true, false, List, [], ◌∷◌, map, Option, Some, None}
 use Rattle.std.specs.declared.vec.Vec.{Vec}
-use Rattle.std.proofs.Common.{Bor}
 use Rattle.im_tok.specs.declared.keyword.Keyword.{Keyword}
 use Rattle.im_tok.specs.declared.keyword.Keyword.TheVariants as key
 use Rattle.im_tok.specs.declared.punctuator.Punctuator.TheVariants.{OpenParen, CloseParen, Colon, Semicolon}
@@ -14,7 +13,6 @@ use Rattle.im_ctree.specs.Shape.{declaration_of, statement_of, block_items_of}
 use Rattle.im_ctree.specs.declared.statement.Statement.{Statement}
 use Rattle.im_ctree.specs.declared.statement.Block.{Block}
 use Rattle.im_ctree.specs.declared.statement.BlockItem as bi
-use Rattle.im_parse_core.specs.Names.{names_of}
 use Rattle.im_parse_core.specs.Reads.{Family, Ending, head}
 use Rattle.im_parse_core.specs.Parts.{Both, After, Made, Done}
 use Rattle.im_parse_core.specs.Lists.{before}
@@ -114,7 +112,3 @@ ExpressionLine T s = Both (u'.IsMaybeExpression T) (λ e. After (mark Semicolon)
 
 abbrev pub BlockLine : List Name → ℕ → Family t.Statement
 BlockLine T s = Made (t.block_statement s) (u'.IsBlock T)
-
--- the typedef names in hand
-abbrev pub known_names : {G : Type 0} → Vec (Bor Name) G → List Name
-known_names names = names_of names.items

@@ -4,13 +4,13 @@ ghost use Rattle.im_word.specs.Shown.{shown};
 ghost use Rattle.im_ctree.specs.Typedefs.{names_behind_block, names_behind_items};
 ghost use Rattle.im_ctree.specs.Units.{IsBlock, IsBlockItems};
 ghost use Rattle.im_parse.specs.Parsing.{Parses, Anything, Closed};
-ghost use Rattle.im_parse_statement.specs.Statements.{AfterItem, IsItem, block_tree, item_tree, items_tree, known_names, names_behind_item};
+ghost use Rattle.im_parse_statement.specs.Statements.{AfterItem, IsItem, block_tree, item_tree, items_tree, names_behind_item};
 
 use super::names::declared;
 use super::statements::statement;
 use im_ctree::{Block, BlockItem};
 use im_parse::{begins_specifiers, expect_mark};
-use im_parse_core::{Stop, after_mark};
+use im_parse_core::{Stop, TypedefNames, after_mark};
 use im_tok::Punctuator;
 use im_word::Word;
 use std::alloc::Global;
@@ -20,14 +20,14 @@ use std::alloc::Global;
 pub fn block<'b>(
     alloc: Global,
     words: &[Word<'b>],
-    names: &mut Vec<&'b [u8]>,
+    names: &mut TypedefNames<'b>,
     at: u32,
 ) -> Result<(Block, u32), Stop>
     requires { length words.now < 2 ^ 32 }
-    ensures parses { Parses block_tree (IsBlock (known_names names.old)) Anything
+    ensures parses { Parses block_tree (IsBlock names.old) Anything
         (map shown words.now) at result }
-    ensures known { IfOk result (λ read. known_names names.new ≡ names_behind_block
-        (known_names names.old) (block_tree read.0)) }
+    ensures known { IfOk result
+        (λ read. names.new ≡ names_behind_block names.old (block_tree read.0)) }
 {
     let inside = expect_mark(words, at, Punctuator::OpenBrace)?;
     let (items, end) = closed_items(alloc, words, names, inside)?;
@@ -39,14 +39,14 @@ pub fn block<'b>(
 fn closed_items<'b>(
     alloc: Global,
     words: &[Word<'b>],
-    names: &mut Vec<&'b [u8]>,
+    names: &mut TypedefNames<'b>,
     at: u32,
 ) -> Result<(Vec<BlockItem>, u32), Stop>
     requires { length words.now < 2 ^ 32 }
-    ensures parses { Parses items_tree (Closed CloseBrace (IsBlockItems (known_names names.old)))
+    ensures parses { Parses items_tree (Closed CloseBrace (IsBlockItems names.old))
         Anything (map shown words.now) at result }
-    ensures known { IfOk result (λ read. known_names names.new ≡ names_behind_items
-        (known_names names.old) (items_tree read.0)) }
+    ensures known { IfOk result
+        (λ read. names.new ≡ names_behind_items names.old (items_tree read.0)) }
 {
     let mut items = Vec::new(alloc);
     let mut next = at;
@@ -65,14 +65,13 @@ fn closed_items<'b>(
 fn block_item<'b>(
     alloc: Global,
     words: &[Word<'b>],
-    names: &mut Vec<&'b [u8]>,
+    names: &mut TypedefNames<'b>,
     at: u32,
 ) -> Result<(BlockItem, u32), Stop>
     requires { length words.now < 2 ^ 32 }
-    ensures parses { Parses item_tree (IsItem (known_names names.old)) AfterItem
-        (map shown words.now) at result }
-    ensures known { IfOk result (λ read. known_names names.new ≡ names_behind_item
-        (known_names names.old) (item_tree read.0)) }
+    ensures parses { Parses item_tree (IsItem names.old) AfterItem (map shown words.now) at result }
+    ensures known { IfOk result
+        (λ read. names.new ≡ names_behind_item names.old (item_tree read.0)) }
 {
     if begins_specifiers(words, names, at) {
         let (tree, end) = declared(alloc, words, names, at)?;

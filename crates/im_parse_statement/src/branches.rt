@@ -2,7 +2,7 @@ ghost use Rattle.std.specs.Prelude.{◌≡◌, ◌<◌, ◌^◌, IfOk, length, m
 ghost use Rattle.im_word.specs.Shown.{shown};
 ghost use Rattle.im_ctree.specs.Typedefs.{names_behind};
 ghost use Rattle.im_parse.specs.Parsing.{Parses};
-ghost use Rattle.im_parse_statement.specs.Statements.{statement_tree, AfterStatement, RestOf, known_names};
+ghost use Rattle.im_parse_statement.specs.Statements.{statement_tree, AfterStatement, RestOf};
 
 use super::blocks::block;
 use super::closed::condition;
@@ -11,7 +11,7 @@ use super::start::StatementStart;
 use super::statements::statement;
 use im_ctree::Statement;
 use im_parse::{conditional, expect_mark};
-use im_parse_core::{Stop, after_keyword};
+use im_parse_core::{Stop, TypedefNames, after_keyword};
 use im_tok::{Keyword, Punctuator};
 use im_word::Word;
 use std::alloc::Global;
@@ -21,17 +21,17 @@ use std::alloc::Global;
 pub fn if_statement<'b>(
     alloc: Global,
     words: &[Word<'b>],
-    names: &mut Vec<&'b [u8]>,
+    names: &mut TypedefNames<'b>,
     at: u32,
     behind: u32,
 ) -> Result<(Statement, u32), Stop>
     requires { length words.now < 2 ^ 32 }
-    ensures parses { Parses statement_tree (RestOf (known_names names.old) at StatementStart.If)
+    ensures parses { Parses statement_tree (RestOf names.old at StatementStart.If)
         AfterStatement (map shown words.now) behind result }
     ensures behind { IfOk result
         (λ read. AfterStatement (statement_tree read.0) (drop read.1 (map shown words.now))) }
-    ensures known { IfOk result (λ read. known_names names.new ≡ names_behind
-        (known_names names.old) (statement_tree read.0)) }
+    ensures known { IfOk result
+        (λ read. names.new ≡ names_behind names.old (statement_tree read.0)) }
 {
     let (value, next) = condition(alloc, words, names, behind)?;
     let (body, end) = statement(alloc, words, names, next)?;
@@ -53,17 +53,17 @@ pub fn if_statement<'b>(
 pub fn switch_statement<'b>(
     alloc: Global,
     words: &[Word<'b>],
-    names: &mut Vec<&'b [u8]>,
+    names: &mut TypedefNames<'b>,
     at: u32,
     behind: u32,
 ) -> Result<(Statement, u32), Stop>
     requires { length words.now < 2 ^ 32 }
-    ensures parses { Parses statement_tree (RestOf (known_names names.old) at StatementStart.Switch)
+    ensures parses { Parses statement_tree (RestOf names.old at StatementStart.Switch)
         AfterStatement (map shown words.now) behind result }
     ensures behind { IfOk result
         (λ read. AfterStatement (statement_tree read.0) (drop read.1 (map shown words.now))) }
-    ensures known { IfOk result (λ read. known_names names.new ≡ names_behind
-        (known_names names.old) (statement_tree read.0)) }
+    ensures known { IfOk result
+        (λ read. names.new ≡ names_behind names.old (statement_tree read.0)) }
 {
     let (value, next) = condition(alloc, words, names, behind)?;
     let (body, end) = block(alloc, words, names, next)?;
@@ -75,17 +75,17 @@ pub fn switch_statement<'b>(
 pub fn case_statement<'b>(
     alloc: Global,
     words: &[Word<'b>],
-    names: &mut Vec<&'b [u8]>,
+    names: &mut TypedefNames<'b>,
     at: u32,
     behind: u32,
 ) -> Result<(Statement, u32), Stop>
     requires { length words.now < 2 ^ 32 }
-    ensures parses { Parses statement_tree (RestOf (known_names names.old) at StatementStart.Case)
+    ensures parses { Parses statement_tree (RestOf names.old at StatementStart.Case)
         AfterStatement (map shown words.now) behind result }
     ensures behind { IfOk result
         (λ read. AfterStatement (statement_tree read.0) (drop read.1 (map shown words.now))) }
-    ensures known { IfOk result (λ read. known_names names.new ≡ names_behind
-        (known_names names.old) (statement_tree read.0)) }
+    ensures known { IfOk result
+        (λ read. names.new ≡ names_behind names.old (statement_tree read.0)) }
 {
     let (value, next) = conditional(alloc, words, names, behind)?;
     let last = expect_mark(words, next, Punctuator::Colon)?;
@@ -99,18 +99,17 @@ pub fn case_statement<'b>(
 pub fn default_statement<'b>(
     alloc: Global,
     words: &[Word<'b>],
-    names: &mut Vec<&'b [u8]>,
+    names: &mut TypedefNames<'b>,
     at: u32,
     behind: u32,
 ) -> Result<(Statement, u32), Stop>
     requires { length words.now < 2 ^ 32 }
-    ensures parses { Parses statement_tree
-        (RestOf (known_names names.old) at StatementStart.Default) AfterStatement
-        (map shown words.now) behind result }
+    ensures parses { Parses statement_tree (RestOf names.old at StatementStart.Default)
+        AfterStatement (map shown words.now) behind result }
     ensures behind { IfOk result
         (λ read. AfterStatement (statement_tree read.0) (drop read.1 (map shown words.now))) }
-    ensures known { IfOk result (λ read. known_names names.new ≡ names_behind
-        (known_names names.old) (statement_tree read.0)) }
+    ensures known { IfOk result
+        (λ read. names.new ≡ names_behind names.old (statement_tree read.0)) }
 {
     let last = expect_mark(words, behind, Punctuator::Colon)?;
     let (body, end) = statement(alloc, words, names, last)?;

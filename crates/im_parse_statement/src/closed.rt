@@ -3,13 +3,12 @@ ghost use Rattle.im_tok.specs.declared.punctuator.Punctuator.TheVariants.{CloseP
 ghost use Rattle.im_word.specs.Shown.{shown};
 ghost use Rattle.im_ctree.specs.Shape.{optional_expression_of};
 ghost use Rattle.im_ctree.specs.Units.{IsMaybeExpression};
-ghost use Rattle.im_parse_core.specs.Names.{names_of};
 ghost use Rattle.im_parse.specs.Parsing.{Parses, Anything, Closed, tree_of};
 ghost use Rattle.im_parse_statement.specs.Statements.{Condition};
 
 use im_ctree::Expression;
 use im_parse::{expect_mark, expression};
-use im_parse_core::{Stop, after_mark};
+use im_parse_core::{Stop, TypedefNames, after_mark};
 use im_tok::Punctuator;
 use im_word::Word;
 use std::alloc::Global;
@@ -18,12 +17,11 @@ use std::alloc::Global;
 pub fn condition(
     alloc: Global,
     words: &[Word],
-    names: &[&[u8]],
+    names: &TypedefNames,
     at: u32,
 ) -> Result<(Expression, u32), Stop>
     requires { length words.now < 2 ^ 32 }
-    ensures { Parses tree_of (Condition (names_of names.now)) Anything (map shown words.now) at
-        result }
+    ensures { Parses tree_of (Condition names.now) Anything (map shown words.now) at result }
 {
     let inside = expect_mark(words, at, Punctuator::OpenParen)?;
     let (tree, next) = expression(alloc, words, names, inside)?;
@@ -35,13 +33,12 @@ pub fn condition(
 pub fn before_semicolon(
     alloc: Global,
     words: &[Word],
-    names: &[&[u8]],
+    names: &TypedefNames,
     at: u32,
 ) -> Result<(Option<Expression>, u32), Stop>
     requires { length words.now < 2 ^ 32 }
-    ensures { Parses optional_expression_of
-        (Closed Semicolon (IsMaybeExpression (names_of names.now))) Anything (map shown words.now)
-        at result }
+    ensures { Parses optional_expression_of (Closed Semicolon (IsMaybeExpression names.now))
+        Anything (map shown words.now) at result }
 {
     if let Some(end) = after_mark(words, at, Punctuator::Semicolon) {
         return Ok((None, end));
@@ -55,13 +52,12 @@ pub fn before_semicolon(
 pub fn before_paren(
     alloc: Global,
     words: &[Word],
-    names: &[&[u8]],
+    names: &TypedefNames,
     at: u32,
 ) -> Result<(Option<Expression>, u32), Stop>
     requires { length words.now < 2 ^ 32 }
-    ensures { Parses optional_expression_of
-        (Closed CloseParen (IsMaybeExpression (names_of names.now))) Anything (map shown words.now)
-        at result }
+    ensures { Parses optional_expression_of (Closed CloseParen (IsMaybeExpression names.now))
+        Anything (map shown words.now) at result }
 {
     if let Some(end) = after_mark(words, at, Punctuator::CloseParen) {
         return Ok((None, end));

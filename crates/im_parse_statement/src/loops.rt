@@ -9,7 +9,7 @@ ghost use Rattle.im_ctree.specs.Shape.{for_init_of};
 ghost use Rattle.im_ctree.specs.Units.{IsForInit};
 ghost use Rattle.im_ctree.specs.Typedefs.{names_behind, names_behind_init};
 ghost use Rattle.im_parse.specs.Parsing.{Parses, Anything};
-ghost use Rattle.im_parse_statement.specs.Statements.{statement_tree, AfterStatement, RestOf, known_names};
+ghost use Rattle.im_parse_statement.specs.Statements.{statement_tree, AfterStatement, RestOf};
 
 use super::closed::{before_paren, before_semicolon, condition};
 use super::make;
@@ -18,7 +18,7 @@ use super::start::StatementStart;
 use super::statements::statement;
 use im_ctree::{ForInit, Statement};
 use im_parse::{begins_specifiers, expect_mark};
-use im_parse_core::{Stop, after_keyword};
+use im_parse_core::{Stop, TypedefNames, after_keyword};
 use im_tok::{Keyword, Punctuator};
 use im_word::Word;
 use std::alloc::Global;
@@ -28,17 +28,17 @@ use std::alloc::Global;
 pub fn while_statement<'b>(
     alloc: Global,
     words: &[Word<'b>],
-    names: &mut Vec<&'b [u8]>,
+    names: &mut TypedefNames<'b>,
     at: u32,
     behind: u32,
 ) -> Result<(Statement, u32), Stop>
     requires { length words.now < 2 ^ 32 }
-    ensures parses { Parses statement_tree (RestOf (known_names names.old) at StatementStart.While)
+    ensures parses { Parses statement_tree (RestOf names.old at StatementStart.While)
         AfterStatement (map shown words.now) behind result }
     ensures behind { IfOk result
         (λ read. AfterStatement (statement_tree read.0) (drop read.1 (map shown words.now))) }
-    ensures known { IfOk result (λ read. known_names names.new ≡ names_behind
-        (known_names names.old) (statement_tree read.0)) }
+    ensures known { IfOk result
+        (λ read. names.new ≡ names_behind names.old (statement_tree read.0)) }
 {
     let (value, next) = condition(alloc, words, names, behind)?;
     let (body, end) = statement(alloc, words, names, next)?;
@@ -64,17 +64,17 @@ fn expect_while(words: &[Word], at: u32) -> Result<u32, Stop>
 pub fn do_statement<'b>(
     alloc: Global,
     words: &[Word<'b>],
-    names: &mut Vec<&'b [u8]>,
+    names: &mut TypedefNames<'b>,
     at: u32,
     behind: u32,
 ) -> Result<(Statement, u32), Stop>
     requires { length words.now < 2 ^ 32 }
-    ensures parses { Parses statement_tree (RestOf (known_names names.old) at StatementStart.Do)
+    ensures parses { Parses statement_tree (RestOf names.old at StatementStart.Do)
         AfterStatement (map shown words.now) behind result }
     ensures behind { IfOk result
         (λ read. AfterStatement (statement_tree read.0) (drop read.1 (map shown words.now))) }
-    ensures known { IfOk result (λ read. known_names names.new ≡ names_behind
-        (known_names names.old) (statement_tree read.0)) }
+    ensures known { IfOk result
+        (λ read. names.new ≡ names_behind names.old (statement_tree read.0)) }
 {
     let (body, next) = statement(alloc, words, names, behind)?;
     let last = expect_while(words, next)?;
@@ -88,14 +88,14 @@ pub fn do_statement<'b>(
 fn for_init<'b>(
     alloc: Global,
     words: &[Word<'b>],
-    names: &mut Vec<&'b [u8]>,
+    names: &mut TypedefNames<'b>,
     at: u32,
 ) -> Result<(ForInit, u32), Stop>
     requires { length words.now < 2 ^ 32 }
-    ensures parses { Parses for_init_of (IsForInit (known_names names.old)) Anything
+    ensures parses { Parses for_init_of (IsForInit names.old) Anything
         (map shown words.now) at result }
-    ensures known { IfOk result (λ read. known_names names.new ≡ names_behind_init
-        (known_names names.old) (for_init_of read.0)) }
+    ensures known { IfOk result
+        (λ read. names.new ≡ names_behind_init names.old (for_init_of read.0)) }
 {
     if begins_specifiers(words, names, at) {
         let (tree, end) = declared(alloc, words, names, at)?;
@@ -110,17 +110,17 @@ fn for_init<'b>(
 pub fn for_statement<'b>(
     alloc: Global,
     words: &[Word<'b>],
-    names: &mut Vec<&'b [u8]>,
+    names: &mut TypedefNames<'b>,
     at: u32,
     behind: u32,
 ) -> Result<(Statement, u32), Stop>
     requires { length words.now < 2 ^ 32 }
-    ensures parses { Parses statement_tree (RestOf (known_names names.old) at StatementStart.For)
+    ensures parses { Parses statement_tree (RestOf names.old at StatementStart.For)
         AfterStatement (map shown words.now) behind result }
     ensures behind { IfOk result
         (λ read. AfterStatement (statement_tree read.0) (drop read.1 (map shown words.now))) }
-    ensures known { IfOk result (λ read. known_names names.new ≡ names_behind
-        (known_names names.old) (statement_tree read.0)) }
+    ensures known { IfOk result
+        (λ read. names.new ≡ names_behind names.old (statement_tree read.0)) }
 {
     let inside = expect_mark(words, behind, Punctuator::OpenParen)?;
     let (init, first) = for_init(alloc, words, names, inside)?;

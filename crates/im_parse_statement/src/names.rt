@@ -7,13 +7,12 @@ ghost use Rattle.im_ctree.specs.Units.{IsDeclaration};
 ghost use Rattle.im_parse_core.specs.declared.stop.Stop.TheVariants.{Memory};
 ghost use Rattle.im_parse.specs.Parsing.{Parses, Anything};
 ghost use Rattle.im_parse_statement.specs.Names.{specifier_tree, specifiers_list};
-ghost use Rattle.im_parse_statement.specs.Statements.{known_names};
 
 use im_ctree::{
     Core, Declaration, Declarator, InitDeclarator, Specifier, SpecifierKind, SpecifierWord,
 };
 use im_parse::declaration;
-use im_parse_core::Stop;
+use im_parse_core::{Stop, TypedefNames};
 use im_word::Word;
 use std::alloc::Global;
 
@@ -71,20 +70,17 @@ fn declared_name(declarator: &Declarator) -> Option<&[u8]>
 /// first such word from the declarator's first word on.
 fn push_name<'b>(
     words: &[Word<'b>],
-    names: &mut Vec<&'b [u8]>,
+    names: &mut TypedefNames<'b>,
     declarator: &Declarator,
 ) -> Result<(), Stop>
-    ensures { MatchResult result (λ done. known_names names.new ≡ typedefs.declared_name
-        (declarator_of declarator.now) ++ known_names names.old) (λ stop. stop ≡ Memory) }
+    ensures { MatchResult result (λ done. names.new ≡ typedefs.declared_name
+        (declarator_of declarator.now) ++ names.old) (λ stop. stop ≡ Memory) }
 {
     match declared_name(declarator) {
         None => Ok(()),
         Some(name) => match find_name(words, declarator.at, name) {
             None => Err(Stop::Memory),
-            Some(bytes) => {
-                names.push(bytes)?;
-                Ok(())
-            }
+            Some(bytes) => names.push(bytes),
         },
     }
 }
@@ -92,11 +88,11 @@ fn push_name<'b>(
 /// Puts the names that these declarators declare before those that are known.
 fn push_names<'b>(
     words: &[Word<'b>],
-    names: &mut Vec<&'b [u8]>,
+    names: &mut TypedefNames<'b>,
     declarators: &[InitDeclarator],
 ) -> Result<(), Stop>
-    ensures { MatchResult result (λ done. known_names names.new ≡ typedefs.declared_names
-        (init_declarators_of declarators.now) ++ known_names names.old) (λ stop. stop ≡ Memory) }
+    ensures { MatchResult result (λ done. names.new ≡ typedefs.declared_names
+        (init_declarators_of declarators.now) ++ names.old) (λ stop. stop ≡ Memory) }
 {
     let mut left = declarators.len();
     while left > 0 {
@@ -109,11 +105,11 @@ fn push_names<'b>(
 /// Puts the names that a declaration makes typedef names before those that are known (C11 6.7.8).
 pub fn remember<'b>(
     words: &[Word<'b>],
-    names: &mut Vec<&'b [u8]>,
+    names: &mut TypedefNames<'b>,
     tree: &Declaration,
 ) -> Result<(), Stop>
-    ensures { MatchResult result (λ done. known_names names.new ≡ typedefs.typedef_names
-        (known_names names.old) (declaration_of tree.now)) (λ stop. stop ≡ Memory) }
+    ensures { MatchResult result (λ done. names.new ≡ typedefs.typedef_names
+        names.old (declaration_of tree.now)) (λ stop. stop ≡ Memory) }
 {
     if !has_typedef(&tree.specifiers.items) {
         return Ok(());
@@ -126,14 +122,14 @@ pub fn remember<'b>(
 pub fn declared<'b>(
     alloc: Global,
     words: &[Word<'b>],
-    names: &mut Vec<&'b [u8]>,
+    names: &mut TypedefNames<'b>,
     at: u32,
 ) -> Result<(Declaration, u32), Stop>
     requires { length words.now < 2 ^ 32 }
-    ensures parses { Parses declaration_of (IsDeclaration (known_names names.old)) Anything
+    ensures parses { Parses declaration_of (IsDeclaration names.old) Anything
         (map shown words.now) at result }
-    ensures known { IfOk result (λ read. known_names names.new ≡ typedefs.typedef_names
-        (known_names names.old) (declaration_of read.0)) }
+    ensures known { IfOk result
+        (λ read. names.new ≡ typedefs.typedef_names names.old (declaration_of read.0)) }
 {
     let (tree, end) = declaration(alloc, words, names, at)?;
     remember(words, names, &tree)?;

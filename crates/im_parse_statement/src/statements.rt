@@ -4,9 +4,8 @@ ghost use Rattle.im_word.specs.Words.{keyword};
 ghost use Rattle.im_ctree.specs.Typedefs.{names_behind};
 ghost use Rattle.im_ctree.specs.Units.{IsStatement};
 ghost use Rattle.im_parse_core.specs.Places.{IsAt};
-ghost use Rattle.im_parse_core.specs.Names.{names_of};
 ghost use Rattle.im_parse.specs.Parsing.{Parses, Anything};
-ghost use Rattle.im_parse_statement.specs.Statements.{statement_tree, AfterStatement, RestOf, ExpressionLine, BlockLine, known_names, start_keyword};
+ghost use Rattle.im_parse_statement.specs.Statements.{statement_tree, AfterStatement, RestOf, ExpressionLine, BlockLine, start_keyword};
 
 use super::blocks::block;
 use super::branches::{case_statement, default_statement, if_statement, switch_statement};
@@ -16,7 +15,7 @@ use super::make;
 use super::start::{StatementStart, start_at};
 use im_ctree::{Statement, StatementKind};
 use im_parse::expect_mark;
-use im_parse_core::{Stop, after_mark};
+use im_parse_core::{Stop, TypedefNames, after_mark};
 use im_tok::Punctuator;
 use im_word::Word;
 use std::alloc::Global;
@@ -26,16 +25,16 @@ use std::alloc::Global;
 pub fn statement<'b>(
     alloc: Global,
     words: &[Word<'b>],
-    names: &mut Vec<&'b [u8]>,
+    names: &mut TypedefNames<'b>,
     at: u32,
 ) -> Result<(Statement, u32), Stop>
     requires { length words.now < 2 ^ 32 }
-    ensures parses { Parses statement_tree (IsStatement (known_names names.old)) AfterStatement
+    ensures parses { Parses statement_tree (IsStatement names.old) AfterStatement
         (map shown words.now) at result }
     ensures behind { IfOk result
         (λ read. AfterStatement (statement_tree read.0) (drop read.1 (map shown words.now))) }
-    ensures known { IfOk result (λ read. known_names names.new ≡ names_behind
-        (known_names names.old) (statement_tree read.0)) }
+    ensures known { IfOk result
+        (λ read. names.new ≡ names_behind names.old (statement_tree read.0)) }
 {
     if let Some((start, behind)) = start_at(words, at) {
         return started(alloc, words, names, start, at, behind);
@@ -51,18 +50,18 @@ pub fn statement<'b>(
 fn started<'b>(
     alloc: Global,
     words: &[Word<'b>],
-    names: &mut Vec<&'b [u8]>,
+    names: &mut TypedefNames<'b>,
     start: StatementStart,
     at: u32,
     behind: u32,
 ) -> Result<(Statement, u32), Stop>
     requires { length words.now < 2 ^ 32 }
-    ensures parses { Parses statement_tree (RestOf (known_names names.old) at start) AfterStatement
+    ensures parses { Parses statement_tree (RestOf names.old at start) AfterStatement
         (map shown words.now) behind result }
     ensures behind { IfOk result
         (λ read. AfterStatement (statement_tree read.0) (drop read.1 (map shown words.now))) }
-    ensures known { IfOk result (λ read. known_names names.new ≡ names_behind
-        (known_names names.old) (statement_tree read.0)) }
+    ensures known { IfOk result
+        (λ read. names.new ≡ names_behind names.old (statement_tree read.0)) }
 {
     match start {
         StatementStart::If => if_statement(alloc, words, names, at, behind),
@@ -84,16 +83,16 @@ fn started<'b>(
 fn block_statement<'b>(
     alloc: Global,
     words: &[Word<'b>],
-    names: &mut Vec<&'b [u8]>,
+    names: &mut TypedefNames<'b>,
     at: u32,
 ) -> Result<(Statement, u32), Stop>
     requires { length words.now < 2 ^ 32 }
-    ensures parses { Parses statement_tree (BlockLine (known_names names.old) at) AfterStatement
+    ensures parses { Parses statement_tree (BlockLine names.old at) AfterStatement
         (map shown words.now) at result }
     ensures behind { IfOk result
         (λ read. AfterStatement (statement_tree read.0) (drop read.1 (map shown words.now))) }
-    ensures known { IfOk result (λ read. known_names names.new ≡ names_behind
-        (known_names names.old) (statement_tree read.0)) }
+    ensures known { IfOk result
+        (λ read. names.new ≡ names_behind names.old (statement_tree read.0)) }
 {
     let (body, end) = block(alloc, words, names, at)?;
     Ok((make::block_statement(at, body), end))
@@ -104,16 +103,16 @@ fn block_statement<'b>(
 fn expression_statement<'b>(
     alloc: Global,
     words: &[Word<'b>],
-    names: &mut Vec<&'b [u8]>,
+    names: &mut TypedefNames<'b>,
     at: u32,
 ) -> Result<(Statement, u32), Stop>
     requires { length words.now < 2 ^ 32 }
-    ensures parses { Parses statement_tree (ExpressionLine (known_names names.old) at)
+    ensures parses { Parses statement_tree (ExpressionLine names.old at)
         AfterStatement (map shown words.now) at result }
     ensures behind { IfOk result
         (λ read. AfterStatement (statement_tree read.0) (drop read.1 (map shown words.now))) }
-    ensures known { IfOk result (λ read. known_names names.new ≡ names_behind
-        (known_names names.old) (statement_tree read.0)) }
+    ensures known { IfOk result
+        (λ read. names.new ≡ names_behind names.old (statement_tree read.0)) }
 {
     let (tree, end) = before_semicolon(alloc, words, names, at)?;
     let kind = StatementKind::Expression(tree);
@@ -124,17 +123,17 @@ fn expression_statement<'b>(
 #[inline(never)]
 fn break_statement<'b>(
     words: &[Word<'b>],
-    names: &mut Vec<&'b [u8]>,
+    names: &mut TypedefNames<'b>,
     at: u32,
     behind: u32,
 ) -> Result<(Statement, u32), Stop>
     requires { length words.now < 2 ^ 32 }
-    ensures parses { Parses statement_tree (RestOf (known_names names.old) at StatementStart.Break)
+    ensures parses { Parses statement_tree (RestOf names.old at StatementStart.Break)
         AfterStatement (map shown words.now) behind result }
     ensures behind { IfOk result
         (λ read. AfterStatement (statement_tree read.0) (drop read.1 (map shown words.now))) }
-    ensures known { IfOk result (λ read. known_names names.new ≡ names_behind
-        (known_names names.old) (statement_tree read.0)) }
+    ensures known { IfOk result
+        (λ read. names.new ≡ names_behind names.old (statement_tree read.0)) }
 {
     let end = expect_mark(words, behind, Punctuator::Semicolon)?;
     let kind = StatementKind::Break;
@@ -145,18 +144,17 @@ fn break_statement<'b>(
 #[inline(never)]
 fn continue_statement<'b>(
     words: &[Word<'b>],
-    names: &mut Vec<&'b [u8]>,
+    names: &mut TypedefNames<'b>,
     at: u32,
     behind: u32,
 ) -> Result<(Statement, u32), Stop>
     requires { length words.now < 2 ^ 32 }
-    ensures parses { Parses statement_tree
-        (RestOf (known_names names.old) at StatementStart.Continue) AfterStatement
-        (map shown words.now) behind result }
+    ensures parses { Parses statement_tree (RestOf names.old at StatementStart.Continue)
+        AfterStatement (map shown words.now) behind result }
     ensures behind { IfOk result
         (λ read. AfterStatement (statement_tree read.0) (drop read.1 (map shown words.now))) }
-    ensures known { IfOk result (λ read. known_names names.new ≡ names_behind
-        (known_names names.old) (statement_tree read.0)) }
+    ensures known { IfOk result
+        (λ read. names.new ≡ names_behind names.old (statement_tree read.0)) }
 {
     let end = expect_mark(words, behind, Punctuator::Semicolon)?;
     let kind = StatementKind::Continue;
@@ -168,17 +166,17 @@ fn continue_statement<'b>(
 fn return_statement<'b>(
     alloc: Global,
     words: &[Word<'b>],
-    names: &mut Vec<&'b [u8]>,
+    names: &mut TypedefNames<'b>,
     at: u32,
     behind: u32,
 ) -> Result<(Statement, u32), Stop>
     requires { length words.now < 2 ^ 32 }
-    ensures parses { Parses statement_tree (RestOf (known_names names.old) at StatementStart.Return)
+    ensures parses { Parses statement_tree (RestOf names.old at StatementStart.Return)
         AfterStatement (map shown words.now) behind result }
     ensures behind { IfOk result
         (λ read. AfterStatement (statement_tree read.0) (drop read.1 (map shown words.now))) }
-    ensures known { IfOk result (λ read. known_names names.new ≡ names_behind
-        (known_names names.old) (statement_tree read.0)) }
+    ensures known { IfOk result
+        (λ read. names.new ≡ names_behind names.old (statement_tree read.0)) }
 {
     let (tree, end) = before_semicolon(alloc, words, names, behind)?;
     let kind = StatementKind::Return(tree);

@@ -4,11 +4,10 @@ ghost use Rattle.im_ctree.specs.Shape.{external_of};
 ghost use Rattle.im_ctree.specs.Typedefs.{names_behind_external};
 ghost use Rattle.im_ctree.specs.Units.{IsExternal};
 ghost use Rattle.im_parse.specs.Parsing.{Parses, Anything};
-ghost use Rattle.im_parse_statement.specs.Statements.{known_names};
 
 use im_ctree::{Declaration, External, Function};
 use im_parse::{Form, closed_inits_behind, declarator, specifiers};
-use im_parse_core::{Stop, after_mark};
+use im_parse_core::{Stop, TypedefNames, after_mark};
 use im_parse_statement::{block, remember};
 use im_tok::Punctuator;
 use im_word::Word;
@@ -18,14 +17,14 @@ use std::alloc::Global;
 pub fn external<'b>(
     alloc: Global,
     words: &[Word<'b>],
-    names: &mut Vec<&'b [u8]>,
+    names: &mut TypedefNames<'b>,
     at: u32,
 ) -> Result<(External, u32), Stop>
     requires { length words.now < 2 ^ 32 }
-    ensures parses { Parses external_of (IsExternal (known_names names.old)) Anything
+    ensures parses { Parses external_of (IsExternal names.old) Anything
         (map shown words.now) at result }
-    ensures known { IfOk result (λ read. known_names names.new ≡ names_behind_external
-        (known_names names.old) (external_of read.0)) }
+    ensures known { IfOk result
+        (λ read. names.new ≡ names_behind_external names.old (external_of read.0)) }
 {
     let (specifiers, next) = specifiers(alloc, words, names, at)?;
     if let Some(end) = after_mark(words, next, Punctuator::Semicolon) {

@@ -3,21 +3,19 @@ ghost use Rattle.im_word.specs.Shown.{shown};
 ghost use Rattle.im_ctree.specs.Shape.{tree_of};
 ghost use Rattle.im_ctree.specs.Units.{Spells, predeclared_names};
 ghost use Rattle.im_parse_core.specs.declared.stop.Stop.TheVariants.{Memory};
-ghost use Rattle.im_parse_statement.specs.Statements.{known_names};
 ghost use Rattle.im_parse_unit.specs.Spelling.{StopsUnit};
 
 use super::externals::external;
 use im_ctree::Tree;
-use im_parse_core::Stop;
+use im_parse_core::{Stop, TypedefNames};
 use im_word::Word;
 use std::alloc::Global;
 
 /// The typedef names that stand in for headers, the first one last.
-fn predeclared(alloc: Global) -> Result<Vec<&'static [u8]>, Stop>
-    ensures { MatchResult result (λ names. known_names names ≡ predeclared_names)
-        (λ stop. stop ≡ Memory) }
+fn predeclared<'b>(alloc: Global) -> Result<TypedefNames<'b>, Stop>
+    ensures { MatchResult result (λ names. names ≡ predeclared_names) (λ stop. stop ≡ Memory) }
 {
-    let mut names: Vec<&'static [u8]> = Vec::new(alloc);
+    let mut names = TypedefNames::new(alloc);
     names.push(b"size_t")?;
     names.push(b"uint32_t")?;
     names.push(b"int32_t")?;

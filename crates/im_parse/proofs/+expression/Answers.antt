@@ -5,7 +5,6 @@ use Rattle.im_parse.proofs.Exits.{handed, isnt, itis, stopped}
 use Rattle.im_parse.proofs.ExpressionLines.{alternative, chosen_start, commas_done, commas_more, commas_next, commas_start, misses_colon, reads_choice, reads_condition, refuses_chosen, refuses_comma, refuses_condition, refuses_expression, refuses_other}
 use Rattle.im_parse.proofs.PostfixLines.{after_primary, postfix_goes, postfix_more, arrow_start, bracket, call_start, called, dot_start, group_start, index_start, misses_bracket, misses_name, misses_paren, named, post_stepped, postfix_done, reads_group, refuses_call, refuses_group, refuses_index, refuses_primary}
 use Rattle.im_parse.proofs.UnaryLines.{as_postfix, prefix_start, reads_made, reads_sized, refuses_made, refuses_sized, sized_other, sized_start, sized_untyped, sizeof_start, step_start}
-use Rattle.im_parse_core.specs.Names.{names_of}
 use Rattle.im_parse.specs.Parsing.{Below, tree_of}
 use Rattle.im_parse_core.proofs.Steps.{last, last_refused, word}
 use Rattle.im_word.specs.Shown.{shown}
@@ -87,10 +86,10 @@ expressions::conditional-returns-in_ok-tree-in-Some t c = rw c.in_ok-tree-in-Som
 pub expressions::binary-returns-in_err-tree : goal.expressions::binary-returns-in_err-tree
 expressions::binary-returns-in_err-tree t c =
     let p = err_from_is_err_and c.from_residual.result c.from_residual.ensures.1 in
-    rw (p.1, p.2) (stopped (map shown c.args.words.now) (λ n h. refuses_looser (map shown c.args.words.now) c.args.level 10 (omega (arith, c.requires.level)) (omega arith) h) _ (as_cast tree_of (names_of c.args.names.now) (map shown c.args.words.now) c.args.at 10 refl (Err _) c.in_err-tree.ensures))
+    rw (p.1, p.2) (stopped (map shown c.args.words.now) (λ n h. refuses_looser (map shown c.args.words.now) c.args.level 10 (omega (arith, c.requires.level)) (omega arith) h) _ (as_cast tree_of (c.args.names.now) (map shown c.args.words.now) c.args.at 10 refl (Err _) c.in_err-tree.ensures))
 
 pub expressions::binary-loop-tightest-init : goal.expressions::binary-loop-tightest-init
-expressions::binary-loop-tightest-init t c = (as_cast tree_of (names_of c.args.names.now) (map shown c.args.words.now) c.args.at 10 refl (Ok (c.in_ok-tree.tree, c.in_ok-tree.next)) c.in_ok-tree.ensures, omega (arith, c.in_ok-tree.ensures.place), omega (arith, c.requires.level), omega arith)
+expressions::binary-loop-tightest-init t c = (as_cast tree_of (c.args.names.now) (map shown c.args.words.now) c.args.at 10 refl (Ok (c.in_ok-tree.tree, c.in_ok-tree.next)) c.in_ok-tree.ensures, omega (arith, c.in_ok-tree.ensures.place), omega (arith, c.requires.level), omega arith)
 
 pub expressions::binary-loop-operator-init : goal.expressions::binary-loop-operator-init
 expressions::binary-loop-operator-init t c = (tails_from (map shown c.args.words.now) c.loop-tightest.tightest (omega (arith, c.loop-tightest-test.true)) c.loop-tightest.invariant.3 c.loop-tightest.invariant.0, c.loop-tightest.invariant.1, omega (arith, c.loop-tightest-test.true), omega (arith, c.loop-tightest.invariant.3))
@@ -112,13 +111,13 @@ expressions::binary-loop-tightest-preserved t c = (tails_done (map shown c.args.
 pub expressions::binary-returns : goal.expressions::binary-returns
 expressions::binary-returns t c =
     let same : c.loop-tightest.tightest ≡ c.args.level = omega (arith, c.loop-tightest-test.false, c.loop-tightest.invariant.2) in
-    subst (λ z. ReadsAt (g.IsBinary (names_of c.args.names.now) z) (Below (z + 4)) (map shown c.args.words.now) c.args.at (tree_of c.loop-tightest.tree) c.loop-tightest.next) same c.loop-tightest.invariant.0
+    subst (λ z. ReadsAt (g.IsBinary (c.args.names.now) z) (Below (z + 4)) (map shown c.args.words.now) c.args.at (tree_of c.loop-tightest.tree) c.loop-tightest.next) same c.loop-tightest.invariant.0
 
 pub expressions::cast-returns-in-None : goal.expressions::cast-returns-in-None
-expressions::cast-returns-in-None t c = unparenthesised tree_of (names_of c.args.names.now) (map shown c.args.words.now) c.args.at c.in-None.ensures c.unary.result c.unary.ensures
+expressions::cast-returns-in-None t c = unparenthesised tree_of (c.args.names.now) (map shown c.args.words.now) c.args.at c.in-None.ensures c.unary.result c.unary.ensures
 
 pub expressions::cast-returns-then-not-begins_specifiers : goal.expressions::cast-returns-then-not-begins_specifiers
-expressions::cast-returns-then-not-begins_specifiers t c = untyped tree_of (names_of c.args.names.now) (map shown c.args.words.now) c.args.at c.in-Some.ensures (isnt c.begins_specifiers.result c.if-not-begins_specifiers.true c.begins_specifiers.ensures) c.unary-then-not-begins_specifiers.result c.unary-then-not-begins_specifiers.ensures
+expressions::cast-returns-then-not-begins_specifiers t c = untyped tree_of (c.args.names.now) (map shown c.args.words.now) c.args.at c.in-Some.ensures (isnt c.begins_specifiers.result c.if-not-begins_specifiers.true c.begins_specifiers.ensures) c.unary-then-not-begins_specifiers.result c.unary-then-not-begins_specifiers.ensures
 
 pub expressions::cast-returns-in_err-name-in-Some : goal.expressions::cast-returns-in_err-name-in-Some
 expressions::cast-returns-in_err-name-in-Some t c = let p = err_from_is_err_and c.from_residual.result c.from_residual.ensures.1 in rw (p.1, p.2) (stopped (map shown c.args.words.now) (λ n h. refuses_type (map shown c.args.words.now) (cast_start (map shown c.args.words.now) c.in-Some.ensures (itis c.begins_specifiers.result c.if-not-begins_specifiers.false c.begins_specifiers.ensures)) h) _ c.in_err-name-in-Some.ensures)
@@ -142,16 +141,16 @@ pub expressions::unary-returns-in-Some-prefix_at : goal.expressions::unary-retur
 expressions::unary-returns-in-Some-prefix_at t c = rw c.in_ok-tree-2.ensures (last c.in_ok-operand-2.ensures (prefix_start (map shown c.args.words.now) c.in-Some-prefix_at.ensures))
 
 pub expressions::unary-returns-in-None : goal.expressions::unary-returns-in-None
-expressions::unary-returns-in-None t c = as_postfix tree_of (names_of c.args.names.now) (map shown c.args.words.now) c.args.at c.in_default.ensures c.in_default-prefix_at.ensures c.in-None.ensures c.postfix.result c.postfix.ensures
+expressions::unary-returns-in-None t c = as_postfix tree_of (c.args.names.now) (map shown c.args.words.now) c.args.at c.in_default.ensures c.in_default-prefix_at.ensures c.in-None.ensures c.postfix.result c.postfix.ensures
 
 pub expressions::unary-returns-in-Some-after_keyword : goal.expressions::unary-returns-in-Some-after_keyword
 expressions::unary-returns-in-Some-after_keyword t c = handed tree_of (map shown c.args.words.now) (sizeof_start (map shown c.args.words.now) c.in-Some-after_keyword.ensures) c.sized.result c.sized.ensures
 
 pub expressions::sized-returns-in-None : goal.expressions::sized-returns-in-None
-expressions::sized-returns-in-None t c = sized_other tree_of (names_of c.args.names.now) (map shown c.args.words.now) c.args.behind c.args.at c.in-None.ensures c.sized_operand.result c.sized_operand.ensures
+expressions::sized-returns-in-None t c = sized_other tree_of (c.args.names.now) (map shown c.args.words.now) c.args.behind c.args.at c.in-None.ensures c.sized_operand.result c.sized_operand.ensures
 
 pub expressions::sized-returns-then-not-begins_specifiers : goal.expressions::sized-returns-then-not-begins_specifiers
-expressions::sized-returns-then-not-begins_specifiers t c = sized_untyped tree_of (names_of c.args.names.now) (map shown c.args.words.now) c.args.behind c.args.at c.in-Some.ensures (isnt c.begins_specifiers.result c.if-not-begins_specifiers.true c.begins_specifiers.ensures) c.sized_operand-then-not-begins_specifiers.result c.sized_operand-then-not-begins_specifiers.ensures
+expressions::sized-returns-then-not-begins_specifiers t c = sized_untyped tree_of (c.args.names.now) (map shown c.args.words.now) c.args.behind c.args.at c.in-Some.ensures (isnt c.begins_specifiers.result c.if-not-begins_specifiers.true c.begins_specifiers.ensures) c.sized_operand-then-not-begins_specifiers.result c.sized_operand-then-not-begins_specifiers.ensures
 
 pub expressions::sized-returns-in_err-name-in-Some : goal.expressions::sized-returns-in_err-name-in-Some
 expressions::sized-returns-in_err-name-in-Some t c = let p = err_from_is_err_and c.from_residual.result c.from_residual.ensures.1 in rw (p.1, p.2) (stopped (map shown c.args.words.now) (λ n h. refuses_sized (map shown c.args.words.now) (sized_start (map shown c.args.words.now) c.in-Some.ensures (itis c.begins_specifiers.result c.if-not-begins_specifiers.false c.begins_specifiers.ensures)) h) _ c.in_err-name-in-Some.ensures)
@@ -184,10 +183,10 @@ pub postfix::postfix_from-returns-in_err-arguments : goal.postfix::postfix_from-
 postfix::postfix_from-returns-in_err-arguments t c = let p = err_from_is_err_and c.from_residual-in_err-arguments.result c.from_residual-in_err-arguments.ensures.1 in rw (p.1, p.2) (stopped (map shown c.args.words.now) (λ n h. c.loop-behind.invariant.0.refuses n (drop n (map shown c.args.words.now)) (refuses_call (map shown c.args.words.now) (call_start (map shown c.args.words.now) c.args.at (tree_of c.loop-behind.tree) c.in-Some-after_mark.ensures) h)) _ c.in_err-arguments.ensures)
 
 pub postfix::postfix_from-returns-in_err-name : goal.postfix::postfix_from-returns-in_err-name
-postfix::postfix_from-returns-in_err-name t c = let p = err_from_is_err_and c.from_residual-in_err-name.result c.from_residual-in_err-name.ensures.1 in rw (p.1, p.2, c.in_err-name.ensures.0) (c.loop-behind.invariant.0.refuses _ _ (misses_name (map shown c.args.words.now) (tree.member_of c.args.at (tree_of c.loop-behind.tree)) (dot_start (map shown c.args.words.now) (names_of c.args.names.now) c.args.at (tree_of c.loop-behind.tree) c.in-Some-after_mark-2.ensures) c.in_err-name.ensures.1))
+postfix::postfix_from-returns-in_err-name t c = let p = err_from_is_err_and c.from_residual-in_err-name.result c.from_residual-in_err-name.ensures.1 in rw (p.1, p.2, c.in_err-name.ensures.0) (c.loop-behind.invariant.0.refuses _ _ (misses_name (map shown c.args.words.now) (tree.member_of c.args.at (tree_of c.loop-behind.tree)) (dot_start (map shown c.args.words.now) (c.args.names.now) c.args.at (tree_of c.loop-behind.tree) c.in-Some-after_mark-2.ensures) c.in_err-name.ensures.1))
 
 pub postfix::postfix_from-returns-in_err-name-2 : goal.postfix::postfix_from-returns-in_err-name-2
-postfix::postfix_from-returns-in_err-name-2 t c = let p = err_from_is_err_and c.from_residual-in_err-name-2.result c.from_residual-in_err-name-2.ensures.1 in rw (p.1, p.2, c.in_err-name-2.ensures.0) (c.loop-behind.invariant.0.refuses _ _ (misses_name (map shown c.args.words.now) (tree.arrow_to c.args.at (tree_of c.loop-behind.tree)) (arrow_start (map shown c.args.words.now) (names_of c.args.names.now) c.args.at (tree_of c.loop-behind.tree) c.in-Some-after_mark-3.ensures) c.in_err-name-2.ensures.1))
+postfix::postfix_from-returns-in_err-name-2 t c = let p = err_from_is_err_and c.from_residual-in_err-name-2.result c.from_residual-in_err-name-2.ensures.1 in rw (p.1, p.2, c.in_err-name-2.ensures.0) (c.loop-behind.invariant.0.refuses _ _ (misses_name (map shown c.args.words.now) (tree.arrow_to c.args.at (tree_of c.loop-behind.tree)) (arrow_start (map shown c.args.words.now) (c.args.names.now) c.args.at (tree_of c.loop-behind.tree) c.in-Some-after_mark-3.ensures) c.in_err-name-2.ensures.1))
 
 pub postfix::postfix_from-loop-behind-preserved-in-Some : goal.postfix::postfix_from-loop-behind-preserved-in-Some
 postfix::postfix_from-loop-behind-preserved-in-Some t c = (
@@ -203,13 +202,13 @@ postfix::postfix_from-loop-behind-preserved-in-Some-after_mark t c = (
 
 pub postfix::postfix_from-loop-behind-preserved-in-Some-after_mark-2 : goal.postfix::postfix_from-loop-behind-preserved-in-Some-after_mark-2
 postfix::postfix_from-loop-behind-preserved-in-Some-after_mark-2 t c = (
-  rw c.in_ok-tree-3.ensures (postfix_more (map shown c.args.words.now) c.loop-behind.invariant.0 (named (map shown c.args.words.now) (tree.member_of c.args.at (tree_of c.loop-behind.tree)) (dot_start (map shown c.args.words.now) (names_of c.args.names.now) c.args.at (tree_of c.loop-behind.tree) c.in-Some-after_mark-2.ensures) c.in_ok-name.ensures)),
+  rw c.in_ok-tree-3.ensures (postfix_more (map shown c.args.words.now) c.loop-behind.invariant.0 (named (map shown c.args.words.now) (tree.member_of c.args.at (tree_of c.loop-behind.tree)) (dot_start (map shown c.args.words.now) (c.args.names.now) c.args.at (tree_of c.loop-behind.tree) c.in-Some-after_mark-2.ensures) c.in_ok-name.ensures)),
   omega (arith, c.loop-behind.invariant.1, c.in-Some-after_mark-2.ensures.next, c.in_ok-name.ensures.next),
 )
 
 pub postfix::postfix_from-loop-behind-preserved-in-Some-after_mark-3 : goal.postfix::postfix_from-loop-behind-preserved-in-Some-after_mark-3
 postfix::postfix_from-loop-behind-preserved-in-Some-after_mark-3 t c = (
-  rw c.in_ok-tree-4.ensures (postfix_more (map shown c.args.words.now) c.loop-behind.invariant.0 (named (map shown c.args.words.now) (tree.arrow_to c.args.at (tree_of c.loop-behind.tree)) (arrow_start (map shown c.args.words.now) (names_of c.args.names.now) c.args.at (tree_of c.loop-behind.tree) c.in-Some-after_mark-3.ensures) c.in_ok-name-2.ensures)),
+  rw c.in_ok-tree-4.ensures (postfix_more (map shown c.args.words.now) c.loop-behind.invariant.0 (named (map shown c.args.words.now) (tree.arrow_to c.args.at (tree_of c.loop-behind.tree)) (arrow_start (map shown c.args.words.now) (c.args.names.now) c.args.at (tree_of c.loop-behind.tree) c.in-Some-after_mark-3.ensures) c.in_ok-name-2.ensures)),
   omega (arith, c.loop-behind.invariant.1, c.in-Some-after_mark-3.ensures.next, c.in_ok-name-2.ensures.next),
 )
 
@@ -256,10 +255,10 @@ pub postfix::closed_arguments-returns : goal.postfix::closed_arguments-returns
 postfix::closed_arguments-returns t c = reads_arguments (map shown c.args.words.now) c.loop-behind.items.items c.in_default-after_mark.ensures c.loop-behind.invariant.0 c.in_ok-end.ensures
 
 pub specifier::specifiers-returns-in_err-first-clause-parses : goal.specifier::specifiers-returns-in_err-first-clause-parses
-specifier::specifiers-returns-in_err-first-clause-parses t c = let p = err_from_is_err_and c.from_residual.result c.from_residual.ensures.1 in rw (p.1, p.2) (stopped (map shown c.args.words.now) (λ n h. refuses_specifier (map shown c.args.words.now) [] (specifiers_start (map shown c.args.words.now) (names_of c.args.names.now) c.args.at) h) _ c.in_err-first.ensures)
+specifier::specifiers-returns-in_err-first-clause-parses t c = let p = err_from_is_err_and c.from_residual.result c.from_residual.ensures.1 in rw (p.1, p.2) (stopped (map shown c.args.words.now) (λ n h. refuses_specifier (map shown c.args.words.now) [] (specifiers_start (map shown c.args.words.now) (c.args.names.now) c.args.at) h) _ c.in_err-first.ensures)
 
 pub specifier::specifiers-loop-alloc-init : goal.specifier::specifiers-loop-alloc-init
-specifier::specifiers-loop-alloc-init t c = (rw (c.in_ok-push.ensures.items, specifiers_item, c.new-items.ensures.items) (specifiers_next (map shown c.args.words.now) [] refl (specifiers_start (map shown c.args.words.now) (names_of c.args.names.now) c.args.at) c.in_ok-first.ensures), omega (arith, c.in_ok-first.ensures.place), rw (c.in_ok-push.ensures.items, specifiers_item, c.new-items.ensures.items) c.adds_type-typed.ensures)
+specifier::specifiers-loop-alloc-init t c = (rw (c.in_ok-push.ensures.items, specifiers_item, c.new-items.ensures.items) (specifiers_next (map shown c.args.words.now) [] refl (specifiers_start (map shown c.args.words.now) (c.args.names.now) c.args.at) c.in_ok-first.ensures), omega (arith, c.in_ok-first.ensures.place), rw (c.in_ok-push.ensures.items, specifiers_item, c.new-items.ensures.items) c.adds_type-typed.ensures)
 
 pub specifier::specifiers-returns-in_err-item-clause-parses : goal.specifier::specifiers-returns-in_err-item-clause-parses
 specifier::specifiers-returns-in_err-item-clause-parses t c = let p = err_from_is_err_and c.from_residual-in_err-item.result c.from_residual-in_err-item.ensures.1 in rw (p.1, p.2) (stopped (map shown c.args.words.now) (λ n h. refuses_specifier (map shown c.args.words.now) (map specifier_tree c.loop-alloc.items.items) (specifiers_go (map shown c.args.words.now) (map specifier_tree c.loop-alloc.items.items) c.loop-alloc.invariant.2 (c.specifier_ahead.ensures.0 c.loop-alloc-test.true) c.loop-alloc.invariant.0) h) _ c.in_err-item.ensures)
@@ -319,10 +318,10 @@ pub specifier::enum_specifier-returns-in_ok-tree-in-Some-after_mark : goal.speci
 specifier::enum_specifier-returns-in_ok-tree-in-Some-after_mark t c = rw c.in_ok-tree-in-Some-after_mark.ensures (reads_list (map shown c.args.words.now) (tagged_start (map shown c.args.words.now) c.in-Some-after_mark.ensures (tag_start (map shown c.args.words.now) c.in-Some.ensures)) c.in_ok-enumerators-in-Some-after_mark.ensures)
 
 pub member::closed_members-returns-in_err-first : goal.member::closed_members-returns-in_err-first
-member::closed_members-returns-in_err-first t c = let p = err_from_is_err_and c.from_residual.result c.from_residual.ensures.1 in rw (p.1, p.2) (stopped (map shown c.args.words.now) (λ n h. refuses_member (map shown c.args.words.now) [] (members_start (map shown c.args.words.now) (names_of c.args.names.now) c.args.at) h) _ c.in_err-first.ensures)
+member::closed_members-returns-in_err-first t c = let p = err_from_is_err_and c.from_residual.result c.from_residual.ensures.1 in rw (p.1, p.2) (stopped (map shown c.args.words.now) (λ n h. refuses_member (map shown c.args.words.now) [] (members_start (map shown c.args.words.now) (c.args.names.now) c.args.at) h) _ c.in_err-first.ensures)
 
 pub member::closed_members-loop-alloc-init : goal.member::closed_members-loop-alloc-init
-member::closed_members-loop-alloc-init t c = (rw (c.in_ok-push.ensures.items, members_item, c.new-items.ensures.items) (members_next (map shown c.args.words.now) [] (members_start (map shown c.args.words.now) (names_of c.args.names.now) c.args.at) c.in_ok-first.ensures), omega (arith, c.in_ok-first.ensures.place))
+member::closed_members-loop-alloc-init t c = (rw (c.in_ok-push.ensures.items, members_item, c.new-items.ensures.items) (members_next (map shown c.args.words.now) [] (members_start (map shown c.args.words.now) (c.args.names.now) c.args.at) c.in_ok-first.ensures), omega (arith, c.in_ok-first.ensures.place))
 
 pub member::closed_members-returns-in_err-item : goal.member::closed_members-returns-in_err-item
 member::closed_members-returns-in_err-item t c = let p = err_from_is_err_and c.from_residual-in_err-item.result c.from_residual-in_err-item.ensures.1 in rw (p.1, p.2) (stopped (map shown c.args.words.now) (λ n h. refuses_member (map shown c.args.words.now) (map member_tree c.loop-alloc.items.items) (members_more (map shown c.args.words.now) (map member_tree c.loop-alloc.items.items) (c.begins_specifiers.ensures.0 c.loop-alloc-test.true) c.loop-alloc.invariant.0) h) _ c.in_err-item.ensures)
@@ -340,19 +339,19 @@ pub member::closed_members-returns : goal.member::closed_members-returns
 member::closed_members-returns t c = reads_members (map shown c.args.words.now) (map member_tree c.loop-alloc.items.items) (isnt_so c.begins_specifiers.ensures c.loop-alloc-test.false) c.loop-alloc.invariant.0 c.in_ok-end.ensures
 
 pub member::member-returns-in_err-specifiers : goal.member::member-returns-in_err-specifiers
-member::member-returns-in_err-specifiers t c = let p = err_from_is_err_and c.from_residual.result c.from_residual.ensures.1 in rw (p.1, p.2) (stopped (map shown c.args.words.now) (λ n h. refuses_its_specifiers (map shown c.args.words.now) (member_start (map shown c.args.words.now) (names_of c.args.names.now) c.args.at) h) _ c.in_err-specifiers.ensures.parses)
+member::member-returns-in_err-specifiers t c = let p = err_from_is_err_and c.from_residual.result c.from_residual.ensures.1 in rw (p.1, p.2) (stopped (map shown c.args.words.now) (λ n h. refuses_its_specifiers (map shown c.args.words.now) (member_start (map shown c.args.words.now) (c.args.names.now) c.args.at) h) _ c.in_err-specifiers.ensures.parses)
 
 pub member::member-returns-in_err-declarators : goal.member::member-returns-in_err-declarators
-member::member-returns-in_err-declarators t c = let p = err_from_is_err_and c.from_residual-in_err-declarators.result c.from_residual-in_err-declarators.ensures.1 in rw (p.1, p.2) (stopped (map shown c.args.words.now) (λ n h. last_refused h (after_specifiers (map shown c.args.words.now) (member_start (map shown c.args.words.now) (names_of c.args.names.now) c.args.at) c.in_ok-specifiers.ensures.parses c.in_ok-specifiers.ensures.behind)) _ c.in_err-declarators.ensures)
+member::member-returns-in_err-declarators t c = let p = err_from_is_err_and c.from_residual-in_err-declarators.result c.from_residual-in_err-declarators.ensures.1 in rw (p.1, p.2) (stopped (map shown c.args.words.now) (λ n h. last_refused h (after_specifiers (map shown c.args.words.now) (member_start (map shown c.args.words.now) (c.args.names.now) c.args.at) c.in_ok-specifiers.ensures.parses c.in_ok-specifiers.ensures.behind)) _ c.in_err-declarators.ensures)
 
 pub member::member-returns : goal.member::member-returns
-member::member-returns t c = rw c.member.ensures (last c.in_ok-declarators.ensures (after_specifiers (map shown c.args.words.now) (member_start (map shown c.args.words.now) (names_of c.args.names.now) c.args.at) c.in_ok-specifiers.ensures.parses c.in_ok-specifiers.ensures.behind))
+member::member-returns t c = rw c.member.ensures (last c.in_ok-declarators.ensures (after_specifiers (map shown c.args.words.now) (member_start (map shown c.args.words.now) (c.args.names.now) c.args.at) c.in_ok-specifiers.ensures.parses c.in_ok-specifiers.ensures.behind))
 
 pub member::closed_declarators-returns-in_err-first : goal.member::closed_declarators-returns-in_err-first
-member::closed_declarators-returns-in_err-first t c = let p = err_from_is_err_and c.from_residual.result c.from_residual.ensures.1 in rw (p.1, p.2) (stopped (map shown c.args.words.now) (λ n h. refuses_declarator (map shown c.args.words.now) [] (declarators_start (map shown c.args.words.now) (names_of c.args.names.now) c.args.at) h) _ c.in_err-first.ensures)
+member::closed_declarators-returns-in_err-first t c = let p = err_from_is_err_and c.from_residual.result c.from_residual.ensures.1 in rw (p.1, p.2) (stopped (map shown c.args.words.now) (λ n h. refuses_declarator (map shown c.args.words.now) [] (declarators_start (map shown c.args.words.now) (c.args.names.now) c.args.at) h) _ c.in_err-first.ensures)
 
 pub member::closed_declarators-loop-behind-init : goal.member::closed_declarators-loop-behind-init
-member::closed_declarators-loop-behind-init t c = (rw (c.in_ok-push.ensures.items, declarators_item, c.new-items.ensures.items) (declarators_next (map shown c.args.words.now) [] (declarators_start (map shown c.args.words.now) (names_of c.args.names.now) c.args.at) c.in_ok-first.ensures), omega (arith, c.in_ok-first.ensures.place))
+member::closed_declarators-loop-behind-init t c = (rw (c.in_ok-push.ensures.items, declarators_item, c.new-items.ensures.items) (declarators_next (map shown c.args.words.now) [] (declarators_start (map shown c.args.words.now) (c.args.names.now) c.args.at) c.in_ok-first.ensures), omega (arith, c.in_ok-first.ensures.place))
 
 pub member::closed_declarators-returns-in_err-item : goal.member::closed_declarators-returns-in_err-item
 member::closed_declarators-returns-in_err-item t c = let p = err_from_is_err_and c.from_residual-in_err-item.result c.from_residual-in_err-item.ensures.1 in rw (p.1, p.2) (stopped (map shown c.args.words.now) (λ n h. refuses_declarator (map shown c.args.words.now) (map declarator_of c.loop-behind.items.items) (declarators_more (map shown c.args.words.now) (map declarator_of c.loop-behind.items.items) c.in-Some.ensures c.loop-behind.invariant.0) h) _ c.in_err-item.ensures)
@@ -388,31 +387,31 @@ pub parameter::closed_parameters-returns : goal.parameter::closed_parameters-ret
 parameter::closed_parameters-returns t c = reads_parameters (map shown c.args.words.now) (map parameter_tree c.loop-behind.items.items) c.in_default-after_mark.ensures c.loop-behind.invariant.0 c.in_ok-end.ensures
 
 pub parameter::parameter-returns-in_err-specifiers : goal.parameter::parameter-returns-in_err-specifiers
-parameter::parameter-returns-in_err-specifiers t c = let p = err_from_is_err_and c.from_residual.result c.from_residual.ensures.1 in rw (p.1, p.2) (stopped (map shown c.args.words.now) (λ n h. refuses_parameter_specifiers (map shown c.args.words.now) (parameter_start (map shown c.args.words.now) (names_of c.args.names.now) c.args.at) h) _ c.in_err-specifiers.ensures.parses)
+parameter::parameter-returns-in_err-specifiers t c = let p = err_from_is_err_and c.from_residual.result c.from_residual.ensures.1 in rw (p.1, p.2) (stopped (map shown c.args.words.now) (λ n h. refuses_parameter_specifiers (map shown c.args.words.now) (parameter_start (map shown c.args.words.now) (c.args.names.now) c.args.at) h) _ c.in_err-specifiers.ensures.parses)
 
 pub parameter::parameter-returns-in_err-declarator : goal.parameter::parameter-returns-in_err-declarator
-parameter::parameter-returns-in_err-declarator t c = let p = err_from_is_err_and c.from_residual-in_err-declarator.result c.from_residual-in_err-declarator.ensures.1 in rw (p.1, p.2) (stopped (map shown c.args.words.now) (λ n h. last_refused h (parameter_declared (map shown c.args.words.now) (parameter_start (map shown c.args.words.now) (names_of c.args.names.now) c.args.at) c.in_ok-specifiers.ensures.parses c.in_ok-specifiers.ensures.behind)) _ c.in_err-declarator.ensures)
+parameter::parameter-returns-in_err-declarator t c = let p = err_from_is_err_and c.from_residual-in_err-declarator.result c.from_residual-in_err-declarator.ensures.1 in rw (p.1, p.2) (stopped (map shown c.args.words.now) (λ n h. last_refused h (parameter_declared (map shown c.args.words.now) (parameter_start (map shown c.args.words.now) (c.args.names.now) c.args.at) c.in_ok-specifiers.ensures.parses c.in_ok-specifiers.ensures.behind)) _ c.in_err-declarator.ensures)
 
 pub parameter::parameter-returns : goal.parameter::parameter-returns
-parameter::parameter-returns t c = rw c.in_ok-tree.ensures (last c.in_ok-declarator.ensures (parameter_declared (map shown c.args.words.now) (parameter_start (map shown c.args.words.now) (names_of c.args.names.now) c.args.at) c.in_ok-specifiers.ensures.parses c.in_ok-specifiers.ensures.behind))
+parameter::parameter-returns t c = rw c.in_ok-tree.ensures (last c.in_ok-declarator.ensures (parameter_declared (map shown c.args.words.now) (parameter_start (map shown c.args.words.now) (c.args.names.now) c.args.at) c.in_ok-specifiers.ensures.parses c.in_ok-specifiers.ensures.behind))
 
 pub type_name::closed_type_name-returns-in_err-specifiers : goal.type_name::closed_type_name-returns-in_err-specifiers
-type_name::closed_type_name-returns-in_err-specifiers t c = let p = err_from_is_err_and c.from_residual.result c.from_residual.ensures.1 in rw (p.1, p.2) (stopped (map shown c.args.words.now) (λ n h. refuses_type_specifiers (map shown c.args.words.now) (type_start (map shown c.args.words.now) (names_of c.args.names.now) c.args.at) h) _ c.in_err-specifiers.ensures.parses)
+type_name::closed_type_name-returns-in_err-specifiers t c = let p = err_from_is_err_and c.from_residual.result c.from_residual.ensures.1 in rw (p.1, p.2) (stopped (map shown c.args.words.now) (λ n h. refuses_type_specifiers (map shown c.args.words.now) (type_start (map shown c.args.words.now) (c.args.names.now) c.args.at) h) _ c.in_err-specifiers.ensures.parses)
 
 pub type_name::closed_type_name-returns-in_err-declarator : goal.type_name::closed_type_name-returns-in_err-declarator
-type_name::closed_type_name-returns-in_err-declarator t c = let p = err_from_is_err_and c.from_residual-in_err-declarator.result c.from_residual-in_err-declarator.ensures.1 in rw (p.1, p.2) (stopped (map shown c.args.words.now) (λ n h. refuses_type_declarator (map shown c.args.words.now) (type_declared (map shown c.args.words.now) (type_start (map shown c.args.words.now) (names_of c.args.names.now) c.args.at) c.in_ok-specifiers.ensures.parses) h) _ c.in_err-declarator.ensures)
+type_name::closed_type_name-returns-in_err-declarator t c = let p = err_from_is_err_and c.from_residual-in_err-declarator.result c.from_residual-in_err-declarator.ensures.1 in rw (p.1, p.2) (stopped (map shown c.args.words.now) (λ n h. refuses_type_declarator (map shown c.args.words.now) (type_declared (map shown c.args.words.now) (type_start (map shown c.args.words.now) (c.args.names.now) c.args.at) c.in_ok-specifiers.ensures.parses) h) _ c.in_err-declarator.ensures)
 
 pub type_name::closed_type_name-returns-in_err-end : goal.type_name::closed_type_name-returns-in_err-end
-type_name::closed_type_name-returns-in_err-end t c = let p = err_from_is_err_and c.from_residual-in_err-end.result c.from_residual-in_err-end.ensures.1 in rw (p.1, p.2, c.in_err-end.ensures.0) (misses_type_end (map shown c.args.words.now) (type_declared (map shown c.args.words.now) (type_start (map shown c.args.words.now) (names_of c.args.names.now) c.args.at) c.in_ok-specifiers.ensures.parses) c.in_ok-declarator.ensures c.in_err-end.ensures.1)
+type_name::closed_type_name-returns-in_err-end t c = let p = err_from_is_err_and c.from_residual-in_err-end.result c.from_residual-in_err-end.ensures.1 in rw (p.1, p.2, c.in_err-end.ensures.0) (misses_type_end (map shown c.args.words.now) (type_declared (map shown c.args.words.now) (type_start (map shown c.args.words.now) (c.args.names.now) c.args.at) c.in_ok-specifiers.ensures.parses) c.in_ok-declarator.ensures c.in_err-end.ensures.1)
 
 pub type_name::closed_type_name-returns : goal.type_name::closed_type_name-returns
-type_name::closed_type_name-returns t c = rw c.in_ok-tree.ensures (reads_type (map shown c.args.words.now) (type_declared (map shown c.args.words.now) (type_start (map shown c.args.words.now) (names_of c.args.names.now) c.args.at) c.in_ok-specifiers.ensures.parses) c.in_ok-declarator.ensures c.in_ok-end.ensures)
+type_name::closed_type_name-returns t c = rw c.in_ok-tree.ensures (reads_type (map shown c.args.words.now) (type_declared (map shown c.args.words.now) (type_start (map shown c.args.words.now) (c.args.names.now) c.args.at) c.in_ok-specifiers.ensures.parses) c.in_ok-declarator.ensures c.in_ok-end.ensures)
 
 pub enumerator::closed_enumerators-returns-in_err-first : goal.enumerator::closed_enumerators-returns-in_err-first
-enumerator::closed_enumerators-returns-in_err-first t c = let p = err_from_is_err_and c.from_residual.result c.from_residual.ensures.1 in rw (p.1, p.2) (stopped (map shown c.args.words.now) (λ n h. refuses_enumerator (map shown c.args.words.now) [] (enumerators_start (map shown c.args.words.now) (names_of c.args.names.now) c.args.at) h) _ c.in_err-first.ensures)
+enumerator::closed_enumerators-returns-in_err-first t c = let p = err_from_is_err_and c.from_residual.result c.from_residual.ensures.1 in rw (p.1, p.2) (stopped (map shown c.args.words.now) (λ n h. refuses_enumerator (map shown c.args.words.now) [] (enumerators_start (map shown c.args.words.now) (c.args.names.now) c.args.at) h) _ c.in_err-first.ensures)
 
 pub enumerator::closed_enumerators-loop-behind-init : goal.enumerator::closed_enumerators-loop-behind-init
-enumerator::closed_enumerators-loop-behind-init t c = (rw (c.in_ok-push.ensures.items, enumerators_item, c.new-items.ensures.items) (enumerators_next (map shown c.args.words.now) [] (enumerators_start (map shown c.args.words.now) (names_of c.args.names.now) c.args.at) c.in_ok-first.ensures), omega (arith, c.in_ok-first.ensures.place))
+enumerator::closed_enumerators-loop-behind-init t c = (rw (c.in_ok-push.ensures.items, enumerators_item, c.new-items.ensures.items) (enumerators_next (map shown c.args.words.now) [] (enumerators_start (map shown c.args.words.now) (c.args.names.now) c.args.at) c.in_ok-first.ensures), omega (arith, c.in_ok-first.ensures.place))
 
 pub enumerator::closed_enumerators-returns-in-Some-after_mark : goal.enumerator::closed_enumerators-returns-in-Some-after_mark
 enumerator::closed_enumerators-returns-in-Some-after_mark t c = reads_trailing (map shown c.args.words.now) (map enumerator_tree c.loop-behind.items.items) c.in-Some-after_mark.ensures (enumerators_comma (map shown c.args.words.now) (map enumerator_tree c.loop-behind.items.items) c.in-Some.ensures c.loop-behind.invariant.0)
@@ -430,58 +429,58 @@ pub enumerator::closed_enumerators-returns : goal.enumerator::closed_enumerators
 enumerator::closed_enumerators-returns t c = reads_enumerators (map shown c.args.words.now) (map enumerator_tree c.loop-behind.items.items) c.in_default.ensures c.loop-behind.invariant.0 c.in_ok-end.ensures
 
 pub enumerator::enumerator-returns-in_err-name : goal.enumerator::enumerator-returns-in_err-name
-enumerator::enumerator-returns-in_err-name t c = let p = err_from_is_err_and c.from_residual.result c.from_residual.ensures.1 in rw (p.1, p.2, c.in_err-name.ensures.0) (no_enumerator (map shown c.args.words.now) (names_of c.args.names.now) c.in_err-name.ensures.1)
+enumerator::enumerator-returns-in_err-name t c = let p = err_from_is_err_and c.from_residual.result c.from_residual.ensures.1 in rw (p.1, p.2, c.in_err-name.ensures.0) (no_enumerator (map shown c.args.words.now) (c.args.names.now) c.in_err-name.ensures.1)
 
 pub enumerator::enumerator-returns-in_ok-tree-in-None : goal.enumerator::enumerator-returns-in_ok-tree-in-None
-enumerator::enumerator-returns-in_ok-tree-in-None t c = rw c.in_ok-tree-in-None.ensures (reads_unvalued (map shown c.args.words.now) c.in-None.ensures (enumerator_named (map shown c.args.words.now) (names_of c.args.names.now) c.in_ok-name.ensures))
+enumerator::enumerator-returns-in_ok-tree-in-None t c = rw c.in_ok-tree-in-None.ensures (reads_unvalued (map shown c.args.words.now) c.in-None.ensures (enumerator_named (map shown c.args.words.now) (c.args.names.now) c.in_ok-name.ensures))
 
 pub enumerator::enumerator-returns-in_err-value-in-Some : goal.enumerator::enumerator-returns-in_err-value-in-Some
-enumerator::enumerator-returns-in_err-value-in-Some t c = let p = err_from_is_err_and c.from_residual-in_err-value-in-Some.result c.from_residual-in_err-value-in-Some.ensures.1 in rw (p.1, p.2) (stopped (map shown c.args.words.now) (λ n h. last_refused h (value_start (map shown c.args.words.now) c.in-Some.ensures (enumerator_named (map shown c.args.words.now) (names_of c.args.names.now) c.in_ok-name.ensures))) _ c.in_err-value-in-Some.ensures)
+enumerator::enumerator-returns-in_err-value-in-Some t c = let p = err_from_is_err_and c.from_residual-in_err-value-in-Some.result c.from_residual-in_err-value-in-Some.ensures.1 in rw (p.1, p.2) (stopped (map shown c.args.words.now) (λ n h. last_refused h (value_start (map shown c.args.words.now) c.in-Some.ensures (enumerator_named (map shown c.args.words.now) (c.args.names.now) c.in_ok-name.ensures))) _ c.in_err-value-in-Some.ensures)
 
 pub enumerator::enumerator-returns-in_ok-tree-in-Some : goal.enumerator::enumerator-returns-in_ok-tree-in-Some
-enumerator::enumerator-returns-in_ok-tree-in-Some t c = rw c.in_ok-tree-in-Some.ensures (last c.in_ok-value-in-Some.ensures (value_start (map shown c.args.words.now) c.in-Some.ensures (enumerator_named (map shown c.args.words.now) (names_of c.args.names.now) c.in_ok-name.ensures)))
+enumerator::enumerator-returns-in_ok-tree-in-Some t c = rw c.in_ok-tree-in-Some.ensures (last c.in_ok-value-in-Some.ensures (value_start (map shown c.args.words.now) c.in-Some.ensures (enumerator_named (map shown c.args.words.now) (c.args.names.now) c.in_ok-name.ensures)))
 
 pub declarators::maybe_declarator-returns-then-not-declarator_ahead : goal.declarators::maybe_declarator-returns-then-not-declarator_ahead
-declarators::maybe_declarator-returns-then-not-declarator_ahead t c = reads_no_declarator (map shown c.args.words.now) (names_of c.args.names.now) c.args.form c.args.at (isnt_so c.declarator_ahead.ensures c.if-not-declarator_ahead.true)
+declarators::maybe_declarator-returns-then-not-declarator_ahead t c = reads_no_declarator (map shown c.args.words.now) (c.args.names.now) c.args.form c.args.at (isnt_so c.declarator_ahead.ensures c.if-not-declarator_ahead.true)
 
 pub declarators::maybe_declarator-returns-in_err-tree : goal.declarators::maybe_declarator-returns-in_err-tree
-declarators::maybe_declarator-returns-in_err-tree t c = let p = err_from_is_err_and c.from_residual.result c.from_residual.ensures.1 in rw (p.1, p.2) (stopped (map shown c.args.words.now) (λ n h. last_refused h (declarator_ahead (map shown c.args.words.now) (names_of c.args.names.now) c.args.form c.args.at (c.declarator_ahead.ensures.0 c.if-not-declarator_ahead.false))) _ c.in_err-tree.ensures)
+declarators::maybe_declarator-returns-in_err-tree t c = let p = err_from_is_err_and c.from_residual.result c.from_residual.ensures.1 in rw (p.1, p.2) (stopped (map shown c.args.words.now) (λ n h. last_refused h (declarator_ahead (map shown c.args.words.now) (c.args.names.now) c.args.form c.args.at (c.declarator_ahead.ensures.0 c.if-not-declarator_ahead.false))) _ c.in_err-tree.ensures)
 
 pub declarators::maybe_declarator-returns : goal.declarators::maybe_declarator-returns
-declarators::maybe_declarator-returns t c = last c.in_ok-tree.ensures (declarator_ahead (map shown c.args.words.now) (names_of c.args.names.now) c.args.form c.args.at (c.declarator_ahead.ensures.0 c.if-not-declarator_ahead.false))
+declarators::maybe_declarator-returns t c = last c.in_ok-tree.ensures (declarator_ahead (map shown c.args.words.now) (c.args.names.now) c.args.form c.args.at (c.declarator_ahead.ensures.0 c.if-not-declarator_ahead.false))
 
 pub declarators::declarator-returns-in_err-stars : goal.declarators::declarator-returns-in_err-stars
-declarators::declarator-returns-in_err-stars t c = let p = err_from_is_err_and c.from_residual.result c.from_residual.ensures.1 in rw (p.1, p.2) (stopped (map shown c.args.words.now) (λ n h. refuses_stars (map shown c.args.words.now) (names_of c.args.names.now) c.args.form h) _ c.in_err-stars.ensures)
+declarators::declarator-returns-in_err-stars t c = let p = err_from_is_err_and c.from_residual.result c.from_residual.ensures.1 in rw (p.1, p.2) (stopped (map shown c.args.words.now) (λ n h. refuses_stars (map shown c.args.words.now) (c.args.names.now) c.args.form h) _ c.in_err-stars.ensures)
 
 pub declarators::declarator-returns-in_err-name : goal.declarators::declarator-returns-in_err-name
-declarators::declarator-returns-in_err-name t c = let p = err_from_is_err_and c.from_residual-in_err-name.result c.from_residual-in_err-name.ensures.1 in rw (p.1, p.2) (core_stops (map shown c.args.words.now) c.unstarred.result (ap (λ z. tree.unstarred (map (λ star. star.consts) z)) (sym c.deref.ensures.value) ∙ sym c.unstarred.ensures) (after_stars (map shown c.args.words.now) (names_of c.args.names.now) c.args.form c.in_ok-stars.ensures) _ c.in_err-name.ensures)
+declarators::declarator-returns-in_err-name t c = let p = err_from_is_err_and c.from_residual-in_err-name.result c.from_residual-in_err-name.ensures.1 in rw (p.1, p.2) (core_stops (map shown c.args.words.now) c.unstarred.result (ap (λ z. tree.unstarred (map (λ star. star.consts) z)) (sym c.deref.ensures.value) ∙ sym c.unstarred.ensures) (after_stars (map shown c.args.words.now) (c.args.names.now) c.args.form c.in_ok-stars.ensures) _ c.in_err-name.ensures)
 
 pub declarators::declarator-returns-in_err-suffixes-in-Name : goal.declarators::declarator-returns-in_err-suffixes-in-Name
-declarators::declarator-returns-in_err-suffixes-in-Name t c = let p = err_from_is_err_and c.from_residual-in_err-suffixes-in-Name.result c.from_residual-in_err-suffixes-in-Name.ensures.1 in rw (p.1, p.2) (stopped (map shown c.args.words.now) (λ n h. last_refused h (named_core (map shown c.args.words.now) (is_name (names_of c.args.names.now) c.unstarred.result c.in-Name.is c.in_ok-name.ensures).0 (is_name (names_of c.args.names.now) c.unstarred.result c.in-Name.is c.in_ok-name.ensures).1 (after_stars (map shown c.args.words.now) (names_of c.args.names.now) c.args.form c.in_ok-stars.ensures))) _ c.in_err-suffixes-in-Name.ensures)
+declarators::declarator-returns-in_err-suffixes-in-Name t c = let p = err_from_is_err_and c.from_residual-in_err-suffixes-in-Name.result c.from_residual-in_err-suffixes-in-Name.ensures.1 in rw (p.1, p.2) (stopped (map shown c.args.words.now) (λ n h. last_refused h (named_core (map shown c.args.words.now) (is_name (c.args.names.now) c.unstarred.result c.in-Name.is c.in_ok-name.ensures).0 (is_name (c.args.names.now) c.unstarred.result c.in-Name.is c.in_ok-name.ensures).1 (after_stars (map shown c.args.words.now) (c.args.names.now) c.args.form c.in_ok-stars.ensures))) _ c.in_err-suffixes-in-Name.ensures)
 
 pub declarators::declarator-returns-in_ok-tree-in-Name : goal.declarators::declarator-returns-in_ok-tree-in-Name
-declarators::declarator-returns-in_ok-tree-in-Name t c = rw c.in_ok-tree-in-Name.ensures (last c.in_ok-suffixes-in-Name.ensures (named_core (map shown c.args.words.now) (is_name (names_of c.args.names.now) c.unstarred.result c.in-Name.is c.in_ok-name.ensures).0 (is_name (names_of c.args.names.now) c.unstarred.result c.in-Name.is c.in_ok-name.ensures).1 (after_stars (map shown c.args.words.now) (names_of c.args.names.now) c.args.form c.in_ok-stars.ensures)))
+declarators::declarator-returns-in_ok-tree-in-Name t c = rw c.in_ok-tree-in-Name.ensures (last c.in_ok-suffixes-in-Name.ensures (named_core (map shown c.args.words.now) (is_name (c.args.names.now) c.unstarred.result c.in-Name.is c.in_ok-name.ensures).0 (is_name (c.args.names.now) c.unstarred.result c.in-Name.is c.in_ok-name.ensures).1 (after_stars (map shown c.args.words.now) (c.args.names.now) c.args.form c.in_ok-stars.ensures)))
 
 pub declarators::declarator-returns-in_err-core-in-Inner : goal.declarators::declarator-returns-in_err-core-in-Inner
-declarators::declarator-returns-in_err-core-in-Inner t c = let p = err_from_is_err_and c.from_residual-in_err-core-in-Inner.result c.from_residual-in_err-core-in-Inner.ensures.1 in rw (p.1, p.2) (stopped (map shown c.args.words.now) (λ n h. refuses_inner (map shown c.args.words.now) c.args.form c.in-Inner.inner (inner_core (map shown c.args.words.now) (is_inner (names_of c.args.names.now) c.unstarred.result c.in-Inner.is c.in_ok-name.ensures).0 (is_inner (names_of c.args.names.now) c.unstarred.result c.in-Inner.is c.in_ok-name.ensures).1 (after_stars (map shown c.args.words.now) (names_of c.args.names.now) c.args.form c.in_ok-stars.ensures)) h) _ c.in_err-core-in-Inner.ensures)
+declarators::declarator-returns-in_err-core-in-Inner t c = let p = err_from_is_err_and c.from_residual-in_err-core-in-Inner.result c.from_residual-in_err-core-in-Inner.ensures.1 in rw (p.1, p.2) (stopped (map shown c.args.words.now) (λ n h. refuses_inner (map shown c.args.words.now) c.args.form c.in-Inner.inner (inner_core (map shown c.args.words.now) (is_inner (c.args.names.now) c.unstarred.result c.in-Inner.is c.in_ok-name.ensures).0 (is_inner (c.args.names.now) c.unstarred.result c.in-Inner.is c.in_ok-name.ensures).1 (after_stars (map shown c.args.words.now) (c.args.names.now) c.args.form c.in_ok-stars.ensures)) h) _ c.in_err-core-in-Inner.ensures)
 
 pub declarators::declarator-returns-in_err-behind-in-Inner : goal.declarators::declarator-returns-in_err-behind-in-Inner
-declarators::declarator-returns-in_err-behind-in-Inner t c = let p = err_from_is_err_and c.from_residual-in_err-behind-in-Inner.result c.from_residual-in_err-behind-in-Inner.ensures.1 in rw (p.1, p.2, c.in_err-behind-in-Inner.ensures.0) (misses_inner_end (map shown c.args.words.now) c.args.form c.in-Inner.inner (inner_core (map shown c.args.words.now) (is_inner (names_of c.args.names.now) c.unstarred.result c.in-Inner.is c.in_ok-name.ensures).0 (is_inner (names_of c.args.names.now) c.unstarred.result c.in-Inner.is c.in_ok-name.ensures).1 (after_stars (map shown c.args.words.now) (names_of c.args.names.now) c.args.form c.in_ok-stars.ensures)) c.in_ok-core-in-Inner.ensures c.in_err-behind-in-Inner.ensures.1)
+declarators::declarator-returns-in_err-behind-in-Inner t c = let p = err_from_is_err_and c.from_residual-in_err-behind-in-Inner.result c.from_residual-in_err-behind-in-Inner.ensures.1 in rw (p.1, p.2, c.in_err-behind-in-Inner.ensures.0) (misses_inner_end (map shown c.args.words.now) c.args.form c.in-Inner.inner (inner_core (map shown c.args.words.now) (is_inner (c.args.names.now) c.unstarred.result c.in-Inner.is c.in_ok-name.ensures).0 (is_inner (c.args.names.now) c.unstarred.result c.in-Inner.is c.in_ok-name.ensures).1 (after_stars (map shown c.args.words.now) (c.args.names.now) c.args.form c.in_ok-stars.ensures)) c.in_ok-core-in-Inner.ensures c.in_err-behind-in-Inner.ensures.1)
 
 pub declarators::declarator-returns-in_err-suffixes-in-Inner : goal.declarators::declarator-returns-in_err-suffixes-in-Inner
-declarators::declarator-returns-in_err-suffixes-in-Inner t c = let p = err_from_is_err_and c.from_residual-in_err-suffixes-in-Inner.result c.from_residual-in_err-suffixes-in-Inner.ensures.1 in rw (p.1, p.2) (stopped (map shown c.args.words.now) (λ n h. last_refused h (inner_suffixes (map shown c.args.words.now) c.args.form c.in-Inner.inner (inner_core (map shown c.args.words.now) (is_inner (names_of c.args.names.now) c.unstarred.result c.in-Inner.is c.in_ok-name.ensures).0 (is_inner (names_of c.args.names.now) c.unstarred.result c.in-Inner.is c.in_ok-name.ensures).1 (after_stars (map shown c.args.words.now) (names_of c.args.names.now) c.args.form c.in_ok-stars.ensures)) c.in_ok-core-in-Inner.ensures c.in_ok-behind-in-Inner.ensures)) _ c.in_err-suffixes-in-Inner.ensures)
+declarators::declarator-returns-in_err-suffixes-in-Inner t c = let p = err_from_is_err_and c.from_residual-in_err-suffixes-in-Inner.result c.from_residual-in_err-suffixes-in-Inner.ensures.1 in rw (p.1, p.2) (stopped (map shown c.args.words.now) (λ n h. last_refused h (inner_suffixes (map shown c.args.words.now) c.args.form c.in-Inner.inner (inner_core (map shown c.args.words.now) (is_inner (c.args.names.now) c.unstarred.result c.in-Inner.is c.in_ok-name.ensures).0 (is_inner (c.args.names.now) c.unstarred.result c.in-Inner.is c.in_ok-name.ensures).1 (after_stars (map shown c.args.words.now) (c.args.names.now) c.args.form c.in_ok-stars.ensures)) c.in_ok-core-in-Inner.ensures c.in_ok-behind-in-Inner.ensures)) _ c.in_err-suffixes-in-Inner.ensures)
 
 pub declarators::declarator-returns-in_ok-tree-in-Inner : goal.declarators::declarator-returns-in_ok-tree-in-Inner
-declarators::declarator-returns-in_ok-tree-in-Inner t c = rw c.in_ok-tree-in-Inner.ensures (last c.in_ok-suffixes-in-Inner.ensures (inner_suffixes (map shown c.args.words.now) c.args.form c.in-Inner.inner (inner_core (map shown c.args.words.now) (is_inner (names_of c.args.names.now) c.unstarred.result c.in-Inner.is c.in_ok-name.ensures).0 (is_inner (names_of c.args.names.now) c.unstarred.result c.in-Inner.is c.in_ok-name.ensures).1 (after_stars (map shown c.args.words.now) (names_of c.args.names.now) c.args.form c.in_ok-stars.ensures)) c.in_ok-core-in-Inner.ensures c.in_ok-behind-in-Inner.ensures))
+declarators::declarator-returns-in_ok-tree-in-Inner t c = rw c.in_ok-tree-in-Inner.ensures (last c.in_ok-suffixes-in-Inner.ensures (inner_suffixes (map shown c.args.words.now) c.args.form c.in-Inner.inner (inner_core (map shown c.args.words.now) (is_inner (c.args.names.now) c.unstarred.result c.in-Inner.is c.in_ok-name.ensures).0 (is_inner (c.args.names.now) c.unstarred.result c.in-Inner.is c.in_ok-name.ensures).1 (after_stars (map shown c.args.words.now) (c.args.names.now) c.args.form c.in_ok-stars.ensures)) c.in_ok-core-in-Inner.ensures c.in_ok-behind-in-Inner.ensures))
 
 pub declarators::declarator-returns-in_err-suffixes-in-Nothing : goal.declarators::declarator-returns-in_err-suffixes-in-Nothing
-declarators::declarator-returns-in_err-suffixes-in-Nothing t c = let p = err_from_is_err_and c.from_residual-in_err-suffixes-in-Nothing.result c.from_residual-in_err-suffixes-in-Nothing.ensures.1 in rw (p.1, p.2) (stopped (map shown c.args.words.now) (λ n h. last_refused h (nameless_core (map shown c.args.words.now) (is_nothing c.in-Nothing.is (ap (λ z. tree.unstarred (map (λ star. star.consts) z)) (sym c.deref.ensures.value) ∙ sym c.unstarred.ensures) c.in_ok-name.ensures) (after_stars (map shown c.args.words.now) (names_of c.args.names.now) c.args.form c.in_ok-stars.ensures))) _ c.in_err-suffixes-in-Nothing.ensures)
+declarators::declarator-returns-in_err-suffixes-in-Nothing t c = let p = err_from_is_err_and c.from_residual-in_err-suffixes-in-Nothing.result c.from_residual-in_err-suffixes-in-Nothing.ensures.1 in rw (p.1, p.2) (stopped (map shown c.args.words.now) (λ n h. last_refused h (nameless_core (map shown c.args.words.now) (is_nothing c.in-Nothing.is (ap (λ z. tree.unstarred (map (λ star. star.consts) z)) (sym c.deref.ensures.value) ∙ sym c.unstarred.ensures) c.in_ok-name.ensures) (after_stars (map shown c.args.words.now) (c.args.names.now) c.args.form c.in_ok-stars.ensures))) _ c.in_err-suffixes-in-Nothing.ensures)
 
 pub declarators::declarator-returns-in_ok-suffixes-in-Nothing : goal.declarators::declarator-returns-in_ok-suffixes-in-Nothing
-declarators::declarator-returns-in_ok-suffixes-in-Nothing t c = rw c.nameless.ensures (last c.in_ok-suffixes-in-Nothing.ensures (nameless_core (map shown c.args.words.now) (is_nothing c.in-Nothing.is (ap (λ z. tree.unstarred (map (λ star. star.consts) z)) (sym c.deref.ensures.value) ∙ sym c.unstarred.ensures) c.in_ok-name.ensures) (after_stars (map shown c.args.words.now) (names_of c.args.names.now) c.args.form c.in_ok-stars.ensures)))
+declarators::declarator-returns-in_ok-suffixes-in-Nothing t c = rw c.nameless.ensures (last c.in_ok-suffixes-in-Nothing.ensures (nameless_core (map shown c.args.words.now) (is_nothing c.in-Nothing.is (ap (λ z. tree.unstarred (map (λ star. star.consts) z)) (sym c.deref.ensures.value) ∙ sym c.unstarred.ensures) c.in_ok-name.ensures) (after_stars (map shown c.args.words.now) (c.args.names.now) c.args.form c.in_ok-stars.ensures)))
 
 pub declarators::suffixes-loop-alloc-init : goal.declarators::suffixes-loop-alloc-init
-declarators::suffixes-loop-alloc-init t c = (rw c.new-items.ensures.items (suffixes_start (map shown c.args.words.now) (names_of c.args.names.now) c.args.at), omega arith)
+declarators::suffixes-loop-alloc-init t c = (rw c.new-items.ensures.items (suffixes_start (map shown c.args.words.now) (c.args.names.now) c.args.at), omega arith)
 
 pub declarators::suffixes-returns-in_err-item : goal.declarators::suffixes-returns-in_err-item
 declarators::suffixes-returns-in_err-item t c = let p = err_from_is_err_and c.from_residual.result c.from_residual.ensures.1 in rw (p.1, p.2) (stopped (map shown c.args.words.now) (λ n h. refuses_suffix (map shown c.args.words.now) (map suffix_tree c.loop-alloc.items.items) (suffixes_more (map shown c.args.words.now) (map suffix_tree c.loop-alloc.items.items) (c.suffix_ahead.ensures.0 c.loop-alloc-test.true) c.loop-alloc.invariant.0) h) _ c.in_err-item.ensures)

@@ -1,7 +1,6 @@
 use Rattle.std.proofs.Common.{◌≡◌, ◌<◌, ◌≤◌, ◌+◌, ◌^◌, ◌↔◌, IsTrue, false, length, map, ℕ, ◌-◌, ◌*◌}
 use Rattle.im_word.specs.Shown.{shown}
 use Rattle.im_ctree.specs.Grammar.{IsExpression, IsAssignment, IsConditional, IsBinary, IsCast, IsUnary}
-use Rattle.im_parse_core.specs.Names.{names_of}
 use Rattle.im_parse.specs.Parsing.{Parses, Below, IsSized, tree_of, number_of, is_looser}
 use Rattle.im_parse_core.specs.Parts.{Made}
 use Rattle.im_parse_core.specs.Places.{ReadsAt}
@@ -53,7 +52,7 @@ decreases-postfix::postfix l = 32 * (length (map shown l.words.now) - l.at) + 4
 
 abbrev pub invariant-postfix::postfix_from-loop-behind :
     goal.invariant-postfix::postfix_from-loop-behind
-invariant-postfix::postfix_from-loop-behind l = InPostfix (names_of l.names) (map shown l.words) l.at l.behind_first (tree_of l.fn.first) l.next (tree_of l.tree) × (l.behind_first ≤ l.next)
+invariant-postfix::postfix_from-loop-behind l = InPostfix (l.names) (map shown l.words) l.at l.behind_first (tree_of l.fn.first) l.next (tree_of l.tree) × (l.behind_first ≤ l.next)
 
 abbrev pub decreases-postfix::postfix_from-loop-behind :
     goal.decreases-postfix::postfix_from-loop-behind
@@ -67,7 +66,7 @@ decreases-postfix::primary l = 32 * (length (map shown l.words.now) - l.at) + 3
 
 abbrev pub invariant-expressions::binary-loop-tightest :
     goal.invariant-expressions::binary-loop-tightest
-invariant-expressions::binary-loop-tightest l = ReadsAt (IsBinary (names_of l.names) l.tightest) (Below (l.tightest + 4)) (map shown l.words) l.at (tree_of l.tree) l.next × (l.at ≤ l.next) × (l.level ≤ l.tightest) × (l.tightest ≤ 10)
+invariant-expressions::binary-loop-tightest l = ReadsAt (IsBinary (l.names) l.tightest) (Below (l.tightest + 4)) (map shown l.words) l.at (tree_of l.tree) l.next × (l.at ≤ l.next) × (l.level ≤ l.tightest) × (l.tightest ≤ 10)
 
 abbrev pub decreases-expressions::binary-loop-tightest :
     goal.decreases-expressions::binary-loop-tightest
@@ -75,7 +74,7 @@ decreases-expressions::binary-loop-tightest l = l.tightest
 
 abbrev pub invariant-expressions::binary-loop-operator :
     goal.invariant-expressions::binary-loop-operator
-invariant-expressions::binary-loop-operator l = InTails (names_of l.names) (map shown l.words) l.tightest l.at (tree_of l.tree) l.next × (l.at ≤ l.next) × (l.level ≤ l.tightest) × (l.tightest < 10)
+invariant-expressions::binary-loop-operator l = InTails (l.names) (map shown l.words) l.tightest l.at (tree_of l.tree) l.next × (l.at ≤ l.next) × (l.level ≤ l.tightest) × (l.tightest < 10)
 
 abbrev pub decreases-expressions::binary-loop-operator :
     goal.decreases-expressions::binary-loop-operator
@@ -83,7 +82,7 @@ decreases-expressions::binary-loop-operator l = length (map shown l.words) - l.n
 
 abbrev pub invariant-expressions::expression-loop-behind :
     goal.invariant-expressions::expression-loop-behind
-invariant-expressions::expression-loop-behind l = InCommas (names_of l.names) (map shown l.words) l.at (tree_of l.tree) l.next × (l.at ≤ l.next)
+invariant-expressions::expression-loop-behind l = InCommas (l.names) (map shown l.words) l.at (tree_of l.tree) l.next × (l.at ≤ l.next)
 
 abbrev pub decreases-expressions::expression-loop-behind :
     goal.decreases-expressions::expression-loop-behind
@@ -91,7 +90,7 @@ decreases-expressions::expression-loop-behind l = length (map shown l.words) - l
 
 abbrev pub invariant-postfix::closed_arguments-loop-behind :
     goal.invariant-postfix::closed_arguments-loop-behind
-invariant-postfix::closed_arguments-loop-behind l = InArguments (names_of l.names) (map shown l.words) l.at (map tree_of l.items.items) l.next × (l.at ≤ l.next)
+invariant-postfix::closed_arguments-loop-behind l = InArguments (l.names) (map shown l.words) l.at (map tree_of l.items.items) l.next × (l.at ≤ l.next)
 
 abbrev pub decreases-postfix::closed_arguments-loop-behind :
     goal.decreases-postfix::closed_arguments-loop-behind
@@ -147,7 +146,7 @@ decreases-type_name::closed_type_name l = 32 * (length (map shown l.words.now) -
 
 abbrev pub invariant-specifier::specifiers-loop-alloc :
     goal.invariant-specifier::specifiers-loop-alloc
-invariant-specifier::specifiers-loop-alloc l = InSpecifiers (names_of l.names) (map shown l.words) l.at (map specifier_tree l.items.items) l.next × (l.at ≤ l.next) × (l.typed ≡ moved adds_type false (map specifier_tree l.items.items))
+invariant-specifier::specifiers-loop-alloc l = InSpecifiers (l.names) (map shown l.words) l.at (map specifier_tree l.items.items) l.next × (l.at ≤ l.next) × (l.typed ≡ moved adds_type false (map specifier_tree l.items.items))
 
 abbrev pub decreases-specifier::specifiers-loop-alloc :
     goal.decreases-specifier::specifiers-loop-alloc
@@ -155,7 +154,7 @@ decreases-specifier::specifiers-loop-alloc l = length (map shown l.words) - l.ne
 
 abbrev pub invariant-member::closed_members-loop-alloc :
     goal.invariant-member::closed_members-loop-alloc
-invariant-member::closed_members-loop-alloc l = InMembers (names_of l.names) (map shown l.words) l.at (map member_tree l.items.items) l.next × (l.at ≤ l.next)
+invariant-member::closed_members-loop-alloc l = InMembers (l.names) (map shown l.words) l.at (map member_tree l.items.items) l.next × (l.at ≤ l.next)
 
 abbrev pub decreases-member::closed_members-loop-alloc :
     goal.decreases-member::closed_members-loop-alloc
@@ -163,7 +162,7 @@ decreases-member::closed_members-loop-alloc l = length (map shown l.words) - l.n
 
 abbrev pub invariant-member::closed_declarators-loop-behind :
     goal.invariant-member::closed_declarators-loop-behind
-invariant-member::closed_declarators-loop-behind l = InDeclarators (names_of l.names) (map shown l.words) l.at (map declarator_of l.items.items) l.next × (l.at ≤ l.next)
+invariant-member::closed_declarators-loop-behind l = InDeclarators (l.names) (map shown l.words) l.at (map declarator_of l.items.items) l.next × (l.at ≤ l.next)
 
 abbrev pub decreases-member::closed_declarators-loop-behind :
     goal.decreases-member::closed_declarators-loop-behind
@@ -171,7 +170,7 @@ decreases-member::closed_declarators-loop-behind l = length (map shown l.words) 
 
 abbrev pub invariant-enumerator::closed_enumerators-loop-behind :
     goal.invariant-enumerator::closed_enumerators-loop-behind
-invariant-enumerator::closed_enumerators-loop-behind l = InEnumerators (names_of l.names) (map shown l.words) l.at (map enumerator_tree l.items.items) l.next × (l.at ≤ l.next)
+invariant-enumerator::closed_enumerators-loop-behind l = InEnumerators (l.names) (map shown l.words) l.at (map enumerator_tree l.items.items) l.next × (l.at ≤ l.next)
 
 abbrev pub decreases-enumerator::closed_enumerators-loop-behind :
     goal.decreases-enumerator::closed_enumerators-loop-behind
@@ -179,7 +178,7 @@ decreases-enumerator::closed_enumerators-loop-behind l = length (map shown l.wor
 
 abbrev pub invariant-declarators::suffixes-loop-alloc :
     goal.invariant-declarators::suffixes-loop-alloc
-invariant-declarators::suffixes-loop-alloc l = InSuffixes (names_of l.names) (map shown l.words) l.at (map suffix_tree l.items.items) l.next × (l.at ≤ l.next)
+invariant-declarators::suffixes-loop-alloc l = InSuffixes (l.names) (map shown l.words) l.at (map suffix_tree l.items.items) l.next × (l.at ≤ l.next)
 
 abbrev pub decreases-declarators::suffixes-loop-alloc :
     goal.decreases-declarators::suffixes-loop-alloc
@@ -187,7 +186,7 @@ decreases-declarators::suffixes-loop-alloc l = length (map shown l.words) - l.ne
 
 abbrev pub invariant-parameter::closed_parameters-loop-behind :
     goal.invariant-parameter::closed_parameters-loop-behind
-invariant-parameter::closed_parameters-loop-behind l = InParameters (names_of l.names) (map shown l.words) l.at (map parameter_tree l.items.items) l.next × (l.at ≤ l.next)
+invariant-parameter::closed_parameters-loop-behind l = InParameters (l.names) (map shown l.words) l.at (map parameter_tree l.items.items) l.next × (l.at ≤ l.next)
 
 abbrev pub decreases-parameter::closed_parameters-loop-behind :
     goal.decreases-parameter::closed_parameters-loop-behind

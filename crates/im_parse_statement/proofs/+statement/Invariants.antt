@@ -1,7 +1,7 @@
 use Rattle.std.proofs.Common.{◌≡◌, ◌≤◌, ◌+◌, ◌-◌, ◌*◌, length, map}
 use Rattle.im_word.specs.Shown.{shown}
 use Rattle.im_parse_core.specs.Repeats.{moved}
-use Rattle.im_parse_statement.specs.Statements.{known_names, item_tree, names_behind_item}
+use Rattle.im_parse_statement.specs.Statements.{item_tree, names_behind_item}
 use Rattle.im_parse_statement.proofs.ItemLines.{InItems}
 use Rattle.im_parse_statement.proofs.+statement.Given as goal
 
@@ -45,7 +45,7 @@ abbrev pub decreases-statements::statement : goal.decreases-statements::statemen
 decreases-statements::statement l = 16 * (length (map shown l.words.now) - l.at) + 5
 
 abbrev pub invariant-blocks::closed_items-loop-end : goal.invariant-blocks::closed_items-loop-end
-invariant-blocks::closed_items-loop-end l = InItems (known_names l.fn.names) (map shown l.words) l.at (map item_tree l.items.items) (known_names l.names) l.next × (l.at ≤ l.next) × (known_names l.names ≡ moved names_behind_item (known_names l.fn.names) (map item_tree l.items.items))
+invariant-blocks::closed_items-loop-end l = InItems l.fn.names (map shown l.words) l.at (map item_tree l.items.items) l.names l.next × (l.at ≤ l.next) × (l.names ≡ moved names_behind_item l.fn.names (map item_tree l.items.items))
 
 abbrev pub decreases-blocks::closed_items-loop-end : goal.decreases-blocks::closed_items-loop-end
 decreases-blocks::closed_items-loop-end l = length (map shown l.words) - l.next

@@ -10,11 +10,11 @@ use Rattle.im_parse.proofs.postfix.single.Goals as goal
 pub returns-in_default : goal.returns-in_default
 returns-in_default c = no_primary (map shown c.args.words.now) (not_none c.in_default.ensures)
 
-pub returns-then-is_typedef_name : goal.returns-then-is_typedef_name
-returns-then-is_typedef_name c = no_primary (map shown c.args.words.now) (not_typedef (rw (ap shown c.in-Name.is) at c.in-Some.ensures) (itis c.is_typedef_name.result c.if-is_typedef_name.true c.is_typedef_name.ensures))
+pub returns-then-contains : goal.returns-then-contains
+returns-then-contains c = no_primary (map shown c.args.words.now) (not_typedef (rw (ap shown c.in-Name.is) at c.in-Some.ensures) (itis c.contains.result c.if-contains.true c.contains.ensures))
 
 pub returns-in_ok-from_slice-in-Name : goal.returns-in_ok-from_slice-in-Name
-returns-in_ok-from_slice-in-Name c = rw c.in_ok-from_slice-in-Name.ensures.items (reads_identifier (rw (ap shown c.in-Name.is) at c.in-Some.ensures) (isnt c.is_typedef_name.result c.if-is_typedef_name.false c.is_typedef_name.ensures))
+returns-in_ok-from_slice-in-Name c = rw c.in_ok-from_slice-in-Name.ensures.items (reads_identifier (rw (ap shown c.in-Name.is) at c.in-Some.ensures) (isnt c.contains.result c.if-contains.false c.contains.ensures))
 
 pub returns-in-Number : goal.returns-in-Number
 returns-in-Number c = reads_number (rw (ap shown c.in-Number.is) at c.in-Some.ensures)

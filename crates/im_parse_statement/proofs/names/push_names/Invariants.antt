@@ -1,11 +1,10 @@
 use Rattle.std.proofs.Common.{◌≡◌, ◌≤◌, ◌++◌, drop, length}
 use Rattle.im_ctree.specs.Shape.{init_declarators_of}
 use Rattle.im_ctree.specs.Typedefs.{declared_names}
-use Rattle.im_parse_statement.specs.Statements.{known_names}
 use Rattle.im_parse_statement.proofs.names.push_names.Given as goal
 
 abbrev pub invariant-loop-left : goal.invariant-loop-left
-invariant-loop-left l = (l.left ≤ length l.declarators) × (known_names l.names ≡ declared_names (init_declarators_of (drop l.left l.declarators)) ++ known_names l.initial.names)
+invariant-loop-left l = (l.left ≤ length l.declarators) × (l.names ≡ declared_names (init_declarators_of (drop l.left l.declarators)) ++ l.initial.names)
 
 abbrev pub decreases-loop-left : goal.decreases-loop-left
 decreases-loop-left l = l.left
