@@ -11,7 +11,7 @@ use Rattle.im_stop.specs.declared.stop.Stop.TheVariants.{Rule, Large, Memory}
 use Rattle.im_stop.specs.Answers.{IsRefusal}
 use Rattle.im_file_place.specs.declared.file.File.{File}
 use Rattle.im_file_place.specs.Files.{file_place_of}
-use Rattle.im_file_specifiers.specs.Answers.{IsFileFault}
+use Rattle.im_externals.specs.Answers.{IsFileFault}
 use Rattle.im_defined.specs.Values.{first_values_in}
 use Rattle.im_externals.specs.declared.unit.UnitDefined.{UnitDefined}
 use Rattle.im_externals.specs.Externals.{ExternalsDone}

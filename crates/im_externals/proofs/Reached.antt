@@ -15,7 +15,7 @@ use Rattle.im_stop.specs.declared.stop.Stop.{Stop}
 use Rattle.im_stop.specs.declared.stop.Stop.TheVariants.{Rule, Large, Memory}
 use Rattle.im_file_place.specs.declared.file.File.{File}
 use Rattle.im_file_place.specs.Files.{file_place_of}
-use Rattle.im_file_specifiers.specs.Answers.{IsFileFault}
+use Rattle.im_file_declarations.specs.Answers.{IsFileFault}
 use Rattle.im_defined.specs.declared.first_values.FirstValues.{FirstValues}
 use Rattle.im_defined.specs.declared.function.Defined.{Defined}
 use Rattle.im_defined.specs.Functions.{function_in, AreDefined}

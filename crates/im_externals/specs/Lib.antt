@@ -1,1 +1,2 @@
 pub mod Externals
+pub use Rattle.im_file_declarations.specs.Answers

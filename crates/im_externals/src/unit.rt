@@ -3,7 +3,7 @@ ghost use Rattle.std.specs.Prelude.{MatchResult};
 ghost use Rattle.im_ctree.specs.Shape.{external_of, externals_of, tree_of};
 ghost use Rattle.im_rules.specs.UnitBreaks.{an_external, some_externals};
 ghost use Rattle.im_file_place.specs.Files.{file_place_of};
-ghost use Rattle.im_file_specifiers.specs.Answers.{IsFileFault};
+ghost use Rattle.im_file_declarations.specs.Answers.{IsFileFault};
 ghost use Rattle.im_externals.specs.Externals.{ExternalDone, ExternalsDone};
 
 use im_ctree::{External, Tree};

@@ -1,2 +1,3 @@
 pub mod Declarations
 pub mod Steps
+pub use Rattle.im_file_specifiers.specs.Answers

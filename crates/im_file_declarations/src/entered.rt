@@ -17,9 +17,9 @@ ghost use Rattle.im_file_declarations.specs.Steps.{IsEntered, IsNameFault};
 
 use im_ctree::{Declarator, Initializer, Specifier};
 use im_declarators::Declared;
-use im_expressions::declarator;
 use im_file_names::declared_in_file;
 use im_file_place::File;
+use im_file_specifiers::declarator;
 use im_shapes::completed;
 use im_sizes::all_fit;
 use im_stop::Stop;

@@ -17,8 +17,8 @@ ghost use Rattle.im_file_functions.specs.Heads.{at_string};
 
 use im_ctree::{Declarator, Parameter};
 use im_declarators::Declared;
-use im_expressions::{declarator, parameters};
 use im_file_place::File;
+use im_file_specifiers::{declarator, parameters};
 use im_place::Place;
 use im_stop::Stop;
 use im_texts::append_declarator;

@@ -12,5 +12,6 @@ mod specified;
 mod unlisted;
 mod words;
 
+pub use im_expressions::{declarator, parameters};
 pub use level::Level;
 pub use specified::specify;

@@ -9,4 +9,5 @@ mod value;
 mod walk;
 
 pub use declaration::initialisation;
+pub use im_expressions::{declarator, expression};
 pub use walk::initialised;

@@ -8,3 +8,4 @@ mod objects;
 mod read;
 
 pub use declarations::declaration;
+pub use im_initialisers::expression;

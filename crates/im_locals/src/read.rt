@@ -23,8 +23,7 @@ ghost use Rattle.im_locals.specs.Objects.{IsSpecified};
 
 use im_ctree::{Declarator, Initializer, Specifiers};
 use im_declarators::Declared;
-use im_expressions::declarator;
-use im_initialisers::initialisation;
+use im_initialisers::{declarator, initialisation};
 use im_sites::Body;
 use im_stop::Stop;
 use im_texts::{append_declarator, append_given_if_any};

@@ -7,7 +7,7 @@ ghost use Rattle.im_statement_forms.specs.Asked.{IsAsked, IsTermRead};
 
 use im_conversions::value_of;
 use im_ctree::Expression;
-use im_expressions::expression;
+use im_locals::expression;
 use im_operands::{Term, is_scalar_term};
 use im_sites::Body;
 use im_stop::{Stop, refused};

@@ -10,6 +10,7 @@ mod scopes;
 
 pub use asked::tested;
 pub use heads::{ForHead, head};
+pub use im_locals::declaration;
 pub use labels::{Labels, Selector, case_label, default_label, no_labels, selected_by};
 pub use leaves::leaf;
 pub use made::{block_made, do_made, for_made, if_made, switch_made, while_made};

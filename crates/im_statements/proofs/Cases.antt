@@ -29,7 +29,7 @@ use Rattle.im_sites.specs.declared.position.Position.{Position}
 use Rattle.im_sites.specs.Sites.{site_of, IsBodyFault}
 use Rattle.im_sites.specs.Stmts.{stmts_before, stmts_from}
 use Rattle.im_sites.proofs.Sites.{past_then, past_site, declared_none, declared_then, declared_past, structs_stay}
-use Rattle.im_locals.specs.Declarations.{DeclarationDone, IsDeclarationFault}
+use Rattle.im_statement_forms.specs.Declarations.{DeclarationDone, IsDeclarationFault}
 use Rattle.im_statement_forms.specs.declared.labels.Labels.{Labels}
 use Rattle.im_statement_forms.specs.Asked.{IsAskedFault}
 use Rattle.im_statement_forms.specs.Done.{StatementDone, IsLeaf}

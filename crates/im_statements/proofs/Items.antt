@@ -24,7 +24,7 @@ use Rattle.im_sites.specs.declared.position.Position.{Position}
 use Rattle.im_sites.specs.Sites.{site_of, IsBodyFault}
 use Rattle.im_sites.specs.Stmts.{stmts_before, stmts_from}
 use Rattle.im_sites.proofs.Sites.{past_site, declared_none, declared_then, declared_past, structs_stay}
-use Rattle.im_locals.specs.Declarations.{DeclarationDone, IsDeclarationFault}
+use Rattle.im_statement_forms.specs.Declarations.{DeclarationDone, IsDeclarationFault}
 use Rattle.im_statement_forms.specs.Done.{StatementDone}
 use Rattle.im_statements.specs.Checked.{ItemDone, IsItemFault, ItemsReached, ItemsDone}
 use Rattle.im_statement_forms.proofs.Parts.{moved_within, part_fault}

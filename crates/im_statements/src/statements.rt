@@ -11,11 +11,10 @@ ghost use Rattle.im_statements.specs.Checked.{looped_in, switched_in, ItemsDone,
 
 use im_ctree::{BlockItem, Statement, StatementKind};
 use im_ctype::Integer;
-use im_locals::declaration;
 use im_sites::{Body, Position};
 use im_statement_forms::{
-    Labels, block_made, case_label, closed, default_label, do_made, for_made, head, if_made, leaf,
-    no_labels, opened, selected_by, switch_made, tested, while_made,
+    Labels, block_made, case_label, closed, declaration, default_label, do_made, for_made, head,
+    if_made, leaf, no_labels, opened, selected_by, switch_made, tested, while_made,
 };
 use im_stop::Stop;
 use im_typed::Stmt;
