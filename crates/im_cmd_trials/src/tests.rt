@@ -9,6 +9,7 @@ mod upgrades;
 use im_cmd::top;
 use im_io::{MemShelf, MemSink};
 use std::alloc::Global;
+use std::fmt::Debug;
 use std::process::Abort;
 use std::test::Fail;
 
@@ -21,15 +22,19 @@ struct Wanted<'a> {
 }
 
 /// A file of a shelf: its name, what it holds where it is there, and its room in bytes.
-type File = (String, Option<Vec<u8>>, usize);
+type File<'a> = (&'a str, Option<&'a [u8]>, usize);
 
-// A file that is there, and isn't written.
-fn file(alloc: Global, name: &str, bytes: &[u8]) -> Result<File, Fail> {
-    Ok((
-        String::from_str(alloc, name)?,
-        Some(Vec::from_slice(alloc, bytes)?),
-        0,
-    ))
+// A shelf of these files, of whose calls one fails where its number isn't 0.
+fn shelf_of(alloc: Global, files: &[File<'_>], failing: u64) -> Result<MemShelf, Fail> {
+    let mut all = Vec::new(alloc);
+    for (name, held, room) in files {
+        let bytes = match held {
+            None => None,
+            Some(bytes) => Some(Vec::from_slice(alloc, bytes)?),
+        };
+        all.push((String::from_str(alloc, name)?, bytes, *room))?;
+    }
+    Ok(MemShelf::new(alloc, &all, &[failing])?)
 }
 
 fn words_of(alloc: Global, text: &str) -> Result<Vec<String>, Fail> {
@@ -38,6 +43,11 @@ fn words_of(alloc: Global, text: &str) -> Result<Vec<String>, Fail> {
         words.push(String::from_str(alloc, word)?)?;
     }
     Ok(words)
+}
+
+// Sees that what a command gave is what is wanted.
+fn same<T: Debug + PartialEq>(rt: &impl Abort, command: &str, found: &T, wanted: &T) {
+    assert_eq!(rt; *found, *wanted, "at {command}");
 }
 
 // Carries out a command, with room for so many bytes on each stream.
@@ -53,8 +63,8 @@ fn tries(
     let mut out = MemSink::new(alloc, room, &[])?;
     let mut err = MemSink::new(alloc, room, &[])?;
     let status = top(alloc, &words, shelf, &mut out, &mut err);
-    assert_eq!(rt; err.contents(), wanted.lines, "at {command}");
-    assert_eq!(rt; out.contents(), wanted.output, "at {command}");
-    assert_eq!(rt; status, wanted.status, "at {command}");
+    same(rt, command, &err.contents(), &wanted.lines);
+    same(rt, command, &out.contents(), &wanted.output);
+    same(rt, command, &status, &wanted.status);
     Ok(())
 }

@@ -1,3 +1,4 @@
+use crate::seen::{holds, same};
 use im_driver::{Options, compile_whole};
 use im_typed::{Frame, Frames, Prog, need, nodes};
 use std::alloc::Global;
@@ -61,9 +62,13 @@ fn see_frames(rt: &impl Abort, alloc: Global, prog: &Prog) -> Result<(), Fail> {
     let frames = vec![in alloc; frame(alloc, b"main", 8)?, frame(alloc, b"f", 16)?]?;
     let table = Frames { frames };
     let sizes = table.sizes(alloc, &prog.funcs)?;
-    assert_eq!(rt; sizes.as_slice(), [16, 0, 0, 0, 0, 8].as_slice());
-    assert_eq!(rt; table.size(b"main"), 8);
-    assert_eq!(rt; table.size(b"updates"), 0);
+    holds(
+        rt,
+        &sizes,
+        sizes.as_slice() == [16, 0, 0, 0, 0, 8].as_slice(),
+    );
+    same(rt, &"main", &table.size(b"main"), &8);
+    same(rt, &"updates", &table.size(b"updates"), &0);
     Ok(())
 }
 
@@ -77,9 +82,11 @@ pub(crate) fn see_counts(rt: &impl Abort, alloc: Global) -> Result<(), Fail> {
         .ok()
         .ok_or("a program")?;
     for (name, nodes, need) in &COUNTS {
-        assert!(rt;
-            counts_of(&whole.prog, name) == Some((*nodes, *need)),
-            "{name}"
+        same(
+            rt,
+            name,
+            &counts_of(&whole.prog, name),
+            &Some((*nodes, *need)),
         );
     }
     see_frames(rt, alloc, &whole.prog)

@@ -24,6 +24,8 @@ mod rule_rows;
 #[cfg(test)]
 mod rules;
 #[cfg(test)]
+mod seen;
+#[cfg(test)]
 mod sequences;
 #[cfg(test)]
 mod statements;

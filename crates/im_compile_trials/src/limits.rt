@@ -1,4 +1,4 @@
-use crate::rules::refusal;
+use crate::rules::{is_told, refusal};
 use im_fault::{Quantity, SourceFault};
 use std::alloc::Global;
 use std::process::Abort;
@@ -9,57 +9,62 @@ fn with_main(alloc: Global, part: &str) -> Result<String, Fail> {
     Ok(format!(in alloc; "{part}{behind}")?)
 }
 
+/// What is over its limit, its count, and a part of a source.
+const OVER: [(Quantity, u64, &str); 12] = [
+    (Quantity::Size, 1_048_577, "char a[1048577];"),
+    (Quantity::Size, 1_048_580, "typedef int t[262145];"),
+    (Quantity::Size, 1_048_577, "char(*p)[1048577];"),
+    (Quantity::Size, 1_600_000, "int a[2][200000];"),
+    (Quantity::Size, 8_000_000, "int a[2][2000000];"),
+    (
+        Quantity::Size,
+        2_000_000,
+        "struct s{int b;char a[2000000];};",
+    ),
+    (
+        Quantity::Size,
+        1_200_000,
+        "struct s{char a[600000],b[600000];};",
+    ),
+    (Quantity::Size, 1_048_577, "void f(char a[1048577]);"),
+    (
+        Quantity::Size,
+        2_000_000,
+        "int f(void){return sizeof(char[2000000]);}",
+    ),
+    (Quantity::Statics, 1_048_580, "char a[1048576];"),
+    (Quantity::Statics, 1_200_008, "char a[600000],b[600000];"),
+    (
+        Quantity::Parameters,
+        9,
+        "void f(int*a,int*b,int c,int d,int e,int g,int h,int i,char j[]);",
+    ),
+];
+
 /// Sees that what is over a limit is told with its count.
 pub(crate) fn tell_counts(rt: &impl Abort, alloc: Global) -> Result<(), Fail> {
-    let table: [(Quantity, u64, &str); 12] = [
-        (Quantity::Size, 1_048_577, "char a[1048577];"),
-        (Quantity::Size, 1_048_580, "typedef int t[262145];"),
-        (Quantity::Size, 1_048_577, "char(*p)[1048577];"),
-        (Quantity::Size, 1_600_000, "int a[2][200000];"),
-        (Quantity::Size, 8_000_000, "int a[2][2000000];"),
-        (
-            Quantity::Size,
-            2_000_000,
-            "struct s{int b;char a[2000000];};",
-        ),
-        (
-            Quantity::Size,
-            1_200_000,
-            "struct s{char a[600000],b[600000];};",
-        ),
-        (Quantity::Size, 1_048_577, "void f(char a[1048577]);"),
-        (
-            Quantity::Size,
-            2_000_000,
-            "int f(void){return sizeof(char[2000000]);}",
-        ),
-        (Quantity::Statics, 1_048_580, "char a[1048576];"),
-        (Quantity::Statics, 1_200_008, "char a[600000],b[600000];"),
-        (
-            Quantity::Parameters,
-            9,
-            "void f(int*a,int*b,int c,int d,int e,int g,int h,int i,char j[]);",
-        ),
-    ];
-    for (quantity, count, part) in table {
+    for row in &OVER {
+        let (quantity, count, part) = *row;
         let source = with_main(alloc, part)?;
         let wanted = SourceFault::Limit { quantity, count };
-        assert!(rt; refusal(alloc, &source) == Some(wanted), "{source}");
+        is_told(rt, alloc, &source, Some(wanted));
     }
     Ok(())
 }
 
+const WITHIN: [&str; 5] = [
+    "char(*p)[1048576];",
+    "typedef int t[262144];t*p;",
+    "struct s{char a[524288],b[524288];}*p;",
+    "void f(char a[1048576]);",
+    "void f(int*a,int*b,int c,int d,int e,int g,int h,char j[]);",
+];
+
 /// Sees that what is just within a limit is compiled.
 pub(crate) fn keep_limits(rt: &impl Abort, alloc: Global) -> Result<(), Fail> {
-    for part in [
-        "char(*p)[1048576];",
-        "typedef int t[262144];t*p;",
-        "struct s{char a[524288],b[524288];}*p;",
-        "void f(char a[1048576]);",
-        "void f(int*a,int*b,int c,int d,int e,int g,int h,char j[]);",
-    ] {
+    for part in &WITHIN {
         let source = with_main(alloc, part)?;
-        assert!(rt; refusal(alloc, &source) == None, "{source}");
+        is_told(rt, alloc, &source, None);
     }
     Ok(())
 }

@@ -27,6 +27,11 @@ pub(crate) fn refusal(alloc: Global, source: &str) -> Option<SourceFault> {
     compile(alloc, source.as_bytes(), options).err()
 }
 
+/// Sees that a source is refused so, or compiled where no fault is wanted.
+pub(crate) fn is_told(rt: &impl Abort, alloc: Global, source: &str, wanted: Option<SourceFault>) {
+    assert!(rt; refusal(alloc, source) == wanted, "{source}");
+}
+
 /// Sees that each line is refused by its rule and its number.
 pub(crate) fn name_lines(rt: &impl Abort, alloc: Global, rules: &Rules) -> Result<(), Fail> {
     for (number, ahead, part) in rules.broken {
@@ -35,7 +40,7 @@ pub(crate) fn name_lines(rt: &impl Abort, alloc: Global, rules: &Rules) -> Resul
             line: 2,
             why: LineFault::Rule(*number),
         };
-        assert!(rt; refusal(alloc, &source) == Some(wanted), "{source}");
+        is_told(rt, alloc, &source, Some(wanted));
     }
     Ok(())
 }
@@ -44,7 +49,7 @@ pub(crate) fn name_lines(rt: &impl Abort, alloc: Global, rules: &Rules) -> Resul
 pub(crate) fn keep_rules(rt: &impl Abort, alloc: Global, rules: &Rules) -> Result<(), Fail> {
     for part in rules.kept {
         let source = format!(in alloc; "{}{part}{}", rules.before, rules.behind)?;
-        assert!(rt; refusal(alloc, &source) == None, "{source}");
+        is_told(rt, alloc, &source, None);
     }
     Ok(())
 }

@@ -9,6 +9,7 @@ use crate::pointers::POINTERS;
 use crate::row::Row;
 use crate::rule_rows::{DECLARATIONS, EXPRESSIONS, STATEMENTS as STATEMENT_RULES, UNITS};
 use crate::rules::{Rules, keep_rules, name_lines};
+use crate::seen::{holds, same};
 use crate::sequences::SEQUENCES;
 use crate::statements::STATEMENTS;
 use crate::statics::STATICS;
@@ -47,7 +48,7 @@ fn loaded(alloc: Global, image: &Image, row: &Row) -> Result<Machine<FlatMem>, F
     Ok(machine)
 }
 
-fn holds(var: &Var, wanted: &(&str, i128)) -> bool {
+fn has_value(var: &Var, wanted: &(&str, i128)) -> bool {
     let (name, number) = wanted;
     var.name.as_slice() == name.as_bytes()
         && var.cells.as_slice() == [CellValue::Number(*number)].as_slice()
@@ -65,7 +66,7 @@ fn hold(vars: &[Var], wanted: &[(&str, i128)]) -> bool {
             continue;
         }
         match wanted.get(place) {
-            Some(static_wanted) if holds(var, static_wanted) => place = place.saturating_add(1),
+            Some(static_wanted) if has_value(var, static_wanted) => place = place.saturating_add(1),
             _ => return false,
         }
     }
@@ -79,28 +80,16 @@ fn is_right(
     machine: &Machine<FlatMem>,
     row: &Row,
 ) -> Result<(), Fail> {
-    let what = row.what;
-    let after = machine.instructions();
-    assert_eq!(rt;
-        machine.output(),
-        row.output,
-        "{what}, {after} instructions"
+    let at = (row.what, machine.instructions());
+    same(rt, &at, &machine.output(), &row.output);
+    same(
+        rt,
+        &at,
+        &(machine.status(), machine.reason()),
+        &(row.status, 0),
     );
-    assert_eq!(rt;
-        machine.status(),
-        row.status,
-        "{what}, {after} instructions"
-    );
-    assert!(rt;
-        machine.went() == Went::Halted,
-        "{what}, {after} instructions"
-    );
-    assert_eq!(rt; machine.reason(), 0);
-    let vars = machine.vars(alloc)?;
-    assert!(rt;
-        hold(&vars, row.statics),
-        "statics, {what}, {after} instructions"
-    );
+    same(rt, &at, &machine.went(), &Went::Halted);
+    holds(rt, &at, hold(&machine.vars(alloc)?, row.statics));
     Ok(())
 }
 

@@ -3,7 +3,5 @@
 
 mod reading;
 mod runs;
-#[cfg(test)]
-mod tests;
 
 pub use reading::{Text, line_of, read_source};

@@ -7,8 +7,6 @@ mod fault;
 mod laws;
 mod linking;
 mod places;
-#[cfg(test)]
-mod tests;
 mod words;
 
 pub use fault::LinkFault;

@@ -5,6 +5,7 @@ ghost use Rattle.im_frame.specs.Layout.{bytes_of};
 ghost use Rattle.im_placed.specs.Placed.{IsPlacedCode};
 ghost use Rattle.im_linked.specs.Laws.{NamesAccesses};
 
+use crate::seen::same;
 use im_assemble::{Program, assemble};
 use im_block::{Block, Exit, Function, Line, Registers, Unit};
 use im_frame::lay_out;
@@ -67,10 +68,10 @@ fn a_program_is_linked(rt: HostRuntime) -> Result<(), Fail> {
     };
     let parts = assemble(rt.alloc(), &program)?;
     let code = link(rt.alloc(), &parts)?;
-    assert_eq!(rt; code.words.len(), 276 + WORDS.len());
+    same(&rt, &"words", &code.words.len(), &(276 + WORDS.len()));
     for (word, wanted) in code.words.iter().skip(276).zip(&WORDS) {
-        assert_eq!(rt; *word, *wanted);
+        same(&rt, wanted, word, wanted);
     }
-    assert_eq!(rt; code.entry, 0x1000 + 4 * 287);
+    same(&rt, &"the entry", &code.entry, &(0x1000 + 4 * 287));
     Ok(())
 }

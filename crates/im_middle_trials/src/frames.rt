@@ -1,6 +1,7 @@
 ghost use Rattle.std.specs.Prelude.{◌≡◌, ◌≤◌, IfOk};
 ghost use Rattle.im_frame.specs.Layout.{bytes_of};
 
+use crate::seen::same;
 use im_block::{Function, Object, Registers};
 use im_frame::{frame_bytes, lay_out};
 use std::alloc::Global;
@@ -39,8 +40,17 @@ fn sample(alloc: Global) -> Result<Function, Fail>
 fn objects_lie_behind_slots(rt: HostRuntime) -> Result<(), Fail> {
     let function = sample(rt.alloc())?;
     let layout = lay_out(rt.alloc(), &function)?;
-    assert_eq!(rt; frame_bytes(&function), 44);
-    assert_eq!(rt; layout.frame, 44);
-    assert_eq!(rt; layout.places.as_slice(), [24, 28, 36].as_slice());
+    same(
+        &rt,
+        &"frame",
+        &(frame_bytes(&function), layout.frame),
+        &(44, 44),
+    );
+    same(
+        &rt,
+        &"places",
+        &layout.places.as_slice(),
+        &[24, 28, 36].as_slice(),
+    );
     Ok(())
 }

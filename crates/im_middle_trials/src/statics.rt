@@ -3,6 +3,7 @@ ghost use Rattle.im_mem.specs.Map.{statics_capacity};
 ghost use Rattle.im_frame.specs.Layout.{rooms};
 ghost use Rattle.im_addresses.specs.Statics.{objects_of};
 
+use crate::seen::same;
 use im_addresses::place_statics;
 use im_block::{Object, Static};
 use std::alloc::Global;
@@ -32,9 +33,7 @@ fn three(alloc: Global) -> Result<Vec<Static>, Fail>
 fn statics_lie_apart(rt: HostRuntime) -> Result<(), Fail> {
     let statics = three(rt.alloc())?;
     let addresses = place_statics(rt.alloc(), &statics)?;
-    assert_eq!(rt;
-        addresses.as_slice(),
-        [0x100000, 0x100008, 0x10000C].as_slice()
-    );
+    let wanted = [0x100000, 0x100008, 0x10000C];
+    same(&rt, &"addresses", &addresses.as_slice(), &wanted.as_slice());
     Ok(())
 }

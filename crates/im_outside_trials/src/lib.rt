@@ -6,4 +6,6 @@ mod files;
 #[cfg(test)]
 mod lines;
 #[cfg(test)]
+mod seen;
+#[cfg(test)]
 mod words;

@@ -1,4 +1,5 @@
 use crate::images::{StaticWord, image_of, loaded, period, value_of};
+use crate::seen::{holds, same};
 use crate::words::WORDS;
 use im_ckpt::{checkpoint_lines, recovery_lines};
 use im_image::Image;
@@ -50,9 +51,9 @@ fn the_runtime_is_that_of_the_assembler(rt: HostRuntime) -> Result<(), Fail> {
     lines.extend_from_slice(&checkpoint_lines(rt.alloc())?)?;
     lines.extend_from_slice(&getchar_lines(rt.alloc())?)?;
     lines.extend_from_slice(&putchar_lines(rt.alloc())?)?;
-    assert_eq!(rt; lines.len(), 273);
+    same(&rt, &"lines", &lines.len(), &273);
     for (at, word) in WORDS.iter().take(273).enumerate() {
-        assert!(rt; is_word_of(&lines, at, *word), "at {at}");
+        holds(&rt, &at, is_word_of(&lines, at, *word));
     }
     Ok(())
 }
@@ -72,28 +73,30 @@ fn loop_image(alloc: Global) -> Result<Image, Fail> {
     image_of(alloc, &words, 0x13b4, &[LETTERS])
 }
 
+/// Periods, then commits and instructions. The first commit is the instruction 44. Behind it the
+/// last store into the buffer is the instruction 43 of a period, the flip 45.
+const PERIODS: [(&[u8], u64, u64); 9] = [
+    (b"45 0 10", 10, 450),
+    (b"44 0 10", 1, 440),
+    (b"43 0 10", 0, 430),
+    (b"45 0 3\n42 9 1\n45 0 1", 4, 222),
+    (b"45 0 3\n42 9 1 5\n45 0 1", 4, 222),
+    (b"45 0 3\n44 9 1\n45 0 1", 4, 224),
+    (b"45 0 3\n44 9 1 14\n45 0 1", 4, 224),
+    (b"45 0 3\n44 9 1 1\n45 0 1", 5, 224),
+    (b"45 0 3\n45 9 1\n45 0 1", 5, 225),
+];
+
 #[test]
 fn a_loop_commits_in_each_period_of_its_gap(rt: HostRuntime) -> Result<(), Fail> {
-    // Periods, then commits and instructions. The first commit is the instruction 44. Behind it the
-    // last store into the buffer is the instruction 43 of a period, the flip 45.
-    let rows: [(&[u8], u64, u64); 9] = [
-        (b"45 0 10", 10, 450),
-        (b"44 0 10", 1, 440),
-        (b"43 0 10", 0, 430),
-        (b"45 0 3\n42 9 1\n45 0 1", 4, 222),
-        (b"45 0 3\n42 9 1 5\n45 0 1", 4, 222),
-        (b"45 0 3\n44 9 1\n45 0 1", 4, 224),
-        (b"45 0 3\n44 9 1 14\n45 0 1", 4, 224),
-        (b"45 0 3\n44 9 1 1\n45 0 1", 5, 224),
-        (b"45 0 3\n45 9 1\n45 0 1", 5, 225),
-    ];
     let image = loop_image(rt.alloc())?;
-    for (lines, commits, instructions) in rows {
+    for row in &PERIODS {
+        let (lines, commits, instructions) = *row;
         let trace = read_trace(rt.alloc(), lines).ok().ok_or("a trace")?;
         let mut machine = loaded(rt.alloc(), &image, &[])?;
-        assert!(rt; machine.run(&trace) == Went::On);
-        assert_eq!(rt; machine.commits(), commits, "at {instructions}");
-        assert_eq!(rt; machine.instructions(), instructions);
+        let went = machine.run(&trace);
+        let found = (went, machine.commits(), machine.instructions());
+        same(&rt, &lines, &found, &(Went::On, commits, instructions));
     }
     Ok(())
 }
@@ -128,13 +131,16 @@ fn power_fails_in_each_section_with_each_mask(rt: HostRuntime) -> Result<(), Fai
             }
         }
     }
-    assert!(rt; machine.went() == Went::On);
-    assert!(rt; machine.power(period(10_000_000, 0)) == Went::Halted);
-    assert_eq!(rt; machine.output(), capitals.as_slice());
-    assert_eq!(rt; machine.status(), 4000);
-    assert_eq!(rt;
-        value_of(rt.alloc(), &machine, 0)?,
-        Some(CellValue::Number(4000))
+    same(&rt, &"losses", &machine.went(), &Went::On);
+    let went = machine.power(period(10_000_000, 0));
+    same(
+        &rt,
+        &"the end",
+        &(went, machine.status()),
+        &(Went::Halted, 4000),
     );
+    holds(&rt, &"capitals", machine.output() == capitals.as_slice());
+    let letters = value_of(rt.alloc(), &machine, 0)?;
+    same(&rt, &"letters", &letters, &Some(CellValue::Number(4000)));
     Ok(())
 }

@@ -1,3 +1,4 @@
+use crate::seen::holds;
 use im_ctype::{Integer, TypeTable};
 use im_types::{Type, array_of, copy, id_of, pointer_to, same, size, type_from};
 use std::process::Abort;
@@ -12,9 +13,13 @@ fn types_of_a_table(rt: HostRuntime) {
     let mut table = TypeTable::new(alloc);
     let id = id_of(&mut table, &ty).expect(&rt, "memory");
     let back = type_from(alloc, &table, id).expect(&rt, "memory");
-    assert!(rt; same(&ty, &back));
+    holds(&rt, &"back", same(&ty, &back));
     let again = copy(alloc, &ty).expect(&rt, "memory");
-    assert!(rt; same(&ty, &again));
-    assert!(rt; !same(&ty, &Type::Integer(Integer::Int)));
-    assert!(rt; size(&table, &Type::Integer(Integer::Short)) == Ok(2));
+    holds(&rt, &"a copy", same(&ty, &again));
+    holds(&rt, &"int", !same(&ty, &Type::Integer(Integer::Int)));
+    holds(
+        &rt,
+        &"short",
+        size(&table, &Type::Integer(Integer::Short)) == Ok(2),
+    );
 }

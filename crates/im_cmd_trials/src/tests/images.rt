@@ -1,4 +1,4 @@
-use super::{File, Wanted, file, tries};
+use super::{File, Wanted, same, shelf_of, tries};
 use im_io::MemShelf;
 use std::alloc::Global;
 use std::process::Abort;
@@ -26,95 +26,98 @@ pub(super) fn image_text(alloc: Global, entry: u32, words: &[u32]) -> Result<Vec
 }
 
 // A shelf with one image.
-fn shelf_of(alloc: Global, text: &[u8]) -> Result<MemShelf, Fail> {
-    let mut files: Vec<File> = Vec::new(alloc);
-    files.push(file(alloc, "x.img", text)?)?;
-    files.push(file(alloc, "twice", b"3 0 2")?)?;
-    files.push(file(alloc, "never", b"")?)?;
-    Ok(MemShelf::new(alloc, &files, &[])?)
+fn shelf(alloc: Global, text: &[u8]) -> Result<MemShelf, Fail> {
+    let files: [File<'_>; 3] = [
+        ("x.img", Some(text), 0),
+        ("twice", Some(b"3 0 2"), 0),
+        ("never", Some(b""), 0),
+    ];
+    shelf_of(alloc, &files, 0)
 }
+
+/// Code words, status and lines. INDEX is 7 behind the last but two; the last but one leaves its
+/// period before it halts, the last flips INDEX twice.
+const RUNS: [(&[u32], &str, u8, &[u8]); 12] = [
+    (&[HALT], "", 0, b"status 0\ncommits 0\ninstructions 1\n"),
+    (
+        &[0x0000_0073],
+        "",
+        10,
+        b"intermit: machine fault at 0x00001000\ncommits 0\ninstructions 1\n",
+    ),
+    (
+        &[0x0000_0000],
+        "",
+        10,
+        b"intermit: machine fault at 0x00001000\ncommits 0\ninstructions 1\n",
+    ),
+    (
+        &[0x0000_0013],
+        "",
+        10,
+        b"intermit: machine fault at 0x00001004\ncommits 0\ninstructions 2\n",
+    ),
+    (
+        &[0x0800_0067],
+        "",
+        10,
+        b"intermit: machine fault at 0x00000080\ncommits 0\ninstructions 2\n",
+    ),
+    (
+        &[0x0020_0067],
+        "",
+        10,
+        b"intermit: machine fault at 0x00000002\ncommits 0\ninstructions 2\n",
+    ),
+    (
+        &[0x0020_2283],
+        "",
+        10,
+        b"intermit: machine fault at 0x00001000\ncommits 0\ninstructions 1\n",
+    ),
+    (
+        &[0xffff_f2b7, 0x0002_a303],
+        "",
+        10,
+        b"intermit: machine fault at 0x00001004\ncommits 0\ninstructions 2\n",
+    ),
+    (
+        &[0x0070_0213, 0x0040_2023, HALT],
+        "",
+        0,
+        b"status 0\ncommits 1\ninstructions 3\n",
+    ),
+    (
+        &[HALT],
+        " --trace never",
+        4,
+        b"intermit: out of power\ncommits 0\ninstructions 0\n",
+    ),
+    (
+        &[0x0000_0013, HALT],
+        " --steps 1",
+        4,
+        b"intermit: out of power\ncommits 0\ninstructions 1\n",
+    ),
+    (
+        &[0x0000_2203, 0x0012_4213, 0x0040_2023],
+        " --trace twice",
+        4,
+        b"intermit: out of power\ncommits 2\ninstructions 6\n",
+    ),
+];
 
 #[test]
 fn images_are_run(rt: HostRuntime) -> Result<(), Fail> {
-    // Code words, status and lines. INDEX is 7 behind the last but two; the last but one leaves its
-    // period before it halts, the last flips INDEX twice.
-    let table: [(&[u32], &str, u8, &[u8]); 12] = [
-        (&[HALT], "", 0, b"status 0\ncommits 0\ninstructions 1\n"),
-        (
-            &[0x0000_0073],
-            "",
-            10,
-            b"intermit: machine fault at 0x00001000\ncommits 0\ninstructions 1\n",
-        ),
-        (
-            &[0x0000_0000],
-            "",
-            10,
-            b"intermit: machine fault at 0x00001000\ncommits 0\ninstructions 1\n",
-        ),
-        (
-            &[0x0000_0013],
-            "",
-            10,
-            b"intermit: machine fault at 0x00001004\ncommits 0\ninstructions 2\n",
-        ),
-        (
-            &[0x0800_0067],
-            "",
-            10,
-            b"intermit: machine fault at 0x00000080\ncommits 0\ninstructions 2\n",
-        ),
-        (
-            &[0x0020_0067],
-            "",
-            10,
-            b"intermit: machine fault at 0x00000002\ncommits 0\ninstructions 2\n",
-        ),
-        (
-            &[0x0020_2283],
-            "",
-            10,
-            b"intermit: machine fault at 0x00001000\ncommits 0\ninstructions 1\n",
-        ),
-        (
-            &[0xffff_f2b7, 0x0002_a303],
-            "",
-            10,
-            b"intermit: machine fault at 0x00001004\ncommits 0\ninstructions 2\n",
-        ),
-        (
-            &[0x0070_0213, 0x0040_2023, HALT],
-            "",
-            0,
-            b"status 0\ncommits 1\ninstructions 3\n",
-        ),
-        (
-            &[HALT],
-            " --trace never",
-            4,
-            b"intermit: out of power\ncommits 0\ninstructions 0\n",
-        ),
-        (
-            &[0x0000_0013, HALT],
-            " --steps 1",
-            4,
-            b"intermit: out of power\ncommits 0\ninstructions 1\n",
-        ),
-        (
-            &[0x0000_2203, 0x0012_4213, 0x0040_2023],
-            " --trace twice",
-            4,
-            b"intermit: out of power\ncommits 2\ninstructions 6\n",
-        ),
-    ];
-    for (words, options, status, lines) in table {
+    for row in &RUNS {
+        let (words, options, status, lines) = *row;
         let wanted = Wanted {
             status,
             output: b"",
             lines,
         };
         let text = image_text(rt.alloc(), 0x1000, words)?;
-        let mut shelf = shelf_of(rt.alloc(), &text)?;
+        let mut shelf = shelf(rt.alloc(), &text)?;
         let command = format!(in rt.alloc(); "intermit exec x.img{options}")?;
         tries(&rt, rt.alloc(), &mut shelf, 1000, command.as_str(), &wanted)?;
     }
@@ -125,7 +128,7 @@ fn images_are_run(rt: HostRuntime) -> Result<(), Fail> {
 fn stack_that_is_exhausted_is_told(rt: HostRuntime) -> Result<(), Fail> {
     // addi x5, x0, 1; sw x5, 8(x0); ebreak: REASON is 1.
     let text = image_text(rt.alloc(), 0x1000, &[0x0010_0293, 0x0050_2423, HALT])?;
-    let mut shelf = shelf_of(rt.alloc(), &text)?;
+    let mut shelf = shelf(rt.alloc(), &text)?;
     let wanted = Wanted {
         status: 1,
         output: b"",
@@ -145,7 +148,7 @@ fn stack_that_is_exhausted_is_told(rt: HostRuntime) -> Result<(), Fail> {
 fn output_is_as_long_as_its_area_at_most(rt: HostRuntime) -> Result<(), Fail> {
     // addi x5, x0, -1; sw x5, 12(x0); ebreak: OUT_LEN is 4294967295.
     let text = image_text(rt.alloc(), 0x1000, &[0xfff0_0293, 0x0050_2623, HALT])?;
-    let mut shelf = shelf_of(rt.alloc(), &text)?;
+    let mut shelf = shelf(rt.alloc(), &text)?;
     let mut zeros = Vec::new(rt.alloc());
     zeros.resize(1_048_576, 0)?;
     let wanted = Wanted {
@@ -166,7 +169,7 @@ fn output_is_as_long_as_its_area_at_most(rt: HostRuntime) -> Result<(), Fail> {
 #[test]
 fn an_image_is_shown(rt: HostRuntime) -> Result<(), Fail> {
     let text = image_text(rt.alloc(), 0x1000, &[HALT])?;
-    let mut shelf = shelf_of(rt.alloc(), &text)?;
+    let mut shelf = shelf(rt.alloc(), &text)?;
     let wanted = Wanted {
         status: 0,
         output: b"version 1\ncode 1\nstatics 0\nstack 256\nout-cap 0\nentry 00001000\n00001000: 00100073 ebreak\n",
@@ -216,7 +219,7 @@ fn text_with_variables(alloc: Global) -> Result<Vec<u8>, Fail> {
 #[test]
 fn variables_are_shown(rt: HostRuntime) -> Result<(), Fail> {
     let text = text_with_variables(rt.alloc())?;
-    let mut shelf = shelf_of(rt.alloc(), &text)?;
+    let mut shelf = shelf(rt.alloc(), &text)?;
     let wanted = Wanted {
         status: 0,
         output: b"",
@@ -239,14 +242,14 @@ fn refuses(rt: &impl Abort, alloc: Global, text: &[u8], line: &[u8]) -> Result<(
         output: b"",
         lines: line,
     };
-    let mut shelf = shelf_of(alloc, text)?;
+    let mut shelf = shelf(alloc, text)?;
     tries(rt, alloc, &mut shelf, 1000, "intermit exec x.img", &wanted)
 }
 
 #[test]
 fn short_and_long_images_are_refused(rt: HostRuntime) -> Result<(), Fail> {
     let mut text = image_text(rt.alloc(), 0x1000, &[HALT])?;
-    assert_eq!(rt; text.len(), 36);
+    same(&rt, "bytes", &text.len(), &36);
     for k in 0..text.len() {
         let line = format!(in rt.alloc(); "intermit: x.img: short image at {k}\n")?;
         refuses(&rt, rt.alloc(), &text[..k], line.as_bytes())?;

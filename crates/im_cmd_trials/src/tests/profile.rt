@@ -1,5 +1,5 @@
-use super::sources::{loses_power_once, shelf, tells};
-use super::{Wanted, tries};
+use super::Wanted;
+use super::sources::{are_refused, loses_power_once, shelf, tells};
 use std::test::Fail;
 
 /// Structs in an array that point to one another, and a string.
@@ -77,40 +77,42 @@ const TURNED: &[u8] = b"int main(void) {
 }
 ";
 
+/// A source, the options, the output, and lines among those of the run.
+const RUNS: [(&[u8], &str, &[u8], &[u8]); 7] = [
+    (
+        ITEMS,
+        " --vars",
+        b"hi",
+        b"status -6\nvar items 97 1 items+12 98 -6 items+0\nvar first items+0\nvar text $1+0\nvar $1 104 105 0",
+    ),
+    (
+        ITEMS,
+        " --trace some --vars",
+        b"hi",
+        b"status -6\nvar first items+0",
+    ),
+    (
+        ROWS,
+        " --vars",
+        b"",
+        b"status 2\nvar m 1 2 3 4 0 -10\nvar total 10",
+    ),
+    (COPIED, " --vars", b"", b"status 7\nvar kept local 122"),
+    (
+        EXCHANGED,
+        " --vars",
+        b"",
+        b"status 2\nvar a 3 4 1 2\nvar p a+8",
+    ),
+    (TURNED, " --input A", b"!A", b"status 6"),
+    (TURNED, "", b"!", b"status 7"),
+];
+
 #[test]
 fn sources_with_pointers_are_run(rt: HostRuntime) -> Result<(), Fail> {
     let alloc = rt.alloc();
-    // A source, the options, the output, and lines among those of the run.
-    let table: [(&[u8], &str, &[u8], &[u8]); 7] = [
-        (
-            ITEMS,
-            " --vars",
-            b"hi",
-            b"status -6\nvar items 97 1 items+12 98 -6 items+0\nvar first items+0\nvar text $1+0\nvar $1 104 105 0",
-        ),
-        (
-            ITEMS,
-            " --trace some --vars",
-            b"hi",
-            b"status -6\nvar first items+0",
-        ),
-        (
-            ROWS,
-            " --vars",
-            b"",
-            b"status 2\nvar m 1 2 3 4 0 -10\nvar total 10",
-        ),
-        (COPIED, " --vars", b"", b"status 7\nvar kept local 122"),
-        (
-            EXCHANGED,
-            " --vars",
-            b"",
-            b"status 2\nvar a 3 4 1 2\nvar p a+8",
-        ),
-        (TURNED, " --input A", b"!A", b"status 6"),
-        (TURNED, "", b"!", b"status 7"),
-    ];
-    for (source, options, output, lines) in table {
+    for row in &RUNS {
+        let (source, options, output, lines) = *row;
         let wanted = Wanted {
             status: 0,
             output,
@@ -133,53 +135,43 @@ fn power_is_lost_among_aliases(rt: HostRuntime) -> Result<(), Fail> {
     loses_power_once(&rt, rt.alloc(), ALIASED, &wanted)
 }
 
+/// A source, and why it is refused.
+const REFUSED: [(&[u8], &[u8]); 8] = [
+    (
+        b"int x;int main(void){\nreturn *x;}",
+        b"intermit: s.c:2: rule 24\n",
+    ),
+    (
+        b"const int k=1;\nint*p=&k;int main(void){return 0;}",
+        b"intermit: s.c:2: rule 17\n",
+    ),
+    (
+        b"struct s;struct s*p;int main(void){\n\nreturn p->a;}",
+        b"intermit: s.c:3: rule 21\n",
+    ),
+    (
+        b"void*p;int main(void){return 0;}",
+        b"intermit: s.c:1: rule 10\n",
+    ),
+    (
+        b"int a[2]={1,2,3};int main(void){return 0;}",
+        b"intermit: s.c:1: rule 16\n",
+    ),
+    (
+        b"char a[1048576];int main(void){return 0;}",
+        b"intermit: s.c: statics 1048580 over 1048576\n",
+    ),
+    (
+        b"int main(void){return sizeof(int[262145]);}",
+        b"intermit: s.c: size 1048580 over 1048576\n",
+    ),
+    (
+        b"int main(void){union u x;return 0;}",
+        b"intermit: s.c:1: syntax\n",
+    ),
+];
+
 #[test]
 fn sources_with_pointers_are_refused(rt: HostRuntime) -> Result<(), Fail> {
-    let alloc = rt.alloc();
-    // A source, and why it is refused.
-    let table: [(&[u8], &[u8]); 8] = [
-        (
-            b"int x;int main(void){\nreturn *x;}",
-            b"intermit: s.c:2: rule 24\n",
-        ),
-        (
-            b"const int k=1;\nint*p=&k;int main(void){return 0;}",
-            b"intermit: s.c:2: rule 17\n",
-        ),
-        (
-            b"struct s;struct s*p;int main(void){\n\nreturn p->a;}",
-            b"intermit: s.c:3: rule 21\n",
-        ),
-        (
-            b"void*p;int main(void){return 0;}",
-            b"intermit: s.c:1: rule 10\n",
-        ),
-        (
-            b"int a[2]={1,2,3};int main(void){return 0;}",
-            b"intermit: s.c:1: rule 16\n",
-        ),
-        (
-            b"char a[1048576];int main(void){return 0;}",
-            b"intermit: s.c: statics 1048580 over 1048576\n",
-        ),
-        (
-            b"int main(void){return sizeof(int[262145]);}",
-            b"intermit: s.c: size 1048580 over 1048576\n",
-        ),
-        (
-            b"int main(void){union u x;return 0;}",
-            b"intermit: s.c:1: syntax\n",
-        ),
-    ];
-    for (source, lines) in table {
-        let wanted = Wanted {
-            status: 3,
-            output: b"",
-            lines,
-        };
-        let mut shelf = shelf(alloc, source, 0)?;
-        tries(&rt, alloc, &mut shelf, 1000, "intermit run s.c i", &wanted)?;
-        assert!(rt; shelf.file("i") == None);
-    }
-    Ok(())
+    are_refused(&rt, rt.alloc(), &REFUSED)
 }

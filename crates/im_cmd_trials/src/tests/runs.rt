@@ -1,7 +1,6 @@
 use super::images::image_text;
-use super::{File, Wanted, file, tries};
+use super::{File, Wanted, same, shelf_of, tries};
 use im_ckpt::recovery_lines;
-use im_io::MemShelf;
 use im_rv::encode::encode;
 use std::alloc::Global;
 use std::test::Fail;
@@ -43,32 +42,36 @@ fn cutting_loop(alloc: Global) -> Result<Vec<u32>, Fail> {
     Ok(words)
 }
 
+/// A command and its lines.
+const PERIODS: [(&str, &[u8]); 3] = [
+    (
+        "intermit exec loop.img --trace long",
+        b"intermit: out of power\ncommits 10\ninstructions 690\n",
+    ),
+    (
+        "intermit exec loop.img --trace short",
+        b"intermit: out of power\ncommits 2\ninstructions 680\n",
+    ),
+    (
+        "intermit exec loop.img --trace junk",
+        b"intermit: out of power\ncommits 10\ninstructions 690\n",
+    ),
+];
+
 #[test]
 fn a_loop_of_cuts_gets_on_by_periods_of_its_gap(rt: HostRuntime) -> Result<(), Fail> {
     let words = cutting_loop(rt.alloc())?;
-    assert_eq!(rt; words.len(), 133);
-    let mut files: Vec<File> = Vec::new(rt.alloc());
+    same(&rt, "words", &words.len(), &133);
     let text = image_text(rt.alloc(), 0x120c, &words)?;
-    files.push(file(rt.alloc(), "loop.img", &text)?)?;
-    files.push(file(rt.alloc(), "long", b"69 0 10")?)?;
-    files.push(file(rt.alloc(), "short", b"68 0 10")?)?;
-    files.push(file(rt.alloc(), "junk", b"69 4294967295 5\n69 7 5\n")?)?;
-    let mut shelf = MemShelf::new(rt.alloc(), &files, &[])?;
-    let table: [(&str, &[u8]); 3] = [
-        (
-            "intermit exec loop.img --trace long",
-            b"intermit: out of power\ncommits 10\ninstructions 690\n",
-        ),
-        (
-            "intermit exec loop.img --trace short",
-            b"intermit: out of power\ncommits 2\ninstructions 680\n",
-        ),
-        (
-            "intermit exec loop.img --trace junk",
-            b"intermit: out of power\ncommits 10\ninstructions 690\n",
-        ),
+    let files: [File<'_>; 4] = [
+        ("loop.img", Some(&text), 0),
+        ("long", Some(b"69 0 10"), 0),
+        ("short", Some(b"68 0 10"), 0),
+        ("junk", Some(b"69 4294967295 5\n69 7 5\n"), 0),
     ];
-    for (command, lines) in table {
+    let mut shelf = shelf_of(rt.alloc(), &files, 0)?;
+    for row in &PERIODS {
+        let (command, lines) = *row;
         let wanted = Wanted {
             status: 4,
             output: b"",
@@ -79,25 +82,23 @@ fn a_loop_of_cuts_gets_on_by_periods_of_its_gap(rt: HostRuntime) -> Result<(), F
     Ok(())
 }
 
+/// A trace, and why it is refused.
+const FAULTY: [(&[u8], &[u8]); 6] = [
+    (b"5 0 0", b"intermit: t: zero repeat at line 1\n"),
+    (b"4294967296", b"intermit: t: bad line 1\n"),
+    (b"1 0 1000001", b"intermit: t: too many periods 1000001\n"),
+    (b"1 2 3 4 5", b"intermit: t: bad line 1\n"),
+    (b"; a remark\n\n1,2", b"intermit: t: bad line 3\n"),
+    (b"-1", b"intermit: t: bad line 1\n"),
+];
+
 #[test]
 fn faulty_traces_are_told(rt: HostRuntime) -> Result<(), Fail> {
-    let table: [(&[u8], &[u8]); 6] = [
-        (b"5 0 0", b"intermit: t: zero repeat at line 1\n"),
-        (b"4294967296", b"intermit: t: bad line 1\n"),
-        (b"1 0 1000001", b"intermit: t: too many periods 1000001\n"),
-        (b"1 2 3 4 5", b"intermit: t: bad line 1\n"),
-        (b"; a remark\n\n1,2", b"intermit: t: bad line 3\n"),
-        (b"-1", b"intermit: t: bad line 1\n"),
-    ];
-    for (trace, lines) in table {
-        let mut files: Vec<File> = Vec::new(rt.alloc());
-        files.push(file(
-            rt.alloc(),
-            "x.img",
-            &image_text(rt.alloc(), 0x1000, &[0x0010_0073])?,
-        )?)?;
-        files.push(file(rt.alloc(), "t", trace)?)?;
-        let mut shelf = MemShelf::new(rt.alloc(), &files, &[])?;
+    let text = image_text(rt.alloc(), 0x1000, &[0x0010_0073])?;
+    for row in &FAULTY {
+        let (trace, lines) = *row;
+        let files: [File<'_>; 2] = [("x.img", Some(&text), 0), ("t", Some(trace), 0)];
+        let mut shelf = shelf_of(rt.alloc(), &files, 0)?;
         let wanted = Wanted {
             status: 6,
             output: b"",

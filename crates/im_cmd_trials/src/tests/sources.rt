@@ -1,4 +1,4 @@
-use super::{File, Wanted, file, tries, words_of};
+use super::{File, Wanted, same, shelf_of, tries, words_of};
 use im_cmd::top;
 use im_io::{MemShelf, MemSink};
 use std::alloc::Global;
@@ -38,14 +38,15 @@ const DEEP: &[u8] = b"int f(int n){if(n==0)return 0;return f(n-1);}int main(void
 
 // A source, traces, an input, and room for an image that isn't there yet.
 pub(super) fn shelf(alloc: Global, source: &[u8], failing: u64) -> Result<MemShelf, Fail> {
-    let mut files: Vec<File> = Vec::new(alloc);
-    files.push(file(alloc, "s.c", source)?)?;
-    files.push(file(alloc, "short", b"10 0 50\n")?)?;
-    files.push(file(alloc, "long", b"; one long period\n1000000 4294967295\n")?)?;
-    files.push(file(alloc, "some", b"200 4294967295 5\n200 0 5\n1000000\n")?)?;
-    files.push(file(alloc, "A", b"A")?)?;
-    files.push((String::from_str(alloc, "i")?, None, 65536))?;
-    Ok(MemShelf::new(alloc, &files, &[failing])?)
+    let files: [File<'_>; 6] = [
+        ("s.c", Some(source), 0),
+        ("short", Some(b"10 0 50\n"), 0),
+        ("long", Some(b"; one long period\n1000000 4294967295\n"), 0),
+        ("some", Some(b"200 4294967295 5\n200 0 5\n1000000\n"), 0),
+        ("A", Some(b"A"), 0),
+        ("i", None, 65536),
+    ];
+    shelf_of(alloc, &files, failing)
 }
 
 fn has_line(told: &[u8], wanted: &[u8]) -> bool {
@@ -72,64 +73,66 @@ pub(super) fn tells(
     for line in wanted.lines.split(|byte| *byte == b'\n') {
         assert!(rt; has_line(err.contents(), line), "at {command}");
     }
-    assert_eq!(rt; out.contents(), wanted.output, "at {command}");
-    assert_eq!(rt; status, wanted.status, "at {command}");
+    same(rt, command, &out.contents(), &wanted.output);
+    same(rt, command, &status, &wanted.status);
     Ok(())
 }
+
+/// A source, the options, the status, the output, and lines among those of the run.
+const RUNS: [(&[u8], &str, u8, &[u8], &[u8]); 16] = [
+    (HELLO, "", 0, b"H", b"status 7"),
+    (HELLO, " --trace long --vars", 0, b"H", b"status 7"),
+    (
+        HELLO,
+        " --trace short",
+        4,
+        b"",
+        b"intermit: out of power\ncommits 0\ninstructions 500",
+    ),
+    (b"int main(void){}", "", 0, b"", b"status 0"),
+    (TWICE, " --vars", 0, b"\x02", b"status 2\nvar g 2"),
+    (
+        TWICE,
+        " --trace=some --vars",
+        0,
+        b"\x02",
+        b"status 2\nvar g 2",
+    ),
+    (SQUARES, " --vars", 0, b"bcde", b"status 30\nvar sum 30"),
+    (
+        SIGNED,
+        " --vars",
+        0,
+        b"",
+        b"status 0\nvar a -3\nvar b -1\nvar c -56\nvar d -1\nvar e -2147483648",
+    ),
+    (READS, "", 0, b"", b"status -1001"),
+    (READS, " --input A", 0, b"", b"status 64999"),
+    (TWO_BYTES, "", 0, b"AB", b"status 1"),
+    (TWO_BYTES, " --out-cap 0", 0, b"", b"status 0"),
+    (TWO_BYTES, " --vars --out-cap=1", 0, b"A", b"status -66"),
+    (
+        b"int main(void){int i;i=1;i=i++ + 2*i;return i;}",
+        "",
+        0,
+        b"",
+        b"status 5",
+    ),
+    (DEEP, "", 0, b"", b"status 0"),
+    (
+        b"int main(void){for(;;);}",
+        " --steps 1000",
+        4,
+        b"",
+        b"intermit: out of power\ninstructions 1000",
+    ),
+];
 
 #[test]
 fn sources_are_run(rt: HostRuntime) -> Result<(), Fail> {
     let alloc = rt.alloc();
-    // A source, the options, the status, the output, and lines among those of the run.
-    let table: [(&[u8], &str, u8, &[u8], &[u8]); 16] = [
-        (HELLO, "", 0, b"H", b"status 7"),
-        (HELLO, " --trace long --vars", 0, b"H", b"status 7"),
-        (
-            HELLO,
-            " --trace short",
-            4,
-            b"",
-            b"intermit: out of power\ncommits 0\ninstructions 500",
-        ),
-        (b"int main(void){}", "", 0, b"", b"status 0"),
-        (TWICE, " --vars", 0, b"\x02", b"status 2\nvar g 2"),
-        (
-            TWICE,
-            " --trace=some --vars",
-            0,
-            b"\x02",
-            b"status 2\nvar g 2",
-        ),
-        (SQUARES, " --vars", 0, b"bcde", b"status 30\nvar sum 30"),
-        (
-            SIGNED,
-            " --vars",
-            0,
-            b"",
-            b"status 0\nvar a -3\nvar b -1\nvar c -56\nvar d -1\nvar e -2147483648",
-        ),
-        (READS, "", 0, b"", b"status -1001"),
-        (READS, " --input A", 0, b"", b"status 64999"),
-        (TWO_BYTES, "", 0, b"AB", b"status 1"),
-        (TWO_BYTES, " --out-cap 0", 0, b"", b"status 0"),
-        (TWO_BYTES, " --vars --out-cap=1", 0, b"A", b"status -66"),
-        (
-            b"int main(void){int i;i=1;i=i++ + 2*i;return i;}",
-            "",
-            0,
-            b"",
-            b"status 5",
-        ),
-        (DEEP, "", 0, b"", b"status 0"),
-        (
-            b"int main(void){for(;;);}",
-            " --steps 1000",
-            4,
-            b"",
-            b"intermit: out of power\ninstructions 1000",
-        ),
-    ];
-    for (source, options, status, output, lines) in table {
+    for row in &RUNS {
+        let (source, options, status, output, lines) = *row;
         let wanted = Wanted {
             status,
             output,
@@ -139,162 +142,174 @@ fn sources_are_run(rt: HostRuntime) -> Result<(), Fail> {
         let command = format!(in alloc; "intermit run s.c i{options}")?;
         tells(&rt, alloc, &mut shelf, &command, &wanted)?;
         let image = shelf.file("i").ok_or("no image")?;
-        assert!(rt; image.starts_with(b"IMRV"));
+        same(&rt, &command, &image.starts_with(b"IMRV"), &true);
     }
     Ok(())
 }
 
-#[test]
-fn sources_are_refused(rt: HostRuntime) -> Result<(), Fail> {
-    let alloc = rt.alloc();
-    // A source, and why it is refused.
-    let table: [(&[u8], &[u8]); 9] = [
-        (b"", b"intermit: s.c:1: syntax\n"),
-        (
-            b"int main(void){\nreturn 7;\n",
-            b"intermit: s.c:3: syntax\n",
-        ),
-        (b"int x;\n@", b"intermit: s.c:2: bad byte\n"),
-        (b"#define N 3", b"intermit: s.c:1: bad directive\n"),
-        (
-            b"int main(void){return 0;}\n/*",
-            b"intermit: s.c:2: open comment\n",
-        ),
-        (b"int main(void){return x;}", b"intermit: s.c:1: rule 18\n"),
-        (
-            b"\nint main(void)\n{\n  1 = 2;\n}\n",
-            b"intermit: s.c:4: rule 22\n",
-        ),
-        (
-            b"int f(int a,int b,int c,int d,int e,int g,int h,int i,int j){return 0;}\nint main(void){return 0;}",
-            b"intermit: s.c: parameters 9 over 8\n",
-        ),
-        (
-            b"char a[1048577];int main(void){return 0;}",
-            b"intermit: s.c: size 1048577 over 1048576\n",
-        ),
-    ];
-    for (source, lines) in table {
+/// A source, and why it is refused.
+const REFUSED: [(&[u8], &[u8]); 9] = [
+    (b"", b"intermit: s.c:1: syntax\n"),
+    (
+        b"int main(void){\nreturn 7;\n",
+        b"intermit: s.c:3: syntax\n",
+    ),
+    (b"int x;\n@", b"intermit: s.c:2: bad byte\n"),
+    (b"#define N 3", b"intermit: s.c:1: bad directive\n"),
+    (
+        b"int main(void){return 0;}\n/*",
+        b"intermit: s.c:2: open comment\n",
+    ),
+    (b"int main(void){return x;}", b"intermit: s.c:1: rule 18\n"),
+    (
+        b"\nint main(void)\n{\n  1 = 2;\n}\n",
+        b"intermit: s.c:4: rule 22\n",
+    ),
+    (
+        b"int f(int a,int b,int c,int d,int e,int g,int h,int i,int j){return 0;}\nint main(void){return 0;}",
+        b"intermit: s.c: parameters 9 over 8\n",
+    ),
+    (
+        b"char a[1048577];int main(void){return 0;}",
+        b"intermit: s.c: size 1048577 over 1048576\n",
+    ),
+];
+
+// Sees that sources are refused, each with its line, and that no image is stored.
+pub(super) fn are_refused(
+    rt: &impl Abort,
+    alloc: Global,
+    rows: &[(&[u8], &[u8])],
+) -> Result<(), Fail> {
+    for row in rows {
+        let (source, lines) = *row;
         let wanted = Wanted {
             status: 3,
             output: b"",
             lines,
         };
         let mut shelf = shelf(alloc, source, 0)?;
-        tries(&rt, alloc, &mut shelf, 1000, "intermit run s.c i", &wanted)?;
-        assert!(rt; shelf.file("i") == None);
+        tries(rt, alloc, &mut shelf, 1000, "intermit run s.c i", &wanted)?;
+        same(rt, "an image", &shelf.file("i").is_some(), &false);
     }
     Ok(())
 }
 
 #[test]
+fn sources_are_refused(rt: HostRuntime) -> Result<(), Fail> {
+    are_refused(&rt, rt.alloc(), &REFUSED)
+}
+
+/// A command, which call of the shelf, of `out` and of `err` fails; the status, what the streams
+/// took, and whether the image is stored.
+const FAILURES: [(&str, u64, u64, u64, u8, &[u8], &[u8], bool); 10] = [
+    (
+        "intermit build none.c i",
+        0,
+        0,
+        0,
+        7,
+        b"",
+        b"intermit: cannot read none.c\n",
+        false,
+    ),
+    (
+        "intermit run s.c i",
+        1,
+        0,
+        0,
+        7,
+        b"",
+        b"intermit: cannot read s.c\n",
+        false,
+    ),
+    (
+        "intermit run s.c i",
+        3,
+        0,
+        0,
+        7,
+        b"",
+        b"intermit: cannot read s.c\n",
+        false,
+    ),
+    (
+        "intermit build s.c i",
+        4,
+        0,
+        0,
+        8,
+        b"",
+        b"intermit: cannot write i\n",
+        false,
+    ),
+    (
+        "intermit run s.c none",
+        0,
+        0,
+        0,
+        8,
+        b"",
+        b"intermit: cannot write none\n",
+        false,
+    ),
+    (
+        "intermit run s.c i --input none",
+        0,
+        0,
+        0,
+        7,
+        b"",
+        b"intermit: cannot read none\n",
+        true,
+    ),
+    (
+        "intermit run s.c i --trace none",
+        0,
+        0,
+        0,
+        7,
+        b"",
+        b"intermit: cannot read none\n",
+        true,
+    ),
+    (
+        "intermit run s.c i",
+        0,
+        1,
+        0,
+        8,
+        b"",
+        b"intermit: cannot write output\n",
+        true,
+    ),
+    ("intermit run s.c i", 0, 0, 2, 8, b"H", b"code ", true),
+    (
+        "intermit build s.c i",
+        0,
+        2,
+        0,
+        8,
+        b"code ",
+        b"intermit: cannot write output\n",
+        true,
+    ),
+];
+
+#[test]
 fn files_and_streams_fail(rt: HostRuntime) -> Result<(), Fail> {
     let alloc = rt.alloc();
-    // A command, which call of the shelf, of `out` and of `err` fails; the status, what the streams
-    // took, and whether the image is stored.
-    let table: [(&str, u64, u64, u64, u8, &[u8], &[u8], bool); 10] = [
-        (
-            "intermit build none.c i",
-            0,
-            0,
-            0,
-            7,
-            b"",
-            b"intermit: cannot read none.c\n",
-            false,
-        ),
-        (
-            "intermit run s.c i",
-            1,
-            0,
-            0,
-            7,
-            b"",
-            b"intermit: cannot read s.c\n",
-            false,
-        ),
-        (
-            "intermit run s.c i",
-            3,
-            0,
-            0,
-            7,
-            b"",
-            b"intermit: cannot read s.c\n",
-            false,
-        ),
-        (
-            "intermit build s.c i",
-            4,
-            0,
-            0,
-            8,
-            b"",
-            b"intermit: cannot write i\n",
-            false,
-        ),
-        (
-            "intermit run s.c none",
-            0,
-            0,
-            0,
-            8,
-            b"",
-            b"intermit: cannot write none\n",
-            false,
-        ),
-        (
-            "intermit run s.c i --input none",
-            0,
-            0,
-            0,
-            7,
-            b"",
-            b"intermit: cannot read none\n",
-            true,
-        ),
-        (
-            "intermit run s.c i --trace none",
-            0,
-            0,
-            0,
-            7,
-            b"",
-            b"intermit: cannot read none\n",
-            true,
-        ),
-        (
-            "intermit run s.c i",
-            0,
-            1,
-            0,
-            8,
-            b"",
-            b"intermit: cannot write output\n",
-            true,
-        ),
-        ("intermit run s.c i", 0, 0, 2, 8, b"H", b"code ", true),
-        (
-            "intermit build s.c i",
-            0,
-            2,
-            0,
-            8,
-            b"code ",
-            b"intermit: cannot write output\n",
-            true,
-        ),
-    ];
-    for (command, files_fail, out_fails, err_fails, status, output, lines, stored) in table {
+    for row in &FAILURES {
+        let (command, files_fail, out_fails, err_fails, status, output, lines, stored) = *row;
         let words = words_of(alloc, command)?;
         let mut shelf = shelf(alloc, HELLO, files_fail)?;
         let mut out = MemSink::new(alloc, 1000, &[out_fails])?;
         let mut err = MemSink::new(alloc, 1000, &[err_fails])?;
         let answer = top(alloc, &words, &mut shelf, &mut out, &mut err);
-        assert_eq!(rt; err.contents(), lines, "at {command}");
-        assert_eq!(rt; out.contents(), output, "at {command}");
-        assert_eq!(rt; answer, status, "at {command}");
-        assert_eq!(rt; shelf.file("i").is_some(), stored, "at {command}");
+        same(&rt, command, &err.contents(), &lines);
+        same(&rt, command, &out.contents(), &output);
+        same(&rt, command, &answer, &status);
+        same(&rt, command, &shelf.file("i").is_some(), &stored);
     }
     Ok(())
 }
@@ -302,10 +317,8 @@ fn files_and_streams_fail(rt: HostRuntime) -> Result<(), Fail> {
 // A shelf with an image, and a trace of so many instructions before power is lost once.
 fn cut_after(alloc: Global, image: &[u8], instructions: u32) -> Result<MemShelf, Fail> {
     let trace = format!(in alloc; "{instructions}\n1000000\n")?;
-    let mut files: Vec<File> = Vec::new(alloc);
-    files.push(file(alloc, "i", image)?)?;
-    files.push(file(alloc, "cut", trace.as_bytes())?)?;
-    Ok(MemShelf::new(alloc, &files, &[])?)
+    let files: [File<'_>; 2] = [("i", Some(image), 0), ("cut", Some(trace.as_bytes()), 0)];
+    shelf_of(alloc, &files, 0)
 }
 
 // Builds a source, and loses power once after each of the first instructions of its image.
@@ -356,9 +369,8 @@ fn words_that_name_no_command_are_refused(rt: HostRuntime) -> Result<(), Fail> {
         let mut out = MemSink::new(alloc, 1000, &[])?;
         let mut err = MemSink::new(alloc, 10000, &[])?;
         let status = top(alloc, &words, &mut shelf, &mut out, &mut err);
-        assert_eq!(rt; status, 2, "at {text}");
-        assert!(rt; out.contents().is_empty());
-        assert!(rt; shelf.file("i") == None);
+        let is_quiet = out.contents().is_empty() && shelf.file("i").is_none();
+        same(&rt, text, &(status, is_quiet), &(2, true));
     }
     Ok(())
 }

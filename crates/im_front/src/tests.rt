@@ -1,4 +1,0 @@
-mod declarations;
-mod runs;
-mod statements;
-mod texts;
