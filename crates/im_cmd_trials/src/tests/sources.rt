@@ -314,10 +314,9 @@ fn files_and_streams_fail(rt: HostRuntime) -> Result<(), Fail> {
     Ok(())
 }
 
-// A shelf with an image, and a trace of so many instructions before power is lost once.
-fn cut_after(alloc: Global, image: &[u8], instructions: u32) -> Result<MemShelf, Fail> {
-    let trace = format!(in alloc; "{instructions}\n1000000\n")?;
-    let files: [File<'_>; 2] = [("i", Some(image), 0), ("cut", Some(trace.as_bytes()), 0)];
+// A shelf with an image and a trace.
+fn with_trace<'a>(alloc: Global, image: &'a [u8], trace: &'a [u8]) -> Result<MemShelf, Fail> {
+    let files: [File<'a>; 2] = [("i", Some(image), 0), ("cut", Some(trace), 0)];
     shelf_of(alloc, &files, 0)
 }
 
@@ -332,7 +331,8 @@ pub(super) fn loses_power_once(
     tells(rt, alloc, &mut first, "intermit run s.c i --vars", wanted)?;
     let image = first.file("i").ok_or("no image")?;
     for instructions in 0..500 {
-        let mut shelf = cut_after(alloc, image, instructions)?;
+        let trace = format!(in alloc; "{instructions}\n1000000\n")?;
+        let mut shelf = with_trace(alloc, image, trace.as_bytes())?;
         tells(
             rt,
             alloc,
