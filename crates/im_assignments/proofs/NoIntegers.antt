@@ -4,8 +4,8 @@ use Rattle.im_ctree.specs.declared.operator.BinaryOp.{BinaryOp}
 use Rattle.im_ctype.specs.Types.{CType, Structs, void, integer, pointer, array, unsized, struct, function, is_integer}
 use Rattle.im_typed.specs.Program.{Place, Update}
 use Rattle.im_typed.specs.declared.expression.Change.TheVariants.{Move}
-use Rattle.im_rules.specs.Conversions.{updated, element_size, is_subtraction}
-use Rattle.im_rules.specs.Terms.{Value}
+use Rattle.im_pointers.specs.im_rules.Conversions.{updated, element_size, is_subtraction}
+use Rattle.im_pointers.specs.im_rules.Terms.{Value}
 
 pub updated-else : (known : Structs) (op : BinaryOp) (t : CType) (p : Place) (v : Value) → is_integer t ≡ false → updated known op t p v ≡ Update p (Move (element_size known t) (is_subtraction op)) v.expr
 updated-else known op void p v h = refl

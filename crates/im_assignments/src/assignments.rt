@@ -2,7 +2,7 @@
 ghost use Rattle.std.specs.Prelude.{◌≡◌, Some, None, IfOk, if◌then◌else◌};
 ghost use Rattle.im_ctype.specs.Table.{Table, structs_of};
 ghost use Rattle.im_ctype.specs.Types.{integer};
-ghost use Rattle.im_rules.specs.Conversions as c;
+ghost use Rattle.im_pointers.specs.im_rules.Conversions as c;
 ghost use Rattle.im_store.specs.declared.operators.BinaryOp.TheVariants as s;
 ghost use Rattle.im_typed.specs.Program as p;
 ghost use Rattle.im_typed.specs.declared.expression.Change.TheVariants as ch;

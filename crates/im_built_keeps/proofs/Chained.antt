@@ -14,7 +14,7 @@ use Rattle.im_block.specs.declared.unit.Function.{Function}
 use Rattle.im_block.specs.declared.unit.Unit.{Unit as Code}
 use Rattle.im_lowers.specs.Laws.{LowersLaw, NeedsFit}
 use Rattle.im_source.specs.Source.{source_of}
-use Rattle.im_passes.specs.Passes.{Selects}
+use Rattle.im_in_image.specs.im_passes.Passes.{Selects}
 use Rattle.im_middle.specs.Middle.{Chain}
 use Rattle.im_compile.specs.declared.options.Options.{Options}
 use Rattle.im_compile.specs.declared.built.Built.{Built}

@@ -11,13 +11,13 @@ use Rattle.im_recut.specs.Laws.{RecutKeepsLaw}
 use Rattle.im_alloc.specs.Settled.{IsSettled}
 use Rattle.im_alloc_laws.specs.Laws.{PlacedCodeLaw}
 use Rattle.im_linked.specs.Laws.{LinkableLaw}
-use Rattle.im_live.specs.Liveness.{IsLiveness, EntersByCuts}
+use Rattle.im_compile.specs.im_live.Liveness.{IsLiveness, EntersByCuts}
 use Rattle.im_live_code.specs.Laws.{LiveCodeLaw}
 use Rattle.im_executes.specs.Executing.{HasLiveness}
 use Rattle.im_executes.specs.Laws.{ExecutesLaw}
-use Rattle.im_packed.specs.Places.{linking_in}
+use Rattle.im_in_image.specs.im_packed.Places.{linking_in}
 use Rattle.im_in_image.specs.Laws.{IsImageOf, AllExecute, SelectsLaw}
-use Rattle.im_passes.specs.Passes.{setting}
+use Rattle.im_in_image.specs.im_passes.Passes.{setting}
 use Rattle.im_compile.specs.declared.options.Options.{Options}
 use Rattle.im_compile.specs.declared.built.Built.{Built}
 use Rattle.im_compile.specs.Passed.{IsPassed, IsReady, ReadyLaw}

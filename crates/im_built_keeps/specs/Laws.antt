@@ -4,7 +4,7 @@ use Rattle.im_gap.specs.Gap.{recovery_steps}
 use Rattle.im_typed.specs.declared.frames.Frame.{Frame}
 use Rattle.im_typed.specs.declared.program.Prog.{Prog}
 use Rattle.im_typed.specs.ProgramOf.{program_of}
-use Rattle.im_passes.specs.Passes.{Selects}
+use Rattle.im_in_image.specs.im_passes.Passes.{Selects}
 use Rattle.im_source.specs.Laws.{ProgramKeeps}
 use Rattle.im_compile.specs.declared.options.Options.{Options}
 use Rattle.im_compile.specs.declared.built.Built.{Built}

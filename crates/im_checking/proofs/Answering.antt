@@ -3,8 +3,8 @@ use Rattle.std.proofs.Common.{◌≡◌, ◌≤◌, ◌<◌, ℕ, zero, suc, Lis
 use Rattle.std.specs.List.{All}
 use Rattle.std.specs.Prelude.{Contains}
 use Rattle.im_ctree.specs.Tree as t
-use Rattle.im_ctype.specs.Table.{Table, IsIn}
-use Rattle.im_store.specs.Statics.{StaticObject}
+use Rattle.im_externals.specs.im_ctype.Table.{Table, IsIn}
+use Rattle.im_externals.specs.im_store.Statics.{StaticObject}
 use Rattle.im_typed.specs.declared.program.Func as rf
 use Rattle.im_typed.specs.declared.program.Prog.{Prog}
 use Rattle.im_typed.specs.declared.program.Static as rst
@@ -17,7 +17,7 @@ use Rattle.im_rule_limits.specs.Limits as l
 use Rattle.im_made.specs.MakeUnit.{HasTypes, KnowsTypes}
 use Rattle.im_more_structs.specs.Laws.{StatementsLaw, ObjectsLaw}
 use Rattle.im_unit_sound.specs.Laws.{UnitsLaw}
-use Rattle.im_places_sound.specs.Units.{IsWrittenUnit}
+use Rattle.im_unit_sound.specs.im_places_sound.Units.{IsWrittenUnit}
 use Rattle.im_stop.specs.declared.stop.Stop.{Stop}
 use Rattle.im_stop.specs.declared.stop.Stop.TheVariants as s
 use Rattle.im_defined.specs.declared.function.Defined.{Defined}

@@ -2,15 +2,15 @@
 use Rattle.std.proofs.Common.{◌≡◌, ℕ, Bool, true, false, ◌&&◌, List, [], ◌∷◌, ◌++◌, length, map, refl, sym, ap, ◌∙◌, subst}
 use Rattle.std.specs.Prelude.{Option}
 use Rattle.im_num.specs.declared.kind.Kind.{Kind}
-use Rattle.im_ctype.specs.Layout.{Layout, layout}
-use Rattle.im_ctype.specs.Table.{Table, structs_of}
-use Rattle.im_ctype.specs.Types.{Structs, is_complete}
+use Rattle.im_externals.specs.im_ctype.Layout.{Layout, layout}
+use Rattle.im_externals.specs.im_ctype.Table.{Table, structs_of}
+use Rattle.im_externals.specs.im_ctype.Types.{Structs, is_complete}
 use Rattle.im_typed.specs.declared.program.Func as rf
 use Rattle.im_typed.specs.declared.statement.Stmt as rs
 use Rattle.im_typed.specs.Program.{LocalObject, Func, Prog, Stmt}
 use Rattle.im_typed.specs.ProgramOf.{object_of, stmt_of, func_of}
 use Rattle.im_typed.specs.Typing.{Each, IsTypedFunc, IsTypedStmt}
-use Rattle.im_types.specs.Shape.{type_of}
+use Rattle.im_externals.specs.im_types.Shape.{type_of}
 use Rattle.im_more_structs.specs.Laws.{IsLonger, StatementsLaw, ObjectsLaw}
 use Rattle.im_rules.specs.Statements as s
 use Rattle.im_sites.specs.declared.body.Local.{Local}

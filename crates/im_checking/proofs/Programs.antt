@@ -2,13 +2,13 @@
 use Rattle.std.proofs.Common.{◌≡◌, ◌≤◌, ◌<◌, ℕ, List, [], ◌∷◌, ◌++◌, map, refl, sym, ap, ◌∙◌, subst, arith}
 use Rattle.std.specs.Prelude.{Contains}
 use Rattle.im_ctree.specs.Tree as t
-use Rattle.im_store.specs.Statics.{StaticObject}
+use Rattle.im_externals.specs.im_store.Statics.{StaticObject}
 use Rattle.im_typed.specs.declared.program.Prog as rp
 use Rattle.im_typed.specs.declared.program.Static as rst
 use Rattle.im_typed.specs.Limits.{static_bytes}
 use Rattle.im_typed.specs.Program.{Func, Prog}
 use Rattle.im_typed.specs.ProgramOf.{static_of, func_of, program_of}
-use Rattle.im_ctype.specs.Table.{Table}
+use Rattle.im_externals.specs.im_ctype.Table.{Table}
 use Rattle.im_rules.specs.FileScope.{FilePlace, file_start}
 use Rattle.im_rules.specs.TypedUnit.{program, static_named, string_statics, TypedUnit, of_unit}
 use Rattle.im_rules.specs.UnitBreaks.{some_externals}
@@ -17,7 +17,7 @@ use Rattle.im_rule_limits.specs.Limits as l
 use Rattle.im_rule_limits.proofs.First.{first-among}
 use Rattle.im_more_structs.specs.Laws.{StatementsLaw, ObjectsLaw}
 use Rattle.im_unit_sound.specs.Laws.{UnitsLaw}
-use Rattle.im_places_sound.specs.Units.{IsWrittenUnit}
+use Rattle.im_unit_sound.specs.im_places_sound.Units.{IsWrittenUnit}
 use Rattle.im_file_place.specs.Files.{file_place_of}
 use Rattle.im_defined.specs.Values.{first_values_in}
 use Rattle.im_program.specs.declared.programs.Parts.{Parts}

@@ -1,7 +1,7 @@
 //! The checker (docs/rules.md).
 ghost use Rattle.std.specs.Prelude.{MatchResult};
 ghost use Rattle.im_ctree.specs.Shape.{tree_of};
-ghost use Rattle.im_places_sound.specs.Units.{IsWrittenUnit};
+ghost use Rattle.im_unit_sound.specs.im_places_sound.Units.{IsWrittenUnit};
 ghost use Rattle.im_checking.specs.Checked.{IsChecked, IsCheckFault};
 ghost use Rattle.im_checking.specs.Units.{UnitTyped};
 

@@ -8,7 +8,7 @@ use Rattle.im_made.specs.MakeUnit.{KnowsTypes}
 use Rattle.im_eval_machine.specs.Settings.{HasKnownTypes}
 use Rattle.im_source.specs.Laws.{meaning_of}
 use Rattle.im_compile.specs.declared.built.Built.{Built}
-use Rattle.im_built_keeps.specs.Laws.{frames_of}
+use Rattle.im_driver.specs.im_built_keeps.Laws.{frames_of}
 use Rattle.im_cli.specs.declared.command.BuildOptions.{BuildOptions}
 use Rattle.im_cli.specs.Named.{Evaluation}
 use Rattle.im_lines.specs.Refusals.{NoMemory}

@@ -7,7 +7,7 @@ use Rattle.im_typed.specs.ProgramOf.{program_of}
 use Rattle.im_keeps.specs.Keeps.{output_in}
 use Rattle.im_source.specs.Laws.{meaning_of}
 use Rattle.im_compile.specs.declared.built.Built.{Built}
-use Rattle.im_built_keeps.specs.Laws.{frames_of}
+use Rattle.im_driver.specs.im_built_keeps.Laws.{frames_of}
 use Rattle.im_cli.specs.declared.command.BuildOptions.{BuildOptions}
 use Rattle.im_cli.specs.Named.{Evaluation}
 use Rattle.im_lines.specs.declared.evaluations.Evaluated.{Evaluated}

@@ -2,7 +2,7 @@ ghost use Rattle.std.specs.Prelude.{◌≡◌, map, option_map, IfOk, MatchResul
 ghost use Rattle.im_typed.specs.ProgramOf.{program_of};
 ghost use Rattle.im_typed.specs.declared.frames.Frame as frame;
 ghost use Rattle.im_compile.specs.Passed.{IsSource};
-ghost use Rattle.im_built_keeps.specs.Laws.{frames_of};
+ghost use Rattle.im_driver.specs.im_built_keeps.Laws.{frames_of};
 ghost use Rattle.im_source.specs.Laws.{meaning_of};
 ghost use Rattle.im_eval_machine.specs.Endings.{told};
 ghost use Rattle.im_cli.specs.Named.{IsInBounds, evaluation_meaning};

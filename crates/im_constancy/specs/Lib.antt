@@ -1,1 +1,2 @@
 pub mod Told
+pub use Rattle.im_rules.specs as im_rules

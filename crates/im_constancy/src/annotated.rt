@@ -1,6 +1,6 @@
 //! A typed expression beside what it is as a constant expression, one for each form that constant expressions have.
 ghost use Rattle.std.specs.Prelude.{◌≡◌, IfOk};
-ghost use Rattle.im_ctype.specs.Table.{Table};
+ghost use Rattle.im_rules.specs.im_ctype.Table.{Table};
 ghost use Rattle.im_typed.specs.Program as p;
 ghost use Rattle.im_typed.specs.ProgramOf.{expr_of};
 ghost use Rattle.im_constancy.specs.Told as t;

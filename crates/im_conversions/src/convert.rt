@@ -2,7 +2,7 @@
 ghost use Rattle.std.specs.Prelude.{◌≡◌, IfOk};
 ghost use Rattle.im_ctype.specs.Table.{Table};
 ghost use Rattle.im_typed.specs.ProgramOf.{expr_of};
-ghost use Rattle.im_rules.specs.Conversions as c;
+ghost use Rattle.im_operands.specs.im_rules.Conversions as c;
 ghost use Rattle.im_types.specs.Shape.{type_of};
 ghost use Rattle.im_constancy.specs.Told as t;
 ghost use Rattle.im_constancy.specs.Told.{Told};

@@ -1,8 +1,8 @@
 //! Types as integers: kinds, promotion and common types (C11 6.3.1).
 ghost use Rattle.std.specs.Prelude.{◌≡◌, false, MatchOption};
 ghost use Rattle.im_ctype.specs.Types as t;
-ghost use Rattle.im_rules.specs.Conversions as c;
-ghost use Rattle.im_rules.specs.Terms as r;
+ghost use Rattle.im_operands.specs.im_rules.Conversions as c;
+ghost use Rattle.im_operands.specs.im_rules.Terms as r;
 ghost use Rattle.im_store.specs.Objects as o;
 ghost use Rattle.im_types.specs.Shape.{type_of};
 

@@ -4,7 +4,7 @@ ghost use Rattle.im_ctype.specs.Table.{Table, structs_of};
 ghost use Rattle.im_ctype.specs.Types as t;
 ghost use Rattle.im_typed.specs.Program as p;
 ghost use Rattle.im_typed.specs.ProgramOf.{access_of, place_of};
-ghost use Rattle.im_rules.specs.Terms as r;
+ghost use Rattle.im_operands.specs.im_rules.Terms as r;
 ghost use Rattle.im_types.specs.Shape.{type_of};
 ghost use Rattle.im_operands.specs.Shape.{value_in, term_in};
 

@@ -4,7 +4,7 @@ use Rattle.std.proofs.lemmas.List.{drop_more}
 use Rattle.im_ctree.specs.declared.declarator.Parameter as pm
 use Rattle.im_rule_limits.specs.Limits.{count_parameters, parameter_limit, IsFirstOver}
 use Rattle.im_rule_limits.proofs.First.{first-here, first-behind, within-both}
-use Rattle.im_tree_parts.specs.Lists.{parameters_from}
+use Rattle.im_unit_outline.specs.im_tree_parts.Lists.{parameters_from}
 use Rattle.im_counts.specs.Counts.{IsOver}
 
 pub count_list : (ps : List pm.Parameter) → count_parameters (parameters_from ps) ≡ length ps

@@ -1,7 +1,7 @@
 //! The counts of parameters, of each function that a declarator at file scope declares.
 ghost use Rattle.std.specs.Prelude.{◌≡◌, length};
 ghost use Rattle.im_ctree.specs.Shape.{declarator_of, init_declarators_of, external_of, externals_of, tree_of};
-ghost use Rattle.im_rules.specs.Outline as o;
+ghost use Rattle.im_unit_outline.specs.im_rules.Outline as o;
 ghost use Rattle.im_rule_limits.specs.Limits as m;
 ghost use Rattle.im_unit_outline.specs.Walked.{nearest_of};
 ghost use Rattle.im_counts.specs.Counts.{IsOver, listed};

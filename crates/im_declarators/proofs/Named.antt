@@ -1,6 +1,6 @@
 -- What is asked of a parameter's name.
 use Rattle.std.proofs.Common.{◌≡◌, ℕ, Bool, true, false, is_some, Option, Some, None, Result, Ok, Err, MatchResult, inl, inr, refl, sym}
-use Rattle.im_word.specs.Words.{Name}
+use Rattle.im_type_specifiers.specs.im_word.Words.{Name}
 use Rattle.im_ctype.specs.Types.{CType}
 use Rattle.im_rules.specs.Context.{Context}
 use Rattle.im_rules.specs.Declared.{Declared, is_typedef_name, declared_asks, parameter_asks, is_sized}

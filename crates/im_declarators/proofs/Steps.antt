@@ -16,7 +16,7 @@ use Rattle.im_rules.specs.Demands.{Meets, Refuses}
 use Rattle.im_rules.specs.Terms.{constant_in, size_in}
 use Rattle.im_rules.specs.Typed.{Suffixed, no_suffix, of_array, of_open_array, of_function, AreParameters}
 use Rattle.im_rules.specs.Breaks.{Node, some_suffixes, some_parameters, Broken, here, within, at_array, at_open_array, at_function, Part, behind_length, behind_no_length, behind_function}
-use Rattle.im_rule_limits.specs.Limits as l
+use Rattle.im_sizes.specs.im_rule_limits.Limits as l
 use Rattle.im_tree_parts.specs.Lists.{maybe_from, suffixes_from, with_suffix}
 use Rattle.im_stop.specs.declared.stop.Stop.{Stop}
 use Rattle.im_stop.specs.declared.stop.Stop.TheVariants.{Rule, Large, Memory}

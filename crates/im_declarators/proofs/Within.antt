@@ -7,7 +7,7 @@ use Rattle.im_rules.specs.Terms.{Term, constant_in, size_in}
 use Rattle.im_rules.specs.Typed.{Typed, Suffixed}
 use Rattle.im_rules.specs.Breaks.{an_expression, some_suffixes, some_parameters, behind_length, length_part, behind_no_length, behind_function, parameters_part}
 use Rattle.im_rules.proofs.Once.{once, suffixed_once}
-use Rattle.im_rule_limits.specs.Limits.{size_limit, of_array, size_here, size_within, IsWithin}
+use Rattle.im_sizes.specs.im_rule_limits.Limits.{size_limit, of_array, size_here, size_within, IsWithin}
 
 pub none_within : (c : Context) (base : Qualified) → IsWithin c (some_suffixes base t.no_suffixes)
 none_within c base k (size_here h) = elim h [ ]

@@ -2,7 +2,7 @@
 use Rattle.std.specs.Prelude.{ℕ, List, Option, Vec}
 use Rattle.std.specs.Global.{Global}
 use Rattle.std.specs.Option.{option_map}
-use Rattle.im_word.specs.Words.{Name}
+use Rattle.im_type_specifiers.specs.im_word.Words.{Name}
 use Rattle.im_rules.specs.Declared as d
 use Rattle.im_rules.specs.Scopes.{Entity, an_object, local_object}
 use Rattle.im_types.specs.Shape.{type_of}

@@ -8,7 +8,7 @@ use Rattle.im_rules.specs.Declared as d
 use Rattle.im_rules.specs.Demands.{Meets}
 use Rattle.im_rules.specs.Typed.{Typed, Suffixed, AreParameters}
 use Rattle.im_rules.specs.Breaks.{Node, an_expression, some_suffixes, some_parameters, Broken}
-use Rattle.im_rule_limits.specs.Limits.{size_limit, Sized, IsWithin}
+use Rattle.im_sizes.specs.im_rule_limits.Limits.{size_limit, Sized, IsWithin}
 use Rattle.im_stop.specs.declared.stop.Stop.{Stop}
 use Rattle.im_stop.specs.declared.stop.Stop.TheVariants.{Rule, Large, Memory}
 use Rattle.im_stop.specs.Answers.{IsRefusal}

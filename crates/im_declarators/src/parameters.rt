@@ -1,6 +1,6 @@
 //! Parameters (C11 6.7.6.3p7).
 ghost use Rattle.std.specs.Prelude.{◌≡◌, ℕ, Bool, false, is_some, List, Option, MatchResult, IfOk, OnOk, OnErr};
-ghost use Rattle.im_word.specs.Words.{Name};
+ghost use Rattle.im_type_specifiers.specs.im_word.Words.{Name};
 ghost use Rattle.im_ctype.specs.Types.{CType};
 ghost use Rattle.im_rules.specs.Context.{Context};
 ghost use Rattle.im_rules.specs.Declared as d;

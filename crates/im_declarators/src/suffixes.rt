@@ -6,7 +6,7 @@ ghost use Rattle.im_rules.specs.Context.{Context};
 ghost use Rattle.im_rules.specs.Declared as d;
 ghost use Rattle.im_rules.specs.Rules.{rule_6_length};
 ghost use Rattle.im_rules.specs.Terms.{size_in};
-ghost use Rattle.im_rule_limits.specs.Limits.{size_limit};
+ghost use Rattle.im_sizes.specs.im_rule_limits.Limits.{size_limit};
 ghost use Rattle.im_tree_parts.specs.Lists.{maybe_from, parameters_from, suffixes_from, with_suffix};
 ghost use Rattle.im_types.specs.Shape.{type_of};
 ghost use Rattle.im_type_specifiers.specs.Specified.{IsQualified, qualified_of};

@@ -1,7 +1,7 @@
 -- Constants have the same values by each table.
 use Rattle.std.proofs.Common.{◌≡◌, List, [], ◌∷◌, map, refl, ap, ◌∙◌}
-use Rattle.im_ctype.specs.Table.{Table}
-use Rattle.im_store.specs.Objects.{Value}
+use Rattle.im_sites.specs.im_ctype.Table.{Table}
+use Rattle.im_sites.specs.im_store.Objects.{Value}
 use Rattle.im_typed.specs.declared.program.Constant.{Constant}
 use Rattle.im_typed.specs.declared.program.Constant.TheVariants as rc
 use Rattle.im_typed.specs.ProgramOf.{first_of}

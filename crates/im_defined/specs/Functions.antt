@@ -1,7 +1,7 @@
 -- The functions of the definitions that defined ones stand for.
 use Rattle.std.specs.Prelude.{◌≡◌, ℕ, Bool, true, ◌&&◌, List, [], ◌∷◌, length}
-use Rattle.im_ctype.specs.Table.{Table, structs_of}
-use Rattle.im_ctype.specs.Types.{is_complete}
+use Rattle.im_sites.specs.im_ctype.Table.{Table, structs_of}
+use Rattle.im_sites.specs.im_ctype.Types.{is_complete}
 use Rattle.im_typed.specs.Program.{Func}
 use Rattle.im_typed.specs.ProgramOf.{stmt_of}
 use Rattle.im_types.specs.Shape.{type_of}

@@ -1,10 +1,10 @@
 -- The first values of the definitions.
 use Rattle.std.specs.Prelude.{List, [], map}
-use Rattle.im_ctype.specs.Table.{Table}
-use Rattle.im_store.specs.Objects.{Value}
+use Rattle.im_sites.specs.im_ctype.Table.{Table}
+use Rattle.im_sites.specs.im_store.Objects.{Value}
 use Rattle.im_typed.specs.declared.program.Constant.{Constant}
 use Rattle.im_typed.specs.ProgramOf.{first_of}
-use Rattle.im_rules.specs.TypedUnit as u
+use Rattle.im_sites.specs.im_rules.TypedUnit as u
 use Rattle.im_defined.specs.declared.first_values.FirstValues.{FirstValues}
 
 -- a constant's value is the same by each table

@@ -1,7 +1,7 @@
 //! Functions of a unit.
 ghost use Rattle.std.specs.Prelude.{◌≡◌};
 ghost use Rattle.im_types.specs.Shape.{type_of};
-ghost use Rattle.im_ctype.specs.Types as t;
+ghost use Rattle.im_sites.specs.im_ctype.Types as t;
 ghost use Rattle.im_defined.specs.Functions.{all_complete};
 
 use im_num::Kind;

@@ -10,10 +10,10 @@ use Rattle.im_parse_unit.specs.Spelling.{AreWords, no_words, next_word, IsParsed
 use Rattle.im_typed.specs.Program.{Prog}
 use Rattle.im_typed.specs.Limits as typed
 use Rattle.im_typed.specs.Typing.{IsWellTyped}
-use Rattle.im_rules.specs.TypedUnit.{TypedUnit}
-use Rattle.im_rule_limits.specs.Limits.{IsWithinLimits}
-use Rattle.im_places_sound.specs.Units.{IsWrittenUnit}
-use Rattle.im_expressions_sound.specs.Written.{AreBytes}
+use Rattle.im_checking.specs.im_rules.TypedUnit.{TypedUnit}
+use Rattle.im_checking.specs.im_rule_limits.Limits.{IsWithinLimits}
+use Rattle.im_checking.specs.im_places_sound.Units.{IsWrittenUnit}
+use Rattle.im_checking.specs.im_expressions_sound.Written.{AreBytes}
 use Rattle.im_spelt_sound.specs.Words.{IsLexical, AreLexical}
 use Rattle.im_spelt_sound.specs.Laws.{WordsLaw, SpeltLaw, SourcesLaw}
 use Rattle.im_driver.proofs.Lexical.{token_some}

@@ -17,9 +17,9 @@ use Rattle.im_typed.specs.Counts.{func_need}
 use Rattle.im_typed.specs.declared.frames.Frame.{Frame as FrameOf}
 use Rattle.im_typed.specs.declared.program.Prog.{Prog as MadeProgram}
 use Rattle.im_typed.specs.ProgramOf.{program_of}
-use Rattle.im_rules.specs.TypedUnit.{TypedUnit}
-use Rattle.im_rules.specs.UnitBreaks.{UnitBroken}
-use Rattle.im_rule_limits.specs.Limits as limits
+use Rattle.im_checking.specs.im_rules.TypedUnit.{TypedUnit}
+use Rattle.im_checking.specs.im_rules.UnitBreaks.{UnitBroken}
+use Rattle.im_checking.specs.im_rule_limits.Limits as limits
 use Rattle.im_checking.specs.Checked.{HasNoLargeType}
 use Rattle.im_compile.specs.declared.options.Options.{Options}
 use Rattle.im_compile.specs.declared.built.Built.{Built}
@@ -27,7 +27,7 @@ use Rattle.im_compile.specs.Passed.{IsSource}
 use Rattle.im_compile.specs.Built.{IsBuilt}
 use Rattle.im_compile.specs.Faults.{HasLargeFrame, HasLargeCode, HasUnnamed}
 use Rattle.im_gap.specs.Gap.{recovery_steps}
-use Rattle.im_source.specs.Laws.{ProgramKeeps}
+use Rattle.im_built_keeps.specs.im_source.Laws.{ProgramKeeps}
 use Rattle.im_built_keeps.specs.Laws.{frames_of}
 
 -- the tree that a source's tokens spell

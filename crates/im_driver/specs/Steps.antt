@@ -18,7 +18,7 @@ use Rattle.im_ctree.specs.declared.unit.Tree.{Tree}
 use Rattle.im_ctree.specs.Shape.{tree_of}
 use Rattle.im_typed.specs.declared.program.Prog.{Prog}
 use Rattle.im_typed.specs.ProgramOf.{program_of}
-use Rattle.im_places_sound.specs.Units.{IsWrittenUnit}
+use Rattle.im_checking.specs.im_places_sound.Units.{IsWrittenUnit}
 use Rattle.im_checking.specs.Checked.{IsChecked}
 use Rattle.im_compile.specs.declared.options.Options.{Options}
 use Rattle.im_compile.specs.declared.built.Built.{Built}

@@ -1,14 +1,14 @@
 -- Arguments, one behind the other.
 use Rattle.std.proofs.Common.{◌≡◌, ℕ, ◌+◌, ◌<◌, ◌≤◌, List, [], ◌∷◌, ◌++◌, length, drop, get_or, refl, sym, ap, ◌∙◌, subst, append_assoc}
 use Rattle.std.proofs.lemmas.List.{drop_more, drop_all, map_push, append-nil}
-use Rattle.im_ctree.specs.declared.expression.Expression.{Expression}
+use Rattle.im_declarators.specs.im_ctree.declared.expression.Expression.{Expression}
 use Rattle.im_rules.specs.Terms as r
 use Rattle.im_rules.specs.Strings.{strings_in, strings_among}
 use Rattle.im_rules.specs.Typed.{Typed, AreTyped, no_argument, an_argument}
 use Rattle.im_rules.specs.Breaks.{an_expression, some_expressions, first_argument, other_arguments}
-use Rattle.im_rule_limits.specs.Limits.{IsWithin}
-use Rattle.im_stop.specs.declared.stop.Stop.{Stop}
-use Rattle.im_tree_parts.specs.Lists.{expression_in, expressions_from}
+use Rattle.im_declarators.specs.im_rule_limits.Limits.{IsWithin}
+use Rattle.im_declarators.specs.im_stop.declared.stop.Stop.{Stop}
+use Rattle.im_declarators.specs.im_tree_parts.Lists.{expression_in, expressions_from}
 use Rattle.im_operands.specs.declared.term.Term.{Term}
 use Rattle.im_operands.specs.Shape.{term_in}
 use Rattle.im_declarators.specs.Suffixes.{IsFault}

@@ -1,9 +1,9 @@
 -- Type names, declarators and parameters, from what their parts are.
 use Rattle.std.proofs.Common.{◌≡◌, ℕ, ◌+◌, false, List, [], ◌∷◌, ◌++◌, length, take, Result, Ok, Err, MatchResult, IfOk, OnOk, refl, sym, ap, ◌∙◌, subst, append_assoc}
 use Rattle.std.proofs.lemmas.List.{take_at}
-use Rattle.im_word.specs.Words.{Name}
-use Rattle.im_ctree.specs.Tree as t
-use Rattle.im_ctype.specs.Table.{Table, structs_of}
+use Rattle.im_declarators.specs.im_word.Words.{Name}
+use Rattle.im_declarators.specs.im_ctree.Tree as t
+use Rattle.im_declarators.specs.im_ctype.Table.{Table, structs_of}
 use Rattle.im_rules.specs.Context.{Context, in_new_scope, behind_core, behind_may}
 use Rattle.im_rules.specs.Declared as d
 use Rattle.im_rules.specs.Demands.{asks, Meets}
@@ -12,16 +12,16 @@ use Rattle.im_rules.specs.Scopes.{opened, at_file_scope}
 use Rattle.im_rules.specs.Strings.{strings_named, strings_may, strings_of_core, strings_of_suffixes, strings_of_declarator, strings_of_parameters}
 use Rattle.im_rules.specs.Typed.{Names, of_type_name, MayDeclare, of_no_declarator, of_a_declarator, Declares, of_declarator, DeclaresIn, of_nothing, of_name, of_inner, Suffixed, AreParameters, a_parameter}
 use Rattle.im_rules.specs.Breaks.{a_type_name, maybe_declarator, a_declarator, a_core, some_suffixes, some_parameters, at_specifiers, at_type_name, at_stars, at_parameter, parameter_token, name_specifiers, name_declarator, suffixes_part, core_part, inner_part, declarator_part, parameter_specifiers, parameter_declarator, parameters_behind}
-use Rattle.im_rule_limits.specs.Limits.{IsWithin}
-use Rattle.im_stop.specs.declared.stop.Stop.{Stop}
-use Rattle.im_stop.specs.Answers.{IsRefusal}
-use Rattle.im_scopes.specs.declared.entity.Entry.{Entry}
-use Rattle.im_scopes.specs.declared.entity.Entry.TheVariants as n
-use Rattle.im_scopes.specs.Shape.{scopes_of}
-use Rattle.im_types.specs.Shape.{type_of}
-use Rattle.im_type_specifiers.specs.declared.qualified.Qualified.{Qualified}
-use Rattle.im_type_specifiers.specs.Specified.{IsQualified, qualified_of}
-use Rattle.im_type_specifiers.specs.Tags.{IsGrown}
+use Rattle.im_declarators.specs.im_rule_limits.Limits.{IsWithin}
+use Rattle.im_declarators.specs.im_stop.declared.stop.Stop.{Stop}
+use Rattle.im_declarators.specs.im_stop.Answers.{IsRefusal}
+use Rattle.im_declarators.specs.im_scopes.declared.entity.Entry.{Entry}
+use Rattle.im_declarators.specs.im_scopes.declared.entity.Entry.TheVariants as n
+use Rattle.im_declarators.specs.im_scopes.Shape.{scopes_of}
+use Rattle.im_declarators.specs.im_types.Shape.{type_of}
+use Rattle.im_declarators.specs.im_type_specifiers.declared.qualified.Qualified.{Qualified}
+use Rattle.im_declarators.specs.im_type_specifiers.Specified.{IsQualified, qualified_of}
+use Rattle.im_declarators.specs.im_type_specifiers.Tags.{IsGrown}
 use Rattle.im_declarators.specs.declared.declared.Declared.{Declared}
 use Rattle.im_declarators.specs.declared.given.Given.{Given}
 use Rattle.im_declarators.specs.Shape.{declared_of}

@@ -1,14 +1,14 @@
 -- Each form of expression, from the terms of its parts. `types` is the table at the place behind the parts.
 use Rattle.std.proofs.Common.{◌≡◌, ◌≤◌, ℕ, ◌+◌, true, false, pos, List, [], ◌∷◌, ◌++◌, length, Result, arith, refl, sym, ap, ◌∙◌, subst}
-use Rattle.im_word.specs.Words.{Name}
-use Rattle.im_tok.specs.declared.number.Number.{Number}
-use Rattle.im_ctree.specs.declared.operator.StepOp.{StepOp}
-use Rattle.im_ctree.specs.declared.operator.UnaryOp.{UnaryOp}
-use Rattle.im_ctree.specs.declared.operator.BinaryOp.{BinaryOp}
-use Rattle.im_ctree.specs.declared.operator.AssignOp.{AssignOp}
-use Rattle.im_ctree.specs.Tree as t
-use Rattle.im_ctype.specs.declared.integer.Integer.TheVariants.{Int}
-use Rattle.im_ctype.specs.Table.{Table, structs_of}
+use Rattle.im_declarators.specs.im_word.Words.{Name}
+use Rattle.im_declarators.specs.im_tok.declared.number.Number.{Number}
+use Rattle.im_declarators.specs.im_ctree.declared.operator.StepOp.{StepOp}
+use Rattle.im_declarators.specs.im_ctree.declared.operator.UnaryOp.{UnaryOp}
+use Rattle.im_declarators.specs.im_ctree.declared.operator.BinaryOp.{BinaryOp}
+use Rattle.im_declarators.specs.im_ctree.declared.operator.AssignOp.{AssignOp}
+use Rattle.im_declarators.specs.im_ctree.Tree as t
+use Rattle.im_declarators.specs.im_ctype.declared.integer.Integer.TheVariants.{Int}
+use Rattle.im_declarators.specs.im_ctype.Table.{Table, structs_of}
 use Rattle.im_rules.specs.Context as k
 use Rattle.im_rules.specs.Conversions as c
 use Rattle.im_rules.specs.Demands as d
@@ -20,17 +20,17 @@ use Rattle.im_rules.specs.Typed as y
 use Rattle.im_rules.specs.Typed.{Typed, AreTyped, Names}
 use Rattle.im_rules.specs.Breaks as b
 use Rattle.im_rules.specs.Breaks.{Breaks, an_expression, some_expressions, a_type_name, first_token}
-use Rattle.im_rule_limits.specs.Limits.{size_limit, Sized, size_here, of_string, IsWithin}
-use Rattle.im_stop.specs.declared.stop.Stop.{Stop}
-use Rattle.im_stop.specs.declared.stop.Stop.TheVariants.{Rule, Large, Memory}
-use Rattle.im_sizes.specs.Sizes.{IsTooLarge}
-use Rattle.im_scopes.specs.Shape.{scopes_of}
-use Rattle.im_types.specs.Shape.{type_of}
+use Rattle.im_declarators.specs.im_rule_limits.Limits.{size_limit, Sized, size_here, of_string, IsWithin}
+use Rattle.im_declarators.specs.im_stop.declared.stop.Stop.{Stop}
+use Rattle.im_declarators.specs.im_stop.declared.stop.Stop.TheVariants.{Rule, Large, Memory}
+use Rattle.im_declarators.specs.im_sizes.Sizes.{IsTooLarge}
+use Rattle.im_declarators.specs.im_scopes.Shape.{scopes_of}
+use Rattle.im_declarators.specs.im_types.Shape.{type_of}
 use Rattle.im_operands.specs.declared.term.Term.{Term}
 use Rattle.im_operands.specs.Answers.{IsMade}
 use Rattle.im_operands.specs.Shape.{term_in}
-use Rattle.im_type_specifiers.specs.declared.qualified.Qualified.{Qualified}
-use Rattle.im_type_specifiers.specs.Specified.{qualified_of}
+use Rattle.im_declarators.specs.im_type_specifiers.declared.qualified.Qualified.{Qualified}
+use Rattle.im_declarators.specs.im_type_specifiers.Specified.{qualified_of}
 use Rattle.im_declarators.specs.Suffixes.{IsFault}
 use Rattle.im_place.specs.declared.place.Place.{Place}
 use Rattle.im_place.specs.Contexts.{context_of, behind_strings}

@@ -1,16 +1,16 @@
 -- From what a node's makers answer to what the walk owes.
 use Rattle.std.proofs.Common.{◌≡◌, ℕ, List, Result, Ok, Err, sym, subst}
-use Rattle.im_ctree.specs.Tree as t
+use Rattle.im_declarators.specs.im_ctree.Tree as t
 use Rattle.im_rules.specs.Context.{Context}
 use Rattle.im_rules.specs.Terms as r
 use Rattle.im_rules.specs.Demands.{Demand, Meets, Refuses}
 use Rattle.im_rules.specs.Strings.{strings_in}
 use Rattle.im_rules.specs.Typed.{Typed}
 use Rattle.im_rules.specs.Breaks.{Breaks, Node, an_expression, Part, Broken, here, within, first_token, token_of}
-use Rattle.im_rule_limits.specs.Limits.{size_within, IsWithin}
-use Rattle.im_stop.specs.declared.stop.Stop.{Stop}
-use Rattle.im_stop.specs.declared.stop.Stop.TheVariants.{Rule, Large, Memory}
-use Rattle.im_stop.specs.Answers.{IsRefusal}
+use Rattle.im_declarators.specs.im_rule_limits.Limits.{size_within, IsWithin}
+use Rattle.im_declarators.specs.im_stop.declared.stop.Stop.{Stop}
+use Rattle.im_declarators.specs.im_stop.declared.stop.Stop.TheVariants.{Rule, Large, Memory}
+use Rattle.im_declarators.specs.im_stop.Answers.{IsRefusal}
 use Rattle.im_operands.specs.declared.term.Term.{Term}
 use Rattle.im_operands.specs.Answers.{IsMade}
 use Rattle.im_declarators.specs.Suffixes.{IsFault}

@@ -1,7 +1,7 @@
 -- Specifiers that the rules have nothing against hold no string literal, since they hold no list; nor does a function's name.
 use Rattle.std.proofs.Common.{◌≡◌, true, false, List, [], ◌∷◌, ◌++◌, refl, ap, ◌∙◌, sym}
-use Rattle.im_word.specs.Words.{Name}
-use Rattle.im_ctree.specs.Tree as t
+use Rattle.im_declarators.specs.im_word.Words.{Name}
+use Rattle.im_declarators.specs.im_ctree.Tree as t
 use Rattle.im_rules.specs.Context.{Context}
 use Rattle.im_rules.specs.Declared.{specifiers_ask, specified_asks}
 use Rattle.im_rules.specs.Demands.{Meets, callee_of, is_function_meant}

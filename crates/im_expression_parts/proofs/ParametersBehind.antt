@@ -1,9 +1,9 @@
 -- Parameters, one behind the other.
 use Rattle.std.proofs.Common.{◌≡◌, ℕ, ◌+◌, false, List, [], ◌∷◌, ◌++◌, map, drop, refl, sym, ap, ◌∙◌, subst, append_assoc}
 use Rattle.std.proofs.lemmas.List.{append-nil, map_push}
-use Rattle.im_word.specs.Words.{Name}
-use Rattle.im_ctree.specs.Tree as t
-use Rattle.im_ctree.specs.declared.declarator.Parameter.{Parameter}
+use Rattle.im_declarators.specs.im_word.Words.{Name}
+use Rattle.im_declarators.specs.im_ctree.Tree as t
+use Rattle.im_declarators.specs.im_ctree.declared.declarator.Parameter.{Parameter}
 use Rattle.im_rules.specs.Context.{Context, behind_strings as behind}
 use Rattle.im_rules.specs.Declared as d
 use Rattle.im_rules.specs.Rules.{named_in}
@@ -11,13 +11,13 @@ use Rattle.im_rules.specs.Scopes.{Scopes, nothing, at_file_scope}
 use Rattle.im_rules.specs.Strings.{strings_of_parameters}
 use Rattle.im_rules.specs.Typed.{AreParameters, no_parameter}
 use Rattle.im_rules.specs.Breaks.{some_parameters}
-use Rattle.im_rule_limits.specs.Limits.{IsWithin}
-use Rattle.im_stop.specs.declared.stop.Stop.{Stop}
-use Rattle.im_scopes.specs.declared.entity.Entry.{Entry}
-use Rattle.im_scopes.specs.declared.entity.Entry.TheVariants as n
-use Rattle.im_scopes.specs.Shape.{with_entry, with_entries, scopes_of}
-use Rattle.im_tree_parts.specs.Lists.{parameters_from, with_parameter}
-use Rattle.im_type_specifiers.specs.Tags.{IsGrown}
+use Rattle.im_declarators.specs.im_rule_limits.Limits.{IsWithin}
+use Rattle.im_declarators.specs.im_stop.declared.stop.Stop.{Stop}
+use Rattle.im_declarators.specs.im_scopes.declared.entity.Entry.{Entry}
+use Rattle.im_declarators.specs.im_scopes.declared.entity.Entry.TheVariants as n
+use Rattle.im_declarators.specs.im_scopes.Shape.{with_entry, with_entries, scopes_of}
+use Rattle.im_declarators.specs.im_tree_parts.Lists.{parameters_from, with_parameter}
+use Rattle.im_declarators.specs.im_type_specifiers.Tags.{IsGrown}
 use Rattle.im_declarators.specs.declared.declared.Declared.{Declared}
 use Rattle.im_declarators.specs.Shape.{declared_of}
 use Rattle.im_declarators.specs.Suffixes.{IsFault}

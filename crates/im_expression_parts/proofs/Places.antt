@@ -1,7 +1,7 @@
 -- Places behind parts, one behind the other.
 use Rattle.std.proofs.Common.{◌≡◌, ℕ, ◌+◌, List, [], ◌++◌, length, ap, arith}
 use Rattle.std.proofs.lemmas.List.{length-append}
-use Rattle.im_word.specs.Words.{Name}
+use Rattle.im_declarators.specs.im_word.Words.{Name}
 use Rattle.im_place.specs.declared.place.Place.{Place}
 use Rattle.im_place.specs.Contexts.{behind_strings}
 

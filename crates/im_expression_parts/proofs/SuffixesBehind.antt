@@ -1,17 +1,17 @@
 -- What stands in suffixes, one behind the other.
 use Rattle.std.proofs.Common.{◌≡◌, ℕ, ℤ, ◌+◌, List, [], ◌∷◌, ◌++◌, map, drop, Option, refl, sym, ap, ◌∙◌, subst, append_assoc, Vec, Global}
 use Rattle.std.proofs.lemmas.List.{append-nil}
-use Rattle.im_ctree.specs.Tree as t
-use Rattle.im_ctree.specs.declared.declarator.Suffix.{Suffix}
+use Rattle.im_declarators.specs.im_ctree.Tree as t
+use Rattle.im_declarators.specs.im_ctree.declared.declarator.Suffix.{Suffix}
 use Rattle.im_rules.specs.Context.{in_new_scope}
 use Rattle.im_rules.specs.Declared as d
 use Rattle.im_rules.specs.Strings.{strings_in, strings_of_suffixes, strings_of_parameters}
 use Rattle.im_rules.specs.Terms.{constant_in}
 use Rattle.im_rules.specs.Typed.{Typed, AreParameters}
 use Rattle.im_rules.specs.Breaks.{an_expression, some_suffixes, some_parameters, behind_length, behind_no_length, behind_function}
-use Rattle.im_rule_limits.specs.Limits.{IsWithin}
-use Rattle.im_stop.specs.declared.stop.Stop.{Stop}
-use Rattle.im_tree_parts.specs.Lists.{suffixes_from, with_suffix}
+use Rattle.im_declarators.specs.im_rule_limits.Limits.{IsWithin}
+use Rattle.im_declarators.specs.im_stop.declared.stop.Stop.{Stop}
+use Rattle.im_declarators.specs.im_tree_parts.Lists.{suffixes_from, with_suffix}
 use Rattle.im_operands.specs.declared.term.Term.{Term}
 use Rattle.im_operands.specs.Shape.{term_in}
 use Rattle.im_declarators.specs.declared.declared.Declared.{Declared}

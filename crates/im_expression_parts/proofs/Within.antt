@@ -1,12 +1,12 @@
 -- Sizes in a node are within the limit where those in its parts are.
 use Rattle.std.proofs.Common.{◌≡◌, ◌≤◌, ℕ, ◌+◌, true, false, length, List, sym, subst, ◌∙◌}
-use Rattle.im_word.specs.Words.{Name}
-use Rattle.im_tok.specs.declared.number.Number.{Number}
-use Rattle.im_ctree.specs.declared.operator.StepOp.{StepOp}
-use Rattle.im_ctree.specs.declared.operator.UnaryOp.{UnaryOp}
-use Rattle.im_ctree.specs.declared.operator.BinaryOp.{BinaryOp}
-use Rattle.im_ctree.specs.declared.operator.AssignOp.{AssignOp}
-use Rattle.im_ctree.specs.Tree as t
+use Rattle.im_declarators.specs.im_word.Words.{Name}
+use Rattle.im_declarators.specs.im_tok.declared.number.Number.{Number}
+use Rattle.im_declarators.specs.im_ctree.declared.operator.StepOp.{StepOp}
+use Rattle.im_declarators.specs.im_ctree.declared.operator.UnaryOp.{UnaryOp}
+use Rattle.im_declarators.specs.im_ctree.declared.operator.BinaryOp.{BinaryOp}
+use Rattle.im_declarators.specs.im_ctree.declared.operator.AssignOp.{AssignOp}
+use Rattle.im_declarators.specs.im_ctree.Tree as t
 use Rattle.im_rules.specs.Context.{Context, behind, behind_name, behind_core, behind_may}
 use Rattle.im_rules.specs.Declared as d
 use Rattle.im_rules.specs.Demands.{callee_of, is_function_meant}
@@ -14,7 +14,7 @@ use Rattle.im_rules.specs.Typed.{Suffixed, MayDeclare}
 use Rattle.im_rules.specs.Breaks as b
 use Rattle.im_rules.specs.Breaks.{an_expression, some_expressions, some_specifiers, a_type_name, a_declarator, a_core, maybe_declarator, some_suffixes, some_parameters}
 use Rattle.im_rules.proofs.Once.{suffixed_once, may_once}
-use Rattle.im_rule_limits.specs.Limits.{size_limit, of_string, size_here, size_within, IsWithin}
+use Rattle.im_declarators.specs.im_rule_limits.Limits.{size_limit, of_string, size_here, size_within, IsWithin}
 
 -- expressions without parts
 

@@ -1,18 +1,18 @@
 -- What the walk over a part answers, and the place behind the part.
 use Rattle.std.specs.Prelude.{◌≡◌, ℕ, ◌+◌, List, ◌∷◌, map, MatchResult, Result}
-use Rattle.im_word.specs.Words.{Name}
-use Rattle.im_ctree.specs.Tree as t
-use Rattle.im_ctype.specs.Table.{Table}
+use Rattle.im_declarators.specs.im_word.Words.{Name}
+use Rattle.im_declarators.specs.im_ctree.Tree as t
+use Rattle.im_declarators.specs.im_ctype.Table.{Table}
 use Rattle.im_rules.specs.Terms as r
 use Rattle.im_rules.specs.Strings.{strings_in, strings_of_suffixes, strings_of_parameters}
 use Rattle.im_rules.specs.Declared as d
 use Rattle.im_rules.specs.Typed.{Typed, AreParameters}
 use Rattle.im_rules.specs.Breaks.{an_expression, some_suffixes, some_parameters}
-use Rattle.im_rule_limits.specs.Limits.{IsWithin}
-use Rattle.im_stop.specs.declared.stop.Stop.{Stop}
+use Rattle.im_declarators.specs.im_rule_limits.Limits.{IsWithin}
+use Rattle.im_declarators.specs.im_stop.declared.stop.Stop.{Stop}
 use Rattle.im_operands.specs.declared.term.Term.{Term}
 use Rattle.im_operands.specs.Shape.{term_in}
-use Rattle.im_type_specifiers.specs.Tags.{IsGrown}
+use Rattle.im_declarators.specs.im_type_specifiers.Tags.{IsGrown}
 use Rattle.im_declarators.specs.declared.given.Given.{Given}
 use Rattle.im_declarators.specs.Suffixes.{AreGiven, IsFault}
 use Rattle.im_place.specs.declared.place.Place.{Place}

@@ -1,7 +1,7 @@
 //! Values as constant expressions (C11 6.6).
 ghost use Rattle.std.specs.Prelude.{◌≡◌};
-ghost use Rattle.im_ctype.specs.Table.{Table};
-ghost use Rattle.im_typed.specs.ProgramOf.{expr_of};
+ghost use Rattle.im_declarators.specs.im_ctype.Table.{Table};
+ghost use Rattle.im_declarators.specs.im_typed.ProgramOf.{expr_of};
 ghost use Rattle.im_rules.specs.Constants.{constant_value};
 ghost use Rattle.im_rules.specs.Terms as r;
 ghost use Rattle.im_operands.specs.Shape.{term_in};

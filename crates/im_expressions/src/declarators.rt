@@ -1,10 +1,10 @@
 //! What declarators declare (C11 6.7.6).
 ghost use Rattle.std.specs.Prelude.{MatchResult, ◌≡◌};
 ghost use Rattle.im_ctree.specs.Shape.{declarator_of, core_of};
-ghost use Rattle.im_rules.specs.Breaks.{a_declarator, a_core, maybe_declarator};
-ghost use Rattle.im_rules.specs.Strings.{strings_may, strings_of_declarator, strings_of_core};
-ghost use Rattle.im_rules.specs.Typed.{MayDeclare, Declares, DeclaresIn};
-ghost use Rattle.im_rule_limits.specs.Limits.{IsWithin};
+ghost use Rattle.im_expression_parts.specs.im_rules.Breaks.{a_declarator, a_core, maybe_declarator};
+ghost use Rattle.im_expression_parts.specs.im_rules.Strings.{strings_may, strings_of_declarator, strings_of_core};
+ghost use Rattle.im_expression_parts.specs.im_rules.Typed.{MayDeclare, Declares, DeclaresIn};
+ghost use Rattle.im_expression_parts.specs.im_rule_limits.Limits.{IsWithin};
 ghost use Rattle.im_tree_parts.specs.Lists.{declarator_from};
 ghost use Rattle.im_type_specifiers.specs.Specified.{qualified_of};
 ghost use Rattle.im_declarators.specs.Shape.{declared_of};

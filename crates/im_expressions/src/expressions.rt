@@ -1,9 +1,9 @@
 //! The terms of expressions.
 ghost use Rattle.std.specs.Prelude.{MatchResult, ◌≡◌};
-ghost use Rattle.im_rules.specs.Breaks.{some_expressions};
-ghost use Rattle.im_rules.specs.Strings.{strings_among};
-ghost use Rattle.im_rules.specs.Typed.{AreTyped};
-ghost use Rattle.im_rule_limits.specs.Limits.{IsWithin};
+ghost use Rattle.im_expression_parts.specs.im_rules.Breaks.{some_expressions};
+ghost use Rattle.im_expression_parts.specs.im_rules.Strings.{strings_among};
+ghost use Rattle.im_expression_parts.specs.im_rules.Typed.{AreTyped};
+ghost use Rattle.im_expression_parts.specs.im_rule_limits.Limits.{IsWithin};
 ghost use Rattle.im_tree_parts.specs.Lists.{expression_in, expressions_from};
 ghost use Rattle.im_declarators.specs.Suffixes.{IsFault};
 ghost use Rattle.im_place.specs.Contexts.{context_of, behind_strings};

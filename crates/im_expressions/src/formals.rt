@@ -1,13 +1,13 @@
 //! The parameters of functions (C11 6.7.6.3).
 ghost use Rattle.std.specs.Prelude.{MatchResult, ◌≡◌, false, map};
 ghost use Rattle.im_ctree.specs.Tree as t;
-ghost use Rattle.im_rules.specs.Breaks.{parameter_token, some_parameters};
-ghost use Rattle.im_rules.specs.Context as k;
-ghost use Rattle.im_rules.specs.Declared as d;
-ghost use Rattle.im_rules.specs.Scopes.{at_file_scope};
-ghost use Rattle.im_rules.specs.Strings.{strings_of_parameters};
-ghost use Rattle.im_rules.specs.Typed.{AreParameters};
-ghost use Rattle.im_rule_limits.specs.Limits.{IsWithin};
+ghost use Rattle.im_expression_parts.specs.im_rules.Breaks.{parameter_token, some_parameters};
+ghost use Rattle.im_expression_parts.specs.im_rules.Context as k;
+ghost use Rattle.im_expression_parts.specs.im_rules.Declared as d;
+ghost use Rattle.im_expression_parts.specs.im_rules.Scopes.{at_file_scope};
+ghost use Rattle.im_expression_parts.specs.im_rules.Strings.{strings_of_parameters};
+ghost use Rattle.im_expression_parts.specs.im_rules.Typed.{AreParameters};
+ghost use Rattle.im_expression_parts.specs.im_rule_limits.Limits.{IsWithin};
 ghost use Rattle.im_scopes.specs.Shape.{scopes_of};
 ghost use Rattle.im_tree_parts.specs.Lists.{declarator_from, parameters_from, with_parameter};
 ghost use Rattle.im_declarators.specs.Shape.{declared_of};

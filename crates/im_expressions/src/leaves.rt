@@ -1,13 +1,13 @@
 //! What stands in no cycle: string literals, and calls whose arguments are typed.
 ghost use Rattle.std.specs.Prelude.{◌≡◌, ◌+◌, ◌≤◌, ℕ, length, MatchResult};
-ghost use Rattle.im_ctype.specs.Table.{structs_of};
+ghost use Rattle.im_expression_parts.specs.im_ctype.Table.{structs_of};
 ghost use Rattle.im_ctree.specs.Tree as t;
-ghost use Rattle.im_rules.specs.Conversions as c;
-ghost use Rattle.im_rules.specs.Demands as d;
-ghost use Rattle.im_rules.specs.Terms as r;
-ghost use Rattle.im_rule_limits.specs.Limits.{size_limit};
+ghost use Rattle.im_expression_parts.specs.im_rules.Conversions as c;
+ghost use Rattle.im_expression_parts.specs.im_rules.Demands as d;
+ghost use Rattle.im_expression_parts.specs.im_rules.Terms as r;
+ghost use Rattle.im_expression_parts.specs.im_rule_limits.Limits.{size_limit};
 ghost use Rattle.im_scopes.specs.Shape.{scopes_of};
-ghost use Rattle.im_sizes.specs.Sizes.{IsTooLarge};
+ghost use Rattle.im_expression_parts.specs.im_sizes.Sizes.{IsTooLarge};
 ghost use Rattle.im_tree_parts.specs.Lists.{expression_in};
 ghost use Rattle.im_operands.specs.Answers.{IsMade};
 ghost use Rattle.im_expression_parts.specs.Walked.{IsTyped, terms_in};

@@ -1,9 +1,9 @@
 //! What stands in suffixes (C11 6.7.6.2, 6.7.6.3).
 ghost use Rattle.std.specs.Prelude.{MatchResult, ◌≡◌, ℕ};
 ghost use Rattle.im_ctree.specs.Tree as t;
-ghost use Rattle.im_rules.specs.Declared as d;
-ghost use Rattle.im_rules.specs.Breaks.{some_suffixes};
-ghost use Rattle.im_rules.specs.Strings.{strings_of_suffixes};
+ghost use Rattle.im_expression_parts.specs.im_rules.Declared as d;
+ghost use Rattle.im_expression_parts.specs.im_rules.Breaks.{some_suffixes};
+ghost use Rattle.im_expression_parts.specs.im_rules.Strings.{strings_of_suffixes};
 ghost use Rattle.im_tree_parts.specs.Lists.{suffixes_from, with_suffix, maybe_from};
 ghost use Rattle.im_declarators.specs.Suffixes.{AreGiven, IsFault};
 ghost use Rattle.im_place.specs.Contexts.{context_of, behind_strings};

@@ -1,10 +1,10 @@
 //! The types that type names name (C11 6.7.7).
 ghost use Rattle.std.specs.Prelude.{MatchResult, ◌≡◌};
 ghost use Rattle.im_ctree.specs.Shape.{type_name_of};
-ghost use Rattle.im_rules.specs.Breaks.{a_type_name};
-ghost use Rattle.im_rules.specs.Strings.{strings_named};
-ghost use Rattle.im_rules.specs.Typed.{Names};
-ghost use Rattle.im_rule_limits.specs.Limits.{IsWithin};
+ghost use Rattle.im_expression_parts.specs.im_rules.Breaks.{a_type_name};
+ghost use Rattle.im_expression_parts.specs.im_rules.Strings.{strings_named};
+ghost use Rattle.im_expression_parts.specs.im_rules.Typed.{Names};
+ghost use Rattle.im_expression_parts.specs.im_rule_limits.Limits.{IsWithin};
 ghost use Rattle.im_type_specifiers.specs.Specified.{qualified_of};
 ghost use Rattle.im_declarators.specs.Suffixes.{IsFault};
 ghost use Rattle.im_place.specs.Contexts.{context_of, behind_strings};

@@ -1,9 +1,9 @@
 -- Functions that are defined, by longer tables of types.
 use Rattle.std.proofs.Common.{◌≡◌, true, List, [], ◌∷◌, ◌++◌, length, refl, sym, ap, ◌∙◌, append_assoc}
 use Rattle.std.proofs.lemmas.List.{append-nil}
-use Rattle.im_ctype.specs.Table.{Table, structs_of}
-use Rattle.im_ctype.specs.Types.{Structs}
-use Rattle.im_typed.specs.Program.{Func}
+use Rattle.im_file_functions.specs.im_ctype.Table.{Table, structs_of}
+use Rattle.im_file_functions.specs.im_ctype.Types.{Structs}
+use Rattle.im_file_functions.specs.im_typed.Program.{Func}
 use Rattle.im_defined.specs.declared.function.Defined.{Defined}
 use Rattle.im_defined.specs.Functions.{all_complete, function_in, IsDefined, AreDefined}
 

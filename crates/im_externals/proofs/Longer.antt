@@ -1,11 +1,11 @@
 -- The structs of a place are those of each place before it, with more behind them.
 use Rattle.std.proofs.Common.{◌≡◌, ℤ, List, [], ◌∷◌, ◌++◌, Option, Some, None, refl, sym, ap, ◌∙◌, append_assoc}
 use Rattle.std.proofs.lemmas.List.{append-nil}
-use Rattle.im_word.specs.Words.{Name}
+use Rattle.im_file_functions.specs.im_word.Words.{Name}
 use Rattle.im_ctree.specs.declared.specifier.SpecifierWord.{SpecifierWord}
 use Rattle.im_ctree.specs.Tree as t
-use Rattle.im_ctype.specs.Types.{Member, Structs}
-use Rattle.im_typed.specs.Program.{Func}
+use Rattle.im_file_functions.specs.im_ctype.Types.{Member, Structs}
+use Rattle.im_file_functions.specs.im_typed.Program.{Func}
 use Rattle.im_rules.specs.Declared.{Qualified}
 use Rattle.im_rules.specs.FileScope.{FilePlace, Level, with_enum_tag}
 use Rattle.im_rules.specs.TypedUnit.{AreEnumerators, no_enumerator, an_enumerator, Specify, of_specifiers, NamesType, no_list, a_struct, an_enum, AreMembers, no_member, some_members, AreFields, no_field, a_field, FirstValues, AreDeclared, none_declared, one_declared, TypedExternal, of_declaration, of_function}

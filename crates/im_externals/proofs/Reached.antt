@@ -4,13 +4,13 @@ use Rattle.std.proofs.lemmas.List.{append-nil, drop_more, drop_all}
 use Rattle.im_ctree.specs.Tree as t
 use Rattle.im_ctree.specs.Shape.{external_of, externals_of}
 use Rattle.im_ctree.specs.declared.unit.External.{External}
-use Rattle.im_typed.specs.Program.{Func}
+use Rattle.im_file_functions.specs.im_typed.Program.{Func}
 use Rattle.im_rules.specs.FileScope.{FilePlace}
 use Rattle.im_rules.specs.TypedUnit as u
 use Rattle.im_rules.specs.TypedUnit.{AreExternals, no_external, an_external}
 use Rattle.im_rules.specs.UnitBreaks as b
 use Rattle.im_rules.specs.UnitBreaks.{FileBroken, some_externals, within_file, first_external, other_externals}
-use Rattle.im_rule_limits.specs.Limits.{FileSized, size_in_file_part, IsFileWithin}
+use Rattle.im_file_functions.specs.im_rule_limits.Limits.{FileSized, size_in_file_part, IsFileWithin}
 use Rattle.im_stop.specs.declared.stop.Stop.{Stop}
 use Rattle.im_stop.specs.declared.stop.Stop.TheVariants.{Rule, Large, Memory}
 use Rattle.im_file_place.specs.declared.file.File.{File}

@@ -1,12 +1,12 @@
 -- The sizes in external declarations.
 use Rattle.std.proofs.Common.{◌≤◌, ℕ, List, sym, subst}
 use Rattle.im_ctree.specs.Tree as t
-use Rattle.im_typed.specs.Program.{Func}
+use Rattle.im_file_functions.specs.im_typed.Program.{Func}
 use Rattle.im_rules.specs.FileScope.{FilePlace}
 use Rattle.im_rules.specs.TypedUnit.{FirstValues, TypedExternal}
 use Rattle.im_rules.specs.UnitBreaks.{an_external, some_externals, first_external, other_externals}
 use Rattle.im_rules.proofs.UnitOnce.{external_once}
-use Rattle.im_rule_limits.specs.Limits.{size_limit, FileSized, size_in_file_part, size_in_file_inner, IsFileWithin}
+use Rattle.im_file_functions.specs.im_rule_limits.Limits.{size_limit, FileSized, size_in_file_part, size_in_file_inner, IsFileWithin}
 
 pub nothing_within : (f : FilePlace) (k : ℕ) → FileSized f (some_externals t.no_externals) k → k ≤ size_limit
 nothing_within f k (size_in_file_part p r) = elim p [ ]

@@ -1,11 +1,11 @@
 -- What is answered of external declarations.
 use Rattle.std.specs.Prelude.{◌≡◌, List, ◌++◌}
 use Rattle.im_ctree.specs.Tree as t
-use Rattle.im_typed.specs.Program.{Func}
+use Rattle.im_file_functions.specs.im_typed.Program.{Func}
 use Rattle.im_rules.specs.TypedUnit as u
 use Rattle.im_rules.specs.TypedUnit.{TypedExternal, AreExternals}
 use Rattle.im_rules.specs.UnitBreaks.{an_external, some_externals}
-use Rattle.im_rule_limits.specs.Limits.{IsFileWithin}
+use Rattle.im_file_functions.specs.im_rule_limits.Limits.{IsFileWithin}
 use Rattle.im_file_place.specs.declared.file.File.{File}
 use Rattle.im_file_place.specs.Files.{file_place_of}
 use Rattle.im_defined.specs.declared.function.Defined.{Defined}

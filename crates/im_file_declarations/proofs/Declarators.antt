@@ -5,7 +5,7 @@ use Rattle.im_ctree.specs.Tree as t
 use Rattle.im_ctree.specs.Shape.{declarator_of, init_declarators_of}
 use Rattle.im_ctree.specs.declared.declaration.InitDeclarator.{InitDeclarator}
 use Rattle.im_ctree.specs.declared.declarator.Declarator as dc
-use Rattle.im_ctype.specs.Types.{CType}
+use Rattle.im_file_specifiers.specs.im_ctype.Types.{CType}
 use Rattle.im_rules.specs.BodyBreaks.{declarator_token}
 use Rattle.im_rules.specs.Breaks.{a_declarator}
 use Rattle.im_rules.specs.Declared.{Qualified, Declared}
@@ -16,7 +16,7 @@ use Rattle.im_rules.specs.Strings.{strings_of_declarator}
 use Rattle.im_rules.specs.Typed.{Declares}
 use Rattle.im_rules.specs.TypedUnit.{FirstValues, AreDeclared, none_declared, one_declared, given_strings, past_declarator}
 use Rattle.im_rules.specs.UnitBreaks.{FileBroken, here_in_file, within_file, in_file_inner, in_static_initialiser, in_static_values, at_declarator, file_declarator, other_declared, some_declared}
-use Rattle.im_rule_limits.specs.Limits.{FileSized, of_static, size_in_file_part, size_in_file_inner, size_in_static_initialiser, IsWithin, IsFileWithin}
+use Rattle.im_file_specifiers.specs.im_rule_limits.Limits.{FileSized, of_static, size_in_file_part, size_in_file_inner, size_in_static_initialiser, IsWithin, IsFileWithin}
 use Rattle.im_stop.specs.declared.stop.Stop.{Stop}
 use Rattle.im_stop.specs.declared.stop.Stop.TheVariants.{Rule, Large, Memory}
 use Rattle.im_tree_parts.proofs.Shapes.{declarator_shape}

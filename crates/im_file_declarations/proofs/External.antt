@@ -7,7 +7,7 @@ use Rattle.im_rules.specs.Declared.{Qualified}
 use Rattle.im_rules.specs.FileScope.{FilePlace, of_the_file}
 use Rattle.im_rules.specs.TypedUnit.{Specify, of_declaration}
 use Rattle.im_rules.specs.UnitBreaks.{an_external, some_declared, file_specifiers, within_file, declaration_specifiers, declared_part}
-use Rattle.im_rule_limits.specs.Limits.{size_in_file_part, IsFileWithin}
+use Rattle.im_file_specifiers.specs.im_rule_limits.Limits.{size_in_file_part, IsFileWithin}
 use Rattle.im_stop.specs.declared.stop.Stop.{Stop}
 use Rattle.im_stop.specs.declared.stop.Stop.TheVariants.{Rule, Large, Memory}
 use Rattle.im_tree_parts.specs.Lists.{specifiers_in}

@@ -1,12 +1,12 @@
 -- What an initialiser gives a static, put together.
 use Rattle.std.proofs.Common.{◌≡◌, ℕ, Bool, List, [], ◌∷◌, ◌++◌, map, Vec, Global, Option, Some, None, is_some, Result, Ok, Err, MatchResult, IfOk, IfErr, refl, sym, ap, ◌∙◌, subst}
 use Rattle.std.proofs.lemmas.List.{append-nil, map_push}
-use Rattle.im_word.specs.Words.{Name}
+use Rattle.im_file_specifiers.specs.im_word.Words.{Name}
 use Rattle.im_ctree.specs.Tree as t
 use Rattle.im_ctree.specs.Shape.{maybe_initializer_of}
 use Rattle.im_ctree.specs.declared.declaration.Initializer.{Initializer}
-use Rattle.im_ctype.specs.Table.{Table, structs_of}
-use Rattle.im_ctype.specs.Types.{CType, Structs}
+use Rattle.im_file_specifiers.specs.im_ctype.Table.{Table, structs_of}
+use Rattle.im_file_specifiers.specs.im_ctype.Types.{CType, Structs}
 use Rattle.im_typed.specs.declared.program.Constant.{Constant}
 use Rattle.im_typed.specs.ProgramOf as q
 use Rattle.im_rules.specs.Declared.{Declared}
@@ -16,7 +16,7 @@ use Rattle.im_rules.specs.Initialisers.{Item, completed, strings_given, pieces_o
 use Rattle.im_rules.specs.Outline.{is_initialised}
 use Rattle.im_rules.specs.StaticValues.{cell_values}
 use Rattle.im_rules.specs.TypedUnit.{MayGive, gives_nothing, gives_values, AreConstants, cells_in, values_given}
-use Rattle.im_rule_limits.specs.Limits.{Counted}
+use Rattle.im_file_specifiers.specs.im_rule_limits.Limits.{Counted}
 use Rattle.im_sizes.specs.Sizes.{AllFit, IsOver}
 use Rattle.im_stop.specs.declared.stop.Stop.{Stop}
 use Rattle.im_stop.specs.declared.stop.Stop.TheVariants.{Rule, Large, Memory}

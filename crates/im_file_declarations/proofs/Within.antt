@@ -11,7 +11,7 @@ use Rattle.im_rules.specs.TypedUnit.{Specify, given_strings, past_declarator}
 use Rattle.im_rules.specs.UnitBreaks.{an_external, some_declared, file_specifiers, declaration_specifiers, declared_part, other_declared, file_declarator}
 use Rattle.im_rules.proofs.Once.{declares_once}
 use Rattle.im_rules.proofs.UnitOnce.{specify_once}
-use Rattle.im_rule_limits.specs.Limits.{size_limit, Counted, GivenSized, FileSized, of_static, size_in_file_part, size_in_file_inner, size_in_static_initialiser, IsWithin, IsFileWithin}
+use Rattle.im_file_specifiers.specs.im_rule_limits.Limits.{size_limit, Counted, GivenSized, FileSized, of_static, size_in_file_part, size_in_file_inner, size_in_static_initialiser, IsWithin, IsFileWithin}
 use Rattle.im_sizes.specs.Sizes.{AllFit}
 use Rattle.im_initialisers.specs.Given.{IsInitialisationWithin}
 

@@ -5,7 +5,7 @@ use Rattle.im_rules.specs.Declared.{Qualified}
 use Rattle.im_rules.specs.FileScope.{FilePlace}
 use Rattle.im_rules.specs.TypedUnit.{FirstValues, AreDeclared, TypedExternal}
 use Rattle.im_rules.specs.UnitBreaks.{an_external, some_declared}
-use Rattle.im_rule_limits.specs.Limits.{IsFileWithin}
+use Rattle.im_file_specifiers.specs.im_rule_limits.Limits.{IsFileWithin}
 use Rattle.im_defined.specs.declared.first_values.FirstValues as rf
 use Rattle.im_defined.specs.Values.{first_values_in}
 

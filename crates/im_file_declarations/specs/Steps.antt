@@ -1,10 +1,10 @@
 -- For private contracts: what is answered of one declarator at file scope.
 use Rattle.std.specs.Prelude.{◌≡◌, ◌⊎◌, ◌<◌, ℕ, List, ◌++◌}
-use Rattle.im_word.specs.Words.{Name}
+use Rattle.im_file_specifiers.specs.im_word.Words.{Name}
 use Rattle.im_ctree.specs.Tree as t
 use Rattle.im_ctree.specs.Shape.{declarator_of, maybe_initializer_of}
 use Rattle.im_ctree.specs.declared.declaration.InitDeclarator.{InitDeclarator}
-use Rattle.im_ctype.specs.Types.{CType}
+use Rattle.im_file_specifiers.specs.im_ctype.Types.{CType}
 use Rattle.im_rules.specs.BodyBreaks.{an_initialiser, GivenBroken}
 use Rattle.im_rules.specs.Declared.{Qualified, Declared}
 use Rattle.im_rules.specs.Demands.{Meets, Refuses}
@@ -13,7 +13,7 @@ use Rattle.im_rules.specs.Initialisers.{Item, Initialised, completed, strings_gi
 use Rattle.im_rules.specs.Outline.{is_initialised}
 use Rattle.im_rules.specs.TypedUnit.{FirstValues, AreDeclared, MayGive, AreConstants, given_strings, values_given}
 use Rattle.im_rules.specs.UnitBreaks.{RefusedItem, some_declared}
-use Rattle.im_rule_limits.specs.Limits.{size_limit, Counted, GivenSized, IsGivenWithin}
+use Rattle.im_file_specifiers.specs.im_rule_limits.Limits.{size_limit, Counted, GivenSized, IsGivenWithin}
 use Rattle.im_sizes.specs.Sizes.{AllFit}
 use Rattle.im_stop.specs.declared.stop.Stop.{Stop}
 use Rattle.im_stop.specs.declared.stop.Stop.TheVariants.{Rule, Large, Memory}

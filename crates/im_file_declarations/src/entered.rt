@@ -6,7 +6,7 @@ ghost use Rattle.im_rules.specs.FileScope.{past_strings};
 ghost use Rattle.im_rules.specs.Initialisers.{completed as completed_type};
 ghost use Rattle.im_rules.specs.Strings.{strings_of_declarator};
 ghost use Rattle.im_rules.specs.Typed.{Declares};
-ghost use Rattle.im_rule_limits.specs.Limits.{IsWithin};
+ghost use Rattle.im_file_specifiers.specs.im_rule_limits.Limits.{IsWithin};
 ghost use Rattle.im_tree_parts.specs.Lists.{list_from};
 ghost use Rattle.im_types.specs.Shape.{type_of};
 ghost use Rattle.im_type_specifiers.specs.Specified.{qualified_of};

@@ -2,8 +2,8 @@
 use Rattle.std.proofs.Common.{◌≡◌, suc, List, [], ◌∷◌, ◌++◌, length, Vec, Global, refl, sym, ap, ◌∙◌}
 use Rattle.std.proofs.lemmas.List.{length-map}
 use Rattle.im_ctree.specs.Tree as t
-use Rattle.im_ctype.specs.Table.{Table, structs_of}
-use Rattle.im_ctype.specs.Types.{Structs}
+use Rattle.im_statements.specs.im_ctype.Table.{Table, structs_of}
+use Rattle.im_statements.specs.im_ctype.Types.{Structs}
 use Rattle.im_rules.specs.Context.{Context}
 use Rattle.im_rules.specs.Declared as d
 use Rattle.im_rules.specs.Scopes.{Scopes, opened}

@@ -1,7 +1,7 @@
 -- Parameters as objects, one behind the other.
 use Rattle.std.proofs.Common.{◌≡◌, ◌≤◌, ℕ, ◌+◌, List, [], ◌∷◌, ◌++◌, map, length, drop, sym, ap, ◌∙◌, append_assoc}
 use Rattle.std.proofs.lemmas.List.{append-nil, drop_all, map_push}
-use Rattle.im_ctype.specs.Table.{Table, structs_of}
+use Rattle.im_statements.specs.im_ctype.Table.{Table, structs_of}
 use Rattle.im_rules.specs.Declared as d
 use Rattle.im_rules.specs.TypedUnit.{parameter_objects}
 use Rattle.im_declarators.specs.declared.declared.Declared.{Declared}

@@ -1,7 +1,7 @@
 -- Function definitions of a head and a body.
 use Rattle.std.proofs.Common.{◌≡◌, ℕ, List, [], ◌∷◌, ◌++◌, map, length, Result, Ok, Err, MatchResult, sym, ap, ◌∙◌, subst}
 use Rattle.im_ctree.specs.Tree as t
-use Rattle.im_ctype.specs.Types.{Structs}
+use Rattle.im_statements.specs.im_ctype.Types.{Structs}
 use Rattle.im_typed.specs.Program.{Block, Func}
 use Rattle.im_rules.specs.BodyBreaks.{BodyBroken, some_items}
 use Rattle.im_rules.specs.Declared as d
@@ -11,7 +11,7 @@ use Rattle.im_rules.specs.Statements.{TypedItems, name_of}
 use Rattle.im_rules.specs.TypedUnit.{result_kind, parameter_objects, function_made, past_head, TypedExternal, of_function}
 use Rattle.im_rules.specs.TypeTests.{result_of}
 use Rattle.im_rules.specs.UnitBreaks.{an_external, in_body}
-use Rattle.im_rule_limits.specs.Limits.{BodySized, IsBodyWithin, size_in_body}
+use Rattle.im_statements.specs.im_rule_limits.Limits.{BodySized, IsBodyWithin, size_in_body}
 use Rattle.im_stop.specs.declared.stop.Stop.{Stop}
 use Rattle.im_stop.specs.declared.stop.Stop.TheVariants.{Rule, Large, Memory}
 use Rattle.im_declarators.specs.Shape.{declared_of}

@@ -4,9 +4,9 @@ use Rattle.std.proofs.Math.Seq.{take-append_seam}
 use Rattle.im_ctree.specs.Tree as t
 use Rattle.im_ctree.specs.Shape.{block_items_of}
 use Rattle.im_ctree.specs.declared.statement.BlockItem.{BlockItem}
-use Rattle.im_ctype.specs.Table.{structs_of}
+use Rattle.im_statements.specs.im_ctype.Table.{structs_of}
 use Rattle.im_num.specs.declared.kind.Kind.{Kind}
-use Rattle.im_word.specs.Words.{Name}
+use Rattle.im_statements.specs.im_word.Words.{Name}
 use Rattle.im_typed.specs.Program.{Stmt, Func, LocalObject}
 use Rattle.im_typed.specs.ProgramOf.{stmt_of}
 use Rattle.im_typed.specs.declared.statement.Stmt as rs
@@ -16,7 +16,7 @@ use Rattle.im_rules.specs.FileScope.{past_strings}
 use Rattle.im_rules.specs.Statements.{TypedItems, name_of}
 use Rattle.im_rules.specs.TypedUnit.{result_kind, body_site}
 use Rattle.im_rules.specs.TypeTests.{result_of}
-use Rattle.im_rule_limits.specs.Limits.{BodySized, IsBodyWithin}
+use Rattle.im_statements.specs.im_rule_limits.Limits.{BodySized, IsBodyWithin}
 use Rattle.im_types.specs.declared.tree.Type as rust
 use Rattle.im_types.specs.Shape.{type_of}
 use Rattle.im_scopes.specs.declared.entity.Entry.{Entry}

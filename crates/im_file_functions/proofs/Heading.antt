@@ -1,6 +1,6 @@
 -- Heads of function definitions.
 use Rattle.std.proofs.Common.{◌≡◌, ℕ, true, List, ◌++◌, map, Vec, Global, sym, ap, ◌∙◌, subst}
-use Rattle.im_word.specs.Words.{Name}
+use Rattle.im_statements.specs.im_word.Words.{Name}
 use Rattle.im_ctree.specs.Tree as t
 use Rattle.im_ctree.specs.Shape.{declarator_of}
 use Rattle.im_ctree.specs.declared.declarator.Declarator.{Declarator, out-Declarator}
@@ -15,7 +15,7 @@ use Rattle.im_rules.specs.Strings.{strings_of_declarator}
 use Rattle.im_rules.specs.Typed.{Declares, AreParameters}
 use Rattle.im_rules.specs.TypedUnit.{Specify}
 use Rattle.im_rules.specs.UnitBreaks.{FileBroken, an_external, file_specifiers, within_file, function_specifiers, in_file_inner, function_declarator, at_its_head, at_head, at_function}
-use Rattle.im_rule_limits.specs.Limits.{IsWithin, IsFileWithin, size_in_file_part, size_in_file_inner}
+use Rattle.im_statements.specs.im_rule_limits.Limits.{IsWithin, IsFileWithin, size_in_file_part, size_in_file_inner}
 use Rattle.im_stop.specs.declared.stop.Stop.{Stop}
 use Rattle.im_stop.specs.declared.stop.Stop.TheVariants.{Rule, Large, Memory}
 use Rattle.im_stop.specs.Answers.{IsRefusal}

@@ -10,7 +10,7 @@ use Rattle.im_rules.specs.Outline.{Nearest, bare, a_star, a_length, parameters, 
 use Rattle.im_rules.specs.Rules.{rule_11}
 use Rattle.im_rules.specs.Strings.{strings_of_declarator, strings_of_core, strings_of_suffixes}
 use Rattle.im_rules.specs.Typed.{Declares, of_declarator, of_nothing, of_name, of_inner, Suffixed}
-use Rattle.im_rule_limits.specs.Limits.{Sized, size_within}
+use Rattle.im_statements.specs.im_rule_limits.Limits.{Sized, size_within}
 use Rattle.im_stop.specs.declared.stop.Stop.{Stop}
 use Rattle.im_stop.specs.declared.stop.Stop.TheVariants.{Rule, Large, Memory}
 use Rattle.im_declarators.specs.Suffixes.{IsFault}

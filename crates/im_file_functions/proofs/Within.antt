@@ -13,7 +13,7 @@ use Rattle.im_rules.specs.TypeTests.{result_of}
 use Rattle.im_rules.specs.UnitBreaks.{an_external, file_specifiers, function_specifiers, function_declarator}
 use Rattle.im_rules.proofs.Once.{declares_once, parameters_once}
 use Rattle.im_rules.proofs.UnitOnce.{specify_once}
-use Rattle.im_rule_limits.specs.Limits.{size_limit, Sized, BodySized, FileSized, size_in_file_part, size_in_file_inner, size_in_body, IsWithin, IsBodyWithin, IsFileWithin}
+use Rattle.im_statements.specs.im_rule_limits.Limits.{size_limit, Sized, BodySized, FileSized, size_in_file_part, size_in_file_inner, size_in_body, IsWithin, IsBodyWithin, IsFileWithin}
 
 -- the sizes of its parts are within the limit, and so are its own
 pub definition_within : {f g : FilePlace} {xs : t.SpecifierList} {q : Qualified} {e : t.Declarator} {y : Declared} {ds : List Declared} {at at' : ℕ} {is : t.BlockItems}

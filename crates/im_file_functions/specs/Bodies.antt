@@ -2,7 +2,7 @@
 use Rattle.std.specs.Prelude.{◌≡◌, ◌<◌, ℕ, true, List, ◌++◌, length}
 use Rattle.im_ctree.specs.Tree as t
 use Rattle.im_ctree.specs.declared.declarator.Parameter as pm
-use Rattle.im_ctype.specs.Table.{structs_of}
+use Rattle.im_statements.specs.im_ctype.Table.{structs_of}
 use Rattle.im_typed.specs.Program.{Stmts, Block}
 use Rattle.im_rules.specs.BodyBreaks.{BodyBroken, some_items}
 use Rattle.im_rules.specs.Declared as d
@@ -10,7 +10,7 @@ use Rattle.im_rules.specs.FileScope.{past_strings, FilePlace}
 use Rattle.im_rules.specs.Statements.{Site, Added, TypedItems, name_of}
 use Rattle.im_rules.specs.TypedUnit.{result_kind, parameter_objects, body_site}
 use Rattle.im_rules.specs.TypeTests.{result_of}
-use Rattle.im_rule_limits.specs.Limits.{size_limit, BodySized, IsBodyWithin}
+use Rattle.im_statements.specs.im_rule_limits.Limits.{size_limit, BodySized, IsBodyWithin}
 use Rattle.im_types.specs.declared.tree.Type as rust
 use Rattle.im_types.specs.Shape.{type_of}
 use Rattle.im_type_specifiers.specs.Tags.{IsGrown}

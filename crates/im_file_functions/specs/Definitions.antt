@@ -1,10 +1,10 @@
 -- What is answered of a function definition.
 use Rattle.std.specs.Prelude.{◌≡◌, true, [], ◌∷◌, length}
 use Rattle.im_ctree.specs.Tree as t
-use Rattle.im_ctype.specs.Table.{structs_of}
+use Rattle.im_statements.specs.im_ctype.Table.{structs_of}
 use Rattle.im_rules.specs.TypedUnit.{TypedExternal}
 use Rattle.im_rules.specs.UnitBreaks.{an_external}
-use Rattle.im_rule_limits.specs.Limits.{IsFileWithin}
+use Rattle.im_statements.specs.im_rule_limits.Limits.{IsFileWithin}
 use Rattle.im_file_place.specs.declared.file.File.{File}
 use Rattle.im_file_place.specs.Files.{file_place_of}
 use Rattle.im_defined.specs.declared.function.Defined.{Defined}

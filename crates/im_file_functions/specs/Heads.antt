@@ -10,7 +10,7 @@ use Rattle.im_rules.specs.Outline.{nearest}
 use Rattle.im_rules.specs.Typed.{Declares, AreParameters}
 use Rattle.im_rules.specs.TypedUnit.{Specify, past_head}
 use Rattle.im_rules.specs.UnitBreaks.{an_external, file_specifiers}
-use Rattle.im_rule_limits.specs.Limits.{IsWithin, IsFileWithin}
+use Rattle.im_statements.specs.im_rule_limits.Limits.{IsWithin, IsFileWithin}
 use Rattle.im_stop.specs.declared.stop.Stop.{Stop}
 use Rattle.im_declarators.specs.Shape.{declared_of}
 use Rattle.im_file_specifiers.specs.Answers.{IsFileFault}

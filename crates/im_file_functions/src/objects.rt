@@ -1,6 +1,6 @@
 //! Parameters as the first objects of a function (C11 6.9.1p9).
 ghost use Rattle.std.specs.Prelude.{◌≡◌, ◌∷◌, map, length, IfOk, List};
-ghost use Rattle.im_ctype.specs.Table.{Table, structs_of};
+ghost use Rattle.im_statements.specs.im_ctype.Table.{Table, structs_of};
 ghost use Rattle.im_rules.specs.Declared as d;
 ghost use Rattle.im_rules.specs.Statements as s;
 ghost use Rattle.im_rules.specs.TypedUnit as u;

@@ -6,7 +6,7 @@ ghost use Rattle.im_rules.specs.Context.{in_new_scope};
 ghost use Rattle.im_rules.specs.FileScope.{past_strings};
 ghost use Rattle.im_rules.specs.Strings.{strings_of_declarator};
 ghost use Rattle.im_rules.specs.Typed.{Declares, AreParameters};
-ghost use Rattle.im_rule_limits.specs.Limits.{IsWithin};
+ghost use Rattle.im_statements.specs.im_rule_limits.Limits.{IsWithin};
 ghost use Rattle.im_tree_parts.specs.Lists.{parameters_from};
 ghost use Rattle.im_type_specifiers.specs.Specified.{qualified_of};
 ghost use Rattle.im_declarators.specs.Shape.{declared_of};

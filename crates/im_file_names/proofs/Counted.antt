@@ -3,8 +3,8 @@ use Rattle.std.proofs.Common.{◌≡◌, ℕ, Bool, true, false, List, [], ◌�
 use Rattle.std.proofs.lemmas.Bool.{ne_eqb, false≢true}
 use Rattle.im_ctype.specs.Types.{CType, function}
 use Rattle.im_name_map.proofs.SameNames.{same-refl, same-equal}
-use Rattle.im_rules.specs.Rules.{takes_nothing}
-use Rattle.im_rules.specs.TypeTests.{same_name}
+use Rattle.im_declarators.specs.im_rules.Rules.{takes_nothing}
+use Rattle.im_declarators.specs.im_rules.TypeTests.{same_name}
 use Rattle.im_types.specs.declared.tree.Type as rust
 use Rattle.im_types.specs.Shape.{types_in}
 

@@ -1,14 +1,14 @@
 -- For private contracts: what is asked of a declarator at file scope, by what its name means behind it.
 use Rattle.std.specs.Prelude.{Bool, true, not, ◌&&◌, ◌||◌, List, [], ◌∷◌, if◌then◌else◌}
-use Rattle.im_word.specs.Words.{Name}
+use Rattle.im_declarators.specs.im_word.Words.{Name}
 use Rattle.im_ctype.specs.Types.{CType}
-use Rattle.im_rules.specs.Context.{with_entity}
-use Rattle.im_rules.specs.Declared.{Declared}
-use Rattle.im_rules.specs.Demands.{Demand, asks}
-use Rattle.im_rules.specs.FileScope.{FilePlace, is_object_entity, keeps_builtin}
-use Rattle.im_rules.specs.Outline.{is_in}
-use Rattle.im_rules.specs.Rules.{rule_3, rule_4, rule_5, rule_6_absent}
-use Rattle.im_rules.specs.Scopes.{Entity, meaning, meaning_here}
+use Rattle.im_declarators.specs.im_rules.Context.{with_entity}
+use Rattle.im_declarators.specs.im_rules.Declared.{Declared}
+use Rattle.im_declarators.specs.im_rules.Demands.{Demand, asks}
+use Rattle.im_declarators.specs.im_rules.FileScope.{FilePlace, is_object_entity, keeps_builtin}
+use Rattle.im_declarators.specs.im_rules.Outline.{is_in}
+use Rattle.im_declarators.specs.im_rules.Rules.{rule_3, rule_4, rule_5, rule_6_absent}
+use Rattle.im_declarators.specs.im_rules.Scopes.{Entity, meaning, meaning_here}
 
 abbrev pub asks_of : FilePlace → Bool → Name → Declared → CType → Entity → Bool → List Demand
 asks_of f typedef x y a e whole =

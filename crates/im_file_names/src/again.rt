@@ -1,8 +1,8 @@
 //! Names that are declared more than once (C11 6.7p3, 6.7p4).
 ghost use Rattle.std.specs.Prelude.{◌≡◌, true, Some, Bool};
 ghost use Rattle.im_ctype.specs.Types as t;
-ghost use Rattle.im_rules.specs.Rules as u;
-ghost use Rattle.im_rules.specs.Scopes as s;
+ghost use Rattle.im_declarators.specs.im_rules.Rules as u;
+ghost use Rattle.im_declarators.specs.im_rules.Scopes as s;
 ghost use Rattle.im_scopes.specs.Shape.{scopes_of, entity_of};
 ghost use Rattle.im_types.specs.Shape.{type_of};
 

@@ -1,7 +1,7 @@
 //! What is asked of a declarator at file scope (C11 6.7, 6.9).
 ghost use Rattle.std.specs.Prelude.{◌≡◌, not, ◌&&◌, MatchResult};
-ghost use Rattle.im_rules.specs.Demands.{Meets};
-ghost use Rattle.im_rules.specs.Outline as o;
+ghost use Rattle.im_declarators.specs.im_rules.Demands.{Meets};
+ghost use Rattle.im_declarators.specs.im_rules.Outline as o;
 ghost use Rattle.im_declarators.specs.Shape.{declared_of};
 ghost use Rattle.im_file_place.specs.Files.{file_place_of};
 ghost use Rattle.im_file_names.specs.Asked.{asks_of};

@@ -3,13 +3,13 @@ ghost use Rattle.std.specs.Prelude.{◌≡◌, ◌&&◌, MatchResult};
 ghost use Rattle.im_ctree.specs.Shape.{declarator_of};
 ghost use Rattle.im_ctree.specs.Tree as t;
 ghost use Rattle.im_ctype.specs.Types.{CType, function};
-ghost use Rattle.im_rules.specs.Demands.{Meets};
-ghost use Rattle.im_rules.specs.FileScope as f;
-ghost use Rattle.im_rules.specs.Outline as o;
-ghost use Rattle.im_rules.specs.Rules as u;
+ghost use Rattle.im_declarators.specs.im_rules.Demands.{Meets};
+ghost use Rattle.im_declarators.specs.im_rules.FileScope as f;
+ghost use Rattle.im_declarators.specs.im_rules.Outline as o;
+ghost use Rattle.im_declarators.specs.im_rules.Rules as u;
 ghost use Rattle.im_declarators.specs.Shape.{declared_of};
 ghost use Rattle.im_stop.specs.Answers.{IsRefusal};
-ghost use Rattle.im_tree_parts.specs.Lists.{parameters_from, with_parameter};
+ghost use Rattle.im_declarators.specs.im_tree_parts.Lists.{parameters_from, with_parameter};
 ghost use Rattle.im_types.specs.Shape.{type_of, types_in};
 
 use im_ctree::{Core, Declarator, Parameter};

@@ -1,8 +1,8 @@
 //! The functions that are predeclared.
 ghost use Rattle.std.specs.Prelude.{◌≡◌, ◌||◌, IfOk};
 ghost use Rattle.im_ctype.specs.Types as t;
-ghost use Rattle.im_rules.specs.FileScope as f;
-ghost use Rattle.im_rules.specs.Rules as u;
+ghost use Rattle.im_declarators.specs.im_rules.FileScope as f;
+ghost use Rattle.im_declarators.specs.im_rules.Rules as u;
 ghost use Rattle.im_types.specs.Shape.{type_of, types_in};
 
 use crate::names::same_name;

@@ -1,14 +1,14 @@
 //! Declarators at file scope.
 ghost use Rattle.std.specs.Prelude.{◌≡◌, reverse, MatchResult, OnOk};
-ghost use Rattle.im_rules.specs.Demands.{Meets};
-ghost use Rattle.im_rules.specs.FileScope as f;
+ghost use Rattle.im_declarators.specs.im_rules.Demands.{Meets};
+ghost use Rattle.im_declarators.specs.im_rules.FileScope as f;
 ghost use Rattle.im_declarators.specs.Shape.{declared_of};
 ghost use Rattle.im_file_names.specs.Asked.{with_whole, with_name};
 ghost use Rattle.im_file_names.specs.Kept.{KeepsOthers};
 ghost use Rattle.im_file_place.specs.Files.{file_place_of};
 ghost use Rattle.im_scopes.specs.Shape.{entity_of};
 ghost use Rattle.im_stop.specs.Answers.{IsRefusal};
-ghost use Rattle.im_tree_parts.specs.Lists.{list_from};
+ghost use Rattle.im_declarators.specs.im_tree_parts.Lists.{list_from};
 ghost use Rattle.im_types.specs.Shape.{type_of};
 
 use crate::asked::asked;

@@ -1,10 +1,10 @@
 //! What names at file scope mean.
 ghost use Rattle.std.specs.Prelude.{◌≡◌, IfOk};
-ghost use Rattle.im_rules.specs.FileScope as f;
-ghost use Rattle.im_rules.specs.Outline as o;
-ghost use Rattle.im_rules.specs.Scopes as s;
+ghost use Rattle.im_declarators.specs.im_rules.FileScope as f;
+ghost use Rattle.im_declarators.specs.im_rules.Outline as o;
+ghost use Rattle.im_declarators.specs.im_rules.Scopes as s;
 ghost use Rattle.im_scopes.specs.Shape.{entity_of, callee_of};
-ghost use Rattle.im_tree_parts.specs.Lists.{list_from};
+ghost use Rattle.im_declarators.specs.im_tree_parts.Lists.{list_from};
 ghost use Rattle.im_types.specs.Shape.{type_of};
 ghost use Rattle.im_unit_outline.specs.Outlines.{outline_in};
 

@@ -1,9 +1,9 @@
 //! `main` (C11 5.1.2.2.1).
 ghost use Rattle.std.specs.Prelude.{◌≡◌, Some, None, MatchOption, MatchResult, IfOk};
-ghost use Rattle.im_rules.specs.Demands.{Meets};
-ghost use Rattle.im_rules.specs.FileScope as f;
-ghost use Rattle.im_rules.specs.Rules as u;
-ghost use Rattle.im_rules.specs.Scopes as s;
+ghost use Rattle.im_declarators.specs.im_rules.Demands.{Meets};
+ghost use Rattle.im_declarators.specs.im_rules.FileScope as f;
+ghost use Rattle.im_declarators.specs.im_rules.Rules as u;
+ghost use Rattle.im_declarators.specs.im_rules.Scopes as s;
 ghost use Rattle.im_scopes.specs.Shape.{scopes_of, entity_of};
 ghost use Rattle.im_stop.specs.Answers.{IsRefusal};
 ghost use Rattle.im_types.specs.Shape.{type_of};

@@ -1,7 +1,7 @@
 //! Names.
 ghost use Rattle.std.specs.Prelude.{◌≡◌, ◌↔◌, IsTrue};
-ghost use Rattle.im_rules.specs.Statements as s;
-ghost use Rattle.im_rules.specs.TypeTests as q;
+ghost use Rattle.im_declarators.specs.im_rules.Statements as s;
+ghost use Rattle.im_declarators.specs.im_rules.TypeTests as q;
 ghost use Rattle.im_declarators.specs.Shape.{declared_of};
 
 use im_declarators::Declared;

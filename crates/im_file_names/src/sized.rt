@@ -1,8 +1,8 @@
 //! Types whose lengths are written, and objects of complete types.
 ghost use Rattle.std.specs.Prelude.{◌≡◌, not, ◌&&◌, ◌||◌};
 ghost use Rattle.im_ctype.specs.Table.{structs_of};
-ghost use Rattle.im_rules.specs.FileScope as f;
-ghost use Rattle.im_rules.specs.Rules as u;
+ghost use Rattle.im_declarators.specs.im_rules.FileScope as f;
+ghost use Rattle.im_declarators.specs.im_rules.Rules as u;
 ghost use Rattle.im_scopes.specs.Shape.{entity_of};
 ghost use Rattle.im_types.specs.Shape.{type_of};
 

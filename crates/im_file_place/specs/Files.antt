@@ -1,8 +1,8 @@
 -- The place of the definitions that stands for one at file scope.
 use Rattle.std.specs.Prelude.{ℕ, List, map, reverse, Vec}
 use Rattle.std.specs.Global.{Global}
-use Rattle.im_word.specs.Words.{Name}
-use Rattle.im_rules.specs.FileScope.{FilePlace}
+use Rattle.im_place.specs.im_word.Words.{Name}
+use Rattle.im_place.specs.im_rules.FileScope.{FilePlace}
 use Rattle.im_place.specs.Contexts.{context_of}
 use Rattle.im_file_place.specs.declared.file.File.{File}
 

@@ -1,12 +1,12 @@
 -- The functions that are predeclared.
 use Rattle.std.specs.Prelude.{false, List}
-use Rattle.im_word.specs.Words.{Name}
+use Rattle.im_place.specs.im_word.Words.{Name}
 use Rattle.im_ctype.specs.declared.integer.Integer.TheVariants.{Int}
 use Rattle.im_ctype.specs.Types.{integer, function}
 use Rattle.im_types.specs.declared.tree.Type as rust
 use Rattle.im_types.specs.Shape.{types_in}
-use Rattle.im_rules.specs.Scopes.{Scopes, nothing, named, a_function, Callee, get_character, put_character}
-use Rattle.im_rules.specs.FileScope.{getchar_name, getchar_type, putchar_name, putchar_type}
+use Rattle.im_place.specs.im_rules.Scopes.{Scopes, nothing, named, a_function, Callee, get_character, put_character}
+use Rattle.im_place.specs.im_rules.FileScope.{getchar_name, getchar_type, putchar_name, putchar_type}
 
 -- a function of these parameters that gives an int
 abbrev pub with_function : Name → Callee → List rust.Type → Scopes → Scopes

@@ -1,7 +1,7 @@
 //! What is known at a place at file scope.
 ghost use Rattle.std.specs.Prelude.{◌≡◌, IfOk};
 ghost use Rattle.im_ctree.specs.Shape.{tree_of};
-ghost use Rattle.im_rules.specs.FileScope as f;
+ghost use Rattle.im_place.specs.im_rules.FileScope as f;
 ghost use Rattle.im_file_place.specs.Files.{file_place_of};
 
 use crate::predeclared::predeclared;

@@ -1,7 +1,7 @@
 //! What is predeclared.
 ghost use Rattle.std.specs.Prelude.{◌≡◌, IfOk};
-ghost use Rattle.im_rules.specs.FileScope as f;
-ghost use Rattle.im_rules.specs.Scopes as s;
+ghost use Rattle.im_place.specs.im_rules.FileScope as f;
+ghost use Rattle.im_place.specs.im_rules.Scopes as s;
 ghost use Rattle.im_scopes.specs.Shape.{scopes_of, entity_of, callee_of};
 ghost use Rattle.im_file_place.specs.Predeclared.{with_function, predeclared_functions};
 

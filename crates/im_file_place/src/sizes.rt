@@ -1,8 +1,8 @@
 //! The bytes of statics.
 ghost use Rattle.std.specs.Prelude.{◌≡◌, IfOk, Some, slice_get};
-ghost use Rattle.im_rules.specs.FileScope as f;
+ghost use Rattle.im_place.specs.im_rules.FileScope as f;
 ghost use Rattle.im_scopes.specs.Shape.{scopes_of, entity_of};
-ghost use Rattle.im_rules.specs.Scopes as s;
+ghost use Rattle.im_place.specs.im_rules.Scopes as s;
 ghost use Rattle.im_ctype.specs.Table.{structs_of};
 ghost use Rattle.im_file_place.specs.Files.{file_place_of, bytes_of};
 

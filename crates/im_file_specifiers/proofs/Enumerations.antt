@@ -1,6 +1,6 @@
 -- Enums with their lists.
 use Rattle.std.proofs.Common.{◌≡◌, ℕ, pos, List, ◌∷◌, Option, sym, subst}
-use Rattle.im_word.specs.Words.{Name}
+use Rattle.im_expressions.specs.im_word.Words.{Name}
 use Rattle.im_ctree.specs.Tree as t
 use Rattle.im_ctree.specs.declared.specifier.SpecifierWord.{SpecifierWord}
 use Rattle.im_rules.specs.Demands.{Meets}

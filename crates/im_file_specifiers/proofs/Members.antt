@@ -1,7 +1,7 @@
 -- Members, one behind the other, and their lists.
 use Rattle.std.proofs.Common.{◌≡◌, ℕ, ◌+◌, List, [], ◌∷◌, ◌++◌, length, drop, inl, inr, Option, Result, Ok, Err, MatchResult, refl, sym, ap, ◌∙◌, subst, append_assoc}
 use Rattle.std.proofs.lemmas.List.{append-nil}
-use Rattle.im_word.specs.Words.{Name}
+use Rattle.im_expressions.specs.im_word.Words.{Name}
 use Rattle.im_ctree.specs.Tree as t
 use Rattle.im_ctree.specs.Shape.{declarator_of}
 use Rattle.im_ctree.specs.declared.declarator.Declarator as dc

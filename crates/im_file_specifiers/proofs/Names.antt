@@ -1,7 +1,7 @@
 -- Lists of names, and members whose names differ.
 use Rattle.std.proofs.Common.{◌≡◌, ℕ, zero, suc, Bool, true, false, not, ◌&&◌, ◌||◌, List, [], ◌∷◌, ◌++◌, length, drop, reverse, Option, Some, None, refl, sym, ap, ◌∙◌}
 use Rattle.std.proofs.lemmas.List.{reverse-append}
-use Rattle.im_word.specs.Words.{Name}
+use Rattle.im_expressions.specs.im_word.Words.{Name}
 use Rattle.im_ctype.specs.Types.{Member}
 use Rattle.im_rules.specs.TypeTests.{same_name, has_member}
 use Rattle.im_rules.specs.Outline.{is_in}

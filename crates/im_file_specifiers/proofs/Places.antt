@@ -1,7 +1,7 @@
 -- Places at file scope behind parts.
 use Rattle.std.proofs.Common.{◌≡◌, ℕ, ◌+◌, List, [], ◌∷◌, ◌++◌, reverse, Some, Vec, Global, Result, Ok, Err, OnOk, ap, ◌∙◌, arith}
 use Rattle.std.proofs.lemmas.List.{append-nil, reverse-append}
-use Rattle.im_word.specs.Words.{Name}
+use Rattle.im_expressions.specs.im_word.Words.{Name}
 use Rattle.im_rules.specs.Scopes.{Scopes, tag_meaning}
 use Rattle.im_rules.specs.Declared.{declared_tag}
 use Rattle.im_rules.specs.FileScope.{FilePlace, past_strings, with_list_begun}

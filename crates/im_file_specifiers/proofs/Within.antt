@@ -1,6 +1,6 @@
 -- Sizes of nodes at file scope are within the limit where those of their parts are.
 use Rattle.std.proofs.Common.{◌≡◌, ℕ, ◌+◌, ◌≤◌, ℤ, pos, ◌+ℤ◌, false, List, [], ◌∷◌, length, Option, sym, ap, subst}
-use Rattle.im_word.specs.Words.{Name}
+use Rattle.im_expressions.specs.im_word.Words.{Name}
 use Rattle.im_ctree.specs.Tree as t
 use Rattle.im_ctype.specs.Types.{CType, struct, Member}
 use Rattle.im_rules.specs.Breaks.{an_expression, a_declarator}

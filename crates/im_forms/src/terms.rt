@@ -1,10 +1,10 @@
 //! The terms of expressions: the rules are asked of the terms of the parts, of which the term is made.
 ghost use Rattle.std.specs.Prelude.{◌≡◌, [], ◌∷◌, IfOk};
 ghost use Rattle.im_ctype.specs.Table.{Table, structs_of};
-ghost use Rattle.im_rules.specs.Conversions as c;
-ghost use Rattle.im_rules.specs.Demands as d;
-ghost use Rattle.im_rules.specs.Rules as u;
-ghost use Rattle.im_rules.specs.Terms as r;
+ghost use Rattle.im_assignments.specs.im_rules.Conversions as c;
+ghost use Rattle.im_assignments.specs.im_rules.Demands as d;
+ghost use Rattle.im_assignments.specs.im_rules.Rules as u;
+ghost use Rattle.im_assignments.specs.im_rules.Terms as r;
 ghost use Rattle.im_types.specs.Shape.{type_of};
 ghost use Rattle.im_operands.specs.Shape.{term_in};
 ghost use Rattle.im_operands.specs.Answers.{IsMade};

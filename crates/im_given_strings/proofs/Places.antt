@@ -3,7 +3,7 @@ use Rattle.std.proofs.Common.{◌≡◌, ℕ, zero, suc, ◌+◌, ◌<◌, ◌�
 use Rattle.std.specs.Prelude.{slice_get, Option, Some, None}
 use Rattle.std.proofs.lemmas.List.{drop_more}
 use Rattle.std.proofs.lemmas.Option.{slice_get_read, slice_get_past}
-use Rattle.im_word.specs.Words.{Name}
+use Rattle.im_shapes.specs.im_word.Words.{Name}
 use Rattle.im_ctree.specs.declared.declaration.Initializer as ini
 use Rattle.im_ctree.specs.Shape.{initializer_of}
 use Rattle.im_ctree.specs.Tree as t
@@ -11,9 +11,9 @@ use Rattle.im_ctype.specs.declared.member.Member as rust
 use Rattle.im_ctype.specs.Table.{Table, members_at, members_in, structs_of, type_in, types_of}
 use Rattle.im_ctype.specs.Types.{CType, void, Member, Structs, members_of}
 use Rattle.im_ctype.proofs.Steps.{plain-members}
-use Rattle.im_rules.specs.Initialisers.{Slots, in_order, first_slot, other_slots, slots_of, strings_given, strings_among}
-use Rattle.im_rules.specs.Rules.{is_string_for}
-use Rattle.im_rules.specs.Strings.{strings_in}
+use Rattle.im_shapes.specs.im_rules.Initialisers.{Slots, in_order, first_slot, other_slots, slots_of, strings_given, strings_among}
+use Rattle.im_shapes.specs.im_rules.Rules.{is_string_for}
+use Rattle.im_shapes.specs.im_rules.Strings.{strings_in}
 use Rattle.im_tree_parts.specs.Lists.{initializers_from}
 use Rattle.im_shapes.proofs.Falls.{size_of, sizes_of}
 

@@ -2,7 +2,7 @@
 ghost use Rattle.std.specs.Prelude.{◌≡◌, drop, IfOk};
 ghost use Rattle.im_ctype.specs.Table.{structs_of};
 ghost use Rattle.im_ctype.specs.Types.{members_of};
-ghost use Rattle.im_rules.specs.Initialisers.{first_slot, in_order};
+ghost use Rattle.im_shapes.specs.im_rules.Initialisers.{first_slot, in_order};
 ghost use Rattle.im_types.specs.Shape.{type_of};
 
 use im_ctype::TypeTable;

@@ -4,11 +4,11 @@ use Rattle.im_ctree.specs.Tree as t
 use Rattle.im_ctype.specs.Layout.{layout}
 use Rattle.im_ctype.specs.Table.{Table, structs_of}
 use Rattle.im_ctype.specs.Types.{CType}
-use Rattle.im_rules.specs.BodyBreaks.{an_initialiser}
-use Rattle.im_rules.specs.Context.{Context}
-use Rattle.im_rules.specs.Initialisers as n
-use Rattle.im_rules.specs.Statements.{MayInitialise, initialises, initialised_strings}
-use Rattle.im_rule_limits.specs.Limits.{IsGivenWithin}
+use Rattle.im_expressions.specs.im_rules.BodyBreaks.{an_initialiser}
+use Rattle.im_expressions.specs.im_rules.Context.{Context}
+use Rattle.im_expressions.specs.im_rules.Initialisers as n
+use Rattle.im_expressions.specs.im_rules.Statements.{MayInitialise, initialises, initialised_strings}
+use Rattle.im_expressions.specs.im_rule_limits.Limits.{IsGivenWithin}
 use Rattle.im_typed.specs.declared.statement.Piece as rp
 use Rattle.im_typed.specs.Program as p
 use Rattle.im_typed.specs.ProgramOf.{piece_of}

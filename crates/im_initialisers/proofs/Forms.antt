@@ -6,9 +6,9 @@ use Rattle.im_ctree.specs.declared.expression.Expression.{Expression}
 use Rattle.im_ctree.specs.Tree as t
 use Rattle.im_ctype.specs.declared.integer.Integer.{Integer}
 use Rattle.im_ctype.specs.Types.{CType, void, integer, pointer, array, unsized, struct, function, Structs, members_of}
-use Rattle.im_rules.specs.Initialisers as n
-use Rattle.im_rules.specs.Rules.{is_string_for}
-use Rattle.im_rules.specs.Strings.{strings_in}
+use Rattle.im_expressions.specs.im_rules.Initialisers as n
+use Rattle.im_expressions.specs.im_rules.Rules.{is_string_for}
+use Rattle.im_expressions.specs.im_rules.Strings.{strings_in}
 use Rattle.im_tree_parts.specs.Lists.{expression_in}
 use Rattle.im_shapes.proofs.Falls.{size_of, sizes_of}
 use Rattle.im_given_strings.proofs.Places.{of_string, of_list}

@@ -1,22 +1,22 @@
 -- Initialisers by their forms: what is put for each, and what of it is broken.
 use Rattle.std.proofs.Common.{◌≡◌, ℕ, true, false, List, [], ◌∷◌, ◌++◌, Result, Ok, Err, MatchResult, refl, sym, ap, ◌∙◌, subst, inl}
 use Rattle.std.proofs.lemmas.List.{map_push}
-use Rattle.im_word.specs.Words.{Name}
+use Rattle.im_expressions.specs.im_word.Words.{Name}
 use Rattle.im_ctree.specs.Tree as t
 use Rattle.im_ctype.specs.Members.{places}
 use Rattle.im_ctype.specs.Table.{Table, structs_of}
 use Rattle.im_ctype.specs.Types.{CType, members_of}
-use Rattle.im_rules.specs.BodyBreaks.{GivenBroken, an_initialiser, some_elements, some_members, initialiser_token, here_given, at_shape, at_value, in_value, in_elements, in_members}
-use Rattle.im_rules.specs.Breaks.{an_expression}
-use Rattle.im_rules.specs.Context.{Context}
-use Rattle.im_rules.specs.Demands.{Meets}
-use Rattle.im_rules.specs.Initialisers as n
-use Rattle.im_rules.specs.Rules.{rule_17}
-use Rattle.im_rules.specs.Strings.{strings_in}
-use Rattle.im_rules.specs.Terms.{Term, operand_of}
-use Rattle.im_rules.specs.Typed.{Typed}
-use Rattle.im_rule_limits.specs.Limits.{size_in_value, size_in_elements, size_in_members, IsWithin, IsGivenWithin}
-use Rattle.im_declarators.specs.Suffixes.{IsFault}
+use Rattle.im_expressions.specs.im_rules.BodyBreaks.{GivenBroken, an_initialiser, some_elements, some_members, initialiser_token, here_given, at_shape, at_value, in_value, in_elements, in_members}
+use Rattle.im_expressions.specs.im_rules.Breaks.{an_expression}
+use Rattle.im_expressions.specs.im_rules.Context.{Context}
+use Rattle.im_expressions.specs.im_rules.Demands.{Meets}
+use Rattle.im_expressions.specs.im_rules.Initialisers as n
+use Rattle.im_expressions.specs.im_rules.Rules.{rule_17}
+use Rattle.im_expressions.specs.im_rules.Strings.{strings_in}
+use Rattle.im_expressions.specs.im_rules.Terms.{Term, operand_of}
+use Rattle.im_expressions.specs.im_rules.Typed.{Typed}
+use Rattle.im_expressions.specs.im_rule_limits.Limits.{size_in_value, size_in_elements, size_in_members, IsWithin, IsGivenWithin}
+use Rattle.im_expressions.specs.im_declarators.Suffixes.{IsFault}
 use Rattle.im_items.specs.declared.item.Item as ri
 use Rattle.im_items.specs.Shape.{item_in, items_in}
 use Rattle.im_place.specs.declared.place.Place.{Place}

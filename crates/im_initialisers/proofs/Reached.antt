@@ -1,7 +1,7 @@
 -- What stands in braces, one behind the other.
 use Rattle.std.proofs.Common.{◌≡◌, ℕ, ◌+◌, List, [], ◌∷◌, ◌++◌, drop, refl, sym, ap, ◌∙◌, subst, append_assoc}
 use Rattle.std.proofs.lemmas.List.{append-nil}
-use Rattle.im_word.specs.Words.{Name}
+use Rattle.im_expressions.specs.im_word.Words.{Name}
 use Rattle.im_ctree.specs.declared.declaration.Initializer as ini
 use Rattle.im_ctree.specs.Tree as t
 use Rattle.im_ctree.specs.Shape.{initializer_of}
@@ -9,11 +9,11 @@ use Rattle.im_ctype.specs.declared.member.MemberPlace.{MemberPlace}
 use Rattle.im_ctype.specs.Members.{places}
 use Rattle.im_ctype.specs.Table.{Table, structs_of}
 use Rattle.im_ctype.specs.Types.{CType, Member, members_of}
-use Rattle.im_rules.specs.BodyBreaks.{Given, GivenBroken, an_initialiser, some_elements, some_members, first_element, other_elements, first_member, other_members}
-use Rattle.im_rules.specs.Context.{Context}
-use Rattle.im_rules.specs.Initialisers as n
-use Rattle.im_rules.specs.Terms.{size_in}
-use Rattle.im_rule_limits.specs.Limits.{GivenSized, size_in_first_element, size_in_other_elements, size_in_first_member, size_in_other_members, IsGivenWithin}
+use Rattle.im_expressions.specs.im_rules.BodyBreaks.{Given, GivenBroken, an_initialiser, some_elements, some_members, first_element, other_elements, first_member, other_members}
+use Rattle.im_expressions.specs.im_rules.Context.{Context}
+use Rattle.im_expressions.specs.im_rules.Initialisers as n
+use Rattle.im_expressions.specs.im_rules.Terms.{size_in}
+use Rattle.im_expressions.specs.im_rule_limits.Limits.{GivenSized, size_in_first_element, size_in_other_elements, size_in_first_member, size_in_other_members, IsGivenWithin}
 use Rattle.im_tree_parts.specs.Lists.{initializers_from}
 use Rattle.im_items.specs.declared.item.Item as ri
 use Rattle.im_items.specs.Shape.{items_in}

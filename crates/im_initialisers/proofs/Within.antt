@@ -1,16 +1,16 @@
 -- No size in an initialiser is over the limit, where none in its parts is.
 use Rattle.std.proofs.Common.{◌≡◌, ℕ, ◌+◌, List, [], ◌∷◌, sym, subst}
-use Rattle.im_word.specs.Words.{Name}
+use Rattle.im_expressions.specs.im_word.Words.{Name}
 use Rattle.im_ctree.specs.Tree as t
 use Rattle.im_ctype.specs.declared.member.MemberPlace.{MemberPlace}
 use Rattle.im_ctype.specs.Members.{places}
 use Rattle.im_ctype.specs.Types.{CType, Member, members_of}
-use Rattle.im_rules.specs.Breaks.{an_expression}
-use Rattle.im_rules.specs.BodyBreaks.{an_initialiser, some_elements, some_members}
-use Rattle.im_rules.specs.Context.{Context, behind_strings}
-use Rattle.im_rules.specs.Initialisers as n
-use Rattle.im_rules.specs.Terms.{size_in}
-use Rattle.im_rule_limits.specs.Limits.{Sized, GivenSized, size_in_value, size_in_elements, size_in_members, size_in_first_element, size_in_other_elements, size_in_first_member, size_in_other_members, IsWithin, IsGivenWithin}
+use Rattle.im_expressions.specs.im_rules.Breaks.{an_expression}
+use Rattle.im_expressions.specs.im_rules.BodyBreaks.{an_initialiser, some_elements, some_members}
+use Rattle.im_expressions.specs.im_rules.Context.{Context, behind_strings}
+use Rattle.im_expressions.specs.im_rules.Initialisers as n
+use Rattle.im_expressions.specs.im_rules.Terms.{size_in}
+use Rattle.im_expressions.specs.im_rule_limits.Limits.{Sized, GivenSized, size_in_value, size_in_elements, size_in_members, size_in_first_element, size_in_other_elements, size_in_first_member, size_in_other_members, IsWithin, IsGivenWithin}
 
 -- the sizes in an initialiser are those of what stands in its form
 abbrev FormSized : Context → ℕ → ℕ → n.Shape → Type 0

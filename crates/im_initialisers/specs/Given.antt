@@ -1,13 +1,13 @@
 -- What the walk over an initialiser answers, and the place behind it.
 use Rattle.std.specs.Prelude.{◌≡◌, ◌<◌, ℕ, List, ◌++◌}
-use Rattle.im_word.specs.Words.{Name}
+use Rattle.im_expressions.specs.im_word.Words.{Name}
 use Rattle.im_ctree.specs.Tree as t
 use Rattle.im_ctype.specs.Table.{structs_of}
 use Rattle.im_ctype.specs.Types.{CType}
-use Rattle.im_rules.specs.BodyBreaks.{Given, an_initialiser, GivenBroken}
-use Rattle.im_rules.specs.Context.{Context}
-use Rattle.im_rules.specs.Initialisers as n
-use Rattle.im_rule_limits.specs.Limits.{size_limit, GivenSized, IsGivenWithin}
+use Rattle.im_expressions.specs.im_rules.BodyBreaks.{Given, an_initialiser, GivenBroken}
+use Rattle.im_expressions.specs.im_rules.Context.{Context}
+use Rattle.im_expressions.specs.im_rules.Initialisers as n
+use Rattle.im_expressions.specs.im_rule_limits.Limits.{size_limit, GivenSized, IsGivenWithin}
 use Rattle.im_items.specs.declared.item.Item as ri
 use Rattle.im_items.specs.Shape.{items_in}
 use Rattle.im_place.specs.declared.place.Place.{Place}

@@ -3,7 +3,7 @@ ghost use Rattle.std.specs.Prelude.{◌≡◌, MatchResult};
 ghost use Rattle.im_ctree.specs.Shape.{initializer_of, maybe_initializer_of};
 ghost use Rattle.im_ctree.specs.Tree as t;
 ghost use Rattle.im_ctype.specs.Table.{structs_of};
-ghost use Rattle.im_rules.specs.Statements.{initialised_strings, MayInitialise};
+ghost use Rattle.im_expressions.specs.im_rules.Statements.{initialised_strings, MayInitialise};
 ghost use Rattle.im_typed.specs.ProgramOf.{stmt_of};
 ghost use Rattle.im_types.specs.Shape.{type_of};
 ghost use Rattle.im_place.specs.Contexts.{context_of, behind_strings};

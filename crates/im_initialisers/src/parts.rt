@@ -3,7 +3,7 @@ ghost use Rattle.std.specs.Prelude.{◌≡◌, ℕ, IfSome};
 ghost use Rattle.im_ctree.specs.Shape.{initializer_of};
 ghost use Rattle.im_ctree.specs.Tree as t;
 ghost use Rattle.im_ctype.specs.Types.{CType};
-ghost use Rattle.im_rules.specs.Initialisers as n;
+ghost use Rattle.im_expressions.specs.im_rules.Initialisers as n;
 ghost use Rattle.im_tree_parts.specs.Lists.{expression_in, initializers_from};
 ghost use Rattle.im_initialisers.specs.Forms.{listed};
 

@@ -1,7 +1,7 @@
 -- The items that Rust values stand for, by the table of their types.
 use Rattle.std.specs.Prelude.{List, map}
 use Rattle.im_ctype.specs.Table.{Table}
-use Rattle.im_rules.specs.Initialisers as n
+use Rattle.im_conversions.specs.im_rules.Initialisers as n
 use Rattle.im_tree_parts.specs.Lists.{expression_in}
 use Rattle.im_types.specs.Shape.{type_of}
 use Rattle.im_operands.specs.Shape.{term_in}

@@ -1,7 +1,7 @@
 //! The bytes of a string that initialises an array (C11 6.7.9p14).
 ghost use Rattle.std.specs.Prelude.{◌≡◌, ◌+◌, ◌++◌, IfOk, OnOk};
 ghost use Rattle.im_ctype.specs.Table.{Table};
-ghost use Rattle.im_rules.specs.Initialisers as n;
+ghost use Rattle.im_conversions.specs.im_rules.Initialisers as n;
 ghost use Rattle.im_types.specs.Shape.{type_of};
 ghost use Rattle.im_items.specs.Shape.{items_in};
 

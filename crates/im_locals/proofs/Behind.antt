@@ -2,10 +2,10 @@
 use Rattle.std.proofs.Common.{◌≡◌, ℕ, ◌+◌, Bool, List, ◌++◌, length, Vec, refl, sym, ap, ◌∙◌, arith}
 use Rattle.std.proofs.lemmas.List.{append-nil}
 use Rattle.std.specs.Global.{Global}
-use Rattle.im_word.specs.Words.{Name}
+use Rattle.im_initialisers.specs.im_word.Words.{Name}
 use Rattle.im_ctree.specs.Tree as t
-use Rattle.im_ctype.specs.Table.{structs_of}
-use Rattle.im_ctype.specs.Types.{CType}
+use Rattle.im_initialisers.specs.im_ctype.Table.{structs_of}
+use Rattle.im_initialisers.specs.im_ctype.Types.{CType}
 use Rattle.im_rules.specs.Context as k
 use Rattle.im_rules.specs.Context.{Context, with_entity}
 use Rattle.im_rules.specs.Declared as d
@@ -16,7 +16,7 @@ use Rattle.im_rules.specs.Strings.{strings_of_declarator}
 use Rattle.im_scopes.specs.declared.entity.Entry.{Entry}
 use Rattle.im_scopes.specs.Shape.{scopes_of}
 use Rattle.im_types.specs.Shape.{type_of}
-use Rattle.im_unit_outline.specs.Outlines.{outline_in}
+use Rattle.im_initialisers.specs.im_unit_outline.Outlines.{outline_in}
 use Rattle.im_place.specs.declared.place.Place.{Place}
 use Rattle.im_place.specs.Contexts.{context_of, behind_strings}
 use Rattle.im_sites.specs.declared.body.Body.{Body}

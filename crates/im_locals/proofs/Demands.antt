@@ -1,11 +1,11 @@
 -- What is asked of an object, one after the other.
 use Rattle.std.proofs.Common.{◌≡◌, ℕ, Bool, true, List, [], ◌∷◌, ◌++◌, Option, Some, None, inl, inr, refl, subst}
 use Rattle.std.specs.Prelude.{is_some}
-use Rattle.im_word.specs.Words.{Name}
+use Rattle.im_initialisers.specs.im_word.Words.{Name}
 use Rattle.im_ctree.specs.Shape.{maybe_initializer_of}
 use Rattle.im_ctree.specs.declared.declaration.Initializer.{Initializer}
-use Rattle.im_ctype.specs.Table.{structs_of}
-use Rattle.im_ctype.specs.Types.{CType}
+use Rattle.im_initialisers.specs.im_ctype.Table.{structs_of}
+use Rattle.im_initialisers.specs.im_ctype.Types.{CType}
 use Rattle.im_rules.specs.Declared as d
 use Rattle.im_rules.specs.Demands.{Demand, asks, Meets, Refuses}
 use Rattle.im_rules.specs.Outline.{is_initialised}

@@ -1,13 +1,13 @@
 -- One declarator of a declaration in a block.
 use Rattle.std.proofs.Common.{◌≡◌, ℕ, ◌+◌, Bool, List, [], ◌∷◌, ◌++◌, length, Result, Ok, Err, MatchResult, refl, sym, ap, ◌∙◌, subst, arith}
 use Rattle.std.proofs.lemmas.List.{append-nil}
-use Rattle.im_word.specs.Words.{Name}
+use Rattle.im_initialisers.specs.im_word.Words.{Name}
 use Rattle.im_ctree.specs.Tree as t
 use Rattle.im_ctree.specs.Shape.{declarator_of, maybe_initializer_of, init_declarators_of}
 use Rattle.im_ctree.specs.declared.declaration.InitDeclarator.{InitDeclarator}
 use Rattle.im_ctree.specs.declared.declarator.Declarator.{out-Declarator}
-use Rattle.im_ctype.specs.Table.{Table, structs_of}
-use Rattle.im_ctype.specs.Types.{CType, Structs}
+use Rattle.im_initialisers.specs.im_ctype.Table.{Table, structs_of}
+use Rattle.im_initialisers.specs.im_ctype.Types.{CType, Structs}
 use Rattle.im_typed.specs.ProgramOf.{stmt_of}
 use Rattle.im_typed.specs.Program as p
 use Rattle.im_typed.specs.declared.statement.Stmt as rs
@@ -21,7 +21,7 @@ use Rattle.im_rules.specs.Strings.{strings_of_declarator}
 use Rattle.im_rules.specs.Typed.{Declares}
 use Rattle.im_rules.specs.Breaks.{a_declarator}
 use Rattle.im_rules.specs.BodyBreaks.{BodyBroken, here_in_body, within_body, in_inner, in_local_initialiser, at_local, local_declarator, locals_behind, some_locals, GivenBroken, an_initialiser, declarator_token}
-use Rattle.im_rule_limits.specs.Limits.{Counted, GivenSized, BodySized, of_local, size_in_part, size_in_inner, size_in_local_initialiser, IsWithin, IsBodyWithin}
+use Rattle.im_initialisers.specs.im_rule_limits.Limits.{Counted, GivenSized, BodySized, of_local, size_in_part, size_in_inner, size_in_local_initialiser, IsWithin, IsBodyWithin}
 use Rattle.im_types.specs.Shape.{type_of}
 use Rattle.im_stop.specs.declared.stop.Stop.{Stop}
 use Rattle.im_stop.specs.declared.stop.Stop.TheVariants.{Rule, Large, Memory}

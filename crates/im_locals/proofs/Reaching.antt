@@ -1,7 +1,7 @@
 -- Declarators, one behind the other.
 use Rattle.std.proofs.Common.{◌≡◌, ℕ, ◌+◌, ◌<◌, ◌≤◌, List, [], ◌∷◌, ◌++◌, length, drop, get_or, sym, ap, ◌∙◌, subst, append_assoc}
 use Rattle.std.proofs.lemmas.List.{append-nil, drop_more, drop_all}
-use Rattle.im_word.specs.Words.{Name}
+use Rattle.im_initialisers.specs.im_word.Words.{Name}
 use Rattle.im_ctree.specs.Tree as t
 use Rattle.im_ctree.specs.Shape.{init_declarators_of}
 use Rattle.im_ctree.specs.declared.declaration.InitDeclarator.{InitDeclarator}
@@ -12,7 +12,7 @@ use Rattle.im_typed.specs.declared.statement.Stmt as rs
 use Rattle.im_rules.specs.Declared as d
 use Rattle.im_rules.specs.Statements.{Site, Added, and_then, nothing_added, AreLocals, no_local}
 use Rattle.im_rules.specs.BodyBreaks.{BodyBroken, some_locals}
-use Rattle.im_rule_limits.specs.Limits.{BodySized, IsBodyWithin}
+use Rattle.im_initialisers.specs.im_rule_limits.Limits.{BodySized, IsBodyWithin}
 use Rattle.im_scopes.specs.declared.entity.Entry.{Entry}
 use Rattle.im_stop.specs.declared.stop.Stop.{Stop}
 use Rattle.im_stop.specs.declared.stop.Stop.TheVariants.{Rule, Large, Memory}

@@ -6,7 +6,7 @@ use Rattle.im_rules.specs.Declared as d
 use Rattle.im_rules.specs.Breaks.{Broken, here, at_specifiers, some_specifiers}
 use Rattle.im_rules.specs.Statements.{in_context, AreLocals, of_declaration}
 use Rattle.im_rules.specs.BodyBreaks.{BodyBroken, within_body, in_inner, declared_locals, declared_specifiers, some_locals}
-use Rattle.im_rule_limits.specs.Limits.{BodySized, size_in_part, IsBodyWithin}
+use Rattle.im_initialisers.specs.im_rule_limits.Limits.{BodySized, size_in_part, IsBodyWithin}
 use Rattle.im_types.specs.Shape.{type_of}
 use Rattle.im_stop.specs.declared.stop.Stop.{Stop}
 use Rattle.im_stop.specs.declared.stop.Stop.TheVariants.{Rule, Large, Memory}

@@ -9,7 +9,7 @@ use Rattle.im_rules.specs.Initialisers.{completed}
 use Rattle.im_rules.specs.Statements.{Site, in_context, with_local, behind_initializer}
 use Rattle.im_rules.specs.Typed.{Declares}
 use Rattle.im_rules.proofs.Once.{declares_once}
-use Rattle.im_rule_limits.specs.Limits.{Counted, Sized, size_here, size_within, GivenSized, BodySized, of_local, size_in_part, size_in_inner, size_in_step, size_in_local_initialiser, IsWithin, IsBodyWithin}
+use Rattle.im_initialisers.specs.im_rule_limits.Limits.{Counted, Sized, size_here, size_within, GivenSized, BodySized, of_local, size_in_part, size_in_inner, size_in_step, size_in_local_initialiser, IsWithin, IsBodyWithin}
 use Rattle.im_sizes.specs.Sizes.{AllFit}
 use Rattle.im_initialisers.specs.Given.{IsInitialisationWithin}
 

@@ -4,7 +4,7 @@ use Rattle.im_ctree.specs.Tree as t
 use Rattle.im_typed.specs.declared.statement.Stmt as rs
 use Rattle.im_rules.specs.Statements.{Added, TypedDeclaration}
 use Rattle.im_rules.specs.BodyBreaks.{a_declaration}
-use Rattle.im_rule_limits.specs.Limits.{IsBodyWithin}
+use Rattle.im_initialisers.specs.im_rule_limits.Limits.{IsBodyWithin}
 use Rattle.im_stop.specs.declared.stop.Stop.{Stop}
 use Rattle.im_scopes.specs.declared.entity.Entry.{Entry}
 use Rattle.im_sites.specs.declared.body.Body.{Body}

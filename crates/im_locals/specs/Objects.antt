@@ -1,11 +1,11 @@
 -- For private contracts: what is answered of one declarator in a block.
 use Rattle.std.specs.Prelude.{◌≡◌, ℕ, Bool, false, List, [], ◌∷◌, ◌++◌, length}
-use Rattle.im_word.specs.Words.{Name}
+use Rattle.im_initialisers.specs.im_word.Words.{Name}
 use Rattle.im_ctree.specs.Tree as t
 use Rattle.im_ctree.specs.Shape.{init_declarators_of}
 use Rattle.im_ctree.specs.declared.declaration.InitDeclarator.{InitDeclarator}
-use Rattle.im_ctype.specs.Types.{CType}
-use Rattle.im_ctype.specs.Table.{structs_of}
+use Rattle.im_initialisers.specs.im_ctype.Types.{CType}
+use Rattle.im_initialisers.specs.im_ctype.Table.{structs_of}
 use Rattle.im_typed.specs.ProgramOf.{stmt_of}
 use Rattle.im_typed.specs.Program as p
 use Rattle.im_typed.specs.declared.statement.Stmt as rs
@@ -16,7 +16,7 @@ use Rattle.im_rules.specs.Rules.{rule_3, rule_4, rule_5, rule_6_absent}
 use Rattle.im_rules.specs.Scopes.{Scopes, named, meaning, meaning_here, at_file_scope}
 use Rattle.im_rules.specs.Statements.{Site, Added, nothing_added, and_then, local_entity, name_of, object_of, AreLocals}
 use Rattle.im_rules.specs.BodyBreaks.{BodyBroken, some_locals}
-use Rattle.im_rule_limits.specs.Limits.{BodySized, IsBodyWithin}
+use Rattle.im_initialisers.specs.im_rule_limits.Limits.{BodySized, IsBodyWithin}
 use Rattle.im_types.specs.Shape.{type_of}
 use Rattle.im_scopes.specs.declared.entity.Entry.{Entry}
 use Rattle.im_scopes.specs.Shape.{scopes_of}

@@ -1,6 +1,6 @@
 //! What is asked of an object that is declared in a block.
 ghost use Rattle.std.specs.Prelude.{◌≡◌, ℕ, Bool, true, false, is_some, MatchResult};
-ghost use Rattle.im_ctype.specs.Types.{CType};
+ghost use Rattle.im_initialisers.specs.im_ctype.Types.{CType};
 ghost use Rattle.im_rules.specs.Declared as d;
 ghost use Rattle.im_rules.specs.Demands.{Meets};
 ghost use Rattle.im_rules.specs.Rules as u;

@@ -2,13 +2,13 @@
 ghost use Rattle.std.specs.Prelude.{◌≡◌, MatchResult};
 ghost use Rattle.im_ctree.specs.Shape.{declarator_of, maybe_initializer_of};
 ghost use Rattle.im_ctree.specs.declared.specifier.Specifiers.{out-Specifiers};
-ghost use Rattle.im_ctype.specs.Table.{structs_of};
+ghost use Rattle.im_initialisers.specs.im_ctype.Table.{structs_of};
 ghost use Rattle.im_rules.specs.Breaks.{a_declarator};
 ghost use Rattle.im_rules.specs.Declared as d;
 ghost use Rattle.im_rules.specs.Statements.{just_strings, initialised_strings, MayInitialise};
 ghost use Rattle.im_rules.specs.Strings.{strings_of_declarator};
 ghost use Rattle.im_rules.specs.Typed.{Declares};
-ghost use Rattle.im_rule_limits.specs.Limits.{IsWithin};
+ghost use Rattle.im_initialisers.specs.im_rule_limits.Limits.{IsWithin};
 ghost use Rattle.im_stop.specs.Answers.{IsRefusal};
 ghost use Rattle.im_tree_parts.specs.Lists.{list_from};
 ghost use Rattle.im_typed.specs.ProgramOf.{stmt_of};

@@ -1,14 +1,14 @@
 -- What is made of a member that the table has, and what is answered of one that isn't there.
 use Rattle.std.proofs.Common.{◌≡◌, ℕ, Bool, false, ◌||◌, [], ◌∷◌, inl, refl, sym, ap, ◌∙◌, subst}
-use Rattle.im_word.specs.Words.{Name}
+use Rattle.im_conversions.specs.im_word.Words.{Name}
 use Rattle.im_ctype.specs.declared.member.MemberPlace.{MemberPlace}
 use Rattle.im_ctype.specs.Members.{places}
 use Rattle.im_ctype.specs.Table.{Table, type_at, structs_of}
 use Rattle.im_ctype.specs.Types.{CType, Member, is_array, members_of}
 use Rattle.im_typed.specs.Program.{Expr, Place, Member as MemberAt, Part}
-use Rattle.im_rules.specs.Conversions.{member_among, place_among, struct_number, member_at, part_of}
-use Rattle.im_rules.specs.Demands.{asks}
-use Rattle.im_rules.specs.Terms.{lvalue, value, access_of}
+use Rattle.im_conversions.specs.im_rules.Conversions.{member_among, place_among, struct_number, member_at, part_of}
+use Rattle.im_conversions.specs.im_rules.Demands.{asks}
+use Rattle.im_conversions.specs.im_rules.Terms.{lvalue, value, access_of}
 use Rattle.im_stop.specs.Answers.{IsRefusal}
 use Rattle.im_stop.specs.declared.stop.Stop.{Stop}
 use Rattle.im_stop.specs.declared.stop.Stop.TheVariants.{Rule}

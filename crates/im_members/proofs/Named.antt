@@ -2,11 +2,11 @@
 use Rattle.std.proofs.Common.{◌≡◌, ℕ, zero, suc, ◌≤◌, nat_lt, Bool, true, false, ◌||◌, List, [], ◌∷◌, length, Some, None, ◌↔◌, IsTrue, refl, sym, ap, ◌∙◌, subst, arith}
 use Rattle.std.specs.Prelude.{if◌then◌else◌}
 use Rattle.std.proofs.lemmas.Bool.{ltb-false, false≢true}
-use Rattle.im_word.specs.Words.{Name}
+use Rattle.im_conversions.specs.im_word.Words.{Name}
 use Rattle.im_ctype.specs.Types.{Member, Structs, members_of}
 use Rattle.im_name_map.proofs.SameNames.{same-refl, same-equal}
-use Rattle.im_rules.specs.Conversions.{member_among}
-use Rattle.im_rules.specs.TypeTests.{same_name, find_member, has_member}
+use Rattle.im_conversions.specs.im_rules.Conversions.{member_among}
+use Rattle.im_conversions.specs.im_rules.TypeTests.{same_name, find_member, has_member}
 
 unless_true : (b : Bool) → (b ≡ true → ⊥) → false ≡ b
 unless_true true h = absurd (h refl)

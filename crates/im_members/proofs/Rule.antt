@@ -1,13 +1,13 @@
 -- What the rule on members says of a struct that has the member, and of one that hasn't.
 use Rattle.std.proofs.Common.{◌≡◌, Bool, true, false, not, ◌&&◌, nat_lt, length, refl, ap, ◌∙◌}
 use Rattle.std.proofs.lemmas.Bool.{false≢true}
-use Rattle.im_word.specs.Words.{Name}
+use Rattle.im_conversions.specs.im_word.Words.{Name}
 use Rattle.im_ctype.specs.Types.{CType, void, integer, pointer, array, unsized, struct, function, Structs, members_of, is_array}
 use Rattle.im_typed.specs.Program.{Expr, Place}
-use Rattle.im_rules.specs.Rules.{rule_21_dot, rule_21_arrow}
-use Rattle.im_rules.specs.Conversions.{member_among, struct_number}
-use Rattle.im_rules.specs.Terms.{Term, lvalue, value, value_of, operand_of}
-use Rattle.im_rules.specs.TypeTests.{has_member, members_in}
+use Rattle.im_conversions.specs.im_rules.Rules.{rule_21_dot, rule_21_arrow}
+use Rattle.im_conversions.specs.im_rules.Conversions.{member_among, struct_number}
+use Rattle.im_conversions.specs.im_rules.Terms.{Term, lvalue, value, value_of, operand_of}
+use Rattle.im_conversions.specs.im_rules.TypeTests.{has_member, members_in}
 use Rattle.im_members.proofs.Named.{find-some, find-none, has-complete}
 
 and-false : (b : Bool) → (b && false) ≡ false

@@ -3,7 +3,7 @@ use Rattle.std.proofs.Common.{◌≡◌, ℕ, ◌+◌, ◌<◌, ◌≤◌, Bool,
 use Rattle.std.specs.Prelude.{if◌then◌else◌}
 use Rattle.std.proofs.lemmas.List.{drop_more, drop_all, length-map}
 use Rattle.std.proofs.lemmas.Option.{slice_get-get_or, get_or_from_slice_get}
-use Rattle.im_word.specs.Words.{Name}
+use Rattle.im_conversions.specs.im_word.Words.{Name}
 use Rattle.im_ctype.specs.declared.member.Member as rust
 use Rattle.im_ctype.specs.declared.member.MemberPlace.{MemberPlace}
 use Rattle.im_ctype.specs.Layout.{layouts, empty_layout}
@@ -11,8 +11,8 @@ use Rattle.im_ctype.specs.Members.{places}
 use Rattle.im_ctype.specs.Table.{Table, IsIn, members_at, members_in, member_in, types_of, structs_of}
 use Rattle.im_ctype.specs.Types.{CType, Member, members_of, struct}
 use Rattle.im_ctype.proofs.Steps.{length-places, plain-members}
-use Rattle.im_rules.specs.Conversions.{member_among, place_among}
-use Rattle.im_rules.specs.TypeTests.{same_name, has_member}
+use Rattle.im_conversions.specs.im_rules.Conversions.{member_among, place_among}
+use Rattle.im_conversions.specs.im_rules.TypeTests.{same_name, has_member}
 use Rattle.im_members.specs.Found.{IsFound}
 
 -- the rest of the members tells of that name what all of them tell

@@ -1,11 +1,11 @@
 -- A member of a struct, as the table has it.
 use Rattle.std.specs.Prelude.{◌≡◌, true}
-use Rattle.im_word.specs.Words.{Name}
+use Rattle.im_conversions.specs.im_word.Words.{Name}
 use Rattle.im_ctype.specs.Table.{Table, IsIn, type_at, structs_of}
 use Rattle.im_ctype.specs.Types.{CType, members_of}
 use Rattle.im_ctype.specs.Members.{places}
-use Rattle.im_rules.specs.TypeTests.{has_member, members_in}
-use Rattle.im_rules.specs.Conversions.{member_among, place_among, struct_number}
+use Rattle.im_conversions.specs.im_rules.TypeTests.{has_member, members_in}
+use Rattle.im_conversions.specs.im_rules.Conversions.{member_among, place_among, struct_number}
 use Rattle.im_members.specs.declared.found.Found.{Found}
 
 -- the member of that name of the struct type

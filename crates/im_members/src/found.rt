@@ -3,7 +3,7 @@ ghost use Rattle.std.specs.Prelude.{◌≡◌, ◌↔◌, false, IsTrue, MatchOp
 ghost use Rattle.im_ctype.specs.Table.{structs_of};
 ghost use Rattle.im_ctype.specs.Types as t;
 ghost use Rattle.im_members.specs.Found.{IsFound};
-ghost use Rattle.im_rules.specs.TypeTests as q;
+ghost use Rattle.im_conversions.specs.im_rules.TypeTests as q;
 ghost use Rattle.im_types.specs.Shape.{type_of};
 
 use im_ctype::{Member, MemberPlace, TypeId, TypeTable};

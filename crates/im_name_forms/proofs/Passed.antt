@@ -5,11 +5,11 @@ use Rattle.im_ctype.specs.Table.{Table, structs_of}
 use Rattle.im_typed.specs.Program as p
 use Rattle.im_typed.specs.ProgramOf.{expr_of}
 use Rattle.im_typed.specs.declared.expression.Expr as re
-use Rattle.im_rules.specs.Conversions as c
-use Rattle.im_rules.specs.Demands as d
-use Rattle.im_rules.specs.Rules.{rule_17}
-use Rattle.im_rules.specs.Terms as r
-use Rattle.im_rules.specs.TypeTests.{count_types}
+use Rattle.im_conversions.specs.im_rules.Conversions as c
+use Rattle.im_conversions.specs.im_rules.Demands as d
+use Rattle.im_conversions.specs.im_rules.Rules.{rule_17}
+use Rattle.im_conversions.specs.im_rules.Terms as r
+use Rattle.im_conversions.specs.im_rules.TypeTests.{count_types}
 use Rattle.im_types.specs.declared.tree.Type as rt
 use Rattle.im_types.specs.Shape.{type_of, types_in}
 use Rattle.im_operands.specs.declared.term.Term.{Term}

@@ -4,7 +4,7 @@ use Rattle.im_ctype.specs.Table.{Table}
 use Rattle.im_typed.specs.Program as p
 use Rattle.im_typed.specs.ProgramOf.{expr_of}
 use Rattle.im_typed.specs.declared.expression.Expr as re
-use Rattle.im_rules.specs.Terms as r
+use Rattle.im_conversions.specs.im_rules.Terms as r
 use Rattle.im_operands.specs.declared.term.Term.{Term}
 use Rattle.im_operands.specs.Shape.{term_in}
 

@@ -1,9 +1,9 @@
 //! The arguments of calls (C11 6.5.2.2): each is converted to its parameter's type.
 ghost use Rattle.std.specs.Prelude.{◌≡◌, ◌<◌, ◌≤◌, ◌+◌, ◌&&◌, length, drop, slice_index_or, IfOk, MatchOption};
 ghost use Rattle.im_ctype.specs.Table.{Table, structs_of};
-ghost use Rattle.im_rules.specs.Conversions as c;
-ghost use Rattle.im_rules.specs.Demands as d;
-ghost use Rattle.im_rules.specs.Terms as r;
+ghost use Rattle.im_conversions.specs.im_rules.Conversions as c;
+ghost use Rattle.im_conversions.specs.im_rules.Demands as d;
+ghost use Rattle.im_conversions.specs.im_rules.Terms as r;
 ghost use Rattle.im_typed.specs.ProgramOf.{expr_of};
 ghost use Rattle.im_types.specs.Shape.{type_of, types_in};
 ghost use Rattle.im_name_forms.specs.Lists.{exprs_from, terms_in};

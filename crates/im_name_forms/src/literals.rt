@@ -1,8 +1,8 @@
 //! The terms of constants and of string literals.
 ghost use Rattle.std.specs.Prelude.{◌≡◌, pos, IfOk};
 ghost use Rattle.im_ctype.specs.Table.{Table};
-ghost use Rattle.im_rules.specs.Conversions as c;
-ghost use Rattle.im_rules.specs.Terms as r;
+ghost use Rattle.im_conversions.specs.im_rules.Conversions as c;
+ghost use Rattle.im_conversions.specs.im_rules.Terms as r;
 ghost use Rattle.im_operands.specs.Shape.{term_in};
 
 use im_conversions::literal;

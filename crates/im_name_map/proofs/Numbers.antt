@@ -4,7 +4,7 @@ use Rattle.std.proofs.lemmas.Bool.{false≢true}
 use Rattle.std.specs.Cmp.Lexicographic.{pointwise}
 use Rattle.std.specs.Map.{lookup}
 use Rattle.indexmap.specs.IndexMap.{insert_entry}
-use Rattle.im_word.specs.Words.{Name}
+use Rattle.im_rules.specs.im_word.Words.{Name}
 use Rattle.im_rules.specs.TypeTests.{same_name}
 use Rattle.im_name_map.specs.Numbers.{number_of, entries_of}
 use Rattle.im_name_map.proofs.SameNames.{same-refl, same-equal, same-symmetric, pointwise-same}

@@ -2,7 +2,7 @@
 use Rattle.std.proofs.Common.{◌≡◌, ℕ, suc, Bool, true, false, ◌||◌, List, [], ◌∷◌, ◌++◌, map, length, Option, Some, None, is_some, if◌then◌else◌, refl, sym, ap, subst, ◌∙◌}
 use Rattle.std.proofs.lemmas.List.{map_push, length-map}
 use Rattle.std.specs.Option.{option_map}
-use Rattle.im_word.specs.Words.{Name}
+use Rattle.im_rules.specs.im_word.Words.{Name}
 use Rattle.im_rules.specs.TypeTests.{same_name}
 use Rattle.im_rules.specs.Outline.{is_tag, list_number, is_in, place_in}
 use Rattle.im_name_map.specs.Numbers.{number_of}

@@ -2,7 +2,7 @@
 use Rattle.std.specs.Prelude.{◌≡◌, ℕ, List, [], ◌∷◌, map, Option, Some, None, Vec}
 use Rattle.std.specs.Global.{Global}
 use Rattle.std.specs.Option.{option_map}
-use Rattle.im_word.specs.Words.{Name}
+use Rattle.im_rules.specs.im_word.Words.{Name}
 use Rattle.im_rules.specs.Outline.{list_number}
 use Rattle.im_name_map.specs.Numbers.{number_of}
 

@@ -1,7 +1,7 @@
 -- The numbers that names have.
 use Rattle.std.specs.Prelude.{ℕ, List, [], ◌∷◌, map, Option, Some, None, if◌then◌else◌, Vec}
 use Rattle.std.specs.Global.{Global}
-use Rattle.im_word.specs.Words.{Name}
+use Rattle.im_rules.specs.im_word.Words.{Name}
 use Rattle.im_rules.specs.TypeTests.{same_name}
 
 -- the number that a name has, if any

@@ -1,6 +1,6 @@
 //! Numbers of names.
 ghost use Rattle.std.specs.Prelude.{◌≡◌, if◌then◌else◌, [], None, OnOk, OnErr};
-ghost use Rattle.im_word.specs.Words.{Name};
+ghost use Rattle.im_rules.specs.im_word.Words.{Name};
 ghost use Rattle.im_rules.specs.TypeTests.{same_name};
 ghost use Rattle.im_name_map.specs.Numbers.{number_of};
 

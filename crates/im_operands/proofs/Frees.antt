@@ -4,7 +4,7 @@ use Rattle.std.proofs.lemmas.List.{drop_more, drop_all}
 use Rattle.im_ctype.specs.Types.{CType}
 use Rattle.im_ctype.specs.Table.{members_in, type_in}
 use Rattle.im_ctype.specs.declared.member.Member as rust
-use Rattle.im_rules.specs.Rules as u
+use Rattle.im_constancy.specs.im_rules.Rules as u
 
 -- whether the members from that place on are free
 abbrev pub free_from : List Bool → List CType → List rust.Member → ℕ → Bool

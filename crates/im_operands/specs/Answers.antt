@@ -2,8 +2,8 @@
 use Rattle.std.specs.Prelude.{◌≡◌, ℕ, List, MatchResult, Result, Option, Some, None}
 use Rattle.im_ctree.specs.declared.operator.BinaryOp.{BinaryOp}
 use Rattle.im_ctype.specs.Table.{Table}
-use Rattle.im_rules.specs.Terms as r
-use Rattle.im_rules.specs.Demands.{Demand, Meets}
+use Rattle.im_constancy.specs.im_rules.Terms as r
+use Rattle.im_constancy.specs.im_rules.Demands.{Demand, Meets}
 use Rattle.im_stop.specs.Answers.{IsRefusal}
 use Rattle.im_stop.specs.declared.stop.Stop.{Stop}
 use Rattle.im_operands.specs.declared.term.Term.{Term}

@@ -2,8 +2,8 @@
 use Rattle.im_ctype.specs.Table.{Table}
 use Rattle.im_types.specs.Shape.{type_of}
 use Rattle.im_typed.specs.ProgramOf.{expr_of, place_of}
-use Rattle.im_rules.specs.Rules.{Operand}
-use Rattle.im_rules.specs.Terms as r
+use Rattle.im_constancy.specs.im_rules.Rules.{Operand}
+use Rattle.im_constancy.specs.im_rules.Terms as r
 use Rattle.im_operands.specs.declared.operand.Operand as ro
 use Rattle.im_operands.specs.declared.term.Value as rv
 use Rattle.im_operands.specs.declared.term.Term.{Term}

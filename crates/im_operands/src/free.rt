@@ -3,7 +3,7 @@ ghost use Rattle.std.specs.Prelude.{◌≡◌, ◌&&◌, not, length, slice_inde
 ghost use Rattle.im_ctype.specs.Kept.{AreMembersIn};
 ghost use Rattle.im_ctype.specs.Table.{IsIn, members_in, structs_of, type_at, types_of};
 ghost use Rattle.im_ctype.specs.Types.{members_of};
-ghost use Rattle.im_rules.specs.Rules as u;
+ghost use Rattle.im_constancy.specs.im_rules.Rules as u;
 ghost use Rattle.im_types.specs.Shape.{type_of};
 
 use im_ctype::{Member, TypeId, TypeNode, TypeTable};

@@ -1,8 +1,8 @@
 ghost use Rattle.std.specs.Prelude.{◌≡◌};
 ghost use Rattle.im_ctype.specs.Table.{Table};
 ghost use Rattle.im_typed.specs.ProgramOf.{expr_of};
-ghost use Rattle.im_rules.specs.Constants.{constant_value};
-ghost use Rattle.im_rules.specs.Terms as r;
+ghost use Rattle.im_constancy.specs.im_rules.Constants.{constant_value};
+ghost use Rattle.im_constancy.specs.im_rules.Terms as r;
 ghost use Rattle.im_operands.specs.Shape.{seen, term_in};
 ghost use Rattle.im_constancy.specs.Told.{constant_in};
 

@@ -2,7 +2,7 @@
 ghost use Rattle.std.specs.Prelude.{◌≡◌, ◌&&◌, not};
 ghost use Rattle.im_ctype.specs.Table.{structs_of};
 ghost use Rattle.im_ctype.specs.Types as t;
-ghost use Rattle.im_rules.specs.Rules as u;
+ghost use Rattle.im_constancy.specs.im_rules.Rules as u;
 ghost use Rattle.im_types.specs.Shape.{type_of};
 ghost use Rattle.im_operands.specs.Shape.{seen};
 

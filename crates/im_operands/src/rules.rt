@@ -1,8 +1,8 @@
 //! What the rules ask of terms: `true` says that the rule has nothing against the node.
 ghost use Rattle.std.specs.Prelude.{◌≡◌, []};
 ghost use Rattle.im_ctype.specs.Table.{Table, structs_of};
-ghost use Rattle.im_rules.specs.Rules as u;
-ghost use Rattle.im_rules.specs.Terms.{operand_of};
+ghost use Rattle.im_constancy.specs.im_rules.Rules as u;
+ghost use Rattle.im_constancy.specs.im_rules.Terms.{operand_of};
 ghost use Rattle.im_types.specs.Shape.{type_of};
 ghost use Rattle.im_operands.specs.Shape.{term_in};
 

@@ -8,7 +8,7 @@ use Rattle.im_ctype.specs.Kept.{AreMembersIn}
 use Rattle.im_ctype.specs.Layout.{MembersAreComplete}
 use Rattle.im_ctype.specs.Table.{Table, IsGrown, member_in, members_in, with_struct, structs_of, types_of}
 use Rattle.im_ctype.specs.Types.{Member, Structs, is_complete}
-use Rattle.im_rules.specs.Rules.{free_from, members_free}
+use Rattle.im_scopes.specs.im_rules.Rules.{free_from, members_free}
 use Rattle.im_types.proofs.Tables.{grown-twice, grown-none}
 use Rattle.im_place.specs.declared.field.Field.{Field}
 use Rattle.im_place.specs.Entered.{AreEntered, IsEntered}

@@ -1,8 +1,8 @@
 -- The context of the definitions that stands at a place.
 use Rattle.std.specs.Prelude.{◌+◌, List, length}
-use Rattle.im_word.specs.Words.{Name}
+use Rattle.im_scopes.specs.im_word.Words.{Name}
 use Rattle.im_ctype.specs.Table.{structs_of}
-use Rattle.im_rules.specs.Context.{Context}
+use Rattle.im_scopes.specs.im_rules.Context.{Context}
 use Rattle.im_scopes.specs.Shape.{scopes_of}
 use Rattle.im_unit_outline.specs.Outlines.{outline_in}
 use Rattle.im_place.specs.declared.place.Place.{Place}

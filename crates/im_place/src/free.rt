@@ -1,6 +1,6 @@
 //! Whether structs are free of const (C11 6.3.2.1p1).
 ghost use Rattle.std.specs.Prelude.{◌≡◌};
-ghost use Rattle.im_rules.specs.Rules as u;
+ghost use Rattle.im_scopes.specs.im_rules.Rules as u;
 ghost use Rattle.im_types.specs.Shape.{type_of};
 ghost use Rattle.im_place.specs.Fields.{fields_of};
 

@@ -1,7 +1,7 @@
 //! The structs of a unit.
 ghost use Rattle.std.specs.Prelude.{◌≡◌, ◌++◌, ◌∷◌, [], length, IfOk, OnOk, OnErr};
 ghost use Rattle.im_ctype.specs.Table.{structs_of};
-ghost use Rattle.im_rules.specs.Rules as u;
+ghost use Rattle.im_scopes.specs.im_rules.Rules as u;
 ghost use Rattle.im_place.specs.Fields.{fields_of};
 
 use crate::entered::entered;
@@ -23,7 +23,7 @@ pub struct Structs {
 impl std::marker::Model for Structs {
     ghost use Rattle.std.specs.Prelude.{◌≡◌, []};
     ghost use Rattle.im_ctype.specs.Table.{Table, structs_of};
-    ghost use Rattle.im_rules.specs.Rules.{free_from};
+    ghost use Rattle.im_scopes.specs.im_rules.Rules.{free_from};
 
     ghost Value = { Table };
 

@@ -3,9 +3,9 @@ ghost use Rattle.std.specs.Prelude.{◌≡◌, IfOk};
 ghost use Rattle.im_ctype.specs.Table.{Table, structs_of};
 ghost use Rattle.im_typed.specs.Program as p;
 ghost use Rattle.im_typed.specs.ProgramOf.{expr_of, place_of};
-ghost use Rattle.im_rules.specs.Conversions as c;
-ghost use Rattle.im_rules.specs.Terms as r;
-ghost use Rattle.im_rules.specs.TypeTests as q;
+ghost use Rattle.im_conversions.specs.im_rules.Conversions as c;
+ghost use Rattle.im_conversions.specs.im_rules.Terms as r;
+ghost use Rattle.im_conversions.specs.im_rules.TypeTests as q;
 ghost use Rattle.im_types.specs.Shape.{type_of};
 ghost use Rattle.im_operands.specs.Shape.{value_in, term_in};
 

@@ -3,11 +3,11 @@ use Rattle.std.proofs.Common.{◌≡◌, ℕ, suc, ◌+◌, ◌<◌, ◌++◌, l
 use Rattle.std.specs.Prelude.{slice_get, Result, Ok, Err, IfOk}
 use Rattle.std.specs.Option.{option_map}
 use Rattle.std.proofs.lemmas.List.{map_push, take_more}
-use Rattle.im_word.specs.Words.{Name}
-use Rattle.im_store.specs.Objects.{Value}
-use Rattle.im_rules.specs.Outline.{place_in}
-use Rattle.im_rules.specs.TypeTests.{same_name}
-use Rattle.im_rules.specs.TypedUnit as u
+use Rattle.im_defined.specs.im_word.Words.{Name}
+use Rattle.im_defined.specs.im_store.Objects.{Value}
+use Rattle.im_defined.specs.im_rules.Outline.{place_in}
+use Rattle.im_defined.specs.im_rules.TypeTests.{same_name}
+use Rattle.im_defined.specs.im_rules.TypedUnit as u
 use Rattle.im_defined.specs.declared.first_values.FirstValues.{FirstValues}
 use Rattle.im_defined.specs.Values.{values_in, first_values_in}
 use Rattle.im_program.specs.Given.{names_given}

@@ -10,8 +10,8 @@ use Rattle.im_ctype.specs.Layout.{Layout, layout}
 use Rattle.im_ctype.specs.Table.{Table, IsIn, IsGrown, type_at, layout_of, structs_of}
 use Rattle.im_ctype.specs.declared.integer.Integer.TheVariants.{Char}
 use Rattle.im_ctype.specs.Types.{Structs, CType, array, integer}
-use Rattle.im_store.specs.Objects.{Value, Number}
-use Rattle.im_store.specs.Statics.{StaticObject}
+use Rattle.im_defined.specs.im_store.Objects.{Value, Number}
+use Rattle.im_defined.specs.im_store.Statics.{StaticObject}
 use Rattle.im_typed.specs.declared.program.Constant.{Constant}
 use Rattle.im_typed.specs.declared.program.Constant.TheVariants as rc
 use Rattle.im_typed.specs.declared.program.Object.{Object}
@@ -21,10 +21,10 @@ use Rattle.im_typed.specs.Program.{LocalObject}
 use Rattle.im_typed.specs.ProgramOf.{object_of, static_of, first_of}
 use Rattle.im_types.specs.Shape.{type_of}
 use Rattle.im_types.proofs.Tables.{grown-twice, grown-none}
-use Rattle.im_rules.specs.Statements as s
-use Rattle.im_rules.specs.FileScope.{FilePlace, object_type}
-use Rattle.im_rules.specs.Scopes.{meaning}
-use Rattle.im_rules.specs.TypedUnit as u
+use Rattle.im_defined.specs.im_rules.Statements as s
+use Rattle.im_defined.specs.im_rules.FileScope.{FilePlace, object_type}
+use Rattle.im_defined.specs.im_rules.Scopes.{meaning}
+use Rattle.im_defined.specs.im_rules.TypedUnit as u
 use Rattle.im_file_place.specs.Files.{bytes_of}
 use Rattle.im_sites.specs.declared.body.Local.{Local}
 use Rattle.im_sites.specs.Sites.{object_in, objects_in}

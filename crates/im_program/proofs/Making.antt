@@ -1,13 +1,13 @@
 -- The program of its parts.
 use Rattle.std.proofs.Common.{◌≡◌, ◌++◌, List, map, refl, sym, ap, ◌∙◌, subst}
-use Rattle.im_word.specs.Words.{Name}
+use Rattle.im_defined.specs.im_word.Words.{Name}
 use Rattle.im_ctype.specs.Table.{Table, IsGrown, structs_of}
 use Rattle.im_ctype.specs.Types.{Structs}
 use Rattle.im_typed.specs.declared.program.Prog.{Prog}
 use Rattle.im_typed.specs.declared.program.Static.{Static}
-use Rattle.im_rules.specs.FileScope.{FilePlace, main_name}
-use Rattle.im_rules.specs.Outline.{place_in}
-use Rattle.im_rules.specs.TypedUnit as u
+use Rattle.im_defined.specs.im_rules.FileScope.{FilePlace, main_name}
+use Rattle.im_defined.specs.im_rules.Outline.{place_in}
+use Rattle.im_defined.specs.im_rules.TypedUnit as u
 use Rattle.im_scopes.specs.Shape.{scopes_of}
 use Rattle.im_file_place.specs.Files.{file_place_of, bytes_of}
 use Rattle.im_defined.specs.Values.{first_values_in}

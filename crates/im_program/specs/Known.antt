@@ -1,7 +1,7 @@
 -- Objects, statics and functions whose types stand in a table.
 use Rattle.std.specs.Prelude.{◌≡◌, List, [], ◌∷◌, map, All}
 use Rattle.im_ctype.specs.Table.{Table, IsIn}
-use Rattle.im_store.specs.Statics.{StaticObject}
+use Rattle.im_defined.specs.im_store.Statics.{StaticObject}
 use Rattle.im_typed.specs.declared.program.Object.{Object}
 use Rattle.im_typed.specs.declared.program.Static.{Static}
 use Rattle.im_typed.specs.declared.program.Func.{Func}

@@ -1,11 +1,11 @@
 -- The program of a unit whose external declarations are typed.
 use Rattle.std.specs.Prelude.{◌≡◌, ◌++◌, List, map}
 use Rattle.im_ctype.specs.Table.{structs_of}
-use Rattle.im_store.specs.Statics.{StaticObject}
+use Rattle.im_defined.specs.im_store.Statics.{StaticObject}
 use Rattle.im_typed.specs.declared.program.Prog.{Prog}
-use Rattle.im_rules.specs.FileScope.{FilePlace, main_name}
-use Rattle.im_rules.specs.Outline.{place_in}
-use Rattle.im_rules.specs.TypedUnit.{FirstValues, static_named, string_statics}
+use Rattle.im_defined.specs.im_rules.FileScope.{FilePlace, main_name}
+use Rattle.im_defined.specs.im_rules.Outline.{place_in}
+use Rattle.im_defined.specs.im_rules.TypedUnit.{FirstValues, static_named, string_statics}
 use Rattle.im_file_place.specs.Files.{file_place_of}
 use Rattle.im_defined.specs.Values.{first_values_in}
 use Rattle.im_program.specs.declared.programs.Parts.{Parts}

@@ -1,7 +1,7 @@
 //! The first values of each static by its name.
 ghost use Rattle.std.specs.Prelude.{◌≡◌, map, IfOk};
 ghost use Rattle.im_ctype.specs.Table.{structs_of};
-ghost use Rattle.im_rules.specs.TypedUnit as u;
+ghost use Rattle.im_defined.specs.im_rules.TypedUnit as u;
 ghost use Rattle.im_typed.specs.ProgramOf.{first_of};
 ghost use Rattle.im_types.specs.Shape.{type_of};
 ghost use Rattle.im_defined.specs.Values.{first_values_in};

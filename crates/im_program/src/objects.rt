@@ -1,7 +1,7 @@
 //! Objects with their types in a table.
 ghost use Rattle.std.specs.Prelude.{◌≡◌, ◌++◌, map, IfOk, OnOk};
 ghost use Rattle.im_ctype.specs.Table.{IsGrown, structs_of};
-ghost use Rattle.im_rules.specs.Statements as s;
+ghost use Rattle.im_defined.specs.im_rules.Statements as s;
 ghost use Rattle.im_typed.specs.ProgramOf.{object_of};
 ghost use Rattle.im_sites.specs.Sites.{object_in, objects_in};
 ghost use Rattle.im_types.specs.Shape.{type_of};

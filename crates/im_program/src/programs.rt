@@ -1,8 +1,8 @@
 //! Programs.
 ghost use Rattle.std.specs.Prelude.{◌≡◌, IfOk, OnOk};
 ghost use Rattle.im_ctype.specs.Table.{IsGrown, structs_of};
-ghost use Rattle.im_rules.specs.FileScope.{FilePlace, main_name};
-ghost use Rattle.im_rules.specs.Outline.{place_in};
+ghost use Rattle.im_defined.specs.im_rules.FileScope.{FilePlace, main_name};
+ghost use Rattle.im_defined.specs.im_rules.Outline.{place_in};
 ghost use Rattle.im_scopes.specs.Shape.{scopes_of};
 ghost use Rattle.im_file_place.specs.Files.{bytes_of};
 ghost use Rattle.im_defined.specs.Values.{first_values_in};

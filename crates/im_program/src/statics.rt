@@ -1,9 +1,9 @@
 //! Statics with their first values (C11 6.7.9p10).
 ghost use Rattle.std.specs.Prelude.{◌≡◌, Some, map, slice_get, IfOk, OnOk};
-ghost use Rattle.im_word.specs.Words.{Name};
+ghost use Rattle.im_defined.specs.im_word.Words.{Name};
 ghost use Rattle.im_ctype.specs.Table.{IsGrown, structs_of};
-ghost use Rattle.im_rules.specs.FileScope.{FilePlace};
-ghost use Rattle.im_rules.specs.TypedUnit as u;
+ghost use Rattle.im_defined.specs.im_rules.FileScope.{FilePlace};
+ghost use Rattle.im_defined.specs.im_rules.TypedUnit as u;
 ghost use Rattle.im_scopes.specs.Shape.{scopes_of};
 ghost use Rattle.im_defined.specs.Values.{first_values_in};
 ghost use Rattle.im_program.specs.Given.{names_given};

@@ -1,7 +1,7 @@
 //! String literals as statics (C11 6.4.5p6).
 ghost use Rattle.std.specs.Prelude.{◌≡◌, ◌++◌, ◌∷◌, [], codes, decimal, map, IfOk, OnOk};
 ghost use Rattle.im_ctype.specs.Table.{Table, IsGrown, structs_of};
-ghost use Rattle.im_rules.specs.TypedUnit as u;
+ghost use Rattle.im_defined.specs.im_rules.TypedUnit as u;
 ghost use Rattle.im_typed.specs.ProgramOf.{first_of};
 ghost use Rattle.im_file_place.specs.Files.{bytes_of};
 ghost use Rattle.im_program.specs.Known.{IsStaticOf, AreStaticsOf};

@@ -1,6 +1,6 @@
 -- A type is within the limit where each size that is counted of it is.
 use Rattle.std.proofs.Common.{◌≤◌, ℕ, arith}
-use Rattle.im_ctype.specs.Types.{CType, void, integer, pointer, array, unsized, struct, function, Structs}
+use Rattle.im_rules.specs.im_ctype.Types.{CType, void, integer, pointer, array, unsized, struct, function, Structs}
 use Rattle.im_rules.specs.Terms.{size_in}
 use Rattle.im_rule_limits.specs.Limits.{size_limit, Counted, own_size, size_in_element}
 

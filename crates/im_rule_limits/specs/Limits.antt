@@ -1,13 +1,13 @@
 -- What a unit is refused for beside the rules: a count over its limit. Counts are the parameters of one function, the bytes
 -- of one type, and the bytes of all statics.
 use Rattle.std.specs.Prelude.{◌≡◌, ℕ, suc, ◌+◌, ◌<◌, ◌≤◌, List, [], ◌∷◌, ◌++◌, length, Option, Contains}
-use Rattle.im_word.specs.Words.{Name}
-use Rattle.im_ctree.specs.Tree as t
-use Rattle.im_ctype.specs.declared.member.MemberPlace.{MemberPlace}
-use Rattle.im_ctype.specs.Types.{CType, array, struct, Member, Structs, members_of}
-use Rattle.im_ctype.specs.Members.{places}
-use Rattle.im_typed.specs.Limits.{static_bytes}
-use Rattle.im_typed.specs.Program.{Prog}
+use Rattle.im_rules.specs.im_word.Words.{Name}
+use Rattle.im_rules.specs.im_ctree.Tree as t
+use Rattle.im_rules.specs.im_ctype.declared.member.MemberPlace.{MemberPlace}
+use Rattle.im_rules.specs.im_ctype.Types.{CType, array, struct, Member, Structs, members_of}
+use Rattle.im_rules.specs.im_ctype.Members.{places}
+use Rattle.im_rules.specs.im_typed.Limits.{static_bytes}
+use Rattle.im_rules.specs.im_typed.Program.{Prog}
 use Rattle.im_rules.specs.TypeTests.{result_of}
 use Rattle.im_rules.specs.Outline.{Nearest, parameters, nearest}
 use Rattle.im_rules.specs.Context.{Context, behind, behind_strings, in_new_scope}

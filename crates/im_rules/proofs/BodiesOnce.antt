@@ -1,9 +1,9 @@
 -- No initialiser and no statement is typed to two things.
 use Rattle.std.proofs.Common.{◌≡◌, ℕ, ◌+◌, [], List, Option, refl, sym, subst}
 use Rattle.im_ctree.specs.Tree as t
-use Rattle.im_ctype.specs.declared.integer.Integer.{Integer}
-use Rattle.im_ctype.specs.declared.member.MemberPlace.{MemberPlace}
-use Rattle.im_ctype.specs.Types.{CType, Member}
+use Rattle.im_typed.specs.im_ctype.declared.integer.Integer.{Integer}
+use Rattle.im_typed.specs.im_ctype.declared.member.MemberPlace.{MemberPlace}
+use Rattle.im_typed.specs.im_ctype.Types.{CType, Member}
 use Rattle.im_typed.specs.declared.statement.Case.{Case}
 use Rattle.im_typed.specs.Program.{Expr, Stmt, Stmts}
 use Rattle.im_rules.specs.Context.{Context}

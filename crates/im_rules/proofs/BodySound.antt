@@ -1,10 +1,10 @@
 -- An initialiser, a statement or a block that is typed has no node that breaks a rule.
 use Rattle.std.proofs.Common.{◌≡◌, ℕ, ◌+◌, [], ◌∷◌, List, Option, ap, subst}
 use Rattle.im_ctree.specs.Tree as t
-use Rattle.im_ctype.specs.declared.integer.Integer.{Integer}
-use Rattle.im_ctype.specs.declared.member.MemberPlace.{MemberPlace}
-use Rattle.im_ctype.specs.Types.{CType, Member, members_of}
-use Rattle.im_ctype.specs.Members.{places}
+use Rattle.im_typed.specs.im_ctype.declared.integer.Integer.{Integer}
+use Rattle.im_typed.specs.im_ctype.declared.member.MemberPlace.{MemberPlace}
+use Rattle.im_typed.specs.im_ctype.Types.{CType, Member, members_of}
+use Rattle.im_typed.specs.im_ctype.Members.{places}
 use Rattle.im_typed.specs.declared.statement.Case.{Case}
 use Rattle.im_typed.specs.Program.{Expr, Stmt, Stmts}
 use Rattle.im_rules.specs.Rules.{rule_34_break, rule_34_continue}

@@ -1,9 +1,9 @@
 -- No unit is typed to two programs.
 use Rattle.std.proofs.Common.{◌≡◌, ℤ, pos, ◌+ℤ◌, List, Option, refl, sym, subst}
-use Rattle.im_word.specs.Words.{Name}
+use Rattle.im_ctree.specs.im_word.Words.{Name}
 use Rattle.im_ctree.specs.declared.specifier.SpecifierWord.{SpecifierWord}
 use Rattle.im_ctree.specs.Tree as t
-use Rattle.im_ctype.specs.Types.{CType, Member}
+use Rattle.im_typed.specs.im_ctype.Types.{CType, Member}
 use Rattle.im_typed.specs.Program.{Func, Prog}
 use Rattle.im_rules.specs.TypeTests.{result_of}
 use Rattle.im_rules.specs.Strings.{strings_maybe}

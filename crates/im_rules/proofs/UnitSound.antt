@@ -1,9 +1,9 @@
 -- The parts of a unit that is typed are typed, and no node in it breaks a rule.
 use Rattle.std.proofs.Common.{◌≡◌, true, ℕ, ℤ, pos, ◌+ℤ◌, List, Option, sym, ap, subst}
-use Rattle.im_word.specs.Words.{Name}
+use Rattle.im_ctree.specs.im_word.Words.{Name}
 use Rattle.im_ctree.specs.declared.specifier.SpecifierWord.{SpecifierWord}
 use Rattle.im_ctree.specs.Tree as t
-use Rattle.im_ctype.specs.Types.{CType, Member}
+use Rattle.im_typed.specs.im_ctype.Types.{CType, Member}
 use Rattle.im_typed.specs.Program.{Func, Prog}
 use Rattle.im_rules.specs.TypeTests.{result_of}
 use Rattle.im_rules.specs.Strings.{strings_maybe}

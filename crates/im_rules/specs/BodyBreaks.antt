@@ -1,10 +1,10 @@
 -- Which node of an initialiser, a statement or a block breaks which rule.
 use Rattle.std.specs.Prelude.{◌≡◌, ℕ, ◌+◌, Bool, true, false, List, [], ◌∷◌, Option}
 use Rattle.im_ctree.specs.Tree as t
-use Rattle.im_ctype.specs.declared.integer.Integer.{Integer}
-use Rattle.im_ctype.specs.declared.member.MemberPlace.{MemberPlace}
-use Rattle.im_ctype.specs.Types.{CType, Member, members_of}
-use Rattle.im_ctype.specs.Members.{places}
+use Rattle.im_typed.specs.im_ctype.declared.integer.Integer.{Integer}
+use Rattle.im_typed.specs.im_ctype.declared.member.MemberPlace.{MemberPlace}
+use Rattle.im_typed.specs.im_ctype.Types.{CType, Member, members_of}
+use Rattle.im_typed.specs.im_ctype.Members.{places}
 use Rattle.im_typed.specs.declared.statement.Case.{Case}
 use Rattle.im_typed.specs.Program.{Stmt, Stmts}
 use Rattle.im_rules.specs.Rules.{rule_34_break, rule_34_continue}

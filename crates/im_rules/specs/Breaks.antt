@@ -1,6 +1,6 @@
 -- Which node breaks which rule: its parts are typed, and something that the rule asks of it isn't so.
 use Rattle.std.specs.Prelude.{◌≡◌, ℕ, ◌+◌, true, false, List, [], ◌∷◌}
-use Rattle.im_word.specs.Words.{Name}
+use Rattle.im_ctree.specs.im_word.Words.{Name}
 use Rattle.im_ctree.specs.declared.operator.StepOp.{StepOp}
 use Rattle.im_ctree.specs.declared.operator.UnaryOp.{UnaryOp}
 use Rattle.im_ctree.specs.declared.operator.BinaryOp.{BinaryOp}

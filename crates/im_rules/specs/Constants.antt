@@ -2,9 +2,9 @@
 -- constant is a number there, and the operators are those of the meaning.
 use Rattle.std.specs.Prelude.{ℤ, pos, Bool, true, false, not, ◌&&◌, Option, Some, None, if◌then◌else◌}
 use Rattle.std.specs.Ordering.{int_eq}
-use Rattle.im_num.specs.Kinds.{wrap}
-use Rattle.im_store.specs.Checks.{Checked, Fine, Bad}
-use Rattle.im_store.specs.Numbers.{apply, apply_one, compares}
+use Rattle.im_ctree.specs.im_num.Kinds.{wrap}
+use Rattle.im_typed.specs.im_store.Checks.{Checked, Fine, Bad}
+use Rattle.im_typed.specs.im_store.Numbers.{apply, apply_one, compares}
 use Rattle.im_typed.specs.Program.{Expr, Constant, Convert, Unary, Binary, Compare, Not, And, Or, Choose}
 
 -- no object, call, assignment, `++`, `--`, `,`, `[]`, `*`, `&` or string stands in it

@@ -1,8 +1,8 @@
 -- What is known at a place of the text.
 use Rattle.std.specs.Prelude.{ℕ, ◌+◌, List, length, Option, Some, None, if◌then◌else◌}
-use Rattle.im_word.specs.Words.{Name}
+use Rattle.im_ctree.specs.im_word.Words.{Name}
 use Rattle.im_ctree.specs.Tree as t
-use Rattle.im_ctype.specs.Types.{Structs}
+use Rattle.im_typed.specs.im_ctype.Types.{Structs}
 use Rattle.im_rules.specs.Scopes.{Scopes, opened, named, Entity, at_file_scope}
 use Rattle.im_rules.specs.Outline.{Outline, list_number}
 use Rattle.im_rules.specs.Strings.{strings_in, strings_maybe, strings_named, strings_of_core, strings_of_declarator, strings_may, strings_of_parameters}

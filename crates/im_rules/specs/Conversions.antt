@@ -1,10 +1,10 @@
 -- What a node becomes where its rules hold: each conversion is written out (C11 6.3, 6.5). These are functions of its
 -- parts' terms; what an ill-typed node would become doesn't matter.
 use Rattle.std.specs.Prelude.{ℕ, ◌+◌, ℤ, pos, Bool, true, false, ◌||◌, ◌&&◌, List, [], ◌∷◌, length, Option, Some, None, if◌then◌else◌}
-use Rattle.im_word.specs.Words.{Name}
-use Rattle.im_num.specs.declared.kind.Kind.TheVariants.{Ptr}
-use Rattle.im_tok.specs.declared.number.NumberType.{NumberType}
-use Rattle.im_tok.specs.declared.number.NumberType.TheVariants as number
+use Rattle.im_ctree.specs.im_word.Words.{Name}
+use Rattle.im_ctree.specs.im_num.declared.kind.Kind.TheVariants.{Ptr}
+use Rattle.im_ctree.specs.im_tok.declared.number.NumberType.{NumberType}
+use Rattle.im_ctree.specs.im_tok.declared.number.NumberType.TheVariants as number
 use Rattle.im_ctree.specs.declared.operator.StepOp.{StepOp}
 use Rattle.im_ctree.specs.declared.operator.StepOp.TheVariants as step
 use Rattle.im_ctree.specs.declared.operator.UnaryOp.{UnaryOp}
@@ -13,18 +13,18 @@ use Rattle.im_ctree.specs.declared.operator.BinaryOp.{BinaryOp}
 use Rattle.im_ctree.specs.declared.operator.BinaryOp.TheVariants as b
 use Rattle.im_ctree.specs.declared.operator.AssignOp.{AssignOp}
 use Rattle.im_ctree.specs.declared.operator.AssignOp.TheVariants as a
-use Rattle.im_store.specs.declared.operators.BinaryOp as store_op
-use Rattle.im_store.specs.declared.operators.BinaryOp.TheVariants as s
-use Rattle.im_store.specs.declared.operators.Comparison.{Comparison}
-use Rattle.im_store.specs.declared.operators.Comparison.TheVariants as c
-use Rattle.im_store.specs.declared.operators.UnaryOp as store_unary
-use Rattle.im_store.specs.declared.operators.UnaryOp.TheVariants as u
-use Rattle.im_store.specs.Objects.{same_kind}
-use Rattle.im_ctype.specs.declared.integer.Integer.{Integer}
-use Rattle.im_ctype.specs.declared.integer.Integer.TheVariants.{Char, Int, UnsignedInt, Long, UnsignedLong}
-use Rattle.im_ctype.specs.declared.member.MemberPlace.{MemberPlace}
-use Rattle.im_ctype.specs.Types.{CType, void, integer, pointer, array, struct, CTypes, no_types, more_types, Member, Structs, is_integer, is_pointer, kind_of, members_of}
-use Rattle.im_ctype.specs.Members.{places}
+use Rattle.im_typed.specs.im_store.declared.operators.BinaryOp as store_op
+use Rattle.im_typed.specs.im_store.declared.operators.BinaryOp.TheVariants as s
+use Rattle.im_typed.specs.im_store.declared.operators.Comparison.{Comparison}
+use Rattle.im_typed.specs.im_store.declared.operators.Comparison.TheVariants as c
+use Rattle.im_typed.specs.im_store.declared.operators.UnaryOp as store_unary
+use Rattle.im_typed.specs.im_store.declared.operators.UnaryOp.TheVariants as u
+use Rattle.im_typed.specs.im_store.Objects.{same_kind}
+use Rattle.im_typed.specs.im_ctype.declared.integer.Integer.{Integer}
+use Rattle.im_typed.specs.im_ctype.declared.integer.Integer.TheVariants.{Char, Int, UnsignedInt, Long, UnsignedLong}
+use Rattle.im_typed.specs.im_ctype.declared.member.MemberPlace.{MemberPlace}
+use Rattle.im_typed.specs.im_ctype.Types.{CType, void, integer, pointer, array, struct, CTypes, no_types, more_types, Member, Structs, is_integer, is_pointer, kind_of, members_of}
+use Rattle.im_typed.specs.im_ctype.Members.{places}
 use Rattle.im_typed.specs.declared.expression.Change.{Change}
 use Rattle.im_typed.specs.declared.expression.Change.TheVariants.{Number as NumberBy, Move as PointerBy}
 use Rattle.im_typed.specs.Program.{Place, Static, Local, Target, Member as MemberAt, Expr, Constant, NullPointer, Address, Convert, Unary, Binary, Move, MoveBy, Distance, Compare, Not, And, Or, Choose, Comma, Discard, Assign, Update, Increment, Part, Call, Getchar, Putchar, Exprs, no_exprs, more_exprs}

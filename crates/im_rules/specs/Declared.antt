@@ -1,12 +1,12 @@
 -- Specifiers, stars, suffixes and parameters (C11 6.7.2, 6.7.6): what they make of a type, and what the rules ask of them.
 -- The specifiers' type is handed inward to the name: first the stars, then the suffixes, the last one first.
 use Rattle.std.specs.Prelude.{ℕ, ◌+◌, ℤ, pos, Bool, true, false, ◌&&◌, ◌||◌, List, [], ◌∷◌, Option, Some, None, nat_lt, if◌then◌else◌}
-use Rattle.im_word.specs.Words.{Name}
+use Rattle.im_ctree.specs.im_word.Words.{Name}
 use Rattle.im_ctree.specs.declared.specifier.SpecifierWord.{SpecifierWord}
 use Rattle.im_ctree.specs.declared.specifier.SpecifierWord.TheVariants as w
 use Rattle.im_ctree.specs.Tree as t
-use Rattle.im_ctype.specs.declared.integer.Integer.TheVariants.{Int}
-use Rattle.im_ctype.specs.Types.{CType, void, integer, pointer, array, unsized, struct, function, CTypes, no_types, more_types, is_void}
+use Rattle.im_typed.specs.im_ctype.declared.integer.Integer.TheVariants.{Int}
+use Rattle.im_typed.specs.im_ctype.Types.{CType, void, integer, pointer, array, unsized, struct, function, CTypes, no_types, more_types, is_void}
 use Rattle.im_rules.specs.Scopes.{Entity, an_object, a_typedef, local_object, Scopes, named, tagged, meaning, meaning_here, tag_meaning, Tag, struct_tag, at_file_scope}
 use Rattle.im_rules.specs.Context.{Context, tag_number}
 use Rattle.im_rules.specs.Demands.{Demand, asks}

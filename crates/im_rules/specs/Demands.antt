@@ -1,13 +1,13 @@
 -- What the rules ask of each form of expression, given the terms of its parts: the index of the rules on expressions.
 -- A node is typed where all of its demands hold; it breaks the rule of each that doesn't.
 use Rattle.std.specs.Prelude.{◌≡◌, ◌⊎◌, ℕ, Bool, true, false, ◌&&◌, List, [], ◌∷◌, length, Option, Some, None}
-use Rattle.im_word.specs.Words.{Name}
+use Rattle.im_ctree.specs.im_word.Words.{Name}
 use Rattle.im_ctree.specs.declared.operator.BinaryOp.{BinaryOp}
 use Rattle.im_ctree.specs.declared.operator.UnaryOp.{UnaryOp}
 use Rattle.im_ctree.specs.declared.operator.UnaryOp.TheVariants as o
 use Rattle.im_ctree.specs.declared.operator.AssignOp.{AssignOp}
 use Rattle.im_ctree.specs.Tree as t
-use Rattle.im_ctype.specs.Types.{CType, CTypes, no_types, more_types, Structs}
+use Rattle.im_typed.specs.im_ctype.Types.{CType, CTypes, no_types, more_types, Structs}
 use Rattle.im_rules.specs.TypeTests.{parameters_of}
 use Rattle.im_rules.specs.Scopes.{Entity, an_object, a_function, static_object, no_body, Scopes, meaning}
 use Rattle.im_rules.specs.Terms.{Term, operand_of, type_in}

@@ -1,12 +1,12 @@
 -- Initialisers (C11 6.7.9): from an object's type and the initialiser's shape to what goes where. What has no item is
 -- cleared.
 use Rattle.std.specs.Prelude.{ℕ, ◌+◌, pos, List, [], ◌∷◌, ◌++◌, map, length, if◌then◌else◌}
-use Rattle.im_word.specs.Words.{Name}
-use Rattle.im_num.specs.Kinds.{wrap}
+use Rattle.im_ctree.specs.im_word.Words.{Name}
+use Rattle.im_ctree.specs.im_num.Kinds.{wrap}
 use Rattle.im_ctree.specs.Tree as t
-use Rattle.im_ctype.specs.declared.member.MemberPlace.{MemberPlace}
-use Rattle.im_ctype.specs.Types.{CType, void, integer, pointer, array, unsized, struct, Member, Structs, members_of}
-use Rattle.im_ctype.specs.Members.{places}
+use Rattle.im_typed.specs.im_ctype.declared.member.MemberPlace.{MemberPlace}
+use Rattle.im_typed.specs.im_ctype.Types.{CType, void, integer, pointer, array, unsized, struct, Member, Structs, members_of}
+use Rattle.im_typed.specs.im_ctype.Members.{places}
 use Rattle.im_typed.specs.Program.{Constant, Piece}
 use Rattle.im_rules.specs.Rules.{is_string_for, initializer_count, rule_16, rule_17}
 use Rattle.im_rules.specs.Strings.{strings_in}

@@ -1,7 +1,7 @@
 -- What is said of what is typed: it is typed to one thing, and no node in it breaks a rule.
 use Rattle.std.specs.Prelude.{◌≡◌, ℕ, List}
 use Rattle.im_ctree.specs.Tree as t
-use Rattle.im_ctype.specs.Types.{CType}
+use Rattle.im_typed.specs.im_ctype.Types.{CType}
 use Rattle.im_typed.specs.Program.{Stmt, Stmts, Prog}
 use Rattle.im_rules.specs.Context.{Context}
 use Rattle.im_rules.specs.Terms.{Term}

@@ -20,3 +20,8 @@ pub mod Typed
 pub mod TypedUnit
 pub mod TypeTests
 pub mod UnitBreaks
+pub use Rattle.im_ctree.specs.im_word
+pub use Rattle.im_ctree.specs as im_ctree
+pub use Rattle.im_typed.specs.im_ctype
+pub use Rattle.im_typed.specs as im_typed
+pub use Rattle.im_ctree.specs.im_tok

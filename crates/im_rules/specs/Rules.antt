@@ -2,14 +2,14 @@
 -- that the rule has nothing against the node.
 use Rattle.std.specs.Prelude.{ℕ, suc, ◌+◌, ℤ, pos, Bool, true, false, not, ◌&&◌, ◌||◌, List, [], ◌∷◌, ◌++◌, length, Option, Some, None, nat_eq, nat_lt, nat_le, int_lt, int_le, is_some, if◌then◌else◌, ◌^◌, neg_ℤ, slice_index_or}
 use Rattle.std.specs.Ordering.{int_eq}
-use Rattle.im_word.specs.Words.{Name}
+use Rattle.im_ctree.specs.im_word.Words.{Name}
 use Rattle.im_ctree.specs.declared.operator.BinaryOp.{BinaryOp}
 use Rattle.im_ctree.specs.declared.operator.BinaryOp.TheVariants as b
 use Rattle.im_ctree.specs.declared.specifier.SpecifierWord.{SpecifierWord}
 use Rattle.im_ctree.specs.declared.specifier.SpecifierWord.TheVariants as w
 use Rattle.im_ctree.specs.Tree as t
-use Rattle.im_ctype.specs.declared.integer.Integer.TheVariants.{Char, SignedChar, UnsignedChar, Short, UnsignedShort, Int, UnsignedInt, Long, UnsignedLong}
-use Rattle.im_ctype.specs.Types.{CType, void, integer, pointer, array, unsized, struct, function, no_types, Member, Structs, members_of, same_bool, same_type, is_void, is_integer, is_character, is_pointer, is_array, is_function, is_struct, is_scalar, are_like_pointers}
+use Rattle.im_typed.specs.im_ctype.declared.integer.Integer.TheVariants.{Char, SignedChar, UnsignedChar, Short, UnsignedShort, Int, UnsignedInt, Long, UnsignedLong}
+use Rattle.im_typed.specs.im_ctype.Types.{CType, void, integer, pointer, array, unsized, struct, function, no_types, Member, Structs, members_of, same_bool, same_type, is_void, is_integer, is_character, is_pointer, is_array, is_function, is_struct, is_scalar, are_like_pointers}
 use Rattle.im_rules.specs.TypeTests.{is_complete_in, points_to_complete, members_in, find_member, has_member, decayed, count_types}
 use Rattle.im_rules.specs.Scopes.{Entity, an_object, a_function, an_enumerator, a_typedef, Tag, enum_tag, Scopes, tag_meaning, at_file_scope}
 

@@ -1,19 +1,19 @@
 -- Small trees, for the examples.
 use Rattle.std.specs.Prelude.{ℕ, pos, false, List, [], ◌∷◌, Some}
-use Rattle.im_word.specs.Words.{Name}
-use Rattle.im_num.specs.declared.kind.Kind.TheVariants.{I32, U8}
-use Rattle.im_tok.specs.declared.number.Number.{Number}
-use Rattle.im_tok.specs.declared.number.NumberType.TheVariants as number
+use Rattle.im_ctree.specs.im_word.Words.{Name}
+use Rattle.im_ctree.specs.im_num.declared.kind.Kind.TheVariants.{I32, U8}
+use Rattle.im_ctree.specs.im_tok.declared.number.Number.{Number}
+use Rattle.im_ctree.specs.im_tok.declared.number.NumberType.TheVariants as number
 use Rattle.im_ctree.specs.declared.operator.BinaryOp.TheVariants as b
 use Rattle.im_ctree.specs.declared.operator.UnaryOp.TheVariants as o
 use Rattle.im_ctree.specs.declared.specifier.SpecifierWord.{SpecifierWord}
 use Rattle.im_ctree.specs.declared.specifier.SpecifierWord.TheVariants as w
 use Rattle.im_ctree.specs.Tree as t
-use Rattle.im_store.specs.declared.operators.BinaryOp.TheVariants as s
-use Rattle.im_ctype.specs.declared.integer.Integer.TheVariants.{Char, Int}
-use Rattle.im_ctype.specs.Types.{integer, void}
-use Rattle.im_store.specs.Objects.{Number as of_number}
-use Rattle.im_store.specs.Statics.{StaticObject}
+use Rattle.im_typed.specs.im_store.declared.operators.BinaryOp.TheVariants as s
+use Rattle.im_typed.specs.im_ctype.declared.integer.Integer.TheVariants.{Char, Int}
+use Rattle.im_typed.specs.im_ctype.Types.{integer, void}
+use Rattle.im_typed.specs.im_store.Objects.{Number as of_number}
+use Rattle.im_typed.specs.im_store.Statics.{StaticObject}
 use Rattle.im_typed.specs.declared.statement.Case.{Case}
 use Rattle.im_typed.specs.Program.{Scalar, Local, Constant, Read, Convert, Binary, Stmt, Block, Switch, Break, Return, Static, no_stmts, more_stmts, Prog}
 use Rattle.im_rules.specs.Scopes.{nothing, named, an_object, local_object}

@@ -1,7 +1,7 @@
 -- What names and tags mean at a place of the text (C11 6.2.1, 6.2.3).
 use Rattle.std.specs.Prelude.{ℕ, ℤ, Bool, true, false, Option, Some, None, if◌then◌else◌}
-use Rattle.im_word.specs.Words.{Name}
-use Rattle.im_ctype.specs.Types.{CType}
+use Rattle.im_ctree.specs.im_word.Words.{Name}
+use Rattle.im_typed.specs.im_ctype.Types.{CType}
 use Rattle.im_rules.specs.TypeTests.{same_name}
 
 -- a static by its number, or an object of the function by its number

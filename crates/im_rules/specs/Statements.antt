@@ -1,12 +1,12 @@
 -- What statements and blocks are typed to (C11 6.8).
 use Rattle.std.specs.Prelude.{ℕ, suc, ◌+◌, ℤ, pos, Bool, true, false, List, [], ◌∷◌, ◌++◌, length, Option, Some, None}
-use Rattle.im_word.specs.Words.{Name}
-use Rattle.im_num.specs.declared.kind.Kind.TheVariants.{I32}
-use Rattle.im_num.specs.Kinds.{wrap}
+use Rattle.im_ctree.specs.im_word.Words.{Name}
+use Rattle.im_ctree.specs.im_num.declared.kind.Kind.TheVariants.{I32}
+use Rattle.im_ctree.specs.im_num.Kinds.{wrap}
 use Rattle.im_ctree.specs.Tree as t
-use Rattle.im_ctype.specs.declared.integer.Integer.{Integer}
-use Rattle.im_ctype.specs.Types.{CType, Structs, kind_of}
-use Rattle.im_ctype.specs.Layout.{layout}
+use Rattle.im_typed.specs.im_ctype.declared.integer.Integer.{Integer}
+use Rattle.im_typed.specs.im_ctype.Types.{CType, Structs, kind_of}
+use Rattle.im_typed.specs.im_ctype.Layout.{layout}
 use Rattle.im_typed.specs.declared.statement.Case.{Case}
 use Rattle.im_typed.specs.Program.{Expr, Constant, Stmt, Do, Forget, Initialise, Block, If, While, DoWhile, For, Switch, Break, Continue, Return, Stmts, no_stmts, more_stmts, LocalObject}
 use Rattle.im_rules.specs.Rules.{Position, rule_3, rule_4, rule_5, rule_6_absent, rule_15, rule_17, rule_25_condition, rule_34_break, rule_34_continue, rule_34_constant, rule_34_default, rule_34_switch, rule_34_return}

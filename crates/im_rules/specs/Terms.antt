@@ -1,10 +1,10 @@
 -- What an expression is typed to: an lvalue, or a value; and what the rules see of it.
 use Rattle.std.specs.Prelude.{ℕ, ℤ, pos, Bool, true, false, length, Option, Some, None}
 use Rattle.std.specs.Ordering.{int_eq}
-use Rattle.im_num.specs.declared.kind.Kind.{Kind}
-use Rattle.im_num.specs.declared.kind.Kind.TheVariants.{Ptr}
-use Rattle.im_ctype.specs.Types.{CType, integer, pointer, array, unsized, struct, Structs, kind_of}
-use Rattle.im_ctype.specs.Layout.{layout}
+use Rattle.im_ctree.specs.im_num.declared.kind.Kind.{Kind}
+use Rattle.im_ctree.specs.im_num.declared.kind.Kind.TheVariants.{Ptr}
+use Rattle.im_typed.specs.im_ctype.Types.{CType, integer, pointer, array, unsized, struct, Structs, kind_of}
+use Rattle.im_typed.specs.im_ctype.Layout.{layout}
 use Rattle.im_typed.specs.Program.{Access, Scalar, Struct, Place, Expr, Read, Address}
 use Rattle.im_rules.specs.Rules.{Operand}
 use Rattle.im_rules.specs.Constants.{constant_value}

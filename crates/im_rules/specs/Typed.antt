@@ -1,14 +1,14 @@
 -- What expressions, type names and declarators are typed to. Each form has one constructor: its parts are typed, all that
 -- the rules ask of it is so, and the result is a function of its parts' terms.
 use Rattle.std.specs.Prelude.{◌≡◌, ℕ, ◌+◌, pos, true, false, List, [], ◌∷◌}
-use Rattle.im_word.specs.Words.{Name}
-use Rattle.im_tok.specs.declared.number.Number.{Number}
+use Rattle.im_ctree.specs.im_word.Words.{Name}
+use Rattle.im_ctree.specs.im_tok.declared.number.Number.{Number}
 use Rattle.im_ctree.specs.declared.operator.StepOp.{StepOp}
 use Rattle.im_ctree.specs.declared.operator.UnaryOp.{UnaryOp}
 use Rattle.im_ctree.specs.declared.operator.BinaryOp.{BinaryOp}
 use Rattle.im_ctree.specs.declared.operator.AssignOp.{AssignOp}
 use Rattle.im_ctree.specs.Tree as t
-use Rattle.im_ctype.specs.declared.integer.Integer.TheVariants.{Int}
+use Rattle.im_typed.specs.im_ctype.declared.integer.Integer.TheVariants.{Int}
 use Rattle.im_rules.specs.Scopes.{meaning}
 use Rattle.im_rules.specs.Context.{Context, in_new_scope, behind, behind_name, behind_core, behind_may, behind_parameters}
 use Rattle.im_rules.specs.Terms.{Term, value, value_of, type_in, constant_in}

@@ -1,15 +1,15 @@
 -- What a unit is typed to (C11 6.9): external declarations one behind the other, each in what stands before it.
 use Rattle.std.specs.Prelude.{ℕ, ◌+◌, ℤ, pos, ◌+ℤ◌, true, false, List, [], ◌∷◌, ◌++◌, map, length, decimal, codes, Option, Some, None, if◌then◌else◌}
-use Rattle.im_word.specs.Words.{Name}
-use Rattle.im_num.specs.declared.kind.Kind.{Kind}
+use Rattle.im_ctree.specs.im_word.Words.{Name}
+use Rattle.im_ctree.specs.im_num.declared.kind.Kind.{Kind}
 use Rattle.im_ctree.specs.declared.specifier.SpecifierWord.{SpecifierWord}
 use Rattle.im_ctree.specs.Tree as t
-use Rattle.im_ctype.specs.declared.cell.Cell.{Cell}
-use Rattle.im_ctype.specs.declared.integer.Integer.TheVariants.{Char, Int}
-use Rattle.im_ctype.specs.Types.{CType, integer, array, struct, Member, Structs, is_void}
-use Rattle.im_ctype.specs.Layout.{Layout, layout, empty_layout}
-use Rattle.im_store.specs.Objects.{Value, Number}
-use Rattle.im_store.specs.Statics.{StaticObject}
+use Rattle.im_typed.specs.im_ctype.declared.cell.Cell.{Cell}
+use Rattle.im_typed.specs.im_ctype.declared.integer.Integer.TheVariants.{Char, Int}
+use Rattle.im_typed.specs.im_ctype.Types.{CType, integer, array, struct, Member, Structs, is_void}
+use Rattle.im_typed.specs.im_ctype.Layout.{Layout, layout, empty_layout}
+use Rattle.im_typed.specs.im_store.Objects.{Value, Number}
+use Rattle.im_typed.specs.im_store.Statics.{StaticObject}
 use Rattle.im_typed.specs.Program.{Stmts, Block, LocalObject, Func, Prog}
 use Rattle.im_rules.specs.TypeTests.{same_name, result_of}
 use Rattle.im_rules.specs.Scopes.{meaning}

@@ -1,8 +1,8 @@
 -- Which node of a unit breaks which rule.
 use Rattle.std.specs.Prelude.{◌≡◌, ℕ, ℤ, pos, ◌+ℤ◌, Bool, true, false, List, ◌∷◌, Option}
-use Rattle.im_word.specs.Words.{Name}
+use Rattle.im_ctree.specs.im_word.Words.{Name}
 use Rattle.im_ctree.specs.Tree as t
-use Rattle.im_ctype.specs.Types.{Member}
+use Rattle.im_typed.specs.im_ctype.Types.{Member}
 use Rattle.im_typed.specs.Program.{Func}
 use Rattle.im_rules.specs.TypeTests.{result_of}
 use Rattle.im_rules.specs.Rules.{named_in}

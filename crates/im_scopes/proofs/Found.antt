@@ -1,8 +1,8 @@
 -- What is found by the places that are kept.
 use Rattle.std.proofs.Common.{◌≡◌, ℕ, ◌<◌, Bool, true, false, List, map, length, get_or, is_none, is_some, not, Option, Some, None, refl, sym, ap, subst, ◌∙◌, arith}
 use Rattle.std.proofs.lemmas.List.{get_or-map, length-map}
-use Rattle.im_word.specs.Words.{Name}
-use Rattle.im_rules.specs.Scopes.{meaning, meaning_here, tag_meaning, at_file_scope}
+use Rattle.im_name_map.specs.im_word.Words.{Name}
+use Rattle.im_name_map.specs.im_rules.Scopes.{meaning, meaning_here, tag_meaning, at_file_scope}
 use Rattle.im_name_map.specs.Numbers.{number_of}
 use Rattle.im_scopes.specs.declared.entity.Entry.{Entry}
 use Rattle.im_scopes.specs.declared.scope.Kept.{Kept}

@@ -1,8 +1,8 @@
 -- What is kept beside the entries, where one more is put behind them and where the last is taken back.
 use Rattle.std.proofs.Common.{◌≡◌, ℕ, Bool, true, false, List, [], ◌∷◌, ◌++◌, map, length, Option, Some, None, Vec, Global, if◌then◌else◌, refl, sym, ap, subst, ◌∙◌}
 use Rattle.std.proofs.lemmas.List.{append-nil, append_assoc, map_push, length-map}
-use Rattle.im_word.specs.Words.{Name}
-use Rattle.im_rules.specs.TypeTests.{same_name}
+use Rattle.im_name_map.specs.im_word.Words.{Name}
+use Rattle.im_name_map.specs.im_rules.TypeTests.{same_name}
 use Rattle.im_name_map.specs.Numbers.{number_of}
 use Rattle.im_name_map.proofs.SameNames.{same-refl, same-equal}
 use Rattle.im_scopes.specs.declared.entity.Entity.{Entity}

@@ -1,9 +1,9 @@
 -- What names and tags mean, by the places of their last entries.
 use Rattle.std.proofs.Common.{◌≡◌, ℕ, Bool, true, false, ◌||◌, List, [], ◌∷◌, get_or, Option, Some, None, if◌then◌else◌, is_none, refl, sym, ap, ◌∙◌}
-use Rattle.im_word.specs.Words.{Name}
-use Rattle.im_rules.specs.TypeTests.{same_name}
-use Rattle.im_rules.specs.Scopes as s
-use Rattle.im_rules.specs.Scopes.{Scopes, nothing, meaning, meaning_here, tag_meaning, at_file_scope}
+use Rattle.im_name_map.specs.im_word.Words.{Name}
+use Rattle.im_name_map.specs.im_rules.TypeTests.{same_name}
+use Rattle.im_name_map.specs.im_rules.Scopes as s
+use Rattle.im_name_map.specs.im_rules.Scopes.{Scopes, nothing, meaning, meaning_here, tag_meaning, at_file_scope}
 use Rattle.im_scopes.specs.declared.entity.Entry.{Entry}
 use Rattle.im_scopes.specs.declared.entity.Entry.TheVariants as n
 use Rattle.im_scopes.specs.Shape.{with_entry, with_entries, scopes_of}

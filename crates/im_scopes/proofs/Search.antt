@@ -2,7 +2,7 @@
 use Rattle.std.proofs.Common.{◌≡◌, ℕ, suc, ◌<◌, ◌≤◌, Bool, true, false, ◌||◌, List, [], ◌∷◌, ◌++◌, length, get_or, Option, Some, None, if◌then◌else◌, nat_lt, refl, sym, ap, ◌∙◌, arith}
 use Rattle.std.proofs.lemmas.Bool.{lt-ltb, ltb-true, ltb-false}
 use Rattle.std.proofs.lemmas.Option.{none-some, same_Some}
-use Rattle.im_rules.specs.Scopes.{Scopes}
+use Rattle.im_name_map.specs.im_rules.Scopes.{Scopes}
 use Rattle.im_scopes.specs.declared.entity.Entry.{Entry}
 use Rattle.im_scopes.specs.Shape.{with_entry, with_entries}
 use Rattle.im_scopes.specs.Search.{or_first, last_place}

@@ -1,9 +1,9 @@
 -- One step of the scopes, as the code takes it.
 use Rattle.std.proofs.Common.{◌≡◌, ℕ, ◌-◌, ◌≤◌, List, [], ◌∷◌, ◌++◌, length, take, Option, Some, None, Vec, Global, Result, Ok, Err, OnOk, OnErr, if◌then◌else◌, refl, sym, ap, subst, ◌∙◌, arith}
 use Rattle.std.proofs.lemmas.List.{append-nil, length-append, take-append-le, take_all}
-use Rattle.im_word.specs.Words.{Name}
-use Rattle.im_rules.specs.TypeTests.{same_name}
-use Rattle.im_rules.specs.Scopes.{Scopes, nothing}
+use Rattle.im_name_map.specs.im_word.Words.{Name}
+use Rattle.im_name_map.specs.im_rules.TypeTests.{same_name}
+use Rattle.im_name_map.specs.im_rules.Scopes.{Scopes, nothing}
 use Rattle.im_name_map.specs.Numbers.{number_of}
 use Rattle.im_scopes.specs.declared.entity.Entity.{Entity}
 use Rattle.im_scopes.specs.declared.entity.Tag.{Tag}

@@ -1,8 +1,8 @@
 -- What is known at a place of the text, as Rust values.
 use Rattle.std.specs.Prelude.{ℕ, List}
-use Rattle.im_ctype.specs.Table.{Table, structs_of}
-use Rattle.im_rules.specs.Context.{Context}
-use Rattle.im_rules.specs.Outline.{Outline}
+use Rattle.im_name_map.specs.im_ctype.Table.{Table, structs_of}
+use Rattle.im_name_map.specs.im_rules.Context.{Context}
+use Rattle.im_name_map.specs.im_rules.Outline.{Outline}
 use Rattle.im_scopes.specs.declared.entity.Entry.{Entry}
 use Rattle.im_scopes.specs.Shape.{scopes_of}
 

@@ -1,6 +1,6 @@
 -- What is kept beside the entries of the scopes, so that a search is no walk.
 use Rattle.std.specs.Prelude.{◌≡◌, ℕ, List, [], ◌∷◌, ◌++◌, map, Option}
-use Rattle.im_word.specs.Words.{Name}
+use Rattle.im_name_map.specs.im_word.Words.{Name}
 use Rattle.im_name_map.specs.Numbers.{number_of}
 use Rattle.im_scopes.specs.declared.entity.Entry.{Entry}
 use Rattle.im_scopes.specs.declared.scope.Kept.{Kept}

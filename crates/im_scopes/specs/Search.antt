@@ -1,8 +1,8 @@
 -- The last entry of a kind.
 use Rattle.std.specs.Prelude.{ℕ, suc, Bool, true, false, List, [], ◌∷◌, Option, Some, None, nat_lt, if◌then◌else◌}
-use Rattle.im_word.specs.Words.{Name}
-use Rattle.im_rules.specs.TypeTests.{same_name}
-use Rattle.im_rules.specs.Scopes as s
+use Rattle.im_name_map.specs.im_word.Words.{Name}
+use Rattle.im_name_map.specs.im_rules.TypeTests.{same_name}
+use Rattle.im_name_map.specs.im_rules.Scopes as s
 use Rattle.im_scopes.specs.declared.entity.Entry.{Entry}
 use Rattle.im_scopes.specs.declared.entity.Entry.TheVariants as n
 use Rattle.im_scopes.specs.Shape.{entity_of, tag_of}

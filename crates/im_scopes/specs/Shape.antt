@@ -1,7 +1,7 @@
 -- The scopes of the definitions that entries stand for.
 use Rattle.std.specs.Prelude.{List, [], ◌∷◌}
 use Rattle.im_types.specs.Shape.{type_of}
-use Rattle.im_rules.specs.Scopes as s
+use Rattle.im_name_map.specs.im_rules.Scopes as s
 use Rattle.im_scopes.specs.declared.entity.Storage.{Storage}
 use Rattle.im_scopes.specs.declared.entity.Storage.TheVariants as o
 use Rattle.im_scopes.specs.declared.entity.Callee.{Callee}

@@ -1,7 +1,7 @@
 //! What names and tags mean.
 ghost use Rattle.std.specs.Prelude.{◌≡◌, Some, None, MatchOption};
 ghost use Rattle.std.specs.Option.{option_map};
-ghost use Rattle.im_rules.specs.Scopes as s;
+ghost use Rattle.im_name_map.specs.im_rules.Scopes as s;
 ghost use Rattle.im_scopes.specs.Shape.{scopes_of, entity_of, tag_of};
 ghost use Rattle.im_scopes.specs.Search.{is_before, entity_named, tag_named};
 

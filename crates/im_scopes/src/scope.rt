@@ -1,7 +1,7 @@
 //! The scopes at a place of the text.
 ghost use Rattle.std.specs.Prelude.{◌≡◌, ◌-◌, ◌<◌, ◌++◌, ◌∷◌, [], take, length, OnOk, OnErr};
 ghost use Rattle.im_scopes.specs.Shape.{scopes_of, with_entry, entity_of, tag_of};
-ghost use Rattle.im_rules.specs.Scopes as s;
+ghost use Rattle.im_name_map.specs.im_rules.Scopes as s;
 
 use crate::entity::{Entity, Entry, Tag};
 use im_name_map::NameMap;

@@ -9,8 +9,8 @@ use Rattle.im_ctype.specs.declared.member.Member as rust
 use Rattle.im_ctype.specs.Table.{Table, member_in, members_at, structs_of, types_of}
 use Rattle.im_ctype.specs.Types.{struct, Member, members_of}
 use Rattle.im_ctype.proofs.Steps.{plain-members}
-use Rattle.im_rules.specs.Initialisers.{one, misshapen, one_shape}
-use Rattle.im_rules.specs.Rules.{initializer_count, is_one_expression, rule_16}
+use Rattle.im_stop.specs.im_rules.Initialisers.{one, misshapen, one_shape}
+use Rattle.im_stop.specs.im_rules.Rules.{initializer_count, is_one_expression, rule_16}
 use Rattle.im_tree_parts.specs.Lists.{expression_in, initializers_from}
 use Rattle.im_shapes.specs.Parts.{only_expression, expression_alone}
 

@@ -2,8 +2,8 @@
 use Rattle.std.proofs.Common.{ℕ, ◌+◌, ◌<◌, ◌≤◌, Bool, true, false, arith, subst, ◌≡◌, if◌then◌else◌}
 use Rattle.im_ctree.specs.Tree as t
 use Rattle.im_ctype.specs.Types.{CType, void, integer, pointer, array, unsized, struct, function}
-use Rattle.im_rules.specs.Initialisers as n
-use Rattle.im_rules.specs.Rules.{is_string_for}
+use Rattle.im_stop.specs.im_rules.Initialisers as n
+use Rattle.im_stop.specs.im_rules.Rules.{is_string_for}
 
 abbrev mutual
   -- how many initialisers stand in it, with itself

@@ -1,10 +1,10 @@
 -- What the string that an initialiser is tells of it.
 use Rattle.std.proofs.Common.{◌≡◌, ℕ, ◌+◌, true, false, ◌&&◌, nat_le, length, List, Bor, Option, Some, None, MatchOption, refl, ap, ◌∙◌, subst, if◌then◌else◌}
-use Rattle.im_word.specs.Words.{Name}
+use Rattle.im_stop.specs.im_word.Words.{Name}
 use Rattle.im_ctree.specs.Tree as t
 use Rattle.im_ctype.specs.Types.{CType, array, unsized, is_character}
-use Rattle.im_rules.specs.Initialisers.{bytes, misshapen, shape, string_shape, element_shape, counted, completed}
-use Rattle.im_rules.specs.Rules.{initializer_count, is_string_for}
+use Rattle.im_stop.specs.im_rules.Initialisers.{bytes, misshapen, shape, string_shape, element_shape, counted, completed}
+use Rattle.im_stop.specs.im_rules.Rules.{initializer_count, is_string_for}
 use Rattle.im_shapes.specs.Parts.{text_of, only_expression, text_if, string_alone}
 
 pub text_made : (found : Option t.Expression) (e : t.Expression) (result : Option (Bor (List ℕ)))

@@ -1,6 +1,6 @@
 -- The expression and the string that an initialiser is. Private contracts alone speak of these.
 use Rattle.std.specs.Prelude.{Option, Some, None}
-use Rattle.im_word.specs.Words.{Name}
+use Rattle.im_stop.specs.im_word.Words.{Name}
 use Rattle.im_ctree.specs.Tree as t
 
 -- the bytes of a string literal

@@ -2,9 +2,9 @@
 use Rattle.std.specs.Prelude.{◌≡◌, Result, MatchResult}
 use Rattle.im_ctree.specs.Tree as t
 use Rattle.im_ctype.specs.Types.{CType, Structs}
-use Rattle.im_rules.specs.BodyBreaks.{initialiser_token}
-use Rattle.im_rules.specs.Demands.{Meets}
-use Rattle.im_rules.specs.Initialisers as n
+use Rattle.im_stop.specs.im_rules.BodyBreaks.{initialiser_token}
+use Rattle.im_stop.specs.im_rules.Demands.{Meets}
+use Rattle.im_stop.specs.im_rules.Initialisers as n
 use Rattle.im_tree_parts.specs.Lists.{expression_in, initializers_from}
 use Rattle.im_types.specs.Shape.{type_of}
 use Rattle.im_stop.specs.Answers.{IsRefusal}

@@ -4,7 +4,7 @@ ghost use Rattle.im_ctree.specs.Shape.{initializer_of, maybe_initializer_of};
 ghost use Rattle.im_ctree.specs.Tree as t;
 ghost use Rattle.im_ctype.specs.Types as y;
 ghost use Rattle.im_ctype.specs.Types.{CType};
-ghost use Rattle.im_rules.specs.Initialisers as n;
+ghost use Rattle.im_stop.specs.im_rules.Initialisers as n;
 ghost use Rattle.im_tree_parts.specs.Lists.{expression_in, initializers_from};
 ghost use Rattle.im_types.specs.Shape.{type_of};
 

@@ -1,7 +1,7 @@
 //! Which form of initialiser stands for which type (C11 6.7.9p11 to p17).
 ghost use Rattle.std.specs.Prelude.{◌≡◌};
 ghost use Rattle.im_ctree.specs.Shape.{initializer_of};
-ghost use Rattle.im_rules.specs.Initialisers as n;
+ghost use Rattle.im_stop.specs.im_rules.Initialisers as n;
 ghost use Rattle.im_types.specs.Shape.{type_of};
 ghost use Rattle.im_ctype.specs.Types.{array};
 ghost use Rattle.im_shapes.specs.Shape.{shape_in};

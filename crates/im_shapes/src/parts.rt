@@ -3,7 +3,7 @@
 ghost use Rattle.std.specs.Prelude.{◌≡◌, ◌∷◌, [], None, Some, length, MatchOption};
 ghost use Rattle.im_ctree.specs.Shape.{initializer_of};
 ghost use Rattle.im_ctree.specs.Tree as t;
-ghost use Rattle.im_rules.specs.BodyBreaks.{initialiser_token};
+ghost use Rattle.im_stop.specs.im_rules.BodyBreaks.{initialiser_token};
 ghost use Rattle.im_tree_parts.specs.Lists.{expression_in, initializers_from};
 ghost use Rattle.im_shapes.specs.Parts.{expression_alone, only_expression, string_alone, text_if, text_of};
 

@@ -3,7 +3,7 @@ ghost use Rattle.std.specs.Prelude.{◌≡◌, nat_le, None, Some};
 ghost use Rattle.im_ctree.specs.Shape.{initializer_of};
 ghost use Rattle.im_ctype.specs.Table.{structs_of};
 ghost use Rattle.im_ctype.specs.Types as t;
-ghost use Rattle.im_rules.specs.Rules as u;
+ghost use Rattle.im_stop.specs.im_rules.Rules as u;
 ghost use Rattle.im_tree_parts.specs.Lists.{initializers_from};
 ghost use Rattle.im_types.specs.Shape.{type_of};
 ghost use Rattle.im_shapes.specs.Shape.{IsShaped};

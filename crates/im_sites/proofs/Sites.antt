@@ -1,15 +1,15 @@
 -- Places of a body behind parts, one behind the other.
 use Rattle.std.proofs.Common.{◌≡◌, ℕ, ◌+◌, List, [], ◌∷◌, ◌++◌, length, refl, sym, ap, ◌∙◌, append_assoc, arith}
 use Rattle.std.proofs.lemmas.List.{append-nil, length-append, length-map}
-use Rattle.im_ctype.specs.Types.{CType}
+use Rattle.im_place.specs.im_ctype.Types.{CType}
 use Rattle.im_types.specs.Shape.{type_of}
-use Rattle.im_rules.specs.Rules as u
-use Rattle.im_rules.specs.Context.{Context}
-use Rattle.im_rules.specs.Statements.{Site, Added, nothing_added, and_then, past, in_block}
-use Rattle.im_scopes.specs.declared.entity.Entry.{Entry}
-use Rattle.im_scopes.specs.declared.entity.Entry.TheVariants as n
-use Rattle.im_scopes.specs.Shape.{scopes_of}
-use Rattle.im_rules.specs.Scopes.{Scopes, opened}
+use Rattle.im_place.specs.im_rules.Rules as u
+use Rattle.im_place.specs.im_rules.Context.{Context}
+use Rattle.im_place.specs.im_rules.Statements.{Site, Added, nothing_added, and_then, past, in_block}
+use Rattle.im_place.specs.im_scopes.declared.entity.Entry.{Entry}
+use Rattle.im_place.specs.im_scopes.declared.entity.Entry.TheVariants as n
+use Rattle.im_place.specs.im_scopes.Shape.{scopes_of}
+use Rattle.im_place.specs.im_rules.Scopes.{Scopes, opened}
 use Rattle.im_place.specs.declared.place.Place.{Place}
 use Rattle.im_place.specs.Contexts.{context_of, behind_strings}
 use Rattle.im_sites.specs.declared.body.Body.{Body}

@@ -1,15 +1,15 @@
 -- The places of a function's body that Rust values stand for, and what stands behind a part.
 use Rattle.std.specs.Prelude.{◌≡◌, ◌<◌, ℕ, false, List, ◌++◌, map, length, Vec}
 use Rattle.std.specs.Global.{Global}
-use Rattle.im_word.specs.Words.{Name}
-use Rattle.im_ctype.specs.Table.{Table, structs_of}
-use Rattle.im_typed.specs.Program.{LocalObject}
+use Rattle.im_place.specs.im_word.Words.{Name}
+use Rattle.im_place.specs.im_ctype.Table.{Table, structs_of}
+use Rattle.im_place.specs.im_typed.Program.{LocalObject}
 use Rattle.im_types.specs.Shape.{type_of}
-use Rattle.im_rules.specs.Rules as u
-use Rattle.im_rules.specs.Statements.{Site, Added, object_of}
-use Rattle.im_rules.specs.BodyBreaks.{BodyNode, BodyBroken}
+use Rattle.im_place.specs.im_rules.Rules as u
+use Rattle.im_place.specs.im_rules.Statements.{Site, Added, object_of}
+use Rattle.im_place.specs.im_rules.BodyBreaks.{BodyNode, BodyBroken}
 use Rattle.im_rule_limits.specs.Limits.{size_limit, BodySized}
-use Rattle.im_scopes.specs.declared.entity.Entry.{Entry}
+use Rattle.im_place.specs.im_scopes.declared.entity.Entry.{Entry}
 use Rattle.im_stop.specs.declared.stop.Stop.{Stop}
 use Rattle.im_stop.specs.declared.stop.Stop.TheVariants.{Rule, Large, Memory}
 use Rattle.im_place.specs.Contexts.{context_of, behind_strings}

@@ -1,9 +1,9 @@
 -- The statements of the definitions that Rust values stand for.
 use Rattle.std.specs.Prelude.{List, [], ◌∷◌}
-use Rattle.im_ctype.specs.Table.{Table}
-use Rattle.im_typed.specs.declared.statement.Stmt as rs
-use Rattle.im_typed.specs.ProgramOf.{stmt_of}
-use Rattle.im_typed.specs.Program as p
+use Rattle.im_place.specs.im_ctype.Table.{Table}
+use Rattle.im_place.specs.im_typed.declared.statement.Stmt as rs
+use Rattle.im_place.specs.im_typed.ProgramOf.{stmt_of}
+use Rattle.im_place.specs.im_typed.Program as p
 
 -- statements in order, and those behind them
 abbrev pub stmts_before : Table → List rs.Stmt → p.Stmts → p.Stmts

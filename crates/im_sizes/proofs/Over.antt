@@ -1,7 +1,7 @@
 -- What is counted of arrays and of other types.
 use Rattle.std.proofs.Common.{◌≡◌, ◌≤◌, ℕ, Bool, true, false, Box, Global, Result, Ok, Err, MatchResult, refl, subst, sym, arith}
 use Rattle.im_ctype.specs.Types.{CType, void, integer, pointer, array, unsized, struct, function, Structs}
-use Rattle.im_rules.specs.Terms.{size_in}
+use Rattle.im_rule_limits.specs.im_rules.Terms.{size_in}
 use Rattle.im_rule_limits.specs.Limits.{size_limit, Counted, own_size, size_in_element}
 use Rattle.im_rule_limits.proofs.Counted.{counted-within}
 use Rattle.im_types.specs.declared.tree.Type as rust

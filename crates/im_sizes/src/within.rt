@@ -1,7 +1,7 @@
 //! The limit of one type's size.
 ghost use Rattle.std.specs.Prelude.{◌≤◌, MatchResult};
 ghost use Rattle.im_ctype.specs.Table.{structs_of};
-ghost use Rattle.im_rules.specs.Terms.{size_in};
+ghost use Rattle.im_rule_limits.specs.im_rules.Terms.{size_in};
 ghost use Rattle.im_rule_limits.specs.Limits.{size_limit};
 ghost use Rattle.im_sizes.specs.Sizes.{IsTooLarge, AllFit, IsOver};
 ghost use Rattle.im_types.specs.Shape.{type_of};

@@ -7,14 +7,14 @@ use Rattle.im_typed.specs.ProgramOf.{stmt_of}
 use Rattle.im_typed.specs.declared.expression.Expr as re
 use Rattle.im_typed.specs.declared.statement.Stmt as rs
 use Rattle.im_types.specs.Shape.{type_of}
-use Rattle.im_rules.specs.Conversions.{as_type}
-use Rattle.im_rules.specs.Rules.{rule_34_return}
-use Rattle.im_rules.specs.Terms as r
-use Rattle.im_rules.specs.Strings.{strings_in}
-use Rattle.im_rules.specs.Statements.{nothing_added, just_strings, return_value_asks, TypedStatement, of_nothing, of_expression, of_break, of_continue, of_return, of_return_value}
-use Rattle.im_rules.specs.BodyBreaks as b
-use Rattle.im_rules.specs.BodyBreaks.{here_in_body, in_inner, a_statement}
-use Rattle.im_rule_limits.specs.Limits.{size_in_inner, IsBodyWithin}
+use Rattle.im_locals.specs.im_rules.Conversions.{as_type}
+use Rattle.im_locals.specs.im_rules.Rules.{rule_34_return}
+use Rattle.im_locals.specs.im_rules.Terms as r
+use Rattle.im_locals.specs.im_rules.Strings.{strings_in}
+use Rattle.im_locals.specs.im_rules.Statements.{nothing_added, just_strings, return_value_asks, TypedStatement, of_nothing, of_expression, of_break, of_continue, of_return, of_return_value}
+use Rattle.im_locals.specs.im_rules.BodyBreaks as b
+use Rattle.im_locals.specs.im_rules.BodyBreaks.{here_in_body, in_inner, a_statement}
+use Rattle.im_locals.specs.im_rule_limits.Limits.{size_in_inner, IsBodyWithin}
 use Rattle.im_stop.specs.declared.stop.Stop.{Stop}
 use Rattle.im_stop.specs.declared.stop.Stop.TheVariants.{Rule, Large, Memory}
 use Rattle.im_sites.specs.declared.body.Body.{Body}

@@ -3,18 +3,18 @@ use Rattle.std.proofs.Common.{◌≡◌, ℕ, List, subst}
 use Rattle.im_ctree.specs.Tree as t
 use Rattle.im_ctype.specs.Types.{Structs}
 use Rattle.im_typed.specs.Program as p
-use Rattle.im_rules.specs.Context.{Context}
-use Rattle.im_rules.specs.Demands.{Demand, Refuses}
-use Rattle.im_rules.specs.Terms as r
-use Rattle.im_rules.specs.Typed.{Typed}
-use Rattle.im_rules.specs.Breaks.{an_expression}
-use Rattle.im_rules.specs.Statements.{Site}
-use Rattle.im_rules.specs.BodyBreaks.{BodyNode, BodyBreaks, InnerPart, BodyBroken, here_in_body, in_inner, body_token}
-use Rattle.im_rule_limits.specs.Limits.{size_in_inner}
+use Rattle.im_locals.specs.im_rules.Context.{Context}
+use Rattle.im_locals.specs.im_rules.Demands.{Demand, Refuses}
+use Rattle.im_locals.specs.im_rules.Terms as r
+use Rattle.im_locals.specs.im_rules.Typed.{Typed}
+use Rattle.im_locals.specs.im_rules.Breaks.{an_expression}
+use Rattle.im_locals.specs.im_rules.Statements.{Site}
+use Rattle.im_locals.specs.im_rules.BodyBreaks.{BodyNode, BodyBreaks, InnerPart, BodyBroken, here_in_body, in_inner, body_token}
+use Rattle.im_locals.specs.im_rule_limits.Limits.{size_in_inner}
 use Rattle.im_stop.specs.declared.stop.Stop.{Stop}
 use Rattle.im_stop.specs.declared.stop.Stop.TheVariants.{Rule, Large, Memory}
 use Rattle.im_stop.specs.Answers.{IsNoRule}
-use Rattle.im_declarators.specs.Suffixes.{IsFault}
+use Rattle.im_locals.specs.im_declarators.Suffixes.{IsFault}
 use Rattle.im_place.specs.Contexts.{context_of}
 use Rattle.im_sites.specs.declared.body.Body.{Body}
 use Rattle.im_sites.specs.declared.position.Position.{Position}

@@ -5,14 +5,14 @@ use Rattle.im_typed.specs.Program as p
 use Rattle.im_typed.specs.ProgramOf.{expr_of, stmt_of}
 use Rattle.im_typed.specs.declared.expression.Expr as re
 use Rattle.im_typed.specs.declared.statement.Stmt as rs
-use Rattle.im_rules.specs.Demands.{Demand}
-use Rattle.im_rules.specs.Terms as r
-use Rattle.im_rules.specs.Strings.{strings_in}
-use Rattle.im_rules.specs.Statements.{Site, Added, nothing_added, just_strings, past_maybe, past_expression, in_block, condition_asks, MayTest, MayStep, one_or_zero, no_test, a_test, no_step, a_step, Begins, by_declaration, by_nothing, by_expression}
-use Rattle.im_rules.specs.BodyBreaks as b
-use Rattle.im_rules.specs.Breaks.{an_expression}
-use Rattle.im_rules.specs.BodyBreaks.{BodyBroken, here_in_body, in_inner, in_step, a_statement}
-use Rattle.im_rule_limits.specs.Limits.{Sized, size_in_inner, size_in_step}
+use Rattle.im_locals.specs.im_rules.Demands.{Demand}
+use Rattle.im_locals.specs.im_rules.Terms as r
+use Rattle.im_locals.specs.im_rules.Strings.{strings_in}
+use Rattle.im_locals.specs.im_rules.Statements.{Site, Added, nothing_added, just_strings, past_maybe, past_expression, in_block, condition_asks, MayTest, MayStep, one_or_zero, no_test, a_test, no_step, a_step, Begins, by_declaration, by_nothing, by_expression}
+use Rattle.im_locals.specs.im_rules.BodyBreaks as b
+use Rattle.im_locals.specs.im_rules.Breaks.{an_expression}
+use Rattle.im_locals.specs.im_rules.BodyBreaks.{BodyBroken, here_in_body, in_inner, in_step, a_statement}
+use Rattle.im_locals.specs.im_rule_limits.Limits.{Sized, size_in_inner, size_in_step}
 use Rattle.im_scopes.specs.declared.entity.Entry.TheVariants.{Opened}
 use Rattle.im_stop.specs.declared.stop.Stop.{Stop}
 use Rattle.im_stop.specs.declared.stop.Stop.TheVariants.{Rule, Large, Memory}

@@ -2,10 +2,10 @@
 use Rattle.std.proofs.Common.{◌≡◌, ℕ, ◌+◌, List, [], ◌∷◌, ◌++◌, Vec, Global, length, take, refl, sym, ap, ◌∙◌, append_assoc, arith}
 use Rattle.std.proofs.lemmas.List.{append-nil}
 use Rattle.std.proofs.Math.Seq.{take-append_seam}
-use Rattle.im_word.specs.Words.{Name}
-use Rattle.im_rules.specs.Context as c
-use Rattle.im_rules.specs.Scopes.{Scopes}
-use Rattle.im_rules.specs.Statements.{Site, Added, just_strings, in_block}
+use Rattle.im_locals.specs.im_word.Words.{Name}
+use Rattle.im_locals.specs.im_rules.Context as c
+use Rattle.im_locals.specs.im_rules.Scopes.{Scopes}
+use Rattle.im_locals.specs.im_rules.Statements.{Site, Added, just_strings, in_block}
 use Rattle.im_scopes.specs.declared.entity.Entry.{Entry}
 use Rattle.im_scopes.specs.declared.entity.Entry.TheVariants.{Opened}
 use Rattle.im_place.specs.declared.place.Place.{Place}

@@ -1,8 +1,8 @@
 -- Faults of the parts of a node of a body, and sizes at a site that is known by an equation.
 use Rattle.std.proofs.Common.{◌≡◌, ℕ, subst}
-use Rattle.im_rules.specs.Statements.{Site}
-use Rattle.im_rules.specs.BodyBreaks.{BodyNode, BodyPart, BodyBroken, within_body}
-use Rattle.im_rule_limits.specs.Limits.{BodySized, size_in_part, IsBodyWithin}
+use Rattle.im_locals.specs.im_rules.Statements.{Site}
+use Rattle.im_locals.specs.im_rules.BodyBreaks.{BodyNode, BodyPart, BodyBroken, within_body}
+use Rattle.im_locals.specs.im_rule_limits.Limits.{BodySized, size_in_part, IsBodyWithin}
 use Rattle.im_stop.specs.declared.stop.Stop.{Stop}
 use Rattle.im_stop.specs.declared.stop.Stop.TheVariants.{Rule, Large, Memory}
 use Rattle.im_sites.specs.declared.body.Body.{Body}

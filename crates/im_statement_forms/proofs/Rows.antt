@@ -7,7 +7,7 @@ use Rattle.im_typed.specs.declared.statement.Case.{Case}
 use Rattle.im_typed.specs.declared.statement.Stmt as rs
 use Rattle.im_typed.specs.ProgramOf.{expr_of, stmt_of, stmts_of}
 use Rattle.im_typed.specs.Program as p
-use Rattle.im_rules.specs.Statements.{count_stmts}
+use Rattle.im_locals.specs.im_rules.Statements.{count_stmts}
 use Rattle.im_sites.specs.Stmts.{stmts_from}
 
 abbrev stmts_row_in : rs.Stmt → (n : Count) × rs.Row_of-Stmt n

@@ -6,13 +6,13 @@ use Rattle.im_ctype.specs.Types.{Structs}
 use Rattle.im_typed.specs.Program as p
 use Rattle.im_typed.specs.ProgramOf.{expr_of}
 use Rattle.im_typed.specs.declared.expression.Expr as re
-use Rattle.im_rules.specs.Demands.{Demand, Meets}
-use Rattle.im_rules.specs.Strings.{strings_in}
-use Rattle.im_rules.specs.Statements.{just_strings}
-use Rattle.im_rules.specs.Terms as r
-use Rattle.im_rules.specs.Typed.{Typed}
-use Rattle.im_rules.specs.Breaks.{an_expression}
-use Rattle.im_rule_limits.specs.Limits.{IsWithin}
+use Rattle.im_locals.specs.im_rules.Demands.{Demand, Meets}
+use Rattle.im_locals.specs.im_rules.Strings.{strings_in}
+use Rattle.im_locals.specs.im_rules.Statements.{just_strings}
+use Rattle.im_locals.specs.im_rules.Terms as r
+use Rattle.im_locals.specs.im_rules.Typed.{Typed}
+use Rattle.im_locals.specs.im_rules.Breaks.{an_expression}
+use Rattle.im_locals.specs.im_rule_limits.Limits.{IsWithin}
 use Rattle.im_operands.specs.declared.term.Term.{Term}
 use Rattle.im_operands.specs.declared.term.Value as rv
 use Rattle.im_operands.specs.Shape.{term_in, value_in}

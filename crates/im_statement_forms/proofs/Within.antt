@@ -1,10 +1,10 @@
 -- Sizes in statements that have no statement in them, and in what a `for` begins with.
 use Rattle.std.proofs.Common.{ℕ}
 use Rattle.im_ctree.specs.Tree as t
-use Rattle.im_rules.specs.Breaks.{an_expression}
-use Rattle.im_rules.specs.Statements.{Site}
-use Rattle.im_rules.specs.BodyBreaks as b
-use Rattle.im_rule_limits.specs.Limits.{size_in_part, size_in_inner, size_in_step, IsWithin, IsBodyWithin}
+use Rattle.im_locals.specs.im_rules.Breaks.{an_expression}
+use Rattle.im_locals.specs.im_rules.Statements.{Site}
+use Rattle.im_locals.specs.im_rules.BodyBreaks as b
+use Rattle.im_locals.specs.im_rule_limits.Limits.{size_in_part, size_in_inner, size_in_step, IsWithin, IsBodyWithin}
 
 pub nothing_within : {s : Site} {at : ℕ} → IsBodyWithin s (b.a_statement (t.expression_statement at t.no_expression))
 nothing_within k (size_in_part p z) = elim p [ ]

@@ -6,19 +6,19 @@ use Rattle.im_ctype.specs.Types.{Structs}
 use Rattle.im_typed.specs.Program as p
 use Rattle.im_typed.specs.ProgramOf.{expr_of}
 use Rattle.im_typed.specs.declared.expression.Expr as re
-use Rattle.im_rules.specs.Context.{Context}
-use Rattle.im_rules.specs.Demands.{Demand, Meets, Refuses}
-use Rattle.im_rules.specs.Statements.{just_strings}
-use Rattle.im_rules.specs.Strings.{strings_in}
-use Rattle.im_rules.specs.Terms as r
-use Rattle.im_rules.specs.Typed.{Typed}
-use Rattle.im_rules.specs.Breaks.{Broken, an_expression}
-use Rattle.im_rule_limits.specs.Limits.{size_limit, Sized, IsWithin}
+use Rattle.im_locals.specs.im_rules.Context.{Context}
+use Rattle.im_locals.specs.im_rules.Demands.{Demand, Meets, Refuses}
+use Rattle.im_locals.specs.im_rules.Statements.{just_strings}
+use Rattle.im_locals.specs.im_rules.Strings.{strings_in}
+use Rattle.im_locals.specs.im_rules.Terms as r
+use Rattle.im_locals.specs.im_rules.Typed.{Typed}
+use Rattle.im_locals.specs.im_rules.Breaks.{Broken, an_expression}
+use Rattle.im_locals.specs.im_rule_limits.Limits.{size_limit, Sized, IsWithin}
 use Rattle.im_stop.specs.declared.stop.Stop.{Stop}
 use Rattle.im_stop.specs.declared.stop.Stop.TheVariants.{Rule, Large, Memory}
 use Rattle.im_operands.specs.declared.term.Term.{Term}
 use Rattle.im_operands.specs.Shape.{term_in}
-use Rattle.im_declarators.specs.Suffixes.{IsFault}
+use Rattle.im_locals.specs.im_declarators.Suffixes.{IsFault}
 use Rattle.im_place.specs.Contexts.{context_of}
 use Rattle.im_sites.specs.declared.body.Body.{Body}
 use Rattle.im_sites.specs.Sites.{IsPast}

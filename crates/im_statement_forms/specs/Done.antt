@@ -4,14 +4,14 @@ use Rattle.im_ctree.specs.Tree as t
 use Rattle.im_typed.specs.ProgramOf.{expr_of, stmt_of}
 use Rattle.im_typed.specs.declared.expression.Expr as re
 use Rattle.im_typed.specs.declared.statement.Stmt as rs
-use Rattle.im_rules.specs.Demands.{Demand}
-use Rattle.im_rules.specs.Strings.{strings_maybe}
-use Rattle.im_rules.specs.Terms as r
-use Rattle.im_rules.specs.Statements.{Added, just_strings, in_block, past_maybe, MayTest, MayStep, Begins, TypedStatement}
-use Rattle.im_rules.specs.Context.{Context}
-use Rattle.im_rules.specs.Breaks.{an_expression}
-use Rattle.im_rules.specs.BodyBreaks.{a_beginning, a_statement}
-use Rattle.im_rule_limits.specs.Limits.{size_limit, Sized, IsWithin, IsBodyWithin}
+use Rattle.im_locals.specs.im_rules.Demands.{Demand}
+use Rattle.im_locals.specs.im_rules.Strings.{strings_maybe}
+use Rattle.im_locals.specs.im_rules.Terms as r
+use Rattle.im_locals.specs.im_rules.Statements.{Added, just_strings, in_block, past_maybe, MayTest, MayStep, Begins, TypedStatement}
+use Rattle.im_locals.specs.im_rules.Context.{Context}
+use Rattle.im_locals.specs.im_rules.Breaks.{an_expression}
+use Rattle.im_locals.specs.im_rules.BodyBreaks.{a_beginning, a_statement}
+use Rattle.im_locals.specs.im_rule_limits.Limits.{size_limit, Sized, IsWithin, IsBodyWithin}
 use Rattle.im_scopes.specs.declared.entity.Entry.{Entry}
 use Rattle.im_stop.specs.declared.stop.Stop.{Stop}
 use Rattle.im_stop.specs.declared.stop.Stop.TheVariants.{Rule, Large, Memory}

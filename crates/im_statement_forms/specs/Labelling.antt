@@ -7,15 +7,15 @@ use Rattle.im_ctype.specs.declared.integer.Integer.{Integer}
 use Rattle.im_ctype.specs.Table.{structs_of}
 use Rattle.im_typed.specs.declared.statement.Case.{Case}
 use Rattle.im_typed.specs.ProgramOf.{expr_of}
-use Rattle.im_rules.specs.Rules.{is_among}
-use Rattle.im_rules.specs.Conversions.{as_integer}
-use Rattle.im_rules.specs.Demands.{Meets}
-use Rattle.im_rules.specs.Statements as s
-use Rattle.im_rules.specs.Strings.{strings_in}
-use Rattle.im_rules.specs.Terms as r
-use Rattle.im_rules.specs.Typed.{Typed}
-use Rattle.im_rules.specs.Breaks.{an_expression}
-use Rattle.im_rule_limits.specs.Limits.{IsWithin}
+use Rattle.im_locals.specs.im_rules.Rules.{is_among}
+use Rattle.im_locals.specs.im_rules.Conversions.{as_integer}
+use Rattle.im_locals.specs.im_rules.Demands.{Meets}
+use Rattle.im_locals.specs.im_rules.Statements as s
+use Rattle.im_locals.specs.im_rules.Strings.{strings_in}
+use Rattle.im_locals.specs.im_rules.Terms as r
+use Rattle.im_locals.specs.im_rules.Typed.{Typed}
+use Rattle.im_locals.specs.im_rules.Breaks.{an_expression}
+use Rattle.im_locals.specs.im_rule_limits.Limits.{IsWithin}
 use Rattle.im_place.specs.Contexts.{context_of}
 use Rattle.im_sites.specs.declared.body.Body.{Body}
 use Rattle.im_statement_forms.specs.declared.labels.Selector.{Selector}

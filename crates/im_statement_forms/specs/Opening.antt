@@ -1,6 +1,6 @@
 -- Scopes that are opened and closed in a body.
 use Rattle.std.specs.Prelude.{◌≡◌, List, [], ◌∷◌, ◌++◌}
-use Rattle.im_rules.specs.Scopes.{opened}
+use Rattle.im_locals.specs.im_rules.Scopes.{opened}
 use Rattle.im_scopes.specs.declared.entity.Entry.{Entry}
 use Rattle.im_scopes.specs.declared.entity.Entry.TheVariants.{Opened}
 use Rattle.im_scopes.specs.Shape.{scopes_of}

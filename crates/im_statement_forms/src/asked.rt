@@ -1,8 +1,8 @@
 //! Expressions of which a statement asks something more.
 ghost use Rattle.std.specs.Prelude.{◌≡◌, [], MatchResult};
-ghost use Rattle.im_rules.specs.Statements as st;
-ghost use Rattle.im_rules.specs.Terms as r;
-ghost use Rattle.im_tree_parts.specs.Lists.{expression_in};
+ghost use Rattle.im_locals.specs.im_rules.Statements as st;
+ghost use Rattle.im_locals.specs.im_rules.Terms as r;
+ghost use Rattle.im_locals.specs.im_tree_parts.Lists.{expression_in};
 ghost use Rattle.im_statement_forms.specs.Asked.{IsAsked, IsTermRead};
 
 use im_conversions::value_of;

@@ -1,10 +1,10 @@
 //! Labels of a switch (C11 6.8.1, 6.8.4.2).
 ghost use Rattle.std.specs.Prelude.{◌≡◌, [], None, MatchResult};
 ghost use Rattle.im_ctype.specs.Table.{Table};
-ghost use Rattle.im_rules.specs.Statements as st;
-ghost use Rattle.im_rules.specs.Terms as r;
+ghost use Rattle.im_locals.specs.im_rules.Statements as st;
+ghost use Rattle.im_locals.specs.im_rules.Terms as r;
 ghost use Rattle.im_stop.specs.Answers.{IsNoRule, IsRefusal};
-ghost use Rattle.im_tree_parts.specs.Lists.{expression_in};
+ghost use Rattle.im_locals.specs.im_tree_parts.Lists.{expression_in};
 ghost use Rattle.im_constancy.specs.Told.{number_in, constant_in};
 ghost use Rattle.im_operands.specs.Shape.{term_in};
 ghost use Rattle.im_statement_forms.specs.Asked.{IsAskedFault};

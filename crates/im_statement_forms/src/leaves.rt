@@ -2,10 +2,10 @@
 ghost use Rattle.std.specs.Prelude.{◌≡◌, ◌||◌, MatchResult};
 ghost use Rattle.im_ctree.specs.Shape.{optional_expression_of};
 ghost use Rattle.im_ctree.specs.Tree as t;
-ghost use Rattle.im_rules.specs.Conversions as c;
-ghost use Rattle.im_rules.specs.Statements as st;
-ghost use Rattle.im_rules.specs.Terms as r;
-ghost use Rattle.im_tree_parts.specs.Lists.{expression_in, statement_in};
+ghost use Rattle.im_locals.specs.im_rules.Conversions as c;
+ghost use Rattle.im_locals.specs.im_rules.Statements as st;
+ghost use Rattle.im_locals.specs.im_rules.Terms as r;
+ghost use Rattle.im_locals.specs.im_tree_parts.Lists.{expression_in, statement_in};
 ghost use Rattle.im_types.specs.Shape.{type_of};
 ghost use Rattle.im_statement_forms.specs.Asked.{IsAsked};
 ghost use Rattle.im_statement_forms.specs.Done.{IsLeaf};

@@ -20,7 +20,7 @@ use Rattle.im_rules.specs.Statements as st
 use Rattle.im_rules.specs.Statements.{Cases, just_strings, and_then, nothing_added, past, past_expression, appended, with_cases, no_cases, first_of, with_constant, with_default, case_at, label_value, case_asks, default_asks, count_stmts, TypedCases, Labelled, no_case, between_cases, a_labelled, no_label, of_case, of_default}
 use Rattle.im_rules.specs.BodyBreaks as b
 use Rattle.im_rules.specs.BodyBreaks.{BodyBroken, here_in_body, some_cases, is_label}
-use Rattle.im_rule_limits.specs.Limits.{IsBodyWithin}
+use Rattle.im_statement_forms.specs.im_rule_limits.Limits.{IsBodyWithin}
 use Rattle.im_stop.specs.declared.stop.Stop.{Stop}
 use Rattle.im_stop.specs.declared.stop.Stop.TheVariants.{Rule, Large, Memory}
 use Rattle.im_stop.specs.Answers.{IsRefusal}

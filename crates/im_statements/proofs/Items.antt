@@ -13,11 +13,11 @@ use Rattle.im_typed.specs.Program as p
 use Rattle.im_typed.specs.Program.{LocalObject}
 use Rattle.im_typed.specs.ProgramOf.{stmt_of}
 use Rattle.im_typed.specs.declared.statement.Stmt as rs
-use Rattle.im_word.specs.Words.{Name}
+use Rattle.im_statement_forms.specs.im_word.Words.{Name}
 use Rattle.im_rules.specs.Statements.{Added, and_then, nothing_added, appended, TypedItems, no_item, a_declaration, a_statement}
 use Rattle.im_rules.specs.BodyBreaks as b
 use Rattle.im_rules.specs.BodyBreaks.{some_items}
-use Rattle.im_rule_limits.specs.Limits.{IsBodyWithin}
+use Rattle.im_statement_forms.specs.im_rule_limits.Limits.{IsBodyWithin}
 use Rattle.im_stop.specs.declared.stop.Stop.{Stop}
 use Rattle.im_sites.specs.declared.body.Body.{Body}
 use Rattle.im_sites.specs.declared.position.Position.{Position}

@@ -17,7 +17,7 @@ use Rattle.im_rules.specs.Statements.{Site, just_strings, and_then, past, in_blo
 use Rattle.im_rules.specs.BodyBreaks as b
 use Rattle.im_rules.specs.Breaks.{an_expression}
 use Rattle.im_rules.specs.BodyBreaks.{a_statement}
-use Rattle.im_rule_limits.specs.Limits.{Sized, size_in_inner, IsWithin, IsBodyWithin}
+use Rattle.im_statement_forms.specs.im_rule_limits.Limits.{Sized, size_in_inner, IsWithin, IsBodyWithin}
 use Rattle.im_stop.specs.declared.stop.Stop.{Stop}
 use Rattle.im_stop.specs.declared.stop.Stop.TheVariants.{Rule, Large, Memory}
 use Rattle.im_sites.specs.declared.body.Body.{Body}

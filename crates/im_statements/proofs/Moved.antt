@@ -1,6 +1,6 @@
 -- What is typed at a place that is known by an equation.
 use Rattle.std.proofs.Common.{◌≡◌, ◌+◌, List, ◌++◌, length, ap, subst, length-append, arith}
-use Rattle.im_word.specs.Words.{Name}
+use Rattle.im_statement_forms.specs.im_word.Words.{Name}
 use Rattle.im_ctree.specs.Tree as t
 use Rattle.im_ctype.specs.Table.{Table}
 use Rattle.im_typed.specs.ProgramOf.{stmt_of}

@@ -11,7 +11,7 @@ use Rattle.im_rules.specs.Statements.{Site, Added, past, past_expression, past_m
 use Rattle.im_rules.specs.BodyBreaks as b
 use Rattle.im_rules.proofs.Once.{once}
 use Rattle.im_rules.proofs.BodiesOnce.{begins_once, declaration_once, statement_once, labelled_once}
-use Rattle.im_rule_limits.specs.Limits.{Sized, BodySized, size_in_part, size_in_inner, size_in_step, IsWithin, IsBodyWithin}
+use Rattle.im_statement_forms.specs.im_rule_limits.Limits.{Sized, BodySized, size_in_part, size_in_inner, size_in_step, IsWithin, IsBodyWithin}
 use Rattle.im_statement_forms.specs.Done.{MaybeWithin}
 
 pub block_within : {s : Site} {at at' : ℕ} {is : t.BlockItems} → IsBodyWithin (in_block s) (b.some_items is) → IsBodyWithin s (b.a_statement (t.block_statement at (t.block at' is)))

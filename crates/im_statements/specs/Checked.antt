@@ -10,7 +10,7 @@ use Rattle.im_typed.specs.ProgramOf.{stmt_of}
 use Rattle.im_typed.specs.declared.statement.Stmt as rs
 use Rattle.im_rules.specs.Statements.{Added, Cases, and_then, with_cases, first_of, TypedItems, TypedCases, Labelled}
 use Rattle.im_rules.specs.BodyBreaks.{some_items, some_cases, a_labelled}
-use Rattle.im_rule_limits.specs.Limits.{IsBodyWithin}
+use Rattle.im_statement_forms.specs.im_rule_limits.Limits.{IsBodyWithin}
 use Rattle.im_scopes.specs.declared.entity.Entry.{Entry}
 use Rattle.im_stop.specs.declared.stop.Stop.{Stop}
 use Rattle.im_sites.specs.declared.body.Body.{Body}

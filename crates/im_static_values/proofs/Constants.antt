@@ -3,8 +3,8 @@ use Rattle.std.proofs.Common.{◌≡◌, ℕ, refl}
 use Rattle.im_ctype.specs.Table.{Table}
 use Rattle.im_typed.specs.declared.expression.Expr as re
 use Rattle.im_typed.specs.ProgramOf.{expr_of}
-use Rattle.im_rules.specs.Constants.{constant_value}
-use Rattle.im_rules.specs.StaticValues.{static_value, number_or, pointer_to, address_of}
+use Rattle.im_items.specs.im_rules.Constants.{constant_value}
+use Rattle.im_items.specs.im_rules.StaticValues.{static_value, number_or, pointer_to, address_of}
 
 -- what isn't null is a number or a place
 pub number_or_place : (types : Table) (size : ℕ → ℕ) (e : re.Expr) → (e ≡ re.Null → ⊥)

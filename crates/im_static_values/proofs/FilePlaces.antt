@@ -1,9 +1,9 @@
 -- At a place at file scope these are what the rules ask there.
 use Rattle.std.proofs.Common.{ℕ, List, [], ◌∷◌}
-use Rattle.im_rules.specs.FileScope.{FilePlace, static_size}
-use Rattle.im_rules.specs.Initialisers.{Item}
-use Rattle.im_rules.specs.TypedUnit.{AreConstants}
-use Rattle.im_rules.specs.UnitBreaks as u
+use Rattle.im_items.specs.im_rules.FileScope.{FilePlace, static_size}
+use Rattle.im_items.specs.im_rules.Initialisers.{Item}
+use Rattle.im_items.specs.im_rules.TypedUnit.{AreConstants}
+use Rattle.im_items.specs.im_rules.UnitBreaks as u
 use Rattle.im_static_values.specs.Firsts.{AreConstant, RefusesItem, this_item, other_item}
 
 pub are_constants : (f : FilePlace) (ps : List Item) → AreConstant (static_size f) f.context.known ps → AreConstants f ps

@@ -9,8 +9,8 @@ use Rattle.im_ctype.specs.Types.{CType, Structs}
 use Rattle.im_store.specs.Objects.{Value}
 use Rattle.im_typed.specs.declared.program.Constant.{Constant}
 use Rattle.im_typed.specs.ProgramOf.{first_of}
-use Rattle.im_rules.specs.Initialisers.{Source, from_term, from_byte, Item, piece_by, piece_of, pieces_of}
-use Rattle.im_rules.specs.StaticValues.{constant_asks, item_token, static_value, value_or, zero_of, cell_value, cell_values}
+use Rattle.im_items.specs.im_rules.Initialisers.{Source, from_term, from_byte, Item, piece_by, piece_of, pieces_of}
+use Rattle.im_items.specs.im_rules.StaticValues.{constant_asks, item_token, static_value, value_or, zero_of, cell_value, cell_values}
 use Rattle.im_stop.specs.declared.stop.Stop.{Stop}
 use Rattle.im_stop.specs.declared.stop.Stop.TheVariants.{Rule, Large, Memory}
 use Rattle.im_stop.specs.Answers.{IsRefusal}

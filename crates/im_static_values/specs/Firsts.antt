@@ -1,9 +1,9 @@
 -- What is asked of the items of a static's initialiser, by the bytes of each static.
 use Rattle.std.specs.Prelude.{ℕ, List, [], ◌∷◌}
 use Rattle.im_ctype.specs.Types.{Structs}
-use Rattle.im_rules.specs.Demands.{Meets, Refuses}
-use Rattle.im_rules.specs.Initialisers.{Item}
-use Rattle.im_rules.specs.StaticValues.{constant_asks, item_token}
+use Rattle.im_items.specs.im_rules.Demands.{Meets, Refuses}
+use Rattle.im_items.specs.im_rules.Initialisers.{Item}
+use Rattle.im_items.specs.im_rules.StaticValues.{constant_asks, item_token}
 use Rattle.im_stop.specs.declared.stop.Stop.{Stop}
 use Rattle.im_stop.specs.declared.stop.Stop.TheVariants.{Rule, Large, Memory}
 

@@ -4,9 +4,9 @@ use Rattle.im_ctype.specs.declared.cell.Cell.{Cell}
 use Rattle.im_ctype.specs.Table.{Table, structs_of}
 use Rattle.im_store.specs.Objects.{Value}
 use Rattle.im_typed.specs.ProgramOf.{first_of}
-use Rattle.im_rules.specs.Demands.{Meets}
-use Rattle.im_rules.specs.Initialisers.{Item, piece_of}
-use Rattle.im_rules.specs.StaticValues.{constant_asks, static_value, value_or, zero_of}
+use Rattle.im_items.specs.im_rules.Demands.{Meets}
+use Rattle.im_items.specs.im_rules.Initialisers.{Item, piece_of}
+use Rattle.im_items.specs.im_rules.StaticValues.{constant_asks, static_value, value_or, zero_of}
 use Rattle.im_static_values.specs.declared.given.Given.{Given}
 
 -- an item is a constant, and this is its value

@@ -1,5 +1,5 @@
 -- For private contracts: the places that Rust values stand for.
-use Rattle.im_rules.specs.StaticValues as v
+use Rattle.im_items.specs.im_rules.StaticValues as v
 use Rattle.im_static_values.specs.declared.address.Spot.{Spot}
 
 abbrev pub spot_in : Spot → v.Spot

@@ -3,9 +3,9 @@ ghost use Rattle.std.specs.Prelude.{◌≡◌, ◌+ℤ◌, ◌*ℤ◌, pos, neg_
 ghost use Rattle.std.specs.Option.{option_map};
 ghost use Rattle.im_ctype.specs.Table.{Table};
 ghost use Rattle.im_typed.specs.ProgramOf as q;
-ghost use Rattle.im_rules.specs.StaticValues as v;
+ghost use Rattle.im_items.specs.im_rules.StaticValues as v;
 ghost use Rattle.im_constancy.specs.Told.{number_in};
-ghost use Rattle.im_rules.specs.Constants.{constant_value};
+ghost use Rattle.im_items.specs.im_rules.Constants.{constant_value};
 ghost use Rattle.im_static_values.specs.Spots.{spot_in};
 
 use crate::constant::constant_value;

@@ -3,7 +3,7 @@ ghost use Rattle.std.specs.Prelude.{◌≡◌, false, pos, IfOk, IfSome};
 ghost use Rattle.im_ctype.specs.Table.{Table};
 ghost use Rattle.im_typed.specs.Program as p;
 ghost use Rattle.im_typed.specs.ProgramOf.{expr_of};
-ghost use Rattle.im_rules.specs.Constants as c;
+ghost use Rattle.im_items.specs.im_rules.Constants as c;
 ghost use Rattle.im_constancy.specs.Told.{Told, number_in, variable as no_constant};
 
 use im_constancy::{

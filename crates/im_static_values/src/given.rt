@@ -1,7 +1,7 @@
 //! What each item of an initialiser gives its cell, where all are constants (C11 6.7.9p4).
 ghost use Rattle.std.specs.Prelude.{◌≡◌, MatchResult};
 ghost use Rattle.im_ctype.specs.Table.{Table, structs_of};
-ghost use Rattle.im_rules.specs.StaticValues as v;
+ghost use Rattle.im_items.specs.im_rules.StaticValues as v;
 ghost use Rattle.im_stop.specs.Answers.{IsRefusal};
 ghost use Rattle.im_items.specs.Shape.{item_in, items_in, source_in};
 ghost use Rattle.im_static_values.specs.Firsts.{IsUnfit};

@@ -1,10 +1,10 @@
 //! What is asked of a static's items, as the rules ask it at a place at file scope. The law is a
 //! function with an empty body, whose contract says it.
 ghost use Rattle.std.specs.Prelude.{ℕ, List};
-ghost use Rattle.im_rules.specs.FileScope.{FilePlace, static_size};
-ghost use Rattle.im_rules.specs.Initialisers.{Item};
-ghost use Rattle.im_rules.specs.TypedUnit.{AreConstants};
-ghost use Rattle.im_rules.specs.UnitBreaks.{RefusedItem};
+ghost use Rattle.im_items.specs.im_rules.FileScope.{FilePlace, static_size};
+ghost use Rattle.im_items.specs.im_rules.Initialisers.{Item};
+ghost use Rattle.im_items.specs.im_rules.TypedUnit.{AreConstants};
+ghost use Rattle.im_items.specs.im_rules.UnitBreaks.{RefusedItem};
 ghost use Rattle.im_static_values.specs.Firsts.{AreConstant, RefusesItem};
 
 /// By the bytes that statics have at a place, items are constants only where they are there, and an

@@ -1,7 +1,7 @@
 //! What an address constant may be reached by (C11 6.6p9).
 ghost use Rattle.std.specs.Prelude.{◌≡◌};
-ghost use Rattle.im_rules.specs.StaticValues as v;
-ghost use Rattle.im_tree_parts.specs.Lists.{expression_in};
+ghost use Rattle.im_items.specs.im_rules.StaticValues as v;
+ghost use Rattle.im_items.specs.im_tree_parts.Lists.{expression_in};
 
 use im_ctree::{Expression, ExpressionKind, UnaryOp};
 

@@ -3,7 +3,7 @@ ghost use Rattle.std.specs.Prelude.{◌≡◌, IfOk};
 ghost use Rattle.std.specs.Option.{option_map};
 ghost use Rattle.im_ctype.specs.Table.{Table};
 ghost use Rattle.im_typed.specs.ProgramOf as q;
-ghost use Rattle.im_rules.specs.StaticValues as v;
+ghost use Rattle.im_items.specs.im_rules.StaticValues as v;
 ghost use Rattle.im_static_values.specs.Spots.{spot_in};
 
 use crate::address::{Spot, address_of};

@@ -1,7 +1,7 @@
 -- One part more, by the string literals that stand in it.
 use Rattle.std.proofs.Common.{◌≡◌, ℕ, ◌+◌, List, ◌++◌, length, Result, Ok, Err, IfOk, ap, arith, length-append}
 use Rattle.im_num.specs.declared.fault.NoMemory.{NoMemory}
-use Rattle.im_word.specs.Words.{Name}
+use Rattle.im_rules.specs.im_word.Words.{Name}
 use Rattle.im_ctree.specs.Tree as t
 use Rattle.im_ctree.specs.Shape.{declarator_of, core_of, type_name_of}
 use Rattle.im_ctree.specs.declared.declarator.Declarator as dc

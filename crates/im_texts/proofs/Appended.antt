@@ -1,11 +1,11 @@
 -- One part more, by the string literals that stand in it.
 use Rattle.std.proofs.Common.{◌≡◌, ℕ, ◌+◌, ◌<◌, List, [], ◌++◌, length, drop, get_or, Result, Ok, Err, OnOk, refl, sym, ap, ◌∙◌, append_assoc}
 use Rattle.std.proofs.lemmas.List.{append-nil}
-use Rattle.im_word.specs.Words.{Name}
+use Rattle.im_given_strings.specs.im_word.Words.{Name}
 use Rattle.im_ctree.specs.declared.declaration.Initializer as ini
 use Rattle.im_ctree.specs.Shape.{initializer_of}
 use Rattle.im_ctype.specs.Types.{CType, Member, Structs}
-use Rattle.im_rules.specs.Initialisers.{Slots, in_order, first_slot, other_slots, strings_given, strings_among}
+use Rattle.im_given_strings.specs.im_rules.Initialisers.{Slots, in_order, first_slot, other_slots, strings_given, strings_among}
 use Rattle.im_tree_parts.specs.Lists.{initializers_from}
 use Rattle.im_given_strings.proofs.Places.{items_from, others_on}
 

@@ -3,10 +3,10 @@ use Rattle.std.proofs.Common.{◌≡◌, ◌≤◌, ◌&&◌, ℕ, Bool, true, f
 use Rattle.std.proofs.lemmas.Bool.{le-leb}
 use Rattle.im_ctree.specs.Tree as t
 use Rattle.im_ctree.specs.declared.specifier.SpecifierWord.{SpecifierWord}
-use Rattle.im_rules.specs.Rules.{named_in, keywords_in, storage_in, line_type, lines, rule_1, rule_2_elsewhere}
-use Rattle.im_rules.specs.Context.{Context}
-use Rattle.im_rules.specs.Demands.{Demand, asks, Meets, Refuses}
-use Rattle.im_rules.specs.Declared.{Qualified, specified, specified_asks, specifiers_ask, line_meant}
+use Rattle.im_scopes.specs.im_rules.Rules.{named_in, keywords_in, storage_in, line_type, lines, rule_1, rule_2_elsewhere}
+use Rattle.im_scopes.specs.im_rules.Context.{Context}
+use Rattle.im_scopes.specs.im_rules.Demands.{Demand, asks, Meets, Refuses}
+use Rattle.im_scopes.specs.im_rules.Declared.{Qualified, specified, specified_asks, specifiers_ask, line_meant}
 use Rattle.im_ctype.specs.Types.{CType}
 use Rattle.im_stop.specs.declared.stop.Stop.{Stop}
 use Rattle.im_stop.specs.declared.stop.Stop.TheVariants.{Rule, Large, Memory}

@@ -5,7 +5,7 @@ use Rattle.std.proofs.lemmas.List.{drop_more}
 use Rattle.im_ctree.specs.Tree as t
 use Rattle.im_ctree.specs.declared.specifier.SpecifierWord.{SpecifierWord}
 use Rattle.im_ctree.specs.declared.specifier.SpecifierWord.TheVariants as w
-use Rattle.im_rules.specs.Rules.{word_code, is_storage, count_word, keywords_in, storage_in}
+use Rattle.im_scopes.specs.im_rules.Rules.{word_code, is_storage, count_word, keywords_in, storage_in}
 use Rattle.im_type_specifiers.specs.Lists.{one_if}
 
 pub next : {X : Type 0} (xs : List X) (i : ℕ) (x : X) → i < length xs → x ≡ get_or xs i x → drop i xs ≡ x ∷ drop (i + 1) xs

@@ -1,7 +1,7 @@
 -- The lines of the list, as the table has them.
 use Rattle.std.proofs.Common.{◌≡◌, List, refl}
 use Rattle.im_ctree.specs.declared.specifier.SpecifierWord.{SpecifierWord}
-use Rattle.im_rules.specs.Rules.{lines, line_type}
+use Rattle.im_scopes.specs.im_rules.Rules.{lines, line_type}
 use Rattle.im_type_specifiers.specs.declared.line.Counts.{Counts}
 use Rattle.im_type_specifiers.specs.declared.line.TheConstants.{LINES}
 use Rattle.im_type_specifiers.specs.Lines.{IsCounted, typed_by}

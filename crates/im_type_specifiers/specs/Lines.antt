@@ -2,7 +2,7 @@
 use Rattle.std.specs.Prelude.{◌≡◌, Bool, ◌&&◌, List, [], ◌∷◌, Option, Some, None, nat_eq, if◌then◌else◌}
 use Rattle.im_ctree.specs.declared.specifier.SpecifierWord.{SpecifierWord}
 use Rattle.im_ctype.specs.Types.{CType, void, integer}
-use Rattle.im_rules.specs.Rules.{count_word}
+use Rattle.im_scopes.specs.im_rules.Rules.{count_word}
 use Rattle.im_type_specifiers.specs.declared.line.Counts.{Counts}
 use Rattle.im_type_specifiers.specs.declared.line.Line.{Line}
 use Rattle.im_type_specifiers.specs.declared.line.WordType.{WordType}

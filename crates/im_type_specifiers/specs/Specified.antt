@@ -1,14 +1,14 @@
 -- What is answered of specifiers.
 use Rattle.std.specs.Prelude.{◌≡◌, ℕ, List, ◌∷◌, Option, MatchResult, Result}
-use Rattle.im_word.specs.Words.{Name}
+use Rattle.im_scopes.specs.im_word.Words.{Name}
 use Rattle.im_ctree.specs.Tree as t
 use Rattle.im_ctree.specs.declared.specifier.Specifier.{Specifier}
-use Rattle.im_rules.specs.Rules.{named_in, keywords_in, rule_1}
-use Rattle.im_rules.specs.Context.{Context}
-use Rattle.im_rules.specs.Demands.{Demand, asks}
-use Rattle.im_rules.specs.Demands as m
-use Rattle.im_rules.specs.Declared as d
-use Rattle.im_rules.specs.Declared.{specified, specified_asks}
+use Rattle.im_scopes.specs.im_rules.Rules.{named_in, keywords_in, rule_1}
+use Rattle.im_scopes.specs.im_rules.Context.{Context}
+use Rattle.im_scopes.specs.im_rules.Demands.{Demand, asks}
+use Rattle.im_scopes.specs.im_rules.Demands as m
+use Rattle.im_scopes.specs.im_rules.Declared as d
+use Rattle.im_scopes.specs.im_rules.Declared.{specified, specified_asks}
 use Rattle.im_types.specs.Shape.{type_of}
 use Rattle.im_scopes.specs.declared.entity.Entry.{Entry}
 use Rattle.im_scopes.specs.Shape.{scopes_of}

@@ -1,8 +1,8 @@
 -- Tags at a place of the text.
 use Rattle.std.specs.Prelude.{◌≡◌, ℕ, List, ◌++◌, Option, None, if◌then◌else◌}
-use Rattle.im_word.specs.Words.{Name}
-use Rattle.im_rules.specs.Outline.{list_number}
-use Rattle.im_rules.specs.Scopes.{at_file_scope}
+use Rattle.im_scopes.specs.im_word.Words.{Name}
+use Rattle.im_scopes.specs.im_rules.Outline.{list_number}
+use Rattle.im_scopes.specs.im_rules.Scopes.{at_file_scope}
 use Rattle.im_scopes.specs.declared.entity.Entry.{Entry}
 use Rattle.im_scopes.specs.Shape.{scopes_of}
 

@@ -2,10 +2,10 @@
 ghost use Rattle.std.specs.Prelude.{◌≡◌, ◌≤◌, ℕ, ◌∷◌, [], List, length, Option, MatchOption};
 ghost use Rattle.im_ctree.specs.Tree as t;
 ghost use Rattle.im_ctree.specs.declared.specifier.SpecifierWord.{SpecifierWord};
-ghost use Rattle.im_word.specs.Words.{Name};
-ghost use Rattle.im_rules.specs.Context.{Context};
-ghost use Rattle.im_rules.specs.Declared as d;
-ghost use Rattle.im_rules.specs.Rules as u;
+ghost use Rattle.im_scopes.specs.im_word.Words.{Name};
+ghost use Rattle.im_scopes.specs.im_rules.Context.{Context};
+ghost use Rattle.im_scopes.specs.im_rules.Declared as d;
+ghost use Rattle.im_scopes.specs.im_rules.Rules as u;
 ghost use Rattle.im_tree_parts.specs.Lists.{list_from, specifier_in};
 ghost use Rattle.im_types.specs.Shape.{type_of};
 ghost use Rattle.im_type_specifiers.specs.Lines.{word_type_of};

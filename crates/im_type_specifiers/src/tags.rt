@@ -1,10 +1,10 @@
 //! The structs that tags name (C11 6.7.2.3).
 ghost use Rattle.std.specs.Prelude.{◌≡◌, ◌∷◌, [], IfOk, OnOk, OnErr};
 ghost use Rattle.im_ctree.specs.Tree as t;
-ghost use Rattle.im_rules.specs.Context as c;
-ghost use Rattle.im_rules.specs.Context.{Context};
-ghost use Rattle.im_rules.specs.Declared.{tags_in};
-ghost use Rattle.im_rules.specs.Rules.{named_in};
+ghost use Rattle.im_scopes.specs.im_rules.Context as c;
+ghost use Rattle.im_scopes.specs.im_rules.Context.{Context};
+ghost use Rattle.im_scopes.specs.im_rules.Declared.{tags_in};
+ghost use Rattle.im_scopes.specs.im_rules.Rules.{named_in};
 ghost use Rattle.im_scopes.specs.Shape.{scopes_of};
 ghost use Rattle.im_tree_parts.specs.Lists.{list_from};
 ghost use Rattle.im_type_specifiers.specs.Specified.{at_place};

@@ -1,8 +1,8 @@
 //! The words among specifiers.
 ghost use Rattle.std.specs.Prelude.{◌≡◌, ◌+◌, ◌<◌, ◌≤◌, ◌||◌, length};
 ghost use Rattle.im_ctree.specs.Tree as t;
-ghost use Rattle.im_rules.specs.Declared as d;
-ghost use Rattle.im_rules.specs.Rules as u;
+ghost use Rattle.im_scopes.specs.im_rules.Declared as d;
+ghost use Rattle.im_scopes.specs.im_rules.Rules as u;
 ghost use Rattle.im_type_specifiers.specs.Lines.{IsCounted};
 ghost use Rattle.im_type_specifiers.specs.Lists as l;
 ghost use Rattle.im_type_specifiers.specs.Lists.{with_named};

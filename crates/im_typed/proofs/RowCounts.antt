@@ -2,7 +2,7 @@
 use Rattle.std.proofs.Common.{◌≡◌, ℕ, ◌+◌, ◌*◌, length, sum_by, refl, ap, sym, ◌∙◌, Vec, Global}
 use Rattle.std.proofs.lemmas.List.Sums.{sum_by-cons}
 use mathlib.Core.Former.{Count}
-use Rattle.im_ctype.specs.Table.{Table}
+use Rattle.im_store.specs.im_ctype.Table.{Table}
 use Rattle.im_typed.specs.declared.expression.Expr.{Expr, Call, Call', Row_of-Expr, end_of-Expr, more_of-Expr, items-the_row-Expr, items_hidden-the_row-Expr-0}
 use Rattle.im_typed.specs.declared.statement.Stmt.{Stmt, Block, Block', Switch, Row_of-Stmt, end_of-Stmt, more_of-Stmt, items-the_row-Stmt, items_hidden-the_row-Stmt-0}
 use Rattle.im_typed.specs.declared.statement.Case.{Case}

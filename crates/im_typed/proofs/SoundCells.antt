@@ -8,7 +8,7 @@ use Rattle.im_num.specs.declared.kind.Kind.{Kind}
 use Rattle.im_num.specs.declared.kind.Kind.TheVariants.{I32, Ptr}
 use Rattle.im_num.specs.Kinds.{IsOfKind, wrap}
 use Rattle.im_num.proofs.Wrapping.{wrap-of_kind}
-use Rattle.im_ctype.specs.declared.cell.Cell.{Cell}
+use Rattle.im_store.specs.im_ctype.declared.cell.Cell.{Cell}
 use Rattle.im_store.specs.Checks.{Checked, Fine, Bad, then_}
 use Rattle.im_store.specs.Numbers.{apply}
 use Rattle.im_store.specs.Objects.{Object, Value, Number, Null, Pointer, Unset, Shape, Store, same_object, lives}

@@ -11,3 +11,5 @@ pub mod Limits
 pub mod Sound
 pub mod Laws
 pub mod Samples
+pub use Rattle.im_store.specs.im_ctype
+pub use Rattle.im_store.specs as im_store

@@ -4,7 +4,7 @@ use Rattle.std.specs.Ordering.{int_eq}
 use Rattle.im_num.specs.declared.kind.Kind.{Kind}
 use Rattle.im_num.specs.declared.kind.Kind.TheVariants.{U8, Ptr}
 use Rattle.im_num.specs.Kinds.{wrap}
-use Rattle.im_ctype.specs.declared.cell.Cell.{Cell}
+use Rattle.im_store.specs.im_ctype.declared.cell.Cell.{Cell}
 use Rattle.im_store.specs.Numbers.{apply, apply_one}
 use Rattle.im_store.specs.Objects.{Named, Object, static, Value, Number, Null, Pointer, Unset, Shape, Store, same_object}
 use Rattle.im_store.specs.Pointers.{moved_by, bytes_moved, member_at, distance, compare_values, holds}

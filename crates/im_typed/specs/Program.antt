@@ -1,7 +1,7 @@
 -- The typed program as the definitions see it: plain data, with cells in the place of types.
 use Rattle.std.specs.Prelude.{ℕ, Bool, List, ℤ, Option}
 use Rattle.im_num.specs.declared.kind.Kind.{Kind}
-use Rattle.im_ctype.specs.declared.cell.Cell.{Cell}
+use Rattle.im_store.specs.im_ctype.declared.cell.Cell.{Cell}
 use Rattle.im_store.specs.declared.operators.BinaryOp.{BinaryOp}
 use Rattle.im_store.specs.declared.operators.Comparison.{Comparison}
 use Rattle.im_store.specs.declared.operators.UnaryOp.{UnaryOp}

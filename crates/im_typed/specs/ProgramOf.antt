@@ -1,8 +1,8 @@
 -- The program that a Rust value stands for. Its table of types has the cells of structs and objects.
 use Rattle.std.specs.Prelude.{map}
 use Rattle.std.specs.Option.{option_map}
-use Rattle.im_ctype.specs.Layout.{layouts, layout_at}
-use Rattle.im_ctype.specs.Table.{Table, structs_of, layout_of}
+use Rattle.im_store.specs.im_ctype.Layout.{layouts, layout_at}
+use Rattle.im_store.specs.im_ctype.Table.{Table, structs_of, layout_of}
 use Rattle.im_store.specs.Objects.{Value, Number, Null, Pointer, static}
 use Rattle.im_store.specs.Statics.{StaticObject}
 use Rattle.im_typed.specs.declared.expression.Access.{Access}

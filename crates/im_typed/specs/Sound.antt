@@ -6,7 +6,7 @@ use Rattle.im_num.specs.declared.values.CellValue.{CellValue}
 use Rattle.im_num.specs.declared.values.CellValue.TheVariants.{Number as ANumber, Null as ANull, Inside, Local}
 use Rattle.im_num.specs.Kinds.{IsOfKind}
 use Rattle.im_num.specs.Variables.{Variable}
-use Rattle.im_ctype.specs.declared.cell.Cell.{Cell}
+use Rattle.im_store.specs.im_ctype.declared.cell.Cell.{Cell}
 use Rattle.im_store.specs.Objects.{Object, static, Value, Number, Null, Pointer, Unset, Shape, shape_of, Store}
 use Rattle.im_store.specs.Statics.{StaticObject}
 use Rattle.im_store.specs.Outcomes.{Outcome, Undef, More, End}

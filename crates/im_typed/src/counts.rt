@@ -1,6 +1,6 @@
 ghost use Rattle.std.specs.Prelude.{◌≡◌, ◌-◌, ◌+◌, ◌*◌, ◌^◌, length, map, min, sum_by};
 ghost use Rattle.std.specs.Option.{option_map};
-ghost use Rattle.im_ctype.specs.Table.{Table};
+ghost use Rattle.im_store.specs.im_ctype.Table.{Table};
 ghost use Rattle.im_store.specs.Objects.{same_kind};
 ghost use Rattle.im_typed.specs.ProgramOf.{access_of, place_of, expr_of, piece_of, stmt_of, object_of, func_of};
 ghost use Rattle.im_typed.specs.Counts.{struct_cells, conversions_in, place_nodes, expr_nodes, piece_nodes, optional_nodes, stmt_nodes, func_nodes, func_need, slot_bytes};

@@ -1,5 +1,5 @@
 ghost use Rattle.std.specs.Prelude.{◌≡◌, map, IfOk};
-ghost use Rattle.im_ctype.specs.Table.{Table};
+ghost use Rattle.im_store.specs.im_ctype.Table.{Table};
 ghost use Rattle.im_typed.specs.ProgramOf.{func_of};
 ghost use Rattle.im_typed.specs.Frames.{size_in, sizes_in};
 

@@ -1,6 +1,6 @@
 use crate::statement::Stmt;
-use im_ctype::{TypeId, TypeTable};
 use im_num::Kind;
+use im_store::{TypeId, TypeTable};
 
 /// An object that a function or the program has.
 #[derive(Debug, Drop)]

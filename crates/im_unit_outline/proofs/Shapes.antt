@@ -4,7 +4,7 @@ use Rattle.im_ctree.specs.declared.specifier.Member as mb
 use Rattle.im_ctree.specs.declared.declarator.Declarator as dc
 use Rattle.im_ctree.specs.Tree as t
 use Rattle.im_ctree.specs.Shape.{declarator_of, core_of}
-use Rattle.im_rules.specs.Outline as o
+use Rattle.im_name_map.specs.im_rules.Outline as o
 use Rattle.im_tree_parts.specs.Lists.{specifiers_in, with_member, stars_in, suffixes_from}
 use Rattle.im_tree_parts.proofs.Shapes.{member_shape, declarator_shape}
 

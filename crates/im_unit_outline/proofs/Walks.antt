@@ -1,13 +1,13 @@
 -- One step more on the way through a unit.
 use Rattle.std.proofs.Common.{◌≡◌, ℕ, ◌+◌, ◌<◌, drop, get_or, Bool, true, false, ◌&&◌, ◌||◌, List, [], ◌∷◌, ◌++◌, Option, map, reverse, length, if◌then◌else◌, refl, sym, ap, ◌∙◌}
 use Rattle.std.proofs.lemmas.List.{reverse-append, drop_more}
-use Rattle.im_word.specs.Words.{Name}
+use Rattle.im_name_map.specs.im_word.Words.{Name}
 use Rattle.im_ctree.specs.Tree as t
 use Rattle.im_ctree.specs.Shape.{specifiers_of}
 use Rattle.im_ctree.specs.declared.specifier.Specifiers.{Specifiers, out-Specifiers}
-use Rattle.im_rules.specs.TypeTests.{same_name}
-use Rattle.im_rules.specs.Rules.{is_typedef}
-use Rattle.im_rules.specs.Outline as o
+use Rattle.im_name_map.specs.im_rules.TypeTests.{same_name}
+use Rattle.im_name_map.specs.im_rules.Rules.{is_typedef}
+use Rattle.im_name_map.specs.im_rules.Outline as o
 use Rattle.im_tree_parts.specs.Lists.{list_from}
 use Rattle.im_unit_outline.specs.Walked.{object_names, HasObjects, with_outlined, with_function, outlined_of, walk_of}
 use Rattle.im_unit_outline.specs.declared.item.Walk.{Walk}

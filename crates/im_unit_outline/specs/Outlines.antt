@@ -1,5 +1,5 @@
 -- The outline of a unit as a Rust value.
-use Rattle.im_rules.specs.Outline as o
+use Rattle.im_name_map.specs.im_rules.Outline as o
 use Rattle.im_unit_outline.specs.declared.unit.UnitOutline.{UnitOutline}
 
 abbrev pub outline_in : UnitOutline → o.Outline

@@ -1,11 +1,11 @@
 -- The outline as far as it is gone over, as Rust values.
 use Rattle.std.specs.Prelude.{◌≡◌, Bool, List, [], ◌∷◌, ◌++◌, map, reverse, if◌then◌else◌}
-use Rattle.im_word.specs.Words.{Name}
+use Rattle.im_name_map.specs.im_word.Words.{Name}
 use Rattle.im_ctree.specs.declared.declaration.InitDeclarator.{InitDeclarator}
 use Rattle.im_ctree.specs.Tree as t
 use Rattle.im_ctree.specs.Shape.{declarator_of, maybe_initializer_of}
-use Rattle.im_rules.specs.Outline as o
-use Rattle.im_rules.specs.Outline.{Walk, Outlined, is_initialised, with_declarator}
+use Rattle.im_name_map.specs.im_rules.Outline as o
+use Rattle.im_name_map.specs.im_rules.Outline.{Walk, Outlined, is_initialised, with_declarator}
 use Rattle.im_unit_outline.specs.declared.item.Sort.{Sort}
 use Rattle.im_unit_outline.specs.declared.item.Sort.TheVariants as s
 use Rattle.im_unit_outline.specs.declared.item.Item.{Item}

@@ -2,7 +2,7 @@
 ghost use Rattle.std.specs.Prelude.{◌≡◌};
 ghost use Rattle.im_ctree.specs.Tree as t;
 ghost use Rattle.im_ctree.specs.Shape.{declarator_of, core_of};
-ghost use Rattle.im_rules.specs.Outline as o;
+ghost use Rattle.im_name_map.specs.im_rules.Outline as o;
 ghost use Rattle.im_tree_parts.specs.Lists.{suffixes_from, with_suffix, stars_in};
 ghost use Rattle.im_unit_outline.specs.Walked.{nearest_of};
 

@@ -1,7 +1,7 @@
 //! Statics and bodies by their names.
 ghost use Rattle.std.specs.Prelude.{◌≡◌, ◌&&◌, ◌||◌, IfOk, List, map, [], ◌∷◌, ◌++◌};
-ghost use Rattle.im_word.specs.Words.{Name};
-ghost use Rattle.im_rules.specs.Outline as o;
+ghost use Rattle.im_name_map.specs.im_word.Words.{Name};
+ghost use Rattle.im_name_map.specs.im_rules.Outline as o;
 ghost use Rattle.im_unit_outline.specs.Walked.{outlined_of, sort_of, object_names, HasObjects};
 
 use crate::item::{Item, Sort};

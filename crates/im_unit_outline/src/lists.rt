@@ -1,6 +1,6 @@
 //! The member lists of a unit, in the order in which they end.
 ghost use Rattle.std.specs.Prelude.{◌≡◌, ◌++◌, ◌∷◌, [], IfOk};
-ghost use Rattle.im_rules.specs.Outline as o;
+ghost use Rattle.im_name_map.specs.im_rules.Outline as o;
 ghost use Rattle.im_tree_parts.specs.Lists.{list_from, specifier_in, members_from};
 ghost use Rattle.std.specs.Option.{option_map};
 

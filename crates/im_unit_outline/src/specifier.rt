@@ -1,8 +1,8 @@
 //! What specifiers say.
 ghost use Rattle.std.specs.Prelude.{◌≡◌, ◌||◌, MatchOption};
 ghost use Rattle.im_ctree.specs.Tree as t;
-ghost use Rattle.im_rules.specs.Rules as u;
-ghost use Rattle.im_rules.specs.Outline as o;
+ghost use Rattle.im_name_map.specs.im_rules.Rules as u;
+ghost use Rattle.im_name_map.specs.im_rules.Outline as o;
 ghost use Rattle.im_tree_parts.specs.Lists.{list_from, specifier_in};
 
 use im_ctree::{Specifier, SpecifierKind, SpecifierWord};

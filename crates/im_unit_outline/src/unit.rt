@@ -1,6 +1,6 @@
 ghost use Rattle.std.specs.Prelude.{◌≡◌, IfOk};
 ghost use Rattle.im_ctree.specs.Shape.{tree_of};
-ghost use Rattle.im_rules.specs.Outline as o;
+ghost use Rattle.im_name_map.specs.im_rules.Outline as o;
 ghost use Rattle.im_unit_outline.specs.Outlines.{outline_in};
 
 use crate::defined::{bodies_among, statics_among};

@@ -2,7 +2,7 @@
 ghost use Rattle.std.specs.Prelude.{◌≡◌, ◌&&◌, IfOk};
 ghost use Rattle.im_ctree.specs.Tree as t;
 ghost use Rattle.im_ctree.specs.Shape.{declarator_of, init_declarators_of, external_of, tree_of as unit_of};
-ghost use Rattle.im_rules.specs.Outline as o;
+ghost use Rattle.im_name_map.specs.im_rules.Outline as o;
 ghost use Rattle.im_tree_parts.specs.Lists.{list_from};
 ghost use Rattle.im_unit_outline.specs.Walked.{sort_of, outlined_of, walk_of, behind_one, with_outlined, with_function as with_function_name};
 

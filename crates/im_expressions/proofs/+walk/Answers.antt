@@ -3,9 +3,9 @@ use Rattle.std.proofs.lemmas.Result.{err_from_is_err_and}
 use Rattle.im_ctree.specs.declared.declarator.Declarator.{out-Declarator}
 use Rattle.im_ctree.specs.declared.declarator.SuffixKind as xk
 use Rattle.im_ctree.specs.Shape.{expression_of, type_name_of}
-use Rattle.im_rules.specs.Strings.{strings_in, strings_named}
-use Rattle.im_rules.specs.Breaks as b
-use Rattle.im_rules.specs.Declared.{with_stars, called}
+use Rattle.im_expression_parts.specs.im_rules.Strings.{strings_in, strings_named}
+use Rattle.im_expression_parts.specs.im_rules.Breaks as b
+use Rattle.im_expression_parts.specs.im_rules.Declared.{with_stars, called}
 use Rattle.im_tree_parts.specs.Lists.{expression_in, stars_in, with_suffix}
 use Rattle.im_type_specifiers.specs.Specified.{qualified_of}
 use Rattle.im_tree_parts.proofs.Shapes.{call_tree, type_name_shape, declarator_shape, parameter_shape, function_suffix}

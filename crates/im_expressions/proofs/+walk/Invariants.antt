@@ -1,5 +1,5 @@
 use Rattle.std.proofs.Common.{◌≡◌, false}
-use Rattle.im_rules.specs.Scopes.{at_file_scope}
+use Rattle.im_expression_parts.specs.im_rules.Scopes.{at_file_scope}
 use Rattle.im_scopes.specs.Shape.{scopes_of}
 use Rattle.im_expression_parts.proofs.Arguments.{TermsReached}
 use Rattle.im_expression_parts.proofs.SuffixesBehind.{GivenReached}

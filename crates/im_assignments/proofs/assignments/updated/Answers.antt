@@ -3,7 +3,7 @@ use Rattle.im_ctype.specs.Table.{structs_of}
 use Rattle.im_ctype.specs.Types.{CType}
 use Rattle.im_typed.specs.Program.{Expr}
 use Rattle.im_typed.specs.ProgramOf.{place_of}
-use Rattle.im_rules.specs.Conversions.{updated}
+use Rattle.im_pointers.specs.im_rules.Conversions.{updated}
 use Rattle.im_types.specs.Shape.{type_of}
 use Rattle.im_operands.specs.Shape.{value_in}
 use Rattle.im_assignments.proofs.NoIntegers.{updated-else}

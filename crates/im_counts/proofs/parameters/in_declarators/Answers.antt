@@ -2,7 +2,7 @@ use Rattle.std.proofs.Common.{◌+◌, Some, None, List, drop, sym, subst}
 use Rattle.std.proofs.lemmas.List.{drop_all}
 use Rattle.im_ctree.specs.Shape.{declarator_of, init_declarators_of}
 use Rattle.im_ctree.specs.declared.declaration.InitDeclarator.{InitDeclarator}
-use Rattle.im_rules.specs.Outline.{nearest}
+use Rattle.im_unit_outline.specs.im_rules.Outline.{nearest}
 use Rattle.im_rule_limits.specs.Limits.{counted_of, counts_declared}
 use Rattle.im_counts.specs.Counts.{IsOver}
 use Rattle.im_counts.proofs.Over.{over_here, over_behind, over_none, next}

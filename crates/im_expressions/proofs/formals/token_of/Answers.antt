@@ -1,6 +1,6 @@
 use Rattle.std.proofs.Common.{ap, sym}
 use Rattle.im_ctree.specs.Tree as t
-use Rattle.im_rules.specs.Breaks.{parameter_token}
+use Rattle.im_expression_parts.specs.im_rules.Breaks.{parameter_token}
 use Rattle.im_tree_parts.proofs.Shapes.{declarator_shape}
 use Rattle.im_expressions.proofs.formals.token_of.Goals as goal
 

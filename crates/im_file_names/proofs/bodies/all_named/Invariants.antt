@@ -1,6 +1,6 @@
 use Rattle.std.proofs.Common.{◌≡◌, drop}
-use Rattle.im_rules.specs.Rules as u
-use Rattle.im_tree_parts.specs.Lists.{parameters_from}
+use Rattle.im_declarators.specs.im_rules.Rules as u
+use Rattle.im_declarators.specs.im_tree_parts.Lists.{parameters_from}
 use Rattle.im_file_names.proofs.bodies.all_named.Given as goal
 
 abbrev pub invariant-loop-parameter : goal.invariant-loop-parameter

@@ -1,6 +1,6 @@
 use Rattle.std.proofs.Common.{◌≡◌, ap, sym, ◌∙◌}
 use Rattle.im_ctype.specs.Types.{function}
-use Rattle.im_rules.specs.Rules as u
+use Rattle.im_declarators.specs.im_rules.Rules as u
 use Rattle.im_types.specs.Shape.{type_of, types_in}
 use Rattle.im_types.proofs.Rows.{function-of}
 use Rattle.im_file_names.proofs.bodies.takes_nothing.Goals as goal

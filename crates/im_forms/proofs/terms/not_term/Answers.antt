@@ -1,7 +1,7 @@
 use Rattle.std.proofs.Common.{refl, sym, ap, inl, ◌∙◌}
-use Rattle.im_typed.specs.Program.{Not}
-use Rattle.im_rules.specs.Conversions as cv
-use Rattle.im_rules.specs.Terms as r
+use Rattle.im_assignments.specs.im_typed.Program.{Not}
+use Rattle.im_assignments.specs.im_rules.Conversions as cv
+use Rattle.im_assignments.specs.im_rules.Terms as r
 use Rattle.im_forms.proofs.terms.not_term.Goals as goal
 
 pub returns-then-not-is_scalar_term : goal.returns-then-not-is_scalar_term

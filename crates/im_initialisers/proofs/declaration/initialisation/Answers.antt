@@ -1,5 +1,5 @@
 use Rattle.std.proofs.Common.{sym}
-use Rattle.im_rules.specs.Statements.{forgets}
+use Rattle.im_expressions.specs.im_rules.Statements.{forgets}
 use Rattle.im_expression_parts.proofs.Places.{behind_none}
 use Rattle.im_initialisers.proofs.declaration.initialisation.Goals as goal
 

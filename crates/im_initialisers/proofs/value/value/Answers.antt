@@ -7,7 +7,7 @@ use Rattle.im_items.specs.declared.item.Item as ri
 use Rattle.im_items.specs.declared.item.Source.TheVariants as s
 use Rattle.im_operands.specs.Shape.{term_in}
 use Rattle.im_tree_parts.specs.Lists.{expression_in}
-use Rattle.im_rules.specs.Initialisers as n
+use Rattle.im_expressions.specs.im_rules.Initialisers as n
 use Rattle.im_initialisers.proofs.Put.{value_fault, unfit, value_put}
 use Rattle.im_initialisers.proofs.value.value.Goals as goal
 

@@ -1,6 +1,6 @@
 use Rattle.std.proofs.Common.{◌≡◌, ◌++◌, drop}
 use Rattle.im_ctype.specs.Table.{Table}
-use Rattle.im_rules.specs.Initialisers as n
+use Rattle.im_conversions.specs.im_rules.Initialisers as n
 use Rattle.im_types.specs.Shape.{type_of}
 use Rattle.im_items.specs.Shape.{items_in}
 use Rattle.im_items.proofs.bytes.push_bytes.Given as goal

@@ -2,7 +2,7 @@ use Rattle.std.proofs.Common.{◌≡◌, map}
 use Rattle.im_ctype.specs.Table.{structs_of}
 use Rattle.im_typed.specs.ProgramOf as q
 use Rattle.im_typed.specs.declared.statement.Piece as rp
-use Rattle.im_rules.specs.Initialisers as n
+use Rattle.im_conversions.specs.im_rules.Initialisers as n
 use Rattle.im_items.specs.Shape.{items_in}
 use Rattle.im_items.proofs.piece.pieces_of.Given as goal
 

@@ -1,7 +1,7 @@
 use Rattle.std.proofs.Common.{sym, ap, ◌∙◌, refl}
 use Rattle.std.proofs.lemmas.Result.{err_from_is_err_and}
 use Rattle.im_ctree.specs.Shape.{maybe_initializer_of}
-use Rattle.im_ctype.specs.Types.{is_complete}
+use Rattle.im_initialisers.specs.im_ctype.Types.{is_complete}
 use Rattle.im_rules.specs.Initialisers.{completed}
 use Rattle.im_rules.specs.Outline.{is_initialised}
 use Rattle.im_rules.specs.Rules.{rule_6_absent}

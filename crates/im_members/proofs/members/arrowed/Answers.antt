@@ -1,9 +1,9 @@
 use Rattle.std.proofs.Common.{◌∷◌, [], subst}
 use Rattle.im_ctype.specs.Table.{structs_of}
-use Rattle.im_rules.specs.Conversions.{arrowed}
-use Rattle.im_rules.specs.Demands.{arrow_asks, asks}
-use Rattle.im_rules.specs.Terms as r
-use Rattle.im_rules.specs.Terms.{value, value_of}
+use Rattle.im_conversions.specs.im_rules.Conversions.{arrowed}
+use Rattle.im_conversions.specs.im_rules.Demands.{arrow_asks, asks}
+use Rattle.im_conversions.specs.im_rules.Terms as r
+use Rattle.im_conversions.specs.im_rules.Terms.{value, value_of}
 use Rattle.im_operands.specs.Answers.{IsMade}
 use Rattle.im_operands.specs.Shape.{term_in}
 use Rattle.im_members.proofs.Rule.{as-value}

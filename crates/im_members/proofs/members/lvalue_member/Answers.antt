@@ -1,7 +1,7 @@
 use Rattle.std.proofs.Common.{◌∙◌}
 use Rattle.im_ctype.specs.Table.{structs_of}
-use Rattle.im_rules.specs.Rules.{rule_21_dot}
-use Rattle.im_rules.specs.Terms.{lvalue, operand_of}
+use Rattle.im_conversions.specs.im_rules.Rules.{rule_21_dot}
+use Rattle.im_conversions.specs.im_rules.Terms.{lvalue, operand_of}
 use Rattle.im_typed.specs.ProgramOf.{place_of}
 use Rattle.im_types.specs.Shape.{type_of}
 use Rattle.im_members.proofs.Made.{at_place, not_met}

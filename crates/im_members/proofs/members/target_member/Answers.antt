@@ -1,7 +1,7 @@
 use Rattle.im_ctype.specs.Table.{structs_of}
 use Rattle.im_ctype.specs.Types.{pointer}
-use Rattle.im_rules.specs.Rules.{rule_21_arrow}
-use Rattle.im_rules.specs.Terms.{value, operand_of}
+use Rattle.im_conversions.specs.im_rules.Rules.{rule_21_arrow}
+use Rattle.im_conversions.specs.im_rules.Terms.{value, operand_of}
 use Rattle.im_typed.specs.ProgramOf.{expr_of}
 use Rattle.im_types.specs.Shape.{type_of}
 use Rattle.im_members.proofs.Made.{not_met}

@@ -1,7 +1,7 @@
 use Rattle.std.proofs.Common.{◌+◌, ◌&&◌, drop, ap, sym, ◌∙◌}
 use Rattle.std.proofs.lemmas.List.{drop_all}
 use Rattle.im_types.specs.Shape.{types_in}
-use Rattle.im_rules.specs.Demands as d
+use Rattle.im_conversions.specs.im_rules.Demands as d
 use Rattle.im_name_forms.specs.Lists.{terms_in}
 use Rattle.im_name_forms.proofs.arguments.all_fit.Goals as goal
 

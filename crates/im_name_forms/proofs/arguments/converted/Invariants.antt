@@ -1,7 +1,7 @@
 use Rattle.std.proofs.Common.{◌≡◌, take, length}
 use Rattle.im_ctype.specs.Table.{structs_of}
 use Rattle.im_types.specs.Shape.{types_in}
-use Rattle.im_rules.specs.Conversions as c
+use Rattle.im_conversions.specs.im_rules.Conversions as c
 use Rattle.im_name_forms.specs.Lists.{exprs_from, terms_in}
 use Rattle.im_name_forms.proofs.arguments.converted.Given as goal
 

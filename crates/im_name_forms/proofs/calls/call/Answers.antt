@@ -1,7 +1,7 @@
 use Rattle.std.proofs.Common.{ap, ◌∙◌}
 use Rattle.im_types.specs.Shape.{type_of}
 use Rattle.im_typed.specs.Program as p
-use Rattle.im_rules.specs.Terms.{Value}
+use Rattle.im_conversions.specs.im_rules.Terms.{Value}
 use Rattle.im_name_forms.proofs.Rows.{call-of}
 use Rattle.im_name_forms.proofs.calls.call.Goals as goal
 

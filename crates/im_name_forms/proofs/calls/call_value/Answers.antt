@@ -1,8 +1,8 @@
 use Rattle.std.proofs.Common.{◌≡◌, IfOk, subst}
 use Rattle.im_ctype.specs.Types.{CType}
 use Rattle.im_typed.specs.Program as p
-use Rattle.im_rules.specs.Conversions.{call_by}
-use Rattle.im_rules.specs.Terms.{Value}
+use Rattle.im_conversions.specs.im_rules.Conversions.{call_by}
+use Rattle.im_conversions.specs.im_rules.Terms.{Value}
 use Rattle.im_scopes.specs.Shape.{callee_of}
 use Rattle.im_operands.specs.Shape.{value_in}
 use Rattle.im_name_forms.proofs.calls.call_value.Goals as goal

@@ -2,7 +2,7 @@ use Rattle.std.proofs.Common.{Bool, length, ap, arith, inl, inr, refl, sym, â—Œâ
 use Rattle.im_ctype.specs.Types.{function}
 use Rattle.im_types.specs.Shape.{type_of, types_in}
 use Rattle.im_scopes.specs.Shape.{callee_of}
-use Rattle.im_rules.specs.Terms as r
+use Rattle.im_conversions.specs.im_rules.Terms as r
 use Rattle.im_name_forms.proofs.calls.function_term.Goals as goal
 
 pub all_fit-requires : goal.all_fit-requires

@@ -1,7 +1,7 @@
 use Rattle.std.proofs.Common.{sym, ap, ◌∙◌}
 use Rattle.im_ctype.specs.Types.{pointer, are_like_pointers}
-use Rattle.im_rules.specs.Rules.{value_type}
-use Rattle.im_rules.specs.TypeTests.{decayed}
+use Rattle.im_constancy.specs.im_rules.Rules.{value_type}
+use Rattle.im_constancy.specs.im_rules.TypeTests.{decayed}
 use Rattle.im_types.specs.Shape.{type_of}
 use Rattle.im_operands.specs.Shape.{seen}
 use Rattle.im_operands.proofs.asked.are_like_pointers.Goals as goal

@@ -1,6 +1,6 @@
 use Rattle.std.proofs.Common.{◌≡◌}
 use Rattle.im_ctype.specs.Table.{members_in, types_of}
-use Rattle.im_rules.specs.Rules as u
+use Rattle.im_constancy.specs.im_rules.Rules as u
 use Rattle.im_operands.proofs.Frees.{free_from}
 use Rattle.im_operands.proofs.free.are_free.Given as goal
 

@@ -3,7 +3,7 @@ use Rattle.im_ctype.specs.declared.member.Member as rust
 use Rattle.im_ctype.specs.Table.{members_in, types_of}
 use Rattle.im_ctype.specs.Types.{Member}
 use Rattle.im_ctype.proofs.Steps.{plain-members}
-use Rattle.im_rules.specs.Rules as u
+use Rattle.im_constancy.specs.im_rules.Rules as u
 use Rattle.im_operands.proofs.free.is_struct_free.Goals as goal
 
 pub returns : goal.returns

@@ -1,6 +1,6 @@
 use Rattle.std.proofs.Common.{sym, ap, ◌∙◌}
 use Rattle.im_typed.specs.ProgramOf.{expr_of}
-use Rattle.im_rules.specs.Terms.{is_zero}
+use Rattle.im_constancy.specs.im_rules.Terms.{is_zero}
 use Rattle.im_constancy.proofs.ToldValues.{told-value}
 use Rattle.im_operands.proofs.operand.is_null.Goals as goal
 

@@ -1,6 +1,6 @@
 use Rattle.std.proofs.Common.{ap, ◌∙◌}
-use Rattle.im_rules.specs.Rules as u
-use Rattle.im_rules.specs.Terms.{operand_of}
+use Rattle.im_constancy.specs.im_rules.Rules as u
+use Rattle.im_constancy.specs.im_rules.Terms.{operand_of}
 use Rattle.im_operands.specs.Shape.{term_in, seen}
 use Rattle.im_operands.proofs.rules.are_alike.Goals as goal
 

@@ -1,5 +1,5 @@
 use Rattle.std.proofs.Common.{ap, ◌∙◌}
-use Rattle.im_rules.specs.Rules as u
+use Rattle.im_constancy.specs.im_rules.Rules as u
 use Rattle.im_types.specs.Shape.{type_of}
 use Rattle.im_operands.proofs.rules.fits.Goals as goal
 

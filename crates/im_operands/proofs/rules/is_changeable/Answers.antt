@@ -1,7 +1,7 @@
 use Rattle.std.proofs.Common.{not, ◌&&◌, Bool, List, ap, ◌∙◌}
 use Rattle.im_ctype.specs.Table.{structs_of}
 use Rattle.im_ctype.specs.Types.{is_array}
-use Rattle.im_rules.specs.Rules as u
+use Rattle.im_constancy.specs.im_rules.Rules as u
 use Rattle.im_operands.specs.Shape.{seen}
 use Rattle.im_operands.proofs.rules.is_changeable.Goals as goal
 

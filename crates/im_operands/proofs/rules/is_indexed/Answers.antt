@@ -1,7 +1,7 @@
 use Rattle.std.proofs.Common.{ap, ◌∙◌}
 use Rattle.im_ctype.specs.Table.{structs_of}
-use Rattle.im_rules.specs.Rules as u
-use Rattle.im_rules.specs.Terms.{operand_of}
+use Rattle.im_constancy.specs.im_rules.Rules as u
+use Rattle.im_constancy.specs.im_rules.Terms.{operand_of}
 use Rattle.im_operands.specs.Shape.{term_in, seen}
 use Rattle.im_operands.proofs.rules.is_indexed.Goals as goal
 

@@ -1,5 +1,5 @@
 use Rattle.std.proofs.Common.{ap}
-use Rattle.im_rules.specs.Rules as u
+use Rattle.im_constancy.specs.im_rules.Rules as u
 use Rattle.im_operands.proofs.rules.is_lvalue.Goals as goal
 
 pub returns : goal.returns

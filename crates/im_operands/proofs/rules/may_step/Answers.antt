@@ -1,6 +1,6 @@
 use Rattle.std.proofs.Common.{ap, ◌∙◌}
 use Rattle.im_ctype.specs.Table.{structs_of}
-use Rattle.im_rules.specs.Rules as u
+use Rattle.im_constancy.specs.im_rules.Rules as u
 use Rattle.im_operands.proofs.rules.may_step.Goals as goal
 
 pub returns : goal.returns

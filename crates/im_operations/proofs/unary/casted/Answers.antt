@@ -1,7 +1,7 @@
 use Rattle.std.proofs.Common.{◌≡◌, IfOk, sym, subst}
 use Rattle.im_ctype.specs.Types.{CType}
-use Rattle.im_rules.specs.Conversions.{casted}
-use Rattle.im_rules.specs.Terms.{Value}
+use Rattle.im_pointers.specs.im_rules.Conversions.{casted}
+use Rattle.im_pointers.specs.im_rules.Terms.{Value}
 use Rattle.im_types.specs.Shape.{type_of}
 use Rattle.im_operands.specs.Shape.{value_in}
 use Rattle.im_operations.proofs.NoIntegers.{casted-else}

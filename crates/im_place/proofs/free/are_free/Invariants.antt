@@ -1,5 +1,5 @@
 use Rattle.std.proofs.Common.{◌≡◌, drop}
-use Rattle.im_rules.specs.Rules.{members_free}
+use Rattle.im_scopes.specs.im_rules.Rules.{members_free}
 use Rattle.im_place.specs.Fields.{fields_of}
 use Rattle.im_place.proofs.free.are_free.Given as goal
 

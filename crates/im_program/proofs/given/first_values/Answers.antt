@@ -2,8 +2,8 @@ use Rattle.std.proofs.Common.{◌∙◌, ap, sym, refl, length}
 use Rattle.std.proofs.lemmas.Option.{slice_get_read, slice_get_past}
 use Rattle.im_ctype.specs.Table.{structs_of}
 use Rattle.im_types.specs.Shape.{type_of}
-use Rattle.im_rules.specs.Outline.{place_in}
-use Rattle.im_rules.specs.TypedUnit.{values_or_zero, cells_in}
+use Rattle.im_defined.specs.im_rules.Outline.{place_in}
+use Rattle.im_defined.specs.im_rules.TypedUnit.{values_or_zero, cells_in}
 use Rattle.im_defined.specs.Values.{no_types}
 use Rattle.im_defined.proofs.Constants.{same_values}
 use Rattle.im_program.proofs.Firsts.{on_ok, none_given, one_given}

@@ -1,6 +1,6 @@
 use Rattle.std.proofs.Common.{◌++◌, ◌∷◌, [], ◌∙◌, ap, sym, List}
 use Rattle.std.proofs.lemmas.List.{take_all}
-use Rattle.im_word.specs.Words.{Name}
+use Rattle.im_defined.specs.im_word.Words.{Name}
 use Rattle.im_program.specs.Given.{names_given}
 use Rattle.im_program.proofs.Firsts.{names_more}
 use Rattle.im_program.proofs.given.names_of.Goals as goal

@@ -1,7 +1,7 @@
 use Rattle.std.proofs.Common.{◌≡◌, map, take}
 use Rattle.im_ctype.specs.Table.{IsGrown, structs_of}
-use Rattle.im_rules.specs.FileScope.{FilePlace}
-use Rattle.im_rules.specs.TypedUnit.{static_named}
+use Rattle.im_defined.specs.im_rules.FileScope.{FilePlace}
+use Rattle.im_defined.specs.im_rules.TypedUnit.{static_named}
 use Rattle.im_scopes.specs.Shape.{scopes_of}
 use Rattle.im_defined.specs.Values.{first_values_in}
 use Rattle.im_program.specs.Known.{AreStaticsOf}

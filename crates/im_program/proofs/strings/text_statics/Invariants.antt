@@ -1,6 +1,6 @@
 use Rattle.std.proofs.Common.{◌≡◌, ◌+◌, take}
 use Rattle.im_ctype.specs.Table.{IsGrown, structs_of}
-use Rattle.im_rules.specs.TypedUnit.{string_statics}
+use Rattle.im_defined.specs.im_rules.TypedUnit.{string_statics}
 use Rattle.im_file_place.specs.Files.{bytes_of}
 use Rattle.im_program.specs.Known.{AreStaticsOf}
 use Rattle.im_program.proofs.strings.text_statics.Given as goal

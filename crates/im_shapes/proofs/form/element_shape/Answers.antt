@@ -1,7 +1,7 @@
 use Rattle.std.proofs.Common.{List, sym, ap, ◌∙◌}
 use Rattle.im_ctree.specs.declared.declaration.Initializer as ini
 use Rattle.im_ctree.specs.Shape.{initializer_of}
-use Rattle.im_rules.specs.Initialisers as n
+use Rattle.im_stop.specs.im_rules.Initialisers as n
 use Rattle.im_tree_parts.specs.Lists.{initializers_from}
 use Rattle.im_tree_parts.proofs.Shapes.{list_tree}
 use Rattle.im_types.specs.Shape.{type_of}

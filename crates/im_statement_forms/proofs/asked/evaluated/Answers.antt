@@ -1,6 +1,6 @@
 use Rattle.std.proofs.Common.{[]}
 use Rattle.std.proofs.lemmas.Result.{err_from_is_err_and}
-use Rattle.im_tree_parts.specs.Lists.{expression_in}
+use Rattle.im_locals.specs.im_tree_parts.Lists.{expression_in}
 use Rattle.im_statement_forms.proofs.Asking.{asked_inside}
 use Rattle.im_statement_forms.proofs.Valuing.{evaluated_as}
 use Rattle.im_statement_forms.proofs.asked.evaluated.Goals as goal

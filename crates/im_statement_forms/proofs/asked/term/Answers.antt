@@ -1,5 +1,5 @@
-use Rattle.im_rules.specs.Strings.{strings_in}
-use Rattle.im_tree_parts.specs.Lists.{expression_in}
+use Rattle.im_locals.specs.im_rules.Strings.{strings_in}
+use Rattle.im_locals.specs.im_tree_parts.Lists.{expression_in}
 use Rattle.im_statement_forms.proofs.Behind.{read_past}
 use Rattle.im_statement_forms.proofs.asked.term.Goals as goal
 

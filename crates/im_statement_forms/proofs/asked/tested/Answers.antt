@@ -1,7 +1,7 @@
 use Rattle.std.proofs.Common.{inl, refl, sym}
 use Rattle.std.proofs.lemmas.Result.{err_from_is_err_and}
-use Rattle.im_rules.specs.Statements.{condition_asks}
-use Rattle.im_tree_parts.specs.Lists.{expression_in}
+use Rattle.im_locals.specs.im_rules.Statements.{condition_asks}
+use Rattle.im_locals.specs.im_tree_parts.Lists.{expression_in}
 use Rattle.im_statement_forms.specs.Asked.{of_it}
 use Rattle.im_statement_forms.proofs.Asking.{asked_inside}
 use Rattle.im_statement_forms.proofs.Valuing.{evaluated_as}

@@ -1,7 +1,7 @@
 use Rattle.std.proofs.Common.{refl}
 use Rattle.std.proofs.lemmas.Result.{MatchResult-weaker}
-use Rattle.im_rules.specs.Statements.{condition_asks}
-use Rattle.im_tree_parts.specs.Lists.{expression_in}
+use Rattle.im_locals.specs.im_rules.Statements.{condition_asks}
+use Rattle.im_locals.specs.im_tree_parts.Lists.{expression_in}
 use Rattle.im_statement_forms.proofs.Begun.{tests_by, tests_none, maybe_fault}
 use Rattle.im_statement_forms.proofs.heads.condition.Goals as goal
 

@@ -1,6 +1,6 @@
 use Rattle.std.proofs.Common.{[], refl}
 use Rattle.std.proofs.lemmas.Result.{MatchResult-weaker}
-use Rattle.im_tree_parts.specs.Lists.{expression_in}
+use Rattle.im_locals.specs.im_tree_parts.Lists.{expression_in}
 use Rattle.im_statement_forms.proofs.Begun.{steps_by, steps_none, maybe_fault}
 use Rattle.im_statement_forms.proofs.heads.step.Goals as goal
 

@@ -1,8 +1,8 @@
 use Rattle.std.proofs.Common.{ap, ◌∙◌}
 use Rattle.std.proofs.lemmas.Result.{err_from_is_err_and}
 use Rattle.im_num.specs.Kinds.{wrap}
-use Rattle.im_rules.specs.Statements.{case_asks}
-use Rattle.im_tree_parts.specs.Lists.{expression_in}
+use Rattle.im_locals.specs.im_rules.Statements.{case_asks}
+use Rattle.im_locals.specs.im_tree_parts.Lists.{expression_in}
 use Rattle.im_operands.specs.Shape.{term_in}
 use Rattle.im_statement_forms.specs.Asked.{of_it}
 use Rattle.im_statement_forms.specs.Labelling.{labels_of}

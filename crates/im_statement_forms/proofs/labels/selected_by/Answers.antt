@@ -1,10 +1,10 @@
 use Rattle.std.proofs.Common.{ap, inl, refl, sym, ◌∙◌}
 use Rattle.std.proofs.lemmas.Result.{err_from_is_err_and}
 use Rattle.im_ctype.specs.Table.{structs_of}
-use Rattle.im_rules.specs.Conversions.{as_integer, promoted, integer_of}
-use Rattle.im_rules.specs.Statements.{switch_asks}
-use Rattle.im_rules.specs.Terms as r
-use Rattle.im_tree_parts.specs.Lists.{expression_in}
+use Rattle.im_locals.specs.im_rules.Conversions.{as_integer, promoted, integer_of}
+use Rattle.im_locals.specs.im_rules.Statements.{switch_asks}
+use Rattle.im_locals.specs.im_rules.Terms as r
+use Rattle.im_locals.specs.im_tree_parts.Lists.{expression_in}
 use Rattle.im_operands.specs.Shape.{term_in}
 use Rattle.im_statement_forms.specs.Asked.{of_it}
 use Rattle.im_statement_forms.proofs.Asking.{asked_inside}

@@ -1,5 +1,5 @@
 use Rattle.std.proofs.lemmas.Result.{err_from_is_err_and}
-use Rattle.im_tree_parts.specs.Lists.{expression_in}
+use Rattle.im_locals.specs.im_tree_parts.Lists.{expression_in}
 use Rattle.im_statement_forms.proofs.Alone.{nothing_done, evaluated_done, evaluated_fault}
 use Rattle.im_statement_forms.proofs.leaves.expression_statement.Goals as goal
 

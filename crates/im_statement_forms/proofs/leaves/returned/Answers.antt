@@ -3,11 +3,11 @@ use Rattle.std.proofs.lemmas.Result.{err_from_is_err_and}
 use Rattle.im_types.specs.Shape.{type_of}
 use Rattle.im_ctype.specs.Table.{structs_of}
 use Rattle.im_ctype.specs.Types.{is_void}
-use Rattle.im_rules.specs.Conversions.{as_type}
-use Rattle.im_rules.specs.Rules.{rule_17}
-use Rattle.im_rules.specs.Statements.{return_value_asks}
-use Rattle.im_rules.specs.Terms as r
-use Rattle.im_tree_parts.specs.Lists.{expression_in}
+use Rattle.im_locals.specs.im_rules.Conversions.{as_type}
+use Rattle.im_locals.specs.im_rules.Rules.{rule_17}
+use Rattle.im_locals.specs.im_rules.Statements.{return_value_asks}
+use Rattle.im_locals.specs.im_rules.Terms as r
+use Rattle.im_locals.specs.im_tree_parts.Lists.{expression_in}
 use Rattle.im_operands.specs.Shape.{term_in}
 use Rattle.im_statement_forms.specs.Asked.{of_it}
 use Rattle.im_statement_forms.proofs.Asking.{asked_inside}

@@ -1,7 +1,7 @@
 use Rattle.std.proofs.Common.{List, map, ap, ◌∙◌}
 use Rattle.im_ctype.specs.declared.cell.Cell.{Cell}
 use Rattle.im_ctype.specs.Table.{structs_of}
-use Rattle.im_rules.specs.TypedUnit.{cells_in}
+use Rattle.im_items.specs.im_rules.TypedUnit.{cells_in}
 use Rattle.im_types.specs.Shape.{type_of}
 use Rattle.im_items.specs.Shape.{items_in}
 use Rattle.im_static_values.specs.declared.given.Given.{Given}

@@ -1,7 +1,7 @@
 use Rattle.std.proofs.Common.{ap, ◌∙◌}
 use Rattle.std.specs.Option.{option_map}
 use Rattle.im_typed.specs.ProgramOf.{first_of}
-use Rattle.im_rules.specs.StaticValues.{value_or, zero_of}
+use Rattle.im_items.specs.im_rules.StaticValues.{value_or, zero_of}
 use Rattle.im_static_values.proofs.firsts.value_of.Goals as goal
 
 pub returns-in-None : goal.returns-in-None

@@ -3,7 +3,7 @@ use Rattle.std.specs.Option.{option_map}
 use Rattle.indexmap.specs.IndexMap.{get}
 use Rattle.im_ctype.specs.declared.cell.Cell.{Cell}
 use Rattle.im_typed.specs.ProgramOf.{first_of}
-use Rattle.im_rules.specs.StaticValues.{value_or, zero_of}
+use Rattle.im_items.specs.im_rules.StaticValues.{value_or, zero_of}
 use Rattle.im_static_values.proofs.Walks.{one_more, all_done}
 use Rattle.im_static_values.proofs.firsts.values_of.Goals as goal
 

@@ -1,7 +1,7 @@
 use Rattle.std.proofs.Common.{◌≡◌, ◌∙◌, None, IfOk, List, map, subst}
 use Rattle.im_ctype.specs.declared.cell.Cell.{Cell}
 use Rattle.im_typed.specs.ProgramOf.{first_of}
-use Rattle.im_rules.specs.TypedUnit.{values_or_zero}
+use Rattle.im_items.specs.im_rules.TypedUnit.{values_or_zero}
 use Rattle.im_static_values.proofs.firsts.zero_values.Goals as goal
 
 pub returns : goal.returns

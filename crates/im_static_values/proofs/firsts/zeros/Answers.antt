@@ -1,7 +1,7 @@
 use Rattle.std.proofs.Common.{arith, ◌≤◌, length}
 use Rattle.im_ctype.specs.declared.cell.Cell.{Cell}
 use Rattle.im_typed.specs.ProgramOf.{first_of}
-use Rattle.im_rules.specs.StaticValues.{zero_of}
+use Rattle.im_items.specs.im_rules.StaticValues.{zero_of}
 use Rattle.im_static_values.proofs.Walks.{one_more, all_done}
 use Rattle.im_static_values.proofs.firsts.zeros.Goals as goal
 

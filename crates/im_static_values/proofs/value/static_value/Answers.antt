@@ -2,8 +2,8 @@ use Rattle.std.proofs.Common.{◌≡◌, Option, None, IfOk, ap, sym, subst, ◌
 use Rattle.std.specs.Option.{option_map}
 use Rattle.im_store.specs.Objects.{Value}
 use Rattle.im_typed.specs.ProgramOf.{expr_of, first_of}
-use Rattle.im_rules.specs.Constants.{constant_value}
-use Rattle.im_rules.specs.StaticValues.{address_of, number_or, pointer_to}
+use Rattle.im_items.specs.im_rules.Constants.{constant_value}
+use Rattle.im_items.specs.im_rules.StaticValues.{address_of, number_or, pointer_to}
 use Rattle.im_static_values.proofs.Constants.{number_or_place}
 use Rattle.im_static_values.proofs.value.static_value.Goals as goal
 

@@ -1,12 +1,12 @@
 use Rattle.std.proofs.Common.{◌≡◌, ◌+◌, ◌++◌, false, List, OnOk, ap, sym, subst, ◌∙◌, arith}
-use Rattle.im_word.specs.Words.{Name}
+use Rattle.im_given_strings.specs.im_word.Words.{Name}
 use Rattle.im_ctree.specs.Tree as tree
 use Rattle.im_ctree.specs.declared.declaration.Initializer as ini
 use Rattle.im_ctree.specs.Shape.{initializer_of}
 use Rattle.im_ctype.specs.Table.{structs_of}
 use Rattle.im_ctype.specs.Types.{members_of}
-use Rattle.im_rules.specs.Initialisers.{in_order, strings_given, strings_among}
-use Rattle.im_rules.specs.Rules.{is_string_for}
+use Rattle.im_given_strings.specs.im_rules.Initialisers.{in_order, strings_given, strings_among}
+use Rattle.im_given_strings.specs.im_rules.Rules.{is_string_for}
 use Rattle.im_tree_parts.specs.Lists.{expression_in, initializers_from}
 use Rattle.im_tree_parts.proofs.Shapes.{list_tree}
 use Rattle.im_types.specs.Shape.{type_of}

@@ -1,5 +1,5 @@
 use Rattle.std.proofs.Common.{◌≡◌, length, arith}
-use Rattle.im_rules.specs.Rules.{named_in, keywords_in}
+use Rattle.im_scopes.specs.im_rules.Rules.{named_in, keywords_in}
 use Rattle.im_tree_parts.specs.Lists.{list_from, specifier_in}
 use Rattle.im_type_specifiers.specs.Specified.{at_place}
 use Rattle.im_type_specifiers.proofs.Made.{name_alone}

@@ -1,5 +1,5 @@
 use Rattle.std.proofs.Common.{◌≡◌, drop}
-use Rattle.im_rules.specs.Rules.{named_in}
+use Rattle.im_scopes.specs.im_rules.Rules.{named_in}
 use Rattle.im_tree_parts.specs.Lists.{list_from}
 use Rattle.im_type_specifiers.proofs.specified.first_named.Given as goal
 

@@ -1,6 +1,6 @@
 use Rattle.std.proofs.Common.{◌≡◌, length, arith}
-use Rattle.im_rules.specs.Rules.{storage_in}
-use Rattle.im_rules.specs.Declared.{type_of_specifiers}
+use Rattle.im_scopes.specs.im_rules.Rules.{storage_in}
+use Rattle.im_scopes.specs.im_rules.Declared.{type_of_specifiers}
 use Rattle.im_tree_parts.specs.Lists.{list_from}
 use Rattle.im_type_specifiers.specs.Specified.{at_place}
 use Rattle.im_type_specifiers.proofs.Made.{elsewhere}

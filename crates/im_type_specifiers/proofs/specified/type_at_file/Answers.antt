@@ -1,6 +1,6 @@
 use Rattle.std.proofs.Common.{ap, ◌∙◌}
-use Rattle.im_rules.specs.Declared as d
-use Rattle.im_rules.specs.Declared.{Qualified}
+use Rattle.im_scopes.specs.im_rules.Declared as d
+use Rattle.im_scopes.specs.im_rules.Declared.{Qualified}
 use Rattle.im_tree_parts.specs.Lists.{list_from}
 use Rattle.im_type_specifiers.specs.Specified.{qualified_of}
 use Rattle.im_type_specifiers.proofs.specified.type_at_file.Goals as goal

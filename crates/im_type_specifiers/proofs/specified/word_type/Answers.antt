@@ -1,6 +1,6 @@
 use Rattle.std.proofs.Common.{false, refl, ap, ◌∙◌}
 use Rattle.im_ctype.specs.Types.{CType}
-use Rattle.im_rules.specs.Declared.{Qualified}
+use Rattle.im_scopes.specs.im_rules.Declared.{Qualified}
 use Rattle.im_tree_parts.specs.Lists.{list_from}
 use Rattle.im_type_specifiers.specs.Lines.{word_type_of}
 use Rattle.im_type_specifiers.proofs.Made.{made_of_words, refused_words}

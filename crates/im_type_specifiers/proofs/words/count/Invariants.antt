@@ -1,5 +1,5 @@
 use Rattle.std.proofs.Common.{◌≡◌, ◌+◌, ◌≤◌, drop}
-use Rattle.im_rules.specs.Rules.{count_word, keywords_in}
+use Rattle.im_scopes.specs.im_rules.Rules.{count_word, keywords_in}
 use Rattle.im_tree_parts.specs.Lists.{list_from}
 use Rattle.im_type_specifiers.proofs.words.count.Given as goal
 

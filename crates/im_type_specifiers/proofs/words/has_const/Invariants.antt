@@ -1,5 +1,5 @@
 use Rattle.std.proofs.Common.{◌≡◌, drop}
-use Rattle.im_rules.specs.Declared.{has_const}
+use Rattle.im_scopes.specs.im_rules.Declared.{has_const}
 use Rattle.im_tree_parts.specs.Lists.{list_from}
 use Rattle.im_type_specifiers.proofs.words.has_const.Given as goal
 

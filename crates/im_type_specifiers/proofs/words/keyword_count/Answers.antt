@@ -1,6 +1,6 @@
 use Rattle.std.proofs.Common.{◌+◌, length, drop, ap, arith, List}
 use Rattle.im_ctree.specs.declared.specifier.Specifier.{Specifier}
-use Rattle.im_rules.specs.Rules.{keywords_in}
+use Rattle.im_scopes.specs.im_rules.Rules.{keywords_in}
 use Rattle.im_tree_parts.specs.Lists.{list_from}
 use Rattle.im_type_specifiers.proofs.Steps.{next}
 use Rattle.im_type_specifiers.proofs.words.keyword_count.Goals as goal

@@ -1,5 +1,5 @@
 use Rattle.std.proofs.Common.{◌≡◌, ◌+◌, ◌≤◌, length, drop}
-use Rattle.im_rules.specs.Rules.{keywords_in}
+use Rattle.im_scopes.specs.im_rules.Rules.{keywords_in}
 use Rattle.im_tree_parts.specs.Lists.{list_from}
 use Rattle.im_type_specifiers.proofs.words.keyword_count.Given as goal
 

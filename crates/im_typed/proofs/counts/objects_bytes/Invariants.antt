@@ -1,5 +1,5 @@
 use Rattle.std.proofs.Common.{◌≡◌, ◌-◌, ◌^◌, min, sum_by, take, map}
-use Rattle.im_ctype.specs.Table.{Table}
+use Rattle.im_store.specs.im_ctype.Table.{Table}
 use Rattle.im_typed.specs.ProgramOf.{object_of}
 use Rattle.im_typed.specs.Counts.{slot_bytes}
 use Rattle.im_typed.proofs.counts.objects_bytes.Given as goal

@@ -1,7 +1,7 @@
 use Rattle.std.proofs.Common.{ap, sym, ◌∙◌}
 use Rattle.im_ctree.specs.Shape.{core_of}
 use Rattle.im_ctree.specs.declared.declarator.Declarator.{out-Declarator}
-use Rattle.im_rules.specs.Outline as o
+use Rattle.im_name_map.specs.im_rules.Outline as o
 use Rattle.im_unit_outline.specs.Walked.{nearest_of}
 use Rattle.im_unit_outline.proofs.Shapes.{nearest_shape}
 use Rattle.im_unit_outline.proofs.declarator.+nearest.Goals as goal

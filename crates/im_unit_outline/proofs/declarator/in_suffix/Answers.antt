@@ -1,5 +1,5 @@
 use Rattle.std.proofs.Common.{ap, sym, ◌∙◌}
-use Rattle.im_rules.specs.Outline as o
+use Rattle.im_name_map.specs.im_rules.Outline as o
 use Rattle.im_tree_parts.specs.Lists.{parameters_from, with_suffix}
 use Rattle.im_tree_parts.proofs.Shapes.{function_suffix}
 use Rattle.im_unit_outline.proofs.declarator.in_suffix.Goals as goal

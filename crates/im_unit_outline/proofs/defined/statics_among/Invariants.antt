@@ -1,5 +1,5 @@
 use Rattle.std.proofs.Common.{◌≡◌, [], drop, map}
-use Rattle.im_rules.specs.Outline as o
+use Rattle.im_name_map.specs.im_rules.Outline as o
 use Rattle.im_unit_outline.specs.Walked.{outlined_of}
 use Rattle.im_unit_outline.proofs.defined.statics_among.Given as goal
 

@@ -1,7 +1,7 @@
 use Rattle.std.proofs.Common.{IfOk, ◌≡◌, [], ◌∷◌, ◌++◌, ◌+◌, drop, ap, subst, sym, ◌∙◌, append_assoc}
 use Rattle.std.specs.Option.{option_map}
 use Rattle.im_ctree.specs.Shape.{specifier_of}
-use Rattle.im_rules.specs.Outline as o
+use Rattle.im_name_map.specs.im_rules.Outline as o
 use Rattle.im_ctree.specs.declared.specifier.Member.{out-Member}
 use Rattle.im_tree_parts.specs.Lists.{specifiers_in, members_from}
 use Rattle.im_tree_parts.proofs.Shapes.{struct_tree}

@@ -1,5 +1,5 @@
 use Rattle.std.proofs.Common.{◌≡◌, ◌++◌, drop}
-use Rattle.im_rules.specs.Outline as o
+use Rattle.im_name_map.specs.im_rules.Outline as o
 use Rattle.im_tree_parts.specs.Lists.{list_from, members_from}
 use Rattle.im_unit_outline.proofs.lists.+lists.Given as goal
 

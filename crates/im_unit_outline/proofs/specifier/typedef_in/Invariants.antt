@@ -1,6 +1,6 @@
 use Rattle.std.proofs.Common.{◌≡◌, drop}
-use Rattle.im_rules.specs.Rules as u
-use Rattle.im_rules.specs.Outline as o
+use Rattle.im_name_map.specs.im_rules.Rules as u
+use Rattle.im_name_map.specs.im_rules.Outline as o
 use Rattle.im_tree_parts.specs.Lists.{list_from}
 use Rattle.im_unit_outline.proofs.specifier.typedef_in.Given as goal
 

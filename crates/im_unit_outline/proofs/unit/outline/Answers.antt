@@ -1,5 +1,5 @@
 use Rattle.im_ctree.specs.Shape.{tree_of}
-use Rattle.im_rules.specs.Outline as o
+use Rattle.im_name_map.specs.im_rules.Outline as o
 use Rattle.im_unit_outline.proofs.Walks.{outline-made}
 use Rattle.im_unit_outline.proofs.unit.outline.Goals as goal
 

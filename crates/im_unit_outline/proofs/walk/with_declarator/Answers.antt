@@ -1,6 +1,6 @@
 use Rattle.std.proofs.Common.{◌≡◌, IfOk, ap, subst, ◌∙◌}
 use Rattle.im_ctree.specs.Shape.{declarator_of}
-use Rattle.im_rules.specs.Outline as o
+use Rattle.im_name_map.specs.im_rules.Outline as o
 use Rattle.im_tree_parts.specs.Lists.{list_from}
 use Rattle.im_unit_outline.specs.Walked.{walk_of, sort_of, with_outlined, with_function}
 use Rattle.im_unit_outline.proofs.Walks.{declared-walk, in-reversed}

@@ -1,6 +1,6 @@
 use Rattle.std.proofs.Common.{◌≡◌, drop}
 use Rattle.im_ctree.specs.Shape.{init_declarators_of}
-use Rattle.im_rules.specs.Outline as o
+use Rattle.im_name_map.specs.im_rules.Outline as o
 use Rattle.im_tree_parts.specs.Lists.{list_from}
 use Rattle.im_unit_outline.specs.Walked.{walk_of}
 use Rattle.im_unit_outline.proofs.walk.with_declarators.Given as goal

@@ -2,7 +2,7 @@ use Rattle.std.proofs.Common.{◌≡◌, IfOk, ap, subst, ◌∙◌}
 use Rattle.im_ctree.specs.Tree as t
 use Rattle.im_ctree.specs.declared.specifier.Specifiers.{out-Specifiers}
 use Rattle.im_ctree.specs.Shape.{declarator_of, block_items_of}
-use Rattle.im_rules.specs.Outline as o
+use Rattle.im_name_map.specs.im_rules.Outline as o
 use Rattle.im_tree_parts.specs.Lists.{list_from}
 use Rattle.im_unit_outline.specs.Walked.{walk_of, with_outlined, outlined_of}
 use Rattle.im_unit_outline.proofs.Walks.{function-walk, body-outlined}

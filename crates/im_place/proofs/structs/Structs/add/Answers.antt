@@ -1,6 +1,6 @@
 use Rattle.std.proofs.Common.{◌≡◌, [], ◌∷◌, ◌++◌, sym, ap, ◌∙◌}
 use Rattle.im_ctype.specs.Table.{structs_of, with_struct, members_in, types_of}
-use Rattle.im_rules.specs.Rules.{free_from, members_free}
+use Rattle.im_scopes.specs.im_rules.Rules.{free_from, members_free}
 use Rattle.im_place.specs.Fields.{fields_of}
 use Rattle.im_place.proofs.Added.{struct_more, free_more}
 use Rattle.im_place.proofs.structs.Structs.add.Goals as goal

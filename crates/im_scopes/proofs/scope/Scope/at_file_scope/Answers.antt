@@ -1,5 +1,5 @@
 use Rattle.std.proofs.Common.{◌∙◌, ap}
-use Rattle.im_rules.specs.Scopes.{at_file_scope}
+use Rattle.im_name_map.specs.im_rules.Scopes.{at_file_scope}
 use Rattle.im_scopes.specs.Shape.{scopes_of}
 use Rattle.im_scopes.proofs.Found.{at-file, none-flag}
 use Rattle.im_scopes.proofs.scope.Scope.at_file_scope.Goals as goal

@@ -1,5 +1,5 @@
 use Rattle.std.proofs.Common.{◌≡◌, ◌<◌, Some, None, true, false, MatchOption, sym, ap, subst, ◌∙◌}
-use Rattle.im_rules.specs.Scopes.{meaning}
+use Rattle.im_name_map.specs.im_rules.Scopes.{meaning}
 use Rattle.im_scopes.specs.Shape.{scopes_of, entity_of}
 use Rattle.im_scopes.specs.Search.{entity_named}
 use Rattle.im_scopes.proofs.Found.{name-within, name-found, name-absent}

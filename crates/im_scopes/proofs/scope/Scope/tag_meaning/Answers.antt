@@ -1,5 +1,5 @@
 use Rattle.std.proofs.Common.{◌≡◌, ◌<◌, Some, None, true, false, MatchOption, sym, ap, subst, ◌∙◌}
-use Rattle.im_rules.specs.Scopes.{tag_meaning}
+use Rattle.im_name_map.specs.im_rules.Scopes.{tag_meaning}
 use Rattle.im_scopes.specs.Shape.{scopes_of, tag_of}
 use Rattle.im_scopes.specs.Search.{tag_named}
 use Rattle.im_scopes.proofs.Found.{tag-within, tag-found, tag-absent}

@@ -1,5 +1,5 @@
 use Rattle.std.proofs.Common.{◌≡◌, take, map}
-use Rattle.im_ctype.specs.Table.{Table}
+use Rattle.im_store.specs.im_ctype.Table.{Table}
 use Rattle.im_typed.specs.ProgramOf.{func_of}
 use Rattle.im_typed.specs.Frames.{sizes_in}
 use Rattle.im_typed.proofs.frames.Frames.sizes.Given as goal
