@@ -5,6 +5,7 @@ pub mod Grown
 pub mod MoreStructs
 pub mod Numbered
 pub mod Places
+mod Pushed
 pub mod Rounded
 pub mod Same
 pub mod Steps

@@ -3,6 +3,7 @@ pub mod Kept
 pub mod Laws
 pub mod Layout
 pub mod Members
+pub mod Numbered
 pub mod Pending
 pub mod Table
 pub mod Types

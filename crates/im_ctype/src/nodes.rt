@@ -4,14 +4,15 @@ ghost use Rattle.im_ctype.specs.Table.{IsEarlier};
 
 use crate::node::{TypeId, TypeNode};
 use im_num::NoMemory;
-use indexmap::IndexSet;
 use std::alloc::Global;
+use std::collections::HashMap;
 
 /// The nodes of a table, each of which names earlier ones; none stands there twice. Contracts see
 /// the list of them.
 #[derive(Drop)]
 pub(crate) struct Nodes {
-    set: IndexSet<TypeNode>,
+    list: Vec<TypeNode>,
+    numbers: HashMap<TypeNode, u32>,
 }
 
 impl std::marker::Model for Nodes {
@@ -21,10 +22,12 @@ impl std::marker::Model for Nodes {
     ghost Value = { List TypeNode };
 
     ghost use Rattle.im_ctype.specs.Kept.{AreNodes};
+    ghost use Rattle.im_ctype.specs.Numbered.{AreNumbered};
 
-    ghost view = { λ nodes. nodes.set.keys };
+    ghost view = { λ nodes. nodes.list.items };
 
-    ghost invariant = { λ nodes. AreNodes nodes.set.keys };
+    ghost invariant = { λ nodes. AreNodes nodes.list.items
+        × AreNumbered nodes.list.items nodes.numbers };
 }
 
 impl Nodes {
@@ -32,32 +35,30 @@ impl Nodes {
         ensures { result ≡ [] }
     {
         Nodes {
-            set: IndexSet::new(alloc),
+            list: Vec::new(alloc),
+            numbers: HashMap::new(alloc),
         }
     }
 
     pub(crate) fn len(&self) -> usize
         ensures { result ≡ length self.now }
     {
-        self.set.len()
+        self.list.len()
     }
 
     pub(crate) fn get(&self, ty: TypeId) -> TypeNode
         requires { ty.0 < length self.now }
         ensures { slice_get self.now ty.0 ≡ Some result }
     {
-        match self.set.get_index(ty.0 as usize) {
-            Some(node) => *node,
-            None => TypeNode::Void,
-        }
+        self.list[ty.0 as usize]
     }
 
     pub(crate) fn find(&self, node: TypeNode) -> Option<TypeId>
         ensures found { IfSome result (λ ty. slice_get self.now ty.0 ≡ Some node) }
         ensures absent { IfNone result ((i : ℕ) → slice_get self.now i ≡ Some node → ⊥) }
     {
-        let index = self.set.get_index_of(&node)?;
-        Some(TypeId(index as u32))
+        let number = self.numbers.get(&node)?;
+        Some(TypeId(*number))
     }
 
     /// Adds a node that isn't there.
@@ -69,10 +70,16 @@ impl Nodes {
         ensures refused { OnErr result (self.new ≡ self.old) }
         ensures kept { AreNodes self.new }
     {
-        let Ok(number) = u32::try_from(self.set.len()) else {
+        let Ok(number) = u32::try_from(self.list.len()) else {
             return Err(NoMemory::OutOfMemory);
         };
-        self.set.insert(node)?;
-        Ok(TypeId(number))
+        self.list.push(node)?;
+        match self.numbers.insert(node, number) {
+            Ok(_) => Ok(TypeId(number)),
+            Err(_) => {
+                let _ = self.list.pop();
+                Err(NoMemory::OutOfMemory)
+            }
+        }
     }
 }

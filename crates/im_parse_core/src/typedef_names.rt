@@ -3,15 +3,15 @@ ghost use Rattle.std.specs.List.{Contains};
 ghost use Rattle.im_parse_core.specs.declared.stop.Stop.TheVariants.{Memory};
 
 use crate::stop::Stop;
-use indexmap::IndexSet;
 use std::alloc::Global;
+use std::collections::HashSet;
 
 /// The typedef names in hand, each of which is found in near constant time. Contracts see the
 /// list, the one declared last first.
 #[derive(Drop)]
 pub struct TypedefNames<'b> {
     declared: Vec<&'b [u8]>,
-    known: IndexSet<&'b [u8]>,
+    known: HashSet<&'b [u8]>,
 }
 
 impl<'b> std::marker::Model for TypedefNames<'b> {
@@ -33,7 +33,7 @@ impl<'b> TypedefNames<'b> {
     {
         TypedefNames {
             declared: Vec::new(alloc),
-            known: IndexSet::new(alloc),
+            known: HashSet::new(alloc),
         }
     }
 

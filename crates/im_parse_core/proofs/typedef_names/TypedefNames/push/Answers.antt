@@ -11,4 +11,4 @@ invariant_of-self-in-Ok c =
     subst
     (λ names. HasNames c.insert.new.self.keys names)
     (sym more)
-    (subst (λ set. HasNames set (c.args.name.now ∷ names_of before)) (sym c.in-Ok.ensures.keys) (has_one_more c.self.inside.known.keys (names_of before) c.args.name c.self.invariant))
+    (has_one_more c.self.inside.known.keys c.insert.new.self.keys (names_of before) c.args.name c.in-Ok.ensures.updates.0 c.self.invariant)
