@@ -5,13 +5,13 @@ ghost use Rattle.im_rules.specs.TypeTests.{same_name};
 ghost use Rattle.im_name_map.specs.Numbers.{number_of};
 
 use im_num::NoMemory;
-use indexmap::IndexMap;
 use std::alloc::Global;
+use std::collections::HashMap;
 
 /// The numbers that names have. Contracts see the list of the names with their numbers.
 #[derive(Drop)]
 pub struct NameMap {
-    numbers: IndexMap<Vec<u8>, Option<usize>>,
+    numbers: HashMap<Vec<u8>, Option<usize>>,
 }
 
 impl std::marker::Model for NameMap {
@@ -30,7 +30,7 @@ impl NameMap {
         ensures { result ≡ [] }
     {
         NameMap {
-            numbers: IndexMap::new(alloc),
+            numbers: HashMap::new(alloc),
         }
     }
 

@@ -1,7 +1,7 @@
 //! The first values of a static's cells (C11 6.7.9p4, p10).
 ghost use Rattle.std.specs.Prelude.{◌≡◌, ℕ, map, nat_eq, None, IfOk, IfErr, OnOk};
 ghost use Rattle.std.specs.Option.{option_map};
-ghost use Rattle.indexmap.specs.IndexMap.{get};
+ghost use Rattle.std.specs.HashMap.{get};
 ghost use Rattle.im_ctype.specs.declared.cell.Cell as rc;
 ghost use Rattle.im_ctype.specs.Table.{Table, structs_of};
 ghost use Rattle.im_typed.specs.ProgramOf as q;
@@ -22,8 +22,8 @@ use im_num::{Kind, NoMemory};
 use im_stop::Stop;
 use im_typed::Constant;
 use im_types::Type;
-use indexmap::IndexMap;
 use std::alloc::Global;
+use std::collections::HashMap;
 
 /// Zero, or null of a pointer.
 fn zero_of(kind: Kind) -> Constant
@@ -36,7 +36,7 @@ fn zero_of(kind: Kind) -> Constant
 }
 
 /// Keeps a value, unless there is one at its offset.
-fn keep(found: &mut IndexMap<u64, Constant>, one: Given) -> Result<(), NoMemory>
+fn keep(found: &mut HashMap<u64, Constant>, one: Given) -> Result<(), NoMemory>
     ensures { (types : Table) → OnOk result ((k : ℕ)
         → option_map (q.first_of types) (get nat_eq found.new k)
         ≡ first_or (option_map (q.first_of types) (get nat_eq found.old k))
@@ -49,11 +49,11 @@ fn keep(found: &mut IndexMap<u64, Constant>, one: Given) -> Result<(), NoMemory>
 }
 
 /// The first of the values that are given at each offset.
-fn by_offset(alloc: Global, given: &[Given]) -> Result<IndexMap<u64, Constant>, NoMemory>
+fn by_offset(alloc: Global, given: &[Given]) -> Result<HashMap<u64, Constant>, NoMemory>
     ensures { (types : Table) → IfOk result (λ m. (k : ℕ)
         → option_map (q.first_of types) (get nat_eq m k) ≡ given_at types k given.now) }
 {
-    let mut found = IndexMap::new(alloc);
+    let mut found = HashMap::new(alloc);
     for one in given {
         keep(&mut found, *one)?;
     }
@@ -61,7 +61,7 @@ fn by_offset(alloc: Global, given: &[Given]) -> Result<IndexMap<u64, Constant>, 
 }
 
 /// The value of a cell: zero or null where nothing is given.
-fn value_of(cell: Cell, found: &IndexMap<u64, Constant>) -> Constant
+fn value_of(cell: Cell, found: &HashMap<u64, Constant>) -> Constant
     ensures { (types : Table) → q.first_of types result ≡ v.value_or (v.zero_of cell.kind)
         (option_map (q.first_of types) (get nat_eq found.now cell.offset)) }
 {
@@ -75,7 +75,7 @@ fn value_of(cell: Cell, found: &IndexMap<u64, Constant>) -> Constant
 fn values_of(
     alloc: Global,
     cells: &[Cell],
-    found: &IndexMap<u64, Constant>,
+    found: &HashMap<u64, Constant>,
 ) -> Result<Vec<Constant>, NoMemory>
     ensures { (types : Table) → IfOk result (λ vs. map (q.first_of types) vs.items
         ≡ map {A = rc.Cell} (λ c. v.value_or (v.zero_of c.kind)

@@ -1,6 +1,6 @@
 use Rattle.std.proofs.Common.{◌≡◌, ℕ, nat_eq, take}
 use Rattle.std.specs.Option.{option_map}
-use Rattle.indexmap.specs.IndexMap.{get}
+use Rattle.std.specs.HashMap.{get}
 use Rattle.im_ctype.specs.Table.{Table}
 use Rattle.im_typed.specs.ProgramOf.{first_of}
 use Rattle.im_static_values.specs.Given.{given_at}

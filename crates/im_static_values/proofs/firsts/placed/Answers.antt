@@ -1,5 +1,5 @@
 use Rattle.std.proofs.Common.{◌≡◌, IfOk, List, map, nat_eq, subst}
-use Rattle.indexmap.specs.IndexMap.{get}
+use Rattle.std.specs.HashMap.{get}
 use Rattle.im_store.specs.Objects.{Value}
 use Rattle.im_typed.specs.ProgramOf.{first_of}
 use Rattle.im_static_values.proofs.GivenValues.{placed_same}

@@ -12,6 +12,5 @@ returns-in_err-insert-clause-absent c =
 
 pub returns-clause-set : goal.returns-clause-set
 returns-clause-set c = λ x.
-    ap (λ es. number_of (entries_of es) x) c.in_ok-insert.ensures.entries
-    ∙ number-inserted c.self.inside.numbers.entries c.args.name c.args.number x
+    number-inserted c.self.inside.numbers c.insert.new.self c.args.name c.args.number c.in_ok-insert.ensures.updates x
     ∙ ap (λ es. if same_name c.args.name.items x then c.args.number else number_of es x) c.self.view_is
