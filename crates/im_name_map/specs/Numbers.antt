@@ -1,5 +1,5 @@
 -- The numbers that names have.
-use Rattle.std.specs.Prelude.{ℕ, List, [], ◌∷◌, map, Option, Some, None, if◌then◌else◌, Vec}
+use Rattle.std.specs.Prelude.{ℕ, List, [], ◌∷◌, map, Option, None, if◌then◌else◌, Vec}
 use Rattle.std.specs.Global.{Global}
 use Rattle.im_rules.specs.im_word.Words.{Name}
 use Rattle.im_rules.specs.TypeTests.{same_name}

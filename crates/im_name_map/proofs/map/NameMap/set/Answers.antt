@@ -1,6 +1,6 @@
 use Rattle.std.proofs.Common.{rules, ◌≡◌, None, if◌then◌else◌, ap, sym, ◌∙◌}
 use Rattle.im_rules.specs.TypeTests.{same_name}
-use Rattle.im_name_map.specs.Numbers.{number_of, entries_of}
+use Rattle.im_name_map.specs.Numbers.{number_of}
 use Rattle.im_name_map.proofs.Numbers.{in_maybe, number-told, number-inserted}
 use Rattle.im_name_map.proofs.map.NameMap.set.Goals as goal
 
