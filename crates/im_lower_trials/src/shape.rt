@@ -1,4 +1,5 @@
 //! The block code of one program, written by hand from the table of what each node becomes.
+ghost use Rattle.std.specs.Prelude.{IfSome};
 ghost use Rattle.im_compile.specs.Passed.{IsSource};
 
 use im_block::{Exit, Function, Line, Place, Unit};
@@ -87,17 +88,26 @@ fn lowered(alloc: Global, whole: &Compiled) -> Result<Unit, NoMemory>
     lower(alloc, &whole.prog)
 }
 
-#[test]
-fn a_loop_and_a_call(rt: HostRuntime) -> Result<(), Fail> {
-    let alloc = rt.alloc();
+/// What is compiled of the source, if anything is.
+fn compiled(alloc: Global) -> Option<Compiled>
+    ensures { IfSome result (λ whole. IsSource whole.prog) }
+{
     let options = Options {
         stack: 65536,
         out_cap: 16,
     };
-    let whole = compile_whole(alloc, SOURCE, options)
-        .ok()
-        .ok_or("a program")?;
-    let unit = lowered(alloc, &whole)?;
+    match compile_whole(alloc, SOURCE, options) {
+        Ok(whole) => Some(whole),
+        Err(_) => None,
+    }
+}
+
+#[test]
+fn a_loop_and_a_call(rt: HostRuntime) -> Result<(), Fail> {
+    let Some(whole) = compiled(rt.alloc()) else {
+        return Err(Fail::new("a program"));
+    };
+    let unit = lowered(rt.alloc(), &whole)?;
     assert_eq!(rt; unit.functions.len(), 2);
     let loops: [Shape<'_>; 5] = [
         (&[read(1)], Exit::Return(Some(1))),
