@@ -1,5 +1,5 @@
 -- What a source is read as: its tokens and the tree that they spell, or the line where it is no C.
-use Rattle.std.specs.Prelude.{◌≡◌, ℕ, ◌<◌, ◌≤◌, List, length, drop, All, Option, Some, None, Result, Ok, Err, Vec, slice_get}
+use Rattle.std.specs.Prelude.{◌≡◌, ℕ, ◌<◌, ◌≤◌, List, map, length, drop, All, Option, Some, None, Result, Ok, Err, Vec, slice_get}
 use Rattle.std.specs.Global.{Global}
 use Rattle.im_tok.specs.declared.token.Token.{Token}
 use Rattle.im_lex.specs.declared.fault.LexFaultKind.{LexFaultKind}
@@ -19,13 +19,19 @@ use Rattle.im_fault.specs.declared.fault.SourceFault.TheVariants.{Line, Limit, N
 use Rattle.im_fault.specs.Texts.{limit_of}
 use Rattle.im_front.specs.declared.reading.Text.{Text}
 
-abbrev pub line_or : ℕ → Option Token → ℕ
-line_or line None = line
-line_or line (Some token) = token.line
+abbrev pub line_or : ℕ → Option ℕ → ℕ
+line_or end None = end
+line_or end (Some line) = line
 
--- the line of a token by its number; that of the end of the text where no token is left
+-- the line of the token of a number, given those of all tokens; that of the end of the text where no token is left
+abbrev pub line_among : List ℕ → List ℕ → ℕ → ℕ
+line_among source lines p = line_or (line_at source (length source)) (slice_get lines p)
+
+abbrev pub token_lines : List Token → List ℕ
+token_lines tokens = map (λ (token : Token). token.line) tokens
+
 abbrev pub line_of_token : List ℕ → List Token → ℕ → ℕ
-line_of_token source tokens p = line_or (line_at source (length source)) (slice_get tokens p)
+line_of_token source tokens p = line_among source (token_lines tokens) p
 
 abbrev pub of_token : LexFaultKind → LineFault
 of_token token.BadByte = BadByte
@@ -80,10 +86,17 @@ IsOver source Statics count = ⊥
 IsOver source Frame count = ⊥
 IsOver source Code count = ⊥
 
+-- the tree that the tokens of the source spell, and their lines
+pub record IsTextOf (source : List ℕ) (text : Text) : Type 0 where
+  pub tokens : List Token
+  pub lexes : Lexes source tokens
+  pub each : All (IsTokenOf source) tokens
+  pub parsed : IsParsedText source tokens (Ok text.tree)
+  pub lines : text.lines.items ≡ token_lines tokens
+
 -- what a source is read as
 abbrev pub IsRead : List ℕ → Result Text SourceFault → Type 0
-IsRead source (Ok text) =
-    (length source ≤ limit_of Source) × AreTokens source text.tokens × IsParsedText source text.tokens.items (Ok text.tree)
+IsRead source (Ok text) = (length source ≤ limit_of Source) × IsTextOf source text
 IsRead source (Err (Line line why)) = (length source ≤ limit_of Source) × IsWrong source line why
 IsRead source (Err (Limit quantity count)) = IsOver source quantity count
 IsRead source (Err NotYet) = ⊥

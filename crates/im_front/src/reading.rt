@@ -1,11 +1,12 @@
-ghost use Rattle.std.specs.Prelude.{◌≡◌, ◌<◌, ◌^◌, length, MatchResult};
+ghost use Rattle.std.specs.Prelude.{◌≡◌, ◌<◌, ◌^◌, length, IfOk, MatchResult};
 ghost use Rattle.im_lex.specs.Lexing.{line_at};
-ghost use Rattle.im_front.specs.Reading.{IsRead, IsTokenFault, AreTokens, of_token, line_of_token};
+ghost use Rattle.im_front.specs.Reading.{IsRead, IsTokenFault, AreTokens, of_token, token_lines, line_among};
 
 use crate::runs::has_long_run;
 use im_ctree::Tree;
 use im_fault::{LineFault, Quantity, SourceFault};
 use im_lex::{LexFault, LexFaultKind, lex};
+use im_num::NoMemory;
 use im_parse_unit::{ParseFault, parse};
 use im_tok::Token;
 use std::alloc::Global;
@@ -13,10 +14,10 @@ use std::alloc::Global;
 /// The most bytes of a source.
 const LIMIT: usize = 4_194_304;
 
-/// The tokens of a source and the tree that they spell.
+/// The tree that the tokens of a source spell, and the line of each token.
 #[derive(Drop)]
 pub struct Text {
-    pub tokens: Vec<Token>,
+    pub lines: Vec<u32>,
     pub tree: Tree,
 }
 
@@ -28,13 +29,25 @@ fn last_line(source: &[u8]) -> u32
     1 + source.iter().filter(|byte| **byte == b'\n').count() as u32
 }
 
-/// The line of a token by its number, or of the end of the text where there is no such token.
-pub fn line_of(source: &[u8], tokens: &[Token], number: u32) -> u32
-    requires { length source.now < 2 ^ 31 }
-    ensures { result ≡ line_of_token source.now tokens.now number }
+/// The line of each token.
+fn lines_of(alloc: Global, tokens: &[Token]) -> Result<Vec<u32>, NoMemory>
+    ensures { IfOk result (λ lines. lines.items ≡ token_lines tokens.now) }
 {
-    if (number as usize) < tokens.len() {
-        tokens[number as usize].line
+    let mut lines = Vec::with_capacity(alloc, tokens.len())?;
+    for token in tokens {
+        lines.push(token.line)?;
+    }
+    Ok(lines)
+}
+
+/// The line of a token by its number, given those of all tokens, or of the end of the text where
+/// there is no such token.
+pub fn line_of(source: &[u8], lines: &[u32], number: u32) -> u32
+    requires { length source.now < 2 ^ 31 }
+    ensures { result ≡ line_among source.now lines.now number }
+{
+    if (number as usize) < lines.len() {
+        lines[number as usize]
     } else {
         last_line(source)
     }
@@ -58,7 +71,10 @@ fn lexed(alloc: Global, source: &[u8]) -> Result<Vec<Token>, SourceFault>
     ensures { MatchResult result (AreTokens source.now) (IsTokenFault source.now) }
 {
     match lex(alloc, source) {
-        Ok(tokens) => Ok(tokens),
+        Ok(mut tokens) => {
+            tokens.shrink_to_fit();
+            Ok(tokens)
+        }
         Err(LexFault::Stuck { at, kind }) => Err(SourceFault::Line {
             line: last_line(&source[..at as usize]),
             why: line_fault(kind),
@@ -67,7 +83,7 @@ fn lexed(alloc: Global, source: &[u8]) -> Result<Vec<Token>, SourceFault>
     }
 }
 
-/// The tokens and the tree of a source (C11 6.4, 6.9), or why it has none: its length is looked at
+/// The tree of a source (C11 6.4, 6.9) and the lines of its tokens, or why it has none: its length is looked at
 /// first, then its tokens, their nesting, and the unit. A tree that would go further down than the
 /// stack surely has room for is answered by want of memory.
 pub fn read_source(alloc: Global, source: &[u8]) -> Result<Text, SourceFault>
@@ -84,14 +100,17 @@ pub fn read_source(alloc: Global, source: &[u8]) -> Result<Text, SourceFault>
         Ok(false) => {}
         Ok(true) | Err(_) => return Err(SourceFault::OutOfMemory),
     }
-    match parse(alloc, source, &tokens) {
-        Ok(tree) => Ok(Text { tokens, tree }),
+    let Ok(lines) = lines_of(alloc, &tokens) else {
+        return Err(SourceFault::OutOfMemory);
+    };
+    match parse(alloc, source, tokens) {
+        Ok(tree) => Ok(Text { lines, tree }),
         Err(ParseFault::Depth(number)) => Err(SourceFault::Line {
-            line: line_of(source, &tokens, number),
+            line: line_of(source, &lines, number),
             why: LineFault::Nesting,
         }),
         Err(ParseFault::Syntax(number)) => Err(SourceFault::Line {
-            line: line_of(source, &tokens, number),
+            line: line_of(source, &lines, number),
             why: LineFault::Syntax,
         }),
         Err(ParseFault::Memory) => Err(SourceFault::OutOfMemory),

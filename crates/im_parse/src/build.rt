@@ -22,10 +22,11 @@ pub fn call(
     alloc: Global,
     at: u32,
     callee: Expression,
-    arguments: Vec<Expression>,
+    mut arguments: Vec<Expression>,
 ) -> Result<Expression, Stop>
     ensures { Builds result (t.call at (tree_of callee) (items_tree arguments)) }
 {
+    arguments.shrink_to_fit();
     let kind = ExpressionKind::Call(Box::new(alloc, callee)?, arguments);
     Ok(Expression { at, kind })
 }

@@ -70,6 +70,7 @@ pub fn closed_init_declarators(
         next = end;
     }
     let end = expect_mark(words, next, Punctuator::Semicolon)?;
+    items.shrink_to_fit();
     Ok((items, end))
 }
 
@@ -98,6 +99,7 @@ pub fn closed_inits_behind(
         next = end;
     }
     let end = expect_mark(words, next, Punctuator::Semicolon)?;
+    items.shrink_to_fit();
     Ok((items, end))
 }
 

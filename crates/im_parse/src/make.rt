@@ -11,9 +11,10 @@ use im_ctree::{
 use im_parse_core::Stop;
 use std::alloc::Global;
 
-pub fn specifiers(at: u32, items: Vec<Specifier>) -> Specifiers
+pub fn specifiers(at: u32, mut items: Vec<Specifier>) -> Specifiers
     ensures { specifiers_of result ≡ t.specifiers at (specifier_list items) }
 {
+    items.shrink_to_fit();
     Specifiers { at, items }
 }
 
@@ -118,12 +119,13 @@ pub fn named(
     at: u32,
     stars: Vec<Star>,
     name: &[u8],
-    suffixes: Vec<Suffix>,
+    mut suffixes: Vec<Suffix>,
 ) -> Result<Declarator, Stop>
     ensures { Makes declarator_of result
         (t.declarator at (stars_tree stars) (t.name_core name.now) (suffixes_tree suffixes)) }
 {
     let core = Core::Name(Vec::from_slice(alloc, name)?);
+    suffixes.shrink_to_fit();
     Ok(Declarator {
         at,
         stars,
@@ -158,9 +160,10 @@ pub fn sized_array(alloc: Global, at: u32, length: Expression) -> Result<Suffix,
     Ok(Suffix { at, kind })
 }
 
-pub fn function(at: u32, parameters: Vec<Parameter>) -> Suffix
+pub fn function(at: u32, mut parameters: Vec<Parameter>) -> Suffix
     ensures { suffix_tree result ≡ one_function at (parameters_tree parameters) }
 {
+    parameters.shrink_to_fit();
     let kind = SuffixKind::Function(parameters);
     Suffix { at, kind }
 }
@@ -200,8 +203,9 @@ pub fn type_name(
     })
 }
 
-pub fn braced(at: u32, items: Vec<Initializer>) -> Initializer
+pub fn braced(at: u32, mut items: Vec<Initializer>) -> Initializer
     ensures { initializer_of result ≡ t.braced_initializer at (initializers_tree items) }
 {
+    items.shrink_to_fit();
     Initializer::List(at, items)
 }

@@ -30,7 +30,8 @@ pub fn block<'b>(
         (λ read. names.new ≡ names_behind_block names.old (block_tree read.0)) }
 {
     let inside = expect_mark(words, at, Punctuator::OpenBrace)?;
-    let (items, end) = closed_items(alloc, words, names, inside)?;
+    let (mut items, end) = closed_items(alloc, words, names, inside)?;
+    items.shrink_to_fit();
     Ok((Block { at, items }, end))
 }
 

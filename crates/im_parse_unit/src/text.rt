@@ -1,4 +1,4 @@
-ghost use Rattle.std.specs.Prelude.{◌≡◌, ◌^◌, ◌<◌, MatchResult, length, map};
+ghost use Rattle.std.specs.Prelude.{◌≡◌, ◌^◌, ◌<◌, IfOk, length, map};
 ghost use Rattle.std.specs.List.{All};
 ghost use Rattle.im_word.specs.Shown.{shown};
 ghost use Rattle.im_parse_unit.specs.declared.text.ParseFault.TheVariants.{Memory};
@@ -10,7 +10,7 @@ use im_num::NoMemory;
 use im_parse_core::Stop;
 use im_tok::Token;
 use im_word::{Word, first_too_deep, word_of};
-use std::alloc::{AllocFailed, Global};
+use std::alloc::Global;
 
 /// Why a text has no tree.
 #[derive(Clone, Copy, PartialEq, Eq, Debug)]
@@ -21,14 +21,6 @@ pub enum ParseFault {
     Syntax(u32),
     /// Memory ran out.
     Memory,
-}
-
-impl<T: Drop> From<AllocFailed<T>> for ParseFault {
-    ghost from_gives = { λ _ fault. fault ≡ Memory };
-
-    fn from(_fault: AllocFailed<T>) -> ParseFault {
-        ParseFault::Memory
-    }
 }
 
 impl From<NoMemory> for ParseFault {
@@ -44,12 +36,11 @@ fn words_of<'a>(
     alloc: Global,
     source: &'a [u8],
     tokens: &[Token],
-) -> Result<Vec<Word<'a>>, ParseFault>
+) -> Result<Vec<Word<'a>>, NoMemory>
     requires { All (IsWithin source.now) tokens.now }
-    ensures { MatchResult result (λ words. AreWords source.now tokens.now (map shown words.items))
-        (λ fault. fault ≡ Memory) }
+    ensures { IfOk result (λ words. AreWords source.now tokens.now (map shown words.items)) }
 {
-    let mut words = Vec::new(alloc);
+    let mut words = Vec::with_capacity(alloc, tokens.len())?;
     for token in tokens {
         let word = word_of(alloc, source, token)?;
         words.push(word)?;
@@ -58,11 +49,13 @@ fn words_of<'a>(
 }
 
 /// The syntax tree that the tokens of a source spell (C11 6.9), or why there is none; their nesting is looked at first.
-pub fn parse(alloc: Global, source: &[u8], tokens: &[Token]) -> Result<Tree, ParseFault>
-    requires { All (IsWithin source.now) tokens.now }
-    ensures { IsParsedText source.now tokens.now result }
+/// The tokens are given back before the tree grows.
+pub fn parse(alloc: Global, source: &[u8], tokens: Vec<Token>) -> Result<Tree, ParseFault>
+    requires { All (IsWithin source.now) tokens.items }
+    ensures { IsParsedText source.now tokens.items result }
 {
-    let words = words_of(alloc, source, tokens)?;
+    let words = words_of(alloc, source, &tokens)?;
+    drop(tokens);
     if words.len() > u32::MAX as usize {
         return Err(ParseFault::Memory);
     }

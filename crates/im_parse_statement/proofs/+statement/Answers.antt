@@ -22,10 +22,10 @@ pub blocks::block-returns-in_err-items-clause-parses : goal.blocks::block-return
 blocks::block-returns-in_err-items-clause-parses t c = let p = err_from_is_err_and c.from_residual-in_err-items.result c.from_residual-in_err-items.ensures.1 in rw (p.1, p.2) (stopped (map shown c.args.words.now) (λ n h. refuses_items (map shown c.args.words.now) (in_block (map shown c.args.words.now) c.args.names.now c.in_ok-inside.ensures) h) _ c.in_err-items.ensures.parses)
 
 pub blocks::block-returns-clause-parses : goal.blocks::block-returns-clause-parses
-blocks::block-returns-clause-parses t c = rw items_before (reads_block (map shown c.args.words.now) (in_block (map shown c.args.words.now) c.args.names.now c.in_ok-inside.ensures) c.in_ok-items.ensures.parses)
+blocks::block-returns-clause-parses t c = rw (c.shrink_to_fit.ensures.items, items_before) (reads_block (map shown c.args.words.now) (in_block (map shown c.args.words.now) c.args.names.now c.in_ok-inside.ensures) c.in_ok-items.ensures.parses)
 
 pub blocks::block-returns-clause-known : goal.blocks::block-returns-clause-known
-blocks::block-returns-clause-known t c = c.in_ok-items.ensures.known ∙ ap (λ z. names_behind_items c.args.names.now z) (sym (items_before c.in_ok-items.items.items))
+blocks::block-returns-clause-known t c = rw c.shrink_to_fit.ensures.items (c.in_ok-items.ensures.known ∙ ap (λ z. names_behind_items c.args.names.now z) (sym (items_before c.in_ok-items.items.items)))
 
 pub blocks::closed_items-loop-end-init : goal.blocks::closed_items-loop-end-init
 blocks::closed_items-loop-end-init t c = (rw c.new-items.ensures.items (items_start (map shown c.args.words.now) c.args.names.now c.args.at), omega arith, rw c.new-items.ensures.items refl)

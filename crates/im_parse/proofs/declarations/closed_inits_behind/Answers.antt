@@ -28,4 +28,4 @@ pub returns-in_err-end : goal.returns-in_err-end
 returns-in_err-end c = let p = err_from_is_err_and c.from_residual-in_err-end.result c.from_residual-in_err-end.ensures.1 in rw (p.1, p.2, c.in_err-end.ensures.0) (misses_semicolon (map shown c.args.words.now) (map init_declarator_tree c.loop-behind.items.items) c.in_default.ensures c.loop-behind.invariant.0 c.in_err-end.ensures.1)
 
 pub returns : goal.returns
-returns c = reads_inits (map shown c.args.words.now) (map init_declarator_tree c.loop-behind.items.items) c.in_default.ensures c.loop-behind.invariant.0 c.in_ok-end.ensures
+returns c = rw c.shrink_to_fit.ensures.items (reads_inits (map shown c.args.words.now) (map init_declarator_tree c.loop-behind.items.items) c.in_default.ensures c.loop-behind.invariant.0 c.in_ok-end.ensures)
