@@ -84,12 +84,12 @@ pub fn links_register(word: u32, register: u8) -> bool
 }
 
 /// The number of the word at an address of code, if one of this many stands there.
-pub fn index_at(count: usize, address: u32) -> Option<usize>
+pub fn index_at(count: u32, address: u32) -> Option<u32>
     ensures { result ≡ index_of count address }
 {
     if address < 4096 || (address - 4096) % 4 != 0 {
         return None;
     }
-    let index = ((address - 4096) / 4) as usize;
+    let index = (address - 4096) / 4;
     if index < count { Some(index) } else { None }
 }

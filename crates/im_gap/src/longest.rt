@@ -3,7 +3,7 @@ ghost use Rattle.im_gap.specs.Gap.{IsGap, HasGap};
 ghost use Rattle.im_gap.specs.Table.{resume_words, Whole};
 
 use crate::flow::index_at;
-use crate::table::{push_behind, push_words};
+use crate::table::{push_behind, push_words, small};
 use im_num::NoMemory;
 use im_rv::Code;
 use im_walk::{Graph, Node, longest};
@@ -22,12 +22,13 @@ fn flow_graph(alloc: Global, words: &[u32]) -> Result<Graph, NoMemory>
     requires { length words.now ≤ 261120 }
     ensures { IfOk result (Whole words.now) }
 {
-    let mut nodes = Vec::new(alloc);
-    let mut targets = Vec::new(alloc);
+    let mut nodes = Vec::with_capacity(alloc, words.len() + 1)?;
+    let mut targets = Vec::with_capacity(alloc, words.len())?;
     push_words(&mut nodes, &mut targets, words)?;
-    let first = targets.len();
+    let first = small(targets.len())?;
     push_behind(&mut targets, words, CALL_LINK)?;
-    let end = targets.len();
+    let end = small(targets.len())?;
+    targets.shrink_to_fit();
     nodes.push(Node {
         first,
         end,
@@ -37,15 +38,16 @@ fn flow_graph(alloc: Global, words: &[u32]) -> Result<Graph, NoMemory>
 }
 
 // The words at which sections begin: the entry, and the words after cuts.
-fn section_starts(alloc: Global, words: &[u32], entry: u32) -> Result<Vec<usize>, NoMemory>
+fn section_starts(alloc: Global, words: &[u32], entry: u32) -> Result<Vec<u32>, NoMemory>
     requires { length words.now ≤ 261120 }
     ensures { IfOk result (λ starts. starts.items ≡ resume_words words.now entry) }
 {
     let mut starts = Vec::new(alloc);
-    if let Some(index) = index_at(words.len(), entry) {
+    if let Some(index) = index_at(words.len() as u32, entry) {
         starts.push(index)?;
     }
     push_behind(&mut starts, words, CUT_LINK)?;
+    starts.shrink_to_fit();
     Ok(starts)
 }
 

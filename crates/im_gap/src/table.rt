@@ -8,7 +8,7 @@ use im_num::NoMemory;
 use im_walk::Node;
 
 // the next word, if there is one
-fn push_following(targets: &mut Vec<usize>, count: usize, i: usize) -> Result<(), NoMemory>
+fn push_following(targets: &mut Vec<u32>, count: u32, i: u32) -> Result<(), NoMemory>
     requires { i < 2 ^ 30 }
     ensures { OnOk result (targets.new.items ≡ targets.old.items ++ following count i) }
 {
@@ -19,29 +19,19 @@ fn push_following(targets: &mut Vec<usize>, count: usize, i: usize) -> Result<()
 }
 
 // the word at a distance from word i, if one stands there
-fn push_target(
-    targets: &mut Vec<usize>,
-    count: usize,
-    i: usize,
-    distance: u32,
-) -> Result<(), NoMemory>
+fn push_target(targets: &mut Vec<u32>, count: u32, i: u32, distance: u32) -> Result<(), NoMemory>
     requires { i < 2 ^ 20 }
     ensures { OnOk result (targets.new.items ≡ targets.old.items
         ++ successors_by count i distance Turn.Jumps) }
 {
-    let address = 4096 + 4 * (i as u32);
+    let address = 4096 + 4 * i;
     if let Some(index) = index_at(count, address.wrapping_add(distance)) {
         targets.push(index)?;
     }
     Ok(())
 }
 
-fn push_successors(
-    targets: &mut Vec<usize>,
-    count: usize,
-    i: usize,
-    way: Way,
-) -> Result<(), NoMemory>
+fn push_successors(targets: &mut Vec<u32>, count: u32, i: u32, way: Way) -> Result<(), NoMemory>
     requires { i < 2 ^ 20 }
     ensures { OnOk result (targets.new.items ≡ targets.old.items
         ++ successors_by count i way.imm way.turn) }
@@ -61,9 +51,9 @@ fn push_successors(
 
 // word i + 1, if word i is a `jal` that links this register
 fn push_if_linked(
-    targets: &mut Vec<usize>,
-    count: usize,
-    i: usize,
+    targets: &mut Vec<u32>,
+    count: u32,
+    i: u32,
     word: u32,
     register: u8,
 ) -> Result<(), NoMemory>
@@ -78,21 +68,28 @@ fn push_if_linked(
 }
 
 /// The words directly behind a `jal` that links this register.
-pub fn push_behind(targets: &mut Vec<usize>, words: &[u32], register: u8) -> Result<(), NoMemory>
+pub fn push_behind(targets: &mut Vec<u32>, words: &[u32], register: u8) -> Result<(), NoMemory>
     requires { length words.now ≤ 261120 }
     ensures { OnOk result (targets.new.items ≡ targets.old.items
         ++ behind register words.now (length words.now)) }
 {
     for i in 0..words.len() {
-        push_if_linked(targets, words.len(), i, words[i], register)?;
+        push_if_linked(targets, words.len() as u32, i as u32, words[i], register)?;
     }
     Ok(())
+}
+
+/// A place among the targets as a node has it.
+pub fn small(place: usize) -> Result<u32, NoMemory>
+    ensures { IfOk result (λ n. n ≡ place) }
+{
+    u32::try_from(place).map_err(|_| NoMemory::OutOfMemory)
 }
 
 /// The nodes of the words, in their order.
 pub fn push_words(
     nodes: &mut Vec<Node>,
-    targets: &mut Vec<usize>,
+    targets: &mut Vec<u32>,
     words: &[u32],
 ) -> Result<(), NoMemory>
     requires few { length words.now ≤ 261120 }
@@ -101,9 +98,9 @@ pub fn push_words(
         (Drawn words.now (length words.now) nodes.new.items targets.new.items) }
 {
     for i in 0..words.len() {
-        let first = targets.len();
-        push_successors(targets, words.len(), i, way_of(words[i]))?;
-        let end = targets.len();
+        let first = small(targets.len())?;
+        push_successors(targets, words.len() as u32, i as u32, way_of(words[i]))?;
+        let end = small(targets.len())?;
         nodes.push(Node {
             first,
             end,

@@ -15,7 +15,7 @@ pub enum Mark {
 }
 
 // the first of these nodes, from a place on, that isn't done
-fn waiting(marks: &[Mark], nodes: &[usize], from: usize) -> usize
+fn waiting(marks: &[Mark], nodes: &[u32], from: usize) -> usize
     requires inside { AreNodes nodes.now (length marks.now) }
     requires within { from ≤ length nodes.now }
     ensures later { from ≤ result }
@@ -27,7 +27,7 @@ fn waiting(marks: &[Mark], nodes: &[usize], from: usize) -> usize
 {
     let mut at = from;
     while at < nodes.len() {
-        match marks[nodes[at]] {
+        match marks[nodes[at] as usize] {
             Mark::Done(_) => at += 1,
             _ => return at,
         }
@@ -36,7 +36,7 @@ fn waiting(marks: &[Mark], nodes: &[usize], from: usize) -> usize
 }
 
 /// The greatest height of these nodes, all of them done; 0 where there are none.
-pub fn greatest(marks: &[Mark], nodes: &[usize]) -> u32
+pub fn greatest(marks: &[Mark], nodes: &[u32]) -> u32
     requires inside { AreNodes nodes.now (length marks.now) }
     ensures above { (k h : ℕ) → k < length nodes.now
         → mark_at marks.now (slice_index nodes.now k) ≡ Mark.Done h → h ≤ result }
@@ -45,7 +45,7 @@ pub fn greatest(marks: &[Mark], nodes: &[usize]) -> u32
 {
     let mut best = 0;
     for node in nodes {
-        if let Mark::Done(height) = marks[*node] {
+        if let Mark::Done(height) = marks[*node as usize] {
             if best < height {
                 best = height;
             }
@@ -55,7 +55,7 @@ pub fn greatest(marks: &[Mark], nodes: &[usize]) -> u32
 }
 
 /// Moves the cursor of a node to the first of its successors that isn't done.
-pub fn advance(marks: &[Mark], cursors: &mut Vec<usize>, graph: &Graph, v: usize) -> usize
+pub fn advance(marks: &[Mark], cursors: &mut Vec<u32>, graph: &Graph, v: u32) -> usize
     requires graph { IsGraph graph.now }
     requires marks { length marks.now ≡ size_of graph.now }
     requires inside { v < size_of graph.now }
@@ -66,7 +66,7 @@ pub fn advance(marks: &[Mark], cursors: &mut Vec<usize>, graph: &Graph, v: usize
     ensures waits { result < length (successors_of graph.now v)
         → ¬ IsDone (mark_at marks.now (slice_index (successors_of graph.now v) result)) }
 {
-    let at = waiting(marks, graph.successors(v), cursors[v]);
-    cursors[v] = at;
+    let at = waiting(marks, graph.successors(v), cursors[v as usize] as usize);
+    cursors[v as usize] = at as u32;
     at
 }

@@ -9,12 +9,7 @@ use im_num::NoMemory;
 use std::alloc::Global;
 
 // Opens a node that wasn't seen: the path goes on to it.
-fn enter(
-    marks: &mut Vec<Mark>,
-    path: &mut Vec<usize>,
-    graph: &Graph,
-    v: usize,
-) -> Result<(), NoMemory>
+fn enter(marks: &mut Vec<Mark>, path: &mut Vec<u32>, graph: &Graph, v: u32) -> Result<(), NoMemory>
     requires searched { IsSearchOf graph.now marks.old.items path.old.items }
     requires inside { v < size_of graph.now }
     requires unseen { mark_at marks.old.items v ≡ Mark.Unseen }
@@ -25,12 +20,12 @@ fn enter(
     ensures kept { OnOk result (KeepsDone marks.old.items marks.new.items) }
 {
     path.push(v)?;
-    marks[v] = Mark::Open;
+    marks[v as usize] = Mark::Open;
     Ok(())
 }
 
 // The last node of the path is done, as all that it leads to is.
-fn leave(marks: &mut Vec<Mark>, path: &mut Vec<usize>, graph: &Graph, v: usize)
+fn leave(marks: &mut Vec<Mark>, path: &mut Vec<u32>, graph: &Graph, v: u32)
     requires graph { IsGraph graph.now }
     requires searched { IsSearchOf graph.now marks.old.items path.old.items }
     requires some { 0 < length path.old.items }
@@ -44,7 +39,7 @@ fn leave(marks: &mut Vec<Mark>, path: &mut Vec<usize>, graph: &Graph, v: usize)
     ensures kept { KeepsDone marks.old.items marks.new.items }
 {
     let height = graph.weight(v) + greatest(marks, graph.successors(v));
-    marks[v] = Mark::Done(height);
+    marks[v as usize] = Mark::Done(height);
     path.pop();
 }
 
@@ -61,9 +56,9 @@ pub enum Found {
 pub fn visit(
     alloc: Global,
     marks: &mut Vec<Mark>,
-    cursors: &mut Vec<usize>,
+    cursors: &mut Vec<u32>,
     graph: &Graph,
-    root: usize,
+    root: u32,
 ) -> Result<Found, NoMemory>
     requires graph { IsGraph graph.now }
     requires searched { IsSearchOf graph.now marks.old.items [] }
@@ -88,7 +83,7 @@ pub fn visit(
             leave(marks, &mut path, graph, top);
         } else {
             let successor = successors[at];
-            if marks[successor] == Mark::Open {
+            if marks[successor as usize] == Mark::Open {
                 return Ok(Found::Cycle);
             }
             enter(marks, &mut path, graph, successor)?;

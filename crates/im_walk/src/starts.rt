@@ -14,9 +14,9 @@ use std::alloc::Global;
 fn height_from(
     alloc: Global,
     marks: &mut Vec<Mark>,
-    cursors: &mut Vec<usize>,
+    cursors: &mut Vec<u32>,
     graph: &Graph,
-    start: usize,
+    start: u32,
 ) -> Result<Option<u32>, NoMemory>
     requires graph { IsGraph graph.now }
     requires searched { IsSearchOf graph.now marks.old.items [] }
@@ -33,12 +33,12 @@ fn height_from(
     ensures endless { IfOk result (λ found. found ≡ None
         → IsEndless (successors_of graph.now) start) }
 {
-    if marks[start] == Mark::Unseen {
+    if marks[start as usize] == Mark::Unseen {
         if visit(alloc, marks, cursors, graph, start)? == Found::Cycle {
             return Ok(None);
         }
     }
-    match marks[start] {
+    match marks[start as usize] {
         Mark::Done(height) => Ok(Some(height)),
         _ => Ok(None),
     }
@@ -54,7 +54,7 @@ fn higher(a: u32, b: u32) -> u32
 
 /// The greatest cost of a walk that begins at one of these nodes; none where walks of every length
 /// begin at one of them.
-pub fn longest(alloc: Global, graph: &Graph, starts: &[usize]) -> Result<Option<u32>, NoMemory>
+pub fn longest(alloc: Global, graph: &Graph, starts: &[u32]) -> Result<Option<u32>, NoMemory>
     requires graph { IsGraph graph.now }
     requires inside { AreNodes starts.now (size_of graph.now) }
     ensures greatest { IfOk result (λ found. IfSome found (λ height.

@@ -9,8 +9,8 @@ returns-clause-searched c =
     let rest : c.pop.new.self.items ≡ take (length c.args.path.now.items - 1) c.args.path.now.items = search rules in
     leaving _ _ _ c.args.marks.now.items c.args.path.now.items c.pop.new.self.items c.args.v c.weight.result c.greatest.result c.requires.searched
     (at ∙ ap (λ z. z ++ c.args.v ∷ []) (sym rest)) c.weight.ensures.value c.weight.ensures.small c.requires.done
-    (above_there _ _ _ _ _ c.deref.ensures.value c.successors.ensures c.greatest.ensures.above)
-    (met_there _ _ _ _ _ c.deref.ensures.value c.successors.ensures c.greatest.ensures.met)
+    (above_there _ _ _ _ _ c.deref.ensures.value c.successors.ensures.value c.greatest.ensures.above)
+    (met_there _ _ _ _ _ c.deref.ensures.value c.successors.ensures.value c.greatest.ensures.met)
 
 pub returns-clause-less : goal.returns-clause-less
 returns-clause-less c =

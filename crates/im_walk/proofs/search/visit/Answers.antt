@@ -21,7 +21,7 @@ loop-top-preserved-then-at-successors c = (visits_back _ _ _ _ _ _ _ _ c.in-Some
 pub index-requires : goal.index-requires
 index-requires c =
     let at : c.advance-at.result < length c.successors-successors.result.now = search rules in
-    let inside : slice_index c.successors-successors.result.now c.advance-at.result < length c.deref-in-Some.result.now = successors_inside _ _ _ _ _ c.requires.graph c.successors-successors.ensures c.deref-in-Some.ensures.value c.loop-top.invariant.0.searched.size c.advance-at.result at in
+    let inside : slice_index c.successors-successors.result.now c.advance-at.result < length c.deref-in-Some.result.now = successors_inside _ _ _ _ _ c.requires.graph c.successors-successors.ensures.value c.deref-in-Some.ensures.value c.loop-top.invariant.0.searched.size c.advance-at.result at in
     search (rules, inside)
 
 pub returns-then-eq-clause-endless : goal.returns-then-eq-clause-endless
@@ -30,12 +30,12 @@ returns-then-eq-clause-endless c = λ q b h.
     let last : slice_index c.loop-top.path.items (length c.loop-top.path.items - 1) ≡ c.in-Some.field-0.now = search rules in
     let at : c.advance-at.result < length c.successors-successors.result.now = search rules in
     let is_open : mark_at c.loop-top.marks.items (slice_index_or c.successors-successors.result.now c.advance-at.result 0) ≡ Open =
-    (let inside : slice_index c.successors-successors.result.now c.advance-at.result < length c.deref-in-Some.result.now = successors_inside _ _ _ _ _ c.requires.graph c.successors-successors.ensures c.deref-in-Some.ensures.value c.loop-top.invariant.0.searched.size c.advance-at.result at in
+    (let inside : slice_index c.successors-successors.result.now c.advance-at.result < length c.deref-in-Some.result.now = successors_inside _ _ _ _ _ c.requires.graph c.successors-successors.ensures.value c.deref-in-Some.ensures.value c.loop-top.invariant.0.searched.size c.advance-at.result at in
     let long : length c.deref-in-Some.result.now ≡ length c.loop-top.marks.items = ap length c.deref-in-Some.ensures.value in
     let same : c.index.result.now ≡ Open = search rules in
     get_or_default c.loop-top.marks.items (slice_index_or c.successors-successors.result.now c.advance-at.result 0) Unseen c.index.result.now (omega arith) ∙ sym c.index.ensures ∙ same) in
     visits_endless _ _ _ _ c.loop-top.marks.items c.loop-top.path.items (slice_index_or c.successors-successors.result.now c.advance-at.result 0) b c.loop-top.invariant.0 some
-    (successor_has _ _ _ (c.successors-successors.ensures ∙ ap (successors_of c.args.graph.now) (sym last)) at) is_open h
+    (successor_has _ _ _ (c.successors-successors.ensures.value ∙ ap (successors_of c.args.graph.now) (sym last)) at) is_open h
 
 pub enter-requires-else-at-successors-clause-searched : goal.enter-requires-else-at-successors-clause-searched
 enter-requires-else-at-successors-clause-searched c = c.loop-top.invariant.0.searched
@@ -43,7 +43,7 @@ enter-requires-else-at-successors-clause-searched c = c.loop-top.invariant.0.sea
 pub enter-requires-else-at-successors-clause-inside : goal.enter-requires-else-at-successors-clause-inside
 enter-requires-else-at-successors-clause-inside c =
     let at : c.advance-at.result < length c.successors-successors.result.now = search rules in
-    let inside : slice_index c.successors-successors.result.now c.advance-at.result < length c.deref-in-Some.result.now = successors_inside _ _ _ _ _ c.requires.graph c.successors-successors.ensures c.deref-in-Some.ensures.value c.loop-top.invariant.0.searched.size c.advance-at.result at in
+    let inside : slice_index c.successors-successors.result.now c.advance-at.result < length c.deref-in-Some.result.now = successors_inside _ _ _ _ _ c.requires.graph c.successors-successors.ensures.value c.deref-in-Some.ensures.value c.loop-top.invariant.0.searched.size c.advance-at.result at in
     let long : length c.deref-in-Some.result.now ≡ length c.loop-top.marks.items = ap length c.deref-in-Some.ensures.value in
     let size = c.loop-top.invariant.0.searched.size in
     omega arith
