@@ -1,15 +1,17 @@
-ghost use Rattle.std.specs.Prelude.{◌≡◌, ◌<◌, ◌+◌, ◌^◌, ◌++◌, [], ◌∷◌, Some, length, map, slice_get, string_bytes, String, OnOk, IfOk};
-ghost use Rattle.std.specs.Global.{Global};
-ghost use Rattle.im_assemble.specs.Names.{part_names};
+ghost use Rattle.std.specs.Prelude.{◌≡◌, ◌<◌, ◌+◌, ◌^◌, length, OnOk, IfOk};
+ghost use Rattle.im_block.specs.declared.unit.Unit.{Unit as Code};
+ghost use Rattle.im_link.specs.Linking.{Grows};
 ghost use Rattle.im_selecting.specs.Emitted.{entry_label};
-ghost use Rattle.im_linked.specs.Program.{first_label};
-ghost use Rattle.im_assemble.specs.Assembled.{IsAssemblable, IsNextLabel, AddsFunction, AddsFunctions};
+ghost use Rattle.im_selecting.specs.Given.{given};
+ghost use Rattle.im_selecting.specs.Selects.{IsSelectable};
+ghost use Rattle.im_assemble.specs.Assembled.{IsAssemblable, AddsSelection, AddsNamedFunctions};
 
 use crate::program::Program;
 use crate::runtime::push_part;
+use im_block::Function;
+use im_link::Linker;
 use im_num::NoMemory;
 use im_rtlib::FIRST_FREE;
-use im_rv::Part;
 use im_selecting::{Names, select};
 use std::alloc::Global;
 
@@ -24,60 +26,51 @@ fn label_behind(label: u32, blocks: usize) -> Result<u32, NoMemory>
     }
 }
 
-/// Adds a function's part. `first_block` is the label of its block 0.
+/// Adds a function's part.
 fn push_function(
     alloc: Global,
-    parts: &mut Vec<Part>,
-    program: &Program,
-    functions: u32,
+    linker: &mut Linker,
+    names: &Names,
     number: u32,
-    first_block: u32,
+    name: &str,
 ) -> Result<(), NoMemory>
-    requires assemblable { IsAssemblable program.now }
-    requires functions { functions ≡ length program.now.unit.now.functions.items }
-    requires number { number < functions }
-    requires first { first_block ≡ first_label program.now.unit.now.functions.items number }
-    requires fits { IsNextLabel program.now.unit.now.functions.items number }
-    ensures adds { OnOk result (AddsFunction program.now number parts.old.items parts.new.items) }
-    ensures named { OnOk result ((name : String Global)
-        → slice_get program.now.names.now number ≡ Some name
-        → part_names parts.new.items ≡ part_names parts.old.items ++ (string_bytes name ∷ [])) }
+    requires { IsSelectable (given names.now) number }
+    ensures { OnOk result
+        (Grows linker.old linker.new (AddsSelection (given names.now) number name.now)) }
 {
-    let names = Names {
-        statics: program.statics,
-        functions,
-        function: &program.unit.functions[number as usize],
-        layout: &program.layouts[number as usize],
-        first_block,
-    };
-    let lines = select(alloc, &names, number)?;
-    push_part(alloc, parts, program.names[number as usize].as_str(), lines)?;
+    let lines = select(alloc, names, number)?;
+    push_part(alloc, linker, name, lines)?;
     Ok(())
 }
 
-/// Adds the parts of all functions.
+/// Adds the parts of all functions. Each function is given back once its part is there.
 pub(crate) fn push_functions(
     alloc: Global,
-    parts: &mut Vec<Part>,
+    linker: &mut Linker,
+    functions: Vec<Function>,
     program: &Program,
 ) -> Result<(), NoMemory>
-    requires { IsAssemblable program.now }
-    ensures adds { OnOk result (AddsFunctions program.now
-        (length program.now.unit.now.functions.items) parts.old.items parts.new.items) }
-    ensures named { OnOk result (part_names parts.new.items ≡ part_names parts.old.items
-        ++ map string_bytes program.now.names.now) }
-    ensures labels { OnOk result
-        (entry_label (length program.now.unit.now.functions.items) < 2 ^ 32) }
+    requires { (u : Code) × (functions.items ≡ u.functions.items) × IsAssemblable u program.now }
+    ensures adds { OnOk result (Grows linker.old linker.new
+        (AddsNamedFunctions functions.items program.now (length functions.items))) }
+    ensures labels { OnOk result (entry_label (length functions.items) < 2 ^ 32) }
 {
-    let mut first_block = label_behind(FIRST_FREE, program.unit.functions.len())?;
-    let functions = first_block - FIRST_FREE;
-    for number in 0..functions {
-        let next = label_behind(
+    let mut first_block = label_behind(FIRST_FREE, functions.len())?;
+    let count = first_block - FIRST_FREE;
+    let mut number = 0;
+    for function in functions {
+        let next = label_behind(first_block, function.blocks.len())?;
+        let names = Names {
+            statics: program.statics,
+            functions: count,
+            function: &function,
+            layout: &program.layouts[number as usize],
             first_block,
-            program.unit.functions[number as usize].blocks.len(),
-        )?;
-        push_function(alloc, parts, program, functions, number, first_block)?;
+        };
+        let name = program.names[number as usize].as_str();
+        push_function(alloc, linker, &names, number, name)?;
         first_block = next;
+        number += 1;
     }
     Ok(())
 }

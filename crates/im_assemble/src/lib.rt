@@ -1,8 +1,9 @@
-//! From placed code to the parts of a program: the runtime, the functions, the lines that begin.
+//! From placed code to the parts of a program, in a linker: the runtime, the functions, the lines
+//! that begin.
 #![tactic(auto)]
 
 mod functions;
 mod program;
 mod runtime;
 
-pub use program::{Program, assemble};
+pub use program::{Assembled, Program, assemble};

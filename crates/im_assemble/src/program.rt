@@ -1,20 +1,17 @@
-ghost use Rattle.std.specs.Prelude.{◌≡◌, map, string_bytes, IfOk};
-ghost use Rattle.im_linked.specs.Program.{IsProgram};
-ghost use Rattle.im_assemble.specs.Assembled.{IsAssemblable};
-ghost use Rattle.im_assemble.specs.Names.{part_names, program_names};
+ghost use Rattle.std.specs.Prelude.{◌≡◌, IfOk};
+ghost use Rattle.im_assemble.specs.Assembled.{IsAssemblable, IsAssembled};
 
 use crate::functions::push_functions;
 use crate::runtime::{push_start, runtime_parts};
-use im_block::Unit;
+use im_block::{Static, Unit};
 use im_frame::Layout;
+use im_link::Linker;
 use im_num::NoMemory;
-use im_rv::Part;
 use std::alloc::Global;
 
-/// A unit of placed code, and where its objects lie.
+/// Where the objects of a unit of placed code lie, and what its functions are called.
 #[derive(Clone, Copy)]
 pub struct Program<'a> {
-    pub unit: &'a Unit,
     /// The layout of each function's frame.
     pub layouts: &'a [Layout],
     /// The address of each static.
@@ -23,17 +20,28 @@ pub struct Program<'a> {
     pub names: &'a [String],
 }
 
-/// The parts of a program's code, in order: recovery, the checkpoint, the routines, the functions,
-/// and the lines that begin.
-pub fn assemble(alloc: Global, program: &Program) -> Result<Vec<Part>, NoMemory>
-    requires { IsAssemblable program.now }
-    ensures program { IfOk result (λ parts. IsProgram program.now.unit.now
-        program.now.statics.now program.now.layouts.now parts.items) }
-    ensures named { IfOk result (λ parts. part_names parts.items
-        ≡ program_names (map string_bytes program.now.names.now)) }
+/// A program's parts in a linker, and the statics of its unit.
+#[derive(Drop)]
+pub struct Assembled {
+    pub linker: Linker,
+    pub statics: Vec<Static>,
+}
+
+/// Puts the parts of a program's code into a linker, in order: recovery, the checkpoint, the
+/// routines, the functions, and the lines that begin. Each function is given back once its part is
+/// there.
+pub fn assemble(alloc: Global, unit: Unit, program: &Program) -> Result<Assembled, NoMemory>
+    requires { IsAssemblable unit program.now }
+    ensures statics { IfOk result (λ assembled. assembled.statics ≡ unit.statics) }
+    ensures parts { IfOk result (λ assembled. IsAssembled unit program.now assembled.linker) }
 {
-    let mut parts = runtime_parts(alloc)?;
-    push_functions(alloc, &mut parts, program)?;
-    push_start(alloc, &mut parts, program.unit.main)?;
-    Ok(parts)
+    let Unit {
+        statics,
+        functions,
+        main,
+    } = unit;
+    let mut linker = runtime_parts(alloc)?;
+    push_functions(alloc, &mut linker, functions, program)?;
+    push_start(alloc, &mut linker, main)?;
+    Ok(Assembled { linker, statics })
 }

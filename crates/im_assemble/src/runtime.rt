@@ -1,45 +1,45 @@
-ghost use Rattle.std.specs.Prelude.{◌≡◌, ◌<◌, ◌+◌, ◌^◌, ◌++◌, ◌∷◌, [], OnOk, IfOk, codes};
+ghost use Rattle.std.specs.Prelude.{◌≡◌, ◌<◌, ◌^◌, OnOk, IfOk, codes};
 ghost use Rattle.im_rv.specs.Lines.{code_lines};
+ghost use Rattle.im_link.specs.Linking.{Grows};
 ghost use Rattle.im_selecting.specs.Emitted.{entry_label};
 ghost use Rattle.im_linked.specs.Program.{start_code};
-ghost use Rattle.im_assemble.specs.Assembled.{Adds, IsRuntime};
-ghost use Rattle.im_assemble.specs.Names.{part_names, runtime_names};
+ghost use Rattle.im_assemble.specs.Assembled.{AddsNamed, HasRuntime};
 
 use im_ckpt::{checkpoint_lines, recovery_lines};
+use im_link::Linker;
 use im_num::NoMemory;
 use im_rtlib::{FIRST_FREE, exit_lines, getchar_lines, putchar_lines, stack_lines};
 use im_rv::assembler::jal;
 use im_rv::{Line, Part, plain};
 use std::alloc::Global;
 
-/// Adds a part.
+/// Adds a part, whose lines are given back then.
 pub(crate) fn push_part(
     alloc: Global,
-    parts: &mut Vec<Part>,
+    linker: &mut Linker,
     name: &str,
     lines: Vec<Line>,
 ) -> Result<(), NoMemory>
-    ensures adds { OnOk result (Adds parts.old.items parts.new.items (code_lines lines.items)) }
-    ensures named { OnOk result
-        (part_names parts.new.items ≡ part_names parts.old.items ++ (name.now ∷ [])) }
+    ensures { OnOk result
+        (Grows linker.old linker.new (AddsNamed (code_lines lines.items) name.now)) }
 {
     let name = String::from_str(alloc, name)?;
-    parts.push(Part { name, lines })?;
+    let part = Part { name, lines };
+    linker.add(alloc, &part)?;
     Ok(())
 }
 
 /// Recovery, the checkpoint, and the routines.
-pub(crate) fn runtime_parts(alloc: Global) -> Result<Vec<Part>, NoMemory>
-    ensures adds { IfOk result (λ parts. IsRuntime parts.items) }
-    ensures named { IfOk result (λ parts. part_names parts.items ≡ runtime_names) }
+pub(crate) fn runtime_parts(alloc: Global) -> Result<Linker, NoMemory>
+    ensures { IfOk result HasRuntime }
 {
-    let mut parts = Vec::new(alloc);
-    push_part(alloc, &mut parts, "recovery", recovery_lines(alloc)?)?;
-    push_part(alloc, &mut parts, "checkpoint", checkpoint_lines(alloc)?)?;
-    push_part(alloc, &mut parts, "getchar", getchar_lines(alloc)?)?;
-    push_part(alloc, &mut parts, "putchar", putchar_lines(alloc)?)?;
-    push_part(alloc, &mut parts, "stack", stack_lines(alloc)?)?;
-    Ok(parts)
+    let mut linker = Linker::new(alloc);
+    push_part(alloc, &mut linker, "recovery", recovery_lines(alloc)?)?;
+    push_part(alloc, &mut linker, "checkpoint", checkpoint_lines(alloc)?)?;
+    push_part(alloc, &mut linker, "getchar", getchar_lines(alloc)?)?;
+    push_part(alloc, &mut linker, "putchar", putchar_lines(alloc)?)?;
+    push_part(alloc, &mut linker, "stack", stack_lines(alloc)?)?;
+    Ok(linker)
 }
 
 /// The call of main, and behind it the end of a program that has returned.
@@ -56,11 +56,11 @@ fn start_lines(alloc: Global, main: u32) -> Result<Vec<Line>, NoMemory>
 }
 
 /// Adds the lines that begin.
-pub(crate) fn push_start(alloc: Global, parts: &mut Vec<Part>, main: u32) -> Result<(), NoMemory>
+pub(crate) fn push_start(alloc: Global, linker: &mut Linker, main: u32) -> Result<(), NoMemory>
     requires { entry_label main < 2 ^ 32 }
-    ensures adds { OnOk result (Adds parts.old.items parts.new.items (start_code main)) }
-    ensures named { OnOk result
-        (part_names parts.new.items ≡ part_names parts.old.items ++ (codes "start" ∷ [])) }
+    ensures { OnOk result
+        (Grows linker.old linker.new (AddsNamed (start_code main) (codes "start"))) }
 {
-    push_part(alloc, parts, "start", start_lines(alloc, main)?)
+    push_part(alloc, linker, "start", start_lines(alloc, main)?)?;
+    Ok(())
 }

@@ -10,33 +10,16 @@ use Rattle.im_rv.specs.declared.code.Part.{Part}
 use Rattle.im_rv.specs.declared.code.Cut.{Cut}
 use Rattle.im_rv.specs.Code.{address}
 use Rattle.im_link.specs.Parts.{word_count, lines_of, first_of, IsPart}
-use Rattle.im_link.specs.Cuts.{IsAccessAt, HasAccesses, IsPlacedCause, IsCutIn, AreCutsOf}
+use Rattle.im_link.specs.Cuts.{IsAccessAt, HasAccesses, IsPlacedCause, IsCutOf, IsCutIn, AreCutsOf}
 use Rattle.im_link.specs.State.{AreAccessesOf, AreAccessesInside, IsCauseBy, IsNamedAt, AddsCut, AddsCutOf, AreFirstCuts}
 use Rattle.im_link.specs.Code.{AreDependencesNamed}
-use Rattle.im_link.proofs.Joining.{get_kept, lines_count, line_in, first_inside}
+use Rattle.im_link.proofs.Joining.{get_kept, same_at, old_or_last, last_one, lines_count, lines_snoc, line_in, first_inside, first_kept, first_behind, part_kept, part_behind}
 
 below_or : (j n : ℕ) → j < n + 1 → (j < n) ⊎ (j ≡ n)
 below_or j n l = grind arith
 
 inside_or : (j n : ℕ) → (j < n) ⊎ (n ≤ j)
 inside_or j n = grind arith
-
-same_at : {X : Type 0} (xs : List X) (i : ℕ) (x y : X) → slice_get xs i ≡ Some x → slice_get xs i ≡ Some y → x ≡ y
-same_at xs i x y p q = (let e : Some x ≡ Some y = sym p ∙ q in cc)
-
--- an element of a list with one more is an old one or the last
-pub old_or_last : {X : Type 0} (xs : List X) (y x : X) (c : ℕ) → slice_get (xs ++ y ∷ []) c ≡ Some x → (slice_get xs c ≡ Some x) ⊎ ((c ≡ length xs) × (x ≡ y))
-old_or_last [] y x zero e = inr (refl, (let q : Some y ≡ Some x = e in cc))
-old_or_last [] y x (suc c) e = absurd (let q : None ≡ Some x = e in cc)
-old_or_last (z ∷ xs) y x zero e = inl e
-old_or_last (z ∷ xs) y x (suc c) e = elim (old_or_last xs y x c e) [
-  | inl o ↦ inl o
-  | inr l ↦ inr ((let q = l.0 in omega arith), l.1)
-]
-
-last_one : {X : Type 0} (xs : List X) (y : X) → slice_get (xs ++ y ∷ []) (length xs) ≡ Some y
-last_one [] y = refl
-last_one (x ∷ xs) y = last_one xs y
 
 element_at : {X : Type 0} (xs : List X) (k : ℕ) → k < length xs → (x : X) × (slice_get xs k ≡ Some x)
 element_at [] k l = absurd (omega arith)
@@ -116,6 +99,41 @@ module _ (parts : List Part) where
 
   pub room_in : (p first : ℕ) (part : Part) → first ≡ first_of parts p → IsPart parts p part → word_count parts ≤ 261120 → first + length part.lines.items ≤ 261120
   room_in p first part e g few = (let i = first_inside parts p part g in omega arith)
+
+-- ---- the cuts of a part that is behind the others
+
+cut_kept : (parts : List Part) (part : Part) (cut : Cut) → IsCutIn parts cut → IsCutIn (parts ++ part ∷ []) cut
+cut_kept parts part cut h = record {
+  p = h.p;
+  k = h.k;
+  part = h.part;
+  is_part = part_kept parts part h.part h.p h.is_part;
+  is_cut = subst (λ (z : ℕ). IsCutOf h.part z h.k cut) (sym (first_kept parts part h.p (let l = slice_get_within parts h.p h.part h.is_part in omega arith))) h.is_cut;
+}
+
+pub cuts_kept : (parts : List Part) (part : Part) (n : ℕ) (cuts : List Cut) → n ≡ word_count parts → AreFirstCuts parts n cuts → AreFirstCuts (parts ++ part ∷ []) n cuts
+cuts_kept parts part n cuts e s = record {
+  ascending = s.ascending;
+  each = λ c cut g. cut_kept parts part cut (s.each c cut g);
+  below = s.below;
+  all = λ i line cause l g h.
+      let there : slice_get (lines_of parts ++ part.lines.items) i ≡ Some line = sym (ap (λ (z : List Line). slice_get z i) (lines_snoc parts part)) ∙ g in
+      let inside : i < length (lines_of parts) = (let c = lines_count parts in omega arith) in
+      s.all i line cause l (sym (get_kept (lines_of parts) part.lines.items i inside) ∙ there) h;
+}
+
+pub cuts_begin : (parts : List Part) (part : Part) (first : ℕ) (cuts : List Cut) → first ≡ word_count parts → AreFirstCuts parts first cuts → AreFirstCuts (parts ++ part ∷ []) (first + 0) cuts
+cuts_begin parts part first cuts e s = subst (λ (z : ℕ). AreFirstCuts (parts ++ part ∷ []) z cuts) (let z : first ≡ first + 0 = omega arith in z) (cuts_kept parts part first cuts e s)
+
+pub cuts_behind : (parts : List Part) (part : Part) (first k : ℕ) (old new : List Cut) → first ≡ word_count parts → k < length part.lines.items → AreDependencesNamed (parts ++ part ∷ []) →
+    (IsNamedAt part k → AddsCutOf part first k old new) → AreFirstCuts (parts ++ part ∷ []) (first + k) old → AreFirstCuts (parts ++ part ∷ []) (first + (k + 1)) new
+cuts_behind parts part first k old new e l named adds s =
+    let all : List Part = parts ++ part ∷ [] in
+    let here = part_behind parts part in
+    cuts_next all (length parts) k first part old new (e ∙ sym (first_behind parts part)) here l (adds (named_at all (length parts) k part named here)) s
+
+pub cuts_end : (parts : List Part) (part : Part) (first k : ℕ) (cuts : List Cut) → k ≡ length part.lines.items → AreFirstCuts (parts ++ part ∷ []) (first + k) cuts → AreFirstCuts (parts ++ part ∷ []) (first + length part.lines.items) cuts
+cuts_end parts part first k cuts e s = subst (λ (z : ℕ). AreFirstCuts (parts ++ part ∷ []) (first + z) cuts) e s
 
 module _ (lines : List Line) (found : ℕ → Option ℕ) (a : AreAccessesOf lines (length lines) found) where
   pub accesses_inside : (first : ℕ) → first + length lines ≤ 261120 → AreAccessesInside found first

@@ -1,5 +1,5 @@
 -- The lines of parts, one part after another.
-use Rattle.std.proofs.Common.{◌≡◌, ℕ, zero, suc, ◌+◌, ◌<◌, ◌≤◌, List, [], ◌∷◌, ◌++◌, length, take, Some, refl, sym, ap, ◌∙◌, arith, append_assoc, get_or}
+use Rattle.std.proofs.Common.{◌≡◌, ℕ, zero, suc, ◌+◌, ◌<◌, ◌≤◌, ◌⊎◌, inl, inr, List, [], ◌∷◌, ◌++◌, length, take, Some, None, refl, sym, ap, ◌∙◌, arith, append_assoc, get_or}
 use Rattle.std.specs.Prelude.{slice_get}
 use Rattle.std.proofs.lemmas.List.{length-append, take_more, take_all}
 use Rattle.std.proofs.lemmas.List.Sums.{sum_by-cons, sum_by_more, sum_by_more_le}
@@ -17,6 +17,23 @@ pub get_behind : {X : Type 0} → (xs ys : List X) (i k : ℕ) → i ≡ length 
 get_behind [] ys i k e = ap (slice_get ys) (let z : i ≡ k = omega arith in z)
 get_behind (x ∷ xs) ys zero k e = absurd (omega arith)
 get_behind (x ∷ xs) ys (suc i) k e = get_behind xs ys i k (omega arith)
+
+pub same_at : {X : Type 0} (xs : List X) (i : ℕ) (x y : X) → slice_get xs i ≡ Some x → slice_get xs i ≡ Some y → x ≡ y
+same_at xs i x y p q = (let e : Some x ≡ Some y = sym p ∙ q in cc)
+
+-- an element of a list with one more is an old one or the last
+pub old_or_last : {X : Type 0} (xs : List X) (y x : X) (c : ℕ) → slice_get (xs ++ y ∷ []) c ≡ Some x → (slice_get xs c ≡ Some x) ⊎ ((c ≡ length xs) × (x ≡ y))
+old_or_last [] y x zero e = inr (refl, (let q : Some y ≡ Some x = e in cc))
+old_or_last [] y x (suc c) e = absurd (let q : None ≡ Some x = e in cc)
+old_or_last (z ∷ xs) y x zero e = inl e
+old_or_last (z ∷ xs) y x (suc c) e = elim (old_or_last xs y x c e) [
+  | inl o ↦ inl o
+  | inr l ↦ inr ((let q = l.0 in omega arith), l.1)
+]
+
+pub last_one : {X : Type 0} (xs : List X) (y : X) → slice_get (xs ++ y ∷ []) (length xs) ≡ Some y
+last_one [] y = refl
+last_one (x ∷ xs) y = last_one xs y
 
 pub lines_append : (xs ys : List Part) → lines_of (xs ++ ys) ≡ lines_of xs ++ lines_of ys
 lines_append [] ys = refl
@@ -65,3 +82,31 @@ line_in (x ∷ xs) zero k part line g h =
 line_in (x ∷ xs) (suc p) k part line g h =
     let sum = sum_by-cons part_size x (take p xs) in
     get_behind x.lines.items (lines_of xs) (first_of (x ∷ xs) (suc p) + k) (first_of xs p + k) (omega arith) ∙ line_in xs p k part line g h
+
+-- ---- one part more
+
+pub lines_snoc : (parts : List Part) (part : Part) → lines_of (parts ++ part ∷ []) ≡ lines_of parts ++ part.lines.items
+lines_snoc parts part = lines_append parts (part ∷ []) ∙ ap (λ (z : List Line). lines_of parts ++ z) (append_nil part.lines.items)
+
+pub count_snoc : (parts : List Part) (part : Part) → word_count (parts ++ part ∷ []) ≡ word_count parts + part_size part
+count_snoc parts part =
+    sym (lines_count (parts ++ part ∷ [])) ∙ ap (length {A = Line}) (lines_snoc parts part) ∙ length-append (lines_of parts) part.lines.items
+    ∙ ap (λ (z : ℕ). z + part_size part) (lines_count parts)
+
+take_kept : {X : Type 0} (xs ys : List X) (p : ℕ) → p ≤ length xs → take p (xs ++ ys) ≡ take p xs
+take_kept xs ys zero l = refl
+take_kept [] ys (suc p) l = absurd (omega arith)
+take_kept (x ∷ xs) ys (suc p) l = ap (λ (z : List _). x ∷ z) (take_kept xs ys p (omega arith))
+
+pub first_kept : (parts : List Part) (part : Part) (p : ℕ) → p ≤ length parts → first_of (parts ++ part ∷ []) p ≡ first_of parts p
+first_kept parts part p l = ap word_count (take_kept parts (part ∷ []) p l)
+
+-- the added part begins where the others end
+pub first_behind : (parts : List Part) (part : Part) → first_of (parts ++ part ∷ []) (length parts) ≡ word_count parts
+first_behind parts part = first_kept parts part (length parts) (omega arith) ∙ first_whole parts
+
+pub part_kept : (parts : List Part) (part other : Part) (p : ℕ) → IsPart parts p other → IsPart (parts ++ part ∷ []) p other
+part_kept parts part other p g = get_kept parts (part ∷ []) p (slice_get_within parts p other g) ∙ g
+
+pub part_behind : (parts : List Part) (part : Part) → IsPart (parts ++ part ∷ []) (length parts) part
+part_behind parts part = last_one parts part

@@ -1,5 +1,5 @@
 pub mod Joining
-pub mod Placing
+pub mod Keeping
 pub mod Accessing
 pub mod Cutting
 pub mod Laying

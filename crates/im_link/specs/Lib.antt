@@ -4,3 +4,4 @@ pub mod Cuts
 pub mod Code
 pub mod Laws
 pub mod State
+pub mod Linking

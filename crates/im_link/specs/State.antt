@@ -1,7 +1,8 @@
--- For private contracts: how far labels, words and cuts have come.
-use Rattle.std.specs.Prelude.{◌≡◌, ℕ, ◌+◌, ◌<◌, ◌≤◌, List, [], ◌∷◌, ◌++◌, Option, Some, None, length, slice_get, slice_index}
+-- For private contracts: how far words, aims, labels and cuts have come.
+use Rattle.std.specs.Prelude.{◌≡◌, ◌≢◌, ℕ, ◌+◌, ◌<◌, List, [], ◌∷◌, ◌++◌, Option, Some, None, length, slice_get, slice_index}
 use Rattle.im_num.specs.declared.values.Cause.{Cause}
 use Rattle.im_num.specs.declared.values.Cause.TheVariants.{Dep}
+use Rattle.im_rv.specs.declared.instr.Instr.{Instr}
 use Rattle.im_rv.specs.declared.code.Line.{Line}
 use Rattle.im_rv.specs.declared.code.Part.{Part}
 use Rattle.im_rv.specs.declared.code.Cut.{Cut}
@@ -9,39 +10,47 @@ use Rattle.im_rv.specs.Decode.{Line as Instruction, decode}
 use Rattle.im_rv.specs.Lines.{line_of}
 use Rattle.im_rv.specs.Code.{address}
 use Rattle.im_link.specs.Parts.{lines_of}
-use Rattle.im_link.specs.Links.{StandsAt, Reaches, IsAimed, IsWordOf, AreLabelsApart, AreTargetsNear}
+use Rattle.im_link.specs.declared.aim.Aim.{Aim}
+use Rattle.im_link.specs.Links.{StandsAt, IsAimed}
 use Rattle.im_link.specs.Cuts.{IsAccessAt, HasAccesses, IsCutOf, IsCutIn}
 
--- lines that can be given words
-pub record ArePlaceable (lines : List Line) : Type 0 where
-  pub few : length lines ≤ 261120
-  pub apart : AreLabelsApart lines
-  pub targets : AreTargetsNear lines
+-- the line of an aim: word aim.at, with its target and instruction
+pub record IsAimOf (lines : List Line) (aim : Aim) : Type 0 where
+  pub line : Line
+  pub is_line : slice_get lines aim.at ≡ Some line
+  pub target : line.target ≡ Some aim.label
+  pub instr : aim.instr ≡ line.instr
 
--- the map has the places of the labels of the first n lines
-pub record ArePlacesOf (lines : List Line) (n : ℕ) (found : ℕ → Option ℕ) : Type 0 where
+-- one of the aims is of line i
+abbrev pub HasAim : List Aim → ℕ → Type 0
+HasAim aims i = (k : ℕ) × (aim : Aim) × (slice_get aims k ≡ Some aim) × (aim.at ≡ i)
+
+-- The words of lines, those with a target left open; an aim for each of these; and places where labels stand.
+pub record AreLinesKept (lines : List Line) (words : List ℕ) (aims : List Aim) (found : ℕ → Option ℕ) : Type 0 where
+  pub count : length words ≡ length lines
+  pub plain : (i : ℕ) (line : Line) → slice_get lines i ≡ Some line → line.target ≡ None → decode (slice_index words i) ≡ Some (line_of line.instr)
+  pub aims_are : (k : ℕ) (aim : Aim) → slice_get aims k ≡ Some aim → IsAimOf lines aim
+  pub aimed : (i l : ℕ) (line : Line) → slice_get lines i ≡ Some line → line.target ≡ Some l → HasAim aims i
   pub stands : (l j : ℕ) → found l ≡ Some j → StandsAt lines l j
-  pub known : (l j : ℕ) → j < n → StandsAt lines l j → found l ≡ Some j
 
--- the label that a line at word i leads to has a place, in its reach
-abbrev pub HasPlaceNear : (ℕ → Option ℕ) → ℕ → Line → Type 0
-HasPlaceNear found i line = (l : ℕ) → line.target ≡ Some l → (j : ℕ) × (found l ≡ Some j) × (j < 261120) × Reaches line.instr i j
+-- the aim of an instruction that is word `at` is added, if it has a target
+abbrev pub AddsAim : ℕ → Instr → Option ℕ → List Aim → List Aim → Type 0
+AddsAim at instr None old new = new ≡ old
+AddsAim at instr (Some l) old new = (aim : Aim) × (new ≡ old ++ aim ∷ []) × (aim.at ≡ at) × (aim.label ≡ l) × (aim.instr ≡ instr)
 
--- what word i has to be, where the map has the places
-abbrev pub DoesBy : (ℕ → Option ℕ) → ℕ → Line → Option ℕ → Instruction → Type 0
-DoesBy found i line None to = to ≡ line_of line.instr
-DoesBy found i line (Some l) to = (j : ℕ) × (found l ≡ Some j) × IsAimed (line_of line.instr) i j to
+-- the word of an aim leads to the place of its label
+pub record IsAimedWord (found : ℕ → Option ℕ) (aim : Aim) (w : ℕ) : Type 0 where
+  pub place : ℕ
+  pub is_place : found aim.label ≡ Some place
+  pub to : Instruction
+  pub is_word : decode w ≡ Some to
+  pub leads : IsAimed (line_of aim.instr) aim.at place to
 
-abbrev pub IsWordBy : (ℕ → Option ℕ) → ℕ → Line → ℕ → Type 0
-IsWordBy found i line w = (to : Instruction) × (decode w ≡ Some to) × DoesBy found i line line.target to
-
-abbrev pub IsDone : List Line → ℕ → ℕ → Type 0
-IsDone lines i w = (line : Line) → slice_get lines i ≡ Some line → IsWordOf lines i line w
-
--- the words of the first n lines
-pub record AreFirstWords (lines : List Line) (n : ℕ) (words : List ℕ) : Type 0 where
-  pub count : length words ≡ n
-  pub done : (i : ℕ) → i < n → IsDone lines i (slice_index words i)
+-- w is put at a place of a list that has it, and the rest stays
+pub record IsPut (at w : ℕ) (old new : List ℕ) : Type 0 where
+  pub count : length new ≡ length old
+  pub here : slice_index new at ≡ w
+  pub others : (i : ℕ) → i ≢ at → slice_index new i ≡ slice_index old i
 
 -- the map has the places of the accesses of the first n lines: the last line of each
 pub record AreAccessesOf (lines : List Line) (n : ℕ) (found : ℕ → Option ℕ) : Type 0 where

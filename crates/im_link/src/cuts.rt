@@ -1,9 +1,8 @@
-ghost use Rattle.std.specs.Prelude.{◌≡◌, ◌+◌, ◌<◌, ◌≤◌, ℕ, length, nat_eq, slice_get, IfOk, IfSome, OnOk, Some};
+ghost use Rattle.std.specs.Prelude.{◌≡◌, ◌+◌, ◌<◌, ◌≤◌, ◌++◌, ◌∷◌, [], List, length, nat_eq, IfSome, OnOk};
 ghost use Rattle.std.specs.HashMap as hash;
 ghost use Rattle.im_rv.specs.Code.{address};
-ghost use Rattle.im_rv.specs.declared.code.Line.{Line as CodeLine};
-ghost use Rattle.im_link.specs.Parts.{word_count, first_of};
-ghost use Rattle.im_link.specs.Cuts.{AreCutsOf};
+ghost use Rattle.im_rv.specs.declared.code.Part.{Part as CodePart};
+ghost use Rattle.im_link.specs.Parts.{word_count};
 ghost use Rattle.im_link.specs.State.{AreAccessesOf, AreAccessesInside, IsNamedAt, IsCauseBy, AddsCutOf, AreFirstCuts};
 ghost use Rattle.im_link.specs.Code.{AreDependencesNamed};
 
@@ -49,8 +48,8 @@ fn push_cut(
     requires room { first + length part.now.lines.items ≤ 261120 }
     requires accesses { AreAccessesOf part.now.lines.items (length part.now.lines.items)
         (hash.get nat_eq accesses.now) }
-    requires dependences { IsNamedAt part.now k }
-    ensures { OnOk result (AddsCutOf part.now first k cuts.old.items cuts.new.items) }
+    ensures { OnOk result (IsNamedAt part.now k
+        → AddsCutOf part.now first k cuts.old.items cuts.new.items) }
 {
     if let Some(cause) = part.lines[k].cause {
         cuts.push(Cut {
@@ -62,40 +61,22 @@ fn push_cut(
     Ok(())
 }
 
-// Adds the cuts of part p, whose first word has the number `first`.
-fn push_cuts(
+/// Adds the cuts of a part, whose first word has the number `first`.
+pub fn push_cuts(
     alloc: Global,
     cuts: &mut Vec<Cut>,
-    parts: &[Part],
-    p: usize,
+    part: &Part,
     first: usize,
 ) -> Result<(), NoMemory>
-    requires few { word_count parts.now ≤ 261120 }
-    requires dependences { AreDependencesNamed parts.now }
-    requires inside { p < length parts.now }
-    requires first { first ≡ first_of parts.now p }
-    requires cuts { AreFirstCuts parts.now first cuts.old.items }
-    ensures { OnOk result (AreFirstCuts parts.now (first_of parts.now (p + 1)) cuts.new.items) }
+    requires { first + length part.now.lines.items ≤ 261120 }
+    ensures { OnOk result ((parts : List CodePart) → first ≡ word_count parts
+        → AreDependencesNamed (parts ++ part.now ∷ []) → AreFirstCuts parts first cuts.old.items
+        → AreFirstCuts (parts ++ part.now ∷ []) (first + length part.now.lines.items)
+        cuts.new.items) }
 {
-    let part = &parts[p];
     let accesses = accesses_of(alloc, &part.lines)?;
     for k in 0..part.lines.len() {
         push_cut(cuts, part, &accesses, first, k)?;
     }
     Ok(())
-}
-
-/// The cuts of these parts, by address.
-pub fn cuts_of(alloc: Global, parts: &[Part]) -> Result<Vec<Cut>, NoMemory>
-    requires few { word_count parts.now ≤ 261120 }
-    requires dependences { AreDependencesNamed parts.now }
-    ensures { IfOk result (λ cuts. AreCutsOf parts.now cuts.items) }
-{
-    let mut cuts = Vec::new(alloc);
-    let mut first = 0;
-    for p in 0..parts.len() {
-        push_cuts(alloc, &mut cuts, parts, p, first)?;
-        first += parts[p].lines.len();
-    }
-    Ok(cuts)
 }

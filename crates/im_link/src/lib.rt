@@ -5,10 +5,13 @@ mod aim;
 mod cuts;
 mod fault;
 mod laws;
+mod linker;
 mod linking;
 mod places;
 mod words;
 
+pub use aim::Aim;
 pub use fault::LinkFault;
 pub use laws::laid_law;
+pub use linker::Linker;
 pub use linking::link;

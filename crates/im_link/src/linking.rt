@@ -1,17 +1,11 @@
-ghost use Rattle.std.specs.Prelude.{◌≡◌, ◌+◌, ◌-◌, ◌<◌, ◌≤◌, ◌^◌, min, length, IfOk, IfErr, Err};
-ghost use Rattle.im_rv.specs.Code.{address};
-ghost use Rattle.im_link.specs.Parts.{word_count, byte_count, first_of, last_of, HasLastLine};
+ghost use Rattle.std.specs.Prelude.{◌≡◌, ◌-◌, ◌<◌, ◌^◌, min, IfOk, IfErr, Err};
+ghost use Rattle.im_link.specs.Parts.{word_count, byte_count};
 ghost use Rattle.im_link.specs.Code.{IsLinkable, IsLinked, IsFaultOf, byte_limit, told_count};
 
-use crate::cuts::cuts_of;
 use crate::fault::LinkFault;
-use crate::words::words_of;
-use im_num::NoMemory;
+use crate::linker::{Linker, MOST_WORDS};
 use im_rv::{Code, Part};
 use std::alloc::Global;
-
-// The most words that a code may have.
-const MOST_WORDS: u64 = 261120;
 
 // How many lines the parts have together; 2^64 - 1 where it is more.
 fn count_words(parts: &[Part]) -> u64
@@ -22,19 +16,6 @@ fn count_words(parts: &[Part]) -> u64
         words = words.saturating_add(part.lines.len() as u64);
     }
     words
-}
-
-// The address of the last part's first word.
-fn entry_of(parts: &[Part], words: usize) -> u32
-    requires words { words ≡ word_count parts.now }
-    requires few { words ≤ 261120 }
-    requires last { HasLastLine parts.now }
-    ensures { result ≡ address (first_of parts.now (last_of parts.now)) }
-{
-    match parts.last() {
-        None => 4096,
-        Some(last) => 4096 + 4 * ((words - last.lines.len()) as u32),
-    }
 }
 
 /// The code of these parts, one after another from 0x1000 on.
@@ -49,8 +30,9 @@ pub fn link(alloc: Global, parts: &[Part]) -> Result<Code, LinkFault>
     if count > MOST_WORDS {
         return Err(LinkFault::Limit(count.saturating_mul(4)));
     }
-    let words = words_of(alloc, parts)?;
-    let cuts = cuts_of(alloc, parts)?;
-    let entry = entry_of(parts, words.len());
-    Ok(Code { words, entry, cuts })
+    let mut linker = Linker::new(alloc);
+    for part in parts {
+        linker.add(alloc, part)?;
+    }
+    linker.finish()
 }

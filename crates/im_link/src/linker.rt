@@ -1,0 +1,110 @@
+ghost use Rattle.std.specs.Prelude.{◌≡◌, ◌+◌, ◌-◌, ◌<◌, ◌≤◌, ◌^◌, ◌++◌, ◌∷◌, [], List, length, MatchResult, OnOk, Err};
+ghost use Rattle.im_rv.specs.declared.code.Part.{Part as CodePart};
+ghost use Rattle.im_link.specs.Parts.{byte_count};
+ghost use Rattle.im_link.specs.Code.{IsLinkable, IsLinked, IsFaultOf, byte_limit, told_count};
+ghost use Rattle.im_link.specs.Linking.{Holds, AreKept};
+
+use crate::aim::Aim;
+use crate::cuts::push_cuts;
+use crate::fault::LinkFault;
+use crate::places::Places;
+use crate::words::{aim_words, push_lines};
+use im_num::NoMemory;
+use im_rv::{Code, Cut, Part};
+use std::alloc::Global;
+use std::collections::HashMap;
+
+/// The most words that a code may have.
+pub const MOST_WORDS: u64 = 261120;
+
+/// Parts that are put in their places one after another, from 0x1000 on.
+#[derive(Drop)]
+pub struct Linker {
+    /// A word for each line; that of a line with a target is made when all labels have a place.
+    pub words: Vec<u32>,
+    /// The lines with a target, in order.
+    pub aims: Vec<Aim>,
+    /// The number of the line that each label stands at.
+    pub places: Places,
+    /// The cuts, by address.
+    pub cuts: Vec<Cut>,
+    /// The address of the last part's first word.
+    pub entry: u32,
+    /// How many lines the parts have together; 2^64 - 1 where it is more. Where a code may not have
+    /// so many, the other fields aren't kept.
+    pub count: u64,
+}
+
+impl Linker {
+    /// No part.
+    pub fn new(alloc: Global) -> Linker
+        ensures { Holds result [] }
+    {
+        Linker {
+            words: Vec::new(alloc),
+            aims: Vec::new(alloc),
+            places: HashMap::new(alloc),
+            cuts: Vec::new(alloc),
+            entry: 4096,
+            count: 0,
+        }
+    }
+
+    /// Puts a part behind the others.
+    pub fn add(&mut self, alloc: Global, part: &Part) -> Result<(), NoMemory>
+        ensures { OnOk result ((parts : List CodePart) → Holds self.old parts
+            → Holds self.new (parts ++ part.now ∷ [])) }
+    {
+        self.count = self.count.saturating_add(part.lines.len() as u64);
+        if self.count > MOST_WORDS {
+            return Ok(());
+        }
+        keep(alloc, self, part)?;
+        Ok(())
+    }
+
+    /// The code of all parts.
+    pub fn finish(self) -> Result<Code, LinkFault>
+        ensures code { (parts : List CodePart) → Holds self parts → IsLinkable parts
+            → MatchResult result (IsLinked parts) (IsFaultOf parts) }
+        ensures limit { (parts : List CodePart) → Holds self parts → byte_limit < byte_count parts
+            → result ≡ Err (LinkFault.Limit (told_count parts)) }
+    {
+        if self.count > MOST_WORDS {
+            return Err(LinkFault::Limit(self.count.saturating_mul(4)));
+        }
+        let Linker {
+            mut words,
+            aims,
+            places,
+            mut cuts,
+            entry,
+            ..
+        } = self;
+        aim_words(&mut words, &aims, &places)?;
+        words.shrink_to_fit();
+        cuts.shrink_to_fit();
+        Ok(Code { words, entry, cuts })
+    }
+}
+
+// Adds a part, where all that were before have their places.
+fn keep(alloc: Global, linker: &mut Linker, part: &Part) -> Result<(), NoMemory>
+    ensures kept { OnOk result ((parts : List CodePart) → AreKept linker.old parts
+        → AreKept linker.new (parts ++ part.now ∷ [])) }
+    ensures count { linker.new.count ≡ linker.old.count }
+{
+    let first = linker.words.len();
+    if (first as u64).saturating_add(part.lines.len() as u64) > MOST_WORDS {
+        return Err(NoMemory::OutOfMemory);
+    }
+    linker.entry = 4096 + 4 * (first as u32);
+    push_lines(
+        &mut linker.words,
+        &mut linker.aims,
+        &mut linker.places,
+        &part.lines,
+    )?;
+    push_cuts(alloc, &mut linker.cuts, part, first)?;
+    Ok(())
+}
