@@ -1,14 +1,16 @@
 -- The fault of a pass as that of the chain.
-use Rattle.std.proofs.Common.{◌≡◌, ℕ, List, subst}
+use Rattle.std.proofs.Common.{◌≡◌, ℕ, List}
 use Rattle.im_mem.specs.Map.{statics_start}
 use Rattle.im_rv.specs.declared.code.Part.{Part}
 use Rattle.im_typed.specs.declared.program.Prog.{Prog}
-use Rattle.im_block.specs.declared.unit.Function.{Function}
 use Rattle.im_block.specs.declared.unit.Unit.{Unit as Code}
 use Rattle.im_frame.specs.declared.layout.Layout.{Layout}
 use Rattle.im_frame.specs.Layout.{places_from}
 use Rattle.im_addresses.specs.Addresses.{AreLayouts}
 use Rattle.im_addresses.specs.Statics.{objects_of}
+use Rattle.im_link.specs.declared.fault.LinkFault.{LinkFault}
+use Rattle.im_link.specs.declared.fault.LinkFault.TheVariants.{Limit, OutOfMemory as NoRoom}
+use Rattle.im_link.specs.Code.{IsFaultOf as IsFaultOfLinking}
 use Rattle.im_linked.specs.Program.{IsProgram}
 use Rattle.im_pack.specs.declared.fault.PackFault.{PackFault}
 use Rattle.im_pack.specs.declared.fault.PackFault.TheVariants.{Unnamed as NoName, OutOfMemory as NoSpace}
@@ -17,7 +19,7 @@ use Rattle.im_compile.specs.declared.fault.CompileFault.{CompileFault}
 use Rattle.im_compile.specs.declared.fault.CompileFault.TheVariants.{Frame, Code as TooMuchCode, Unnamed, OutOfMemory}
 use Rattle.im_compile.specs.Passed.{IsPassed}
 use Rattle.im_compile.specs.Faults.{IsFaultOf, IsAssembled}
-use Rattle.im_compile.specs.Ready.{IsFrameFault, IsLinkFault, of_pack}
+use Rattle.im_compile.specs.Ready.{IsFrameFault, IsLinkFault, of_link, of_pack}
 
 pub of_frames : (prog : Prog) (code : Code) → IsPassed prog code → (e : CompileFault) → IsFrameFault code.functions.items e → IsFaultOf prog e
 of_frames prog code passed (Frame i bytes) h = record { code = code; passed = passed; frame = h }
@@ -45,3 +47,7 @@ of_linking prog code addresses layouts a OutOfMemory h = tt
 pub of_image : (prog : Prog) (code : Code) → IsPassed prog code → (e : PackFault) → IsPackFault code.statics.items e → IsFaultOf prog (of_pack e)
 of_image prog code passed (NoName n) h = record { code = code; passed = passed; unnamed = h }
 of_image prog code passed NoSpace h = tt
+
+pub of_link_fault : (code : Code) (addresses : List ℕ) (layouts : List Layout) (parts : List Part) → IsProgram code addresses layouts parts → (e : LinkFault) → IsFaultOfLinking parts e → IsLinkFault code addresses layouts (of_link e)
+of_link_fault code addresses layouts parts h (Limit bytes) f = record { parts = parts; assemble = h; large = f.0; told = f.1 }
+of_link_fault code addresses layouts parts h NoRoom f = tt

@@ -1,6 +1,6 @@
 -- Layouts, addresses and names make a unit that may be assembled.
-use Rattle.std.proofs.Common.{String, ◌≡◌, ◌≤◌, ◌<◌, ℕ, zero, suc, ◌+◌, ◌*◌, List, [], ◌∷◌, length, map, Some, refl, sym, ap, ◌∙◌, subst, arith}
-use Rattle.std.specs.Prelude.{◌/◌, slice_get, slice_index, string_bytes, encode_utf8_all}
+use Rattle.std.proofs.Common.{String, ◌≡◌, ◌≤◌, ◌<◌, ℕ, zero, suc, ◌+◌, List, [], ◌∷◌, length, map, refl, sym, ap, ◌∙◌, subst, arith}
+use Rattle.std.specs.Prelude.{slice_index, string_bytes, encode_utf8_all}
 use Rattle.std.specs.Global.{Global}
 use Rattle.std.proofs.lemmas.List.{length-map}
 use Rattle.im_mem.specs.Map.{statics_start, statics_capacity}
@@ -33,17 +33,17 @@ place_below start (o ∷ os) (suc n) h =
     let t = place_below (start + room o.size) os n (omega (arith, h)) in
     omega (arith, t)
 
-pub assemblable : (prog : Prog) (program : Program) → IsReady prog program.unit.now → AreLayouts program.unit.now.functions.items program.layouts.now →
-    program.statics.now ≡ places_from statics_start (objects_of program.unit.now.statics.items) → length program.names.now ≡ length prog.funcs.items → IsAssemblable program
-assemblable prog program ready layouts statics names =
-    let objects = objects_of program.unit.now.statics.items in
+pub assemblable : (prog : Prog) (u : Code) (program : Program) → IsReady prog u → AreLayouts u.functions.items program.layouts.now →
+    program.statics.now ≡ places_from statics_start (objects_of u.statics.items) → length program.names.now ≡ length prog.funcs.items → IsAssemblable u program
+assemblable prog u program ready layouts statics names =
+    let objects = objects_of u.statics.items in
     record {
       well_formed = ready.well_formed;
       placed = ready.placed;
       count = layouts.count;
       layouts = layouts.each;
       names = names ∙ sym ready.count;
-      statics = ap (λ (l : List ℕ). length l) statics ∙ places_count statics_start objects ∙ length-map {A = StaticOf} program.unit.now.statics.items (λ (s : StaticOf). s.object);
+      statics = ap (λ (l : List ℕ). length l) statics ∙ places_count statics_start objects ∙ length-map {A = StaticOf} u.statics.items (λ (s : StaticOf). s.object);
       low = λ n h.
           let below : n < length (places_from statics_start objects) = subst (λ (l : List ℕ). n < length l) statics h in
           let less = place_below statics_start objects n below in
@@ -55,10 +55,13 @@ pub names_count : (names : List (String Global)) (funcs : List Func) → map str
 names_count names funcs e =
     sym (length-map {A = String Global} names string_bytes) ∙ ap (λ (l : List (List ℕ)). length l) e ∙ length-map {A = Func} funcs (λ (f : Func). encode_utf8_all f.name.items)
 
--- what was made of slices of a unit
+-- what was made of a unit, of lists that are the same
 
-pub laid_out : (u : Code) (fs : List Function) (made ls : List Layout) → fs ≡ u.functions.items → ls ≡ made → AreLayouts fs made → AreLayouts u.functions.items ls
-laid_out u fs made ls a b h = subst (λ (k : List Layout). AreLayouts u.functions.items k) (sym b) (subst (λ (k : List Function). AreLayouts k made) a h)
+pub layouts_at : (fs : List Function) (made ls : List Layout) → ls ≡ made → AreLayouts fs made → AreLayouts fs ls
+layouts_at fs made ls same h = subst (λ (k : List Layout). AreLayouts fs k) (sym same) h
 
-pub placed_at : (u : Code) (ss : List StaticOf) (made addresses : List ℕ) → ss ≡ u.statics.items → addresses ≡ made → made ≡ places_from statics_start (objects_of ss) → addresses ≡ places_from statics_start (objects_of u.statics.items)
-placed_at u ss made addresses a b h = b ∙ h ∙ ap (λ (k : List StaticOf). places_from statics_start (objects_of k)) a
+pub room_of : (u : Code) (statics : List StaticOf) → statics ≡ u.statics.items → rooms (objects_of u.statics.items) ≤ statics_capacity → rooms (objects_of statics) ≤ statics_capacity
+room_of u statics same room = subst (λ (k : List StaticOf). rooms (objects_of k) ≤ statics_capacity) (sym same) room
+
+pub places_at : (u : Code) (statics : List StaticOf) → statics ≡ u.statics.items → (addresses : List ℕ) → addresses ≡ places_from statics_start (objects_of u.statics.items) → addresses ≡ places_from statics_start (objects_of statics)
+places_at u statics same addresses at = at ∙ ap (λ (k : List StaticOf). places_from statics_start (objects_of k)) (sym same)

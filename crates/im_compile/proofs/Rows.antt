@@ -1,8 +1,7 @@
 -- Rows that grow by one for each function: layouts, and frames by their names.
-use Rattle.std.proofs.Common.{◌≡◌, ◌≤◌, ◌<◌, ℕ, zero, suc, ◌-◌, List, [], ◌∷◌, ◌++◌, length, map, get_or, Some, refl, sym, ap, ◌∙◌, subst, arith}
+use Rattle.std.proofs.Common.{◌≡◌, ◌≤◌, ◌<◌, ℕ, zero, suc, List, [], ◌∷◌, ◌++◌, length, map, get_or, Vec, Global, Some, refl, sym, ap, ◌∙◌, subst, arith}
 use Rattle.std.specs.Prelude.{slice_get}
 use Rattle.std.proofs.lemmas.Option.{slice_get_read}
-use Rattle.im_typed.specs.declared.program.Func.{Func}
 use Rattle.im_typed.specs.declared.frames.Frame.{Frame}
 use Rattle.im_block.specs.declared.unit.Function.{Function}
 use Rattle.im_frame.specs.declared.layout.Layout.{Layout}
@@ -10,9 +9,8 @@ use Rattle.im_frame.specs.declared.fault.FrameFault.{FrameFault}
 use Rattle.im_frame.specs.declared.fault.FrameFault.TheVariants.{Limit, OutOfMemory}
 use Rattle.im_frame.specs.Layout.{IsLayout, IsFault, bytes_of}
 use Rattle.im_addresses.specs.Addresses.{AreLayouts}
-use Rattle.im_compile.specs.Built.{AreFrames}
+use Rattle.im_compile.specs.Lowered.{AreNamedFrames}
 use Rattle.im_compile.specs.Built as built
-use Rattle.im_compile.specs.Faults.{IsFrameTooLarge}
 use Rattle.im_compile.specs.Ready.{IsFrameFault, of_frame}
 
 -- the element of which a loop's index is that of the next one of a row
@@ -56,14 +54,14 @@ frame_fault fs ls f (Limit bytes) h e is = record { f = f; is_function = e; byte
 frame_fault fs ls f OutOfMemory h e is = tt
 
 -- frames of the first functions
-abbrev pub Framed : List Func → List Layout → List Frame → Type 0
+abbrev pub Framed : List (Vec ℕ Global) → List Layout → List Frame → Type 0
 Framed fs ls [] = Unit {0}
 Framed [] ls (x ∷ xs) = ⊥
 Framed (f ∷ fs) [] (x ∷ xs) = ⊥
-Framed (f ∷ fs) (l ∷ ls) (x ∷ xs) = (x.name.items ≡ f.name.items) × (x.size ≡ l.frame) × Framed fs ls xs
+Framed (f ∷ fs) (l ∷ ls) (x ∷ xs) = (x.name.items ≡ f.items) × (x.size ≡ l.frame) × Framed fs ls xs
 
-pub framed_more : (fs : List Func) (ls : List Layout) (xs : List Frame) (f : Func) (l : Layout) (x : Frame) → Framed fs ls xs →
-    slice_get fs (length xs) ≡ Some f → slice_get ls (length xs) ≡ Some l → x.name.items ≡ f.name.items → x.size ≡ l.frame → Framed fs ls (xs ++ x ∷ [])
+pub framed_more : (fs : List (Vec ℕ Global)) (ls : List Layout) (xs : List Frame) (f : Vec ℕ Global) (l : Layout) (x : Frame) → Framed fs ls xs →
+    slice_get fs (length xs) ≡ Some f → slice_get ls (length xs) ≡ Some l → x.name.items ≡ f.items → x.size ≡ l.frame → Framed fs ls (xs ++ x ∷ [])
 framed_more [] ls [] f l x h a b name size = cc
 framed_more [] ls (y ∷ xs) f l x h a b name size = absurd h
 framed_more (g ∷ fs) [] [] f l x h a b name size = cc
@@ -71,18 +69,18 @@ framed_more (g ∷ fs) [] (y ∷ xs) f l x h a b name size = absurd h
 framed_more (g ∷ fs) (m ∷ ls) [] f l x h a b name size =
     let one : f ≡ g = cc in
     let two : l ≡ m = cc in
-    (subst (λ (k : Func). x.name.items ≡ k.name.items) one name, subst (λ (k : Layout). x.size ≡ k.frame) two size, tt)
+    (subst (λ (k : Vec ℕ Global). x.name.items ≡ k.items) one name, subst (λ (k : Layout). x.size ≡ k.frame) two size, tt)
 framed_more (g ∷ fs) (m ∷ ls) (y ∷ xs) f l x h a b name size = (h.0, h.1, framed_more fs ls xs f l x h.2 a b name size)
 
-framed_names : (fs : List Func) (ls : List Layout) (xs : List Frame) → Framed fs ls xs → length xs ≡ length fs → map (λ (x : Frame). x.name.items) xs ≡ map (λ (f : Func). f.name.items) fs
+framed_names : (fs : List (Vec ℕ Global)) (ls : List Layout) (xs : List Frame) → Framed fs ls xs → length xs ≡ length fs → map (λ (x : Frame). x.name.items) xs ≡ map (λ (f : Vec ℕ Global). f.items) fs
 framed_names [] ls [] h count = refl
 framed_names (f ∷ fs) ls [] h count = cc
 framed_names [] ls (x ∷ xs) h count = absurd h
 framed_names (f ∷ fs) [] (x ∷ xs) h count = absurd h
 framed_names (f ∷ fs) (l ∷ ls) (x ∷ xs) h count =
-    ap (λ n. n ∷ map (λ (x : Frame). x.name.items) xs) h.0 ∙ ap (λ ns. f.name.items ∷ ns) (framed_names fs ls xs h.2 (omega (arith, count)))
+    ap (λ n. n ∷ map (λ (x : Frame). x.name.items) xs) h.0 ∙ ap (λ ns. f.items ∷ ns) (framed_names fs ls xs h.2 (omega (arith, count)))
 
-framed_sizes : (fs : List Func) (ls : List Layout) (xs : List Frame) → Framed fs ls xs → length xs ≡ length ls → map (λ (x : Frame). x.size) xs ≡ built.bytes_of ls
+framed_sizes : (fs : List (Vec ℕ Global)) (ls : List Layout) (xs : List Frame) → Framed fs ls xs → length xs ≡ length ls → map (λ (x : Frame). x.size) xs ≡ built.bytes_of ls
 framed_sizes fs [] [] h count = refl
 framed_sizes fs (l ∷ ls) [] h count = cc
 framed_sizes [] ls (x ∷ xs) h count = absurd h
@@ -90,5 +88,5 @@ framed_sizes (f ∷ fs) [] (x ∷ xs) h count = absurd h
 framed_sizes (f ∷ fs) (l ∷ ls) (x ∷ xs) h count =
     ap (λ n. n ∷ map (λ (x : Frame). x.size) xs) h.1 ∙ ap (λ ns. l.frame ∷ ns) (framed_sizes fs ls xs h.2 (omega (arith, count)))
 
-pub all_framed : (fs : List Func) (ls : List Layout) (xs : List Frame) → Framed fs ls xs → length xs ≡ length fs → length ls ≡ length fs → AreFrames fs ls xs
-all_framed fs ls xs h count same = record { names = framed_names fs ls xs h count; sizes = framed_sizes fs ls xs h (count ∙ sym same) }
+pub all_framed : (fs : List (Vec ℕ Global)) (ls : List Layout) (xs : List Frame) → Framed fs ls xs → length xs ≡ length fs → length ls ≡ length fs → AreNamedFrames fs ls xs
+all_framed fs ls xs h count same = record { named = framed_names fs ls xs h count; sizes = framed_sizes fs ls xs h (count ∙ sym same) }

@@ -1,5 +1,5 @@
 -- What is built of a program, pass by pass.
-use Rattle.std.specs.Prelude.{◌≡◌, ℕ, List, length, map, Some, slice_get, encode_utf8_all}
+use Rattle.std.specs.Prelude.{◌≡◌, ℕ, List, map, encode_utf8_all}
 use Rattle.im_mem.specs.Map.{statics_start}
 use Rattle.im_rv.specs.declared.code.Part.{Part}
 use Rattle.im_rv.specs.declared.code.Code.{Code as Linked}

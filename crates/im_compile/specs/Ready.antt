@@ -6,7 +6,6 @@ use Rattle.im_link.specs.declared.fault.LinkFault.{LinkFault}
 use Rattle.im_link.specs.declared.fault.LinkFault.TheVariants.{Limit, OutOfMemory as NoRoom}
 use Rattle.im_link.specs.Parts.{byte_count}
 use Rattle.im_link.specs.Code.{IsLinkable, IsLinked, byte_limit, told_count}
-use Rattle.im_typed.specs.declared.program.Func.{Func}
 use Rattle.im_typed.specs.declared.frames.Frame.{Frame as FrameOf}
 use Rattle.im_block.specs.declared.unit.Function.{Function}
 use Rattle.im_block.specs.declared.unit.Unit.{Unit as Code}
@@ -28,8 +27,8 @@ IsFrameFault functions (TooMuchCode bytes) = ⊥
 IsFrameFault functions (Unnamed n) = ⊥
 IsFrameFault functions OutOfMemory = Unit {0}
 
-pub record IsFrameOf (func : Func) (layout : Layout) (frame : FrameOf) : Type 0 where
-  pub name : frame.name.items ≡ func.name.items
+pub record IsFrameOf (name : List ℕ) (layout : Layout) (frame : FrameOf) : Type 0 where
+  pub named : frame.name.items ≡ name
   pub size : frame.size ≡ layout.frame
 
 -- the parts of placed code with its statics and frames, in their places

@@ -1,15 +1,16 @@
 ghost use Rattle.std.specs.Prelude.{MatchResult};
+ghost use Rattle.im_typed.specs.declared.program.Prog.{Prog as TypedProgram};
 ghost use Rattle.im_compile.specs.Built.{IsBuilt};
 ghost use Rattle.im_compile.specs.Faults.{IsFaultOf};
 ghost use Rattle.im_compile.specs.Passed.{AreOptions, IsSource};
+ghost use Rattle.im_compile.specs.Prepared.{IsPrepared};
 
 use crate::built::Built;
 use crate::fault::CompileFault;
-use crate::frames::{frames_of, layouts_of};
-use crate::linking::{linked_code, names_of};
+use crate::linking::linked_code;
 use crate::options::Options;
-use crate::passes::placed_code;
-use im_addresses::place_statics;
+use crate::passes::lowered_code;
+use crate::prepared::{Prepared, prepare};
 use im_assemble::Program;
 use im_gap::gap;
 use im_pack::pack;
@@ -17,38 +18,63 @@ use im_ranked::linked_gap_law;
 use im_typed::Prog;
 use std::alloc::Global;
 
+/// The image of placed code.
+fn finished(alloc: Global, prepared: Prepared, options: Options) -> Result<Built, CompileFault>
+    requires prepared { (prog : TypedProgram) × IsPrepared prog prepared }
+    requires options { AreOptions options }
+    ensures { (prog : TypedProgram) → IsPrepared prog prepared
+        → MatchResult result (IsBuilt prog options) (IsFaultOf prog) }
+{
+    linked_gap_law();
+    let Prepared {
+        unit,
+        layouts,
+        addresses,
+        names,
+        frames,
+    } = prepared;
+    let program = Program {
+        layouts: &layouts,
+        statics: &addresses,
+        names: &names,
+    };
+    let linked = linked_code(alloc, unit, &program)?;
+    let gap = gap(alloc, &linked.code)?;
+    let image = pack(
+        alloc,
+        &linked.statics,
+        &addresses,
+        &linked.code,
+        options.stack,
+        options.out_cap,
+    )?;
+    Ok(Built {
+        image,
+        gap,
+        frames,
+        cuts: linked.code.cuts,
+    })
+}
+
 /// The image of a program, by all passes in a row.
 pub fn compile(alloc: Global, prog: &Prog, options: Options) -> Result<Built, CompileFault>
     requires source { IsSource prog.now }
     requires options { AreOptions options }
     ensures { MatchResult result (IsBuilt prog.now options) (IsFaultOf prog.now) }
 {
-    linked_gap_law();
-    let unit = placed_code(alloc, prog)?;
-    let layouts = layouts_of(alloc, &unit.functions)?;
-    let addresses = place_statics(alloc, &unit.statics)?;
-    let names = names_of(alloc, &prog.funcs)?;
-    let program = Program {
-        unit: &unit,
-        layouts: &layouts,
-        statics: &addresses,
-        names: &names,
-    };
-    let code = linked_code(alloc, &program)?;
-    let gap = gap(alloc, &code)?;
-    let image = pack(
-        alloc,
-        &unit,
-        &addresses,
-        &code,
-        options.stack,
-        options.out_cap,
-    )?;
-    let frames = frames_of(alloc, &prog.funcs, &layouts)?;
-    Ok(Built {
-        image,
-        gap,
-        frames,
-        cuts: code.cuts,
-    })
+    let lowered = lowered_code(alloc, prog)?;
+    let prepared = prepare(alloc, lowered)?;
+    finished(alloc, prepared, options)
+}
+
+/// The image of a program, as `compile` gives it; the program is given back once it is block code.
+pub fn compile_owned(alloc: Global, prog: Prog, options: Options) -> Result<Built, CompileFault>
+    requires source { IsSource prog }
+    requires options { AreOptions options }
+    ensures { MatchResult result (IsBuilt prog options) (IsFaultOf prog) }
+{
+    let lowered = lowered_code(alloc, &prog)?;
+    drop(prog);
+    let prepared = prepare(alloc, lowered)?;
+    finished(alloc, prepared, options)
 }

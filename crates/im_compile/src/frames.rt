@@ -2,14 +2,14 @@ ghost use Rattle.std.specs.Prelude.{◌≡◌, ◌≤◌, ◌<◌, ◌^◌, All,
 ghost use Rattle.im_block.specs.declared.unit.Function.{Function as FunctionOf};
 ghost use Rattle.im_frame.specs.Layout.{bytes_of};
 ghost use Rattle.im_addresses.specs.Addresses.{AreLayouts};
-ghost use Rattle.im_compile.specs.Built.{AreFrames};
+ghost use Rattle.im_compile.specs.Lowered.{AreNamedFrames};
 ghost use Rattle.im_compile.specs.Ready.{IsFrameFault, IsFrameOf, of_frame};
 
 use crate::fault::CompileFault;
 use im_block::Function;
 use im_frame::{FrameFault, Layout, lay_out};
 use im_num::NoMemory;
-use im_typed::{Frame, Frames, Func};
+use im_typed::{Frame, Frames};
 use std::alloc::Global;
 
 /// The fault of a function's frame.
@@ -39,11 +39,11 @@ pub(crate) fn layouts_of(alloc: Global, functions: &[Function]) -> Result<Vec<La
 }
 
 /// The frame of a function, by its name.
-fn frame_of(alloc: Global, func: &Func, layout: &Layout) -> Result<Frame, NoMemory>
-    ensures { IfOk result (IsFrameOf func.now layout.now) }
+fn frame_of(alloc: Global, name: &[u8], layout: &Layout) -> Result<Frame, NoMemory>
+    ensures { IfOk result (IsFrameOf name.now layout.now) }
 {
     Ok(Frame {
-        name: Vec::from_slice(alloc, &func.name)?,
+        name: Vec::from_slice(alloc, name)?,
         size: layout.frame,
     })
 }
@@ -51,15 +51,15 @@ fn frame_of(alloc: Global, func: &Func, layout: &Layout) -> Result<Frame, NoMemo
 /// The bytes of each function's frame, by its name.
 pub(crate) fn frames_of(
     alloc: Global,
-    funcs: &[Func],
+    names: &[Vec<u8>],
     layouts: &[Layout],
 ) -> Result<Frames, NoMemory>
-    requires { length layouts.now ≡ length funcs.now }
-    ensures { IfOk result (λ frames. AreFrames funcs.now layouts.now frames.frames.items) }
+    requires { length layouts.now ≡ length names.now }
+    ensures { IfOk result (λ frames. AreNamedFrames names.now layouts.now frames.frames.items) }
 {
     let mut frames = Vec::new(alloc);
-    for number in 0..funcs.len() {
-        frames.push(frame_of(alloc, &funcs[number], &layouts[number])?)?;
+    for number in 0..names.len() {
+        frames.push(frame_of(alloc, &names[number], &layouts[number])?)?;
     }
     Ok(Frames { frames })
 }

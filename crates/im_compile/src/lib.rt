@@ -9,9 +9,10 @@ mod laws;
 mod linking;
 mod options;
 mod passes;
+mod prepared;
 
 pub use built::Built;
-pub use compiling::compile;
+pub use compiling::{compile, compile_owned};
 pub use fault::CompileFault;
 pub use laws::ready_law;
 pub use options::Options;

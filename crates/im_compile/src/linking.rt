@@ -1,51 +1,65 @@
 ghost use Rattle.std.specs.Prelude.{◌≡◌, map, string_bytes, encode_utf8_all, IfOk, MatchResult};
-ghost use Rattle.im_compile.specs.Built.{function_names};
+ghost use Rattle.im_compile.specs.Lowered.{texts_of_names};
 ghost use Rattle.im_linked.specs.Laws.{NamesAccesses};
 ghost use Rattle.im_assemble.specs.Assembled.{IsAssemblable};
 ghost use Rattle.im_compile.specs.Ready.{IsLinkFault, IsLinkedFrom};
 
 use crate::fault::CompileFault;
 use im_assemble::{Program, assemble};
-use im_link::link;
+use im_block::{Static, Unit};
 use im_linked::linkable_law;
 use im_num::NoMemory;
 use im_rv::Code;
-use im_typed::Func;
 use std::alloc::Global;
 
-/// The name of a function, each byte a character.
-fn name_of(alloc: Global, func: &Func) -> Result<String, NoMemory>
-    ensures { IfOk result (λ name. string_bytes name ≡ encode_utf8_all func.now.name.items) }
+/// A name as text, each byte a character.
+fn text_of(alloc: Global, name: &[u8]) -> Result<String, NoMemory>
+    ensures { IfOk result (λ text. string_bytes text ≡ encode_utf8_all name.now) }
 {
-    let mut name = String::new(alloc);
-    for byte in &func.name {
-        name.push(char::from(*byte))?;
+    let mut text = String::new(alloc);
+    for byte in name {
+        text.push(char::from(*byte))?;
     }
-    Ok(name)
+    Ok(text)
 }
 
-/// The names of functions, in their order.
-pub(crate) fn names_of(alloc: Global, funcs: &[Func]) -> Result<Vec<String>, NoMemory>
-    ensures { IfOk result (λ names. map string_bytes names.items ≡ function_names funcs.now) }
+/// Names as text, in their order.
+pub(crate) fn texts_of(alloc: Global, names: &[Vec<u8>]) -> Result<Vec<String>, NoMemory>
+    ensures { IfOk result (λ texts. map string_bytes texts.items ≡ texts_of_names names.now) }
 {
-    let mut names = Vec::new(alloc);
-    for func in funcs {
-        names.push(name_of(alloc, func)?)?;
+    let mut texts = Vec::new(alloc);
+    for name in names {
+        texts.push(text_of(alloc, name)?)?;
     }
-    Ok(names)
+    Ok(texts)
+}
+
+/// Linked code, and the statics of its unit.
+#[derive(Drop)]
+pub(crate) struct Linked {
+    pub code: Code,
+    pub statics: Vec<Static>,
 }
 
 /// The program's parts in their places.
-pub(crate) fn linked_code(alloc: Global, program: &Program) -> Result<Code, CompileFault>
-    requires assemblable { IsAssemblable program.now }
-    requires named { NamesAccesses program.now.unit.now }
+pub(crate) fn linked_code(
+    alloc: Global,
+    unit: Unit,
+    program: &Program,
+) -> Result<Linked, CompileFault>
+    requires assemblable { IsAssemblable unit program.now }
+    requires named { NamesAccesses unit }
     ensures { MatchResult result
-        (IsLinkedFrom program.now.unit.now program.now.statics.now program.now.layouts.now
-        (map string_bytes program.now.names.now))
-        (IsLinkFault program.now.unit.now program.now.statics.now program.now.layouts.now) }
+        (λ linked. (linked.statics ≡ unit.statics)
+        × IsLinkedFrom unit program.now.statics.now program.now.layouts.now
+        (map string_bytes program.now.names.now) linked.code)
+        (IsLinkFault unit program.now.statics.now program.now.layouts.now) }
 {
     linkable_law();
-    let parts = assemble(alloc, program)?;
-    let code = link(alloc, &parts)?;
-    Ok(code)
+    let assembled = assemble(alloc, unit, program)?;
+    let code = assembled.linker.finish()?;
+    Ok(Linked {
+        code,
+        statics: assembled.statics,
+    })
 }

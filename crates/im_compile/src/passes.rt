@@ -1,4 +1,6 @@
-ghost use Rattle.std.specs.Prelude.{IfOk};
+ghost use Rattle.std.specs.Prelude.{◌≡◌, IfOk};
+ghost use Rattle.im_typed.specs.declared.program.Prog.{Prog as TypedProgram};
+ghost use Rattle.im_compile.specs.Lowered.{AreNamesOf, IsLoweredCode, IsLoweredFrom};
 ghost use Rattle.im_compile.specs.Passed.{IsPassed, IsReady, IsSource};
 
 use crate::laws::ready_law;
@@ -11,21 +13,51 @@ use im_num::NoMemory;
 use im_placed::cuts_keep_places_law;
 use im_placing::place;
 use im_recut::recut;
-use im_typed::Prog;
+use im_typed::{Func, Prog};
 use std::alloc::Global;
 
-/// The program as placed code with all its cuts.
-pub(crate) fn placed_code(alloc: Global, prog: &Prog) -> Result<Unit, NoMemory>
+/// Block code of a program.
+#[derive(Drop)]
+pub(crate) struct Lowered {
+    pub unit: Unit,
+    /// The name of each function.
+    pub names: Vec<Vec<u8>>,
+}
+
+/// The names of functions, in their order.
+fn function_names(alloc: Global, funcs: &[Func]) -> Result<Vec<Vec<u8>>, NoMemory>
+    ensures { IfOk result (λ names. AreNamesOf funcs.now names.items) }
+{
+    let mut names = Vec::new(alloc);
+    for func in funcs {
+        names.push(Vec::from_slice(alloc, &func.name)?)?;
+    }
+    Ok(names)
+}
+
+/// The program as block code.
+pub(crate) fn lowered_code(alloc: Global, prog: &Prog) -> Result<Lowered, NoMemory>
     requires { IsSource prog.now }
-    ensures passed { IfOk result (IsPassed prog.now) }
-    ensures ready { IfOk result (IsReady prog.now) }
+    ensures { IfOk result (IsLoweredFrom prog.now) }
+{
+    let unit = lower(alloc, prog)?;
+    let names = function_names(alloc, &prog.funcs)?;
+    Ok(Lowered { unit, names })
+}
+
+/// Block code as placed code with all its cuts.
+pub(crate) fn placed_code(alloc: Global, lowered: Unit) -> Result<Unit, NoMemory>
+    requires { (prog : TypedProgram) × IsSource prog × IsLoweredCode prog lowered }
+    ensures passed { (prog : TypedProgram) → IsSource prog → IsLoweredCode prog lowered
+        → IfOk result (IsPassed prog) }
+    ensures ready { (prog : TypedProgram) → IsSource prog → IsLoweredCode prog lowered
+        → IfOk result (IsReady prog) }
 {
     lowered_form_law();
     force_keeps_law();
     cuts_keep_code_law();
     cuts_keep_places_law();
     ready_law();
-    let lowered = lower(alloc, prog)?;
     let forced = force(alloc, lowered)?;
     let placed = place(alloc, forced)?;
     let code = recut(alloc, placed)?;

@@ -1,5 +1,5 @@
 -- Layouts that grow by one for each function; what is asked of a unit that is assembled, linked and packed.
-use Rattle.std.proofs.Common.{◌≡◌, ◌<◌, ℕ, zero, suc, ◌+◌, List, [], ◌∷◌, ◌++◌, length, get_or, Some, refl, sym, ap, ◌∙◌, subst, arith}
+use Rattle.std.proofs.Common.{◌≡◌, ◌<◌, ◌≤◌, ℕ, zero, suc, ◌+◌, List, [], ◌∷◌, ◌++◌, length, get_or, Some, refl, sym, ap, ◌∙◌, subst, arith}
 use Rattle.std.specs.Prelude.{slice_get, slice_index}
 use Rattle.std.proofs.lemmas.List.{length-map}
 use Rattle.std.proofs.lemmas.Option.{slice_get_read}
@@ -11,6 +11,7 @@ use Rattle.im_link.specs.Code.{IsLinked}
 use Rattle.im_block.specs.declared.unit.Object.{Object}
 use Rattle.im_block.specs.declared.unit.Static.{Static as StaticOf}
 use Rattle.im_block.specs.declared.unit.Function.{Function}
+use Rattle.im_block.specs.declared.unit.Unit.{Unit as Code}
 use Rattle.im_frame.specs.declared.layout.Layout.{Layout}
 use Rattle.im_frame.specs.Layout.{IsLayout, room, rooms, places_from}
 use Rattle.im_addresses.specs.Addresses.{AreLayouts}
@@ -59,23 +60,26 @@ place_below start (o ∷ os) (suc n) h =
     let t = place_below (start + room o.size) os n (omega (arith, h)) in
     omega (arith, t)
 
-pub assemblable : (program : Program) → IsBuildable program.unit.now → AreLayouts program.unit.now.functions.items program.layouts.now →
-    program.statics.now ≡ places_from statics_start (objects_of program.unit.now.statics.items) → length program.names.now ≡ length program.unit.now.functions.items → IsAssemblable program
-assemblable program is layouts statics names =
-    let objects = objects_of program.unit.now.statics.items in
+pub assemblable : (u : Code) (program : Program) → IsBuildable u → AreLayouts u.functions.items program.layouts.now →
+    program.statics.now ≡ places_from statics_start (objects_of u.statics.items) → length program.names.now ≡ length u.functions.items → IsAssemblable u program
+assemblable u program is layouts statics names =
+    let objects = objects_of u.statics.items in
     record {
       well_formed = is.well_formed;
       placed = is.placed;
       count = layouts.count;
       layouts = layouts.each;
       names = names;
-      statics = ap (λ (l : List ℕ). length l) statics ∙ places_count statics_start objects ∙ length-map {A = StaticOf} program.unit.now.statics.items (λ (s : StaticOf). s.object);
+      statics = ap (λ (l : List ℕ). length l) statics ∙ places_count statics_start objects ∙ length-map {A = StaticOf} u.statics.items (λ (s : StaticOf). s.object);
       low = λ n h.
           let below : n < length (places_from statics_start objects) = subst (λ (l : List ℕ). n < length l) statics h in
           let less = place_below statics_start objects n below in
           let all = is.room in
           subst (λ (l : List ℕ). slice_index l n < statics_start + statics_capacity) (sym statics) (omega (arith, less, all));
     }
+
+pub room_of : (u : Code) (statics : List StaticOf) → statics ≡ u.statics.items → rooms (objects_of u.statics.items) ≤ statics_capacity → rooms (objects_of statics) ≤ statics_capacity
+room_of u statics same room = subst (λ (k : List StaticOf). rooms (objects_of k) ≤ statics_capacity) (sym same) room
 
 pub loadable : (parts : List Part) (code : Linked) → IsLinked parts code → IsLoadable code
 loadable parts code linked =

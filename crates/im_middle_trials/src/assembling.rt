@@ -9,7 +9,6 @@ use crate::seen::same;
 use im_assemble::{Program, assemble};
 use im_block::{Block, Exit, Function, Line, Registers, Unit};
 use im_frame::lay_out;
-use im_link::link;
 use std::alloc::Global;
 use std::test::Fail;
 
@@ -61,13 +60,12 @@ fn a_program_is_linked(rt: HostRuntime) -> Result<(), Fail> {
     let layouts = vec![in rt.alloc(); layout]?;
     let names = vec![in rt.alloc(); String::from_str(rt.alloc(), "main")?]?;
     let program = Program {
-        unit: &unit,
         layouts: &layouts,
         statics: &[],
         names: &names,
     };
-    let parts = assemble(rt.alloc(), &program)?;
-    let code = link(rt.alloc(), &parts)?;
+    let assembled = assemble(rt.alloc(), unit, &program)?;
+    let code = assembled.linker.finish()?;
     same(&rt, &"words", &code.words.len(), &(276 + WORDS.len()));
     for (word, wanted) in code.words.iter().skip(276).zip(&WORDS) {
         same(&rt, wanted, word, wanted);

@@ -9,7 +9,6 @@ use im_assemble::{Program, assemble};
 use im_block::{Function, Unit};
 use im_frame::{Layout, lay_out};
 use im_image::Image;
-use im_link::link;
 use im_linked::linkable_law;
 use im_pack::pack;
 use std::alloc::Global;
@@ -40,22 +39,21 @@ fn owned(alloc: Global, names: &[&str]) -> Result<Vec<String>, Fail>
 }
 
 /// The image of placed code, whose functions have these names: laid out, selected, linked and packed.
-pub(crate) fn image_of(alloc: Global, unit: &Unit, names: &[&str]) -> Result<Image, Fail>
-    requires buildable { IsBuildable unit.now }
-    requires named { length names.now ≡ length unit.now.functions.items }
+pub(crate) fn image_of(alloc: Global, unit: Unit, names: &[&str]) -> Result<Image, Fail>
+    requires buildable { IsBuildable unit }
+    requires named { length names.now ≡ length unit.functions.items }
 {
     linkable_law();
     let layouts = layouts_of(alloc, &unit.functions)?;
     let names = owned(alloc, names)?;
     let statics = place_statics(alloc, &unit.statics)?;
     let program = Program {
-        unit,
         layouts: &layouts,
         statics: &statics,
         names: &names,
     };
-    let parts = assemble(alloc, &program)?;
-    let code = link(alloc, &parts)?;
-    let image = pack(alloc, unit, &statics, &code, 256, 16)?;
+    let assembled = assemble(alloc, unit, &program)?;
+    let code = assembled.linker.finish()?;
+    let image = pack(alloc, &assembled.statics, &statics, &code, 256, 16)?;
     Ok(image)
 }

@@ -55,7 +55,7 @@ fn pass_section(machine: &mut Machine<FlatMem>) {
 
 #[test]
 fn power_fails_after_each_instruction(rt: HostRuntime) -> Result<(), Fail> {
-    let image = image_of(rt.alloc(), &unit(rt.alloc())?, &["add", "main"])?;
+    let image = image_of(rt.alloc(), unit(rt.alloc())?, &["add", "main"])?;
     let mut whole = loaded(rt.alloc(), &image)?;
     whole.power(period(10_000, 1, 0));
     holds(&rt, &"whole", is_right(rt.alloc(), &whole)?);
@@ -72,7 +72,7 @@ fn power_fails_after_each_instruction(rt: HostRuntime) -> Result<(), Fail> {
 
 #[test]
 fn power_fails_again_and_again(rt: HostRuntime) -> Result<(), Fail> {
-    let image = image_of(rt.alloc(), &unit(rt.alloc())?, &["add", "main"])?;
+    let image = image_of(rt.alloc(), unit(rt.alloc())?, &["add", "main"])?;
     for n in [90, 100, 113, 151] {
         let mut machine = loaded(rt.alloc(), &image)?;
         machine.power(period(n, 1_000, n % 16));

@@ -18,7 +18,7 @@ use Rattle.im_block.specs.Wellformed.{IsWellFormed, IsStatic, HasBytes, Suits}
 use Rattle.im_frame.specs.Layout.{rooms, places_from}
 use Rattle.im_frame.proofs.Places.{lies, count_from}
 use Rattle.im_addresses.specs.Statics.{objects_of}
-use Rattle.im_pack.specs.Packed.{IsLoadable}
+use Rattle.im_pack.specs.Packed.{AreOfUnit, IsLoadable}
 use Rattle.im_pack.specs.Bytes.{IsWord, HasWords, AreReady, statics_bytes}
 use Rattle.im_pack.specs.Objects.{objects_at, AreNamed}
 use Rattle.im_pack.proofs.Statics.{object_is, AllHave, whole}
@@ -82,19 +82,16 @@ module _ (statics : List StaticOf) (few : rooms (objects_of statics) ≤ 1048576
                   missing (c ∷ cs) zero b q = absurd cc
                   missing (c ∷ cs) (suc k) b q = missing cs k (omega arith) q
 
-pub ready_unit : (u : Code) (addresses : List ℕ) → IsWellFormed u → rooms (objects_of u.statics.items) ≤ 1048576 → addresses ≡ places_from 1048576 (objects_of u.statics.items) → AreReady u.statics.items addresses
-ready_unit u addresses w few at = ready u.statics.items few addresses at (is_static u w)
-
-pub is_image : (u : Code) (addresses : List ℕ) (code : Linked) (bytes words : List ℕ) (objects : List ObjectValue) (stack out_cap : ℕ) →
-    IsWellFormed u → rooms (objects_of u.statics.items) ≤ 1048576 → addresses ≡ places_from 1048576 (objects_of u.statics.items) → IsLoadable code → 256 ≤ stack → stack ≤ 1048576 → out_cap ≤ 1048576 →
-    AreNamed u.statics.items → bytes ≡ statics_bytes addresses u.statics.items → objects ≡ objects_at u.statics.items addresses → words ≡ code.words.items → ((k : ℕ) → slice_index words k < 2 ^ 32) → ((k : ℕ) → slice_index bytes k < 256) →
+pub is_image : (statics : List StaticOf) (addresses : List ℕ) (code : Linked) (bytes words : List ℕ) (objects : List ObjectValue) (stack out_cap : ℕ) →
+    AllHave statics → rooms (objects_of statics) ≤ 1048576 → addresses ≡ places_from 1048576 (objects_of statics) → IsLoadable code → 256 ≤ stack → stack ≤ 1048576 → out_cap ≤ 1048576 →
+    AreNamed statics → bytes ≡ statics_bytes addresses statics → objects ≡ objects_at statics addresses → words ≡ code.words.items → ((k : ℕ) → slice_index words k < 2 ^ 32) → ((k : ℕ) → slice_index bytes k < 256) →
     IsImage (record { version = Two; form = TwoLengths; words = words; statics = bytes; stack = stack; out_cap = out_cap; entry = code.entry; objects = objects })
-is_image u addresses code bytes words objects stack out_cap w few at loads some_stack most_stack output named bytes_are objects_are words_are wide small =
-    let size : length bytes ≡ rooms (objects_of u.statics.items) = ap length bytes_are ∙ whole addresses u.statics.items (have u w) in
-    let count : length objects ≡ length u.statics.items = ap length objects_are ∙ count_objects u.statics.items addresses (ap length at ∙ count_from 1048576 (objects_of u.statics.items) ∙ count_of u.statics.items) in
-    let many = many_rooms (objects_of u.statics.items) in
-    let even = even_rooms (objects_of u.statics.items) in
-    let same = count_of u.statics.items in
+is_image statics addresses code bytes words objects stack out_cap w few at loads some_stack most_stack output named bytes_are objects_are words_are wide small =
+    let size : length bytes ≡ rooms (objects_of statics) = ap length bytes_are ∙ whole addresses statics w in
+    let count : length objects ≡ length statics = ap length objects_are ∙ count_objects statics addresses (ap length at ∙ count_from 1048576 (objects_of statics) ∙ count_of statics) in
+    let many = many_rooms (objects_of statics) in
+    let even = even_rooms (objects_of statics) in
+    let same = count_of statics in
     let length_is : length words ≡ length code.words.items = ap length words_are in
     let most = loads.few in
     let inside = loads.inside in
@@ -109,5 +106,11 @@ is_image u addresses code bytes words objects stack out_cap w few at loads some_
       out_cap = le-leb _ _ output;
       entry = and_from _ _ (and_from _ _ (eq-eqb _ _ (let z : code.entry % 4 ≡ 0 = omega arith in z)) (le-leb _ _ (let z : 4096 ≤ code.entry = omega arith in z))) (le-leb _ _ (let z : code.entry + 1 ≤ 4096 + 4 * length words = omega arith in z));
       object_count = le-leb _ _ (let z : length objects ≤ length bytes = omega arith in z);
-      objects = subst (λ (os : List ObjectValue). AreObjects (length bytes) 1048576 os) (sym objects_are) (subst (λ (a : List ℕ). AreObjects (length bytes) 1048576 (objects_at u.statics.items a)) (sym at) (rules (length bytes) 1048576 1048576 u.statics.items (omega arith) refl (omega arith) (have u w) named));
+      objects = subst (λ (os : List ObjectValue). AreObjects (length bytes) 1048576 os) (sym objects_are) (subst (λ (a : List ℕ). AreObjects (length bytes) 1048576 (objects_at statics a)) (sym at) (rules (length bytes) 1048576 1048576 statics (omega arith) refl (omega arith) w named));
     }
+
+pub ready_statics : (statics : List StaticOf) (addresses : List ℕ) → AreOfUnit statics → rooms (objects_of statics) ≤ 1048576 → addresses ≡ places_from 1048576 (objects_of statics) → AreReady statics addresses
+ready_statics statics addresses (u, e, w) few at = ready statics few addresses at (subst (λ (z : List StaticOf). (n : ℕ) (s : StaticOf) → slice_get z n ≡ Some s → IsStatic z s) e (is_static u w))
+
+pub statics_have : (statics : List StaticOf) → AreOfUnit statics → AllHave statics
+statics_have statics (u, e, w) = subst AllHave e (have u w)

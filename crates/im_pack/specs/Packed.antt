@@ -14,6 +14,7 @@ use Rattle.im_block.specs.declared.unit.Constant.{Constant}
 use Rattle.im_block.specs.declared.unit.Constant.TheVariants.{Number, Null, Inside}
 use Rattle.im_block.specs.declared.unit.Static.{Static as StaticOf}
 use Rattle.im_block.specs.declared.unit.Unit.{Unit as Code}
+use Rattle.im_block.specs.Wellformed.{IsWellFormed}
 use Rattle.im_frame.specs.Layout.{rooms}
 use Rattle.im_addresses.specs.Statics.{objects_of}
 use Rattle.im_statics.specs.Named.{cells_of_run}
@@ -65,6 +66,10 @@ pub record IsPacked (u : Code) (addresses : List ℕ) (code : Linked) (stack out
   pub out_cap_is : image.out_cap ≡ out_cap
   pub statics : AreFirstBytes u.statics.items addresses image.statics
   pub objects : AreObjectsOf u.statics.items addresses image.objects
+
+-- the statics of a well-formed unit
+abbrev pub AreOfUnit : List StaticOf → Type 0
+AreOfUnit statics = (u : Code) × (u.statics.items ≡ statics) × IsWellFormed u
 
 -- what is asked of code: it fits, and begins with one of its words
 pub record IsLoadable (code : Linked) : Type 0 where

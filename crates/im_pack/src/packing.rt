@@ -1,14 +1,14 @@
 ghost use Rattle.std.specs.Prelude.{◌≡◌, ◌≤◌, ◌<◌, ◌^◌, slice_index, IfOk, MatchResult, ℕ};
 ghost use Rattle.im_mem.specs.Map.{output_capacity, stack_capacity, statics_capacity, statics_start};
-ghost use Rattle.im_block.specs.Wellformed.{IsWellFormed};
+ghost use Rattle.im_block.specs.declared.unit.Unit.{Unit};
 ghost use Rattle.im_frame.specs.Layout.{places_from, rooms};
 ghost use Rattle.im_addresses.specs.Statics.{objects_of};
-ghost use Rattle.im_pack.specs.Packed.{IsFaultOf, IsLoadable, IsPacked};
+ghost use Rattle.im_pack.specs.Packed.{AreOfUnit, IsFaultOf, IsLoadable, IsPacked};
 
 use crate::bytes::first_bytes;
 use crate::fault::PackFault;
 use crate::objects::objects_of_statics;
-use im_block::Unit;
+use im_block::Static;
 use im_image::{Form, Image, Version};
 use im_num::NoMemory;
 use im_rv::Code;
@@ -22,35 +22,35 @@ fn copy_of(alloc: Global, words: &[u32]) -> Result<Vec<u32>, NoMemory>
     Ok(Vec::from_slice(alloc, words)?)
 }
 
-/// The image of linked code, with the first values of the unit's statics at their addresses, and
-/// an object for each of them. `stack` and `out_cap` are in bytes.
+/// The image of linked code, with the first values of its unit's statics at their addresses, and an
+/// object for each of them. `stack` and `out_cap` are in bytes.
 pub fn pack(
     alloc: Global,
-    unit: &Unit,
+    statics: &[Static],
     addresses: &[u32],
     code: &Code,
     stack: u32,
     out_cap: u32,
 ) -> Result<Image, PackFault>
-    requires well_formed { IsWellFormed unit.now }
-    requires room { rooms (objects_of unit.now.statics.items) ≤ statics_capacity }
-    requires places { addresses.now ≡ places_from statics_start
-        (objects_of unit.now.statics.items) }
+    requires well_formed { AreOfUnit statics.now }
+    requires room { rooms (objects_of statics.now) ≤ statics_capacity }
+    requires places { addresses.now ≡ places_from statics_start (objects_of statics.now) }
     requires code { IsLoadable code.now }
     requires some_stack { 256 ≤ stack }
     requires most_stack { stack ≤ stack_capacity }
     requires output { out_cap ≤ output_capacity }
     ensures { MatchResult result
-        (λ image. IsPacked unit.now addresses.now code.now stack out_cap image)
-        (λ fault. IsFaultOf unit.now.statics.items fault) }
+        (λ image. (u : Unit) → u.statics.items ≡ statics.now
+        → IsPacked u addresses.now code.now stack out_cap image)
+        (λ fault. IsFaultOf statics.now fault) }
 {
-    let statics = first_bytes(alloc, &unit.statics, addresses)?;
-    let objects = objects_of_statics(alloc, &unit.statics, addresses)?;
+    let bytes = first_bytes(alloc, statics, addresses)?;
+    let objects = objects_of_statics(alloc, statics, addresses)?;
     Ok(Image {
         version: Version::Two,
         form: Form::TwoLengths,
         words: copy_of(alloc, &code.words)?,
-        statics,
+        statics: bytes,
         stack,
         out_cap,
         entry: code.entry,

@@ -1,18 +1,16 @@
-use Rattle.std.proofs.Common.{List, sym, subst}
-use Rattle.im_rv.specs.declared.code.Part.{Part}
-use Rattle.im_link.specs.Code.{IsLinkable, IsLinked}
+use Rattle.std.proofs.lemmas.Result.{err_from_is_err_and}
+use Rattle.im_compile.proofs.Faulty.{of_link_fault}
 use Rattle.im_compile.proofs.linking.linked_code.Goals as goal
 
-pub link-requires : goal.link-requires
-link-requires c =
-    subst IsLinkable (sym c.deref.ensures.value)
-    (c.linkable_law.ensures c.args.program.now.unit.now c.args.program.now.statics.now c.args.program.now.layouts.now c.in_ok-parts.parts.items c.in_ok-parts.ensures.program c.requires.named)
+pub returns-in_err-code : goal.returns-in_err-code
+returns-in_err-code c =
+    let p = err_from_is_err_and c.from_residual-in_err-code.result c.from_residual-in_err-code.ensures.1 in
+    let a = c.in_ok-assembled.ensures.parts in
+    let linkable = c.linkable_law.ensures c.args.unit c.args.program.now.statics.now c.args.program.now.layouts.now a.parts a.is_program c.requires.named in
+    rw (p.1, p.2) (of_link_fault c.args.unit c.args.program.now.statics.now c.args.program.now.layouts.now a.parts a.is_program c.in_err-code.field-0.0 (c.in_err-code.ensures.code a.parts a.holds linkable))
 
 pub returns : goal.returns
-returns c = record {
-  parts = c.in_ok-parts.parts.items;
-  assemble = c.in_ok-parts.ensures.program;
-  named = c.in_ok-parts.ensures.named;
-  linkable = c.linkable_law.ensures c.args.program.now.unit.now c.args.program.now.statics.now c.args.program.now.layouts.now c.in_ok-parts.parts.items c.in_ok-parts.ensures.program c.requires.named;
-  link = subst (λ (p : List Part). IsLinked p c.in_ok-code.code) c.deref.ensures.value c.in_ok-code.ensures.linked;
-}
+returns c =
+    let a = c.in_ok-assembled.ensures.parts in
+    let linkable = c.linkable_law.ensures c.args.unit c.args.program.now.statics.now c.args.program.now.layouts.now a.parts a.is_program c.requires.named in
+    (c.in_ok-assembled.ensures.statics, record { parts = a.parts; assemble = a.is_program; named = a.names; linkable = linkable; link = c.in_ok-code.ensures.code a.parts a.holds linkable })

@@ -1,6 +1,4 @@
 use Rattle.std.proofs.Common.{◌≡◌, [], length, sym, ap, ◌∙◌, subst, arith}
-use Rattle.im_link.specs.Code.{IsLinkable}
-use Rattle.im_linked.proofs.Linkable.{linkable}
 use Rattle.im_assemble.proofs.One.{layouts_of}
 use Rattle.im_middle_trials.proofs.assembling.a_program_is_linked.Goals as goal
 
@@ -19,6 +17,3 @@ assemble-requires g c =
       statics = (let a = ap (λ z. length z) c.in_ok-unit.ensures.none in sym a);
       low = λ n h. absurd (omega arith);
     }
-
-pub link-requires : goal.link-requires
-link-requires g c = subst IsLinkable (sym c.deref-3.ensures.value) (linkable c.in_ok-unit.unit [] c.deref.result.now c.in_ok-parts.parts.items c.in_ok-parts.ensures.program c.in_ok-unit.ensures.named)

@@ -1,0 +1,54 @@
+ghost use Rattle.std.specs.Prelude.{MatchResult};
+ghost use Rattle.im_typed.specs.declared.program.Prog.{Prog as TypedProgram};
+ghost use Rattle.im_compile.specs.Faults.{IsFaultOf};
+ghost use Rattle.im_compile.specs.Lowered.{IsLoweredFrom};
+ghost use Rattle.im_compile.specs.Passed.{IsSource};
+ghost use Rattle.im_compile.specs.Prepared.{IsPrepared};
+
+use crate::fault::CompileFault;
+use crate::frames::{frames_of, layouts_of};
+use crate::linking::texts_of;
+use crate::passes::{Lowered, placed_code};
+use im_addresses::place_statics;
+use im_block::Unit;
+use im_frame::Layout;
+use im_typed::Frames;
+use std::alloc::Global;
+
+/// Placed code with all that linking and packing ask of its program.
+#[derive(Drop)]
+pub(crate) struct Prepared {
+    pub unit: Unit,
+    /// The layout of each function's frame.
+    pub layouts: Vec<Layout>,
+    /// The address of each static.
+    pub addresses: Vec<u32>,
+    /// The name of each function, as text.
+    pub names: Vec<String>,
+    /// The bytes of each function's frame, by its name.
+    pub frames: Frames,
+}
+
+/// The placed code of block code, its frames, and the places of its statics.
+pub(crate) fn prepare(alloc: Global, lowered: Lowered) -> Result<Prepared, CompileFault>
+    requires { (prog : TypedProgram) × IsSource prog × IsLoweredFrom prog lowered }
+    ensures { (prog : TypedProgram) → IsSource prog → IsLoweredFrom prog lowered
+        → MatchResult result (IsPrepared prog) (IsFaultOf prog) }
+{
+    let Lowered {
+        unit: lowered,
+        names: bytes,
+    } = lowered;
+    let unit = placed_code(alloc, lowered)?;
+    let layouts = layouts_of(alloc, &unit.functions)?;
+    let addresses = place_statics(alloc, &unit.statics)?;
+    let names = texts_of(alloc, &bytes)?;
+    let frames = frames_of(alloc, &bytes, &layouts)?;
+    Ok(Prepared {
+        unit,
+        layouts,
+        addresses,
+        names,
+        frames,
+    })
+}
