@@ -1,23 +1,22 @@
 //! Counts of a unit, and their limits.
 ghost use Rattle.std.specs.Prelude.{◌≡◌, ◌≤◌, ℕ, ◌+◌, ◌*◌, ◌/◌, Contains, MatchResult, IfOk};
-ghost use Rattle.im_ctree.specs.Shape.{tree_of};
+ghost use Rattle.im_ctree.specs.Tree as t;
+ghost use Rattle.im_counts.specs.Counts.{IsOver};
 ghost use Rattle.im_typed.specs.Limits.{static_bytes};
 ghost use Rattle.im_typed.specs.ProgramOf.{program_of};
 ghost use Rattle.im_rule_limits.specs.Limits as l;
 ghost use Rattle.im_checking.specs.Counts.{IsOverParameters, IsOverStatics};
 
 use crate::fault::{CheckFault, Limit};
-use im_counts::too_many_parameters;
-use im_ctree::Tree;
 use im_num::NoMemory;
 use im_typed::{Prog, Static};
 
-/// Whether no function has more than 8 parameters.
-pub fn are_few(tree: &Tree) -> Result<(), CheckFault>
-    ensures { MatchResult result (λ _. (n : ℕ) → Contains (l.parameter_counts (tree_of tree.now)) n
-        → n ≤ 8) (IsOverParameters (tree_of tree.now)) }
+/// Whether no function has more than 8 parameters; `over` is the first count that is more.
+pub fn are_few(over: Option<usize>) -> Result<(), CheckFault>
+    ensures { (u : t.Tree) → IsOver (l.parameter_counts u) over → MatchResult result
+        (λ _. (n : ℕ) → Contains (l.parameter_counts u) n → n ≤ 8) (IsOverParameters u) }
 {
-    match too_many_parameters(tree) {
+    match over {
         None => Ok(()),
         Some(count) => Err(CheckFault::Limit {
             which: Limit::Parameters,

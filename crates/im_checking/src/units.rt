@@ -11,11 +11,11 @@ use im_program::Parts;
 use im_stop::Stop;
 use std::alloc::Global;
 
-/// The external declarations of a unit, with a body of `main`.
-pub(crate) fn unit(alloc: Global, tree: &Tree) -> Result<Parts, Stop>
-    ensures { MatchResult result (UnitTyped (tree_of tree.now)) (IsUnitFault (tree_of tree.now)) }
+/// The external declarations of a unit, with a body of `main`. Each is given back once it is typed.
+pub(crate) fn unit(alloc: Global, tree: Tree) -> Result<Parts, Stop>
+    ensures { MatchResult result (UnitTyped (tree_of tree)) (IsUnitFault (tree_of tree)) }
 {
-    let mut file = File::start(alloc, tree)?;
+    let mut file = File::start(alloc, &tree)?;
     let done = externals(alloc, tree, &mut file)?;
     has_main(alloc, &file.place.scope)?;
     Ok(Parts {

@@ -1,6 +1,6 @@
 -- External declarations, one behind the other.
 use Rattle.std.proofs.Common.{◌≡◌, ◌<◌, ◌≤◌, ℕ, ◌+◌, List, [], ◌∷◌, ◌++◌, length, drop, get_or, Vec, Global, sym, ap, ◌∙◌, subst, append_assoc}
-use Rattle.std.proofs.lemmas.List.{append-nil, drop_more, drop_all}
+use Rattle.std.proofs.lemmas.List.{append-nil, drop_more, drop_all, length_push}
 use Rattle.im_ctree.specs.Tree as t
 use Rattle.im_ctree.specs.Shape.{external_of, externals_of}
 use Rattle.im_ctree.specs.declared.unit.External.{External}
@@ -114,6 +114,14 @@ reached_more {before = before} {now = now} {after = after} {done = done} {done' 
           subst (λ fs. AreDefined after.place.structs (reached.made ++ one.made) fs) (sym one.functions)
           (defined_two after.place.structs reached.made done.functions.items one.made one.defined (defined_longer now.place.structs after.place.structs longer.0 longer.1 reached.made done.functions.items reached.same) one.same);
     }
+
+-- one more that an iterator yields
+pub reached_push : {before now after : File} {done done' : UnitDefined} (xs yielded : List External) (x : External) → length yielded < length xs → x ≡ get_or xs (length yielded) x
+    → Reached before now done xs (length yielded)
+    → ExternalDone now done (external_of x) after done'
+    → Reached before after done' xs (length (yielded ++ x ∷ []))
+reached_push {before = before} {after = after} {done' = done'} xs yielded x below is reached one =
+    subst (λ n. Reached before after done' xs n) (sym (length_push yielded x)) (reached_more (next xs (length yielded) x below is) reached one)
 
 pub reached_fault : {before now : File} {done : UnitDefined} {xs : List External} {i : ℕ} {x : External} (stop : Stop)
     → drop i xs ≡ x ∷ drop (i + 1) xs

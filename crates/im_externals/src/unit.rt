@@ -46,8 +46,8 @@ fn external(
     }
 }
 
-fn in_order(alloc: Global, list: &[External], file: &mut File) -> Result<UnitDefined, Stop>
-    ensures { let u = externals_of list.now in MatchResult result
+fn in_order(alloc: Global, list: Vec<External>, file: &mut File) -> Result<UnitDefined, Stop>
+    ensures { let u = externals_of list.items in MatchResult result
         (ExternalsDone file.old u file.new)
         (IsFileFault (file_place_of file.old) (some_externals u)) }
 {
@@ -56,15 +56,16 @@ fn in_order(alloc: Global, list: &[External], file: &mut File) -> Result<UnitDef
         functions: Vec::new(alloc),
     };
     for x in list {
-        external(alloc, x, file, &mut done)?;
+        external(alloc, &x, file, &mut done)?;
     }
     Ok(done)
 }
 
-/// The external declarations of a unit, in order, from where the file stands.
-pub fn externals(alloc: Global, tree: &Tree, file: &mut File) -> Result<UnitDefined, Stop>
-    ensures { let u = tree_of tree.now in MatchResult result (ExternalsDone file.old u file.new)
+/// The external declarations of a unit, in order, from where the file stands. Each is given back
+/// once it is typed.
+pub fn externals(alloc: Global, tree: Tree, file: &mut File) -> Result<UnitDefined, Stop>
+    ensures { let u = tree_of tree in MatchResult result (ExternalsDone file.old u file.new)
         (IsFileFault (file_place_of file.old) (some_externals u)) }
 {
-    in_order(alloc, &tree.externals, file)
+    in_order(alloc, tree.externals, file)
 }
