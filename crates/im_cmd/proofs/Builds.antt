@@ -8,10 +8,10 @@ use Rattle.im_cli.specs.declared.command.BuildOptions.{BuildOptions}
 use Rattle.im_compile.specs.declared.built.Built.{Built}
 use Rattle.im_typed.specs.declared.program.Prog.{Prog}
 use Rattle.im_image.specs.Contents.{IsImage}
-use Rattle.im_driver.specs.Compiled.{IsCompiledFrom, IsRefused}
+use Rattle.im_driver.specs.Compiled.{IsCompiled, IsCompiledFrom, IsRefused}
 use Rattle.im_lines.specs.Refusals.{Refused, NoMemory}
 use Rattle.im_cmd.specs.Files.{ReadsFile, StoresText}
-use Rattle.im_cmd.specs.Builds.{Builds, RefusesBuild, Compiles, RefusesSource, IsFaulty, built_with, source_limit, source_faulty, source_starved, uncompiled, unwritable}
+use Rattle.im_cmd.specs.Builds.{Builds, RefusesBuild, Compiles, RefusesSource, IsBuilt, IsFaulty, built_with, source_limit, source_faulty, source_starved, uncompiled, unwritable}
 use Rattle.im_cmd.specs.Stages.{IsBuiltFrom, CompilesFrom, RefusesText, text_faulty, text_starved, RefusesStore, store_failed, store_starved}
 use Rattle.im_cmd.proofs.Refusing.{unchanged_read, unchanged_then}
 
@@ -23,6 +23,12 @@ faulty text OutOfMemory other h = absurd (other refl)
 
 pub built_from : (text : List ℕ) (building : BuildOptions) (prog : Prog) (built : Built) → IsImage built.image → IsCompiledFrom text (built_with building) prog built → IsBuiltFrom text building prog built
 built_from text building prog built is h = record { is_built = record { is_image = is; compiled = h.compiled }; is_made = h.is_made; is_source = h.is_source }
+
+pub is_built_of : (text : List ℕ) (building : BuildOptions) (built : Built) → IsImage built.image → IsCompiled text (built_with building) built → IsBuilt text building built
+is_built_of text building built is h = record { is_image = is; compiled = h }
+
+pub compiles_of : (source text : List ℕ) (building : BuildOptions) (built : Built) (a b : ShelfState) → ReadsFile source text source_limit a b → IsBuilt text building built → Compiles source building built a b
+compiles_of source text building built a b read h = record { text = text; reads = read; is_built = h }
 
 pub compiles_from : (source text : List ℕ) (building : BuildOptions) (prog : Prog) (built : Built) (a b : ShelfState) → ReadsFile source text source_limit a b
     → IsBuiltFrom text building prog built → CompilesFrom source building prog built a b

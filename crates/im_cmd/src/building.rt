@@ -3,11 +3,11 @@ ghost use Rattle.im_image.specs.Text.{image_text};
 ghost use Rattle.im_lines.specs.Refusals.{refused_of};
 ghost use Rattle.im_cmd.specs.Files.{ReadsFile, StoresText};
 ghost use Rattle.im_cli.specs.Named.{IsInBounds};
-ghost use Rattle.im_cmd.specs.Builds.{Builds, RefusesBuild, Compiles, RefusesSource, source_limit};
+ghost use Rattle.im_cmd.specs.Builds.{Builds, RefusesBuild, Compiles, RefusesSource, IsBuilt, source_limit};
 ghost use Rattle.im_cmd.specs.Stages.{IsBuiltFrom, CompilesFrom, RefusesText, RefusesStore};
 
 use im_cli::BuildOptions;
-use im_driver::{Built, Compiled, Options, compile_whole};
+use im_driver::{Built, Compiled, Options, compile, compile_whole};
 use im_fault::{Quantity, SourceFault};
 use im_image::{Image, write_image};
 use im_io::{ReadFault, Shelf, read_whole, store};
@@ -39,6 +39,28 @@ fn read_source<'a, H: Shelf>(
         Err(ReadFault::Fault) => Err(Refusal::CannotRead(source)),
         Err(ReadFault::TooLong(_)) => Err(Refusal::BadSource(source, TOO_LONG)),
         Err(ReadFault::OutOfMemory) => Err(Refusal::OutOfMemory),
+    }
+}
+
+// What is built of a source file's text.
+fn build_text<'a>(
+    alloc: Global,
+    source: &'a str,
+    building: BuildOptions,
+    text: &[u8],
+) -> Result<Built, Refusal<'a>>
+    requires { IsInBounds building }
+    ensures { MatchResult result (IsBuilt text.now building)
+        (λ refusal. RefusesText source.now text.now (refused_of refusal)) }
+{
+    let options = Options {
+        stack: building.stack,
+        out_cap: building.out_cap,
+    };
+    match compile(alloc, text, options) {
+        Ok(built) => Ok(built),
+        Err(SourceFault::OutOfMemory) => Err(Refusal::OutOfMemory),
+        Err(fault) => Err(Refusal::BadSource(source, fault)),
     }
 }
 
@@ -118,8 +140,12 @@ pub fn compile_source<'a, H: Shelf>(
         (H.state shelf.new))
         (λ refusal. RefusesSource source.now (H.state shelf.old) (H.state shelf.new) (refused_of refusal)) }
 {
-    match compile_program(alloc, shelf, source, building) {
-        Ok(whole) => Ok(whole.built),
+    let text = match read_source(alloc, shelf, source) {
+        Ok(text) => text,
+        Err(refusal) => return Err(refusal),
+    };
+    match build_text(alloc, source, building, &text) {
+        Ok(built) => Ok(built),
         Err(refusal) => Err(refusal),
     }
 }

@@ -6,7 +6,7 @@ use Rattle.im_fault.specs.declared.fault.Quantity.{Quantity}
 use Rattle.im_fault.specs.declared.fault.Quantity.TheVariants.{Source, Parameters, Size, Statics, Frame, Code}
 use Rattle.im_fault.specs.declared.fault.SourceFault.{SourceFault}
 use Rattle.im_fault.specs.declared.fault.SourceFault.TheVariants.{Line, Limit, NotYet, OutOfMemory}
-use Rattle.im_front.specs.Reading.{IsRead, IsWrong}
+use Rattle.im_front.specs.Reading.{IsRead, IsWrong, token_lines}
 use Rattle.im_typed.specs.declared.program.Prog.{Prog}
 use Rattle.im_typed.specs.ProgramOf.{program_of}
 use Rattle.im_tok.specs.declared.token.Token.{Token}
@@ -44,7 +44,7 @@ read_refused source (Limit Code count) h = absurd h
 read_refused source NotYet h = absurd h
 read_refused source OutOfMemory h = tt
 
-pub check_refused : (source : List ℕ) (tokens : List Token) (tree : Tree) (fault : CheckFault) → IsTreeOf source tokens tree → IsCheckFault (tree_of tree) fault → IsRefused source (fault_at source tokens fault)
+pub check_refused : (source : List ℕ) (tokens : List Token) (tree : Tree) (fault : CheckFault) → IsTreeOf source tokens tree → IsCheckFault (tree_of tree) fault → IsRefused source (fault_at source (token_lines tokens) fault)
 check_refused source tokens tree (check.Rule number token) is_tree h = record { tokens = tokens; tree = tree; is_tree = is_tree; token = token; broken = h; is_line = refl }
 check_refused source tokens tree (check.Limit which.Parameters count) is_tree h = record { tokens = tokens; tree = tree; is_tree = is_tree; exceeds = h }
 check_refused source tokens tree (check.Limit which.Size count) is_tree h = record { tokens = tokens; tree = tree; is_tree = is_tree; exceeds = h }

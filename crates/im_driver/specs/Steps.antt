@@ -5,7 +5,7 @@ use Rattle.im_fault.specs.declared.fault.Quantity.{Quantity}
 use Rattle.im_fault.specs.declared.fault.Quantity.TheVariants.{Parameters, Size, Statics, Frame, Code}
 use Rattle.im_fault.specs.declared.fault.SourceFault.{SourceFault}
 use Rattle.im_fault.specs.declared.fault.SourceFault.TheVariants.{Line, Limit, NotYet, OutOfMemory}
-use Rattle.im_front.specs.Reading.{line_of_token}
+use Rattle.im_front.specs.Reading.{line_among}
 use Rattle.im_checking.specs.declared.fault.CheckFault.{CheckFault}
 use Rattle.im_checking.specs.declared.fault.CheckFault.TheVariants as check
 use Rattle.im_checking.specs.declared.fault.Limit as k
@@ -53,10 +53,11 @@ quantity_of which.Parameters = Parameters
 quantity_of which.Size = Size
 quantity_of which.Statics = Statics
 
-abbrev pub fault_at : List ℕ → List Token → CheckFault → SourceFault
-fault_at source tokens (check.Rule number token) = Line (line_of_token source tokens token) (Rule number)
-fault_at source tokens (check.Limit which count) = Limit (quantity_of which) count
-fault_at source tokens check.OutOfMemory = OutOfMemory
+-- the lines are those of the source's tokens
+abbrev pub fault_at : List ℕ → List ℕ → CheckFault → SourceFault
+fault_at source lines (check.Rule number token) = Line (line_among source lines token) (Rule number)
+fault_at source lines (check.Limit which count) = Limit (quantity_of which) count
+fault_at source lines check.OutOfMemory = OutOfMemory
 
 abbrev pub of_compile : CompileFault → SourceFault
 of_compile (compile.Frame function bytes) = Limit Frame bytes

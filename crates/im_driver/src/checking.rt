@@ -5,8 +5,7 @@ ghost use Rattle.im_driver.specs.Steps.{IsReady, fault_at, quantity_of};
 use crate::laws::{program_law, written_law};
 use im_checking::{CheckFault, Limit, check};
 use im_fault::{LineFault, Quantity, SourceFault};
-use im_front::{line_of, read_source};
-use im_tok::Token;
+use im_front::{Text, line_of, read_source};
 use im_typed::Prog;
 use std::alloc::Global;
 
@@ -20,14 +19,14 @@ fn quantity(which: Limit) -> Quantity
     }
 }
 
-// Why a source has no program, of whose tree this is told.
-fn untyped(source: &[u8], tokens: &[Token], fault: CheckFault) -> SourceFault
+// Why a source has no program, of whose tree this is told; its tokens have these lines.
+fn untyped(source: &[u8], lines: &[u32], fault: CheckFault) -> SourceFault
     requires { length source.now < 2 ^ 31 }
-    ensures { result ≡ fault_at source.now tokens.now fault }
+    ensures { result ≡ fault_at source.now lines.now fault }
 {
     match fault {
         CheckFault::Rule { number, token } => SourceFault::Line {
-            line: line_of(source, tokens, token),
+            line: line_of(source, lines, token),
             why: LineFault::Rule(number),
         },
         CheckFault::Limit { which, count } => SourceFault::Limit {
@@ -38,18 +37,18 @@ fn untyped(source: &[u8], tokens: &[Token], fault: CheckFault) -> SourceFault
     }
 }
 
-/// The typed program of a source, or why it has none. Tokens and tree are given back at its end.
+/// The typed program of a source, or why it has none. Tokens and tree are given back before its end.
 pub(crate) fn typed_program(alloc: Global, source: &[u8]) -> Result<Prog, SourceFault>
     ensures { MatchResult result (IsReady source.now) (IsRefused source.now) }
 {
     written_law();
     program_law();
-    let text = match read_source(alloc, source) {
+    let Text { lines, tree } = match read_source(alloc, source) {
         Ok(text) => text,
         Err(fault) => return Err(fault),
     };
-    match check(alloc, &text.tree) {
+    match check(alloc, tree) {
         Ok(prog) => Ok(prog),
-        Err(fault) => Err(untyped(source, &text.tokens, fault)),
+        Err(fault) => Err(untyped(source, &lines, fault)),
     }
 }

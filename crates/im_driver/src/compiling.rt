@@ -5,7 +5,7 @@ ghost use Rattle.im_driver.specs.Steps.{of_compile};
 
 use crate::checking::typed_program;
 use crate::laws::kept_law;
-use im_compile::{Built, CompileFault, Options, compile as compile_program};
+use im_compile::{Built, CompileFault, Options, compile as compile_program, compile_owned};
 use im_fault::{Quantity, SourceFault};
 use im_typed::Prog;
 use std::alloc::Global;
@@ -57,15 +57,18 @@ pub fn compile_whole(
     }
 }
 
-/// The image of a source, or why the source is refused, as `compile_whole` gives them.
+/// The image of a source, or why the source is refused, as `compile_whole` gives them. The typed
+/// program is given back before the image grows.
 pub fn compile(alloc: Global, source: &[u8], options: Options) -> Result<Built, SourceFault>
     requires some_stack { 256 ≤ options.stack }
     requires most_stack { options.stack ≤ stack_capacity }
     requires output { options.out_cap ≤ output_capacity }
     ensures { MatchResult result (IsCompiled source.now options) (IsRefused source.now) }
 {
-    match compile_whole(alloc, source, options) {
-        Ok(whole) => Ok(whole.built),
-        Err(fault) => Err(fault),
+    kept_law();
+    let prog = typed_program(alloc, source)?;
+    match compile_owned(alloc, prog, options) {
+        Ok(built) => Ok(built),
+        Err(fault) => Err(unmade(fault)),
     }
 }

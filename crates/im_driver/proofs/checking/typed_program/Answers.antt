@@ -1,4 +1,6 @@
-use Rattle.std.proofs.Common.{arith}
+use Rattle.std.proofs.Common.{List, ℕ, sym, subst, arith}
+use Rattle.im_driver.specs.Compiled.{IsRefused}
+use Rattle.im_driver.specs.Steps.{fault_at}
 use Rattle.im_driver.proofs.Refusals.{read_refused, check_refused}
 use Rattle.im_driver.proofs.checking.typed_program.Goals as goal
 
@@ -7,15 +9,18 @@ returns-in-Err c = read_refused c.args.source.now c.in-Err.fault c.in-Err.ensure
 
 pub check-requires : goal.check-requires
 check-requires c =
-    let read = c.in-Ok.ensures in
-    c.written_law.ensures c.args.source.now c.in-Ok.text.tokens.items c.in-Ok.text.tree (λ i. omega (arith, c.type_inv.source i)) read.1.1 (record { lexes = read.1.0; parsed = read.2 })
+    let text = c.in-Ok.ensures.1 in
+    c.written_law.ensures c.args.source.now text.tokens c.in-Ok.text.tree (λ i. omega (arith, c.type_inv.source i)) text.each (record { lexes = text.lexes; parsed = text.parsed })
 
 pub returns-in-Ok-check : goal.returns-in-Ok-check
 returns-in-Ok-check c =
-    let read = c.in-Ok.ensures in
-    c.program_law.ensures c.args.source.now c.in-Ok.text.tokens.items c.in-Ok.text.tree c.in-Ok-check.prog (λ i. omega (arith, c.type_inv.source i)) read.1.1 (record { lexes = read.1.0; parsed = read.2 }) c.in-Ok-check.ensures
+    let text = c.in-Ok.ensures.1 in
+    c.program_law.ensures c.args.source.now text.tokens c.in-Ok.text.tree c.in-Ok-check.prog (λ i. omega (arith, c.type_inv.source i)) text.each (record { lexes = text.lexes; parsed = text.parsed }) c.in-Ok-check.ensures
 
 pub returns : goal.returns
 returns c =
-    let read = c.in-Ok.ensures in
-    rw (c.untyped.ensures, c.deref.ensures.value) (check_refused c.args.source.now c.in-Ok.text.tokens.items c.in-Ok.text.tree c.in-Err-check.fault (record { lexes = read.1.0; parsed = read.2 }) c.in-Err-check.ensures)
+    let text = c.in-Ok.ensures.1 in
+    let fault = c.in-Err-check.fault in
+    rw (c.untyped.ensures, c.deref.ensures.value)
+    (subst (λ (z : List ℕ). IsRefused c.args.source.now (fault_at c.args.source.now z fault)) (sym text.lines)
+    (check_refused c.args.source.now text.tokens c.in-Ok.text.tree fault (record { lexes = text.lexes; parsed = text.parsed }) c.in-Err-check.ensures))

@@ -1,4 +1,11 @@
+use Rattle.im_driver.proofs.Refusals.{made_refused}
 use Rattle.im_driver.proofs.compiling.compile.Goals as goal
 
+pub compile_owned-requires-clause-source : goal.compile_owned-requires-clause-source
+compile_owned-requires-clause-source c = c.in_ok-prog.ensures.is_source
+
 pub returns-in-Ok : goal.returns-in-Ok
-returns-in-Ok c = c.in-Ok.ensures.compiled
+returns-in-Ok c = (c.kept_law.ensures c.args.source.now c.in_ok-prog.prog c.args.options c.in-Ok.built c.in_ok-prog.ensures c.in-Ok.ensures).compiled
+
+pub returns-in-Err : goal.returns-in-Err
+returns-in-Err c = rw c.unmade.ensures (made_refused c.args.source.now c.in_ok-prog.prog c.in-Err.fault c.in_ok-prog.ensures.program c.in-Err.ensures)
