@@ -1,11 +1,13 @@
 #!/bin/sh
 # How fast sources become images, how fast they are checked alone, and how fast they become block code: bytes of source per
-# second, and the exponent of the time between each two sizes (1 where twice the source takes twice the time). Images are made
-# of sources of up to 256 KiB, as larger ones have more code than a device has room for; the memory is told beside them, and
-# what `gcc -O0 -c` and `gcc -fsyntax-only` take. Block code is made of sources of up to 4 MiB: the time up to it is that of
-# the check and, by its share of the instructions, which valgrind counts, that of lowering, where the larger ones are refused
-# for their code once it is selected. What is checked alone has a name at its end that nothing declares, so it is refused once
-# all before it is read and typed. Times are the processor's, of ten runs each. It is no part of the gate.
+# second, and the exponent of the time between each two sizes (1 where twice the source takes twice the time). Images are
+# made of sources of up to 420000 bytes, as larger ones have more code than a device has room for; the memory is told beside
+# them: the most bytes that are allocated at once, as valgrind's massif counts them, and the most that the process holds, its
+# own pages among them. What `gcc -O0 -c` and `gcc -fsyntax-only` take is told too. Block code is made of sources of up to 4
+# MiB: the time up to it is that of the check and, by its share of the instructions, which valgrind counts, that of lowering,
+# where the larger ones are refused for their code once it is selected. What is checked alone has a name at its end that
+# nothing declares, so it is refused once all before it is read and typed. Times are the processor's, of ten runs each. It is
+# no part of the gate.
 set -eu
 top=$(CDPATH= cd -- "$(dirname -- "$0")/.." && pwd)
 work=$(mktemp -d)
@@ -74,6 +76,11 @@ kilobytes() { # COMMAND..: the most memory that it holds at once
     /usr/bin/time -f %M "$@" 2>&1 > /dev/null | tail -n 1
 }
 
+allocated() { # COMMAND..: the most bytes that it has allocated at once
+    valgrind --tool=massif --peak-inaccuracy=0.0 --massif-out-file="$work/heap" "$@" > /dev/null 2>&1 || true
+    awk -F= '/^mem_heap_B=/ && $2 + 0 > most { most = $2 + 0 } END { print most }' "$work/heap"
+}
+
 lowering() { # SOURCE: of the instructions of its build those of lowering, in thousandths, as callgrind counts them
     valgrind --tool=callgrind --callgrind-out-file="$work/calls" "$program" build "$1" "$work/source.img" \
         > /dev/null 2>&1 || true
@@ -100,16 +107,18 @@ expect() { # TEXT: stops where it isn't in what was printed
 
 echo 'images:'
 before=0
-for size in 65536 131072 262144; do
+for size in 65536 131072 262144 420000; do
     source_of "$size" "$work/source.c"
     bytes=$(wc -c < "$work/source.c")
     time=$(milliseconds "$program" build "$work/source.c" "$work/source.img")
     expect '^code '
     code=$(sed -n 1p "$work/printed")
     theirs=$(milliseconds gcc -O0 -w -c "$work/source.c" -o "$work/source.o")
+    heap=$(allocated "$program" build "$work/source.c" "$work/source.img")
     memory=$(kilobytes "$program" build "$work/source.c" "$work/source.img")
-    echo "$bytes bytes, $code words: $(per_second "$time"), $memory KiB ($((memory * 1024 / bytes)) times the" \
-        "source)$(exponent "$time" "$before"); gcc -O0 -c: $((theirs / 10)) ms"
+    echo "$bytes bytes, $code words: $(per_second "$time")$(exponent "$time" "$before"), $heap bytes allocated" \
+        "($((heap / bytes)) times the source), $memory KiB held; gcc -O0 -c: $((theirs / 10)) ms," \
+        "$(kilobytes gcc -O0 -w -c "$work/source.c" -o "$work/source.o") KiB"
     before=$time smaller=$bytes
 done
 
