@@ -1,4 +1,4 @@
-/// A source, an input, and the output that comes of them by another compiler or by hand, as files.
+/// A source, an input, and the output that gcc's code of the source has on it, as files.
 #[derive(Clone, Copy)]
 pub(crate) struct Example {
     pub(crate) source: &'static str,

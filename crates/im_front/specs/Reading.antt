@@ -1,4 +1,4 @@
--- What a source is read as: its tokens and the tree that they spell, or the line where it is no C.
+-- What a source is read as: the tree that its tokens spell, and their lines, or the line where it is no C.
 use Rattle.std.specs.Prelude.{◌≡◌, ℕ, ◌<◌, ◌≤◌, List, map, length, drop, All, Option, Some, None, Result, Ok, Err, Vec, slice_get}
 use Rattle.std.specs.Global.{Global}
 use Rattle.im_tok.specs.declared.token.Token.{Token}

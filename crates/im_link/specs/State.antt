@@ -1,4 +1,4 @@
--- For private contracts: how far words, aims, labels and cuts have come.
+-- How far words, aims, labels and cuts have come: for `Holds`, and for private contracts.
 use Rattle.std.specs.Prelude.{◌≡◌, ◌≢◌, ℕ, ◌+◌, ◌<◌, List, [], ◌∷◌, ◌++◌, Option, Some, None, length, slice_get, slice_index}
 use Rattle.im_num.specs.declared.values.Cause.{Cause}
 use Rattle.im_num.specs.declared.values.Cause.TheVariants.{Dep}
