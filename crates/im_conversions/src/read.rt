@@ -57,20 +57,15 @@ fn read(alloc: Global, table: &TypeTable, ty: Type, place: Place) -> Result<Valu
     Ok(of_variable(ty, Expr::Read(what, from)))
 }
 
-/// The address of an array's first element.
-fn first_element(
-    alloc: Global,
-    constant: bool,
-    element: Box<Type>,
-    place: Place,
-) -> Result<Value, NoMemory>
+/// The address of an array's first element, by the type of a pointer to it.
+fn first_element(alloc: Global, pointer: Type, place: Place) -> Result<Value, NoMemory>
     ensures { (types : Table) → IfOk result (λ v. value_in types v ≡ record {
-      type = t.pointer constant (type_of element.value);
+      type = type_of pointer;
       expr = p.Address (place_of types place);
     }) }
 {
     let array = Box::new(alloc, place)?;
-    Ok(of_variable(Type::Pointer(constant, element), Expr::Address(array)))
+    Ok(of_variable(pointer, Expr::Address(array)))
 }
 
 /// What an lvalue gives.
@@ -84,16 +79,15 @@ fn lvalue_value(
     ensures { IfOk result (λ v. value_in table.now v ≡ r.value_of (structs_of table.now)
         (r.lvalue constant (type_of ty) (place_of table.now place))) }
 {
-    match ty {
-        Type::Array(element, _) => first_element(alloc, constant, element, place),
-        Type::Unsized(element) => first_element(alloc, constant, element, place),
-        Type::Void => read(alloc, table, Type::Void, place),
-        Type::Integer(i) => read(alloc, table, Type::Integer(i), place),
-        Type::Pointer(c, target) => read(alloc, table, Type::Pointer(c, target), place),
-        Type::Struct(number) => read(alloc, table, Type::Struct(number), place),
-        Type::Function(returned, parameters) => {
-            read(alloc, table, Type::Function(returned, parameters), place)
+    match &ty {
+        Type::Array(_, _) | Type::Unsized(_) => {
+            first_element(alloc, ty.into_pointer(constant), place)
         }
+        Type::Void
+        | Type::Integer(_)
+        | Type::Pointer(_, _)
+        | Type::Struct(_)
+        | Type::Function(_, _) => read(alloc, table, ty, place),
     }
 }
 

@@ -4,12 +4,18 @@ use super::operator::{AssignOp, BinaryOp, StepOp, UnaryOp};
 use im_tok::Number;
 
 /// An expression (C11 6.5).
-#[derive(Drop)]
 #[cycle(tree)]
 pub struct Expression {
     /// The number of its first token.
     pub at: u32,
     pub kind: ExpressionKind,
+}
+
+impl Drop for Expression {
+    #[cycle(tree)]
+    fn drop(self) {
+        let Expression { at: _, kind: _ } = self;
+    }
 }
 
 /// What an expression is; parentheses are not kept.

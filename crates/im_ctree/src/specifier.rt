@@ -12,12 +12,18 @@ pub struct Specifiers {
 }
 
 /// One declaration specifier.
-#[derive(Drop)]
 #[cycle(tree)]
 pub struct Specifier {
     /// The number of its first token.
     pub at: u32,
     pub kind: SpecifierKind,
+}
+
+impl Drop for Specifier {
+    #[cycle(tree)]
+    fn drop(self) {
+        let Specifier { at: _, kind: _ } = self;
+    }
 }
 
 /// What a specifier is.

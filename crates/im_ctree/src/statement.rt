@@ -11,20 +11,35 @@ pub struct Block {
 }
 
 /// What stands in a block.
-#[derive(Drop)]
 #[cycle(statement)]
 pub enum BlockItem {
     Declaration(Declaration),
     Statement(Statement),
 }
 
+impl Drop for BlockItem {
+    #[cycle(statement)]
+    fn drop(self) {
+        match self {
+            BlockItem::Declaration(_) => {}
+            BlockItem::Statement(_) => {}
+        }
+    }
+}
+
 /// A statement (C11 6.8).
-#[derive(Drop)]
 #[cycle(statement)]
 pub struct Statement {
     /// The number of its first token.
     pub at: u32,
     pub kind: StatementKind,
+}
+
+impl Drop for Statement {
+    #[cycle(statement)]
+    fn drop(self) {
+        let Statement { at: _, kind: _ } = self;
+    }
 }
 
 /// What a statement is.

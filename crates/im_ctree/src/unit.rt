@@ -10,16 +10,33 @@ pub struct Tree {
 }
 
 /// An external declaration.
-#[derive(Drop)]
 pub enum External {
     Declaration(Declaration),
     Function(Function),
 }
 
+impl Drop for External {
+    fn drop(self) {
+        match self {
+            External::Declaration(_) => {}
+            External::Function(_) => {}
+        }
+    }
+}
+
 /// A function definition (C11 6.9.1).
-#[derive(Drop)]
 pub struct Function {
     pub specifiers: Specifiers,
     pub declarator: Declarator,
     pub body: Block,
+}
+
+impl Drop for Function {
+    fn drop(self) {
+        let Function {
+            specifiers: _,
+            declarator: _,
+            body: _,
+        } = self;
+    }
 }

@@ -33,14 +33,13 @@ pub fn adjusted(declared: Declared) -> Declared
     ensures { declared_of result ≡ d.parameter (declared_of declared) }
 {
     let Declared { name, constant, ty } = declared;
-    match ty {
-        Type::Array(element, _) => unchanged(name, false, Type::Pointer(constant, element)),
-        Type::Unsized(element) => unchanged(name, false, Type::Pointer(constant, element)),
-        Type::Void => unchanged(name, constant, Type::Void),
-        Type::Integer(i) => unchanged(name, constant, Type::Integer(i)),
-        Type::Pointer(c, target) => unchanged(name, constant, Type::Pointer(c, target)),
-        Type::Struct(number) => unchanged(name, constant, Type::Struct(number)),
-        Type::Function(r, ps) => unchanged(name, constant, Type::Function(r, ps)),
+    match &ty {
+        Type::Array(_, _) | Type::Unsized(_) => unchanged(name, false, ty.into_pointer(constant)),
+        Type::Void
+        | Type::Integer(_)
+        | Type::Pointer(_, _)
+        | Type::Struct(_)
+        | Type::Function(_, _) => unchanged(name, constant, ty),
     }
 }
 

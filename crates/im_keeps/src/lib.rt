@@ -3,4 +3,4 @@
 
 mod laws;
 
-pub use laws::refined_law;
+pub use laws::{refined_law, silent_law};

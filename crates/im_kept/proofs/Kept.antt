@@ -1,5 +1,5 @@
 -- What a memory shows stays where its bytes do.
-use Rattle.std.proofs.Common.{◌≡◌, ℕ, zero, suc, ◌+◌, ◌-◌, ◌<◌, ◌≤◌, Bool, true, false, cond, List, [], ◌∷◌, ◌++◌, map, refl, sym, ap, ◌∙◌, arith}
+use Rattle.std.proofs.Common.{◌≡◌, ℕ, zero, suc, ◌+◌, ◌*◌, ◌-◌, ◌<◌, ◌≤◌, Bool, true, false, cond, List, [], ◌∷◌, ◌++◌, map, length, refl, sym, ap, ◌∙◌, arith}
 use Rattle.std.specs.Prelude.{nat_le, min, ℤ, ◌==◌}
 use Rattle.std.specs.List.{flat_map}
 use Rattle.std.specs.Int.{cast_signed, w32}
@@ -21,8 +21,8 @@ use Rattle.im_device.specs.Variables.{value_of, cells_from, run_cells, variable}
 use Rattle.im_ckpt.specs.Buffers.{is_buffer}
 use Rattle.im_replay.specs.Replays.{after, long_periods}
 use Rattle.im_replay.specs.Output.{output_size, Extends, SameOutput}
-use Rattle.im_replay.proofs.Device.{replay_law, output_law, keeps_law}
-use Rattle.im_keeps.specs.Keeps.{Begins, Shows, long_periods as keeps_long}
+use Rattle.im_replay.proofs.Device.{replay_law, progress_law, output_law, keeps_law, reach_law}
+use Rattle.im_keeps.specs.Keeps.{Begins, Shows, output_in, long_periods as keeps_long}
 use Rattle.im_kept.specs.Laws.{AreHigh, run_of, EndKeptLaw, RunKeptLaw}
 
 -- ---- output
@@ -88,13 +88,13 @@ vars_same objects (object ∷ others) m n h high =
     ap (λ v. v ∷ map (variable objects m) others) (variable_same objects m n object h high.0)
     ∙ ap (λ vs. variable objects n object ∷ vs) (vars_same objects others m n h high.1)
 
-output_same : (m n : Mem) → Agree m n → output_of TwoLengths m ≡ output_of TwoLengths n
+pub output_same : (m n : Mem) → Agree m n → output_of TwoLengths m ≡ output_of TwoLengths n
 output_same m n h =
     let sel = h 36 refl in
     let size : output_size m ≡ output_size n = ap (λ z. min (cond (z == 0) (little m 12 4) (little m 32 4)) 1048576) sel ∙ ap (λ z. min (cond (n 36 == 0) z (little m 32 4)) 1048576) (low_word m n 12 h (omega arith)) ∙ ap (λ z. min (cond (n 36 == 0) (little n 12 4) z) 1048576) (low_word m n 32 h (omega arith)) in
     bytes-alike m n 4194304 (output_size m) (λ i l. h (4194304 + i) (high_out (4194304 + i) (omega arith))) ∙ ap (λ k. bytes_from n 4194304 k) size
 
-shows_same : (image : ImageValue) (m n : Mem) (reason : ℕ) (status : ℤ) (output : List ℕ) (variables : List Variable) → image.form ≡ TwoLengths → AreHigh image.objects → Agree m n → Shows image n reason status output variables → Shows image m reason status output variables
+pub shows_same : (image : ImageValue) (m n : Mem) (reason : ℕ) (status : ℤ) (output : List ℕ) (variables : List Variable) → image.form ≡ TwoLengths → AreHigh image.objects → Agree m n → Shows image n reason status output variables → Shows image m reason status output variables
 shows_same image m n reason status output variables form high h s = record {
   same_reason = low_word m n 8 h (omega arith) ∙ s.same_reason;
   same_status = ap (λ z. cast_signed w32 z) (low_word m n 4 h (omega arith)) ∙ s.same_status;
@@ -112,6 +112,12 @@ long_same gap (p ∷ ps) = ap (λ z. cond (nat_le gap p.n) p.count 0 + z) (long_
     by_length true c r = refl
     by_length false c r = omega arith
 
+-- a memory that extends another shows no less
+pub more_shown : (image : ImageValue) (m n : Mem) → image.form ≡ TwoLengths → Extends m n → Begins (output_of image.form m) (output_of image.form n)
+more_shown image m n form e =
+    let b = begins_shown m n e in
+    (b.0, ap (λ f. output_of f m ++ b.0) form ∙ b.1 ∙ sym (ap (λ f. output_of f n) form))
+
 pub end_kept : EndKeptLaw
 end_kept image input code gap fuel time c reason status output variables ready gaps e few =
     let m = memory_of image input in
@@ -121,22 +127,35 @@ end_kept image input code gap fuel time c reason status output variables ready g
           let b = begins_shown (after ps m).mem (run_of image input time).mem (r.always ps) in
           let same : output_of TwoLengths (run_of image input time).mem ≡ output = sym (ap (λ f. output_of f (run_of image input time).mem) ready.form) ∙ e.shown.same_output in
           (b.0, ap (λ f. output_of f (after ps m).mem ++ b.0) ready.form ∙ b.1 ∙ same));
+      grows = λ ps qs. more_shown image (after ps m).mem (after (ps ++ qs) m).mem ready.form ((output_law m code ready.compiled ready.shows).more ps qs);
       exact = λ ps h. shows_same image (after ps m).mem (run_of image input time).mem reason status output variables ready.form ready.objects (λ a out. r.exact ps h a out) e.shown;
       halts = λ ps l. r.halts ps (let q = long_same gap ps in omega arith);
+      commits = (progress_law m code gap ready.compiled gaps).each;
       safe = r.safe;
     }
 
 pub run_kept : RunKeptLaw
-run_kept meaning image input code ready as_source =
+run_kept meaning image input code gap ready gaps as_source =
     let m = memory_of image input in
     let r = replay_law m code ready.compiled in
+    let p = progress_law m code gap ready.compiled gaps in
     let o = output_law m code ready.compiled ready.shows in
     record {
       safe = λ ps at h. r.no_fault ps at h;
       begins = λ ps. (
           let s = o.shows ps in
           let b = as_source.begins s.0 in
-          let same : output_of image.form (after ps m).mem ≡ output_of image.form (run_of image input s.0).mem = ap (λ f. output_of f (after ps m).mem) ready.form ∙ same_shown (after ps m).mem (run_of image input s.0).mem s.1 ∙ sym (ap (λ f. output_of f (run_of image input s.0).mem) ready.form) in
+          let same : output_of image.form (after ps m).mem ≡ output_of image.form (run_of image input s.0).mem = ap (λ f. output_of f (after ps m).mem) ready.form ∙ same_shown (after ps m).mem (run_of image input s.0).mem s.2 ∙ sym (ap (λ f. output_of f (run_of image input s.0).mem) ready.form) in
           (b.0, (b.1.0, ap (λ z. z ++ b.1.0) same ∙ b.1.1)));
       ended = λ ps h. (let e = r.at_end ps (λ on. let bad : Halted ≡ On = sym h ∙ on in cc) in as_source.ended e.time e.ended);
+      grows = λ ps qs. more_shown image (after ps m).mem (after (ps ++ qs) m).mem ready.form (o.more ps qs);
+      commits = p.each;
+      reaches = λ fuel ps long. (
+          let s = as_source.shows fuel in
+          let c = (2 * fuel + 2) * length image.words in
+          let few = s.commits in
+          let e = reach_law m code gap c s.time ready.compiled ready.shows gaps few ps (let q = long_same gap ps in omega arith) in
+          let b = begins_shown (run_of image input s.time).mem (after ps m).mem e in
+          let same : output_in (meaning input fuel) ≡ output_of TwoLengths (run_of image input s.time).mem = sym s.shown ∙ ap (λ f. output_of f (run_of image input s.time).mem) ready.form in
+          (b.0, ap (λ z. z ++ b.0) same ∙ b.1 ∙ sym (ap (λ f. output_of f (after ps m).mem) ready.form)));
     }

@@ -40,10 +40,18 @@ EndKeptLaw = (image : ImageValue) (input : List ℕ) (code gap fuel time c reaso
     → GapAtMost (run_of image input) gap → EndsShowing image input time c reason status output variables → c ≤ (2 * fuel + 2) * length image.words
     → KeepsEnd image gap input fuel reason status output variables
 
--- what that run shows is always a part of what the source writes, and it ends only where the source does
+-- at this time that run shows so much, after at most c commits
+pub record ShowsBy (image : ImageValue) (input : List ℕ) (c : ℕ) (output : List ℕ) : Type 0 where
+  pub time : ℕ
+  pub commits : flips (flip (run_of image input)) time ≤ c
+  pub shown : output_of image.form (run_of image input time).mem ≡ output
+
+-- what that run shows is always a part of what the source writes, and it ends only where the source does; what the source
+-- writes with so much fuel is shown after few commits
 pub record RunsAs (meaning : Meaning) (image : ImageValue) (input : List ℕ) : Type 0 where
   pub begins : (t : ℕ) → (fuel : ℕ) × Begins (output_of image.form (run_of image input t).mem) (output_in (meaning input fuel))
   pub ended : (t : ℕ) → ends (run_of image input) t ≡ true → EndsOn meaning input
+  pub shows : (fuel : ℕ) → ShowsBy image input ((2 * fuel + 2) * length image.words) (output_in (meaning input fuel))
 
 abbrev pub RunKeptLaw : Type 0
-RunKeptLaw = (meaning : Meaning) (image : ImageValue) (input : List ℕ) (code : ℕ) → IsReady image input code → RunsAs meaning image input → KeepsOn meaning image input
+RunKeptLaw = (meaning : Meaning) (image : ImageValue) (input : List ℕ) (code gap : ℕ) → IsReady image input code → GapAtMost (run_of image input) gap → RunsAs meaning image input → KeepsOn meaning image gap input

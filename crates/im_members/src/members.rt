@@ -168,9 +168,9 @@ fn pointer_member(
         (c.arrowed (structs_of table.now) (value_in table.now value) name.now) at result }
 {
     let pointer = value.expr.tree;
-    match value.ty {
+    match &value.ty {
         Type::Pointer(constant, target) => {
-            target_member(alloc, table, at, constant, &target, pointer, name)
+            target_member(alloc, table, at, *constant, target, pointer, name)
         }
         // no value is an array (C11 6.3.2.1p3)
         Type::Array(_, _) | Type::Unsized(_) => Err(Stop::Memory),

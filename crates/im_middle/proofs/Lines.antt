@@ -17,6 +17,7 @@ use Rattle.im_alloc_laws.specs.Laws.{PlacedCodeLaw}
 use Rattle.im_recut.specs.Recut.{RecutsTo}
 use Rattle.im_recut.specs.Laws.{RecutKeepsLaw}
 use Rattle.im_passes.specs.Passes.{Cuts, Places, Recuts}
+use Rattle.im_passes.specs.Laws.{CodeBoundsLaw}
 use Rattle.im_middle.specs.Middle.{AreNoTags}
 use Rattle.im_middle.specs.Laws.{MiddleLaw}
 
@@ -87,12 +88,23 @@ place law u v w = record {
 recut : RecutKeepsLaw → (u v : Code) (tags : Tags) → RecutsTo u v → Recuts tags u v
 recut law u v tags r = record { same = law.same u v r; apart = law.apart u v r; sectioned = law.sectioned u v tags r }
 
-pub middle : PlacedCodeLaw → RecutKeepsLaw → MiddleLaw
-middle placing cutting = record {
+pub middle : PlacedCodeLaw → RecutKeepsLaw → CodeBoundsLaw → MiddleLaw
+middle placing cutting bounds = record {
   alias = alias;
   cut = cut;
   place = place placing;
   recut = recut cutting;
+  bounds = λ source code c. bounds source code (record {
+    lowered = c.lowered;
+    lower = c.lower;
+    forced = c.forced;
+    force = c.force;
+    trimmed = c.forced;
+    cut = cut c.forced;
+    placed = c.placed;
+    place = place placing c.forced c.placed c.place;
+    recut = record { same = cutting.same c.placed code c.recut; apart = cutting.apart c.placed code c.recut };
+  });
   whole = λ source frames image gap tags none c. record {
     lowered = c.lowered;
     lower = c.lower;

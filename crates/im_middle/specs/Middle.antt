@@ -10,6 +10,16 @@ use Rattle.im_gap.specs.Gap.{IsGap}
 use Rattle.im_passes.specs.Source.{Source}
 use Rattle.im_passes.specs.Passes.{Lowers, Selects}
 
+-- the passes before selection, by their own relations
+pub record Front (source : Source) (code : Code) : Type 0 where
+  pub lowered : Code
+  pub lower : Lowers source lowered
+  pub forced : Code
+  pub force : Forces lowered forced
+  pub placed : Code
+  pub place : IsWellPlaced forced placed
+  pub recut : RecutsTo placed code
+
 pub record Chain (source : Source) (frames : List ℕ) (image : ImageValue) (gap : ℕ) : Type 0 where
   pub lowered : Code
   pub lower : Lowers source lowered

@@ -1,6 +1,7 @@
 ghost use Rattle.im_middle.specs.Laws.{MiddleLaw};
 
 use im_alloc_laws::placed_code_law;
+use im_passes::code_bounds_law;
 use im_recut::recut_keeps_law;
 
 /// Forced cuts, places and the second cutting keep their lines of the record of passes; without
@@ -10,4 +11,5 @@ pub fn middle_law()
 {
     placed_code_law();
     recut_keeps_law();
+    code_bounds_law();
 }

@@ -1,5 +1,5 @@
 -- The compiler's promise, from the passes' promises alone.
-use Rattle.std.proofs.Common.{◌≡◌, ℕ, ◌+◌, ◌*◌, ◌<◌, ◌≤◌, true, false, inl, inr, List, [], length, map, refl, sym, ap, ◌∙◌, subst, arith}
+use Rattle.std.proofs.Common.{◌≡◌, ℕ, ◌+◌, ◌*◌, ◌<◌, ◌≤◌, true, false, inl, inr, List, [], ◌++◌, length, map, refl, sym, ap, ◌∙◌, subst, arith}
 use Rattle.std.specs.Prelude.{ℤ, slice_get}
 use Rattle.std.proofs.lemmas.List.{append-nil}
 use Rattle.im_num.specs.Variables.{Variable}
@@ -17,6 +17,8 @@ use Rattle.im_replay.specs.Replays.{GapAtMost}
 use Rattle.im_replay.specs.Owed.{IsOwed}
 use Rattle.im_replay.proofs.Endless.{is_run}
 use Rattle.im_replay.proofs.Owing.{sound}
+use Rattle.im_replay.proofs.Device.{replay_law, output_law, progress_law}
+use Rattle.im_replay.proofs.Shows.{grows_on}
 use Rattle.im_replay.proofs.Images.{can_resume, owed_of, first_mem, first_place}
 use Rattle.im_flow.specs.Flows.{IsPlaced}
 use Rattle.im_flow.specs.Laws.{AlongLaw, GapLaw}
@@ -36,22 +38,23 @@ use Rattle.im_block_laws.specs.Laws.{CutsKeepCodeLaw}
 use Rattle.im_placed.specs.Placeable.{IsPlaceable}
 use Rattle.im_placed.specs.Laws.{CutsKeepPlacesLaw}
 use Rattle.im_force.specs.Laws.{ForceKeepsLaw}
-use Rattle.im_keeps.specs.Keeps.{IsInput, IsRightFor, Begins, Shows, output_in, KeepsEnd, KeepsOn, EndsOn}
-use Rattle.im_kept.specs.Laws.{run_of, IsReady, EndKeptLaw, RunKeptLaw}
+use Rattle.im_keeps.specs.Keeps.{IsInput, IsRightFor, Begins, output_in, KeepsEnd, KeepsOn, EndsOn}
+use Rattle.im_kept.specs.Laws.{run_of, IsReady, ShowsBy, EndKeptLaw, RunKeptLaw}
+use Rattle.im_kept.proofs.Kept.{more_shown, output_same, shows_same}
 use Rattle.im_until.specs.Until.{OwesUntil}
 use Rattle.im_until.specs.Laws.{Owes, OwesAlways, UntilLaw}
 use Rattle.im_until.proofs.Still.{still, over_still, flips_still, flips_more}
 use Rattle.im_passes.specs.Source.{Source, IsRightSource}
 use Rattle.im_written.specs.Written.{code_end, IsLoaded}
 use Rattle.im_written.specs.Laws.{WrittenLaw}
-use Rattle.im_passes.specs.Machine.{stores_before, ShowsAfter}
+use Rattle.im_passes.specs.Machine.{powered, stores_before, ShowsAfter}
 use Rattle.im_passes.specs.Passes.{needs_of, setting, IsSelectable, Passes}
-use Rattle.im_passes.specs.Laws.{meaning_of, KeepsUninterrupted, PassesKeep}
+use Rattle.im_passes.specs.Laws.{meaning_of, KeepsUninterrupted, ReachesUninterrupted, Survives, PassesKeep}
 use Rattle.im_passes.proofs.Events.{still_hold}
 use Rattle.im_passes.proofs.Bounds.{few_enough, soon_enough, sums_same}
 use Rattle.im_passes.proofs.Commits.{flips_stored}
 use Rattle.im_passes.proofs.Units.{statics_kept, needs_kept, frames_fit}
-use Rattle.im_passes.proofs.Powered.{ShowsAt, shows_at, halted_at}
+use Rattle.im_passes.proofs.Steady.{Shows_at, shows_at}
 
 begins_same : (a b : List ℕ) → a ≡ b → Begins a b
 begins_same a b e = ([], append-nil a ∙ e)
@@ -236,8 +239,26 @@ module _ (laws : Laws) (source : Source) (frames : List ℕ) (image : ImageValue
       few_flips : (t : ℕ) → flips (flip r) t ≤ stores_before r t
       few_flips t = flips_stored r (sound r (code_end image) owed) t
 
-      shows_in : (n : ℕ) → ShowsAt (memory_of image input) can always.safely.no_fault n
-      shows_in n = shows_at (memory_of image input) can always.safely.no_fault n
+      survives : Survives image gap input
+      survives = record {
+        replays = replay_law (memory_of image input) (code_end image) compiled;
+        never_shrinks = output_law (memory_of image input) (code_end image) compiled always.shows;
+        progresses = progress_law (memory_of image input) (code_end image) gap compiled gaps;
+      }
+
+      -- a later time of the run shows no less
+      later_shown : (s t : ℕ) → s ≤ t → Begins (output_at s) (output_at t)
+      later_shown s t le =
+          more_shown image (r s).mem (r t).mem p.select.written.form (grows_on r (code_end image) (sound r (code_end image) owed) always.shows s t le)
+
+      shows_in : (n junk : ℕ) → Shows_at (memory_of image input) (code_end image) compiled junk n
+      shows_in n junk = shows_at (memory_of image input) (code_end image) compiled junk n
+
+      shown_in : (n junk : ℕ) → output_of image.form (powered image input n junk).mem ≡ output_at (shows_in n junk).t
+      shown_in n junk =
+          let s = shows_in n junk in
+          let form = p.select.written.form in
+          ap (λ f. output_of f (powered image input n junk).mem) form ∙ output_same (powered image input n junk).mem (r s.t).mem s.same ∙ sym (ap (λ f. output_of f (r s.t).mem) form)
 
     -- the program ends
     module _ (n reason : ℕ) (status : ℤ) (output : List ℕ) (variables : List Variable) (f : Shown n (End reason status output variables)) where
@@ -246,6 +267,12 @@ module _ (laws : Laws) (source : Source) (frames : List ℕ) (image : ImageValue
 
       later : (t : ℕ) → f.j ≤ t → r t ≡ r f.j
       later t le = still r (is_run (memory_of image input)) f.j over t le
+
+      one_end : (t : ℕ) → ends r t ≡ true → r t ≡ r f.j
+      one_end t ended = elim (order t f.j) [
+        | inl lt ↦ sym (still r (is_run (memory_of image input)) t ended f.j (omega arith))
+        | inr le ↦ later t le
+      ]
 
       begins_at : (t : ℕ) → Begins (output_at t) output
       begins_at t = elim (order t f.j) [
@@ -280,15 +307,28 @@ module _ (laws : Laws) (source : Source) (frames : List ℕ) (image : ImageValue
 
       keeps_uninterrupted : KeepsUninterrupted image gap input n reason status output variables
       keeps_uninterrupted = record {
-        halts = λ k long.
+        halts = λ k junk long.
             let soon = f.soon gap gap_long in
-            let h = halted_at (memory_of image input) (can end_always) end_always.safely.no_fault f.j k over (omega arith) in
-            (h.0, subst (λ (m : Mem). Shows image m reason status output variables) (sym h.1) f.shows.1);
-        begins = λ k.
-            let s = shows_in end_always k in
-            subst (λ (m : Mem). Begins (output_of image.form m) output) (sym s.mem) (begins_at s.t);
-        commits = λ k.
-            let s = shows_in end_always k in
+            let s = shows_in end_always k junk in
+            elim s.late [
+              | inl l ↦ (
+                  let e = f.shows.0 in
+                  let few = l.0 in
+                  let before = e.before in
+                  let going : ends r e.e ≡ false = l.1 e.e (omega arith) in
+                  let bad : true ≡ false = sym e.over ∙ going in
+                  cc)
+              | inr d ↦ (
+                  d.1,
+                  shows_same image (powered image input k junk).mem (r f.j).mem reason status output variables p.select.written.form (laws.written.high image p.select.written)
+                  (λ a out. s.same a out ∙ ap (λ (x : State). x.mem a) (one_end s.t d.0)) f.shows.1,
+                )
+            ];
+        begins = λ k junk.
+            let s = shows_in end_always k junk in
+            subst (λ o. Begins o output) (sym (shown_in end_always k junk)) (begins_at s.t);
+        commits = λ k junk.
+            let s = shows_in end_always k junk in
             let few = commits_at s.t in
             let same = s.commits in
             omega arith;
@@ -313,6 +353,12 @@ module _ (laws : Laws) (source : Source) (frames : List ℕ) (image : ImageValue
         cc
     ends_on n t (Undef why) lt e f over = absurd f.shows
 
+    -- at the time that belongs to so much fuel
+    output_then : (n : ℕ) (o : Outcome) (f : Shown n o) → output_at f.j ≡ output_in o
+    output_then n (End reason status output variables) f = f.shows.1.same_output
+    output_then n (More output) f = f.shows.1
+    output_then n (Undef why) f = absurd f.shows
+
     module _ (right : IsRightFor (meaning_of source frames image) input) where
       right_always : OwesAlways image.words (code_end image) r
       right_always = laws.until.always image.words (code_end image) r (λ t. owes_on (t + 1) t (mean input (t + 1)) (omega arith) (shown (t + 1) (right (t + 1))))
@@ -320,10 +366,34 @@ module _ (laws : Laws) (source : Source) (frames : List ℕ) (image : ImageValue
       within : (t : ℕ) → Begins (output_at t) (output_in (mean input (t + 1)))
       within t = said_at (t + 1) t (mean input (t + 1)) (omega arith) (shown (t + 1) (right (t + 1)))
 
-      keeps_on : KeepsOn (meaning_of source frames image) image input
-      keeps_on = laws.run_kept (meaning_of source frames image) image input (code_end image) (ready right_always) (record {
+      shows_by : (n : ℕ) → ShowsBy image input ((2 * n + 2) * length image.words) (output_in (mean input n))
+      shows_by n =
+          let f = shown n (right n) in
+          let stored = few_flips right_always f.j in
+          let most = f.commits in
+          record { time = f.j; commits = omega arith; shown = output_then n (mean input n) f }
+
+      reaches_uninterrupted : ReachesUninterrupted (meaning_of source frames image) image gap input
+      reaches_uninterrupted = record {
+        reaches = λ n k junk long.
+            let f = shown n (right n) in
+            let soon = f.soon gap gap_long in
+            let s = shows_in right_always k junk in
+            let b : Begins (output_at f.j) (output_at s.t) = elim (order s.t f.j) [
+              | inr le ↦ later_shown right_always f.j s.t le
+              | inl lt ↦ elim s.late [
+                | inl l ↦ (let few = l.0 in absurd (omega arith))
+                | inr d ↦ begins_same (output_at f.j) (output_at s.t) (ap (λ (x : State). output_of image.form x.mem) (still r (is_run (memory_of image input)) s.t d.0 f.j (omega arith)))
+              ]
+            ] in
+            (b.0, ap (λ z. z ++ b.0) (sym (output_then n (mean input n) f)) ∙ b.1 ∙ sym (shown_in right_always k junk));
+      }
+
+      keeps_on : KeepsOn (meaning_of source frames image) image gap input
+      keeps_on = laws.run_kept (meaning_of source frames image) image input (code_end image) gap (ready right_always) (gaps right_always) (record {
         begins = λ t. (t + 1, within t);
         ended = λ t over. ends_on (t + 1) t (mean input (t + 1)) (omega arith) refl (shown (t + 1) (right (t + 1))) over;
+        shows = shows_by;
       })
 
   pub composed : PassesKeep source frames image gap
@@ -337,6 +407,8 @@ module _ (laws : Laws) (source : Source) (frames : List ℕ) (image : ImageValue
         keeps_uninterrupted input fits fuel reason status output variables (shown_at input fits fuel (End reason status output variables) tt e);
     safe = λ input fits right. (right_always input fits right).safely;
     within = λ input fits right. within input fits right;
+    survives = λ input fits right. survives input fits (right_always input fits right);
+    reaching = λ input fits right. reaches_uninterrupted input fits right;
     small = small;
     frames_fit = λ i need e. frames_fit p.sectioned frames selectable.placed p.select.frames_are i need (ap (λ ns. slice_get ns i) needs_are ∙ e);
   }

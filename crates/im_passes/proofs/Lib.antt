@@ -2,5 +2,6 @@ mod Events
 mod Bounds
 mod Units
 mod Commits
-mod Powered
+mod Steady
+mod Prepared
 mod Compose

@@ -24,7 +24,7 @@ needs_in (f ∷ fs) (g ∷ gs) h = ap (λ n. n ∷ map need_of gs) (ap need_of h
 pub needs_kept : (old new : Code) → SameButCuts old new → needs_of new ≡ needs_of old
 needs_kept old new same = needs_in old.functions.items new.functions.items same.functions
 
-all_at : {X : Type 0} (P : X → Type 0) (xs : List X) (i : ℕ) (x : X) → All P xs → slice_get xs i ≡ Some x → P x
+pub all_at : {X : Type 0} (P : X → Type 0) (xs : List X) (i : ℕ) (x : X) → All P xs → slice_get xs i ≡ Some x → P x
 all_at P [] i x h e = let bad : None ≡ Some x = e in cc
 all_at P (y ∷ ys) zero x h e = let one : y ≡ x = cc in subst P one (All-head P y ys h)
 all_at P (y ∷ ys) (suc i) x h e = all_at P ys i x (All-tail P y ys h) e

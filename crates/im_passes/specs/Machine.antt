@@ -21,9 +21,9 @@ use Rattle.im_kept.specs.Laws.{run_of}
 use Rattle.im_until.specs.Until.{OwesUntil}
 use Rattle.im_written.specs.Written.{code_end}
 
--- one period of power: so many instructions after power came, with 0 in all registers
-abbrev pub powered : ImageValue → List ℕ → ℕ → Moment
-powered image input n = resuming n 0 (memory_of image input)
+-- one period of power: so many instructions after power came, with this word in all registers
+abbrev pub powered : ImageValue → List ℕ → ℕ → ℕ → Moment
+powered image input n junk = resuming n junk (memory_of image input)
 
 -- how many of the first j steps store a word at INDEX, as a commit does
 abbrev pub stores_before : (ℕ → State) → ℕ → ℕ

@@ -79,6 +79,18 @@ pub record Selects (code : Code) (frames : List ℕ) (image : ImageValue) : Type
   pub executes : IsSelectable code → (input : List ℕ) → IsInput input → Executes code (setting frames image input) image input
   pub small : IsSelectable code → length image.words ≤ 1024 + sum_of placed_cost code.functions.items
 
+-- all passes before selection, from a typed program to placed code with all its cuts
+pub record Prepares (source : Source) (code : Code) : Type 0 where
+  pub lowered : Code
+  pub lower : Lowers source lowered
+  pub forced : Code
+  pub force : Forces lowered forced
+  pub trimmed : Code
+  pub cut : Cuts forced trimmed
+  pub placed : Code
+  pub place : Places trimmed placed
+  pub recut : Cuts placed code
+
 -- all passes, from a typed program to an image, whose functions have these frames, and whose longest gap this is
 pub record Passes (source : Source) (frames : List ℕ) (image : ImageValue) (gap : ℕ) : Type 0 where
   pub lowered : Code

@@ -1,4 +1,4 @@
-ghost use Rattle.im_passes.specs.Laws.{PassesKeepLaw};
+ghost use Rattle.im_passes.specs.Laws.{CodeBoundsLaw, PassesKeepLaw};
 
 use im_block::{added_cuts_law, each_line_law, section_law};
 use im_block_laws::cuts_keep_code_law;
@@ -25,4 +25,14 @@ pub fn passes_keep_law()
     gap_law();
     end_kept_law();
     run_kept_law();
+}
+
+/// From the promises of the passes before selection: what the code costs and what its frames need,
+/// by the program's nodes and needs, also where the program is too large for an image.
+pub fn code_bounds_law()
+    ensures { CodeBoundsLaw }
+{
+    cuts_keep_code_law();
+    cuts_keep_places_law();
+    force_keeps_law();
 }

@@ -3,4 +3,4 @@
 
 mod laws;
 
-pub use laws::passes_keep_law;
+pub use laws::{code_bounds_law, passes_keep_law};

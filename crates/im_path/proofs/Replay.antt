@@ -492,30 +492,37 @@ module _ {R : Type 0} (next : R → Mem → Next R) (tear : ℕ → R → Mem �
   over_power [] x o = o
   over_power (p ∷ ps) x o = over_power ps (period next tear boot index p x) (ap (λ b. (cond b x (torn tear index p.mask (steps next index p.n (record x { regs = boot p.junk })))).over) o ∙ o)
 
-  -- where the run without failures flips at most c times, more than c long periods end the run
-  pub halts : (c k : ℕ) → Gap_at_most k → ((t : ℕ) → flips flip t ≤ c) → (ps : List Spell) (x : Moment R) → Left x → c < x.commits + long_periods k ps → (power next tear boot index ps x).over ≡ true
-  halts c k gap most [] x q l = absurd (let r = left_fails x q in let m = most r.s in let e = r.count in omega arith)
-  halts c k gap most (p ∷ ps) x q l =
+  -- each long period makes a commit, unless the run is over
+  pub counts : (k : ℕ) → Gap_at_most k → (ps : List Spell) (x : Moment R) → Left x → (x.commits + long_periods k ps ≤ (power next tear boot index ps x).commits) ⊎ ((power next tear boot index ps x).over ≡ true)
+  counts k gap [] x q = inl (omega arith)
+  counts k gap (p ∷ ps) x q =
       let y = period next tear boot index p x in
       let qy = left_period p x q in
       elim (truth x.over) [
-        | inl o ↦ over_power (p ∷ ps) x o
+        | inl o ↦ inr (over_power (p ∷ ps) x o)
         | inr o ↦ elim (truth (nat_le k p.n)) [
           | inl long ↦ (
               let more_left : long_periods k (p ∷ ps) ≡ suc (long_periods k ps) = ap (λ b. cond b (suc (long_periods k ps)) (long_periods k ps)) long in
               let le : k ≤ p.n = grind (arith, nat_tests) in
               elim (progress k p x gap le o q) [
-                | inl up ↦ halts c k gap most ps y qy (omega arith)
-                | inr end ↦ over_power ps y end
+                | inl up ↦ elim (counts k gap ps y qy) [ inl l ↦ inl (omega arith) | inr end ↦ inr end ]
+                | inr end ↦ inr (over_power ps y end)
               ])
           | inr short ↦ (
               let same_left : long_periods k (p ∷ ps) ≡ long_periods k ps = ap (λ b. cond b (suc (long_periods k ps)) (long_periods k ps)) short in
               elim (kept_commits p x o) [
-                | inl up ↦ halts c k gap most ps y qy (omega arith)
-                | inr end ↦ over_power ps y end
+                | inl up ↦ elim (counts k gap ps y qy) [ inl l ↦ inl (omega arith) | inr end ↦ inr end ]
+                | inr end ↦ inr (over_power ps y end)
               ])
         ]
       ]
+
+  -- where the run without failures flips at most c times, more than c long periods end the run
+  pub halts : (c k : ℕ) → Gap_at_most k → ((t : ℕ) → flips flip t ≤ c) → (ps : List Spell) (x : Moment R) → Left x → c < x.commits + long_periods k ps → (power next tear boot index ps x).over ≡ true
+  halts c k gap most ps x q l = elim (counts k gap ps x q) [
+    | inl le ↦ absurd (let r = left_fails (power next tear boot index ps x) (left_power ps x q) in let m = most r.s in let e = r.count in omega arith)
+    | inr end ↦ end
+  ]
 
   -- at the end each byte outside the buffers is that of the run without failures, if what follows writes nothing
   pub ended_same : (x : Moment R) (h : Has_ended x) → ((t a : ℕ) → h.t ≤ t → wr t a ≡ None) → (a : ℕ) → buf a ≡ false → x.mem a ≡ mem h.t a

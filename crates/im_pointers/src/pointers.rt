@@ -124,15 +124,7 @@ pub fn distance(alloc: Global, table: &TypeTable, x: Value, y: Value) -> Result<
 fn target_type(ty: Type) -> Type
     ensures { type_of result ≡ q.target_of (type_of ty) }
 {
-    match ty {
-        Type::Pointer(_, target) => Box::into_inner(target),
-        Type::Void => Type::Void,
-        Type::Integer(i) => Type::Integer(i),
-        Type::Array(element, count) => Type::Array(element, count),
-        Type::Unsized(element) => Type::Unsized(element),
-        Type::Struct(number) => Type::Struct(number),
-        Type::Function(returned, parameters) => Type::Function(returned, parameters),
-    }
+    ty.into_target()
 }
 
 /// What a pointer points to (C11 6.5.3.2p4).

@@ -107,7 +107,7 @@ down_same x y e = record { mem = ap (λ (z : PathMoment Cpu). z.mem) e; commits 
 abbrev one_period : Period → Device → Device
 one_period p = device_powered p.n p.junk p.mask
 
-abbrev spell_of : Period → Spell
+abbrev pub spell_of : Period → Spell
 spell_of p = record { n = p.n; junk = p.junk; mask = p.mask }
 
 pub period_same : (p : Period) (x : PathMoment Cpu) (d : Device) → Same x d → Same (period next_of torn_of boot index_of (spell_of p) x) (one_period p d)
@@ -131,7 +131,7 @@ period_same p x d s = by_went d.went refl
     by_went (Faulted at) e = over_case (λ o. let bad : Faulted at ≡ On = sym e ∙ o in cc)
 
 -- the periods one by one
-abbrev copies : ℕ → Spell → List Spell
+abbrev pub copies : ℕ → Spell → List Spell
 copies zero s = []
 copies (suc k) s = s ∷ copies k s
 

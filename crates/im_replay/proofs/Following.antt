@@ -16,7 +16,7 @@ use Rattle.im_device.specs.Run.{boot, index_of}
 use Rattle.im_path.specs.Path.{Moment, Spell, long_periods}
 use Rattle.im_path.specs.Sections.{Mixed, start, flips}
 use Rattle.im_path.proofs.Times.{truth, start_start, order}
-use Rattle.im_path.proofs.Replay.{fixed_mixed, Place, Fails, Left, Failed, Ended, In_recovery, In_section, At_end, left_fails, replay, replay_within, flips-start, progress, halts, ended_same, Goes_on, Wakes, awake, agrees}
+use Rattle.im_path.proofs.Replay.{fixed_mixed, Place, Fails, Left, Failed, Ended, In_recovery, In_section, At_end, left_fails, replay, replay_within, flips-start, progress, halts, counts, ended_same, Goes_on, Wakes, awake, agrees}
 use Rattle.im_rv.specs.Effects.{effect, writes_by}
 use Rattle.im_replay.proofs.Machine.{next_of, powered, switched_on, Stands_at, Runs, Recovers, Executes, Is_over, within, Ended_as, Replays_path, waking}
 use Rattle.im_rv.specs.Torn.{torn_of}
@@ -166,5 +166,6 @@ module _ (run : ℕ → State) (code : ℕ) (u : IsSound run code) where
         at_end = λ ps o. ended (powered ps m) (all ps) o;
         safe = λ ps n junk on g. place_safe (left_fails next_of torn_of boot index_of (memory run) (writes run) (reads run) (flip run) (ends run) is_buffer (is_fixed code) (IsLike run) (IsLive run) resume 33 waking (followed run code u) (powered ps m) (all ps)).s n (within ps n junk m) (replay_within next_of torn_of boot index_of (memory run) (writes run) (reads run) (flip run) (ends run) is_buffer (is_fixed code) (IsLike run) (IsLive run) resume 33 waking (followed run code u) ps n junk (switched_on m) (sym e) refl l refl on) g;
         progress = λ k gap ps p le o. progress next_of torn_of boot index_of (memory run) (writes run) (reads run) (flip run) (ends run) is_buffer (is_fixed code) (IsLike run) (IsLive run) resume 33 waking (followed run code u) k p (powered ps m) gap le o (all ps);
+        counts = λ k gap ps. elim (counts next_of torn_of boot index_of (memory run) (writes run) (reads run) (flip run) (ends run) is_buffer (is_fixed code) (IsLike run) (IsLive run) resume 33 waking (followed run code u) k gap ps (switched_on m) (all [])) [ inl le ↦ inl (let r : long_periods k ps ≤ (powered ps m).commits = omega arith in r) | inr end ↦ inr end ];
         halts = λ c k gap most ps q. halts next_of torn_of boot index_of (memory run) (writes run) (reads run) (flip run) (ends run) is_buffer (is_fixed code) (IsLike run) (IsLive run) resume 33 waking (followed run code u) c k gap most ps (switched_on m) (all []) (let r : c < 0 + long_periods k ps = omega arith in r);
       }

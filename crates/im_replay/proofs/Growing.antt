@@ -5,8 +5,8 @@ use Rattle.im_mem.specs.Memory.{Mem}
 use Rattle.im_rv.specs.Steps.{Cpu}
 use Rattle.im_device.specs.Run.{boot, index_of}
 use Rattle.im_path.specs.Path.{Moment, Spell, steps, torn, one_step, patched}
-use Rattle.im_path.specs.Sections.{start}
-use Rattle.im_path.proofs.Replay.{Place, Fails, Left, failed, left_fails, replay, replay_within}
+use Rattle.im_path.specs.Sections.{start, flips}
+use Rattle.im_path.proofs.Replay.{Place, Fails, Left, failed, left_fails, replay, replay_within, flips-start}
 use Rattle.im_path.proofs.Later.{Failed_since, after_failure, after_steps, after_torn}
 use Rattle.im_replay.proofs.Machine.{next_of, powered, switched_on, within, Never_shrinks_path, waking}
 use Rattle.im_rv.specs.Torn.{torn_of}
@@ -69,8 +69,13 @@ module _ (run : ℕ → State) (code : ℕ) (u : IsSound run code) (o : ShowsSaf
       let f = failed next_of torn_of boot index_of (memory run) (writes run) (reads run) (flip run) (ends run) is_buffer (is_fixed code) (IsLike run) (IsLive run) resume 33 waking (followed run code u) s n x p in
       later x (torn torn_of index_of mask (steps next_of index_of k x)) f (after_torn next_of torn_of boot index_of (memory run) (writes run) (reads run) (flip run) (ends run) is_buffer (is_fixed code) (IsLike run) (IsLive run) resume 33 waking (followed run code u) f.s (Settled f.s (x.mem 36)) (keeps f.s (x.mem 36)) mask k s n x p refl (settled x f.s))
 
-  now_shown : (x : Moment Cpu) → Now x → (t : ℕ) × SameOutput x.mem (run t).mem
-  now_shown x f = let y = shown run code u o f.s x.mem f.begins f.mixed in (y.time, y.same)
+  now_shown : (x : Moment Cpu) → Now x → (t : ℕ) × (flips (flip run) t ≡ x.commits) × SameOutput x.mem (run t).mem
+  now_shown x f =
+      let y = shown run code u o f.s x.mem f.begins f.mixed in (
+        y.time,
+        sym (flips-start next_of torn_of boot index_of (memory run) (writes run) (reads run) (flip run) (ends run) is_buffer (is_fixed code) (IsLike run) (IsLive run) resume 33 waking (followed run code u) y.time) ∙ ap (flips (flip run)) y.within ∙ f.count,
+        y.same,
+      )
 
   pub never_shrinks : (m : Mem) → (run 0).mem ≡ m → Never_shrinks_path run m
   never_shrinks m e =

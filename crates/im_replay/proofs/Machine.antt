@@ -84,6 +84,8 @@ pub record Replays_path (run : ℕ → State) (m : Mem) : Type 0 where
   pub safe : (ps : List Spell) (n junk : ℕ) → (powered ps m).over ≡ false → (within ps n junk m).over ≡ false → (at : ℕ) → (step_of (within ps n junk m).regs (within ps n junk m).mem).went ≢ Faulted at
   -- a period of at least k instructions commits or ends the run
   pub progress : (k : ℕ) → GapAtMost run k → (ps : List Spell) (p : Spell) → k ≤ p.n → (powered ps m).over ≡ false → ((powered ps m).commits < (and_then p (powered ps m)).commits) ⊎ ((and_then p (powered ps m)).over ≡ true)
+  -- each such period has a commit, unless the run is over
+  pub counts : (k : ℕ) → GapAtMost run k → (ps : List Spell) → (long_periods k ps ≤ (powered ps m).commits) ⊎ ((powered ps m).over ≡ true)
   -- where the uninterrupted run has at most c commits, more than c such periods end the run
   pub halts : (c k : ℕ) → GapAtMost run k → ((t : ℕ) → flips (flip run) t ≤ c) → (ps : List Spell) → c < long_periods k ps → (powered ps m).over ≡ true
 
@@ -92,6 +94,6 @@ pub record Never_shrinks_path (run : ℕ → State) (m : Mem) : Type 0 where
   pub comes : (ps : List Spell) (n junk : ℕ) → (powered ps m).over ≡ false → Extends (powered ps m).mem (within ps n junk m).mem
   pub follow : (ps : List Spell) (n k junk : ℕ) → (powered ps m).over ≡ false → Extends (within ps n junk m).mem (within ps (n + k) junk m).mem
   pub fails : (ps : List Spell) (n k junk mask : ℕ) → (powered ps m).over ≡ false → Extends (within ps n junk m).mem (and_then (record { n = n + k; junk = junk; mask = mask }) (powered ps m)).mem
-  -- and each shows what the uninterrupted run shows at some time
-  pub shows : (ps : List Spell) → (t : ℕ) × SameOutput (powered ps m).mem (run t).mem
-  pub shows_within : (ps : List Spell) (n junk : ℕ) → (powered ps m).over ≡ false → (t : ℕ) × SameOutput (within ps n junk m).mem (run t).mem
+  -- and each shows what the uninterrupted run shows at some time, after as many commits
+  pub shows : (ps : List Spell) → (t : ℕ) × (flips (flip run) t ≡ (powered ps m).commits) × SameOutput (powered ps m).mem (run t).mem
+  pub shows_within : (ps : List Spell) (n junk : ℕ) → (powered ps m).over ≡ false → (t : ℕ) × (flips (flip run) t ≡ (within ps n junk m).commits) × SameOutput (within ps n junk m).mem (run t).mem

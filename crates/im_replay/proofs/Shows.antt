@@ -43,6 +43,16 @@ low_out a l = grind (arith, nat_tests)
 high_out : (i : ℕ) → is_buffer (4194304 + i) ≡ false
 high_out i = grind (arith, nat_tests)
 
+pub same_self : (m : Mem) → SameOutput m m
+same_self m = record { size = refl; bytes = λ i l. refl }
+
+-- memories that agree outside the buffers
+pub alike : (m n : Mem) → ((a : ℕ) → is_buffer a ≡ false → m a ≡ n a) → SameOutput m n
+alike m n h = record {
+  size = size_by m n (h 36 refl) (λ z. little-alike m n 4 12 (λ a p q. h a (low_out a (omega arith)))) (λ z. little-alike m n 4 32 (λ a p q. h a (low_out a (omega arith))));
+  bytes = λ i l. h (4194304 + i) (high_out i);
+}
+
 -- what was written, and when
 pub wrote_some : (fl : ℕ → Bool) (wr : ℕ → ℕ → Option ℕ) (t a : ℕ) → wrote fl wr t a ≡ true → (w : ℕ) × (w < t) × (start fl w ≡ start fl t) × (fl w ≡ false) × (is_some (wr w a) ≡ true)
 wrote_some fl wr zero a h = absurd (cc)

@@ -34,3 +34,9 @@ pub record KeepsEnd (run : ℕ → State) (m : Mem) (k c time : ℕ) : Type 0 wh
 abbrev pub KeepsLaw : Type 0
 KeepsLaw = (m : Mem) (code k c time : ℕ) → IsCompiled m code → ShowsSafely (uninterrupted m) → GapAtMost (uninterrupted m) k → ends (uninterrupted m) time ≡ true
     → ((t : ℕ) → flips (flip (uninterrupted m)) t ≤ c) → KeepsEnd (uninterrupted m) m k c time
+
+-- what the uninterrupted run shows at a time before which it has at most c commits is shown, under power that fails,
+-- after more than c periods of at least k instructions, with any others among them
+abbrev pub ReachLaw : Type 0
+ReachLaw = (m : Mem) (code k c time : ℕ) → IsCompiled m code → ShowsSafely (uninterrupted m) → GapAtMost (uninterrupted m) k
+    → flips (flip (uninterrupted m)) time ≤ c → (ps : List Period) → c < long_periods k ps → Extends (uninterrupted m time).mem (after ps m).mem

@@ -1,12 +1,12 @@
 -- Output never shrinks, whichever periods of power there are.
-use Rattle.std.specs.Prelude.{◌≡◌, ◌≢◌, ℕ, suc, ◌+◌, ◌<◌, ◌≤◌, min, false, Some, List}
+use Rattle.std.specs.Prelude.{◌≡◌, ◌≢◌, ℕ, suc, ◌+◌, ◌<◌, ◌≤◌, min, false, Some, List, ◌++◌}
 use Rattle.im_mem.specs.Memory.{Mem}
 use Rattle.im_mem.specs.Map.{out_len0_at, out_len1_at, out_sel_at, output_start, output_capacity}
 use Rattle.im_image.specs.declared.form.Form.TheVariants.{TwoLengths}
 use Rattle.im_rv.specs.declared.step.Went.TheVariants.{On}
 use Rattle.im_power.specs.declared.period.Period.{Period}
 use Rattle.im_device.specs.Shows.{output_length}
-use Rattle.im_path.specs.Sections.{start}
+use Rattle.im_path.specs.Sections.{start, flips}
 use Rattle.im_ckpt.specs.Runs.{State, flip, writes}
 use Rattle.im_ckpt.specs.Buffers.{is_buffer}
 use Rattle.im_replay.specs.Replays.{after, within, and_then}
@@ -39,6 +39,8 @@ pub record NeverShrinks (run : ℕ → State) (m : Mem) : Type 0 where
   pub comes : (ps : List Period) (n junk : ℕ) → (after ps m).went ≡ On → Extends (after ps m).mem (within ps n junk m).mem
   pub follow : (ps : List Period) (n k junk : ℕ) → (after ps m).went ≡ On → Extends (within ps n junk m).mem (within ps (n + k) junk m).mem
   pub fails : (ps : List Period) (n k junk mask : ℕ) → (after ps m).went ≡ On → Extends (within ps n junk m).mem (after (and_then ps (n + k) junk mask) m).mem
-  -- and each shows what the uninterrupted run shows at some time
-  pub shows : (ps : List Period) → (t : ℕ) × SameOutput (after ps m).mem (run t).mem
-  pub shows_within : (ps : List Period) (n junk : ℕ) → (after ps m).went ≡ On → (t : ℕ) × SameOutput (within ps n junk m).mem (run t).mem
+  -- more periods show no less
+  pub more : (ps qs : List Period) → Extends (after ps m).mem (after (ps ++ qs) m).mem
+  -- and each shows what the uninterrupted run shows at some time, after as many commits
+  pub shows : (ps : List Period) → (t : ℕ) × (flips (flip run) t ≡ (after ps m).commits) × SameOutput (after ps m).mem (run t).mem
+  pub shows_within : (ps : List Period) (n junk : ℕ) → (after ps m).went ≡ On → (t : ℕ) × (flips (flip run) t ≡ (within ps n junk m).commits) × SameOutput (within ps n junk m).mem (run t).mem

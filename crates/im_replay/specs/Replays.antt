@@ -74,5 +74,7 @@ pub record Progresses (run : ℕ → State) (m : Mem) (k : ℕ) : Type 0 where
   -- a period of at least k instructions commits or ends the run
   pub each : (ps : List Period) (n junk mask : ℕ) → k ≤ n → (after ps m).went ≡ On
       → ((after ps m).commits < (after (and_then ps n junk mask) m).commits) ⊎ ((after (and_then ps n junk mask) m).went ≢ On)
+  -- a device that is still going has made a commit in each such period
+  pub counts : (ps : List Period) → (after ps m).went ≡ On → long_periods k ps ≤ (after ps m).commits
   -- where the uninterrupted run has at most c commits, more than c such periods end the run
   pub all : (c : ℕ) → ((t : ℕ) → flips (flip run) t ≤ c) → (ps : List Period) → c < long_periods k ps → (after ps m).went ≢ On

@@ -1,4 +1,4 @@
-ghost use Rattle.im_replay.specs.Laws.{KeepsLaw, OutputLaw, ProgressLaw, ReplayLaw};
+ghost use Rattle.im_replay.specs.Laws.{KeepsLaw, OutputLaw, ProgressLaw, ReachLaw, ReplayLaw};
 
 /// A run whose power fails, between two instructions or within a store, follows the run that never
 /// loses power, where the code has what the compiler owes.
@@ -22,4 +22,10 @@ pub fn progress_law()
 /// and do so within as many periods of K instructions as it has commits, and one.
 pub fn keeps_law()
     ensures { KeepsLaw }
+{}
+
+/// What the run that never loses power shows at a time with at most c commits before it is shown
+/// after more than c periods of K instructions.
+pub fn reach_law()
+    ensures { ReachLaw }
 {}

@@ -3,4 +3,4 @@
 
 mod laws;
 
-pub use laws::{keeps_law, output_law, progress_law, replay_law};
+pub use laws::{keeps_law, output_law, progress_law, reach_law, replay_law};

@@ -57,26 +57,21 @@ fn counted(element: &Type, i: &Initializer) -> Result<u64, NoMemory>
     }
 }
 
-fn completed_array(element: Box<Type>, i: &Initializer) -> Result<Type, NoMemory>
-    ensures { IfOk result (λ z. type_of z ≡ n.completed (y.unsized (type_of element.value))
-        (t.an_initializer (initializer_of i.now))) }
-{
-    let count = counted(&element, i)?;
-    Ok(Type::Array(element, count))
-}
-
 fn completed_by(ty: Type, i: &Initializer) -> Result<Type, NoMemory>
     ensures { IfOk result (λ z. type_of z ≡ n.completed (type_of ty)
         (t.an_initializer (initializer_of i.now))) }
 {
-    match ty {
-        Type::Unsized(element) => completed_array(element, i),
-        Type::Void => Ok(Type::Void),
-        Type::Integer(k) => Ok(Type::Integer(k)),
-        Type::Pointer(c, target) => Ok(Type::Pointer(c, target)),
-        Type::Array(element, count) => Ok(Type::Array(element, count)),
-        Type::Struct(number) => Ok(Type::Struct(number)),
-        Type::Function(returned, parameters) => Ok(Type::Function(returned, parameters)),
+    match &ty {
+        Type::Unsized(element) => {
+            let count = counted(element, i)?;
+            Ok(ty.into_array(count))
+        }
+        Type::Void
+        | Type::Integer(_)
+        | Type::Pointer(_, _)
+        | Type::Array(_, _)
+        | Type::Struct(_)
+        | Type::Function(_, _) => Ok(ty),
     }
 }
 

@@ -8,12 +8,13 @@ ghost use Rattle.im_constancy.specs.Told.{number_in};
 ghost use Rattle.im_items.specs.im_rules.Constants.{constant_value};
 ghost use Rattle.im_static_values.specs.Spots.{spot_in};
 
-use crate::constant::constant_value;
+use crate::constant::{constant_value, taken};
 use crate::sizes::Sizes;
 use im_num::NoMemory;
 use im_store::Number;
 use im_typed::{Expr, Place};
 use std::alloc::Global;
+use std::mem;
 
 /// A place in a static, or at its end.
 #[derive(Clone, Copy, Debug)]
@@ -85,19 +86,30 @@ fn member<S: Sizes>(sizes: &S, from: Option<Spot>, offset: u32) -> Result<Option
     }
 }
 
+/// A place out of where it stands, in which another one stays.
+fn taken_place(place: &mut Place) -> Place
+    ensures { result ≡ place.old }
+{
+    mem::replace(place, Place::Local(0))
+}
+
 /// The place in a static that a place is, if it is one.
 #[cycle(spots)]
 fn spot_of<S: Sizes>(alloc: Global, sizes: &S, place: Place) -> Result<Option<Spot>, NoMemory>
     ensures { (types : Table) → IfOk result (λ s. option_map spot_in s
         ≡ v.spot_of (S.size sizes.now) (q.place_of types place)) }
 {
-    match place {
-        Place::Static(object) => Ok(Some(Spot { object, offset: 0 })),
+    let mut place = place;
+    match &mut place {
+        Place::Static(object) => Ok(Some(Spot {
+            object: *object,
+            offset: 0,
+        })),
         Place::Local(_) => Ok(None),
-        Place::Target(pointer) => address_of(alloc, sizes, Box::into_inner(pointer)),
+        Place::Target(pointer) => address_of(alloc, sizes, taken(pointer)),
         Place::Member(whole, offset) => {
-            let from = spot_of(alloc, sizes, Box::into_inner(whole))?;
-            member(sizes, from, offset)
+            let from = spot_of(alloc, sizes, taken_place(whole))?;
+            member(sizes, from, *offset)
         }
     }
 }
@@ -112,22 +124,23 @@ pub(crate) fn address_of<S: Sizes>(
     ensures { (types : Table) → IfOk result (λ s. option_map spot_in s
         ≡ v.address_of (S.size sizes.now) (q.expr_of types e)) }
 {
-    match e {
-        Expr::Address(place) => spot_of(alloc, sizes, Box::into_inner(place)),
+    let mut e = e;
+    match &mut e {
+        Expr::Address(place) => spot_of(alloc, sizes, taken_place(place)),
         Expr::Move {
             size,
             back,
             pointer,
             by,
         } => {
-            let from = address_of(alloc, sizes, Box::into_inner(pointer))?;
-            let steps = constant_value(alloc, Box::into_inner(by))?;
-            moved(sizes, from, size, back, steps)
+            let from = address_of(alloc, sizes, taken(pointer))?;
+            let steps = constant_value(alloc, taken(by))?;
+            moved(sizes, from, *size, *back, steps)
         }
         Expr::MoveBy { size, by, pointer } => {
-            let from = address_of(alloc, sizes, Box::into_inner(pointer))?;
-            let steps = constant_value(alloc, Box::into_inner(by))?;
-            moved(sizes, from, size, false, steps)
+            let from = address_of(alloc, sizes, taken(pointer))?;
+            let steps = constant_value(alloc, taken(by))?;
+            moved(sizes, from, *size, false, steps)
         }
         _ => Ok(None),
     }

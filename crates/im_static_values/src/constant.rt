@@ -14,6 +14,7 @@ use im_num::{Kind, NoMemory};
 use im_store::Number;
 use im_typed::Expr;
 use std::alloc::Global;
+use std::mem;
 
 /// A number that the operators work on.
 fn number_from(z: i128) -> Result<Number, NoMemory>
@@ -38,52 +39,62 @@ fn constant(kind: Kind, z: i128) -> Result<Annotated, NoMemory>
     Ok(number(kind, value))
 }
 
+/// An expression out of its place, in which null stays.
+pub(crate) fn taken(e: &mut Expr) -> Expr
+    ensures { result ≡ e.old }
+{
+    mem::replace(e, Expr::Null)
+}
+
 /// A typed expression beside what it is as a constant expression. Want of memory where a number in
 /// it is none of 64 bits.
 pub fn annotated(alloc: Global, e: Expr) -> Result<Annotated, NoMemory>
     ensures { (types : Table) → IfOk result (λ a. expr_of types a.tree ≡ expr_of types e) }
 {
-    match e {
-        Expr::Number(kind, z) => constant(kind, z),
+    if let Expr::Number(kind, z) = &e {
+        return constant(*kind, *z);
+    }
+    let mut e = e;
+    match &mut e {
         Expr::Convert(kind, operand) => {
-            let x = annotated(alloc, Box::into_inner(operand))?;
-            conversion(alloc, kind, x)
+            let x = annotated(alloc, taken(operand))?;
+            conversion(alloc, *kind, x)
         }
         Expr::Unary(op, kind, operand) => {
-            let x = annotated(alloc, Box::into_inner(operand))?;
-            unary(alloc, op, kind, x)
+            let x = annotated(alloc, taken(operand))?;
+            unary(alloc, *op, *kind, x)
         }
         Expr::Binary(op, kind, left, right) => {
-            let x = annotated(alloc, Box::into_inner(left))?;
-            let y = annotated(alloc, Box::into_inner(right))?;
-            binary(alloc, op, kind, x, y)
+            let x = annotated(alloc, taken(left))?;
+            let y = annotated(alloc, taken(right))?;
+            binary(alloc, *op, *kind, x, y)
         }
         Expr::Compare(op, kind, left, right) => {
-            let x = annotated(alloc, Box::into_inner(left))?;
-            let y = annotated(alloc, Box::into_inner(right))?;
-            comparison(alloc, op, kind, x, y)
+            let x = annotated(alloc, taken(left))?;
+            let y = annotated(alloc, taken(right))?;
+            comparison(alloc, *op, *kind, x, y)
         }
         Expr::Not(operand) => {
-            let x = annotated(alloc, Box::into_inner(operand))?;
+            let x = annotated(alloc, taken(operand))?;
             negation(alloc, x)
         }
         Expr::And(left, right) => {
-            let x = annotated(alloc, Box::into_inner(left))?;
-            let y = annotated(alloc, Box::into_inner(right))?;
+            let x = annotated(alloc, taken(left))?;
+            let y = annotated(alloc, taken(right))?;
             conjunction(alloc, x, y)
         }
         Expr::Or(left, right) => {
-            let x = annotated(alloc, Box::into_inner(left))?;
-            let y = annotated(alloc, Box::into_inner(right))?;
+            let x = annotated(alloc, taken(left))?;
+            let y = annotated(alloc, taken(right))?;
             disjunction(alloc, x, y)
         }
         Expr::Choose(test, first, second) => {
-            let w = annotated(alloc, Box::into_inner(test))?;
-            let x = annotated(alloc, Box::into_inner(first))?;
-            let y = annotated(alloc, Box::into_inner(second))?;
+            let w = annotated(alloc, taken(test))?;
+            let x = annotated(alloc, taken(first))?;
+            let y = annotated(alloc, taken(second))?;
             choice(alloc, w, x, y)
         }
-        other => Ok(variable(other)),
+        _ => Ok(variable(e)),
     }
 }
 

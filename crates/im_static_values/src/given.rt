@@ -7,6 +7,7 @@ ghost use Rattle.im_items.specs.Shape.{item_in, items_in, source_in};
 ghost use Rattle.im_static_values.specs.Firsts.{IsUnfit};
 ghost use Rattle.im_static_values.specs.Given.{IsGiven, AreGiven};
 
+use crate::constant::taken;
 use crate::reached::is_reached_directly;
 use crate::sizes::Sizes;
 use crate::value::static_value;
@@ -58,9 +59,9 @@ fn one_given<S: Sizes>(
     if !is_source_reached(&item.source) {
         return Err(refused(14, at));
     }
-    let piece = piece_of(alloc, table, item)?;
+    let mut piece = piece_of(alloc, table, item)?;
     let offset = piece.offset as u64;
-    match static_value(alloc, sizes, piece.value)? {
+    match static_value(alloc, sizes, taken(&mut piece.value))? {
         Some(value) => Ok(Given { offset, value }),
         None => Err(refused(14, at)),
     }

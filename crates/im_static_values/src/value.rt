@@ -41,7 +41,7 @@ pub fn static_value<S: Sizes>(
     ensures { (types : Table) → IfOk result (λ x. option_map (q.first_of types) x
         ≡ v.static_value (S.size sizes.now) (q.expr_of types e)) }
 {
-    if let Expr::Null = e {
+    if let Expr::Null = &e {
         return Ok(Some(Constant::Null));
     }
     let whole = annotated(alloc, e)?;

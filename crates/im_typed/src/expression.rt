@@ -21,7 +21,7 @@ pub enum Change {
 
 /// An expression that designates a place in an object (an lvalue, C11 6.3.2.1).
 #[cycle(expression)]
-#[derive(Debug, Drop)]
+#[derive(Debug)]
 pub enum Place {
     /// A static object of the program, by its number.
     Static(u32),
@@ -33,9 +33,21 @@ pub enum Place {
     Member(Box<Place>, u32),
 }
 
+impl Drop for Place {
+    #[cycle(expression)]
+    fn drop(self) {
+        match self {
+            Place::Static(_) => {}
+            Place::Local(_) => {}
+            Place::Target(_) => {}
+            Place::Member(_, _) => {}
+        }
+    }
+}
+
 /// An expression. Its operands are evaluated from left to right.
 #[cycle(expression)]
-#[derive(Debug, Drop)]
+#[derive(Debug)]
 pub enum Expr {
     /// An integer constant and its kind (C11 6.4.4.1, 6.4.4.4).
     Number(Kind, i128),
@@ -104,4 +116,61 @@ pub enum Expr {
     Call(u32, Vec<Expr>),
     Getchar,
     Putchar(Box<Expr>),
+}
+
+impl Drop for Expr {
+    #[cycle(expression)]
+    fn drop(self) {
+        match self {
+            Expr::Number(_, _) => {}
+            Expr::Null => {}
+            Expr::Read(_, _) => {}
+            Expr::Address(_) => {}
+            Expr::Convert(_, _) => {}
+            Expr::Unary(_, _, _) => {}
+            Expr::Binary(_, _, _, _) => {}
+            Expr::Move {
+                size: _,
+                back: _,
+                pointer: _,
+                by: _,
+            } => {}
+            Expr::MoveBy {
+                size: _,
+                by: _,
+                pointer: _,
+            } => {}
+            Expr::Distance {
+                size: _,
+                left: _,
+                right: _,
+            } => {}
+            Expr::Compare(_, _, _, _) => {}
+            Expr::Not(_) => {}
+            Expr::And(_, _) => {}
+            Expr::Or(_, _) => {}
+            Expr::Choose(_, _, _) => {}
+            Expr::Comma(_, _) => {}
+            Expr::Discard(_) => {}
+            Expr::Assign(_, _, _) => {}
+            Expr::Update {
+                place: _,
+                change: _,
+                by: _,
+            } => {}
+            Expr::Increment {
+                place: _,
+                change: _,
+                old: _,
+            } => {}
+            Expr::Part {
+                from: _,
+                access: _,
+                whole: _,
+            } => {}
+            Expr::Call(_, _) => {}
+            Expr::Getchar => {}
+            Expr::Putchar(_) => {}
+        }
+    }
 }

@@ -28,7 +28,7 @@ pub struct Static {
 }
 
 /// A function with its body.
-#[derive(Debug, Drop)]
+#[derive(Debug)]
 pub struct Func {
     pub name: Vec<u8>,
     /// How many of its objects are parameters; these come first and hold the arguments.
@@ -37,6 +37,18 @@ pub struct Func {
     pub result: Option<Kind>,
     pub objects: Vec<Object>,
     pub body: Stmt,
+}
+
+impl Drop for Func {
+    fn drop(self) {
+        let Func {
+            name: _,
+            params: _,
+            result: _,
+            objects: _,
+            body: _,
+        } = self;
+    }
 }
 
 /// A program: the defined statics in the order of their first declaration, then the string

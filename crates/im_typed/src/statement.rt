@@ -1,11 +1,21 @@
 use crate::expression::{Access, Expr};
 
 /// One expression of an initialiser, and where in its object it goes: bytes from the start.
-#[derive(Debug, Drop)]
+#[derive(Debug)]
 pub struct Piece {
     pub offset: u32,
     pub access: Access,
     pub value: Expr,
+}
+
+impl Drop for Piece {
+    fn drop(self) {
+        let Piece {
+            offset: _,
+            access: _,
+            value: _,
+        } = self;
+    }
 }
 
 /// A label of a switch, and the number of the statement of its block before which it stands.
@@ -16,7 +26,7 @@ pub struct Case {
 }
 
 /// A statement (C11 6.8).
-#[derive(Debug, Drop)]
+#[derive(Debug)]
 pub enum Stmt {
     Expr(Expr),
     /// A declaration without an initialiser is reached: its object is uninitialised again.
@@ -50,4 +60,37 @@ pub enum Stmt {
     Break,
     Continue,
     Return(Option<Expr>),
+}
+
+impl Drop for Stmt {
+    fn drop(self) {
+        match self {
+            Stmt::Expr(_) => {}
+            Stmt::Forget(_) => {}
+            Stmt::Initialise {
+                local: _,
+                cells: _,
+                pieces: _,
+            } => {}
+            Stmt::Block(_) => {}
+            Stmt::If(_, _, _) => {}
+            Stmt::While(_, _) => {}
+            Stmt::DoWhile(_, _) => {}
+            Stmt::For {
+                first: _,
+                test: _,
+                step: _,
+                body: _,
+            } => {}
+            Stmt::Switch {
+                value: _,
+                cases: _,
+                otherwise: _,
+                block: _,
+            } => {}
+            Stmt::Break => {}
+            Stmt::Continue => {}
+            Stmt::Return(_) => {}
+        }
+    }
 }
