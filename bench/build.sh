@@ -87,7 +87,7 @@ lowering() { # SOURCE: of the instructions of its build those of lowering, in th
     callgrind_annotate --inclusive=yes --threshold=100 "$work/calls" | awk '
         { gsub(/,/, "", $1) }
         /PROGRAM TOTALS/ { total = $1 }
-        /:im_lowering::/ && $1 + 0 > most { most = $1 + 0 }
+        /:im_lower::/ && $1 + 0 > most { most = $1 + 0 }
         END { printf "%d\n", 1000 * most / total }'
 }
 

@@ -1,8 +1,7 @@
-pub mod Slots
-pub mod Seen
-pub mod Walks
-pub mod Results
-pub mod Lines
-pub mod Straight
-pub mod Calls
+pub mod Assigned
+pub mod Beyond
+pub mod Lives
+pub mod Plain
+pub mod Steps
+pub mod Valid
 pub mod Whole

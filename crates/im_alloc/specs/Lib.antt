@@ -1,4 +1,4 @@
-pub mod Homes
-pub mod Live
-pub mod Placing
-pub mod Settled
+pub mod Numbers
+pub mod Parts
+pub mod Sample
+pub mod Slots

@@ -1,6 +1,14 @@
-//! From block code over virtual registers to placed code over the machine's registers and slots.
+//! From block code to placed code: each register in a slot of its own, parameters where they come.
 #![tactic(auto)]
 
-mod laws;
+mod exits;
+mod homes;
+mod lines;
+mod numbers;
+mod operands;
+mod pieces;
+mod placing;
+#[cfg(test)]
+mod tests;
 
-pub use laws::{placed_law, slots_law};
+pub use placing::place;

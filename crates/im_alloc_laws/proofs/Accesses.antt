@@ -13,8 +13,8 @@ use Rattle.im_block.specs.declared.unit.Function.{Function}
 use Rattle.im_block.specs.declared.unit.Unit.{Unit as Code}
 use Rattle.im_block.specs.Sections.{Has}
 use Rattle.im_block.specs.Wellformed.{AreApart, accesses_of_line, accesses_of_lines, accesses_of_blocks, accesses_of_functions}
-use Rattle.im_alloc.specs.Homes.{Home, InRegister, InSlot, load, reg, save, into, give, bring, load_place, on_place, put_line, put_lines, exit_lines}
-use Rattle.im_alloc.specs.Placing.{ValidLine, Valid, PlacedBlock, PlacedBlocks, PlacedFunctions}
+use Rattle.im_alloc_relation.specs.Homes.{Home, InRegister, InSlot, load, reg, save, into, give, bring, load_place, on_place, put_line, put_lines, exit_lines}
+use Rattle.im_alloc_relation.specs.Placing.{ValidLine, Valid, PlacedBlock, PlacedBlocks, PlacedFunctions}
 use Rattle.im_alloc_laws.specs.Numbered.{numbers_of_blocks, PlacedFrom, IsWellPlaced}
 use Rattle.im_alloc_laws.proofs.Pieces.{put_app}
 use Rattle.im_alloc_laws.proofs.Numbers.{Once, once_of, apart_of, Fresh, Below, fresh_none, fresh_wide, fresh_new, fresh_own, fresh_join, split_left, split_right, below_left, below_right, below_more}

@@ -11,8 +11,8 @@ use Rattle.im_block.specs.declared.code.Block.{Block}
 use Rattle.im_block.specs.declared.unit.Function.{Function}
 use Rattle.im_block.specs.declared.unit.Unit.{Unit as Code}
 use Rattle.im_block.specs.Shape.{sum_of, with_cut, place_registers, cost, exit_words, exit_cost, block_cost, function_cost, placed_block_cost, placed_cost}
-use Rattle.im_alloc.specs.Homes.{Home, InRegister, InSlot, numbers_kept, load, reg, save, into, give, bring, load_place, on_place, put_line, put_lines, exit_lines, put_exit}
-use Rattle.im_alloc.specs.Placing.{PlacedBlock, PlacedBlocks, PlacedFunctions, IsPlaced}
+use Rattle.im_alloc_relation.specs.Homes.{Home, InRegister, InSlot, numbers_kept, load, reg, save, into, give, bring, load_place, on_place, put_line, put_lines, exit_lines, put_exit}
+use Rattle.im_alloc_relation.specs.Placing.{PlacedBlock, PlacedBlocks, PlacedFunctions, IsPlaced}
 
 abbrev words : List Line → ℕ
 words lines = sum_of with_cut lines

@@ -11,9 +11,9 @@ use Rattle.im_block.specs.declared.code.Exit.TheVariants.{Jump, Turn, Branch, Re
 use Rattle.im_block.specs.declared.unit.Unit.{Unit as Code}
 use Rattle.im_block.specs.Paths.{IsCut}
 use Rattle.im_block.specs.Forced.{StartsWithCut}
-use Rattle.im_placed.specs.Apart.{CutsApart, AllApart}
-use Rattle.im_alloc.specs.Homes.{Home, InRegister, InSlot, numbers_kept, load, reg, save, into, give, bring, load_place, on_place, put_line, put_lines, exit_lines}
-use Rattle.im_alloc.specs.Placing.{ValidLine, Valid, IsPlaced}
+use Rattle.im_alloc_placed.specs.Apart.{CutsApart, AllApart}
+use Rattle.im_alloc_relation.specs.Homes.{Home, InRegister, InSlot, numbers_kept, load, reg, save, into, give, bring, load_place, on_place, put_line, put_lines, exit_lines}
+use Rattle.im_alloc_relation.specs.Placing.{ValidLine, Valid, IsPlaced}
 use Rattle.im_alloc_laws.proofs.Carried.{IsPlain, Carries, carried, carried_load, carried_into}
 use Rattle.im_alloc_laws.proofs.Pieces.{made, of_old}
 

@@ -11,11 +11,11 @@ use Rattle.im_block.specs.declared.code.Exit.{Exit}
 use Rattle.im_block.specs.declared.code.Exit.TheVariants.{Jump, Turn, Branch, Return}
 use Rattle.im_block.specs.declared.code.Block.{Block}
 use Rattle.im_block.specs.declared.unit.Function.{Function}
-use Rattle.im_placed.specs.Operands.{IsHome, PlaceExists, PlaceAtHome}
-use Rattle.im_placed.specs.Placed.{IsPlacedLine, IsPlacedExit, IsPlacedBlock}
-use Rattle.im_placed.specs.Placeable.{IsPlaceableLine}
-use Rattle.im_alloc.specs.Homes.{Home, InRegister, InSlot, numbers_kept, load, reg, save, into, give, bring, load_place, on_place, put_line, put_lines, exit_lines, put_exit}
-use Rattle.im_alloc.specs.Placing.{PlacedBlock, PlacedBlocks}
+use Rattle.im_alloc_placed.specs.Operands.{IsHome, PlaceExists, PlaceAtHome}
+use Rattle.im_alloc_placed.specs.Placed.{IsPlacedLine, IsPlacedExit, IsPlacedBlock}
+use Rattle.im_alloc_placed.specs.Placeable.{IsPlaceableLine}
+use Rattle.im_alloc_relation.specs.Homes.{Home, InRegister, InSlot, numbers_kept, load, reg, save, into, give, bring, load_place, on_place, put_line, put_lines, exit_lines, put_exit}
+use Rattle.im_alloc_relation.specs.Placing.{PlacedBlock, PlacedBlocks}
 
 -- what is known of homes
 pub record Homes (h : ℕ → Home) (limit : ℕ) : Type 0 where

@@ -11,8 +11,8 @@ use Rattle.im_block.specs.declared.unit.Unit.{Unit as Code}
 use Rattle.im_block.specs.Shape.{Descends, IsOrdered, AllOrdered}
 use Rattle.im_block.specs.Paths.{IsCut}
 use Rattle.im_block.specs.Forced.{StartsWithCut, EndsWithCut, CutAfterCalls, CutAtTurn, IsForced, AllForced}
-use Rattle.im_alloc.specs.Homes.{Home, InRegister, InSlot, numbers_kept, give, put_line, put_lines, exit_lines, put_exit}
-use Rattle.im_alloc.specs.Placing.{PlacedBlocks, PlacedFunction, PlacedFunctions, IsPlaced}
+use Rattle.im_alloc_relation.specs.Homes.{Home, InRegister, InSlot, numbers_kept, give, put_line, put_lines, exit_lines, put_exit}
+use Rattle.im_alloc_relation.specs.Placing.{PlacedBlocks, PlacedFunction, PlacedFunctions, IsPlaced}
 use Rattle.im_alloc_laws.proofs.Carried.{IsPlain, Carries, carried, carried_load, carried_into}
 use Rattle.im_alloc_laws.proofs.Pieces.{put_app, made, of_old}
 

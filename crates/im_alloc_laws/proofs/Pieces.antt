@@ -8,8 +8,8 @@ use Rattle.im_block.specs.declared.code.Line.{Line}
 use Rattle.im_block.specs.declared.code.Line.TheVariants.{Put, PutNull, Copy, Convert, Unary, Not, Compute, Compare, Move, Distance, Address, Read, Write, Reload, Spill, Cut, Call, GetChar, PutChar}
 use Rattle.im_block.specs.declared.code.Block.{Block}
 use Rattle.im_block.specs.declared.unit.Function.{Function}
-use Rattle.im_alloc.specs.Homes.{Home, InRegister, InSlot, numbers_kept, load, reg, save, into, give, bring, load_place, on_place, put_line}
-use Rattle.im_alloc.specs.Placing.{PlacedBlock, PlacedBlocks, PlacedFunction, PlacedFunctions}
+use Rattle.im_alloc_relation.specs.Homes.{Home, InRegister, InSlot, numbers_kept, load, reg, save, into, give, bring, load_place, on_place, put_line}
+use Rattle.im_alloc_relation.specs.Placing.{PlacedBlock, PlacedBlocks, PlacedFunction, PlacedFunctions}
 
 save_app : (home : Home) (a : ℕ) (rest : List Line) → save home a rest ≡ save home a [] ++ rest
 save_app (InRegister r) a rest = refl

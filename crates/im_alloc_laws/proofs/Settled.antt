@@ -7,10 +7,10 @@ use Rattle.im_block.specs.declared.code.Block.{Block}
 use Rattle.im_block.specs.declared.unit.Function.{Function}
 use Rattle.im_block.specs.declared.unit.Unit.{Unit as Code}
 use Rattle.im_block.specs.Uncut.{WithCuts, Empty, Same, Added, SameBlock, SameBlocks, SameFunction, SameFunctions, SameButCuts}
-use Rattle.im_alloc.specs.Homes.{numbers_kept, put_lines, exit_lines, put_exit}
-use Rattle.im_alloc.specs.Live.{uses, sets, lives}
-use Rattle.im_alloc.specs.Placing.{PlacedFunction, PlacedFunctions, IsPlaced}
-use Rattle.im_alloc.specs.Settled.{SettlesCalls, IsSettledFunction, IsSettled}
+use Rattle.im_alloc_relation.specs.Homes.{numbers_kept, put_lines, exit_lines, put_exit}
+use Rattle.im_alloc_relation.specs.Live.{uses, sets, lives}
+use Rattle.im_alloc_relation.specs.Placing.{PlacedFunction, PlacedFunctions, IsPlaced}
+use Rattle.im_alloc_relation.specs.Settled.{SettlesCalls, IsSettledFunction, IsSettled}
 use Rattle.im_alloc_laws.proofs.Pieces.{made}
 use Rattle.im_alloc_laws.proofs.Settling.{Held, lines_live, lines_settle, exit_held, exit_settles}
 

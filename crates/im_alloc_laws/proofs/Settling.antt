@@ -10,10 +10,10 @@ use Rattle.im_block.specs.declared.code.Line.{Line}
 use Rattle.im_block.specs.declared.code.Line.TheVariants.{Put, PutNull, Copy, Convert, Unary, Not, Compute, Compare, Move, Distance, Address, Read, Write, Reload, Spill, Cut, Call, GetChar, PutChar}
 use Rattle.im_block.specs.declared.code.Exit.{Exit}
 use Rattle.im_block.specs.declared.code.Exit.TheVariants.{Jump, Turn, Branch, Return}
-use Rattle.im_alloc.specs.Homes.{Home, InRegister, InSlot, numbers_kept, load, reg, save, into, give, bring, load_place, put_line, put_lines, exit_lines, put_exit}
-use Rattle.im_alloc.specs.Live.{uses, sets, exit_lives, lives}
-use Rattle.im_alloc.specs.Placing.{Survives, ValidLine, Valid}
-use Rattle.im_alloc.specs.Settled.{SettlesCalls}
+use Rattle.im_alloc_relation.specs.Homes.{Home, InRegister, InSlot, numbers_kept, load, reg, save, into, give, bring, load_place, put_line, put_lines, exit_lines, put_exit}
+use Rattle.im_alloc_relation.specs.Live.{uses, sets, exit_lives, lives}
+use Rattle.im_alloc_relation.specs.Placing.{Survives, ValidLine, Valid}
+use Rattle.im_alloc_relation.specs.Settled.{SettlesCalls}
 
 both : (a b : Bool) → (a && b) ≡ true → (a ≡ true) × (b ≡ true)
 both true b h = (refl, h)

@@ -7,7 +7,7 @@ use Rattle.im_block.specs.Meaning.{Active, Event, Reads, Writes, Tests, Saves, R
 use Rattle.im_block.specs.Runs.{uncut}
 use Rattle.im_block.specs.Tagged.{AllHold}
 use Rattle.im_block.specs.Wellformed.{IsWellFormed}
-use Rattle.im_alloc.specs.Placing.{IsPlaced, PlaceKeeps, unslotted, beside}
+use Rattle.im_alloc_relation.specs.Placing.{IsPlaced, PlaceKeeps, unslotted, beside}
 use Rattle.im_alloc_laws.specs.Laws.{RunsAs}
 
 to_uncut : (statics : ℕ) (tags : Tags) (run : List Event) → AllHold statics tags run → AllHold statics tags (uncut run)

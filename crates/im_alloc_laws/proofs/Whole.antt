@@ -15,11 +15,11 @@ use Rattle.im_block.specs.declared.unit.Function.{Function}
 use Rattle.im_block.specs.declared.unit.Unit.{Unit as Code}
 use Rattle.im_block.specs.Shape.{sum_of}
 use Rattle.im_block.specs.Wellformed.{HasCells, PlaceWithin, LineWithin, ExitWithin, ExitThere, Takes, LineThere, IsBlock, IsFunction, IsWellFormed}
-use Rattle.im_placed.specs.Operands.{PlaceAtHome}
-use Rattle.im_placed.specs.Placed.{IsPlacedLine, IsPlacedExit, IsPlacedBlock, IsPlacedFunction, IsPlacedCode}
-use Rattle.im_placed.specs.Placeable.{object_need, IsPlaceableFunction, IsPlaceable}
-use Rattle.im_alloc.specs.Homes.{Home, InRegister, InSlot, numbers_kept, give, put_line, put_lines, exit_lines, put_exit}
-use Rattle.im_alloc.specs.Placing.{PlacedBlock, PlacedBlocks, PlacedFunction, PlacedFunctions}
+use Rattle.im_alloc_placed.specs.Operands.{PlaceAtHome}
+use Rattle.im_alloc_placed.specs.Placed.{IsPlacedLine, IsPlacedExit, IsPlacedBlock, IsPlacedFunction, IsPlacedCode}
+use Rattle.im_alloc_placed.specs.Placeable.{object_need, IsPlaceableFunction, IsPlaceable}
+use Rattle.im_alloc_relation.specs.Homes.{Home, InRegister, InSlot, numbers_kept, give, put_line, put_lines, exit_lines, put_exit}
+use Rattle.im_alloc_relation.specs.Placing.{PlacedBlock, PlacedBlocks, PlacedFunction, PlacedFunctions}
 use Rattle.im_alloc_laws.specs.Numbered.{numbers_of_blocks, PlacedFrom, IsWellPlaced}
 use Rattle.im_alloc_laws.proofs.Accesses.{accesses_apart}
 use Rattle.im_alloc_laws.proofs.Carried.{IsPlain, Carries, carried, carried_load, carried_into}

@@ -10,12 +10,12 @@ use Rattle.im_block.specs.Tagged.{AllHold}
 use Rattle.im_block.specs.Shape.{AllOrdered, sum_of, function_cost, placed_cost}
 use Rattle.im_block.specs.Forced.{AllForced}
 use Rattle.im_block.specs.Wellformed.{IsWellFormed}
-use Rattle.im_placed.specs.Apart.{AllApart}
-use Rattle.im_placed.specs.Placed.{IsPlacedCode}
-use Rattle.im_placed.specs.Placeable.{IsPlaceable}
+use Rattle.im_alloc_placed.specs.Apart.{AllApart}
+use Rattle.im_alloc_placed.specs.Placed.{IsPlacedCode}
+use Rattle.im_alloc_placed.specs.Placeable.{IsPlaceable}
 use Rattle.im_block.specs.Uncut.{SameButCuts}
-use Rattle.im_alloc.specs.Placing.{IsPlaced}
-use Rattle.im_alloc.specs.Settled.{IsSettled}
+use Rattle.im_alloc_relation.specs.Placing.{IsPlaced}
+use Rattle.im_alloc_relation.specs.Settled.{IsSettled}
 use Rattle.im_alloc_laws.specs.Numbered.{IsWellPlaced}
 
 -- the block code's runs have runs of the placed code with the same outcome, which hold each tag that they hold

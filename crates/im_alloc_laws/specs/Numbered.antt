@@ -5,8 +5,8 @@ use Rattle.im_block.specs.declared.unit.Function.{Function}
 use Rattle.im_block.specs.declared.unit.Unit.{Unit as Code}
 use Rattle.im_block.specs.Sections.{Has}
 use Rattle.im_block.specs.Wellformed.{accesses_of_functions}
-use Rattle.im_alloc.specs.Homes.{numbers_kept}
-use Rattle.im_alloc.specs.Placing.{PlacedFunctions, IsPlaced}
+use Rattle.im_alloc_relation.specs.Homes.{numbers_kept}
+use Rattle.im_alloc_relation.specs.Placing.{PlacedFunctions, IsPlaced}
 
 -- so many for each line, and as many for an exit
 abbrev pub numbers_of_blocks : List Block → ℕ

@@ -4,12 +4,12 @@ use Rattle.im_io.specs.Shelf.{ShelfState}
 use Rattle.im_image.specs.Text.{image_text}
 use Rattle.im_fault.specs.declared.fault.SourceFault.{SourceFault}
 use Rattle.im_fault.specs.declared.fault.SourceFault.TheVariants.{Line, Limit, NotYet, OutOfMemory}
-use Rattle.im_cli.specs.declared.command.BuildOptions.{BuildOptions}
+use Rattle.im_cmd_words.specs.declared.command.BuildOptions.{BuildOptions}
 use Rattle.im_compile.specs.declared.built.Built.{Built}
 use Rattle.im_typed.specs.declared.program.Prog.{Prog}
 use Rattle.im_image.specs.Contents.{IsImage}
 use Rattle.im_driver.specs.Compiled.{IsCompiled, IsCompiledFrom, IsRefused}
-use Rattle.im_lines.specs.Refusals.{Refused, NoMemory}
+use Rattle.im_cmd_lines.specs.Refusals.{Refused, NoMemory}
 use Rattle.im_cmd.specs.Files.{ReadsFile, StoresText}
 use Rattle.im_cmd.specs.Builds.{Builds, RefusesBuild, Compiles, RefusesSource, IsBuilt, IsFaulty, built_with, source_limit, source_faulty, source_starved, uncompiled, unwritable}
 use Rattle.im_cmd.specs.Stages.{IsBuiltFrom, CompilesFrom, RefusesText, text_faulty, text_starved, RefusesStore, store_failed, store_starved}

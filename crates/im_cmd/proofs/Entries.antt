@@ -1,12 +1,12 @@
 -- The top call's answers, by the words.
 use Rattle.std.proofs.Common.{◌≡◌, ℕ, List, None, refl}
 use Rattle.std.specs.String.{string_bytes}
-use Rattle.im_lines.specs.Refusals.{NoMemory}
+use Rattle.im_cmd_lines.specs.Refusals.{NoMemory}
 use Rattle.im_io.specs.Shelf.{ShelfState}
 use Rattle.im_io.specs.Sink.{SinkState}
-use Rattle.im_cli.specs.Named.{named, IsUsage}
-use Rattle.im_cli.specs.declared.fault.WordsFault.{WordsFault}
-use Rattle.im_cli.specs.declared.fault.WordsFault.TheVariants as fault
+use Rattle.im_cmd_words.specs.Named.{named, IsUsage}
+use Rattle.im_cmd_words.specs.declared.fault.WordsFault.{WordsFault}
+use Rattle.im_cmd_words.specs.declared.fault.WordsFault.TheVariants as fault
 use Rattle.im_cmd.specs.Answers.{Answers, usage, starved}
 use Rattle.im_cmd.specs.Stages.{TellsFault}
 use Rattle.im_cmd.proofs.Reports.{tells_refusal}

@@ -4,14 +4,14 @@ use Rattle.im_io.specs.Shelf.{ShelfState}
 use Rattle.im_store.specs.Outcomes.{Outcome as EndOfRun}
 use Rattle.im_typed.specs.declared.program.Prog.{Prog}
 use Rattle.im_typed.specs.ProgramOf.{program_of}
-use Rattle.im_made.specs.MakeUnit.{KnowsTypes}
+use Rattle.im_lower_plain.specs.MakeUnit.{KnowsTypes}
 use Rattle.im_eval_machine.specs.Settings.{HasKnownTypes}
-use Rattle.im_source.specs.Laws.{meaning_of}
+use Rattle.im_keeps_source.specs.Laws.{meaning_of}
 use Rattle.im_compile.specs.declared.built.Built.{Built}
-use Rattle.im_driver.specs.im_built_keeps.Laws.{frames_of}
-use Rattle.im_cli.specs.declared.command.BuildOptions.{BuildOptions}
-use Rattle.im_cli.specs.Named.{Evaluation}
-use Rattle.im_lines.specs.Refusals.{NoMemory}
+use Rattle.im_driver.specs.im_keeps_built.Laws.{frames_of}
+use Rattle.im_cmd_words.specs.declared.command.BuildOptions.{BuildOptions}
+use Rattle.im_cmd_words.specs.Named.{Evaluation}
+use Rattle.im_cmd_lines.specs.Refusals.{NoMemory}
 use Rattle.im_cmd.specs.Builds.{source_limit, source_starved}
 use Rattle.im_cmd.specs.Runs.{TakesInput}
 use Rattle.im_cmd.specs.Evaluations.{Evaluates, RefusesEvaluation, eval_uncompiled}

@@ -6,7 +6,7 @@ use Rattle.im_image.specs.Text.{image_text}
 use Rattle.im_image.specs.Upgrade.{upgraded}
 use Rattle.im_image.specs.Faults.{fault_of}
 use Rattle.im_image.specs.declared.fault.ImageFault.{ImageFault}
-use Rattle.im_lines.specs.Refusals.{Refused, NotAnImage, NoMemory}
+use Rattle.im_cmd_lines.specs.Refusals.{Refused, NotAnImage, NoMemory}
 use Rattle.im_cmd.specs.Files.{ReadsFile, RefusesFile, file_starved, StoresText}
 use Rattle.im_cmd.specs.Images.{ReadsImage, RefusesImage, image_unread, no_image, image_limit, Upgrades, RefusesUpgrade, upgrade_unread, upgrade_unwritten}
 use Rattle.im_cmd.specs.Stages.{RefusesStore, store_failed, store_starved}

@@ -3,7 +3,7 @@ use Rattle.std.proofs.Common.{◌≡◌, ℕ, List, [], Result, Ok, Err, refl, s
 use Rattle.im_io.specs.Sink.{SinkState}
 use Rattle.im_io.specs.Whole.{Sends, SentAll}
 use Rattle.im_io.proofs.Pieces.{sent_none}
-use Rattle.im_lines.specs.Refusals.{Refused, refusal_line}
+use Rattle.im_cmd_lines.specs.Refusals.{Refused, refusal_line}
 use Rattle.im_cmd.specs.Outcome.{Got, whole, part, refused, done, Tells, refusal_told, told, first_cut, refusal_status}
 use Rattle.im_cmd.specs.Stages.{Finishes}
 

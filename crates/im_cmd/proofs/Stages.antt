@@ -12,9 +12,9 @@ use Rattle.im_device.specs.Load.{memory_of}
 use Rattle.im_device.specs.Periods.{fresh, power}
 use Rattle.im_emu.specs.State.{Held, SameImage, counted, device_of}
 use Rattle.im_num.specs.Variables.{Variable}
-use Rattle.im_cli.specs.Named.{Options}
+use Rattle.im_cmd_words.specs.Named.{Options}
 use Rattle.im_mem.specs.Map.{input_capacity}
-use Rattle.im_lines.specs.Refusals.{Refused, InputTooLong, NotATrace, TornStores, NoMemory}
+use Rattle.im_cmd_lines.specs.Refusals.{Refused, InputTooLong, NotATrace, TornStores, NoMemory}
 use Rattle.im_cmd.specs.Files.{Unchanged, ReadsFile, RefusesFile, file_starved}
 use Rattle.im_cmd.specs.Runs.{ReadsInput, ReadsPeriods, ReadsTrace, TakesInput, RefusesInput, input_unread, input_too_long, RefusesTrace, trace_unread, no_trace, RefusesRun, no_input, periods_unread, torn_stores, run_starved, needs_form, run_file_limit}
 use Rattle.im_cmd.specs.Outcome.{shown}

@@ -4,12 +4,12 @@ use Rattle.im_io.specs.Shelf.{ShelfState}
 use Rattle.im_io.specs.Sink.{SinkState}
 use Rattle.im_image.specs.Contents.{ImageValue}
 use Rattle.im_device.specs.Periods.{Device}
-use Rattle.im_cli.specs.declared.command.BuildOptions.{BuildOptions}
-use Rattle.im_cli.specs.Named.{Asked, Evaluation, Options, builds, runs, executes, dumps, upgrades, reports, evaluates, named}
+use Rattle.im_cmd_words.specs.declared.command.BuildOptions.{BuildOptions}
+use Rattle.im_cmd_words.specs.Named.{Asked, Evaluation, Options, builds, runs, executes, dumps, upgrades, reports, evaluates, named}
 use Rattle.im_compile.specs.declared.built.Built.{Built}
-use Rattle.im_lines.specs.Dumps.{dump_lines}
-use Rattle.im_lines.specs.Upgrades.{upgrade_line}
-use Rattle.im_lines.specs.Refusals.{Refused, NoMemory}
+use Rattle.im_cmd_lines.specs.Dumps.{dump_lines}
+use Rattle.im_cmd_lines.specs.Upgrades.{upgrade_line}
+use Rattle.im_cmd_lines.specs.Refusals.{Refused, NoMemory}
 use Rattle.im_cmd.specs.Builds.{Builds, RefusesBuild, Compiles, RefusesSource}
 use Rattle.im_cmd.specs.Images.{ReadsImage, RefusesImage, Upgrades, RefusesUpgrade}
 use Rattle.im_cmd.specs.Runs.{RunsImage, RefusesRun}

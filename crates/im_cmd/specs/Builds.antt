@@ -3,13 +3,13 @@ use Rattle.std.specs.Prelude.{ℕ, ◌+◌, List}
 use Rattle.im_io.specs.Shelf.{ShelfState}
 use Rattle.im_image.specs.Contents.{IsImage}
 use Rattle.im_image.specs.Text.{image_text}
-use Rattle.im_lines.specs.Refusals.{Refused, CannotRead, FileTooLong, BadSource, CannotWrite, NoMemory}
+use Rattle.im_cmd_lines.specs.Refusals.{Refused, CannotRead, FileTooLong, BadSource, CannotWrite, NoMemory}
 use Rattle.im_fault.specs.declared.fault.Quantity.TheVariants.{Source}
 use Rattle.im_fault.specs.declared.fault.SourceFault.{SourceFault}
 use Rattle.im_fault.specs.declared.fault.SourceFault.TheVariants.{Limit, OutOfMemory}
 use Rattle.im_compile.specs.declared.options.Options.{Options as BuildsWith}
 use Rattle.im_compile.specs.declared.built.Built.{Built}
-use Rattle.im_cli.specs.declared.command.BuildOptions.{BuildOptions}
+use Rattle.im_cmd_words.specs.declared.command.BuildOptions.{BuildOptions}
 use Rattle.im_driver.specs.Compiled.{IsCompiled, IsRefused}
 use Rattle.im_cmd.specs.Files.{Unchanged, ReadsFile, RefusesFile, StoresText, StoresPart}
 

@@ -5,16 +5,16 @@ use Rattle.im_num.specs.Variables.{Variable}
 use Rattle.im_store.specs.Outcomes.{Outcome as EndOfRun, Undef, More, End}
 use Rattle.im_typed.specs.ProgramOf.{program_of}
 use Rattle.im_keeps.specs.Keeps.{output_in}
-use Rattle.im_source.specs.Laws.{meaning_of}
+use Rattle.im_keeps_source.specs.Laws.{meaning_of}
 use Rattle.im_compile.specs.declared.built.Built.{Built}
-use Rattle.im_driver.specs.im_built_keeps.Laws.{frames_of}
-use Rattle.im_cli.specs.declared.command.BuildOptions.{BuildOptions}
-use Rattle.im_cli.specs.Named.{Evaluation}
-use Rattle.im_lines.specs.declared.evaluations.Evaluated.{Evaluated}
-use Rattle.im_lines.specs.declared.evaluations.Evaluated.TheVariants.{Returned, StackExhausted, Undefined, OutOfFuel}
-use Rattle.im_lines.specs.Evaluations.{evaluation_lines}
-use Rattle.im_lines.specs.Variables.{variable_lines}
-use Rattle.im_lines.specs.Refusals.{Refused}
+use Rattle.im_driver.specs.im_keeps_built.Laws.{frames_of}
+use Rattle.im_cmd_words.specs.declared.command.BuildOptions.{BuildOptions}
+use Rattle.im_cmd_words.specs.Named.{Evaluation}
+use Rattle.im_cmd_lines.specs.declared.evaluations.Evaluated.{Evaluated}
+use Rattle.im_cmd_lines.specs.declared.evaluations.Evaluated.TheVariants.{Returned, StackExhausted, Undefined, OutOfFuel}
+use Rattle.im_cmd_lines.specs.Evaluations.{evaluation_lines}
+use Rattle.im_cmd_lines.specs.Variables.{variable_lines}
+use Rattle.im_cmd_lines.specs.Refusals.{Refused}
 use Rattle.im_cmd.specs.Builds.{Compiles, RefusesSource}
 use Rattle.im_cmd.specs.Runs.{TakesInput, RefusesInput}
 use Rattle.im_cmd.specs.Outcome.{Outcome, done}

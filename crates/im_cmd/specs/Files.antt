@@ -2,7 +2,7 @@
 use Rattle.std.specs.Prelude.{ℕ, ◌≤◌, ◌⊎◌, List, length}
 use Rattle.im_io.specs.Shelf.{ShelfState, WhereTold, SameCounts, ReadFaulted, WriteFaulted, WasAbsent, SameFiles, NotThere}
 use Rattle.im_io.specs.Whole.{HasWhole, IsLonger, HoldsText, HoldsFirst}
-use Rattle.im_lines.specs.Refusals.{Refused, CannotRead, FileTooLong, NoMemory}
+use Rattle.im_cmd_lines.specs.Refusals.{Refused, CannotRead, FileTooLong, NoMemory}
 
 -- no count rose, and no file changed
 pub record Unchanged (old new : ShelfState) : Type 0 where

@@ -6,7 +6,7 @@ use Rattle.im_image.specs.Text.{image_text}
 use Rattle.im_image.specs.Faults.{fault_of}
 use Rattle.im_image.specs.Upgrade.{upgraded}
 use Rattle.im_image.specs.declared.fault.ImageFault.{ImageFault}
-use Rattle.im_lines.specs.Refusals.{Refused, NotAnImage, CannotWrite}
+use Rattle.im_cmd_lines.specs.Refusals.{Refused, NotAnImage, CannotWrite}
 use Rattle.im_cmd.specs.Files.{ReadsFile, RefusesFile, StoresText, StoresPart}
 
 -- bytes of an image's file

@@ -8,14 +8,14 @@ use Rattle.im_num.specs.Variables.{Variable}
 use Rattle.im_device.specs.Variables.{vars_of}
 use Rattle.im_io.specs.Sink.{SinkState}
 use Rattle.im_io.specs.Whole.{SentAll, SentFirst}
-use Rattle.im_lines.specs.declared.ending.Ending.{Ending}
-use Rattle.im_lines.specs.declared.ending.Ending.TheVariants.{Returned, StackExhausted, OutOfPower, MachineFault}
+use Rattle.im_cmd_lines.specs.declared.ending.Ending.{Ending}
+use Rattle.im_cmd_lines.specs.declared.ending.Ending.TheVariants.{Returned, StackExhausted, OutOfPower, MachineFault}
 use Rattle.im_compile.specs.declared.built.Built.{Built}
-use Rattle.im_lines.specs.Builds.{build_lines}
-use Rattle.im_lines.specs.Reports.{report_lines}
-use Rattle.im_lines.specs.Runs.{ending_of, run_lines}
-use Rattle.im_lines.specs.Variables.{variable_lines}
-use Rattle.im_lines.specs.Refusals.{Refused, CannotRead, BadSource, NotAnImage, CannotWrite, InputTooLong, FileTooLong, NotATrace, TornStores, NoMemory, refusal_line}
+use Rattle.im_cmd_lines.specs.Builds.{build_lines}
+use Rattle.im_cmd_lines.specs.Reports.{report_lines}
+use Rattle.im_cmd_lines.specs.Runs.{ending_of, run_lines}
+use Rattle.im_cmd_lines.specs.Variables.{variable_lines}
+use Rattle.im_cmd_lines.specs.Refusals.{Refused, CannotRead, BadSource, NotAnImage, CannotWrite, InputTooLong, FileTooLong, NotATrace, TornStores, NoMemory, refusal_line}
 
 -- what comes of a command: why it isn't carried out; or a text for the first sink, one for the second, and the exit status
 pub data Outcome : Type 0 where

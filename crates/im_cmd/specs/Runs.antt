@@ -11,8 +11,8 @@ use Rattle.im_power.specs.Text.{trace_of}
 use Rattle.im_mem.specs.Map.{input_capacity}
 use Rattle.im_device.specs.Periods.{Device, fresh, power}
 use Rattle.im_device.specs.Load.{memory_of}
-use Rattle.im_cli.specs.Named.{Options}
-use Rattle.im_lines.specs.Refusals.{Refused, InputTooLong, NotATrace, TornStores, NoMemory}
+use Rattle.im_cmd_words.specs.Named.{Options}
+use Rattle.im_cmd_lines.specs.Refusals.{Refused, InputTooLong, NotATrace, TornStores, NoMemory}
 use Rattle.im_cmd.specs.Files.{Unchanged, ReadsFile, RefusesFile}
 
 -- bytes of an input's or a trace's file

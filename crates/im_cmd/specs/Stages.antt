@@ -15,15 +15,15 @@ use Rattle.im_power.specs.Text.{repeats}
 use Rattle.im_emu.specs.State.{Held, IsImageOf, device_of}
 use Rattle.im_num.specs.Variables.{Variable, variable_of}
 use Rattle.im_fault.specs.declared.fault.SourceFault.{SourceFault}
-use Rattle.im_cli.specs.declared.fault.WordsFault.{WordsFault}
-use Rattle.im_cli.specs.declared.fault.WordsFault.TheVariants as fault
-use Rattle.im_cli.specs.Named.{Options}
-use Rattle.im_lines.specs.Refusals.{Refused, CannotRead, FileTooLong, BadSource, CannotWrite, InputTooLong, NoMemory, refusal_line}
+use Rattle.im_cmd_words.specs.declared.fault.WordsFault.{WordsFault}
+use Rattle.im_cmd_words.specs.declared.fault.WordsFault.TheVariants as fault
+use Rattle.im_cmd_words.specs.Named.{Options}
+use Rattle.im_cmd_lines.specs.Refusals.{Refused, CannotRead, FileTooLong, BadSource, CannotWrite, InputTooLong, NoMemory, refusal_line}
 use Rattle.im_cmd.specs.Files.{Unchanged, StoresPart}
 use Rattle.im_typed.specs.declared.program.Prog.{Prog}
 use Rattle.im_compile.specs.declared.built.Built.{Built}
 use Rattle.im_compile.specs.Passed.{IsSource}
-use Rattle.im_cli.specs.declared.command.BuildOptions.{BuildOptions}
+use Rattle.im_cmd_words.specs.declared.command.BuildOptions.{BuildOptions}
 use Rattle.im_cmd.specs.Builds.{IsBuilt, IsFaulty, Compiles}
 use Rattle.im_cmd.specs.Runs.{ReadsPeriods, RunsImage, RefusesTrace}
 use Rattle.im_cmd.specs.Outcome.{Got, shown, no_output_line, refusal_status}

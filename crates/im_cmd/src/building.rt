@@ -1,17 +1,17 @@
 ghost use Rattle.std.specs.Prelude.{MatchResult};
 ghost use Rattle.im_image.specs.Text.{image_text};
-ghost use Rattle.im_lines.specs.Refusals.{refused_of};
+ghost use Rattle.im_cmd_lines.specs.Refusals.{refused_of};
 ghost use Rattle.im_cmd.specs.Files.{ReadsFile, StoresText};
-ghost use Rattle.im_cli.specs.Named.{IsInBounds};
+ghost use Rattle.im_cmd_words.specs.Named.{IsInBounds};
 ghost use Rattle.im_cmd.specs.Builds.{Builds, RefusesBuild, Compiles, RefusesSource, IsBuilt, source_limit};
 ghost use Rattle.im_cmd.specs.Stages.{IsBuiltFrom, CompilesFrom, RefusesText, RefusesStore};
 
-use im_cli::BuildOptions;
+use im_cmd_lines::Refusal;
+use im_cmd_words::BuildOptions;
 use im_driver::{Built, Compiled, Options, compile, compile_whole};
 use im_fault::{Quantity, SourceFault};
 use im_image::{Image, write_image};
 use im_io::{ReadFault, Shelf, read_whole, store};
-use im_lines::Refusal;
 use std::alloc::Global;
 
 /// Bytes of a source.

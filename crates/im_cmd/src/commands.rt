@@ -1,4 +1,4 @@
-ghost use Rattle.im_cli.specs.Named.{IsInBounds, evaluation_meaning, options_meaning, builds, runs, executes, dumps, upgrades, reports, evaluates};
+ghost use Rattle.im_cmd_words.specs.Named.{IsInBounds, evaluation_meaning, options_meaning, builds, runs, executes, dumps, upgrades, reports, evaluates};
 ghost use Rattle.im_cmd.specs.Answers.{CarriesOut};
 
 use crate::building::{build, compile_source};
@@ -8,9 +8,9 @@ use crate::running::run_image;
 use crate::stored::read_stored;
 use crate::telling::{finish, send_built, send_report_of, tell_refusal, tell_run};
 use crate::upgrading::upgrade_image;
-use im_cli::{BuildOptions, EvalOptions, RunOptions};
+use im_cmd_lines::{send_dump_lines, send_upgrade_line};
+use im_cmd_words::{BuildOptions, EvalOptions, RunOptions};
 use im_io::{Shelf, Sink};
-use im_lines::{send_dump_lines, send_upgrade_line};
 use std::alloc::Global;
 
 /// Builds a source and stores its image. `out` gets the lines of the build.

@@ -1,15 +1,15 @@
 ghost use Rattle.std.specs.Prelude.{map};
 ghost use Rattle.std.specs.String.{string_bytes};
-ghost use Rattle.im_cli.specs.Named.{HasBounds, meaning};
+ghost use Rattle.im_cmd_words.specs.Named.{HasBounds, meaning};
 ghost use Rattle.im_cmd.specs.Stages.{TellsFault};
 ghost use Rattle.im_cmd.specs.Answers.{Answers, CarriesOut};
 
 use crate::commands::{build_source, dump, evaluate_source, execute, report, run_source, upgrade};
 use crate::status::USAGE;
 use crate::telling::tell_refusal;
-use im_cli::{Command, WordsFault, read_words};
+use im_cmd_lines::Refusal;
+use im_cmd_words::{Command, WordsFault, read_words};
 use im_io::{Shelf, Sink, send};
-use im_lines::Refusal;
 use std::alloc::Global;
 
 /// Carries out the command that the words name, the first of them being the program's own name, and

@@ -7,10 +7,10 @@ ghost use Rattle.im_cmd.specs.Evaluations.{evaluated_by, evaluation_outcome, eva
 
 use crate::evaluating::Evaluation;
 use crate::status::{DONE, OUT_OF_FUEL, STACK_EXHAUSTED, UNDEFINED, UNWRITABLE};
+use im_cmd_lines::{Evaluated, send_evaluation_lines, send_variable_lines};
 use im_driver::Built;
 use im_eval::{Outcome, Reason};
 use im_io::{Failed, Sink, send};
-use im_lines::{Evaluated, send_evaluation_lines, send_variable_lines};
 
 // How an evaluation ended.
 fn evaluated_of(outcome: &Outcome) -> Evaluated

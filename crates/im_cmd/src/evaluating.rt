@@ -2,22 +2,22 @@ ghost use Rattle.std.specs.Prelude.{◌≡◌, map, option_map, IfOk, MatchResul
 ghost use Rattle.im_typed.specs.ProgramOf.{program_of};
 ghost use Rattle.im_typed.specs.declared.frames.Frame as frame;
 ghost use Rattle.im_compile.specs.Passed.{IsSource};
-ghost use Rattle.im_driver.specs.im_built_keeps.Laws.{frames_of};
-ghost use Rattle.im_source.specs.Laws.{meaning_of};
+ghost use Rattle.im_driver.specs.im_keeps_built.Laws.{frames_of};
+ghost use Rattle.im_keeps_source.specs.Laws.{meaning_of};
 ghost use Rattle.im_eval_machine.specs.Endings.{told};
-ghost use Rattle.im_cli.specs.Named.{IsInBounds, evaluation_meaning};
-ghost use Rattle.im_lines.specs.Refusals.{refused_of};
+ghost use Rattle.im_cmd_words.specs.Named.{IsInBounds, evaluation_meaning};
+ghost use Rattle.im_cmd_lines.specs.Refusals.{refused_of};
 ghost use Rattle.im_cmd.specs.Runs.{TakesInput, RefusesInput};
 ghost use Rattle.im_cmd.specs.Evaluations.{Evaluates, RefusesEvaluation};
 ghost use Rattle.im_cmd.specs.Stages.{IsTakable, IsTooLong};
 
 use crate::building::compile_program;
 use crate::running::read_input;
-use im_cli::{BuildOptions, EvalOptions};
+use im_cmd_lines::Refusal;
+use im_cmd_words::{BuildOptions, EvalOptions};
 use im_driver::{Built, Compiled};
 use im_eval::{Outcome, eval_framed};
 use im_io::Shelf;
-use im_lines::Refusal;
 use im_mem::INPUT_CAPACITY;
 use im_num::NoMemory;
 use im_typed::Frame;

@@ -1,9 +1,9 @@
 ghost use Rattle.std.specs.Prelude.{MatchResult};
-ghost use Rattle.im_lines.specs.Refusals.{refused_of};
+ghost use Rattle.im_cmd_lines.specs.Refusals.{refused_of};
 ghost use Rattle.im_cmd.specs.Files.{ReadsFile, RefusesFile};
 
+use im_cmd_lines::Refusal;
 use im_io::{ReadFault, Shelf, read_whole};
-use im_lines::Refusal;
 use std::alloc::Global;
 
 /// The bytes of a file of at most `limit` bytes.

@@ -1,17 +1,17 @@
 ghost use Rattle.std.specs.Prelude.{◌≡◌, ◌∷◌, [], IfOk, MatchResult, option_map};
 ghost use Rattle.im_mem.specs.Memory.{view};
-ghost use Rattle.im_cli.specs.Named.{options_meaning};
-ghost use Rattle.im_lines.specs.Refusals.{refused_of};
+ghost use Rattle.im_cmd_words.specs.Named.{options_meaning};
+ghost use Rattle.im_cmd_lines.specs.Refusals.{refused_of};
 ghost use Rattle.im_cmd.specs.Runs.{ReadsInput, RefusesInput, ReadsTrace, RefusesTrace, RefusesRun, has_torn, needs_form};
 ghost use Rattle.im_cmd.specs.Outcome.{shown};
 ghost use Rattle.im_cmd.specs.Stages.{ended_of, variables_of, Loads, RefusesLoad, TakesPeriods, RefusesPeriods, Ran};
 
 use crate::files::read_file;
-use im_cli::RunOptions;
+use im_cmd_lines::Refusal;
+use im_cmd_words::RunOptions;
 use im_emu::{LoadFault, Machine};
 use im_image::{Form, Image};
 use im_io::Shelf;
-use im_lines::Refusal;
 use im_mem::FlatMem;
 use im_num::{NoMemory, Var};
 use im_power::{Period, Trace, TraceFault, read_trace};

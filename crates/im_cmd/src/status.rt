@@ -1,8 +1,8 @@
 ghost use Rattle.std.specs.Prelude.{◌≡◌};
-ghost use Rattle.im_lines.specs.Refusals.{refused_of};
+ghost use Rattle.im_cmd_lines.specs.Refusals.{refused_of};
 ghost use Rattle.im_cmd.specs.Outcome.{ending_status, refusal_status};
 
-use im_lines::{Ending, Refusal};
+use im_cmd_lines::{Ending, Refusal};
 
 /// All was done, and a run halted.
 pub const DONE: u8 = 0;

@@ -1,11 +1,11 @@
 ghost use Rattle.std.specs.Prelude.{MatchResult};
-ghost use Rattle.im_lines.specs.Refusals.{refused_of};
+ghost use Rattle.im_cmd_lines.specs.Refusals.{refused_of};
 ghost use Rattle.im_cmd.specs.Images.{ReadsImage, RefusesImage};
 
 use crate::files::read_file;
+use im_cmd_lines::Refusal;
 use im_image::{Image, ImageFault, read_image};
 use im_io::Shelf;
-use im_lines::Refusal;
 use std::alloc::Global;
 
 /// Bytes of an image's file.

@@ -1,19 +1,19 @@
 ghost use Rattle.std.specs.Prelude.{◌≡◌, length, option_map, IfSome};
 ghost use Rattle.im_io.specs.Whole.{Sends};
-ghost use Rattle.im_lines.specs.Refusals.{refusal_line, refused_of};
+ghost use Rattle.im_cmd_lines.specs.Refusals.{refusal_line, refused_of};
 ghost use Rattle.im_device.specs.Shows.{output_of};
 ghost use Rattle.im_cmd.specs.Outcome.{Got, Tells, built_lines, done, ending, ending_status, refusal_status, report_with, reported_lines, run_report, shown_lines};
 ghost use Rattle.im_cmd.specs.Stages.{Finishes, ended_of, variables_of};
 
 use crate::running::Run;
 use crate::status::{DONE, UNWRITABLE, status_of_ending, status_of_refusal};
-use im_driver::Built;
-use im_image::Image;
-use im_io::{Failed, Sink, send};
-use im_lines::{
+use im_cmd_lines::{
     Ending, Refusal, send_build_lines, send_refusal_line, send_report_lines, send_run_lines,
     send_variable_lines,
 };
+use im_driver::Built;
+use im_image::Image;
+use im_io::{Failed, Sink, send};
 use im_num::Var;
 
 /// Sends a refusal's line to `err`, and gives the exit status.

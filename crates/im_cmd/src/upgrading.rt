@@ -1,13 +1,13 @@
 ghost use Rattle.std.specs.Prelude.{◌≡◌, MatchResult};
 ghost use Rattle.im_image.specs.Contents.{ImageValue};
-ghost use Rattle.im_lines.specs.Refusals.{refused_of};
+ghost use Rattle.im_cmd_lines.specs.Refusals.{refused_of};
 ghost use Rattle.im_cmd.specs.Images.{Upgrades, RefusesUpgrade};
 
 use crate::building::store_image;
 use crate::stored::read_stored;
+use im_cmd_lines::Refusal;
 use im_image::Version;
 use im_io::Shelf;
-use im_lines::Refusal;
 use std::alloc::Global;
 
 /// Reads an image and stores it in version 2 under another name. Answers the version that it had.

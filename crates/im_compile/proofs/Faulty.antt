@@ -6,12 +6,12 @@ use Rattle.im_typed.specs.declared.program.Prog.{Prog}
 use Rattle.im_block.specs.declared.unit.Unit.{Unit as Code}
 use Rattle.im_frame.specs.declared.layout.Layout.{Layout}
 use Rattle.im_frame.specs.Layout.{places_from}
-use Rattle.im_addresses.specs.Addresses.{AreLayouts}
-use Rattle.im_addresses.specs.Statics.{objects_of}
+use Rattle.im_select_addresses.specs.Addresses.{AreLayouts}
+use Rattle.im_select_addresses.specs.Statics.{objects_of}
 use Rattle.im_link.specs.declared.fault.LinkFault.{LinkFault}
 use Rattle.im_link.specs.declared.fault.LinkFault.TheVariants.{Limit, OutOfMemory as NoRoom}
 use Rattle.im_link.specs.Code.{IsFaultOf as IsFaultOfLinking}
-use Rattle.im_linked.specs.Program.{IsProgram}
+use Rattle.im_link_laws.specs.Program.{IsProgram}
 use Rattle.im_pack.specs.declared.fault.PackFault.{PackFault}
 use Rattle.im_pack.specs.declared.fault.PackFault.TheVariants.{Unnamed as NoName, OutOfMemory as NoSpace}
 use Rattle.im_pack.specs.Packed.{IsFaultOf as IsPackFault}

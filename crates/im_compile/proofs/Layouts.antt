@@ -11,10 +11,10 @@ use Rattle.im_block.specs.declared.unit.Function.{Function}
 use Rattle.im_block.specs.declared.unit.Unit.{Unit as Code}
 use Rattle.im_frame.specs.declared.layout.Layout.{Layout}
 use Rattle.im_frame.specs.Layout.{room, rooms, places_from}
-use Rattle.im_addresses.specs.Addresses.{AreLayouts}
-use Rattle.im_addresses.specs.Statics.{objects_of}
-use Rattle.im_assemble.specs.declared.program.Program.{Program}
-use Rattle.im_assemble.specs.Assembled.{IsAssemblable}
+use Rattle.im_select_addresses.specs.Addresses.{AreLayouts}
+use Rattle.im_select_addresses.specs.Statics.{objects_of}
+use Rattle.im_select_assemble.specs.declared.program.Program.{Program}
+use Rattle.im_select_assemble.specs.Assembled.{IsAssemblable}
 use Rattle.im_typed.specs.declared.program.Func.{Func}
 use Rattle.im_compile.specs.Built.{function_names}
 use Rattle.im_compile.specs.Passed.{IsReady}

@@ -18,19 +18,19 @@ use Rattle.im_block.specs.Uncut.{SameFunctions}
 use Rattle.im_block.specs.Wellformed.{IsWellFormed}
 use Rattle.im_block.specs.Laws.{AddedCutsLaw}
 use Rattle.im_block_laws.specs.Laws.{CutsKeepCodeLaw}
-use Rattle.im_placed.specs.Placeable.{IsPlaceable}
-use Rattle.im_placed.specs.Placed.{IsPlacedFunction, IsPlacedCode}
-use Rattle.im_placed.specs.Laws.{CutsKeepPlacesLaw}
+use Rattle.im_alloc_placed.specs.Placeable.{IsPlaceable}
+use Rattle.im_alloc_placed.specs.Placed.{IsPlacedFunction, IsPlacedCode}
+use Rattle.im_alloc_placed.specs.Laws.{CutsKeepPlacesLaw}
 use Rattle.im_force.specs.Force.{Forces}
 use Rattle.im_force.specs.Laws.{ForceKeepsLaw}
 use Rattle.im_recut.specs.Laws.{RecutKeepsLaw}
-use Rattle.im_lower.specs.Lowered.{IsLowered, AreSized}
-use Rattle.im_lower.specs.Laws.{LoweredFormLaw}
-use Rattle.im_alloc.specs.Placing.{PlacedFunctions}
+use Rattle.im_lower_relation.specs.Lowered.{IsLowered, AreSized}
+use Rattle.im_lower_relation.specs.Laws.{LoweredFormLaw}
+use Rattle.im_alloc_relation.specs.Placing.{PlacedFunctions}
 use Rattle.im_alloc_laws.specs.Laws.{PlacedCodeLaw}
-use Rattle.im_dependences.specs.Laws.{UncutNames, ForceNames, PlaceNames, RecutNames}
+use Rattle.im_compile_dependences.specs.Laws.{UncutNames, ForceNames, PlaceNames, RecutNames}
 use Rattle.im_frame.specs.Layout.{room, rooms, bytes_of}
-use Rattle.im_addresses.specs.Statics.{objects_of}
+use Rattle.im_select_addresses.specs.Statics.{objects_of}
 use Rattle.im_compile.specs.Passed.{IsSource, IsPassed, IsReady}
 
 -- block code with its forced cuts, which placing takes

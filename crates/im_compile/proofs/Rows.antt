@@ -8,7 +8,7 @@ use Rattle.im_frame.specs.declared.layout.Layout.{Layout}
 use Rattle.im_frame.specs.declared.fault.FrameFault.{FrameFault}
 use Rattle.im_frame.specs.declared.fault.FrameFault.TheVariants.{Limit, OutOfMemory}
 use Rattle.im_frame.specs.Layout.{IsLayout, IsFault, bytes_of}
-use Rattle.im_addresses.specs.Addresses.{AreLayouts}
+use Rattle.im_select_addresses.specs.Addresses.{AreLayouts}
 use Rattle.im_compile.specs.Lowered.{AreNamedFrames}
 use Rattle.im_compile.specs.Built as built
 use Rattle.im_compile.specs.Ready.{IsFrameFault, of_frame}

@@ -12,10 +12,10 @@ use Rattle.im_typed.specs.declared.frames.Frame.{Frame}
 use Rattle.im_block.specs.declared.unit.Unit.{Unit as Code}
 use Rattle.im_frame.specs.declared.layout.Layout.{Layout}
 use Rattle.im_frame.specs.Layout.{places_from}
-use Rattle.im_addresses.specs.Addresses.{AreLayouts}
-use Rattle.im_addresses.specs.Statics.{objects_of}
-use Rattle.im_linked.specs.Program.{IsProgram}
-use Rattle.im_assemble.specs.Names.{part_names, program_names}
+use Rattle.im_select_addresses.specs.Addresses.{AreLayouts}
+use Rattle.im_select_addresses.specs.Statics.{objects_of}
+use Rattle.im_link_laws.specs.Program.{IsProgram}
+use Rattle.im_select_assemble.specs.Names.{part_names, program_names}
 use Rattle.im_pack.specs.Packed.{IsPacked}
 use Rattle.im_compile.specs.declared.options.Options.{Options}
 use Rattle.im_compile.specs.declared.built.Built.{Built}

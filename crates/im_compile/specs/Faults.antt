@@ -9,9 +9,9 @@ use Rattle.im_block.specs.declared.unit.Function.{Function}
 use Rattle.im_block.specs.declared.unit.Unit.{Unit as Code}
 use Rattle.im_frame.specs.declared.layout.Layout.{Layout}
 use Rattle.im_frame.specs.Layout.{bytes_of, places_from}
-use Rattle.im_addresses.specs.Addresses.{AreLayouts}
-use Rattle.im_addresses.specs.Statics.{objects_of}
-use Rattle.im_linked.specs.Program.{IsProgram}
+use Rattle.im_select_addresses.specs.Addresses.{AreLayouts}
+use Rattle.im_select_addresses.specs.Statics.{objects_of}
+use Rattle.im_link_laws.specs.Program.{IsProgram}
 use Rattle.im_pack.specs.Packed.{IsUnnamed}
 use Rattle.im_compile.specs.declared.fault.CompileFault.{CompileFault}
 use Rattle.im_compile.specs.declared.fault.CompileFault.TheVariants.{Frame, Code as TooMuchCode, Unnamed, OutOfMemory}

@@ -2,6 +2,6 @@ pub mod Passed
 pub mod Built
 pub mod Faults
 pub mod Ready
-pub use Rattle.im_ranked.specs.im_live
+pub use Rattle.im_gap_ranked.specs.im_saved
 pub mod Lowered
 pub mod Prepared

@@ -7,9 +7,9 @@ use Rattle.im_typed.specs.declared.frames.Frame.{Frame}
 use Rattle.im_typed.specs.ProgramOf.{program_of}
 use Rattle.im_block.specs.declared.unit.Function.{Function}
 use Rattle.im_block.specs.declared.unit.Unit.{Unit as Code}
-use Rattle.im_placed.specs.Placeable.{IsPlaceable}
-use Rattle.im_placed.specs.Apart.{AllUncut}
-use Rattle.im_lower.specs.Lowered.{IsLowered, AreSized}
+use Rattle.im_alloc_placed.specs.Placeable.{IsPlaceable}
+use Rattle.im_alloc_placed.specs.Apart.{AllUncut}
+use Rattle.im_lower_relation.specs.Lowered.{IsLowered, AreSized}
 use Rattle.im_frame.specs.declared.layout.Layout.{Layout}
 use Rattle.im_compile.specs.declared.passes.Lowered.{Lowered}
 use Rattle.im_compile.specs.Built.{bytes_of}

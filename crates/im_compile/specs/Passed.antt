@@ -10,17 +10,17 @@ use Rattle.im_block.specs.declared.unit.Unit.{Unit as Code}
 use Rattle.im_block.specs.Shape.{AllOrdered}
 use Rattle.im_block.specs.Forced.{AllForced}
 use Rattle.im_block.specs.Wellformed.{IsWellFormed}
-use Rattle.im_placed.specs.Placeable.{IsPlaceable}
-use Rattle.im_placed.specs.Placed.{IsPlacedCode}
-use Rattle.im_placed.specs.Apart.{AllUncut}
+use Rattle.im_alloc_placed.specs.Placeable.{IsPlaceable}
+use Rattle.im_alloc_placed.specs.Placed.{IsPlacedCode}
+use Rattle.im_alloc_placed.specs.Apart.{AllUncut}
 use Rattle.im_force.specs.Force.{Forces}
 use Rattle.im_recut.specs.Recut.{RecutsTo}
-use Rattle.im_lower.specs.Lowered.{IsLowered, AreSized}
-use Rattle.im_made.specs.MakeUnit.{KnowsTypes}
+use Rattle.im_lower_relation.specs.Lowered.{IsLowered, AreSized}
+use Rattle.im_lower_plain.specs.MakeUnit.{KnowsTypes}
 use Rattle.im_alloc_laws.specs.Numbered.{IsWellPlaced}
 use Rattle.im_frame.specs.Layout.{bytes_of, rooms}
-use Rattle.im_addresses.specs.Statics.{objects_of}
-use Rattle.im_linked.specs.Laws.{NamesAccesses}
+use Rattle.im_select_addresses.specs.Statics.{objects_of}
+use Rattle.im_link_laws.specs.Laws.{NamesAccesses}
 use Rattle.im_compile.specs.declared.options.Options.{Options}
 
 -- what is asked of a program

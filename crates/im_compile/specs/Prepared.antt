@@ -3,8 +3,8 @@ use Rattle.std.specs.Prelude.{◌≡◌, map, string_bytes}
 use Rattle.im_mem.specs.Map.{statics_start}
 use Rattle.im_typed.specs.declared.program.Prog.{Prog}
 use Rattle.im_frame.specs.Layout.{places_from}
-use Rattle.im_addresses.specs.Addresses.{AreLayouts}
-use Rattle.im_addresses.specs.Statics.{objects_of}
+use Rattle.im_select_addresses.specs.Addresses.{AreLayouts}
+use Rattle.im_select_addresses.specs.Statics.{objects_of}
 use Rattle.im_compile.specs.declared.prepared.Prepared.{Prepared}
 use Rattle.im_compile.specs.Passed.{IsPassed, IsReady}
 use Rattle.im_compile.specs.Built.{AreFrames, function_names}

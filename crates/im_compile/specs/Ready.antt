@@ -12,8 +12,8 @@ use Rattle.im_block.specs.declared.unit.Unit.{Unit as Code}
 use Rattle.im_frame.specs.declared.layout.Layout.{Layout}
 use Rattle.im_frame.specs.declared.fault.FrameFault.{FrameFault}
 use Rattle.im_frame.specs.declared.fault.FrameFault.TheVariants.{Limit as TooLarge, OutOfMemory as NoHeap}
-use Rattle.im_linked.specs.Program.{IsProgram}
-use Rattle.im_assemble.specs.Names.{part_names, program_names}
+use Rattle.im_link_laws.specs.Program.{IsProgram}
+use Rattle.im_select_assemble.specs.Names.{part_names, program_names}
 use Rattle.im_pack.specs.declared.fault.PackFault.{PackFault}
 use Rattle.im_pack.specs.declared.fault.PackFault.TheVariants.{Unnamed as NoName, OutOfMemory as NoSpace}
 use Rattle.im_compile.specs.declared.fault.CompileFault.{CompileFault}

@@ -11,10 +11,10 @@ use crate::linking::linked_code;
 use crate::options::Options;
 use crate::passes::lowered_code;
 use crate::prepared::{Prepared, prepare};
-use im_assemble::Program;
 use im_gap::gap;
+use im_gap_ranked::linked_gap_law;
 use im_pack::pack;
-use im_ranked::linked_gap_law;
+use im_select_assemble::Program;
 use im_typed::Prog;
 use std::alloc::Global;
 

@@ -1,7 +1,7 @@
 ghost use Rattle.std.specs.Prelude.{◌≡◌, ◌≤◌, ◌<◌, ◌^◌, All, IfOk, MatchResult, length};
 ghost use Rattle.im_block.specs.declared.unit.Function.{Function as FunctionOf};
 ghost use Rattle.im_frame.specs.Layout.{bytes_of};
-ghost use Rattle.im_addresses.specs.Addresses.{AreLayouts};
+ghost use Rattle.im_select_addresses.specs.Addresses.{AreLayouts};
 ghost use Rattle.im_compile.specs.Lowered.{AreNamedFrames};
 ghost use Rattle.im_compile.specs.Ready.{IsFrameFault, IsFrameOf, of_frame};
 

@@ -1,15 +1,15 @@
 ghost use Rattle.std.specs.Prelude.{◌≡◌, map, string_bytes, encode_utf8_all, IfOk, MatchResult};
 ghost use Rattle.im_compile.specs.Lowered.{texts_of_names};
-ghost use Rattle.im_linked.specs.Laws.{NamesAccesses};
-ghost use Rattle.im_assemble.specs.Assembled.{IsAssemblable};
+ghost use Rattle.im_link_laws.specs.Laws.{NamesAccesses};
+ghost use Rattle.im_select_assemble.specs.Assembled.{IsAssemblable};
 ghost use Rattle.im_compile.specs.Ready.{IsLinkFault, IsLinkedFrom};
 
 use crate::fault::CompileFault;
-use im_assemble::{Program, assemble};
 use im_block::{Static, Unit};
-use im_linked::linkable_law;
+use im_link_laws::linkable_law;
 use im_num::NoMemory;
 use im_rv::Code;
+use im_select_assemble::{Program, assemble};
 use std::alloc::Global;
 
 /// A name as text, each byte a character.

@@ -4,14 +4,14 @@ ghost use Rattle.im_compile.specs.Lowered.{AreNamesOf, IsLoweredCode, IsLoweredF
 ghost use Rattle.im_compile.specs.Passed.{IsPassed, IsReady, IsSource};
 
 use crate::laws::ready_law;
+use im_alloc::place;
+use im_alloc_placed::cuts_keep_places_law;
 use im_block::Unit;
 use im_block_laws::cuts_keep_code_law;
 use im_force::{force, force_keeps_law};
-use im_lower::lowered_form_law;
-use im_lowering::lower;
+use im_lower::lower;
+use im_lower_relation::lowered_form_law;
 use im_num::NoMemory;
-use im_placed::cuts_keep_places_law;
-use im_placing::place;
 use im_recut::recut;
 use im_typed::{Func, Prog};
 use std::alloc::Global;

@@ -9,9 +9,9 @@ use crate::fault::CompileFault;
 use crate::frames::{frames_of, layouts_of};
 use crate::linking::texts_of;
 use crate::passes::{Lowered, placed_code};
-use im_addresses::place_statics;
 use im_block::Unit;
 use im_frame::Layout;
+use im_select_addresses::place_statics;
 use im_typed::Frames;
 use std::alloc::Global;
 

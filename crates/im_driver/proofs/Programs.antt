@@ -6,8 +6,8 @@ use Rattle.im_ctree.specs.declared.unit.Tree.{Tree}
 use Rattle.im_ctree.specs.Shape.{tree_of}
 use Rattle.im_typed.specs.declared.program.Prog.{Prog}
 use Rattle.im_typed.specs.ProgramOf.{program_of}
-use Rattle.im_spelt_sound.specs.Laws.{WordsLaw, SourcesLaw}
-use Rattle.im_checking.specs.Checked.{IsChecked}
+use Rattle.im_rules_sound_spelt.specs.Laws.{WordsLaw, SourcesLaw}
+use Rattle.im_check.specs.Checked.{IsChecked}
 use Rattle.im_driver.specs.Compiled.{IsTreeOf}
 use Rattle.im_driver.specs.Steps.{IsReady}
 use Rattle.im_driver.proofs.Typed.{AreSmall, well_typed}

@@ -12,10 +12,10 @@ use Rattle.im_typed.specs.ProgramOf.{program_of}
 use Rattle.im_tok.specs.declared.token.Token.{Token}
 use Rattle.im_ctree.specs.declared.unit.Tree.{Tree}
 use Rattle.im_ctree.specs.Shape.{tree_of}
-use Rattle.im_checking.specs.declared.fault.CheckFault.{CheckFault}
-use Rattle.im_checking.specs.declared.fault.CheckFault.TheVariants as check
-use Rattle.im_checking.specs.declared.fault.Limit.TheVariants as which
-use Rattle.im_checking.specs.Checked.{IsCheckFault}
+use Rattle.im_check.specs.declared.fault.CheckFault.{CheckFault}
+use Rattle.im_check.specs.declared.fault.CheckFault.TheVariants as check
+use Rattle.im_check.specs.declared.fault.Limit.TheVariants as which
+use Rattle.im_check.specs.Checked.{IsCheckFault}
 use Rattle.im_compile.specs.declared.fault.CompileFault.{CompileFault}
 use Rattle.im_compile.specs.declared.fault.CompileFault.TheVariants as compile
 use Rattle.im_compile.specs.Faults.{IsFaultOf}

@@ -6,16 +6,16 @@ use Rattle.im_lex.specs.Tokens.{IsTokenOf}
 use Rattle.im_word.specs.Words.{Word}
 use Rattle.im_ctree.specs.declared.unit.Tree.{Tree}
 use Rattle.im_ctree.specs.Shape.{tree_of}
-use Rattle.im_parse_unit.specs.Spelling.{AreWords, no_words, next_word, IsParsedText}
+use Rattle.im_parse.specs.Spelling.{AreWords, no_words, next_word, IsParsedText}
 use Rattle.im_typed.specs.Program.{Prog}
 use Rattle.im_typed.specs.Limits as typed
 use Rattle.im_typed.specs.Typing.{IsWellTyped}
-use Rattle.im_checking.specs.im_rules.TypedUnit.{TypedUnit}
-use Rattle.im_checking.specs.im_rule_limits.Limits.{IsWithinLimits}
-use Rattle.im_checking.specs.im_places_sound.Units.{IsWrittenUnit}
-use Rattle.im_checking.specs.im_expressions_sound.Written.{AreBytes}
-use Rattle.im_spelt_sound.specs.Words.{IsLexical, AreLexical}
-use Rattle.im_spelt_sound.specs.Laws.{WordsLaw, SpeltLaw, SourcesLaw}
+use Rattle.im_check.specs.im_rules.TypedUnit.{TypedUnit}
+use Rattle.im_check.specs.im_rules_limits.Limits.{IsWithinLimits}
+use Rattle.im_check.specs.im_rules_sound_places.Units.{IsWrittenUnit}
+use Rattle.im_check.specs.im_rules_sound_expressions.Written.{AreBytes}
+use Rattle.im_rules_sound_spelt.specs.Words.{IsLexical, AreLexical}
+use Rattle.im_rules_sound_spelt.specs.Laws.{WordsLaw, SpeltLaw, SourcesLaw}
 use Rattle.im_driver.proofs.Lexical.{token_some}
 
 -- bytes of a text

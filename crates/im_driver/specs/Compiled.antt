@@ -10,25 +10,25 @@ use Rattle.im_tok.specs.declared.token.Token.{Token}
 use Rattle.im_lex.specs.Lexing.{Lexes}
 use Rattle.im_ctree.specs.declared.unit.Tree.{Tree}
 use Rattle.im_ctree.specs.Shape.{tree_of}
-use Rattle.im_parse_unit.specs.Spelling.{IsParsedText}
+use Rattle.im_parse.specs.Spelling.{IsParsedText}
 use Rattle.im_front.specs.Reading.{IsWrong, IsOver, line_of_token}
 use Rattle.im_typed.specs.Program.{Prog, Func}
 use Rattle.im_typed.specs.Counts.{func_need}
 use Rattle.im_typed.specs.declared.frames.Frame.{Frame as FrameOf}
 use Rattle.im_typed.specs.declared.program.Prog.{Prog as MadeProgram}
 use Rattle.im_typed.specs.ProgramOf.{program_of}
-use Rattle.im_checking.specs.im_rules.TypedUnit.{TypedUnit}
-use Rattle.im_checking.specs.im_rules.UnitBreaks.{UnitBroken}
-use Rattle.im_checking.specs.im_rule_limits.Limits as limits
-use Rattle.im_checking.specs.Checked.{HasNoLargeType}
+use Rattle.im_check.specs.im_rules.TypedUnit.{TypedUnit}
+use Rattle.im_check.specs.im_rules.UnitBreaks.{UnitBroken}
+use Rattle.im_check.specs.im_rules_limits.Limits as limits
+use Rattle.im_check.specs.Checked.{HasNoLargeType}
 use Rattle.im_compile.specs.declared.options.Options.{Options}
 use Rattle.im_compile.specs.declared.built.Built.{Built}
 use Rattle.im_compile.specs.Passed.{IsSource}
 use Rattle.im_compile.specs.Built.{IsBuilt}
 use Rattle.im_compile.specs.Faults.{HasLargeFrame, HasLargeCode, HasUnnamed}
 use Rattle.im_gap.specs.Gap.{recovery_steps}
-use Rattle.im_built_keeps.specs.im_source.Laws.{ProgramKeeps}
-use Rattle.im_built_keeps.specs.Laws.{frames_of}
+use Rattle.im_keeps_built.specs.im_keeps_source.Laws.{ProgramKeeps}
+use Rattle.im_keeps_built.specs.Laws.{frames_of}
 
 -- the tree that a source's tokens spell
 pub record IsTreeOf (source : List ℕ) (tokens : List Token) (tree : Tree) : Type 0 where

@@ -1,3 +1,3 @@
 pub mod Compiled
 pub mod Steps
-pub use Rattle.im_built_keeps.specs as im_built_keeps
+pub use Rattle.im_keeps_built.specs as im_keeps_built

@@ -6,10 +6,10 @@ use Rattle.im_fault.specs.declared.fault.Quantity.TheVariants.{Parameters, Size,
 use Rattle.im_fault.specs.declared.fault.SourceFault.{SourceFault}
 use Rattle.im_fault.specs.declared.fault.SourceFault.TheVariants.{Line, Limit, NotYet, OutOfMemory}
 use Rattle.im_front.specs.Reading.{line_among}
-use Rattle.im_checking.specs.declared.fault.CheckFault.{CheckFault}
-use Rattle.im_checking.specs.declared.fault.CheckFault.TheVariants as check
-use Rattle.im_checking.specs.declared.fault.Limit as k
-use Rattle.im_checking.specs.declared.fault.Limit.TheVariants as which
+use Rattle.im_check.specs.declared.fault.CheckFault.{CheckFault}
+use Rattle.im_check.specs.declared.fault.CheckFault.TheVariants as check
+use Rattle.im_check.specs.declared.fault.Limit as k
+use Rattle.im_check.specs.declared.fault.Limit.TheVariants as which
 use Rattle.im_compile.specs.declared.fault.CompileFault.{CompileFault}
 use Rattle.im_compile.specs.declared.fault.CompileFault.TheVariants as compile
 use Rattle.im_tok.specs.declared.token.Token.{Token}
@@ -18,8 +18,8 @@ use Rattle.im_ctree.specs.declared.unit.Tree.{Tree}
 use Rattle.im_ctree.specs.Shape.{tree_of}
 use Rattle.im_typed.specs.declared.program.Prog.{Prog}
 use Rattle.im_typed.specs.ProgramOf.{program_of}
-use Rattle.im_checking.specs.im_places_sound.Units.{IsWrittenUnit}
-use Rattle.im_checking.specs.Checked.{IsChecked}
+use Rattle.im_check.specs.im_rules_sound_places.Units.{IsWrittenUnit}
+use Rattle.im_check.specs.Checked.{IsChecked}
 use Rattle.im_compile.specs.declared.options.Options.{Options}
 use Rattle.im_compile.specs.declared.built.Built.{Built}
 use Rattle.im_compile.specs.Passed.{IsSource}

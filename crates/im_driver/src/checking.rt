@@ -3,7 +3,7 @@ ghost use Rattle.im_driver.specs.Compiled.{IsRefused};
 ghost use Rattle.im_driver.specs.Steps.{IsReady, fault_at, quantity_of};
 
 use crate::laws::{program_law, written_law};
-use im_checking::{CheckFault, Limit, check};
+use im_check::{CheckFault, Limit, check};
 use im_fault::{LineFault, Quantity, SourceFault};
 use im_front::{Text, line_of, read_source};
 use im_typed::Prog;

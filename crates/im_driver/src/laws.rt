@@ -1,10 +1,10 @@
 ghost use Rattle.im_driver.specs.Steps.{KeptLaw, ProgramLaw, WrittenLaw};
 
 use im_alloc_laws::placed_code_law;
-use im_built_keeps::built_keeps_law;
 use im_force::force_keeps_law;
+use im_keeps_built::built_keeps_law;
 use im_recut::recut_keeps_law;
-use im_spelt_sound::{spelt_law, words_law};
+use im_rules_sound_spelt::{spelt_law, words_law};
 
 /// The tree of a source is as the checker wants it.
 pub(crate) fn written_law()

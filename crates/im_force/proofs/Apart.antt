@@ -9,7 +9,7 @@ use Rattle.im_block.specs.declared.code.Exit.{Exit}
 use Rattle.im_block.specs.declared.code.Block.{Block}
 use Rattle.im_block.specs.declared.unit.Function.{Function}
 use Rattle.im_block.specs.declared.unit.Unit.{Unit as Code}
-use Rattle.im_placed.specs.Apart.{CutsApart, AllApart, IsNoCut, AllUncut}
+use Rattle.im_alloc_placed.specs.Apart.{CutsApart, AllApart, IsNoCut, AllUncut}
 use Rattle.im_force.specs.Force.{due_before, due_behind, due_at, cut_of, forced_lines, due_first, ForcesBlocks, ForcesFunctions, Forces}
 
 only_one : (due : Option Cause) → CutsApart (cut_of due)

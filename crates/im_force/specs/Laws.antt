@@ -4,7 +4,7 @@ use Rattle.im_block.specs.declared.unit.Unit.{Unit as Code}
 use Rattle.im_block.specs.Uncut.{SameButCuts}
 use Rattle.im_block.specs.Forced.{AllForced}
 use Rattle.im_block.specs.Paths.{AllSectioned}
-use Rattle.im_placed.specs.Apart.{AllApart, AllUncut}
+use Rattle.im_alloc_placed.specs.Apart.{AllApart, AllUncut}
 use Rattle.im_force.specs.Force.{Forces}
 
 pub record ForceKeepsLaw : Type 0 where

@@ -7,9 +7,9 @@ use Rattle.im_lex.specs.declared.fault.LexFaultKind.TheVariants as token
 use Rattle.im_lex.specs.Lexing.{Lexes, StuckAt, line_at}
 use Rattle.im_lex.specs.Faults.{IsFault}
 use Rattle.im_lex.specs.Tokens.{IsTokenOf}
-use Rattle.im_parse_unit.specs.declared.text.ParseFault.{ParseFault}
-use Rattle.im_parse_unit.specs.declared.text.ParseFault.TheVariants as unit
-use Rattle.im_parse_unit.specs.Spelling.{IsParsedText}
+use Rattle.im_parse.specs.declared.text.ParseFault.{ParseFault}
+use Rattle.im_parse.specs.declared.text.ParseFault.TheVariants as unit
+use Rattle.im_parse.specs.Spelling.{IsParsedText}
 use Rattle.im_fault.specs.declared.fault.LineFault.{LineFault}
 use Rattle.im_fault.specs.declared.fault.LineFault.TheVariants.{BadByte, OpenComment, OpenLiteral, BadEscape, BadNumber, BadDirective, Syntax, Nesting, Rule}
 use Rattle.im_fault.specs.declared.fault.Quantity.{Quantity}

@@ -7,7 +7,7 @@ use im_ctree::Tree;
 use im_fault::{LineFault, Quantity, SourceFault};
 use im_lex::{LexFault, LexFaultKind, lex};
 use im_num::NoMemory;
-use im_parse_unit::{ParseFault, parse};
+use im_parse::{ParseFault, parse};
 use im_tok::Token;
 use std::alloc::Global;
 

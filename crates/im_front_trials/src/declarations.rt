@@ -1,6 +1,6 @@
 use crate::seen::same;
-use im_parse::declaration;
 use im_parse_core::{Stop, TypedefNames};
+use im_parse_expression::declaration;
 use im_tok::{Keyword, Number, NumberType, Punctuator};
 use im_word::Word;
 use std::alloc::Global;

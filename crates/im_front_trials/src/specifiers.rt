@@ -1,10 +1,10 @@
 use crate::seen::holds;
+use im_check_name_map::TagList;
+use im_check_scopes::{Entity, Scope};
+use im_check_stop::Stop;
+use im_check_type_specifiers::{mention, specified_type, type_at_file};
 use im_ctree::{Specifier, SpecifierKind, SpecifierWord};
 use im_ctype::Integer;
-use im_name_map::TagList;
-use im_scopes::{Entity, Scope};
-use im_stop::Stop;
-use im_type_specifiers::{mention, specified_type, type_at_file};
 use im_types::{Type, is_pointer, pointer_to, same};
 use std::alloc::Global;
 use std::process::Abort;

@@ -1,6 +1,6 @@
 use crate::seen::holds;
+use im_check_string_numbers::{behind_core, behind_declarator, behind_expression};
 use im_ctree::{Core, Declarator, Expression, ExpressionKind, Suffix, SuffixKind};
-use im_string_numbers::{behind_core, behind_declarator, behind_expression};
 use std::alloc::Global;
 use std::process::Abort;
 

@@ -4,8 +4,8 @@ ghost use Rattle.im_gap.specs.Flow.{links};
 ghost use Rattle.im_gap.specs.Table.{following, successors_by, behind, Drawn};
 
 use crate::flow::{Turn, Way, index_at, links_register, way_of};
+use im_gap_walk::Node;
 use im_num::NoMemory;
-use im_walk::Node;
 
 // the next word, if there is one
 fn push_following(targets: &mut Vec<u32>, count: u32, i: u32) -> Result<(), NoMemory>

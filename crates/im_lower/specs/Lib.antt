@@ -1,5 +1,3 @@
-pub mod Codes
-pub mod Statements
-pub mod Lowered
-pub mod Agrees
-pub mod Laws
+pub mod MakeEach
+pub mod Marks
+pub mod Small

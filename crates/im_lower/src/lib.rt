@@ -1,6 +1,17 @@
-//! From the typed program to block code.
+//! From the typed program to block code: the code itself.
 #![tactic(auto)]
 
-mod laws;
+mod builder;
+mod cells;
+mod expressions;
+mod functions;
+mod initialise;
+mod lines;
+mod operators;
+mod places;
+mod program;
+mod statements;
+mod statics;
+mod switch;
 
-pub use laws::{lower_keeps_law, lowered_form_law};
+pub use program::lower;

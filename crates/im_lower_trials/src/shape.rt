@@ -4,7 +4,7 @@ ghost use Rattle.im_compile.specs.Passed.{IsSource};
 
 use im_block::{Exit, Function, Line, Place, Unit};
 use im_driver::{Compiled, Options, compile_whole};
-use im_lowering::lower;
+use im_lower::lower;
 use im_num::{Kind, NoMemory};
 use im_store::BinaryOp;
 use std::alloc::Global;

@@ -6,7 +6,7 @@ use crate::trial::{Ending, Trial};
 use im_block_run::{Setting, run};
 use im_driver::{Compiled, Options, compile_whole};
 use im_eval::{Outcome, Reason, eval_framed};
-use im_lowering::lower;
+use im_lower::lower;
 use im_num::NoMemory;
 use im_typed::Frame;
 use std::alloc::Global;

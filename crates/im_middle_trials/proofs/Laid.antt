@@ -14,10 +14,10 @@ use Rattle.im_block.specs.declared.unit.Function.{Function}
 use Rattle.im_block.specs.declared.unit.Unit.{Unit as Code}
 use Rattle.im_frame.specs.declared.layout.Layout.{Layout}
 use Rattle.im_frame.specs.Layout.{IsLayout, room, rooms, places_from}
-use Rattle.im_addresses.specs.Addresses.{AreLayouts}
-use Rattle.im_addresses.specs.Statics.{objects_of}
-use Rattle.im_assemble.specs.declared.program.Program.{Program}
-use Rattle.im_assemble.specs.Assembled.{IsAssemblable}
+use Rattle.im_select_addresses.specs.Addresses.{AreLayouts}
+use Rattle.im_select_addresses.specs.Statics.{objects_of}
+use Rattle.im_select_assemble.specs.declared.program.Program.{Program}
+use Rattle.im_select_assemble.specs.Assembled.{IsAssemblable}
 use Rattle.im_pack.specs.Packed.{IsLoadable}
 use Rattle.im_middle_trials.specs.Buildable.{IsBuildable}
 

@@ -9,10 +9,10 @@ use Rattle.im_block.specs.declared.unit.Unit.{Unit as Code}
 use Rattle.im_block.specs.Shape.{sum_of}
 use Rattle.im_block.specs.Wellformed.{IsStatic, IsFunction, Takes, AreApart, accesses_of_blocks, accesses_of_functions}
 use Rattle.im_frame.specs.Layout.{rooms}
-use Rattle.im_addresses.specs.Statics.{objects_of}
-use Rattle.im_placed.specs.Placed.{IsPlacedFunction}
-use Rattle.im_selecting.specs.Selects.{causes_of_blocks}
-use Rattle.im_linked.specs.Laws.{NamesOwn}
+use Rattle.im_select_addresses.specs.Statics.{objects_of}
+use Rattle.im_alloc_placed.specs.Placed.{IsPlacedFunction}
+use Rattle.im_select.specs.Selects.{causes_of_blocks}
+use Rattle.im_link_laws.specs.Laws.{NamesOwn}
 use Rattle.im_middle_trials.specs.Buildable.{IsBuildable, IsGiven}
 
 -- numbers in order

@@ -6,10 +6,10 @@ use Rattle.im_block.specs.declared.unit.Function.{Function}
 use Rattle.im_block.specs.declared.unit.Unit.{Unit as Code}
 use Rattle.im_block.specs.Wellformed.{IsFunction, IsWellFormed, Takes, accesses_of_blocks}
 use Rattle.im_frame.specs.Layout.{rooms}
-use Rattle.im_addresses.specs.Statics.{objects_of}
-use Rattle.im_placed.specs.Placed.{IsPlacedCode, IsPlacedFunction}
-use Rattle.im_selecting.specs.Selects.{causes_of_blocks}
-use Rattle.im_linked.specs.Laws.{NamesAccesses}
+use Rattle.im_select_addresses.specs.Statics.{objects_of}
+use Rattle.im_alloc_placed.specs.Placed.{IsPlacedCode, IsPlacedFunction}
+use Rattle.im_select.specs.Selects.{causes_of_blocks}
+use Rattle.im_link_laws.specs.Laws.{NamesAccesses}
 
 -- placed code, whose statics fit
 pub record IsBuildable (u : Code) : Type 0 where

@@ -2,13 +2,13 @@ ghost use Rattle.std.specs.Prelude.{◌≡◌, ◌≤◌, [], length, IfOk, All}
 ghost use Rattle.im_block.specs.Wellformed.{IsWellFormed};
 ghost use Rattle.im_block.specs.declared.unit.Function.{Function as Placed};
 ghost use Rattle.im_frame.specs.Layout.{bytes_of};
-ghost use Rattle.im_placed.specs.Placed.{IsPlacedCode};
-ghost use Rattle.im_linked.specs.Laws.{NamesAccesses};
+ghost use Rattle.im_alloc_placed.specs.Placed.{IsPlacedCode};
+ghost use Rattle.im_link_laws.specs.Laws.{NamesAccesses};
 
 use crate::seen::same;
-use im_assemble::{Program, assemble};
 use im_block::{Block, Exit, Function, Line, Registers, Unit};
 use im_frame::lay_out;
+use im_select_assemble::{Program, assemble};
 use std::alloc::Global;
 use std::test::Fail;
 

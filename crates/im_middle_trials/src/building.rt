@@ -1,16 +1,16 @@
 ghost use Rattle.std.specs.Prelude.{◌≡◌, ◌≤◌, All, IfOk, length};
 ghost use Rattle.im_block.specs.declared.unit.Function.{Function as FunctionOf};
 ghost use Rattle.im_frame.specs.Layout.{bytes_of};
-ghost use Rattle.im_addresses.specs.Addresses.{AreLayouts};
+ghost use Rattle.im_select_addresses.specs.Addresses.{AreLayouts};
 ghost use Rattle.im_middle_trials.specs.Buildable.{IsBuildable};
 
-use im_addresses::place_statics;
-use im_assemble::{Program, assemble};
 use im_block::{Function, Unit};
 use im_frame::{Layout, lay_out};
 use im_image::Image;
-use im_linked::linkable_law;
+use im_link_laws::linkable_law;
 use im_pack::pack;
+use im_select_addresses::place_statics;
+use im_select_assemble::{Program, assemble};
 use std::alloc::Global;
 use std::test::Fail;
 

@@ -1,11 +1,11 @@
 ghost use Rattle.std.specs.Prelude.{◌≡◌, ◌≤◌, IfOk};
 ghost use Rattle.im_mem.specs.Map.{statics_capacity};
 ghost use Rattle.im_frame.specs.Layout.{rooms};
-ghost use Rattle.im_addresses.specs.Statics.{objects_of};
+ghost use Rattle.im_select_addresses.specs.Statics.{objects_of};
 
 use crate::seen::same;
-use im_addresses::place_statics;
 use im_block::{Object, Static};
+use im_select_addresses::place_statics;
 use std::alloc::Global;
 use std::test::Fail;
 

@@ -1,10 +1,10 @@
-use im_fault::{LineFault, Quantity, SourceFault};
-use im_image::{ImageFault, read_image};
-use im_io::{Failed, MemSink};
-use im_lines::{
+use im_cmd_lines::{
     Ending, Evaluated, Refusal, send_build_lines, send_dump_lines, send_evaluation_lines,
     send_instruction, send_refusal_line, send_report_lines, send_run_lines, send_variable_lines,
 };
+use im_fault::{LineFault, Quantity, SourceFault};
+use im_image::{ImageFault, read_image};
+use im_io::{Failed, MemSink};
 use im_num::{Cause, CellValue, Var};
 use im_power::TraceFault;
 use im_rv::{Cut, Went};

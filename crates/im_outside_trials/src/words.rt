@@ -1,4 +1,4 @@
-use im_cli::{
+use im_cmd_words::{
     BuildOptions, Command, EvalOptions, RunOptions, WordsFault, building_law, evaluation_law,
     faultless_law, files_law, options_law, read_words, words_refused_law, words_taken_law,
 };

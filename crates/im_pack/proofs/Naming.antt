@@ -9,7 +9,7 @@ use Rattle.im_block.specs.declared.unit.Object.{Object}
 use Rattle.im_block.specs.declared.unit.Static.{Static as StaticOf}
 use Rattle.im_block.specs.Wellformed.{HasCells}
 use Rattle.im_frame.specs.Layout.{room, rooms, places_from}
-use Rattle.im_addresses.specs.Statics.{objects_of}
+use Rattle.im_select_addresses.specs.Statics.{objects_of}
 use Rattle.im_pack.specs.Packed.{IsObjectOf, AreObjectsOf, can_be_named}
 use Rattle.im_pack.specs.Objects.{object_of, objects_at, runs_of, AreNamed}
 use Rattle.im_pack.proofs.Cells.{cells_from, some_bytes}

@@ -11,7 +11,7 @@ use Rattle.im_block.specs.declared.unit.Static.{Static as StaticOf}
 use Rattle.im_block.specs.Wellformed.{HasCells}
 use Rattle.im_frame.specs.Layout.{room, rooms, places_from}
 use Rattle.im_frame.proofs.Places.{lies}
-use Rattle.im_addresses.specs.Statics.{objects_of}
+use Rattle.im_select_addresses.specs.Statics.{objects_of}
 use Rattle.im_pack.specs.Packed.{word_of, IsCell, AreFirstBytes}
 use Rattle.im_pack.specs.Bytes.{cells_bytes, static_bytes, statics_bytes}
 use Rattle.im_pack.proofs.Views.{index_left, index_behind, little-behind, little-first}

@@ -17,7 +17,7 @@ use Rattle.im_block.specs.declared.unit.Unit.{Unit as Code}
 use Rattle.im_block.specs.Wellformed.{IsWellFormed, IsStatic, HasBytes, Suits}
 use Rattle.im_frame.specs.Layout.{rooms, places_from}
 use Rattle.im_frame.proofs.Places.{lies, count_from}
-use Rattle.im_addresses.specs.Statics.{objects_of}
+use Rattle.im_select_addresses.specs.Statics.{objects_of}
 use Rattle.im_pack.specs.Packed.{AreOfUnit, IsLoadable}
 use Rattle.im_pack.specs.Bytes.{IsWord, HasWords, AreReady, statics_bytes}
 use Rattle.im_pack.specs.Objects.{objects_at, AreNamed}

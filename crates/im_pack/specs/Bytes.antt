@@ -10,7 +10,7 @@ use Rattle.im_block.specs.declared.unit.Constant.TheVariants.{Number, Null, Insi
 use Rattle.im_block.specs.declared.unit.Static.{Static as StaticOf}
 use Rattle.im_block.specs.Wellformed.{HasCells}
 use Rattle.im_frame.specs.Layout.{room, rooms}
-use Rattle.im_addresses.specs.Statics.{objects_of}
+use Rattle.im_select_addresses.specs.Statics.{objects_of}
 use Rattle.im_pack.specs.Packed.{word_of}
 
 -- the bytes of cells with these values, from one place of their object to another

@@ -16,8 +16,8 @@ use Rattle.im_block.specs.declared.unit.Static.{Static as StaticOf}
 use Rattle.im_block.specs.declared.unit.Unit.{Unit as Code}
 use Rattle.im_block.specs.Wellformed.{IsWellFormed}
 use Rattle.im_frame.specs.Layout.{rooms}
-use Rattle.im_addresses.specs.Statics.{objects_of}
-use Rattle.im_statics.specs.Named.{cells_of_run}
+use Rattle.im_select_addresses.specs.Statics.{objects_of}
+use Rattle.im_select_statics.specs.Named.{cells_of_run}
 use Rattle.im_pack.specs.declared.fault.PackFault.{PackFault}
 use Rattle.im_pack.specs.declared.fault.PackFault.TheVariants.{Unnamed, OutOfMemory}
 

@@ -2,7 +2,7 @@ ghost use Rattle.std.specs.Prelude.{◌≡◌, ◌≤◌, ◌<◌, ◌^◌, slic
 ghost use Rattle.im_mem.specs.Map.{output_capacity, stack_capacity, statics_capacity, statics_start};
 ghost use Rattle.im_block.specs.declared.unit.Unit.{Unit};
 ghost use Rattle.im_frame.specs.Layout.{places_from, rooms};
-ghost use Rattle.im_addresses.specs.Statics.{objects_of};
+ghost use Rattle.im_select_addresses.specs.Statics.{objects_of};
 ghost use Rattle.im_pack.specs.Packed.{AreOfUnit, IsFaultOf, IsLoadable, IsPacked};
 
 use crate::bytes::first_bytes;

@@ -1,5 +1,2 @@
-pub mod Tables
-pub mod Parsing
-pub mod Declaring
-pub mod Cores
-pub mod Initializing
+pub mod Externals
+pub mod Spelling

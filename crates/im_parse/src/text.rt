@@ -1,40 +1,80 @@
-ghost use Rattle.std.specs.Prelude.{◌≡◌, ◌<◌, ◌^◌, ℕ, List, Some, MatchOption, length, map, drop};
+ghost use Rattle.std.specs.Prelude.{◌≡◌, ◌^◌, ◌<◌, IfOk, length, map};
+ghost use Rattle.std.specs.List.{All};
 ghost use Rattle.im_word.specs.Shown.{shown};
-ghost use Rattle.im_word.specs.Words.{text};
-ghost use Rattle.im_parse_core.specs.Reads.{head};
-ghost use Rattle.im_parse_core.specs.Places.{IsAt};
-ghost use Rattle.im_parse.specs.Parsing.{Parses, IsText, NoTextBehind, bytes_of};
+ghost use Rattle.im_parse.specs.declared.text.ParseFault.TheVariants.{Memory};
+ghost use Rattle.im_parse.specs.Spelling.{AreWords, IsParsed, IsParsedText, IsWithin};
 
-use im_parse_core::{Stop, word_at};
-use im_word::Word;
+use super::units::unit;
+use im_ctree::Tree;
+use im_num::NoMemory;
+use im_parse_core::Stop;
+use im_tok::Token;
+use im_word::{Word, first_too_deep, word_of};
 use std::alloc::Global;
 
-/// The string literal at this place, and the place behind it.
-fn text_at<'a, 'b>(words: &'a [Word<'b>], at: u32) -> Option<(&'a [u8], u32)>
-    requires { length words.now < 2 ^ 32 }
-    ensures { MatchOption result
-        ((s : List ℕ) → head (drop at (map shown words.now)) ≡ Some (text s) → ⊥)
-        (λ found. IsAt (text found.0.now) (map shown words.now) at found.1) }
-{
-    let found = word_at(words, at)?;
-    match found.0 {
-        Word::Text(bytes) => Some((bytes, found.1)),
-        _ => None,
+/// Why a text has no tree.
+#[derive(Clone, Copy, PartialEq, Eq, Debug)]
+pub enum ParseFault {
+    /// The number of the first token whose nesting is over 200.
+    Depth(u32),
+    /// The number of the first token that no unit goes on with, which is that of the end where every token is gone on with.
+    Syntax(u32),
+    /// Memory ran out.
+    Memory,
+}
+
+impl From<NoMemory> for ParseFault {
+    ghost from_gives = { λ _ fault. fault ≡ Memory };
+
+    fn from(_fault: NoMemory) -> ParseFault {
+        ParseFault::Memory
     }
 }
 
-/// The string literals side by side at this place, as one (C11 6.4.5), and the place behind them.
-pub fn joined_text(alloc: Global, words: &[Word], at: u32) -> Result<(Vec<u8>, u32), Stop>
-    requires { length words.now < 2 ^ 32 }
-    ensures { Parses bytes_of IsText NoTextBehind (map shown words.now) at result }
+/// The words of tokens.
+fn words_of<'a>(
+    alloc: Global,
+    source: &'a [u8],
+    tokens: &[Token],
+) -> Result<Vec<Word<'a>>, NoMemory>
+    requires { All (IsWithin source.now) tokens.now }
+    ensures { IfOk result (λ words. AreWords source.now tokens.now (map shown words.items)) }
 {
-    let Some((first, mut next)) = text_at(words, at) else {
-        return Err(Stop::Syntax(at));
-    };
-    let mut bytes = Vec::from_slice(alloc, first)?;
-    while let Some((more, end)) = text_at(words, next) {
-        bytes.extend_from_slice(more)?;
-        next = end;
+    let mut words = Vec::with_capacity(alloc, tokens.len())?;
+    for token in tokens {
+        let word = word_of(alloc, source, token)?;
+        words.push(word)?;
     }
-    Ok((bytes, next))
+    Ok(words)
+}
+
+/// The syntax tree that the tokens of a source spell (C11 6.9), or why there is none; their nesting is looked at first.
+/// The tokens are given back before the tree grows.
+pub fn parse(alloc: Global, source: &[u8], tokens: Vec<Token>) -> Result<Tree, ParseFault>
+    requires { All (IsWithin source.now) tokens.items }
+    ensures { IsParsedText source.now tokens.items result }
+{
+    let words = words_of(alloc, source, &tokens)?;
+    drop(tokens);
+    if words.len() > u32::MAX as usize {
+        return Err(ParseFault::Memory);
+    }
+    parsed(alloc, &words)
+}
+
+/// The tree that words spell.
+fn parsed(alloc: Global, words: &[Word]) -> Result<Tree, ParseFault>
+    requires { length words.now < 2 ^ 32 }
+    ensures { IsParsed (map shown words.now) result }
+{
+    match first_too_deep(alloc, words) {
+        Err(_) => return Err(ParseFault::Memory),
+        Ok(Some(place)) => return Err(ParseFault::Depth(place as u32)),
+        Ok(None) => {}
+    }
+    match unit(alloc, words) {
+        Ok(tree) => Ok(tree),
+        Err(Stop::Syntax(place)) => Err(ParseFault::Syntax(place)),
+        Err(Stop::Memory) => Err(ParseFault::Memory),
+    }
 }

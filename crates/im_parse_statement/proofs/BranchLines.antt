@@ -12,7 +12,7 @@ use Rattle.im_parse_core.specs.Reads.{Family, Ending, head, Reads, Refuses, With
 use Rattle.im_parse_core.specs.Parts.{Both, both, After, after, Made, made, Done, done}
 use Rattle.im_parse_core.specs.Places.{IsAt}
 use Rattle.im_parse_core.proofs.Steps.{Apart, Completes, Some', Into, start, line, line_at, word, missing, part, refused, node, all}
-use Rattle.im_parse.specs.Parsing.{Anything, Below}
+use Rattle.im_parse_expression.specs.Parsing.{Anything, Below}
 use Rattle.im_parse_statement.specs.declared.start.StatementStart.{StatementStart}
 use Rattle.im_parse_statement.specs.declared.start.StatementStart.TheVariants as start'
 use Rattle.im_parse_statement.specs.Statements.{AfterStatement, RestOf, Condition, ElsePart, no_else, an_else, BlockLine}

@@ -14,8 +14,8 @@ use Rattle.im_parse_core.specs.Parts.{Both, both, After, after, Made, made, Done
 use Rattle.im_parse_core.specs.Places.{IsAt}
 use Rattle.im_parse_core.proofs.Steps.{Apart, Completes, Some', Into, start, line, word, missing, part, refused, all, first_line, first_line_at, flat_made, flat_done, as_closed}
 use Rattle.im_parse_core.proofs.SeparatedLists.{closed_apart}
-use Rattle.im_parse.specs.Parsing.{Anything, Below, Closed}
-use Rattle.im_parse.proofs.Some.{some_expression}
+use Rattle.im_parse_expression.specs.Parsing.{Anything, Below, Closed}
+use Rattle.im_parse_expression.proofs.Some.{some_expression}
 use Rattle.im_parse_statement.specs.Statements.{Condition, AfterStatement}
 
 -- a part, the punctuator behind it, and what its tree is made to

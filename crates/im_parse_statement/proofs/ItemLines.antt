@@ -19,9 +19,9 @@ use Rattle.im_parse_core.specs.Repeats.{Repeated, no_more, one_more, moved}
 use Rattle.im_parse_core.proofs.Steps.{Apart, Into, start, line, word, missing, part, refused, node, all, as_closed, first_line}
 use Rattle.im_parse_core.proofs.Repeats as rows
 use Rattle.im_parse_core.proofs.SeparatedLists.{closed_apart}
-use Rattle.im_parse.specs.Parsing.{Anything, Closed, BeginsSpecifiers, by_keyword}
-use Rattle.im_parse.proofs.BinaryLines.{starts_of}
-use Rattle.im_parse.proofs.MemberLines.{specifiers_begin}
+use Rattle.im_parse_expression.specs.Parsing.{Anything, Closed, BeginsSpecifiers, by_keyword}
+use Rattle.im_parse_expression.proofs.BinaryLines.{starts_of}
+use Rattle.im_parse_expression.proofs.MemberLines.{specifiers_begin}
 use Rattle.im_parse_statement.specs.Statements.{AfterItem, AfterStatement, ExpressionLine, ItemTree, declared, stated, add_item, item_tree, names_behind_item, IsItem, a_declaration, a_statement}
 use Rattle.im_parse_statement.proofs.Forms.{Line, keyword_line, block_line, expression_line, line_of, word_start, head_start, block_start, start_same}
 

@@ -12,8 +12,8 @@ use Rattle.im_parse_core.specs.Reads.{Family, head, Reads, Refuses, Within}
 use Rattle.im_parse_core.specs.Parts.{Both, both, After, after, Made, made, Done, done}
 use Rattle.im_parse_core.specs.Places.{IsAt}
 use Rattle.im_parse_core.proofs.Steps.{Apart, Completes, Some', start, word, missing, part, refused, node, as_closed}
-use Rattle.im_parse.specs.Parsing.{Anything, Closed}
-use Rattle.im_parse.proofs.Some.{some_expression}
+use Rattle.im_parse_expression.specs.Parsing.{Anything, Closed}
+use Rattle.im_parse_expression.proofs.Some.{some_expression}
 use Rattle.im_parse_statement.specs.declared.start.StatementStart.TheVariants as start'
 use Rattle.im_parse_statement.specs.Statements.{AfterStatement, RestOf, Condition}
 use Rattle.im_parse_statement.proofs.Closing.{as_condition}

@@ -3,14 +3,14 @@ ghost use Rattle.im_tok.specs.declared.punctuator.Punctuator.TheVariants.{CloseB
 ghost use Rattle.im_word.specs.Shown.{shown};
 ghost use Rattle.im_ctree.specs.Typedefs.{names_behind_block, names_behind_items};
 ghost use Rattle.im_ctree.specs.Units.{IsBlock, IsBlockItems};
-ghost use Rattle.im_parse.specs.Parsing.{Parses, Anything, Closed};
+ghost use Rattle.im_parse_expression.specs.Parsing.{Parses, Anything, Closed};
 ghost use Rattle.im_parse_statement.specs.Statements.{AfterItem, IsItem, block_tree, item_tree, items_tree, names_behind_item};
 
 use super::names::declared;
 use super::statements::statement;
 use im_ctree::{Block, BlockItem};
-use im_parse::{begins_specifiers, expect_mark};
 use im_parse_core::{Stop, TypedefNames, after_mark};
+use im_parse_expression::{begins_specifiers, expect_mark};
 use im_tok::Punctuator;
 use im_word::Word;
 use std::alloc::Global;

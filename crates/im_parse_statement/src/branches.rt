@@ -1,7 +1,7 @@
 ghost use Rattle.std.specs.Prelude.{◌≡◌, ◌<◌, ◌^◌, IfOk, length, map, drop};
 ghost use Rattle.im_word.specs.Shown.{shown};
 ghost use Rattle.im_ctree.specs.Typedefs.{names_behind};
-ghost use Rattle.im_parse.specs.Parsing.{Parses};
+ghost use Rattle.im_parse_expression.specs.Parsing.{Parses};
 ghost use Rattle.im_parse_statement.specs.Statements.{statement_tree, AfterStatement, RestOf};
 
 use super::blocks::block;
@@ -10,8 +10,8 @@ use super::make;
 use super::start::StatementStart;
 use super::statements::statement;
 use im_ctree::Statement;
-use im_parse::{conditional, expect_mark};
 use im_parse_core::{Stop, TypedefNames, after_keyword};
+use im_parse_expression::{conditional, expect_mark};
 use im_tok::{Keyword, Punctuator};
 use im_word::Word;
 use std::alloc::Global;

@@ -3,12 +3,12 @@ ghost use Rattle.im_tok.specs.declared.punctuator.Punctuator.TheVariants.{CloseP
 ghost use Rattle.im_word.specs.Shown.{shown};
 ghost use Rattle.im_ctree.specs.Shape.{optional_expression_of};
 ghost use Rattle.im_ctree.specs.Units.{IsMaybeExpression};
-ghost use Rattle.im_parse.specs.Parsing.{Parses, Anything, Closed, tree_of};
+ghost use Rattle.im_parse_expression.specs.Parsing.{Parses, Anything, Closed, tree_of};
 ghost use Rattle.im_parse_statement.specs.Statements.{Condition};
 
 use im_ctree::Expression;
-use im_parse::{expect_mark, expression};
 use im_parse_core::{Stop, TypedefNames, after_mark};
+use im_parse_expression::{expect_mark, expression};
 use im_tok::Punctuator;
 use im_word::Word;
 use std::alloc::Global;

@@ -8,7 +8,7 @@ ghost use Rattle.im_word.specs.Shown.{shown};
 ghost use Rattle.im_ctree.specs.Shape.{for_init_of};
 ghost use Rattle.im_ctree.specs.Units.{IsForInit};
 ghost use Rattle.im_ctree.specs.Typedefs.{names_behind, names_behind_init};
-ghost use Rattle.im_parse.specs.Parsing.{Parses, Anything};
+ghost use Rattle.im_parse_expression.specs.Parsing.{Parses, Anything};
 ghost use Rattle.im_parse_statement.specs.Statements.{statement_tree, AfterStatement, RestOf};
 
 use super::closed::{before_paren, before_semicolon, condition};
@@ -17,8 +17,8 @@ use super::names::declared;
 use super::start::StatementStart;
 use super::statements::statement;
 use im_ctree::{ForInit, Statement};
-use im_parse::{begins_specifiers, expect_mark};
 use im_parse_core::{Stop, TypedefNames, after_keyword};
+use im_parse_expression::{begins_specifiers, expect_mark};
 use im_tok::{Keyword, Punctuator};
 use im_word::Word;
 use std::alloc::Global;

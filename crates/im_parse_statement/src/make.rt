@@ -1,8 +1,8 @@
 ghost use Rattle.std.specs.Prelude.{◌≡◌};
 ghost use Rattle.im_ctree.specs.Tree as t;
 ghost use Rattle.im_ctree.specs.Shape.{for_init_of, optional_expression_of};
-ghost use Rattle.im_parse.specs.Parsing.{tree_of};
-ghost use Rattle.im_parse.specs.Declaring.{Makes};
+ghost use Rattle.im_parse_expression.specs.Parsing.{tree_of};
+ghost use Rattle.im_parse_expression.specs.Declaring.{Makes};
 ghost use Rattle.im_parse_statement.specs.Statements.{statement_tree, block_tree};
 
 use im_ctree::{Block, Expression, ForInit, Statement, StatementKind};

@@ -5,14 +5,14 @@ ghost use Rattle.im_ctree.specs.Shape.{declaration_of, declarator_of, init_decla
 ghost use Rattle.im_ctree.specs.Typedefs as typedefs;
 ghost use Rattle.im_ctree.specs.Units.{IsDeclaration};
 ghost use Rattle.im_parse_core.specs.declared.stop.Stop.TheVariants.{Memory};
-ghost use Rattle.im_parse.specs.Parsing.{Parses, Anything};
+ghost use Rattle.im_parse_expression.specs.Parsing.{Parses, Anything};
 ghost use Rattle.im_parse_statement.specs.Names.{specifier_tree, specifiers_list};
 
 use im_ctree::{
     Core, Declaration, Declarator, InitDeclarator, Specifier, SpecifierKind, SpecifierWord,
 };
-use im_parse::declaration;
 use im_parse_core::{Stop, TypedefNames};
+use im_parse_expression::declaration;
 use im_word::Word;
 use std::alloc::Global;
 

@@ -4,7 +4,7 @@ ghost use Rattle.im_word.specs.Words.{keyword};
 ghost use Rattle.im_ctree.specs.Typedefs.{names_behind};
 ghost use Rattle.im_ctree.specs.Units.{IsStatement};
 ghost use Rattle.im_parse_core.specs.Places.{IsAt};
-ghost use Rattle.im_parse.specs.Parsing.{Parses, Anything};
+ghost use Rattle.im_parse_expression.specs.Parsing.{Parses, Anything};
 ghost use Rattle.im_parse_statement.specs.Statements.{statement_tree, AfterStatement, RestOf, ExpressionLine, BlockLine, start_keyword};
 
 use super::blocks::block;
@@ -14,8 +14,8 @@ use super::loops::{do_statement, for_statement, while_statement};
 use super::make;
 use super::start::{StatementStart, start_at};
 use im_ctree::{Statement, StatementKind};
-use im_parse::expect_mark;
 use im_parse_core::{Stop, TypedefNames, after_mark};
+use im_parse_expression::expect_mark;
 use im_tok::Punctuator;
 use im_word::Word;
 use std::alloc::Global;

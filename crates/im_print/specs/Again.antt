@@ -5,8 +5,8 @@ use Rattle.im_lex.specs.Lexing.{Lexes}
 use Rattle.im_word.specs.Words.{Word}
 use Rattle.im_ctree.specs.Tree.{Tree}
 use Rattle.im_ctree.specs.Units.{Spells}
-use Rattle.im_printed.specs.Text.{HaveWords, IsReadAs}
-use Rattle.im_printed.specs.Again.{IsSpelledAgain}
+use Rattle.im_print_relation.specs.Text.{HaveWords, IsReadAs}
+use Rattle.im_print_relation.specs.Again.{IsSpelledAgain}
 
 -- the tokens of some text spell the tree
 pub record IsSpelled (tree : Tree) : Type 0 where

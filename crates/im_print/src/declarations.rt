@@ -2,10 +2,10 @@ ghost use Rattle.std.specs.Prelude.{◌≡◌, false, OnOk};
 ghost use Rattle.im_ctree.specs.Shape.{declaration_of, init_declarators_of, initializer_of, maybe_initializer_of};
 ghost use Rattle.im_ctree.specs.Tree as t;
 ghost use Rattle.im_ctree.specs.Typedefs.{typedef_names};
-ghost use Rattle.im_printed.specs.Printed as printed;
+ghost use Rattle.im_print_relation.specs.Printed as printed;
 ghost use Rattle.im_print_words.specs.Output.{Writes, each, known};
 ghost use Rattle.im_print_parts.specs.Parts as parts;
-ghost use Rattle.im_tree_parts.specs.Lists.{initializers_from};
+ghost use Rattle.im_ctree_parts.specs.Lists.{initializers_from};
 
 use im_ctree::{Declaration, InitDeclarator, Initializer};
 use im_num::NoMemory;

@@ -2,9 +2,9 @@ ghost use Rattle.std.specs.Prelude.{◌≡◌, [], IfOk, OnOk};
 ghost use Rattle.im_ctree.specs.Shape.{external_of, externals_of, tree_of};
 ghost use Rattle.im_ctree.specs.Typedefs.{names_behind_external};
 ghost use Rattle.im_ctree.specs.Units.{predeclared_names};
-ghost use Rattle.im_printed.specs.Printed as printed;
-ghost use Rattle.im_printed.specs.Printed.{words_of};
-ghost use Rattle.im_printed.specs.Text.{text_of};
+ghost use Rattle.im_print_relation.specs.Printed as printed;
+ghost use Rattle.im_print_relation.specs.Printed.{words_of};
+ghost use Rattle.im_print_relation.specs.Text.{text_of};
 ghost use Rattle.im_print.specs.Again.{IsSpelled, IsReadBack};
 ghost use Rattle.im_print_words.specs.Output.{Writes, known};
 ghost use Rattle.im_print_parts.specs.Parts.{signature_words};
@@ -14,8 +14,8 @@ use crate::statements::put_block;
 use im_ctree::{External, Function, Tree};
 use im_num::NoMemory;
 use im_print_parts::{put_behind_specifiers, put_specifiers};
+use im_print_relation::printed_text_law;
 use im_print_words::has_type;
-use im_printed::printed_text_law;
 use std::alloc::Global;
 
 /// The typedef names that stand in for headers, the first one last.

@@ -22,8 +22,8 @@ use Rattle.im_ctree.specs.declared.unit.Function.{Function}
 use Rattle.im_ctree.specs.Tree as t
 use Rattle.im_ctree.specs.Shape.{declarator_of, initializer_of, maybe_initializer_of, declaration_of, statement_of}
 use Rattle.im_ctree.specs.Typedefs.{has_type_from, typedef_names, names_behind}
-use Rattle.im_printed.specs.Printed as printed
-use Rattle.im_tree_parts.specs.Lists.{expression_in, maybe_from, specifier_in, list_from, declarators_from, declarator_from, with_suffix, statement_in}
+use Rattle.im_print_relation.specs.Printed as printed
+use Rattle.im_ctree_parts.specs.Lists.{expression_in, maybe_from, specifier_in, list_from, declarators_from, declarator_from, with_suffix, statement_in}
 
 -- the comma before an item of a list, where one stands before it
 abbrev pub comma_words : Bool → List Word

@@ -2,10 +2,10 @@ ghost use Rattle.std.specs.Prelude.{◌≡◌, false, [], ◌∷◌, ◌++◌, O
 ghost use Rattle.im_tok.specs.declared.punctuator.Punctuator.TheVariants as punctuator;
 ghost use Rattle.im_word.specs.Words.{mark};
 ghost use Rattle.im_ctree.specs.Shape.{core_of, declarator_of, type_name_of};
-ghost use Rattle.im_printed.specs.Printed as printed;
+ghost use Rattle.im_print_relation.specs.Printed as printed;
 ghost use Rattle.im_print_words.specs.Output.{Writes, each, known};
 ghost use Rattle.im_print_parts.specs.Parts as parts;
-ghost use Rattle.im_tree_parts.specs.Lists.{declarator_from, declarators_from, maybe_from, parameters_from, stars_in, suffixes_from};
+ghost use Rattle.im_ctree_parts.specs.Lists.{declarator_from, declarators_from, maybe_from, parameters_from, stars_in, suffixes_from};
 
 use crate::commas::put_comma_if;
 use crate::expressions::put_at;

@@ -1,12 +1,12 @@
 ghost use Rattle.std.specs.Prelude.{◌≡◌, ◌+◌, false, [], ◌∷◌, ◌++◌, OnOk};
 ghost use Rattle.im_tok.specs.declared.punctuator.Punctuator.TheVariants as punctuator;
 ghost use Rattle.im_word.specs.Words.{name, keyword, mark};
-ghost use Rattle.im_printed.specs.Printed as printed;
+ghost use Rattle.im_print_relation.specs.Printed as printed;
 ghost use Rattle.im_ctree.specs.Shape.{type_name_of};
 ghost use Rattle.im_ctree.specs.Tree as t;
 ghost use Rattle.im_print_words.specs.Output.{Writes, known};
 ghost use Rattle.im_print_parts.specs.Parts as parts;
-ghost use Rattle.im_tree_parts.specs.Lists.{expression_in, expressions_from};
+ghost use Rattle.im_ctree_parts.specs.Lists.{expression_in, expressions_from};
 
 use crate::commas::put_comma_if;
 use crate::declarators::put_type_name;

@@ -3,10 +3,10 @@ ghost use Rattle.im_tok.specs.declared.keyword.Keyword.TheVariants as key;
 ghost use Rattle.im_tok.specs.declared.punctuator.Punctuator.TheVariants as punctuator;
 ghost use Rattle.im_word.specs.Words.{name, keyword, mark};
 ghost use Rattle.im_ctree.specs.Shape.{declarator_of};
-ghost use Rattle.im_printed.specs.Printed as printed;
+ghost use Rattle.im_print_relation.specs.Printed as printed;
 ghost use Rattle.im_print_words.specs.Output.{Writes, each, known};
 ghost use Rattle.im_print_parts.specs.Parts as parts;
-ghost use Rattle.im_tree_parts.specs.Lists.{declarators_from, enumerators_from, list_from, maybe_from, members_from};
+ghost use Rattle.im_ctree_parts.specs.Lists.{declarators_from, enumerators_from, list_from, maybe_from, members_from};
 
 use crate::commas::put_comma_if;
 use crate::declarators::{put_declarator, put_in_parentheses};

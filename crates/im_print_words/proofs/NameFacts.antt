@@ -9,10 +9,10 @@ use Rattle.im_ctree.specs.declared.declarator.Declarator as dc
 use Rattle.im_ctree.specs.Tree as t
 use Rattle.im_ctree.specs.Shape.{declarator_of, init_declarators_of, declaration_of, core_of}
 use Rattle.im_ctree.specs.Typedefs.{adds_type, has_type_from, has_typedef, declared_names, typedef_names}
-use Rattle.im_printed.specs.Printed.{is_among, begins_with_typedef}
+use Rattle.im_print_relation.specs.Printed.{is_among, begins_with_typedef}
 use Rattle.im_print_words.specs.Output.{known}
-use Rattle.im_tree_parts.specs.Lists.{list_from, stars_in, suffixes_from}
-use Rattle.im_tree_parts.proofs.Shapes.{specifiers_shape, declarator_shape}
+use Rattle.im_ctree_parts.specs.Lists.{list_from, stars_in, suffixes_from}
+use Rattle.im_ctree_parts.proofs.Shapes.{specifiers_shape, declarator_shape}
 
 or-first : (a b c : Bool) → (a || (b || c)) ≡ (b || (a || c))
 or-first true true c = refl

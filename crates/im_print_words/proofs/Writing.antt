@@ -2,7 +2,7 @@
 use Rattle.std.proofs.Common.{◌≡◌, ◌<◌, ◌+◌, ℕ, List, [], ◌∷◌, ◌++◌, length, drop, get_or, sym, ap, refl, subst, ◌∙◌, append_assoc, append-nil}
 use Rattle.std.proofs.lemmas.List.{drop_more}
 use Rattle.im_word.specs.Words.{Word}
-use Rattle.im_printed.specs.Text.{word_text}
+use Rattle.im_print_relation.specs.Text.{word_text}
 use Rattle.im_print_words.specs.Output.{spaced, Writes, each}
 
 pub spaced_append : (u v : List Word) → spaced (u ++ v) ≡ spaced u ++ spaced v

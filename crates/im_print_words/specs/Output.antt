@@ -2,7 +2,7 @@
 use Rattle.std.specs.Prelude.{◌≡◌, ℕ, List, [], ◌∷◌, ◌++◌, map, reverse}
 use Rattle.std.proofs.Common.{Bor}
 use Rattle.im_word.specs.Words.{Name, Word}
-use Rattle.im_printed.specs.Text.{word_text}
+use Rattle.im_print_relation.specs.Text.{word_text}
 
 -- each word with a blank behind it
 abbrev pub spaced : List Word → List ℕ

@@ -2,9 +2,9 @@ ghost use Rattle.std.specs.Prelude.{◌≡◌, ◌||◌, Bool, false, [], ◌∷
 ghost use Rattle.im_ctree.specs.Tree as t;
 ghost use Rattle.im_ctree.specs.Shape.{declaration_of, declarator_of, init_declarators_of};
 ghost use Rattle.im_ctree.specs.Typedefs as typedefs;
-ghost use Rattle.im_printed.specs.Printed as printed;
+ghost use Rattle.im_print_relation.specs.Printed as printed;
 ghost use Rattle.im_print_words.specs.Output.{known};
-ghost use Rattle.im_tree_parts.specs.Lists.{list_from, specifier_in};
+ghost use Rattle.im_ctree_parts.specs.Lists.{list_from, specifier_in};
 
 use im_ctree::{
     Core, Declaration, Declarator, InitDeclarator, Specifier, SpecifierKind, SpecifierWord,

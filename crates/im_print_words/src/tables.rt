@@ -1,6 +1,6 @@
 ghost use Rattle.std.specs.Prelude.{◌≡◌};
-ghost use Rattle.im_printed.specs.Printed as printed;
-ghost use Rattle.im_tree_parts.specs.Lists.{expression_in};
+ghost use Rattle.im_print_relation.specs.Printed as printed;
+ghost use Rattle.im_ctree_parts.specs.Lists.{expression_in};
 
 use im_ctree::{AssignOp, BinaryOp, Expression, ExpressionKind, SpecifierWord, StepOp, UnaryOp};
 use im_tok::{Keyword, Punctuator};

@@ -9,7 +9,7 @@ use Rattle.im_block.specs.declared.unit.Function.{Function}
 use Rattle.im_block.specs.declared.unit.Unit.{Unit as Code}
 use Rattle.im_block.specs.Paths.{IsCut}
 use Rattle.im_block.specs.Forced.{StartsWithCut}
-use Rattle.im_placed.specs.Apart.{CutsApart, AllApart}
+use Rattle.im_alloc_placed.specs.Apart.{CutsApart, AllApart}
 use Rattle.im_recut.specs.Recut.{is_cut, due_before, cut_of, recut_lines, RecutsBlocks, RecutsFunctions, RecutsTo}
 
 due_apart : (due : Option Cause) (line : Line) (lines : List Line) → (IsCut line → due ≡ None) → CutsApart (line ∷ lines) → CutsApart (cut_of due ++ line ∷ lines)

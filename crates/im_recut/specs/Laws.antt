@@ -3,7 +3,7 @@ use Rattle.im_block.specs.declared.access.Tags.{Tags}
 use Rattle.im_block.specs.declared.unit.Unit.{Unit as Code}
 use Rattle.im_block.specs.Uncut.{SameButCuts}
 use Rattle.im_block.specs.Paths.{AllSectioned}
-use Rattle.im_placed.specs.Apart.{AllApart}
+use Rattle.im_alloc_placed.specs.Apart.{AllApart}
 use Rattle.im_recut.specs.Recut.{RecutsTo}
 
 pub record RecutKeepsLaw : Type 0 where

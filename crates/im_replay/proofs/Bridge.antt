@@ -12,7 +12,7 @@ use Rattle.im_power.specs.declared.period.Period.{Period}
 use Rattle.im_device.specs.Run.{Moment, boot, index_of, unless_over, counting, one_step, after_step, run, after_tear, torn}
 use Rattle.im_device.specs.Periods.{Device, fresh, power_up, power_down, powered as device_powered, repeated, power}
 use Rattle.im_device.proofs.Runs.{run_over, powered_over}
-use Rattle.im_path.specs.Path.{Moment as PathMoment, Spell, steps, one_step as path_step, after_step as path_after, torn as path_torn, period, power as path_power, counted, long_periods as long_spells}
+use Rattle.im_replay_path.specs.Path.{Moment as PathMoment, Spell, steps, one_step as path_step, after_step as path_after, torn as path_torn, period, power as path_power, counted, long_periods as long_spells}
 use Rattle.im_ckpt.specs.Runs.{is_on}
 use Rattle.im_ckpt.proofs.Resume.{counts_same}
 use Rattle.im_replay.specs.Replays.{after, within, and_then, long_periods}

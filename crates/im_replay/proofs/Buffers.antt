@@ -8,8 +8,8 @@ use Rattle.im_mem.proofs.Words.{little-alike, little-same, little-other}
 use Rattle.im_rv.specs.declared.effect.Effect.TheVariants.{Puts, Stores}
 use Rattle.im_rv.specs.Steps.{Cpu, effected, sum_of}
 use Rattle.im_ckpt.specs.Buffers.{buffer, is_buffer, slot, idle, saves_by, saves_reg, saved}
-use Rattle.im_path.specs.Sections.{start}
-use Rattle.im_path.proofs.Times.{truth, start-flip, start-calm}
+use Rattle.im_replay_path.specs.Sections.{start}
+use Rattle.im_replay_path.proofs.Times.{truth, start-flip, start-calm}
 use Rattle.im_rv.specs.Effects.{effect, rd_of, rs1_of, rs2_of, stores_word, sets_by}
 use Rattle.im_device.specs.Run.{index_of}
 use Rattle.im_ckpt.specs.Runs.{State, stepped, line_at, effect_at, sets, flip, writes}

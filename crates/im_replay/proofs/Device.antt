@@ -3,19 +3,19 @@ use Rattle.std.proofs.Common.{◌≡◌, ◌≢◌, inl, inr, ℕ, zero, suc, �
 use Rattle.im_mem.specs.Memory.{Mem}
 use Rattle.im_rv.specs.declared.step.Went.{Went}
 use Rattle.im_rv.specs.declared.step.Went.TheVariants.{On, Halted, Faulted}
-use Rattle.im_path.proofs.Times.{order, truth}
+use Rattle.im_replay_path.proofs.Times.{order, truth}
 use Rattle.im_rv.specs.Steps.{Cpu}
 use Rattle.im_power.specs.declared.period.Period.{Period}
 use Rattle.im_device.specs.Run.{Moment, boot, index_of}
 use Rattle.im_rv.specs.Torn.{torn_of}
-use Rattle.im_path.specs.Path.{Moment as PathMoment, Spell, steps, torn}
-use Rattle.im_path.specs.Sections.{Mixed, flips}
+use Rattle.im_replay_path.specs.Path.{Moment as PathMoment, Spell, steps, torn}
+use Rattle.im_replay_path.specs.Sections.{Mixed, flips}
 use Rattle.im_ckpt.specs.Runs.{State, flip, ends, memory, writes}
 use Rattle.im_ckpt.specs.Buffers.{is_buffer}
 use Rattle.im_ckpt.proofs.Resume.{resuming_is}
 use Rattle.im_replay.specs.Sections.{IsLive}
 use Rattle.im_replay.specs.Uninterrupted.{uninterrupted}
-use Rattle.im_replay.specs.Compiled.{IsCompiled}
+use Rattle.im_replay.specs.Compiled.{IsReplayable}
 use Rattle.im_replay.specs.Replays.{after, within, and_then, StandsAt, Goes, Recovers, Executes, IsOver, EndsAs, Replays, GapAtMost, Progresses}
 use Rattle.im_replay.specs.Output.{Extends, SameOutput, NeverShrinks}
 use Rattle.im_replay.specs.Laws.{ReplayLaw, OutputLaw, ProgressLaw, KeepsLaw, ReachLaw}
@@ -129,7 +129,7 @@ module _ (run : ℕ → State) (m : Mem) (index_zero : index_of (run 0).mem ≡ 
       mem_of : (ps : List Period) (n junk : ℕ) → (path_within (written_out ps) n junk m).mem ≡ (within ps n junk m).mem
       mem_of ps n junk = ap (λ (z : PathMoment Cpu). z.mem) (within_same ps n junk m)
 
-module _ (m : Mem) (code : ℕ) (c : IsCompiled m code) where
+module _ (m : Mem) (code : ℕ) (c : IsReplayable m code) where
   index_first : index_of (uninterrupted m 0).mem ≡ 0
   index_first = ap index_of (first_mem m (can_resume m code c)) ∙ c.index
 

@@ -13,10 +13,10 @@ use Rattle.im_rv.specs.declared.step.Went.TheVariants.{Halted, Faulted, On}
 use Rattle.im_rv.specs.Steps.{Cpu, Stepped, effected, loads}
 use Rattle.im_rv.specs.Runs.{step_of}
 use Rattle.im_device.specs.Run.{boot, index_of}
-use Rattle.im_path.specs.Path.{Moment, Spell, long_periods}
-use Rattle.im_path.specs.Sections.{Mixed, start, flips}
-use Rattle.im_path.proofs.Times.{truth, start_start, order}
-use Rattle.im_path.proofs.Replay.{fixed_mixed, Place, Fails, Left, Failed, Ended, In_recovery, In_section, At_end, left_fails, replay, replay_within, flips-start, progress, halts, counts, ended_same, Goes_on, Wakes, awake, agrees}
+use Rattle.im_replay_path.specs.Path.{Moment, Spell, long_periods}
+use Rattle.im_replay_path.specs.Sections.{Mixed, start, flips}
+use Rattle.im_replay_path.proofs.Times.{truth, start_start, order}
+use Rattle.im_replay_path.proofs.Replay.{fixed_mixed, Place, Fails, Left, Failed, Ended, In_recovery, In_section, At_end, left_fails, replay, replay_within, flips-start, progress, halts, counts, ended_same, Goes_on, Wakes, awake, agrees}
 use Rattle.im_rv.specs.Effects.{effect, writes_by}
 use Rattle.im_replay.proofs.Machine.{next_of, powered, switched_on, Stands_at, Runs, Recovers, Executes, Is_over, within, Ended_as, Replays_path, waking}
 use Rattle.im_rv.specs.Torn.{torn_of}

@@ -4,10 +4,10 @@ use Rattle.std.specs.Prelude.{unwrap_or}
 use Rattle.im_mem.specs.Memory.{Mem}
 use Rattle.im_rv.specs.Steps.{Cpu}
 use Rattle.im_device.specs.Run.{boot, index_of}
-use Rattle.im_path.specs.Path.{Moment, Spell, steps, torn, one_step, patched}
-use Rattle.im_path.specs.Sections.{start, flips}
-use Rattle.im_path.proofs.Replay.{Place, Fails, Left, failed, left_fails, replay, replay_within, flips-start}
-use Rattle.im_path.proofs.Later.{Failed_since, after_failure, after_steps, after_torn}
+use Rattle.im_replay_path.specs.Path.{Moment, Spell, steps, torn, one_step, patched}
+use Rattle.im_replay_path.specs.Sections.{start, flips}
+use Rattle.im_replay_path.proofs.Replay.{Place, Fails, Left, failed, left_fails, replay, replay_within, flips-start}
+use Rattle.im_replay_path.proofs.Later.{Failed_since, after_failure, after_steps, after_torn}
 use Rattle.im_replay.proofs.Machine.{next_of, powered, switched_on, within, Never_shrinks_path, waking}
 use Rattle.im_rv.specs.Torn.{torn_of}
 use Rattle.im_ckpt.specs.Runs.{State, flip, ends, memory, writes, reads}

@@ -21,12 +21,12 @@ use Rattle.im_replay.specs.Needed.{Needed}
 use Rattle.im_replay.specs.Sections.{IsLive}
 use Rattle.im_replay.specs.Uninterrupted.{uninterrupted}
 use Rattle.im_replay.specs.Owed.{IsOwed}
-use Rattle.im_replay.specs.Compiled.{IsCompiled}
+use Rattle.im_replay.specs.Compiled.{IsReplayable}
 use Rattle.im_replay.proofs.Endless.{is_run, first_state}
 
 -- ---- where a run begins
 
-pub can_resume : (m : Mem) (code : ℕ) → IsCompiled m code → CanResume m
+pub can_resume : (m : Mem) (code : ℕ) → IsReplayable m code → CanResume m
 can_resume m code c = record {
   bytes = c.small;
   recovery = c.recovery;
@@ -64,7 +64,7 @@ module _ (m : Mem) (can : CanResume m) where
   pub first_place : (uninterrupted m 0).cpu.pc ≡ little m (buffer (index_of m)) 4
   first_place = ap (λ (s : State). s.cpu.pc) (first_state m can) ∙ (recovered m 0 can).place
 
-module _ (m : Mem) (code : ℕ) (c : IsCompiled m code) where
+module _ (m : Mem) (code : ℕ) (c : IsReplayable m code) where
   can : CanResume m
   can = can_resume m code c
 

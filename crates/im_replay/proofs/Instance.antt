@@ -15,11 +15,11 @@ use Rattle.im_rv.specs.Runs.{step_of}
 use Rattle.im_device.specs.Run.{boot, index_of}
 use Rattle.im_ckpt.specs.Buffers.{buffer, is_buffer, is_fixed, slot, idle, saves_by, saves_reg, saved}
 use Rattle.im_ckpt.specs.Recovery.{recovery_words}
-use Rattle.im_path.specs.Path.{patched}
-use Rattle.im_path.specs.Sections.{start, wrote}
-use Rattle.im_path.specs.Followed.{Agrees, Advances, Followed}
-use Rattle.im_path.specs.Path.Next.{Goes as Goes_to, Ends}
-use Rattle.im_path.proofs.Times.{truth, start-flip, start-calm, start_le, start_start, wrote-flip, wrote-calm}
+use Rattle.im_replay_path.specs.Path.{patched}
+use Rattle.im_replay_path.specs.Sections.{start, wrote}
+use Rattle.im_replay_path.specs.Followed.{Agrees, Advances, Followed}
+use Rattle.im_replay_path.specs.Path.Next.{Goes as Goes_to, Ends}
+use Rattle.im_replay_path.proofs.Times.{truth, start-flip, start-calm, start_le, start_start, wrote-flip, wrote-calm}
 use Rattle.im_rv.specs.Effects.{effect, effect_of, rd_of, patch, writes_by, sets_by}
 use Rattle.im_rv.specs.Torn.{masked, torn_by, torn_of}
 use Rattle.im_ckpt.specs.Laws.{CanResume}

@@ -7,9 +7,9 @@ use Rattle.im_rv.specs.Steps.{Cpu, Stepped}
 use Rattle.im_rv.specs.Runs.{step_of}
 use Rattle.im_rv.specs.Torn.{torn_of}
 use Rattle.im_device.specs.Run.{boot, index_of}
-use Rattle.im_path.specs.Path.{Next, Moment, Spell, steps, period, power, long_periods}
-use Rattle.im_path.specs.Path.Next.{Goes as Goes_to, Ends}
-use Rattle.im_path.specs.Sections.{start, flips, Mixed}
+use Rattle.im_replay_path.specs.Path.{Next, Moment, Spell, steps, period, power, long_periods}
+use Rattle.im_replay_path.specs.Path.Next.{Goes as Goes_to, Ends}
+use Rattle.im_replay_path.specs.Sections.{start, flips, Mixed}
 use Rattle.im_ckpt.specs.Runs.{State, flip, ends, memory, writes}
 use Rattle.im_ckpt.specs.Buffers.{is_buffer}
 use Rattle.im_ckpt.specs.Laws.{CanResume}

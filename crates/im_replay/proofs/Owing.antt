@@ -9,8 +9,8 @@ use Rattle.im_rv.specs.declared.effect.Effect.{Effect}
 use Rattle.im_rv.specs.declared.effect.Effect.TheVariants.{Puts, Goes, Loads, Stores, Stops}
 use Rattle.im_rv.specs.Steps.{sum_of}
 use Rattle.im_rv.specs.Decode.{Line}
-use Rattle.im_path.specs.Sections.{start, NoWar}
-use Rattle.im_path.proofs.Times.{truth, start-calm, start_le}
+use Rattle.im_replay_path.specs.Sections.{start, NoWar}
+use Rattle.im_replay_path.proofs.Times.{truth, start-calm, start_le}
 use Rattle.im_device.specs.Run.{index_of}
 use Rattle.im_ckpt.specs.Runs.{State, line_at, effect_at, flip, writes, reads}
 use Rattle.im_rv.specs.Effects.{rs1_of, rs2_of, patch, writes_by, reads_by, stores_word}

@@ -9,7 +9,7 @@ use Rattle.im_device.specs.Run.{Moment, unless_over, one_step, run as steps, aft
 use Rattle.im_device.specs.Periods.{Device, fresh, power_up, powered, repeated, power}
 use Rattle.im_device.proofs.Runs.{run_parts, powered_over, power_parts}
 use Rattle.im_ckpt.specs.Runs.{State}
-use Rattle.im_path.specs.Path.{Moment as PathMoment}
+use Rattle.im_replay_path.specs.Path.{Moment as PathMoment}
 use Rattle.im_replay.specs.Replays.{after, within, and_then}
 use Rattle.im_replay.proofs.Machine.{Replays_path, powered as path_powered}
 use Rattle.im_replay.proofs.Bridge.{written_out, after_same, within_same, going_of}

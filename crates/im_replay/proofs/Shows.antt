@@ -4,8 +4,8 @@ use Rattle.std.specs.Prelude.{◌==◌, ◌||◌, min, is_some, unwrap_or}
 use Rattle.std.proofs.lemmas.Bool.Decides.{nat_tests}
 use Rattle.im_mem.specs.Memory.{Mem, little}
 use Rattle.im_mem.proofs.Words.{little-alike}
-use Rattle.im_path.specs.Sections.{start, wrote, Writes, Mixed}
-use Rattle.im_path.proofs.Times.{truth, order, start_le, start-flip, start-calm, unwritten}
+use Rattle.im_replay_path.specs.Sections.{start, wrote, Writes, Mixed}
+use Rattle.im_replay_path.proofs.Times.{truth, order, start_le, start-flip, start-calm, unwritten}
 use Rattle.im_ckpt.specs.Runs.{State, flip, memory, writes}
 use Rattle.im_ckpt.specs.Buffers.{is_buffer}
 use Rattle.im_replay.proofs.Sound.{IsSound}

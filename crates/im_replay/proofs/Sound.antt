@@ -7,7 +7,7 @@ use Rattle.im_rv.specs.Decode.{Line}
 use Rattle.im_rv.specs.Runs.{step_of}
 use Rattle.im_rv.specs.Effects.{stores_word}
 use Rattle.im_device.specs.Run.{index_of}
-use Rattle.im_path.specs.Sections.{start, NoWar}
+use Rattle.im_replay_path.specs.Sections.{start, NoWar}
 use Rattle.im_ckpt.specs.Runs.{State, IsRun, line_at, effect_at, flip, writes, reads}
 use Rattle.im_ckpt.specs.Buffers.{idle, slot, is_buffer, is_fixed, saves_by, saves_reg, saved}
 use Rattle.im_ckpt.specs.Recovery.{recovery_words, return_line}

@@ -5,7 +5,7 @@ use Rattle.im_mem.specs.Map.{buffer0_start, code_start}
 use Rattle.im_rv.specs.declared.step.Went.TheVariants.{Faulted}
 use Rattle.im_rv.specs.Runs.{step_of}
 use Rattle.im_device.specs.Run.{index_of}
-use Rattle.im_path.specs.Sections.{start, wrote}
+use Rattle.im_replay_path.specs.Sections.{start, wrote}
 use Rattle.im_ckpt.specs.Runs.{State, flip, writes, reads}
 use Rattle.im_ckpt.specs.Buffers.{is_buffer, is_fixed}
 use Rattle.im_ckpt.specs.Recovery.{recovery_words}
@@ -35,7 +35,7 @@ pub record RunsSafely (run : ℕ → State) (code : ℕ) : Type 0 where
   pub no_war : NoWriteAfterRead run
 
 -- memory holds bytes and the runtime, INDEX is 0, and buffer 0 names an even place outside the runtime
-pub record IsCompiled (m : Mem) (code : ℕ) : Type 0 where
+pub record IsReplayable (m : Mem) (code : ℕ) : Type 0 where
   pub small : (a : ℕ) → m a < 256
   pub index : index_of m ≡ 0
   pub start_even : little m buffer0_start 4 % 2 ≡ 0

@@ -6,7 +6,7 @@ use Rattle.im_image.specs.declared.form.Form.TheVariants.{TwoLengths}
 use Rattle.im_rv.specs.declared.step.Went.TheVariants.{On}
 use Rattle.im_power.specs.declared.period.Period.{Period}
 use Rattle.im_device.specs.Shows.{output_length}
-use Rattle.im_path.specs.Sections.{start, flips}
+use Rattle.im_replay_path.specs.Sections.{start, flips}
 use Rattle.im_ckpt.specs.Runs.{State, flip, writes}
 use Rattle.im_ckpt.specs.Buffers.{is_buffer}
 use Rattle.im_replay.specs.Replays.{after, within, and_then}

@@ -5,7 +5,7 @@ use Rattle.im_rv.specs.declared.step.Went.TheVariants.{Faulted}
 use Rattle.im_rv.specs.Decode.{Line}
 use Rattle.im_rv.specs.Runs.{step_of}
 use Rattle.im_device.specs.Run.{index_of}
-use Rattle.im_path.specs.Sections.{start, wrote}
+use Rattle.im_replay_path.specs.Sections.{start, wrote}
 use Rattle.im_ckpt.specs.Runs.{State, line_at, flip, writes, reads}
 use Rattle.im_ckpt.specs.Buffers.{is_buffer, is_fixed}
 use Rattle.im_ckpt.specs.Laws.{is_runtime, IsCut, HasRuntime}

@@ -5,7 +5,7 @@ use Rattle.im_rv.specs.declared.step.Went.TheVariants.{On, Faulted}
 use Rattle.im_power.specs.declared.period.Period.{Period}
 use Rattle.im_device.specs.Run.{Moment, index_of, run as steps}
 use Rattle.im_device.specs.Periods.{Device, fresh, power_up, power}
-use Rattle.im_path.specs.Sections.{start, flips, Mixed}
+use Rattle.im_replay_path.specs.Sections.{start, flips, Mixed}
 use Rattle.im_ckpt.specs.Runs.{State, flip, ends, memory, writes}
 use Rattle.im_ckpt.specs.Buffers.{is_buffer}
 use Rattle.im_ckpt.specs.Laws.{resuming}

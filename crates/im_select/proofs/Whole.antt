@@ -1,83 +1,54 @@
--- The law of whole runs.
-use Rattle.std.proofs.Common.{◌≡◌, ◌≢◌, ℕ, zero, suc, ◌+◌, ◌-◌, ◌≤◌, List, [], ◌++◌, sym, ap, ◌∙◌, subst, refl, append_assoc, arith}
-use Rattle.im_mem.specs.Memory.{Mem}
-use Rattle.im_rv.specs.declared.step.Went.{Went}
-use Rattle.im_rv.specs.declared.step.Went.TheVariants.{On, Halted, Faulted}
-use Rattle.im_rv.specs.Steps.{Cpu, Stepped}
-use Rattle.im_rv.specs.Runs.{step_of, go_on, runs}
-use Rattle.im_reach.specs.Touches.{heard, Touch, touches, touched_on, touched}
-use Rattle.im_reach.specs.Reach.{plus}
-use Rattle.im_reach.proofs.Reach.{plus_is}
-use Rattle.im_store.specs.Outcomes.{Outcome, Undef, More, End, IsDefined}
-use Rattle.im_block.specs.declared.unit.Unit.{Unit as Code}
-use Rattle.im_block.specs.Meaning.{Setting, Event}
-use Rattle.im_block.specs.Runs.{start, Runs}
-use Rattle.im_block.specs.Sections.{items}
-use Rattle.im_block.specs.Shape.{after, spent}
-use Rattle.im_block.specs.Wellformed.{IsWellFormed}
-use Rattle.im_select.specs.Linking.{Linking}
-use Rattle.im_select.specs.Linked.{IsLinked}
-use Rattle.im_select.specs.Law.{Touches, steps, Shows, Follows, SelectKeeps}
-use Rattle.im_select.proofs.Shapes.{Premises, function_cells, static_cells}
-use Rattle.im_select.proofs.Separate.{no_war_spotted, no_war_touched}
-use Rattle.im_select.proofs.Sections.{separate}
-use Rattle.im_select.proofs.Steps.{Followed, follow, follow_next, begin_after}
-use Rattle.im_select.proofs.Fuel.{start_paid}
+-- The lines of a function are a selection of it.
+use Rattle.std.proofs.Common.{◌≡◌, ◌<◌, ℕ, List, Some, length, refl, sym, subst, arith}
+use Rattle.std.specs.Prelude.{slice_get, All}
+use Rattle.std.proofs.lemmas.Option.{slice_get_within, get_or_from_slice_get}
+use Rattle.im_rv.specs.Lines.{CodeLine}
+use Rattle.im_block.specs.declared.unit.Function.{Function}
+use Rattle.im_alloc_placed.specs.Placed.{IsPlacedBlock}
+use Rattle.im_select.specs.Given.{Given}
+use Rattle.im_select.specs.Emitted.{function_code}
+use Rattle.im_select.specs.Places.{at_of}
+use Rattle.im_select.specs.Selects.{IsClosedBlock, IsSelectable, IsSelection}
+use Rattle.im_select.proofs.Standing.{At, at_start}
+use Rattle.im_select.proofs.Parts.{starts_of, function_in}
+use Rattle.im_select.proofs.Plain.{lead_at}
+use Rattle.im_select.proofs.Counting.{function_few}
+use Rattle.im_select.proofs.Naming.{function_accesses, function_causes}
+use Rattle.im_select.proofs.Leading.{function_lead, function_only, function_entry, function_blocks}
+use Rattle.im_select.proofs.Agreeing.{line_same, words_in}
 
-split_at : (i j : ℕ) → i ≤ j → plus i (j - i) ≡ j
-split_at i j le = plus_is i (j - i) ∙ (omega arith)
+all_at : {X : Type 0} (P : X → Type 0) (xs : List X) (k : ℕ) (x : X) → All P xs → slice_get xs k ≡ Some x → P x
+all_at P xs k x h e = subst P (get_or_from_slice_get xs k x x e) (h k x (slice_get_within xs k x e))
 
--- what fewer steps touch comes first
-begins_on : (w : Went) (next after_ : Cpu → Mem → List Touch) (c : Cpu) (m : Mem) → ((d : Cpu) (k : Mem) → (rest : List Touch) × (after_ d k ≡ next d k ++ rest)) → (rest : List Touch) × (touched_on after_ c m w ≡ touched_on next c m w ++ rest)
-begins_on On next after_ c m h = h c m
-begins_on Halted next after_ c m h = ([], refl)
-begins_on (Faulted at) next after_ c m h = ([], refl)
+code_of : Given → ℕ → List CodeLine
+code_of names i = function_code (at_of names) i names.first_block names.layout.frame names.function.entry names.function.blocks.items
 
-begins : (i k : ℕ) (c : Cpu) (m : Mem) → (rest : List Touch) × (touched (plus i k) c m ≡ touched i c m ++ rest)
-begins zero k c m = (touched k c m, refl)
-begins (suc i) k c m =
-    let s = step_of c m in
-    let r = begins_on s.went (touched i) (touched (plus i k)) s.cpu s.mem (λ d h. begins i k d h) in
-    (r.0, ap (λ z. touches c m ++ z) r.1 ∙ sym (append_assoc (touches c m) (touched_on (touched i) s.cpu s.mem s.went) r.0))
-
--- a fault stays
-stays_on : (w : Went) (at : ℕ) (next after_ : Cpu → Mem → Stepped) (c : Cpu) (m : Mem) → ((d : Cpu) (k : Mem) → (next d k).went ≡ Faulted at → (after_ d k).went ≡ Faulted at) → (go_on next c m w).went ≡ Faulted at → (go_on after_ c m w).went ≡ Faulted at
-stays_on On at next after_ c m h e = h c m e
-stays_on Halted at next after_ c m h e = e
-stays_on (Faulted b) at next after_ c m h e = e
-
-stays : (i k at : ℕ) (c : Cpu) (m : Mem) → (runs i c m).went ≡ Faulted at → (runs (plus i k) c m).went ≡ Faulted at
-stays zero k at c m e = absurd cc
-stays (suc i) k at c m e = let s = step_of c m in stays_on s.went at (runs i) (runs (plus i k)) s.cpu s.mem (λ d h f. stays i k at d h f) e
-
-calm_shown : (p : Linking) (u : Code) (o : Outcome) (n j at : ℕ) (r : Stepped) → Shows p u o n j r → r.went ≢ Faulted at
-calm_shown p u (End reason status output shows) n j at r h e = let a = h.0 in cc
-calm_shown p u (More output) n j at r h e = let a = h.0 in cc
-calm_shown p u (Undef why) n j at r h e = h
-
-premises : (p : Linking) (u : Code) (g : Setting) → IsWellFormed u → IsLinked p u g → Premises p u g
-premises p u g w l = record { at = l; cells = λ i f is a sh h. function_cells u w i f is a sh h; static_cells = λ a sh h. static_cells u w a sh h }
-
-follows_at : (p : Linking) (u : Code) (g : Setting) (x : ℕ → ℕ) (n : ℕ) (o : Outcome) (run : List Event) → Premises p u g → x 0 ≡ 0 → x 2 ≡ 3145728 → IsDefined o → (r : Runs u g n o run) → Follows p u g (record { pc = p.begin; x = x }) n o run r.steps
-follows_at p u g x n o run l x0 x2 right r =
-    let c : Cpu = record { pc = p.begin; x = x } in
-    let f : Followed p u c p.image n o [] run (10 + after (start u g n) (spent u g (steps p) r.steps)) =
-    follow_next p u g r.steps o run (λ s d h events rel e. follow p u g l r.steps s d h o events run right rel e) (start u g n) c p.image n 10 [] right (start_paid u g n) (begin_after p u g l x n x0 x2) r.over in
-    let t : Touches p run (heard (touched f.j c p.image)) = subst (λ z. Touches p z (heard (touched f.j c p.image))) (sym f.split) f.touches in
+selection_of : (names : Given) (i : ℕ) → IsSelectable names i → IsSelection names i (code_of names i)
+unfolding code_of
+selection_of names i s =
+    let at = at_of names in
+    let first : ℕ = names.first_block in
+    let frame : ℕ = names.layout.frame in
+    let f : Function = names.function in
+    let some : 0 < frame = (let b = s.places.layout.bytes in omega arith) in
+    let small : frame < 4294967296 = (let b = s.places.layout.small in omega arith) in
     record {
-      j = f.j;
-      shows = f.shows;
-      soon = (let z = f.soon in omega arith);
-      touches = t;
-      orderly = f.orderly;
-      grows = f.grows;
-      plain = f.plain;
-      safe = λ forced w. let q = separate p u g l forced x n r.steps o run x0 x2 r.over in no_war_touched p run (heard (touched f.j c p.image)) [] t q.served (no_war_spotted p [] (items run) q.apart w);
-      begins = λ i le. let b = begins i (f.j - i) c p.image in (b.0, ap (λ z. touched z c p.image) (sym (split_at i f.j le)) ∙ b.1);
-      calm = λ i at le e. calm_shown p u o n f.j at (runs f.j c p.image) f.shows (ap (λ z. (runs z c p.image).went) (sym (split_at i f.j le)) ∙ stays i (f.j - i) at c p.image e);
+      exact = refl;
+      starts = starts_of at first frame f.entry f.blocks.items;
+      selected = λ w e g.
+          function_in w names at i frame g some small s.entry
+          (λ b block e. (all_at (IsPlacedBlock (length names.statics) f) f.blocks.items b block s.placed.blocks e, all_at (IsClosedBlock names) f.blocks.items b block s.closed e))
+          (λ line h. (line_same names w g line h, words_in names w s.places g line h))
+          (subst (At w 0) e (at_start w));
+      accesses = function_accesses at i first frame f.entry f.blocks.items;
+      causes = function_causes at i first frame f.entry f.blocks.items;
+      entry = function_entry at i first frame f.entry f.blocks.items;
+      blocks = λ b h. function_blocks at i first frame f.entry f.blocks.items b h;
+      only = λ k l h. function_only names at i frame f.entry f.blocks.items s.entry s.closed k l h;
+      targets = λ k l line e t. lead_at names (code_of names i) (function_lead names at i frame f.entry f.blocks.items s.entry s.closed) k l line e t;
+      words = λ apart. function_few at i first frame f apart;
     }
 
-pub select : SelectKeeps
-select p u g c w l b n o run right r =
-    let e : record { pc = p.begin; x = c.x } ≡ c = ap (λ (z : ℕ). let d : Cpu = record { pc = z; x = c.x } in d) (sym b.pc) in
-    subst (λ z. Follows p u g z n o run r.steps) e (follows_at p u g c.x n o run (premises p u g w l) b.zero_reg b.sp right r)
+pub selection : (names : Given) (i : ℕ) (lines : List CodeLine) → IsSelectable names i → lines ≡ function_code (at_of names) i names.first_block names.layout.frame names.function.entry names.function.blocks.items → IsSelection names i lines
+unfolding code_of
+selection names i lines s e = subst (IsSelection names i) (sym e) (selection_of names i s)

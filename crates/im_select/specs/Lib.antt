@@ -1,5 +1,4 @@
-pub mod Linking
-pub mod Selected
-pub mod Linked
-pub mod Law
-pub mod Symbolic
+pub mod Emitted
+pub mod Given
+pub mod Places
+pub mod Selects

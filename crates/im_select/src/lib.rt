@@ -1,6 +1,16 @@
-//! From placed code over objects to instructions over memory.
+//! From placed code over objects to lines of RISC-V with labels.
 #![tactic(auto)]
 
-mod laws;
+mod blocks;
+mod computing;
+mod lines;
+mod memory;
+mod names;
+mod push;
+mod selection;
+#[cfg(test)]
+mod tests;
+mod words;
 
-pub use laws::{frame_law, lines_law, select_keeps_law};
+pub use names::Names;
+pub use selection::select;

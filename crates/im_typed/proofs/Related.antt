@@ -20,14 +20,14 @@ pub record After (s t : State) : Type 0 where
   pub spent : t.fuel ≤ s.fuel
   pub grown : Begins s.world.output t.world.output
 
-abbrev pub Keeps : {A : Type 0} → State → Answer A → Type 0
-Keeps s (Gives a t) = After s t
-Keeps s (Stops (Fails why)) = Unit {0}
-Keeps s (Stops (Starves o)) = Begins s.world.output o
-Keeps s (Stops (Exhausts o store)) = Begins s.world.output o
+abbrev pub Spends : {A : Type 0} → State → Answer A → Type 0
+Spends s (Gives a t) = After s t
+Spends s (Stops (Fails why)) = Unit {0}
+Spends s (Stops (Starves o)) = Begins s.world.output o
+Spends s (Stops (Exhausts o store)) = Begins s.world.output o
 
 pub record Tame {A : Type 0} (m : Run A) : Type 0 where
-  pub by : (s : State) → Keeps s (m s)
+  pub by : (s : State) → Spends s (m s)
 
 -- the output of an answer begins with these bytes
 abbrev pub Grown : {A : Type 0} → List ℕ → Answer A → Type 0
@@ -51,7 +51,7 @@ pub record Related {A : Type 0} (k b : ℕ) (m m' : Run A) : Type 0 where
 
 -- tame runs
 
-keeps-trans : {A : Type 0} (s t : State) (r : Answer A) → After s t → Keeps t r → Keeps s r
+keeps-trans : {A : Type 0} (s t : State) (r : Answer A) → After s t → Spends t r → Spends s r
 keeps-trans s t (Gives a u) h g =
     let x = h.spent in
     let y = g.spent in
@@ -60,7 +60,7 @@ keeps-trans s t (Stops (Fails why)) h g = tt
 keeps-trans s t (Stops (Starves o)) h g = begins_trans s.world.output t.world.output o h.grown g
 keeps-trans s t (Stops (Exhausts o store)) h g = begins_trans s.world.output t.world.output o h.grown g
 
-keeps-goes_on : {A B : Type 0} (s : State) (r : Answer A) (f : A → Run B) → Keeps s r → ((a : A) → Tame (f a)) → Keeps s (goes_on r f)
+keeps-goes_on : {A B : Type 0} (s : State) (r : Answer A) (f : A → Run B) → Spends s r → ((a : A) → Tame (f a)) → Spends s (goes_on r f)
 keeps-goes_on s (Gives a t) f g h = keeps-trans s t (f a t) g ((h a).by t)
 keeps-goes_on s (Stops (Fails why)) f g h = tt
 keeps-goes_on s (Stops (Starves o)) f g h = g
@@ -84,7 +84,7 @@ tame-starve A = record { by = λ s. begins_self s.world.output }
 pub tame-look : Tame look
 tame-look = record { by = λ s. after-self s }
 
-keeps-pay : {A : Type 0} (f : ℕ) (w : World) (m : Run A) → Tame m → Keeps (record { world = w; fuel = f }) (pay f w m)
+keeps-pay : {A : Type 0} (f : ℕ) (w : World) (m : Run A) → Tame m → Spends (record { world = w; fuel = f }) (pay f w m)
 keeps-pay zero w m g = begins_self w.output
 keeps-pay (suc f) w m g =
     keeps-trans (record { world = w; fuel = suc f }) (record { world = w; fuel = f }) (m (record { world = w; fuel = f }))
@@ -107,7 +107,7 @@ tame-in_store f = tame-bind look (λ w. checked (f w.store)) tame-look (λ w. ta
 
 -- related runs
 
-grown-kept : {A : Type 0} (o : List ℕ) (t : State) (r : Answer A) → Begins o t.world.output → Keeps t r → Grown o r
+grown-kept : {A : Type 0} (o : List ℕ) (t : State) (r : Answer A) → Begins o t.world.output → Spends t r → Grown o r
 grown-kept o t (Gives a u) h g = begins_trans o t.world.output u.world.output h g.grown
 grown-kept o t (Stops (Fails why)) h g = tt
 grown-kept o t (Stops (Starves p)) h g = begins_trans o t.world.output p h g
@@ -119,7 +119,7 @@ grown-goes_on o (Stops (Fails why)) f g h = tt
 grown-goes_on o (Stops (Starves p)) f g h = g
 grown-goes_on o (Stops (Exhausts p store)) f g h = g
 
-linked-goes_on : {A B : Type 0} (k b : ℕ) (s : State) (r r' : Answer A) (f f' : A → Run B) → s.fuel ≤ b → Keeps s r → Linked k r r' → ((a : A) → Related k b (f a) (f' a)) → Linked k (goes_on r f) (goes_on r' f')
+linked-goes_on : {A B : Type 0} (k b : ℕ) (s : State) (r r' : Answer A) (f f' : A → Run B) → s.fuel ≤ b → Spends s r → Linked k r r' → ((a : A) → Related k b (f a) (f' a)) → Linked k (goes_on r f) (goes_on r' f')
 linked-goes_on {B = B} k b s (Gives a t) r' f f' le g e h =
     let x = g.spent in
     subst (λ x. Linked {A = B} k (f a t) (goes_on x f')) (sym e) ((h a).by t (omega arith))

@@ -21,7 +21,7 @@ use Rattle.im_typed.specs.Runs.{World, State, Answer, Run, goes_on, checked}
 use Rattle.im_typed.specs.Values.{Values, used, number_of, number_in, cells_of, update, changed, changed_kind}
 use Rattle.im_typed.specs.Meaning.{Around, Calls, local, place_of, value_of, values_of, next_byte, put_byte}
 use Rattle.im_typed.specs.Typing.{Each, IsRightShape, IsChange, IsStep, IsPart, TakesArgument, kinds_of, parameters, result_shape, shape_of, IsTypedPlace, IsTyped, AreArguments, IsPromotedShape, IsIntegerShape}
-use Rattle.im_typed.specs.Sound.{IsValue, IsSoundWorld, IsHere, AreValues, Fits, ArgumentsFit, Keeps, IsRight}
+use Rattle.im_typed.specs.Sound.{IsValue, IsSoundWorld, IsHere, AreValues, Fits, ArgumentsFit, KeepsWorld, IsRight}
 use Rattle.im_typed.proofs.Sounds.{keeps-trans, value-kept, here-kept, right-bind, right-give, right-weaker, right-checked, right-paid, right-either, right-used_values, right-value_in, right-scalar, right-number_in, right-integer}
 use Rattle.im_typed.proofs.SoundCells.{inside-object, moved-value, member-value, changed-value, distance-value, fits-of_values, right-read, right-write}
 
@@ -114,7 +114,7 @@ module _ (g : Prog) where
   either-value w kind false before after h k = k
 
   right-update : (c : Change) (old : Bool) (amount : Run ℤ) (at : Value) (s : State) → IsStep c → IsSoundWorld g.statics s.world
-      → ((t : State) → IsSoundWorld g.statics t.world → Keeps s.world t.world → IsRight g.statics t.world (λ w y. Unit {0}) (amount t))
+      → ((t : State) → IsSoundWorld g.statics t.world → KeepsWorld s.world t.world → IsRight g.statics t.world (λ w y. Unit {0}) (amount t))
       → IsRight g.statics s.world (Fits (Some (Scalar (changed_kind c)))) (update c old amount at s)
   right-update c old amount at s step sane hyp =
       let kind = changed_kind c in

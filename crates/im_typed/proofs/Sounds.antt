@@ -13,20 +13,20 @@ use Rattle.im_typed.specs.Runs.{World, State, Fails, Starves, Exhausts, Answer, 
 use Rattle.im_typed.specs.Values.{Values, used, number_of, cells_of}
 use Rattle.im_typed.specs.Meaning.{Around}
 use Rattle.im_typed.specs.Typing.{IsIntegerShape, IsScalarShape, kinds_of}
-use Rattle.im_typed.specs.Sound.{IsInside, IsValue, IsSoundWorld, IsHere, AreValues, Fits, Keeps, IsRightAt, IsRight}
+use Rattle.im_typed.specs.Sound.{IsInside, IsValue, IsSoundWorld, IsHere, AreValues, Fits, KeepsWorld, IsRightAt, IsRight}
 
 -- what is kept
 
-pub keeps-self : (w : World) → Keeps w w
+pub keeps-self : (w : World) → KeepsWorld w w
 keeps-self w = record { more = omega arith; depth = refl; same = λ o. refl }
 
-pub keeps-trans : (w t u : World) → Keeps w t → Keeps t u → Keeps w u
+pub keeps-trans : (w t u : World) → KeepsWorld w t → KeepsWorld t u → KeepsWorld w u
 keeps-trans w t u h g =
     let x = h.more in
     let y = g.more in
     record { more = omega arith; depth = g.depth ∙ h.depth; same = λ o. g.same o ∙ h.same o }
 
-pub value-kept : {w t : World} → Keeps w t → (kind : Kind) (v : Value) → IsValue w.activations w.store kind v → IsValue t.activations t.store kind v
+pub value-kept : {w t : World} → KeepsWorld w t → (kind : Kind) (v : Value) → IsValue w.activations w.store kind v → IsValue t.activations t.store kind v
 value-kept k kind (Number z) h = h
 value-kept k kind Null h = h
 value-kept {w} {t} k kind (Pointer o offset) h =
@@ -36,19 +36,19 @@ value-kept {w} {t} k kind (Pointer o offset) h =
     (h.0, le, h.2, subst (λ s. IsInside s o.activation offset) (sym (k.same o)) h.3)
 value-kept k kind Unset h = h
 
-pub values-kept : {w t : World} → Keeps w t → (ks : List Kind) (vs : Values) → AreValues w.activations w.store ks vs → AreValues t.activations t.store ks vs
+pub values-kept : {w t : World} → KeepsWorld w t → (ks : List Kind) (vs : Values) → AreValues w.activations w.store ks vs → AreValues t.activations t.store ks vs
 values-kept k [] [] h = tt
 values-kept k [] (v ∷ vs) h = h
 values-kept k (x ∷ xs) [] h = h
 values-kept k (x ∷ xs) (v ∷ vs) h = (value-kept k x v h.0, values-kept k xs vs h.1)
 
-pub fits-kept : {w t : World} → Keeps w t → (shape : Option Access) (vs : Values) → Fits shape w vs → Fits shape t vs
+pub fits-kept : {w t : World} → KeepsWorld w t → (shape : Option Access) (vs : Values) → Fits shape w vs → Fits shape t vs
 fits-kept k None vs h = h
 fits-kept k (Some (Scalar kind)) [] h = tt
 fits-kept k (Some (Scalar kind)) (v ∷ vs) h = (value-kept k kind v h.0, h.1)
 fits-kept k (Some (Struct count cells)) vs h = values-kept k (kinds_of cells) vs h
 
-pub here-kept : {f : Func} {c : Around} {w t : World} → Keeps w t → IsHere f c w → IsHere f c t
+pub here-kept : {f : Func} {c : Around} {w t : World} → KeepsWorld w t → IsHere f c w → IsHere f c t
 here-kept k h =
     let x = k.more in
     let y = h.began in
@@ -71,20 +71,20 @@ module _ (statics : List StaticObject) where
   abbrev pub IsSane : World → Type 0
   IsSane w = IsSoundWorld statics w
 
-  later-at : {A : Type 0} (w t : World) (P : World → A → Type 0) (r : Answer A) → Keeps w t → IsRightAt statics t P r → IsRightAt statics w P r
+  later-at : {A : Type 0} (w t : World) (P : World → A → Type 0) (r : Answer A) → KeepsWorld w t → IsRightAt statics t P r → IsRightAt statics w P r
   later-at w t P (Gives a u) k h = (h.0, keeps-trans w t u.world k h.1, h.2)
   later-at w t P (Stops (Fails why)) k h = tt
   later-at w t P (Stops (Starves output)) k h = tt
   later-at w t P (Stops (Exhausts output store)) k h = h
 
-  bound-at : {A B : Type 0} (w : World) (P : World → A → Type 0) (Q : World → B → Type 0) (r : Answer A) (next : A → Run B) → IsRightAt statics w P r → ((a : A) (t : State) → IsSoundWorld statics t.world → Keeps w t.world → P t.world a → IsRight statics t.world Q (next a t)) → IsRightAt statics w Q (goes_on r next)
+  bound-at : {A B : Type 0} (w : World) (P : World → A → Type 0) (Q : World → B → Type 0) (r : Answer A) (next : A → Run B) → IsRightAt statics w P r → ((a : A) (t : State) → IsSoundWorld statics t.world → KeepsWorld w t.world → P t.world a → IsRight statics t.world Q (next a t)) → IsRightAt statics w Q (goes_on r next)
   bound-at w P Q (Gives a t) next h k = later-at w t.world Q (next a t) h.1 (k a t h.0 h.1 h.2).by
   bound-at w P Q (Stops (Fails why)) next h k = tt
   bound-at w P Q (Stops (Starves output)) next h k = tt
   bound-at w P Q (Stops (Exhausts output store)) next h k = h
 
   -- one run, and then the next
-  pub right-bind : {A B : Type 0} {w : World} {P : World → A → Type 0} {Q : World → B → Type 0} {r : Answer A} {next : A → Run B} → IsRight statics w P r → ((a : A) (t : State) → IsSoundWorld statics t.world → Keeps w t.world → P t.world a → IsRight statics t.world Q (next a t)) → IsRight statics w Q (goes_on r next)
+  pub right-bind : {A B : Type 0} {w : World} {P : World → A → Type 0} {Q : World → B → Type 0} {r : Answer A} {next : A → Run B} → IsRight statics w P r → ((a : A) (t : State) → IsSoundWorld statics t.world → KeepsWorld w t.world → P t.world a → IsRight statics t.world Q (next a t)) → IsRight statics w Q (goes_on r next)
   right-bind {w = w} {P = P} {Q = Q} {r = r} {next = next} h k = record { by = bound-at w P Q r next h.by k }
 
   pub right-give : {A : Type 0} {P : World → A → Type 0} (s : State) (a : A) → IsSoundWorld statics s.world → P s.world a → IsRight statics s.world P (Gives a s)

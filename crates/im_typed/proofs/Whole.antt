@@ -13,7 +13,7 @@ use Rattle.im_typed.specs.Values.{Values}
 use Rattle.im_typed.specs.Meaning.{Calls}
 use Rattle.im_typed.specs.Programs.{Setting, first_object, call_result, entering, leaving, frame_of, body_of, enters, called, calls_of, start, run_of_main, outcome_of, meaning}
 use Rattle.im_typed.specs.Laws.{GoesOnFrom, Extends, FuelAtMost, ShowsStatics}
-use Rattle.im_typed.proofs.Related.{begins_self, Keeps, Tame, Grown, Linked, Related, Benign, tame-starve, rel-bind, rel-give, rel-undefined, rel-look, rel-exhaust, rel-either, rel-change, rel-paid-zero, rel-paid-suc}
+use Rattle.im_typed.proofs.Related.{begins_self, Spends, Tame, Grown, Linked, Related, Benign, tame-starve, rel-bind, rel-give, rel-undefined, rel-look, rel-exhaust, rel-either, rel-change, rel-paid-zero, rel-paid-suc}
 use Rattle.im_typed.proofs.Induction.{RelatedCalls, rel-does}
 
 entering-benign : (activation depth first : ℕ) (f : Func) (args : List Value) → Benign (entering activation depth first f args)
@@ -77,7 +77,7 @@ module _ (g : Setting) where
   pub main-linked : (k fuel n n' : ℕ) (input : List ℕ) → fuel ≤ n → fuel + k ≤ n' → Linked k (run_of_main g n input fuel) (run_of_main g n' input (fuel + k))
   main-linked k fuel n n' input le le' = (rel-main k fuel n n' le le').by (start g input fuel) (omega arith)
 
-  pub main-keeps : (fuel n : ℕ) (input : List ℕ) → Keeps (start g input fuel) (run_of_main g n input fuel)
+  pub main-keeps : (fuel n : ℕ) (input : List ℕ) → Spends (start g input fuel) (run_of_main g n input fuel)
   main-keeps fuel n input = (tame-called n g.prog.main []).by (start g input fuel)
 
   outcome-grown : (o : List ℕ) (r : Answer Values) → Grown o r → GoesOnFrom o (outcome_of g r)
@@ -112,7 +112,7 @@ module _ (g : Setting) where
       let l : fuel + 0 ≤ n' = omega arith in
       ap (λ f. run_of_main g n' input f) (sym z) ∙ linked-same (run_of_main g n input fuel) (run_of_main g n' input (fuel + 0)) (main-linked 0 fuel n n' input le l)
 
-  keeps-fuel : (s : State) (r : Answer Values) → Keeps s r → FuelAtMost s.fuel r
+  keeps-fuel : (s : State) (r : Answer Values) → Spends s r → FuelAtMost s.fuel r
   keeps-fuel s (Gives vs t) h = h.spent
   keeps-fuel s (Stops why) h = tt
 

@@ -91,14 +91,14 @@ ArgumentsFit (o ∷ os) w (v ∷ vs) =
     ((kind : Kind) × (o.cells ≡ cells_of (Scalar kind)) × IsValue w.activations w.store kind v) × ArgumentsFit os w vs
 
 -- a run from the first of these to the second: the same objects live, and as much of the stack is in use
-pub record Keeps (w t : World) : Type 0 where
+pub record KeepsWorld (w t : World) : Type 0 where
   pub more : w.activations ≤ t.activations
   pub depth : t.depth ≡ w.depth
   pub same : (o : Object) → t.store.shape o ≡ w.store.shape o
 
 -- what a run that began at a world answers: what it gives has this property, and the world is sound again
 abbrev pub IsRightAt : {A : Type 0} → List StaticObject → World → (World → A → Type 0) → Answer A → Type 0
-IsRightAt statics w P (Gives a t) = IsSoundWorld statics t.world × Keeps w t.world × P t.world a
+IsRightAt statics w P (Gives a t) = IsSoundWorld statics t.world × KeepsWorld w t.world × P t.world a
 IsRightAt statics w P (Stops (Fails why)) = Unit {0}
 IsRightAt statics w P (Stops (Starves output)) = Unit {0}
 IsRightAt statics w P (Stops (Exhausts output store)) = (begun : ℕ) × IsSound statics begun store

@@ -3,8 +3,8 @@ use Rattle.im_ctree.specs.Typedefs.{names_behind_items}
 use Rattle.std.proofs.lemmas.Result.{err_from_is_err_and}
 use Rattle.im_word.specs.Shown.{shown}
 use Rattle.im_parse_core.proofs.Steps.{last, last_refused}
-use Rattle.im_parse.proofs.Exits.{stopped, handed, shorter}
-use Rattle.im_parse.proofs.NextWord.{isnt_so}
+use Rattle.im_parse_expression.proofs.Exits.{stopped, handed, shorter}
+use Rattle.im_parse_expression.proofs.NextWord.{isnt_so}
 use Rattle.im_parse_statement.specs.declared.start.StatementStart.TheVariants as variant
 use Rattle.im_parse_statement.specs.Statements.{statement_tree, item_tree}
 use Rattle.im_parse_statement.proofs.Rows.{items_before}

@@ -4,9 +4,9 @@ use Rattle.im_word.specs.Words.{mark}
 use Rattle.im_ctree.specs.Tree as tree
 use Rattle.im_ctree.specs.Shape.{expression_of, specifier_of, declarator_of, type_name_of}
 use Rattle.im_ctree.specs.declared.declarator.Declarator.{out-Declarator}
-use Rattle.im_tree_parts.specs.Lists.{expression_in, list_from, maybe_from, with_suffix, declarators_from}
-use Rattle.im_tree_parts.proofs.Shapes.{declarator_shape, type_name_shape}
-use Rattle.im_printed.specs.Printed as printed
+use Rattle.im_ctree_parts.specs.Lists.{expression_in, list_from, maybe_from, with_suffix, declarators_from}
+use Rattle.im_ctree_parts.proofs.Shapes.{declarator_shape, type_name_shape}
+use Rattle.im_print_relation.specs.Printed as printed
 use Rattle.im_print_words.specs.Output.{known}
 use Rattle.im_print_parts.specs.Parts as parts
 use Rattle.im_print_words.proofs.Writing.{writes_append, writes_first, writes_same, writes_behind, each_step, row_step}

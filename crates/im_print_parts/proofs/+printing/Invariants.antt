@@ -1,8 +1,8 @@
 use Rattle.std.proofs.Common.{◌≡◌, ◌++◌, drop, false}
 use Rattle.im_print_words.specs.Output.{spaced, each, known}
 use Rattle.im_print_parts.specs.Parts as parts
-use Rattle.im_printed.specs.Printed as printed
-use Rattle.im_tree_parts.specs.Lists.{list_from}
+use Rattle.im_print_relation.specs.Printed as printed
+use Rattle.im_ctree_parts.specs.Lists.{list_from}
 use Rattle.im_print_parts.proofs.+printing.Given as goal
 
 abbrev pub invariant-expressions::put_arguments-loop-argument : goal.invariant-expressions::put_arguments-loop-argument

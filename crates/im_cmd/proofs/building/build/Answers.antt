@@ -1,4 +1,4 @@
-use Rattle.im_lines.specs.Refusals.{refused_of}
+use Rattle.im_cmd_lines.specs.Refusals.{refused_of}
 use Rattle.im_cmd.specs.Builds.{uncompiled}
 use Rattle.im_cmd.proofs.Builds.{builds, store_refused}
 use Rattle.im_cmd.proofs.building.build.Goals as goal

@@ -1,4 +1,4 @@
-use Rattle.im_lines.specs.Refusals.{refused_of}
+use Rattle.im_cmd_lines.specs.Refusals.{refused_of}
 use Rattle.im_cmd.proofs.Builds.{compiles_from, text_refused}
 use Rattle.im_cmd.proofs.building.compile_program.Goals as goal
 

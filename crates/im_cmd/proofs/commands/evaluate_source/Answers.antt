@@ -1,4 +1,4 @@
-use Rattle.im_lines.specs.Refusals.{refused_of}
+use Rattle.im_cmd_lines.specs.Refusals.{refused_of}
 use Rattle.im_cmd.specs.Answers.{eval_refused, evaluated}
 use Rattle.im_cmd.proofs.Reports.{tells_refusal}
 use Rattle.im_cmd.proofs.commands.evaluate_source.Goals as goal

@@ -1,4 +1,4 @@
-use Rattle.im_lines.specs.Refusals.{refused_of}
+use Rattle.im_cmd_lines.specs.Refusals.{refused_of}
 use Rattle.im_cmd.specs.Answers.{report_refused, reported}
 use Rattle.im_cmd.proofs.Reports.{tells_refusal, tells_text}
 use Rattle.im_cmd.proofs.commands.report.Goals as goal

@@ -1,4 +1,4 @@
-use Rattle.im_lines.specs.Refusals.{refused_of}
+use Rattle.im_cmd_lines.specs.Refusals.{refused_of}
 use Rattle.im_cmd.specs.Answers.{run_unbuilt, run_refused, ran}
 use Rattle.im_cmd.proofs.Reports.{tells_refusal}
 use Rattle.im_cmd.proofs.commands.run_source.Goals as goal

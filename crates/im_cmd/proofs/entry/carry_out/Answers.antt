@@ -1,5 +1,5 @@
 use Rattle.std.proofs.Common.{subst}
-use Rattle.im_cli.specs.Named.{HasBounds}
+use Rattle.im_cmd_words.specs.Named.{HasBounds}
 use Rattle.im_cmd.proofs.entry.carry_out.Goals as goal
 
 pub build_source-requires : goal.build_source-requires

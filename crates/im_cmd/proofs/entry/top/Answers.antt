@@ -1,4 +1,4 @@
-use Rattle.im_cli.specs.Named.{meaning}
+use Rattle.im_cmd_words.specs.Named.{meaning}
 use Rattle.im_cmd.specs.Answers.{carried_out}
 use Rattle.im_cmd.proofs.Entries.{fault_answers}
 use Rattle.im_cmd.proofs.entry.top.Goals as goal

@@ -1,4 +1,4 @@
-use Rattle.im_lines.proofs.Joined.{first_sent, sends_then}
+use Rattle.im_cmd_lines.proofs.Joined.{first_sent, sends_then}
 use Rattle.im_cmd.proofs.evaluated.send_report.Goals as goal
 
 pub returns-in-Ok : goal.returns-in-Ok

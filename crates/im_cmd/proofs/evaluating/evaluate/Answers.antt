@@ -1,5 +1,5 @@
-use Rattle.im_cli.specs.Named.{evaluation_meaning}
-use Rattle.im_lines.specs.Refusals.{refused_of}
+use Rattle.im_cmd_words.specs.Named.{evaluation_meaning}
+use Rattle.im_cmd_lines.specs.Refusals.{refused_of}
 use Rattle.im_cmd.specs.Evaluations.{eval_uncompiled, eval_no_input}
 use Rattle.im_cmd.proofs.Evaluations.{evaluation_done, evaluation_starved}
 use Rattle.im_cmd.proofs.evaluating.evaluate.Goals as goal

@@ -3,7 +3,7 @@ use Rattle.std.proofs.lemmas.Result.{IfOk-weaker}
 use Rattle.im_typed.specs.declared.frames.Frame.{Frame}
 use Rattle.im_typed.specs.ProgramOf.{program_of}
 use Rattle.im_eval_machine.specs.Endings.{told}
-use Rattle.im_source.specs.Laws.{meaning_of}
+use Rattle.im_keeps_source.specs.Laws.{meaning_of}
 use Rattle.im_cmd.proofs.Evaluations.{known}
 use Rattle.im_cmd.proofs.evaluating.outcome_of.Goals as goal
 

@@ -1,4 +1,4 @@
-use Rattle.im_lines.specs.Refusals.{refused_of}
+use Rattle.im_cmd_lines.specs.Refusals.{refused_of}
 use Rattle.im_cmd.proofs.Stages.{input_over, input_taken}
 use Rattle.im_cmd.proofs.evaluating.take_input.Goals as goal
 

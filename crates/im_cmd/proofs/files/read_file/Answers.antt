@@ -1,5 +1,5 @@
 use Rattle.std.proofs.Common.{rules, ◌≡◌, ℕ, sym, subst}
-use Rattle.im_lines.specs.Refusals.{FileTooLong}
+use Rattle.im_cmd_lines.specs.Refusals.{FileTooLong}
 use Rattle.im_cmd.specs.Files.{RefusesFile, file_absent, file_failed, file_starved, file_too_long}
 use Rattle.im_cmd.proofs.files.read_file.Goals as goal
 

@@ -1,6 +1,6 @@
 use Rattle.std.proofs.Common.{Bor, ap}
 use Rattle.std.specs.Prelude.{ℕ, List, option_map}
-use Rattle.im_lines.specs.Refusals.{refused_of}
+use Rattle.im_cmd_lines.specs.Refusals.{refused_of}
 use Rattle.im_cmd.proofs.Stages.{input_refused}
 use Rattle.im_cmd.proofs.running.read_input.Goals as goal
 

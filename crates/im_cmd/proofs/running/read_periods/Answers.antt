@@ -1,7 +1,7 @@
 use Rattle.std.proofs.Common.{Bor, ap}
 use Rattle.std.specs.Prelude.{ℕ, List, option_map}
-use Rattle.im_cli.specs.Named.{options_meaning}
-use Rattle.im_lines.specs.Refusals.{refused_of}
+use Rattle.im_cmd_words.specs.Named.{options_meaning}
+use Rattle.im_cmd_lines.specs.Refusals.{refused_of}
 use Rattle.im_cmd.specs.Stages.{trace_refused}
 use Rattle.im_cmd.proofs.Stages.{no_periods, periods_named}
 use Rattle.im_cmd.proofs.running.read_periods.Goals as goal

@@ -1,5 +1,5 @@
 use Rattle.std.proofs.Common.{rules}
-use Rattle.im_lines.specs.Refusals.{refused_of}
+use Rattle.im_cmd_lines.specs.Refusals.{refused_of}
 use Rattle.im_cmd.specs.Runs.{no_trace, trace_unread}
 use Rattle.im_cmd.proofs.Stages.{trace_starved}
 use Rattle.im_cmd.proofs.running.read_trace_file.Goals as goal

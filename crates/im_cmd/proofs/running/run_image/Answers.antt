@@ -1,6 +1,6 @@
 use Rattle.std.proofs.Common.{sym, ◌∙◌}
-use Rattle.im_lines.specs.Refusals.{refused_of}
-use Rattle.im_cli.specs.Named.{options_meaning}
+use Rattle.im_cmd_lines.specs.Refusals.{refused_of}
+use Rattle.im_cmd_words.specs.Named.{options_meaning}
 use Rattle.im_cmd.proofs.Stages.{ran, run_input_refused, run_load_refused, run_torn, run_periods_refused, variables_starved}
 use Rattle.im_cmd.proofs.running.run_image.Goals as goal
 

@@ -1,5 +1,5 @@
 use Rattle.std.proofs.Common.{rules}
-use Rattle.im_lines.specs.Refusals.{refused_of}
+use Rattle.im_cmd_lines.specs.Refusals.{refused_of}
 use Rattle.im_cmd.specs.Images.{image_unread, no_image}
 use Rattle.im_cmd.proofs.Images.{image_starved}
 use Rattle.im_cmd.proofs.stored.read_stored.Goals as goal

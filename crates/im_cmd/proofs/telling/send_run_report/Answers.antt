@@ -1,6 +1,6 @@
 use Rattle.std.proofs.Common.{w32}
 use Rattle.std.proofs.lemmas.Int.{to_z-of_z}
-use Rattle.im_lines.proofs.Joined.{first_sent, sends_then}
+use Rattle.im_cmd_lines.proofs.Joined.{first_sent, sends_then}
 use Rattle.im_cmd.proofs.telling.send_run_report.Goals as goal
 
 pub returns-in-Err : goal.returns-in-Err

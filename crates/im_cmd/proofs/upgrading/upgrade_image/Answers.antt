@@ -1,4 +1,4 @@
-use Rattle.im_lines.specs.Refusals.{refused_of}
+use Rattle.im_cmd_lines.specs.Refusals.{refused_of}
 use Rattle.im_cmd.specs.Images.{upgrade_unread}
 use Rattle.im_cmd.proofs.Images.{upgrade_refused}
 use Rattle.im_cmd.proofs.upgrading.upgrade_image.Goals as goal

@@ -1,9 +1,9 @@
 use Rattle.std.proofs.Common.{◌≡◌, ℕ, List, map, length, rules, refl, sym, ap, ◌∙◌, subst}
 use Rattle.std.specs.Prelude.{string_bytes}
 use Rattle.std.proofs.lemmas.Result.{err_from_is_err_and}
-use Rattle.im_linked.specs.Program.{IsProgram}
+use Rattle.im_link_laws.specs.Program.{IsProgram}
 use Rattle.im_pack.specs.Packed.{IsPacked, IsFaultOf as IsPackFault}
-use Rattle.im_assemble.specs.Names.{program_names}
+use Rattle.im_select_assemble.specs.Names.{program_names}
 use Rattle.im_block.specs.declared.unit.Static.{Static as StaticOf}
 use Rattle.im_frame.specs.declared.layout.Layout.{Layout}
 use Rattle.im_compile.proofs.Faulty.{HasPlaces, of_linking, of_image}

@@ -5,8 +5,8 @@ use Rattle.im_block.specs.declared.unit.Static.{Static as StaticOf}
 use Rattle.im_frame.specs.declared.layout.Layout.{Layout}
 use Rattle.im_mem.specs.Map.{statics_start}
 use Rattle.im_frame.specs.Layout.{places_from}
-use Rattle.im_addresses.specs.Addresses.{AreLayouts}
-use Rattle.im_addresses.specs.Statics.{objects_of}
+use Rattle.im_select_addresses.specs.Addresses.{AreLayouts}
+use Rattle.im_select_addresses.specs.Statics.{objects_of}
 use Rattle.im_compile.specs.Lowered.{AreNamedFrames, texts_of_names}
 use Rattle.im_compile.specs.Ready.{IsFrameFault}
 use Rattle.im_compile.proofs.Faulty.{of_frames}

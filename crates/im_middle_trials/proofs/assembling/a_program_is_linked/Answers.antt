@@ -1,5 +1,5 @@
 use Rattle.std.proofs.Common.{◌≡◌, [], length, sym, ap, ◌∙◌, subst, arith}
-use Rattle.im_assemble.proofs.One.{layouts_of}
+use Rattle.im_select_assemble.proofs.One.{layouts_of}
 use Rattle.im_middle_trials.proofs.assembling.a_program_is_linked.Goals as goal
 
 pub assemble-requires : goal.assemble-requires

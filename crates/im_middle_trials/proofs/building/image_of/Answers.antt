@@ -3,8 +3,8 @@ use Rattle.im_mem.specs.Map.{statics_start, statics_capacity}
 use Rattle.im_block.specs.declared.unit.Static.{Static as StaticOf}
 use Rattle.im_block.specs.declared.unit.Function.{Function}
 use Rattle.im_frame.specs.Layout.{places_from, rooms}
-use Rattle.im_addresses.specs.Addresses.{AreLayouts}
-use Rattle.im_addresses.specs.Statics.{objects_of}
+use Rattle.im_select_addresses.specs.Addresses.{AreLayouts}
+use Rattle.im_select_addresses.specs.Statics.{objects_of}
 use Rattle.im_middle_trials.proofs.Laid.{assemblable, loadable, room_of}
 use Rattle.im_middle_trials.proofs.building.image_of.Goals as goal
 

@@ -1,6 +1,6 @@
 use Rattle.std.proofs.Common.{◌≡◌, ◌+◌, ◌++◌, length, drop}
 use Rattle.im_frame.specs.Layout.{rooms}
-use Rattle.im_addresses.specs.Statics.{objects_of}
+use Rattle.im_select_addresses.specs.Statics.{objects_of}
 use Rattle.im_pack.specs.Bytes.{statics_bytes}
 use Rattle.im_pack.proofs.bytes.first_bytes.Given as goal
 

@@ -1,7 +1,7 @@
 use Rattle.std.proofs.Common.{◌≡◌, ◌++◌, ◌∷◌, [], length, refl, sym, ◌∙◌, arith}
 use Rattle.std.specs.Prelude.{slice_index}
 use Rattle.std.proofs.lemmas.Option.{slice_get_read, slice_get_within, slice_get-get_or}
-use Rattle.im_addresses.specs.Statics.{objects_of}
+use Rattle.im_select_addresses.specs.Statics.{objects_of}
 use Rattle.im_pack.specs.Objects.{object_of}
 use Rattle.im_pack.proofs.Naming.{many_rooms}
 use Rattle.im_pack.proofs.Whole.{count_of}

@@ -3,8 +3,8 @@ use Rattle.std.proofs.lemmas.Result.{err_from_is_err_and}
 use Rattle.im_tok.specs.declared.punctuator.Punctuator.TheVariants.{Semicolon}
 use Rattle.im_word.specs.Shown.{shown}
 use Rattle.im_ctree.specs.Tree as tree
-use Rattle.im_parse.specs.Parsing.{Below}
-use Rattle.im_parse.proofs.Exits.{stopped}
+use Rattle.im_parse_expression.specs.Parsing.{Below}
+use Rattle.im_parse_expression.proofs.Exits.{stopped}
 use Rattle.im_parse_statement.proofs.Closing.{reads_nothing, something_next, refuses_closing, closing_next, misses_closing, reads_closing, semicolon_ends}
 use Rattle.im_parse_statement.proofs.closed.before_semicolon.Goals as goal
 

@@ -2,8 +2,8 @@ use Rattle.std.proofs.Common.{map}
 use Rattle.std.proofs.lemmas.Result.{err_from_is_err_and}
 use Rattle.im_word.specs.Shown.{shown}
 use Rattle.im_parse_core.proofs.Steps.{last, last_refused}
-use Rattle.im_parse.proofs.Exits.{stopped}
-use Rattle.im_parse.proofs.NextWord.{isnt_so}
+use Rattle.im_parse_expression.proofs.Exits.{stopped}
+use Rattle.im_parse_expression.proofs.NextWord.{isnt_so}
 use Rattle.im_parse_statement.proofs.ItemLines.{init_declared, init_valued}
 use Rattle.im_parse_statement.proofs.loops.for_init.Goals as goal
 

@@ -1,6 +1,6 @@
 use Rattle.std.proofs.Common.{ap}
 use Rattle.im_ctree.specs.Tree as t
-use Rattle.im_parse.specs.Parsing.{tree_of}
+use Rattle.im_parse_expression.specs.Parsing.{tree_of}
 use Rattle.im_parse_statement.proofs.Rows.{items_made}
 use Rattle.im_parse_statement.proofs.make.switch.Goals as goal
 

@@ -2,7 +2,7 @@ use Rattle.std.proofs.Common.{map}
 use Rattle.std.proofs.lemmas.Result.{err_from_is_err_and}
 use Rattle.im_word.specs.Shown.{shown}
 use Rattle.im_ctree.specs.Tree as tree
-use Rattle.im_parse.proofs.Exits.{stopped}
+use Rattle.im_parse_expression.proofs.Exits.{stopped}
 use Rattle.im_parse_statement.proofs.Closing.{refuses_value, reads_value}
 use Rattle.im_parse_statement.proofs.statements.expression_statement.Goals as goal
 

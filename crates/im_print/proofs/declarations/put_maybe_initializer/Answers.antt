@@ -1,6 +1,6 @@
 use Rattle.std.proofs.Common.{ap, sym}
 use Rattle.im_ctree.specs.Shape.{maybe_initializer_of}
-use Rattle.im_printed.specs.Printed as printed
+use Rattle.im_print_relation.specs.Printed as printed
 use Rattle.im_print_words.specs.Output.{known}
 use Rattle.im_print_words.proofs.Writing.{writes_first, writes_same}
 use Rattle.im_print.proofs.declarations.put_maybe_initializer.Goals as goal

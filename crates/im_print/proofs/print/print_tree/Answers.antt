@@ -1,7 +1,7 @@
 use Rattle.std.proofs.Common.{◌∙◌, ap, sym, subst, ◌++◌, ◌∷◌, []}
 use Rattle.im_ctree.specs.Shape.{tree_of}
-use Rattle.im_printed.specs.Printed.{words_of}
-use Rattle.im_printed.specs.Text.{IsReadAs}
+use Rattle.im_print_relation.specs.Printed.{words_of}
+use Rattle.im_print_relation.specs.Text.{IsReadAs}
 use Rattle.im_print.proofs.Endings.{ended}
 use Rattle.im_print.proofs.print.print_tree.Goals as goal
 

@@ -1,6 +1,6 @@
 use Rattle.std.proofs.Common.{◌≡◌, ◌+◌, true, false, drop, sym, ap, ◌∙◌}
 use Rattle.im_ctree.specs.Typedefs.{adds_type, has_type_from}
-use Rattle.im_tree_parts.specs.Lists.{list_from, specifier_in}
+use Rattle.im_ctree_parts.specs.Lists.{list_from, specifier_in}
 use Rattle.im_print_words.proofs.Writing.{next}
 use Rattle.im_print_words.proofs.NameFacts.{type_stays}
 use Rattle.im_print_words.proofs.names.has_type.Goals as goal

@@ -1,5 +1,5 @@
 use Rattle.std.proofs.Common.{◌≡◌, drop}
-use Rattle.im_printed.specs.Printed as printed
+use Rattle.im_print_relation.specs.Printed as printed
 use Rattle.im_print_words.specs.Output.{known}
 use Rattle.im_print_words.proofs.names.is_among.Given as goal
 

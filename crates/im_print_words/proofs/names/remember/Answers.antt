@@ -1,6 +1,6 @@
 use Rattle.std.proofs.Common.{sym, ap, ◌∙◌}
 use Rattle.im_ctree.specs.Typedefs.{has_typedef}
-use Rattle.im_tree_parts.specs.Lists.{list_from}
+use Rattle.im_ctree_parts.specs.Lists.{list_from}
 use Rattle.im_print_words.specs.Output.{known}
 use Rattle.im_print_words.proofs.NameFacts.{remembers_none, remembers_some}
 use Rattle.im_print_words.proofs.names.remember.Goals as goal

@@ -1,5 +1,5 @@
 use Rattle.std.proofs.Common.{◌≡◌, ◌++◌, drop}
-use Rattle.im_printed.specs.Text.{bytes_text}
+use Rattle.im_print_relation.specs.Text.{bytes_text}
 use Rattle.im_print_words.proofs.output.put_literal.Given as goal
 
 abbrev pub invariant-loop-byte : goal.invariant-loop-byte

@@ -1,5 +1,0 @@
-use Rattle.im_addresses.proofs.Frames.{frames}
-use Rattle.im_addresses.proofs.laws.frames_law.Goals as goal
-
-pub returns : goal.returns
-returns c = frames

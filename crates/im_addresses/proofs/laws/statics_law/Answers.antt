@@ -1,5 +1,0 @@
-use Rattle.im_addresses.proofs.Lying.{laid}
-use Rattle.im_addresses.proofs.laws.statics_law.Goals as goal
-
-pub returns : goal.returns
-returns c = laid

@@ -1,0 +1,103 @@
+-- The parts of a line's placing, for private contracts: operands, the line on registers, its result.
+use Rattle.std.specs.Prelude.{◌≡◌, ◌≤◌, ℕ, ◌+◌, ◌*◌, List, ◌∷◌, ◌++◌, Option, Some, None, length}
+use Rattle.im_block.specs.declared.code.Place.{Place}
+use Rattle.im_block.specs.declared.code.Place.TheVariants.{Static, Local, Through}
+use Rattle.im_block.specs.declared.code.Line.{Line}
+use Rattle.im_block.specs.declared.code.Line.TheVariants.{Put, PutNull, Copy, Convert, Unary, Not, Compute, Compare, Move, Distance, Address, Read, Write, Call}
+use Rattle.im_alloc_relation.specs.Homes.{Home, numbers_kept, load, reg, save, on_place, put_lines}
+
+-- lines were added, as a function of what stands behind them
+abbrev pub Adds : (List Line → List Line) → List Line → List Line → Type 0
+Adds piece old new = (rest : List Line) → new ++ rest ≡ old ++ piece rest
+
+-- a call's arguments are registers of the function, and at most eight
+abbrev pub Fits : ℕ → Line → Type 0
+Fits count (Call to i first given) = (first + given ≤ count) × (given ≤ 8)
+Fits count line = Unit {0}
+
+abbrev pub pointer_in : Place → Option ℕ
+pointer_in (Static object offset) = None
+pointer_in (Local object offset) = None
+pointer_in (Through pointer offset) = Some pointer
+
+abbrev pub first_operand : Line → Option ℕ
+first_operand (Copy to from) = Some from
+first_operand (Convert to kind from) = Some from
+first_operand (Unary to op kind from) = Some from
+first_operand (Not to from) = Some from
+first_operand (Compute to op kind left right) = Some left
+first_operand (Compare to op kind left right) = Some left
+first_operand (Move to size back pointer by) = Some pointer
+first_operand (Distance to size left right) = Some left
+first_operand (Address to place) = pointer_in place
+first_operand (Read to place kind access) = pointer_in place
+first_operand (Write place kind from access) = pointer_in place
+first_operand line = None
+
+abbrev pub second_operand : Line → Option ℕ
+second_operand (Compute to op kind left right) = Some right
+second_operand (Compare to op kind left right) = Some right
+second_operand (Move to size back pointer by) = Some by
+second_operand (Distance to size left right) = Some right
+second_operand (Write place kind from access) = Some from
+second_operand line = None
+
+abbrev pub target : Line → Option ℕ
+target (Put to z) = Some to
+target (PutNull to) = Some to
+target (Copy to from) = Some to
+target (Convert to kind from) = Some to
+target (Unary to op kind from) = Some to
+target (Not to from) = Some to
+target (Compute to op kind left right) = Some to
+target (Compare to op kind left right) = Some to
+target (Move to size back pointer by) = Some to
+target (Distance to size left right) = Some to
+target (Address to place) = Some to
+target (Read to place kind access) = Some to
+target line = None
+
+abbrev pub values_in : (ℕ → Home) → Line → Line
+values_in h (Put to z) = Put (reg (h to) 30) z
+values_in h (PutNull to) = PutNull (reg (h to) 30)
+values_in h (Copy to from) = Copy (reg (h to) 30) (reg (h from) 28)
+values_in h (Convert to kind from) = Convert (reg (h to) 30) kind (reg (h from) 28)
+values_in h (Not to from) = Not (reg (h to) 30) (reg (h from) 28)
+values_in h line = line
+
+abbrev pub operators_in : (ℕ → Home) → Line → Line
+operators_in h (Unary to op kind from) = Unary (reg (h to) 30) op kind (reg (h from) 28)
+operators_in h (Compute to op kind left right) = Compute (reg (h to) 30) op kind (reg (h left) 28) (reg (h right) 29)
+operators_in h (Compare to op kind left right) = Compare (reg (h to) 30) op kind (reg (h left) 28) (reg (h right) 29)
+operators_in h line = line
+
+abbrev pub pointers_in : (ℕ → Home) → Line → Line
+pointers_in h (Move to size back pointer by) = Move (reg (h to) 30) size back (reg (h pointer) 28) (reg (h by) 29)
+pointers_in h (Distance to size left right) = Distance (reg (h to) 30) size (reg (h left) 28) (reg (h right) 29)
+pointers_in h line = line
+
+abbrev pub places_in : (ℕ → Home) → Line → Line
+places_in h (Address to place) = Address (reg (h to) 30) (on_place h place)
+places_in h (Read to place kind access) = Read (reg (h to) 30) (on_place h place) kind access
+places_in h (Write place kind from access) = Write (on_place h place) kind (reg (h from) 29) access
+places_in h line = line
+
+abbrev pub in_registers : (ℕ → Home) → Line → Line
+in_registers h line = places_in h (pointers_in h (operators_in h (values_in h line)))
+
+abbrev pub load_some : (ℕ → Home) → Option ℕ → ℕ → ℕ → List Line → List Line
+load_some h None scratch access rest = rest
+load_some h (Some v) scratch access rest = load (h v) scratch access rest
+
+abbrev pub save_some : (ℕ → Home) → Option ℕ → ℕ → List Line → List Line
+save_some h None access rest = rest
+save_some h (Some v) access rest = save (h v) access rest
+
+abbrev pub plain_line : (ℕ → Home) → ℕ → Line → List Line → List Line
+plain_line h n line rest =
+    load_some h (first_operand line) 28 n (load_some h (second_operand line) 29 (n + 1) (in_registers h line ∷ save_some h (target line) (n + 2) rest))
+
+-- lines with numbers from n up to next
+pub record AddsLines (h : ℕ → Home) (n : ℕ) (lines : List Line) (next : ℕ) (old new : List Line) : Type 0 where
+  pub next_is : next ≡ n + numbers_kept * length lines
+  pub adds : (tail : List Line) → new ++ tail ≡ old ++ put_lines h n lines tail

@@ -1,0 +1,228 @@
+ghost use Rattle.std.specs.Prelude.{◌≡◌};
+ghost use Rattle.im_alloc_relation.specs.Homes.{on_place};
+ghost use Rattle.im_alloc.specs.Slots.{homes_are};
+ghost use Rattle.im_alloc.specs.Parts.{pointer_in, first_operand, second_operand, target};
+ghost use Rattle.im_alloc.specs.Parts.{values_in, operators_in, pointers_in, places_in};
+ghost use Rattle.im_alloc.specs.Parts.{in_registers};
+
+use crate::homes::Homes;
+use im_block::{Line, Place};
+
+fn pointer_of(place: Place) -> Option<u32>
+    ensures { result ≡ pointer_in place }
+{
+    match place {
+        Place::Static { .. } | Place::Local { .. } => None,
+        Place::Through { pointer, .. } => Some(pointer),
+    }
+}
+
+/// The register that is brought into x28, if a line has one.
+pub(crate) fn first_of(line: Line) -> Option<u32>
+    ensures { result ≡ first_operand line }
+{
+    match line {
+        Line::Copy { from, .. }
+        | Line::Convert { from, .. }
+        | Line::Unary { from, .. }
+        | Line::Not { from, .. } => Some(from),
+        Line::Compute { left, .. } | Line::Compare { left, .. } | Line::Distance { left, .. } => {
+            Some(left)
+        }
+        Line::Move { pointer, .. } => Some(pointer),
+        Line::Address { place, .. } | Line::Read { place, .. } | Line::Write { place, .. } => {
+            pointer_of(place)
+        }
+        _ => None,
+    }
+}
+
+/// The register that is brought into x29, if a line has one.
+pub(crate) fn second_of(line: Line) -> Option<u32>
+    ensures { result ≡ second_operand line }
+{
+    match line {
+        Line::Compute { right, .. } | Line::Compare { right, .. } | Line::Distance { right, .. } =>
+            { Some(right) }
+        Line::Move { by, .. } => Some(by),
+        Line::Write { from, .. } => Some(from),
+        _ => None,
+    }
+}
+
+/// The register that a line sets, if it does. Calls have their own way.
+pub(crate) fn target_of(line: Line) -> Option<u32>
+    ensures { result ≡ target line }
+{
+    match line {
+        Line::Put { to, .. }
+        | Line::PutNull { to }
+        | Line::Copy { to, .. }
+        | Line::Convert { to, .. }
+        | Line::Unary { to, .. }
+        | Line::Not { to, .. }
+        | Line::Compute { to, .. }
+        | Line::Compare { to, .. }
+        | Line::Move { to, .. }
+        | Line::Distance { to, .. }
+        | Line::Address { to, .. }
+        | Line::Read { to, .. } => Some(to),
+        _ => None,
+    }
+}
+
+fn place_on(homes: Homes, place: Place) -> Place
+    ensures { result ≡ on_place (homes_are homes) place }
+{
+    match place {
+        Place::Static { .. } | Place::Local { .. } => place,
+        Place::Through { pointer, offset } => Place::Through {
+            pointer: homes.register(pointer, 28),
+            offset,
+        },
+    }
+}
+
+fn values_on(homes: Homes, line: Line) -> Line
+    ensures { result ≡ values_in (homes_are homes) line }
+{
+    match line {
+        Line::Put { to, number } => Line::Put {
+            to: homes.register(to, 30),
+            number,
+        },
+        Line::PutNull { to } => Line::PutNull {
+            to: homes.register(to, 30),
+        },
+        Line::Copy { to, from } => Line::Copy {
+            to: homes.register(to, 30),
+            from: homes.register(from, 28),
+        },
+        Line::Convert { to, kind, from } => Line::Convert {
+            to: homes.register(to, 30),
+            kind,
+            from: homes.register(from, 28),
+        },
+        Line::Not { to, from } => Line::Not {
+            to: homes.register(to, 30),
+            from: homes.register(from, 28),
+        },
+        _ => line,
+    }
+}
+
+fn operators_on(homes: Homes, line: Line) -> Line
+    ensures { result ≡ operators_in (homes_are homes) line }
+{
+    match line {
+        Line::Unary { to, op, kind, from } => Line::Unary {
+            to: homes.register(to, 30),
+            op,
+            kind,
+            from: homes.register(from, 28),
+        },
+        Line::Compute {
+            to,
+            op,
+            kind,
+            left,
+            right,
+        } => Line::Compute {
+            to: homes.register(to, 30),
+            op,
+            kind,
+            left: homes.register(left, 28),
+            right: homes.register(right, 29),
+        },
+        Line::Compare {
+            to,
+            op,
+            kind,
+            left,
+            right,
+        } => Line::Compare {
+            to: homes.register(to, 30),
+            op,
+            kind,
+            left: homes.register(left, 28),
+            right: homes.register(right, 29),
+        },
+        _ => line,
+    }
+}
+
+fn pointers_on(homes: Homes, line: Line) -> Line
+    ensures { result ≡ pointers_in (homes_are homes) line }
+{
+    match line {
+        Line::Move {
+            to,
+            size,
+            back,
+            pointer,
+            by,
+        } => Line::Move {
+            to: homes.register(to, 30),
+            size,
+            back,
+            pointer: homes.register(pointer, 28),
+            by: homes.register(by, 29),
+        },
+        Line::Distance {
+            to,
+            size,
+            left,
+            right,
+        } => Line::Distance {
+            to: homes.register(to, 30),
+            size,
+            left: homes.register(left, 28),
+            right: homes.register(right, 29),
+        },
+        _ => line,
+    }
+}
+
+fn places_on(homes: Homes, line: Line) -> Line
+    ensures { result ≡ places_in (homes_are homes) line }
+{
+    match line {
+        Line::Address { to, place } => Line::Address {
+            to: homes.register(to, 30),
+            place: place_on(homes, place),
+        },
+        Line::Read {
+            to,
+            place,
+            kind,
+            access,
+        } => Line::Read {
+            to: homes.register(to, 30),
+            place: place_on(homes, place),
+            kind,
+            access,
+        },
+        Line::Write {
+            place,
+            kind,
+            from,
+            access,
+        } => Line::Write {
+            place: place_on(homes, place),
+            kind,
+            from: homes.register(from, 29),
+            access,
+        },
+        _ => line,
+    }
+}
+
+/// A line that is no call, over the registers in which its values are.
+pub(crate) fn in_registers(homes: Homes, line: Line) -> Line
+    ensures { result ≡ in_registers (homes_are homes) line }
+{
+    let line = values_on(homes, line);
+    let line = operators_on(homes, line);
+    let line = pointers_on(homes, line);
+    places_on(homes, line)
+}

@@ -1,0 +1,372 @@
+ghost use Rattle.std.specs.Prelude.{IfOk};
+ghost use Rattle.im_alloc.specs.Sample.{IsTaken};
+
+use crate::homes::Homes;
+use crate::lines::push_line;
+use crate::place;
+use im_block::{Block, Exit, Function, Line, Object, Place, Registers, Unit};
+use im_num::{Cause, Kind};
+use im_store::{BinaryOp, Comparison, UnaryOp};
+use std::alloc::Global;
+use std::test::Fail;
+
+// Register 0 is a parameter, in x10; the others are in the slots of their numbers.
+const HOMES: Homes = Homes {
+    parameters: 1,
+    count: 8,
+};
+
+#[test]
+fn values_come_and_go_home(rt: HostRuntime) -> Result<(), Fail> {
+    let mut lines = Vec::new(rt.alloc());
+    push_line(&mut lines, HOMES, 0, Line::Put { to: 1, number: 7 })?;
+    push_line(&mut lines, HOMES, 16, Line::PutNull { to: 2 })?;
+    push_line(&mut lines, HOMES, 32, Line::Copy { to: 3, from: 0 })?;
+    push_line(
+        &mut lines,
+        HOMES,
+        48,
+        Line::Convert {
+            to: 1,
+            kind: Kind::U8,
+            from: 3,
+        },
+    )?;
+    push_line(
+        &mut lines,
+        HOMES,
+        64,
+        Line::Unary {
+            to: 4,
+            op: UnaryOp::Negate,
+            kind: Kind::I32,
+            from: 1,
+        },
+    )?;
+    push_line(&mut lines, HOMES, 80, Line::Not { to: 5, from: 0 })?;
+    let want = [
+        Line::Put { to: 30, number: 7 },
+        spill(1, 30, 2),
+        Line::PutNull { to: 30 },
+        spill(2, 30, 18),
+        Line::Copy { to: 30, from: 10 },
+        spill(3, 30, 34),
+        reload(28, 3, 48),
+        Line::Convert {
+            to: 30,
+            kind: Kind::U8,
+            from: 28,
+        },
+        spill(1, 30, 50),
+        reload(28, 1, 64),
+        Line::Unary {
+            to: 30,
+            op: UnaryOp::Negate,
+            kind: Kind::I32,
+            from: 28,
+        },
+        spill(4, 30, 66),
+        Line::Not { to: 30, from: 10 },
+        spill(5, 30, 82),
+    ];
+    assert_eq!(rt; lines.as_slice(), want.as_slice());
+    Ok(())
+}
+
+#[test]
+fn two_operands_come(rt: HostRuntime) -> Result<(), Fail> {
+    let mut lines = Vec::new(rt.alloc());
+    push_line(
+        &mut lines,
+        HOMES,
+        0,
+        Line::Compute {
+            to: 2,
+            op: BinaryOp::Add,
+            kind: Kind::I32,
+            left: 0,
+            right: 1,
+        },
+    )?;
+    push_line(
+        &mut lines,
+        HOMES,
+        16,
+        Line::Compare {
+            to: 4,
+            op: Comparison::Less,
+            kind: Kind::U32,
+            left: 1,
+            right: 2,
+        },
+    )?;
+    push_line(
+        &mut lines,
+        HOMES,
+        32,
+        Line::Move {
+            to: 5,
+            size: 4,
+            back: true,
+            pointer: 2,
+            by: 1,
+        },
+    )?;
+    push_line(
+        &mut lines,
+        HOMES,
+        48,
+        Line::Distance {
+            to: 6,
+            size: 4,
+            left: 5,
+            right: 2,
+        },
+    )?;
+    let want = [
+        reload(29, 1, 1),
+        Line::Compute {
+            to: 30,
+            op: BinaryOp::Add,
+            kind: Kind::I32,
+            left: 10,
+            right: 29,
+        },
+        spill(2, 30, 2),
+        reload(28, 1, 16),
+        reload(29, 2, 17),
+        Line::Compare {
+            to: 30,
+            op: Comparison::Less,
+            kind: Kind::U32,
+            left: 28,
+            right: 29,
+        },
+        spill(4, 30, 18),
+        reload(28, 2, 32),
+        reload(29, 1, 33),
+        Line::Move {
+            to: 30,
+            size: 4,
+            back: true,
+            pointer: 28,
+            by: 29,
+        },
+        spill(5, 30, 34),
+        reload(28, 5, 48),
+        reload(29, 2, 49),
+        Line::Distance {
+            to: 30,
+            size: 4,
+            left: 28,
+            right: 29,
+        },
+        spill(6, 30, 50),
+    ];
+    assert_eq!(rt; lines.as_slice(), want.as_slice());
+    Ok(())
+}
+
+#[test]
+fn places_are_over_registers(rt: HostRuntime) -> Result<(), Fail> {
+    let mut lines = Vec::new(rt.alloc());
+    let local = Place::Local {
+        object: 1,
+        offset: 0,
+    };
+    let kind = Kind::I32;
+    push_line(
+        &mut lines,
+        HOMES,
+        16,
+        Line::Address {
+            to: 5,
+            place: local,
+        },
+    )?;
+    push_line(
+        &mut lines,
+        HOMES,
+        32,
+        Line::Read {
+            to: 6,
+            place: behind(5),
+            kind,
+            access: 1,
+        },
+    )?;
+    push_line(
+        &mut lines,
+        HOMES,
+        48,
+        Line::Write {
+            place: behind(5),
+            kind,
+            from: 6,
+            access: 2,
+        },
+    )?;
+    push_line(
+        &mut lines,
+        HOMES,
+        64,
+        Line::Write {
+            place: local,
+            kind,
+            from: 0,
+            access: 3,
+        },
+    )?;
+    let want = [
+        Line::Address {
+            to: 30,
+            place: local,
+        },
+        spill(5, 30, 18),
+        reload(28, 5, 32),
+        Line::Read {
+            to: 30,
+            place: behind(28),
+            kind,
+            access: 1,
+        },
+        spill(6, 30, 34),
+        reload(28, 5, 48),
+        reload(29, 6, 49),
+        Line::Write {
+            place: behind(28),
+            kind,
+            from: 29,
+            access: 2,
+        },
+        Line::Write {
+            place: local,
+            kind,
+            from: 10,
+            access: 3,
+        },
+    ];
+    assert_eq!(rt; lines.as_slice(), want.as_slice());
+    Ok(())
+}
+
+#[test]
+fn calls_have_their_arguments_in_order(rt: HostRuntime) -> Result<(), Fail> {
+    let mut lines = Vec::new(rt.alloc());
+    push_line(&mut lines, HOMES, 0, Line::Cut(Cause::Entry))?;
+    push_line(
+        &mut lines,
+        HOMES,
+        16,
+        Line::Call {
+            to: 7,
+            function: 1,
+            first: 3,
+            count: 2,
+        },
+    )?;
+    push_line(&mut lines, HOMES, 32, Line::GetChar { to: 1 })?;
+    push_line(&mut lines, HOMES, 48, Line::PutChar { to: 2, from: 1 })?;
+    let want = [
+        Line::Cut(Cause::Entry),
+        reload(10, 3, 19),
+        reload(11, 4, 20),
+        Line::Call {
+            to: 10,
+            function: 1,
+            first: 10,
+            count: 2,
+        },
+        Line::Cut(Cause::Return),
+        spill(7, 10, 18),
+        Line::GetChar { to: 10 },
+        Line::Cut(Cause::Return),
+        spill(1, 10, 34),
+        reload(10, 1, 48),
+        Line::PutChar { to: 10, from: 10 },
+        Line::Cut(Cause::Return),
+        spill(2, 10, 50),
+    ];
+    assert_eq!(rt; lines.as_slice(), want.as_slice());
+    Ok(())
+}
+
+// `int main(void) { int n; return n; }`, whose read is access 5.
+fn sample(alloc: Global) -> Result<Unit, Fail>
+    ensures { IfOk result (λ unit. IsTaken unit) }
+{
+    let lines = vec![in alloc;
+        Line::Read {
+            to: 0,
+            place: Place::Local {
+                object: 0,
+                offset: 0
+            },
+            kind: Kind::I32,
+            access: 5,
+        },
+    ]?;
+    let exit = Exit::Return(Some(0));
+    let blocks = vec![in alloc; Block { lines, exit }]?;
+    let cells = Vec::new(alloc);
+    let objects = vec![in alloc; Object { size: 4, cells }]?;
+    let functions = vec![in alloc;
+        Function {
+            nodes: 4,
+            need: 100,
+            registers: Registers::Virtual,
+            register_count: 1,
+            parameters: 0,
+            first_parameter: 0,
+            first_object: 0,
+            objects,
+            slots: 0,
+            blocks,
+            entry: 0,
+        },
+    ]?;
+    Ok(Unit {
+        statics: Vec::new(alloc),
+        functions,
+        main: 0,
+    })
+}
+
+#[test]
+fn a_unit_is_placed(rt: HostRuntime) -> Result<(), Fail> {
+    let placed = place(rt.alloc(), sample(rt.alloc())?)?;
+    let want = [
+        Line::Read {
+            to: 30,
+            place: Place::Local {
+                object: 0,
+                offset: 0,
+            },
+            kind: Kind::I32,
+            access: 5,
+        },
+        spill(0, 30, 8),
+        reload(10, 0, 22),
+    ];
+    for function in placed.functions.iter() {
+        assert_eq!(rt; function.slots, 1);
+        assert_eq!(rt; function.registers, Registers::Machine);
+        for block in function.blocks.iter() {
+            assert_eq!(rt; block.lines.as_slice(), want.as_slice());
+            assert_eq!(rt; block.exit, Exit::Return(Some(10)));
+        }
+    }
+    Ok(())
+}
+
+fn reload(to: u32, slot: u32, access: u64) -> Line {
+    Line::Reload { to, slot, access }
+}
+
+fn spill(slot: u32, from: u32, access: u64) -> Line {
+    Line::Spill { slot, from, access }
+}
+
+fn behind(pointer: u32) -> Place {
+    Place::Through { pointer, offset: 4 }
+}

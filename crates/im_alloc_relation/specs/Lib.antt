@@ -1,0 +1,4 @@
+pub mod Homes
+pub mod Live
+pub mod Placing
+pub mod Settled

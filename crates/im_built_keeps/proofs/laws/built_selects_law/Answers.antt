@@ -1,6 +1,0 @@
-use Rattle.im_built_keeps.proofs.Selected.{selects}
-use Rattle.im_built_keeps.proofs.laws.built_selects_law.Goals as goal
-
-pub returns : goal.returns
-returns c =
-    selects c.ready_law.ensures c.placed_code_law.ensures c.recut_keeps_law.ensures c.linkable_law.ensures c.live_code_law.ensures c.executes_law.ensures c.selects_law.ensures

@@ -1,0 +1,91 @@
+-- The checker's answers.
+use Rattle.std.proofs.Common.{◌≡◌, ◌≤◌, ◌<◌, ℕ, zero, suc, List, [], ◌∷◌, length, get_or, refl, sym, ap, ◌∙◌, subst, arith}
+use Rattle.std.specs.List.{All}
+use Rattle.std.specs.Prelude.{Contains}
+use Rattle.im_ctree.specs.Tree as t
+use Rattle.im_check_externals.specs.im_ctype.Table.{Table, IsIn}
+use Rattle.im_check_externals.specs.im_store.Statics.{StaticObject}
+use Rattle.im_typed.specs.declared.program.Func as rf
+use Rattle.im_typed.specs.declared.program.Prog.{Prog}
+use Rattle.im_typed.specs.declared.program.Static as rst
+use Rattle.im_typed.specs.Limits.{static_bytes}
+use Rattle.im_typed.specs.ProgramOf.{program_of}
+use Rattle.im_rules.specs.FileScope.{file_start}
+use Rattle.im_rules.specs.TypedUnit.{TypedUnit}
+use Rattle.im_rules.specs.UnitBreaks.{some_externals}
+use Rattle.im_rules_limits.specs.Limits as l
+use Rattle.im_lower_plain.specs.MakeUnit.{HasTypes, KnowsTypes}
+use Rattle.im_typed_laws.specs.Laws.{StatementsLaw, ObjectsLaw}
+use Rattle.im_rules_sound_unit.specs.Laws.{UnitsLaw}
+use Rattle.im_rules_sound_unit.specs.im_rules_sound_places.Units.{IsWrittenUnit}
+use Rattle.im_check_stop.specs.declared.stop.Stop.{Stop}
+use Rattle.im_check_stop.specs.declared.stop.Stop.TheVariants as s
+use Rattle.im_check_defined.specs.declared.function.Defined.{Defined}
+use Rattle.im_check_program.specs.declared.programs.Parts.{Parts}
+use Rattle.im_check_program.specs.Known.{AreStaticsOf, AreFunctionsOf}
+use Rattle.im_check_program.specs.Programs.{IsProgram}
+use Rattle.im_check.specs.declared.fault.CheckFault.{CheckFault}
+use Rattle.im_check.specs.declared.fault.CheckFault.TheVariants as f
+use Rattle.im_check.specs.declared.fault.Limit.TheVariants as w
+use Rattle.im_check.specs.Checked.{IsChecked, IsCheckFault}
+use Rattle.im_check.specs.Counts.{IsOverParameters, IsOverStatics}
+use Rattle.im_check.specs.Stops.{fault_of}
+use Rattle.im_check.specs.Units.{UnitTyped, IsUnitFault}
+use Rattle.im_check.proofs.Programs.{meant, is_typed, statics_same, within, is_program}
+
+statics_known : (types : Table) (xs : List StaticObject) (ss : List rst.Static) → AreStaticsOf types xs ss → All (λ (x : rst.Static). IsIn types x.object.ty) ss
+statics_known types [] [] h = λ i d lt. absurd (omega (arith, lt))
+statics_known types [] (s ∷ ss) h = absurd h
+statics_known types (x ∷ xs) [] h = absurd h
+statics_known types (x ∷ xs) (s ∷ ss) h = at (statics_known types xs ss h.1)
+  where
+    at : All (λ (y : rst.Static). IsIn types y.object.ty) ss → (i : ℕ) (d : rst.Static) → i < length (s ∷ ss) → IsIn types (get_or (s ∷ ss) i d).object.ty
+    at rest zero d lt = h.0.known
+    at rest (suc i) d lt = rest i d (omega (arith, lt))
+
+functions_known : (before after : Table) (fs : List Defined) (gs : List rf.Func) → AreFunctionsOf before after fs gs → All (λ (g : rf.Func). HasTypes after g.objects.items) gs
+functions_known before after [] [] h = λ i d lt. absurd (omega (arith, lt))
+functions_known before after [] (g ∷ gs) h = absurd h
+functions_known before after (k ∷ fs) [] h = absurd h
+functions_known before after (k ∷ fs) (g ∷ gs) h = at (functions_known before after fs gs h.1)
+  where
+    at : All (λ (y : rf.Func). HasTypes after y.objects.items) gs → (i : ℕ) (d : rf.Func) → i < length (g ∷ gs) → HasTypes after (get_or (g ∷ gs) i d).objects.items
+    at rest zero d lt = h.0.known
+    at rest (suc i) d lt = rest i d (omega (arith, lt))
+
+-- within the limits the program is that of the definitions
+pub checked : StatementsLaw → ObjectsLaw → UnitsLaw → {u : t.Tree} {p : Parts} (h : UnitTyped u p) (g : Prog) → IsProgram p g → IsWrittenUnit u → ((n : ℕ) → Contains (l.parameter_counts u) n → n ≤ 8) → static_bytes (program_of g).statics ≤ 1048576
+    → IsChecked u g
+checked statements objects units {u = u} {p = p} h g m written few small =
+    let bytes : static_bytes (meant h).statics ≤ 1048576 = subst (λ xs. static_bytes xs ≤ 1048576) (statics_same h g m) small in
+    let limits : l.IsWithinLimits u = within h h.within few bytes in
+    let same = is_program statements objects units h g m written limits in
+    record {
+      typed = subst (λ z. TypedUnit u z) (sym same) (is_typed h);
+      within = limits;
+      known = record { statics = statics_known g.types _ g.statics.items m.statics; objects = functions_known p.file.place.structs g.types p.functions.items g.funcs.items m.functions };
+    }
+
+unit_stop : (u : t.Tree) (stop : Stop) → IsUnitFault u stop → IsCheckFault u (fault_of stop)
+unit_stop u (s.Rule rule token) h = h
+unit_stop u (s.Large bytes) h = l.too_large h.0 h.1
+unit_stop u s.Memory h = tt
+
+pub unit_stops : (u : t.Tree) (stop : Stop) (x : CheckFault) → x ≡ fault_of stop → IsUnitFault u stop → IsCheckFault u x
+unit_stops u stop x same h = subst (IsCheckFault u) (sym same) (unit_stop u stop h)
+
+pub parameters_stop : (u : t.Tree) (x : CheckFault) → IsOverParameters u x → IsCheckFault u x
+parameters_stop u (f.Limit w.Parameters count) h = l.too_many_parameters h
+parameters_stop u (f.Limit w.Size count) h = absurd h
+parameters_stop u (f.Limit w.Statics count) h = absurd h
+parameters_stop u (f.Rule rule token) h = absurd h
+parameters_stop u f.OutOfMemory h = tt
+
+pub statics_stop : {u : t.Tree} {p : Parts} (h : UnitTyped u p) (g : Prog) (x : CheckFault) → IsProgram p g → IsOverStatics (program_of g) x → IsCheckFault u x
+statics_stop {u = u} h g (f.Limit w.Statics count) m o =
+    let same : count ≡ static_bytes (meant h).statics = o.0 ∙ ap (λ xs. static_bytes xs) (statics_same h g m) in
+    (subst (λ n. l.Exceeds u l.of_statics n) (sym same) (l.too_many_statics (is_typed h) (subst (λ n. 1048576 < n) same o.1)), h.within)
+statics_stop h g (f.Limit w.Parameters count) m o = absurd o
+statics_stop h g (f.Limit w.Size count) m o = absurd o
+statics_stop h g (f.Rule rule token) m o = absurd o
+statics_stop h g f.OutOfMemory m o = tt

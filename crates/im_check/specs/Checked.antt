@@ -1,0 +1,36 @@
+-- What the checker answers.
+use Rattle.std.specs.Prelude.{ℕ}
+use Rattle.im_ctree.specs.Tree as t
+use Rattle.im_typed.specs.declared.program.Prog.{Prog}
+use Rattle.im_typed.specs.ProgramOf.{program_of}
+use Rattle.im_rules.specs.FileScope.{file_start}
+use Rattle.im_rules.specs.TypedUnit.{TypedUnit}
+use Rattle.im_rules.specs.UnitBreaks.{UnitBroken, some_externals}
+use Rattle.im_rules_limits.specs.Limits as l
+use Rattle.im_lower_plain.specs.MakeUnit.{KnowsTypes}
+use Rattle.im_check.specs.declared.fault.CheckFault.{CheckFault}
+use Rattle.im_check.specs.declared.fault.CheckFault.TheVariants.{Rule, Limit, OutOfMemory}
+use Rattle.im_check.specs.declared.fault.Limit as k
+use Rattle.im_check.specs.declared.fault.Limit.TheVariants as which
+
+-- the tree is typed to the program and within the limits, and the types of the program's objects are in its table
+pub record IsChecked (u : t.Tree) (g : Prog) : Type 0 where
+  pub typed : TypedUnit u (program_of g)
+  pub within : l.IsWithinLimits u
+  pub known : KnowsTypes g
+
+-- no type is over the limit of sizes
+abbrev pub HasNoLargeType : t.Tree → Type 0
+HasNoLargeType u = l.IsFileWithin (file_start u) (some_externals u)
+
+-- a count is over its limit; that of the statics only where no size is over
+abbrev pub IsOver : t.Tree → k.Limit → ℕ → Type 0
+IsOver u which.Parameters count = l.Exceeds u l.of_parameters count
+IsOver u which.Size count = l.Exceeds u l.of_size count
+IsOver u which.Statics count = l.Exceeds u l.of_statics count × HasNoLargeType u
+
+-- a node breaks the rule; a count is over its limit; or memory ran out
+abbrev pub IsCheckFault : t.Tree → CheckFault → Type 0
+IsCheckFault u (Rule number token) = UnitBroken u number token
+IsCheckFault u (Limit which count) = IsOver u which count
+IsCheckFault u OutOfMemory = Unit {0}

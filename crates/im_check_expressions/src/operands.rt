@@ -1,0 +1,181 @@
+//! The terms of expressions that have operands, form by form. None of these functions is inlined, so
+//! that the walk takes the stack of one of them at each step down the tree, and not of all.
+ghost use Rattle.im_ctree_parts.specs.Lists.{expression_in};
+ghost use Rattle.im_check_expression_parts.specs.Walked.{IsTyped};
+
+use crate::expressions::{expression, terms};
+use crate::leaves::{called, names_function, not_called};
+use crate::type_names::type_name;
+use im_check_conversions::type_in;
+use im_check_forms::{
+    assign_term, binary_term, cast_term, comma_term, conditional_term, index_term, size_term,
+    step_term, unary_term,
+};
+use im_check_members::{arrowed, dotted};
+use im_check_operands::Term;
+use im_check_place::Place;
+use im_check_stop::Stop;
+use im_ctree::{Expression, ExpressionKind};
+use std::alloc::Global;
+
+/// The term of `a[b]` (C11 6.5.2.1).
+#[cycle(walk)]
+#[inline(never)]
+pub(crate) fn subscript(alloc: Global, e: &Expression, place: &mut Place) -> Result<Term, Stop>
+    ensures { IsTyped place.old (expression_in e.now) place.new result }
+{
+    let ExpressionKind::Index(whole, by) = &e.kind else {
+        return Err(Stop::Memory);
+    };
+    let x = expression(alloc, whole, place)?;
+    let y = expression(alloc, by, place)?;
+    index_term(alloc, place.structs.table(), e.at, x, y)
+}
+
+/// The term of a call (C11 6.5.2.2).
+#[cycle(walk)]
+#[inline(never)]
+pub(crate) fn call(alloc: Global, e: &Expression, place: &mut Place) -> Result<Term, Stop>
+    ensures { IsTyped place.old (expression_in e.now) place.new result }
+{
+    let ExpressionKind::Call(callee, arguments) = &e.kind else {
+        return Err(Stop::Memory);
+    };
+    if names_function(&place.scope, callee) {
+        let xs = terms(alloc, arguments, place)?;
+        called(alloc, place, e.at, callee, xs)
+    } else {
+        let x = expression(alloc, callee, place)?;
+        let xs = terms(alloc, arguments, place)?;
+        Err(not_called(e.at, x, xs))
+    }
+}
+
+/// The term of a member (C11 6.5.2.3).
+#[cycle(walk)]
+#[inline(never)]
+pub(crate) fn member(alloc: Global, e: &Expression, place: &mut Place) -> Result<Term, Stop>
+    ensures { IsTyped place.old (expression_in e.now) place.new result }
+{
+    match &e.kind {
+        ExpressionKind::Member(whole, name) => {
+            let x = expression(alloc, whole, place)?;
+            dotted(alloc, place.structs.table(), e.at, x, name)
+        }
+        ExpressionKind::Arrow(pointer, name) => {
+            let x = expression(alloc, pointer, place)?;
+            arrowed(alloc, place.structs.table(), e.at, x, name)
+        }
+        _ => Err(Stop::Memory),
+    }
+}
+
+/// The term of an expression of one operand (C11 6.5.2.4, 6.5.3).
+#[cycle(walk)]
+#[inline(never)]
+pub(crate) fn unary(alloc: Global, e: &Expression, place: &mut Place) -> Result<Term, Stop>
+    ensures { IsTyped place.old (expression_in e.now) place.new result }
+{
+    match &e.kind {
+        ExpressionKind::PostStep(op, operand) => {
+            let x = expression(alloc, operand, place)?;
+            step_term(
+                alloc,
+                place.structs.table(),
+                place.structs.free(),
+                e.at,
+                *op,
+                true,
+                x,
+            )
+        }
+        ExpressionKind::PreStep(op, operand) => {
+            let x = expression(alloc, operand, place)?;
+            step_term(
+                alloc,
+                place.structs.table(),
+                place.structs.free(),
+                e.at,
+                *op,
+                false,
+                x,
+            )
+        }
+        ExpressionKind::Unary(op, operand) => {
+            let x = expression(alloc, operand, place)?;
+            unary_term(alloc, place.structs.table(), e.at, *op, x)
+        }
+        ExpressionKind::SizeOfExpression(operand) => {
+            let x = expression(alloc, operand, place)?;
+            size_term(place.structs.table(), e.at, type_in(&x))
+        }
+        ExpressionKind::SizeOfType(name) => {
+            let q = type_name(alloc, name, place)?;
+            size_term(place.structs.table(), e.at, &q.ty)
+        }
+        _ => Err(Stop::Memory),
+    }
+}
+
+/// The term of a cast (C11 6.5.4).
+#[cycle(walk)]
+#[inline(never)]
+pub(crate) fn cast(alloc: Global, e: &Expression, place: &mut Place) -> Result<Term, Stop>
+    ensures { IsTyped place.old (expression_in e.now) place.new result }
+{
+    let ExpressionKind::Cast(name, operand) = &e.kind else {
+        return Err(Stop::Memory);
+    };
+    let q = type_name(alloc, name, place)?;
+    let x = expression(alloc, operand, place)?;
+    cast_term(alloc, place.structs.table(), e.at, q.ty, x)
+}
+
+/// The term of a binary or conditional expression or of an assignment (C11 6.5.5 to 6.5.16).
+#[cycle(walk)]
+#[inline(never)]
+pub(crate) fn operation(alloc: Global, e: &Expression, place: &mut Place) -> Result<Term, Stop>
+    ensures { IsTyped place.old (expression_in e.now) place.new result }
+{
+    match &e.kind {
+        ExpressionKind::Binary(op, left, right) => {
+            let x = expression(alloc, left, place)?;
+            let y = expression(alloc, right, place)?;
+            binary_term(alloc, place.structs.table(), e.at, *op, x, y)
+        }
+        ExpressionKind::Conditional(test, first, second) => {
+            let w = expression(alloc, test, place)?;
+            let x = expression(alloc, first, place)?;
+            let y = expression(alloc, second, place)?;
+            conditional_term(alloc, place.structs.table(), e.at, w, x, y)
+        }
+        ExpressionKind::Assign(op, left, right) => {
+            let x = expression(alloc, left, place)?;
+            let y = expression(alloc, right, place)?;
+            assign_term(
+                alloc,
+                place.structs.table(),
+                place.structs.free(),
+                e.at,
+                *op,
+                x,
+                y,
+            )
+        }
+        _ => Err(Stop::Memory),
+    }
+}
+
+/// The term of `a, b` (C11 6.5.17).
+#[cycle(walk)]
+#[inline(never)]
+pub(crate) fn comma(alloc: Global, e: &Expression, place: &mut Place) -> Result<Term, Stop>
+    ensures { IsTyped place.old (expression_in e.now) place.new result }
+{
+    let ExpressionKind::Comma(left, right) = &e.kind else {
+        return Err(Stop::Memory);
+    };
+    let x = expression(alloc, left, place)?;
+    let y = expression(alloc, right, place)?;
+    Ok(comma_term(alloc, place.structs.table(), x, y)?)
+}

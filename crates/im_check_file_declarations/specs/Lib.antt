@@ -1,0 +1,3 @@
+pub mod Declarations
+pub mod Steps
+pub use Rattle.im_check_file_specifiers.specs.Answers

@@ -1,0 +1,9 @@
+use Rattle.std.proofs.Common.{ap, ◌∙◌}
+use Rattle.im_ctype.specs.Table.{structs_of}
+use Rattle.im_check_constancy.specs.im_rules.Rules as u
+use Rattle.im_check_operands.proofs.rules.may_step.Goals as goal
+
+pub returns : goal.returns
+returns c =
+    let t = c.args.table.now in
+    c.rule_30_step.ensures ∙ ap (λ o. u.rule_30_step (structs_of t) o) (c.operand_of.ensures t)

@@ -1,0 +1,1 @@
+pub use Rattle.im_check_conversions.specs.im_rules

@@ -1,0 +1,2 @@
+pub mod Sizes
+pub use Rattle.im_rules_limits.specs as im_rules_limits

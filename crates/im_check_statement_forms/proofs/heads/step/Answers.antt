@@ -1,0 +1,13 @@
+use Rattle.std.proofs.Common.{[], refl}
+use Rattle.std.proofs.lemmas.Result.{MatchResult-weaker}
+use Rattle.im_check_locals.specs.im_ctree_parts.Lists.{expression_in}
+use Rattle.im_check_statement_forms.proofs.Begun.{steps_by, steps_none, maybe_fault}
+use Rattle.im_check_statement_forms.proofs.heads.step.Goals as goal
+
+pub returns-in-None : goal.returns-in-None
+returns-in-None c = rw c.in-None.is (steps_none c.args.body.now _ refl)
+
+pub returns-in-Some : goal.returns-in-Some
+returns-in-Some c =
+    let e = expression_in c.in-Some.e in
+    rw c.in-Some.is (MatchResult-weaker c.evaluated.result c.evaluated.ensures (λ x d. steps_by d) (λ f h. maybe_fault (λ x. []) c.args.body.now e 0 f h))

@@ -1,0 +1,35 @@
+use Rattle.std.proofs.Common.{refl}
+use Rattle.clap.proofs.OnLiterals.{clap_on_literals}
+use Rattle.im_cmd_words.proofs.laws.words_taken_law.Goals as goal
+
+pub returns-clause-build : goal.returns-clause-build
+unfolding clap_on_literals
+returns-clause-build c = refl
+
+pub returns-clause-run : goal.returns-clause-run
+unfolding clap_on_literals
+returns-clause-run c = refl
+
+pub returns-clause-exec : goal.returns-clause-exec
+unfolding clap_on_literals
+returns-clause-exec c = refl
+
+pub returns-clause-dump : goal.returns-clause-dump
+unfolding clap_on_literals
+returns-clause-dump c = refl
+
+pub returns-clause-upgrade : goal.returns-clause-upgrade
+unfolding clap_on_literals
+returns-clause-upgrade c = refl
+
+pub returns-clause-numbers : goal.returns-clause-numbers
+unfolding clap_on_literals
+returns-clause-numbers c = refl
+
+pub returns-clause-report : goal.returns-clause-report
+unfolding clap_on_literals
+returns-clause-report c = refl
+
+pub returns-clause-eval : goal.returns-clause-eval
+unfolding clap_on_literals
+returns-clause-eval c = refl

@@ -1,0 +1,225 @@
+ghost use Rattle.std.specs.Prelude.{◌≡◌, IfOk, false};
+ghost use Rattle.clap.specs.Words.{app_of, rule_of, shape_of};
+ghost use Rattle.clap.specs.declared.builder.command.Command.TheViews.{out-Command};
+ghost use Rattle.im_cmd_words.specs.Table.{build_options, build_row, command_line, dump_row, exec_row};
+ghost use Rattle.im_cmd_words.specs.Table.{eval_options, eval_row};
+ghost use Rattle.im_cmd_words.specs.Table.{file_options, flag, numbered, operand, report_row, run_row};
+ghost use Rattle.im_cmd_words.specs.Table.{step_options, upgrade_row, valued, with_rules};
+
+use clap::builder::ValueParser;
+use clap::{Arg, ArgAction};
+use std::alloc::{AllocError, Global};
+
+/// A word that a command needs, by its place.
+fn operand<'a>(alloc: Global, name: &'a str, help: &'a str) -> Arg<'a>
+    ensures rule { rule_of result ≡ operand name.entry.now }
+    ensures local { result.global ≡ false }
+{
+    Arg::new(alloc, name).required(true).help(help)
+}
+
+fn flag<'a>(alloc: Global, name: &'a str, help: &'a str) -> Arg<'a>
+    ensures rule { rule_of result ≡ flag name.entry.now }
+    ensures local { result.global ≡ false }
+{
+    Arg::new(alloc, name)
+        .long(name)
+        .action(ArgAction::SetTrue)
+        .help(help)
+}
+
+/// An option whose value help calls `placeholder`.
+fn valued<'a>(alloc: Global, name: &'a str, placeholder: &'a str, help: &'a str) -> Arg<'a>
+    ensures rule { rule_of result ≡ valued name.entry.now }
+    ensures local { result.global ≡ false }
+{
+    Arg::new(alloc, name)
+        .long(name)
+        .value_name(placeholder)
+        .help(help)
+}
+
+/// An option whose value is a number from `least` to `most`.
+fn numbered<'a>(
+    alloc: Global,
+    name: &'a str,
+    default: &'a str,
+    least: u32,
+    most: u32,
+    help: &'a str,
+) -> Arg<'a>
+    ensures rule { rule_of result ≡ numbered name.entry.now default.entry.now least most }
+    ensures local { result.global ≡ false }
+{
+    valued(alloc, name, "N", help)
+        .default_value(default)
+        .value_parser(ValueParser::signed(i64::from(least), i64::from(most)))
+}
+
+/// What an image is built with.
+fn with_build_options<'a>(
+    alloc: Global,
+    command: clap::Command<'a>,
+) -> Result<clap::Command<'a>, AllocError>
+    requires local { (out-Command command).has_globals ≡ false }
+    ensures row { IfOk result (λ c. app_of c ≡ with_rules (app_of command.entry) build_options) }
+    ensures local { IfOk result (λ c. (out-Command c).has_globals ≡ false) }
+{
+    command
+        .arg(numbered(
+            alloc,
+            "stack",
+            "65536",
+            256,
+            1_048_576,
+            "Bytes of stack, 256 to 1048576",
+        ))?
+        .arg(numbered(
+            alloc,
+            "out-cap",
+            "1048576",
+            0,
+            1_048_576,
+            "Bytes of output that there is room for, 0 to 1048576",
+        ))
+}
+
+/// The files that a run reads.
+fn with_file_options<'a>(
+    alloc: Global,
+    command: clap::Command<'a>,
+) -> Result<clap::Command<'a>, AllocError>
+    requires local { (out-Command command).has_globals ≡ false }
+    ensures row { IfOk result (λ c. app_of c ≡ with_rules (app_of command.entry) file_options) }
+    ensures local { IfOk result (λ c. (out-Command c).has_globals ≡ false) }
+{
+    let input = "The file that the program reads; the input is empty without it";
+    let trace = "The file that lists the periods of power; there is one without it";
+    command
+        .arg(valued(alloc, "input", "F", input))?
+        .arg(valued(alloc, "trace", "F", trace))
+}
+
+/// How long a run lasts, and whether its variables are shown.
+fn with_step_options<'a>(
+    alloc: Global,
+    command: clap::Command<'a>,
+) -> Result<clap::Command<'a>, AllocError>
+    requires local { (out-Command command).has_globals ≡ false }
+    ensures row { IfOk result (λ c. app_of c ≡ with_rules (app_of command.entry) step_options) }
+    ensures local { IfOk result (λ c. (out-Command c).has_globals ≡ false) }
+{
+    let steps = "Instructions of the one period without --trace, 0 to 4294967295";
+    let vars = "Shows the program's variables at the end";
+    command
+        .arg(numbered(alloc, "steps", "100000000", 0, 4_294_967_295, steps))?
+        .arg(flag(alloc, "vars", vars))
+}
+
+fn build_row<'a>(alloc: Global) -> Result<clap::Command<'a>, AllocError>
+    ensures row { IfOk result (λ c. shape_of c ≡ build_row) }
+    ensures local { IfOk result (λ c. (out-Command c).has_globals ≡ false) }
+{
+    let command = clap::Command::new(alloc, "build")
+        .about("Builds a C source and stores its image")
+        .arg(operand(alloc, "SRC", "The C source"))?
+        .arg(operand(alloc, "IMG", "The file that gets the image"))?;
+    with_build_options(alloc, command)
+}
+
+fn run_row<'a>(alloc: Global) -> Result<clap::Command<'a>, AllocError>
+    ensures row { IfOk result (λ c. shape_of c ≡ run_row) }
+    ensures local { IfOk result (λ c. (out-Command c).has_globals ≡ false) }
+{
+    let command = clap::Command::new(alloc, "run")
+        .about("Builds a C source, stores its image, and runs that")
+        .arg(operand(alloc, "SRC", "The C source"))?
+        .arg(operand(alloc, "IMG", "The file that gets the image"))?;
+    let command = with_build_options(alloc, command)?;
+    with_step_options(alloc, with_file_options(alloc, command)?)
+}
+
+fn exec_row<'a>(alloc: Global) -> Result<clap::Command<'a>, AllocError>
+    ensures row { IfOk result (λ c. shape_of c ≡ exec_row) }
+    ensures local { IfOk result (λ c. (out-Command c).has_globals ≡ false) }
+{
+    let command = clap::Command::new(alloc, "exec")
+        .about("Runs an image")
+        .arg(operand(alloc, "IMG", "The image's file"))?;
+    with_step_options(alloc, with_file_options(alloc, command)?)
+}
+
+fn dump_row<'a>(alloc: Global) -> Result<clap::Command<'a>, AllocError>
+    ensures row { IfOk result (λ c. shape_of c ≡ dump_row) }
+    ensures local { IfOk result (λ c. (out-Command c).has_globals ≡ false) }
+{
+    clap::Command::new(alloc, "dump")
+        .about("Shows what an image holds")
+        .arg(operand(alloc, "IMG", "The image's file"))
+}
+
+fn upgrade_row<'a>(alloc: Global) -> Result<clap::Command<'a>, AllocError>
+    ensures row { IfOk result (λ c. shape_of c ≡ upgrade_row) }
+    ensures local { IfOk result (λ c. (out-Command c).has_globals ≡ false) }
+{
+    clap::Command::new(alloc, "upgrade")
+        .about("Stores an image in version 2 under another name")
+        .arg(operand(alloc, "IN", "The image's file"))?
+        .arg(operand(alloc, "OUT", "The file that gets version 2"))
+}
+
+fn report_row<'a>(alloc: Global) -> Result<clap::Command<'a>, AllocError>
+    ensures row { IfOk result (λ c. shape_of c ≡ report_row) }
+    ensures local { IfOk result (λ c. (out-Command c).has_globals ≡ false) }
+{
+    let command = clap::Command::new(alloc, "report")
+        .about("Builds a C source and tells its size, longest gap, frames and cuts")
+        .arg(operand(alloc, "SRC", "The C source"))?;
+    with_build_options(alloc, command)
+}
+
+/// What a source is evaluated with.
+fn with_eval_options<'a>(
+    alloc: Global,
+    command: clap::Command<'a>,
+) -> Result<clap::Command<'a>, AllocError>
+    requires local { (out-Command command).has_globals ≡ false }
+    ensures row { IfOk result (λ c. app_of c ≡ with_rules (app_of command.entry) eval_options) }
+    ensures local { IfOk result (λ c. (out-Command c).has_globals ≡ false) }
+{
+    let input = "The file that the program reads; the input is empty without it";
+    let fuel = "Calls, turns of loops, bytes read and written at most, 0 to 4294967295";
+    let vars = "Shows the program's variables at the end";
+    command
+        .arg(valued(alloc, "input", "F", input))?
+        .arg(numbered(alloc, "fuel", "1000000", 0, 4_294_967_295, fuel))?
+        .arg(flag(alloc, "vars", vars))
+}
+
+fn eval_row<'a>(alloc: Global) -> Result<clap::Command<'a>, AllocError>
+    ensures row { IfOk result (λ c. shape_of c ≡ eval_row) }
+    ensures local { IfOk result (λ c. (out-Command c).has_globals ≡ false) }
+{
+    let command = clap::Command::new(alloc, "eval")
+        .about("Evaluates what a C source means, with the frames of its build")
+        .arg(operand(alloc, "SRC", "The C source"))?;
+    let command = with_build_options(alloc, command)?;
+    with_eval_options(alloc, command)
+}
+
+/// The table of commands, as clap reads it.
+pub(crate) fn command_table<'a>(alloc: Global) -> Result<clap::Command<'a>, AllocError>
+    ensures { IfOk result (λ c. app_of c ≡ command_line) }
+{
+    clap::Command::new(alloc, "intermit")
+        .about("Compiles C for devices that lose power, and runs the images")
+        .after_help("`intermit COMMAND --help` tells a command's options.")
+        .subcommand_required(true)
+        .subcommand(build_row(alloc)?)?
+        .subcommand(run_row(alloc)?)?
+        .subcommand(exec_row(alloc)?)?
+        .subcommand(dump_row(alloc)?)?
+        .subcommand(upgrade_row(alloc)?)?
+        .subcommand(report_row(alloc)?)?
+        .subcommand(eval_row(alloc)?)
+}

@@ -1,7 +1,0 @@
-use Rattle.im_declarators.proofs.suffixes.array_suffix.Goals as goal
-
-pub returns-in-None : goal.returns-in-None
-returns-in-None c = rw c.in-None.is (λ k base rest others same g h. c.open_suffix.ensures k base rest others same g h)
-
-pub returns-in-Some : goal.returns-in-Some
-returns-in-Some c = rw c.in-Some.is (λ k base rest others same g h. c.length_suffix.ensures k base _ rest others same g h)

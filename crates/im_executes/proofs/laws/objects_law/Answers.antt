@@ -1,5 +1,0 @@
-use Rattle.im_executes.proofs.Follow.{named}
-use Rattle.im_executes.proofs.laws.objects_law.Goals as goal
-
-pub returns : goal.returns
-returns c = named c.shown_law.ensures c.written_law.ensures

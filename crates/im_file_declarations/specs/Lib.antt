@@ -1,3 +1,0 @@
-pub mod Declarations
-pub mod Steps
-pub use Rattle.im_file_specifiers.specs.Answers

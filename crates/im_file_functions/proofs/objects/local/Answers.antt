@@ -1,5 +1,0 @@
-use Rattle.std.proofs.Common.{refl}
-use Rattle.im_file_functions.proofs.objects.local.Goals as goal
-
-pub returns : goal.returns
-returns c = λ types rest. rw (c.in_ok-name.ensures, c.in_ok-ty.ensures) refl

@@ -1,5 +1,0 @@
-use Rattle.im_file_names.proofs.Counted.{none_taken}
-use Rattle.im_file_names.proofs.bodies.is_none.Goals as goal
-
-pub returns : goal.returns
-returns c = none_taken c.args.parameters.now

@@ -1,7 +1,0 @@
-use Rattle.std.proofs.Common.{◌≡◌, drop}
-use Rattle.im_rules.specs.Rules.{named_in}
-use Rattle.im_tree_parts.specs.Lists.{list_from}
-use Rattle.im_file_specifiers.proofs.words.has_named.Given as goal
-
-abbrev pub invariant-loop-specifier : goal.invariant-loop-specifier
-invariant-loop-specifier l = named_in (list_from l.specifiers) ≡ named_in (list_from (drop l.specifier-index l.specifiers))

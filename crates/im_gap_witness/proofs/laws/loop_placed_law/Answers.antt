@@ -1,5 +1,0 @@
-use Rattle.im_gap_witness.proofs.LoopRun.{loop_placed_law}
-use Rattle.im_gap_witness.proofs.laws.loop_placed_law.Goals as goal
-
-pub returns : goal.returns
-returns c = loop_placed_law

@@ -1,0 +1,70 @@
+-- What is built is a chain of passes.
+use Rattle.std.proofs.Common.{◌≡◌, ℕ, suc, ◌-◌, List, [], ◌∷◌, length, Some, refl, sym, subst, arith}
+use Rattle.std.specs.Prelude.{◌<◌, ◌^◌, min, All, slice_get}
+use Rattle.std.proofs.lemmas.List.Elements.{All-head, All-tail}
+use denote.RawPtr.{null_ptr}
+use Rattle.im_gap.specs.Gap.{IsGap}
+use Rattle.im_typed.specs.declared.program.Prog.{Prog}
+use Rattle.im_typed.specs.ProgramOf.{program_of}
+use Rattle.im_typed.specs.Program as p
+use Rattle.im_typed.specs.Counts.{func_need}
+use Rattle.im_typed.specs.Typing.{Each}
+use Rattle.im_block.specs.declared.access.Tags.{Tags}
+use Rattle.im_block.specs.declared.unit.Function.{Function}
+use Rattle.im_block.specs.declared.unit.Unit.{Unit as Code}
+use Rattle.im_lower_passes_laws.specs.Laws.{LowersLaw, NeedsFit}
+use Rattle.im_keeps_source.specs.Source.{source_of}
+use Rattle.im_pack_image_laws.specs.im_keeps_passes.Passes.{Selects}
+use Rattle.im_keeps_middle.specs.Middle.{Chain}
+use Rattle.im_compile.specs.declared.options.Options.{Options}
+use Rattle.im_compile.specs.declared.built.Built.{Built}
+use Rattle.im_compile.specs.Passed.{IsSource, IsPassed}
+use Rattle.im_compile.specs.Built.{IsBuilt, bytes_of}
+
+-- tags of no access; for its type the list takes what a vector of the unit has
+abbrev pub no_tags : Code → Tags
+no_tags u = record { tags = record { ptr = null_ptr; len = 0; cap = u.statics.cap; alloc = u.statics.alloc; items = []; ok = (refl, omega arith); small = u.statics.small } }
+
+-- what frames may need has 64 bits
+
+abbrev AreTold : List p.Func → List Function → Type 0
+AreTold fs cs = (k : ℕ) (f : p.Func) (c : Function) → slice_get fs k ≡ Some f → slice_get cs k ≡ Some c → c.need ≡ min (func_need f) (2 ^ 64 - 1)
+
+abbrev IsTold : Function → Type 0
+IsTold c = c.need < 2 ^ 64 - 1
+
+needs_fit : (fs : List p.Func) (cs : List Function) → length cs ≡ length fs → AreTold fs cs → All IsTold cs → Each {A = p.Func} (λ f. func_need f < 2 ^ 64) fs
+needs_fit [] cs count are told = tt
+needs_fit (f ∷ fs) [] count are told = absurd (cc)
+needs_fit (f ∷ fs) (c ∷ cs) count are told =
+    let rest : length cs ≡ length fs = cc in
+    let need = are 0 f c refl refl in
+    let small : c.need < 2 ^ 64 - 1 = All-head IsTold c cs told in
+    (omega (arith, need, small), needs_fit fs cs rest (λ k x y a b. are (suc k) x y a b) (All-tail IsTold c cs told))
+
+fit : (prog : Prog) (code : Code) → IsPassed prog code → NeedsFit (program_of prog)
+fit prog code passed = record {
+  functions = needs_fit (program_of prog).funcs passed.lowered.functions.items passed.lower.count
+      (λ k f c a b. (passed.lower.functions k f c a b).need) passed.told;
+}
+
+pub gap_of : (prog : Prog) (options : Options) (built : Built) → IsBuilt prog options built → IsGap built.image.words built.image.entry built.gap
+gap_of prog options built b =
+    subst (λ (l : List ℕ). IsGap l built.image.entry built.gap) (sym b.pack.words)
+    (subst (λ n. IsGap b.linked.words.items n built.gap) (sym b.pack.entry) b.measure)
+
+pub chain : LowersLaw → (prog : Prog) (options : Options) (built : Built) → IsSource prog → (b : IsBuilt prog options built)
+    → Selects b.code (bytes_of b.layouts) built.image → Chain (source_of (program_of prog)) (bytes_of b.layouts) built.image built.gap
+chain lowers prog options built s b selected = record {
+  lowered = b.passed.lowered;
+  lower =
+      lowers (program_of prog) b.passed.lowered s.typed s.within (fit prog b.code b.passed) b.passed.lower b.passed.sized b.passed.placeable b.passed.uncut;
+  forced = b.passed.forced;
+  force = b.passed.force;
+  placed = b.passed.placed;
+  place = b.passed.place;
+  sectioned = b.code;
+  recut = b.passed.recut;
+  select = selected;
+  measure = gap_of prog options built b;
+}

@@ -1,0 +1,2 @@
+pub mod Laws
+pub use Rattle.im_keeps_source.specs as im_keeps_source

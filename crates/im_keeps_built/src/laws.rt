@@ -1,0 +1,37 @@
+ghost use Rattle.im_keeps_built.specs.Laws.{BuiltKeepsLaw, BuiltSelectsLaw};
+
+use im_alloc_laws::placed_code_law;
+use im_compile::ready_law;
+use im_gap_bound::gap_bound_law;
+use im_keeps_middle::middle_law;
+use im_keeps_source::program_keeps_law;
+use im_link_laws::linkable_law;
+use im_lower_passes_laws::lowers_law;
+use im_pack_image_laws::selects_law;
+use im_recut::recut_keeps_law;
+use im_saved_code::live_code_law;
+use im_select_executes::executes_law;
+
+/// The device's own run of an image follows the placed code that it is built of.
+pub fn built_selects_law()
+    ensures { BuiltSelectsLaw }
+{
+    ready_law();
+    placed_code_law();
+    recut_keeps_law();
+    linkable_law();
+    live_code_law();
+    executes_law();
+    selects_law();
+}
+
+/// Whatever power does, an image keeps the program that it is built of.
+pub fn built_keeps_law()
+    ensures { BuiltKeepsLaw }
+{
+    built_selects_law();
+    lowers_law();
+    middle_law();
+    program_keeps_law();
+    gap_bound_law();
+}

@@ -1,0 +1,124 @@
+-- Each relation keeps its line.
+use Rattle.std.proofs.Common.{◌≡◌, ℕ, List, [], ◌∷◌, map, length, Option, Some, None, refl, ap, ◌∙◌, subst, sym}
+use Rattle.std.specs.Prelude.{slice_get}
+use Rattle.im_block.specs.declared.access.Tag.{Tag}
+use Rattle.im_block.specs.declared.access.Tags.{Tags}
+use Rattle.im_block.specs.declared.code.Line.{Line}
+use Rattle.im_block.specs.declared.code.Block.{Block}
+use Rattle.im_block.specs.declared.unit.Function.{Function}
+use Rattle.im_block.specs.declared.unit.Unit.{Unit as Code}
+use Rattle.im_store.specs.Objects.{Object}
+use Rattle.im_block.specs.Meaning.{Active, Event, Reads, Writes, Tests, Saves, Restores, Serves, Cuts as ACut}
+use Rattle.im_block.specs.Tagged.{HoldsAt, AllHold, IsSound}
+use Rattle.im_block.specs.Uncut.{WithCuts, Empty, Same, SameBlocks, SameFunctions, SameButCuts}
+use Rattle.im_alloc_relation.specs.Placing.{PlacedFunctions}
+use Rattle.im_alloc_laws.specs.Numbered.{IsWellPlaced}
+use Rattle.im_alloc_laws.specs.Laws.{PlacedCodeLaw}
+use Rattle.im_recut.specs.Recut.{RecutsTo}
+use Rattle.im_recut.specs.Laws.{RecutKeepsLaw}
+use Rattle.im_keeps_passes.specs.Passes.{Cuts, Places, Recuts}
+use Rattle.im_keeps_passes.specs.Laws.{CodeBoundsLaw}
+use Rattle.im_keeps_middle.specs.Middle.{AreNoTags}
+use Rattle.im_keeps_middle.specs.Laws.{MiddleLaw}
+
+-- no tags
+
+no_tag : (tags : Tags) → AreNoTags tags → (n : ℕ) → slice_get tags.tags.items n ≡ None
+no_tag tags e n = ap (λ (l : List Tag). slice_get l n) e
+
+holds_none : (statics : ℕ) (slot : Option ℕ) (tag : Option Tag) (by : Active) (o : Object) (i : ℕ) → tag ≡ None → HoldsAt statics slot tag by o i
+holds_none statics None tag by o i e = subst (λ t. HoldsAt statics None t by o i) (sym e) tt
+holds_none statics (Some slot) tag by o i e = tt
+
+all_hold : (statics : ℕ) (tags : Tags) → AreNoTags tags → (run : List Event) → AllHold statics tags run
+all_hold statics tags e [] = tt
+all_hold statics tags e (Reads site by o i ∷ run) = (holds_none statics site.slot (slice_get tags.tags.items site.number) by o i (no_tag tags e site.number), all_hold statics tags e run)
+all_hold statics tags e (Writes site by o i ∷ run) = (holds_none statics site.slot (slice_get tags.tags.items site.number) by o i (no_tag tags e site.number), all_hold statics tags e run)
+all_hold statics tags e (Tests ∷ run) = (tt, all_hold statics tags e run)
+all_hold statics tags e (Saves by ∷ run) = (tt, all_hold statics tags e run)
+all_hold statics tags e (Restores by ∷ run) = (tt, all_hold statics tags e run)
+all_hold statics tags e (Serves ∷ run) = (tt, all_hold statics tags e run)
+all_hold statics tags e (ACut ∷ run) = (tt, all_hold statics tags e run)
+
+alias : (u : Code) (tags : Tags) → AreNoTags tags → IsSound u tags
+alias u tags e = record { holds = λ g n o run defined runs. all_hold (length u.statics.items) tags e run }
+
+-- no cuts
+
+lines_same : (lines : List Line) → WithCuts lines lines
+lines_same [] = Empty
+lines_same (line ∷ lines) = Same line lines lines (lines_same lines)
+
+blocks_same : (blocks : List Block) → SameBlocks blocks blocks
+blocks_same [] = tt
+blocks_same (b ∷ bs) = (record { lines = lines_same b.lines.items; exit = refl }, blocks_same bs)
+
+functions_same : (fs : List Function) → SameFunctions fs fs
+functions_same [] = tt
+functions_same (f ∷ fs) = (record { blocks = blocks_same f.blocks.items; rest = refl }, functions_same fs)
+
+uncut_same : (u : Code) → SameButCuts u u
+uncut_same u = record { functions = functions_same u.functions.items; rest = refl }
+
+cut : (u : Code) → Cuts u u
+cut u = record { same = uncut_same u; apart = λ h. h }
+
+-- places
+
+needs_same : (fs gs : List Function) → PlacedFunctions fs gs → map (λ (f : Function). f.need) gs ≡ map (λ (f : Function). f.need) fs
+needs_same [] [] h = refl
+needs_same [] (g ∷ gs) h = absurd h
+needs_same (f ∷ fs) [] h = absurd h
+needs_same (f ∷ fs) (g ∷ gs) h =
+    ap (λ n. n ∷ map (λ (k : Function). k.need) gs) (ap (λ (k : Function). k.need) h.0.rest) ∙ ap (λ ns. f.need ∷ ns) (needs_same fs gs h.1)
+
+place : PlacedCodeLaw → (u v : Code) → IsWellPlaced u v → Places u v
+place law u v w = record {
+  runs = λ well. law.runs u v well w.placed;
+  statics = ap (λ (k : Code). k.statics.items) w.placed.rest;
+  needs = needs_same u.functions.items v.functions.items w.placed.functions;
+  ordered = law.ordered u v w.placed;
+  forced = law.forced u v w.placed;
+  apart = law.apart u v w.placed;
+  well_formed = law.well_formed u v w;
+  placed = law.placed u v w;
+  cost = law.cost u v w.placed;
+}
+
+recut : RecutKeepsLaw → (u v : Code) (tags : Tags) → RecutsTo u v → Recuts tags u v
+recut law u v tags r = record { same = law.same u v r; apart = law.apart u v r; sectioned = law.sectioned u v tags r }
+
+pub middle : PlacedCodeLaw → RecutKeepsLaw → CodeBoundsLaw → MiddleLaw
+middle placing cutting bounds = record {
+  alias = alias;
+  cut = cut;
+  place = place placing;
+  recut = recut cutting;
+  bounds = λ source code c. bounds source code (record {
+    lowered = c.lowered;
+    lower = c.lower;
+    forced = c.forced;
+    force = c.force;
+    trimmed = c.forced;
+    cut = cut c.forced;
+    placed = c.placed;
+    place = place placing c.forced c.placed c.place;
+    recut = record { same = cutting.same c.placed code c.recut; apart = cutting.apart c.placed code c.recut };
+  });
+  whole = λ source frames image gap tags none c. record {
+    lowered = c.lowered;
+    lower = c.lower;
+    forced = c.forced;
+    force = c.force;
+    tags = tags;
+    alias = alias c.forced tags none;
+    trimmed = c.forced;
+    cut = cut c.forced;
+    placed = c.placed;
+    place = place placing c.forced c.placed c.place;
+    sectioned = c.sectioned;
+    recut = recut cutting c.placed c.sectioned tags c.recut;
+    select = c.select;
+    measure = c.measure;
+  };
+}

@@ -1,5 +1,0 @@
-use Rattle.im_kept.proofs.Kept.{end_kept}
-use Rattle.im_kept.proofs.laws.end_kept_law.Goals as goal
-
-pub returns : goal.returns
-returns c = end_kept

@@ -1,4 +1,0 @@
-use Rattle.im_lines.proofs.refusal.send_image_fault.Goals as goal
-
-pub returns-in-Trailing : goal.returns-in-Trailing
-returns-in-Trailing g c = rw c.in-Trailing.is c.send_numbered-in-Trailing.ensures

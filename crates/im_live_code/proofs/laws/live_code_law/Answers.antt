@@ -1,5 +1,0 @@
-use Rattle.im_live_code.proofs.Whole.{live_code}
-use Rattle.im_live_code.proofs.laws.live_code_law.Goals as goal
-
-pub returns : goal.returns
-returns c = live_code

@@ -1,5 +1,0 @@
-use Rattle.im_lower.proofs.Formed.{formed, all-ordered}
-use Rattle.im_lower.proofs.laws.lowered_form_law.Goals as goal
-
-pub returns : goal.returns
-returns c = λ g u typed limits is sized. (formed g u typed limits is sized, all-ordered g u typed limits is sized)

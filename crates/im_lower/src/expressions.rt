@@ -1,0 +1,239 @@
+ghost use Rattle.std.specs.Prelude.{◌≡◌, ◌+◌, IfOk, OnOk};
+ghost use Rattle.im_typed.specs.ProgramOf.{access_of, expr_of, place_of, program_of};
+ghost use Rattle.im_lower_plain.specs.Make.{make, make_place, part_offset};
+ghost use Rattle.im_lower.specs.MakeEach.{make_each};
+
+use crate::builder::{Builder, next};
+use crate::cells::struct_cells;
+use crate::lines::{put_change, put_copy, put_increment, put_load, register_at, small};
+use crate::operators::{put_known, put_operator};
+use crate::places::{behind, changed_kind, place_at, shape_of};
+use im_block::{Exit, Line};
+use im_num::NoMemory;
+use im_typed::{Access, Expr, Place, Prog};
+
+/// What the code of a function stands on: the number of the function's first object, and the
+/// register in which statements put values. Registers behind it are free.
+#[derive(Clone, Copy)]
+pub(crate) struct Base {
+    pub(crate) first: u32,
+    pub(crate) low: u32,
+}
+
+/// Puts the code of an expression whose value a statement wants.
+pub(crate) fn lower_value(
+    code: &mut Builder,
+    value: &Expr,
+    prog: &Prog,
+    base: Base,
+) -> Result<(), NoMemory>
+    ensures { OnOk result (code.new ≡ make (program_of prog.now) base.first
+        (expr_of prog.now.types value.now) base.low (base.low + 1) code.old) }
+{
+    lower_expression(code, value, base.low, next(base.low)?, prog, base.first)
+}
+
+/// Puts what designates a place: its pointer, if it has one, into the register `free`.
+#[cycle(expressions)]
+pub(crate) fn lower_place(
+    code: &mut Builder,
+    place: &Place,
+    free: u32,
+    prog: &Prog,
+    first: u32,
+) -> Result<(), NoMemory>
+    ensures { OnOk result (code.new ≡ make_place (program_of prog.now) first
+        (place_of prog.now.types place.now) free code.old) }
+{
+    match place {
+        Place::Static(_) | Place::Local(_) => Ok(()),
+        Place::Target(pointer) => {
+            lower_expression(code, pointer, free, next(free)?, prog, first)
+        }
+        Place::Member(whole, _) => lower_place(code, whole, free, prog, first),
+    }
+}
+
+/// Puts the code of an expression, whose value goes into the register `to`. Registers from `free`
+/// on may be used. It recurs as deep as the tree is, which the rules of the language bound.
+#[cycle(expressions)]
+pub(crate) fn lower_expression(
+    code: &mut Builder,
+    expression: &Expr,
+    to: u32,
+    free: u32,
+    prog: &Prog,
+    first: u32,
+) -> Result<(), NoMemory>
+    ensures { OnOk result (code.new ≡ make (program_of prog.now) first
+        (expr_of prog.now.types expression.now) to free code.old) }
+{
+    let above = next(free)?;
+    match expression {
+        Expr::Number(_, number) => code.put(Line::Put {
+            to,
+            number: *number,
+        }),
+        Expr::Null => code.put(Line::PutNull { to }),
+        Expr::Getchar => code.put(Line::GetChar { to }),
+        Expr::Convert(_, operand)
+        | Expr::Unary(_, _, operand)
+        | Expr::Not(operand)
+        | Expr::Putchar(operand) => {
+            put_operator(code, expression, to, free)?;
+            lower_expression(code, operand, free, above, prog, first)
+        }
+        Expr::Binary(_, _, left, right)
+        | Expr::Move {
+            pointer: left,
+            by: right,
+            ..
+        }
+        | Expr::MoveBy {
+            by: left,
+            pointer: right,
+            ..
+        }
+        | Expr::Distance { left, right, .. }
+        | Expr::Compare(_, _, left, right) => {
+            put_operator(code, expression, to, free)?;
+            lower_expression(code, right, above, next(above)?, prog, first)?;
+            lower_expression(code, left, free, above, prog, first)
+        }
+        Expr::Read(access, place) => {
+            put_load(code, *access, to, place_at(place, free, first)?)?;
+            lower_place(code, place, free, prog, first)
+        }
+        Expr::Address(place) => {
+            let at = place_at(place, free, first)?;
+            code.put(Line::Address { to, place: at })?;
+            lower_place(code, place, free, prog, first)
+        }
+        Expr::And(left, right) => {
+            let fails = put_known(code, 0, to, free)?;
+            lower_expression(code, right, free, above, prog, first)?;
+            let holds = code.close()?;
+            code.start(Exit::Branch {
+                on: free,
+                holds,
+                fails,
+            })?;
+            lower_expression(code, left, free, above, prog, first)
+        }
+        Expr::Or(left, right) => {
+            let holds = put_known(code, 1, to, free)?;
+            lower_expression(code, right, free, above, prog, first)?;
+            let fails = code.close()?;
+            code.start(Exit::Branch {
+                on: free,
+                holds,
+                fails,
+            })?;
+            lower_expression(code, left, free, above, prog, first)
+        }
+        Expr::Choose(test, one, other) => {
+            let join = code.close()?;
+            lower_expression(code, other, to, free, prog, first)?;
+            let fails = code.close()?;
+            code.start(Exit::Jump(join))?;
+            lower_expression(code, one, to, free, prog, first)?;
+            let holds = code.close()?;
+            code.start(Exit::Branch {
+                on: free,
+                holds,
+                fails,
+            })?;
+            lower_expression(code, test, free, above, prog, first)
+        }
+        Expr::Comma(left, right) => {
+            lower_expression(code, right, to, free, prog, first)?;
+            lower_expression(code, left, free, above, prog, first)
+        }
+        Expr::Discard(operand) => lower_expression(code, operand, to, free, prog, first),
+        Expr::Assign(Access::Scalar(kind), place, value) => {
+            code.put_write(place_at(place, free, first)?, *kind, to)?;
+            lower_expression(code, value, to, behind(place, free)?, prog, first)?;
+            lower_place(code, place, free, prog, first)
+        }
+        Expr::Assign(Access::Struct { number, .. }, place, value) => {
+            let from = behind(place, free)?;
+            let cells = struct_cells(code.alloc(), *number, &prog.types)?;
+            put_copy(code, to, from, place_at(place, free, first)?, &cells)?;
+            lower_expression(code, value, from, next(from)?, prog, first)?;
+            lower_place(code, place, free, prog, first)
+        }
+        Expr::Update { place, change, by } => {
+            let at = place_at(place, free, first)?;
+            let from = behind(place, free)?;
+            put_change(code, *change, to, to, from, at)?;
+            lower_expression(code, by, from, next(from)?, prog, first)?;
+            code.put_read(to, at, changed_kind(*change))?;
+            lower_place(code, place, free, prog, first)
+        }
+        Expr::Increment { place, change, old } => {
+            let at = place_at(place, free, first)?;
+            put_increment(code, *change, *old, to, behind(place, free)?, at)?;
+            lower_place(code, place, free, prog, first)
+        }
+        Expr::Part {
+            from,
+            access,
+            whole,
+        } => {
+            let offset = part_offset(code, *from, whole, prog)?;
+            put_load(
+                code,
+                *access,
+                to,
+                im_block::Place::Through {
+                    pointer: free,
+                    offset,
+                },
+            )?;
+            lower_expression(code, whole, free, above, prog, first)
+        }
+        Expr::Call(function, arguments) => {
+            code.put(Line::Call {
+                to,
+                function: *function,
+                first: free,
+                count: small(arguments.len() as u64)?,
+            })?;
+            lower_arguments(code, arguments, free, prog, first)
+        }
+    }
+}
+
+/// Puts the code of arguments, into registers side by side from `free` on.
+#[cycle(expressions)]
+fn lower_arguments(
+    code: &mut Builder,
+    arguments: &[Expr],
+    free: u32,
+    prog: &Prog,
+    first: u32,
+) -> Result<(), NoMemory>
+    ensures { OnOk result (code.new ≡ make_each (program_of prog.now) first prog.now.types
+        arguments.now free code.old) }
+{
+    for index in (0..arguments.len()).rev() {
+        let to = register_at(free, index)?;
+        lower_expression(code, &arguments[index], to, next(to)?, prog, first)?;
+    }
+    Ok(())
+}
+
+/// Where a part begins in a struct that an expression gives: the offset of its first cell.
+fn part_offset(code: &Builder, from: u32, whole: &Expr, prog: &Prog) -> Result<u32, NoMemory>
+    ensures { IfOk result (λ n. n ≡ part_offset (program_of prog.now) from
+        (expr_of prog.now.types whole.now)) }
+{
+    let Some(Access::Struct { number, .. }) = shape_of(whole, prog) else {
+        return Ok(0);
+    };
+    let cells = struct_cells(code.alloc(), number, &prog.types)?;
+    match cells.get(from as usize) {
+        Some(cell) => small(cell.offset),
+        None => Ok(0),
+    }
+}

@@ -1,0 +1,306 @@
+-- What the body puts for an expression is what the relation asks.
+use Rattle.std.proofs.Common.{◌≡◌, ℕ, suc, ◌+◌, ◌≤◌, true, false, List, [], ◌∷◌, length, refl, ap, ◌∙◌, subst, add-one, arith}
+use Rattle.std.specs.Prelude.{pos, ℤ}
+use Rattle.im_num.specs.declared.kind.Kind.TheVariants.{Ptr}
+use Rattle.im_ctype.specs.declared.cell.Cell.{Cell}
+use Rattle.im_typed.specs.declared.expression.Change.TheVariants.{Number as NumberBy, Move as PointerBy}
+use Rattle.im_typed.specs.Program as p
+use Rattle.im_block.specs.declared.code.Place.{Place}
+use Rattle.im_block.specs.declared.code.Place.TheVariants.{Through}
+use Rattle.im_block.specs.declared.code.Line.{Line}
+use Rattle.im_block.specs.declared.code.Line.TheVariants.{Put, Convert, Unary, Not, Compute, Compare, Move, Distance, Address, Read, Write, Call, PutChar}
+use Rattle.im_block.specs.declared.code.Exit.TheVariants.{Jump, Branch}
+use Rattle.im_block.specs.declared.code.Block.{Block}
+use Rattle.im_lower_relation.specs.Codes.{Point, before, ends, Begins, further_in, above, where_of, reads_of, writes_of, count_of, Codes, CodesPlace, CodesArguments}
+use Rattle.im_lower_plain.specs.Made.{Made, put, put_read, put_write, close, start}
+use Rattle.im_lower_plain.specs.Make.{place_at, behind, put_reads, put_writes, put_change, put_increment, part_offset, known_made, put_known, make_place, make, make_arguments}
+use Rattle.im_lower_plain.proofs.Growth.{Grows, stays, grows_on, grows_put, grows_read, grows_write, grows_close, grows_start, Later, later_before, closed_begins}
+use Rattle.im_lower_plain.proofs.Grown.{place_grows, grows, arguments_grow, change_grows, reads_grow, writes_grow, known_grows, put_known_grows}
+
+-- the numbers of the accesses of a copy
+
+pub record Reads (pointer to : ℕ) (cells : List Cell) (m : Made) : Type 0 where
+  pub numbers : List ℕ
+  pub count : length numbers ≡ length cells
+  pub point : (put_reads pointer to cells m).point ≡ reads_of pointer to cells numbers m.point
+
+pub reads_point : (pointer to : ℕ) (cells : List Cell) (m : Made) → Reads pointer to cells m
+unfolding put put_read
+reads_point pointer to [] m = record { numbers = []; count = refl; point = refl }
+reads_point pointer to (c ∷ cs) m =
+    let rest = reads_point pointer (to + 1) cs m in
+    let number = (put_reads pointer (to + 1) cs m).accesses in
+    record {
+      numbers = number ∷ rest.numbers;
+      count = ap suc rest.count;
+      point = ap (λ q. before (Read to (Through pointer c.offset) c.kind number) q) (rest.point ∙ ap (λ k. reads_of pointer k cs rest.numbers m.point) (add-one to));
+    }
+
+pub record Writes (place : Place) (from : ℕ) (cells : List Cell) (m : Made) : Type 0 where
+  pub numbers : List ℕ
+  pub count : length numbers ≡ length cells
+  pub point : (put_writes place from cells m).point ≡ writes_of place from cells numbers m.point
+
+pub writes_point : (place : Place) (from : ℕ) (cells : List Cell) (m : Made) → Writes place from cells m
+unfolding put put_write
+writes_point place from [] m = record { numbers = []; count = refl; point = refl }
+writes_point place from (c ∷ cs) m =
+    let rest = writes_point place (from + 1) cs m in
+    let number = (put_writes place (from + 1) cs m).accesses in
+    record {
+      numbers = number ∷ rest.numbers;
+      count = ap suc rest.count;
+      point = ap (λ q. before (Write (further_in place c.offset) c.kind from number) q) (rest.point ∙ ap (λ k. writes_of place k cs rest.numbers m.point) (add-one from));
+    }
+
+pub further_on : {m n : Made} (low : ℕ) → low ≤ length m.blocks → Grows m n → low ≤ length n.blocks
+further_on low le h = let longer = h.longer in omega arith
+
+module _ (g : p.Prog) (first : ℕ) (later : List Block) where
+  pub place_where : (a : p.Place) (free : ℕ) → place_at first a free ≡ where_of g first later a free
+  place_where (p.Static n) free = refl
+  place_where (p.Local n) free = refl
+  place_where (p.Target e) free = refl
+  place_where (p.Member a d) free = ap (λ w. further_in w d) (place_where a free)
+
+  behind_above : (a : p.Place) (free : ℕ) → behind a free ≡ above a free
+  behind_above (p.Static n) free = refl
+  behind_above (p.Local n) free = refl
+  behind_above (p.Target e) free = refl
+  behind_above (p.Member a d) free = behind_above a free
+
+  -- to the relation's own words for a place and the first register above it
+  carry : (P : Place → ℕ → Type 0) (a : p.Place) (free : ℕ) → P (place_at first a free) (behind a free) → P (where_of g first later a free) (above a free)
+  carry P a free x =
+      subst (λ w. P w (above a free)) (place_where a free) (subst (λ q. P (place_at first a free) q) (behind_above a free) x)
+
+  abbrev Coded : p.Expr → Type 0
+  Coded e =
+      (to free : ℕ) (m : Made) (low : ℕ) → low ≤ length m.blocks → Later low (make g first e to free m) later
+      → Codes g first later e to free (make g first e to free m).point m.point
+
+  record Two (a b : p.Expr) (free : ℕ) (s t : Point) : Type 0 where
+    mid : Point
+    left : Codes g first later a free (free + 1) s mid
+    right : Codes g first later b (free + 1) (free + 2) mid t
+
+  two_coded : (a b : p.Expr) → Coded a → Coded b → (line : Line) (free : ℕ) (m : Made) (low : ℕ) → low ≤ length m.blocks → Later low (make g first a free (free + 1) (make g first b (free + 1) (free + 1 + 1) (put line m))) later → Two a b free (make g first a free (free + 1) (make g first b (free + 1) (free + 1 + 1) (put line m))).point (before line m.point)
+  unfolding put
+  two_coded a b left right line free m low le l =
+      let n = make g first b (free + 1) (free + 1 + 1) (put line m) in
+      let grown : Grows (put line m) n = grows g first b (free + 1) (free + 1 + 1) (stays (put line m)) in
+      let next : free + 1 + 1 ≡ free + 2 = omega arith in
+      record {
+        mid = n.point;
+        left = left free (free + 1) n low (further_on low le grown) l;
+        right = subst (λ k. Codes g first later b (free + 1) k n.point (before line m.point)) next (right (free + 1) (free + 1 + 1) (put line m) low le (later_before (grows g first a free (free + 1) (stays n)) l));
+      }
+
+  -- the blocks of `&&` and `||`
+  record Short (b : p.Expr) (z : ℤ) (to free : ℕ) (m : Made) (low : ℕ) : Type 0 where
+    join : Begins later (length m.blocks) m.point
+    known : Begins later (length (known_made z to m).blocks) (before (Put to z) (ends (Jump (length m.blocks))))
+    rest : Begins later (length (make g first b free (free + 1) (put_known z to free m)).blocks) (make g first b free (free + 1) (put_known z to free m)).point
+    right : Codes g first later b free (free + 1) (make g first b free (free + 1) (put_known z to free m)).point (before (Not free free) (before (Not to free) (ends (Jump (length m.blocks)))))
+    le : low ≤ length (close (make g first b free (free + 1) (put_known z to free m))).blocks
+
+  short_coded : (b : p.Expr) → Coded b → (z : ℤ) (to free : ℕ) (m : Made) (low : ℕ) → low ≤ length m.blocks → (final : Made) → Grows (close (make g first b free (free + 1) (put_known z to free m))) final → Later low final later → Short b z to free m low
+  unfolding put start close
+  short_coded b right z to free m low le final on l =
+      let known = known_made z to m in
+      let begun = put_known z to free m in
+      let rest = make g first b free (free + 1) begun in
+      let to_known : Grows m known = known_grows z to (stays m) in
+      let to_begun : Grows m begun = put_known_grows z to free (stays m) in
+      let to_rest : Grows m rest = grows g first b free (free + 1) to_begun in
+      let begin : Grows (close m) (close known) = grows_close (grows_put (Put to z) (stays (close m))) in
+      let middle : Grows (close known) (close rest) = grows_close (grows g first b free (free + 1) (grows_put (Not free free) (grows_put (Not to free) (grows_start (Jump (length m.blocks)) (stays (close known)))))) in
+      record {
+        join = closed_begins m le (later_before (grows_on begin (grows_on middle on)) l);
+        known = closed_begins known (further_on low le to_known) (later_before (grows_on middle on) l);
+        rest = closed_begins rest (further_on low le to_rest) (later_before on l);
+        right = right free (free + 1) begun low (further_on low le to_begun) (later_before (grows_on (grows_close (stays rest)) on) l);
+        le = further_on low le (grows_close to_rest);
+      }
+
+  mutual
+    unfolding put put_read put_write close start
+
+    pub place_coded : (a : p.Place) (free : ℕ) (m : Made) (low : ℕ) → low ≤ length m.blocks → Later low (make_place g first a free m) later → CodesPlace g first later a free (make_place g first a free m).point m.point
+    place_coded (p.Static n) free m low le l = refl
+    place_coded (p.Local n) free m low le l = refl
+    place_coded (p.Target e) free m low le l = coded e free (free + 1) m low le l
+    place_coded (p.Member a d) free m low le l = place_coded a free m low le l
+
+    pub coded : (e : p.Expr) → Coded e
+    coded (p.Constant kind z) to free m low le l = refl
+    coded p.NullPointer to free m low le l = refl
+    coded (p.Read (p.Scalar kind) a) to free m low le l =
+        let P = λ (w : Place) (q : ℕ). CodesPlace g first later a free (make g first (p.Read (p.Scalar kind) a) to free m).point (before (Read to w kind m.accesses) m.point) in
+        (m.accesses, carry P a free (place_coded a free (put_read to (place_at first a free) kind m) low le l))
+    coded (p.Read (p.Struct count cells) a) to free m low le l =
+        let P = λ (w : Place) (q : ℕ). CodesPlace g first later a free (make g first (p.Read (p.Struct count cells) a) to free m).point (before (Address to w) m.point) in
+        carry P a free (place_coded a free (put (Address to (place_at first a free)) m) low le l)
+    coded (p.Address a) to free m low le l =
+        let P = λ (w : Place) (q : ℕ). CodesPlace g first later a free (make g first (p.Address a) to free m).point (before (Address to w) m.point) in
+        carry P a free (place_coded a free (put (Address to (place_at first a free)) m) low le l)
+    coded (p.Convert kind e) to free m low le l = coded e free (free + 1) (put (Convert to kind free) m) low le l
+    coded (p.Unary op kind e) to free m low le l = coded e free (free + 1) (put (Unary to op kind free) m) low le l
+    coded (p.Binary op kind a b) to free m low le l =
+        let two = two_coded a b (coded a) (coded b) (Compute to op kind free (free + 1)) free m low le l in
+        (two.mid, two.left, two.right)
+    coded (p.Move size back a b) to free m low le l =
+        let two = two_coded a b (coded a) (coded b) (Move to size back free (free + 1)) free m low le l in
+        (two.mid, two.left, two.right)
+    coded (p.MoveBy size a b) to free m low le l =
+        let two = two_coded a b (coded a) (coded b) (Move to size false (free + 1) free) free m low le l in
+        (two.mid, two.left, two.right)
+    coded (p.Distance size a b) to free m low le l =
+        let two = two_coded a b (coded a) (coded b) (Distance to size free (free + 1)) free m low le l in
+        (two.mid, two.left, two.right)
+    coded (p.Compare op kind a b) to free m low le l =
+        let two = two_coded a b (coded a) (coded b) (Compare to op kind free (free + 1)) free m low le l in
+        (two.mid, two.left, two.right)
+    coded (p.Not a) to free m low le l = coded a free (free + 1) (put (Not to free) m) low le l
+    coded (p.And a b) to free m low le l =
+        let known = known_made (pos 0) to m in
+        let rest = make g first b free (free + 1) (put_known (pos 0) to free m) in
+        let split = start (Branch free (length rest.blocks) (length known.blocks)) (close rest) in
+        let on = grows g first a free (free + 1) (grows_start (Branch free (length rest.blocks) (length known.blocks)) (stays (close rest))) in
+        let s = short_coded b (coded b) (pos 0) to free m low le (make g first a free (free + 1) split) on l in
+        (length m.blocks, length rest.blocks, length known.blocks, rest.point, s.join, s.rest, s.known, coded a free (free + 1) split low s.le l, s.right)
+    coded (p.Or a b) to free m low le l =
+        let known = known_made (pos 1) to m in
+        let rest = make g first b free (free + 1) (put_known (pos 1) to free m) in
+        let split = start (Branch free (length known.blocks) (length rest.blocks)) (close rest) in
+        let on = grows g first a free (free + 1) (grows_start (Branch free (length known.blocks) (length rest.blocks)) (stays (close rest))) in
+        let s = short_coded b (coded b) (pos 1) to free m low le (make g first a free (free + 1) split) on l in
+        (length m.blocks, length rest.blocks, length known.blocks, rest.point, s.join, s.rest, s.known, coded a free (free + 1) split low s.le l, s.right)
+    coded (p.Choose q a b) to free m low le l =
+        let other = make g first b to free (close m) in
+        let begun = start (Jump (length m.blocks)) (close other) in
+        let one = make g first a to free begun in
+        let split = start (Branch free (length one.blocks) (length other.blocks)) (close one) in
+        let last : Grows (close one) (make g first q free (free + 1) split) = grows g first q free (free + 1) (grows_start (Branch free (length one.blocks) (length other.blocks)) (stays (close one))) in
+        let middle : Grows (close other) (close one) = grows_close (grows g first a to free (grows_start (Jump (length m.blocks)) (stays (close other)))) in
+        let begin : Grows (close m) (close other) = grows_close (grows g first b to free (stays (close m))) in
+        let to_other : Grows m other = grows g first b to free (grows_close (stays m)) in
+        let to_begun : Grows m begun = grows_start (Jump (length m.blocks)) (grows_close to_other) in
+        let to_one : Grows m one = grows g first a to free to_begun in
+        let to_split : Grows m split = grows_start (Branch free (length one.blocks) (length other.blocks)) (grows_close to_one) in
+        let joined : Grows m (close m) = grows_close (stays m) in (
+          length m.blocks,
+          length one.blocks,
+          length other.blocks,
+          one.point,
+          other.point,
+          closed_begins m le (later_before (grows_on begin (grows_on middle last)) l),
+          closed_begins one (further_on low le to_one) (later_before last l),
+          closed_begins other (further_on low le to_other) (later_before (grows_on middle last) l),
+          coded q free (free + 1) split low (further_on low le to_split) l,
+          coded a to free begun low (further_on low le to_begun) (later_before (grows_on (grows_close (stays one)) last) l),
+          coded b to free (close m) low (further_on low le joined) (later_before (grows_on (grows_close (stays other)) (grows_on middle last)) l),
+        )
+    coded (p.Comma a b) to free m low le l =
+        let n = make g first b to free m in
+        let grown : Grows m n = grows g first b to free (stays m) in
+        (n.point, coded a free (free + 1) n low (further_on low le grown) l, coded b to free m low le (later_before (grows g first a free (free + 1) (stays n)) l))
+    coded (p.Discard a) to free m low le l = coded a to free m low le l
+    coded (p.Assign (p.Scalar kind) a e) to free m low le l =
+        let stored = put_write (place_at first a free) kind to m in
+        let n = make g first e to (behind a free) stored in
+        let s = (make g first (p.Assign (p.Scalar kind) a e) to free m).point in
+        let P = λ (w : Place) (q : ℕ). Codes g first later e to q n.point (before (Write w kind to m.accesses) m.point) in (
+          n.point,
+          m.accesses,
+          place_coded a free n low (further_on low le (grows g first e to (behind a free) (grows_write (place_at first a free) kind to (stays m)))) l,
+          carry P a free (coded e to (behind a free) stored low le (later_before (place_grows g first a free (stays n)) l)),
+        )
+    coded (p.Assign (p.Struct count cells) a e) to free m low le l =
+        let at = place_at first a free in
+        let from = behind a free in
+        let address = put (Address to at) m in
+        let stored = put_writes at (from + 1) cells address in
+        let copied = put_reads from (from + 1) cells stored in
+        let n = make g first e from (from + 1) copied in
+        let w = writes_point at (from + 1) cells address in
+        let r = reads_point from (from + 1) cells stored in
+        let grown : Grows m copied = reads_grow from (from + 1) cells (writes_grow at (from + 1) cells (grows_put (Address to at) (stays m))) in
+        let same : copied.point ≡ reads_of from (from + 1) cells r.numbers (writes_of at (from + 1) cells w.numbers (before (Address to at) m.point)) = r.point ∙ ap (λ q. reads_of from (from + 1) cells r.numbers q) w.point in
+        let P = λ (w' : Place) (q : ℕ). Codes g first later e q (q + 1) n.point (reads_of q (q + 1) cells r.numbers (writes_of w' (q + 1) cells w.numbers (before (Address to w') m.point))) in (
+          n.point,
+          r.numbers,
+          w.numbers,
+          r.count,
+          w.count,
+          place_coded a free n low (further_on low le (grows g first e from (from + 1) grown)) l,
+          carry P a free (subst (λ q. Codes g first later e from (from + 1) n.point q) same (coded e from (from + 1) copied low (further_on low le grown) (later_before (place_grows g first a free (stays n)) l))),
+        )
+    coded (p.Update a (NumberBy kind op at) e) to free m low le l =
+        let place = place_at first a free in
+        let from = behind a free in
+        let stored = put_change (NumberBy kind op at) to to from place m in
+        let n = make g first e from (from + 1) stored in
+        let grown : Grows m n = grows g first e from (from + 1) (change_grows (NumberBy kind op at) to to from place (stays m)) in
+        let read = put_read to place kind n in
+        let s = (make_place g first a free read).point in
+        let P = λ (w : Place) (q : ℕ). CodesPlace g first later a free s (before (Read to w kind n.accesses) n.point) in
+        let Q = λ (w : Place) (q : ℕ). Codes g first later e q (q + 1) n.point (before (Compute to op at to q) (before (Convert to kind to) (before (Write w kind to m.accesses) m.point))) in (
+          n.point,
+          n.accesses,
+          m.accesses,
+          carry P a free (place_coded a free read low (further_on low le (grows_read to place kind grown)) l),
+          carry Q a free (coded e from (from + 1) stored low le (later_before (place_grows g first a free (grows_read to place kind (stays n))) l)),
+        )
+    coded (p.Update a (PointerBy size back) e) to free m low le l =
+        let place = place_at first a free in
+        let from = behind a free in
+        let stored = put_change (PointerBy size back) to to from place m in
+        let n = make g first e from (from + 1) stored in
+        let grown : Grows m n = grows g first e from (from + 1) (change_grows (PointerBy size back) to to from place (stays m)) in
+        let read = put_read to place Ptr n in
+        let s = (make_place g first a free read).point in
+        let P = λ (w : Place) (q : ℕ). CodesPlace g first later a free s (before (Read to w Ptr n.accesses) n.point) in
+        let Q = λ (w : Place) (q : ℕ). Codes g first later e q (q + 1) n.point (before (Move to size back to q) (before (Write w Ptr to m.accesses) m.point)) in (
+          n.point,
+          n.accesses,
+          m.accesses,
+          carry P a free (place_coded a free read low (further_on low le (grows_read to place Ptr grown)) l),
+          carry Q a free (coded e from (from + 1) stored low le (later_before (place_grows g first a free (grows_read to place Ptr (stays n))) l)),
+        )
+    coded (p.Increment a (NumberBy kind op at) false) to free m low le l =
+        let made = put_increment (NumberBy kind op at) false to (behind a free) (place_at first a free) m in
+        let s = (make_place g first a free made).point in
+        let P = λ (w : Place) (q : ℕ). CodesPlace g first later a free s (before (Read to w kind (m.accesses + 1)) (before (Put q (pos 1)) (before (Compute to op at to q) (before (Convert to kind to) (before (Write w kind to m.accesses) m.point))))) in
+        (m.accesses + 1, m.accesses, carry P a free (place_coded a free made low le l))
+    coded (p.Increment a (NumberBy kind op at) true) to free m low le l =
+        let made = put_increment (NumberBy kind op at) true to (behind a free) (place_at first a free) m in
+        let s = (make_place g first a free made).point in
+        let P = λ (w : Place) (q : ℕ). CodesPlace g first later a free s (before (Read to w kind (m.accesses + 1)) (before (Put q (pos 1)) (before (Compute q op at to q) (before (Convert q kind q) (before (Write w kind q m.accesses) m.point))))) in
+        (m.accesses + 1, m.accesses, carry P a free (place_coded a free made low le l))
+    coded (p.Increment a (PointerBy size back) false) to free m low le l =
+        let made = put_increment (PointerBy size back) false to (behind a free) (place_at first a free) m in
+        let s = (make_place g first a free made).point in
+        let P = λ (w : Place) (q : ℕ). CodesPlace g first later a free s (before (Read to w Ptr (m.accesses + 1)) (before (Put q (pos 1)) (before (Move to size back to q) (before (Write w Ptr to m.accesses) m.point)))) in
+        (m.accesses + 1, m.accesses, carry P a free (place_coded a free made low le l))
+    coded (p.Increment a (PointerBy size back) true) to free m low le l =
+        let made = put_increment (PointerBy size back) true to (behind a free) (place_at first a free) m in
+        let s = (make_place g first a free made).point in
+        let P = λ (w : Place) (q : ℕ). CodesPlace g first later a free s (before (Read to w Ptr (m.accesses + 1)) (before (Put q (pos 1)) (before (Move q size back to q) (before (Write w Ptr q m.accesses) m.point)))) in
+        (m.accesses + 1, m.accesses, carry P a free (place_coded a free made low le l))
+    coded (p.Part from (p.Scalar kind) e) to free m low le l =
+        (m.accesses, coded e free (free + 1) (put_read to (Through free (part_offset g from e)) kind m) low le l)
+    coded (p.Part from (p.Struct count cells) e) to free m low le l =
+        coded e free (free + 1) (put (Address to (Through free (part_offset g from e))) m) low le l
+    coded (p.Call n es) to free m low le l = arguments_coded es free (put (Call to n free (count_of es)) m) low le l
+    coded p.Getchar to free m low le l = refl
+    coded (p.Putchar e) to free m low le l = coded e free (free + 1) (put (PutChar to free) m) low le l
+
+    pub arguments_coded : (es : p.Exprs) (free : ℕ) (m : Made) (low : ℕ) → low ≤ length m.blocks → Later low (make_arguments g first es free m) later → CodesArguments g first later es free (make_arguments g first es free m).point m.point
+    arguments_coded p.no_exprs free m low le l = refl
+    arguments_coded (p.more_exprs e rest) free m low le l =
+        let n = make_arguments g first rest (free + 1) m in (
+          n.point,
+          coded e free (free + 1) n low (further_on low le (arguments_grow g first rest (free + 1) (stays m))) l,
+          arguments_coded rest (free + 1) m low le (later_before (grows g first e free (free + 1) (stays n)) l),
+        )

@@ -1,0 +1,93 @@
+-- Expressions add blocks, and change none.
+use Rattle.std.proofs.Common.{ℕ, ◌+◌, false, List, [], ◌∷◌, length}
+use Rattle.std.specs.Prelude.{pos, ℤ}
+use Rattle.im_ctype.specs.declared.cell.Cell.{Cell}
+use Rattle.im_typed.specs.declared.expression.Change.{Change}
+use Rattle.im_typed.specs.declared.expression.Change.TheVariants.{Number as NumberBy, Move as PointerBy}
+use Rattle.im_typed.specs.Program as p
+use Rattle.im_typed.specs.Values.{changed_kind}
+use Rattle.im_num.specs.declared.kind.Kind.TheVariants.{Ptr}
+use Rattle.im_block.specs.declared.code.Place.{Place}
+use Rattle.im_block.specs.declared.code.Place.TheVariants.{Through}
+use Rattle.im_block.specs.declared.code.Line.TheVariants.{Put, PutNull, Convert, Unary, Not, Compute, Compare, Move, Distance, Address, Call, GetChar, PutChar}
+use Rattle.im_block.specs.declared.code.Exit.TheVariants.{Jump}
+use Rattle.im_lower_relation.specs.Codes.{further_in, count_of}
+use Rattle.im_lower_plain.specs.Made.{Made}
+use Rattle.im_lower_plain.specs.Make.{place_at, behind, put_load, put_reads, put_writes, put_change, changed_in, part_offset, known_made, put_known, make_place, make, make_arguments}
+use Rattle.im_lower_plain.proofs.Growth.{Grows, grows_put, grows_read, grows_write, grows_close, grows_start}
+
+pub load_grows : {m n : Made} (x : p.Access) (to : ℕ) (place : Place) → Grows m n → Grows m (put_load x to place n)
+load_grows (p.Scalar kind) to place h = grows_read to place kind h
+load_grows (p.Struct count cells) to place h = grows_put (Address to place) h
+
+pub reads_grow : {m n : Made} (pointer to : ℕ) (cells : List Cell) → Grows m n → Grows m (put_reads pointer to cells n)
+reads_grow pointer to [] h = h
+reads_grow pointer to (c ∷ cs) h = grows_read to (Through pointer c.offset) c.kind (reads_grow pointer (to + 1) cs h)
+
+pub writes_grow : {m n : Made} (place : Place) (from : ℕ) (cells : List Cell) → Grows m n → Grows m (put_writes place from cells n)
+writes_grow place from [] h = h
+writes_grow place from (c ∷ cs) h = grows_write (further_in place c.offset) c.kind from (writes_grow place (from + 1) cs h)
+
+pub change_grows : {m n : Made} (change : Change) (to old by : ℕ) (place : Place) → Grows m n → Grows m (put_change change to old by place n)
+change_grows (NumberBy kind op at) to old by place h =
+    grows_put (Compute to op at old by) (grows_put (Convert to kind to) (grows_write place kind to h))
+change_grows (PointerBy size back) to old by place h = grows_put (Move to size back old by) (grows_write place Ptr to h)
+
+pub known_grows : {m n : Made} (z : ℤ) (to : ℕ) → Grows m n → Grows m (known_made z to n)
+known_grows z to h = grows_put (Put to z) (grows_close h)
+
+pub put_known_grows : {m n : Made} (z : ℤ) (to free : ℕ) → Grows m n → Grows m (put_known z to free n)
+put_known_grows {m} {n} z to free h =
+    grows_put (Not free free) (grows_put (Not to free) (grows_start (Jump (length n.blocks)) (grows_close (known_grows z to h))))
+
+module _ (g : p.Prog) (first : ℕ) where
+  mutual
+    pub place_grows : {m n : Made} (a : p.Place) (free : ℕ) → Grows m n → Grows m (make_place g first a free n)
+    place_grows (p.Static k) free h = h
+    place_grows (p.Local k) free h = h
+    place_grows (p.Target e) free h = grows e free (free + 1) h
+    place_grows (p.Member a d) free h = place_grows a free h
+
+    pub grows : {m n : Made} (e : p.Expr) (to free : ℕ) → Grows m n → Grows m (make g first e to free n)
+    grows (p.Constant kind z) to free h = grows_put (Put to z) h
+    grows p.NullPointer to free h = grows_put (PutNull to) h
+    grows (p.Read x a) to free h = place_grows a free (load_grows x to (place_at first a free) h)
+    grows (p.Address a) to free h = place_grows a free (grows_put (Address to (place_at first a free)) h)
+    grows (p.Convert kind e) to free h = grows e free (free + 1) (grows_put (Convert to kind free) h)
+    grows (p.Unary op kind e) to free h = grows e free (free + 1) (grows_put (Unary to op kind free) h)
+    grows (p.Binary op kind a b) to free h =
+        grows a free (free + 1) (grows b (free + 1) (free + 1 + 1) (grows_put (Compute to op kind free (free + 1)) h))
+    grows (p.Move size back a b) to free h =
+        grows a free (free + 1) (grows b (free + 1) (free + 1 + 1) (grows_put (Move to size back free (free + 1)) h))
+    grows (p.MoveBy size a b) to free h =
+        grows a free (free + 1) (grows b (free + 1) (free + 1 + 1) (grows_put (Move to size false (free + 1) free) h))
+    grows (p.Distance size a b) to free h =
+        grows a free (free + 1) (grows b (free + 1) (free + 1 + 1) (grows_put (Distance to size free (free + 1)) h))
+    grows (p.Compare op kind a b) to free h =
+        grows a free (free + 1) (grows b (free + 1) (free + 1 + 1) (grows_put (Compare to op kind free (free + 1)) h))
+    grows (p.Not a) to free h = grows a free (free + 1) (grows_put (Not to free) h)
+    grows (p.And a b) to free h = grows a free (free + 1) (grows_start _ (grows_close (grows b free (free + 1) (put_known_grows (pos 0) to free h))))
+    grows (p.Or a b) to free h = grows a free (free + 1) (grows_start _ (grows_close (grows b free (free + 1) (put_known_grows (pos 1) to free h))))
+    grows (p.Choose q a b) to free h =
+        grows q free (free + 1) (grows_start _ (grows_close (grows a to free (grows_start _ (grows_close (grows b to free (grows_close h)))))))
+    grows (p.Comma a b) to free h = grows a free (free + 1) (grows b to free h)
+    grows (p.Discard a) to free h = grows a to free h
+    grows (p.Assign (p.Scalar kind) a e) to free h =
+        place_grows a free (grows e to (behind a free) (grows_write (place_at first a free) kind to h))
+    grows (p.Assign (p.Struct count cells) a e) to free h =
+        place_grows a free (grows e (behind a free) (behind a free + 1)
+        (reads_grow (behind a free) (behind a free + 1) cells (writes_grow (place_at first a free) (behind a free + 1) cells (grows_put (Address to (place_at first a free)) h))))
+    grows (p.Update a change e) to free h =
+        place_grows a free (grows_read to (place_at first a free) (changed_kind change)
+        (grows e (behind a free) (behind a free + 1) (change_grows change to to (behind a free) (place_at first a free) h)))
+    grows (p.Increment a change old) to free h =
+        place_grows a free (grows_read to (place_at first a free) (changed_kind change)
+        (grows_put (Put (behind a free) (pos 1)) (change_grows change (changed_in old to (behind a free)) to (behind a free) (place_at first a free) h)))
+    grows (p.Part from x e) to free h = grows e free (free + 1) (load_grows x to (Through free (part_offset g from e)) h)
+    grows (p.Call k es) to free h = arguments_grow es free (grows_put (Call to k free (count_of es)) h)
+    grows p.Getchar to free h = grows_put (GetChar to) h
+    grows (p.Putchar e) to free h = grows e free (free + 1) (grows_put (PutChar to free) h)
+
+    pub arguments_grow : {m n : Made} (es : p.Exprs) (free : ℕ) → Grows m n → Grows m (make_arguments g first es free n)
+    arguments_grow p.no_exprs free h = h
+    arguments_grow (p.more_exprs e rest) free h = grows e free (free + 1) (arguments_grow rest (free + 1) h)

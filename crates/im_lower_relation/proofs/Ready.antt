@@ -1,0 +1,84 @@
+-- What holds all along the run of a body, and what is known of the calls in it.
+use Rattle.std.proofs.Common.{◌≡◌, ℕ, suc, ◌<◌, ◌≤◌, List, [], ◌∷◌, length, ◌∙◌, arith}
+use Rattle.std.specs.Prelude.{Option, Some, slice_get}
+use Rattle.im_store.specs.Objects.{Value, Store}
+use Rattle.im_num.specs.declared.kind.Kind.TheVariants.{Ptr}
+use Rattle.im_typed.specs.Program.{Access, Place, Expr, Exprs, LocalObject, Func, Prog}
+use Rattle.im_typed.specs.Runs.{World, Answer}
+use Rattle.im_typed.specs.Runs as typed
+use Rattle.im_typed.specs.Meaning.{Around, Calls, place_of, value_of, values_of}
+use Rattle.im_typed.specs.Typing.{parameters, shape_of, IsTypedPlace, IsTyped, AreArguments}
+use Rattle.im_typed.specs.Sound.{IsValue, IsSoundWorld, IsHere, KeepsWorld, Fits, ArgumentsFit}
+use Rattle.im_typed.proofs.Sounds.{here-kept}
+use Rattle.im_typed.proofs.SoundExprs.{RightCalls, at-shape, right-place, right-value, right-values}
+use Rattle.im_typed.proofs.Induction.{RelatedCalls, rel-place, rel-value, rel-values}
+use Rattle.im_block.specs.declared.code.Line.TheVariants.{Call}
+use Rattle.im_block.specs.declared.unit.Registers.TheVariants.{Virtual}
+use Rattle.im_block.specs.declared.unit.Function.{Function}
+use Rattle.im_block.specs.declared.unit.Unit.{Unit as Code}
+use Rattle.im_block.specs.Meaning.{Setting}
+use Rattle.im_lower_relation.specs.Codes.{Point, before}
+use Rattle.im_lower_relation.specs.Agrees.{Agrees, Home, Mark, at, Does, Came}
+use Rattle.im_lower_relation.proofs.Steps.{Right, Known}
+use Rattle.im_lower_relation.proofs.Uses.{Took}
+
+-- arguments stand side by side, from a register on
+abbrev pub HasArguments : (ℕ → Value) → ℕ → List Value → Type 0
+HasArguments registers first [] = Unit {0}
+HasArguments registers first (v ∷ vs) = (registers first ≡ v) × HasArguments registers (suc first) vs
+
+-- a state of block code stands for one of the typed run, in which the body of an activation is at work
+pub record Ready (p : Prog) (f : Func) (c : Around) (bound : ℕ) (s : typed.State) (store : Store) : Type 0 where
+  pub sane : IsSoundWorld p.statics s.world
+  pub here : IsHere f c s.world
+  pub depth : s.world.depth ≡ c.depth
+  pub fuel : s.fuel ≤ bound
+  pub agrees : Agrees s.world.store store
+
+-- what a call line does
+pub record CallsDo (u : Code) (g : Setting) (p : Prog) (calls : Calls) (bound : ℕ) : Type 0 where
+  pub by : (i count : ℕ) (vs : List Value) (s : typed.State) (home : Home) (fn : Function) (n : Mark) (next : Point) (registers : ℕ → Value) (store : Store) (to first : ℕ)
+      → to < first → slice_get u.functions.items home.function ≡ Some fn → fn.registers ≡ Virtual → length vs ≡ count → HasArguments registers first vs
+      → ArgumentsFit (parameters (slice_get p.funcs i)) s.world vs → IsSoundWorld p.statics s.world → Agrees s.world.store store → s.world.depth ≡ home.active.depth → s.fuel ≤ bound
+      → Does u g p home next (at home n (before (Call to i first count) next) registers store s) (Came registers to first) (calls i vs s)
+
+-- what is known of what surrounds a body
+pub record Works (u : Code) (g : Setting) (p : Prog) (c : Around) (bound : ℕ) : Type 0 where
+  pub right : RightCalls p c.calls
+  pub tame : RelatedCalls 0 0 c.calls c.calls
+  pub capacity : c.capacity ≡ g.capacity
+  pub calls : CallsDo u g p c.calls bound
+
+module _ (p : Prog) (f : Func) (c : Around) (bound : ℕ) where
+  pub ready-later : {s t : typed.State} {store after : Store} → Ready p f c bound s store → IsSoundWorld p.statics t.world → KeepsWorld s.world t.world → t.fuel ≤ s.fuel → Agrees t.world.store after → Ready p f c bound t after
+  ready-later {s} {t} {store} {after} r sane keeps spent agrees =
+      let few = r.fuel in
+      record { sane = sane; here = here-kept keeps r.here; depth = keeps.depth ∙ r.depth; fuel = omega arith; agrees = agrees }
+
+  pub ready-known : {A : Type 0} {P : World → A → Type 0} {s t : typed.State} {store after : Store} {a : A} → Ready p f c bound s store → Known p.statics s P a t → Agrees t.world.store after → Ready p f c bound t after
+  ready-known r known agrees = ready-later r known.sane known.keeps known.spent agrees
+
+  pub ready-took : {kind : _} {s t : typed.State} {store after : Store} {base registers : ℕ → Value} {to free : ℕ} {v : Value} → Ready p f c bound s store → Took p.statics s kind base to free v t registers after → Ready p f c bound t after
+  ready-took r took = ready-later r took.sane took.keeps took.spent took.agrees
+
+  module _ (calls : RightCalls p c.calls) (tame : RelatedCalls 0 0 c.calls c.calls) where
+    pub right-of : {store : Store} (e : Expr) (s : typed.State) → IsTyped p f e → Ready p f c bound s store → Right p.statics s (Fits (shape_of p e)) (value_of c e s)
+    right-of e s t r = record {
+      right = right-value p f c calls e s t r.sane r.here;
+      spends = (rel-value 0 0 c.activation c.depth c.first c.capacity c.calls c.calls tame e).tame.by s;
+    }
+
+    pub right-at : {store : Store} (e : Expr) (s : typed.State) {shape : Option Access} → shape_of p e ≡ shape → IsTyped p f e → Ready p f c bound s store → Right p.statics s (Fits shape) (value_of c e s)
+    right-at e s same t r = let h = right-of e s t r in record { right = at-shape p same h.right; spends = h.spends }
+
+    pub right-arguments : {store : Store} (es : Exprs) (os : List LocalObject) (s : typed.State) → AreArguments p f os es → Ready p f c bound s store → Right p.statics s (ArgumentsFit os) (values_of c es s)
+    right-arguments es os s t r = record {
+      right = right-values p f c calls es os s t r.sane r.here;
+      spends = (rel-values 0 0 c.activation c.depth c.first c.capacity c.calls c.calls tame es).tame.by s;
+    }
+
+    pub right-placed : {store : Store} (a : Place) (s : typed.State) → IsTypedPlace p f a → Ready p f c bound s store → Right p.statics s (λ w v. IsValue w.activations w.store Ptr v) (place_of c a s)
+    right-placed a s t r = record {
+      right = right-place p f c calls a s t r.sane r.here;
+      spends = (rel-place 0 0 c.activation c.depth c.first c.capacity c.calls c.calls tame a).tame.by s;
+    }

@@ -1,0 +1,561 @@
+-- Block code of an expression gives the expression's value.
+use Rattle.std.proofs.Common.{◌≡◌, ℕ, suc, ◌+◌, ◌<◌, List, [], ◌∷◌, length, take, drop, true, false, refl, sym, ap, ◌∙◌, subst, arith}
+use Rattle.std.specs.Prelude.{Option, Some, None, pos, not, if◌then◌else◌, slice_get}
+use Rattle.std.specs.Option.{option_map}
+use Rattle.im_num.specs.declared.kind.Kind.{Kind}
+use Rattle.im_num.specs.declared.kind.Kind.TheVariants.{I32, Ptr}
+use Rattle.im_num.specs.Kinds.{wrap}
+use Rattle.im_store.specs.Checks.{Fine, then_}
+use Rattle.im_store.specs.Numbers.{apply, apply_one}
+use Rattle.im_store.specs.Objects.{Value, Number, Null, Pointer, Store}
+use Rattle.im_store.specs.Access.{read_cells}
+use Rattle.im_store.specs.Pointers.{holds, compare_values, bytes_moved, moved_by, member_at, distance}
+use Rattle.im_typed.specs.declared.expression.Change.TheVariants.{Number as NumberBy, Move as PointerBy}
+use Rattle.im_typed.specs.Program as q
+use Rattle.im_typed.specs.Runs.{World, Answer, Gives, Stops, Run, checked, either}
+use Rattle.im_typed.specs.Runs as typed
+use Rattle.im_typed.specs.Values.{Values, used, write_at, truth}
+use Rattle.im_typed.specs.Meaning.{Around, place_of, value_of, values_of}
+use Rattle.im_typed.specs.Typing.{InPlace, IsPart, shape_of, result_shape, IsTypedPlace, IsTyped, AreArguments, parameters}
+use Rattle.im_typed.specs.Sound.{IsValue, Fits}
+use Rattle.im_typed.proofs.Sounds.{value-kept}
+use Rattle.im_typed.proofs.SoundExprs.{takes-kind}
+use Rattle.im_block.specs.declared.code.Place.TheVariants.{Through}
+use Rattle.im_block.specs.declared.code.Line.TheVariants.{PutNull, Address, Move, Distance, Put, Convert, Unary, Not, Compute, Compare, Read, Write, Call, PutChar}
+use Rattle.im_block.specs.declared.code.Exit.TheVariants.{Jump, Branch}
+use Rattle.im_block.specs.declared.code.Block.{Block}
+use Rattle.im_block.specs.declared.unit.Registers.TheVariants.{Virtual}
+use Rattle.im_block.specs.declared.unit.Function.{Function}
+use Rattle.im_block.specs.declared.unit.Unit.{Unit as Code}
+use Rattle.im_block.specs.Meaning as m
+use Rattle.im_block.specs.Meaning.{Setting, Frame, State, with_register, condition}
+use Rattle.im_lower_relation.specs.Codes.{Point, before, ends, Begins, above, count_of, cells_of_shape, offset_in, reads_of, writes_of, where_of, CodesPlace, Codes, CodesArguments}
+use Rattle.im_lower_relation.specs.Agrees.{Agrees, Home, Mark, moved, at, Does, HasOne, Holds, Came, CameAs}
+use Rattle.im_lower_relation.proofs.Structs.{struct-line, part-line, copy-lines, part-cell, part-cells, struct-place, part-shape, if-used}
+use Rattle.im_lower_relation.proofs.Steps.{Right, does-whole, does-bind, does-checked, does-weaker, joined}
+use Rattle.im_lower_relation.proofs.Stores.{agree-moved, agree-pointer, taken-kept}
+use Rattle.im_lower_relation.proofs.Uses.{register-same, register-other, number-value, condition-of, Took, does-line, does-jump, does-arm, does-branch, arrived, stands, does-used, does-number, checks}
+use Rattle.im_lower_relation.proofs.Operands.{converted-same, computed-same, compared-values, moved-same, distance-same, negated, truth-condition, integer-shape, scalar-shape, right-kind, right-same, not-not, one-of_kind}
+use Rattle.im_lower_relation.proofs.Places.{above-more, Stood, place-kept, designates}
+use Rattle.im_lower_relation.proofs.Cells.{read-line, right-reading, assigned, change-lines, move-lines}
+use Rattle.im_lower_relation.proofs.Ready.{HasArguments, Ready, Works, ready-known, ready-took, right-of, right-at, right-placed, right-arguments}
+use Rattle.im_lower_relation.proofs.Bytes.{get-line, put-line}
+
+-- a function's result is a scalar
+holds-kind : (r : Option Kind) (vs : Values) (store : Store) (w : Value) → HasOne vs w → Holds (option_map q.Scalar r) vs store w
+holds-kind None vs store w h = tt
+holds-kind (Some kind) vs store w h = h
+
+holds-result : (r : Option q.Func) (vs : Values) (store : Store) (w : Value) → HasOne vs w → Holds (result_shape r) vs store w
+holds-result None vs store w h = tt
+holds-result (Some f) vs store w h = holds-kind f.result vs store w h
+
+-- behind arguments: they stand side by side
+pub record Passed (registers : ℕ → Value) (free many : ℕ) (vs : List Value) (t : typed.State) (after : ℕ → Value) (store : Store) : Type 0 where
+  pub agrees : Agrees t.world.store store
+  pub kept : (x : ℕ) → x < free → after x ≡ registers x
+  pub count : length vs ≡ many
+  pub has : HasArguments after free vs
+
+module _ (u : Code) (g : Setting) (p : q.Prog) (f : q.Func) (c : Around) (bound : ℕ) (works : Works u g p c bound) (k : ℕ) (callers : List Frame) (fn : Function) (is : slice_get u.functions.items k ≡ Some fn) (virtual : fn.registers ≡ Virtual) where
+  abbrev pub home : Home
+  home = record { function = k; active = record { number = c.activation; depth = c.depth }; callers = callers }
+
+  abbrev blocks : List Block
+  blocks = fn.blocks.items
+
+  right : {store : Store} (e : q.Expr) (s : typed.State) → IsTyped p f e → Ready p f c bound s store → Right p.statics s (Fits (shape_of p e)) (value_of c e s)
+  right e s t r = right-of p f c bound works.right works.tame e s t r
+
+  right-as : {store : Store} {shape : Option q.Access} (e : q.Expr) (s : typed.State) → shape_of p e ≡ shape → IsTyped p f e → Ready p f c bound s store → Right p.statics s (Fits shape) (value_of c e s)
+  right-as e s same t r = right-at p f c bound works.right works.tame e s same t r
+
+  pub as-shape : {shape other : Option q.Access} {next : Point} {b : State} {registers : ℕ → Value} {to free : ℕ} {r : Answer Values} → shape ≡ other → Does u g p home next b (CameAs shape registers to free) r → Does u g p home next b (CameAs other registers to free) r
+  as-shape {next = next} {b = b} {registers = registers} {to = to} {free = free} {r = r} same h = subst (λ x. Does u g p home next b (CameAs x registers to free) r) same h
+
+  -- the value of a scalar expression is used
+  pub used-as : {store : Store} {kind : Kind} {next : Point} {b : State} {registers : ℕ → Value} {to free : ℕ} (e : q.Expr) (s : typed.State) → shape_of p e ≡ Some (q.Scalar kind) → IsTyped p f e → Ready p f c bound s store
+      → Does u g p home next b (CameAs (shape_of p e) registers to free) (value_of c e s) → Does u g p home next b (Took p.statics s kind registers to free) (typed.goes_on (value_of c e s) used)
+  used-as {kind = kind} e s same t r h = does-used u g p home {kind = kind} (right-as e s same t r) (as-shape same h)
+
+  -- the operand that decides `&&` and `||` where the first one doesn't: it is negated twice
+  second-truth : (to free j x : ℕ) (more next : Point) (base after : ℕ → Value) (left : Store) (n : Mark) (w : typed.State) (kind : Kind) (r : Answer Values) → to < free → Begins blocks j next
+      → ((i : ℕ) → i < free → (i ≡ to → ⊥) → after i ≡ base i)
+      → Does u g p home (before (Not free free) (before (Not to free) (ends (Jump j)))) (at home (moved n x) more after left w) (Took p.statics w kind after free (free + 1)) (typed.goes_on r used)
+      → Does u g p home next (at home (moved n x) more after left w) (Came base to free) (typed.goes_on (typed.goes_on r used) (λ y. truth (holds y)))
+  second-truth to free j x more next base after left n w kind r lt begins kept does =
+      does-bind u g p home does (λ y z n₂ after₂ left₂ took₂.
+      let none : Value = Number (if not (holds y) then pos 1 else pos 0) in
+      let rs : ℕ → Value = with_register after₂ free none in
+      does-line u g p home (Not free free) (before (Not to free) (ends (Jump j))) n₂ after₂ left₂ z free (m.as_truth (m.negation left₂ (after₂ free))) none refl
+      (negated left₂ (after₂ free) (holds y) (ap (condition left₂) took₂.has ∙ condition-of z.world.activations z.world.store left₂ kind y took₂.agrees took₂.value took₂.taken))
+      (does-line u g p home (Not to free) (ends (Jump j)) n₂ rs left₂ z to (m.as_truth (m.negation left₂ (rs free))) (Number (if holds y then pos 1 else pos 0)) refl
+      (negated left₂ (rs free) (not (holds y)) (ap (condition left₂) (register-same after₂ free none) ∙ truth-condition left₂ (not (holds y)))
+      ∙ ap (λ i. Fine (Number (if i then pos 1 else pos 0))) (not-not (holds y)))
+      (does-jump u g p home fn is j next n₂ (with_register rs to (Number (if holds y then pos 1 else pos 0))) left₂ z begins
+      (arrived u g p home next (moved n₂ j) base rs to free (Number (if holds y then pos 1 else pos 0)) left₂ z took₂.agrees
+      (λ i l ne. register-other after₂ free i none (λ e. omega arith) ∙ took₂.kept i (omega arith) (λ e. omega arith) ∙ kept i l ne)))))
+
+  -- the values of an expression
+  abbrev Gains : q.Expr → (to free : ℕ) → (entry next : Point) → Type 0
+  Gains e to free entry next =
+      (n : Mark) (registers : ℕ → Value) (store : Store) (s : typed.State) → Ready p f c bound s store → Does u g p home next (at home n entry registers store s) (CameAs (shape_of p e) registers to free) (value_of c e s)
+
+  mutual
+    placed : (a : q.Place) (free : ℕ) (entry next : Point) → IsTypedPlace p f a → CodesPlace p c.first blocks a free entry next
+        → (n : Mark) (registers : ℕ → Value) (store : Store) (s : typed.State) → Ready p f c bound s store → Does u g p home next (at home n entry registers store s) (Stood c a free registers) (place_of c a s)
+    placed (q.Static o) free entry next t codes n registers store s ready =
+        subst (λ x. Does u g p home next (at home n x registers store s) (Stood c (q.Static o) free registers) (place_of c (q.Static o) s)) (sym codes)
+        (stands u g p home (λ _. next) n registers store s _ (record { agrees = ready.agrees; kept = λ x lt. refl; is = refl }))
+    placed (q.Local o) free entry next t codes n registers store s ready =
+        subst (λ x. Does u g p home next (at home n x registers store s) (Stood c (q.Local o) free registers) (place_of c (q.Local o) s)) (sym codes)
+        (stands u g p home (λ _. next) n registers store s _ (record { agrees = ready.agrees; kept = λ x lt. refl; is = refl }))
+    placed (q.Target e) free entry next t codes n registers store s ready =
+        does-weaker u g p home (λ v w after left took. record { agrees = took.agrees; kept = λ x l. took.kept x (omega arith) (λ e. omega arith); is = took.has })
+        (used-as {kind = Ptr} e s t.1 t.0 ready
+        (lowered e free (free + 1) entry next (omega arith) t.0 codes n registers store s ready))
+    placed (q.Member a d) free entry next t codes n registers store s ready =
+        does-bind u g p home (placed a free entry next t.0 codes n registers store s ready)
+        (λ v w n₁ after left stood.
+        checks u g p home next n₁ after left w (member_at w.world.store d v)
+        (λ x e. record { agrees = stood.agrees; kept = stood.kept; is = (v, stood.is, e) }))
+
+    pub lowered : (e : q.Expr) (to free : ℕ) (entry next : Point) → to < free → IsTyped p f e → Codes p c.first blocks e to free entry next → Gains e to free entry next
+    lowered (q.Constant kind z) to free entry next lt t codes n registers store s ready =
+        subst (λ x. Does u g p home next (at home n x registers store s) (Came registers to free) (value_of c (q.Constant kind z) s)) (sym codes)
+        (does-line u g p home (Put to z) next n registers store s to (Fine (Number z)) (Number z) refl refl
+        (arrived u g p home next n registers registers to free (Number z) store s ready.agrees (λ _ _ _. refl)))
+    lowered (q.Read (q.Scalar kind) a) to free entry next lt t codes n registers store s ready =
+        does-bind u g p home (placed a free entry (before (Read to (where_of p c.first blocks a free) kind codes.0) next) t.1 codes.1 n registers store s ready)
+        (λ v w n₁ after left stood.
+        read-line u g p home v (where_of p c.first blocks a free) kind codes.0 to free n₁ next registers after left w (designates c p blocks a free v w.world.store left after stood.agrees stood.is) stood.agrees (λ x l ne. stood.kept x l))
+    lowered (q.Read (q.Struct count cells) a) to free entry next lt t codes n registers store s ready =
+        let place = where_of p c.first blocks a free in
+        does-bind u g p home (placed a free entry (before (Address to place) next) t.1 codes n registers store s ready)
+        (λ v w n₁ after left stood.
+        struct-line u g p home v place count cells to free n₁ next registers after left w (designates c p blocks a free v w.world.store left after stood.agrees stood.is) stood.agrees (λ x l ne. stood.kept x l))
+    lowered (q.Convert kind e) to free entry next lt t codes n registers store s ready =
+        let i = integer-shape (shape_of p e) t.2 in
+        does-number u g p home i.2
+        (used-as e s i.1 t.1 ready
+        (lowered e free (free + 1) entry (before (Convert to kind free) next) (omega arith) t.1 codes n registers store s ready))
+        (λ z v b after left h took.
+        does-line u g p home (Convert to kind free) next b after left v to (m.as_number (m.converted kind (after free))) (Number (wrap kind z)) refl
+        (ap (λ x. m.as_number (m.converted kind x)) took.has)
+        (arrived u g p home next b registers after to free (Number (wrap kind z)) left v took.agrees
+        (λ x l ne. took.kept x (omega arith) (λ e. omega arith))))
+    lowered (q.Unary op kind e) to free entry next lt t codes n registers store s ready =
+        does-number u g p home t.0.0
+        (used-as e s t.2 t.1 ready
+        (lowered e free (free + 1) entry (before (Unary to op kind free) next) (omega arith) t.1 codes n registers store s ready))
+        (λ z v b after left h took.
+        does-line u g p home (Unary to op kind free) next b after left v to (m.as_number (m.computed_one op kind (after free))) (Number (apply_one op kind z)) refl
+        (ap (λ r. m.as_number (then_ r (λ a. Fine (apply_one op kind a)))) (converted-same kind (after free) z took.has h))
+        (arrived u g p home next b registers after to free (Number (apply_one op kind z)) left v took.agrees
+        (λ x l ne. took.kept x (omega arith) (λ e. omega arith))))
+    lowered (q.Binary op kind a b) to free entry next lt t codes n registers store s ready =
+        let r = right-kind op kind (shape_of p b) t.0.0 t.4 in
+        does-number u g p home t.0.0
+        (used-as a s t.3 t.1 ready
+        (lowered a free (free + 1) entry codes.0 (omega arith) t.1 codes.1 n registers store s ready))
+        (λ x v n₁ after left hx took.
+        does-number u g p home r.2
+        (used-as b v r.1 t.2 (ready-took p f c bound ready took)
+        (lowered b (free + 1) (free + 2) codes.0 (before (Compute to op kind free (free + 1)) next) (omega arith) t.2 codes.2 n₁ after left v (ready-took p f c bound ready took)))
+        (λ y w n₂ after₂ left₂ hy took₂.
+        does-checked u g p home (apply op kind x y) w _ (λ z e.
+        does-line u g p home (Compute to op kind free (free + 1)) next n₂ after₂ left₂ w to (m.as_number (m.computed op kind (after₂ free) (after₂ (free + 1)))) (Number z) refl
+        (computed-same op kind (after₂ free) (after₂ (free + 1)) x y z (took₂.kept free (omega arith) (λ e. omega arith) ∙ took.has) took₂.has hx (r.3 y hy) e)
+        (arrived u g p home next n₂ registers after₂ to free (Number z) left₂ w took₂.agrees
+        (λ i l ne. took₂.kept i (omega arith) (λ e. omega arith) ∙ took.kept i (omega arith) (λ e. omega arith))))))
+    lowered (q.Compare op kind a b) to free entry next lt t codes n registers store s ready =
+        does-bind u g p home
+        (used-as a s t.2 t.0 ready
+        (lowered a free (free + 1) entry codes.0 (omega arith) t.0 codes.1 n registers store s ready))
+        (λ vx v n₁ after left took.
+        does-bind u g p home
+        (used-as b v t.3 t.1 (ready-took p f c bound ready took)
+        (lowered b (free + 1) (free + 2) codes.0 (before (Compare to op kind free (free + 1)) next) (omega arith) t.1 codes.2 n₁ after left v (ready-took p f c bound ready took)))
+        (λ vy w n₂ after₂ left₂ took₂.
+        does-checked u g p home (compare_values op vx vy) w _ (λ answer e.
+        does-line u g p home (Compare to op kind free (free + 1)) next n₂ after₂ left₂ w to (m.as_truth (m.compared left₂ op kind (after₂ free) (after₂ (free + 1)))) (Number (if answer then pos 1 else pos 0)) refl
+        (compared-values w.world.activations w.world.store left₂ op kind (after₂ free) (after₂ (free + 1)) vx vy answer (took₂.kept free (omega arith) (λ e. omega arith) ∙ took.has) took₂.has (value-kept took₂.keeps kind vx took.value) took₂.value
+        (λ k. agree-pointer w.world.store left₂ took₂.agrees w.world.activations vx (subst (λ x. IsValue w.world.activations w.world.store x vx) k (value-kept took₂.keeps kind vx took.value)) (taken-kept v.world.store w.world.store vx took₂.keeps.same took.taken))
+        (λ k. agree-pointer w.world.store left₂ took₂.agrees w.world.activations vy (subst (λ x. IsValue w.world.activations w.world.store x vy) k took₂.value) took₂.taken) e)
+        (arrived u g p home next n₂ registers after₂ to free (Number (if answer then pos 1 else pos 0)) left₂ w took₂.agrees
+        (λ i l ne. took₂.kept i (omega arith) (λ e. omega arith) ∙ took.kept i (omega arith) (λ e. omega arith))))))
+    lowered (q.Not a) to free entry next lt t codes n registers store s ready =
+        let k = scalar-shape (shape_of p a) t.1 in
+        does-bind u g p home
+        (used-as a s k.1 t.0 ready
+        (lowered a free (free + 1) entry (before (Not to free) next) (omega arith) t.0 codes n registers store s ready))
+        (λ x v n₁ after left took.
+        does-line u g p home (Not to free) next n₁ after left v to (m.as_truth (m.negation left (after free))) (Number (if not (holds x) then pos 1 else pos 0)) refl
+        (negated left (after free) (holds x) (ap (condition left) took.has ∙ condition-of v.world.activations v.world.store left k.0 x took.agrees took.value took.taken))
+        (arrived u g p home next n₁ registers after to free (Number (if not (holds x) then pos 1 else pos 0)) left v took.agrees
+        (λ i l ne. took.kept i (omega arith) (λ e. omega arith))))
+    lowered (q.Comma a b) to free entry next lt t codes n registers store s ready =
+        does-bind u g p home
+        (joined u g p home (right a s t.0 ready)
+        (lowered a free (free + 1) entry codes.0 (omega arith) t.0 codes.1 n registers store s ready))
+        (λ vs v n₁ after left k.
+        does-weaker u g p home (λ ws w after₂ left₂ came. record { agrees = came.agrees; kept = λ i l ne. came.kept i l ne ∙ k.1.kept i (omega arith) (λ e. omega arith); has = came.has })
+        (lowered b to free codes.0 next lt t.1 codes.2 n₁ after left v (ready-known p f c bound ready k.0 k.1.agrees)))
+    lowered (q.Discard a) to free entry next lt t codes n registers store s ready =
+        does-bind u g p home (lowered a to free entry next lt t codes n registers store s ready)
+        (λ vs v n₁ after left came. stands u g p home (λ _. next) n₁ after left v [] (record { agrees = came.agrees; kept = came.kept; has = tt }))
+    lowered (q.Choose x a b) to free entry next lt t codes n registers store s ready =
+        let k = scalar-shape (shape_of p x) t.3 in
+        does-bind u g p home
+        (used-as x s k.1 t.0 ready
+        (lowered x free (free + 1) entry (ends (Branch free codes.1 codes.2)) (omega arith) t.0 codes.8 n registers store s ready))
+        (λ v w n₁ after left took.
+        does-branch u g p home fn is free codes.1 codes.2 codes.3 codes.4 n₁ after left w _ _ (holds v) codes.6 codes.7
+        (ap (condition left) took.has ∙ condition-of w.world.activations w.world.store left k.0 v took.agrees took.value took.taken)
+        (does-arm u g p home fn is codes.0 next codes.5
+        (does-weaker u g p home (λ ws y after₂ left₂ came. record { agrees = came.agrees; kept = λ i l ne. came.kept i l ne ∙ took.kept i (omega arith) (λ e. omega arith); has = came.has })
+        (lowered a to free codes.3 (ends (Jump codes.0)) lt t.1 codes.9 (moved n₁ codes.1) after left w (ready-took p f c bound ready took))))
+        (does-arm u g p home fn is codes.0 next codes.5
+        (does-weaker u g p home (λ ws y after₂ left₂ came. record { agrees = came.agrees; kept = λ i l ne. came.kept i l ne ∙ took.kept i (omega arith) (λ e. omega arith); has = came.has })
+        (as-shape (sym t.4) (lowered b to free codes.4 (ends (Jump codes.0)) lt t.2 codes.10 (moved n₁ codes.2) after left w (ready-took p f c bound ready took))))))
+    lowered (q.And a b) to free entry next lt t codes n registers store s ready =
+        let ka = scalar-shape (shape_of p a) t.2 in
+        let kb = scalar-shape (shape_of p b) t.3 in
+        does-bind u g p home
+        (used-as a s ka.1 t.0 ready
+        (lowered a free (free + 1) entry (ends (Branch free codes.1 codes.2)) (omega arith) t.0 codes.7 n registers store s ready))
+        (λ v w n₁ after left took.
+        does-branch u g p home fn is free codes.1 codes.2 codes.3 (before (Put to (pos 0)) (ends (Jump codes.0))) n₁ after left w _ _ (holds v) codes.5 codes.6
+        (ap (condition left) took.has ∙ condition-of w.world.activations w.world.store left ka.0 v took.agrees took.value took.taken)
+        (second-truth to free codes.0 codes.1 codes.3 next registers after left n₁ w kb.0 (value_of c b w) lt codes.4
+        (λ i l ne. took.kept i (omega arith) (λ e. omega arith))
+        (used-as b w kb.1 t.1 (ready-took p f c bound ready took)
+        (lowered b free (free + 1) codes.3 (before (Not free free) (before (Not to free) (ends (Jump codes.0)))) (omega arith) t.1 codes.8 (moved n₁ codes.1) after left w (ready-took p f c bound ready took))))
+        (does-line u g p home (Put to (pos 0)) (ends (Jump codes.0)) (moved n₁ codes.2) after left w to (Fine (Number (pos 0))) (Number (pos 0)) refl refl
+        (does-jump u g p home fn is codes.0 next (moved n₁ codes.2) (with_register after to (Number (pos 0))) left w codes.4
+        (arrived u g p home next (moved n₁ codes.0) registers after to free (Number (pos 0)) left w took.agrees
+        (λ i l ne. took.kept i (omega arith) (λ e. omega arith))))))
+    lowered (q.Or a b) to free entry next lt t codes n registers store s ready =
+        let ka = scalar-shape (shape_of p a) t.2 in
+        let kb = scalar-shape (shape_of p b) t.3 in
+        does-bind u g p home
+        (used-as a s ka.1 t.0 ready
+        (lowered a free (free + 1) entry (ends (Branch free codes.2 codes.1)) (omega arith) t.0 codes.7 n registers store s ready))
+        (λ v w n₁ after left took.
+        does-branch u g p home fn is free codes.2 codes.1 (before (Put to (pos 1)) (ends (Jump codes.0))) codes.3 n₁ after left w _ _ (holds v) codes.6 codes.5
+        (ap (condition left) took.has ∙ condition-of w.world.activations w.world.store left ka.0 v took.agrees took.value took.taken)
+        (does-line u g p home (Put to (pos 1)) (ends (Jump codes.0)) (moved n₁ codes.2) after left w to (Fine (Number (pos 1))) (Number (pos 1)) refl refl
+        (does-jump u g p home fn is codes.0 next (moved n₁ codes.2) (with_register after to (Number (pos 1))) left w codes.4
+        (arrived u g p home next (moved n₁ codes.0) registers after to free (Number (pos 1)) left w took.agrees
+        (λ i l ne. took.kept i (omega arith) (λ e. omega arith)))))
+        (second-truth to free codes.0 codes.1 codes.3 next registers after left n₁ w kb.0 (value_of c b w) lt codes.4
+        (λ i l ne. took.kept i (omega arith) (λ e. omega arith))
+        (used-as b w kb.1 t.1 (ready-took p f c bound ready took)
+        (lowered b free (free + 1) codes.3 (before (Not free free) (before (Not to free) (ends (Jump codes.0)))) (omega arith) t.1 codes.8 (moved n₁ codes.1) after left w (ready-took p f c bound ready took)))))
+    lowered (q.Assign (q.Scalar kind) a e) to free entry next lt t codes n registers store s ready =
+        let more = above-more a free in
+        does-bind u g p home
+        (joined u g p home (right-placed p f c bound works.right works.tame a s t.1 ready) (placed a free entry codes.0 t.1 codes.2 n registers store s ready))
+        (λ v w n₁ after left stood.
+        does-bind u g p home
+        (joined u g p home (right-as e w t.3 t.2 (ready-known p f c bound ready stood.0 stood.1.agrees))
+        (as-shape t.3 (lowered e to (above a free) codes.0 (before (Write (where_of p c.first blocks a free) kind to codes.1) next) (omega arith) t.2 codes.3 n₁ after left w (ready-known p f c bound ready stood.0 stood.1.agrees))))
+        (λ vs x n₂ after₂ left₂ k.
+        assigned u g p home v (where_of p c.first blocks a free) kind codes.1 to free n₂ next registers after₂ left₂ vs x
+        (designates c p blocks a free v x.world.store left₂ after₂ k.1.agrees (place-kept c a free v w.world.store x.world.store after after₂ k.0.keeps.same (λ i ge l. k.1.kept i l (λ e. omega arith)) stood.1.is))
+        k.0.fits
+        (record { agrees = k.1.agrees; kept = λ i l ne. k.1.kept i (omega arith) ne ∙ stood.1.kept i l; has = k.1.has })))
+    lowered (q.Assign (q.Struct count cells) a e) to free entry next lt t codes n registers store s ready =
+        let more = above-more a free in
+        let top = above a free in
+        let place = where_of p c.first blocks a free in
+        let last = before (Address to place) next in
+        does-bind u g p home
+        (joined u g p home (right-placed p f c bound works.right works.tame a s t.1 ready) (placed a free entry codes.0 t.1 codes.5 n registers store s ready))
+        (λ v w n₁ after left stood.
+        does-bind u g p home
+        (joined u g p home (right-as e w t.3 t.2 (ready-known p f c bound ready stood.0 stood.1.agrees))
+        (as-shape t.3 (lowered e top (top + 1) codes.0 (reads_of top (top + 1) cells codes.1 (writes_of place (top + 1) cells codes.2 last)) (omega arith) t.2 codes.6 n₁ after left w (ready-known p f c bound ready stood.0 stood.1.agrees))))
+        (λ vs x n₂ after₂ left₂ k.
+        if-used vs x (write_at (q.Struct count cells) v vs)
+        (λ r. Does u g p home next (at home n₂ (reads_of top (top + 1) cells codes.1 (writes_of place (top + 1) cells codes.2 last)) after₂ left₂ x) (CameAs (Some (q.Struct count cells)) registers to free) r) (λ why. record { by = tt })
+        (does-whole u g p home
+        (does-bind u g p home
+        (copy-lines u g p home n₂ x v place count 1048576 cells codes.1 codes.2 vs top (top + 1) last after₂ left₂
+        (λ mid lf rs same kept ag. designates c p blocks a free v mid lf rs ag (place-kept c a free v w.world.store mid after rs (λ o. same o ∙ k.0.keeps.same o) (λ i ge l. kept i (omega arith) ∙ k.1.kept i (omega arith) (λ e. omega arith)) stood.1.is))
+        k.1.agrees t.0.2 codes.3 codes.4 (omega arith) k.1.has k.0.fits)
+        (λ ws y n₃ after₃ left₃ copied.
+        does-line u g p home (Address to place) next n₃ after₃ left₃ y to (m.place_of place home.active after₃ left₃) v refl
+        (designates c p blocks a free v y.world.store left₃ after₃ copied.agrees (place-kept c a free v w.world.store y.world.store after after₃ (λ o. copied.shapes o ∙ k.0.keeps.same o) (λ i ge l. copied.kept i (omega arith) ∙ k.1.kept i (omega arith) (λ e. omega arith)) stood.1.is))
+        (stands u g p home (λ _. next) n₃ (with_register after₃ to v) left₃ y ws (record {
+          agrees = copied.agrees;
+          kept = λ q l ne. register-other after₃ to q v ne ∙ copied.kept q (omega arith) ∙ k.1.kept q (omega arith) (λ e. omega arith) ∙ stood.1.kept q l;
+          has = (copied.has.0, copied.has.1, register-same after₃ to v ∙ copied.has.2, copied.has.3);
+        })))))))
+    lowered (q.Update a (NumberBy kind op at_kind) e) to free entry next lt t codes n registers store s ready =
+        let more = above-more a free in
+        let r = right-kind op at_kind (shape_of p e) t.2.1.0 t.2.2 in
+        let top = above a free in
+        let place = where_of p c.first blocks a free in
+        does-bind u g p home
+        (joined u g p home (right-placed p f c bound works.right works.tame a s t.0 ready) (placed a free entry (before (Read to place kind codes.1) codes.0) t.0 codes.3 n registers store s ready))
+        (λ v w n₁ after left stood.
+        let one = ready-known p f c bound ready stood.0 stood.1.agrees in
+        does-bind u g p home
+        (does-used u g p home (right-reading u g p home v kind w one.sane)
+        (read-line u g p home v place kind codes.1 to top n₁ codes.0 after after left w (designates c p blocks a free v w.world.store left after stood.1.agrees stood.1.is) stood.1.agrees (λ _ _ _. refl)))
+        (λ first x n₂ after₂ left₂ took.
+        let two = ready-took p f c bound one took in
+        let num = number-value x.world.activations x.world.store kind first t.2.0 took.value in
+        does-number u g p home r.2
+        (used-as e x r.1 t.1 two
+        (lowered e top (top + 1) codes.0 (before (Compute to op at_kind to top) (before (Convert to kind to) (before (Write place kind to codes.2) next))) (omega arith) t.1 codes.4 n₂ after₂ left₂ x two))
+        (λ by y n₃ after₃ left₃ hb took₃.
+        change-lines u g p home v place kind op at_kind false codes.2 to to top free n₃ next registers after₃ left₃ first num.0 by y t.2.0 num.1
+        (λ i j. designates c p blocks a free v y.world.store left₃ _ took₃.agrees (place-kept c a free v w.world.store y.world.store after _ (λ o. took₃.keeps.same o ∙ took.keeps.same o)
+        (λ z ge l. register-other (with_register after₃ to i) to z j (λ e. omega arith) ∙ register-other after₃ to z i (λ e. omega arith) ∙ took₃.kept z (omega arith) (λ e. omega arith) ∙ took.kept z l (λ e. omega arith)) stood.1.is))
+        took₃.agrees (took₃.kept to (omega arith) (λ e. omega arith) ∙ took.has) took₃.has (r.3 by hb)
+        (λ z l ne. took₃.kept z (omega arith) (λ e. omega arith) ∙ took.kept z (omega arith) ne ∙ stood.1.kept z l)
+        (λ z l ne. ne)
+        (λ i j. register-same (with_register after₃ to i) to j))))
+    lowered (q.Update a (PointerBy size back) e) to free entry next lt t codes n registers store s ready =
+        let more = above-more a free in
+        let r = integer-shape (shape_of p e) t.2.1 in
+        let top = above a free in
+        let place = where_of p c.first blocks a free in
+        does-bind u g p home
+        (joined u g p home (right-placed p f c bound works.right works.tame a s t.0 ready) (placed a free entry (before (Read to place Ptr codes.1) codes.0) t.0 codes.3 n registers store s ready))
+        (λ v w n₁ after left stood.
+        let one = ready-known p f c bound ready stood.0 stood.1.agrees in
+        does-bind u g p home
+        (does-used u g p home {kind = Ptr} (right-reading u g p home v Ptr w one.sane)
+        (read-line u g p home v place Ptr codes.1 to top n₁ codes.0 after after left w (designates c p blocks a free v w.world.store left after stood.1.agrees stood.1.is) stood.1.agrees (λ _ _ _. refl)))
+        (λ first x n₂ after₂ left₂ took.
+        let two = ready-took p f c bound one took in
+        does-number u g p home r.2
+        (used-as e x r.1 t.1 two
+        (lowered e top (top + 1) codes.0 (before (Move to size back to top) (before (Write place Ptr to codes.2) next)) (omega arith) t.1 codes.4 n₂ after₂ left₂ x two))
+        (λ by y n₃ after₃ left₃ hb took₃.
+        move-lines u g p home v place size back false codes.2 to to top free n₃ next registers after₃ left₃ first by y took₃.sane
+        (λ i. designates c p blocks a free v y.world.store left₃ _ took₃.agrees (place-kept c a free v w.world.store y.world.store after _ (λ o. took₃.keeps.same o ∙ took.keeps.same o)
+        (λ z ge l. register-other after₃ to z i (λ e. omega arith) ∙ took₃.kept z (omega arith) (λ e. omega arith) ∙ took.kept z l (λ e. omega arith)) stood.1.is))
+        took₃.agrees (took₃.kept to (omega arith) (λ e. omega arith) ∙ took.has) took₃.has
+        (λ z l ne. took₃.kept z (omega arith) (λ e. omega arith) ∙ took.kept z (omega arith) ne ∙ stood.1.kept z l)
+        (λ z l ne. ne)
+        (λ i. register-same after₃ to i))))
+    lowered (q.Increment a (NumberBy kind op at_kind) false) to free entry next lt t codes n registers store s ready =
+        let more = above-more a free in
+        let top = above a free in
+        let place = where_of p c.first blocks a free in
+        does-bind u g p home
+        (joined u g p home (right-placed p f c bound works.right works.tame a s t.0 ready)
+        (placed a free entry (before (Read to place kind codes.0) (before (Put top (pos 1)) (before (Compute to op at_kind to top) (before (Convert to kind to) (before (Write place kind to codes.1) next))))) t.0 codes.2 n registers store s ready))
+        (λ v w n₁ after left stood.
+        does-bind u g p home
+        (does-used u g p home (right-reading u g p home v kind w stood.0.sane)
+        (read-line u g p home v place kind codes.0 to top n₁ (before (Put top (pos 1)) (before (Compute to op at_kind to top) (before (Convert to kind to) (before (Write place kind to codes.1) next)))) after after left w (designates c p blocks a free v w.world.store left after stood.1.agrees stood.1.is) stood.1.agrees (λ _ _ _. refl)))
+        (λ first x n₂ after₂ left₂ took.
+        let num = number-value x.world.activations x.world.store kind first t.1.0 took.value in
+        let rs = with_register after₂ top (Number (pos 1)) in
+        does-line u g p home (Put top (pos 1)) (before (Compute to op at_kind to top) (before (Convert to kind to) (before (Write place kind to codes.1) next))) n₂ after₂ left₂ x top (Fine (Number (pos 1))) (Number (pos 1)) refl refl
+        (change-lines u g p home v place kind op at_kind false codes.1 to to top free n₂ next registers rs left₂ first num.0 (pos 1) x t.1.0 num.1
+        (λ i j. designates c p blocks a free v x.world.store left₂ _ took.agrees (place-kept c a free v w.world.store x.world.store after _ took.keeps.same
+        (λ z ge l. register-other (with_register rs to i) to z j (λ e. omega arith) ∙ register-other rs to z i (λ e. omega arith) ∙ register-other after₂ top z (Number (pos 1)) (λ e. omega arith) ∙ took.kept z l (λ e. omega arith)) stood.1.is))
+        took.agrees (register-other after₂ top to (Number (pos 1)) (λ e. omega arith) ∙ took.has) (register-same after₂ top (Number (pos 1))) (right-same op at_kind (pos 1) (one-of_kind at_kind t.1.1.0))
+        (λ z l ne. register-other after₂ top z (Number (pos 1)) (λ e. omega arith) ∙ took.kept z (omega arith) ne ∙ stood.1.kept z l)
+        (λ z l ne. ne)
+        (λ i j. register-same (with_register rs to i) to j))))
+    lowered (q.Increment a (NumberBy kind op at_kind) true) to free entry next lt t codes n registers store s ready =
+        let more = above-more a free in
+        let top = above a free in
+        let place = where_of p c.first blocks a free in
+        does-bind u g p home
+        (joined u g p home (right-placed p f c bound works.right works.tame a s t.0 ready)
+        (placed a free entry (before (Read to place kind codes.0) (before (Put top (pos 1)) (before (Compute top op at_kind to top) (before (Convert top kind top) (before (Write place kind top codes.1) next))))) t.0 codes.2 n registers store s ready))
+        (λ v w n₁ after left stood.
+        does-bind u g p home
+        (does-used u g p home (right-reading u g p home v kind w stood.0.sane)
+        (read-line u g p home v place kind codes.0 to top n₁ (before (Put top (pos 1)) (before (Compute top op at_kind to top) (before (Convert top kind top) (before (Write place kind top codes.1) next)))) after after left w (designates c p blocks a free v w.world.store left after stood.1.agrees stood.1.is) stood.1.agrees (λ _ _ _. refl)))
+        (λ first x n₂ after₂ left₂ took.
+        let num = number-value x.world.activations x.world.store kind first t.1.0 took.value in
+        let rs = with_register after₂ top (Number (pos 1)) in
+        does-line u g p home (Put top (pos 1)) (before (Compute top op at_kind to top) (before (Convert top kind top) (before (Write place kind top codes.1) next))) n₂ after₂ left₂ x top (Fine (Number (pos 1))) (Number (pos 1)) refl refl
+        (change-lines u g p home v place kind op at_kind true codes.1 top to top free n₂ next registers rs left₂ first num.0 (pos 1) x t.1.0 num.1
+        (λ i j. designates c p blocks a free v x.world.store left₂ _ took.agrees (place-kept c a free v w.world.store x.world.store after _ took.keeps.same
+        (λ z ge l. register-other (with_register rs top i) top z j (λ e. omega arith) ∙ register-other rs top z i (λ e. omega arith) ∙ register-other after₂ top z (Number (pos 1)) (λ e. omega arith) ∙ took.kept z l (λ e. omega arith)) stood.1.is))
+        took.agrees (register-other after₂ top to (Number (pos 1)) (λ e. omega arith) ∙ took.has) (register-same after₂ top (Number (pos 1))) (right-same op at_kind (pos 1) (one-of_kind at_kind t.1.1.0))
+        (λ z l ne. register-other after₂ top z (Number (pos 1)) (λ e. omega arith) ∙ took.kept z (omega arith) ne ∙ stood.1.kept z l)
+        (λ z l ne e. omega arith)
+        (λ i j. register-other (with_register rs top i) top to j (λ e. omega arith) ∙ register-other rs top to i (λ e. omega arith) ∙ register-other after₂ top to (Number (pos 1)) (λ e. omega arith) ∙ took.has))))
+    lowered (q.Increment a (PointerBy size back) false) to free entry next lt t codes n registers store s ready =
+        let more = above-more a free in
+        let top = above a free in
+        let place = where_of p c.first blocks a free in
+        does-bind u g p home
+        (joined u g p home (right-placed p f c bound works.right works.tame a s t.0 ready)
+        (placed a free entry (before (Read to place Ptr codes.0) (before (Put top (pos 1)) (before (Move to size back to top) (before (Write place Ptr to codes.1) next)))) t.0 codes.2 n registers store s ready))
+        (λ v w n₁ after left stood.
+        does-bind u g p home
+        (does-used u g p home {kind = Ptr} (right-reading u g p home v Ptr w stood.0.sane)
+        (read-line u g p home v place Ptr codes.0 to top n₁ (before (Put top (pos 1)) (before (Move to size back to top) (before (Write place Ptr to codes.1) next))) after after left w (designates c p blocks a free v w.world.store left after stood.1.agrees stood.1.is) stood.1.agrees (λ _ _ _. refl)))
+        (λ first x n₂ after₂ left₂ took.
+        let rs = with_register after₂ top (Number (pos 1)) in
+        does-line u g p home (Put top (pos 1)) (before (Move to size back to top) (before (Write place Ptr to codes.1) next)) n₂ after₂ left₂ x top (Fine (Number (pos 1))) (Number (pos 1)) refl refl
+        (move-lines u g p home v place size back false codes.1 to to top free n₂ next registers rs left₂ first (pos 1) x took.sane
+        (λ i. designates c p blocks a free v x.world.store left₂ _ took.agrees (place-kept c a free v w.world.store x.world.store after _ took.keeps.same
+        (λ z ge l. register-other rs to z i (λ e. omega arith) ∙ register-other after₂ top z (Number (pos 1)) (λ e. omega arith) ∙ took.kept z l (λ e. omega arith)) stood.1.is))
+        took.agrees (register-other after₂ top to (Number (pos 1)) (λ e. omega arith) ∙ took.has) (register-same after₂ top (Number (pos 1)))
+        (λ z l ne. register-other after₂ top z (Number (pos 1)) (λ e. omega arith) ∙ took.kept z (omega arith) ne ∙ stood.1.kept z l)
+        (λ z l ne. ne)
+        (λ i. register-same rs to i))))
+    lowered (q.Increment a (PointerBy size back) true) to free entry next lt t codes n registers store s ready =
+        let more = above-more a free in
+        let top = above a free in
+        let place = where_of p c.first blocks a free in
+        does-bind u g p home
+        (joined u g p home (right-placed p f c bound works.right works.tame a s t.0 ready)
+        (placed a free entry (before (Read to place Ptr codes.0) (before (Put top (pos 1)) (before (Move top size back to top) (before (Write place Ptr top codes.1) next)))) t.0 codes.2 n registers store s ready))
+        (λ v w n₁ after left stood.
+        does-bind u g p home
+        (does-used u g p home {kind = Ptr} (right-reading u g p home v Ptr w stood.0.sane)
+        (read-line u g p home v place Ptr codes.0 to top n₁ (before (Put top (pos 1)) (before (Move top size back to top) (before (Write place Ptr top codes.1) next))) after after left w (designates c p blocks a free v w.world.store left after stood.1.agrees stood.1.is) stood.1.agrees (λ _ _ _. refl)))
+        (λ first x n₂ after₂ left₂ took.
+        let rs = with_register after₂ top (Number (pos 1)) in
+        does-line u g p home (Put top (pos 1)) (before (Move top size back to top) (before (Write place Ptr top codes.1) next)) n₂ after₂ left₂ x top (Fine (Number (pos 1))) (Number (pos 1)) refl refl
+        (move-lines u g p home v place size back true codes.1 top to top free n₂ next registers rs left₂ first (pos 1) x took.sane
+        (λ i. designates c p blocks a free v x.world.store left₂ _ took.agrees (place-kept c a free v w.world.store x.world.store after _ took.keeps.same
+        (λ z ge l. register-other rs top z i (λ e. omega arith) ∙ register-other after₂ top z (Number (pos 1)) (λ e. omega arith) ∙ took.kept z l (λ e. omega arith)) stood.1.is))
+        took.agrees (register-other after₂ top to (Number (pos 1)) (λ e. omega arith) ∙ took.has) (register-same after₂ top (Number (pos 1)))
+        (λ z l ne. register-other after₂ top z (Number (pos 1)) (λ e. omega arith) ∙ took.kept z (omega arith) ne ∙ stood.1.kept z l)
+        (λ z l ne e. omega arith)
+        (λ i. register-other rs top to i (λ e. omega arith) ∙ register-other after₂ top to (Number (pos 1)) (λ e. omega arith) ∙ took.has))))
+    lowered (q.Call i es) to free entry next lt t codes n registers store s ready =
+        does-bind u g p home
+        (joined u g p home (right-arguments p f c bound works.right works.tame es (parameters (slice_get p.funcs i)) s t.1 ready)
+        (arguments es (parameters (slice_get p.funcs i)) free entry (before (Call to i free (count_of es)) next) t.1 codes n registers store s ready))
+        (λ vs v n₁ after left k.
+        let one = ready-known p f c bound ready k.0 k.1.agrees in
+        does-weaker u g p home (λ ws w after₂ left₂ came. record { agrees = came.agrees; kept = λ j l ne. came.kept j l ne ∙ k.1.kept j l; has = holds-result (slice_get p.funcs i) ws w.world.store (after₂ to) came.has })
+        (works.calls.by i (count_of es) vs v home fn n₁ next after left to free lt is virtual k.1.count k.1.has k.0.fits one.sane one.agrees one.depth one.fuel))
+    lowered q.Getchar to free entry next lt t codes n registers store s ready =
+        subst (λ x. Does u g p home next (at home n x registers store s) (Came registers to free) (value_of c q.Getchar s)) (sym codes)
+        (get-line u g p home fn is virtual to free n next registers store s.world s.fuel ready.agrees)
+    lowered (q.Putchar e) to free entry next lt t codes n registers store s ready =
+        does-number u g p home {kind = I32} tt
+        (used-as e s t.1 t.0 ready
+        (lowered e free (free + 1) entry (before (PutChar to free) next) (omega arith) t.0 codes n registers store s ready))
+        (λ z v b after left h took.
+        put-line u g p home fn is virtual to free b next after left registers (λ x l ne. took.kept x (omega arith) (λ e. omega arith)) free z c.capacity v.world v.fuel works.capacity took.has took.agrees)
+    lowered q.NullPointer to free entry next lt t codes n registers store s ready =
+        subst (λ x. Does u g p home next (at home n x registers store s) (Came registers to free) (value_of c q.NullPointer s)) (sym codes)
+        (does-line u g p home (PutNull to) next n registers store s to (Fine Null) Null refl refl
+        (arrived u g p home next n registers registers to free Null store s ready.agrees (λ _ _ _. refl)))
+    lowered (q.Address a) to free entry next lt t codes n registers store s ready =
+        let place = where_of p c.first blocks a free in
+        does-bind u g p home (placed a free entry (before (Address to place) next) t codes n registers store s ready)
+        (λ v w n₁ after left stood.
+        does-line u g p home (Address to place) next n₁ after left w to (m.place_of place home.active after left) v refl
+        (designates c p blocks a free v w.world.store left after stood.agrees stood.is)
+        (arrived u g p home next n₁ registers after to free v left w stood.agrees (λ x l ne. stood.kept x l)))
+    lowered (q.Move size back a b) to free entry next lt t codes n registers store s ready =
+        let r = integer-shape (shape_of p b) t.4 in
+        does-bind u g p home
+        (used-as {kind = Ptr} a s t.3 t.1 ready
+        (lowered a free (free + 1) entry codes.0 (omega arith) t.1 codes.1 n registers store s ready))
+        (λ x v n₁ after left took.
+        does-number u g p home r.2
+        (used-as b v r.1 t.2 (ready-took p f c bound ready took)
+        (lowered b (free + 1) (free + 2) codes.0 (before (Move to size back free (free + 1)) next) (omega arith) t.2 codes.2 n₁ after left v (ready-took p f c bound ready took)))
+        (λ y w n₂ after₂ left₂ hy took₂.
+        does-checked u g p home (moved_by w.world.store (bytes_moved size back y) x) w _ (λ z e.
+        does-line u g p home (Move to size back free (free + 1)) next n₂ after₂ left₂ w to (m.moved left₂ size back (after₂ free) (after₂ (free + 1))) z refl
+        (moved-same left₂ size back (after₂ free) (after₂ (free + 1)) x z y (took₂.kept free (omega arith) (λ e. omega arith) ∙ took.has) took₂.has
+        (agree-moved w.world.store left₂ took₂.agrees (bytes_moved size back y) x z e))
+        (arrived u g p home next n₂ registers after₂ to free z left₂ w took₂.agrees
+        (λ i l ne. took₂.kept i (omega arith) (λ e. omega arith) ∙ took.kept i (omega arith) (λ e. omega arith))))))
+    lowered (q.MoveBy size a b) to free entry next lt t codes n registers store s ready =
+        let r = integer-shape (shape_of p a) t.3 in
+        does-number u g p home r.2
+        (used-as a s r.1 t.1 ready
+        (lowered a free (free + 1) entry codes.0 (omega arith) t.1 codes.1 n registers store s ready))
+        (λ y v n₁ after left hy took.
+        does-bind u g p home
+        (used-as {kind = Ptr} b v t.4 t.2 (ready-took p f c bound ready took)
+        (lowered b (free + 1) (free + 2) codes.0 (before (Move to size false (free + 1) free) next) (omega arith) t.2 codes.2 n₁ after left v (ready-took p f c bound ready took)))
+        (λ x w n₂ after₂ left₂ took₂.
+        does-checked u g p home (moved_by w.world.store (bytes_moved size false y) x) w _ (λ z e.
+        does-line u g p home (Move to size false (free + 1) free) next n₂ after₂ left₂ w to (m.moved left₂ size false (after₂ (free + 1)) (after₂ free)) z refl
+        (moved-same left₂ size false (after₂ (free + 1)) (after₂ free) x z y took₂.has (took₂.kept free (omega arith) (λ e. omega arith) ∙ took.has)
+        (agree-moved w.world.store left₂ took₂.agrees (bytes_moved size false y) x z e))
+        (arrived u g p home next n₂ registers after₂ to free z left₂ w took₂.agrees
+        (λ i l ne. took₂.kept i (omega arith) (λ e. omega arith) ∙ took.kept i (omega arith) (λ e. omega arith))))))
+    lowered (q.Distance size a b) to free entry next lt t codes n registers store s ready =
+        does-bind u g p home
+        (used-as {kind = Ptr} a s t.3 t.1 ready
+        (lowered a free (free + 1) entry codes.0 (omega arith) t.1 codes.1 n registers store s ready))
+        (λ x v n₁ after left took.
+        does-bind u g p home
+        (used-as {kind = Ptr} b v t.4 t.2 (ready-took p f c bound ready took)
+        (lowered b (free + 1) (free + 2) codes.0 (before (Distance to size free (free + 1)) next) (omega arith) t.2 codes.2 n₁ after left v (ready-took p f c bound ready took)))
+        (λ y w n₂ after₂ left₂ took₂.
+        does-checked u g p home (distance size x y) w _ (λ z e.
+        does-line u g p home (Distance to size free (free + 1)) next n₂ after₂ left₂ w to (m.as_number (m.distance_of left₂ size (after₂ free) (after₂ (free + 1)))) (Number z) refl
+        (distance-same left₂ size (after₂ free) (after₂ (free + 1)) x y z (took₂.kept free (omega arith) (λ e. omega arith) ∙ took.has) took₂.has
+        (agree-pointer w.world.store left₂ took₂.agrees w.world.activations x (value-kept took₂.keeps Ptr x took.value) (taken-kept v.world.store w.world.store x took₂.keeps.same took.taken))
+        (agree-pointer w.world.store left₂ took₂.agrees w.world.activations y took₂.value took₂.taken) e)
+        (arrived u g p home next n₂ registers after₂ to free (Number z) left₂ w took₂.agrees
+        (λ i l ne. took₂.kept i (omega arith) (λ e. omega arith) ∙ took.kept i (omega arith) (λ e. omega arith))))))
+    lowered (q.Part from (q.Scalar kind) e) to free entry next lt t codes n registers store s ready =
+        let whole = part-shape from (q.Scalar kind) (shape_of p e) t.2 in
+        let offset = offset_in (slice_get (cells_of_shape (shape_of p e)) from) in
+        does-bind u g p home
+        (as-shape whole.2 (lowered e free (free + 1) entry (before (Read to (Through free offset) kind codes.0) next) (omega arith) t.1 codes.1 n registers store s ready))
+        (λ vs v n₁ after left came.
+        let o = came.has.0 in
+        let part = part-cell v.world.store o came.has.1 from kind whole.1 vs came.has.3 (subst (IsPart from (q.Scalar kind)) whole.2 t.2).0 in
+        let same : offset ≡ part.0.offset = ap (λ x. offset_in (slice_get (cells_of_shape x) from)) whole.2 ∙ ap offset_in part.2 in
+        subst (λ ws. Does u g p home next (at home n₁ (before (Read to (Through free offset) kind codes.0) next) after left v) (Came registers to free) (Gives ws v)) (sym part.4)
+        (part-line u g p home o came.has.1 part.0 part.1 kind offset codes.0 to free n₁ next registers after left v same part.3 came.has.2 part.5 came.agrees (λ q l ne. came.kept q (omega arith) (λ e. omega arith))))
+    lowered (q.Part from (q.Struct count cells) e) to free entry next lt t codes n registers store s ready =
+        let whole = part-shape from (q.Struct count cells) (shape_of p e) t.2 in
+        let base = offset_in (slice_get (cells_of_shape (shape_of p e)) from) in
+        does-bind u g p home
+        (as-shape whole.2 (lowered e free (free + 1) entry (before (Address to (Through free base)) next) (omega arith) t.1 codes n registers store s ready))
+        (λ vs v n₁ after left came.
+        let o = came.has.0 in
+        let i = came.has.1 in
+        let some = t.0.1 in
+        let many = t.0.0 in
+        let same : base ≡ offset_in (slice_get whole.1 from) = ap (λ x. offset_in (slice_get (cells_of_shape x) from)) whole.2 in
+        let in_place : InPlace base cells (drop from whole.1) = subst (λ i. InPlace i cells (drop from whole.1)) (sym same) (subst (IsPart from (q.Struct count cells)) whole.2 t.2).1 in
+        let part : read_cells v.world.store o (i + base) cells ≡ Fine (take (length cells) (drop from vs)) = part-cells v.world.store o i from base cells whole.1 vs in_place came.has.3 in
+        does-line u g p home (Address to (Through free base)) next n₁ after left v to (m.place_of (Through free base) home.active after left) (Pointer o (i + base)) refl
+        (ap (m.further left base) came.has.2 ∙ struct-place v.world.store left came.agrees o i base cells (take (length cells) (drop from vs)) (omega arith) part)
+        (stands u g p home (λ _. next) n₁ (with_register after to (Pointer o (i + base))) left v (take (length cells) (drop from vs)) (record {
+          agrees = came.agrees;
+          kept = λ q l ne. register-other after to q (Pointer o (i + base)) ne ∙ came.kept q (omega arith) (λ e. omega arith);
+          has = (o, i + base, register-same after to (Pointer o (i + base)), part);
+        })))
+
+    pub arguments : (es : q.Exprs) (os : List q.LocalObject) (free : ℕ) (entry next : Point) → AreArguments p f os es → CodesArguments p c.first blocks es free entry next
+        → (n : Mark) (registers : ℕ → Value) (store : Store) (s : typed.State) → Ready p f c bound s store → Does u g p home next (at home n entry registers store s) (Passed registers free (count_of es)) (values_of c es s)
+    arguments q.no_exprs os free entry next t codes n registers store s ready =
+        subst (λ x. Does u g p home next (at home n x registers store s) (Passed registers free 0) (values_of c q.no_exprs s)) (sym codes)
+        (stands u g p home (λ _. next) n registers store s [] (record { agrees = ready.agrees; kept = λ x l. refl; count = refl; has = tt }))
+    arguments (q.more_exprs e rest) [] free entry next t codes n registers store s ready = absurd t
+    arguments (q.more_exprs e rest) (o ∷ os) free entry next t codes n registers store s ready =
+        let k = takes-kind (shape_of p e) o.cells t.1 in
+        does-bind u g p home
+        (used-as e s k.1 t.0 ready
+        (lowered e free (free + 1) entry codes.0 (omega arith) t.0 codes.1 n registers store s ready))
+        (λ v w n₁ after left took.
+        does-bind u g p home
+        (arguments rest os (free + 1) codes.0 next t.2 codes.2 n₁ after left w (ready-took p f c bound ready took))
+        (λ vs x n₂ after₂ left₂ passed.
+        let next_one : free + 1 ≡ suc free = omega arith in
+        stands u g p home (λ _. next) n₂ after₂ left₂ x (v ∷ vs) (record {
+          agrees = passed.agrees;
+          kept = λ i l. passed.kept i (omega arith) ∙ took.kept i (omega arith) (λ e. omega arith);
+          count = ap suc passed.count;
+          has = (passed.kept free (omega arith) ∙ took.has, subst (λ i. HasArguments after₂ i vs) next_one passed.has);
+        })))

@@ -1,8 +1,0 @@
-use Rattle.std.proofs.Common.{map, take}
-use Rattle.im_typed.specs.ProgramOf.{object_of}
-use Rattle.im_lower.specs.Lowered.{AreObjects}
-use Rattle.im_lowering.proofs.functions.lower_objects.Given as goal
-
-abbrev pub invariant-loop-object : goal.invariant-loop-object
-invariant-loop-object l =
-    AreObjects (map (object_of l.types) (take l.object-index l.objects)) l.found.items

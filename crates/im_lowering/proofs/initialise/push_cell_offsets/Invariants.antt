@@ -1,7 +1,0 @@
-use Rattle.std.proofs.Common.{◌≡◌, ◌++◌, drop}
-use Rattle.im_made.specs.MakeStatement.{cell_offsets}
-use Rattle.im_lowering.proofs.initialise.push_cell_offsets.Given as goal
-
-abbrev pub invariant-loop-cell : goal.invariant-loop-cell
-invariant-loop-cell l =
-    l.found.items ++ cell_offsets l.offset (drop l.cell-index l.cells) ≡ l.initial.found.items ++ cell_offsets l.offset l.cells

@@ -1,7 +1,0 @@
-use Rattle.std.proofs.Common.{◌≡◌, drop}
-use Rattle.im_made.specs.MakeStatement.{put_rest}
-use Rattle.im_lowering.proofs.initialise.put_rest.Given as goal
-
--- the cells from the index on have their lines
-abbrev pub invariant-loop-index : goal.invariant-loop-index
-invariant-loop-index l = l.code ≡ put_rest l.low l.object l.given (drop l.index l.cells) l.initial.code

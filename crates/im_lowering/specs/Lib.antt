@@ -1,3 +1,0 @@
-pub mod MakeEach
-pub mod Marks
-pub mod Small

@@ -1,4 +1,0 @@
-use Rattle.im_operands.proofs.free.+is_free_type.Given as goal
-
-abbrev pub decreases-is_free_type : goal.decreases-is_free_type
-decreases-is_free_type l = l.ty.0

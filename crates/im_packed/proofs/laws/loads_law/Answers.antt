@@ -1,5 +1,0 @@
-use Rattle.im_packed.proofs.Memory.{loaded}
-use Rattle.im_packed.proofs.laws.loads_law.Goals as goal
-
-pub returns : goal.returns
-returns c = loaded

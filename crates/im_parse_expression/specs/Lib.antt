@@ -1,0 +1,5 @@
+pub mod Tables
+pub mod Parsing
+pub mod Declaring
+pub mod Cores
+pub mod Initializing

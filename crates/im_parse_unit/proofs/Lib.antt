@@ -1,3 +1,0 @@
-pub mod ExternalLines
-pub mod UnitLines
-pub mod Parsing

@@ -1,2 +1,0 @@
-pub mod Externals
-pub mod Spelling

@@ -1,5 +1,0 @@
-use Rattle.im_place.proofs.Added.{Entering}
-use Rattle.im_place.proofs.entered.entered.Given as goal
-
-abbrev pub invariant-loop-field : goal.invariant-loop-field
-invariant-loop-field l = Entering l.fn.table l.table l.fields l.field-index l.members.items

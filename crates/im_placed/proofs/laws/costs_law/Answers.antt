@@ -1,5 +1,0 @@
-use Rattle.im_placed.proofs.Costs.{costs}
-use Rattle.im_placed.proofs.laws.costs_law.Goals as goal
-
-pub returns : goal.returns
-returns c = costs

@@ -1,8 +1,0 @@
-use Rattle.im_places_sound.proofs.Files.{start-fine, externals-step}
-use Rattle.im_places_sound.proofs.laws.places_law.Goals as goal
-
-pub returns-clause-start : goal.returns-clause-start
-returns-clause-start c = λ u. start-fine u
-
-pub returns-clause-externals : goal.returns-clause-externals
-returns-clause-externals c = λ f e u gs ks d h w l. externals-step d h w l

@@ -1,8 +1,0 @@
-//! What stands before and behind external declarations. The law is a function with an empty body, whose contract says it.
-ghost use Rattle.im_places_sound.specs.Laws.{ExternalsLaw, StartLaw};
-
-/// All is in order before a unit, and behind external declarations that are typed; what was declared before stays.
-pub fn places_law()
-    ensures start { StartLaw }
-    ensures externals { ExternalsLaw }
-{}

@@ -1,5 +1,0 @@
-use Rattle.im_printed.proofs.Units.{spelled_again}
-use Rattle.im_printed.proofs.laws.spelled_again_law.Goals as goal
-
-pub returns : goal.returns
-returns c = λ tree words spells fit. spelled_again tree words spells fit

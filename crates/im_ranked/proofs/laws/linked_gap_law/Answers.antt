@@ -1,5 +1,0 @@
-use Rattle.im_ranked.proofs.Whole.{linked_gap}
-use Rattle.im_ranked.proofs.laws.linked_gap_law.Goals as goal
-
-pub returns : goal.returns
-returns c = linked_gap

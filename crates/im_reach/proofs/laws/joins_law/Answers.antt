@@ -1,5 +1,0 @@
-use Rattle.im_reach.proofs.Reach.{join}
-use Rattle.im_reach.proofs.laws.joins_law.Goals as goal
-
-pub returns : goal.returns
-returns c = join

@@ -1,0 +1,5 @@
+use Rattle.im_replay_witness.proofs.Laws_of.{counter_shows_law}
+use Rattle.im_replay_witness.proofs.laws.counter_shows_law.Goals as goal
+
+pub returns : goal.returns
+returns c = counter_shows_law

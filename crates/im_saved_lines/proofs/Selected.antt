@@ -1,0 +1,286 @@
+-- The lines of a block, selected: what lives before them, and that they are sound.
+use Rattle.std.proofs.Common.{◌≡◌, ◌≢◌, ℕ, ◌+◌, ◌<◌, ◌≤◌, ◌⊎◌, inl, inr, Bool, true, false, cond, List, [], ◌∷◌, ◌++◌, Option, Some, None, refl, sym, ap, ◌∙◌, arith}
+use Rattle.std.specs.Prelude.{◌==◌, ◌&&◌, ◌||◌, not, nat_lt, nat_le, slice_get, All}
+use Rattle.std.proofs.lemmas.Bool.Decides.{nat_tests}
+use Rattle.std.proofs.lemmas.List.Elements.{All-head, All-tail}
+use Rattle.im_num.specs.declared.values.Cause.{Cause}
+use Rattle.im_rv.specs.declared.instr.Op.TheVariants.{Jalr, Beq, Lw}
+use Rattle.im_rv.specs.Lines.{CodeLine, plain_line}
+use Rattle.im_rv_reach.specs.Instructions.{with_immediate, branching, jumping}
+use Rattle.im_rtlib.specs.Routines.{aimed}
+use Rattle.im_rtlib.specs.Laws.{is_saved}
+use Rattle.im_store.specs.Objects.{Name}
+use Rattle.im_block.specs.declared.code.Place.{Place}
+use Rattle.im_block.specs.declared.code.Place.TheVariants.{Static, Local, Through}
+use Rattle.im_block.specs.declared.code.Line.{Line}
+use Rattle.im_block.specs.declared.code.Line.TheVariants.{Put, PutNull, Copy, Convert, Unary, Not, Compute, Compare, Move, Distance, Address, Read, Write, Reload, Spill, Cut, Call, GetChar, PutChar}
+use Rattle.im_block.specs.declared.code.Exit.{Exit}
+use Rattle.im_block.specs.declared.code.Exit.TheVariants.{Jump, Turn, Branch, Return}
+use Rattle.im_block.specs.declared.unit.Function.{Function}
+use Rattle.im_block.specs.Wellformed.{Takes, LineThere, ExitThere}
+use Rattle.im_alloc_placed.specs.Operands.{PlaceAtHome}
+use Rattle.im_alloc_placed.specs.Placed.{IsPlacedLine, IsPlacedExit}
+use Rattle.im_alloc_relation.specs.Live.{place_uses, uses, sets, exit_lives, lives}
+use Rattle.im_alloc_relation.specs.Settled.{SettlesCalls}
+use Rattle.im_select.specs.Emitted.{checkpoint_label, entry_label, cut_code, call_code, line_code, lines_code, adds_code, leave_code, branch_code, exit_code}
+use Rattle.im_saved_lines.specs.Scan.{After, scan, AreSound}
+use Rattle.im_saved_lines.specs.Laws.{IsLow, HasEntries, HasBlocks}
+use Rattle.im_saved_lines.proofs.Scanning.{both, both_are, either, or_left, or_right, not_true, same_of, same_is, IsUnsaved, unsaved_not, unsaved_true, or_unsaved, scan_append, sound_append, Lives, First, Second, Later, line_lives, plain_sound, Wants, plain_wants}
+use Rattle.im_saved_lines.proofs.Plain.{adds_plain, adds_wants}
+use Rattle.im_saved_lines.proofs.Working.{work_plain, work_wants}
+
+-- ---- registers that lines of placed code use are homes
+
+abbrev pub IsHome : ℕ → Type 0
+IsHome r = (6 < r) × (r < 32)
+
+home_is : (r s : ℕ) → IsHome s → (r == s) ≡ true → IsHome r
+home_is r s h e = let q : r ≡ s = same_of r s e in let a = h.0 in let b = h.1 in (omega arith, omega arith)
+
+home_of_two : (r s t : ℕ) → IsHome s → IsHome t → (r == s || r == t) ≡ true → IsHome r
+home_of_two r s t h k e = elim (either (r == s) (r == t) e) [ inl a ↦ home_is r s h a | inr b ↦ home_is r t k b ]
+
+home_of_place : (r : ℕ) (place : Place) → PlaceAtHome place → place_uses place r ≡ true → IsHome r
+home_of_place r (Static object offset) h e = absurd cc
+home_of_place r (Local object offset) h e = absurd cc
+home_of_place r (Through pointer offset) h e = home_is r pointer h e
+
+uses_home : (statics : ℕ) (f : Function) (line : Line) (r : ℕ) → IsPlacedLine statics f line → uses line r ≡ true → IsHome r
+uses_home statics f (Put to z) r h e = absurd cc
+uses_home statics f (PutNull to) r h e = absurd cc
+uses_home statics f (Copy to from) r h e = home_is r from h.1 e
+uses_home statics f (Convert to kind from) r h e = home_is r from h.1 e
+uses_home statics f (Unary to op kind from) r h e = home_is r from h.1 e
+uses_home statics f (Not to from) r h e = home_is r from h.1 e
+uses_home statics f (Compute to op kind left right) r h e = home_of_two r left right h.1 h.2 e
+uses_home statics f (Compare to op kind left right) r h e = home_of_two r left right h.1 h.2 e
+uses_home statics f (Move to size back pointer by) r h e = home_of_two r pointer by h.1 h.2 e
+uses_home statics f (Distance to size left right) r h e = home_of_two r left right h.1 h.2 e
+uses_home statics f (Address to place) r h e = home_of_place r place h.1 e
+uses_home statics f (Read to place kind access) r h e = home_of_place r place h.1 e
+uses_home statics f (Write place kind from access) r h e = elim (either (place_uses place r) (r == from) e) [ inl a ↦ home_of_place r place h.1 a | inr b ↦ home_is r from h.0 b ]
+uses_home statics f (Reload to slot access) r h e = absurd cc
+uses_home statics f (Spill slot from access) r h e = home_is r from h.0 e
+uses_home statics f (Cut cause) r h e = absurd cc
+uses_home statics f (Call to i first count) r h e =
+    let c = both (nat_le first r) (nat_lt r (first + count)) e in
+    let c0 = c.0 in
+    let c1 = c.1 in
+    let a : first ≤ r = grind (arith, nat_tests) in
+    let b : r < first + count = grind (arith, nat_tests) in
+    let at = h.1 in
+    let few = h.2 in
+    (omega arith, omega arith)
+uses_home statics f (GetChar to) r h e = absurd cc
+uses_home statics f (PutChar to from) r h e = let q : r ≡ from = same_of r from e in let at = h.1 in (omega arith, omega arith)
+
+exit_home : (wanted : ℕ → ℕ → Bool) (exit : Exit) (r : ℕ) → ((b s : ℕ) → wanted b s ≡ true → IsHome s) → IsPlacedExit exit → exit_lives wanted exit r ≡ true → IsHome r
+exit_home wanted (Jump b) r homes h e = homes b r e
+exit_home wanted (Turn b) r homes h e = homes b r e
+exit_home wanted (Branch on a b) r homes h e = elim (either (r == on || wanted a r) (wanted b r) e) [
+  | inl c ↦ elim (either (r == on) (wanted a r) c) [ inl d ↦ home_is r on h d | inr d ↦ homes a r d ]
+  | inr c ↦ homes b r c
+]
+exit_home wanted (Return None) r homes h e = absurd cc
+exit_home wanted (Return (Some x)) r homes h e = let q : r ≡ x = same_of r x e in let at : x ≡ 10 = h in (omega arith, omega arith)
+
+lives_home : (statics : ℕ) (f : Function) (wanted : ℕ → ℕ → Bool) (lines : List Line) (exit : Exit) (r : ℕ) → ((b s : ℕ) → wanted b s ≡ true → IsHome s) → All (IsPlacedLine statics f) lines → IsPlacedExit exit → lives wanted lines exit r ≡ true → IsHome r
+lives_home statics f wanted [] exit r homes h k e = exit_home wanted exit r homes k e
+lives_home statics f wanted (line ∷ lines) exit r homes h k e = elim (either (uses line r) (not (sets line r) && lives wanted lines exit r) e) [
+  | inl a ↦ uses_home statics f line r (All-head (IsPlacedLine statics f) line lines h) a
+  | inr b ↦ lives_home statics f wanted lines exit r homes (All-tail (IsPlacedLine statics f) line lines h) k (both (not (sets line r)) (lives wanted lines exit r) b).1
+]
+
+-- ---- selected
+
+pub saved_low : (r : ℕ) → is_saved r ≡ true → (r ≤ 10) × (r ≢ 3) × (r ≢ 4)
+saved_low r e =
+    let a = both (nat_le r 10 && not (r == 3)) (not (r == 4)) e in
+    let b = both (nat_le r 10) (not (r == 3)) a.0 in
+    let small = b.0 in
+    (grind (arith, nat_tests), (λ q. not_true (r == 3) b.1 (same_is r 3 q)), (λ q. not_true (r == 4) a.1 (same_is r 4 q)))
+
+-- what a cut that saves all registers saves
+high_saved : (r : ℕ) → (is_saved r ≡ true) ⊎ IsHome r → (r ≤ 31) × (r ≢ 3) × (r ≢ 4)
+high_saved r (inl e) = let a = saved_low r e in let a0 = a.0 in (omega arith, a.1, a.2)
+high_saved r (inr h) = let a = h.0 in let b = h.1 in (omega arith, (λ q. omega arith), (λ q. omega arith))
+
+abbrev cut_line : Cause → CodeLine
+cut_line cause = record (plain_line (jumping 3 0)) { target = Some checkpoint_label; cause = Some cause }
+
+abbrev return_code : List CodeLine
+return_code = plain_line (with_immediate Jalr 0 1 0) ∷ []
+
+abbrev raised_code : ℕ → List CodeLine
+raised_code frame = plain_line (with_immediate Lw 1 2 0) ∷ adds_code 2 frame
+
+module _ (at : ℕ → ℕ → Bool) where
+  -- a jump to a label
+  pub jump_before : (rd label : ℕ) (behind : After) (r : ℕ) → (rd == 3) ≡ false → IsUnsaved r → (scan at (call_code rd label) behind).next r ≡ true → at label r ≡ true
+  jump_before rd label behind r other u w = by (line_lives at (aimed label (jumping rd 0)) behind r u w)
+    where
+      by : Lives at (aimed label (jumping rd 0)) behind r → at label r ≡ true
+      by (First e) = absurd (unsaved_not r 0 u refl e)
+      by (Second e) = absurd (unsaved_not r 0 u refl e)
+      by (Later ne o) = sym (ap (λ b. cond b (behind.next r) (at label r)) other) ∙ o
+
+  pub jump_sound : (rd label : ℕ) (behind : After) → rd ≢ 3 → 32 ≤ label → (rd ≡ 1 → (r : ℕ) → behind.next r ≡ true → is_saved r ≡ true) → AreSound at (call_code rd label) behind
+  jump_sound rd label behind other far call = (
+    record {
+      labelled = λ l r e w. absurd cc;
+      goes = (label, refl, record { cut = λ e. absurd (other e); saved = λ e. absurd (other e); call = call; other = λ e. far });
+    },
+    tt,
+  )
+
+  cut_before : (cause : Cause) (behind : After) (r : ℕ) → IsUnsaved r → (scan at (cut_code cause) behind).next r ≡ true → behind.next r ≡ true
+  cut_before cause behind r u w = by (line_lives at (cut_line cause) behind r u w)
+    where
+      by : Lives at (cut_line cause) behind r → behind.next r ≡ true
+      by (First e) = absurd (unsaved_not r 0 u refl e)
+      by (Second e) = absurd (unsaved_not r 0 u refl e)
+      by (Later ne o) = o
+
+  cut_sound : (cause : Cause) (behind : After) → ((r : ℕ) → behind.next r ≡ true → (is_saved r ≡ true) ⊎ IsHome r) → AreSound at (cut_code cause) behind
+  cut_sound cause behind k = (
+    record {
+      labelled = λ l r e w. absurd cc;
+      goes = (31, refl, record { cut = λ e. (omega arith, omega arith); saved = λ e r w. high_saved r (k r w); call = λ e. absurd (omega arith); other = λ e. absurd (e refl) });
+    },
+    tt,
+  )
+
+  -- ---- before an exit
+
+  return_before : (behind : After) (r : ℕ) → IsUnsaved r → (scan at return_code behind).next r ≡ true → ⊥
+  return_before behind r u w = by (line_lives at (plain_line (with_immediate Jalr 0 1 0)) behind r u w)
+    where
+      by : Lives at (plain_line (with_immediate Jalr 0 1 0)) behind r → ⊥
+      by (First e) = unsaved_not r 1 u refl e
+      by (Second e) = unsaved_not r 0 u refl e
+      by (Later ne o) = unsaved_true r u o
+
+  leave_before : (frame : ℕ) (behind : After) (r : ℕ) → IsUnsaved r → (scan at (leave_code frame) behind).next r ≡ true → ⊥
+  leave_before frame behind r u w =
+      by (plain_wants at (raised_code frame) (scan at return_code behind) r ((refl, refl), adds_plain 2 frame) u (sym (ap (λ (z : After). z.next r) (scan_append at (raised_code frame) return_code behind)) ∙ w))
+    where
+      by : (r ≡ 2) ⊎ (r ≡ 0) ⊎ ((r ≢ 1) × Wants (adds_code 2 frame) ((scan at return_code behind).next r ≡ true) r) → ⊥
+      by (inl e) = unsaved_not r 2 u refl e
+      by (inr (inl e)) = unsaved_not r 0 u refl e
+      by (inr (inr c)) = return_before behind r u (adds_wants 2 frame ((scan at return_code behind).next r ≡ true) r u c.1)
+
+  leave_sound : (frame : ℕ) (behind : After) → AreSound at (leave_code frame) behind
+  leave_sound frame behind =
+      sound_append at (raised_code frame) return_code behind (plain_sound at (raised_code frame) (scan at return_code behind) ((refl, refl), adds_plain 2 frame)) (record { labelled = λ l r e w. absurd cc; goes = tt }, tt)
+
+  branch_before : (on there other : ℕ) (behind : After) (r : ℕ) → IsUnsaved r → (scan at (branch_code on there other) behind).next r ≡ true → (r ≡ on) ⊎ (at there r ≡ true) ⊎ (at other r ≡ true)
+  branch_before on there other behind r u w = by (line_lives at (plain_line (branching Beq on 0 8)) (scan at (call_code 0 there ++ call_code 0 other) behind) r u w)
+    where
+      by : Lives at (plain_line (branching Beq on 0 8)) (scan at (call_code 0 there ++ call_code 0 other) behind) r → (r ≡ on) ⊎ (at there r ≡ true) ⊎ (at other r ≡ true)
+      by (First e) = inl e
+      by (Second e) = absurd (unsaved_not r 0 u refl e)
+      by (Later ne o) = elim (either ((scan at (call_code 0 there ++ call_code 0 other) behind).next r) ((scan at (call_code 0 other) behind).next r) o) [
+        | inl a ↦ inr (inl (jump_before 0 there (scan at (call_code 0 other) behind) r refl u a))
+        | inr b ↦ inr (inr (jump_before 0 other behind r refl u b))
+      ]
+
+  branch_sound : (on there other : ℕ) (behind : After) → 32 ≤ there → 32 ≤ other → AreSound at (branch_code on there other) behind
+  branch_sound on there other behind a b =
+      let second = jump_sound 0 other behind (λ e. absurd (omega arith)) b (λ e. absurd (omega arith)) in
+      let first = jump_sound 0 there (scan at (call_code 0 other) behind) (λ e. absurd (omega arith)) a (λ e. absurd (omega arith)) in
+      (record { labelled = λ l r e w. absurd cc; goes = inl (refl, refl) }, (first.0, second))
+
+module _ (functions : List Function) (statics first count frame : ℕ) (f : Function) (places : Name → ℕ) (wanted at : ℕ → ℕ → Bool) (above : 64 ≤ first) (low : IsLow at) (entries : HasEntries functions at) (blocks : HasBlocks wanted first count at) (homes : (b r : ℕ) → wanted b r ≡ true → IsHome r) where
+  block_wanted : (b r : ℕ) → b < count → IsUnsaved r → at (first + b) r ≡ true → wanted b r ≡ true
+  block_wanted b r there u e = elim (blocks.only b r there e) [ inl s ↦ absurd (unsaved_true r u s) | inr w ↦ w ]
+
+  exit_before : (exit : Exit) (behind : After) (r : ℕ) → ExitThere count exit → IsUnsaved r → (scan at (exit_code first frame exit) behind).next r ≡ true → exit_lives wanted exit r ≡ true
+  exit_before (Jump b) behind r there u w = block_wanted b r there u (jump_before at 0 (first + b) behind r refl u w)
+  exit_before (Turn b) behind r there u w = block_wanted b r there u (jump_before at 0 (first + b) behind r refl u w)
+  exit_before (Branch on x y) behind r there u w = by (branch_before at on (first + x) (first + y) behind r u w)
+    where
+      by : (r ≡ on) ⊎ (at (first + x) r ≡ true) ⊎ (at (first + y) r ≡ true) → exit_lives wanted (Branch on x y) r ≡ true
+      by (inl e) = or_left (r == on || wanted x r) (wanted y r) (or_left (r == on) (wanted x r) (same_is r on e))
+      by (inr (inl e)) = or_left (r == on || wanted x r) (wanted y r) (or_right (r == on) (wanted x r) (block_wanted x r there.0 u e))
+      by (inr (inr e)) = or_right (r == on || wanted x r) (wanted y r) (block_wanted y r there.1 u e)
+  exit_before (Return from) behind r there u w = absurd (leave_before at frame behind r u w)
+
+  exit_sound : (exit : Exit) (behind : After) → AreSound at (exit_code first frame exit) behind
+  exit_sound (Jump b) behind = jump_sound at 0 (first + b) behind (λ e. absurd (omega arith)) (omega arith) (λ e. absurd (omega arith))
+  exit_sound (Turn b) behind = jump_sound at 0 (first + b) behind (λ e. absurd (omega arith)) (omega arith) (λ e. absurd (omega arith))
+  exit_sound (Branch on x y) behind = branch_sound at on (first + x) (first + y) behind (omega arith) (omega arith)
+  exit_sound (Return from) behind = leave_sound at frame behind
+
+  -- ---- before a line
+
+  abbrev Before : Line → After → ℕ → Type 0
+  Before line behind r = (uses line r ≡ true) ⊎ ((sets line r ≡ false) × (behind.next r ≡ true))
+
+  takes : (o : Option Function) (i given r : ℕ) → slice_get functions i ≡ o → Takes o given → IsUnsaved r → at (entry_label i) r ≡ true → (10 ≤ r) × (r < 10 + given)
+  takes None i given r e t u w = absurd t
+  takes (Some g) i given r e t u w = elim (entries.only i r g e w) [
+    | inl s ↦ absurd (unsaved_true r u s)
+    | inr c ↦ (let a = c.0 in let b = c.1 in let q : g.parameters ≡ given = t in (omega arith, omega arith))
+  ]
+
+  called : (i start given r : ℕ) → start ≡ 10 → (10 ≤ r) × (r < 10 + given) → (nat_le start r && nat_lt r (start + given)) ≡ true
+  called i start given r e c =
+      let c0 = c.0 in
+      let c1 = c.1 in
+      let a : nat_le start r ≡ true = grind (arith, nat_tests) in
+      let b : nat_lt r (start + given) ≡ true = grind (arith, nat_tests) in
+      both_are (nat_le start r) (nat_lt r (start + given)) a b
+
+  line_before : (line : Line) (behind : After) (r : ℕ) → IsPlacedLine statics f line → LineThere functions line → IsUnsaved r → (scan at (line_code places line) behind).next r ≡ true → Before line behind r
+  line_before (Cut cause) behind r h t u w = inr (refl, cut_before at cause behind r u w)
+  line_before (Call to i start given) behind r h t u w = inl (called i start given r h.1 (takes (slice_get functions i) i given r refl t u (jump_before at 1 (entry_label i) behind r refl u w)))
+  line_before (GetChar to) behind r h t u w = absurd (unsaved_true r u (low.low 32 r (omega arith) (jump_before at 1 32 behind r refl u w)))
+  line_before (PutChar to from) behind r h t u w = absurd (unsaved_true r u (low.low 33 r (omega arith) (jump_before at 1 33 behind r refl u w)))
+  line_before line behind r h t u w = work_wants places line tt (behind.next r ≡ true) r u (plain_wants at (line_code places line) behind r (work_plain places line tt) u w)
+
+  pub lines_before : (lines : List Line) (exit : Exit) (behind : After) (r : ℕ) → ((s : ℕ) → IsUnsaved s → behind.next s ≡ true → exit_lives wanted exit s ≡ true) → All (IsPlacedLine statics f) lines → All (LineThere functions) lines → IsUnsaved r → (scan at (lines_code places lines) behind).next r ≡ true → lives wanted lines exit r ≡ true
+  lines_before [] exit behind r k h t u w = k r u w
+  lines_before (line ∷ lines) exit behind r k h t u w =
+      let rest : After = scan at (lines_code places lines) behind in
+      elim (line_before line rest r (All-head (IsPlacedLine statics f) line lines h) (All-head (LineThere functions) line lines t) u (sym (ap (λ (z : After). z.next r) (scan_append at (line_code places line) (lines_code places lines) behind)) ∙ w)) [
+        | inl e ↦ or_left (uses line r) (not (sets line r) && lives wanted lines exit r) e
+        | inr c ↦ or_right (uses line r) (not (sets line r) && lives wanted lines exit r)
+            (both_are (not (sets line r)) (lives wanted lines exit r) (ap not c.0) (lines_before lines exit behind r k (All-tail (IsPlacedLine statics f) line lines h) (All-tail (LineThere functions) line lines t) u c.1))
+      ]
+
+  line_sound : (line : Line) (rest : List Line) (exit : Exit) (behind : After) → ((r : ℕ) → IsUnsaved r → behind.next r ≡ true → lives wanted rest exit r ≡ true) → ((r : ℕ) → lives wanted rest exit r ≡ true → IsHome r) → SettlesCalls wanted (line ∷ rest) exit → AreSound at (line_code places line) behind
+  line_sound (Cut cause) rest exit behind k home s = cut_sound at cause behind (λ r w. or_unsaved (IsHome r) r (λ u. home r (k r u w)))
+  line_sound (Call to i start given) rest exit behind k home s =
+      jump_sound at 1 (entry_label i) behind (λ e. absurd (omega arith)) (omega arith)
+      (λ e r w. elim (or_unsaved (r ≡ 10) r (λ u. s.0 tt r (k r u w))) [ inl a ↦ a | inr b ↦ ap is_saved b ])
+  line_sound (GetChar to) rest exit behind k home s =
+      jump_sound at 1 32 behind (λ e. absurd (omega arith)) (omega arith)
+      (λ e r w. elim (or_unsaved (r ≡ 10) r (λ u. s.0 tt r (k r u w))) [ inl a ↦ a | inr b ↦ ap is_saved b ])
+  line_sound (PutChar to from) rest exit behind k home s =
+      jump_sound at 1 33 behind (λ e. absurd (omega arith)) (omega arith)
+      (λ e r w. elim (or_unsaved (r ≡ 10) r (λ u. s.0 tt r (k r u w))) [ inl a ↦ a | inr b ↦ ap is_saved b ])
+  line_sound line rest exit behind k home s = plain_sound at (line_code places line) behind (work_plain places line tt)
+
+  pub lines_sound : (lines : List Line) (exit : Exit) (behind : After) → ((s : ℕ) → IsUnsaved s → behind.next s ≡ true → exit_lives wanted exit s ≡ true) → All (IsPlacedLine statics f) lines → IsPlacedExit exit → All (LineThere functions) lines → SettlesCalls wanted lines exit → AreSound at (lines_code places lines) behind
+  lines_sound [] exit behind k h e t s = tt
+  lines_sound (line ∷ lines) exit behind k h e t s =
+      let h' = All-tail (IsPlacedLine statics f) line lines h in
+      let t' = All-tail (LineThere functions) line lines t in
+      sound_append at (line_code places line) (lines_code places lines) behind
+      (line_sound line lines exit (scan at (lines_code places lines) behind) (λ r u w. lines_before lines exit behind r k h' t' u w) (λ r w. lives_home statics f wanted lines exit r homes h' e w) s)
+      (lines_sound lines exit behind k h' e t' s.1)
+
+  -- a block
+  abbrev pub body : List Line → Exit → List CodeLine
+  body lines exit = lines_code places lines ++ exit_code first frame exit
+
+  pub body_before : (lines : List Line) (exit : Exit) (behind : After) (r : ℕ) → All (IsPlacedLine statics f) lines → All (LineThere functions) lines → ExitThere count exit → IsUnsaved r → (scan at (body lines exit) behind).next r ≡ true → lives wanted lines exit r ≡ true
+  body_before lines exit behind r h t there u w =
+      lines_before lines exit (scan at (exit_code first frame exit) behind) r (λ s v z. exit_before exit behind s there v z) h t u
+      (sym (ap (λ (z : After). z.next r) (scan_append at (lines_code places lines) (exit_code first frame exit) behind)) ∙ w)
+
+  pub body_sound : (lines : List Line) (exit : Exit) (behind : After) → All (IsPlacedLine statics f) lines → IsPlacedExit exit → All (LineThere functions) lines → ExitThere count exit → SettlesCalls wanted lines exit → AreSound at (body lines exit) behind
+  body_sound lines exit behind h e t there s =
+      sound_append at (lines_code places lines) (exit_code first frame exit) behind
+      (lines_sound lines exit (scan at (exit_code first frame exit) behind) (λ v u z. exit_before exit behind v there u z) h e t s)
+      (exit_sound exit behind)

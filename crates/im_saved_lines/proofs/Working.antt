@@ -1,0 +1,239 @@
+-- A line that is neither a cut nor a call: selected, it uses and sets what it does in placed code, beside registers that each cut saves.
+use Rattle.std.proofs.Common.{◌≡◌, ◌≢◌, ℕ, ◌⊎◌, inl, inr, Bool, true, false, refl}
+use Rattle.std.specs.Prelude.{◌==◌, ◌||◌, if◌then◌else◌}
+use Rattle.im_num.specs.declared.kind.Kind.{Kind}
+use Rattle.im_num.specs.declared.kind.Kind.TheVariants.{I8, U8, I16, U16, I32, U32, Ptr}
+use Rattle.im_num.specs.Kinds.{word}
+use Rattle.im_rv.specs.declared.instr.Op.TheVariants.{Srli, Srai}
+use Rattle.im_gap.specs.declared.flow.Turn.TheVariants.{Passes}
+use Rattle.im_select_operators.specs.Tables.{less_op}
+use Rattle.im_store.specs.declared.operators.UnaryOp.TheVariants.{Negate, Complement}
+use Rattle.im_store.specs.declared.operators.Comparison.{Comparison}
+use Rattle.im_store.specs.declared.operators.Comparison.TheVariants.{Less, Greater, LessOrEqual, GreaterOrEqual, Equal, NotEqual}
+use Rattle.im_store.specs.Objects.{Name, Slot}
+use Rattle.im_block.specs.declared.code.Place.{Place}
+use Rattle.im_block.specs.declared.code.Line.{Line}
+use Rattle.im_block.specs.declared.code.Line.TheVariants.{Put, PutNull, Copy, Convert, Unary, Not, Compute, Compare, Move, Distance, Address, Read, Write, Reload, Spill, Cut, Call, GetChar, PutChar}
+use Rattle.im_alloc_relation.specs.Live.{uses, sets, place_uses}
+use Rattle.im_select.specs.Emitted.{constant_code, displaced_code, displaced_base, place_number, place_code, place_base, compared_code, shifted_code, line_code}
+use Rattle.im_saved_lines.specs.Scan.{way}
+use Rattle.im_saved_lines.proofs.Scanning.{IsUnsaved, unsaved_not, other_is, or_left, or_right, same_is, ArePlain, plain_append, Wants, wants_append}
+use Rattle.im_saved_lines.proofs.Plain.{operation_way, less_way, load_way, store_way, step_way, constant_plain, constant_wants, displaced_plain, displaced_wants, displaced_base_is, place_plain, place_wants, place_base_is}
+
+-- no cut and no call
+abbrev pub IsWork : Line → Type 0
+IsWork (Cut cause) = ⊥
+IsWork (Call to i first count) = ⊥
+IsWork (GetChar to) = ⊥
+IsWork (PutChar to from) = ⊥
+IsWork line = Unit {0}
+
+srl_way : (b : Bool) → way (if b then Srai else Srli) ≡ Passes
+srl_way true = refl
+srl_way false = refl
+
+shifted_plain : (to bits : ℕ) (signed : Bool) (from : ℕ) → ArePlain (shifted_code to bits signed from)
+shifted_plain to bits signed from = ((refl, refl), ((srl_way signed, refl), tt))
+
+compared_plain : (to : ℕ) (kind : Kind) (left right : ℕ) (op : Comparison) → ArePlain (compared_code to (less_op kind) left right op)
+compared_plain to kind left right Less = ((less_way kind, refl), tt)
+compared_plain to kind left right Greater = ((less_way kind, refl), tt)
+compared_plain to kind left right LessOrEqual = ((less_way kind, refl), ((refl, refl), tt))
+compared_plain to kind left right GreaterOrEqual = ((less_way kind, refl), ((refl, refl), tt))
+compared_plain to kind left right Equal = ((refl, refl), ((refl, refl), tt))
+compared_plain to kind left right NotEqual = ((refl, refl), ((refl, refl), tt))
+
+pub work_plain : (at : Name → ℕ) (line : Line) → IsWork line → ArePlain (line_code at line)
+work_plain at (Put to z) work = constant_plain to (word z)
+work_plain at (PutNull to) work = ((refl, refl), tt)
+work_plain at (Copy to from) work = ((refl, refl), tt)
+work_plain at (Convert to I8 from) work = shifted_plain to 24 true from
+work_plain at (Convert to U8 from) work = shifted_plain to 24 false from
+work_plain at (Convert to I16 from) work = shifted_plain to 16 true from
+work_plain at (Convert to U16 from) work = shifted_plain to 16 false from
+work_plain at (Convert to I32 from) work = ((refl, refl), tt)
+work_plain at (Convert to U32 from) work = ((refl, refl), tt)
+work_plain at (Convert to Ptr from) work = ((refl, refl), tt)
+work_plain at (Unary to Negate kind from) work = ((refl, refl), tt)
+work_plain at (Unary to Complement kind from) work = ((refl, refl), tt)
+work_plain at (Not to from) work = ((refl, refl), tt)
+work_plain at (Compute to op kind left right) work = ((operation_way op kind, refl), tt)
+work_plain at (Compare to op kind left right) work = compared_plain to kind left right op
+work_plain at (Move to size back pointer by) work = plain_append (constant_code 5 size) _ (constant_plain 5 size) ((refl, refl), ((step_way back, refl), tt))
+work_plain at (Distance to size left right) work = ((refl, refl), plain_append (constant_code 6 size) _ (constant_plain 6 size) ((refl, refl), tt))
+work_plain at (Address to place) work = plain_append (place_code place (place_number at place)) _ (place_plain place (place_number at place)) ((refl, refl), tt)
+work_plain at (Read to place kind access) work = plain_append (place_code place (place_number at place)) _ (place_plain place (place_number at place)) ((load_way kind, refl), tt)
+work_plain at (Write place kind from access) work = plain_append (place_code place (place_number at place)) _ (place_plain place (place_number at place)) ((store_way kind, refl), tt)
+work_plain at (Reload to slot access) work = plain_append (displaced_code 2 (at (Slot slot))) _ (displaced_plain 2 (at (Slot slot))) ((refl, refl), tt)
+work_plain at (Spill slot from access) work = plain_append (displaced_code 2 (at (Slot slot))) _ (displaced_plain 2 (at (Slot slot))) ((refl, refl), tt)
+work_plain at (Cut cause) work = absurd work
+work_plain at (Call to i first count) work = absurd work
+work_plain at (GetChar to) work = absurd work
+work_plain at (PutChar to from) work = absurd work
+
+-- ---- what they want
+
+module _ (X : Type 0) (r : ℕ) (u : IsUnsaved r) where
+  -- used, or wanted behind a line that sets `to`
+  abbrev Wanted : Bool → ℕ → Type 0
+  Wanted used to = (used ≡ true) ⊎ (((r == to) ≡ false) × X)
+
+  abbrev One : ℕ → ℕ → ℕ → Type 0 → Type 0
+  One a b to Y = (r ≡ a) ⊎ (r ≡ b) ⊎ ((r ≢ to) × Y)
+
+  -- an instruction with one operand, or with two
+  none_of : (to : ℕ) → One 0 0 to X → Wanted false to
+  none_of to (inl e) = absurd (unsaved_not r 0 u refl e)
+  none_of to (inr (inl e)) = absurd (unsaved_not r 0 u refl e)
+  none_of to (inr (inr c)) = inr (other_is r to c.0, c.1)
+
+  one_of : (from to : ℕ) → One from 0 to X → Wanted (r == from) to
+  one_of from to (inl e) = inl (same_is r from e)
+  one_of from to (inr (inl e)) = absurd (unsaved_not r 0 u refl e)
+  one_of from to (inr (inr c)) = inr (other_is r to c.0, c.1)
+
+  zero_one_of : (from to : ℕ) → One 0 from to X → Wanted (r == from) to
+  zero_one_of from to (inl e) = absurd (unsaved_not r 0 u refl e)
+  zero_one_of from to (inr (inl e)) = inl (same_is r from e)
+  zero_one_of from to (inr (inr c)) = inr (other_is r to c.0, c.1)
+
+  two_of : (left right to : ℕ) → One left right to X → Wanted (r == left || r == right) to
+  two_of left right to (inl e) = inl (or_left (r == left) (r == right) (same_is r left e))
+  two_of left right to (inr (inl e)) = inl (or_right (r == left) (r == right) (same_is r right e))
+  two_of left right to (inr (inr c)) = inr (other_is r to c.0, c.1)
+
+  turned_of : (left right to : ℕ) → One right left to X → Wanted (r == left || r == right) to
+  turned_of left right to (inl e) = inl (or_right (r == left) (r == right) (same_is r right e))
+  turned_of left right to (inr (inl e)) = inl (or_left (r == left) (r == right) (same_is r left e))
+  turned_of left right to (inr (inr c)) = inr (other_is r to c.0, c.1)
+
+  -- and a second one, on what the first one set
+  on_to : (to : ℕ) → r ≢ to → One to 0 to X → X
+  on_to to ne (inl e) = absurd (ne e)
+  on_to to ne (inr (inl e)) = absurd (unsaved_not r 0 u refl e)
+  on_to to ne (inr (inr c)) = c.1
+
+  one_twice : (from to : ℕ) → One from 0 to (One to 0 to X) → Wanted (r == from) to
+  one_twice from to (inl e) = inl (same_is r from e)
+  one_twice from to (inr (inl e)) = absurd (unsaved_not r 0 u refl e)
+  one_twice from to (inr (inr c)) = inr (other_is r to c.0, on_to to c.0 c.1)
+
+  two_twice : (left right to : ℕ) → One left right to (One to 0 to X) → Wanted (r == left || r == right) to
+  two_twice left right to (inl e) = inl (or_left (r == left) (r == right) (same_is r left e))
+  two_twice left right to (inr (inl e)) = inl (or_right (r == left) (r == right) (same_is r right e))
+  two_twice left right to (inr (inr c)) = inr (other_is r to c.0, on_to to c.0 c.1)
+
+  turned_twice : (left right to : ℕ) → One right left to (One to 0 to X) → Wanted (r == left || r == right) to
+  turned_twice left right to (inl e) = inl (or_right (r == left) (r == right) (same_is r right e))
+  turned_twice left right to (inr (inl e)) = inl (or_left (r == left) (r == right) (same_is r left e))
+  turned_twice left right to (inr (inr c)) = inr (other_is r to c.0, on_to to c.0 c.1)
+
+  -- through x5
+  by_five : (left right to a b : ℕ) → ((r ≡ a) → ⊥) → ((r ≡ b) → ⊥) → One left right 5 (One a b to X) → Wanted (r == left || r == right) to
+  by_five left right to a b na nb (inl e) = inl (or_left (r == left) (r == right) (same_is r left e))
+  by_five left right to a b na nb (inr (inl e)) = inl (or_right (r == left) (r == right) (same_is r right e))
+  by_five left right to a b na nb (inr (inr (ne, inl e))) = absurd (na e)
+  by_five left right to a b na nb (inr (inr (ne, inr (inl e)))) = absurd (nb e)
+  by_five left right to a b na nb (inr (inr (ne, inr (inr c)))) = inr (other_is r to c.0, c.1)
+
+  moved_of : (pointer by to : ℕ) → One 5 by 5 (One pointer 5 to X) → Wanted (r == pointer || r == by) to
+  moved_of pointer by to (inl e) = absurd (unsaved_not r 5 u refl e)
+  moved_of pointer by to (inr (inl e)) = inl (or_right (r == pointer) (r == by) (same_is r by e))
+  moved_of pointer by to (inr (inr (ne, inl e))) = inl (or_left (r == pointer) (r == by) (same_is r pointer e))
+  moved_of pointer by to (inr (inr (ne, inr (inl e)))) = absurd (unsaved_not r 5 u refl e)
+  moved_of pointer by to (inr (inr (ne, inr (inr c)))) = inr (other_is r to c.0, c.1)
+
+  divided_of : (to : ℕ) → One 5 6 to X → Wanted false to
+  divided_of to (inl e) = absurd (unsaved_not r 5 u refl e)
+  divided_of to (inr (inl e)) = absurd (unsaved_not r 6 u refl e)
+  divided_of to (inr (inr c)) = inr (other_is r to c.0, c.1)
+
+  zero_not : (r ≡ 0) → ⊥
+  zero_not e = unsaved_not r 0 u refl e
+
+  five_not : (r ≡ 5) → ⊥
+  five_not e = unsaved_not r 5 u refl e
+
+  measured_of : (left right to : ℕ) (Y : Type 0) → (Y → One 5 6 to X) → One left right 5 Y → Wanted (r == left || r == right) to
+  measured_of left right to Y k (inl e) = inl (or_left (r == left) (r == right) (same_is r left e))
+  measured_of left right to Y k (inr (inl e)) = inl (or_right (r == left) (r == right) (same_is r right e))
+  measured_of left right to Y k (inr (inr c)) = elim (divided_of to (k c.1)) [ inl e ↦ absurd cc | inr d ↦ inr d ]
+
+  -- a place, and then an instruction on its base
+  placed_of : (place : Place) (n to : ℕ) → One (place_base place n) 0 to X → Wanted (place_uses place r) to
+  placed_of place n to (inl e) = inl (place_base_is place n r u e)
+  placed_of place n to (inr (inl e)) = absurd (zero_not e)
+  placed_of place n to (inr (inr c)) = inr (other_is r to c.0, c.1)
+
+  address_of : (place : Place) (n to : ℕ) → (place_uses place r ≡ true) ⊎ One (place_base place n) 0 to X → Wanted (place_uses place r) to
+  address_of place n to (inl e) = inl e
+  address_of place n to (inr w) = placed_of place n to w
+
+  stored_of : (place : Place) (n from : ℕ) → (place_uses place r ≡ true) ⊎ One (place_base place n) from 0 X → ((place_uses place r || r == from) ≡ true) ⊎ X
+  stored_of place n from (inl e) = inl (or_left (place_uses place r) (r == from) e)
+  stored_of place n from (inr (inl e)) = inl (or_left (place_uses place r) (r == from) (place_base_is place n r u e))
+  stored_of place n from (inr (inr (inl e))) = inl (or_right (place_uses place r) (r == from) (same_is r from e))
+  stored_of place n from (inr (inr (inr c))) = inr c.1
+
+  -- a slot is at the stack pointer
+  two_not : (r ≡ 2) → ⊥
+  two_not e = unsaved_not r 2 u refl e
+
+  reloaded_of : (n to : ℕ) → (r ≡ 2) ⊎ One (displaced_base 2 n) 0 to X → Wanted false to
+  reloaded_of n to (inl e) = absurd (two_not e)
+  reloaded_of n to (inr (inl e)) = absurd (two_not (displaced_base_is 2 n r u e))
+  reloaded_of n to (inr (inr (inl e))) = absurd (zero_not e)
+  reloaded_of n to (inr (inr (inr c))) = inr (other_is r to c.0, c.1)
+
+  spilled_of : (n from : ℕ) → (r ≡ 2) ⊎ One (displaced_base 2 n) from 0 X → ((r == from) ≡ true) ⊎ X
+  spilled_of n from (inl e) = absurd (two_not e)
+  spilled_of n from (inr (inl e)) = absurd (two_not (displaced_base_is 2 n r u e))
+  spilled_of n from (inr (inr (inl e))) = inl (same_is r from e)
+  spilled_of n from (inr (inr (inr c))) = inr c.1
+
+  sets_none : (used : Bool) → (used ≡ true) ⊎ X → (used ≡ true) ⊎ ((false ≡ false) × X)
+  sets_none used (inl e) = inl e
+  sets_none used (inr x) = inr (refl, x)
+
+pub work_wants : (at : Name → ℕ) (line : Line) → IsWork line → (X : Type 0) (r : ℕ) → IsUnsaved r → Wants (line_code at line) X r → (uses line r ≡ true) ⊎ ((sets line r ≡ false) × X)
+work_wants at (Put to z) work X r u w = let c = constant_wants to (word z) X r u w in inr (other_is r to c.0, c.1)
+work_wants at (PutNull to) work X r u w = none_of X r u to w
+work_wants at (Copy to from) work X r u w = one_of X r u from to w
+work_wants at (Convert to I8 from) work X r u w = one_twice X r u from to w
+work_wants at (Convert to U8 from) work X r u w = one_twice X r u from to w
+work_wants at (Convert to I16 from) work X r u w = one_twice X r u from to w
+work_wants at (Convert to U16 from) work X r u w = one_twice X r u from to w
+work_wants at (Convert to I32 from) work X r u w = one_of X r u from to w
+work_wants at (Convert to U32 from) work X r u w = one_of X r u from to w
+work_wants at (Convert to Ptr from) work X r u w = one_of X r u from to w
+work_wants at (Unary to Negate kind from) work X r u w = zero_one_of X r u from to w
+work_wants at (Unary to Complement kind from) work X r u w = one_of X r u from to w
+work_wants at (Not to from) work X r u w = one_of X r u from to w
+work_wants at (Compute to op kind left right) work X r u w = two_of X r u left right to w
+work_wants at (Compare to Less kind left right) work X r u w = two_of X r u left right to w
+work_wants at (Compare to Greater kind left right) work X r u w = turned_of X r u left right to w
+work_wants at (Compare to LessOrEqual kind left right) work X r u w = turned_twice X r u left right to w
+work_wants at (Compare to GreaterOrEqual kind left right) work X r u w = two_twice X r u left right to w
+work_wants at (Compare to Equal kind left right) work X r u w = by_five X r u left right to 5 0 (five_not X r u) (zero_not X r u) w
+work_wants at (Compare to NotEqual kind left right) work X r u w = by_five X r u left right to 0 5 (zero_not X r u) (five_not X r u) w
+work_wants at (Move to size back pointer by) work X r u w = moved_of X r u pointer by to (constant_wants 5 size _ r u (wants_append (constant_code 5 size) _ X r w)).1
+work_wants at (Distance to size left right) work X r u w = measured_of X r u left right to _ (λ y. (constant_wants 6 size _ r u (wants_append (constant_code 6 size) _ X r y)).1) w
+work_wants at (Address to place) work X r u w =
+    let n : ℕ = place_number at place in
+    address_of X r u place n to (place_wants place n _ r u (wants_append (place_code place n) _ X r w))
+work_wants at (Read to place kind access) work X r u w =
+    let n : ℕ = place_number at place in
+    address_of X r u place n to (place_wants place n _ r u (wants_append (place_code place n) _ X r w))
+work_wants at (Write place kind from access) work X r u w =
+    let n : ℕ = place_number at place in
+    sets_none X r u (place_uses place r || r == from) (stored_of X r u place n from (place_wants place n _ r u (wants_append (place_code place n) _ X r w)))
+work_wants at (Reload to slot access) work X r u w =
+    let n : ℕ = at (Slot slot) in
+    reloaded_of X r u n to (displaced_wants 2 n _ r u (wants_append (displaced_code 2 n) _ X r w))
+work_wants at (Spill slot from access) work X r u w =
+    let n : ℕ = at (Slot slot) in
+    sets_none X r u (r == from) (spilled_of X r u n from (displaced_wants 2 n _ r u (wants_append (displaced_code 2 n) _ X r w)))
+work_wants at (Cut cause) work X r u w = absurd work
+work_wants at (Call to i first count) work X r u w = absurd work
+work_wants at (GetChar to) work X r u w = absurd work
+work_wants at (PutChar to from) work X r u w = absurd work

@@ -1,0 +1,129 @@
+-- What is put for a line is what may stand for it.
+use Rattle.std.proofs.Common.{◌≡◌, ◌<◌, ℕ, suc, ◌+◌, ◌^◌, Bool, true, false, [], ◌∷◌, Some, None, length, inl, inr, refl, sym, subst, arith}
+use Rattle.std.specs.Prelude.{◌==◌, if◌then◌else◌}
+use Rattle.std.proofs.lemmas.Bool.Decides.{nat_tests}
+use Rattle.im_num.specs.declared.kind.Kind.TheVariants.{I8, U8, I16, U16, I32, U32, Ptr}
+use Rattle.im_num.specs.Kinds.{word}
+use Rattle.im_rv.specs.declared.instr.Op.TheVariants.{Addi, Add as AddOp}
+use Rattle.im_rv.specs.Lines.{CodeLine, plain_line}
+use Rattle.im_rv_reach.specs.Instructions.{with_immediate, on_registers, jumping}
+use Rattle.im_select_operators.proofs.Words.{word_small}
+use Rattle.im_store.specs.declared.operators.UnaryOp.TheVariants.{Negate, Complement}
+use Rattle.im_store.specs.declared.operators.Comparison.TheVariants.{Less as LessThan, Greater, LessOrEqual, GreaterOrEqual, Equal, NotEqual}
+use Rattle.im_store.specs.Objects.{Name, Named, Slot}
+use Rattle.im_block.specs.declared.code.Place.{Place}
+use Rattle.im_block.specs.declared.code.Place.TheVariants.{Static, Local, Through}
+use Rattle.im_block.specs.declared.code.Line.{Line}
+use Rattle.im_block.specs.declared.code.Line.TheVariants.{Put, PutNull, Copy, Convert, Unary, Not, Compute, Compare, Move, Distance, Address, Read, Write, Reload, Spill, Cut, Call, GetChar, PutChar}
+use Rattle.im_alloc_placed.specs.Operands.{PlaceAtHome}
+use Rattle.im_alloc_placed.specs.Placed.{IsPlacedLine}
+use Rattle.im_select_relation.specs.Symbolic.{Lines, HasLine, Plain, Aimed, ConstantIn, Small, Large, DisplacedIn, Near, Far, BasedIn, InFrame, InStatic, Behind, AddsIn, Short, Long, Lesser, Larger, NotLarger, NotLesser, Same, Other, Whole, Narrowed, SelectedIn, Numbers, Nulls, Copies, Converts, Negates, Complements, Nots, Computes, Compares, Moves, Measures, Addresses, Fetches, StoresValue, Reloads, Spills, Cuts_, Calls, Gets, Puts_}
+use Rattle.im_select.specs.Emitted.{high_of, low_of, constant_by, constant_code, displaced_by, displaced_code, displaced_base, adds_by, adds_code, place_number, place_code, place_base, line_code}
+use Rattle.im_select.specs.Given.{Given}
+use Rattle.im_select.specs.Places.{CallsBelow}
+use Rattle.im_select.specs.Selects.{Agrees}
+use Rattle.im_select.proofs.Standing.{At, after, after_append, at_left, at_right}
+use Rattle.im_select.proofs.Splitting.{splits, low_whole}
+
+is_zero : (a : ℕ) → (a == 0) ≡ true → a ≡ 0
+is_zero a h = grind (arith, nat_tests)
+
+pub constant_in : (w : Lines) (k rd n : ℕ) → n < 2 ^ 32 → At w k (constant_code rd n) → ConstantIn w k rd n (after k (constant_code rd n))
+constant_in w k rd n small = by (high_of n == 0) refl
+  where
+    by : (b : Bool) → (high_of n == 0) ≡ b → At w k (constant_by b rd (high_of n) (low_of n)) → ConstantIn w k rd n (after k (constant_by b rd (high_of n) (low_of n)))
+    by true e a = Small n small (subst (λ z. Plain w k (with_immediate Addi rd 0 z)) (low_whole n small (is_zero (high_of n) e)) a.0)
+    by false e a = Large n (high_of n) (low_of n) (splits n small) a.0 a.1.0
+
+pub displaced_in : (w : Lines) (k r n : ℕ) → n < 2 ^ 32 → At w k (displaced_code r n) → DisplacedIn w k r n (displaced_base r n) (low_of n) (after k (displaced_code r n))
+displaced_in w k r n small = by (high_of n == 0) refl
+  where
+    by : (b : Bool) → (high_of n == 0) ≡ b → At w k (displaced_by b r (high_of n)) → DisplacedIn w k r n (if b then r else 5) (low_of n) (after k (displaced_by b r (high_of n)))
+    by true e a = subst (λ z. DisplacedIn w k r n r z k) (sym (low_whole n small (is_zero (high_of n) e))) (Near n)
+    by false e a = Far n (high_of n) (low_of n) (splits n small) a.0 a.1.0
+
+pub adds_in : (w : Lines) (k rd n : ℕ) → n < 2 ^ 32 → At w k (adds_code rd n) → AddsIn w k rd n (after k (adds_code rd n))
+adds_in w k rd n small = by (high_of n == 0) refl
+  where
+    by : (b : Bool) → (high_of n == 0) ≡ b → At w k (adds_by b rd n) → AddsIn w k rd n (after k (adds_by b rd n))
+    by true e a = Short (subst (λ z. Plain w k (with_immediate Addi rd 2 z)) (low_whole n small (is_zero (high_of n) e)) a.0)
+    by false e a =
+        let last : CodeLine = plain_line (on_registers AddOp rd 2 5) in
+        let r = at_right w k (constant_code 5 n) (last ∷ []) a in
+        subst (AddsIn w k rd n) (sym (after_append k (constant_code 5 n) (last ∷ [])))
+        (Long (after k (constant_code 5 n)) (constant_in w k 5 n small (at_left w k (constant_code 5 n) (last ∷ []) a)) r.0)
+
+pub based_in : (w : Lines) (k : ℕ) (place : Place) → place_number w.at place < 2 ^ 32 → PlaceAtHome place → At w k (place_code place (place_number w.at place)) → BasedIn w k place (place_base place (place_number w.at place)) (low_of (place_number w.at place)) (after k (place_code place (place_number w.at place)))
+based_in w k (Static object offset) small home a = InStatic object offset (high_of (w.at (Named object) + offset)) (low_of (w.at (Named object) + offset)) (splits (w.at (Named object) + offset) small) a.0
+based_in w k (Local object offset) small home a = InFrame object offset _ _ _ (displaced_in w k 2 (w.at (Named object) + offset) small a)
+based_in w k (Through r offset) small home a = Behind r offset _ _ _ home (displaced_in w k r offset small a)
+
+-- numbers of places that a line names are words
+abbrev pub Words : (Name → ℕ) → Line → Type 0
+Words at (Address to place) = place_number at place < 2 ^ 32
+Words at (Read to place kind access) = place_number at place < 2 ^ 32
+Words at (Write place kind from access) = place_number at place < 2 ^ 32
+Words at (Reload to slot access) = at (Slot slot) < 2 ^ 32
+Words at (Spill slot from access) = at (Slot slot) < 2 ^ 32
+Words at line = Unit {0}
+
+pub selected_in : (w : Lines) (given : Given) (k : ℕ) → Agrees w given → (line : Line) → IsPlacedLine (length given.statics) given.function line → CallsBelow given.functions line → Words w.at line → At w k (line_code w.at line) → SelectedIn w k line (after k (line_code w.at line))
+selected_in w given k g (Put to z) h c s a = Numbers to z _ h (constant_in w k to (word z) (word_small z) a)
+selected_in w given k g (PutNull to) h c s a = Nulls to h a.0
+selected_in w given k g (Copy to from) h c s a = Copies to from h.0 h.1 a.0
+selected_in w given k g (Convert to I8 from) h c s a = Converts to I8 from _ h.0 h.1 (Narrowed (λ e. cc) (λ e. cc) (λ e. cc) a.0 a.1.0)
+selected_in w given k g (Convert to U8 from) h c s a = Converts to U8 from _ h.0 h.1 (Narrowed (λ e. cc) (λ e. cc) (λ e. cc) a.0 a.1.0)
+selected_in w given k g (Convert to I16 from) h c s a = Converts to I16 from _ h.0 h.1 (Narrowed (λ e. cc) (λ e. cc) (λ e. cc) a.0 a.1.0)
+selected_in w given k g (Convert to U16 from) h c s a = Converts to U16 from _ h.0 h.1 (Narrowed (λ e. cc) (λ e. cc) (λ e. cc) a.0 a.1.0)
+selected_in w given k g (Convert to I32 from) h c s a = Converts to I32 from _ h.0 h.1 (Whole (inl refl) a.0)
+selected_in w given k g (Convert to U32 from) h c s a = Converts to U32 from _ h.0 h.1 (Whole (inr refl) a.0)
+selected_in w given k g (Convert to Ptr from) h c s a = absurd (h.2 refl)
+selected_in w given k g (Unary to Negate kind from) h c s a = Negates to kind from h.0 h.1 h.2 a.0
+selected_in w given k g (Unary to Complement kind from) h c s a = Complements to kind from h.0 h.1 h.2 a.0
+selected_in w given k g (Not to from) h c s a = Nots to from h.0 h.1 a.0
+selected_in w given k g (Compute to op kind left right) h c s a = Computes to op kind left right h.0 h.1 h.2 h.3 a.0
+selected_in w given k g (Compare to LessThan kind left right) h c s a = Compares to LessThan kind left right _ h.0 h.1 h.2 h.3 (Lesser a.0)
+selected_in w given k g (Compare to Greater kind left right) h c s a = Compares to Greater kind left right _ h.0 h.1 h.2 h.3 (Larger a.0)
+selected_in w given k g (Compare to LessOrEqual kind left right) h c s a = Compares to LessOrEqual kind left right _ h.0 h.1 h.2 h.3 (NotLarger a.0 a.1.0)
+selected_in w given k g (Compare to GreaterOrEqual kind left right) h c s a = Compares to GreaterOrEqual kind left right _ h.0 h.1 h.2 h.3 (NotLesser a.0 a.1.0)
+selected_in w given k g (Compare to Equal kind left right) h c s a = Compares to Equal kind left right _ h.0 h.1 h.2 h.3 (Same a.0 a.1.0)
+selected_in w given k g (Compare to NotEqual kind left right) h c s a = Compares to NotEqual kind left right _ h.0 h.1 h.2 h.3 (Other a.0 a.1.0)
+selected_in w given k g (Move to size back pointer by) h c s a =
+    let r = at_right w k (constant_code 5 size) _ a in
+    subst (SelectedIn w k (Move to size back pointer by)) (sym (after_append k (constant_code 5 size) _))
+    (Moves to size back pointer by (after k (constant_code 5 size)) h.0 h.1 h.2 h.3 (constant_in w k 5 size h.3 (at_left w k (constant_code 5 size) _ a)) r.0 r.1.0)
+selected_in w given k g (Distance to size left right) h c s a =
+    let r = at_right w (suc k) (constant_code 6 size) _ a.1 in
+    let small : size < 2 ^ 32 = (let q = h.4 in omega arith) in
+    subst (SelectedIn w k (Distance to size left right)) (sym (after_append (suc k) (constant_code 6 size) _))
+    (Measures to size left right (after (suc k) (constant_code 6 size)) h.0 h.1 h.2 h.3 h.4 a.0 (constant_in w (suc k) 6 size small (at_left w (suc k) (constant_code 6 size) _ a.1)) r.0)
+selected_in w given k g (Address to place) h c s a =
+    let r = at_right w k (place_code place (place_number w.at place)) _ a in
+    subst (SelectedIn w k (Address to place)) (sym (after_append k (place_code place (place_number w.at place)) _))
+    (Addresses to place _ _ (after k (place_code place (place_number w.at place))) h.0 (based_in w k place s h.1 (at_left w k (place_code place (place_number w.at place)) _ a)) r.0)
+selected_in w given k g (Read to place kind access) h c s a =
+    let r = at_right w k (place_code place (place_number w.at place)) _ a in
+    subst (SelectedIn w k (Read to place kind access)) (sym (after_append k (place_code place (place_number w.at place)) _))
+    (Fetches to place kind access _ _ (after k (place_code place (place_number w.at place))) h.0 (based_in w k place s h.1 (at_left w k (place_code place (place_number w.at place)) _ a)) r.0)
+selected_in w given k g (Write place kind from access) h c s a =
+    let r = at_right w k (place_code place (place_number w.at place)) _ a in
+    subst (SelectedIn w k (Write place kind from access)) (sym (after_append k (place_code place (place_number w.at place)) _))
+    (StoresValue place kind from access _ _ (after k (place_code place (place_number w.at place))) h.0 (based_in w k place s h.1 (at_left w k (place_code place (place_number w.at place)) _ a)) r.0)
+selected_in w given k g (Reload to slot access) h c s a =
+    let code = displaced_code 2 (w.at (Slot slot)) in
+    let r = at_right w k code _ a in
+    subst (SelectedIn w k (Reload to slot access)) (sym (after_append k code _))
+    (Reloads to slot access _ _ (after k code) h.0 (displaced_in w k 2 (w.at (Slot slot)) s (at_left w k code _ a)) r.0)
+selected_in w given k g (Spill slot from access) h c s a =
+    let code = displaced_code 2 (w.at (Slot slot)) in
+    let r = at_right w k code _ a in
+    subst (SelectedIn w k (Spill slot from access)) (sym (after_append k code _))
+    (Spills slot from access _ _ (after k code) h.0 (displaced_in w k 2 (w.at (Slot slot)) s (at_left w k code _ a)) r.0)
+selected_in w given k g (Cut cause) h c s a = Cuts_ cause 31 (omega arith, omega arith) (subst (λ z. HasLine w k (jumping 3 0) (Some z) None (Some cause)) (sym g.checkpoint) a.0)
+selected_in w given k g (Call to i base count) h c s a =
+    let call : Aimed w k (jumping 1 0) (w.entry i) = subst (Aimed w k (jumping 1 0)) (sym (g.entries i c)) a.0 in
+    subst (λ z. SelectedIn w k (Call z i base count) (suc k)) (sym h.0) (subst (λ z. SelectedIn w k (Call 10 i z count) (suc k)) (sym h.1) (Calls i count call))
+selected_in w given k g (GetChar to) h c s a = subst (λ z. SelectedIn w k (GetChar z) (suc k)) (sym h) (Gets (subst (Aimed w k (jumping 1 0)) (sym g.gets) a.0))
+selected_in w given k g (PutChar to from) h c s a =
+    let call : Aimed w k (jumping 1 0) w.puts = subst (Aimed w k (jumping 1 0)) (sym g.puts) a.0 in
+    subst (λ z. SelectedIn w k (PutChar z from) (suc k)) (sym h.0) (subst (λ z. SelectedIn w k (PutChar 10 z) (suc k)) (sym h.1) (Puts_ call))

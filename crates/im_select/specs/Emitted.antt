@@ -1,0 +1,234 @@
+-- The very lines that are put for each line of placed code.
+use Rattle.std.specs.Prelude.{ℕ, suc, ◌+◌, ◌-◌, ◌/◌, ◌%◌, ◌^◌, ◌==◌, nat_lt, Bool, true, false, if◌then◌else◌, List, [], ◌∷◌, ◌++◌, Some}
+use Rattle.im_num.specs.declared.kind.Kind.{Kind}
+use Rattle.im_num.specs.declared.kind.Kind.TheVariants.{I8, U8, I16, U16, I32, U32, Ptr}
+use Rattle.im_num.specs.declared.values.Cause.{Cause}
+use Rattle.im_num.specs.Kinds.{word}
+use Rattle.im_rv.specs.declared.instr.Op.{Op}
+use Rattle.im_rv.specs.declared.instr.Op.TheVariants.{Jalr, Beq, Bgeu, Lw, Sw, Addi, Sltiu, Xori, Slli, Srli, Srai, Add as AddOp, Sub, Sltu, Mul, Div}
+use Rattle.im_rv.specs.Lines.{CodeLine, plain_line}
+use Rattle.im_rv_reach.specs.Instructions.{with_immediate, on_registers, storing, branching, upper, jumping}
+use Rattle.im_select_operators.specs.Tables.{load_op, store_op, operation, less_op}
+use Rattle.im_store.specs.declared.operators.BinaryOp.{BinaryOp}
+use Rattle.im_store.specs.declared.operators.UnaryOp.{UnaryOp}
+use Rattle.im_store.specs.declared.operators.UnaryOp.TheVariants.{Negate, Complement}
+use Rattle.im_store.specs.declared.operators.Comparison.{Comparison}
+use Rattle.im_store.specs.declared.operators.Comparison.TheVariants.{Less, Greater, LessOrEqual, GreaterOrEqual, Equal, NotEqual}
+use Rattle.im_store.specs.Objects.{Name, Named, Slot}
+use Rattle.im_block.specs.declared.code.Place.{Place}
+use Rattle.im_block.specs.declared.code.Place.TheVariants.{Static, Local, Through}
+use Rattle.im_block.specs.declared.code.Line.{Line}
+use Rattle.im_block.specs.declared.code.Line.TheVariants.{Put, PutNull, Copy, Convert, Unary, Not, Compute, Compare, Move, Distance, Address, Read, Write, Reload, Spill, Cut, Call, GetChar, PutChar}
+use Rattle.im_block.specs.declared.code.Exit.{Exit}
+use Rattle.im_block.specs.declared.code.Exit.TheVariants.{Jump, Turn, Branch, Return}
+use Rattle.im_block.specs.declared.code.Block.{Block}
+use Rattle.im_select_relation.specs.Selected.{ones}
+use Rattle.im_rtlib.specs.Routines.{getchar_label, putchar_label, stack_label, aimed, numbered}
+
+-- the labels of functions; those below 64 are the runtime's
+abbrev pub entry_label : ℕ → ℕ
+entry_label i = 64 + i
+
+-- the checkpoint's entry that saves all registers
+abbrev pub checkpoint_label : ℕ
+checkpoint_label = 31
+
+-- ---- words in two parts
+
+-- the upper 20 bits of a word, so that the lower 12, sign extended, make it whole
+unfoldable pub high_of : ℕ → ℕ
+high_of n = (n + 2048) / 4096 % 2 ^ 20
+
+unfoldable pub low_of : ℕ → ℕ
+low_of n = if nat_lt (n % 4096) 2048 then n % 4096 else n % 4096 + 4294963200
+
+abbrev pub constant_by : Bool → ℕ → ℕ → ℕ → List CodeLine
+constant_by small rd hi lo = if small then plain_line (with_immediate Addi rd 0 lo) ∷ [] else plain_line (upper rd hi) ∷ plain_line (with_immediate Addi rd rd lo) ∷ []
+
+-- a word into rd
+abbrev pub constant_code : ℕ → ℕ → List CodeLine
+constant_code rd n = constant_by (high_of n == 0) rd (high_of n) (low_of n)
+
+abbrev pub displaced_by : Bool → ℕ → ℕ → List CodeLine
+displaced_by small r hi = if small then [] else plain_line (upper 5 hi) ∷ plain_line (on_registers AddOp 5 5 r) ∷ []
+
+-- register r plus n, as a base and an offset
+abbrev pub displaced_code : ℕ → ℕ → List CodeLine
+displaced_code r n = displaced_by (high_of n == 0) r (high_of n)
+
+abbrev pub displaced_base : ℕ → ℕ → ℕ
+displaced_base r n = if high_of n == 0 then r else 5
+
+abbrev pub adds_by : Bool → ℕ → ℕ → List CodeLine
+adds_by small rd by = if small then plain_line (with_immediate Addi rd 2 (low_of by)) ∷ [] else constant_code 5 by ++ plain_line (on_registers AddOp rd 2 5) ∷ []
+
+-- the stack pointer plus a word into rd
+abbrev pub adds_code : ℕ → ℕ → List CodeLine
+adds_code rd by = adds_by (high_of by == 0) rd by
+
+-- ---- places
+
+abbrev pub place_number : (Name → ℕ) → Place → ℕ
+place_number at (Static object offset) = at (Named object) + offset
+place_number at (Local object offset) = at (Named object) + offset
+place_number at (Through r offset) = offset
+
+abbrev pub static_code : ℕ → List CodeLine
+static_code address = plain_line (upper 5 (high_of address)) ∷ []
+
+-- with the number of the place
+abbrev pub place_code : Place → ℕ → List CodeLine
+place_code (Static object offset) n = static_code n
+place_code (Local object offset) n = displaced_code 2 n
+place_code (Through r offset) n = displaced_code r n
+
+abbrev pub place_base : Place → ℕ → ℕ
+place_base (Static object offset) n = 5
+place_base (Local object offset) n = displaced_base 2 n
+place_base (Through r offset) n = displaced_base r n
+
+-- ---- operators
+
+abbrev pub moved_code : ℕ → ℕ → List CodeLine
+moved_code to from = plain_line (with_immediate Addi to from 0) ∷ []
+
+-- shifted up, and down again
+abbrev pub shifted_code : ℕ → ℕ → Bool → ℕ → List CodeLine
+shifted_code to bits signed from = plain_line (with_immediate Slli to from bits) ∷ plain_line (with_immediate (if signed then Srai else Srli) to to bits) ∷ []
+
+abbrev pub converted_code : ℕ → Kind → ℕ → List CodeLine
+converted_code to I8 from = shifted_code to 24 true from
+converted_code to U8 from = shifted_code to 24 false from
+converted_code to I16 from = shifted_code to 16 true from
+converted_code to U16 from = shifted_code to 16 false from
+converted_code to I32 from = moved_code to from
+converted_code to U32 from = moved_code to from
+converted_code to Ptr from = moved_code to from
+
+abbrev pub unary_code : ℕ → UnaryOp → ℕ → List CodeLine
+unary_code to Negate from = plain_line (on_registers Sub to 0 from) ∷ []
+unary_code to Complement from = plain_line (with_immediate Xori to from ones) ∷ []
+
+abbrev pub not_code : ℕ → ℕ → List CodeLine
+not_code to from = plain_line (with_immediate Sltiu to from 1) ∷ []
+
+abbrev pub computed_code : ℕ → BinaryOp → Kind → ℕ → ℕ → List CodeLine
+computed_code to op kind left right = plain_line (on_registers (operation op kind) to left right) ∷ []
+
+abbrev pub less_code : ℕ → Op → ℕ → ℕ → List CodeLine
+less_code to less left right = plain_line (on_registers less to left right) ∷ []
+
+abbrev pub not_less_code : ℕ → Op → ℕ → ℕ → List CodeLine
+not_less_code to less left right = plain_line (on_registers less to left right) ∷ plain_line (with_immediate Xori to to 1) ∷ []
+
+abbrev pub compared_code : ℕ → Op → ℕ → ℕ → Comparison → List CodeLine
+compared_code to less left right Less = less_code to less left right
+compared_code to less left right Greater = less_code to less right left
+compared_code to less left right LessOrEqual = not_less_code to less right left
+compared_code to less left right GreaterOrEqual = not_less_code to less left right
+compared_code to less left right Equal = plain_line (on_registers Sub 5 left right) ∷ plain_line (with_immediate Sltiu to 5 1) ∷ []
+compared_code to less left right NotEqual = plain_line (on_registers Sub 5 left right) ∷ plain_line (on_registers Sltu to 0 5) ∷ []
+
+abbrev pub step_op : Bool → Op
+step_op back = if back then Sub else AddOp
+
+abbrev pub pointer_code : ℕ → ℕ → Bool → ℕ → ℕ → List CodeLine
+pointer_code to size back pointer by = constant_code 5 size ++ plain_line (on_registers Mul 5 5 by) ∷ plain_line (on_registers (step_op back) to pointer 5) ∷ []
+
+abbrev pub distance_code : ℕ → ℕ → ℕ → ℕ → List CodeLine
+distance_code to size left right = plain_line (on_registers Sub 5 left right) ∷ (constant_code 6 size ++ plain_line (on_registers Div to 5 6) ∷ [])
+
+-- ---- lines
+
+-- a jump and link to a label
+abbrev pub call_code : ℕ → ℕ → List CodeLine
+call_code rd label = aimed label (jumping rd 0) ∷ []
+
+abbrev pub cut_code : Cause → List CodeLine
+cut_code cause = record (plain_line (jumping 3 0)) { target = Some checkpoint_label; cause = Some cause } ∷ []
+
+abbrev pub address_code : ℕ → Place → ℕ → List CodeLine
+address_code to place n = place_code place n ++ plain_line (with_immediate Addi to (place_base place n) (low_of n)) ∷ []
+
+abbrev pub fetch_code : ℕ → Place → Kind → ℕ → ℕ → List CodeLine
+fetch_code to place kind access n = place_code place n ++ numbered access (with_immediate (load_op kind) to (place_base place n) (low_of n)) ∷ []
+
+abbrev pub keep_code : Place → Kind → ℕ → ℕ → ℕ → List CodeLine
+keep_code place kind from access n = place_code place n ++ numbered access (storing (store_op kind) (place_base place n) from (low_of n)) ∷ []
+
+abbrev pub reload_code : ℕ → ℕ → ℕ → List CodeLine
+reload_code to place access = displaced_code 2 place ++ numbered access (with_immediate Lw to (displaced_base 2 place) (low_of place)) ∷ []
+
+abbrev pub spill_code : ℕ → ℕ → ℕ → List CodeLine
+spill_code place from access = displaced_code 2 place ++ numbered access (storing Sw (displaced_base 2 place) from (low_of place)) ∷ []
+
+abbrev pub line_code : (Name → ℕ) → Line → List CodeLine
+line_code at (Put to number) = constant_code to (word number)
+line_code at (PutNull to) = moved_code to 0
+line_code at (Copy to from) = moved_code to from
+line_code at (Convert to kind from) = converted_code to kind from
+line_code at (Unary to op kind from) = unary_code to op from
+line_code at (Not to from) = not_code to from
+line_code at (Compute to op kind left right) = computed_code to op kind left right
+line_code at (Compare to op kind left right) = compared_code to (less_op kind) left right op
+line_code at (Move to size back pointer by) = pointer_code to size back pointer by
+line_code at (Distance to size left right) = distance_code to size left right
+line_code at (Address to place) = address_code to place (place_number at place)
+line_code at (Read to place kind access) = fetch_code to place kind access (place_number at place)
+line_code at (Write place kind from access) = keep_code place kind from access (place_number at place)
+line_code at (Reload to slot access) = reload_code to (at (Slot slot)) access
+line_code at (Spill slot from access) = spill_code (at (Slot slot)) from access
+line_code at (Cut cause) = cut_code cause
+line_code at (Call to function first count) = call_code 1 (entry_label function)
+line_code at (GetChar to) = call_code 1 getchar_label
+line_code at (PutChar to from) = call_code 1 putchar_label
+
+abbrev pub lines_code : (Name → ℕ) → List Line → List CodeLine
+lines_code at [] = []
+lines_code at (line ∷ lines) = line_code at line ++ lines_code at lines
+
+-- ---- the ends of blocks. Block b has the label first + b
+
+abbrev pub leave_code : ℕ → List CodeLine
+leave_code frame = plain_line (with_immediate Lw 1 2 0) ∷ (adds_code 2 frame ++ plain_line (with_immediate Jalr 0 1 0) ∷ [])
+
+-- by a register, over a jump
+abbrev pub branch_code : ℕ → ℕ → ℕ → List CodeLine
+branch_code on there other = plain_line (branching Beq on 0 8) ∷ aimed there (jumping 0 0) ∷ aimed other (jumping 0 0) ∷ []
+
+abbrev pub exit_code : ℕ → ℕ → Exit → List CodeLine
+exit_code first frame (Jump b) = call_code 0 (first + b)
+exit_code first frame (Turn b) = call_code 0 (first + b)
+exit_code first frame (Branch on x y) = branch_code on (first + x) (first + y)
+exit_code first frame (Return from) = leave_code frame
+
+-- the first line has a label
+abbrev pub labelled : ℕ → List CodeLine → List CodeLine
+labelled label [] = []
+labelled label (line ∷ lines) = record line { label = Some label } ∷ lines
+
+abbrev pub block_code : (Name → ℕ) → ℕ → ℕ → ℕ → Block → List CodeLine
+block_code at first frame b block = labelled (first + b) (lines_code at block.lines.items ++ exit_code first frame block.exit)
+
+-- blocks from number b on
+abbrev pub blocks_code : (Name → ℕ) → ℕ → ℕ → ℕ → List Block → List CodeLine
+blocks_code at first frame b [] = []
+blocks_code at first frame b (block ∷ blocks) = block_code at first frame b block ++ blocks_code at first frame (suc b) blocks
+
+-- the test of the stack, and the entry into the first block
+abbrev pub enter_code : ℕ → List CodeLine
+enter_code target =
+    plain_line (with_immediate Lw 5 0 28)
+    ∷ plain_line (branching Bgeu 6 5 8)
+    ∷ aimed stack_label (jumping 0 0)
+    ∷ plain_line (with_immediate Addi 2 6 0)
+    ∷ plain_line (storing Sw 2 1 0)
+    ∷ aimed target (jumping 0 0)
+    ∷ []
+
+abbrev pub prologue_code : ℕ → ℕ → List CodeLine
+prologue_code frame target = adds_code 6 (2 ^ 32 - frame) ++ enter_code target
+
+-- the lines of function i
+abbrev pub function_code : (Name → ℕ) → ℕ → ℕ → ℕ → ℕ → List Block → List CodeLine
+function_code at i first frame entry blocks = labelled (entry_label i) (prologue_code frame (first + entry)) ++ blocks_code at first frame 0 blocks

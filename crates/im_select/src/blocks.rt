@@ -1,0 +1,120 @@
+ghost use Rattle.std.specs.Prelude.{◌≡◌, ◌<◌, ◌+◌, ◌++◌, length, OnOk, IfOk};
+ghost use Rattle.im_rv.specs.Lines.{code_lines};
+ghost use Rattle.im_block.specs.Wellformed.{ExitThere};
+ghost use Rattle.im_alloc_placed.specs.Placed.{IsPlacedExit, IsPlacedBlock};
+ghost use Rattle.im_select.specs.Emitted.{labelled, leave_code, branch_code, exit_code, enter_code, prologue_code, block_code};
+ghost use Rattle.im_select.specs.Given.{given};
+ghost use Rattle.im_select.specs.Places.{at_of, HasPlaces};
+ghost use Rattle.im_select.specs.Selects.{IsClosedBlock};
+
+use crate::lines::push_lines;
+use crate::names::Names;
+use crate::push::{push, push_jump};
+use crate::words::{push_added, register};
+use im_block::{Block, Exit};
+use im_num::NoMemory;
+use im_rtlib::STACK;
+use im_rv::Line;
+use im_rv::assembler::{addi, beq, bgeu, jalr, lw, sw};
+use std::alloc::Global;
+
+/// The first line has a label.
+pub(crate) fn label_first(lines: &mut Vec<Line>, label: u32)
+    ensures { code_lines lines.new.items ≡ labelled label (code_lines lines.old.items) }
+{
+    if !lines.is_empty() {
+        let mut first = lines[0];
+        first.label = Some(label);
+        lines[0] = first;
+    }
+}
+
+/// Back to the caller: the return address is taken, and the stack pointer goes up by the frame.
+fn push_leave(lines: &mut Vec<Line>, frame: u32) -> Result<(), NoMemory>
+    ensures { OnOk result (code_lines lines.new.items
+        ≡ code_lines lines.old.items ++ leave_code frame) }
+{
+    push(lines, lw(1, 0, 2))?;
+    push_added(lines, 2, frame)?;
+    push(lines, jalr(0, 0, 1))
+}
+
+/// To one of two labels, however far they are: by a register, other than 0 or 0.
+fn push_branch(lines: &mut Vec<Line>, on: u32, holds: u32, fails: u32) -> Result<(), NoMemory>
+    requires { on < 32 }
+    ensures { OnOk result (code_lines lines.new.items
+        ≡ code_lines lines.old.items ++ branch_code on holds fails) }
+{
+    push(lines, beq(register(on), 0, 8))?;
+    push_jump(lines, 0, holds)?;
+    push_jump(lines, 0, fails)
+}
+
+/// The lines of a block's exit.
+fn push_exit(lines: &mut Vec<Line>, names: &Names, exit: Exit) -> Result<(), NoMemory>
+    requires places { HasPlaces (given names.now) }
+    requires placed { IsPlacedExit exit }
+    requires there { ExitThere (length names.now.function.now.blocks.items) exit }
+    ensures { OnOk result (code_lines lines.new.items
+        ≡ code_lines lines.old.items
+        ++ exit_code names.now.first_block names.now.layout.now.frame exit) }
+{
+    match exit {
+        Exit::Jump(to) | Exit::Turn(to) => push_jump(lines, 0, names.first_block + to),
+        Exit::Branch { on, holds, fails } => {
+            push_branch(
+                lines,
+                on,
+                names.first_block + holds,
+                names.first_block + fails,
+            )
+        }
+        Exit::Return(_) => push_leave(lines, names.layout.frame),
+    }
+}
+
+/// The lines of a block, by its number.
+pub(crate) fn block_lines(
+    alloc: Global,
+    names: &Names,
+    number: u32,
+    block: &Block,
+) -> Result<Vec<Line>, NoMemory>
+    requires places { HasPlaces (given names.now) }
+    requires number { number < length names.now.function.now.blocks.items }
+    requires placed { IsPlacedBlock
+        (length names.now.statics.now) names.now.function.now block.now }
+    requires closed { IsClosedBlock (given names.now) block.now }
+    ensures { IfOk result (λ lines. code_lines lines.items
+        ≡ block_code (at_of (given names.now)) names.now.first_block
+        names.now.layout.now.frame number block.now) }
+{
+    let mut lines = Vec::new(alloc);
+    push_lines(&mut lines, names, &block.lines)?;
+    push_exit(&mut lines, names, block.exit)?;
+    label_first(&mut lines, names.first_block + number);
+    Ok(lines)
+}
+
+/// A function's first lines: room on the stack is tested, its pointer goes down by the frame, the
+/// return address is kept.
+pub(crate) fn push_prologue(lines: &mut Vec<Line>, frame: u32, target: u32) -> Result<(), NoMemory>
+    requires { 0 < frame }
+    ensures { OnOk result (code_lines lines.new.items
+        ≡ code_lines lines.old.items ++ prologue_code frame target) }
+{
+    push_added(lines, 6, u32::MAX - (frame - 1))?;
+    push_enter(lines, target)
+}
+
+fn push_enter(lines: &mut Vec<Line>, target: u32) -> Result<(), NoMemory>
+    ensures { OnOk result (code_lines lines.new.items
+        ≡ code_lines lines.old.items ++ enter_code target) }
+{
+    push(lines, lw(5, 28, 0))?;
+    push(lines, bgeu(6, 5, 8))?;
+    push_jump(lines, 0, STACK)?;
+    push(lines, addi(2, 6, 0))?;
+    push(lines, sw(1, 0, 2))?;
+    push_jump(lines, 0, target)
+}

@@ -1,0 +1,14 @@
+ghost use Rattle.im_select_addresses.specs.Addresses.{FramesLaw};
+ghost use Rattle.im_select_addresses.specs.Statics.{StaticsLaw};
+
+/// With one map of all objects of a unit, each function's objects lie where the layout of its frame
+/// has them.
+pub fn frames_law()
+    ensures { FramesLaw }
+{}
+
+/// Statics that are placed one behind the other lie in their region, apart, each with an unused
+/// byte behind it.
+pub fn statics_law()
+    ensures { StaticsLaw }
+{}

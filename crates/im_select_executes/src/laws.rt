@@ -1,0 +1,26 @@
+ghost use Rattle.im_select_executes.specs.Laws.{ExecutesLaw, ObjectsLaw};
+
+use im_keeps_written::written_law;
+use im_saved_image::image_law;
+use im_select_relation::select_keeps_law;
+use im_select_statics::shown_law;
+use im_select_survives::survives_law;
+
+/// Placed code that is selected and linked, and whose image lies in memory, is followed by the
+/// device's own run.
+pub fn executes_law()
+    ensures { ExecutesLaw }
+{
+    select_keeps_law();
+    written_law();
+    survives_law();
+    image_law();
+}
+
+/// The image's objects show the statics.
+pub fn objects_law()
+    ensures { ObjectsLaw }
+{
+    shown_law();
+    written_law();
+}

@@ -1,0 +1,139 @@
+-- The machine's steps for lines that compute.
+use Rattle.std.proofs.Common.{◌≡◌, ◌≢◌, ℕ, ◌+◌, ◌*◌, ◌%◌, ◌^◌, ◌<◌, ◌≤◌, ℤ, Bool, true, false, cond, [], sym, ap, ◌∙◌, refl, arith}
+use Rattle.std.specs.Prelude.{nat_lt, not, bit_xor}
+use Rattle.im_num.specs.declared.kind.Kind.{Kind}
+use Rattle.im_num.specs.declared.kind.Kind.TheVariants.{I8, U8, I16, U16, I32, U32, Ptr}
+use Rattle.im_num.specs.Kinds.{wrap, word}
+use Rattle.im_mem.specs.Memory.{Mem}
+use Rattle.im_rv.specs.declared.instr.Op.TheVariants.{Addi, Sltiu, Xori, Slli, Srli, Srai, Add, Sub, Sltu, Mul, Div}
+use Rattle.im_rv.specs.declared.effect.Effect.TheVariants.{Puts}
+use Rattle.im_rv.specs.Steps.{sum_of, difference_of, as_number, with_reg, row, quotient, shift_left, shift_right, shift_right_signed}
+use Rattle.im_rv.proofs.Straight.{same_reg, other_reg}
+use Rattle.im_rv_reach.specs.Plain.{returns_by}
+use Rattle.im_rv_reach.specs.Instructions.{Holds, Fixed, with_immediate, on_registers}
+use Rattle.im_rv_reach.proofs.Reach.{plus_is, join, puts}
+use Rattle.im_rv_reach.specs.Reach.{plus}
+use Rattle.im_select_operators.specs.Tables.{by_sign, less_op}
+use Rattle.im_select_operators.proofs.Words.{word_wrap}
+use Rattle.im_select_operators.proofs.Division.{narrowed_u8, narrowed_u16, narrowed_i8, narrowed_i16}
+use Rattle.im_select_operators.proofs.Comparisons.{word_less, outcome, less_row, turned}
+use Rattle.im_store.specs.declared.operators.Comparison.{Comparison}
+use Rattle.im_select_relation.specs.Linking.{Linking}
+use Rattle.im_select_relation.specs.Selected.{Constant, Converted, Whole, Narrowed, unused_bits, Compared, Lesser, Larger, NotLarger, NotLesser, Same, Other}
+use Rattle.im_select_relation.proofs.Ends.{Loaded, constant}
+use Rattle.im_select_relation.proofs.Gives.{Gave, gave_one, gave_more}
+
+pub gave_weak : (m : Mem) (pc : ℕ) (x : ℕ → ℕ) (to w next words more : ℕ) → words ≤ more → Gave m pc x to w next words → Gave m pc x to w next more
+gave_weak m pc x to w next words more le q = record {
+  n = q.n;
+  some = q.some;
+  few = (let z = q.few in omega arith);
+  y = q.y;
+  reach = q.reach;
+  set = q.set;
+  kept = q.kept;
+}
+
+pub gave_constant : (p : Linking) (m : Mem) (pc : ℕ) (x : ℕ → ℕ) (to n next : ℕ) → 0 < to → x 0 ≡ 0 → Fixed p.image m → Constant p pc to n next → Gave m pc x to n next 2
+gave_constant p m pc x to n next some x0 fixed h =
+    let k : Loaded m pc x to n next = constant p m pc x to n next some x0 fixed h in
+    record { n = k.count; some = k.some; few = k.few; y = k.y; reach = k.reach; set = k.set; kept = λ i ne a b. k.kept i ne }
+
+less_on : (k : Kind) → returns_by (less_op k) ≡ false
+less_on I8 = refl
+less_on U8 = refl
+less_on I16 = refl
+less_on U16 = refl
+less_on I32 = refl
+less_on U32 = refl
+less_on Ptr = refl
+
+shift_on : (k : Kind) → returns_by (by_sign k Srai Srli) ≡ false
+shift_on I8 = refl
+shift_on U8 = refl
+shift_on I16 = refl
+shift_on U16 = refl
+shift_on I32 = refl
+shift_on U32 = refl
+shift_on Ptr = refl
+
+moved_on : (back : Bool) → returns_by (cond back Sub Add) ≡ false
+moved_on true = refl
+moved_on false = refl
+
+pub gave_compared : (p : Linking) (m : Mem) (pc : ℕ) (x : ℕ → ℕ) (to : ℕ) (k : Kind) (left right : ℕ) (op : Comparison) (next : ℕ) → 0 < to → left ≢ 5 → right ≢ 5 → x 0 ≡ 0 → Fixed p.image m → Compared p pc to (less_op k) left right op next → Gave m pc x to (as_number (outcome (word_less k) op (x left) (x right))) next 2
+gave_compared p m pc x to k left right op next some l5 r5 x0 fixed (Lesser h) = gave_weak m pc x to _ (pc + 4) 1 2 (omega arith) (gave_one p.image m pc x (on_registers (less_op k) to left right) (as_number (word_less k (x left) (x right))) some fixed h (less_row k pc (x left) (x right) 0) (less_on k))
+gave_compared p m pc x to k left right op next some l5 r5 x0 fixed (Larger h) = gave_weak m pc x to _ (pc + 4) 1 2 (omega arith) (gave_one p.image m pc x (on_registers (less_op k) to right left) (as_number (word_less k (x right) (x left))) some fixed h (less_row k pc (x right) (x left) 0) (less_on k))
+gave_compared p m pc x to k left right op next some l5 r5 x0 fixed (NotLarger h g) =
+    let v : ℕ = as_number (word_less k (x right) (x left)) in
+    gave_more p.image m pc (pc + 4) x (with_reg x to v) 1 1 (with_immediate Xori to to 1) (as_number (not (word_less k (x right) (x left)))) (omega arith) some fixed
+    (puts p.image m pc x (on_registers (less_op k) to right left) v fixed h (less_row k pc (x right) (x left) 0) (less_on k)) (λ i ne a b. other_reg x to v i ne) g
+    (ap (λ z. Puts (bit_xor z 1) (sum_of (pc + 4) 4)) (same_reg x to v some) ∙ ap (λ z. Puts z (sum_of (pc + 4) 4)) (turned (word_less k (x right) (x left)))) refl
+gave_compared p m pc x to k left right op next some l5 r5 x0 fixed (NotLesser h g) =
+    let v : ℕ = as_number (word_less k (x left) (x right)) in
+    gave_more p.image m pc (pc + 4) x (with_reg x to v) 1 1 (with_immediate Xori to to 1) (as_number (not (word_less k (x left) (x right)))) (omega arith) some fixed
+    (puts p.image m pc x (on_registers (less_op k) to left right) v fixed h (less_row k pc (x left) (x right) 0) (less_on k)) (λ i ne a b. other_reg x to v i ne) g
+    (ap (λ z. Puts (bit_xor z 1) (sum_of (pc + 4) 4)) (same_reg x to v some) ∙ ap (λ z. Puts z (sum_of (pc + 4) 4)) (turned (word_less k (x left) (x right)))) refl
+gave_compared p m pc x to k left right op next some l5 r5 x0 fixed (Same h g) =
+    let d : ℕ = difference_of (x left) (x right) in
+    gave_more p.image m pc (pc + 4) x (with_reg x 5 d) 1 1 (with_immediate Sltiu to 5 1) (as_number (nat_lt d 1)) (omega arith) some fixed
+    (puts p.image m pc x (on_registers Sub 5 left right) d fixed h refl refl) (λ i ne a b. other_reg x 5 d i a) g
+    (ap (λ z. Puts (as_number (nat_lt z 1)) (sum_of (pc + 4) 4)) (same_reg x 5 d (omega arith))) refl
+gave_compared p m pc x to k left right op next some l5 r5 x0 fixed (Other h g) =
+    let d : ℕ = difference_of (x left) (x right) in
+    gave_more p.image m pc (pc + 4) x (with_reg x 5 d) 1 1 (on_registers Sltu to 0 5) (as_number (nat_lt 0 d)) (omega arith) some fixed
+    (puts p.image m pc x (on_registers Sub 5 left right) d fixed h refl refl) (λ i ne a b. other_reg x 5 d i a) g
+    (ap (λ z. Puts (as_number (nat_lt z (with_reg x 5 d 5))) (sum_of (pc + 4) 4)) (other_reg x 5 d 0 (omega arith) ∙ x0) ∙ ap (λ z. Puts (as_number (nat_lt 0 z)) (sum_of (pc + 4) 4)) (same_reg x 5 d (omega arith))) refl
+
+-- a value brought into a kind, by its word
+sum_same : (w : ℕ) → w < 2 ^ 32 → sum_of w 0 ≡ w
+sum_same w h = omega arith
+
+two_shifts : (p : Linking) (m : Mem) (pc : ℕ) (x : ℕ → ℕ) (to : ℕ) (k : Kind) (from w : ℕ) → 0 < to → Fixed p.image m → Holds p.image pc (with_immediate Slli to from (unused_bits k)) → Holds p.image (pc + 4) (with_immediate (by_sign k Srai Srli) to to (unused_bits k)) → row (by_sign k Srai Srli) (pc + 4) (shift_left (x from) (unused_bits k)) (shift_left (x from) (unused_bits k)) (unused_bits k) ≡ Puts w (sum_of (pc + 4) 4) → row (by_sign k Srai Srli) (pc + 4) (with_reg x to (shift_left (x from) (unused_bits k)) to) (with_reg x to (shift_left (x from) (unused_bits k)) 0) (unused_bits k) ≡ row (by_sign k Srai Srli) (pc + 4) (shift_left (x from) (unused_bits k)) (shift_left (x from) (unused_bits k)) (unused_bits k) → Gave m pc x to w (pc + 4 + 4) 2
+two_shifts p m pc x to k from w some fixed h g e f =
+    let v : ℕ = shift_left (x from) (unused_bits k) in
+    gave_more p.image m pc (pc + 4) x (with_reg x to v) 1 1 (with_immediate (by_sign k Srai Srli) to to (unused_bits k)) w (omega arith) some fixed
+    (puts p.image m pc x (with_immediate Slli to from (unused_bits k)) v fixed h refl refl) (λ i ne a b. other_reg x to v i ne) g (f ∙ e) (shift_on k)
+
+pub gave_converted : (p : Linking) (m : Mem) (pc : ℕ) (x : ℕ → ℕ) (to : ℕ) (k : Kind) (from next : ℕ) (z : ℤ) → 0 < to → x from ≡ word z → word z < 2 ^ 32 → Fixed p.image m → Converted p pc to k from next → Gave m pc x to (word (wrap k z)) next 2
+gave_converted p m pc x to k from next z some is small fixed (Whole kind h) =
+    gave_weak m pc x to (word (wrap k z)) (pc + 4) 1 2 (omega arith) (gave_one p.image m pc x (with_immediate Addi to from 0) (word (wrap k z)) some fixed h
+    (ap (λ q. Puts (sum_of q 0) (sum_of pc 4)) is ∙ ap (λ q. Puts q (sum_of pc 4)) (sum_same (word z) small ∙ sym (word_wrap k z kind))) refl)
+gave_converted p m pc x to I8 from next z some is small fixed (Narrowed a b c h g) = two_shifts p m pc x to I8 from (word (wrap I8 z)) some fixed h g (ap (λ q. Puts (shift_right_signed (shift_left q 24) 24) (sum_of (pc + 4) 4)) is ∙ ap (λ q. Puts q (sum_of (pc + 4) 4)) (narrowed_i8 z)) (ap (λ q. Puts (shift_right_signed q 24) (sum_of (pc + 4) 4)) (same_reg x to (shift_left (x from) 24) some))
+gave_converted p m pc x to U8 from next z some is small fixed (Narrowed a b c h g) = two_shifts p m pc x to U8 from (word (wrap U8 z)) some fixed h g (ap (λ q. Puts (shift_right (shift_left q 24) 24) (sum_of (pc + 4) 4)) is ∙ ap (λ q. Puts q (sum_of (pc + 4) 4)) (narrowed_u8 z)) (ap (λ q. Puts (shift_right q 24) (sum_of (pc + 4) 4)) (same_reg x to (shift_left (x from) 24) some))
+gave_converted p m pc x to I16 from next z some is small fixed (Narrowed a b c h g) = two_shifts p m pc x to I16 from (word (wrap I16 z)) some fixed h g (ap (λ q. Puts (shift_right_signed (shift_left q 16) 16) (sum_of (pc + 4) 4)) is ∙ ap (λ q. Puts q (sum_of (pc + 4) 4)) (narrowed_i16 z)) (ap (λ q. Puts (shift_right_signed q 16) (sum_of (pc + 4) 4)) (same_reg x to (shift_left (x from) 16) some))
+gave_converted p m pc x to U16 from next z some is small fixed (Narrowed a b c h g) = two_shifts p m pc x to U16 from (word (wrap U16 z)) some fixed h g (ap (λ q. Puts (shift_right (shift_left q 16) 16) (sum_of (pc + 4) 4)) is ∙ ap (λ q. Puts q (sum_of (pc + 4) 4)) (narrowed_u16 z)) (ap (λ q. Puts (shift_right q 16) (sum_of (pc + 4) 4)) (same_reg x to (shift_left (x from) 16) some))
+gave_converted p m pc x to I32 from next z some is small fixed (Narrowed a b c h g) = absurd (a refl)
+gave_converted p m pc x to U32 from next z some is small fixed (Narrowed a b c h g) = absurd (b refl)
+gave_converted p m pc x to Ptr from next z some is small fixed (Narrowed a b c h g) = absurd (c refl)
+
+-- a pointer moved: the size times the count, added or taken away
+abbrev pub moved_sum : Bool → ℕ → ℕ → ℕ
+moved_sum true w d = difference_of w d
+moved_sum false w d = sum_of w d
+
+moved_row : (back : Bool) (pc a b imm : ℕ) → row (cond back Sub Add) pc a b imm ≡ Puts (moved_sum back a b) (sum_of pc 4)
+moved_row true pc a b imm = refl
+moved_row false pc a b imm = refl
+
+pub gave_moved : (p : Linking) (m : Mem) (pc : ℕ) (x : ℕ → ℕ) (to size : ℕ) (back : Bool) (pointer by mid : ℕ) → 0 < to → pointer ≢ 5 → by ≢ 5 → x 0 ≡ 0 → Fixed p.image m → Constant p pc 5 size mid → Holds p.image mid (on_registers Mul 5 5 by) → Holds p.image (mid + 4) (on_registers (cond back Sub Add) to pointer 5) → Gave m pc x to (moved_sum back (x pointer) (size * x by % 2 ^ 32)) (mid + 4 + 4) 4
+gave_moved p m pc x to size back pointer by mid some p5 b5 x0 fixed h k l =
+    let c : Loaded m pc x 5 size mid = constant p m pc x 5 size mid (omega arith) x0 fixed h in
+    let d : ℕ = c.y 5 * c.y by % 2 ^ 32 in
+    let y : ℕ → ℕ = with_reg c.y 5 d in
+    let e : d ≡ size * x by % 2 ^ 32 = ap (λ z. z * c.y by % 2 ^ 32) c.set ∙ ap (λ z. size * z % 2 ^ 32) (c.kept by b5) in
+    let reach = join c.count 1 [] [] _ _ _ m m m c.reach (puts p.image m mid c.y (on_registers Mul 5 5 by) d fixed k refl refl) in
+    gave_more p.image m pc (mid + 4) x y (plus c.count 1) 3 (on_registers (cond back Sub Add) to pointer 5) (moved_sum back (x pointer) (size * x by % 2 ^ 32)) (let q = plus_is c.count 1 in let z = c.few in omega arith) some fixed reach
+    (λ i ne a b. other_reg c.y 5 d i a ∙ c.kept i a) l
+    (moved_row back (mid + 4) (y pointer) (y 5) 0 ∙ ap (λ z. Puts (moved_sum back z (y 5)) (sum_of (mid + 4) 4)) (other_reg c.y 5 d pointer p5 ∙ c.kept pointer p5) ∙ ap (λ z. Puts (moved_sum back (x pointer) z) (sum_of (mid + 4) 4)) (same_reg c.y 5 d (omega arith) ∙ e)) (moved_on back)
+
+-- a distance: the difference, by the size
+pub gave_distance : (p : Linking) (m : Mem) (pc : ℕ) (x : ℕ → ℕ) (to size left right mid : ℕ) → 0 < to → x 0 ≡ 0 → Fixed p.image m → Holds p.image pc (on_registers Sub 5 left right) → Constant p (pc + 4) 6 size mid → Holds p.image mid (on_registers Div to 5 6) → Gave m pc x to (quotient (difference_of (x left) (x right)) size) (mid + 4) 4
+gave_distance p m pc x to size left right mid some x0 fixed h k l =
+    let d : ℕ = difference_of (x left) (x right) in
+    let x1 : ℕ → ℕ = with_reg x 5 d in
+    let c : Loaded m (pc + 4) x1 6 size mid = constant p m (pc + 4) x1 6 size mid (omega arith) (other_reg x 5 d 0 (omega arith) ∙ x0) fixed k in
+    let reach = join 1 c.count [] [] _ _ _ m m m (puts p.image m pc x (on_registers Sub 5 left right) d fixed h refl refl) c.reach in
+    gave_more p.image m pc mid x c.y (plus 1 c.count) 3 (on_registers Div to 5 6) (quotient d size) (let z = c.few in omega arith) some fixed reach
+    (λ i ne a b. c.kept i b ∙ other_reg x 5 d i a) l
+    (ap (λ z. Puts (quotient z (c.y 6)) (sum_of mid 4)) (c.kept 5 (omega arith) ∙ same_reg x 5 d (omega arith)) ∙ ap (λ z. Puts (quotient d z) (sum_of mid 4)) c.set) refl

@@ -1,0 +1,216 @@
+-- The ends of runs, and lines that change the stack pointer.
+use Rattle.std.proofs.Common.{◌≡◌, ◌≢◌, ℕ, ◌+◌, ◌*◌, ◌%◌, ◌^◌, ◌<◌, ◌≤◌, inr, true, false, cond, [], ◌∷◌, ap, ◌∙◌, refl, arith}
+use Rattle.std.specs.Prelude.{◌==◌, nat_lt}
+use Rattle.std.proofs.lemmas.Bool.Decides.{nat_tests}
+use Rattle.im_num.specs.Bytes.{bytes_of}
+use Rattle.im_mem.specs.Memory.{Mem, little, is_place, written}
+use Rattle.im_mem.proofs.Words.{written-above, length-bytes_of}
+use Rattle.im_rv.specs.declared.instr.Op.TheVariants.{Add, Beq, Bne, Bltu, Bgeu, Sw, Addi, Ebreak}
+use Rattle.im_rv.specs.declared.effect.Effect.TheVariants.{Puts, Goes as Passes, Stores}
+use Rattle.im_rv.specs.Steps.{sum_of, with_reg}
+use Rattle.im_rv.proofs.Straight.{same_reg, other_reg}
+use Rattle.im_store.specs.Objects.{Value}
+use Rattle.im_rv_reach.specs.Touches.{Stored}
+use Rattle.im_rv_reach.specs.Plain.{in_runtime}
+use Rattle.im_rv_reach.specs.Reach.{Reach, Stopped}
+use Rattle.im_rv_reach.specs.Instructions.{Holds, Fixed, with_immediate, on_registers, storing, upper, jumping, branching}
+use Rattle.im_rv_reach.proofs.Reach.{plus_is, join, next_pc, no_back, puts, leaps, passes, stores, halts, then_stops, output_told, low_store}
+use Rattle.im_rv_reach.specs.Reach.{plus}
+use Rattle.im_select_relation.specs.Linking.{Linking}
+use Rattle.im_select_relation.specs.Selected.{Constant, Small, Large, Adds, Short, Long, Jumps, Checked, Direct, Around, Tested, Reached, Hopped}
+use Rattle.im_select_relation.proofs.Registers.{RegsMean, means_at}
+use Rattle.im_select_relation.proofs.Cells.{little_back}
+
+-- a word is stored in the low page, and the run ends
+pub ends : (image m : Mem) (pc : ℕ) (x : ℕ → ℕ) (rs imm : ℕ) → Fixed image m → x 0 ≡ 0 → imm + 4 ≤ 12 → 4 ≤ imm → is_place imm 4 ≡ true → Holds image pc (storing Sw 0 rs imm) → Holds image (pc + 4) (with_immediate Ebreak 0 0 0) → Stopped 2 (Stored imm 4 ∷ []) (record { pc = pc; x = x }) m (written m imm (bytes_of 4 (x rs)))
+ends image m pc x rs imm fixed x0 less some place h k =
+    let m' : Mem = written m imm (bytes_of 4 (x rs)) in
+    let e : sum_of (x 0) imm ≡ imm = omega arith in
+    let same : Fixed image m' = (λ a l u. written-above m imm a (bytes_of 4 (x rs)) (omega (arith, length-bytes_of 4 (x rs))) ∙ fixed a l u) in
+    then_stops 1 1 (Stored imm 4 ∷ []) [] _ _ m m' m'
+    (stores image m pc x (storing Sw 0 rs imm) imm 4 (x rs) fixed h (ap (λ a. Stores a 4 (x rs)) e) place (output_told m imm 4 (x rs) less) (low_store (in_runtime pc) imm 4 some (omega arith)))
+    (halts image m' (pc + 4) x (with_immediate Ebreak 0 0 0) same k refl)
+
+-- the words of the low page after such a store
+pub told : (m : Mem) (a w : ℕ) → w < 2 ^ 32 → little (written m a (bytes_of 4 w)) a 4 ≡ w
+told m a w h = little_back m a 4 w (inr (inr refl)) ∙ (let k : w % 2 ^ 32 ≡ w = omega arith in k)
+
+-- lines that put a word into rd
+pub record Loaded (m : Mem) (pc : ℕ) (x : ℕ → ℕ) (rd n next : ℕ) : Type 0 where
+  pub count : ℕ
+  pub some : 0 < count
+  pub few : count ≤ 2
+  pub y : ℕ → ℕ
+  pub reach : Reach count [] (record { pc = pc; x = x }) m (record { pc = next; x = y }) m
+  pub set : y rd ≡ n
+  pub kept : (i : ℕ) → i ≢ rd → y i ≡ x i
+
+pub constant : (p : Linking) (m : Mem) (pc : ℕ) (x : ℕ → ℕ) (rd n next : ℕ) → 0 < rd → x 0 ≡ 0 → Fixed p.image m → Constant p pc rd n next → Loaded m pc x rd n next
+constant p m pc x rd k next pos x0 fixed (Small n small h) =
+    let v : ℕ = sum_of (x 0) n in
+    let e : v ≡ n = omega arith in
+    record {
+      count = 1;
+      some = omega arith;
+      few = omega arith;
+      y = with_reg x rd v;
+      reach = puts p.image m pc x (with_immediate Addi rd 0 n) v fixed h refl refl;
+      set = same_reg x rd v pos ∙ e;
+      kept = λ i a. other_reg x rd v i a;
+    }
+constant p m pc x rd k next pos x0 fixed (Large n hi lo split h l) =
+    let a : ℕ = hi * 4096 % 2 ^ 32 in
+    let x1 : ℕ → ℕ = with_reg x rd a in
+    let b : ℕ = sum_of (x1 rd) lo in
+    let e : b ≡ n = ap (λ z. sum_of z lo) (same_reg x rd a pos) ∙ split in
+    record {
+      count = 2;
+      some = omega arith;
+      few = omega arith;
+      y = with_reg x1 rd b;
+      reach = join 1 1 [] [] _ _ _ m m m (puts p.image m pc x (upper rd hi) a fixed h refl refl) (puts p.image m (pc + 4) x1 (with_immediate Addi rd rd lo) b fixed l refl refl);
+      set = same_reg x1 rd b pos ∙ e;
+      kept = λ i n5. other_reg x1 rd b i n5 ∙ other_reg x rd a i n5;
+    }
+
+-- lines that put the stack pointer plus a word into rd
+pub record Added (m : Mem) (pc : ℕ) (x : ℕ → ℕ) (rd by next : ℕ) : Type 0 where
+  pub n : ℕ
+  pub some : 0 < n
+  pub few : n ≤ 3
+  pub y : ℕ → ℕ
+  pub reach : Reach n [] (record { pc = pc; x = x }) m (record { pc = next; x = y }) m
+  pub set : y rd ≡ sum_of (x 2) by
+  pub kept : (i : ℕ) → i ≢ rd → i ≢ 5 → y i ≡ x i
+
+pub adds : (p : Linking) (m : Mem) (pc : ℕ) (x : ℕ → ℕ) (rd by next : ℕ) → 0 < rd → rd ≢ 5 → x 0 ≡ 0 → Fixed p.image m → Adds p pc rd by next → Added m pc x rd by next
+adds p m pc x rd by next pos no5 x0 fixed (Short h) =
+    let v : ℕ = sum_of (x 2) by in
+    record {
+      n = 1;
+      some = omega arith;
+      few = omega arith;
+      y = with_reg x rd v;
+      reach = puts p.image m pc x (with_immediate Addi rd 2 by) v fixed h refl refl;
+      set = same_reg x rd v pos;
+      kept = λ i a b. other_reg x rd v i a;
+    }
+adds p m pc x rd by next pos no5 x0 fixed (Long mid h l) =
+    let k : Loaded m pc x 5 by mid = constant p m pc x 5 by mid (omega arith) x0 fixed h in
+    let v : ℕ = sum_of (k.y 2) (k.y 5) in
+    record {
+      n = plus k.count 1;
+      some = (let q = plus_is k.count 1 in omega arith);
+      few = (let q = plus_is k.count 1 in let z = k.few in omega arith);
+      y = with_reg k.y rd v;
+      reach = join k.count 1 [] [] _ _ _ m m m k.reach (puts p.image m mid k.y (on_registers Add rd 2 5) v fixed l refl refl);
+      set = same_reg k.y rd v pos ∙ ap (λ z. sum_of z (k.y 5)) (k.kept 2 (omega arith)) ∙ ap (λ z. sum_of (x 2) z) k.set;
+      kept = λ i n5 m5. other_reg k.y rd v i n5 ∙ k.kept i m5;
+    }
+
+-- registers that placed code sees are as they were, the stack pointer aside
+pub regs_still : (p : Linking) (registers : ℕ → Value) (sp : ℕ) (x y : ℕ → ℕ) → RegsMean p registers sp x → y 0 ≡ x 0 → ((i : ℕ) → 6 < i → y i ≡ x i) → RegsMean p registers (y 2) y
+regs_still p registers sp x y m zero_ same = record {
+  zero_reg = zero_ ∙ m.zero_reg;
+  stack = refl;
+  homes = λ r six. means_at p (registers r) _ (x r) _ refl (same r six) (m.homes r six);
+}
+
+-- a jump
+pub record Jumped (m : Mem) (pc : ℕ) (x : ℕ → ℕ) (target : ℕ) : Type 0 where
+  pub y : ℕ → ℕ
+  pub reach : Reach 1 [] (record { pc = pc; x = x }) m (record { pc = target; x = y }) m
+  pub kept : (i : ℕ) → y i ≡ x i
+
+none_set : (x : ℕ → ℕ) (w i : ℕ) → with_reg x 0 w i ≡ x i
+none_set x w i = grind (arith, nat_tests)
+
+pub jumps : (p : Linking) (m : Mem) (pc : ℕ) (x : ℕ → ℕ) (target : ℕ) → Fixed p.image m → Jumps p pc target → Jumped m pc x target
+jumps p m pc x target fixed j = record {
+  y = with_reg x 0 (sum_of pc 4);
+  reach = leaps p.image m pc x (jumping 0 j.imm) (sum_of pc 4) target fixed j.jumps (ap (Puts (sum_of pc 4)) j.lands) (no_back pc (jumping 0 j.imm) m target refl);
+  kept = none_set x (sum_of pc 4);
+}
+
+-- the test of the stack passes
+pub record Passed (m : Mem) (pc : ℕ) (x : ℕ → ℕ) (target : ℕ) : Type 0 where
+  pub n : ℕ
+  pub some : 0 < n
+  pub few : n ≤ 2
+  pub y : ℕ → ℕ
+  pub reach : Reach n [] (record { pc = pc; x = x }) m (record { pc = target; x = y }) m
+  pub kept : (i : ℕ) → y i ≡ x i
+
+pub has_room : (p : Linking) (m : Mem) (pc : ℕ) (x : ℕ → ℕ) (next : ℕ) → Fixed p.image m → nat_lt (x 6) (x 5) ≡ false → Checked p pc next → Reach 1 [] (record { pc = pc; x = x }) m (record { pc = next; x = x }) m
+has_room p m pc x next fixed t (Direct imm lands h) =
+    passes p.image m pc x (branching Bltu 6 5 imm) (pc + 4) fixed h (ap (λ b. Passes (cond b (sum_of pc imm) (sum_of pc 4))) t ∙ ap Passes (next_pc p.image pc (branching Bltu 6 5 imm) h))
+has_room p m pc x next fixed t (Around h j) =
+    passes p.image m pc x (branching Bgeu 6 5 8) (pc + 4 + 4) fixed h (ap (λ b. Passes (cond b (sum_of pc 4) (sum_of pc 8))) t ∙ ap Passes (let l = h.low in omega arith))
+
+pub no_room : (p : Linking) (m : Mem) (pc : ℕ) (x : ℕ → ℕ) (next : ℕ) → Fixed p.image m → nat_lt (x 6) (x 5) ≡ true → Checked p pc next → Passed m pc x p.full
+no_room p m pc x next fixed t (Direct imm lands h) = record {
+  n = 1;
+  some = omega arith;
+  few = omega arith;
+  y = x;
+  reach = passes p.image m pc x (branching Bltu 6 5 imm) p.full fixed h (ap (λ b. Passes (cond b (sum_of pc imm) (sum_of pc 4))) t ∙ ap Passes lands);
+  kept = λ i. refl;
+}
+no_room p m pc x next fixed t (Around h j) =
+    let k = jumps p m (pc + 4) x p.full fixed j in
+    record {
+      n = 2;
+      some = omega arith;
+      few = omega arith;
+      y = k.y;
+      reach = join 1 1 [] [] _ _ _ m m m (passes p.image m pc x (branching Bgeu 6 5 8) (pc + 4) fixed h (ap (λ b. Passes (cond b (sum_of pc 4) (sum_of pc 8))) t ∙ ap Passes (next_pc p.image pc (branching Bgeu 6 5 8) h))) k.reach;
+      kept = k.kept;
+    }
+
+-- a test of a register against zero
+pub tested_yes : (p : Linking) (m : Mem) (pc : ℕ) (x : ℕ → ℕ) (on there no_ : ℕ) → Fixed p.image m → x 0 ≡ 0 → x on ≢ 0 → Tested p pc on there no_ → Passed m pc x there
+tested_yes p m pc x on there no_ fixed x0 ne (Reached imm lands h j) =
+    let t : (x on == x 0) ≡ false = grind (arith, nat_tests) in
+    record {
+      n = 1;
+      some = omega arith;
+      few = omega arith;
+      y = x;
+      reach = passes p.image m pc x (branching Bne on 0 imm) there fixed h (ap (λ b. Passes (cond b (sum_of pc 4) (sum_of pc imm))) t ∙ ap Passes lands);
+      kept = λ i. refl;
+    }
+tested_yes p m pc x on there no_ fixed x0 ne (Hopped h j k) =
+    let t : (x on == x 0) ≡ false = grind (arith, nat_tests) in
+    let q = jumps p m (pc + 4) x there fixed j in
+    record {
+      n = 2;
+      some = omega arith;
+      few = omega arith;
+      y = q.y;
+      reach = join 1 1 [] [] _ _ _ m m m (passes p.image m pc x (branching Beq on 0 8) (pc + 4) fixed h (ap (λ b. Passes (cond b (sum_of pc 8) (sum_of pc 4))) t ∙ ap Passes (next_pc p.image pc (branching Beq on 0 8) h))) q.reach;
+      kept = q.kept;
+    }
+
+pub tested_no : (p : Linking) (m : Mem) (pc : ℕ) (x : ℕ → ℕ) (on there no_ : ℕ) → Fixed p.image m → x 0 ≡ 0 → x on ≡ 0 → Tested p pc on there no_ → Passed m pc x no_
+tested_no p m pc x on there no_ fixed x0 e (Reached imm lands h j) =
+    let t : (x on == x 0) ≡ true = grind (arith, nat_tests) in
+    let q = jumps p m (pc + 4) x no_ fixed j in
+    record {
+      n = 2;
+      some = omega arith;
+      few = omega arith;
+      y = q.y;
+      reach = join 1 1 [] [] _ _ _ m m m (passes p.image m pc x (branching Bne on 0 imm) (pc + 4) fixed h (ap (λ b. Passes (cond b (sum_of pc 4) (sum_of pc imm))) t ∙ ap Passes (next_pc p.image pc (branching Bne on 0 imm) h))) q.reach;
+      kept = q.kept;
+    }
+tested_no p m pc x on there no_ fixed x0 e (Hopped h j k) =
+    let t : (x on == x 0) ≡ true = grind (arith, nat_tests) in
+    let q = jumps p m (pc + 8) x no_ fixed k in
+    record {
+      n = 2;
+      some = omega arith;
+      few = omega arith;
+      y = q.y;
+      reach = join 1 1 [] [] _ _ _ m m m (passes p.image m pc x (branching Beq on 0 8) (pc + 8) fixed h (ap (λ b. Passes (cond b (sum_of pc 8) (sum_of pc 4))) t ∙ ap Passes (let l = h.low in omega arith))) q.reach;
+      kept = q.kept;
+    }

@@ -1,0 +1,318 @@
+-- Each step of placed code on the machine, and whole runs.
+use Rattle.std.proofs.Common.{◌≡◌, ◌≢◌, ℕ, zero, suc, ◌+◌, ◌-◌, ◌<◌, ◌≤◌, inl, inr, Bool, true, false, cond, List, [], ◌∷◌, ◌++◌, Some, None, ℤ, sym, ap, ◌∙◌, subst, refl, append_assoc, arith}
+use Rattle.std.specs.Prelude.{◌==◌, not, slice_get, replicate}
+use Rattle.std.proofs.lemmas.Bool.Decides.{nat_tests}
+use Rattle.std.proofs.lemmas.List.{append-nil}
+use Rattle.im_num.specs.Variables.{Variable}
+use Rattle.im_mem.specs.Memory.{Mem, little}
+use Rattle.im_rv.specs.declared.effect.Effect.TheVariants.{Puts}
+use Rattle.im_rv.specs.Steps.{Cpu, Stepped, sum_of, with_reg}
+use Rattle.im_rv.specs.Runs.{runs}
+use Rattle.im_rv.proofs.Straight.{same_reg, other_reg}
+use Rattle.im_rv_reach.specs.Touches.{Flipped, Touch, Loaded, Stored, touched, is_system, heard}
+use Rattle.im_rv_reach.specs.Shown.{shown, Begins}
+use Rattle.std.proofs.lemmas.Bool.{cases_lt}
+use Rattle.im_rv_reach.specs.Orderly.{IsOrderly}
+use Rattle.im_rv_reach.specs.Plain.{IsPlain}
+use Rattle.im_rv_reach.specs.Reach.{plus, Reach}
+use Rattle.im_rv_reach.specs.Instructions.{jumping}
+use Rattle.im_rv_reach.proofs.Reach.{plus_is, no_back, leaps, begins_trans, before_or_after}
+use Rattle.im_rv_reach.proofs.Orderly.{joined}
+use Rattle.im_select_operators.specs.Tables.{cell_word}
+use Rattle.im_store.specs.Objects.{Name, Named, Slot, Link, Object, static, Value, Unset, Shape}
+use Rattle.im_store.specs.Outcomes.{Outcome, Undef, More, End, IsDefined}
+use Rattle.im_store.specs.Statics.{static_shapes, static_values, with_statics}
+use Rattle.im_block.specs.declared.code.Line.{Line}
+use Rattle.im_block.specs.declared.code.Exit.{Exit}
+use Rattle.im_block.specs.declared.code.Exit.TheVariants.{Jump, Turn, Branch, Return}
+use Rattle.im_block.specs.declared.unit.Unit.{Unit as Code}
+use Rattle.im_block.specs.Meaning.{Setting, statics_of, condition, returned, at_block, State, Next, Goes, Stops, Event, Serves, goes_to, leaves, step_at, step}
+use Rattle.im_block.specs.Runs.{Over, goes_on, exec, before, start}
+use Rattle.im_block.specs.Shape.{spot_weight, next_weight, after, spent, exit_words}
+use Rattle.im_select_relation.specs.Linking.{Linking, pointer_at, frame_of, address, Means}
+use Rattle.im_select_relation.specs.Selected.{Tested, ExitAt, Stands}
+use Rattle.im_select_relation.specs.Law.{Touches, Nothing, Reading, Writing, Testing, Saving, Restoring, Serving, Cutting, ShowsStatics, steps, Shows}
+use Rattle.im_select_relation.proofs.Registers.{RegsMean, means_at}
+use Rattle.im_select_relation.proofs.Mapped.{Mapped, object_is, base_static}
+use Rattle.im_select_relation.proofs.Checks.{found_fine}
+use Rattle.im_select_relation.proofs.Cells.{Memory}
+use Rattle.im_select_relation.proofs.Shapes.{Premises}
+use Rattle.im_select_relation.proofs.Relation.{Rel, SlotsShaped, Advanced, Finished, After, checked_after, takes_after, moved_rel}
+use Rattle.im_select_relation.proofs.Ends.{jumps, tested_yes, tested_no}
+use Rattle.im_select_relation.proofs.Operators.{condition_word}
+use Rattle.im_select_relation.proofs.Calls.{first_after, enter_after, back_after, result_means}
+use Rattle.im_select_relation.proofs.Lines.{line_after}
+use Rattle.im_select_relation.proofs.Fuel.{Paid, step_paid}
+
+same_regs : (p : Linking) (registers : ℕ → Value) (sp : ℕ) (x y : ℕ → ℕ) → RegsMean p registers sp x → ((i : ℕ) → y i ≡ x i) → RegsMean p registers sp y
+same_regs p registers sp x y m same = record {
+  zero_reg = same 0 ∙ m.zero_reg;
+  stack = same 2 ∙ m.stack;
+  homes = λ r six. means_at p (registers r) _ (x r) _ refl (same r) (m.homes r six);
+}
+
+-- to a block of the function
+to_block : (p : Linking) (u : Code) (g : Setting) → Premises p u g → (s : State) (c : Cpu) (m : Mem) (r : Rel p u g s c m) (words n b fuel : ℕ) (y : ℕ → ℕ) → 0 < n → n ≤ words → Reach n [] c m (record { pc = p.place s.frame.function b; x = y }) m → ((i : ℕ) → y i ≡ c.x i) → After p u g words c m (goes_to u g b fuel s)
+to_block p u g l s c m r words n b fuel y some few reach kept =
+    checked_after p u g words c m _ _ (λ f is0.
+    checked_after p u g words c m _ _ (λ block found0.
+    let is : slice_get u.functions.items s.frame.function ≡ Some f = found_fine _ f is0 in
+    let found : slice_get f.blocks.items b ≡ Some block = found_fine _ block found0 in
+    record {
+      n = n;
+      some = some;
+      few = few;
+      d = record { pc = p.place s.frame.function b; x = y };
+      k = m;
+      ts = [];
+      touches = Nothing;
+      orderly = refl;
+      reach = reach;
+      rel = moved_rel p u g s c m r (p.place s.frame.function b) y (at_block b block) s.frame.registers fuel ((l.at.functions s.frame.function f is).blocks b block found) (same_regs p s.frame.registers (pointer_at s.frame.active.depth) c.x y r.regs kept);
+    }))
+
+branch_after : (p : Linking) (u : Code) (g : Setting) → Premises p u g → (s : State) (c : Cpu) (m : Mem) (r : Rel p u g s c m) (on a b : ℕ) (t : Bool) → t ≡ not (c.x on == 0) → Tested p c.pc on (p.place s.frame.function a) (p.place s.frame.function b) → After p u g 3 c m (goes_to u g (cond t a b) s.fuel s)
+branch_after p u g l s c m r on a b false e t = let q = tested_no p m c.pc c.x on _ _ r.fixed r.regs.zero_reg (is_zero (c.x on) e) t in to_block p u g l s c m r 3 q.n b s.fuel q.y q.some (let z = q.few in omega arith) q.reach q.kept
+  where
+    is_zero : (w : ℕ) → false ≡ not (w == 0) → w ≡ 0
+    is_zero zero h = refl
+    is_zero (suc w) h = absurd (let t : (suc w == 0) ≡ false = grind (arith, nat_tests) in let d = ap not t in cc (h, d))
+branch_after p u g l s c m r on a b true e t = let q = tested_yes p m c.pc c.x on _ _ r.fixed r.regs.zero_reg (not_zero (c.x on) e) t in to_block p u g l s c m r 3 q.n a s.fuel q.y q.some (let z = q.few in omega arith) q.reach q.kept
+  where
+    not_zero : (w : ℕ) → true ≡ not (w == 0) → w ≢ 0
+    not_zero w h f = let t : (w == 0) ≡ true = grind (arith, nat_tests) in let d = ap not t in absurd (cc (h, d))
+
+exit_after : (p : Linking) (u : Code) (g : Setting) → Premises p u g → (s : State) (c : Cpu) (m : Mem) (r : Rel p u g s c m) (exit : Exit) → ExitAt p s.frame.function (frame_of g s.frame.function) c.pc exit → After p u g (exit_words exit) c m (leaves u g exit s)
+exit_after p u g l s c m r (Jump b) h = let j = jumps p m c.pc c.x _ r.fixed h in to_block p u g l s c m r 1 1 b s.fuel j.y (omega arith) (omega arith) j.reach j.kept
+exit_after p u g l s c m r (Turn b) h = let j = jumps p m c.pc c.x _ r.fixed h in takes_after p u g 1 c m s.fuel s.output _ r.output (λ less. to_block p u g l s c m r 1 1 b less j.y (omega arith) (omega arith) j.reach j.kept)
+exit_after p u g l s c m r (Branch on a b) h =
+    checked_after p u g 3 c m (condition s.store (s.frame.registers on)) _ (λ t e.
+    branch_after p u g l s c m r on a b t (condition_word p s.store _ (s.frame.registers on) (c.x on) t r.mapped e (r.regs.homes on h.0.0)) h.1)
+exit_after p u g l s c m r (Return from) h = back_after p u g l s c m r s.callers (returned u g from s.frame.registers) (result_means p u g from s.frame.registers (c.x 10) h.0 (r.regs.homes 10 (omega arith))) h.1 r.mapped r.ordered r.linked r.chain
+
+step_by : (p : Linking) (u : Code) (g : Setting) → Premises p u g → (s : State) (c : Cpu) (m : Mem) (r : Rel p u g s c m) (lines : List Line) → Stands p s.frame.function (frame_of g s.frame.function) c.pc lines s.frame.spot.exit → After p u g (next_weight (steps p) lines s.frame.spot.exit) c m (step_at u g lines s)
+step_by p u g l s c m r [] code = exit_after p u g l s c m r s.frame.spot.exit code
+step_by p u g l s c m r (line ∷ rest) code = line_after p u g l s c m r line rest code.0 code.1 code.2
+
+pub step_after : (p : Linking) (u : Code) (g : Setting) → Premises p u g → (s : State) (c : Cpu) (m : Mem) → Rel p u g s c m → After p u g (spot_weight (steps p) s.frame.spot) c m (step u g s)
+step_after p u g l s c m r = step_by p u g l s c m r s.frame.spot.rest r.code
+
+pub touches_append : (p : Linking) (a b : List Event) (ts us : List Touch) → Touches p a ts → Touches p b us → Touches p (a ++ b) (ts ++ us)
+touches_append p a b ts us Nothing h = h
+touches_append p a b ts us (Reading site by o i run rs t) h = Reading site by o i (run ++ b) (rs ++ us) (touches_append p run b rs us t h)
+touches_append p a b ts us (Writing site by o i run rs t) h = Writing site by o i (run ++ b) (rs ++ us) (touches_append p run b rs us t h)
+touches_append p a b ts us (Testing run rs t) h = Testing (run ++ b) (rs ++ us) (touches_append p run b rs us t h)
+touches_append p a b ts us (Saving by run rs t) h = Saving by (run ++ b) (rs ++ us) (touches_append p run b rs us t h)
+touches_append p a b ts us (Restoring by run rs t) h = Restoring by (run ++ b) (rs ++ us) (touches_append p run b rs us t h)
+touches_append p a b ts us (Serving flips run rs few t) h = subst (λ z. Touches p (Serves ∷ run ++ b) z) (sym (append_assoc (replicate flips Flipped) rs us)) (Serving flips (run ++ b) (rs ++ us) few (touches_append p run b rs us t h))
+touches_append p a b ts us (Cutting run rs t) h = Cutting (run ++ b) (rs ++ us) (touches_append p run b rs us t h)
+
+heard_one : (t : Bool) (x : Touch) (ab a b : List Touch) → ab ≡ a ++ b → cond t ab (x ∷ ab) ≡ cond t a (x ∷ a) ++ b
+heard_one true x ab a b e = e
+heard_one false x ab a b e = ap (λ z. x ∷ z) e
+
+heard_two : (t e : Bool) (x : Touch) (ab a b : List Touch) → ab ≡ a ++ b → cond t (cond e (Flipped ∷ ab) ab) (x ∷ ab) ≡ cond t (cond e (Flipped ∷ a) a) (x ∷ a) ++ b
+heard_two true true x ab a b h = ap (λ z. Flipped ∷ z) h
+heard_two true false x ab a b h = h
+heard_two false e x ab a b h = ap (λ z. x ∷ z) h
+
+heard_append : (a b : List Touch) → heard (a ++ b) ≡ heard a ++ heard b
+heard_append [] b = refl
+heard_append (Loaded x n ∷ a) b = heard_one (is_system x) (Loaded x n) (heard (a ++ b)) (heard a) (heard b) (heard_append a b)
+heard_append (Stored x n ∷ a) b = heard_two (is_system x) (x == 0) (Stored x n) (heard (a ++ b)) (heard a) (heard b) (heard_append a b)
+heard_append (Flipped ∷ a) b = ap (λ z. Flipped ∷ z) (heard_append a b)
+
+-- what a run of so many steps is on the machine
+pub record Followed (p : Linking) (u : Code) (c : Cpu) (m : Mem) (fuel : ℕ) (o : Outcome) (events run : List Event) (most : ℕ) : Type 0 where
+  pub j : ℕ
+  pub shows : Shows p u o fuel j (runs j c m)
+  pub soon : j ≤ most + 3
+  pub more : List Event
+  pub split : run ≡ events ++ more
+  pub touches : Touches p more (heard (touched j c m))
+  pub orderly : IsOrderly (touched j c m)
+  pub grows : (i : ℕ) → i ≤ j → Begins (shown (runs i c m).mem) (shown (runs j c m).mem)
+  pub plain : (i : ℕ) → i < j → IsPlain (runs i c m).cpu (runs i c m).mem
+
+begins_end : (a b c : List ℕ) → c ≡ b → Begins a b → Begins a c
+begins_end a b c e h = (h.0, e ∙ h.1)
+
+ended : (p : Linking) (u : Code) (c : Cpu) (m : Mem) (fuel reason : ℕ) (status : ℤ) (words k : ℕ) (output : List ℕ) (shows : List Variable) (events more : List Event) → Finished p u words c m reason status output shows more → Followed p u c m fuel (End reason status output shows) events (events ++ more) (words + k)
+ended p u c m fuel reason status words k output shows events more f = record {
+  j = f.n;
+  shows = (
+    ap (λ (s : Stepped). s.went) f.stopped.ran,
+    ap (λ (s : Stepped). little s.mem 8 4) f.stopped.ran ∙ f.reason_is,
+    ap (λ (s : Stepped). little s.mem 4 4) f.stopped.ran ∙ f.status_is,
+    ap (λ (s : Stepped). shown s.mem) f.stopped.ran ∙ f.output_is,
+    subst (λ (s : Stepped). ShowsStatics p u shows s.mem) (sym f.stopped.ran) f.statics,
+  );
+  soon = (let a = f.few in omega arith);
+  more = more;
+  split = refl;
+  touches = subst (λ z. Touches p more z) (sym (ap heard f.stopped.met)) f.touches;
+  orderly = subst IsOrderly (sym f.stopped.met) f.orderly;
+  grows = λ i le. begins_end _ (shown f.k) _ (ap (λ (s : Stepped). shown s.mem) f.stopped.ran) (f.stopped.grows i le);
+  plain = f.stopped.each;
+}
+
+starved : (p : Linking) (u : Code) (c : Cpu) (m : Mem) (fuel words k : ℕ) (output : List ℕ) (events more : List Event) → (more ≡ []) × (shown m ≡ output) → fuel ≡ 0 → Followed p u c m fuel (More output) events (events ++ more) (words + k)
+starved p u c m fuel words k output events more e z = record {
+  j = 0;
+  shows = (refl, e.1, omega arith);
+  soon = omega arith;
+  more = more;
+  split = refl;
+  touches = subst (λ q. Touches p q []) (sym e.0) Nothing;
+  orderly = refl;
+  grows = at;
+  plain = λ i lt. absurd (omega arith);
+}
+  where
+    at : (i : ℕ) → i ≤ 0 → Begins (shown (runs i c m).mem) (shown (runs 0 c m).mem)
+    at zero le = ([], sym (append-nil (shown m)))
+    at (suc i) le = absurd (omega arith)
+
+shows_more : (p : Linking) (u : Code) (o : Outcome) (n n' j j' : ℕ) (r r' : Stepped) → r' ≡ r → (n ≤ j → n' ≤ j') → Shows p u o n j r → Shows p u o n' j' r'
+shows_more p u (End reason status output shows) n n' j j' r r' e le h = (ap (λ (s : Stepped). s.went) e ∙ h.0, ap (λ (s : Stepped). little s.mem 8 4) e ∙ h.1, ap (λ (s : Stepped). little s.mem 4 4) e ∙ h.2, ap (λ (s : Stepped). shown s.mem) e ∙ h.3, subst (λ (s : Stepped). ShowsStatics p u shows s.mem) (sym e) h.4)
+shows_more p u (More output) n n' j j' r r' e le h = (ap (λ (s : Stepped). s.went) e ∙ h.0, ap (λ (s : Stepped). shown s.mem) e ∙ h.1, le h.2)
+shows_more p u (Undef why) n n' j j' r r' e le h = absurd h
+
+-- a step, and what follows it
+before_it : (p : Linking) (u : Code) (g : Setting) (s : State) (c : Cpu) (m : Mem) (fuel words : ℕ) (o : Outcome) (events more run : List Event) (most : ℕ) (a : Advanced p u g words c m s more) → fuel ≤ s.fuel + 1 → Followed p u a.d a.k s.fuel o (events ++ more) run most → Followed p u c m fuel o events run (words + most)
+before_it p u g s c m fuel words o events more run most a paid f = record {
+  j = plus a.n f.j;
+  shows = shows_more p u o s.fuel fuel f.j (plus a.n f.j) (runs f.j a.d a.k) _ (a.reach.ran f.j) (λ k. let q = plus_is a.n f.j in let z = a.some in omega arith) f.shows;
+  soon = (let q = plus_is a.n f.j in let z = a.few in let y = f.soon in omega arith);
+  more = more ++ f.more;
+  split = f.split ∙ append_assoc events more f.more;
+  touches = subst (λ z. Touches p (more ++ f.more) z) (sym (ap heard (a.reach.met f.j) ∙ heard_append a.ts (touched f.j a.d a.k))) (touches_append p more f.more (heard a.ts) (heard (touched f.j a.d a.k)) a.touches f.touches);
+  orderly = subst IsOrderly (sym (a.reach.met f.j)) (joined a.ts (touched f.j a.d a.k) a.orderly f.orderly);
+  grows = λ i le. begins_end _ (shown (runs f.j a.d a.k).mem) _ (ap (λ (z : Stepped). shown z.mem) (a.reach.ran f.j)) (elim (before_or_after i a.n) [
+    | inl x ↦ begins_trans _ (shown a.k) _ (a.reach.grows i x) (f.grows zero (omega arith))
+    | inr x ↦ (
+        let q = plus_is a.n f.j in
+        let e : i ≡ plus a.n (i - a.n) = (let h = plus_is a.n (i - a.n) in omega arith) in
+        subst (λ (z : Stepped). Begins (shown z.mem) (shown (runs f.j a.d a.k).mem)) (sym (ap (λ z. runs z c m) e ∙ a.reach.ran (i - a.n))) (f.grows (i - a.n) (omega arith))
+        )
+  ]);
+  plain = λ i lt. elim (cases_lt i a.n) [
+    | inl x ↦ a.reach.each i x
+    | inr x ↦ (
+        let q = plus_is a.n f.j in
+        let e : i ≡ plus a.n (i - a.n) = (let h = plus_is a.n (i - a.n) in omega arith) in
+        subst (λ (z : Stepped). IsPlain z.cpu z.mem) (sym (ap (λ z. runs z c m) e ∙ a.reach.ran (i - a.n))) (f.plain (i - a.n) (omega arith))
+        )
+  ];
+}
+
+pub over_is : (o q : Outcome) (a b : List Event) → Over o a ≡ Over q b → (o ≡ q) × (a ≡ b)
+over_is o q a b e = (cc, cc)
+
+followed_at : (p : Linking) (u : Code) (c : Cpu) (m : Mem) (fuel : ℕ) (o q : Outcome) (events a b : List Event) (most : ℕ) → Over o a ≡ Over q b → Followed p u c m fuel o events a most → Followed p u c m fuel q events b most
+followed_at p u c m fuel o q events a b most e f =
+    let k = over_is o q a b e in
+    subst (λ z. Followed p u c m fuel q events z most) k.1 (subst (λ z. Followed p u c m fuel z events a most) k.0 f)
+
+pub follow_next : (p : Linking) (u : Code) (g : Setting) (k : ℕ) (o : Outcome) (run : List Event) → ((s : State) (c : Cpu) (m : Mem) (events : List Event) → Rel p u g s c m → exec u g k s events ≡ Over o run → Followed p u c m s.fuel o events run (spent u g (steps p) k s)) → (next : Next) (c : Cpu) (m : Mem) (fuel words : ℕ) (events : List Event) → IsDefined o → Paid fuel next → After p u g words c m next → goes_on next (exec u g k) events ≡ Over o run → Followed p u c m fuel o events run (words + after next (spent u g (steps p) k))
+follow_next p u g k o run rec (Goes s more) c m fuel words events right paid a e = before_it p u g s c m fuel words o events more run (spent u g (steps p) k s) a paid (rec s a.d a.k (events ++ more) a.rel e)
+follow_next p u g k o run rec (Stops (End reason status output shows) more) c m fuel words events right paid a e = followed_at p u c m fuel (End reason status output shows) o events (events ++ more) run (words + 0) e (ended p u c m fuel reason status words 0 output shows events more a)
+follow_next p u g k o run rec (Stops (More output) more) c m fuel words events right paid a e = followed_at p u c m fuel (More output) o events (events ++ more) run (words + 0) e (starved p u c m fuel words 0 output events more a paid)
+follow_next p u g k o run rec (Stops (Undef why) more) c m fuel words events right paid a e = absurd (subst IsDefined (sym (over_is (Undef why) o (events ++ more) run e).0) right)
+
+pub follow : (p : Linking) (u : Code) (g : Setting) → Premises p u g → (k : ℕ) (s : State) (c : Cpu) (m : Mem) (o : Outcome) (events run : List Event) → IsDefined o → Rel p u g s c m → exec u g k s events ≡ Over o run → Followed p u c m s.fuel o events run (spent u g (steps p) k s)
+follow p u g l zero s c m o events run right r e = absurd cc
+follow p u g l (suc k) s c m o events run right r e = follow_next p u g k o run (λ s' d h more r' e'. follow p u g l k s' d h o more run right r' e') (step u g s) c m s.fuel (spot_weight (steps p) s.frame.spot) events right (step_paid u g s) (step_after p u g l s c m r) e
+
+-- the machine before its first line
+
+pub record StaticLies (u : Code) (o : Object) (sh : Shape) : Type 0 where
+  pub activation : o.activation ≡ 0
+  pub depth : o.depth ≡ 0
+  pub there : static_shapes (statics_of u) o.name ≡ Some sh
+
+pub static_lies : (u : Code) (o : Object) (sh : Shape) → (with_statics (statics_of u)).shape o ≡ Some sh → StaticLies u o sh
+static_lies u o sh e = by (o.activation == 0) (o.depth == 0) refl refl e
+  where
+    equal : (a : ℕ) → (a == 0) ≡ true → a ≡ 0
+    equal a t = grind (arith, nat_tests)
+
+    by : (a b : Bool) → (o.activation == 0) ≡ a → (o.depth == 0) ≡ b → cond a (cond b (static_shapes (statics_of u) o.name) None) None ≡ Some sh → StaticLies u o sh
+    by true true x y h = record { activation = equal o.activation x; depth = equal o.depth y; there = h }
+    by true false x y h = absurd cc
+    by false b x y h = absurd cc
+
+static_placed : (u : Code) (o : Object) (sh : Shape) → StaticLies u o sh → (n : ℕ) × (o ≡ static n)
+static_placed u o sh k = by o.name refl k.there
+  where
+    by : (a : Name) → o.name ≡ a → static_shapes (statics_of u) a ≡ Some sh → (n : ℕ) × (o ≡ static n)
+    by (Named n) e h = (n, object_is o (static n) k.activation k.depth e)
+    by (Slot n) e h = absurd cc
+    by Link e h = absurd cc
+
+mapped_first : (p : Linking) (u : Code) (g : Setting) → Premises p u g → Mapped p (with_statics (statics_of u)).shape []
+mapped_first p u g l = record {
+  lies = λ o sh h.
+      let k = static_lies u o sh h in
+      let b = base_static o k.activation in
+      let f = l.at.statics.from o.name sh k.there in
+      let i = l.at.statics.inside o.name sh k.there in
+      let e = l.at.statics.even o.name sh k.there in
+      record {
+        where_from = inl (k.activation, omega arith, omega arith);
+        low = omega arith;
+        high = omega arith;
+        even = omega arith;
+        sized = l.at.statics.sized o.name sh k.there;
+        placed = inl (static_placed u o sh k);
+        cells = l.static_cells o.name sh k.there;
+      };
+  apart = λ o sh q th h k.
+      let a = static_lies u o sh h in
+      let b = static_lies u q th k in
+      let a1 = base_static o a.activation in
+      let b1 = base_static q b.activation in
+      elim (l.at.statics.apart o.name sh q.name th a.there b.there) [
+        | inl e ↦ inl (object_is o q (a.activation ∙ sym b.activation) (a.depth ∙ sym b.depth) e)
+        | inr (inl s) ↦ inr (inl (omega arith))
+        | inr (inr s) ↦ inr (inr (omega arith))
+      ];
+}
+
+first_value_is : (u : Code) (o : Object) (i : ℕ) → o.activation ≡ 0 → (with_statics (statics_of u)).values o i ≡ static_values (statics_of u) o.name i
+first_value_is u o i e = let t : (o.activation == 0) ≡ true = grind (arith, nat_tests) in ap (λ b. cond b (static_values (statics_of u) o.name i) Unset) t
+
+memory_first : (p : Linking) (u : Code) (g : Setting) → Premises p u g → Memory p (with_statics (statics_of u)).shape (with_statics (statics_of u)).values p.image
+memory_first p u g l o i k c =
+    let q = static_lies u o c.sh c.live in
+    let e : p.at o.name + i ≡ address p o + i = (let b = base_static o q.activation in omega arith) in
+    means_at p (static_values (statics_of u) o.name i) _ (cell_word p.image k (address p o + i)) _ (first_value_is u o i q.activation) refl
+    (subst (λ z. Means p (static_values (statics_of u) o.name i) (cell_word p.image k z)) e (l.at.initial o.name c.sh i k q.there c.cell))
+
+slots_first : (u : Code) → SlotsShaped (with_statics (statics_of u)).shape
+slots_first u o n sh e h = let k = static_lies u o sh h in absurd (none (ap (static_shapes (statics_of u)) (sym e) ∙ k.there))
+  where
+    none : None ≡ Some sh → ⊥
+    none k = cc
+
+pub begin_after : (p : Linking) (u : Code) (g : Setting) → Premises p u g → (x : ℕ → ℕ) (n : ℕ) → x 0 ≡ 0 → x 2 ≡ 3145728 → After p u g 10 (record { pc = p.begin; x = x }) p.image (start u g n)
+begin_after p u g l x n x0 x2 = first_after p u g 9 (record { pc = p.begin; x = x }) (record { pc = p.entry u.main; x = with_reg x 1 (sum_of p.begin 4) }) p.image _
+    (leaps p.image p.image p.begin x (jumping 1 l.at.call) (sum_of p.begin 4) (p.entry u.main) (λ a above less. refl) l.at.begins (ap (Puts (sum_of p.begin 4)) l.at.lands) (no_back p.begin (jumping 1 l.at.call) p.image (p.entry u.main) refl))
+    (let h = l.at.begins in
+    let low = h.low in
+    enter_after p u g l (before u g n) u.main n (p.begin + 4) 0 0 (λ r. Unset) [] p.image (with_reg x 1 (sum_of p.begin 4)) (inr refl) (λ a above less. refl) l.at.words l.at.silent l.at.input
+    (record { zero_reg = other_reg x 1 (sum_of p.begin 4) 0 (omega arith) ∙ x0; stack = other_reg x 1 (sum_of p.begin 4) 2 (omega arith) ∙ x2; homes = λ r six. tt })
+    (same_reg x 1 (sum_of p.begin 4) (omega arith) ∙ (omega arith))
+    (memory_first p u g l)
+    (record {
+      under = tt;
+      ordered = tt;
+      linked = tt;
+      mapped = mapped_first p u g l;
+      top = omega arith;
+      even = refl;
+      small = omega arith;
+      waits = (refl, refl);
+      live = λ o e. refl;
+      slots = slots_first u;
+    }))

@@ -1,0 +1,5 @@
+pub mod Linking
+pub mod Selected
+pub mod Linked
+pub mod Law
+pub mod Symbolic

@@ -1,0 +1,148 @@
+-- What stands in memory for lines, exits and entries, as instructions.
+use Rattle.std.specs.Prelude.{◌≡◌, ◌≢◌, ◌<◌, ◌⊎◌, ℕ, ◌+◌, ◌-◌, ◌*◌, ◌^◌, Bool, true, false, if◌then◌else◌, List, [], ◌∷◌, Option, Some, None}
+use Rattle.im_num.specs.declared.kind.Kind.{Kind}
+use Rattle.im_num.specs.declared.kind.Kind.TheVariants.{I32, U32, Ptr}
+use Rattle.im_num.specs.declared.values.Cause.{Cause}
+use Rattle.im_num.specs.Kinds.{kind_size, word}
+use Rattle.im_mem.specs.Map.{stack_lim_at}
+use Rattle.im_rv.specs.declared.instr.Op.{Op}
+use Rattle.im_rv.specs.declared.instr.Op.TheVariants.{Jalr, Beq, Bne, Bltu, Bgeu, Lw, Sw, Addi, Sltiu, Xori, Slli, Srli, Srai, Add as AddOp, Sub, Sltu, Mul, Div}
+use Rattle.im_rv.specs.Steps.{sum_of}
+use Rattle.im_rv_reach.specs.Instructions.{Holds, Splits, with_immediate, on_registers, storing, branching, upper, jumping}
+use Rattle.im_store.specs.declared.operators.BinaryOp.{BinaryOp}
+use Rattle.im_select_operators.specs.Tables.{IsPromoted, by_sign, load_op, store_op, operation, less_op}
+use Rattle.im_store.specs.declared.operators.UnaryOp.TheVariants.{Negate, Complement}
+use Rattle.im_store.specs.declared.operators.Comparison.{Comparison}
+use Rattle.im_store.specs.declared.operators.Comparison.TheVariants.{Less, Greater, LessOrEqual, GreaterOrEqual, Equal, NotEqual}
+use Rattle.im_store.specs.Objects.{Named, Slot}
+use Rattle.im_block.specs.declared.code.Place.{Place}
+use Rattle.im_block.specs.declared.code.Place.TheVariants.{Static, Local, Through}
+use Rattle.im_block.specs.declared.code.Line.{Line}
+use Rattle.im_block.specs.declared.code.Line.TheVariants.{Put, PutNull, Copy, Convert, Unary, Not, Compute, Compare, Move, Distance, Address, Read, Write, Reload, Spill, Cut, Call, GetChar, PutChar}
+use Rattle.im_block.specs.declared.code.Exit.{Exit}
+use Rattle.im_block.specs.declared.code.Exit.TheVariants.{Jump, Turn, Branch, Return}
+use Rattle.im_select_relation.specs.Linking.{Linking}
+
+-- registers that placed code may use; x1 to x6 belong to calls, the stack, the runtime and the lines themselves
+abbrev pub IsHome : ℕ → Type 0
+IsHome r = (6 < r) × (r < 32)
+
+-- the word of -1
+abbrev pub ones : ℕ
+ones = 0xFFFFFFFF
+
+-- from pc to next, lines that put a word into rd
+pub data Constant (p : Linking) (pc rd : ℕ) : ℕ → ℕ → Type 0 where
+  Small : (n : ℕ) → n < 2 ^ 32 → Holds p.image pc (with_immediate Addi rd 0 n) → Constant p pc rd n (pc + 4)
+  Large : (n hi lo : ℕ) → Splits hi lo n → Holds p.image pc (upper rd hi) → Holds p.image (pc + 4) (with_immediate Addi rd rd lo) → Constant p pc rd n (pc + 4 + 4)
+
+-- from pc to next, lines after which base plus imm is register r plus n; they may use x5
+pub data Displaced (p : Linking) (pc r : ℕ) : ℕ → ℕ → ℕ → ℕ → Type 0 where  -- n, base, imm, next
+  Near : (n : ℕ) → Displaced p pc r n r n pc
+  Far : (n hi lo : ℕ) → Splits hi lo n → Holds p.image pc (upper 5 hi) → Holds p.image (pc + 4) (on_registers AddOp 5 5 r) → Displaced p pc r n 5 lo (pc + 4 + 4)
+
+-- from pc to next, lines after which the register base plus imm is the place
+pub data Based (p : Linking) (pc : ℕ) : Place → ℕ → ℕ → ℕ → Type 0 where  -- place, base, imm, next
+  InFrame : (object offset base imm next : ℕ) → Displaced p pc 2 (p.at (Named object) + offset) base imm next → Based p pc (Local object offset) base imm next
+  InStatic : (object offset hi lo : ℕ) → Splits hi lo (p.at (Named object) + offset) → Holds p.image pc (upper 5 hi) → Based p pc (Static object offset) 5 lo (pc + 4)
+  Behind : (r offset base imm next : ℕ) → IsHome r → Displaced p pc r offset base imm next → Based p pc (Through r offset) base imm next
+
+-- from pc to next, lines after which rd is the stack pointer plus a word; they may use x5
+pub data Adds (p : Linking) (pc rd by : ℕ) : ℕ → Type 0 where
+  Short : Holds p.image pc (with_immediate Addi rd 2 by) → Adds p pc rd by (pc + 4)
+  Long : (mid : ℕ) → Constant p pc 5 by mid → Holds p.image mid (on_registers AddOp rd 2 5) → Adds p pc rd by (mid + 4)
+
+-- from pc to next, lines that put 1 or 0 into `to`, as left and right compare; they may use x5
+pub data Compared (p : Linking) (pc to : ℕ) (less : Op) (left right : ℕ) : Comparison → ℕ → Type 0 where
+  Lesser : Holds p.image pc (on_registers less to left right) → Compared p pc to less left right Less (pc + 4)
+  Larger : Holds p.image pc (on_registers less to right left) → Compared p pc to less left right Greater (pc + 4)
+  NotLarger : Holds p.image pc (on_registers less to right left) → Holds p.image (pc + 4) (with_immediate Xori to to 1) → Compared p pc to less left right LessOrEqual (pc + 4 + 4)
+  NotLesser : Holds p.image pc (on_registers less to left right) → Holds p.image (pc + 4) (with_immediate Xori to to 1) → Compared p pc to less left right GreaterOrEqual (pc + 4 + 4)
+  Same : Holds p.image pc (on_registers Sub 5 left right) → Holds p.image (pc + 4) (with_immediate Sltiu to 5 1) → Compared p pc to less left right Equal (pc + 4 + 4)
+  Other : Holds p.image pc (on_registers Sub 5 left right) → Holds p.image (pc + 4) (on_registers Sltu to 0 5) → Compared p pc to less left right NotEqual (pc + 4 + 4)
+
+-- how far a narrow value is shifted up, and down again
+abbrev pub unused_bits : Kind → ℕ
+unused_bits kind = 32 - 8 * kind_size kind
+
+-- from pc to next, a value brought into a kind
+pub data Converted (p : Linking) (pc to : ℕ) (kind : Kind) (from : ℕ) : ℕ → Type 0 where
+  Whole : IsPromoted kind → Holds p.image pc (with_immediate Addi to from 0) → Converted p pc to kind from (pc + 4)
+  Narrowed : kind ≢ I32 → kind ≢ U32 → kind ≢ Ptr → Holds p.image pc (with_immediate Slli to from (unused_bits kind)) → Holds p.image (pc + 4) (with_immediate (by_sign kind Srai Srli) to to (unused_bits kind)) → Converted p pc to kind from (pc + 4 + 4)
+
+-- the entries of the checkpoint routine, by the last register that they save
+abbrev pub IsEntry : ℕ → Type 0
+IsEntry m = (3 < m) × (m < 32)
+
+-- what stands from pc to next for a line
+pub data Selected (p : Linking) (pc : ℕ) : Line → ℕ → Type 0 where
+  Numbers : (to : ℕ) (z : Rattle.std.specs.Prelude.ℤ) (next : ℕ) → IsHome to → Constant p pc to (word z) next → Selected p pc (Put to z) next
+  Nulls : (to : ℕ) → IsHome to → Holds p.image pc (with_immediate Addi to 0 0) → Selected p pc (PutNull to) (pc + 4)
+  Copies : (to from : ℕ) → IsHome to → IsHome from → Holds p.image pc (with_immediate Addi to from 0) → Selected p pc (Copy to from) (pc + 4)
+  Converts : (to : ℕ) (kind : Kind) (from next : ℕ) → IsHome to → IsHome from → Converted p pc to kind from next → Selected p pc (Convert to kind from) next
+  Negates : (to : ℕ) (kind : Kind) (from : ℕ) → IsHome to → IsHome from → IsPromoted kind → Holds p.image pc (on_registers Sub to 0 from) → Selected p pc (Unary to Negate kind from) (pc + 4)
+  Complements : (to : ℕ) (kind : Kind) (from : ℕ) → IsHome to → IsHome from → IsPromoted kind → Holds p.image pc (with_immediate Xori to from ones) → Selected p pc (Unary to Complement kind from) (pc + 4)
+  Nots : (to from : ℕ) → IsHome to → IsHome from → Holds p.image pc (with_immediate Sltiu to from 1) → Selected p pc (Not to from) (pc + 4)
+  Computes : (to : ℕ) (op : BinaryOp) (kind : Kind) (left right : ℕ) → IsHome to → IsHome left → IsHome right → IsPromoted kind → Holds p.image pc (on_registers (operation op kind) to left right) → Selected p pc (Compute to op kind left right) (pc + 4)
+  Compares : (to : ℕ) (op : Comparison) (kind : Kind) (left right next : ℕ) → IsHome to → IsHome left → IsHome right → IsPromoted kind ⊎ (kind ≡ Ptr) → Compared p pc to (less_op kind) left right op next → Selected p pc (Compare to op kind left right) next
+  Moves : (to size : ℕ) (back : Bool) (pointer by mid : ℕ) → IsHome to → IsHome pointer → IsHome by → size < 2 ^ 32 → Constant p pc 5 size mid → Holds p.image mid (on_registers Mul 5 5 by) → Holds p.image (mid + 4) (on_registers (if back then Sub else AddOp) to pointer 5) → Selected p pc (Move to size back pointer by) (mid + 4 + 4)
+  Measures : (to size left right mid : ℕ) → IsHome to → IsHome left → IsHome right → 0 < size → size < 2 ^ 31 → Holds p.image pc (on_registers Sub 5 left right) → Constant p (pc + 4) 6 size mid → Holds p.image mid (on_registers Div to 5 6) → Selected p pc (Distance to size left right) (mid + 4)
+  Addresses : (to : ℕ) (place : Place) (base imm next : ℕ) → IsHome to → Based p pc place base imm next → Holds p.image next (with_immediate Addi to base imm) → Selected p pc (Address to place) (next + 4)
+  Fetches : (to : ℕ) (place : Place) (kind : Kind) (access base imm next : ℕ) → IsHome to → Based p pc place base imm next → Holds p.image next (with_immediate (load_op kind) to base imm) → Selected p pc (Read to place kind access) (next + 4)
+  StoresValue : (place : Place) (kind : Kind) (from access base imm next : ℕ) → IsHome from → Based p pc place base imm next → Holds p.image next (storing (store_op kind) base from imm) → Selected p pc (Write place kind from access) (next + 4)
+  Reloads : (to slot access base imm next : ℕ) → IsHome to → Displaced p pc 2 (p.at (Slot slot)) base imm next → Holds p.image next (with_immediate Lw to base imm) → Selected p pc (Reload to slot access) (next + 4)
+  Spills : (slot from access base imm next : ℕ) → IsHome from → Displaced p pc 2 (p.at (Slot slot)) base imm next → Holds p.image next (storing Sw base from imm) → Selected p pc (Spill slot from access) (next + 4)
+  Cuts_ : (cause : Cause) (m imm : ℕ) → IsEntry m → sum_of pc imm ≡ p.checkpoint m → Holds p.image pc (jumping 3 imm) → Selected p pc (Cut cause) (pc + 4)
+  Calls : (i count imm : ℕ) → sum_of pc imm ≡ p.entry i → Holds p.image pc (jumping 1 imm) → Selected p pc (Call 10 i 10 count) (pc + 4)
+  Gets : (imm : ℕ) → sum_of pc imm ≡ p.gets → Holds p.image pc (jumping 1 imm) → Selected p pc (GetChar 10) (pc + 4)
+  Puts_ : (imm : ℕ) → sum_of pc imm ≡ p.puts → Holds p.image pc (jumping 1 imm) → Selected p pc (PutChar 10 10) (pc + 4)
+
+-- a jump from pc
+pub record Jumps (p : Linking) (pc target : ℕ) : Type 0 where
+  pub imm : ℕ
+  pub lands : sum_of pc imm ≡ target
+  pub jumps : Holds p.image pc (jumping 0 imm)
+
+-- a test of a register, near or over a jump
+pub data Tested (p : Linking) (pc on there other : ℕ) : Type 0 where
+  Reached : (imm : ℕ) → sum_of pc imm ≡ there → Holds p.image pc (branching Bne on 0 imm) → Jumps p (pc + 4) other → Tested p pc on there other
+  Hopped : Holds p.image pc (branching Beq on 0 8) → Jumps p (pc + 4) there → Jumps p (pc + 8) other → Tested p pc on there other
+
+-- the return address is taken, the stack pointer goes up by the frame, and back to the caller
+pub record Leaves (p : Linking) (pc frame : ℕ) : Type 0 where
+  pub link : Holds p.image pc (with_immediate Lw 1 2 0)
+  pub next : ℕ
+  pub raised : Adds p (pc + 4) 2 frame next
+  pub returns : Holds p.image next (with_immediate Jalr 0 1 0)
+
+-- a result is in x10
+abbrev pub InResult : Option ℕ → Type 0
+InResult None = Unit {0}
+InResult (Some r) = r ≡ 10
+
+abbrev pub ExitAt : Linking → ℕ → ℕ → ℕ → Exit → Type 0
+ExitAt p i frame pc (Jump b) = Jumps p pc (p.place i b)
+ExitAt p i frame pc (Turn b) = Jumps p pc (p.place i b)
+ExitAt p i frame pc (Branch on a b) = IsHome on × Tested p pc on (p.place i a) (p.place i b)
+ExitAt p i frame pc (Return from) = InResult from × Leaves p pc frame
+
+-- the lines of function i, which has this frame, from pc on
+abbrev pub Stands : Linking → ℕ → ℕ → ℕ → List Line → Exit → Type 0
+Stands p i frame pc [] exit = ExitAt p i frame pc exit
+Stands p i frame pc (line ∷ rest) exit = (next : ℕ) × Selected p pc line next × Stands p i frame next rest exit
+
+-- the test of the stack, near or over a jump
+pub data Checked (p : Linking) (pc : ℕ) : ℕ → Type 0 where
+  Direct : (imm : ℕ) → sum_of pc imm ≡ p.full → Holds p.image pc (branching Bltu 6 5 imm) → Checked p pc (pc + 4)
+  Around : Holds p.image pc (branching Bgeu 6 5 8) → Jumps p (pc + 4) p.full → Checked p pc (pc + 4 + 4)
+
+-- room is tested before the stack pointer goes down, and the return address is saved
+pub record Prologue (p : Linking) (pc frame target : ℕ) : Type 0 where
+  pub a : ℕ
+  pub b : ℕ
+  pub lowered : Adds p pc 6 (2 ^ 32 - frame) a
+  pub bound : Holds p.image a (with_immediate Lw 5 0 stack_lim_at)
+  pub checked : Checked p (a + 4) b
+  pub taken : Holds p.image b (with_immediate Addi 2 6 0)
+  pub saved : Holds p.image (b + 4) (storing Sw 2 1 0)
+  pub jumps : Jumps p (b + 4 + 4) target

@@ -1,4 +1,0 @@
-pub mod Emitted
-pub mod Given
-pub mod Places
-pub mod Selects

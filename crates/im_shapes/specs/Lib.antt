@@ -1,4 +1,0 @@
-pub mod Parts
-pub mod Shape
-pub use Rattle.im_stop.specs.im_word
-pub use Rattle.im_stop.specs.im_rules

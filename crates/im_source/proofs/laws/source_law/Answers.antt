@@ -1,5 +1,0 @@
-use Rattle.im_source.proofs.Right.{right}
-use Rattle.im_source.proofs.laws.source_law.Goals as goal
-
-pub returns : goal.returns
-returns c = right c.end_law.ensures

@@ -1,5 +1,0 @@
-use Rattle.im_statement_forms.proofs.Rows.{block-of}
-use Rattle.im_statement_forms.proofs.made.block_made.Goals as goal
-
-pub returns : goal.returns
-returns c = λ types. block-of types _

@@ -1,8 +1,0 @@
-pub mod Asked
-pub mod Done
-pub mod Labelling
-pub mod Opening
-pub use Rattle.im_locals.specs.Declarations
-pub use Rattle.im_locals.specs.im_word
-pub use Rattle.im_locals.specs.im_rule_limits
-pub use Rattle.im_store.specs as im_store

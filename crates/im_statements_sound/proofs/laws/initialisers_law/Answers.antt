@@ -1,5 +1,0 @@
-use Rattle.im_statements_sound.proofs.Initialisers.{initialisers}
-use Rattle.im_statements_sound.proofs.laws.initialisers_law.Goals as goal
-
-pub returns : goal.returns
-returns c = λ g f a b i ps d w h k e st l. initialisers g f a b i ps d w h k e st l

@@ -1,6 +1,0 @@
-use Rattle.std.proofs.Common.{◌∙◌}
-use Rattle.im_type_specifiers.proofs.TypeLines.{same_lines}
-use Rattle.im_type_specifiers.proofs.line.line_of.Goals as goal
-
-pub returns : goal.returns
-returns c = λ ks h. c.line_among.ensures ∙ same_lines c.args.counts ks h

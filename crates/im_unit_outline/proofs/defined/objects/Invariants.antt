@@ -1,6 +1,0 @@
-use Rattle.std.proofs.Common.{◌≡◌, ◌++◌, drop, map}
-use Rattle.im_unit_outline.specs.Walked.{outlined_of, object_names}
-use Rattle.im_unit_outline.proofs.defined.objects.Given as goal
-
-abbrev pub invariant-loop-item : goal.invariant-loop-item
-invariant-loop-item l = l.done ++ object_names (map outlined_of (drop l.item-index l.items)) ≡ object_names (map outlined_of l.items)

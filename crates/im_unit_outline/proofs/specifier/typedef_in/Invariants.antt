@@ -1,8 +1,0 @@
-use Rattle.std.proofs.Common.{◌≡◌, drop}
-use Rattle.im_name_map.specs.im_rules.Rules as u
-use Rattle.im_name_map.specs.im_rules.Outline as o
-use Rattle.im_tree_parts.specs.Lists.{list_from}
-use Rattle.im_unit_outline.proofs.specifier.typedef_in.Given as goal
-
-abbrev pub invariant-loop-specifier : goal.invariant-loop-specifier
-invariant-loop-specifier l = o.typedef_in (list_from l.specifiers) ≡ o.typedef_in (list_from (drop l.specifier-index l.specifiers))

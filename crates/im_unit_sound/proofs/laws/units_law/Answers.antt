@@ -1,5 +1,0 @@
-use Rattle.im_unit_sound.proofs.Units.{units}
-use Rattle.im_unit_sound.proofs.laws.units_law.Goals as goal
-
-pub returns : goal.returns
-returns c = λ u g d w l. units u g d w l

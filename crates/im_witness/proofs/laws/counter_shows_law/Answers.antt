@@ -1,5 +1,0 @@
-use Rattle.im_witness.proofs.Laws_of.{counter_shows_law}
-use Rattle.im_witness.proofs.laws.counter_shows_law.Goals as goal
-
-pub returns : goal.returns
-returns c = counter_shows_law
