@@ -19,7 +19,7 @@ use Rattle.im_block.specs.declared.unit.Unit.{Unit as Code}
 use Rattle.im_block.specs.Meaning.{object_of, Setting, Site, site_of, slot_site, slot_of, statics_of, Location, Event, Reads, Writes, Tests, Saves, Restores, Serves, Cuts, Found, Left, Spot, Active, Frame, State, Next, Goes, Stops, on_checked, takes, found, kept_by, with_rest, with_register, at_block, sets, computes, reads, writes, waiting, enters, served, gets, does, goes_to, back, leaves, step_at, step, number_of, condition, next_active}
 use Rattle.im_block.specs.Runs.{start, before, Over, goes_on, exec, Runs}
 use Rattle.im_block.specs.Sections.{Item, Reader, Writer, Break, Has, Exposed, NoWar, NoWarAfter, Byte, bytes_of, link_bytes, items}
-use Rattle.im_block.specs.Tagged.{reach_of, Reaches, HoldsAt, AllHold}
+use Rattle.im_block.specs.Tagged.{tag_of, reach_of, Reaches, HoldsAt, AllHold}
 use Rattle.im_block.specs.Paths.{Step, ReadStep, WriteStep, steps_of, IsCut, IsEdge, spot, Path, Here, Along, Across, AfterCut, Begins, AllSectioned}
 use Rattle.im_block.specs.Forced.{StartsWithCut, CutAfterCalls, AllForced}
 use Rattle.im_block.proofs.Words.{found_is}
@@ -196,7 +196,7 @@ module _ (u : Code) (tags : Tags) (g : Setting) (forced : AllForced u) (sectione
       OnPath f begin (path ++ ReadStep site ∷ []) at from (subst (λ q. Path f.blocks.items begin (path ++ q) (past frame rest)) is on) (aligned_read statics tags frame.active site bytes path section al fit)
   read_track frame section line rest registers site bytes e uncut is fit (Soon h) = absurd (uncut (subst StartsWithCut e h))
 
-  reads_keeps : (s : State) (section : List (Item Byte)) (line : Line) (to : ℕ) (site : Site) (c : Checked Found) (rest : List Line) → s.frame.spot.rest ≡ line ∷ rest → (IsCut line → ⊥) → steps_of line ≡ ReadStep site ∷ [] → ((f : Found) → c ≡ Fine f → HoldsAt statics site.slot (slice_get tags.tags.items site.number) s.frame.active f.at.object f.at.offset → Touched statics tags s.frame.active site (bytes_of f.at.object f.at.offset site.size)) → Tracked s section → Keeps section (reads to site c rest s)
+  reads_keeps : (s : State) (section : List (Item Byte)) (line : Line) (to : ℕ) (site : Site) (c : Checked Found) (rest : List Line) → s.frame.spot.rest ≡ line ∷ rest → (IsCut line → ⊥) → steps_of line ≡ ReadStep site ∷ [] → ((f : Found) → c ≡ Fine f → HoldsAt statics site.slot (tag_of tags site.number) s.frame.active f.at.object f.at.offset → Touched statics tags s.frame.active site (bytes_of f.at.object f.at.offset site.size)) → Tracked s section → Keeps section (reads to site c rest s)
   reads_keeps s section line to site c rest e uncut is touch t =
       checked_keeps section c _ (λ x fine holds.
       let bytes = bytes_of x.at.object x.at.offset site.size in
@@ -227,7 +227,7 @@ module _ (u : Code) (tags : Tags) (g : Setting) (forced : AllForced u) (sectione
       OnPath f begin (path ++ WriteStep site ∷ []) at from (subst (λ q. Path f.blocks.items begin (path ++ q) (past frame rest)) is on) (aligned_write statics tags frame.active site bytes path section al fit)
   write_track frame section line rest site bytes e uncut is fit (Soon h) = absurd (uncut (subst StartsWithCut e h))
 
-  writes_keeps : (s : State) (section : List (Item Byte)) (line : Line) (site : Site) (c : Checked Left) (rest : List Line) → s.frame.spot.rest ≡ line ∷ rest → (IsCut line → ⊥) → steps_of line ≡ WriteStep site ∷ [] → ((l : Left) → c ≡ Fine l → HoldsAt statics site.slot (slice_get tags.tags.items site.number) s.frame.active l.at.object l.at.offset → Touched statics tags s.frame.active site (bytes_of l.at.object l.at.offset site.size)) → ((l : Left) → c ≡ Fine l → l.store.shape ≡ s.store.shape) → Tracked s section → Keeps section (writes site c rest s)
+  writes_keeps : (s : State) (section : List (Item Byte)) (line : Line) (site : Site) (c : Checked Left) (rest : List Line) → s.frame.spot.rest ≡ line ∷ rest → (IsCut line → ⊥) → steps_of line ≡ WriteStep site ∷ [] → ((l : Left) → c ≡ Fine l → HoldsAt statics site.slot (tag_of tags site.number) s.frame.active l.at.object l.at.offset → Touched statics tags s.frame.active site (bytes_of l.at.object l.at.offset site.size)) → ((l : Left) → c ≡ Fine l → l.store.shape ≡ s.store.shape) → Tracked s section → Keeps section (writes site c rest s)
   writes_keeps s section line site c rest e uncut is touch leaves t =
       checked_keeps section c _ (λ x fine holds.
       let bytes = bytes_of x.at.object x.at.offset site.size in

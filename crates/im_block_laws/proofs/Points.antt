@@ -21,7 +21,7 @@ use Rattle.im_block.specs.declared.unit.Unit.{Unit as Code}
 use Rattle.im_block.specs.Meaning.{Setting, Event, Active, Frame, State, Next, Goes, Stops, on_checked, takes, found, kept, kept_by, with_register, sets, computes, begun_by, waiting, passed, enters, served, gets, does, goes_to, back, leaves, step_at, step, number_of, condition, returned, next_active, statics_of}
 use Rattle.im_block.specs.Runs.{start, before, Over, goes_on, exec}
 use Rattle.im_block.specs.Sections.{Has}
-use Rattle.im_block.specs.Tagged.{AllHold, IsSound}
+use Rattle.im_block.specs.Tagged.{tag_of, AllHold, IsSound}
 use Rattle.im_block_laws.specs.PointsTo.{Points, Sub, PlaceHas, ExitGives, BlocksGive, CallClosed, LineClosed, LineTagged, LinesAre, IsClosed, AreTags}
 use Rattle.im_block_laws.proofs.Pointing.{ValueIn, value_sub, value_either, number_in, truth_in, moved_in, RegistersIn, StoreIn, place_in, read_in, write_in, first_in}
 
@@ -263,14 +263,14 @@ module _ (u : Code) (points : Points) (tags : Tags) (closed : IsClosed points u)
       let now = lines_now s line rest e ok in
       let i = s.frame.function in
       checked_good _ _ (λ f is.
-      let r = read_in points statics i place kind (slice_get tags.tags.items access) (points.register i to) s.frame.active s.frame.registers s.store f now.0.0 now.1.0 ok.frame.registers ok.store is in
+      let r = read_in points statics i place kind (tag_of tags access) (points.register i to) s.frame.active s.frame.registers s.store f now.0.0 now.1.0 ok.frame.registers ok.store is in
       (record { frame = record { registers = set_in points i to f.value s.frame.registers r.value ok.frame.registers; lines = lines_next s line rest e ok }; callers = ok.callers; store = ok.store }, (r.holds, tt)))
   does_good s (Write place kind from access) rest e ok =
       let line = Write place kind from access in
       let now = lines_now s line rest e ok in
       let i = s.frame.function in
       checked_good _ _ (λ l is.
-      let w = write_in points statics i place kind (slice_get tags.tags.items access) (points.register i from) (s.frame.registers from) s.frame.active s.frame.registers s.store l now.0.0 (ok.frame.registers from) now.1.0 ok.frame.registers ok.store is in
+      let w = write_in points statics i place kind (tag_of tags access) (points.register i from) (s.frame.registers from) s.frame.active s.frame.registers s.store l now.0.0 (ok.frame.registers from) now.1.0 ok.frame.registers ok.store is in
       (record { frame = record { registers = ok.frame.registers; lines = lines_next s line rest e ok }; callers = ok.callers; store = w.store }, (w.holds, tt)))
   does_good s (Reload to slot access) rest e ok = absurd (lines_now s (Reload to slot access) rest e ok).0.0
   does_good s (Spill slot from access) rest e ok = absurd (lines_now s (Spill slot from access) rest e ok).0.0

@@ -9,7 +9,7 @@ use Rattle.im_block.specs.declared.unit.Function.{Function}
 use Rattle.im_block.specs.declared.unit.Unit.{Unit as Code}
 use Rattle.im_store.specs.Objects.{Object}
 use Rattle.im_block.specs.Meaning.{Active, Event, Reads, Writes, Tests, Saves, Restores, Serves, Cuts as ACut}
-use Rattle.im_block.specs.Tagged.{HoldsAt, AllHold, IsSound}
+use Rattle.im_block.specs.Tagged.{tag_in, tag_of, HoldsAt, AllHold, IsSound}
 use Rattle.im_block.specs.Uncut.{WithCuts, Empty, Same, SameBlocks, SameFunctions, SameButCuts}
 use Rattle.im_alloc_relation.specs.Placing.{PlacedFunctions}
 use Rattle.im_alloc_laws.specs.Numbered.{IsWellPlaced}
@@ -23,8 +23,8 @@ use Rattle.im_keeps_middle.specs.Laws.{MiddleLaw}
 
 -- no tags
 
-no_tag : (tags : Tags) → AreNoTags tags → (n : ℕ) → slice_get tags.tags.items n ≡ None
-no_tag tags e n = ap (λ (l : List Tag). slice_get l n) e
+no_tag : (tags : Tags) → AreNoTags tags → (n : ℕ) → tag_of tags n ≡ None
+no_tag tags e n = ap (λ (places : List ℕ). tag_in tags.tags.items (slice_get places n)) e
 
 holds_none : (statics : ℕ) (slot : Option ℕ) (tag : Option Tag) (by : Active) (o : Object) (i : ℕ) → tag ≡ None → HoldsAt statics slot tag by o i
 holds_none statics None tag by o i e = subst (λ t. HoldsAt statics None t by o i) (sym e) tt
@@ -32,8 +32,8 @@ holds_none statics (Some slot) tag by o i e = tt
 
 all_hold : (statics : ℕ) (tags : Tags) → AreNoTags tags → (run : List Event) → AllHold statics tags run
 all_hold statics tags e [] = tt
-all_hold statics tags e (Reads site by o i ∷ run) = (holds_none statics site.slot (slice_get tags.tags.items site.number) by o i (no_tag tags e site.number), all_hold statics tags e run)
-all_hold statics tags e (Writes site by o i ∷ run) = (holds_none statics site.slot (slice_get tags.tags.items site.number) by o i (no_tag tags e site.number), all_hold statics tags e run)
+all_hold statics tags e (Reads site by o i ∷ run) = (holds_none statics site.slot (tag_of tags site.number) by o i (no_tag tags e site.number), all_hold statics tags e run)
+all_hold statics tags e (Writes site by o i ∷ run) = (holds_none statics site.slot (tag_of tags site.number) by o i (no_tag tags e site.number), all_hold statics tags e run)
 all_hold statics tags e (Tests ∷ run) = (tt, all_hold statics tags e run)
 all_hold statics tags e (Saves by ∷ run) = (tt, all_hold statics tags e run)
 all_hold statics tags e (Restores by ∷ run) = (tt, all_hold statics tags e run)

@@ -33,4 +33,4 @@ pub record Chain (source : Source) (frames : List ℕ) (image : ImageValue) (gap
   pub measure : IsGap image.words image.entry gap
 
 abbrev pub AreNoTags : Tags → Type 0
-AreNoTags tags = tags.tags.items ≡ []
+AreNoTags tags = tags.of.items ≡ []
