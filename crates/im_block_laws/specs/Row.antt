@@ -15,7 +15,10 @@ site n = record { number = n; size = 4; slot = None }
 -- v is object 0, s object 1; no access has the number 0
 abbrev pub row_tags : Global → Tags
 row_tags memory =
-    record { tags = vec memory (Direct 9 0 ∷ Direct 0 0 ∷ Direct 1 0 ∷ Direct 1 0 ∷ Direct 0 0 ∷ Direct 0 0 ∷ []) (lit< tt) }
+    record {
+      of = vec memory (0 ∷ 1 ∷ 2 ∷ 2 ∷ 1 ∷ 1 ∷ []) (lit< tt);
+      tags = vec memory (Direct 9 0 ∷ Direct 0 0 ∷ Direct 1 0 ∷ []) (lit< tt);
+    }
 
 abbrev pub IsExposedAfter : Global → List Step → ℕ → Type 0
 IsExposedAfter memory path read = Open (row_tags memory) path (site read)

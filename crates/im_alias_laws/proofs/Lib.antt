@@ -1,0 +1,4 @@
+pub mod Leasts
+pub mod PointsAts
+pub mod Finers
+pub mod LeastTags

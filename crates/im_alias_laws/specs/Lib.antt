@@ -1,0 +1,3 @@
+pub mod PointsAt
+pub mod Least
+pub mod Laws
