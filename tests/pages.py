@@ -147,3 +147,28 @@ def texts(room):
 @test("docs/errors.md: what is left out is refused as it says, and what stands for it is built")
 def left_out(room):
     each_row(room, "What C has and this language hasn't", lambda row: (code_of(row[1])[0], code_of(row[0]), code_of(row[2])))
+
+
+def chain(text):
+    return "int x; int main(void) { " + text + " return 0; }"
+
+
+# What stands so often at most, by docs/errors.md, and is refused a few links on.
+CHAINS = {
+    "else if with braces": (190, lambda n: chain("if (x == 1) { x = 1; }" + " else if (x == 2 && x) { x = 2; }" * n)),
+    "else if without braces": (95, lambda n: chain("if (x == 1) x = 1;" + " else if (x == 2 && x) x = 2;" * n)),
+    "case labels": (190, lambda n: chain("switch (x) {" + "".join(f" case {it}:" for it in range(n)) + " x = 1; }")),
+    "a sum": (198, lambda n: chain("x = " + " + ".join(["x"] * n) + ";")),
+    "conditions": (198, lambda n: chain("if (" + " && ".join(["x"] * n) + ") x = 1;")),
+    "a sum of products": (98, lambda n: chain("x = " + " + ".join(["x * x"] * n) + ";")),
+    "comparisons": (98, lambda n: chain("if (" + " || ".join(["x == 1"] * n) + ") x = 1;")),
+}
+
+
+@test("docs/errors.md: as many links of a chain as it says are built, and some more are told by the nesting")
+def chains(room):
+    for what, (most, source_of) in CHAINS.items():
+        same(f"{most} of {what}", refused(room, source_of(most)), "built")
+        same(f"{most + 10} of {what}", refused(room, source_of(most + 10)), "1: nesting over 200")
+    same("a long frame", refused(room, "int main(void) { char a[65500]; a[0] = 1; return a[0]; }")[:6], "frame ")
+    same("a frame", refused(room, "int main(void) { char a[65400]; a[0] = 1; return a[0]; }"), "built")
