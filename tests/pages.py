@@ -98,6 +98,15 @@ def index(_):
     holds(f"not linked: {sorted(pages - linked)}", not pages - linked)
 
 
+@test("docs/recipes.md names files that are there")
+def recipes(_):
+    named = re.findall(r"`((?:im_\w+|tests)/[\w./]+\.\w+)`", text_of("docs/recipes.md"))
+    holds("no files", len(named) > 50)
+    places = [os.path.join(TOP, it) if it.startswith("tests/") else os.path.join(TOP, "crates", it) for it in named]
+    absent = [it for it in places if not os.path.exists(it)]
+    holds(f"absent: {absent}", not absent)
+
+
 def code_of(cell):
     """The sources of a cell: the texts between backquotes, with \\n for an end of line."""
     return [it.replace("\\|", "|").replace("¶", "\n") for it in re.findall(r"``? ?(.+?) ?``?(?!`)", cell)]
