@@ -9,7 +9,7 @@ import tempfile
 
 TOP = os.path.dirname(os.path.dirname(os.path.abspath(__file__)))
 TESTS = []
-SECONDS = 120
+SECONDS = 600
 
 
 class Failed(Exception):

@@ -19,7 +19,7 @@ def shown(room, block, words):
     """What the terminal shows of a block's commands."""
     wanted = dict(it.split("=") for it in words.split())
     done = subprocess.run(
-        ["sh", "-e", "-c", block], cwd=room.folder, stdin=subprocess.DEVNULL, stdout=subprocess.PIPE, stderr=subprocess.STDOUT, timeout=120
+        ["sh", "-e", "-c", block], cwd=room.folder, stdin=subprocess.DEVNULL, stdout=subprocess.PIPE, stderr=subprocess.STDOUT, timeout=600
     )
     text = done.stdout.decode(errors="replace")
     if done.returncode != int(wanted.get("status", 0)):

@@ -40,7 +40,7 @@ class House:
             self.script(os.path.join(kit, name), text)
         os.makedirs(os.path.join(self.top, "crates/intermit/src"))
         os.makedirs(os.path.join(self.top, "tools"))
-        for name in ("intermit", "tools/build-unproved", "tools/sources-sum"):
+        for name in ("intermit", "tools/program", "tools/build-unproved", "tools/sources-sum"):
             shutil.copy(os.path.join(TOP, name), os.path.join(self.top, name))
         for name in ("crates.txt", "HANDLES", "crates/intermit/src/main.rt"):
             self.write(name, "first\n")
@@ -68,7 +68,7 @@ class House:
 
     def call(self, **more):
         process = self.start(**more)
-        out, err = process.communicate(timeout=60)
+        out, err = process.communicate(timeout=600)
         return process.returncode, out, err.splitlines()
 
     def builds(self):
@@ -115,7 +115,7 @@ def at_once(room):
     house = House(room)
     first, second = house.start(FAKE_SECONDS="1"), house.start(FAKE_SECONDS="1")
     for process in (first, second):
-        same("the output", (process.communicate(timeout=60)[0], process.returncode), ("unproved build x\n", 0))
+        same("the output", (process.communicate(timeout=600)[0], process.returncode), ("unproved build x\n", 0))
     same("builds", house.builds(), 1)
 
 

@@ -11,7 +11,7 @@ import image as image_tool  # noqa: E402
 
 
 def tool(room, *words, python=sys.executable):
-    return subprocess.run([python, *words], cwd=room.folder, capture_output=True, timeout=120)
+    return subprocess.run([python, *words], cwd=room.folder, capture_output=True, timeout=600)
 
 
 def from_hex(text):
