@@ -181,3 +181,12 @@ def chains(room):
         same(f"{most + 10} of {what}", refused(room, source_of(most + 10)), "1: nesting over 200")
     same("a long frame", refused(room, "int main(void) { char a[65500]; a[0] = 1; return a[0]; }")[:6], "frame ")
     same("a frame", refused(room, "int main(void) { char a[65400]; a[0] = 1; return a[0]; }"), "built")
+
+
+@test("docs/pitfalls.md: each program has the cause that it stands under")
+def pitfalls(room):
+    sections = re.findall(r"^## U(\d):.*?^```c\n(.*?)^```", text_of("docs/pitfalls.md"), re.M | re.S)
+    same("the causes", [number for number, _ in sections], [str(it) for it in range(1, 10)])
+    for number, source in sections:
+        room.file("u.c", source)
+        room.call("eval", "u.c").wants(f"U{number}", 11, b"", f"intermit: undefined U{number}")
