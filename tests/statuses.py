@@ -1,4 +1,5 @@
 """Each exit status of docs/commands.md, by words, files and limits that give it."""
+import os
 import re
 import resource
 
@@ -108,7 +109,8 @@ def no_memory(room):
         found.add(done.status)
         if done.status == 9:
             same("the line", done.lines, ["intermit: no memory"])
-        elif done.status not in (0, -11, -9, 127):
+            holds("there is an image", not os.path.exists(room.path("x.img")))
+        elif done.status not in (0, 127):  # 127: the host didn't load the program
             raise Failed(f"{room_of} MiB: status {done.status}: {done.err!r}")
         elif done.status == 0:
             break
