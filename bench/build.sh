@@ -91,8 +91,7 @@ lowering() { # SOURCE: of the instructions of its build those of lowering, in th
         END { printf "%d\n", 1000 * most / total }'
 }
 
-"$top/intermit" --help > /dev/null 2>&1 || true
-program=$top/crates/intermit/out/intermit
+program=$("$top/tools/program")
 exponent() { # TIME BEFORE
     if [ "$2" -gt 0 ]; then
         awk -v t="$1" -v u="$2" -v b="$bytes" -v c="$smaller" 'BEGIN { printf ", exponent %.2f", log(t / u) / log(b / c) }'

@@ -6,7 +6,7 @@
 # part of the gate.
 set -eu
 top=$(CDPATH= cd -- "$(dirname -- "$0")/.." && pwd)
-program=$top/crates/intermit/out/intermit
+program=$("$top/tools/program")
 work=$(mktemp -d)
 trap 'rm -rf "$work"' EXIT
 ulimit -s 2048

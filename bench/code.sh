@@ -6,8 +6,7 @@ set -eu
 top=$(CDPATH= cd -- "$(dirname -- "$0")/.." && pwd)
 work=$(mktemp -d)
 trap 'rm -rf "$work"' EXIT
-"$top/intermit" --help > /dev/null 2>&1 || true
-program=$top/crates/intermit/out/intermit
+program=$("$top/tools/program")
 echo 'int putchar(int); int getchar(void);
 typedef signed char int8_t; typedef unsigned char uint8_t; typedef short int16_t; typedef unsigned short uint16_t;
 typedef int int32_t; typedef unsigned uint32_t; typedef unsigned size_t;' > "$work/front.h"

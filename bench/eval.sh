@@ -83,8 +83,7 @@ milliseconds() { # COMMAND..: the least processor time of three runs
     done | sort -n | head -n 1
 }
 
-"$top/intermit" --help > /dev/null 2>&1 || true
-program=$top/crates/intermit/out/intermit
+program=$("$top/tools/program")
 # a program, the units of fuel that it takes, and about how many nodes it goes through: 15 in a turn of the inner loop and 18 more
 # for a byte, and 13 in a turn
 for row in "crc 10485777 144700000" "nested 3003016 39050000"; do

@@ -215,7 +215,7 @@ cd "$work"
 } > loop.image
 gcc -O2 -o plain plain.c
 n=100000000
-# The first run of ./intermit proves and builds it.
+# The first run of ./intermit may build it.
 for program in "$@"; do "$program" exec loop.image --steps 0 > /dev/null 2>&1 || [ $? -eq 4 ]; done
 for round in 1 2 3 4 5; do
     measure 0 ./plain "$n"

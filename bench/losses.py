@@ -2,7 +2,7 @@
 """Power is lost after each instruction of an image's run, within the next store by each mask, and a second time in the
 recovery that follows; each run has to show what the run without a loss shows. No part of the gate.
 
-Run it at the top of the repository, behind a first call of ./intermit:
+Run it at the top of the repository:
     bench/losses.py examples/upper.img examples/in.txt
 With --once power is lost once in each run, by the masks in turn, for programs that run long. The ten examples so:
     bench/losses.py --examples
@@ -15,7 +15,7 @@ import subprocess
 import sys
 import tempfile
 
-PROGRAM = "crates/intermit/out/intermit"
+PROGRAM = ""  # its path, by main
 SECOND = (None, 0, 1, 17, 32, 33)
 MASKS = range(16)
 ENDLESS = "4294967295\n"
@@ -81,6 +81,8 @@ def main():
     words.add_argument("image", nargs="?")
     words.add_argument("input", nargs="?")
     asked = words.parse_args()
+    global PROGRAM
+    PROGRAM = subprocess.run(["tools/program"], check=True, capture_output=True, text=True).stdout.strip()
     if asked.examples:
         return 1 if examples() else 0
     return 1 if tried(asked.image, asked.input, asked.once) else 0
