@@ -212,7 +212,7 @@ class Types:
         inner = type_
         while inner.kind in ("pointer", "array"):
             inner = inner.to
-        return self.type_of(node) if inner.kind == "struct" and inner.name is None else type_
+        return self.type_of(node) if inner.kind == "struct" else type_
 
     def enum(self, node, at):
         if id(node) in self.made:
