@@ -17,4 +17,16 @@ static long labs(long n)
     return n < 0 ? -n : n;
 }
 
+static int atoi(const char *s)
+{
+    int n = 0, minus = 0;
+    while (*s == ' ' || (*s >= '\t' && *s <= '\r'))
+        s++;
+    if (*s == '-' || *s == '+')
+        minus = *s++ == '-';
+    for (; *s >= '0' && *s <= '9'; s++)
+        n = 10 * n + (*s - '0');
+    return minus ? -n : n;
+}
+
 #endif
