@@ -41,7 +41,19 @@ class Calls:
         new = []
         for i, arg in enumerate(args):
             new.append(self.argument(name, i, arg, params[i]) if i < len(params) else self.rvalue(arg)[0])
+        if symbol.type.to.kind == "struct":
+            return self.struct_call(node, symbol, new)
         return A.FuncCall(A.ID(symbol.name, node.coord), A.ExprList(new) if new else None, node.coord), symbol.type.to
+
+    def struct_call(self, node, symbol, args):
+        """A call that gives a struct: it fills a local, which is then the value."""
+        if self.before is None:
+            self.cannot(node, f"{symbol.name}, which gives a struct, called in this place")
+            return node, symbol.type.to
+        name = self.fresh("given")
+        self.before.append(self.declared(name, without_const(symbol.type.to), node.coord))
+        call = self.call(symbol.name, [A.UnaryOp("&", A.ID(name))] + args, node.coord)
+        return A.ExprList([call, A.ID(name, node.coord)], node.coord), symbol.type.to
 
     def argument(self, name, i, arg, param):
         if param.is_null_type():
@@ -54,6 +66,8 @@ class Calls:
             return self.fitted(new, type_, pointer_to(with_const(chosen) if param.to.is_const else chosen), arg)
         if param.kind == "struct":
             new, _ = self.expression(arg)
+            if isinstance(new, A.ExprList):
+                return A.ExprList(new.exprs[:-1] + [A.UnaryOp("&", new.exprs[-1])], arg.coord)
             if not isinstance(new, (A.ID, A.StructRef, A.ArrayRef)) and not (isinstance(new, A.UnaryOp) and new.op == "*"):
                 self.cannot(arg, "a struct as an argument that is no object")
             return A.UnaryOp("&", new, arg.coord)
@@ -68,6 +82,8 @@ class Calls:
             self.cannot(node, "a call of what is no function")
             return node, INT
         function = type_.to
+        if function.to.kind == "struct" or any(p.kind == "struct" for p in function.params):
+            self.cannot(node, "a call through a pointer of a function with structs")
         name = self.dispatcher(function)
         self.found.call(self.function, name)
         values = [new] + [self.converted(a, p)[0] for a, p in zip(args, function.params)]

@@ -139,8 +139,6 @@ class Declarations:
         """Changes the parameters of a function's declarator; with a body, gives the declarations that go into it."""
         declarator, first = node.type, []
         declarator.type = self.rewrite(declarator.type)
-        if type_.to.kind == "struct":
-            self.cannot(node, f"{node.name} gives a struct: give it a pointer to one to fill")
         if type_.to.is_null_type():
             self.cannot(node, f"{node.name} gives a void *")
         params = declarator.args.params if declarator.args else []
@@ -152,10 +150,18 @@ class Declarations:
                 self.cannot(node, "a list of parameters without types")
                 continue
             first += self.parameter(node, i, param, body)
-        declarator.args = A.ParamList([p for p in params if not isinstance(p, A.EllipsisParam)]) if params else None
-        if not params:
-            declarator.args = A.ParamList([self.void_parameter()])
+        params = [p for p in params if not isinstance(p, A.EllipsisParam)]
+        if type_.to.kind == "struct":
+            params = [self.place_of_result(node, type_)] + [p for p in params if isinstance(p, A.Decl) or type_.params]
+            declarator.type = self.named_declarator(A.TypeDecl(None, [], None, A.IdentifierType(["void"])), node.name)
+        declarator.args = A.ParamList(params or [self.void_parameter()])
         return first
+
+    def place_of_result(self, node, type_):
+        """The parameter through which a function gives a struct."""
+        self.note(node, f"{node.name} gives its struct through a pointer")
+        name = self.result_name = self.fresh("result")
+        return self.declared(name, pointer_to(without_const(type_.to)), node.coord)
 
     def void_parameter(self):
         return A.Typename(None, [], None, A.TypeDecl(None, [], None, A.IdentifierType(["void"])))

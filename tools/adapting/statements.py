@@ -152,4 +152,11 @@ class Statements:
         if self.result is not None and self.result.kind == "void":
             self.note(node, "a value returned from a void function is evaluated before")
             return [A.Compound([self.expression(node.expr)[0], A.Return(None, node.coord)], node.coord)]
+        if self.result is not None and self.result.kind == "struct":
+            return self.with_before(node, self.given, True)
         return self.with_before(node, lambda n: [A.Return(self.converted(n.expr, self.result)[0], n.coord)], True)
+
+    def given(self, node):
+        """What a function does that gives a struct: it stores it, and returns."""
+        stored = A.Assignment("=", A.UnaryOp("*", A.ID(self.result_name)), self.expression(node.expr)[0], node.coord)
+        return [A.Compound([stored, A.Return(None, node.coord)], node.coord)]
