@@ -1,5 +1,6 @@
 #!/bin/sh
-# The programs that papers on intermittent computing measure with, in examples/field/: prints the tables of docs/performance.md.
+# The programs that papers on intermittent computing measure with, in examples/field/: prints the three tables of
+# docs/performance.md, the last of how the length of periods counts.
 # Each program's output under intermit has to be its .out, which gcc's code gave. tools/counts.c runs the images: a checkpoint's
 # instructions go from the jal at the cut through the routine's return (m + 8 of entry Em), and the others are what the run takes
 # without cuts, but for recovery. Code and instructions of gcc are those of `riscv64-unknown-elf-gcc -march=rv32im -mabi=ilp32`,
@@ -117,3 +118,19 @@ BEGIN { print "| Program | Run over without cuts | Run over gcc -O0 | Run over g
 END { printf "| geometric mean | %.1f | %s | %s | %s | %.1f | %.2f |\n", exp(a / n), b ? sprintf("%.1f", exp(b / n)) : "-",
       c ? sprintf("%.1f", exp(c / n)) : "-", d ? sprintf("%.1f", exp(d / n)) : "-", exp(e / n), exp(f / n) }
 ' "$work/rows"
+
+# one program under periods of several lengths, from just its gap on
+name=dijkstra
+"$program" build "$folder/$name.c" "$work/image" > "$work/err" 2>&1
+gap=$(counted gap err)
+echo
+echo "| Power for ($name) | Instructions | Over power that stays | Recovery | Lost | Losses |"
+echo '|---|---|---|---|---|---|'
+"$work/counts" "$work/image" --input "$folder/$name.in" > "$work/whole"
+for period in $gap 100 150 200 300 500 1000 2000 5000 20000 100000; do
+    echo "$period 0 1000000" > "$work/trace"
+    "$work/counts" "$work/image" --input "$folder/$name.in" --trace "$work/trace" > "$work/lost"
+    echo "$period $(counted instructions lost) $(counted instructions whole) $(counted recovery lost) $(counted lost lost)" \
+        "$(counted losses lost)" |
+        awk '{ printf "| %d | %d | %.2f | %.1f %% | %.1f %% | %d |\n", $1, $2, $2 / $3, 100 * $4 / $2, 100 * $5 / $2, $6 }'
+done
