@@ -6,6 +6,7 @@
     tests/run PROGRAM            tests that program
     tests/run [PROGRAM] --only WORD      makes the tests alone whose names have the word
     tests/run [PROGRAM] --readme         prints README.md with the output that its commands have now
+    tests/run [PROGRAM] --page PAGE      prints another page so
     tests/run --list             lists the tests
 """
 import argparse
@@ -44,7 +45,8 @@ def main():
     words = argparse.ArgumentParser(description=__doc__, formatter_class=argparse.RawDescriptionHelpFormatter)
     words.add_argument("program", nargs="?", default=os.path.join(TOP, "crates/intermit/out/intermit"))
     words.add_argument("--only", default="", metavar="WORD")
-    words.add_argument("--readme", action="store_true")
+    words.add_argument("--readme", dest="page", action="store_const", const="README.md")
+    words.add_argument("--page", metavar="PAGE")
     words.add_argument("--list", action="store_true")
     asked = words.parse_args()
     program = os.path.abspath(asked.program)
@@ -54,9 +56,9 @@ def main():
     if not os.access(program, os.X_OK):
         print(f"tests/run: there is no program {program}: `rt ci` makes the proved one\n0 passed, 1 failed")
         return 1
-    if asked.readme:
+    if asked.page:
         with Room(program) as room:
-            sys.stdout.write(pages.renewed(room, "README.md"))
+            sys.stdout.write(pages.renewed(room, asked.page))
         return 0
     words = [made(what, function, program) for what, function in TESTS if asked.only in what]
     failed = words.count("FAILED")

@@ -31,8 +31,9 @@ def queued(descriptor):
 
 def interrupt(process, descriptor):
     """Stops and continues a process whose write waits for a full pipe: the host then tells it of a short write."""
+    room_of = fcntl.fcntl(descriptor, getattr(fcntl, "F_GETPIPE_SZ", 1032))
     for _ in range(2000):
-        if queued(descriptor) >= 65536:
+        if queued(descriptor) >= room_of:
             break
         time.sleep(0.005)
     else:

@@ -19,6 +19,12 @@ def add_number(to, register, value):
     return (value & 0xFFF) << 20 | register << 15 | to << 7 | 0x13
 
 
+def constant(register, value):
+    """lui and addi: any word"""
+    low = (value & 0xFFF) - (value & 0x800) * 2
+    return [upper(register, (value - low >> 12) & 0xFFFFF), add_number(register, register, low)]
+
+
 def add(to, first, second):
     return second << 20 | first << 15 | to << 7 | 0x33
 
