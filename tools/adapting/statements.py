@@ -31,7 +31,7 @@ class Statements:
             return method(node)
         if isinstance(node, A.Compound):
             return [self.block(node)]
-        self.whole = node
+        self.whole, self.dropped = node, {id(node)}
         return self.with_before(node, lambda n: [self.expression(n)[0]], True)
 
     def with_before(self, node, make, is_block):
@@ -107,7 +107,9 @@ class Statements:
             decls = [d for decl in first.decls for d in self.declaration(decl)]
             first = A.DeclList(decls, first.coord) if decls else None
         elif first is not None:
+            self.dropped.add(id(first))
             first = self.expression(first)[0]
+        self.dropped.add(id(node.next))
         test, step = self.test(node.cond), self.test(node.next)
         body = self.one(node.stmt)
         self.scopes.pop()
