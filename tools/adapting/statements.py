@@ -16,6 +16,9 @@ class Statements:
         items = list(first)
         for item in node.block_items or []:
             items += self.statement(item)
+        if items and isinstance(items[-1], (A.Case, A.Default)) and not items[-1].stmts:
+            self.note(items[-1], "a ; is put behind the label")
+            items[-1].stmts = [A.EmptyStatement(items[-1].coord)]
         if not is_body:
             self.scopes.pop()
             self.tags.pop()
@@ -122,7 +125,7 @@ class Statements:
 
     def labelled(self, node, stmts):
         new = [s for stmt in stmts or [] for s in self.statement(stmt)]
-        if not new or isinstance(new[0], (A.Decl, A.Typedef)):
+        if new and isinstance(new[0], (A.Decl, A.Typedef)):
             self.note(node, "a ; is put behind the label")
             new.insert(0, A.EmptyStatement(node.coord))
         return new
