@@ -6,12 +6,33 @@
 # without cuts, but for recovery. Code and instructions of gcc are those of `riscv64-unknown-elf-gcc -march=rv32im -mabi=ilp32`,
 # of the functions alone; getchar and putchar are compiled beside them, count in no column of words, and count in the
 # instructions, in the same way. INTERMIT names another program than ./intermit. No part of the gate.
+# With --page it puts the tables into docs/performance.md instead.
 set -eu
 top=$(CDPATH= cd -- "$(dirname -- "$0")/.." && pwd)
 program=${INTERMIT:-$top/intermit}
 folder=$top/examples/field
 work=$(mktemp -d)
 trap 'rm -rf "$work"' EXIT
+case ${1-} in
+    --page)
+        # each table of the page, known by its first cell, is replaced by the one printed here
+        sh "$0" > "$work/tables"
+        python3 - "$work/tables" "$top/docs/performance.md" <<'P'
+import re, sys
+tables, page = sys.argv[1:]
+text = open(page).read()
+for table in open(tables).read().strip().split("\n\n"):
+    head = "| ".join(table.split("| ")[:3])
+    text, n = re.subn(re.escape(head) + r"[^\n]*\n(\|[^\n]*\n)*", lambda m: table + "\n", text)
+    if n != 1:
+        sys.exit(f"bench/field.sh: {n} tables of the page begin with {head}")
+open(page, "w").write(text)
+P
+        exit
+        ;;
+    '') ;;
+    *) echo "usage: bench/field.sh [--page]" >&2; exit 2 ;;
+esac
 cc -O2 -o "$work/counts" "$top/tools/counts.c"
 cross=riscv64-unknown-elf
 command -v $cross-gcc > /dev/null || { cross=; echo 'bench/field.sh: without riscv64-unknown-elf-gcc its columns stay empty' >&2; }

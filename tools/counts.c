@@ -161,12 +161,17 @@ static int32_t store_offset(uint32_t word)
     return ((int32_t)word >> 20 & ~31) | (int32_t)(word >> 7 & 31);
 }
 
-/* What the instruction was for, by its place and by whether a checkpoint is under way. */
-static void count(uint32_t word)
+static void count_word(void)
 {
     executed++;
     if (times && pc >= CODE && pc < STATICS)
         times[(pc - CODE) / 4]++;
+}
+
+/* What the instruction was for, by its place and by whether a checkpoint is under way. */
+static void count(uint32_t word)
+{
+    count_word();
     if (pc >= CODE && pc < CHECKPOINT) {
         recovery++;
         return;
@@ -291,7 +296,7 @@ static enum went period(uint64_t steps, uint32_t registers, uint32_t mask, FILE 
     for (uint64_t i = 0; i < steps && went == ON; i++)
         went = step();
     if (went != ON) {
-        executed++;
+        count_word();
     } else {
         tear(mask);
         losses++;

@@ -30,7 +30,8 @@ class Adapter(Names, Types, Expressions, Calls, Initialisers, Declarations, Stat
         self.helpers, self.dispatchers, self.made = [], {}, {}
         self.function, self.result, self.at = None, None, None
         self.keep = []  # nodes whose identity is in `made`
-        self.whole = None  # the expression that is a statement
+        self.whole, self.dropped = None, set()  # the expression that is a statement; those whose values are dropped
+        self.tails = {}  # what stands from a label of the function to its end
         self.result_name = None  # the parameter through which the function gives a struct
         self.before = None  # declarations that a statement needs before it
         self.bodies = {e.decl.name for e in tree.ext if isinstance(e, A.FuncDef)}

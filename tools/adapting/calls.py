@@ -5,11 +5,11 @@ import re
 from pycparser import c_ast as A
 
 from adapting.dry import Dry
-from adapting.kinds import CHAR, INT, VOID, is_null, is_ours, pointer_to, walk, with_const, without_const
+from adapting.kinds import CHAR, INT, Symbol, VOID, is_null, is_ours, pointer_to, walk, with_const, without_const
 from adapting.output import Generator
 from adapting.paths import INCLUDE
 
-PRINTERS = ("printf", "puts", "fputs", "fputc", "putc")
+PRINTERS = ("printf", "puts", "fputs", "fputc", "putc", "fflush")
 
 
 class Calls:
@@ -140,6 +140,12 @@ class Calls:
 
     def printing(self, node, name, args):
         self.found.call(self.function, "putchar")
+        if name == "fflush":
+            self.note(node, "fflush dropped")
+            return A.Constant("int", "0", node.coord)
+        if name in ("fputs", "fputc", "putc") and not (len(args) == 2 and isinstance(args[1], A.ID) and args[1].name == "stdout"):
+            self.cannot(node, f"{name} to another stream than stdout")
+            return node
         if name in ("fputc", "putc"):
             return self.call("putchar", [self.rvalue(args[0])[0]], node.coord)
         if name in ("puts", "fputs"):
@@ -149,6 +155,10 @@ class Calls:
         else:
             parts = self.formatted(node, args)
         self.note(node, f"{name} is written as calls of functions over putchar")
+        if id(node) not in self.dropped:
+            self.cannot(node, f"{name} where its result is used")
+        if node is not self.whole:  # an int, as an arm of ?: say
+            parts.append(A.Constant("int", "0"))
         return parts[0] if len(parts) == 1 else A.ExprList(parts, node.coord)
 
     def text(self, node, at):
@@ -164,6 +174,8 @@ class Calls:
                 continue
             found = re.fullmatch(r"%([-0]*)([0-9]*)(hh|h|l|z)?([diucsxX%])", piece)
             if piece[0] == "%" and not found:
+                self.cannot(node, f"{piece} of printf")
+            elif not found and "%" in piece:
                 self.cannot(node, f"{piece} of printf")
             elif not found and re.fullmatch(r"\\?.", piece):
                 parts.append(self.call("putchar", [A.Constant("char", f"'{piece}'" if piece != "'" else "'\\''")], node.coord))
@@ -204,8 +216,8 @@ class Calls:
         return self.call(self.need("adapt_signed"), [new, width_node, zero], node.coord)
 
     def evaluated(self, node, arg, new, type_):
-        """An argument with a call in it is evaluated before anything is printed."""
-        if not any(isinstance(n, A.FuncCall) for n in walk(arg)):
+        """An argument with a call that may read or print is evaluated before anything is printed."""
+        if not any(isinstance(n, A.FuncCall) and self.reads_or_prints(n) for n in walk(arg)):
             return new
         if node is not self.whole or self.before is None:
             self.cannot(node, "printf of a call's result, within an expression")
@@ -213,6 +225,20 @@ class Calls:
         name = self.fresh("value")
         self.before.append(self.declared(name, type_, node.coord, init=new))
         return A.ID(name, node.coord)
+
+    def reads_or_prints(self, call):
+        """Whether a call may come to getchar or putchar; what is called through a pointer may."""
+        if not isinstance(call.name, A.ID) or (self.look(call.name.name) or Symbol("function", None, "")).kind != "function":
+            return True
+        todo, seen = [call.name.name], set()
+        while todo:
+            name = todo.pop()
+            if name in ("getchar", "putchar") + PRINTERS or name.startswith("call_") and name not in self.bodies:
+                return True
+            if name not in seen:
+                seen.add(name)
+                todo += self.known.calls.get(name, ())
+        return False
 
     def memory(self, node, name, args):
         """A function over bytes, for the type of the elements that it is given."""

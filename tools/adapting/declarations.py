@@ -233,6 +233,7 @@ class Declarations:
             self.main(node, type_)
         self.scopes.append({})
         self.tags.append({})
+        self.find_tails(node.body)
         first = self.parameters(decl, type_, node.body)
         node.body = self.block(node.body, first, is_body=True)
         self.scopes.pop()

@@ -3,7 +3,9 @@ import re
 
 from pycparser import c_ast as A
 
-from adapting.kinds import CHAR, COMPARISONS, INT, SIZES, Symbol, Type, UNSIGNED, is_null, is_truth, pointer_to, with_const, without_const
+from adapting.kinds import CHAR, COMPARISONS, INT, SIZES, Symbol, Type, UNSIGNED, is_null, is_truth, pointer_to, walk, with_const, without_const
+
+INCREMENTS = ("++", "--", "p++", "p--")
 
 
 class Expressions:
@@ -116,7 +118,7 @@ class Expressions:
             if type_.is_null_type():
                 self.cannot(node, "what a void * points to")
             return A.UnaryOp("*", inner, node.coord), type_.to if type_.kind == "pointer" else INT
-        if node.op in ("++", "--", "p++", "p--"):
+        if node.op in INCREMENTS:
             if type_.kind == "bool":
                 self.cannot(node, f"{node.op.strip('p')} of a bool")
             return A.UnaryOp(node.op, inner, node.coord), type_
@@ -129,6 +131,8 @@ class Expressions:
         return without_const(type_)
 
     def on_BinaryOp(self, node):
+        if node.op in ("&&", "||"):
+            self.drop(node, node.right)
         left, a = self.rvalue(node.left)
         right, b = self.rvalue(node.right)
         new = A.BinaryOp(node.op, left, right, node.coord)
@@ -160,14 +164,15 @@ class Expressions:
             return A.Assignment("=", left, right, node.coord), a
         right, b = self.rvalue(node.rvalue)
         if a.kind == "bool":
-            if not isinstance(left, A.ID):
-                self.cannot(node, f"{node.op} on a bool that has no name of its own")
+            if any(isinstance(n, (A.FuncCall, A.Assignment)) or isinstance(n, A.UnaryOp) and n.op in INCREMENTS for n in walk(left)):
+                self.cannot(node, f"{node.op} on a bool whose place has effects")
             value = A.BinaryOp(node.op[:-1], left, right, node.coord)
             self.note(node, f"{node.op} on a bool is written out")
             return A.Assignment("=", left, A.BinaryOp("!=", value, A.Constant("int", "0"), node.coord), node.coord), a
         return A.Assignment(node.op, left, right, node.coord), a
 
     def on_TernaryOp(self, node):
+        self.drop(node, node.iftrue, node.iffalse)
         test, _ = self.rvalue(node.cond)
         yes, a = self.rvalue(node.iftrue)
         no, b = self.rvalue(node.iffalse)
@@ -179,7 +184,14 @@ class Expressions:
             type_ = a
         return A.TernaryOp(test, yes, no, node.coord), type_
 
+    def drop(self, node, *parts):
+        """What is dropped where this is: its parts too."""
+        if id(node) in self.dropped:
+            self.dropped.update(id(part) for part in parts)
+
     def on_ExprList(self, node):
+        self.drop(node, node.exprs[-1])
+        self.dropped.update(id(e) for e in node.exprs[:-1])
         parts = [self.rvalue(e) for e in node.exprs]
         return A.ExprList([p for p, _ in parts], node.coord), parts[-1][1]
 
@@ -188,6 +200,8 @@ class Expressions:
         if target.kind == "bool":
             return self.truth(*self.rvalue(node.expr), node), INT
         if target.kind != "pointer":
+            if target.kind == "void":
+                self.dropped.add(id(node.expr))
             inner, type_ = self.rvalue(node.expr)
             if type_.kind == "pointer" and target.kind != "void":
                 self.cannot(node, "a pointer as a number")

@@ -9,8 +9,7 @@ class Initialisers:
     """Initialisers: their order, braces and zeros."""
 
     def initialiser(self, type_, node):
-        if type_.kind == "array" and isinstance(node, A.InitList) and len(node.exprs or []) == 1 \
-                and is_string(node.exprs[0]) and type_.to.kind == "int" and SIZES.get(type_.to.name) == 1:
+        if isinstance(node, A.InitList) and self.is_braced_string(type_, node):
             return node.exprs[0]
         if type_.kind == "array" and is_string(node) or type_.kind == "union":
             return node
@@ -25,6 +24,11 @@ class Initialisers:
                 return A.Constant("int", "0", node.coord)
             node = node.exprs[0]
         return self.converted(node, type_)[0]
+
+    @staticmethod
+    def is_braced_string(type_, node):
+        return (type_.kind == "array" and len(node.exprs or []) == 1 and is_string(node.exprs[0])
+                and type_.to.kind == "int" and SIZES.get(type_.to.name) == 1)
 
     def member(self, type_, place):
         """The type of element or member number place, or None where there is none."""
@@ -41,9 +45,10 @@ class Initialisers:
                 return i
         return None
 
-    def braced(self, type_, items, at):
-        """A braced list: what is given for which element or member, as nodes and as mappings for what has parts."""
-        values, place, i = {}, 0, 0
+    def braced(self, type_, items, at, values=()):
+        """A braced list: what is given for which element or member, as nodes and as mappings for what has parts. Some may have
+        values from before (6.7.9 p19)."""
+        values, place, i = dict(values), 0, 0
         while i < len(items):
             item = items[i]
             if isinstance(item, A.NamedInitializer):
@@ -54,9 +59,13 @@ class Initialisers:
                     return values
                 if len(item.name) > 1:
                     inner = self.member(type_, place)
-                    old = values.get(place)
-                    part = self.braced(inner, [A.NamedInitializer(item.name[1:], item.expr, item.coord)], item)
-                    values[place] = {**(old if isinstance(old, dict) else {}), **part}
+                    old = values.get(place, {})
+                    if not isinstance(old, dict):
+                        self.cannot(item, "a designator into what a string or another object has initialised")
+                        return values
+                    values[place] = self.braced(inner, [A.NamedInitializer(item.name[1:], item.expr, item.coord)], item, old)
+                    if i + 1 < len(items) and not isinstance(items[i + 1], A.NamedInitializer) and not self.is_last(inner, item.name[1:]):
+                        self.cannot(items[i + 1], "an initialiser that goes on within a part that a designator names")
                     place, i = place + 1, i + 1
                     continue
                 items[i] = item.expr
@@ -68,11 +77,22 @@ class Initialisers:
             place += 1
         return values
 
+    def is_last(self, type_, designators):
+        """Whether nothing stands behind the part that the designators name, within this type."""
+        for designator in designators:
+            place = self.place(type_, designator)
+            if place is None or self.member(type_, place + 1) is not None:
+                return False
+            type_ = self.member(type_, place)
+        return True
+
     def part(self, type_, items, i):
         """What the next items give for one element or member."""
         item = items[i]
         if type_.kind not in ("array", "struct"):
             return (item[0] if isinstance(item, tuple) else self.initialiser(type_, item)), i + 1
+        if isinstance(item, A.InitList) and not self.is_braced_string(type_, item):
+            return self.braced(type_, list(item.exprs or []), item), i + 1
         if isinstance(item, A.InitList) or is_string(item) and type_.kind == "array" and type_.to.kind == "int":
             return self.initialiser(type_, item), i + 1
         if type_.kind == "struct" and not isinstance(item, (tuple, A.Constant)):
@@ -98,9 +118,6 @@ class Initialisers:
         for place in range(max(values) + 1):
             inner = self.member(type_, place)
             parts.append(self.built(inner, values[place], at) if place in values else self.zero(inner))
-        first = self.member(type_, 0)
-        if len(parts) == 1 and first.kind in ("array", "struct") and isinstance(parts[0], A.Constant) and not is_string(parts[0]):
-            parts = [self.zero(first)]
         return A.InitList(parts, at.coord)
 
     def zero(self, type_):

@@ -1,7 +1,9 @@
 """Statements and blocks."""
+import copy
+
 from pycparser import c_ast as A
 
-from adapting.kinds import chain_of, leaves
+from adapting.kinds import chain_of, identifiers, leaves
 
 LONGEST_CHAIN = 90  # links of else-if; the profile takes up to 197 where their bodies are blocks, with nothing round them
 
@@ -16,6 +18,9 @@ class Statements:
         items = list(first)
         for item in node.block_items or []:
             items += self.statement(item)
+        if items and isinstance(items[-1], (A.Case, A.Default)) and not items[-1].stmts:
+            self.note(items[-1], "a ; is put behind the label")
+            items[-1].stmts = [A.EmptyStatement(items[-1].coord)]
         if not is_body:
             self.scopes.pop()
             self.tags.pop()
@@ -31,7 +36,7 @@ class Statements:
             return method(node)
         if isinstance(node, A.Compound):
             return [self.block(node)]
-        self.whole = node
+        self.whole, self.dropped = node, {id(node)}
         return self.with_before(node, lambda n: [self.expression(n)[0]], True)
 
     def with_before(self, node, make, is_block):
@@ -107,7 +112,9 @@ class Statements:
             decls = [d for decl in first.decls for d in self.declaration(decl)]
             first = A.DeclList(decls, first.coord) if decls else None
         elif first is not None:
+            self.dropped.add(id(first))
             first = self.expression(first)[0]
+        self.dropped.add(id(node.next))
         test, step = self.test(node.cond), self.test(node.next)
         body = self.one(node.stmt)
         self.scopes.pop()
@@ -120,7 +127,7 @@ class Statements:
 
     def labelled(self, node, stmts):
         new = [s for stmt in stmts or [] for s in self.statement(stmt)]
-        if not new or isinstance(new[0], (A.Decl, A.Typedef)):
+        if new and isinstance(new[0], (A.Decl, A.Typedef)):
             self.note(node, "a ; is put behind the label")
             new.insert(0, A.EmptyStatement(node.coord))
         return new
@@ -136,12 +143,42 @@ class Statements:
 
     do_Continue = do_Break
 
+    def find_tails(self, body):
+        """For each label directly in a function's body: its place, the statements from it to the first that surely leaves, as
+        they are before any change, and the names that are declared before it."""
+        self.tails, declared = {}, set()
+        items = body.block_items or []
+        for i, item in enumerate(items):
+            if isinstance(item, A.Decl):
+                declared.add(item.name)
+            if isinstance(item, A.Label):
+                self.tails[item.name] = (i, copy.deepcopy(until_it_leaves([item.stmt] + items[i + 1:])), set(declared))
+
     def do_Goto(self, node):
-        self.cannot(node, f"goto {node.name}: write a loop, or a function that returns")
-        return [node]
+        """A jump on to a place further on becomes a copy of what stands from there to the end."""
+        place, tail, declared = self.tails.get(node.name, (0, None, None))
+        if tail is None:
+            self.cannot(node, f"goto {node.name}: it leads back, or to no label of the function's own block")
+            return [node]
+        used = set().union(*(identifiers(item) for item in tail))
+        hidden = {name for scope in self.scopes[2:] for name in scope}
+        if used & hidden or (used & declared) - set(self.scopes[1]):
+            self.cannot(node, f"goto {node.name}: names have another meaning there")
+            return [node]
+        if not isinstance(tail[-1], (A.Return, A.Goto)):
+            if self.result.kind != "void":
+                self.cannot(node, f"goto {node.name}: no return stands at the end")
+                return [node]
+            tail = tail + [A.Return(None, node.coord)]
+        self.note(node, f"goto {node.name} becomes a copy of what stands from the label to the end")
+        kept, self.tails = self.tails, {name: other for name, other in self.tails.items() if other[0] > place}
+        copied = self.block(A.Compound(copy.deepcopy(tail), node.coord))
+        self.tails = kept
+        return [copied]
 
     def do_Label(self, node):
-        self.cannot(node, f"the label {node.name}")
+        self.note(node, f"the label {node.name} dropped")
+        self.tails.pop(node.name, None)  # a goto behind it would lead back
         return self.statement(node.stmt)
 
     def do_Return(self, node):
@@ -160,3 +197,16 @@ class Statements:
         """What a function does that gives a struct: it stores it, and returns."""
         stored = A.Assignment("=", A.UnaryOp("*", A.ID(self.result_name)), self.expression(node.expr)[0], node.coord)
         return [A.Compound([stored, A.Return(None, node.coord)], node.coord)]
+
+
+def until_it_leaves(items):
+    """Statements up to the first return or goto among them, labels aside."""
+    found = []
+    for item in items:
+        found.append(item)
+        while isinstance(item, A.Label):
+            item = item.stmt
+        if isinstance(item, (A.Return, A.Goto)):
+            found[-1] = item
+            break
+    return found
