@@ -3,6 +3,7 @@ use Rattle.std.proofs.Common.{◌≡◌, ℕ, List, Option, sym, ap, ◌∙◌}
 use Rattle.im_io.specs.Shelf.{ShelfState}
 use Rattle.im_store.specs.Outcomes.{Outcome as EndOfRun}
 use Rattle.im_typed.specs.declared.program.Prog.{Prog}
+use Rattle.im_typed.specs.Program.{Prog as Program}
 use Rattle.im_typed.specs.ProgramOf.{program_of}
 use Rattle.im_lower_plain.specs.MakeUnit.{KnowsTypes}
 use Rattle.im_eval_machine.specs.Settings.{HasKnownTypes}
@@ -30,7 +31,7 @@ evaluation_done source building asked prog built input end a b c h takes e = rec
   compiles = h.compiles;
   input = input;
   takes = takes;
-  is_meaning = e ∙ ap (λ (p : Prog). meaning_of (program_of p) (frames_of built) built.image input asked.fuel) (sym h.is_made);
+  is_meaning = e ∙ ap (λ (p : Program). meaning_of p (frames_of built) built.image input asked.fuel) (sym h.is_made);
 }
 
 pub evaluation_starved : (source : List ℕ) (building : BuildOptions) (asked : Evaluation) (prog : Prog) (built : Built) (input : List ℕ) (a b c : ShelfState)

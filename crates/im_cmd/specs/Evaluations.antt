@@ -3,7 +3,6 @@ use Rattle.std.specs.Prelude.{◌≡◌, ℕ, ◌==◌, Bool, true, false, List,
 use Rattle.im_io.specs.Shelf.{ShelfState}
 use Rattle.im_num.specs.Variables.{Variable}
 use Rattle.im_store.specs.Outcomes.{Outcome as EndOfRun, Undef, More, End}
-use Rattle.im_typed.specs.ProgramOf.{program_of}
 use Rattle.im_keeps.specs.Keeps.{output_in}
 use Rattle.im_keeps_source.specs.Laws.{meaning_of}
 use Rattle.im_compile.specs.declared.built.Built.{Built}
@@ -26,7 +25,7 @@ pub record Evaluates (source : List ℕ) (building : BuildOptions) (evaluation :
   pub compiles : Compiles source building built old read
   pub input : List ℕ
   pub takes : TakesInput evaluation.input input read new
-  pub is_meaning : end ≡ meaning_of (program_of compiles.is_built.compiled.made) (frames_of built) built.image input evaluation.fuel
+  pub is_meaning : end ≡ meaning_of compiles.is_built.compiled.prog (frames_of built) built.image input evaluation.fuel
 
 -- why it isn't evaluated
 pub data RefusesEvaluation (source : List ℕ) (building : BuildOptions) (evaluation : Evaluation) (old new : ShelfState) : Refused → Type 0 where

@@ -21,6 +21,7 @@ use Rattle.im_cmd_words.specs.Named.{Options}
 use Rattle.im_cmd_lines.specs.Refusals.{Refused, CannotRead, FileTooLong, BadSource, CannotWrite, InputTooLong, NoMemory, refusal_line}
 use Rattle.im_cmd.specs.Files.{Unchanged, StoresPart}
 use Rattle.im_typed.specs.declared.program.Prog.{Prog}
+use Rattle.im_typed.specs.ProgramOf.{program_of}
 use Rattle.im_compile.specs.declared.built.Built.{Built}
 use Rattle.im_compile.specs.Passed.{IsSource}
 use Rattle.im_cmd_words.specs.declared.command.BuildOptions.{BuildOptions}
@@ -39,13 +40,13 @@ variables_of items = option_map (λ vars. map variable_of (items vars))
 -- what was built of a text is of this program, which can be evaluated
 pub record IsBuiltFrom (text : List ℕ) (building : BuildOptions) (prog : Prog) (built : Built) : Type 0 where
   pub is_built : IsBuilt text building built
-  pub is_made : is_built.compiled.made ≡ prog
+  pub is_made : is_built.compiled.prog ≡ program_of prog
   pub is_source : IsSource prog
 
 -- and of a source
 pub record CompilesFrom (source : List ℕ) (building : BuildOptions) (prog : Prog) (built : Built) (old new : ShelfState) : Type 0 where
   pub compiles : Compiles source building built old new
-  pub is_made : compiles.is_built.compiled.made ≡ prog
+  pub is_made : compiles.is_built.compiled.prog ≡ program_of prog
   pub is_source : IsSource prog
 
 -- why the text of that file isn't compiled

@@ -19,8 +19,9 @@ use Rattle.im_check.specs.Checked.{IsCheckFault}
 use Rattle.im_compile.specs.declared.fault.CompileFault.{CompileFault}
 use Rattle.im_compile.specs.declared.fault.CompileFault.TheVariants as compile
 use Rattle.im_compile.specs.Faults.{IsFaultOf}
-use Rattle.im_driver.specs.Compiled.{IsTreeOf, IsProgramOf, IsRefused, IsLineRefused}
-use Rattle.im_driver.specs.Steps.{fault_at, of_compile}
+use Rattle.im_keeps_built.specs.Laws.{RefusedLaw}
+use Rattle.im_driver.specs.Compiled.{IsTreeOf, IsRefused, IsLineRefused}
+use Rattle.im_driver.specs.Steps.{IsReady, fault_at, of_compile}
 
 line_refused : (source : List ℕ) (line : ℕ) (why : LineFault) → IsWrong source line why → IsLineRefused source line why
 line_refused source line BadByte h = h
@@ -51,8 +52,8 @@ check_refused source tokens tree (check.Limit which.Size count) is_tree h = reco
 check_refused source tokens tree (check.Limit which.Statics count) is_tree h = record { tokens = tokens; tree = tree; is_tree = is_tree; exceeds = h.0; sizes = h.1 }
 check_refused source tokens tree check.OutOfMemory is_tree h = tt
 
-pub made_refused : (source : List ℕ) (made : Prog) (fault : CompileFault) → IsProgramOf source (program_of made) → IsFaultOf made fault → IsRefused source (of_compile fault)
-made_refused source made (compile.Frame function bytes) p h = record { made = made; program = p; large = (function, h) }
-made_refused source made (compile.Code bytes) p h = record { made = made; program = p; large = h }
-made_refused source made (compile.Unnamed number) p h = record { made = made; program = p; number = number; unnamed = h }
-made_refused source made compile.OutOfMemory p h = tt
+pub made_refused : RefusedLaw → (source : List ℕ) (made : Prog) (fault : CompileFault) → IsReady source made → IsFaultOf made fault → IsRefused source (of_compile fault)
+made_refused law source made (compile.Frame function bytes) r h = record { prog = program_of made; program = r.program; function = function; large = law.frame made function bytes r.is_source h }
+made_refused law source made (compile.Code bytes) r h = record { prog = program_of made; program = r.program; large = law.code made bytes r.is_source h }
+made_refused law source made (compile.Unnamed number) r h = record { prog = program_of made; program = r.program; number = number; unnamed = law.named made number r.is_source h }
+made_refused law source made compile.OutOfMemory r h = tt

@@ -1,11 +1,13 @@
 -- What is compiled of a source, and why it is refused.
-use Rattle.std.specs.Prelude.{◌≡◌, ◌≤◌, ℕ, ◌+◌, List, length, Ok, Some, slice_get}
+use Rattle.std.specs.Prelude.{◌≡◌, ◌≤◌, ℕ, ◌+◌, ◌*◌, ℤ, List, length, map, Ok, Some, slice_get}
 use Rattle.im_fault.specs.declared.fault.LineFault.{LineFault}
 use Rattle.im_fault.specs.declared.fault.LineFault.TheVariants.{BadByte, OpenComment, OpenLiteral, BadEscape, BadNumber, BadDirective, Syntax, Nesting, Rule}
 use Rattle.im_fault.specs.declared.fault.Quantity.{Quantity}
 use Rattle.im_fault.specs.declared.fault.Quantity.TheVariants.{Source, Parameters, Size, Statics, Frame, Code}
 use Rattle.im_fault.specs.declared.fault.SourceFault.{SourceFault}
 use Rattle.im_fault.specs.declared.fault.SourceFault.TheVariants.{Line, Limit, NotYet, OutOfMemory}
+use Rattle.im_num.specs.Variables.{Variable}
+use Rattle.im_store.specs.Outcomes.{End}
 use Rattle.im_tok.specs.declared.token.Token.{Token}
 use Rattle.im_lex.specs.Lexing.{Lexes}
 use Rattle.im_ctree.specs.declared.unit.Tree.{Tree}
@@ -13,7 +15,7 @@ use Rattle.im_ctree.specs.Shape.{tree_of}
 use Rattle.im_parse.specs.Spelling.{IsParsedText}
 use Rattle.im_front.specs.Reading.{IsWrong, IsOver, line_of_token}
 use Rattle.im_typed.specs.Program.{Prog, Func}
-use Rattle.im_typed.specs.Counts.{func_need}
+use Rattle.im_typed.specs.Counts.{func_need, prog_nodes}
 use Rattle.im_typed.specs.declared.frames.Frame.{Frame as FrameOf}
 use Rattle.im_typed.specs.declared.program.Prog.{Prog as MadeProgram}
 use Rattle.im_typed.specs.ProgramOf.{program_of}
@@ -24,11 +26,12 @@ use Rattle.im_check.specs.Checked.{HasNoLargeType}
 use Rattle.im_compile.specs.declared.options.Options.{Options}
 use Rattle.im_compile.specs.declared.built.Built.{Built}
 use Rattle.im_compile.specs.Passed.{IsSource}
-use Rattle.im_compile.specs.Built.{IsBuilt}
-use Rattle.im_compile.specs.Faults.{HasLargeFrame, HasLargeCode, HasUnnamed}
-use Rattle.im_gap.specs.Gap.{recovery_steps}
-use Rattle.im_keeps_built.specs.im_keeps_source.Laws.{ProgramKeeps}
-use Rattle.im_keeps_built.specs.Laws.{frames_of}
+use Rattle.im_gap.specs.Gap.{recovery_steps, IsGap}
+use Rattle.im_keeps.specs.Keeps.{IsInput, IsRightFor, Keeps}
+use Rattle.im_keeps_passes.specs.Laws.{Survives, KeepsUninterrupted, ReachesUninterrupted}
+use Rattle.im_keeps_source.specs.Laws.{meaning_of}
+use Rattle.im_keeps_built.specs.Cuts.{AreCuts}
+use Rattle.im_keeps_built.specs.Laws.{frames_of, IsLargeFrame, IsLargeCode, HasNoName}
 
 -- the tree that a source's tokens spell
 pub record IsTreeOf (source : List ℕ) (tokens : List Token) (tree : Tree) : Type 0 where
@@ -53,23 +56,38 @@ pub record AreFrames (functions : List Func) (frames : List FrameOf) : Type 0 wh
   pub count : length frames ≡ length functions
   pub each : (i : ℕ) (f : Func) (frame : FrameOf) → slice_get functions i ≡ Some f → slice_get frames i ≡ Some frame → IsFrameOf f frame
 
--- the image keeps the meaning of the source's program, with the frames and the gap that are told: the headline
+-- the names of the program's functions, in the order of their definitions
+abbrev pub names_of : List Func → List (List ℕ)
+names_of functions = map (λ (f : Func). f.name) functions
+
+-- What is told of a source's image is so of it. The meaning is that of the source's program, with the frames that are told.
 pub record IsCompiled (source : List ℕ) (options : Options) (built : Built) : Type 0 where
-  pub made : MadeProgram
-  pub program : IsProgramOf source (program_of made)
-  pub keeps : ProgramKeeps (program_of made) (frames_of built) built.image built.gap
-  pub frames : AreFrames (program_of made).funcs built.frames.frames.items
+  pub prog : Prog
+  pub program : IsProgramOf source prog
+  -- the headline
+  pub keeps : Keeps (meaning_of prog (frames_of built) built.image) built.image built.gap
+  -- each moment under losses of power is one of the run without losses, wherever the source is right, also if it never ends
+  pub survives : (input : List ℕ) → IsInput input → IsRightFor (meaning_of prog (frames_of built) built.image) input → Survives built.image built.gap input
+  -- with power that never fails, whichever word the registers hold when it comes
+  pub ending : (input : List ℕ) (fuel reason : ℕ) (status : ℤ) (output : List ℕ) (variables : List Variable) → IsInput input →
+      meaning_of prog (frames_of built) built.image input fuel ≡ End reason status output variables → KeepsUninterrupted built.image built.gap input fuel reason status output variables
+  pub reaching : (input : List ℕ) → IsInput input → IsRightFor (meaning_of prog (frames_of built) built.image) input →
+      ReachesUninterrupted (meaning_of prog (frames_of built) built.image) built.image built.gap input
+  -- what is told: K is the longest gap of the image's code, W its words; each function's frame; the cuts
+  pub measure : IsGap built.image.words built.image.entry built.gap
+  pub short : built.gap ≤ recovery_steps + length built.image.words
+  pub small : 4 * length built.image.words ≤ 4096 + 256 * prog_nodes prog
+  pub frames : AreFrames prog.funcs built.frames.frames.items
+  pub cuts : AreCuts (names_of prog.funcs) built.image.words built.cuts.items
+  -- what was asked for
   pub stack_is : built.image.stack ≡ options.stack
   pub out_cap_is : built.image.out_cap ≡ options.out_cap
-  pub short : built.gap ≤ recovery_steps + length built.image.words
-  -- pass by pass; the cuts that are told are those of the linked code, by address
-  pub passes : IsBuilt made options built
 
--- the same of this program, which can be evaluated: it is well typed, and the types of its objects are in its table
-pub record IsCompiledFrom (source : List ℕ) (options : Options) (prog : MadeProgram) (built : Built) : Type 0 where
+-- the same of this program as it was made, which can be evaluated: it is well typed, and the types of its objects are in its table
+pub record IsCompiledFrom (source : List ℕ) (options : Options) (made : MadeProgram) (built : Built) : Type 0 where
   pub compiled : IsCompiled source options built
-  pub is_made : compiled.made ≡ prog
-  pub is_source : IsSource prog
+  pub is_made : compiled.prog ≡ program_of made
+  pub is_source : IsSource made
 
 -- a node of the source's tree, whose first token is of this line, breaks the rule
 pub record IsRuleBroken (source : List ℕ) (line rule : ℕ) : Type 0 where
@@ -94,11 +112,18 @@ pub record IsExceededByStatics (source : List ℕ) (count : ℕ) : Type 0 where
   pub exceeds : limits.Exceeds (tree_of tree) limits.of_statics count
   pub sizes : HasNoLargeType (tree_of tree)
 
--- what is made of the source's program is larger than it may be
-pub record IsMadeTooLarge (source : List ℕ) (is_large : MadeProgram → Type 0) : Type 0 where
-  pub made : MadeProgram
-  pub program : IsProgramOf source (program_of made)
-  pub large : is_large made
+-- a function of the source's program has a frame of so many bytes: more than 65536, and no more than it may need
+pub record IsFrameRefused (source : List ℕ) (count : ℕ) : Type 0 where
+  pub prog : Prog
+  pub program : IsProgramOf source prog
+  pub function : ℕ
+  pub large : IsLargeFrame prog function count
+
+-- the code of the source's program has so many bytes: more than 1044480, and no more than 4096 and 256 for each node
+pub record IsCodeRefused (source : List ℕ) (count : ℕ) : Type 0 where
+  pub prog : Prog
+  pub program : IsProgramOf source prog
+  pub large : IsLargeCode prog count
 
 abbrev pub IsLineRefused : List ℕ → ℕ → LineFault → Type 0
 IsLineRefused source line (Rule number) = IsRuleBroken source line number
@@ -109,15 +134,15 @@ IsLimitRefused source Source count = IsOver source Source count
 IsLimitRefused source Parameters count = IsExceeded source limits.of_parameters count
 IsLimitRefused source Size count = IsExceeded source limits.of_size count
 IsLimitRefused source Statics count = IsExceededByStatics source count
-IsLimitRefused source Frame count = IsMadeTooLarge source (λ made. (function : ℕ) × HasLargeFrame made function count)
-IsLimitRefused source Code count = IsMadeTooLarge source (λ made. HasLargeCode made count)
+IsLimitRefused source Frame count = IsFrameRefused source count
+IsLimitRefused source Code count = IsCodeRefused source count
 
--- a static of the source's program has no name that an image can have
+-- a static of the source's program has no cell, or no name that an image can have
 pub record IsUnnamed (source : List ℕ) : Type 0 where
-  pub made : MadeProgram
-  pub program : IsProgramOf source (program_of made)
+  pub prog : Prog
+  pub program : IsProgramOf source prog
   pub number : ℕ
-  pub unnamed : HasUnnamed made number
+  pub unnamed : HasNoName prog number
 
 -- why a source isn't compiled
 abbrev pub IsRefused : List ℕ → SourceFault → Type 0

@@ -7,6 +7,7 @@ use crate::checking::typed_program;
 use crate::laws::kept_law;
 use im_compile::{Built, CompileFault, Options, compile as compile_program, compile_owned};
 use im_fault::{Quantity, SourceFault};
+use im_keeps_built::refused_law;
 use im_typed::Prog;
 use std::alloc::Global;
 
@@ -50,6 +51,7 @@ pub fn compile_whole(
         (λ whole. IsCompiledFrom source.now options whole.prog whole.built) (IsRefused source.now) }
 {
     kept_law();
+    refused_law();
     let prog = typed_program(alloc, source)?;
     match compile_program(alloc, &prog, options) {
         Ok(built) => Ok(Compiled { prog, built }),
@@ -66,6 +68,7 @@ pub fn compile(alloc: Global, source: &[u8], options: Options) -> Result<Built, 
     ensures { MatchResult result (IsCompiled source.now options) (IsRefused source.now) }
 {
     kept_law();
+    refused_law();
     let prog = typed_program(alloc, source)?;
     match compile_owned(alloc, prog, options) {
         Ok(built) => Ok(built),

@@ -1,9 +1,6 @@
 ghost use Rattle.im_driver.specs.Steps.{KeptLaw, ProgramLaw, WrittenLaw};
 
-use im_alloc_laws::placed_code_law;
-use im_force::force_keeps_law;
 use im_keeps_built::built_keeps_law;
-use im_recut::recut_keeps_law;
 use im_rules_sound_spelt::{spelt_law, words_law};
 
 /// The tree of a source is as the checker wants it.
@@ -27,7 +24,4 @@ pub(crate) fn kept_law()
     ensures { KeptLaw }
 {
     built_keeps_law();
-    force_keeps_law();
-    placed_code_law();
-    recut_keeps_law();
 }

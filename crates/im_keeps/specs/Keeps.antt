@@ -66,13 +66,14 @@ Commits image gap input = (periods : List Period) (n junk mask : ℕ) → gap �
 -- the source ends on this input with so much fuel: whatever the periods, the output is always a prefix of the source's,
 -- and never shrinks; at a halt output, reason, status and variables are exactly the source's; more than (2 fuel + 2) W
 -- periods of at least gap instructions, with any others among them, reach the halt, W being the image's words, and each
--- of them commits or ends the run; and no machine fault comes
+-- of them commits or ends the run; there are never more than (2 fuel + 1) W commits; and no machine fault comes
 pub record KeepsEnd (image : ImageValue) (gap : ℕ) (input : List ℕ) (fuel reason : ℕ) (status : ℤ) (output : List ℕ) (variables : List Variable) : Type 0 where
   pub always : (periods : List Period) → Begins (output_of image.form (device_after image input periods).mem) output
   pub exact : (periods : List Period) → (device_after image input periods).went ≡ Halted → Shows image (device_after image input periods).mem reason status output variables
   pub grows : Grows image input
   pub halts : (periods : List Period) → (2 * fuel + 2) * length image.words < long_periods gap periods → (device_after image input periods).went ≡ Halted
   pub commits : Commits image gap input
+  pub few : (periods : List Period) → (device_after image input periods).commits ≤ (2 * fuel + 1) * length image.words
   pub safe : (periods : List Period) (at : ℕ) → (device_after image input periods).went ≡ Faulted at → ⊥
 
 -- an end of the source on this input
@@ -97,8 +98,8 @@ pub record KeepsOn (meaning : Meaning) (image : ImageValue) (gap : ℕ) (input :
   pub reaches : (fuel : ℕ) (periods : List Period) → (2 * fuel + 2) * length image.words < long_periods gap periods →
       Begins (output_in (meaning input fuel)) (output_of image.form (device_after image input periods).mem)
 
--- the written image keeps the meaning, for every input and every list of periods, whatever the registers at power-up and
--- whichever bytes of a store power lets through
+-- the written image keeps the meaning, for every input and every list of periods, whichever word all registers but x0 hold
+-- when power comes, another each time, and whichever bytes of a store power lets through
 pub record Keeps (meaning : Meaning) (image : ImageValue) (gap : ℕ) : Type 0 where
   pub ending : (input : List ℕ) (fuel reason : ℕ) (status : ℤ) (output : List ℕ) (variables : List Variable) → IsInput input →
       meaning input fuel ≡ End reason status output variables → KeepsEnd image gap input fuel reason status output variables

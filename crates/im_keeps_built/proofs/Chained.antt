@@ -42,7 +42,7 @@ needs_fit (f ∷ fs) (c ∷ cs) count are told =
     let small : c.need < 2 ^ 64 - 1 = All-head IsTold c cs told in
     (omega (arith, need, small), needs_fit fs cs rest (λ k x y a b. are (suc k) x y a b) (All-tail IsTold c cs told))
 
-fit : (prog : Prog) (code : Code) → IsPassed prog code → NeedsFit (program_of prog)
+pub fit : (prog : Prog) (code : Code) → IsPassed prog code → NeedsFit (program_of prog)
 fit prog code passed = record {
   functions = needs_fit (program_of prog).funcs passed.lowered.functions.items passed.lower.count
       (λ k f c a b. (passed.lower.functions k f c a b).need) passed.told;

@@ -9,6 +9,7 @@ use Rattle.im_keeps_source.specs.Laws.{ProgramKeeps, ProgramKeepsLaw}
 use Rattle.im_compile.specs.Built.{bytes_of}
 use Rattle.im_keeps_built.specs.Laws.{BuiltSelectsLaw, BuiltKeepsLaw}
 use Rattle.im_keeps_built.proofs.Chained.{no_tags, gap_of, chain}
+use Rattle.im_keeps_built.proofs.Cuts.{cuts_of}
 
 pub kept : BuiltSelectsLaw → LowersLaw → MiddleLaw → ProgramKeepsLaw → GapBoundLaw → BuiltKeepsLaw
 kept selects lowers middle keeps bound prog options built source b =
@@ -19,4 +20,6 @@ kept selects lowers middle keeps bound prog options built source b =
       keeps = subst (λ (l : List ℕ). ProgramKeeps (program_of prog) l built.image built.gap) (sym b.frames.sizes)
           (keeps (program_of prog) (bytes_of b.layouts) built.image built.gap source.typed passes);
       gap = bound built.image.words built.image.entry built.gap (gap_of prog options built b);
+      measure = gap_of prog options built b;
+      cuts = cuts_of prog options built b;
     }

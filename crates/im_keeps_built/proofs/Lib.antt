@@ -1,3 +1,6 @@
+mod Marked
+mod Cuts
 mod Selected
 mod Chained
 mod Kept
+mod Refused

@@ -1,15 +1,22 @@
 -- What is built of a program keeps it.
-use Rattle.std.specs.Prelude.{ℕ, ◌+◌, ◌≤◌, List, length, map}
-use Rattle.im_gap.specs.Gap.{recovery_steps}
+use Rattle.std.specs.Prelude.{◌≡◌, ℕ, ◌+◌, ◌*◌, ◌<◌, ◌≤◌, ◌^◌, ◌&&◌, nat_lt, Bool, false, List, length, map, Some, slice_get}
+use Rattle.im_gap.specs.Gap.{recovery_steps, IsGap}
+use Rattle.std.specs.List.{list_all}
+use Rattle.im_image.specs.Contents.{is_name_byte}
+use Rattle.im_store.specs.Statics.{StaticObject}
 use Rattle.im_typed.specs.declared.frames.Frame.{Frame}
 use Rattle.im_typed.specs.declared.program.Prog.{Prog}
 use Rattle.im_typed.specs.ProgramOf.{program_of}
+use Rattle.im_typed.specs.Program.{Func, Prog as Program}
+use Rattle.im_typed.specs.Counts.{func_need, prog_nodes}
 use Rattle.im_pack_image_laws.specs.im_keeps_passes.Passes.{Selects}
 use Rattle.im_keeps_source.specs.Laws.{ProgramKeeps}
 use Rattle.im_compile.specs.declared.options.Options.{Options}
 use Rattle.im_compile.specs.declared.built.Built.{Built}
 use Rattle.im_compile.specs.Passed.{IsSource}
 use Rattle.im_compile.specs.Built.{IsBuilt, bytes_of}
+use Rattle.im_compile.specs.Faults.{HasLargeFrame, HasLargeCode, HasUnnamed}
+use Rattle.im_keeps_built.specs.Cuts.{AreCuts}
 
 -- the bytes of each function's frame
 abbrev pub frames_of : Built → List ℕ
@@ -20,13 +27,43 @@ BuiltSelectsLaw =
     (prog : Prog) (options : Options) (built : Built) → IsSource prog → (b : IsBuilt prog options built) →
     Selects b.code (bytes_of b.layouts) built.image
 
--- Keeps: for every input and every list of periods; and what follows where power never fails
+-- Keeps: for every input and every list of periods; and what follows where power never fails; the gap that is told is the
+-- longest of the image's code, and the cuts are that code's
 pub record BuiltKeeps (prog : Prog) (built : Built) : Type 0 where
   pub keeps : ProgramKeeps (program_of prog) (frames_of built) built.image built.gap
   -- the longest gap has at most an instruction for each word of the code, beside those of recovery
   pub gap : built.gap ≤ recovery_steps + length built.image.words
+  pub measure : IsGap built.image.words built.image.entry built.gap
+  pub cuts : AreCuts (map (λ (f : Func). f.name) (program_of prog).funcs) built.image.words built.cuts.items
 
 abbrev pub BuiltKeepsLaw : Type 0
 BuiltKeepsLaw =
     (prog : Prog) (options : Options) (built : Built) → IsSource prog → IsBuilt prog options built →
     BuiltKeeps prog built
+
+-- a function's frame has more bytes than a frame may have, and no more than it may need
+pub record IsLargeFrame (prog : Program) (i bytes : ℕ) : Type 0 where
+  pub f : Func
+  pub is_function : slice_get prog.funcs i ≡ Some f
+  pub large : 65536 < bytes
+  pub need : bytes ≤ func_need f
+
+-- the code has more bytes than there are between 0x1000 and 0x100000, and no more than its nodes may need
+pub record IsLargeCode (prog : Program) (bytes : ℕ) : Type 0 where
+  pub large : 1044480 < bytes
+  pub nodes : bytes ≤ 4096 + 256 * prog_nodes prog
+
+-- an image can name a static that has a cell, and a name of letters, digits, _ and $, shorter than 2^32
+abbrev pub can_be_named : StaticObject → Bool
+can_be_named s = nat_lt 0 (length s.cells) && nat_lt 0 (length s.name) && nat_lt (length s.name) (2 ^ 32) && list_all is_name_byte s.name
+
+pub record HasNoName (prog : Program) (n : ℕ) : Type 0 where
+  pub s : StaticObject
+  pub is_static : slice_get prog.statics n ≡ Some s
+  pub cannot : can_be_named s ≡ false
+
+-- a program that is refused by what is made of it is one that may need so much, by its own counts, or has such a static
+pub record RefusedLaw : Type 0 where
+  pub frame : (prog : Prog) (i bytes : ℕ) → IsSource prog → HasLargeFrame prog i bytes → IsLargeFrame (program_of prog) i bytes
+  pub code : (prog : Prog) (bytes : ℕ) → IsSource prog → HasLargeCode prog bytes → IsLargeCode (program_of prog) bytes
+  pub named : (prog : Prog) (n : ℕ) → IsSource prog → HasUnnamed prog n → HasNoName (program_of prog) n

@@ -1,11 +1,11 @@
-ghost use Rattle.im_keeps_built.specs.Laws.{BuiltKeepsLaw, BuiltSelectsLaw};
+ghost use Rattle.im_keeps_built.specs.Laws.{BuiltKeepsLaw, BuiltSelectsLaw, RefusedLaw};
 
 use im_alloc_laws::placed_code_law;
 use im_compile::ready_law;
 use im_gap_bound::gap_bound_law;
 use im_keeps_middle::middle_law;
 use im_keeps_source::program_keeps_law;
-use im_link_laws::linkable_law;
+use im_link_laws::{linkable_law, words_law};
 use im_lower_passes_laws::lowers_law;
 use im_pack_image_laws::selects_law;
 use im_recut::recut_keeps_law;
@@ -34,4 +34,14 @@ pub fn built_keeps_law()
     middle_law();
     program_keeps_law();
     gap_bound_law();
+}
+
+/// A program that is refused by a frame or by the code that is made of it is one that may need so
+/// much, by its own counts.
+pub fn refused_law()
+    ensures { RefusedLaw }
+{
+    lowers_law();
+    middle_law();
+    words_law();
 }

@@ -3,4 +3,4 @@
 
 mod laws;
 
-pub use laws::{built_keeps_law, built_selects_law};
+pub use laws::{built_keeps_law, built_selects_law, refused_law};

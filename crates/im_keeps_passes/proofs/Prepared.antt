@@ -2,7 +2,9 @@
 use Rattle.std.proofs.Common.{◌≡◌, ℕ, zero, suc, ◌*◌, ◌≤◌, List, [], ◌∷◌, map, length, Some, None, sym, ap, ◌∙◌, subst, arith}
 use Rattle.std.specs.Prelude.{slice_get}
 use Rattle.im_block.specs.declared.unit.Function.{Function}
+use Rattle.im_block.specs.declared.unit.Static.{Static as StaticOf}
 use Rattle.im_block.specs.declared.unit.Unit.{Unit as Code}
+use Rattle.im_block.specs.Meaning.{static_of, statics_of}
 use Rattle.im_block.specs.Shape.{sum_of, function_cost, placed_cost}
 use Rattle.im_block.specs.Uncut.{SameButCuts}
 use Rattle.im_block_laws.specs.Laws.{CutsKeepCodeLaw}
@@ -14,7 +16,7 @@ use Rattle.im_keeps_passes.specs.Source.{Source}
 use Rattle.im_keeps_passes.specs.Passes.{needs_of, Prepares}
 use Rattle.im_keeps_passes.specs.Laws.{CodeBounds, CodeBoundsLaw}
 use Rattle.im_keeps_passes.proofs.Bounds.{sums_same}
-use Rattle.im_keeps_passes.proofs.Units.{all_at, needs_kept}
+use Rattle.im_keeps_passes.proofs.Units.{all_at, statics_kept, needs_kept}
 
 need_at : (fs : List Function) (i need : ℕ) (f : Function) → slice_get (map (λ (g : Function). g.need) fs) i ≡ Some need → slice_get fs i ≡ Some f → f.need ≡ need
 need_at [] i need f n e = let bad : None ≡ Some f = e in cc
@@ -38,6 +40,10 @@ module _ (keep : CutsKeepCodeLaw) (places : CutsKeepPlacesLaw) (force : ForceKee
   needs_are =
       needs_kept p.placed code p.recut.same ∙ p.place.needs ∙ needs_kept p.forced p.trimmed p.cut.same ∙ needs_kept p.lowered p.forced forced_same ∙ p.lower.needs
 
+  statics_are : statics_of code ≡ source.statics
+  statics_are =
+      statics_kept p.placed code p.recut.same ∙ ap (λ (l : List StaticOf). map static_of l) p.place.statics ∙ statics_kept p.forced p.trimmed p.cut.same ∙ statics_kept p.lowered p.forced forced_same ∙ p.lower.statics
+
   cost_same : (old new : Code) → SameButCuts old new → sum_of function_cost new.functions.items ≡ sum_of function_cost old.functions.items
   cost_same old new same = sums_same function_cost (λ f g s. (keep.costs f g s).cost) old.functions.items new.functions.items same.functions
 
@@ -58,6 +64,7 @@ module _ (keep : CutsKeepCodeLaw) (places : CutsKeepPlacesLaw) (force : ForceKee
     apart = p.recut.apart (p.place.apart (p.cut.apart (force.apart p.lowered p.forced p.force p.lower.uncut)));
     cost = cost;
     needs = needs_are;
+    statics = statics_are;
     frames_fit = λ i need f n e.
         let fits = (all_at (IsPlacedFunction (length code.statics.items)) code.functions.items i f placed.functions e).fits in
         let same = need_at code.functions.items i need f (ap (λ ns. slice_get ns i) needs_are ∙ n) e in

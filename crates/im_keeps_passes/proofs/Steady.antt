@@ -1,4 +1,4 @@
--- One endless period, whatever the registers when power comes: memory is that of the run that began with 0 in all registers.
+-- One endless period, whichever word the registers hold when power comes: memory is that of the run that began with 0 in all registers.
 use Rattle.std.proofs.Common.{◌≡◌, ◌≢◌, ℕ, zero, suc, ◌+◌, ◌-◌, ◌<◌, ◌≤◌, ◌⊎◌, inl, inr, Bool, true, false, cond, [], refl, sym, ap, ◌∙◌, subst, arith}
 use Rattle.std.specs.Prelude.{nat_eq, Option, unwrap_or}
 use Rattle.im_mem.specs.Memory.{Mem}

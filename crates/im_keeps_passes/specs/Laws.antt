@@ -14,6 +14,7 @@ use Rattle.im_keeps_run.specs.Laws.{run_of}
 use Rattle.im_keeps_passes.specs.Source.{Source, IsRightSource}
 use Rattle.im_block.specs.declared.unit.Function.{Function}
 use Rattle.im_block.specs.declared.unit.Unit.{Unit as Code}
+use Rattle.im_block.specs.Meaning.{statics_of}
 use Rattle.im_block.specs.Shape.{sum_of, placed_cost}
 use Rattle.im_alloc_placed.specs.Apart.{AllApart}
 use Rattle.im_alloc_placed.specs.Placed.{frame_bytes}
@@ -65,11 +66,12 @@ PassesKeepLaw =
     (source : Source) (frames : List ℕ) (image : ImageValue) (gap : ℕ) →
     IsRightSource source → Passes source frames image gap → PassesKeep source frames image gap
 
--- what code costs and what frames need, by the source alone, whether it has an image or not
+-- what code costs, what frames need and which statics there are, by the source alone, whether it has an image or not
 pub record CodeBounds (source : Source) (code : Code) : Type 0 where
   pub apart : AllApart code
   pub cost : sum_of placed_cost code.functions.items ≤ 64 * source.nodes
   pub needs : needs_of code ≡ source.needs
+  pub statics : statics_of code ≡ source.statics
   pub frames_fit : (i need : ℕ) (f : Function) → slice_get source.needs i ≡ Some need → slice_get code.functions.items i ≡ Some f → frame_bytes f ≤ need
 
 abbrev pub CodeBoundsLaw : Type 0

@@ -122,15 +122,21 @@ pub end_kept : EndKeptLaw
 end_kept image input code gap fuel time c reason status output variables ready gaps e few =
     let m = memory_of image input in
     let r = keeps_law m code gap c time ready.compiled ready.shows gaps e.ended e.commits in
+    let o = output_law m code ready.compiled ready.shows in
     record {
       always = λ ps. (
           let b = begins_shown (after ps m).mem (run_of image input time).mem (r.always ps) in
           let same : output_of TwoLengths (run_of image input time).mem ≡ output = sym (ap (λ f. output_of f (run_of image input time).mem) ready.form) ∙ e.shown.same_output in
           (b.0, ap (λ f. output_of f (after ps m).mem ++ b.0) ready.form ∙ b.1 ∙ same));
-      grows = λ ps qs. more_shown image (after ps m).mem (after (ps ++ qs) m).mem ready.form ((output_law m code ready.compiled ready.shows).more ps qs);
+      grows = λ ps qs. more_shown image (after ps m).mem (after (ps ++ qs) m).mem ready.form (o.more ps qs);
       exact = λ ps h. shows_same image (after ps m).mem (run_of image input time).mem reason status output variables ready.form ready.objects (λ a out. r.exact ps h a out) e.shown;
       halts = λ ps l. r.halts ps (let q = long_same gap ps in omega arith);
       commits = (progress_law m code gap ready.compiled gaps).each;
+      few = λ ps. (
+          let s = o.shows ps in
+          let same = s.1 in
+          let most = e.commits s.0 in
+          omega (arith, same, most, few));
       safe = r.safe;
     }
 

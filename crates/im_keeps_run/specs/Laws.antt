@@ -37,7 +37,7 @@ pub record EndsShowing (image : ImageValue) (input : List ℕ) (time c reason : 
 
 abbrev pub EndKeptLaw : Type 0
 EndKeptLaw = (image : ImageValue) (input : List ℕ) (code gap fuel time c reason : ℕ) (status : ℤ) (output : List ℕ) (variables : List Variable) → IsReady image input code
-    → GapAtMost (run_of image input) gap → EndsShowing image input time c reason status output variables → c ≤ (2 * fuel + 2) * length image.words
+    → GapAtMost (run_of image input) gap → EndsShowing image input time c reason status output variables → c ≤ (2 * fuel + 1) * length image.words
     → KeepsEnd image gap input fuel reason status output variables
 
 -- at this time that run shows so much, after at most c commits

@@ -1,20 +1,27 @@
 use Rattle.std.proofs.Common.{refl}
+use Rattle.im_typed.specs.ProgramOf.{program_of}
 use Rattle.im_driver.proofs.Frames.{frames}
 use Rattle.im_driver.proofs.laws.kept_law.Goals as goal
 
 pub returns : goal.returns
 returns c source prog options built ready is_built =
     let kept = c.built_keeps_law.ensures prog options built ready.is_source is_built in
+    let passes = kept.keeps.passes in
     record {
       compiled = record {
-        made = prog;
+        prog = program_of prog;
         program = ready.program;
-        keeps = kept.keeps;
-        frames = frames c.force_keeps_law.ensures c.placed_code_law.ensures c.recut_keeps_law.ensures prog options built is_built;
+        keeps = kept.keeps.keeps;
+        survives = passes.survives;
+        ending = passes.ending;
+        reaching = passes.reaching;
+        measure = kept.measure;
+        short = kept.gap;
+        small = passes.small;
+        frames = frames prog options built is_built passes.frames_fit;
+        cuts = kept.cuts;
         stack_is = is_built.pack.stack_is;
         out_cap_is = is_built.pack.out_cap_is;
-        short = kept.gap;
-        passes = is_built;
       };
       is_made = refl;
       is_source = ready.is_source;

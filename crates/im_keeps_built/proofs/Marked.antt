@@ -1,0 +1,243 @@
+-- A line of a program links x3 just where it has a cause.
+use Rattle.std.proofs.Common.{◌≡◌, ℕ, zero, suc, ◌+◌, ◌-◌, ◌^◌, inl, inr, Bool, true, false, List, [], ◌∷◌, ◌++◌, Some, length, map, refl, sym, ap, ◌∙◌, subst, arith}
+use Rattle.std.specs.Prelude.{not, ◌&&◌, ◌==◌, slice_get}
+use Rattle.std.proofs.lemmas.Option.{slice_get_cases, slice_get_within}
+use Rattle.im_num.specs.declared.kind.Kind.TheVariants.{I8, U8, I16, U16, I32, U32, Ptr}
+use Rattle.im_num.specs.Kinds.{word}
+use Rattle.im_rv.specs.declared.instr.Op.{Op}
+use Rattle.im_rv.specs.declared.instr.Op.TheVariants.{Jal}
+use Rattle.im_rv.specs.declared.code.Line.{Line as RustLine}
+use Rattle.im_rv.specs.declared.code.Part.{Part}
+use Rattle.im_rv.specs.Lines.{CodeLine, plain_line, code_line, code_lines}
+use Rattle.im_gap.specs.declared.flow.Turn.TheVariants.{Passes, Jumps}
+use Rattle.im_gap.specs.Flow.{links_by}
+use Rattle.im_link.specs.Parts.{IsPart, lines_of}
+use Rattle.im_ckpt.specs.Recovery.{recovery}
+use Rattle.im_ckpt.specs.Checkpoint.{checkpoint_code}
+use Rattle.im_rtlib.specs.Laws.{is_cut}
+use Rattle.im_rtlib.specs.Routines.{getchar, putchar, stack, exit}
+use Rattle.im_store.specs.declared.operators.UnaryOp.TheVariants.{Negate, Complement}
+use Rattle.im_store.specs.declared.operators.Comparison.TheVariants.{Less, Greater, LessOrEqual, GreaterOrEqual, Equal, NotEqual}
+use Rattle.im_store.specs.Objects.{Name, Slot}
+use Rattle.im_select_operators.specs.Tables.{operation, less_op, load_op, store_op}
+use Rattle.im_block.specs.declared.code.Place.{Place}
+use Rattle.im_block.specs.declared.code.Place.TheVariants.{Static, Local, Through}
+use Rattle.im_block.specs.declared.code.Line.{Line}
+use Rattle.im_block.specs.declared.code.Line.TheVariants.{Put, PutNull, Copy, Convert, Unary, Not, Compute, Compare, Move, Distance, Address, Read, Write, Reload, Spill, Cut, Call, GetChar, PutChar}
+use Rattle.im_block.specs.declared.code.Exit.{Exit}
+use Rattle.im_block.specs.declared.code.Exit.TheVariants.{Jump, Turn, Branch, Return}
+use Rattle.im_block.specs.declared.code.Block.{Block}
+use Rattle.im_block.specs.declared.unit.Function.{Function}
+use Rattle.im_block.specs.declared.unit.Unit.{Unit as Code}
+use Rattle.im_frame.specs.declared.layout.Layout.{Layout}
+use Rattle.im_select.specs.Emitted.{high_of, low_of, constant_by, constant_code, displaced_by, displaced_code, adds_by, adds_code, place_number, place_code, step_op, line_code, lines_code, exit_code, block_code, blocks_code, prologue_code, function_code, labelled, entry_label}
+use Rattle.im_select.specs.Places.{at_of}
+use Rattle.im_link_laws.specs.Program.{HasCode, part_of, first_label, given_at, start_code, IsProgram}
+use Rattle.im_saved_lines.specs.Scan.{way}
+use Rattle.im_saved_lines.proofs.Scanning.{both}
+use Rattle.im_saved_lines.proofs.Plain.{operation_way, less_way, load_way, store_way, step_way}
+
+abbrev pub IsMarked : CodeLine → Type 0
+IsMarked l = links_by l.line.op 3 l.line.rd ≡ is_cut l.cause
+
+abbrev pub AreMarked : List CodeLine → Type 0
+AreMarked [] = Unit {0}
+AreMarked (l ∷ ls) = IsMarked l × AreMarked ls
+
+marked_append : (xs ys : List CodeLine) → AreMarked xs → AreMarked ys → AreMarked (xs ++ ys)
+marked_append [] ys a b = b
+marked_append (x ∷ xs) ys a b = (a.0, marked_append xs ys a.1 b)
+
+unlinked : (op : Op) (rd : ℕ) → way op ≡ Passes → links_by op 3 rd ≡ false
+unlinked Jal rd e = (let bad : Jumps ≡ Passes = e in cc)
+unlinked op rd e = refl
+
+-- ---- lines that are written out
+
+abbrev same : Bool → Bool → Bool
+same true b = b
+same false b = not b
+
+same_is : (a b : Bool) → same a b ≡ true → a ≡ b
+same_is true b e = sym e
+same_is false true e = cc
+same_is false false e = refl
+
+abbrev marked_test : List CodeLine → Bool
+marked_test [] = true
+marked_test (l ∷ ls) = same (links_by l.line.op 3 l.line.rd) (is_cut l.cause) && marked_test ls
+
+tested : (xs : List CodeLine) → marked_test xs ≡ true → AreMarked xs
+tested [] t = tt
+tested (x ∷ xs) t =
+    let a = both (same (links_by x.line.op 3 x.line.rd) (is_cut x.cause)) (marked_test xs) t in
+    (same_is (links_by x.line.op 3 x.line.rd) (is_cut x.cause) a.0, tested xs a.1)
+
+recovery_marked : AreMarked (map plain_line recovery)
+recovery_marked = tested (map plain_line recovery) refl
+
+checkpoint_marked : AreMarked checkpoint_code
+checkpoint_marked = tested checkpoint_code refl
+
+getchar_marked : AreMarked getchar
+getchar_marked = tested getchar refl
+
+putchar_marked : AreMarked putchar
+putchar_marked = tested putchar refl
+
+stack_marked : AreMarked stack
+stack_marked = tested stack refl
+
+start_marked : (main : ℕ) → AreMarked (start_code main)
+start_marked main = (refl, tested exit refl)
+
+-- ---- selected lines
+
+constant_marked : (rd n : ℕ) → AreMarked (constant_code rd n)
+constant_marked rd n = by (high_of n == 0)
+  where
+    by : (b : Bool) → AreMarked (constant_by b rd (high_of n) (low_of n))
+    by true = (refl, tt)
+    by false = (refl, (refl, tt))
+
+displaced_marked : (r n : ℕ) → AreMarked (displaced_code r n)
+displaced_marked r n = by (high_of n == 0)
+  where
+    by : (b : Bool) → AreMarked (displaced_by b r (high_of n))
+    by true = tt
+    by false = (refl, (refl, tt))
+
+adds_marked : (rd n : ℕ) → AreMarked (adds_code rd n)
+adds_marked rd n = by (high_of n == 0)
+  where
+    by : (b : Bool) → AreMarked (adds_by b rd n)
+    by true = (refl, tt)
+    by false = marked_append (constant_code 5 n) _ (constant_marked 5 n) (refl, tt)
+
+place_marked : (place : Place) (n : ℕ) → AreMarked (place_code place n)
+place_marked (Static object offset) n = (refl, tt)
+place_marked (Local object offset) n = displaced_marked 2 n
+place_marked (Through r offset) n = displaced_marked r n
+
+line_marked : (at : Name → ℕ) (line : Line) → AreMarked (line_code at line)
+line_marked at (Put to z) = constant_marked to (word z)
+line_marked at (PutNull to) = (refl, tt)
+line_marked at (Copy to from) = (refl, tt)
+line_marked at (Convert to I8 from) = (refl, (refl, tt))
+line_marked at (Convert to U8 from) = (refl, (refl, tt))
+line_marked at (Convert to I16 from) = (refl, (refl, tt))
+line_marked at (Convert to U16 from) = (refl, (refl, tt))
+line_marked at (Convert to I32 from) = (refl, tt)
+line_marked at (Convert to U32 from) = (refl, tt)
+line_marked at (Convert to Ptr from) = (refl, tt)
+line_marked at (Unary to Negate kind from) = (refl, tt)
+line_marked at (Unary to Complement kind from) = (refl, tt)
+line_marked at (Not to from) = (refl, tt)
+line_marked at (Compute to op kind left right) = (unlinked (operation op kind) to (operation_way op kind), tt)
+line_marked at (Compare to Less kind left right) = (unlinked (less_op kind) to (less_way kind), tt)
+line_marked at (Compare to Greater kind left right) = (unlinked (less_op kind) to (less_way kind), tt)
+line_marked at (Compare to LessOrEqual kind left right) = (unlinked (less_op kind) to (less_way kind), (refl, tt))
+line_marked at (Compare to GreaterOrEqual kind left right) = (unlinked (less_op kind) to (less_way kind), (refl, tt))
+line_marked at (Compare to Equal kind left right) = (refl, (refl, tt))
+line_marked at (Compare to NotEqual kind left right) = (refl, (refl, tt))
+line_marked at (Move to size back pointer by) = marked_append (constant_code 5 size) _ (constant_marked 5 size) (refl, (unlinked (step_op back) to (step_way back), tt))
+line_marked at (Distance to size left right) = (refl, marked_append (constant_code 6 size) _ (constant_marked 6 size) (refl, tt))
+line_marked at (Address to place) = marked_append (place_code place (place_number at place)) _ (place_marked place (place_number at place)) (refl, tt)
+line_marked at (Read to place kind access) = marked_append (place_code place (place_number at place)) _ (place_marked place (place_number at place)) (unlinked (load_op kind) to (load_way kind), tt)
+line_marked at (Write place kind from access) = marked_append (place_code place (place_number at place)) _ (place_marked place (place_number at place)) (unlinked (store_op kind) 0 (store_way kind), tt)
+line_marked at (Reload to slot access) = marked_append (displaced_code 2 (at (Slot slot))) _ (displaced_marked 2 (at (Slot slot))) (refl, tt)
+line_marked at (Spill slot from access) = marked_append (displaced_code 2 (at (Slot slot))) _ (displaced_marked 2 (at (Slot slot))) (refl, tt)
+line_marked at (Cut cause) = (refl, tt)
+line_marked at (Call to i first count) = (refl, tt)
+line_marked at (GetChar to) = (refl, tt)
+line_marked at (PutChar to from) = (refl, tt)
+
+lines_marked : (at : Name → ℕ) (lines : List Line) → AreMarked (lines_code at lines)
+lines_marked at [] = tt
+lines_marked at (line ∷ lines) = marked_append (line_code at line) (lines_code at lines) (line_marked at line) (lines_marked at lines)
+
+exit_marked : (first frame : ℕ) (exit : Exit) → AreMarked (exit_code first frame exit)
+exit_marked first frame (Jump b) = (refl, tt)
+exit_marked first frame (Turn b) = (refl, tt)
+exit_marked first frame (Branch on x y) = (refl, (refl, (refl, tt)))
+exit_marked first frame (Return from) = (refl, marked_append (adds_code 2 frame) _ (adds_marked 2 frame) (refl, tt))
+
+labelled_marked : (label : ℕ) (lines : List CodeLine) → AreMarked lines → AreMarked (labelled label lines)
+labelled_marked label [] a = tt
+labelled_marked label (x ∷ xs) a = (a.0, a.1)
+
+blocks_marked : (at : Name → ℕ) (first frame n : ℕ) (blocks : List Block) → AreMarked (blocks_code at first frame n blocks)
+blocks_marked at first frame n [] = tt
+blocks_marked at first frame n (block ∷ blocks) =
+    marked_append (block_code at first frame n block) (blocks_code at first frame (suc n) blocks)
+    (labelled_marked (first + n) (lines_code at block.lines.items ++ exit_code first frame block.exit)
+    (marked_append (lines_code at block.lines.items) (exit_code first frame block.exit) (lines_marked at block.lines.items) (exit_marked first frame block.exit)))
+    (blocks_marked at first frame (suc n) blocks)
+
+prologue_marked : (frame target : ℕ) → AreMarked (prologue_code frame target)
+prologue_marked frame target =
+    marked_append (adds_code 6 (2 ^ 32 - frame)) _ (adds_marked 6 (2 ^ 32 - frame)) (refl, (refl, (refl, (refl, (refl, (refl, tt))))))
+
+function_marked : (at : Name → ℕ) (i first frame entry : ℕ) (blocks : List Block) → AreMarked (function_code at i first frame entry blocks)
+function_marked at i first frame entry blocks =
+    marked_append (labelled (entry_label i) (prologue_code frame (first + entry))) (blocks_code at first frame 0 blocks)
+    (labelled_marked (entry_label i) (prologue_code frame (first + entry)) (prologue_marked frame (first + entry)))
+    (blocks_marked at first frame 0 blocks)
+
+-- ---- the lines of all parts
+
+-- the lines of a part are its code
+code_is : (parts : List Part) (p : ℕ) (part : Part) (code : List CodeLine) → IsPart parts p part → HasCode parts p code → code_lines part.lines.items ≡ code
+code_is parts p part code a c = let b = c.is_part in let one : part ≡ c.part = cc in ap (λ (z : Part). code_lines z.lines.items) one ∙ c.lines
+
+abbrev AllMarked : List RustLine → Type 0
+AllMarked [] = Unit {0}
+AllMarked (x ∷ xs) = IsMarked (code_line x) × AllMarked xs
+
+all_of : (xs : List RustLine) → AreMarked (code_lines xs) → AllMarked xs
+all_of [] a = tt
+all_of (x ∷ xs) a = (a.0, all_of xs a.1)
+
+all_append : (xs ys : List RustLine) → AllMarked xs → AllMarked ys → AllMarked (xs ++ ys)
+all_append [] ys a b = b
+all_append (x ∷ xs) ys a b = (a.0, all_append xs ys a.1 b)
+
+all_parts : (parts : List Part) → ((p : ℕ) (part : Part) → slice_get parts p ≡ Some part → AllMarked part.lines.items) → AllMarked (lines_of parts)
+all_parts [] k = tt
+all_parts (x ∷ xs) k = all_append x.lines.items (lines_of xs) (k 0 x refl) (all_parts xs (λ p part e. k (suc p) part e))
+
+marked_at : (xs : List RustLine) (i : ℕ) (line : RustLine) → AllMarked xs → slice_get xs i ≡ Some line → IsMarked (code_line line)
+marked_at [] i line a e = absurd cc
+marked_at (x ∷ xs) zero line a e = let one : x ≡ line = cc in subst (λ (z : RustLine). IsMarked (code_line z)) one a.0
+marked_at (x ∷ xs) (suc i) line a e = marked_at xs i line a.1 e
+
+module _ (u : Code) (statics : List ℕ) (layouts : List Layout) (parts : List Part) (program : IsProgram u statics layouts parts) where
+  by_code : (p : ℕ) (part : Part) (code : List CodeLine) → IsPart parts p part → HasCode parts p code → AreMarked code → AllMarked part.lines.items
+  by_code p part code is_part has marked = all_of part.lines.items (subst AreMarked (sym (code_is parts p part code is_part has)) marked)
+
+  function_part : (i : ℕ) (f : Function) → slice_get u.functions.items i ≡ Some f → (part : Part) → IsPart parts (part_of i) part → AllMarked part.lines.items
+  function_part i f e part is_part =
+      let own = program.functions i f e in
+      by_code (part_of i) part own.code is_part own.there
+      (subst AreMarked (sym own.selection.exact)
+      (function_marked (at_of (given_at u.functions.items statics i f own.layout)) i (first_label u.functions.items i) own.layout.frame f.entry f.blocks.items))
+
+  part_marked : (p : ℕ) (part : Part) → IsPart parts p part → AllMarked part.lines.items
+  part_marked zero part e = by_code 0 part _ e program.recovers recovery_marked
+  part_marked (suc zero) part e = by_code 1 part _ e program.saves checkpoint_marked
+  part_marked (suc (suc zero)) part e = by_code 2 part _ e program.gets getchar_marked
+  part_marked (suc (suc (suc zero))) part e = by_code 3 part _ e program.puts putchar_marked
+  part_marked (suc (suc (suc (suc zero)))) part e = by_code 4 part _ e program.stops stack_marked
+  part_marked (suc (suc (suc (suc (suc i))))) part e = elim (slice_get_cases u.functions.items i).1 [
+    | inl c ↦ (let q : suc (suc (suc (suc (suc i)))) ≡ part_of i = omega arith in function_part i c.0 c.2 part (subst (λ z. IsPart parts z part) q e))
+    | inr c ↦
+        (let le = c.0 in
+        let count = program.count in
+        let within = slice_get_within parts (suc (suc (suc (suc (suc i))))) part e in
+        let q : suc (suc (suc (suc (suc i)))) ≡ part_of (length u.functions.items) = omega arith in
+        by_code (part_of (length u.functions.items)) part (start_code u.main) (subst (λ z. IsPart parts z part) q e) program.begins (start_marked u.main))
+  ]
+
+  -- line i of the code links x3 where it has a cause, and nowhere else
+  pub line_is_marked : (i : ℕ) (line : RustLine) → slice_get (lines_of parts) i ≡ Some line → IsMarked (code_line line)
+  line_is_marked i line e = marked_at (lines_of parts) i line (all_parts parts part_marked) e

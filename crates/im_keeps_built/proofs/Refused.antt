@@ -1,0 +1,84 @@
+-- What is too large for an image, by the program's own counts.
+use Rattle.std.proofs.Common.{◌≡◌, ℕ, zero, suc, ◌+◌, ◌*◌, ◌<◌, ◌≤◌, List, [], ◌∷◌, map, Some, None, refl, sym, ap, ◌∙◌, subst, arith}
+use Rattle.std.specs.Prelude.{◌-◌, ◌^◌, min, option_map, slice_get}
+use Rattle.std.proofs.lemmas.Option.{slice_get-map}
+use Rattle.im_link.specs.Parts.{word_count}
+use Rattle.im_typed.specs.declared.program.Prog.{Prog}
+use Rattle.im_typed.specs.ProgramOf.{program_of}
+use Rattle.im_typed.specs.Program as p
+use Rattle.im_typed.specs.Counts.{func_need}
+use Rattle.im_store.specs.Statics.{StaticObject}
+use Rattle.im_block.specs.declared.unit.Static.{Static as StaticOf}
+use Rattle.im_block.specs.Meaning.{static_of}
+use Rattle.im_block.specs.declared.unit.Function.{Function}
+use Rattle.im_block.specs.declared.unit.Unit.{Unit as Code}
+use Rattle.im_link_laws.specs.Laws.{WordsLaw}
+use Rattle.im_lower_passes_laws.specs.Laws.{LowersLaw}
+use Rattle.im_keeps_passes.specs.Laws.{CodeBounds}
+use Rattle.im_keeps_middle.specs.Laws.{MiddleLaw}
+use Rattle.im_keeps_source.specs.Source.{source_of}
+use Rattle.im_compile.specs.Passed.{IsSource, IsPassed}
+use Rattle.im_compile.specs.Faults.{HasLargeFrame, HasLargeCode, HasUnnamed}
+use Rattle.im_keeps_built.specs.Laws.{IsLargeFrame, IsLargeCode, HasNoName, RefusedLaw}
+use Rattle.im_keeps_built.proofs.Chained.{fit}
+
+-- lists that are mapped to the same list
+at_same : {X Y Z : Type 0} (u : X → Z) (v : Y → Z) (xs : List X) (ys : List Y) (i : ℕ) (x : X) → map u xs ≡ map v ys → slice_get xs i ≡ Some x → (y : Y) × (slice_get ys i ≡ Some y) × (v y ≡ u x)
+at_same u v [] ys i x e at = cc
+at_same u v (a ∷ xs) [] i x e at = cc
+at_same u v (a ∷ xs) (b ∷ ys) zero x e at =
+    let one : a ≡ x = cc in
+    let same : v b ≡ u a = cc in
+    (b, refl, same ∙ ap u one)
+at_same u v (a ∷ xs) (b ∷ ys) (suc i) x e at = let rest : map u xs ≡ map v ys = cc in at_same u v xs ys i x rest at
+
+module _ (lowers : LowersLaw) (middle : MiddleLaw) (words : WordsLaw) (prog : Prog) (s : IsSource prog) where
+  bounds : (code : Code) → IsPassed prog code → CodeBounds (source_of (program_of prog)) code
+  bounds code passed = middle.bounds (source_of (program_of prog)) code (record {
+    lowered = passed.lowered;
+    lower = lowers (program_of prog) passed.lowered s.typed s.within (fit prog code passed) passed.lower passed.sized passed.placeable passed.uncut;
+    forced = passed.forced;
+    force = passed.force;
+    placed = passed.placed;
+    place = passed.place;
+    recut = passed.recut;
+  })
+
+  frame_refused : (i bytes : ℕ) → HasLargeFrame prog i bytes → IsLargeFrame (program_of prog) i bytes
+  frame_refused i bytes h =
+      let b = bounds h.code h.passed in
+      let f = h.frame.f in
+      let there = at_same (λ (x : Function). x.need) (λ (x : p.Func). func_need x) h.code.functions.items (program_of prog).funcs i f b.needs h.frame.is_function in
+      let need = b.frames_fit i (func_need there.0) f (slice_get-map (λ (x : p.Func). func_need x) (program_of prog).funcs i ∙ ap (option_map (λ (x : p.Func). func_need x)) there.1) h.frame.is_function in
+      record { f = there.0; is_function = there.1; large = h.frame.large; need = subst (λ n. n ≤ func_need there.0) (sym h.frame.bytes_are) need }
+
+  told_within : (c n : ℕ) → 1044480 < 4 * c → n ≡ min (4 * c) (2 ^ 64 - 1) → (1044480 < n) × (n ≤ 4 * c)
+  told_within c n large e = (omega (arith, large, e), omega (arith, large, e))
+
+  code_refused : (bytes : ℕ) → HasLargeCode prog bytes → IsLargeCode (program_of prog) bytes
+  code_refused bytes h =
+      let a = h.assembled in
+      let b = bounds a.code a.passed in
+      let few = words a.code a.addresses a.layouts h.parts a.assemble b.apart in
+      let cost = b.cost in
+      let told = told_within (word_count h.parts) bytes h.large h.told in
+      let least = told.0 in
+      let most = told.1 in
+      record { large = told.0; nodes = omega (arith, few, cost, most) }
+
+  no_name : (n : ℕ) → HasUnnamed prog n → HasNoName (program_of prog) n
+  no_name n h =
+      let b = bounds h.code h.passed in
+      let s = h.unnamed.s in
+      record {
+        s = static_of s;
+        is_static = sym (ap (λ (l : List StaticObject). slice_get l n) b.statics) ∙ slice_get-map {A = StaticOf} static_of h.code.statics.items n ∙ ap (option_map static_of) h.unnamed.is_static;
+        cannot = h.unnamed.cannot;
+      }
+
+pub refused : LowersLaw → MiddleLaw → WordsLaw → RefusedLaw
+refused lowers middle words = record {
+  frame = λ prog i bytes s h. frame_refused lowers middle words prog s i bytes h;
+  code = λ prog bytes s h. code_refused lowers middle words prog s bytes h;
+  named = λ prog n s h. no_name lowers middle words prog s n h;
+}
