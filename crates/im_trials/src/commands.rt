@@ -87,7 +87,11 @@ fn tell_files(shelf: &MemShelf, files: &str, told: &mut Told) -> Result<(), Stop
 fn failing_of(text: &str) -> Result<(u64, u64, u64), Stop> {
     let (shelf, streams) = text.split_once(' ').ok_or(Stop::Row)?;
     let (out, err) = streams.split_once(' ').ok_or(Stop::Row)?;
-    Ok((u64::from(small_of(shelf)?), u64::from(small_of(out)?), u64::from(small_of(err)?)))
+    Ok((
+        u64::from(small_of(shelf)?),
+        u64::from(small_of(out)?),
+        u64::from(small_of(err)?),
+    ))
 }
 
 /// `command`, a name, files, failing calls, commands with `;` between two, the lines asked for, the files asked for.
@@ -154,7 +158,13 @@ pub(crate) fn losses(
     };
     let files = format!(in alloc; "s.c={} i:65536", row.field(2)?)?;
     let mut shelf = shelf_of(alloc, texts, &files, 0)?;
-    carry_out(alloc, &mut shelf, "intermit run s.c i --vars", streams, told)?;
+    carry_out(
+        alloc,
+        &mut shelf,
+        "intermit run s.c i --vars",
+        streams,
+        told,
+    )?;
     let image = shelf.file("i").ok_or(Stop::Row)?;
     let mut same: u32 = 0;
     for instructions in 0..row.small(3)? {

@@ -37,7 +37,12 @@ fn step<H: Shelf>(alloc: Global, shelf: &mut H, words: &str, told: &mut Told) ->
 
 /// `shelf`, a name, files, the call that fails or 0, steps with `;` between two, files to be told: each answer; how many
 /// reads and writes were refused and how many files weren't there; and what the files hold.
-pub(crate) fn shelf(alloc: Global, texts: &Texts, row: &Row<'_>, told: &mut Told) -> Result<(), Stop> {
+pub(crate) fn shelf(
+    alloc: Global,
+    texts: &Texts,
+    row: &Row<'_>,
+    told: &mut Told,
+) -> Result<(), Stop> {
     let mut shelf = shelf_of(alloc, texts, row.field(2)?, u64::from(row.small(3)?))?;
     for words in row.field(4)?.split(';') {
         step(alloc, &mut *shelf, words, told)?;

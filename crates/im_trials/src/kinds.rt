@@ -4,7 +4,8 @@ use crate::texts::Texts;
 use crate::told::Told;
 use crate::{
     command_lines, commands, examples, files, gaps, images, instructions, lexical, machines, made,
-    meanings, numbers, parsing, programs, readings, refusals, sources, survivals, told_lines, typed,
+    meanings, numbers, parsing, programs, readings, refusals, sources, survivals, told_lines,
+    typed,
 };
 use std::alloc::Global;
 
@@ -60,12 +61,7 @@ fn run_source(
 }
 
 // Texts, tokens and trees.
-fn run_text(
-    alloc: Global,
-    texts: &Texts,
-    row: &Row<'_>,
-    told: &mut Told,
-) -> Result<bool, Stop> {
+fn run_text(alloc: Global, texts: &Texts, row: &Row<'_>, told: &mut Told) -> Result<bool, Stop> {
     match row.kind() {
         "printed" => readings::printed(alloc, texts, row, told)?,
         "long-printed" => readings::long_printed(alloc, texts, row, told)?,
@@ -87,12 +83,7 @@ fn run_text(
 }
 
 // Numbers, words and instructions.
-fn run_word(
-    alloc: Global,
-    texts: &Texts,
-    row: &Row<'_>,
-    told: &mut Told,
-) -> Result<bool, Stop> {
+fn run_word(alloc: Global, texts: &Texts, row: &Row<'_>, told: &mut Told) -> Result<bool, Stop> {
     match row.kind() {
         "wrap" => numbers::wrapped(row, told)?,
         "holds" => numbers::held(row, told)?,
@@ -112,12 +103,7 @@ fn run_word(
 }
 
 // Images and machines.
-fn run_machine(
-    alloc: Global,
-    texts: &Texts,
-    row: &Row<'_>,
-    told: &mut Told,
-) -> Result<bool, Stop> {
+fn run_machine(alloc: Global, texts: &Texts, row: &Row<'_>, told: &mut Told) -> Result<bool, Stop> {
     match row.kind() {
         "image" => images::image(alloc, texts, row, told)?,
         "changed-image" => images::changed(alloc, texts, row, told)?,

@@ -130,7 +130,12 @@ fn tell_plain(alloc: Global, scope: &Scope, lists: &TagList, told: &mut Told) ->
 }
 
 /// `const struct list`
-fn tell_tagged(alloc: Global, scope: &mut Scope, lists: &TagList, told: &mut Told) -> Result<(), Stop> {
+fn tell_tagged(
+    alloc: Global,
+    scope: &mut Scope,
+    lists: &TagList,
+    told: &mut Told,
+) -> Result<(), Stop> {
     let tag = Vec::from_slice(alloc, b"list")?;
     let tagged = [
         word(4, SpecifierWord::Const),
@@ -171,9 +176,17 @@ pub(crate) fn types_of_a_table(alloc: Global, told: &mut Told) -> Result<(), Sto
     let mut table = TypeTable::new(alloc);
     let id = id_of(&mut table, &ty)?;
     let back = type_from(alloc, &table, id)?;
-    told.say(if same(&ty, &back) { " back" } else { " not back" })?;
+    told.say(if same(&ty, &back) {
+        " back"
+    } else {
+        " not back"
+    })?;
     let again = copy(alloc, &ty)?;
-    told.say(if same(&ty, &again) { " copied" } else { " not copied" })?;
+    told.say(if same(&ty, &again) {
+        " copied"
+    } else {
+        " not copied"
+    })?;
     let is_int = same(&ty, &Type::Integer(Integer::Int));
     told.say(if is_int { " int" } else { " no int" })?;
     told.number(size(&table, &Type::Integer(Integer::Short))?)

@@ -21,7 +21,12 @@ pub(crate) fn loaded(alloc: Global, image: &Image, input: &[u8]) -> Result<Machi
 }
 
 // Tells how a run went, its commits, its instructions.
-fn tell_run(alloc: Global, machine: &Machine<FlatMem>, went: Went, told: &mut Told) -> Result<(), Stop> {
+fn tell_run(
+    alloc: Global,
+    machine: &Machine<FlatMem>,
+    went: Went,
+    told: &mut Told,
+) -> Result<(), Stop> {
     told.say(&format!(in alloc; " {went:?}")?)?;
     told.number(machine.commits())?;
     told.number(machine.instructions())

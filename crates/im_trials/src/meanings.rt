@@ -42,11 +42,7 @@ pub(crate) fn tell_ending(alloc: Global, told: &mut Told, outcome: &Outcome) -> 
             reason: Reason::StackExhausted,
             ..
         } => told.say(" StackExhausted"),
-        Outcome::End {
-            status,
-            output,
-            ..
-        } => {
+        Outcome::End { status, output, .. } => {
             told.say(" Returned")?;
             told.number(*status)?;
             told.bytes(output)

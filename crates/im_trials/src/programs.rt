@@ -111,7 +111,13 @@ fn tell_runs(
     told: &mut Told,
 ) -> Result<(), Stop> {
     let nothing = period(0, 0, 0);
-    let whole = run_for(alloc, image, input, [period(10_000_000, 1, 0), nothing], told)?;
+    let whole = run_for(
+        alloc,
+        image,
+        input,
+        [period(10_000_000, 1, 0), nothing],
+        told,
+    )?;
     let weak = [period(gap, 1_000_000, 0), nothing];
     let is_same = is_same(alloc, image, input, weak, told.as_str())?;
     let losses = same_after_losses(alloc, image, input, whole, told.as_str())?;

@@ -54,7 +54,12 @@ impl<'a> Row<'a> {
     }
 
     /// The bytes of a field: the lines below, a text of the tables, or what is written, without escapes.
-    pub(crate) fn bytes(&self, alloc: Global, texts: &Texts, number: usize) -> Result<Vec<u8>, Stop> {
+    pub(crate) fn bytes(
+        &self,
+        alloc: Global,
+        texts: &Texts,
+        number: usize,
+    ) -> Result<Vec<u8>, Stop> {
         let field = self.field(number)?;
         if field == "|" {
             return Ok(Vec::from_slice(alloc, self.below.as_bytes())?);

@@ -6,7 +6,7 @@ use std::alloc::{AllocError, AllocFailed};
 use std::io;
 
 /// Why a case ends early, or all of them do.
-#[derive(Clone, Copy, Debug, PartialEq, Eq)]
+#[derive(Clone, Copy, Debug)]
 pub(crate) enum Stop {
     /// The row lacks a field, or has one out of form.
     Row,

@@ -53,7 +53,11 @@ fn next_commit(machine: &mut Machine<FlatMem>) -> Result<u32, Stop> {
 
 /// How many instructions of a run that keeps its power stand before each of its sections: recovery,
 /// and the sections before it, each up to the return from the checkpoint that ends it.
-fn section_starts(alloc: Global, machine: &mut Machine<FlatMem>, commits: u64) -> Result<Vec<u32>, Stop> {
+fn section_starts(
+    alloc: Global,
+    machine: &mut Machine<FlatMem>,
+    commits: u64,
+) -> Result<Vec<u32>, Stop> {
     let mut starts = Vec::new(alloc);
     let mut start = RECOVERY;
     for _ in 0..commits {
@@ -82,7 +86,12 @@ fn distance(machine: &Machine<FlatMem>, starts: &[u32], n: u32) -> Option<u32> {
 }
 
 /// Power fails within a run of so many instructions.
-fn lose(machine: &mut Machine<FlatMem>, starts: &[u32], count: u32, losses: Losses) -> Result<(), Stop> {
+fn lose(
+    machine: &mut Machine<FlatMem>,
+    starts: &[u32],
+    count: u32,
+    losses: Losses,
+) -> Result<(), Stop> {
     for n in 0..count {
         if n % STRIDE == losses.first {
             let steps = distance(machine, starts, n).ok_or(Stop::Row)?;
@@ -104,7 +113,13 @@ struct Whole {
 }
 
 /// Whether a run with these losses ends as one that keeps its power does, after as many commits.
-fn survives(alloc: Global, image: &Image, input: &[u8], whole: &Whole, losses: Losses) -> Result<bool, Stop> {
+fn survives(
+    alloc: Global,
+    image: &Image,
+    input: &[u8],
+    whole: &Whole,
+    losses: Losses,
+) -> Result<bool, Stop> {
     let mut machine = loaded(alloc, image, input)?;
     lose(&mut machine, &whole.starts, whole.count, losses)?;
     machine.power(once(10_000, 0));
@@ -134,7 +149,12 @@ fn count_surviving(
 }
 
 /// Tells how a run that keeps its power ends, and gives its commits and its instructions.
-fn whole_run(alloc: Global, image: &Image, input: &[u8], told: &mut Told) -> Result<(u64, u64), Stop> {
+fn whole_run(
+    alloc: Global,
+    image: &Image,
+    input: &[u8],
+    told: &mut Told,
+) -> Result<(u64, u64), Stop> {
     let mut whole = loaded(alloc, image, input)?;
     whole.power(once(10_000, 0));
     tell_end(alloc, &whole, told)?;
@@ -142,7 +162,13 @@ fn whole_run(alloc: Global, image: &Image, input: &[u8], told: &mut Told) -> Res
 }
 
 /// Before each section, of which the last one ends where the run does.
-fn sections(alloc: Global, image: &Image, input: &[u8], commits: u64, count: u32) -> Result<Vec<u32>, Stop> {
+fn sections(
+    alloc: Global,
+    image: &Image,
+    input: &[u8],
+    commits: u64,
+    count: u32,
+) -> Result<Vec<u32>, Stop> {
     let mut machine = loaded(alloc, image, input)?;
     let starts = section_starts(alloc, &mut machine, commits)?;
     let last = distance(&machine, &starts, count).ok_or(Stop::Row)?;
@@ -168,7 +194,12 @@ fn whole_of(alloc: Global, image: &Image, input: &[u8]) -> Result<Whole, Stop> {
 
 /// `survival`, a name, an image, an input, and after how many instructions of the recovery power fails again, or `-`: how
 /// the run ends that keeps its power, and how many of the 48 with losses end so, three for each mask.
-pub(crate) fn survival(alloc: Global, texts: &Texts, row: &Row<'_>, told: &mut Told) -> Result<(), Stop> {
+pub(crate) fn survival(
+    alloc: Global,
+    texts: &Texts,
+    row: &Row<'_>,
+    told: &mut Told,
+) -> Result<(), Stop> {
     let image = image_of(alloc, &row.bytes(alloc, texts, 2)?)?;
     let input = row.bytes(alloc, texts, 3)?;
     let again = maybe(row.field(4)?)?;

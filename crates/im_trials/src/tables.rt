@@ -9,7 +9,10 @@ fn run_row(rt: &HostRuntime, texts: &mut Texts, head: &str, below: &str) -> Resu
     if head.is_empty() || head.starts_with('#') {
         return Ok(());
     }
-    let row = Row::new(rt.alloc(), head, below)?;
+    let row = match Row::new(rt.alloc(), head, below) {
+        Ok(row) => row,
+        Err(stop) => return Err(stop),
+    };
     if texts.take(rt, &row)? {
         return Ok(());
     }

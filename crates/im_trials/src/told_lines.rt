@@ -18,13 +18,22 @@ use std::alloc::Global;
 const ROOM: usize = 1000;
 
 /// Tells whether all was sent, and what was written.
-pub(crate) fn tell_sent(told: &mut Told, sent: Result<(), Failed>, sink: &MemSink) -> Result<(), Stop> {
+pub(crate) fn tell_sent(
+    told: &mut Told,
+    sent: Result<(), Failed>,
+    sink: &MemSink,
+) -> Result<(), Stop> {
     told.say(if sent.is_ok() { " sent" } else { " failed" })?;
     told.bytes(sink.contents())
 }
 
 /// `dump`, a name, an image, the write that fails or 0, the room: its lines, and how many writes were refused.
-pub(crate) fn dump(alloc: Global, texts: &Texts, row: &Row<'_>, told: &mut Told) -> Result<(), Stop> {
+pub(crate) fn dump(
+    alloc: Global,
+    texts: &Texts,
+    row: &Row<'_>,
+    told: &mut Told,
+) -> Result<(), Stop> {
     let text = row.bytes(alloc, texts, 2)?;
     let failing = u64::from(row.small(3)?);
     let mut sink = MemSink::new(alloc, row.small(4)? as usize, &[failing])?;
