@@ -17,11 +17,6 @@ use std::alloc::Global;
 /// No program takes as many steps of block code.
 const STEPS: u64 = 1_000_000;
 
-const OPTIONS: Options = Options {
-    stack: 4096,
-    out_cap: 64,
-};
-
 fn sizes_of(alloc: Global, frames: &[Frame]) -> Result<Vec<u32>, Stop> {
     let mut sizes = Vec::new(alloc);
     for frame in frames {
@@ -147,7 +142,11 @@ pub(crate) fn meaning(
     let source = row.bytes(alloc, texts, 2)?;
     let input = row.bytes(alloc, texts, 3)?;
     let fuel = u64::from(row.small(4)?);
-    match compile_whole(alloc, &source, OPTIONS) {
+    let options = Options {
+        stack: 4096,
+        out_cap: 64,
+    };
+    match compile_whole(alloc, &source, options) {
         Ok(whole) => tell_both(alloc, &whole, &input, fuel, told),
         Err(fault) => tell_fault(told, fault),
     }
@@ -213,7 +212,11 @@ pub(crate) fn blocks(
     told: &mut Told,
 ) -> Result<(), Stop> {
     let source = row.bytes(alloc, texts, 2)?;
-    match compile_whole(alloc, &source, OPTIONS) {
+    let options = Options {
+        stack: 4096,
+        out_cap: 64,
+    };
+    match compile_whole(alloc, &source, options) {
         Ok(whole) => tell_blocks(alloc, &whole.prog, told),
         Err(fault) => tell_fault(told, fault),
     }

@@ -8,11 +8,6 @@ use im_driver::{Options, compile_whole};
 use im_typed::{Frames, Prog, need, nodes};
 use std::alloc::Global;
 
-const OPTIONS: Options = Options {
-    stack: 65536,
-    out_cap: 64,
-};
-
 // Each function's body and each static's cells, one a line.
 fn tell_typed(alloc: Global, prog: &Prog, told: &mut Told) -> Result<(), Stop> {
     for func in &prog.funcs {
@@ -36,7 +31,11 @@ pub(crate) fn typed(
     told: &mut Told,
 ) -> Result<(), Stop> {
     let source = row.bytes(alloc, texts, 2)?;
-    match compile_whole(alloc, &source, OPTIONS) {
+    let options = Options {
+        stack: 65536,
+        out_cap: 64,
+    };
+    match compile_whole(alloc, &source, options) {
         Ok(whole) => tell_typed(alloc, &whole.prog, told),
         Err(fault) => tell_fault(told, fault),
     }
@@ -62,7 +61,11 @@ pub(crate) fn counts(
 ) -> Result<(), Stop> {
     let source = row.bytes(alloc, texts, 2)?;
     let name = row.field(1)?;
-    match compile_whole(alloc, &source, OPTIONS) {
+    let options = Options {
+        stack: 65536,
+        out_cap: 64,
+    };
+    match compile_whole(alloc, &source, options) {
         Ok(whole) => tell_counts(&whole.prog, name, told),
         Err(fault) => tell_fault(told, fault),
     }
@@ -97,7 +100,11 @@ pub(crate) fn frames(
     let source = row.bytes(alloc, texts, 2)?;
     let table = frames_of(alloc, row.field(3)?)?;
     let names = row.field(4)?;
-    match compile_whole(alloc, &source, OPTIONS) {
+    let options = Options {
+        stack: 65536,
+        out_cap: 64,
+    };
+    match compile_whole(alloc, &source, options) {
         Ok(whole) => tell_sizes(alloc, &table, &whole.prog, names, told),
         Err(fault) => tell_fault(told, fault),
     }
