@@ -2,7 +2,7 @@ use crate::stop::Stop;
 use crate::told::Told;
 use im_block::{Block, Exit, Function, Line, Place, Registers, Unit};
 use im_force::force;
-use im_num::{Cause, Kind};
+use im_num::Kind;
 use std::alloc::Global;
 
 /// The static.
