@@ -3,7 +3,7 @@ use Rattle.im_select_assemble.proofs.One.{layouts_of}
 use Rattle.im_trials.proofs.assembling.a_program_is_linked.Goals as goal
 
 pub assemble-requires : goal.assemble-requires
-assemble-requires g c =
+assemble-requires c =
     let unit = c.in_ok-unit.unit in
     let layouts : c.deref.result.now ≡ c.in_ok-layouts.layouts.items = c.deref.ensures.value in
     let names : c.deref-2.result.now ≡ c.in_ok-names.names.items = c.deref-2.ensures.value in

@@ -3,7 +3,7 @@ use Rattle.im_tok.specs.Literals.IsElement.{plain, simple}
 use Rattle.im_trials.proofs.literals.strings.Goals as goal
 
 pub text_bytes-requires : goal.text_bytes-requires
-text_bytes-requires g c = (
+text_bytes-requires c = (
   97 ∷ 10 ∷ [],
   (
     record { value = 97; length = 1 } ∷ record { value = 10; length = 2 } ∷ [],
