@@ -15,8 +15,9 @@ import sys
 import time
 
 from base import TESTS, TOP, Failed, Room, Skipped
+import beside  # noqa: F401  (each module registers its tests)
 import pages
-import power  # noqa: F401  (each module registers its tests)
+import power  # noqa: F401
 import script  # noqa: F401
 import sizes  # noqa: F401
 import statuses  # noqa: F401
