@@ -90,7 +90,7 @@ class Room:
 
     def __enter__(self):
         self.folder = tempfile.mkdtemp(prefix="intermit-test-")
-        for name in ("examples", "crates", "tools", "tests", "docs", "bench"):
+        for name in ("examples", "include", "crates", "tools", "tests", "docs", "bench"):
             os.symlink(os.path.join(TOP, name), self.path(name))
         self.file("intermit", f'#!/bin/sh\nexec {shlex.quote(self.program)} "$@"\n'.encode())
         os.chmod(self.path("intermit"), 0o755)
