@@ -1,7 +1,9 @@
 //! The front end: from the bytes of a source to its syntax tree, or the line where it is no C.
 #![tactic(auto)]
 
+mod laws;
 mod reading;
 mod runs;
 
+pub use laws::one_word_law;
 pub use reading::{Text, line_of, read_source};

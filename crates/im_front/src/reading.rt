@@ -2,7 +2,7 @@ ghost use Rattle.std.specs.Prelude.{◌≡◌, ◌<◌, ◌^◌, length, IfOk, M
 ghost use Rattle.im_lex.specs.Lexing.{line_at};
 ghost use Rattle.im_front.specs.Reading.{IsRead, IsTokenFault, AreTokens, of_token, token_lines, line_among};
 
-use crate::runs::has_long_run;
+use crate::runs::may_outgrow_stack;
 use im_ctree::Tree;
 use im_fault::{LineFault, Quantity, SourceFault};
 use im_lex::{LexFault, LexFaultKind, lex};
@@ -96,7 +96,7 @@ pub fn read_source(alloc: Global, source: &[u8]) -> Result<Text, SourceFault>
         });
     }
     let tokens = lexed(alloc, source)?;
-    match has_long_run(alloc, source, &tokens) {
+    match may_outgrow_stack(alloc, source, &tokens) {
         Ok(false) => {}
         Ok(true) | Err(_) => return Err(SourceFault::OutOfMemory),
     }

@@ -1,8 +1,11 @@
 //! Links that the nesting doesn't count: casts, calls, indices, commas and array suffixes. Each may
 //! go a step down the tree.
+ghost use Rattle.std.specs.List.{All};
+ghost use Rattle.im_parse.specs.Spelling.{IsWithin};
 
 use im_num::NoMemory;
 use im_tok::{Token, TokenKind};
+use im_word::{first_too_deep, word_of};
 use std::alloc::Global;
 
 /// The most such links from one statement, declaration or initialiser to the next. A tree of more
@@ -156,11 +159,7 @@ impl Run {
 }
 
 /// Whether more links than the stack surely has room for follow one another.
-pub(crate) fn has_long_run(
-    alloc: Global,
-    source: &[u8],
-    tokens: &[Token],
-) -> Result<bool, NoMemory> {
+fn has_long_run(alloc: Global, source: &[u8], tokens: &[Token]) -> Result<bool, NoMemory> {
     let mut run = Run::new(alloc);
     for token in tokens {
         run.token(source, token)?;
@@ -169,4 +168,33 @@ pub(crate) fn has_long_run(
         }
     }
     Ok(false)
+}
+
+/// Whether the nesting of some token is over the limit.
+fn is_nested_too_deep(alloc: Global, source: &[u8], tokens: &[Token]) -> Result<bool, NoMemory>
+    requires { All (IsWithin source.now) tokens.now }
+{
+    let mut words = Vec::with_capacity(alloc, tokens.len())?;
+    for token in tokens {
+        let word = word_of(alloc, source, token)?;
+        words.push(word)?;
+    }
+    let first = first_too_deep(alloc, &words)?;
+    Ok(first.is_some())
+}
+
+/// Whether a tree of these tokens might go further down than the stack surely has room for: more
+/// links than that follow one another, and no nesting is over the limit, so that a tree may grow.
+pub(crate) fn may_outgrow_stack(
+    alloc: Global,
+    source: &[u8],
+    tokens: &[Token],
+) -> Result<bool, NoMemory>
+    requires { All (IsWithin source.now) tokens.now }
+{
+    if !has_long_run(alloc, source, tokens)? {
+        return Ok(false);
+    }
+    let is_refused = is_nested_too_deep(alloc, source, tokens)?;
+    Ok(!is_refused)
 }

@@ -1,0 +1,4 @@
+mod Spelled
+mod Numerals
+mod Literals
+mod OneWord
