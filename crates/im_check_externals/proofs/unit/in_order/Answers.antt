@@ -8,13 +8,6 @@ use Rattle.im_check_externals.proofs.unit.in_order.Goals as goal
 pub loop-x-init : goal.loop-x-init
 loop-x-init c = reached_none c.args.file.now _ c.args.list.items c.new.ensures.items c.new-2.ensures.items
 
-pub loop-x-preserved-in_ok-external : goal.loop-x-preserved-in_ok-external
-loop-x-preserved-in_ok-external c =
-    let all = c.args.list.items in
-    let h = c.into_iter-x-iterator.ensures.into_iter_gives in
-    let t = YieldsList-turn (YieldsList-from_vec {s = c.into_iter-x-iterator.result} all h.0 (h.1 ∙ c.args.list.ok.0)) c.loop-x.yielded c.loop-x.x-iterator c.loop-x.yielded_by c.next.result c.next.new.self c.in-Some.x c.in-Some.is c.next.ensures.steps in
-    reached_push all c.loop-x.yielded c.in-Some.x t.0 t.1 c.loop-x.invariant c.in_ok-external.ensures
-
 pub loop-x-preserved : goal.loop-x-preserved
 loop-x-preserved c =
     let all = c.args.list.items in
