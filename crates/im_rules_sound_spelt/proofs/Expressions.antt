@@ -53,7 +53,7 @@ around-bytes p ns (t.declarator q ms c ts) us h k = by-form (unsuffixed us || un
     by-form true = let both = parted (strings_of_core c) (strings_of_suffixes ts) h in bytes-append (strings_of_core c) (strings_of_suffixes (append_suffixes ts us)) both.0 (suffixes-joined ts us both.1 k)
     by-form false = bytes-append (strings_of_declarator (t.declarator q ms c ts)) (strings_of_suffixes us) h k
 
-around-name : (p : ℕ) (ns : List ℕ) (d : t.Declarator) (us : t.Suffixes) → name_of (around p ns d us) ≡ name_of d
+pub around-name : (p : ℕ) (ns : List ℕ) (d : t.Declarator) (us : t.Suffixes) → name_of (around p ns d us) ≡ name_of d
 around-name p ns (t.declarator q ms c ts) us = by-form (unsuffixed us || unstarred ms)
   where
     by-form : (b : Bool) → name_of (cond b (t.declarator p (ns ++ ms) c (append_suffixes ts us)) (t.declarator p ns (t.inner_core (t.declarator q ms c ts)) us)) ≡ name_of (t.declarator q ms c ts)

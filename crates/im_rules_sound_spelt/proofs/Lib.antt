@@ -1,3 +1,4 @@
 pub mod Expressions
 pub mod Units
 pub mod Tokens
+pub mod Names
