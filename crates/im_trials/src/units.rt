@@ -1,0 +1,224 @@
+use crate::meanings::tell_outcome;
+use crate::stop::Stop;
+use crate::told::Told;
+use im_block::{Block, Constant, Exit, Function, Line, Object, Place, Registers, Static, Unit};
+use im_block_run::{Setting, run};
+use im_ctype::Cell;
+use im_eval::Outcome;
+use im_num::Kind;
+use im_store::BinaryOp;
+use std::alloc::Global;
+
+// struct { int a; unsigned char b; } p = {5, 7}, q; int s;
+// int add(int n) { while (n) { s = s + n; n = n - 1; } return s; }
+// int main(void) { q = p; putchar(add(3) + q.b); return q.a; }
+
+const P: u32 = 0;
+
+const Q: u32 = 1;
+
+const S: u32 = 2;
+
+const N: u32 = 3;
+
+fn of_static(object: u32, offset: u32) -> Place {
+    Place::Static { object, offset }
+}
+
+const THE_N: Place = Place::Local {
+    object: N,
+    offset: 0,
+};
+
+fn read(to: u32, place: Place, kind: Kind) -> Line {
+    Line::Read {
+        to,
+        place,
+        kind,
+        access: 0,
+    }
+}
+
+fn write(place: Place, kind: Kind, from: u32) -> Line {
+    Line::Write {
+        place,
+        kind,
+        from,
+        access: 0,
+    }
+}
+
+fn compute(to: u32, op: BinaryOp, left: u32, right: u32) -> Line {
+    Line::Compute {
+        to,
+        op,
+        kind: Kind::I32,
+        left,
+        right,
+    }
+}
+
+fn body(alloc: Global) -> Result<Vec<Line>, Stop> {
+    Ok(vec![in alloc;
+        read(1, of_static(S, 0), Kind::I32),
+        read(2, THE_N, Kind::I32),
+        compute(1, BinaryOp::Add, 1, 2),
+        write(of_static(S, 0), Kind::I32, 1),
+        read(1, THE_N, Kind::I32),
+        Line::Put { to: 2, number: 1 },
+        compute(1, BinaryOp::Subtract, 1, 2),
+        write(THE_N, Kind::I32, 1),
+    ]?)
+}
+
+fn add_blocks(alloc: Global) -> Result<Vec<Block>, Stop> {
+    Ok(vec![in alloc;
+        Block {
+            lines: vec![in alloc; read(1, of_static(S, 0), Kind::I32)]?,
+            exit: Exit::Return(Some(1)),
+        },
+        Block {
+            lines: Vec::new(alloc),
+            exit: Exit::Turn(4),
+        },
+        Block {
+            lines: vec![in alloc; read(1, THE_N, Kind::I32)]?,
+            exit: Exit::Branch {
+                on: 1,
+                holds: 1,
+                fails: 0,
+            },
+        },
+        Block {
+            lines: vec![in alloc; write(THE_N, Kind::I32, 0)]?,
+            exit: Exit::Jump(2),
+        },
+        Block {
+            lines: body(alloc)?,
+            exit: Exit::Jump(2),
+        },
+    ]?)
+}
+
+fn int(alloc: Global) -> Result<Object, Stop> {
+    let cells = vec![in alloc;
+        Cell {
+            offset: 0,
+            kind: Kind::I32
+        },
+    ]?;
+    Ok(Object { size: 4, cells })
+}
+
+fn add(alloc: Global) -> Result<Function, Stop> {
+    Ok(Function {
+        nodes: 16,
+        need: 208,
+        registers: Registers::Virtual,
+        register_count: 3,
+        parameters: 1,
+        first_parameter: 0,
+        first_object: N,
+        objects: vec![in alloc; int(alloc)?]?,
+        slots: 0,
+        blocks: add_blocks(alloc)?,
+        entry: 3,
+    })
+}
+
+fn main_lines(alloc: Global) -> Result<Vec<Line>, Stop> {
+    Ok(vec![in alloc;
+        read(0, of_static(P, 0), Kind::I32),
+        read(1, of_static(P, 4), Kind::U8),
+        write(of_static(Q, 0), Kind::I32, 0),
+        write(of_static(Q, 4), Kind::U8, 1),
+        Line::Put { to: 0, number: 3 },
+        Line::Call {
+            to: 0,
+            function: 0,
+            first: 0,
+            count: 1,
+        },
+        read(1, of_static(Q, 4), Kind::U8),
+        compute(0, BinaryOp::Add, 0, 1),
+        Line::PutChar { to: 0, from: 0 },
+        read(0, of_static(Q, 0), Kind::I32),
+    ]?)
+}
+
+fn main_of(alloc: Global) -> Result<Function, Stop> {
+    let block = Block {
+        lines: main_lines(alloc)?,
+        exit: Exit::Return(Some(0)),
+    };
+    Ok(Function {
+        nodes: 14,
+        need: 184,
+        registers: Registers::Virtual,
+        register_count: 2,
+        parameters: 0,
+        first_parameter: 0,
+        first_object: 4,
+        objects: Vec::new(alloc),
+        slots: 0,
+        blocks: vec![in alloc; block]?,
+        entry: 0,
+    })
+}
+
+fn pair(alloc: Global, name: &[u8], a: i128, b: i128) -> Result<Static, Stop> {
+    let cells = vec![in alloc;
+        Cell {
+            offset: 0,
+            kind: Kind::I32
+        },
+        Cell {
+            offset: 4,
+            kind: Kind::U8
+        },
+    ]?;
+    Ok(Static {
+        name: Vec::from_slice(alloc, name)?,
+        object: Object { size: 8, cells },
+        values: vec![in alloc; Constant::Number(a), Constant::Number(b)]?,
+    })
+}
+
+fn unit(alloc: Global) -> Result<Unit, Stop> {
+    let sum = Static {
+        name: Vec::from_slice(alloc, b"s")?,
+        object: int(alloc)?,
+        values: vec![in alloc; Constant::Number(0)]?,
+    };
+    Ok(Unit {
+        statics: vec![in alloc; pair(alloc, b"p", 5, 7)?, pair(alloc, b"q", 0, 0)?, sum]?,
+        functions: vec![in alloc; add(alloc)?, main_of(alloc)?]?,
+        main: 1,
+    })
+}
+
+fn outcome(alloc: Global, stack: u32, fuel: u64, steps: u64) -> Result<Option<Outcome>, Stop> {
+    let setting = Setting {
+        frames: &[32, 16],
+        stack,
+        capacity: 1,
+        input: &[],
+    };
+    Ok(run(alloc, &unit(alloc)?, setting, fuel, steps)?)
+}
+
+fn tell_run(alloc: Global, stack: u32, fuel: u64, steps: u64, told: &mut Told) -> Result<(), Stop> {
+    told.say(";")?;
+    match outcome(alloc, stack, fuel, steps)? {
+        Some(outcome) => tell_outcome(alloc, told, &outcome),
+        None => told.say(" too many steps"),
+    }
+}
+
+/// The unit with stack and fuel, with less fuel, with less stack, and with few steps.
+pub(crate) fn a_unit_is_interpreted(alloc: Global, told: &mut Told) -> Result<(), Stop> {
+    tell_run(alloc, 48, 5, 80, told)?;
+    tell_run(alloc, 48, 4, 80, told)?;
+    tell_run(alloc, 47, 5, 80, told)?;
+    tell_run(alloc, 48, 5, 8, told)
+}
