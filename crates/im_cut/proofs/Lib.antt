@@ -1,0 +1,10 @@
+pub mod Flows
+pub mod Sweeps
+pub mod Sections
+pub mod Dues
+pub mod Greedies
+pub mod Down
+pub mod Standing
+pub mod Passing
+pub mod Tables
+pub mod Commons

@@ -1,0 +1,6 @@
+pub mod Greedy
+pub mod Sweep
+pub mod Laws
+pub mod Stands
+pub mod Lines
+pub mod Blocks
