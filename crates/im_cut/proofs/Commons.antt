@@ -1,16 +1,15 @@
 -- Spans that two lists hold both, and reads that are added.
 use Rattle.std.proofs.Common.{◌≡◌, ℕ, zero, suc, ◌<◌, ◌≤◌, length, get_or, List, [], ◌∷◌, ◌++◌, Option, Some, None, refl, sym, ap, ◌∙◌, subst, inl, inr, ⊎_elim, ◌⊎◌, arith, max, min}
-use Rattle.std.specs.Prelude.{Bool, true, false, ◌==◌, ◌&&◌, ◌||◌, nat_le}
+use Rattle.std.specs.Prelude.{Bool, true, false, ◌&&◌, ◌||◌, nat_le}
 use Rattle.std.proofs.lemmas.Bool.{eqb-true, eq-eqb, leb-true, le-leb}
 use Rattle.im_block.specs.declared.access.Access.{Access}
 use Rattle.im_block.specs.declared.access.Tags.{Tags}
-use Rattle.im_block.specs.Sections.{Has}
 use Rattle.im_dep.specs.declared.spans.Base.{Base}
 use Rattle.im_dep.specs.declared.spans.Base.TheVariants.{Slot, Object}
 use Rattle.im_dep.specs.declared.spans.Span.{Span}
 use Rattle.im_dep.specs.Sites.{site_of_access}
 use Rattle.im_dep.specs.Spans.{same_base, span_holds, holds_span, is_covered}
-use Rattle.im_cut.specs.Stands.{IsAlike, HasAlike}
+use Rattle.im_cut.specs.Stands.{HasAlike}
 use Rattle.im_cut.specs.Blocks.{IsRange, SharesWith, AddsShared, AddsExposed}
 use Rattle.im_cut.proofs.Standing.{covered_more, has_more, has_behind, has_split}
 

@@ -1,5 +1,5 @@
 -- What the sweep over the blocks gives is a sweep with marks at each start and end.
-use Rattle.std.proofs.Common.{◌≡◌, ℕ, zero, suc, ◌+◌, ◌<◌, ◌≤◌, List, [], ◌∷◌, ◌++◌, Option, Some, None, refl, sym, ap, ◌∙◌, subst, inl, inr, ⊎_elim, ◌⊎◌, arith}
+use Rattle.std.proofs.Common.{◌≡◌, ℕ, zero, suc, ◌+◌, ◌<◌, ◌≤◌, List, [], ◌∷◌, ◌++◌, Some, refl, sym, ap, ◌∙◌, subst, inl, inr, ⊎_elim, ◌⊎◌, arith}
 use Rattle.std.specs.Prelude.{Bool, true, false, slice_get, ◌==◌, ◌&&◌, ◌||◌, nat_le, if◌then◌else◌}
 use Rattle.std.proofs.lemmas.Bool.{eqb-true, eq-eqb, leb-true, le-leb, cases_lt}
 use Rattle.im_block.specs.declared.access.Tags.{Tags}
@@ -15,9 +15,9 @@ use Rattle.im_block.specs.Paths.{WriteStep, steps_of, IsCut, IsEdge}
 use Rattle.im_block.specs.Shape.{Descends, IsOrdered}
 use Rattle.im_block.specs.Forced.{EndsWithCut, CutAtTurn}
 use Rattle.im_dep.specs.Spans.{covers_by}
-use Rattle.im_cut.specs.Sweep.{Marks, passed, fresh, SweepLines, Ends, Keeps, Cuts, SweepBlocks, ComesFrom, Joined, Swept}
+use Rattle.im_cut.specs.Sweep.{Marks, passed, fresh, SweepLines, Ends, Keeps, Cuts, SweepBlocks, ComesFrom, Swept}
 use Rattle.im_cut.specs.Blocks.{joined, only_if, turns_to, is_turned, begins, start_marks, leads_to, handed, SweepDown, Last, Down}
-use Rattle.im_cut.proofs.Sweeps.{SweptBlock, swept_block}
+use Rattle.im_cut.proofs.Sweeps.{swept_block}
 
 -- ---- tests
 

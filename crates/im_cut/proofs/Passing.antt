@@ -1,6 +1,6 @@
 -- Lines that are swept, one after the other.
-use Rattle.std.proofs.Common.{◌≡◌, ℕ, List, [], ◌∷◌, ◌++◌, Option, Some, None, refl, sym, ap, ◌∙◌, subst, append_assoc}
-use Rattle.std.specs.Prelude.{Bool, true, false, if◌then◌else◌}
+use Rattle.std.proofs.Common.{◌≡◌, List, [], ◌∷◌, ◌++◌, Option, Some, None, refl, sym, ap, ◌∙◌, subst, append_assoc}
+use Rattle.std.specs.Prelude.{Bool, true, false}
 use Rattle.std.proofs.lemmas.List.{append-nil}
 use Rattle.im_num.specs.declared.values.Cause.TheVariants.{Dep as DepCut}
 use Rattle.im_block.specs.declared.access.Access.{Access}
@@ -9,7 +9,6 @@ use Rattle.im_block.specs.declared.access.Dep.{Dep}
 use Rattle.im_block.specs.declared.code.Line.{Line}
 use Rattle.im_block.specs.declared.code.Line.TheVariants.{Read, Write, Reload, Spill, Cut}
 use Rattle.im_block.specs.Meaning.{Site}
-use Rattle.im_block.specs.Sections.{Has}
 use Rattle.im_block.specs.Tagged.{Meet, reach_of}
 use Rattle.im_block.specs.Paths.{WriteStep, steps_of, MeetAt}
 use Rattle.im_dep.specs.Sites.{site_of_access}
@@ -17,8 +16,8 @@ use Rattle.im_dep.specs.Spans.{covers_by}
 use Rattle.im_dep.specs.Exposed.{dep_of}
 use Rattle.im_cut.specs.declared.marks.Marks.{Marks as Known}
 use Rattle.im_cut.specs.Sweep.{Marks, fresh, passed, SweepLines, Ends, Keeps, Cuts}
-use Rattle.im_cut.specs.Stands.{IsAlike, HasAlike, Stands, touched}
-use Rattle.im_cut.specs.Lines.{access_of, is_cut, PassesLine, IsDep, IsDepOf, IsDueFor, IsDueAt, LinesSwept, SweepsLines}
+use Rattle.im_cut.specs.Stands.{IsAlike, Stands, touched}
+use Rattle.im_cut.specs.Lines.{access_of, is_cut, PassesLine, IsDep, IsDueFor, IsDueAt, LinesSwept, SweepsLines}
 
 -- ---- the marks behind a line
 

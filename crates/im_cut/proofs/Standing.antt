@@ -7,7 +7,7 @@ use Rattle.im_block.specs.declared.access.Tag.{Tag}
 use Rattle.im_block.specs.declared.access.Tags.{Tags}
 use Rattle.im_block.specs.Meaning.{Site}
 use Rattle.im_block.specs.Sections.{Has}
-use Rattle.im_block.specs.Tagged.{Reach, ToSlot, Exactly, Among, reach_of_tag, reach_at, tag_of, reach_of}
+use Rattle.im_block.specs.Tagged.{Reach, ToSlot, Exactly, Among, reach_at, tag_of, reach_of}
 use Rattle.im_block.specs.Flow.{same_slot, same_site}
 use Rattle.im_dep.specs.declared.spans.Span.{Span}
 use Rattle.im_dep.specs.Sites.{site_of_access}

@@ -1,5 +1,5 @@
 -- The table of marks behind each step of the sweep over the blocks.
-use Rattle.std.proofs.Common.{◌≡◌, ℕ, zero, suc, ◌+◌, ◌<◌, ◌≤◌, List, [], ◌∷◌, ◌++◌, length, take, drop, get_or, Option, Some, None, refl, sym, ap, ◌∙◌, subst, inl, inr, ⊎_elim, ◌⊎◌, arith}
+use Rattle.std.proofs.Common.{◌≡◌, ℕ, zero, suc, ◌+◌, ◌<◌, ◌≤◌, List, [], ◌∷◌, ◌++◌, length, take, drop, get_or, Some, None, refl, sym, ap, ◌∙◌, subst, inl, inr, ⊎_elim, ◌⊎◌, arith}
 use Rattle.std.specs.Prelude.{Bool, true, false, not, ◌==◌, ◌&&◌, ◌||◌, slice_get, slice_set}
 use Rattle.std.proofs.lemmas.Bool.{eqb-true, eq-eqb}
 use Rattle.std.proofs.lemmas.List.{get_or-take, take-set, drop-set, drop_all}
@@ -9,7 +9,7 @@ use Rattle.im_block.specs.declared.access.Access.{Access}
 use Rattle.im_block.specs.declared.access.Tags.{Tags}
 use Rattle.im_block.specs.declared.access.Dep.{Dep}
 use Rattle.im_block.specs.declared.code.Exit.{Exit}
-use Rattle.im_block.specs.declared.code.Exit.TheVariants.{Jump, Turn, Branch, Return}
+use Rattle.im_block.specs.declared.code.Exit.TheVariants.{Jump, Branch}
 use Rattle.im_block.specs.declared.code.Block.{Block}
 use Rattle.im_block.specs.declared.unit.Function.{Function}
 use Rattle.im_block.specs.Sections.{Has}
@@ -23,7 +23,7 @@ use Rattle.im_cut.specs.Greedy.{CutsTo}
 use Rattle.im_cut.specs.Sweep.{Marks}
 use Rattle.im_cut.specs.Stands.{Stands}
 use Rattle.im_cut.specs.Lines.{SweepsLines}
-use Rattle.im_cut.specs.Blocks.{joined, only_if, leads_to, handed, Joins, JoinsAt, HandsOn, StandBelow, BlockSwept, SweepsBlock, IsStart, AreBlank, AreStarts, start_marks, begins, BegunIf, BeginsWhere, is_turned, turns_to, SweepDown, Last, Down}
+use Rattle.im_cut.specs.Blocks.{joined, only_if, leads_to, handed, Joins, JoinsAt, HandsOn, StandBelow, SweepsBlock, IsStart, AreBlank, AreStarts, start_marks, begins, BegunIf, BeginsWhere, is_turned, turns_to, SweepDown, Last, Down}
 use Rattle.im_cut.proofs.Standing.{stands_skip}
 use Rattle.im_cut.proofs.Down.{swept_down}
 use Rattle.im_cut.proofs.Dues.{swept_due}

@@ -1,5 +1,5 @@
 -- What the vectors of a sweep say of each read: the marks that they stand for.
-use Rattle.std.specs.Prelude.{◌≡◌, ℕ, ◌≤◌, Bool, true, false, ◌&&◌, ◌||◌, not, if◌then◌else◌, List, [], ◌∷◌, Option, Some, None}
+use Rattle.std.specs.Prelude.{◌≡◌, true, false, ◌&&◌, not, if◌then◌else◌, List}
 use Rattle.im_block.specs.declared.access.Access.{Access}
 use Rattle.im_block.specs.declared.access.Tags.{Tags}
 use Rattle.im_block.specs.Meaning.{Site}

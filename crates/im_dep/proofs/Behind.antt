@@ -1,5 +1,5 @@
 -- What is written, open and found behind one access more.
-use Rattle.std.proofs.Common.{◌≡◌, ℕ, List, [], ◌∷◌, ◌++◌, Option, Some, None, Bool, true, false, refl, sym, ap, ◌∙◌, subst, inl, inr, ⊎_elim, ◌⊎◌, append_assoc}
+use Rattle.std.proofs.Common.{◌≡◌, ℕ, List, [], ◌∷◌, ◌++◌, Option, Some, Bool, true, false, refl, sym, ap, ◌∙◌, subst, inl, inr, ⊎_elim, ◌⊎◌, append_assoc}
 use Rattle.std.specs.Prelude.{◌||◌, if◌then◌else◌}
 use Rattle.im_block.specs.declared.access.Access.{Access}
 use Rattle.im_block.specs.declared.access.Tags.{Tags}
@@ -11,7 +11,7 @@ use Rattle.im_block.specs.Tagged.{reach_of}
 use Rattle.im_dep.specs.declared.spans.Span.{Span}
 use Rattle.im_dep.specs.Sites.{site_of_access, steps_of_accesses}
 use Rattle.im_dep.specs.Spans.{span_of, holds_span, covers_by, is_covered, AddsSpan}
-use Rattle.im_dep.specs.Exposed.{IsExposed, Clobbers, AreExposed, AreClobbers, dep_of, AddsMet}
+use Rattle.im_dep.specs.Exposed.{Clobbers, AreExposed, AreClobbers, dep_of, AddsMet}
 use Rattle.im_dep.proofs.Covering.{covers_yes, covers_so}
 use Rattle.im_dep.proofs.Lists.{has_more, has_behind, has_split}
 

@@ -1,5 +1,5 @@
 -- The test of spans decides which write covers which read, both ways.
-use Rattle.std.proofs.Common.{◌≡◌, ℕ, ◌+◌, ◌≤◌, Option, Some, None, refl, ap, ◌∙◌, sym, arith}
+use Rattle.std.proofs.Common.{◌≡◌, ℕ, ◌+◌, Option, Some, None, refl, ap, ◌∙◌}
 use Rattle.std.specs.Prelude.{◌==◌, nat_le, ◌&&◌, Bool, true, false}
 use Rattle.std.proofs.lemmas.Bool.{eqb-true, eq-eqb, leb-true, le-leb}
 use Rattle.im_block.specs.Tagged.{Reach, ToSlot, Exactly, Among, Covers}

@@ -1,5 +1,5 @@
 -- The bytes of direct accesses, and which of them hold which.
-use Rattle.std.specs.Prelude.{◌≡◌, ℕ, ◌+◌, ◌==◌, nat_le, ◌&&◌, ◌||◌, Bool, true, false, List, [], ◌∷◌, Option, Some, None}
+use Rattle.std.specs.Prelude.{◌≡◌, ℕ, ◌+◌, ◌==◌, nat_le, ◌&&◌, ◌||◌, Bool, false, List, [], ◌∷◌, Option, Some, None}
 use Rattle.im_block.specs.declared.access.Tags.{Tags}
 use Rattle.im_block.specs.Meaning.{Site}
 use Rattle.im_block.specs.Tagged.{Reach, ToSlot, Exactly, Among, reach_of}

@@ -1,4 +1,4 @@
-use Rattle.std.proofs.Common.{◌≡◌, ℕ, suc, ◌<◌, ◌≤◌, ◌-◌, refl, arith, List, [], sym, subst, length}
+use Rattle.std.proofs.Common.{◌≡◌, ℕ, suc, ◌<◌, ◌≤◌, ◌-◌, refl, arith, List, sym, subst, length}
 use Rattle.im_block.specs.declared.access.Dep.{Dep}
 use Rattle.im_cut.proofs.Tables.{CutSoFar, cut_none, cut_more, cut_whole}
 use Rattle.im_cut.proofs.blocks.cut_in.Goals as goal

@@ -1,4 +1,3 @@
-use Rattle.std.proofs.Common.{◌≡◌, ℕ, take, drop, length}
 use Rattle.im_cut.proofs.Tables.{CutSoFar}
 use Rattle.im_cut.proofs.blocks.cut_in.Given as goal
 

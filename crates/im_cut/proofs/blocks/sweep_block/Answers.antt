@@ -1,5 +1,5 @@
 use Rattle.std.proofs.Common.{◌≡◌, List, Some, refl, sym, subst, length}
-use Rattle.std.specs.Prelude.{slice_get, slice_set}
+use Rattle.std.specs.Prelude.{slice_get}
 use Rattle.std.proofs.lemmas.Option.{slice_get_read}
 use Rattle.im_block.specs.declared.code.Line.{Line}
 use Rattle.im_cut.specs.declared.marks.Marks.{Marks as Known}

@@ -4,7 +4,7 @@ use Rattle.im_block.specs.declared.access.Access.{Access}
 use Rattle.im_dep.specs.Sites.{site_of_access}
 use Rattle.im_cut.specs.Stands.{HasAlike}
 use Rattle.im_cut.specs.Blocks.{AddsExposed}
-use Rattle.im_cut.proofs.Commons.{added_nothing, added_alike, added_pushed}
+use Rattle.im_cut.proofs.Commons.{added_alike, added_pushed}
 use Rattle.im_cut.proofs.joins.add_exposed.Goals as goal
 use Rattle.im_cut.proofs.joins.add_exposed.Goals.{then-not-alike_at+then-not-has_alike+in_ok-push, else-not-alike_at, else-not-alike_at-via-then-not-alike_at+else-not-has_alike, else-not-alike_at-via-else-not-alike_at}
 

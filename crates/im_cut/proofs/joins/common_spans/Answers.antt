@@ -1,5 +1,5 @@
 use Rattle.std.proofs.Common.{◌≡◌, ◌+◌, ◌∙◌, List, [], ◌∷◌, ◌++◌, sym, ap, subst, take, get_or}
-use Rattle.std.proofs.lemmas.List.{take_more, take_all}
+use Rattle.std.proofs.lemmas.List.{take_more}
 use Rattle.im_dep.specs.declared.spans.Base.TheVariants.{Slot}
 use Rattle.im_dep.specs.declared.spans.Span.{Span}
 use Rattle.im_cut.proofs.Commons.{CommonSoFar, common_nothing, common_held, common_shared}

@@ -1,4 +1,4 @@
-use Rattle.std.proofs.Common.{◌≡◌, ◌∙◌, ◌<◌, sym, length, arith}
+use Rattle.std.proofs.Common.{◌∙◌, ◌<◌, sym, length, arith}
 use Rattle.im_dep.specs.declared.spans.Base.TheVariants.{Slot}
 use Rattle.im_dep.specs.declared.spans.Span.{Span}
 use Rattle.im_cut.proofs.Commons.{covered_item}

@@ -1,4 +1,4 @@
-use Rattle.std.proofs.Common.{◌≡◌, ◌<◌, ◌≤◌, refl, length, arith}
+use Rattle.std.proofs.Common.{◌<◌, ◌≤◌, refl, length, arith}
 use Rattle.std.proofs.lemmas.Option.{slice_get_read}
 use Rattle.im_cut.proofs.Tables.{joins_out, joins_set}
 use Rattle.im_cut.proofs.joins.join_at.Goals as goal

@@ -1,10 +1,9 @@
-use Rattle.std.proofs.Common.{◌≡◌, List, [], ◌∷◌, ◌++◌, None, ◌∙◌, sym, ap, subst, append_assoc}
+use Rattle.std.proofs.Common.{List, [], ◌∷◌, ◌++◌, None, ◌∙◌, ap, subst, append_assoc}
 use Rattle.im_num.specs.declared.values.Cause.TheVariants.{Dep as DepCut}
-use Rattle.im_block.specs.declared.access.Dep.{Dep}
 use Rattle.im_block.specs.declared.code.Line.{Line}
 use Rattle.im_block.specs.declared.code.Line.TheVariants.{Cut}
 use Rattle.im_block.specs.declared.access.Access.{Access}
-use Rattle.im_cut.specs.Lines.{IsDep, IsDueAt, SweepsLines}
+use Rattle.im_cut.specs.Lines.{IsDep, IsDueAt}
 use Rattle.im_cut.proofs.Passing.{keeps_line, cuts_more}
 use Rattle.im_cut.proofs.lines.sweep_line.Goals as goal
 

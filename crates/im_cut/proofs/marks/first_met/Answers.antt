@@ -1,5 +1,5 @@
-use Rattle.std.proofs.Common.{◌≡◌, ◌+◌, ◌∙◌, List, [], ◌∷◌, ◌++◌, None, true, false, sym, subst, ⊎_elim, take, get_or, length}
-use Rattle.std.proofs.lemmas.List.{take_more, take_all}
+use Rattle.std.proofs.Common.{◌≡◌, ◌∙◌, List, [], ◌∷◌, None, true, false, sym, subst, ⊎_elim, take, get_or}
+use Rattle.std.proofs.lemmas.List.{take_more}
 use Rattle.im_block.specs.declared.access.Access.{Access}
 use Rattle.im_block.specs.Sections.{Has}
 use Rattle.im_block.specs.Paths.{MeetAt}

@@ -1,4 +1,4 @@
-use Rattle.std.proofs.Common.{◌≡◌, List, None, true, false, get_or, length}
+use Rattle.std.proofs.Common.{None, false, get_or}
 use Rattle.im_block.specs.declared.access.Access.{Access}
 use Rattle.im_cut.proofs.Standing.{has_item}
 use Rattle.im_cut.proofs.marks.has_alike.Goals as goal

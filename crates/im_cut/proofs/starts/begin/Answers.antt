@@ -1,4 +1,4 @@
-use Rattle.std.proofs.Common.{◌≡◌, ◌<◌, ◌≤◌, sym, ap, refl, length, arith}
+use Rattle.std.proofs.Common.{◌<◌, ◌≤◌, sym, ap, refl, length, arith}
 use Rattle.im_cut.specs.declared.marks.Marks.{Marks as Known}
 use Rattle.im_cut.proofs.Tables.{begins_out, begins_set}
 use Rattle.im_cut.proofs.starts.begin.Goals as goal

@@ -1,4 +1,4 @@
-use Rattle.std.proofs.Common.{ℕ, sym, ap}
+use Rattle.std.proofs.Common.{sym, ap}
 use Rattle.std.specs.Prelude.{◌==◌}
 use Rattle.im_block.specs.declared.code.Exit.{Exit}
 use Rattle.im_cut.specs.Blocks.{turns_to}

@@ -1,4 +1,4 @@
-use Rattle.std.proofs.Common.{◌≡◌, ℕ, ◌+◌, ◌<◌, List, ◌∷◌, length, get_or, drop, refl, subst, ⊎_elim, arith}
+use Rattle.std.proofs.Common.{◌≡◌, ℕ, ◌<◌, List, length, get_or, refl, subst, ⊎_elim, arith}
 use Rattle.im_block.specs.Sections.{Has}
 use Rattle.im_dep.proofs.Lists.{has_item, drop_one}
 use Rattle.im_dep.proofs.pairs.is_among.Goals as goal

@@ -1,4 +1,4 @@
-use Rattle.std.proofs.Common.{◌≡◌, ℕ, ◌+◌, ◌<◌, List, ◌∷◌, length, get_or, drop, sym, ◌∙◌, refl, subst, ⊎_elim, arith, false, true}
+use Rattle.std.proofs.Common.{◌≡◌, ℕ, ◌<◌, List, length, get_or, sym, ◌∙◌, refl, subst, ⊎_elim, arith, false, true}
 use Rattle.im_block.specs.Sections.{Has}
 use Rattle.im_dep.proofs.Lists.{has_item, drop_one}
 use Rattle.im_dep.proofs.pairs.share_one.Goals as goal

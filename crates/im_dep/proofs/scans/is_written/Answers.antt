@@ -1,4 +1,4 @@
-use Rattle.std.proofs.Common.{◌≡◌, ◌+◌, ◌∙◌, sym, ap, get_or, drop}
+use Rattle.std.proofs.Common.{◌+◌, ◌∙◌, sym, ap, drop}
 use Rattle.std.specs.Prelude.{◌||◌}
 use Rattle.im_dep.specs.declared.spans.Base.TheVariants.{Slot}
 use Rattle.im_dep.specs.declared.spans.Span.{Span}

@@ -1,4 +1,4 @@
-use Rattle.std.proofs.Common.{◌≡◌, ◌∙◌, sym, ap, List}
+use Rattle.std.proofs.Common.{◌∙◌, sym, ap, List}
 use Rattle.std.specs.Prelude.{◌||◌, Option}
 use Rattle.im_dep.specs.declared.spans.Span.{Span}
 use Rattle.im_dep.specs.Spans.{is_covered, holds_span}

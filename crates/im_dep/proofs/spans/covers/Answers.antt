@@ -1,4 +1,4 @@
-use Rattle.std.proofs.Common.{◌≡◌, sym, ◌∙◌, true}
+use Rattle.std.proofs.Common.{◌≡◌, sym, ◌∙◌}
 use Rattle.im_block.specs.Tagged.{reach_of}
 use Rattle.im_dep.specs.Sites.{site_of_access}
 use Rattle.im_dep.specs.Spans.{covers_by}
