@@ -1,0 +1,102 @@
+ghost use Rattle.std.specs.Prelude.{◌≡◌, IfOk, length};
+
+use crate::marks::mark_bytes;
+use im_mem::{FlatMem, Memory};
+use im_num::NoMemory;
+use std::alloc::{AllocError, Global};
+use std::marker::Model;
+
+/// Bytes of a page.
+pub const PAGE_SIZE: u32 = 4096;
+
+/// Pages of memory: 5 MiB.
+pub const PAGE_COUNT: u32 = 1280;
+
+/// Memory with a mark for each page that was ever written to: a page without one is zero, so that
+/// who wants the bytes that aren't 0 looks at the marked pages alone. A contract sees it as the list
+/// of its bytes.
+#[derive(Drop)]
+pub struct PagedMem {
+    flat: FlatMem,
+    /// By the page's number.
+    marks: Vec<bool>,
+}
+
+impl Model for PagedMem {
+    ghost use Rattle.std.specs.Prelude.{◌≡◌, ℕ, List, length};
+    ghost use Rattle.im_mem.specs.Memory.{view as bytes_in};
+    ghost use Rattle.im_mem_paged.specs.Marks.{UnmarkedAreZero};
+
+    ghost Value = { List ℕ };
+
+    ghost view = { λ m. m.flat };
+
+    ghost invariant = { λ m. record {
+      count : length m.marks.items ≡ 1280;
+      zero : UnmarkedAreZero (bytes_in m.flat) m.marks.items;
+    } };
+}
+
+impl PagedMem {
+    ghost use Rattle.std.specs.Prelude.{◌≡◌, ◌≤◌, ◌<◌, ◌+◌, length, false, IfOk};
+    ghost use Rattle.im_mem.specs.Map.{memory_size};
+    ghost use Rattle.im_mem.specs.Memory.{view, written, zeroed, bytes_from};
+    ghost use Rattle.im_mem_paged.specs.Pages.{IsZeroPage};
+
+    /// Memory whose bytes are all 0. No later call takes memory.
+    pub fn new(alloc: Global) -> Result<PagedMem, NoMemory>
+        ensures { IfOk result (λ m. view m ≡ zeroed) }
+    {
+        let marks = no_marks(alloc)?;
+        Ok(PagedMem {
+            flat: FlatMem::new(alloc)?,
+            marks,
+        })
+    }
+
+    /// Writes bytes from an address on.
+    pub fn fill(&mut self, at: u32, bytes: &[u8])
+        requires { at + length bytes.now ≤ memory_size }
+        ensures { view self.new ≡ written (view self.old) at bytes.now }
+    {
+        mark_bytes(&mut self.marks, at as usize, bytes.len());
+        self.flat.fill(at, bytes);
+    }
+
+    /// The `count` bytes from an address on.
+    pub fn bytes_at(&self, at: u32, count: u32) -> &[u8]
+        requires { at + count ≤ memory_size }
+        ensures { result.now ≡ bytes_from (view self.now) at count }
+    {
+        self.flat.bytes_at(at, count)
+    }
+
+    /// A page that isn't marked is zero.
+    pub fn is_marked(&self, page: u32) -> bool
+        requires { page < 1280 }
+        ensures { result ≡ false → IsZeroPage (view self.now) page }
+    {
+        self.marks[page as usize]
+    }
+}
+
+fn no_marks(alloc: Global) -> Result<Vec<bool>, AllocError>
+    ensures { IfOk result (λ marks. length marks.items ≡ 1280) }
+{
+    vec![in alloc; false; 1280]
+}
+
+impl Memory for PagedMem {
+    ghost use Rattle.im_mem.specs.Memory.{view};
+
+    ghost bytes = { λ m. view m };
+
+    fn load(&self, addr: u32, size: u32) -> Option<u32> {
+        self.flat.load(addr, size)
+    }
+
+    fn store(&mut self, addr: u32, size: u32, word: u32) -> bool {
+        mark_bytes(&mut self.marks, addr as usize, size as usize);
+        self.flat.store(addr, size, word)
+    }
+}
