@@ -4,6 +4,7 @@ use Rattle.std.specs.Prelude.{◌==◌, ◌&&◌, ◌||◌, not, nat_le, nat_lt,
 use Rattle.std.specs.Int.{w32, bit_at, bit_not}
 use Rattle.std.proofs.lemmas.Bool.Decides.{nat_tests}
 use Rattle.std.proofs.lemmas.Nat.Bits.{bit_at_or, bit_at_and, bit_at_not, bit_at-lt, bit_at-zero, bit_at_set_same, bit_at_set_other, bit_at_mask_inside, bit_at_mask_below, bit_at_mask_above, bit_at-pow_same, bit_at-pow_other, same_from_bits}
+use Rattle.std.proofs.Math.Nat.{pow-le-pow_right}
 use Rattle.im_live.specs.Reads.{called}
 use Rattle.im_live.specs.Words.{has}
 
@@ -88,11 +89,11 @@ and_right false b e = absurd cc
 
 below_is : (f : ℕ → Bool) (n r : ℕ) → all_below f n ≡ true → r < n → f r ≡ true
 below_is f zero r e lt = absurd (omega arith)
-below_is f (suc n) r e lt = by (r == n) refl
+below_is f (suc n) r e lt = by (λ l. below_is f n r (and_right (f n) (all_below f n) e) l) (r == n) refl
   where
-    by : (t : Bool) → (r == n) ≡ t → f r ≡ true
-    by true q = let s : r ≡ n = same_of r n q in ap f s ∙ and_left (f n) (all_below f n) e
-    by false q = let ne = other_of r n q in below_is f n r (and_right (f n) (all_below f n) e) (omega arith)
+    by : (r < n → f r ≡ true) → (t : Bool) → (r == n) ≡ t → f r ≡ true
+    by k true q = let s : r ≡ n = same_of r n q in ap f s ∙ and_left (f n) (all_below f n) e
+    by k false q = let ne = other_of r n q in k (omega arith)
 
 pub has_called : (r : ℕ) → r < 32 → has 0xFFFFFFE2 r ≡ called r
 unfolding same_bool
@@ -124,3 +125,10 @@ shifted k lt = same_from_bits (1 * 2 ^ k % 2 ^ 32) (2 ^ k) (λ i. by i (i == k) 
     by : (i : ℕ) (t : Bool) → (i == k) ≡ t → bit_at (1 * 2 ^ k % 2 ^ 32) i ≡ bit_at (2 ^ k) i
     by i true e = let q : i ≡ k = same_of i k e in ap (λ z. bit_at (1 * 2 ^ k % 2 ^ 32) z) q ∙ bit_at_set_same w32 0 k lt ∙ sym (ap (λ z. bit_at (2 ^ k) z) q ∙ bit_at-pow_same k)
     by i false e = let ne = other_of i k e in bit_at_set_other w32 0 k lt i ne ∙ bit_at-zero i ∙ sym (bit_at-pow_other k i ne)
+
+pub shifts_grow : (a b : ℕ) → a + b < 32 → 1 * 2 ^ a % 2 ^ 32 ≤ 1 * 2 ^ (a + b) % 2 ^ 32
+shifts_grow a b lt =
+    let x : 1 * 2 ^ a % 2 ^ 32 ≡ 2 ^ a = shifted a (omega arith) in
+    let y : 1 * 2 ^ (a + b) % 2 ^ 32 ≡ 2 ^ (a + b) = shifted (a + b) lt in
+    let le : 2 ^ a ≤ 2 ^ (a + b) = pow-le-pow_right {n = 2} (omega arith) {i = a} {j = a + b} (omega arith) in
+    subst (λ z. z ≤ 1 * 2 ^ (a + b) % 2 ^ 32) (sym x) (subst (λ z. 2 ^ a ≤ z) (sym y) le)

@@ -76,10 +76,10 @@ module _ (blocks : List Block) (f : ℕ → ℕ → Bool) (r : ℕ) (known : (b 
 
 pub all_read : (blocks : List Block) (starts : List ℕ) → AreClosed blocks starts → (n b r : ℕ) → r < 32 → reads_first blocks n b r ≡ true → starts_have starts b r ≡ true
 all_read blocks starts closed zero b r lt e = absurd cc
-all_read blocks starts closed (suc n) b r lt e = by (slice_get blocks b) refl
+all_read blocks starts closed (suc n) b r lt e = by (λ q f. all_read blocks starts closed n q r lt f) (slice_get blocks b) refl
   where
-    by : (o : Option Block) → slice_get blocks b ≡ o → starts_have starts b r ≡ true
-    by None is = (let f : lives_in (reads_first blocks n) None r ≡ true = subst (λ z. lives_in (reads_first blocks n) z r ≡ true) is e in absurd cc)
-    by (Some block) is = closed b r block is lt
-        (lives_more (reads_first blocks n) (starts_have starts) r (λ q f. all_read blocks starts closed n q r lt f) block.lines.items block.exit
+    by : ((q : ℕ) → reads_first blocks n q r ≡ true → starts_have starts q r ≡ true) → (o : Option Block) → slice_get blocks b ≡ o → starts_have starts b r ≡ true
+    by k None is = (let f : lives_in (reads_first blocks n) None r ≡ true = subst (λ z. lives_in (reads_first blocks n) z r ≡ true) is e in absurd cc)
+    by k (Some block) is = closed b r block is lt
+        (lives_more (reads_first blocks n) (starts_have starts) r k block.lines.items block.exit
         (subst (λ z. lives_in (reads_first blocks n) z r ≡ true) is e))

@@ -1,29 +1,28 @@
 -- Sweeps over the blocks: words grow, by registers that some path reads, and an idle sweep leaves them closed.
 use Rattle.std.proofs.Common.{◌≡◌, ◌≢◌, ℕ, zero, suc, ◌+◌, ◌-◌, ◌*◌, ◌^◌, ◌<◌, ◌≤◌, ◌⊎◌, inl, inr, Bool, true, false, List, [], ◌∷◌, Option, Some, None, length, get_or, set, refl, sym, ap, ◌∙◌, subst, arith, get_or-set_same, get_or-set_other, ⊎_elim}
+use Rattle.std.specs.Bool.{OnFalse}
 use Rattle.std.specs.Prelude.{◌==◌, ◌&&◌, ◌||◌, not, slice_get, sum, bit_or, All}
 use Rattle.std.proofs.lemmas.Bool.Decides.{nat_tests}
 use Rattle.std.proofs.lemmas.Bool.{cases_lt}
-use Rattle.std.proofs.lemmas.Nat.{le_or_l}
+use Rattle.std.proofs.lemmas.Nat.{le_or_l, or_lt}
+use Rattle.std.proofs.lemmas.List.Sums.{sum_by-set, sum_by-le}
 use Rattle.std.proofs.lemmas.List.{length-set}
-use Rattle.std.proofs.lemmas.Option.{slice_get_within, get_or_from_slice_get}
+use Rattle.std.proofs.lemmas.Option.{slice_get_within, slice_get-get_or}
 use Rattle.im_block.specs.declared.code.Block.{Block}
 use Rattle.im_live.specs.Reads.{lives_before, reads_first, lives_in, IsLive}
-use Rattle.im_live.specs.Words.{has, starts_have, Joins, AreRead, AreClosed}
+use Rattle.im_live.specs.Words.{has, starts_have, Joins, AreRead, AreClosed, AreWords}
 use Rattle.im_live.proofs.Bits.{has_zero, has_or, same_of}
-use Rattle.im_live.proofs.Paths.{either, lives_found, all_read}
+use Rattle.im_live.proofs.Paths.{either, or_right, lives_found, all_read}
 
 -- ---- sums of lists
 
 sum_set : (xs : List ℕ) (i y : ℕ) → i < length xs → sum (set xs i y) + get_or xs i 0 ≡ sum xs + y
-sum_set [] i y lt = absurd (omega arith)
-sum_set (x ∷ xs) zero y lt = omega arith
-sum_set (x ∷ xs) (suc i) y lt = let h = sum_set xs i y (omega arith) in omega arith
+sum_set xs i y lt = sum_by-set (λ x. x) xs i y 0 lt
 
-pub sum_small : (xs : List ℕ) → ((k : ℕ) → k < length xs → get_or xs k 0 < 2 ^ 32) → sum xs ≤ length xs * 2 ^ 32
-sum_small [] h = omega arith
-sum_small (x ∷ xs) h =
-    let a : x < 2 ^ 32 = h 0 (omega arith) in
-    let b = sum_small xs (λ k lt. h (suc k) (omega arith)) in
+pub less_left : (n : ℕ) (old now : List ℕ) → length now ≡ n → AreWords now → sum old < sum now → n * 2 ^ 32 - sum now < n * 2 ^ 32 - sum old
+less_left n old now len small less =
+    let le : sum now ≤ length now * 2 ^ 32 = sum_by-le (λ x. x) (2 ^ 32) now (λ i d lt. (let k = small i d lt in omega arith)) in
+    let e : length now * 2 ^ 32 ≡ n * 2 ^ 32 = ap (λ z. z * 2 ^ 32) len in
     omega arith
 
 past_end : (xs : List ℕ) (i : ℕ) → length xs ≤ i → get_or xs i 0 ≡ 0
@@ -39,17 +38,15 @@ ClosedBelow blocks n starts = (b r : ℕ) (block : Block) → b < n → slice_ge
 pub record SweptTo (blocks : List Block) (n : ℕ) (first now : List ℕ) (is_news : Bool) : Type 0 where
   pub count : length now ≡ length first
   pub read : AreRead blocks first → AreRead blocks now
+  pub small : AreWords first → AreWords now
   pub grows : sum first ≤ sum now
   pub news : is_news ≡ true → sum first < sum now
   pub idle : is_news ≡ false → (now ≡ first) × ClosedBelow blocks n now
 
 pub begun : (blocks : List Block) (first : List ℕ) → SweptTo blocks 0 first first false
-begun blocks first = record { count = refl; read = λ k. k; grows = omega arith; news = λ e. absurd cc; idle = λ e. (refl, (λ b r block lt. absurd (omega arith))) }
+begun blocks first = record { count = refl; read = λ k. k; small = λ k. k; grows = omega arith; news = λ e. absurd cc; idle = λ e. (refl, (λ b r block lt. absurd (omega arith))) }
 
 module _ (blocks : List Block) (n : ℕ) (block : Block) (now new : List ℕ) (was is : Bool) (there : slice_get blocks n ≡ Some block) (within : n < length now) (same : length now ≡ length blocks) (j : Joins block n now new was is) where
-  old : ℕ
-  old = get_or now n 0
-
   abbrev joined : ℕ
   joined = bit_or (get_or now n 0) j.word
 
@@ -82,6 +79,13 @@ module _ (blocks : List Block) (n : ℕ) (block : Block) (now new : List ℕ) (w
       by true q = (let s : b ≡ n = same_of b n q in subst (λ z. (k : ℕ) × (reads_first blocks k z r ≡ true)) (sym s) (own (subst (λ z. has z r ≡ true) at_own (subst (λ z. starts_have new z r ≡ true) s e))))
       by false q = (let ne : b ≢ n = (λ s. (let t : (b == n) ≡ true = grind (arith, nat_tests) in absurd cc)) in before_known b (subst (λ z. has z r ≡ true) (at_other b ne) e))
 
+  small_step : AreWords now → AreWords new
+  small_step k = subst AreWords (sym j.new_is) (λ i d lt. by i d (subst (λ z. i < z) (length-set now n joined) lt) (i == n) refl)
+    where
+      by : (i d : ℕ) → i < length now → (t : Bool) → (i == n) ≡ t → get_or (set now n joined) i d < 2 ^ 32
+      by i d lt true q = (let s : i ≡ n = same_of i n q in subst (λ z. get_or (set now n joined) z d < 2 ^ 32) (sym s) (subst (λ z. z < 2 ^ 32) (sym (get_or-set_same now n joined d within)) (or_lt 32 (get_or now n 0) j.word (k n 0 within) j.small)))
+      by i d lt false q = (let ne : i ≢ n = (λ s'. (let t : (i == n) ≡ true = grind (arith, nat_tests) in absurd cc)) in subst (λ z. z < 2 ^ 32) (sym (get_or-set_other now n i joined d ne)) (k i d lt))
+
   -- nothing new
   unchanged : is ≡ false → (was ≡ false) × (joined ≡ get_or now n 0)
   unchanged e = by was (joined == get_or now n 0) refl refl (sym j.news ∙ e)
@@ -107,6 +111,7 @@ module _ (blocks : List Block) (n : ℕ) (block : Block) (now new : List ℕ) (w
   swept_more first s = record {
     count = ap length j.new_is ∙ length-set now n joined ∙ s.count;
     read = λ k. read_step (s.read k);
+    small = λ k. small_step (s.small k);
     grows = (let a = s.grows in let b = more in omega arith);
     news = λ e. by was refl e;
     idle = λ e. (let u = unchanged e in let i = s.idle u.0 in
@@ -127,12 +132,8 @@ module _ (blocks : List Block) (n : ℕ) (block : Block) (now new : List ℕ) (w
               let s' : b ≡ n = same_of b n q in
               let is_block : Some x ≡ Some block = sym at ∙ ap (slice_get blocks) s' ∙ there in
               let w : has j.word r ≡ true = j.lives r small ∙ subst (λ (o : Option Block). lives_in (starts_have now) o r ≡ true) is_block h in
-              let o : has joined r ≡ true = has_or (get_or now n 0) j.word r ∙ or_second (has (get_or now n 0) r) (has j.word r) w in
+              let o : has joined r ≡ true = has_or (get_or now n 0) j.word r ∙ or_right (has (get_or now n 0) r) (has j.word r) w in
               subst (λ z. starts_have now z r ≡ true) (sym s') (subst (λ z. has z r ≡ true) e o)
-
-          or_second : (a b : Bool) → b ≡ true → (a || b) ≡ true
-          or_second true b e = refl
-          or_second false b e = e
 
 -- ---- at the end
 
@@ -141,3 +142,10 @@ live_of blocks starts same read closed = record {
   some = λ b r small e. ⊎_elim (λ (l : b < length blocks). read b r l small e) (λ (l : length blocks ≤ b). (let z = past_end starts b (omega arith) in let h : has 0 r ≡ true = subst (λ x. has x r ≡ true) z e in let no = has_zero r in absurd cc)) (cases_lt b (length blocks));
   all = λ b r n small e. all_read blocks starts closed n b r small e;
 }
+
+pub idle_of : (blocks : List Block) (n : ℕ) (first now : List ℕ) (is_news : Bool) → length blocks ≤ n → SweptTo blocks n first now is_news → OnFalse is_news (AreClosed blocks now)
+idle_of blocks n first now true le s = tt
+idle_of blocks n first now false le s = λ b r block at small h. (s.idle refl).1 b r block (let k = slice_get_within blocks b block at in omega arith) at small h
+
+pub there_is : (blocks : List Block) (n : ℕ) (block : Block) → n < length blocks → block ≡ get_or blocks n block → slice_get blocks n ≡ Some block
+there_is blocks n block lt is = slice_get-get_or blocks n block lt ∙ ap Some (sym is)

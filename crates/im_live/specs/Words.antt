@@ -1,5 +1,5 @@
 -- Sets of the registers x0 to x31 as words: bit r for register r.
-use Rattle.std.specs.Prelude.{◌≡◌, ℕ, suc, ◌+◌, ◌<◌, ◌≤◌, ◌==◌, Bool, true, List, [], ◌∷◌, ◌++◌, Option, None, Some, All, length, drop, slice_get, slice_index, slice_set, bit_or, not, ◌||◌}
+use Rattle.std.specs.Prelude.{◌≡◌, ℕ, suc, ◌+◌, ◌<◌, ◌≤◌, ◌^◌, ◌==◌, Bool, true, List, [], ◌∷◌, ◌++◌, Option, None, Some, All, length, drop, slice_get, slice_index, slice_set, bit_or, not, ◌||◌}
 use Rattle.std.specs.Int.{bit_at}
 use Rattle.im_block.specs.declared.code.Place.{Place}
 use Rattle.im_block.specs.declared.code.Place.TheVariants.{Static, Local, Through}
@@ -45,9 +45,13 @@ AreRead blocks starts = (b r : ℕ) → b < length blocks → r < 32 → starts_
 abbrev pub AreClosed : List Block → List ℕ → Type 0
 AreClosed blocks starts = (b r : ℕ) (block : Block) → slice_get blocks b ≡ Some block → r < 32 → lives_before (starts_have starts) block.lines.items block.exit r ≡ true → starts_have starts b r ≡ true
 
+abbrev pub AreWords : List ℕ → Type 0
+AreWords starts = All (λ word. word < 2 ^ 32) starts
+
 -- what one block adds to the words: those before its lines come to its own. joined: the word now
 pub record Joins (block : Block) (number : ℕ) (old new : List ℕ) (was_news is_news : Bool) : Type 0 where
   pub word : ℕ
+  pub small : word < 2 ^ 32
   pub lives : (r : ℕ) → r < 32 → has word r ≡ lives_before (starts_have old) block.lines.items block.exit r
   pub new_is : new ≡ slice_set old number (bit_or (slice_index old number) word)
   pub news : is_news ≡ (was_news || not (bit_or (slice_index old number) word == slice_index old number))

@@ -138,7 +138,9 @@ fn writes_of(line: Line) -> u32
         | Line::Read { to, .. }
         | Line::Reload { to, .. } => one(to),
         Line::Write { .. } | Line::Spill { .. } | Line::Cut(_) => 0,
-        Line::Call { .. } | Line::GetChar { .. } | Line::PutChar { .. } => CALLED,
+        Line::Call { .. } => CALLED,
+        Line::GetChar { .. } => CALLED,
+        Line::PutChar { .. } => CALLED,
     }
 }
 

@@ -1,7 +1,7 @@
 ghost use Rattle.std.specs.Prelude.{◌≡◌, ◌≤◌, ◌<◌, ℕ, length, sum};
 ghost use Rattle.std.specs.Bool.{OnTrue, OnFalse};
 ghost use Rattle.im_live.specs.Reads.{lives_before};
-ghost use Rattle.im_live.specs.Words.{has, starts_have, Joins, IsMachineBlock, AreMachine, AreRead, AreClosed};
+ghost use Rattle.im_live.specs.Words.{has, starts_have, Joins, IsMachineBlock, AreMachine, AreRead, AreClosed, AreWords};
 
 use crate::registers::{before, before_exit};
 use im_block::Block;
@@ -40,6 +40,7 @@ pub(crate) fn sweep(starts: &mut [u32], blocks: &[Block]) -> bool
     requires machine { AreMachine blocks.now }
     ensures count { length starts.new ≡ length blocks.now }
     ensures read { AreRead blocks.now starts.old → AreRead blocks.now starts.new }
+    ensures small { AreWords starts.old → AreWords starts.new }
     ensures news { OnTrue result (sum starts.old < sum starts.new) }
     ensures idle { OnFalse result (AreClosed blocks.now starts.new) }
 {
