@@ -1,13 +1,12 @@
 -- Paths that read a register first: found from those at the starts of blocks, and all there are.
-use Rattle.std.proofs.Common.{◌≡◌, ◌≢◌, ℕ, zero, suc, ◌+◌, ◌<◌, ◌≤◌, ◌⊎◌, inl, inr, Bool, true, false, List, [], ◌∷◌, Option, Some, None, length, refl, sym, ap, ◌∙◌, subst, arith}
-use Rattle.std.specs.Prelude.{◌==◌, ◌&&◌, ◌||◌, not, slice_get, slice_index}
+use Rattle.std.proofs.Common.{◌≡◌, ℕ, zero, suc, ◌<◌, ◌⊎◌, inl, inr, Bool, true, false, List, [], ◌∷◌, Option, Some, None, refl, ap, ◌∙◌, subst}
+use Rattle.std.specs.Prelude.{◌==◌, ◌&&◌, ◌||◌, not, slice_get}
 use Rattle.im_block.specs.declared.code.Line.{Line}
 use Rattle.im_block.specs.declared.code.Exit.{Exit}
 use Rattle.im_block.specs.declared.code.Exit.TheVariants.{Jump, Turn, Branch, Return}
 use Rattle.im_block.specs.declared.code.Block.{Block}
-use Rattle.im_alloc_relation.specs.Live.{result_uses}
-use Rattle.im_live.specs.Reads.{reads, writes, exit_live, lives_before, lives_in, reads_first, IsLive}
-use Rattle.im_live.specs.Words.{starts_have, AreRead, AreClosed}
+use Rattle.im_live.specs.Reads.{reads, writes, exit_live, lives_before, lives_in, reads_first}
+use Rattle.im_live.specs.Words.{starts_have, AreClosed}
 
 pub either : (a b : Bool) → (a || b) ≡ true → (a ≡ true) ⊎ (b ≡ true)
 either true b h = inl refl

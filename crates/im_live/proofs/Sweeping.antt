@@ -1,7 +1,7 @@
 -- Sweeps over the blocks: words grow, by registers that some path reads, and an idle sweep leaves them closed.
-use Rattle.std.proofs.Common.{◌≡◌, ◌≢◌, ℕ, zero, suc, ◌+◌, ◌-◌, ◌*◌, ◌^◌, ◌<◌, ◌≤◌, ◌⊎◌, inl, inr, Bool, true, false, List, [], ◌∷◌, Option, Some, None, length, get_or, set, refl, sym, ap, ◌∙◌, subst, arith, get_or-set_same, get_or-set_other, ⊎_elim}
+use Rattle.std.proofs.Common.{◌≡◌, ◌≢◌, ℕ, zero, suc, ◌+◌, ◌-◌, ◌*◌, ◌^◌, ◌<◌, ◌≤◌, inl, inr, Bool, true, false, List, [], ◌∷◌, Option, Some, length, get_or, set, refl, sym, ap, ◌∙◌, subst, arith, get_or-set_same, get_or-set_other, ⊎_elim}
 use Rattle.std.specs.Bool.{OnFalse}
-use Rattle.std.specs.Prelude.{◌==◌, ◌&&◌, ◌||◌, not, slice_get, sum, bit_or, All}
+use Rattle.std.specs.Prelude.{◌==◌, ◌||◌, not, slice_get, sum, bit_or}
 use Rattle.std.proofs.lemmas.Bool.Decides.{nat_tests}
 use Rattle.std.proofs.lemmas.Bool.{cases_lt}
 use Rattle.std.proofs.lemmas.Nat.{le_or_l, or_lt}
@@ -115,8 +115,8 @@ module _ (blocks : List Block) (n : ℕ) (block : Block) (now new : List ℕ) (w
     grows = (let a = s.grows in let b = more in omega arith);
     news = λ e. by was refl e;
     idle = λ e. (let u = unchanged e in let i = s.idle u.0 in
-      let stays : new ≡ now = j.new_is ∙ ap (λ z. set now n z) u.1 ∙ set_same now n within in
-      (stays ∙ i.0, subst (λ z. ClosedBelow blocks (n + 1) z) (sym stays) (closed_step u.1 i.1)));
+        let stays : new ≡ now = j.new_is ∙ ap (λ z. set now n z) u.1 ∙ set_same now n within in
+        (stays ∙ i.0, subst (λ z. ClosedBelow blocks (n + 1) z) (sym stays) (closed_step u.1 i.1)));
   }
     where
       by : (a : Bool) → was ≡ a → is ≡ true → sum first < sum new

@@ -1,5 +1,5 @@
 -- The least entry of the checkpoint that saves what lives: E4 to E31, by the greatest register that it saves.
-use Rattle.std.specs.Prelude.{◌≡◌, ℕ, zero, suc, ◌+◌, Bool, List, Option, Some, None, drop, slice_get, if◌then◌else◌}
+use Rattle.std.specs.Prelude.{ℕ, zero, suc, ◌+◌, Bool, List, Option, Some, None, drop, slice_get, if◌then◌else◌}
 use Rattle.im_block.specs.declared.code.Block.{Block}
 use Rattle.im_live.specs.Reads.{lives_before}
 

@@ -1,5 +1,5 @@
 -- Sets of the registers x0 to x31 as words: bit r for register r.
-use Rattle.std.specs.Prelude.{◌≡◌, ℕ, suc, ◌+◌, ◌<◌, ◌≤◌, ◌^◌, ◌==◌, Bool, true, List, [], ◌∷◌, ◌++◌, Option, None, Some, All, length, drop, slice_get, slice_index, slice_set, bit_or, not, ◌||◌}
+use Rattle.std.specs.Prelude.{◌≡◌, ℕ, ◌+◌, ◌<◌, ◌≤◌, ◌^◌, ◌==◌, Bool, true, List, [], ◌∷◌, ◌++◌, Option, None, Some, All, length, drop, slice_get, slice_index, slice_set, bit_or, not, ◌||◌}
 use Rattle.std.specs.Int.{bit_at}
 use Rattle.im_block.specs.declared.code.Place.{Place}
 use Rattle.im_block.specs.declared.code.Place.TheVariants.{Static, Local, Through}
@@ -83,12 +83,15 @@ IsMachineLine (Call to i first count) = first + count < 32
 IsMachineLine (GetChar to) = Unit {0}
 IsMachineLine (PutChar to from) = from < 32
 
+abbrev pub IsMachineResult : Option ℕ → Type 0
+IsMachineResult None = Unit {0}
+IsMachineResult (Some r) = r < 32
+
 abbrev pub IsMachineExit : ℕ → Exit → Type 0
 IsMachineExit count (Jump b) = b < count
 IsMachineExit count (Turn b) = b < count
 IsMachineExit count (Branch on a b) = (on < 32) × (a < count) × (b < count)
-IsMachineExit count (Return None) = Unit {0}
-IsMachineExit count (Return (Some r)) = r < 32
+IsMachineExit count (Return from) = IsMachineResult from
 
 -- edges lead to blocks, of which there are so many
 pub record IsMachineBlock (count : ℕ) (block : Block) : Type 0 where

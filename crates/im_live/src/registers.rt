@@ -1,7 +1,7 @@
 ghost use Rattle.std.specs.Prelude.{◌≡◌, ◌≤◌, ◌<◌, ◌+◌, ◌&&◌, ◌||◌, ◌==◌, ℕ, length, not, nat_le, nat_lt};
-ghost use Rattle.im_alloc_relation.specs.Live.{uses, place_uses};
+ghost use Rattle.im_alloc_relation.specs.Live.{uses, place_uses, result_uses};
 ghost use Rattle.im_live.specs.Reads.{in_frame, reads, reads_stack, writes, exit_live};
-ghost use Rattle.im_live.specs.Words.{has, starts_have, PlaceBelow, IsMachineLine, IsMachineExit};
+ghost use Rattle.im_live.specs.Words.{has, starts_have, PlaceBelow, IsMachineLine, IsMachineResult, IsMachineExit};
 
 use im_block::{Exit, Line, Place};
 
@@ -180,13 +180,15 @@ fn before_branch(on: u32, holds: u32, fails: u32) -> u32
     a | (holds | fails)
 }
 
-/// A result, and what a return reads.
-fn before_result(from: u32) -> u32
-    requires { from < 32 }
-    ensures { (r : ℕ) → r < 32 → has result r ≡ (r == from || (r == 1 || r == 2)) }
+/// What a return reads: the return address, the stack pointer, and a result.
+fn before_return(from: Option<u32>) -> u32
+    requires { IsMachineResult from }
+    ensures { (r : ℕ) → r < 32 → has result r ≡ (result_uses from r || (r == 1 || r == 2)) }
 {
-    let a = one(from);
-    a | RETURNED
+    match from {
+        None => RETURNED,
+        Some(register) => one(register) | RETURNED,
+    }
 }
 
 /// The registers that live before an exit, by those at the starts of blocks.
@@ -199,7 +201,6 @@ pub(crate) fn before_exit(starts: &[u32], exit: Exit) -> u32
         Exit::Branch { on, holds, fails } => {
             before_branch(on, starts[holds as usize], starts[fails as usize])
         }
-        Exit::Return(None) => RETURNED,
-        Exit::Return(Some(from)) => before_result(from),
+        Exit::Return(from) => before_return(from),
     }
 }

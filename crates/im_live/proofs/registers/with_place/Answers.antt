@@ -1,5 +1,5 @@
 use Rattle.std.proofs.Common.{ap, ◌∙◌}
-use Rattle.std.specs.Prelude.{◌==◌, ◌||◌, ◌&&◌, not, bit_or, bit_and}
+use Rattle.std.specs.Prelude.{◌||◌}
 use Rattle.im_alloc_relation.specs.Live.{place_uses}
 use Rattle.im_live.specs.Words.{has}
 use Rattle.im_live.proofs.Bits.{has_or}
