@@ -2,7 +2,7 @@ ghost use Rattle.std.specs.Prelude.{◌≡◌, ◌<◌, ◌+◌, ◌++◌, lengt
 ghost use Rattle.im_rv.specs.Lines.{code_lines};
 ghost use Rattle.im_block.specs.Wellformed.{ExitThere};
 ghost use Rattle.im_alloc_placed.specs.Placed.{IsPlacedExit, IsPlacedBlock};
-ghost use Rattle.im_live.specs.Words.{starts_have};
+ghost use Rattle.im_live.specs.Words.{entry_at, starts_have};
 ghost use Rattle.im_live.specs.Entries.{entries};
 ghost use Rattle.im_select.specs.Emitted.{labelled, leave_code, result_code, branch_code, exit_code, enter_code, prologue_code, block_code};
 ghost use Rattle.im_select.specs.Given.{given};
@@ -14,7 +14,7 @@ use crate::names::Names;
 use crate::push::{push, push_jump};
 use crate::words::{push_added, register};
 use im_block::{Block, Exit};
-use im_live::points as points_of;
+use im_live::points;
 use im_num::NoMemory;
 use im_rtlib::STACK;
 use im_rv::Line;
@@ -90,6 +90,31 @@ fn push_exit(lines: &mut Vec<Line>, names: &Names, exit: Exit) -> Result<(), NoM
     }
 }
 
+/// The lines of a block, by its number and the registers that live at its points.
+fn lines_by(
+    alloc: Global,
+    names: &Names,
+    points: &[u32],
+    number: u32,
+    block: &Block,
+) -> Result<Vec<Line>, NoMemory>
+    requires places { HasPlaces (given names.now) }
+    requires number { number < length names.now.function.now.blocks.items }
+    requires placed { IsPlacedBlock
+        (length names.now.statics.now) names.now.function.now block.now }
+    requires closed { IsClosedBlock (given names.now) block.now }
+    requires enough { length points.now ≡ length block.now.lines.items + 1 }
+    ensures { IfOk result (λ lines. code_lines lines.items
+        ≡ block_code (at_of (given names.now)) (entry_at points.now) names.now.first_block
+        names.now.layout.now.frame number block.now) }
+{
+    let mut lines = Vec::new(alloc);
+    push_lines(&mut lines, names, points, &block.lines)?;
+    push_exit(&mut lines, names, block.exit)?;
+    label_first(&mut lines, names.first_block + number);
+    Ok(lines)
+}
+
 /// The lines of a block, by its number. A word of `live` has the registers that live at the start of
 /// a block.
 pub(crate) fn block_lines(
@@ -111,11 +136,8 @@ pub(crate) fn block_lines(
         (entries (starts_have live.now) names.now.function.now.blocks.items number)
         names.now.first_block names.now.layout.now.frame number block.now) }
 {
-    let mut lines = Vec::new(alloc);
-    let points = points_of(alloc, live, block)?;
-    push_lines(&mut lines, names, &points, &block.lines)?;
-    push_exit(&mut lines, names, block.exit)?;
-    label_first(&mut lines, names.first_block + number);
+    let words = points(alloc, live, block)?;
+    let lines = lines_by(alloc, names, &words, number, block)?;
     Ok(lines)
 }
 

@@ -106,7 +106,8 @@ pub(crate) fn push_lines(
         ≡ code_lines lines.old.items ++ lines_code (at_of (given names.now)) (entry_at points.now) 0 placed.now) }
 {
     for (number, line) in placed.iter().enumerate() {
-        push_line(lines, names, entry_for(points[number + 1]), *line)?;
+        let entry = entry_for(points[number + 1]);
+        push_line(lines, names, entry, *line)?;
     }
     Ok(())
 }

@@ -2,7 +2,7 @@ ghost use Rattle.std.specs.Prelude.{◌≡◌, ◌<◌, ◌+◌, ◌++◌, lengt
 ghost use Rattle.im_rv.specs.Lines.{code_lines};
 ghost use Rattle.im_live.specs.Words.{starts_have};
 ghost use Rattle.im_live.specs.Entries.{entries};
-ghost use Rattle.im_select.specs.Emitted.{prologue_code, blocks_code};
+ghost use Rattle.im_select.specs.Emitted.{prologue_code, blocks_code, function_code};
 ghost use Rattle.im_select.specs.Given.{given};
 ghost use Rattle.im_select.specs.Places.{at_of, HasPlaces};
 ghost use Rattle.im_select.specs.Selects.{IsClosedBlock, IsSelectable, IsFunctionCode, IsSelection};
@@ -56,16 +56,36 @@ fn push_blocks(
     Ok(())
 }
 
+/// All lines of a function, by the registers that live at the starts of its blocks.
+fn lines_by(
+    alloc: Global,
+    names: &Names,
+    number: u32,
+    live: &[u32],
+) -> Result<Vec<Line>, NoMemory>
+    requires selectable { IsSelectable (given names.now) number }
+    requires enough { length live.now ≡ length names.now.function.now.blocks.items }
+    ensures { IfOk result (λ lines. code_lines lines.items
+        ≡ function_code (at_of (given names.now))
+        (entries (starts_have live.now) names.now.function.now.blocks.items)
+        number names.now.first_block
+        names.now.layout.now.frame
+        names.now.function.now.entry names.now.function.now.blocks.items) }
+{
+    let mut lines = Vec::new(alloc);
+    push_entry(&mut lines, names)?;
+    label_first(&mut lines, FIRST_FREE + number);
+    push_blocks(alloc, &mut lines, names, live)?;
+    Ok(lines)
+}
+
 /// All lines of a function.
 fn function_lines(alloc: Global, names: &Names, number: u32) -> Result<Vec<Line>, NoMemory>
     requires { IsSelectable (given names.now) number }
     ensures { IfOk result (λ lines. IsFunctionCode (given names.now) number (code_lines lines.items)) }
 {
     let live = starts(alloc, names.function)?;
-    let mut lines = Vec::new(alloc);
-    push_entry(&mut lines, names)?;
-    label_first(&mut lines, FIRST_FREE + number);
-    push_blocks(alloc, &mut lines, names, &live)?;
+    let lines = lines_by(alloc, names, number, &live)?;
     Ok(lines)
 }
 
