@@ -12,19 +12,19 @@ greatest_same f g (suc n) le same =
 
 pub greatest_within : (f : ℕ → Bool) (n : ℕ) → (4 ≤ greatest f n) × (greatest f n ≤ n + 4)
 greatest_within f zero = (omega arith, omega arith)
-greatest_within f (suc n) = by (f (n + 5))
+greatest_within f (suc n) = by (greatest_within f n) (f (n + 5))
   where
-    by : (b : Bool) → (4 ≤ (if b then n + 5 else greatest f n)) × ((if b then n + 5 else greatest f n) ≤ suc n + 4)
-    by true = (omega arith, omega arith)
-    by false = let k = greatest_within f n in let a = k.0 in let c = k.1 in (omega arith, omega arith)
+    by : (4 ≤ greatest f n) × (greatest f n ≤ n + 4) → (b : Bool) → (4 ≤ (if b then n + 5 else greatest f n)) × ((if b then n + 5 else greatest f n) ≤ suc n + 4)
+    by k true = (omega arith, omega arith)
+    by k false = let a = k.0 in let c = k.1 in (omega arith, omega arith)
 
 pub greatest_saves : (f : ℕ → Bool) (n r : ℕ) → r < n + 5 → f r ≡ true → 5 ≤ r → r ≤ greatest f n
 greatest_saves f zero r lt e five = absurd (omega arith)
-greatest_saves f (suc n) r lt e five = by (f (n + 5)) refl
+greatest_saves f (suc n) r lt e five = by (λ l. greatest_saves f n r l e five) (f (n + 5)) refl
   where
-    by : (b : Bool) → f (n + 5) ≡ b → r ≤ (if b then n + 5 else greatest f n)
-    by true h = omega arith
-    by false h = greatest_saves f n r (let ne : r ≢ n + 5 = (λ q. (let k : f r ≡ false = ap f q ∙ h in absurd cc)) in omega arith) e five
+    by : (r < n + 5 → r ≤ greatest f n) → (b : Bool) → f (n + 5) ≡ b → r ≤ (if b then n + 5 else greatest f n)
+    by k true h = omega arith
+    by k false h = k (let ne : r ≢ n + 5 = (λ q. (let t : f r ≡ false = ap f q ∙ h in absurd cc)) in omega arith)
 
 pub entry_within : (f : ℕ → Bool) → (3 < entry_of f) × (entry_of f < 32)
 entry_within f = let k = greatest_within f 27 in let a = k.0 in let b = k.1 in (omega arith, omega arith)

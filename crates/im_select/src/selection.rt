@@ -57,12 +57,7 @@ fn push_blocks(
 }
 
 /// All lines of a function, by the registers that live at the starts of its blocks.
-fn lines_by(
-    alloc: Global,
-    names: &Names,
-    number: u32,
-    live: &[u32],
-) -> Result<Vec<Line>, NoMemory>
+fn lines_by(alloc: Global, names: &Names, number: u32, live: &[u32]) -> Result<Vec<Line>, NoMemory>
     requires selectable { IsSelectable (given names.now) number }
     requires enough { length live.now ≡ length names.now.function.now.blocks.items }
     ensures { IfOk result (λ lines. code_lines lines.items
