@@ -35,7 +35,7 @@ bound_code = plain_line (with_immediate Lw 5 0 28) ∷ []
 
 module _ (at : ℕ → ℕ → Bool) (low : IsLow at) (target : ℕ) (far : 32 ≤ target) where
   taken_before : (behind : After) (r : ℕ) → IsUnsaved r → r ≢ 6 → (scan at (taken_code ++ call_code 0 target) behind).next r ≡ true → at target r ≡ true
-  taken_before behind r u no w = by (plain_wants at taken_code (scan at (call_code 0 target) behind) r ((refl, refl), ((refl, refl), tt)) u w)
+  taken_before behind r u away w = by (plain_wants at taken_code (scan at (call_code 0 target) behind) r ((refl, refl), ((refl, refl), tt)) u w)
     where
       second : (r ≡ 2) ⊎ (r ≡ 1) ⊎ ((r ≢ 0) × ((scan at (call_code 0 target) behind).next r ≡ true)) → at target r ≡ true
       second (inl e) = absurd (unsaved_not r 2 u refl e)
@@ -43,7 +43,7 @@ module _ (at : ℕ → ℕ → Bool) (low : IsLow at) (target : ℕ) (far : 32 �
       second (inr (inr c)) = jump_before at 0 target behind r refl u c.1
 
       by : (r ≡ 6) ⊎ (r ≡ 0) ⊎ ((r ≢ 2) × ((r ≡ 2) ⊎ (r ≡ 1) ⊎ ((r ≢ 0) × ((scan at (call_code 0 target) behind).next r ≡ true)))) → at target r ≡ true
-      by (inl e) = absurd (no e)
+      by (inl e) = absurd (away e)
       by (inr (inl e)) = absurd (unsaved_not r 0 u refl e)
       by (inr (inr c)) = second c.1
 
@@ -51,23 +51,23 @@ module _ (at : ℕ → ℕ → Bool) (low : IsLow at) (target : ℕ) (far : 32 �
   stack_only r u e = elim (either (is_base r) (lives_inside 35 r) (sym (low.is 35 r (omega arith)) ∙ e)) [ inl s ↦ unsaved_true r u s | inr w ↦ cc ]
 
   tested_before : (behind : After) (r : ℕ) → IsUnsaved r → r ≢ 6 → r ≢ 5 → (scan at (tested_code target) behind).next r ≡ true → at target r ≡ true
-  tested_before behind r u no no' w = by (line_lives at (plain_line (branching Bgeu 6 5 8)) (scan at (call_code 0 stack_label ++ (taken_code ++ call_code 0 target)) behind) r u w)
+  tested_before behind r u away apart w = by (line_lives at (plain_line (branching Bgeu 6 5 8)) (scan at (call_code 0 stack_label ++ (taken_code ++ call_code 0 target)) behind) r u w)
     where
       by : Lives at (plain_line (branching Bgeu 6 5 8)) (scan at (call_code 0 stack_label ++ (taken_code ++ call_code 0 target)) behind) r → at target r ≡ true
-      by (First e) = absurd (no e)
-      by (Second e) = absurd (no' e)
+      by (First e) = absurd (away e)
+      by (Second e) = absurd (apart e)
       by (Later ne o) = elim (either ((scan at (call_code 0 stack_label ++ (taken_code ++ call_code 0 target)) behind).next r) ((scan at (taken_code ++ call_code 0 target) behind).next r) o) [
         | inl a ↦ absurd (stack_only r u (jump_before at 0 35 (scan at (taken_code ++ call_code 0 target) behind) r refl u a))
-        | inr b ↦ taken_before behind r u no b
+        | inr b ↦ taken_before behind r u away b
       ]
 
   enter_before : (behind : After) (r : ℕ) → IsUnsaved r → r ≢ 6 → (scan at (enter_code target) behind).next r ≡ true → at target r ≡ true
-  enter_before behind r u no w = by (plain_wants at bound_code (scan at (tested_code target) behind) r ((refl, refl), tt) u w)
+  enter_before behind r u away w = by (plain_wants at bound_code (scan at (tested_code target) behind) r ((refl, refl), tt) u w)
     where
       by : (r ≡ 0) ⊎ (r ≡ 0) ⊎ ((r ≢ 5) × ((scan at (tested_code target) behind).next r ≡ true)) → at target r ≡ true
       by (inl e) = absurd (unsaved_not r 0 u refl e)
       by (inr (inl e)) = absurd (unsaved_not r 0 u refl e)
-      by (inr (inr c)) = tested_before behind r u no c.0 c.1
+      by (inr (inr c)) = tested_before behind r u away c.0 c.1
 
   prologue_before : (frame : ℕ) (behind : After) (r : ℕ) → IsUnsaved r → (scan at (prologue_code frame target) behind).next r ≡ true → at target r ≡ true
   prologue_before frame behind r u w =

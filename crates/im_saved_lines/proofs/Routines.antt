@@ -97,11 +97,11 @@ is_saved_at : (r s : ℕ) → is_saved s ≡ true → (r == s) ≡ true → is_s
 is_saved_at r s k e = ap is_saved (same_of r s e) ∙ k
 
 inside_saved : (l r : ℕ) → lives_inside l r ≡ true → is_saved r ≡ true
-inside_saved l r e = elim (either ((l == 33 || l == 34) && r == 10) (((nat_le 41 l && nat_le l 45) && not (l == 43)) && (r == 5 || (r == 6 || r == 10))) e) [
+inside_saved l r e = elim (either ((l == 33 || l == 34) && r == 10) ((((nat_le 41 l && nat_le l 45) && not (l == 43)) && (r == 5 || r == 10)) || ((l == 42 || l == 44) && r == 6)) e) [
   | inl a ↦ is_saved_at r 10 refl (both (l == 33 || l == 34) (r == 10) a).1
-  | inr b ↦ elim (either (r == 5) (r == 6 || r == 10) (both ((nat_le 41 l && nat_le l 45) && not (l == 43)) (r == 5 || (r == 6 || r == 10)) b).1) [
-    | inl c ↦ is_saved_at r 5 refl c
-    | inr c ↦ elim (either (r == 6) (r == 10) c) [ inl d ↦ is_saved_at r 6 refl d | inr d ↦ is_saved_at r 10 refl d ]
+  | inr b ↦ elim (either (((nat_le 41 l && nat_le l 45) && not (l == 43)) && (r == 5 || r == 10)) ((l == 42 || l == 44) && r == 6) b) [
+    | inl c ↦ elim (either (r == 5) (r == 10) (both ((nat_le 41 l && nat_le l 45) && not (l == 43)) (r == 5 || r == 10) c).1) [ inl d ↦ is_saved_at r 5 refl d | inr d ↦ is_saved_at r 10 refl d ]
+    | inr c ↦ is_saved_at r 6 refl (both (l == 42 || l == 44) (r == 6) c).1
   ]
 ]
 
@@ -196,14 +196,14 @@ module _ (at : ℕ → ℕ → Bool) (low : IsLow at) where
   scan_same (x ∷ y ∷ ys) behind (inl e) = absurd cc
 
   jump_goes : (rd : ℕ) (target : Option ℕ) (after : After) → rd ≢ 1 → target_test rd target ≡ true → (end_test Jumps rd ≡ true) ⊎ Saved after → (l : ℕ) × (target ≡ Some l) × GoesTo rd l after
-  jump_goes rd None after no t k = absurd cc
-  jump_goes rd (Some l) after no t k = (
+  jump_goes rd None after away t k = absurd cc
+  jump_goes rd (Some l) after away t k = (
     l,
     refl,
     record {
       cut = λ e. (let b = inside e in let b0 = b.0 in (omega arith, b.1));
       saved = λ e r w. (let s = saved_low r (behind e r w) in let s0 = s.0 in let b = inside e in let b0 = b.0 in (omega arith, s.1, s.2));
-      call = λ e. absurd (no e);
+      call = λ e. absurd (away e);
       other = λ ne. (far_label rd l (other_is rd 3 ne) t).0;
     },
   )
@@ -227,11 +227,11 @@ module _ (at : ℕ → ℕ → Bool) (low : IsLow at) where
   branch_goes line (Some l) after t = inr (l, refl, (far_label 0 l refl t).0)
 
   goes_of : (turn : Turn) (line : Line) (target : Option ℕ) (after : After) → way line.op ≡ turn → no_fence line.op ≡ true → line.rd ≢ 1 → way_test turn line.rd target ≡ true → (end_test turn line.rd ≡ true) ⊎ Saved after → Goes turn line target after
-  goes_of Passes line target after e n no t k = tt
-  goes_of Jumps line target after e n no t k = jump_goes line.rd target after no t k
-  goes_of Branches line target after e n no t k = branch_goes line target after t
-  goes_of Returns line target after e n no t k = tt
-  goes_of Stops line target after e n no t k = stops_is line.op e n
+  goes_of Passes line target after e n away t k = tt
+  goes_of Jumps line target after e n away t k = jump_goes line.rd target after away t k
+  goes_of Branches line target after e n away t k = branch_goes line target after t
+  goes_of Returns line target after e n away t k = tt
+  goes_of Stops line target after e n away t k = stops_is line.op e n
 
   label_below : (label : Option ℕ) (l : ℕ) → label ≡ Some l → label_test label ≡ true → l < 64
   label_below label l e t = let t' : nat_lt l 64 ≡ true = subst (λ z. label_test z ≡ true) e t in grind (arith, nat_tests)
@@ -270,7 +270,7 @@ module _ (at : ℕ → ℕ → Bool) (low : IsLow at) where
       (line_sound x [] behind t (inl (both (line_test x) (end_test (way x.line.op) x.line.rd) t).1) (λ r lt. (both (label_holds x.label r ((scan known (x ∷ []) behind).next r)) (labels_hold [] behind r) (h r lt)).0), tt)
   lines_sound (x ∷ y ∷ xs) behind t h =
       let c = both (line_test x) (lines_test (y ∷ xs)) t in
-      let split = λ r lt. both (label_holds x.label r ((scan known (x ∷ y ∷ xs) behind).next r)) (labels_hold (y ∷ xs) behind r) (h r lt) in
+      let split : (r : ℕ) → r < 11 → (label_holds x.label r ((scan known (x ∷ y ∷ xs) behind).next r) ≡ true) × (labels_hold (y ∷ xs) behind r ≡ true) = λ r lt. both (label_holds x.label r ((scan known (x ∷ y ∷ xs) behind).next r)) (labels_hold (y ∷ xs) behind r) (h r lt) in
       (line_sound x (y ∷ xs) behind t (inr (lines_saved (y ∷ xs) behind c.1)) (λ r lt. (split r lt).0), lines_sound (y ∷ xs) behind c.1 (λ r lt. (split r lt).1))
 
   -- where a run ends x10 is stored

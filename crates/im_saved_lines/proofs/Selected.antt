@@ -262,7 +262,7 @@ module _ (functions : List Function) (statics first count frame : ℕ) (f : Func
   line_before : (k : ℕ) (line : Line) (behind : After) (r : ℕ) → IsPlacedLine statics f line → LineThere functions line → IsUnsaved r → (scan at (line_code places k line) behind).next r ≡ true → Before line behind r
   line_before k (Cut cause) behind r h t u w = inr (refl, cut_before at k cause behind r u w)
   line_before k (Call to i start given) behind r h t u w = inl (or_left (uses (Call to i start given) r) (true && r == 2) (called i start given r h.1 (takes (slice_get functions i) i given r refl t u (jump_before at 1 (entry_label i) behind r refl u w))))
-  line_before k (GetChar to) behind r h t u w = let no = label_only 32 r (omega arith) u (jump_before at 1 32 behind r refl u w) in absurd cc
+  line_before k (GetChar to) behind r h t u w = let away = label_only 32 r (omega arith) u (jump_before at 1 32 behind r refl u w) in absurd cc
   line_before k (PutChar to from) behind r h t u w =
       let is : r ≡ 10 = ten (label_only 33 r (omega arith) u (jump_before at 1 33 behind r refl u w)) in
       inl (or_left (r == from) (true && r == 2) (same_is r from (is ∙ sym h.1)))

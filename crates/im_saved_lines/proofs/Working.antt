@@ -147,16 +147,16 @@ module _ (X : Type 0) (r : ℕ) (u : IsUnsaved r) where
   not_five left right to (inr (inr (ne, inr (inr c)))) = inr (other_is r to c.0, c.1)
 
   moved_of : (pointer by to : ℕ) → r ≢ 5 → One 5 by 5 (One pointer 5 to X) → Wanted (r == pointer || r == by) to
-  moved_of pointer by to no (inl e) = absurd (no e)
-  moved_of pointer by to no (inr (inl e)) = inl (or_right (r == pointer) (r == by) (same_is r by e))
-  moved_of pointer by to no (inr (inr (ne, inl e))) = inl (or_left (r == pointer) (r == by) (same_is r pointer e))
-  moved_of pointer by to no (inr (inr (ne, inr (inl e)))) = absurd (ne e)
-  moved_of pointer by to no (inr (inr (ne, inr (inr c)))) = inr (other_is r to c.0, c.1)
+  moved_of pointer by to away (inl e) = absurd (away e)
+  moved_of pointer by to away (inr (inl e)) = inl (or_right (r == pointer) (r == by) (same_is r by e))
+  moved_of pointer by to away (inr (inr (ne, inl e))) = inl (or_left (r == pointer) (r == by) (same_is r pointer e))
+  moved_of pointer by to away (inr (inr (ne, inr (inl e)))) = absurd (ne e)
+  moved_of pointer by to away (inr (inr (ne, inr (inr c)))) = inr (other_is r to c.0, c.1)
 
   divided_of : (to : ℕ) → r ≢ 5 → r ≢ 6 → One 5 6 to X → Wanted false to
-  divided_of to no no' (inl e) = absurd (no e)
-  divided_of to no no' (inr (inl e)) = absurd (no' e)
-  divided_of to no no' (inr (inr c)) = inr (other_is r to c.0, c.1)
+  divided_of to away apart (inl e) = absurd (away e)
+  divided_of to away apart (inr (inl e)) = absurd (apart e)
+  divided_of to away apart (inr (inr c)) = inr (other_is r to c.0, c.1)
 
   measured_of : (left right to : ℕ) (Y : Type 0) → (Y → (r ≢ 6) × One 5 6 to X) → One left right 5 Y → Wanted (r == left || r == right) to
   measured_of left right to Y k (inl e) = inl (or_left (r == left) (r == right) (same_is r left e))

@@ -14,11 +14,12 @@ use Rattle.im_live.specs.Reads.{lives_before}
 use Rattle.im_select.specs.Emitted.{entry_label, function_code}
 use Rattle.im_saved_lines.specs.Scan.{is_base, After, scan, AreSound}
 
--- what lives at the runtime's labels beside x0, x1 and x2: x10 at putchar and at the end of a run; x5, x6 and x10 inside putchar
+-- what lives at the runtime's labels beside x0, x1 and x2: x10 at putchar and at the end of a run; x5 and x10 inside putchar,
+-- and x6 where the length is read
 abbrev pub lives_inside : ℕ → ℕ → Bool
 lives_inside l r =
     ((l == 33 || l == 34) && r == 10)
-    || (((nat_le 41 l && nat_le l 45) && not (l == 43)) && (r == 5 || (r == 6 || r == 10)))
+    || ((((nat_le 41 l && nat_le l 45) && not (l == 43)) && (r == 5 || r == 10)) || ((l == 42 || l == 44) && r == 6))
 
 pub record IsLow (at : ℕ → ℕ → Bool) : Type 0 where
   pub is : (l r : ℕ) → l < 64 → at l r ≡ (is_base r || lives_inside l r)
@@ -36,8 +37,8 @@ pub record HasBlocks (live : ℕ → ℕ → Bool) (first count : ℕ) (at : ℕ
 
 -- behind a call no register lives but the result's, and x1 and x2
 abbrev pub HoldsCalls : (ℕ → ℕ → Bool) → List Line → Exit → Type 0
-HoldsCalls live [] exit = Unit {0}
-HoldsCalls live (line ∷ rest) exit = (IsCall line → (r : ℕ) → lives_before live rest exit r ≡ true → (is_base r ≡ true) ⊎ (r ≡ 10)) × HoldsCalls live rest exit
+HoldsCalls live [] leaves = Unit {0}
+HoldsCalls live (line ∷ rest) leaves = (IsCall line → (r : ℕ) → lives_before live rest leaves r ≡ true → (is_base r ≡ true) ⊎ (r ≡ 10)) × HoldsCalls live rest leaves
 
 -- what lives in a function: homes, at its entry arguments alone, closed under its lines
 pub record IsHeld (live : ℕ → ℕ → Bool) (f : Function) : Type 0 where
@@ -48,8 +49,8 @@ pub record IsHeld (live : ℕ → ℕ → Bool) (f : Function) : Type 0 where
 
 -- the entries of a block's lines from number j on save what lives behind them
 abbrev pub SavesFrom : (ℕ → ℕ → Bool) → (ℕ → ℕ) → ℕ → List Line → Exit → Type 0
-SavesFrom live m j [] exit = Unit {0}
-SavesFrom live m j (line ∷ rest) exit = ((4 ≤ m j) × (m j ≤ 31) × ((r : ℕ) → lives_before live rest exit r ≡ true → r ≤ m j)) × SavesFrom live m (suc j) rest exit
+SavesFrom live m j [] leaves = Unit {0}
+SavesFrom live m j (line ∷ rest) leaves = ((4 ≤ m j) × (m j ≤ 31) × ((r : ℕ) → lives_before live rest leaves r ≡ true → r ≤ m j)) × SavesFrom live m (suc j) rest leaves
 
 abbrev pub FunctionLinesLaw : Type 0
 FunctionLinesLaw =
