@@ -51,13 +51,13 @@ apart p n v w lv lw ne e =
     (cases_lt v p)
 
 abbrev Free : ℕ → Type 0
-Free r = (6 < r) × (r < 32) × (r ≢ 28) × (r ≢ 29) × (r ≢ 30)
+Free r = (8 < r) × (r < 32)
 
 free_parameter : (r v : ℕ) → v < 8 → r ≡ 10 + v → Free r
-free_parameter r v lt e = (omega arith, omega arith, λ z. omega arith, λ z. omega arith, λ z. omega arith)
+free_parameter r v lt e = (omega arith, omega arith)
 
 free_other : (r : ℕ) → r ≡ 31 → Free r
-free_other r e = (omega arith, omega arith, λ z. omega arith, λ z. omega arith, λ z. omega arith)
+free_other r e = (omega arith, omega arith)
 
 pub free : (p n v r : ℕ) → p ≤ 8 → home_in p n v ≡ InRegister r → Free r
 free p n v r few e =

@@ -7,7 +7,7 @@ use Rattle.im_block.specs.declared.code.Line.TheVariants.{Put, PutNull, Copy, Co
 use Rattle.im_alloc_relation.specs.Homes.{Home, load_place, put_line}
 use Rattle.im_alloc.specs.Parts.{pointer_in, load_some, plain_line}
 
-pub place_loads : (h : ℕ → Home) (place : Place) (n : ℕ) (rest : List Line) → load_some h (pointer_in place) 28 n rest ≡ load_place h place n rest
+pub place_loads : (h : ℕ → Home) (place : Place) (n : ℕ) (rest : List Line) → load_some h (pointer_in place) 7 n rest ≡ load_place h place n rest
 place_loads h (Static object offset) n rest = refl
 place_loads h (Local object offset) n rest = refl
 place_loads h (Through pointer offset) n rest = refl

@@ -58,28 +58,28 @@ target (Read to place kind access) = Some to
 target line = None
 
 abbrev pub values_in : (ℕ → Home) → Line → Line
-values_in h (Put to z) = Put (reg (h to) 30) z
-values_in h (PutNull to) = PutNull (reg (h to) 30)
-values_in h (Copy to from) = Copy (reg (h to) 30) (reg (h from) 28)
-values_in h (Convert to kind from) = Convert (reg (h to) 30) kind (reg (h from) 28)
-values_in h (Not to from) = Not (reg (h to) 30) (reg (h from) 28)
+values_in h (Put to z) = Put (reg (h to) 7) z
+values_in h (PutNull to) = PutNull (reg (h to) 7)
+values_in h (Copy to from) = Copy (reg (h to) 7) (reg (h from) 7)
+values_in h (Convert to kind from) = Convert (reg (h to) 7) kind (reg (h from) 7)
+values_in h (Not to from) = Not (reg (h to) 7) (reg (h from) 7)
 values_in h line = line
 
 abbrev pub operators_in : (ℕ → Home) → Line → Line
-operators_in h (Unary to op kind from) = Unary (reg (h to) 30) op kind (reg (h from) 28)
-operators_in h (Compute to op kind left right) = Compute (reg (h to) 30) op kind (reg (h left) 28) (reg (h right) 29)
-operators_in h (Compare to op kind left right) = Compare (reg (h to) 30) op kind (reg (h left) 28) (reg (h right) 29)
+operators_in h (Unary to op kind from) = Unary (reg (h to) 7) op kind (reg (h from) 7)
+operators_in h (Compute to op kind left right) = Compute (reg (h to) 7) op kind (reg (h left) 7) (reg (h right) 8)
+operators_in h (Compare to op kind left right) = Compare (reg (h to) 7) op kind (reg (h left) 7) (reg (h right) 8)
 operators_in h line = line
 
 abbrev pub pointers_in : (ℕ → Home) → Line → Line
-pointers_in h (Move to size back pointer by) = Move (reg (h to) 30) size back (reg (h pointer) 28) (reg (h by) 29)
-pointers_in h (Distance to size left right) = Distance (reg (h to) 30) size (reg (h left) 28) (reg (h right) 29)
+pointers_in h (Move to size back pointer by) = Move (reg (h to) 7) size back (reg (h pointer) 7) (reg (h by) 8)
+pointers_in h (Distance to size left right) = Distance (reg (h to) 7) size (reg (h left) 7) (reg (h right) 8)
 pointers_in h line = line
 
 abbrev pub places_in : (ℕ → Home) → Line → Line
-places_in h (Address to place) = Address (reg (h to) 30) (on_place h place)
-places_in h (Read to place kind access) = Read (reg (h to) 30) (on_place h place) kind access
-places_in h (Write place kind from access) = Write (on_place h place) kind (reg (h from) 29) access
+places_in h (Address to place) = Address (reg (h to) 7) (on_place h place)
+places_in h (Read to place kind access) = Read (reg (h to) 7) (on_place h place) kind access
+places_in h (Write place kind from access) = Write (on_place h place) kind (reg (h from) 8) access
 places_in h line = line
 
 abbrev pub in_registers : (ℕ → Home) → Line → Line
@@ -95,7 +95,7 @@ save_some h (Some v) access rest = save (h v) access rest
 
 abbrev pub plain_line : (ℕ → Home) → ℕ → Line → List Line → List Line
 plain_line h n line rest =
-    load_some h (first_operand line) 28 n (load_some h (second_operand line) 29 (n + 1) (in_registers h line ∷ save_some h (target line) (n + 2) rest))
+    load_some h (first_operand line) 7 n (load_some h (second_operand line) 8 (n + 1) (in_registers h line ∷ save_some h (target line) (n + 2) rest))
 
 -- lines with numbers from n up to next
 pub record AddsLines (h : ℕ → Home) (n : ℕ) (lines : List Line) (next : ℕ) (old new : List Line) : Type 0 where

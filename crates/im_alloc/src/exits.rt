@@ -19,7 +19,7 @@ pub(crate) fn push_exit(
 {
     match exit {
         Exit::Jump(_) | Exit::Turn(_) | Exit::Return(None) => Ok(()),
-        Exit::Branch { on, .. } => push_load(lines, homes.home(on), 28, number),
+        Exit::Branch { on, .. } => push_load(lines, homes.home(on), 7, number),
         Exit::Return(Some(from)) => push_into(lines, homes.home(from), 10, number),
     }
 }
@@ -30,7 +30,7 @@ pub(crate) fn exit_on(homes: Homes, exit: Exit) -> Exit
 {
     match exit {
         Exit::Branch { on, holds, fails } => Exit::Branch {
-            on: homes.register(on, 28),
+            on: homes.register(on, 7),
             holds,
             fails,
         },

@@ -50,8 +50,8 @@ fn push_plain(lines: &mut Vec<Line>, homes: Homes, number: u64, line: Line) -> R
     ensures { OnOk result
         (Adds (plain_line (homes_are homes) number line) lines.old.items lines.new.items) }
 {
-    push_operand(lines, homes, first_of(line), 28, number)?;
-    push_operand(lines, homes, second_of(line), 29, number + 1)?;
+    push_operand(lines, homes, first_of(line), 7, number)?;
+    push_operand(lines, homes, second_of(line), 8, number + 1)?;
     push(lines, in_registers(homes, line))?;
     push_result(lines, homes, target_of(line), number + 2)
 }

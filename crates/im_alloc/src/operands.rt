@@ -17,7 +17,7 @@ fn pointer_of(place: Place) -> Option<u32>
     }
 }
 
-/// The register that is brought into x28, if a line has one.
+/// The register that is brought into x7, if a line has one.
 pub(crate) fn first_of(line: Line) -> Option<u32>
     ensures { result ≡ first_operand line }
 {
@@ -37,7 +37,7 @@ pub(crate) fn first_of(line: Line) -> Option<u32>
     }
 }
 
-/// The register that is brought into x29, if a line has one.
+/// The register that is brought into x8, if a line has one.
 pub(crate) fn second_of(line: Line) -> Option<u32>
     ensures { result ≡ second_operand line }
 {
@@ -77,7 +77,7 @@ fn place_on(homes: Homes, place: Place) -> Place
     match place {
         Place::Static { .. } | Place::Local { .. } => place,
         Place::Through { pointer, offset } => Place::Through {
-            pointer: homes.register(pointer, 28),
+            pointer: homes.register(pointer, 7),
             offset,
         },
     }
@@ -88,24 +88,24 @@ fn values_on(homes: Homes, line: Line) -> Line
 {
     match line {
         Line::Put { to, number } => Line::Put {
-            to: homes.register(to, 30),
+            to: homes.register(to, 7),
             number,
         },
         Line::PutNull { to } => Line::PutNull {
-            to: homes.register(to, 30),
+            to: homes.register(to, 7),
         },
         Line::Copy { to, from } => Line::Copy {
-            to: homes.register(to, 30),
-            from: homes.register(from, 28),
+            to: homes.register(to, 7),
+            from: homes.register(from, 7),
         },
         Line::Convert { to, kind, from } => Line::Convert {
-            to: homes.register(to, 30),
+            to: homes.register(to, 7),
             kind,
-            from: homes.register(from, 28),
+            from: homes.register(from, 7),
         },
         Line::Not { to, from } => Line::Not {
-            to: homes.register(to, 30),
-            from: homes.register(from, 28),
+            to: homes.register(to, 7),
+            from: homes.register(from, 7),
         },
         _ => line,
     }
@@ -116,10 +116,10 @@ fn operators_on(homes: Homes, line: Line) -> Line
 {
     match line {
         Line::Unary { to, op, kind, from } => Line::Unary {
-            to: homes.register(to, 30),
+            to: homes.register(to, 7),
             op,
             kind,
-            from: homes.register(from, 28),
+            from: homes.register(from, 7),
         },
         Line::Compute {
             to,
@@ -128,11 +128,11 @@ fn operators_on(homes: Homes, line: Line) -> Line
             left,
             right,
         } => Line::Compute {
-            to: homes.register(to, 30),
+            to: homes.register(to, 7),
             op,
             kind,
-            left: homes.register(left, 28),
-            right: homes.register(right, 29),
+            left: homes.register(left, 7),
+            right: homes.register(right, 8),
         },
         Line::Compare {
             to,
@@ -141,11 +141,11 @@ fn operators_on(homes: Homes, line: Line) -> Line
             left,
             right,
         } => Line::Compare {
-            to: homes.register(to, 30),
+            to: homes.register(to, 7),
             op,
             kind,
-            left: homes.register(left, 28),
-            right: homes.register(right, 29),
+            left: homes.register(left, 7),
+            right: homes.register(right, 8),
         },
         _ => line,
     }
@@ -162,11 +162,11 @@ fn pointers_on(homes: Homes, line: Line) -> Line
             pointer,
             by,
         } => Line::Move {
-            to: homes.register(to, 30),
+            to: homes.register(to, 7),
             size,
             back,
-            pointer: homes.register(pointer, 28),
-            by: homes.register(by, 29),
+            pointer: homes.register(pointer, 7),
+            by: homes.register(by, 8),
         },
         Line::Distance {
             to,
@@ -174,10 +174,10 @@ fn pointers_on(homes: Homes, line: Line) -> Line
             left,
             right,
         } => Line::Distance {
-            to: homes.register(to, 30),
+            to: homes.register(to, 7),
             size,
-            left: homes.register(left, 28),
-            right: homes.register(right, 29),
+            left: homes.register(left, 7),
+            right: homes.register(right, 8),
         },
         _ => line,
     }
@@ -188,7 +188,7 @@ fn places_on(homes: Homes, line: Line) -> Line
 {
     match line {
         Line::Address { to, place } => Line::Address {
-            to: homes.register(to, 30),
+            to: homes.register(to, 7),
             place: place_on(homes, place),
         },
         Line::Read {
@@ -197,7 +197,7 @@ fn places_on(homes: Homes, line: Line) -> Line
             kind,
             access,
         } => Line::Read {
-            to: homes.register(to, 30),
+            to: homes.register(to, 7),
             place: place_on(homes, place),
             kind,
             access,
@@ -210,7 +210,7 @@ fn places_on(homes: Homes, line: Line) -> Line
         } => Line::Write {
             place: place_on(homes, place),
             kind,
-            from: homes.register(from, 29),
+            from: homes.register(from, 8),
             access,
         },
         _ => line,

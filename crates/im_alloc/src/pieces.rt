@@ -40,7 +40,7 @@ pub(crate) fn push_load(
     }
 }
 
-/// What is in x30 goes home.
+/// What is in x7 goes home.
 pub(crate) fn push_save(lines: &mut Vec<Line>, home: Home, access: u64) -> Result<(), NoMemory>
     ensures { OnOk result (Adds (save (home_of home) access) lines.old.items lines.new.items) }
 {
@@ -50,7 +50,7 @@ pub(crate) fn push_save(lines: &mut Vec<Line>, home: Home, access: u64) -> Resul
             lines,
             Line::Spill {
                 slot,
-                from: 30,
+                from: 7,
                 access,
             },
         ),

@@ -45,29 +45,29 @@ fn values_come_and_go_home(rt: HostRuntime) -> Result<(), Fail> {
     )?;
     push_line(&mut lines, HOMES, 80, Line::Not { to: 5, from: 0 })?;
     let want = [
-        Line::Put { to: 30, number: 7 },
-        spill(1, 30, 2),
-        Line::PutNull { to: 30 },
-        spill(2, 30, 18),
-        Line::Copy { to: 30, from: 10 },
-        spill(3, 30, 34),
-        reload(28, 3, 48),
+        Line::Put { to: 7, number: 7 },
+        spill(1, 7, 2),
+        Line::PutNull { to: 7 },
+        spill(2, 7, 18),
+        Line::Copy { to: 7, from: 10 },
+        spill(3, 7, 34),
+        reload(7, 3, 48),
         Line::Convert {
-            to: 30,
+            to: 7,
             kind: Kind::U8,
-            from: 28,
+            from: 7,
         },
-        spill(1, 30, 50),
-        reload(28, 1, 64),
+        spill(1, 7, 50),
+        reload(7, 1, 64),
         Line::Unary {
-            to: 30,
+            to: 7,
             op: UnaryOp::Negate,
             kind: Kind::I32,
-            from: 28,
+            from: 7,
         },
-        spill(4, 30, 66),
-        Line::Not { to: 30, from: 10 },
-        spill(5, 30, 82),
+        spill(4, 7, 66),
+        Line::Not { to: 7, from: 10 },
+        spill(5, 7, 82),
     ];
     assert_eq!(rt; lines.as_slice(), want.as_slice());
     Ok(())
@@ -124,44 +124,44 @@ fn two_operands_come(rt: HostRuntime) -> Result<(), Fail> {
         },
     )?;
     let want = [
-        reload(29, 1, 1),
+        reload(8, 1, 1),
         Line::Compute {
-            to: 30,
+            to: 7,
             op: BinaryOp::Add,
             kind: Kind::I32,
             left: 10,
-            right: 29,
+            right: 8,
         },
-        spill(2, 30, 2),
-        reload(28, 1, 16),
-        reload(29, 2, 17),
+        spill(2, 7, 2),
+        reload(7, 1, 16),
+        reload(8, 2, 17),
         Line::Compare {
-            to: 30,
+            to: 7,
             op: Comparison::Less,
             kind: Kind::U32,
-            left: 28,
-            right: 29,
+            left: 7,
+            right: 8,
         },
-        spill(4, 30, 18),
-        reload(28, 2, 32),
-        reload(29, 1, 33),
+        spill(4, 7, 18),
+        reload(7, 2, 32),
+        reload(8, 1, 33),
         Line::Move {
-            to: 30,
+            to: 7,
             size: 4,
             back: true,
-            pointer: 28,
-            by: 29,
+            pointer: 7,
+            by: 8,
         },
-        spill(5, 30, 34),
-        reload(28, 5, 48),
-        reload(29, 2, 49),
+        spill(5, 7, 34),
+        reload(7, 5, 48),
+        reload(8, 2, 49),
         Line::Distance {
-            to: 30,
+            to: 7,
             size: 4,
-            left: 28,
-            right: 29,
+            left: 7,
+            right: 8,
         },
-        spill(6, 30, 50),
+        spill(6, 7, 50),
     ];
     assert_eq!(rt; lines.as_slice(), want.as_slice());
     Ok(())
@@ -219,24 +219,24 @@ fn places_are_over_registers(rt: HostRuntime) -> Result<(), Fail> {
     )?;
     let want = [
         Line::Address {
-            to: 30,
+            to: 7,
             place: local,
         },
-        spill(5, 30, 18),
-        reload(28, 5, 32),
+        spill(5, 7, 18),
+        reload(7, 5, 32),
         Line::Read {
-            to: 30,
-            place: behind(28),
+            to: 7,
+            place: behind(7),
             kind,
             access: 1,
         },
-        spill(6, 30, 34),
-        reload(28, 5, 48),
-        reload(29, 6, 49),
+        spill(6, 7, 34),
+        reload(7, 5, 48),
+        reload(8, 6, 49),
         Line::Write {
-            place: behind(28),
+            place: behind(7),
             kind,
-            from: 29,
+            from: 8,
             access: 2,
         },
         Line::Write {
@@ -337,7 +337,7 @@ fn a_unit_is_placed(rt: HostRuntime) -> Result<(), Fail> {
     let placed = place(rt.alloc(), sample(rt.alloc())?)?;
     let want = [
         Line::Read {
-            to: 30,
+            to: 7,
             place: Place::Local {
                 object: 0,
                 offset: 0,
@@ -345,7 +345,7 @@ fn a_unit_is_placed(rt: HostRuntime) -> Result<(), Fail> {
             kind: Kind::I32,
             access: 5,
         },
-        spill(0, 30, 8),
+        spill(0, 7, 8),
         reload(10, 0, 22),
     ];
     for function in placed.functions.iter() {

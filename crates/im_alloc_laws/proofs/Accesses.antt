@@ -63,7 +63,7 @@ fresh_give (InSlot m) a high lt = fresh_new [] [] (a + 1) high a (omega arith) (
 fresh_place : (h : ℕ → Home) (place : Place) (a : ℕ) (rest : List Line) (old : List ℕ) (low high : ℕ) → a < low → low ≤ high → Below old a → Fresh old (accesses_of_lines rest) low high → Fresh old (accesses_of_lines (load_place h place a rest)) a high
 fresh_place h (Static object offset) a rest old low high lt le below f = fresh_wide old (accesses_of_lines rest) low high a high (omega arith) (omega arith) f
 fresh_place h (Local object offset) a rest old low high lt le below f = fresh_wide old (accesses_of_lines rest) low high a high (omega arith) (omega arith) f
-fresh_place h (Through pointer offset) a rest old low high lt le below f = fresh_load (h pointer) 28 a rest old low high lt le below f
+fresh_place h (Through pointer offset) a rest old low high lt le below f = fresh_load (h pointer) 7 a rest old low high lt le below f
 
 fresh_bring : (h : ℕ → Home) (k first count a : ℕ) (rest : List Line) → Once (accesses_of_lines rest) → Below (accesses_of_lines rest) a → Fresh (accesses_of_lines rest) (accesses_of_lines (bring h k first count a rest)) a (a + count)
 fresh_bring h k first zero a rest once below = record { each = λ b t. inl t; once = once }
@@ -83,14 +83,14 @@ Silent line = accesses_of_line line ≡ []
 behind : (line : Line) (home : Home) (a high : ℕ) → Silent line → a < high → Fresh [] (accesses_of_lines (line ∷ save home a [])) a high
 behind line home a high e lt = subst (λ q. Fresh [] (q ++ accesses_of_lines (save home a [])) a high) (sym e) (fresh_save home a high lt)
 
-fresh_one : (from : Home) (n : ℕ) (line : Line) (home : Home) → Silent line → Fresh [] (accesses_of_lines (load from 28 n (line ∷ save home (n + 2) []))) n (n + 16)
+fresh_one : (from : Home) (n : ℕ) (line : Line) (home : Home) → Silent line → Fresh [] (accesses_of_lines (load from 7 n (line ∷ save home (n + 2) []))) n (n + 16)
 fresh_one from n line home e =
-    fresh_load from 28 n (line ∷ save home (n + 2) []) [] (n + 2) (n + 16) (omega arith) (omega arith) (below_none n) (behind line home (n + 2) (n + 16) e (omega arith))
+    fresh_load from 7 n (line ∷ save home (n + 2) []) [] (n + 2) (n + 16) (omega arith) (omega arith) (below_none n) (behind line home (n + 2) (n + 16) e (omega arith))
 
-fresh_two : (left right : Home) (n : ℕ) (line : Line) (home : Home) → Silent line → Fresh [] (accesses_of_lines (load left 28 n (load right 29 (n + 1) (line ∷ save home (n + 2) [])))) n (n + 16)
+fresh_two : (left right : Home) (n : ℕ) (line : Line) (home : Home) → Silent line → Fresh [] (accesses_of_lines (load left 7 n (load right 8 (n + 1) (line ∷ save home (n + 2) [])))) n (n + 16)
 fresh_two left right n line home e =
-    fresh_load left 28 n (load right 29 (n + 1) (line ∷ save home (n + 2) [])) [] (n + 1) (n + 16) (omega arith) (omega arith) (below_none n)
-    (fresh_load right 29 (n + 1) (line ∷ save home (n + 2) []) [] (n + 2) (n + 16) (omega arith) (omega arith) (below_none (n + 1)) (behind line home (n + 2) (n + 16) e (omega arith)))
+    fresh_load left 7 n (load right 8 (n + 1) (line ∷ save home (n + 2) [])) [] (n + 1) (n + 16) (omega arith) (omega arith) (below_none n)
+    (fresh_load right 8 (n + 1) (line ∷ save home (n + 2) []) [] (n + 2) (n + 16) (omega arith) (omega arith) (below_none (n + 1)) (behind line home (n + 2) (n + 16) e (omega arith)))
 
 fresh_call : (h : ℕ → Home) (to i first count n : ℕ) → count ≤ 8 → Fresh [] (accesses_of_lines (put_line h n (Call to i first count) [])) n (n + 16)
 fresh_call h to i first count n few =
@@ -121,24 +121,24 @@ fresh_own_save home n access lt =
 fresh_line : (h : ℕ → Home) (n : ℕ) (line : Line) → Few line → Below (accesses_of_line line) n → Fresh (accesses_of_line line) (accesses_of_lines (put_line h n line [])) n (n + 16)
 fresh_line h n (Put to z) few below = fresh_set (h to) n
 fresh_line h n (PutNull to) few below = fresh_set (h to) n
-fresh_line h n (Copy to from) few below = fresh_one (h from) n (Copy (reg (h to) 30) (reg (h from) 28)) (h to) refl
-fresh_line h n (Convert to kind from) few below = fresh_one (h from) n (Convert (reg (h to) 30) kind (reg (h from) 28)) (h to) refl
-fresh_line h n (Unary to op kind from) few below = fresh_one (h from) n (Unary (reg (h to) 30) op kind (reg (h from) 28)) (h to) refl
-fresh_line h n (Not to from) few below = fresh_one (h from) n (Not (reg (h to) 30) (reg (h from) 28)) (h to) refl
-fresh_line h n (Compute to op kind left right) few below = fresh_two (h left) (h right) n (Compute (reg (h to) 30) op kind (reg (h left) 28) (reg (h right) 29)) (h to) refl
-fresh_line h n (Compare to op kind left right) few below = fresh_two (h left) (h right) n (Compare (reg (h to) 30) op kind (reg (h left) 28) (reg (h right) 29)) (h to) refl
-fresh_line h n (Move to size back pointer by) few below = fresh_two (h pointer) (h by) n (Move (reg (h to) 30) size back (reg (h pointer) 28) (reg (h by) 29)) (h to) refl
-fresh_line h n (Distance to size left right) few below = fresh_two (h left) (h right) n (Distance (reg (h to) 30) size (reg (h left) 28) (reg (h right) 29)) (h to) refl
+fresh_line h n (Copy to from) few below = fresh_one (h from) n (Copy (reg (h to) 7) (reg (h from) 7)) (h to) refl
+fresh_line h n (Convert to kind from) few below = fresh_one (h from) n (Convert (reg (h to) 7) kind (reg (h from) 7)) (h to) refl
+fresh_line h n (Unary to op kind from) few below = fresh_one (h from) n (Unary (reg (h to) 7) op kind (reg (h from) 7)) (h to) refl
+fresh_line h n (Not to from) few below = fresh_one (h from) n (Not (reg (h to) 7) (reg (h from) 7)) (h to) refl
+fresh_line h n (Compute to op kind left right) few below = fresh_two (h left) (h right) n (Compute (reg (h to) 7) op kind (reg (h left) 7) (reg (h right) 8)) (h to) refl
+fresh_line h n (Compare to op kind left right) few below = fresh_two (h left) (h right) n (Compare (reg (h to) 7) op kind (reg (h left) 7) (reg (h right) 8)) (h to) refl
+fresh_line h n (Move to size back pointer by) few below = fresh_two (h pointer) (h by) n (Move (reg (h to) 7) size back (reg (h pointer) 7) (reg (h by) 8)) (h to) refl
+fresh_line h n (Distance to size left right) few below = fresh_two (h left) (h right) n (Distance (reg (h to) 7) size (reg (h left) 7) (reg (h right) 8)) (h to) refl
 fresh_line h n (Address to place) few below =
-    fresh_place h place n (Address (reg (h to) 30) (on_place h place) ∷ save (h to) (n + 2) []) [] (n + 2) (n + 16) (omega arith) (omega arith) (below_none n) (fresh_save (h to) (n + 2) (n + 16) (omega arith))
+    fresh_place h place n (Address (reg (h to) 7) (on_place h place) ∷ save (h to) (n + 2) []) [] (n + 2) (n + 16) (omega arith) (omega arith) (below_none n) (fresh_save (h to) (n + 2) (n + 16) (omega arith))
 fresh_line h n (Read to place kind access) few below =
-    fresh_place h place n (Read (reg (h to) 30) (on_place h place) kind access ∷ save (h to) (n + 2) []) (access ∷ []) (n + 2) (n + 16) (omega arith) (omega arith) below (fresh_own_save (h to) n access (one_below access n below))
+    fresh_place h place n (Read (reg (h to) 7) (on_place h place) kind access ∷ save (h to) (n + 2) []) (access ∷ []) (n + 2) (n + 16) (omega arith) (omega arith) below (fresh_own_save (h to) n access (one_below access n below))
 fresh_line h n (Write place kind from access) few below =
     let lt = one_below access n below in
-    let line : Line = Write (on_place h place) kind (reg (h from) 29) access in
+    let line : Line = Write (on_place h place) kind (reg (h from) 8) access in
     let own : Fresh (access ∷ []) (accesses_of_lines (line ∷ [])) (n + 2) (n + 16) = fresh_own [] (n + 2) (n + 16) access (omega arith) (fresh_none (n + 2) (n + 16)) in
-    fresh_place h place n (load (h from) 29 (n + 1) (line ∷ [])) (access ∷ []) (n + 1) (n + 16) (omega arith) (omega arith) below
-    (fresh_load (h from) 29 (n + 1) (line ∷ []) (access ∷ []) (n + 2) (n + 16) (omega arith) (omega arith) (below_more (access ∷ []) n (n + 1) (omega arith) below) own)
+    fresh_place h place n (load (h from) 8 (n + 1) (line ∷ [])) (access ∷ []) (n + 1) (n + 16) (omega arith) (omega arith) below
+    (fresh_load (h from) 8 (n + 1) (line ∷ []) (access ∷ []) (n + 2) (n + 16) (omega arith) (omega arith) (below_more (access ∷ []) n (n + 1) (omega arith) below) own)
 fresh_line h n (Reload to slot access) few below = record { each = λ a k. absurd k; once = tt }
 fresh_line h n (Spill slot from access) few below = record { each = λ a k. absurd k; once = tt }
 fresh_line h n (Cut cause) few below = fresh_none n (n + 16)
@@ -151,7 +151,7 @@ fresh_line h n (PutChar to from) few below =
 fresh_exit : (h : ℕ → Home) (n : ℕ) (exit : Exit) → Fresh [] (accesses_of_lines (exit_lines h n exit)) n (n + 16)
 fresh_exit h n (Jump b) = fresh_none n (n + 16)
 fresh_exit h n (Turn b) = fresh_none n (n + 16)
-fresh_exit h n (Branch on a b) = fresh_load (h on) 28 n [] [] (n + 1) (n + 16) (omega arith) (omega arith) (below_none n) (fresh_none (n + 1) (n + 16))
+fresh_exit h n (Branch on a b) = fresh_load (h on) 7 n [] [] (n + 1) (n + 16) (omega arith) (omega arith) (below_none n) (fresh_none (n + 1) (n + 16))
 fresh_exit h n (Return None) = fresh_none n (n + 16)
 fresh_exit h n (Return (Some r)) = fresh_into (h r) 10 n [] [] (n + 1) (n + 16) (omega arith) (omega arith) (below_none n) (fresh_none (n + 1) (n + 16))
 

@@ -30,7 +30,7 @@ module _ (Fact : Line → Type 0) (Q : List Line → Type 0) (c : Carries Fact Q
 
   carried_save : (home : Home) (a : ℕ) (rest : List Line) → Q rest → Q (save home a rest)
   carried_save (InRegister r) a rest q = q
-  carried_save (InSlot m) a rest q = c.plain (Spill m 30 a) rest tt q
+  carried_save (InSlot m) a rest q = c.plain (Spill m 7 a) rest tt q
 
   pub carried_into : (home : Home) (k a : ℕ) (rest : List Line) → Q rest → Q (into home k a rest)
   carried_into (InRegister r) k a rest q = c.plain (Copy k r) rest tt q
@@ -44,38 +44,38 @@ module _ (Fact : Line → Type 0) (Q : List Line → Type 0) (c : Carries Fact Q
   carried_place : (h : ℕ → Home) (place : Place) (a : ℕ) (rest : List Line) → Q rest → Q (load_place h place a rest)
   carried_place h (Static object offset) a rest q = q
   carried_place h (Local object offset) a rest q = q
-  carried_place h (Through pointer offset) a rest q = carried_load (h pointer) 28 a rest q
+  carried_place h (Through pointer offset) a rest q = carried_load (h pointer) 7 a rest q
 
   set : (line : Line) (home : Home) (a : ℕ) (rest : List Line) → IsPlain line → Q rest → Q (line ∷ save home a rest)
   set line home a rest plain q = c.plain line (save home a rest) plain (carried_save home a rest q)
 
-  one : (from : Home) (n : ℕ) (line : Line) (home : Home) (a : ℕ) (rest : List Line) → IsPlain line → Q rest → Q (load from 28 n (line ∷ save home a rest))
-  one from n line home a rest plain q = carried_load from 28 n (line ∷ save home a rest) (set line home a rest plain q)
+  one : (from : Home) (n : ℕ) (line : Line) (home : Home) (a : ℕ) (rest : List Line) → IsPlain line → Q rest → Q (load from 7 n (line ∷ save home a rest))
+  one from n line home a rest plain q = carried_load from 7 n (line ∷ save home a rest) (set line home a rest plain q)
 
-  two : (left right : Home) (n : ℕ) (line : Line) (home : Home) (a : ℕ) (rest : List Line) → IsPlain line → Q rest → Q (load left 28 n (load right 29 (n + 1) (line ∷ save home a rest)))
+  two : (left right : Home) (n : ℕ) (line : Line) (home : Home) (a : ℕ) (rest : List Line) → IsPlain line → Q rest → Q (load left 7 n (load right 8 (n + 1) (line ∷ save home a rest)))
   two left right n line home a rest plain q =
-      carried_load left 28 n (load right 29 (n + 1) (line ∷ save home a rest)) (carried_load right 29 (n + 1) (line ∷ save home a rest) (set line home a rest plain q))
+      carried_load left 7 n (load right 8 (n + 1) (line ∷ save home a rest)) (carried_load right 8 (n + 1) (line ∷ save home a rest) (set line home a rest plain q))
 
   pub carried : (h : ℕ → Home) (n : ℕ) (line : Line) (rest : List Line) → (IsCut line → ⊥) → Fact line → Q rest → Q (put_line h n line rest)
-  carried h n (Put to z) rest other fact q = set (Put (reg (h to) 30) z) (h to) (n + 2) rest tt q
-  carried h n (PutNull to) rest other fact q = set (PutNull (reg (h to) 30)) (h to) (n + 2) rest tt q
-  carried h n (Copy to from) rest other fact q = one (h from) n (Copy (reg (h to) 30) (reg (h from) 28)) (h to) (n + 2) rest tt q
-  carried h n (Convert to kind from) rest other fact q = one (h from) n (Convert (reg (h to) 30) kind (reg (h from) 28)) (h to) (n + 2) rest tt q
-  carried h n (Unary to op kind from) rest other fact q = one (h from) n (Unary (reg (h to) 30) op kind (reg (h from) 28)) (h to) (n + 2) rest tt q
-  carried h n (Not to from) rest other fact q = one (h from) n (Not (reg (h to) 30) (reg (h from) 28)) (h to) (n + 2) rest tt q
-  carried h n (Compute to op kind left right) rest other fact q = two (h left) (h right) n (Compute (reg (h to) 30) op kind (reg (h left) 28) (reg (h right) 29)) (h to) (n + 2) rest tt q
-  carried h n (Compare to op kind left right) rest other fact q = two (h left) (h right) n (Compare (reg (h to) 30) op kind (reg (h left) 28) (reg (h right) 29)) (h to) (n + 2) rest tt q
-  carried h n (Move to size back pointer by) rest other fact q = two (h pointer) (h by) n (Move (reg (h to) 30) size back (reg (h pointer) 28) (reg (h by) 29)) (h to) (n + 2) rest tt q
-  carried h n (Distance to size left right) rest other fact q = two (h left) (h right) n (Distance (reg (h to) 30) size (reg (h left) 28) (reg (h right) 29)) (h to) (n + 2) rest tt q
+  carried h n (Put to z) rest other fact q = set (Put (reg (h to) 7) z) (h to) (n + 2) rest tt q
+  carried h n (PutNull to) rest other fact q = set (PutNull (reg (h to) 7)) (h to) (n + 2) rest tt q
+  carried h n (Copy to from) rest other fact q = one (h from) n (Copy (reg (h to) 7) (reg (h from) 7)) (h to) (n + 2) rest tt q
+  carried h n (Convert to kind from) rest other fact q = one (h from) n (Convert (reg (h to) 7) kind (reg (h from) 7)) (h to) (n + 2) rest tt q
+  carried h n (Unary to op kind from) rest other fact q = one (h from) n (Unary (reg (h to) 7) op kind (reg (h from) 7)) (h to) (n + 2) rest tt q
+  carried h n (Not to from) rest other fact q = one (h from) n (Not (reg (h to) 7) (reg (h from) 7)) (h to) (n + 2) rest tt q
+  carried h n (Compute to op kind left right) rest other fact q = two (h left) (h right) n (Compute (reg (h to) 7) op kind (reg (h left) 7) (reg (h right) 8)) (h to) (n + 2) rest tt q
+  carried h n (Compare to op kind left right) rest other fact q = two (h left) (h right) n (Compare (reg (h to) 7) op kind (reg (h left) 7) (reg (h right) 8)) (h to) (n + 2) rest tt q
+  carried h n (Move to size back pointer by) rest other fact q = two (h pointer) (h by) n (Move (reg (h to) 7) size back (reg (h pointer) 7) (reg (h by) 8)) (h to) (n + 2) rest tt q
+  carried h n (Distance to size left right) rest other fact q = two (h left) (h right) n (Distance (reg (h to) 7) size (reg (h left) 7) (reg (h right) 8)) (h to) (n + 2) rest tt q
   carried h n (Address to place) rest other fact q =
-      let line : Line = Address (reg (h to) 30) (on_place h place) in
+      let line : Line = Address (reg (h to) 7) (on_place h place) in
       carried_place h place n (line ∷ save (h to) (n + 2) rest) (set line (h to) (n + 2) rest tt q)
   carried h n (Read to place kind access) rest other fact q =
-      let line : Line = Read (reg (h to) 30) (on_place h place) kind access in
+      let line : Line = Read (reg (h to) 7) (on_place h place) kind access in
       carried_place h place n (line ∷ save (h to) (n + 2) rest) (set line (h to) (n + 2) rest tt q)
   carried h n (Write place kind from access) rest other fact q =
-      let line : Line = Write (on_place h place) kind (reg (h from) 29) access in
-      carried_place h place n (load (h from) 29 (n + 1) (line ∷ rest)) (carried_load (h from) 29 (n + 1) (line ∷ rest) (c.plain line rest tt q))
+      let line : Line = Write (on_place h place) kind (reg (h from) 8) access in
+      carried_place h place n (load (h from) 8 (n + 1) (line ∷ rest)) (carried_load (h from) 8 (n + 1) (line ∷ rest) (c.plain line rest tt q))
   carried h n (Reload to slot access) rest other fact q = q
   carried h n (Spill slot from access) rest other fact q = q
   carried h n (Cut cause) rest other fact q = absurd (other tt)

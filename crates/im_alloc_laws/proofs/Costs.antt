@@ -36,7 +36,7 @@ give_words (InSlot m) a rest = omega arith
 place_words : (h : ℕ → Home) (place : Place) (a : ℕ) (rest : List Line) → words (load_place h place a rest) ≤ 4 * place_registers place + words rest
 place_words h (Static object offset) a rest = omega arith
 place_words h (Local object offset) a rest = omega arith
-place_words h (Through pointer offset) a rest = let w = load_words (h pointer) 28 a rest in omega arith
+place_words h (Through pointer offset) a rest = let w = load_words (h pointer) 7 a rest in omega arith
 
 bring_words : (h : ℕ → Home) (k first count a : ℕ) (rest : List Line) → words (bring h k first count a rest) ≤ 4 * count + words rest
 bring_words h k first zero a rest = omega arith
@@ -48,44 +48,44 @@ bring_words h k first (suc count) a rest =
 set_words : (line : Line) (home : Home) (a : ℕ) (rest : List Line) → words (line ∷ save home a rest) ≤ with_cut line + 4 + words rest
 set_words line home a rest = let w = save_words home a rest in omega arith
 
-one_words : (from : Home) (n : ℕ) (line : Line) (home : Home) (a : ℕ) (rest : List Line) → words (load from 28 n (line ∷ save home a rest)) ≤ with_cut line + 8 + words rest
+one_words : (from : Home) (n : ℕ) (line : Line) (home : Home) (a : ℕ) (rest : List Line) → words (load from 7 n (line ∷ save home a rest)) ≤ with_cut line + 8 + words rest
 one_words from n line home a rest =
     let w = set_words line home a rest in
-    let l = load_words from 28 n (line ∷ save home a rest) in
+    let l = load_words from 7 n (line ∷ save home a rest) in
     omega arith
 
-two_words : (left right : Home) (n : ℕ) (line : Line) (home : Home) (a : ℕ) (rest : List Line) → words (load left 28 n (load right 29 (n + 1) (line ∷ save home a rest))) ≤ with_cut line + 12 + words rest
+two_words : (left right : Home) (n : ℕ) (line : Line) (home : Home) (a : ℕ) (rest : List Line) → words (load left 7 n (load right 8 (n + 1) (line ∷ save home a rest))) ≤ with_cut line + 12 + words rest
 two_words left right n line home a rest =
     let w = set_words line home a rest in
-    let r = load_words right 29 (n + 1) (line ∷ save home a rest) in
-    let l = load_words left 28 n (load right 29 (n + 1) (line ∷ save home a rest)) in
+    let r = load_words right 8 (n + 1) (line ∷ save home a rest) in
+    let l = load_words left 7 n (load right 8 (n + 1) (line ∷ save home a rest)) in
     omega arith
 
 line_words : (h : ℕ → Home) (n : ℕ) (line : Line) (rest : List Line) → words (put_line h n line rest) ≤ cost line + words rest
-line_words h n (Put to z) rest = let w = set_words (Put (reg (h to) 30) z) (h to) (n + 2) rest in omega arith
-line_words h n (PutNull to) rest = let w = set_words (PutNull (reg (h to) 30)) (h to) (n + 2) rest in omega arith
-line_words h n (Copy to from) rest = let w = one_words (h from) n (Copy (reg (h to) 30) (reg (h from) 28)) (h to) (n + 2) rest in omega arith
-line_words h n (Convert to kind from) rest = let w = one_words (h from) n (Convert (reg (h to) 30) kind (reg (h from) 28)) (h to) (n + 2) rest in omega arith
-line_words h n (Unary to op kind from) rest = let w = one_words (h from) n (Unary (reg (h to) 30) op kind (reg (h from) 28)) (h to) (n + 2) rest in omega arith
-line_words h n (Not to from) rest = let w = one_words (h from) n (Not (reg (h to) 30) (reg (h from) 28)) (h to) (n + 2) rest in omega arith
-line_words h n (Compute to op kind left right) rest = let w = two_words (h left) (h right) n (Compute (reg (h to) 30) op kind (reg (h left) 28) (reg (h right) 29)) (h to) (n + 2) rest in omega arith
-line_words h n (Compare to op kind left right) rest = let w = two_words (h left) (h right) n (Compare (reg (h to) 30) op kind (reg (h left) 28) (reg (h right) 29)) (h to) (n + 2) rest in omega arith
-line_words h n (Move to size back pointer by) rest = let w = two_words (h pointer) (h by) n (Move (reg (h to) 30) size back (reg (h pointer) 28) (reg (h by) 29)) (h to) (n + 2) rest in omega arith
-line_words h n (Distance to size left right) rest = let w = two_words (h left) (h right) n (Distance (reg (h to) 30) size (reg (h left) 28) (reg (h right) 29)) (h to) (n + 2) rest in omega arith
+line_words h n (Put to z) rest = let w = set_words (Put (reg (h to) 7) z) (h to) (n + 2) rest in omega arith
+line_words h n (PutNull to) rest = let w = set_words (PutNull (reg (h to) 7)) (h to) (n + 2) rest in omega arith
+line_words h n (Copy to from) rest = let w = one_words (h from) n (Copy (reg (h to) 7) (reg (h from) 7)) (h to) (n + 2) rest in omega arith
+line_words h n (Convert to kind from) rest = let w = one_words (h from) n (Convert (reg (h to) 7) kind (reg (h from) 7)) (h to) (n + 2) rest in omega arith
+line_words h n (Unary to op kind from) rest = let w = one_words (h from) n (Unary (reg (h to) 7) op kind (reg (h from) 7)) (h to) (n + 2) rest in omega arith
+line_words h n (Not to from) rest = let w = one_words (h from) n (Not (reg (h to) 7) (reg (h from) 7)) (h to) (n + 2) rest in omega arith
+line_words h n (Compute to op kind left right) rest = let w = two_words (h left) (h right) n (Compute (reg (h to) 7) op kind (reg (h left) 7) (reg (h right) 8)) (h to) (n + 2) rest in omega arith
+line_words h n (Compare to op kind left right) rest = let w = two_words (h left) (h right) n (Compare (reg (h to) 7) op kind (reg (h left) 7) (reg (h right) 8)) (h to) (n + 2) rest in omega arith
+line_words h n (Move to size back pointer by) rest = let w = two_words (h pointer) (h by) n (Move (reg (h to) 7) size back (reg (h pointer) 7) (reg (h by) 8)) (h to) (n + 2) rest in omega arith
+line_words h n (Distance to size left right) rest = let w = two_words (h left) (h right) n (Distance (reg (h to) 7) size (reg (h left) 7) (reg (h right) 8)) (h to) (n + 2) rest in omega arith
 line_words h n (Address to place) rest =
-    let line : Line = Address (reg (h to) 30) (on_place h place) in
+    let line : Line = Address (reg (h to) 7) (on_place h place) in
     let w = set_words line (h to) (n + 2) rest in
     let p = place_words h place n (line ∷ save (h to) (n + 2) rest) in
     omega arith
 line_words h n (Read to place kind access) rest =
-    let line : Line = Read (reg (h to) 30) (on_place h place) kind access in
+    let line : Line = Read (reg (h to) 7) (on_place h place) kind access in
     let w = set_words line (h to) (n + 2) rest in
     let p = place_words h place n (line ∷ save (h to) (n + 2) rest) in
     omega arith
 line_words h n (Write place kind from access) rest =
-    let line : Line = Write (on_place h place) kind (reg (h from) 29) access in
-    let w = load_words (h from) 29 (n + 1) (line ∷ rest) in
-    let p = place_words h place n (load (h from) 29 (n + 1) (line ∷ rest)) in
+    let line : Line = Write (on_place h place) kind (reg (h from) 8) access in
+    let w = load_words (h from) 8 (n + 1) (line ∷ rest) in
+    let p = place_words h place n (load (h from) 8 (n + 1) (line ∷ rest)) in
     omega arith
 line_words h n (Reload to slot access) rest = omega arith
 line_words h n (Spill slot from access) rest = omega arith
@@ -110,7 +110,7 @@ lines_words h n (line ∷ lines) tail =
 exit_cost_kept : (h : ℕ → Home) (n : ℕ) (exit : Exit) → words (exit_lines h n exit) + (1 + exit_words (put_exit h exit)) ≤ exit_cost exit
 exit_cost_kept h n (Jump b) = omega arith
 exit_cost_kept h n (Turn b) = omega arith
-exit_cost_kept h n (Branch on a b) = let w = load_words (h on) 28 n [] in omega arith
+exit_cost_kept h n (Branch on a b) = let w = load_words (h on) 7 n [] in omega arith
 exit_cost_kept h n (Return None) = omega arith
 exit_cost_kept h n (Return (Some r)) = let w = into_words (h r) 10 n [] in omega arith
 

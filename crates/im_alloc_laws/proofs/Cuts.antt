@@ -56,27 +56,27 @@ uncut_bring h k first (suc count) a rest c = uncut_into (h first) k a (bring h (
 uncut_place : (h : ℕ → Home) (place : Place) (a : ℕ) (rest : List Line) → Uncut rest → Uncut (load_place h place a rest)
 uncut_place h (Static object offset) a rest c = c
 uncut_place h (Local object offset) a rest c = c
-uncut_place h (Through pointer offset) a rest c = uncut_load (h pointer) 28 a rest c
+uncut_place h (Through pointer offset) a rest c = uncut_load (h pointer) 7 a rest c
 
-uncut_two : (left right : Home) (n : ℕ) (rest : List Line) → Uncut rest → Uncut (load left 28 n (load right 29 (n + 1) rest))
-uncut_two left right n rest c = uncut_load left 28 n (load right 29 (n + 1) rest) (uncut_load right 29 (n + 1) rest c)
+uncut_two : (left right : Home) (n : ℕ) (rest : List Line) → Uncut rest → Uncut (load left 7 n (load right 8 (n + 1) rest))
+uncut_two left right n rest c = uncut_load left 7 n (load right 8 (n + 1) rest) (uncut_load right 8 (n + 1) rest c)
 
 uncut_line : (h : ℕ → Home) (n : ℕ) (line : Line) (rest : List Line) (after : ℕ → Bool) → ValidLine h line after → (IsCut line → ⊥) → Uncut (put_line h n line rest)
 uncut_line h n (Put to z) rest after valid other = λ s. s
 uncut_line h n (PutNull to) rest after valid other = λ s. s
-uncut_line h n (Copy to from) rest after valid other = uncut_load (h from) 28 n (Copy (reg (h to) 30) (reg (h from) 28) ∷ save (h to) (n + 2) rest) (λ s. s)
-uncut_line h n (Convert to kind from) rest after valid other = uncut_load (h from) 28 n (Convert (reg (h to) 30) kind (reg (h from) 28) ∷ save (h to) (n + 2) rest) (λ s. s)
-uncut_line h n (Unary to op kind from) rest after valid other = uncut_load (h from) 28 n (Unary (reg (h to) 30) op kind (reg (h from) 28) ∷ save (h to) (n + 2) rest) (λ s. s)
-uncut_line h n (Not to from) rest after valid other = uncut_load (h from) 28 n (Not (reg (h to) 30) (reg (h from) 28) ∷ save (h to) (n + 2) rest) (λ s. s)
-uncut_line h n (Compute to op kind left right) rest after valid other = uncut_two (h left) (h right) n (Compute (reg (h to) 30) op kind (reg (h left) 28) (reg (h right) 29) ∷ save (h to) (n + 2) rest) (λ s. s)
-uncut_line h n (Compare to op kind left right) rest after valid other = uncut_two (h left) (h right) n (Compare (reg (h to) 30) op kind (reg (h left) 28) (reg (h right) 29) ∷ save (h to) (n + 2) rest) (λ s. s)
-uncut_line h n (Move to size back pointer by) rest after valid other = uncut_two (h pointer) (h by) n (Move (reg (h to) 30) size back (reg (h pointer) 28) (reg (h by) 29) ∷ save (h to) (n + 2) rest) (λ s. s)
-uncut_line h n (Distance to size left right) rest after valid other = uncut_two (h left) (h right) n (Distance (reg (h to) 30) size (reg (h left) 28) (reg (h right) 29) ∷ save (h to) (n + 2) rest) (λ s. s)
-uncut_line h n (Address to place) rest after valid other = uncut_place h place n (Address (reg (h to) 30) (on_place h place) ∷ save (h to) (n + 2) rest) (λ s. s)
-uncut_line h n (Read to place kind access) rest after valid other = uncut_place h place n (Read (reg (h to) 30) (on_place h place) kind access ∷ save (h to) (n + 2) rest) (λ s. s)
+uncut_line h n (Copy to from) rest after valid other = uncut_load (h from) 7 n (Copy (reg (h to) 7) (reg (h from) 7) ∷ save (h to) (n + 2) rest) (λ s. s)
+uncut_line h n (Convert to kind from) rest after valid other = uncut_load (h from) 7 n (Convert (reg (h to) 7) kind (reg (h from) 7) ∷ save (h to) (n + 2) rest) (λ s. s)
+uncut_line h n (Unary to op kind from) rest after valid other = uncut_load (h from) 7 n (Unary (reg (h to) 7) op kind (reg (h from) 7) ∷ save (h to) (n + 2) rest) (λ s. s)
+uncut_line h n (Not to from) rest after valid other = uncut_load (h from) 7 n (Not (reg (h to) 7) (reg (h from) 7) ∷ save (h to) (n + 2) rest) (λ s. s)
+uncut_line h n (Compute to op kind left right) rest after valid other = uncut_two (h left) (h right) n (Compute (reg (h to) 7) op kind (reg (h left) 7) (reg (h right) 8) ∷ save (h to) (n + 2) rest) (λ s. s)
+uncut_line h n (Compare to op kind left right) rest after valid other = uncut_two (h left) (h right) n (Compare (reg (h to) 7) op kind (reg (h left) 7) (reg (h right) 8) ∷ save (h to) (n + 2) rest) (λ s. s)
+uncut_line h n (Move to size back pointer by) rest after valid other = uncut_two (h pointer) (h by) n (Move (reg (h to) 7) size back (reg (h pointer) 7) (reg (h by) 8) ∷ save (h to) (n + 2) rest) (λ s. s)
+uncut_line h n (Distance to size left right) rest after valid other = uncut_two (h left) (h right) n (Distance (reg (h to) 7) size (reg (h left) 7) (reg (h right) 8) ∷ save (h to) (n + 2) rest) (λ s. s)
+uncut_line h n (Address to place) rest after valid other = uncut_place h place n (Address (reg (h to) 7) (on_place h place) ∷ save (h to) (n + 2) rest) (λ s. s)
+uncut_line h n (Read to place kind access) rest after valid other = uncut_place h place n (Read (reg (h to) 7) (on_place h place) kind access ∷ save (h to) (n + 2) rest) (λ s. s)
 uncut_line h n (Write place kind from access) rest after valid other =
-    let line : Line = Write (on_place h place) kind (reg (h from) 29) access in
-    uncut_place h place n (load (h from) 29 (n + 1) (line ∷ rest)) (uncut_load (h from) 29 (n + 1) (line ∷ rest) (λ s. s))
+    let line : Line = Write (on_place h place) kind (reg (h from) 8) access in
+    uncut_place h place n (load (h from) 8 (n + 1) (line ∷ rest)) (uncut_load (h from) 8 (n + 1) (line ∷ rest) (λ s. s))
 uncut_line h n (Reload to slot access) rest after valid other = absurd valid
 uncut_line h n (Spill slot from access) rest after valid other = absurd valid
 uncut_line h n (Cut cause) rest after valid other = absurd (other tt)
@@ -106,14 +106,14 @@ apart_lines h live n (line ∷ lines) tail exit valid apart uncut last =
 uncut_exit : (h : ℕ → Home) (n : ℕ) (exit : Exit) → Uncut (exit_lines h n exit)
 uncut_exit h n (Jump b) = λ s. s
 uncut_exit h n (Turn b) = λ s. s
-uncut_exit h n (Branch on a b) = uncut_load (h on) 28 n [] (λ s. s)
+uncut_exit h n (Branch on a b) = uncut_load (h on) 7 n [] (λ s. s)
 uncut_exit h n (Return None) = λ s. s
 uncut_exit h n (Return (Some r)) = uncut_into (h r) 10 n []
 
 apart_exit : (h : ℕ → Home) (n : ℕ) (exit : Exit) → CutsApart (exit_lines h n exit)
 apart_exit h n (Jump b) = tt
 apart_exit h n (Turn b) = tt
-apart_exit h n (Branch on a b) = carried_load Any CutsApart apart_carried (h on) 28 n [] tt
+apart_exit h n (Branch on a b) = carried_load Any CutsApart apart_carried (h on) 7 n [] tt
 apart_exit h n (Return None) = tt
 apart_exit h n (Return (Some r)) = carried_into Any CutsApart apart_carried (h r) 10 n [] tt
 

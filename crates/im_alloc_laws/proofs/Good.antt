@@ -36,14 +36,14 @@ module _ (statics : ℕ) (f g : Function) (h : ℕ → Home) (homes : Homes h g.
   abbrev AllGood : List Line → Type 0
   AllGood lines = All P lines
 
-  home28 : IsHome 28
-  home28 = home_at 28 (omega arith) (omega arith)
+  home28 : IsHome 7
+  home28 = home_at 7 (omega arith) (omega arith)
 
-  home29 : IsHome 29
-  home29 = home_at 29 (omega arith) (omega arith)
+  home29 : IsHome 8
+  home29 = home_at 8 (omega arith) (omega arith)
 
-  home30 : IsHome 30
-  home30 = home_at 30 (omega arith) (omega arith)
+  home30 : IsHome 7
+  home30 = home_at 7 (omega arith) (omega arith)
 
   home10 : IsHome 10
   home10 = home_at 10 (omega arith) (omega arith)
@@ -67,7 +67,7 @@ module _ (statics : ℕ) (f g : Function) (h : ℕ → Home) (homes : Homes h g.
 
   save_at : (home : Home) (v a : ℕ) (rest : List Line) → h v ≡ home → AllGood rest → AllGood (save home a rest)
   save_at (InRegister r) v a rest e q = q
-  save_at (InSlot m) v a rest e q = cons (Spill m 30 a) rest (home30, homes.slots v m e) q
+  save_at (InSlot m) v a rest e q = cons (Spill m 7 a) rest (home30, homes.slots v m e) q
 
   into_at : (home : Home) (v k a : ℕ) (rest : List Line) → h v ≡ home → IsHome k → AllGood rest → AllGood (into home k a rest)
   into_at (InRegister r) v k a rest e is q = cons (Copy k r) rest (is, homes.free v r e) q
@@ -88,12 +88,12 @@ module _ (statics : ℕ) (f g : Function) (h : ℕ → Home) (homes : Homes h g.
   good_place : (place : Place) (a : ℕ) (rest : List Line) → AllGood rest → AllGood (load_place h place a rest)
   good_place (Static object offset) a rest q = q
   good_place (Local object offset) a rest q = q
-  good_place (Through pointer offset) a rest q = good_load pointer 28 a rest home28 q
+  good_place (Through pointer offset) a rest q = good_load pointer 7 a rest home28 q
 
   place_home : (place : Place) → PlaceAtHome (on_place h place)
   place_home (Static object offset) = tt
   place_home (Local object offset) = tt
-  place_home (Through pointer offset) = reg_home pointer 28 home28
+  place_home (Through pointer offset) = reg_home pointer 7 home28
 
   place_there : (place : Place) → PlaceExists statics f place → PlaceExists statics g (on_place h place)
   place_there (Static object offset) p = p
@@ -109,42 +109,42 @@ module _ (statics : ℕ) (f g : Function) (h : ℕ → Home) (homes : Homes h g.
   set : (line : Line) (to a : ℕ) (rest : List Line) → P line → AllGood rest → AllGood (line ∷ save (h to) a rest)
   set line to a rest p q = cons line (save (h to) a rest) p (save_at (h to) to a rest refl q)
 
-  one : (from n : ℕ) (line : Line) (to a : ℕ) (rest : List Line) → P line → AllGood rest → AllGood (load (h from) 28 n (line ∷ save (h to) a rest))
-  one from n line to a rest p q = good_load from 28 n (line ∷ save (h to) a rest) home28 (set line to a rest p q)
+  one : (from n : ℕ) (line : Line) (to a : ℕ) (rest : List Line) → P line → AllGood rest → AllGood (load (h from) 7 n (line ∷ save (h to) a rest))
+  one from n line to a rest p q = good_load from 7 n (line ∷ save (h to) a rest) home28 (set line to a rest p q)
 
-  two : (left right n : ℕ) (line : Line) (to a : ℕ) (rest : List Line) → P line → AllGood rest → AllGood (load (h left) 28 n (load (h right) 29 (n + 1) (line ∷ save (h to) a rest)))
+  two : (left right n : ℕ) (line : Line) (to a : ℕ) (rest : List Line) → P line → AllGood rest → AllGood (load (h left) 7 n (load (h right) 8 (n + 1) (line ∷ save (h to) a rest)))
   two left right n line to a rest p q =
-      good_load left 28 n (load (h right) 29 (n + 1) (line ∷ save (h to) a rest)) home28 (good_load right 29 (n + 1) (line ∷ save (h to) a rest) home29 (set line to a rest p q))
+      good_load left 7 n (load (h right) 8 (n + 1) (line ∷ save (h to) a rest)) home28 (good_load right 8 (n + 1) (line ∷ save (h to) a rest) home29 (set line to a rest p q))
 
-  abbrev to_home : (to : ℕ) → IsHome (reg (h to) 30)
-  to_home to = reg_home to 30 home30
+  abbrev to_home : (to : ℕ) → IsHome (reg (h to) 7)
+  to_home to = reg_home to 7 home30
 
-  abbrev left_home : (v : ℕ) → IsHome (reg (h v) 28)
-  left_home v = reg_home v 28 home28
+  abbrev left_home : (v : ℕ) → IsHome (reg (h v) 7)
+  left_home v = reg_home v 7 home28
 
-  abbrev right_home : (v : ℕ) → IsHome (reg (h v) 29)
-  right_home v = reg_home v 29 home29
+  abbrev right_home : (v : ℕ) → IsHome (reg (h v) 8)
+  right_home v = reg_home v 8 home29
 
   good_line : (n : ℕ) (line : Line) (rest : List Line) → IsPlaceableLine statics f line → AllGood rest → AllGood (put_line h n line rest)
-  good_line n (Put to z) rest p q = set (Put (reg (h to) 30) z) to (n + 2) rest (to_home to) q
-  good_line n (PutNull to) rest p q = set (PutNull (reg (h to) 30)) to (n + 2) rest (to_home to) q
-  good_line n (Copy to from) rest p q = one from n (Copy (reg (h to) 30) (reg (h from) 28)) to (n + 2) rest (to_home to, left_home from) q
-  good_line n (Convert to kind from) rest p q = one from n (Convert (reg (h to) 30) kind (reg (h from) 28)) to (n + 2) rest (to_home to, left_home from, p) q
-  good_line n (Unary to op kind from) rest p q = one from n (Unary (reg (h to) 30) op kind (reg (h from) 28)) to (n + 2) rest (to_home to, left_home from, p) q
-  good_line n (Not to from) rest p q = one from n (Not (reg (h to) 30) (reg (h from) 28)) to (n + 2) rest (to_home to, left_home from) q
-  good_line n (Compute to op kind left right) rest p q = two left right n (Compute (reg (h to) 30) op kind (reg (h left) 28) (reg (h right) 29)) to (n + 2) rest (to_home to, left_home left, right_home right, p) q
-  good_line n (Compare to op kind left right) rest p q = two left right n (Compare (reg (h to) 30) op kind (reg (h left) 28) (reg (h right) 29)) to (n + 2) rest (to_home to, left_home left, right_home right, p) q
-  good_line n (Move to size back pointer by) rest p q = two pointer by n (Move (reg (h to) 30) size back (reg (h pointer) 28) (reg (h by) 29)) to (n + 2) rest (to_home to, left_home pointer, right_home by, p) q
-  good_line n (Distance to size left right) rest p q = two left right n (Distance (reg (h to) 30) size (reg (h left) 28) (reg (h right) 29)) to (n + 2) rest (to_home to, left_home left, right_home right, p.0, p.1) q
+  good_line n (Put to z) rest p q = set (Put (reg (h to) 7) z) to (n + 2) rest (to_home to) q
+  good_line n (PutNull to) rest p q = set (PutNull (reg (h to) 7)) to (n + 2) rest (to_home to) q
+  good_line n (Copy to from) rest p q = one from n (Copy (reg (h to) 7) (reg (h from) 7)) to (n + 2) rest (to_home to, left_home from) q
+  good_line n (Convert to kind from) rest p q = one from n (Convert (reg (h to) 7) kind (reg (h from) 7)) to (n + 2) rest (to_home to, left_home from, p) q
+  good_line n (Unary to op kind from) rest p q = one from n (Unary (reg (h to) 7) op kind (reg (h from) 7)) to (n + 2) rest (to_home to, left_home from, p) q
+  good_line n (Not to from) rest p q = one from n (Not (reg (h to) 7) (reg (h from) 7)) to (n + 2) rest (to_home to, left_home from) q
+  good_line n (Compute to op kind left right) rest p q = two left right n (Compute (reg (h to) 7) op kind (reg (h left) 7) (reg (h right) 8)) to (n + 2) rest (to_home to, left_home left, right_home right, p) q
+  good_line n (Compare to op kind left right) rest p q = two left right n (Compare (reg (h to) 7) op kind (reg (h left) 7) (reg (h right) 8)) to (n + 2) rest (to_home to, left_home left, right_home right, p) q
+  good_line n (Move to size back pointer by) rest p q = two pointer by n (Move (reg (h to) 7) size back (reg (h pointer) 7) (reg (h by) 8)) to (n + 2) rest (to_home to, left_home pointer, right_home by, p) q
+  good_line n (Distance to size left right) rest p q = two left right n (Distance (reg (h to) 7) size (reg (h left) 7) (reg (h right) 8)) to (n + 2) rest (to_home to, left_home left, right_home right, p.0, p.1) q
   good_line n (Address to place) rest p q =
-      let line : Line = Address (reg (h to) 30) (on_place h place) in
+      let line : Line = Address (reg (h to) 7) (on_place h place) in
       good_place place n (line ∷ save (h to) (n + 2) rest) (set line to (n + 2) rest (to_home to, place_home place, place_there place p) q)
   good_line n (Read to place kind access) rest p q =
-      let line : Line = Read (reg (h to) 30) (on_place h place) kind access in
+      let line : Line = Read (reg (h to) 7) (on_place h place) kind access in
       good_place place n (line ∷ save (h to) (n + 2) rest) (set line to (n + 2) rest (to_home to, place_home place, place_there place p) q)
   good_line n (Write place kind from access) rest p q =
-      let line : Line = Write (on_place h place) kind (reg (h from) 29) access in
-      good_place place n (load (h from) 29 (n + 1) (line ∷ rest)) (good_load from 29 (n + 1) (line ∷ rest) home29 (cons line rest (right_home from, place_home place, place_there place p) q))
+      let line : Line = Write (on_place h place) kind (reg (h from) 8) access in
+      good_place place n (load (h from) 8 (n + 1) (line ∷ rest)) (good_load from 8 (n + 1) (line ∷ rest) home29 (cons line rest (right_home from, place_home place, place_there place p) q))
   good_line n (Reload to slot access) rest p q = q
   good_line n (Spill slot from access) rest p q = q
   good_line n (Cut cause) rest p q = cons (Cut cause) rest tt q
@@ -167,7 +167,7 @@ module _ (statics : ℕ) (f g : Function) (h : ℕ → Home) (homes : Homes h g.
   good_exit_lines : (n : ℕ) (exit : Exit) → AllGood (exit_lines h n exit)
   good_exit_lines n (Jump b) = All-nil P
   good_exit_lines n (Turn b) = All-nil P
-  good_exit_lines n (Branch on a b) = good_load on 28 n [] home28 (All-nil P)
+  good_exit_lines n (Branch on a b) = good_load on 7 n [] home28 (All-nil P)
   good_exit_lines n (Return None) = All-nil P
   good_exit_lines n (Return (Some r)) = good_into r 10 n [] home10 (All-nil P)
 

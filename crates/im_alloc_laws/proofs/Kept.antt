@@ -115,7 +115,7 @@ calls_lines h n (line ∷ lines) tail c =
 calls_exit : (h : ℕ → Home) (n : ℕ) (exit : Exit) → CutAfterCalls (exit_lines h n exit)
 calls_exit h n (Jump b) = tt
 calls_exit h n (Turn b) = tt
-calls_exit h n (Branch on a b) = carried_load Any CutAfterCalls calls_carried (h on) 28 n [] tt
+calls_exit h n (Branch on a b) = carried_load Any CutAfterCalls calls_carried (h on) 7 n [] tt
 calls_exit h n (Return None) = tt
 calls_exit h n (Return (Some r)) = carried_into Any CutAfterCalls calls_carried (h r) 10 n [] tt
 

@@ -35,39 +35,39 @@ bring_app h k first (suc count) a rest xs ys e =
 set_app : (line : Line) (home : Home) (a : ℕ) (rest : List Line) → line ∷ save home a rest ≡ (line ∷ save home a []) ++ rest
 set_app line home a rest = ap (λ q. line ∷ q) (save_app home a rest)
 
-one_app : (from : Home) (n : ℕ) (line : Line) (home : Home) (a : ℕ) (rest : List Line) → load from 28 n (line ∷ save home a rest) ≡ load from 28 n (line ∷ save home a []) ++ rest
-one_app from n line home a rest = load_app from 28 n (line ∷ save home a rest) (line ∷ save home a []) rest (set_app line home a rest)
+one_app : (from : Home) (n : ℕ) (line : Line) (home : Home) (a : ℕ) (rest : List Line) → load from 7 n (line ∷ save home a rest) ≡ load from 7 n (line ∷ save home a []) ++ rest
+one_app from n line home a rest = load_app from 7 n (line ∷ save home a rest) (line ∷ save home a []) rest (set_app line home a rest)
 
-two_app : (left right : Home) (n m : ℕ) (line : Line) (home : Home) (a : ℕ) (rest : List Line) → load left 28 n (load right 29 m (line ∷ save home a rest)) ≡ load left 28 n (load right 29 m (line ∷ save home a [])) ++ rest
+two_app : (left right : Home) (n m : ℕ) (line : Line) (home : Home) (a : ℕ) (rest : List Line) → load left 7 n (load right 8 m (line ∷ save home a rest)) ≡ load left 7 n (load right 8 m (line ∷ save home a [])) ++ rest
 two_app left right n m line home a rest =
-    load_app left 28 n (load right 29 m (line ∷ save home a rest)) (load right 29 m (line ∷ save home a [])) rest
-    (load_app right 29 m (line ∷ save home a rest) (line ∷ save home a []) rest (set_app line home a rest))
+    load_app left 7 n (load right 8 m (line ∷ save home a rest)) (load right 8 m (line ∷ save home a [])) rest
+    (load_app right 8 m (line ∷ save home a rest) (line ∷ save home a []) rest (set_app line home a rest))
 
 place_app : (h : ℕ → Home) (place : Place) (n : ℕ) (rest xs ys : List Line) → rest ≡ xs ++ ys → load_place h place n rest ≡ load_place h place n xs ++ ys
 place_app h (Static object offset) n rest xs ys e = e
 place_app h (Local object offset) n rest xs ys e = e
-place_app h (Through pointer offset) n rest xs ys e = load_app (h pointer) 28 n rest xs ys e
+place_app h (Through pointer offset) n rest xs ys e = load_app (h pointer) 7 n rest xs ys e
 
 pub put_app : (h : ℕ → Home) (n : ℕ) (line : Line) (rest : List Line) → put_line h n line rest ≡ put_line h n line [] ++ rest
-put_app h n (Put to z) rest = set_app (Put (reg (h to) 30) z) (h to) (n + 2) rest
-put_app h n (PutNull to) rest = set_app (PutNull (reg (h to) 30)) (h to) (n + 2) rest
-put_app h n (Copy to from) rest = one_app (h from) n (Copy (reg (h to) 30) (reg (h from) 28)) (h to) (n + 2) rest
-put_app h n (Convert to kind from) rest = one_app (h from) n (Convert (reg (h to) 30) kind (reg (h from) 28)) (h to) (n + 2) rest
-put_app h n (Unary to op kind from) rest = one_app (h from) n (Unary (reg (h to) 30) op kind (reg (h from) 28)) (h to) (n + 2) rest
-put_app h n (Not to from) rest = one_app (h from) n (Not (reg (h to) 30) (reg (h from) 28)) (h to) (n + 2) rest
-put_app h n (Compute to op kind left right) rest = two_app (h left) (h right) n (n + 1) (Compute (reg (h to) 30) op kind (reg (h left) 28) (reg (h right) 29)) (h to) (n + 2) rest
-put_app h n (Compare to op kind left right) rest = two_app (h left) (h right) n (n + 1) (Compare (reg (h to) 30) op kind (reg (h left) 28) (reg (h right) 29)) (h to) (n + 2) rest
-put_app h n (Move to size back pointer by) rest = two_app (h pointer) (h by) n (n + 1) (Move (reg (h to) 30) size back (reg (h pointer) 28) (reg (h by) 29)) (h to) (n + 2) rest
-put_app h n (Distance to size left right) rest = two_app (h left) (h right) n (n + 1) (Distance (reg (h to) 30) size (reg (h left) 28) (reg (h right) 29)) (h to) (n + 2) rest
+put_app h n (Put to z) rest = set_app (Put (reg (h to) 7) z) (h to) (n + 2) rest
+put_app h n (PutNull to) rest = set_app (PutNull (reg (h to) 7)) (h to) (n + 2) rest
+put_app h n (Copy to from) rest = one_app (h from) n (Copy (reg (h to) 7) (reg (h from) 7)) (h to) (n + 2) rest
+put_app h n (Convert to kind from) rest = one_app (h from) n (Convert (reg (h to) 7) kind (reg (h from) 7)) (h to) (n + 2) rest
+put_app h n (Unary to op kind from) rest = one_app (h from) n (Unary (reg (h to) 7) op kind (reg (h from) 7)) (h to) (n + 2) rest
+put_app h n (Not to from) rest = one_app (h from) n (Not (reg (h to) 7) (reg (h from) 7)) (h to) (n + 2) rest
+put_app h n (Compute to op kind left right) rest = two_app (h left) (h right) n (n + 1) (Compute (reg (h to) 7) op kind (reg (h left) 7) (reg (h right) 8)) (h to) (n + 2) rest
+put_app h n (Compare to op kind left right) rest = two_app (h left) (h right) n (n + 1) (Compare (reg (h to) 7) op kind (reg (h left) 7) (reg (h right) 8)) (h to) (n + 2) rest
+put_app h n (Move to size back pointer by) rest = two_app (h pointer) (h by) n (n + 1) (Move (reg (h to) 7) size back (reg (h pointer) 7) (reg (h by) 8)) (h to) (n + 2) rest
+put_app h n (Distance to size left right) rest = two_app (h left) (h right) n (n + 1) (Distance (reg (h to) 7) size (reg (h left) 7) (reg (h right) 8)) (h to) (n + 2) rest
 put_app h n (Address to place) rest =
-    let line : Line = Address (reg (h to) 30) (on_place h place) in
+    let line : Line = Address (reg (h to) 7) (on_place h place) in
     place_app h place n (line ∷ save (h to) (n + 2) rest) (line ∷ save (h to) (n + 2) []) rest (set_app line (h to) (n + 2) rest)
 put_app h n (Read to place kind access) rest =
-    let line : Line = Read (reg (h to) 30) (on_place h place) kind access in
+    let line : Line = Read (reg (h to) 7) (on_place h place) kind access in
     place_app h place n (line ∷ save (h to) (n + 2) rest) (line ∷ save (h to) (n + 2) []) rest (set_app line (h to) (n + 2) rest)
 put_app h n (Write place kind from access) rest =
-    let line : Line = Write (on_place h place) kind (reg (h from) 29) access in
-    place_app h place n (load (h from) 29 (n + 1) (line ∷ rest)) (load (h from) 29 (n + 1) (line ∷ [])) rest (load_app (h from) 29 (n + 1) (line ∷ rest) (line ∷ []) rest refl)
+    let line : Line = Write (on_place h place) kind (reg (h from) 8) access in
+    place_app h place n (load (h from) 8 (n + 1) (line ∷ rest)) (load (h from) 8 (n + 1) (line ∷ [])) rest (load_app (h from) 8 (n + 1) (line ∷ rest) (line ∷ []) rest refl)
 put_app h n (Reload to slot access) rest = refl
 put_app h n (Spill slot from access) rest = refl
 put_app h n (Cut cause) rest = refl

@@ -48,7 +48,7 @@ module _ (f g : Function) (p : PlacedFunction f g) where
 
   pub function_settled : IsSettledFunction p.wanted g
   function_settled = record {
-    homes = λ b r w. (let k = p.holds b r w in let free = p.free k.0 r k.2 in (free.0, free.1));
+    homes = λ b r w. (let k = p.holds b r w in let free = p.free k.0 r k.2 in let a = free.0 in (omega arith, free.1));
     closed = block_closed;
     calls = block_settled;
     entered = entered_at;

@@ -82,10 +82,10 @@ module _ (wanted : ℕ → ℕ → Bool) (h : ℕ → Home) (exit : Exit) where
   ]
   brought (InSlot m) k a rest r w = let c = both (not (r == k)) (L rest r) w in inr ((λ e. not_true (r == k) c.0 (same_is r k e)), c.1)
 
-  saved : (home : Home) (a : ℕ) (rest : List Line) (r : ℕ) → not (r == reg home 30) ≡ true → W (save home a rest) r → (home ≢ InRegister r) × W rest r
+  saved : (home : Home) (a : ℕ) (rest : List Line) (r : ℕ) → not (r == reg home 7) ≡ true → W (save home a rest) r → (home ≢ InRegister r) × W rest r
   saved (InRegister q) a rest r other w = ((λ e. not_true (r == q) other (same_is r q (sym (register_one q r e)))), w)
-  saved (InSlot m) a rest r other w = elim (either (r == 30) (L rest r) w) [
-    | inl e ↦ absurd (not_true (r == 30) other e)
+  saved (InSlot m) a rest r other w = elim (either (r == 7) (L rest r) w) [
+    | inl e ↦ absurd (not_true (r == 7) other e)
     | inr c ↦ ((λ e. slot_other m r e), c)
   ]
 
@@ -111,36 +111,36 @@ module _ (wanted : ℕ → ℕ → Bool) (h : ℕ → Home) (exit : Exit) where
 
   -- of what stands behind a line that works on registers
   abbrev Worked : Bool → ℕ → ℕ → List Line → ℕ → Bool
-  Worked u to a rest r = u || (not (r == reg (h to) 30) && L (save (h to) a rest) r)
+  Worked u to a rest r = u || (not (r == reg (h to) 7) && L (save (h to) a rest) r)
 
   abbrev Beyond : ℕ → List Line → ℕ → Type 0
   Beyond to rest r = (h to ≢ InRegister r) × W rest r
 
   worked : (u : Bool) (to a : ℕ) (rest : List Line) (r : ℕ) → Worked u to a rest r ≡ true → (u ≡ true) ⊎ Beyond to rest r
-  worked u to a rest r w = elim (left_of u (r == reg (h to) 30) (L (save (h to) a rest) r) w) [ inl e ↦ inl e | inr c ↦ inr (saved (h to) a rest r c.0 c.1) ]
+  worked u to a rest r w = elim (left_of u (r == reg (h to) 7) (L (save (h to) a rest) r) w) [ inl e ↦ inl e | inr c ↦ inr (saved (h to) a rest r c.0 c.1) ]
 
   none_lives : (to a : ℕ) (rest : List Line) (r : ℕ) (after : ℕ → Bool) → (W rest r → Held h after r) → Worked false to a rest r ≡ true → Before (λ v. false) to after r
   none_lives to a rest r after k w = elim (worked false to a rest r w) [ inl e ↦ absurd cc | inr c ↦ kept (λ v. false) to after r c.0 (k c.1) ]
 
-  one_lives : (from to n : ℕ) (line : Line) (rest : List Line) (r : ℕ) (after : ℕ → Bool) → (W (line ∷ save (h to) (n + 2) rest) r → Worked (r == reg (h from) 28) to (n + 2) rest r ≡ true) → (W rest r → Held h after r) → W (load (h from) 28 n (line ∷ save (h to) (n + 2) rest)) r → Before (λ v. v == from) to after r
+  one_lives : (from to n : ℕ) (line : Line) (rest : List Line) (r : ℕ) (after : ℕ → Bool) → (W (line ∷ save (h to) (n + 2) rest) r → Worked (r == reg (h from) 7) to (n + 2) rest r ≡ true) → (W rest r → Held h after r) → W (load (h from) 7 n (line ∷ save (h to) (n + 2) rest)) r → Before (λ v. v == from) to after r
   one_lives from to n line rest r after is k w =
       let used : ℕ → Bool = λ v. v == from in
-      elim (loaded (Beyond to rest r) (h from) 28 n (line ∷ save (h to) (n + 2) rest) r
-      (λ z. elim (worked (r == reg (h from) 28) to (n + 2) rest r (is z)) [ inl e ↦ inl (same_of r (reg (h from) 28) e) | inr c ↦ inr c ])
+      elim (loaded (Beyond to rest r) (h from) 7 n (line ∷ save (h to) (n + 2) rest) r
+      (λ z. elim (worked (r == reg (h from) 7) to (n + 2) rest r (is z)) [ inl e ↦ inl (same_of r (reg (h from) 7) e) | inr c ↦ inr c ])
       w) [
         | inl e ↦ used_one used to after r from (same_is from from refl) e
         | inr c ↦ kept used to after r c.0 (k c.1)
       ]
 
-  -- two operands: the second in x29
-  two_loaded : (X : Type 0) (left right n : ℕ) (line : Line) (rest : List Line) (r : ℕ) → (W (line ∷ rest) r → ((r == reg (h left) 28 || r == reg (h right) 29) ≡ true) ⊎ X) → W (load (h left) 28 n (load (h right) 29 (n + 1) (line ∷ rest))) r → (h left ≡ InRegister r) ⊎ ((h right ≡ InRegister r) ⊎ X)
+  -- two operands: the second in x8
+  two_loaded : (X : Type 0) (left right n : ℕ) (line : Line) (rest : List Line) (r : ℕ) → (W (line ∷ rest) r → ((r == reg (h left) 7 || r == reg (h right) 8) ≡ true) ⊎ X) → W (load (h left) 7 n (load (h right) 8 (n + 1) (line ∷ rest))) r → (h left ≡ InRegister r) ⊎ ((h right ≡ InRegister r) ⊎ X)
   two_loaded X left right n line rest r k w =
-      loaded ((h right ≡ InRegister r) ⊎ X) (h left) 28 n (load (h right) 29 (n + 1) (line ∷ rest)) r
+      loaded ((h right ≡ InRegister r) ⊎ X) (h left) 7 n (load (h right) 8 (n + 1) (line ∷ rest)) r
       (λ z.
-      elim (loaded ((r ≡ reg (h left) 28) ⊎ X) (h right) 29 (n + 1) (line ∷ rest) r
+      elim (loaded ((r ≡ reg (h left) 7) ⊎ X) (h right) 8 (n + 1) (line ∷ rest) r
       (λ y.
       elim (k y) [
-        | inl u ↦ elim (either (r == reg (h left) 28) (r == reg (h right) 29) u) [ inl a ↦ inr (inl (same_of r (reg (h left) 28) a)) | inr b ↦ inl (same_of r (reg (h right) 29) b) ]
+        | inl u ↦ elim (either (r == reg (h left) 7) (r == reg (h right) 8) u) [ inl a ↦ inr (inl (same_of r (reg (h left) 7) a)) | inr b ↦ inl (same_of r (reg (h right) 8) b) ]
         | inr x ↦ inr (inr x)
       ])
       z) [
@@ -149,10 +149,10 @@ module _ (wanted : ℕ → ℕ → Bool) (h : ℕ → Home) (exit : Exit) where
       ])
       w
 
-  two_lives : (left right to n : ℕ) (line : Line) (rest : List Line) (r : ℕ) (after : ℕ → Bool) → (W (line ∷ save (h to) (n + 2) rest) r → Worked (r == reg (h left) 28 || r == reg (h right) 29) to (n + 2) rest r ≡ true) → (W rest r → Held h after r) → W (load (h left) 28 n (load (h right) 29 (n + 1) (line ∷ save (h to) (n + 2) rest))) r → Before (λ v. v == left || v == right) to after r
+  two_lives : (left right to n : ℕ) (line : Line) (rest : List Line) (r : ℕ) (after : ℕ → Bool) → (W (line ∷ save (h to) (n + 2) rest) r → Worked (r == reg (h left) 7 || r == reg (h right) 8) to (n + 2) rest r ≡ true) → (W rest r → Held h after r) → W (load (h left) 7 n (load (h right) 8 (n + 1) (line ∷ save (h to) (n + 2) rest))) r → Before (λ v. v == left || v == right) to after r
   two_lives left right to n line rest r after is k w =
       let used : ℕ → Bool = λ v. v == left || v == right in
-      elim (two_loaded (Beyond to rest r) left right n line (save (h to) (n + 2) rest) r (λ z. worked (r == reg (h left) 28 || r == reg (h right) 29) to (n + 2) rest r (is z)) w) [
+      elim (two_loaded (Beyond to rest r) left right n line (save (h to) (n + 2) rest) r (λ z. worked (r == reg (h left) 7 || r == reg (h right) 8) to (n + 2) rest r (is z)) w) [
         | inl e ↦ used_one used to after r left (or_left (left == left) (left == right) (same_is left left refl)) e
         | inr q ↦ elim q [
           | inl e ↦ used_one used to after r right (or_right (right == left) (right == right) (same_is right right refl)) e
@@ -161,17 +161,17 @@ module _ (wanted : ℕ → ℕ → Bool) (h : ℕ → Home) (exit : Exit) where
       ]
 
   -- a write sets nothing
-  write_direct : (from n : ℕ) (line : Line) (rest : List Line) (r : ℕ) (after : ℕ → Bool) → (W (line ∷ rest) r → (r == reg (h from) 29 || L rest r) ≡ true) → (W rest r → Held h after r) → W (load (h from) 29 (n + 1) (line ∷ rest)) r → Held h (λ v. v == from || after v) r
-  write_direct from n line rest r after is k w = elim (loaded (W rest r) (h from) 29 (n + 1) (line ∷ rest) r
-      (λ z. elim (either (r == reg (h from) 29) (L rest r) (is z)) [ inl e ↦ inl (same_of r (reg (h from) 29) e) | inr c ↦ inr c ])
+  write_direct : (from n : ℕ) (line : Line) (rest : List Line) (r : ℕ) (after : ℕ → Bool) → (W (line ∷ rest) r → (r == reg (h from) 8 || L rest r) ≡ true) → (W rest r → Held h after r) → W (load (h from) 8 (n + 1) (line ∷ rest)) r → Held h (λ v. v == from || after v) r
+  write_direct from n line rest r after is k w = elim (loaded (W rest r) (h from) 8 (n + 1) (line ∷ rest) r
+      (λ z. elim (either (r == reg (h from) 8) (L rest r) (is z)) [ inl e ↦ inl (same_of r (reg (h from) 8) e) | inr c ↦ inr c ])
       w) [
         | inl e ↦ (from, or_left (from == from) (after from) (same_is from from refl), e)
         | inr c ↦ (let g = k c in (g.0, or_right (g.0 == from) (after g.0) g.1, g.2))
       ]
 
-  write_behind : (pointer from n : ℕ) (line : Line) (rest : List Line) (r : ℕ) (after : ℕ → Bool) → (W (line ∷ rest) r → ((r == reg (h pointer) 28 || r == reg (h from) 29) || L rest r) ≡ true) → (W rest r → Held h after r) → W (load (h pointer) 28 n (load (h from) 29 (n + 1) (line ∷ rest))) r → Held h (λ v. (v == pointer || v == from) || after v) r
+  write_behind : (pointer from n : ℕ) (line : Line) (rest : List Line) (r : ℕ) (after : ℕ → Bool) → (W (line ∷ rest) r → ((r == reg (h pointer) 7 || r == reg (h from) 8) || L rest r) ≡ true) → (W rest r → Held h after r) → W (load (h pointer) 7 n (load (h from) 8 (n + 1) (line ∷ rest))) r → Held h (λ v. (v == pointer || v == from) || after v) r
   write_behind pointer from n line rest r after is k w =
-      elim (two_loaded (W rest r) pointer from n line rest r (λ z. either (r == reg (h pointer) 28 || r == reg (h from) 29) (L rest r) (is z)) w) [
+      elim (two_loaded (W rest r) pointer from n line rest r (λ z. either (r == reg (h pointer) 7 || r == reg (h from) 8) (L rest r) (is z)) w) [
         | inl e ↦ (pointer, or_left (pointer == pointer || pointer == from) (after pointer) (or_left (pointer == pointer) (pointer == from) (same_is pointer pointer refl)), e)
         | inr q ↦ elim q [
           | inl e ↦ (from, or_left (from == pointer || from == from) (after from) (or_right (from == pointer) (from == from) (same_is from from refl)), e)
@@ -243,23 +243,23 @@ module _ (wanted : ℕ → ℕ → Bool) (h : ℕ → Home) (exit : Exit) where
   line_lives : (n : ℕ) (line : Line) (rest : List Line) (after : ℕ → Bool) (r : ℕ) → ValidLine h line after → (W rest r → Held h after r) → W (put_line h n line rest) r → Held h (λ v. uses line v || (not (sets line v) && after v)) r
   line_lives n (Put to z) rest after r valid k w = none_lives to (n + 2) rest r after k w
   line_lives n (PutNull to) rest after r valid k w = none_lives to (n + 2) rest r after k w
-  line_lives n (Copy to from) rest after r valid k w = one_lives from to n (Copy (reg (h to) 30) (reg (h from) 28)) rest r after (λ z. z) k w
-  line_lives n (Convert to kind from) rest after r valid k w = one_lives from to n (Convert (reg (h to) 30) kind (reg (h from) 28)) rest r after (λ z. z) k w
-  line_lives n (Unary to op kind from) rest after r valid k w = one_lives from to n (Unary (reg (h to) 30) op kind (reg (h from) 28)) rest r after (λ z. z) k w
-  line_lives n (Not to from) rest after r valid k w = one_lives from to n (Not (reg (h to) 30) (reg (h from) 28)) rest r after (λ z. z) k w
-  line_lives n (Compute to op kind left right) rest after r valid k w = two_lives left right to n (Compute (reg (h to) 30) op kind (reg (h left) 28) (reg (h right) 29)) rest r after (λ z. z) k w
-  line_lives n (Compare to op kind left right) rest after r valid k w = two_lives left right to n (Compare (reg (h to) 30) op kind (reg (h left) 28) (reg (h right) 29)) rest r after (λ z. z) k w
-  line_lives n (Move to size back pointer by) rest after r valid k w = two_lives pointer by to n (Move (reg (h to) 30) size back (reg (h pointer) 28) (reg (h by) 29)) rest r after (λ z. z) k w
-  line_lives n (Distance to size left right) rest after r valid k w = two_lives left right to n (Distance (reg (h to) 30) size (reg (h left) 28) (reg (h right) 29)) rest r after (λ z. z) k w
+  line_lives n (Copy to from) rest after r valid k w = one_lives from to n (Copy (reg (h to) 7) (reg (h from) 7)) rest r after (λ z. z) k w
+  line_lives n (Convert to kind from) rest after r valid k w = one_lives from to n (Convert (reg (h to) 7) kind (reg (h from) 7)) rest r after (λ z. z) k w
+  line_lives n (Unary to op kind from) rest after r valid k w = one_lives from to n (Unary (reg (h to) 7) op kind (reg (h from) 7)) rest r after (λ z. z) k w
+  line_lives n (Not to from) rest after r valid k w = one_lives from to n (Not (reg (h to) 7) (reg (h from) 7)) rest r after (λ z. z) k w
+  line_lives n (Compute to op kind left right) rest after r valid k w = two_lives left right to n (Compute (reg (h to) 7) op kind (reg (h left) 7) (reg (h right) 8)) rest r after (λ z. z) k w
+  line_lives n (Compare to op kind left right) rest after r valid k w = two_lives left right to n (Compare (reg (h to) 7) op kind (reg (h left) 7) (reg (h right) 8)) rest r after (λ z. z) k w
+  line_lives n (Move to size back pointer by) rest after r valid k w = two_lives pointer by to n (Move (reg (h to) 7) size back (reg (h pointer) 7) (reg (h by) 8)) rest r after (λ z. z) k w
+  line_lives n (Distance to size left right) rest after r valid k w = two_lives left right to n (Distance (reg (h to) 7) size (reg (h left) 7) (reg (h right) 8)) rest r after (λ z. z) k w
   line_lives n (Address to (Static object offset)) rest after r valid k w = none_lives to (n + 2) rest r after k w
   line_lives n (Address to (Local object offset)) rest after r valid k w = none_lives to (n + 2) rest r after k w
-  line_lives n (Address to (Through pointer offset)) rest after r valid k w = one_lives pointer to n (Address (reg (h to) 30) (Through (reg (h pointer) 28) offset)) rest r after (λ z. z) k w
+  line_lives n (Address to (Through pointer offset)) rest after r valid k w = one_lives pointer to n (Address (reg (h to) 7) (Through (reg (h pointer) 7) offset)) rest r after (λ z. z) k w
   line_lives n (Read to (Static object offset) kind access) rest after r valid k w = none_lives to (n + 2) rest r after k w
   line_lives n (Read to (Local object offset) kind access) rest after r valid k w = none_lives to (n + 2) rest r after k w
-  line_lives n (Read to (Through pointer offset) kind access) rest after r valid k w = one_lives pointer to n (Read (reg (h to) 30) (Through (reg (h pointer) 28) offset) kind access) rest r after (λ z. z) k w
-  line_lives n (Write (Static object offset) kind from access) rest after r valid k w = write_direct from n (Write (Static object offset) kind (reg (h from) 29) access) rest r after (λ z. z) k w
-  line_lives n (Write (Local object offset) kind from access) rest after r valid k w = write_direct from n (Write (Local object offset) kind (reg (h from) 29) access) rest r after (λ z. z) k w
-  line_lives n (Write (Through pointer offset) kind from access) rest after r valid k w = write_behind pointer from n (Write (Through (reg (h pointer) 28) offset) kind (reg (h from) 29) access) rest r after (λ z. z) k w
+  line_lives n (Read to (Through pointer offset) kind access) rest after r valid k w = one_lives pointer to n (Read (reg (h to) 7) (Through (reg (h pointer) 7) offset) kind access) rest r after (λ z. z) k w
+  line_lives n (Write (Static object offset) kind from access) rest after r valid k w = write_direct from n (Write (Static object offset) kind (reg (h from) 8) access) rest r after (λ z. z) k w
+  line_lives n (Write (Local object offset) kind from access) rest after r valid k w = write_direct from n (Write (Local object offset) kind (reg (h from) 8) access) rest r after (λ z. z) k w
+  line_lives n (Write (Through pointer offset) kind from access) rest after r valid k w = write_behind pointer from n (Write (Through (reg (h pointer) 7) offset) kind (reg (h from) 8) access) rest r after (λ z. z) k w
   line_lives n (Reload to slot access) rest after r valid k w = absurd valid
   line_lives n (Spill slot from access) rest after r valid k w = absurd valid
   line_lives n (Cut cause) rest after r valid k w = k w
@@ -300,25 +300,25 @@ module _ (wanted : ℕ → ℕ → Bool) (h : ℕ → Home) (exit : Exit) where
   place_settles : (place : Place) (a : ℕ) (rest : List Line) → S rest → S (load_place h place a rest)
   place_settles (Static object offset) a rest q = q
   place_settles (Local object offset) a rest q = q
-  place_settles (Through pointer offset) a rest q = load_settles (h pointer) 28 a rest q
+  place_settles (Through pointer offset) a rest q = load_settles (h pointer) 7 a rest q
 
-  two_settle : (left right : Home) (n : ℕ) (rest : List Line) → S rest → S (load left 28 n (load right 29 (n + 1) rest))
-  two_settle left right n rest q = load_settles left 28 n (load right 29 (n + 1) rest) (load_settles right 29 (n + 1) rest q)
+  two_settle : (left right : Home) (n : ℕ) (rest : List Line) → S rest → S (load left 7 n (load right 8 (n + 1) rest))
+  two_settle left right n rest q = load_settles left 7 n (load right 8 (n + 1) rest) (load_settles right 8 (n + 1) rest q)
 
   line_settles : (n : ℕ) (line : Line) (rest : List Line) (after : ℕ → Bool) → ValidLine h line after → ((r : ℕ) → W rest r → Held h after r) → S rest → S (put_line h n line rest)
   line_settles n (Put to z) rest after valid k q = ((λ c. absurd c), save_settles (h to) (n + 2) rest q)
   line_settles n (PutNull to) rest after valid k q = ((λ c. absurd c), save_settles (h to) (n + 2) rest q)
-  line_settles n (Copy to from) rest after valid k q = load_settles (h from) 28 n _ ((λ c. absurd c), save_settles (h to) (n + 2) rest q)
-  line_settles n (Convert to kind from) rest after valid k q = load_settles (h from) 28 n _ ((λ c. absurd c), save_settles (h to) (n + 2) rest q)
-  line_settles n (Unary to op kind from) rest after valid k q = load_settles (h from) 28 n _ ((λ c. absurd c), save_settles (h to) (n + 2) rest q)
-  line_settles n (Not to from) rest after valid k q = load_settles (h from) 28 n _ ((λ c. absurd c), save_settles (h to) (n + 2) rest q)
+  line_settles n (Copy to from) rest after valid k q = load_settles (h from) 7 n _ ((λ c. absurd c), save_settles (h to) (n + 2) rest q)
+  line_settles n (Convert to kind from) rest after valid k q = load_settles (h from) 7 n _ ((λ c. absurd c), save_settles (h to) (n + 2) rest q)
+  line_settles n (Unary to op kind from) rest after valid k q = load_settles (h from) 7 n _ ((λ c. absurd c), save_settles (h to) (n + 2) rest q)
+  line_settles n (Not to from) rest after valid k q = load_settles (h from) 7 n _ ((λ c. absurd c), save_settles (h to) (n + 2) rest q)
   line_settles n (Compute to op kind left right) rest after valid k q = two_settle (h left) (h right) n _ ((λ c. absurd c), save_settles (h to) (n + 2) rest q)
   line_settles n (Compare to op kind left right) rest after valid k q = two_settle (h left) (h right) n _ ((λ c. absurd c), save_settles (h to) (n + 2) rest q)
   line_settles n (Move to size back pointer by) rest after valid k q = two_settle (h pointer) (h by) n _ ((λ c. absurd c), save_settles (h to) (n + 2) rest q)
   line_settles n (Distance to size left right) rest after valid k q = two_settle (h left) (h right) n _ ((λ c. absurd c), save_settles (h to) (n + 2) rest q)
   line_settles n (Address to place) rest after valid k q = place_settles place n _ ((λ c. absurd c), save_settles (h to) (n + 2) rest q)
   line_settles n (Read to place kind access) rest after valid k q = place_settles place n _ ((λ c. absurd c), save_settles (h to) (n + 2) rest q)
-  line_settles n (Write place kind from access) rest after valid k q = place_settles place n _ (load_settles (h from) 29 (n + 1) _ ((λ c. absurd c), q))
+  line_settles n (Write place kind from access) rest after valid k q = place_settles place n _ (load_settles (h from) 8 (n + 1) _ ((λ c. absurd c), q))
   line_settles n (Reload to slot access) rest after valid k q = absurd valid
   line_settles n (Spill slot from access) rest after valid k q = absurd valid
   line_settles n (Cut cause) rest after valid k q = ((λ c. absurd c), q)
@@ -340,10 +340,10 @@ pub exit_held : (wanted live : ℕ → ℕ → Bool) (h : ℕ → Home) (n : ℕ
 exit_held wanted live h n (Jump b) holds r w = holds b r w
 exit_held wanted live h n (Turn b) holds r w = holds b r w
 exit_held wanted live h n (Branch on a b) holds r w =
-    elim (loaded wanted h (Branch (reg (h on) 28) a b) ((wanted a r ≡ true) ⊎ (wanted b r ≡ true)) (h on) 28 n [] r
+    elim (loaded wanted h (Branch (reg (h on) 7) a b) ((wanted a r ≡ true) ⊎ (wanted b r ≡ true)) (h on) 7 n [] r
     (λ z.
-    elim (either (r == reg (h on) 28 || wanted a r) (wanted b r) z) [
-      | inl y ↦ elim (either (r == reg (h on) 28) (wanted a r) y) [ inl e ↦ inl (same_of r (reg (h on) 28) e) | inr e ↦ inr (inl e) ]
+    elim (either (r == reg (h on) 7 || wanted a r) (wanted b r) z) [
+      | inl y ↦ elim (either (r == reg (h on) 7) (wanted a r) y) [ inl e ↦ inl (same_of r (reg (h on) 7) e) | inr e ↦ inr (inl e) ]
       | inr e ↦ inr (inr e)
     ])
     w) [
@@ -362,6 +362,6 @@ exit_held wanted live h n (Return (Some x)) holds r w = elim (brought wanted h (
 pub exit_settles : (wanted : ℕ → ℕ → Bool) (h : ℕ → Home) (n : ℕ) (exit : Exit) → SettlesCalls wanted (exit_lines h n exit) (put_exit h exit)
 exit_settles wanted h n (Jump b) = tt
 exit_settles wanted h n (Turn b) = tt
-exit_settles wanted h n (Branch on a b) = load_settles wanted h (Branch (reg (h on) 28) a b) (h on) 28 n [] tt
+exit_settles wanted h n (Branch on a b) = load_settles wanted h (Branch (reg (h on) 7) a b) (h on) 7 n [] tt
 exit_settles wanted h n (Return None) = tt
 exit_settles wanted h n (Return (Some x)) = into_settles wanted h (Return (Some 10)) (h x) 10 n [] tt

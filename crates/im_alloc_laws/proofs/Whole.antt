@@ -36,7 +36,7 @@ room_needed [] = omega arith
 room_needed (o ∷ os) = let rest = room_needed os in omega arith
 
 homes_of : (f g : Function) (p : PlacedFunction f g) → Homes p.home g.slots
-homes_of f g p = record { free = λ v r e. let k = p.free v r e in (k.0, k.1); slots = p.slots }
+homes_of f g p = record { free = λ v r e. let k = p.free v r e in let a = k.0 in (omega arith, k.1); slots = p.slots }
 
 objects_of : (f g : Function) → PlacedFunction f g → SameObjects f g
 objects_of f g p = record { first = ap (λ (k : Function). k.first_object) p.rest; count = ap (λ (k : Function). length k.objects.items) p.rest }
@@ -164,7 +164,7 @@ module _ (fs gs : List Function) (all : PlacedFunctions fs gs) where
   there_exit : (h : ℕ → Home) (n : ℕ) (exit : Exit) → All There (exit_lines h n exit)
   there_exit h n (Jump b) = All-nil There
   there_exit h n (Turn b) = All-nil There
-  there_exit h n (Branch on a b) = carried_load There (All There) there_carried (h on) 28 n [] (All-nil There)
+  there_exit h n (Branch on a b) = carried_load There (All There) there_carried (h on) 7 n [] (All-nil There)
   there_exit h n (Return None) = All-nil There
   there_exit h n (Return (Some r)) = carried_into There (All There) there_carried (h r) 10 n [] (All-nil There)
 

@@ -159,7 +159,7 @@ entered_held u v s s' active first first' count registers y ws xs st f g pf afte
     record {
       agrees = λ q t. refines_at _ _ _ _ (ap (λ (z : ℕ → Value). z q) is_registers) refl (passed_agrees pf.home f.first_parameter first first' count registers y s'.frame.active st2 (λ k l. pf.received k (subst (λ z. k < z) (sym many) l)) brought q);
       own = λ q n e. ap (λ z. st2.shape (own_slot z n)) is_active ∙ mine n (pf.slots q n e);
-      free = λ q r e. let k = pf.free q r e in (k.2, k.3, k.4);
+      free = λ q r e. let d = (pf.free q r e).0 in ((λ z. omega arith), (λ z. omega arith));
       seen = λ o e. ap (λ z. cond (o.activation == active.number) (cond (o.depth == active.depth) z None) (st.shape o)) (same_shapes f g pf o.name e) ∙ ap (λ z. cond (o.activation == active.number) (cond (o.depth == active.depth) (shapes_of f o.name) None) z) (out.seen o e) ∙ ap (λ (z : Store). z.shape o) (sym is_store);
       unseen = λ o e. ap (λ (z : Store). z.shape o) is_store ∙ none_none (o.activation == active.number) (o.depth == active.depth) (shapes_of f o.name) (s.store.shape o) (no_slots f pf.virtual.1 o.name e) (out.unseen o e);
       holds = λ o i e. unset_both (o.activation == active.number) (st.values o i) (s.store.values o i) (out.holds o i e) ∙ ap (λ (z : Store). z.values o i) (sym is_store);

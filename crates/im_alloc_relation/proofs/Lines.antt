@@ -127,12 +127,12 @@ abbrev pub tail_of : {u v : Code} {s : State} (k : Known u v s) → ℕ → ℕ 
 tail_of {u} {v} {s} k n e rest = put_lines k.pf.home (n + numbers_kept) rest (exit_lines k.pf.home e s.frame.spot.exit)
 
 -- the end of a line that sets a register
-pub sets_ends : (u v : Code) (g : Setting) (s : State) (k : Known u v s) (nr e access : ℕ) (rest : List Line) (to : ℕ) (b x : Value) (t : State) (n : ℕ) (ev more : List Event) (y : ℕ → Value) (z : ℕ) (xs : List Frame) (st : Store) → Valid k.pf.home k.pf.live rest s.frame.spot.exit → AllThere u rest → KeepsHomes k.pf.home to (lives k.pf.live rest s.frame.spot.exit) → Walk v g n ev t (twin s (save (k.pf.home to) access (put_lines k.pf.home nr rest (exit_lines k.pf.home e s.frame.spot.exit))) (put_exit k.pf.home s.frame.spot.exit) (with_register y (reg (k.pf.home to) 30) x) z xs st) → heard ev ≡ uncut more → Refines b x → Held u v s k.pf.home (without to (lives k.pf.live rest s.frame.spot.exit)) y xs st → Went u v g t (record s { frame = record (with_rest s.frame rest) { registers = with_register s.frame.registers to b } }) more
+pub sets_ends : (u v : Code) (g : Setting) (s : State) (k : Known u v s) (nr e access : ℕ) (rest : List Line) (to : ℕ) (b x : Value) (t : State) (n : ℕ) (ev more : List Event) (y : ℕ → Value) (z : ℕ) (xs : List Frame) (st : Store) → Valid k.pf.home k.pf.live rest s.frame.spot.exit → AllThere u rest → KeepsHomes k.pf.home to (lives k.pf.live rest s.frame.spot.exit) → Walk v g n ev t (twin s (save (k.pf.home to) access (put_lines k.pf.home nr rest (exit_lines k.pf.home e s.frame.spot.exit))) (put_exit k.pf.home s.frame.spot.exit) (with_register y (reg (k.pf.home to) 7) x) z xs st) → heard ev ≡ uncut more → Refines b x → Held u v s k.pf.home (without to (lives k.pf.live rest s.frame.spot.exit)) y xs st → Went u v g t (record s { frame = record (with_rest s.frame rest) { registers = with_register s.frame.registers to b } }) more
 sets_ends u v g s k nr e access rest to b x t n ev more y z xs st valid there keeps walk told r m =
     let h = k.pf.home in
     let after : ℕ → Bool = lives k.pf.live rest s.frame.spot.exit in
     let lines : List Line = put_lines h nr rest (exit_lines h e s.frame.spot.exit) in
-    let sv : Saved u v g s h after to b (save (h to) access lines) lines (put_exit h s.frame.spot.exit) (with_register y (reg (h to) 30) x) z xs st =
+    let sv : Saved u v g s h after to b (save (h to) access lines) lines (put_exit h s.frame.spot.exit) (with_register y (reg (h to) 7) x) z xs st =
     save_home u v g s h after to b x (h to) access lines (put_exit h s.frame.spot.exit) y z xs st refl keeps r m in
     let held = sv.held in
     record {
@@ -161,7 +161,7 @@ sets_ends u v g s k nr e access rest to b x t n ev more y z xs st valid there ke
     }
 
 -- a line that computes: its operands are in registers, and the placed one gives a value that stands for what it gives
-pub computes_after : (u v : Code) (g : Setting) (s : State) (k : Known u v s) (nr e access : ℕ) (rest : List Line) (to : ℕ) (line : Line) (c c' : Checked Value) (t : State) (n : ℕ) (ev : List Event) (y : ℕ → Value) (z : ℕ) (xs : List Frame) (st : Store) → Valid k.pf.home k.pf.live rest s.frame.spot.exit → AllThere u rest → KeepsHomes k.pf.home to (lives k.pf.live rest s.frame.spot.exit) → Walk v g n ev t (twin s (line ∷ save (k.pf.home to) access (put_lines k.pf.home nr rest (exit_lines k.pf.home e s.frame.spot.exit))) (put_exit k.pf.home s.frame.spot.exit) y z xs st) → heard ev ≡ [] → step v g (twin s (line ∷ save (k.pf.home to) access (put_lines k.pf.home nr rest (exit_lines k.pf.home e s.frame.spot.exit))) (put_exit k.pf.home s.frame.spot.exit) y z xs st) ≡ computes (reg (k.pf.home to) 30) c' (save (k.pf.home to) access (put_lines k.pf.home nr rest (exit_lines k.pf.home e s.frame.spot.exit))) (twin s (line ∷ save (k.pf.home to) access (put_lines k.pf.home nr rest (exit_lines k.pf.home e s.frame.spot.exit))) (put_exit k.pf.home s.frame.spot.exit) y z xs st) → ((b : Value) → c ≡ Fine b → (x : Value) × (c' ≡ Fine x) × Refines b x) → Held u v s k.pf.home (without to (lives k.pf.live rest s.frame.spot.exit)) y xs st → After u v g t (computes to c rest s)
+pub computes_after : (u v : Code) (g : Setting) (s : State) (k : Known u v s) (nr e access : ℕ) (rest : List Line) (to : ℕ) (line : Line) (c c' : Checked Value) (t : State) (n : ℕ) (ev : List Event) (y : ℕ → Value) (z : ℕ) (xs : List Frame) (st : Store) → Valid k.pf.home k.pf.live rest s.frame.spot.exit → AllThere u rest → KeepsHomes k.pf.home to (lives k.pf.live rest s.frame.spot.exit) → Walk v g n ev t (twin s (line ∷ save (k.pf.home to) access (put_lines k.pf.home nr rest (exit_lines k.pf.home e s.frame.spot.exit))) (put_exit k.pf.home s.frame.spot.exit) y z xs st) → heard ev ≡ [] → step v g (twin s (line ∷ save (k.pf.home to) access (put_lines k.pf.home nr rest (exit_lines k.pf.home e s.frame.spot.exit))) (put_exit k.pf.home s.frame.spot.exit) y z xs st) ≡ computes (reg (k.pf.home to) 7) c' (save (k.pf.home to) access (put_lines k.pf.home nr rest (exit_lines k.pf.home e s.frame.spot.exit))) (twin s (line ∷ save (k.pf.home to) access (put_lines k.pf.home nr rest (exit_lines k.pf.home e s.frame.spot.exit))) (put_exit k.pf.home s.frame.spot.exit) y z xs st) → ((b : Value) → c ≡ Fine b → (x : Value) × (c' ≡ Fine x) × Refines b x) → Held u v s k.pf.home (without to (lives k.pf.live rest s.frame.spot.exit)) y xs st → After u v g t (computes to c rest s)
 computes_after u v g s k nr e access rest to line c c' t n ev y z xs st valid there keeps walk silent is gives m =
     let h = k.pf.home in
     let tail : List Line = save (h to) access (put_lines h nr rest (exit_lines h e s.frame.spot.exit)) in
@@ -169,7 +169,7 @@ computes_after u v g s k nr e access rest to line c c' t n ev y z xs st valid th
     checked_after u v g t c _ (λ b f.
     let q = gives b f in
     sets_ends u v g s k nr e access rest to b q.0 t (plus n 1) (ev ++ []) [] y z xs st valid there keeps
-    (walk_join v g n 1 ev [] t t1 _ walk (walk_one v g [] t1 _ (is ∙ ap (λ o. computes (reg (h to) 30) o tail t1) q.1)))
+    (walk_join v g n 1 ev [] t t1 _ walk (walk_one v g [] t1 _ (is ∙ ap (λ o. computes (reg (h to) 7) o tail t1) q.1)))
     (heard_last ev [] refl ∙ silent) q.2 m)
 
 -- a place in a register
@@ -179,11 +179,11 @@ pub record PlaceReady (u v : Code) (g : Setting) (s : State) (h : ℕ → Home) 
   pub y' : ℕ → Value
   pub walk : Walk v g n ev (twin s lines exit y z xs st) (twin s rest exit y' z xs st)
   pub silent : heard ev ≡ []
-  pub value : (y2 : ℕ → Value) → ((q : ℕ) → q ≢ 29 → y2 q ≡ y' q) → (a : Value) → place_of place s.frame.active s.frame.registers s.store ≡ Fine a → (x : Value) × (place_of (on_place h place) s.frame.active y2 st ≡ Fine x) × Refines a x
+  pub value : (y2 : ℕ → Value) → ((q : ℕ) → q ≢ 8 → y2 q ≡ y' q) → (a : Value) → place_of place s.frame.active s.frame.registers s.store ≡ Fine a → (x : Value) × (place_of (on_place h place) s.frame.active y2 st ≡ Fine x) × Refines a x
   pub held : Held u v s h after y' xs st
 
 -- the scratch register of a second operand is not that of the first
-pub not_second : (w : Home) → ((i : ℕ) → w ≡ InRegister i → i ≢ 29) → reg w 28 ≢ 29
+pub not_second : (w : Home) → ((i : ℕ) → w ≡ InRegister i → i ≢ 8) → reg w 7 ≢ 8
 not_second (InRegister i) free = free i refl
 not_second (InSlot n) free = omega arith
 
@@ -207,14 +207,14 @@ place_ready u v g s h after (Local object offset) access rest exit y z xs st use
   held = m;
 }
 place_ready u v g s h after (Through r offset) access rest exit y z xs st used m =
-    let l : Loaded u v g s h after (s.frame.registers r) (load (h r) 28 access rest) rest exit (reg (h r) 28) 28 y z xs st = load_home u v g s h after (s.frame.registers r) (h r) 28 access rest exit y z xs st (λ q i e. (m.free q i e).0) (λ n e. m.own r n e) (m.agrees r (used r (self r))) m in
+    let l : Loaded u v g s h after (s.frame.registers r) (load (h r) 7 access rest) rest exit (reg (h r) 7) 7 y z xs st = load_home u v g s h after (s.frame.registers r) (h r) 7 access rest exit y z xs st (λ q i e. (m.free q i e).0) (λ n e. m.own r n e) (m.agrees r (used r (self r))) m in
     record {
       n = l.n;
       ev = l.ev;
       y' = l.y';
       walk = l.walk;
       silent = l.silent;
-      value = λ y2 same a e. further_refines s.store st offset (s.frame.registers r) (y2 (reg (h r) 28)) a (seen_all u v s h after y xs st m) (refines_at (s.frame.registers r) _ (l.y' (reg (h r) 28)) _ refl (same (reg (h r) 28) (not_second (h r) (λ i f. (m.free r i f).1))) l.value) e;
+      value = λ y2 same a e. further_refines s.store st offset (s.frame.registers r) (y2 (reg (h r) 7)) a (seen_all u v s h after y xs st m) (refines_at (s.frame.registers r) _ (l.y' (reg (h r) 7)) _ refl (same (reg (h r) 7) (not_second (h r) (λ i f. (m.free r i f).1))) l.value) e;
       held = l.held;
     }
 

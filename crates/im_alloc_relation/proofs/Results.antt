@@ -136,7 +136,7 @@ pub record Saved (u v : Code) (g : Setting) (s : State) (h : ℕ → Home) (afte
   pub silent : heard ev ≡ []
   pub held : Held u v (set s to b) h after y' xs st'
 
-pub save_home : (u v : Code) (g : Setting) (s : State) (h : ℕ → Home) (after : ℕ → Bool) (to : ℕ) (b x : Value) (w : Home) (access : ℕ) (rest : List Line) (exit : Exit) (y : ℕ → Value) (z : ℕ) (xs : List Frame) (st : Store) → h to ≡ w → KeepsHomes h to after → Refines b x → Held u v s h (without to after) y xs st → Saved u v g s h after to b (save w access rest) rest exit (with_register y (reg w 30) x) z xs st
+pub save_home : (u v : Code) (g : Setting) (s : State) (h : ℕ → Home) (after : ℕ → Bool) (to : ℕ) (b x : Value) (w : Home) (access : ℕ) (rest : List Line) (exit : Exit) (y : ℕ → Value) (z : ℕ) (xs : List Frame) (st : Store) → h to ≡ w → KeepsHomes h to after → Refines b x → Held u v s h (without to after) y xs st → Saved u v g s h after to b (save w access rest) rest exit (with_register y (reg w 7) x) z xs st
 save_home u v g s h after to b x (InRegister r) access rest exit y z xs st e keeps m k = record {
   n = 0;
   ev = [];
@@ -147,16 +147,16 @@ save_home u v g s h after to b x (InRegister r) access rest exit y z xs st e kee
   held = held_set_register u v s h after to b x r y xs st e keeps m k;
 }
 save_home u v g s h after to b x (InSlot n) access rest exit y z xs st e keeps m k =
-    let y1 : ℕ → Value = with_register y 30 x in
-    let k1 : Held u v s h (without to after) y1 xs st = held_scratch u v s h (without to after) y y1 xs st (λ q r t f. other_register y 30 x r (k.free q r f).2) k in
+    let y1 : ℕ → Value = with_register y 7 x in
+    let k1 : Held u v s h (without to after) y1 xs st = held_scratch u v s h (without to after) y y1 xs st (λ q r t f. other_register y 7 x r (k.free q r f).0) k in
     record {
       n = 1;
       ev = Writes (slot_site access n) s.frame.active (own_slot s.frame.active n) 0 ∷ [];
       y' = y1;
-      st' = with_slot st s.frame.active n (y1 30);
-      walk = slot_write v g s 30 n access rest exit y1 z xs st (k.own to n e);
+      st' = with_slot st s.frame.active n (y1 7);
+      walk = slot_write v g s 7 n access rest exit y1 z xs st (k.own to n e);
       silent = refl;
-      held = held_set_slot u v s h after to b (y1 30) n y1 xs st e keeps (refines_at b _ x _ refl (same_register y 30 x) m) k1;
+      held = held_set_slot u v s h after to b (y1 7) n y1 xs st e keeps (refines_at b _ x _ refl (same_register y 7 x) m) k1;
     }
 
 pub give_home : (u v : Code) (g : Setting) (s : State) (h : ℕ → Home) (after : ℕ → Bool) (to : ℕ) (b : Value) (w : Home) (access : ℕ) (rest : List Line) (exit : Exit) (y : ℕ → Value) (z : ℕ) (xs : List Frame) (st : Store) → h to ≡ w → KeepsHomes h to after → Refines b (y 10) → Held u v s h (without to after) y xs st → Saved u v g s h after to b (give w access rest) rest exit y z xs st

@@ -126,7 +126,7 @@ Callers u v st a ws xs = ⊥
 pub record Held (u v : Code) (s : State) (h : ℕ → Home) (after : ℕ → Bool) (y : ℕ → Value) (xs : List Frame) (st : Store) : Type 0 where
   pub agrees : (q : ℕ) → after q ≡ true → Refines (s.frame.registers q) (at_home (h q) s.frame.active y st)
   pub own : (q n : ℕ) → h q ≡ InSlot n → st.shape (own_slot s.frame.active n) ≡ Some slot_shape
-  pub free : (q r : ℕ) → h q ≡ InRegister r → (r ≢ 28) × (r ≢ 29) × (r ≢ 30)
+  pub free : (q r : ℕ) → h q ≡ InRegister r → (r ≢ 7) × (r ≢ 8)
   pub seen : (o : Object) → is_slot o.name ≡ false → st.shape o ≡ s.store.shape o
   pub unseen : (o : Object) → is_slot o.name ≡ true → s.store.shape o ≡ None
   pub holds : (o : Object) (i : ℕ) → is_slot o.name ≡ false → st.values o i ≡ s.store.values o i

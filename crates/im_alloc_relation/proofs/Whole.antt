@@ -99,7 +99,7 @@ caller_goes u v g s b x w ws f xs t y st k below callers seen unseen holds fresh
     let held2 : Held u v s2 h (without w.to after) y2 xs st2 = record {
       agrees = λ q t. let d = split_without w.to q after t in let o = k.survives q d.0 d.1 in refines_at (w.registers q) _ (st.values (own_slot w.active o.0) 0) _ refl (ap (λ z. at_home z w.active y2 st2) o.1) o.3;
       own = λ q n e. open_still (own_slot w.active n) below ∙ k.own q n e;
-      free = λ q r e. let d = k.pf.free q r e in (d.2, d.3, d.4);
+      free = λ q r e. let d = (k.pf.free q r e).0 in ((λ z. omega arith), (λ z. omega arith));
       seen = λ o e. ap (λ z. cond (o.activation == a) None z) (seen o e);
       unseen = λ o e. none_if (o.activation == a) (s.store.shape o) (unseen o e);
       holds = holds;
@@ -162,14 +162,14 @@ exit_after u v there pl g s k e (Turn b) y z xs st m = next_after u v g (twin s 
 exit_after u v there pl g s k e (Branch on a b) y z xs st m =
     let h = k.pf.home in
     let live : ℕ → Bool = exit_lives k.pf.live (Branch on a b) in
-    let exit : Exit = Branch (reg (h on) 28) a b in
-    let l : Loaded u v g s h live (s.frame.registers on) (load (h on) 28 e []) [] exit (reg (h on) 28) 28 y z xs st =
-    load_home u v g s h live (s.frame.registers on) (h on) 28 e [] exit y z xs st (λ q i f. (m.free q i f).0) (λ n f. m.own on n f) (m.agrees on (or_left (on == on || k.pf.live a on) (k.pf.live b on) (or_left (on == on) (k.pf.live a on) (self on)))) m in
+    let exit : Exit = Branch (reg (h on) 7) a b in
+    let l : Loaded u v g s h live (s.frame.registers on) (load (h on) 7 e []) [] exit (reg (h on) 7) 7 y z xs st =
+    load_home u v g s h live (s.frame.registers on) (h on) 7 e [] exit y z xs st (λ q i f. (m.free q i f).0) (λ n f. m.own on n f) (m.agrees on (or_left (on == on || k.pf.live a on) (k.pf.live b on) (or_left (on == on) (k.pf.live a on) (self on)))) m in
     let t1 : State = twin s [] exit l.y' z xs st in
     after_first u v g l.n l.ev _ t1 _ l.walk l.silent
     (checked_after u v g t1 (condition s.store (s.frame.registers on)) _ (λ c f.
     next_after u v g t1 _ (next_at u v (goes_to u g (cond c a b) s.fuel s) (goes_to v g (cond c a b) s.fuel t1) (step v g t1)
-    (ap (λ q. on_checked q (λ holds. goes_to v g (cond holds a b) s.fuel t1)) (condition_refines s.store st (s.frame.registers on) (l.y' (reg (h on) 28)) c (seen_all u v s h live l.y' xs st l.held) l.value f))
+    (ap (λ q. on_checked q (λ holds. goes_to v g (cond holds a b) s.fuel t1)) (condition_refines s.store st (s.frame.registers on) (l.y' (reg (h on) 7)) c (seen_all u v s h live l.y' xs st l.held) l.value f))
     (to_both u v there g s k (cond c a b) s.fuel live [] exit l.y' z xs st (λ q t. branch_live k.pf.live on a b q c t) l.held))))
 exit_after u v there pl g s k e (Return None) y z xs st m =
     back_after u v pl g s k.pf.home _ Unset Unset (twin s [] (Return None) y z xs st) y st s.callers xs xs [] (Return None) z m m.callers (inl refl) refl

@@ -75,7 +75,7 @@ pub record PlacedFunction (old new : Function) : Type 0 where
   pub rest : new ≡ record old { registers = Machine; register_count = 32; first_parameter = 10; slots = new.slots; blocks = new.blocks }
   pub received : (k : ℕ) → k < old.parameters → home (old.first_parameter + k) ≡ InRegister (10 + k)
   pub slots : (v n : ℕ) → home v ≡ InSlot n → n < new.slots
-  pub free : (v r : ℕ) → home v ≡ InRegister r → (6 < r) × (r < 32) × (r ≢ 28) × (r ≢ 29) × (r ≢ 30)
+  pub free : (v r : ℕ) → home v ≡ InRegister r → (8 < r) × (r < 32)
   pub valid : (b : ℕ) (block : Block) → slice_get old.blocks.items b ≡ Some block → Valid home live block.lines.items block.exit
   pub closed : (b : ℕ) (block : Block) (v : ℕ) → slice_get old.blocks.items b ≡ Some block → lives live block.lines.items block.exit v ≡ true → live b v ≡ true
   pub held : (b v r : ℕ) → live b v ≡ true → home v ≡ InRegister r → wanted b r ≡ true

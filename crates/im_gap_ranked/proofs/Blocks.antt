@@ -1,5 +1,5 @@
 -- The lines of a function are ranked: blocks by their numbers, above all that is called, and what follows a call is a cut.
-use Rattle.std.proofs.Common.{◌≡◌, ◌≢◌, ℕ, zero, suc, ◌+◌, ◌-◌, ◌^◌, ◌<◌, ◌≤◌, ◌⊎◌, inl, inr, Bool, true, false, List, [], ◌∷◌, ◌++◌, Some, length, refl, sym, ap, ◌∙◌, subst, length-append, arith}
+use Rattle.std.proofs.Common.{◌≡◌, ◌≢◌, ℕ, zero, suc, ◌+◌, ◌-◌, ◌^◌, ◌<◌, ◌≤◌, ◌⊎◌, inl, inr, Bool, true, false, List, [], ◌∷◌, ◌++◌, Some, None, length, refl, sym, ap, ◌∙◌, subst, length-append, arith}
 use Rattle.std.specs.Prelude.{◌==◌, slice_get, All}
 use Rattle.std.proofs.lemmas.List.Elements.{All-head, All-tail}
 use Rattle.im_num.specs.declared.values.Cause.{Cause}
@@ -18,7 +18,7 @@ use Rattle.im_block.specs.Shape.{Descends, sum_below}
 use Rattle.im_block.specs.Paths.{IsCut}
 use Rattle.im_block.specs.Forced.{StartsWithCut, EndsWithCut, CutAfterCalls, CutAtTurn}
 use Rattle.im_block.specs.Wellformed.{ExitThere}
-use Rattle.im_select.specs.Emitted.{high_of, low_of, constant_by, constant_code, adds_by, adds_code, entry_label, labelled, call_code, cut_code, line_code, lines_code, leave_code, exit_code, block_code, blocks_code, enter_code, prologue_code, function_code}
+use Rattle.im_select.specs.Emitted.{high_of, low_of, constant_by, constant_code, adds_by, adds_code, entry_label, labelled, call_code, cut_code, line_code, lines_code, leave_code, result_code, exit_code, block_code, blocks_code, enter_code, prologue_code, function_code}
 use Rattle.im_select.specs.Places.{CallsBelow}
 use Rattle.im_saved_lines.proofs.Scanning.{same_of, same_is, IsPlain, ArePlain}
 use Rattle.im_saved_lines.proofs.Plain.{adds_plain}
@@ -74,7 +74,20 @@ abbrev pub block_base : ℕ
 block_base = entry_rank + 1
 
 abbrev pub weight : (Name → ℕ) → Block → ℕ
-weight places block = length (lines_code places block.lines.items) + 3
+weight places block = length (lines_code places (λ j. 4) 0 block.lines.items) + 3
+
+line_length : (places : Name → ℕ) (a b : ℕ) (line : Line) → length (line_code places a line) ≡ length (line_code places b line)
+line_length places a b (Cut cause) = refl
+line_length places a b line = refl
+
+-- it is the same whatever the entries
+lines_length : (places : Name → ℕ) (n o : ℕ → ℕ) (j k : ℕ) (lines : List Line) → length (lines_code places n j lines) ≡ length (lines_code places o k lines)
+lines_length places n o j k [] = refl
+lines_length places n o j k (line ∷ lines) =
+    length-append (line_code places (n j) line) (lines_code places n (suc j) lines)
+    ∙ ap (λ z. z + length (lines_code places n (suc j) lines)) (line_length places (n j) (o k) line)
+    ∙ ap (λ z. length (line_code places (o k) line) + z) (lines_length places n o (suc j) (suc k) lines)
+    ∙ sym (length-append (line_code places (o k) line) (lines_code places o (suc k) lines))
 
 -- that of block b; the entry block begins with a cut
 abbrev pub rank_by_entry : Bool → ℕ → ℕ
@@ -110,7 +123,7 @@ ends_rest line (next ∷ lines) h e = e
 abbrev return_code : List CodeLine
 return_code = plain_line (with_immediate Jalr 0 1 0) ∷ []
 
-module _ (at : ℕ → ℕ) (places : Name → ℕ) (functions first frame : ℕ) (f : Function) (above : 64 ≤ first) (callees : HasCallees functions at) (blocks : (b : ℕ) → b < length f.blocks.items → at (first + b) ≡ block_rank places f b) where
+module _ (at : ℕ → ℕ) (places : Name → ℕ) (m : ℕ → ℕ → ℕ) (okay : (b j : ℕ) → (4 ≤ m b j) × (m b j ≤ 31)) (functions first frame : ℕ) (f : Function) (above : 64 ≤ first) (callees : HasCallees functions at) (blocks : (b : ℕ) → b < length f.blocks.items → at (first + b) ≡ block_rank places f b) where
   abbrev sum : ℕ → ℕ
   sum b = sum_below (weight places) f.blocks.items b
 
@@ -135,11 +148,11 @@ module _ (at : ℕ → ℕ) (places : Name → ℕ) (functions first frame : ℕ
     tt,
   )
 
-  cut_ranked : (cause : Cause) (behind : After) → AreRanked at (cut_code cause) behind
-  cut_ranked cause behind = (
+  cut_ranked : (n : ℕ) (cause : Cause) (behind : After) → (4 ≤ n) × (n ≤ 31) → AreRanked at (cut_code n cause) behind
+  cut_ranked n cause behind o = (
     record {
       label = λ l e. absurd cc;
-      goes = (31, refl, record { cut = λ e. (omega arith, omega arith); call = λ e. absurd (omega arith); other = λ e. absurd (e refl) });
+      goes = (n, refl, record { cut = λ e. o; call = λ e. absurd (omega arith); other = λ e. absurd (e refl) });
     },
     tt,
   )
@@ -175,7 +188,11 @@ module _ (at : ℕ → ℕ) (places : Name → ℕ) (functions first frame : ℕ
       let over = sum_up (weight places) f.blocks.items (suc y) b (omega arith) in
       let within = greater_within (suc (at (first + x))) (suc (at (first + y))) (block_base + sum b + 2) (omega arith) (omega arith) in
       inl (omega arith)
-  exit_most b (Return from) lines behind d there t = let most = leave_most behind in inl (omega arith)
+  exit_most b (Return None) lines behind d there t =
+      let most = leave_most behind in
+      let set = plain_rank at (result_code None) (scan at (leave_code frame) behind) ((refl, refl), tt) in
+      inl (omega arith)
+  exit_most b (Return (Some r)) lines behind d there t = let most = leave_most behind in inl (omega arith)
 
   exit_ranked : (exit : Exit) (behind : After) → AreRanked at (exit_code first frame exit) behind
   exit_ranked (Jump b) behind = jump_ranked 0 (first + b) behind (λ e. absurd (omega arith)) (omega arith) (λ e. absurd (omega arith))
@@ -184,85 +201,87 @@ module _ (at : ℕ → ℕ) (places : Name → ℕ) (functions first frame : ℕ
       let second = jump_ranked 0 (first + y) behind (λ e. absurd (omega arith)) (omega arith) (λ e. absurd (omega arith)) in
       let one = jump_ranked 0 (first + x) (scan at (call_code 0 (first + y)) behind) (λ e. absurd (omega arith)) (omega arith) (λ e. absurd (omega arith)) in
       (record { label = λ l e. absurd cc; goes = inl (refl, refl) }, (one.0, second))
-  exit_ranked (Return from) behind = leave_ranked behind
+  exit_ranked (Return None) behind = ranked_append at (result_code None) (leave_code frame) behind (plain_ranked at (result_code None) (scan at (leave_code frame) behind) ((refl, refl), tt)) (leave_ranked behind)
+  exit_ranked (Return (Some r)) behind = leave_ranked behind
 
   -- ---- lines
 
-  starts : (lines : List Line) (behind : After) → StartsWithCut lines → (scan at (lines_code places lines) behind).next ≡ cut_rank
-  starts [] behind s = absurd s
-  starts (Cut cause ∷ lines) behind s = refl
-  starts (line ∷ lines) behind s = absurd s
+  starts : (n : ℕ → ℕ) (j : ℕ) (lines : List Line) (behind : After) → StartsWithCut lines → (scan at (lines_code places n j lines) behind).next ≡ cut_rank
+  starts n j [] behind s = absurd s
+  starts n j (Cut cause ∷ lines) behind s = refl
+  starts n j (line ∷ lines) behind s = absurd s
 
-  work_most : (line : Line) (lines : List Line) (most : ℕ) (behind : After) → ArePlain (line_code places line) → (scan at (lines_code places lines) behind).next ≤ most + length (lines_code places lines) → (scan at (line_code places line ++ lines_code places lines) behind).next ≤ most + length (line_code places line ++ lines_code places lines)
-  work_most line lines most behind plain h =
-      let e = ap (λ (z : After). z.next) (scan_append at (line_code places line) (lines_code places lines) behind) in
-      let p = plain_rank at (line_code places line) (scan at (lines_code places lines) behind) plain in
-      let n = length-append (line_code places line) (lines_code places lines) in
+  work_most : (n : ℕ → ℕ) (j : ℕ) (line : Line) (lines : List Line) (most : ℕ) (behind : After) → ArePlain (line_code places (n j) line) → (scan at (lines_code places n (suc j) lines) behind).next ≤ most + length (lines_code places n (suc j) lines) → (scan at (line_code places (n j) line ++ lines_code places n (suc j) lines) behind).next ≤ most + length (line_code places (n j) line ++ lines_code places n (suc j) lines)
+  work_most n j line lines most behind plain h =
+      let e = ap (λ (z : After). z.next) (scan_append at (line_code places (n j) line) (lines_code places n (suc j) lines) behind) in
+      let p = plain_rank at (line_code places (n j) line) (scan at (lines_code places n (suc j) lines) behind) plain in
+      let q = length-append (line_code places (n j) line) (lines_code places n (suc j) lines) in
       omega arith
 
-  lines_most : (lines : List Line) (most : ℕ) (behind : After) → block_base ≤ most → (behind.next ≤ most) ⊎ EndsWithCut lines → All (CallsBelow functions) lines → (scan at (lines_code places lines) behind).next ≤ most + length (lines_code places lines)
-  lines_most [] most behind h (inl k) c = omega arith
-  lines_most [] most behind h (inr k) c = absurd k
-  lines_most (Cut cause ∷ lines) most behind h k c = omega arith
-  lines_most (Call to i start given ∷ lines) most behind h k c = let e = callees.entries i (All-head (CallsBelow functions) (Call to i start given) lines c) in omega arith
-  lines_most (GetChar to ∷ lines) most behind h k c = let e = callees.gets in omega arith
-  lines_most (PutChar to from ∷ lines) most behind h k c = let e = callees.puts in omega arith
-  lines_most (line ∷ lines) most behind h k c =
-      work_most line lines most behind (work_plain places line tt)
-      (lines_most lines most behind h (elim k [ inl a ↦ inl a | inr b ↦ inr (ends_rest line lines (λ z. z) b) ]) (All-tail (CallsBelow functions) line lines c))
+  lines_most : (n : ℕ → ℕ) (j : ℕ) (lines : List Line) (most : ℕ) (behind : After) → block_base ≤ most → (behind.next ≤ most) ⊎ EndsWithCut lines → All (CallsBelow functions) lines → (scan at (lines_code places n j lines) behind).next ≤ most + length (lines_code places n j lines)
+  lines_most n j [] most behind h (inl k) c = omega arith
+  lines_most n j [] most behind h (inr k) c = absurd k
+  lines_most n j (Cut cause ∷ lines) most behind h k c = omega arith
+  lines_most n j (Call to i start given ∷ lines) most behind h k c = let e = callees.entries i (All-head (CallsBelow functions) (Call to i start given) lines c) in omega arith
+  lines_most n j (GetChar to ∷ lines) most behind h k c = let e = callees.gets in omega arith
+  lines_most n j (PutChar to from ∷ lines) most behind h k c = let e = callees.puts in omega arith
+  lines_most n j (line ∷ lines) most behind h k c =
+      work_most n j line lines most behind (work_plain places (n j) line tt)
+      (lines_most n (suc j) lines most behind h (elim k [ inl a ↦ inl a | inr b ↦ inr (ends_rest line lines (λ z. z) b) ]) (All-tail (CallsBelow functions) line lines c))
 
-  lines_ranked : (lines : List Line) (behind : After) → CutAfterCalls lines → AreRanked at (lines_code places lines) behind
-  lines_ranked [] behind k = tt
-  lines_ranked (Cut cause ∷ lines) behind k = ranked_append at (cut_code cause) (lines_code places lines) behind (cut_ranked cause (scan at (lines_code places lines) behind)) (lines_ranked lines behind k)
-  lines_ranked (Call to i start given ∷ lines) behind k =
-      ranked_append at (call_code 1 (entry_label i)) (lines_code places lines) behind
-      (jump_ranked 1 (entry_label i) (scan at (lines_code places lines) behind) (λ e. absurd (omega arith)) (omega arith) (λ e. (let s = starts lines behind k.0 in omega arith)))
-      (lines_ranked lines behind k.1)
-  lines_ranked (GetChar to ∷ lines) behind k =
-      ranked_append at (call_code 1 getchar_label) (lines_code places lines) behind
-      (jump_ranked 1 getchar_label (scan at (lines_code places lines) behind) (λ e. absurd (omega arith)) (omega arith) (λ e. (let s = starts lines behind k.0 in omega arith)))
-      (lines_ranked lines behind k.1)
-  lines_ranked (PutChar to from ∷ lines) behind k =
-      ranked_append at (call_code 1 putchar_label) (lines_code places lines) behind
-      (jump_ranked 1 putchar_label (scan at (lines_code places lines) behind) (λ e. absurd (omega arith)) (omega arith) (λ e. (let s = starts lines behind k.0 in omega arith)))
-      (lines_ranked lines behind k.1)
-  lines_ranked (line ∷ lines) behind k =
-      ranked_append at (line_code places line) (lines_code places lines) behind (plain_ranked at (line_code places line) (scan at (lines_code places lines) behind) (work_plain places line tt)) (lines_ranked lines behind k)
+  lines_ranked : (n : ℕ → ℕ) (j : ℕ) (lines : List Line) (behind : After) → ((j : ℕ) → (4 ≤ n j) × (n j ≤ 31)) → CutAfterCalls lines → AreRanked at (lines_code places n j lines) behind
+  lines_ranked n j [] behind o k = tt
+  lines_ranked n j (Cut cause ∷ lines) behind o k = ranked_append at (cut_code (n j) cause) (lines_code places n (suc j) lines) behind (cut_ranked (n j) cause (scan at (lines_code places n (suc j) lines) behind) (o j)) (lines_ranked n (suc j) lines behind o k)
+  lines_ranked n j (Call to i start given ∷ lines) behind o k =
+      ranked_append at (call_code 1 (entry_label i)) (lines_code places n (suc j) lines) behind
+      (jump_ranked 1 (entry_label i) (scan at (lines_code places n (suc j) lines) behind) (λ e. absurd (omega arith)) (omega arith) (λ e. (let s = starts n (suc j) lines behind k.0 in omega arith)))
+      (lines_ranked n (suc j) lines behind o k.1)
+  lines_ranked n j (GetChar to ∷ lines) behind o k =
+      ranked_append at (call_code 1 getchar_label) (lines_code places n (suc j) lines) behind
+      (jump_ranked 1 getchar_label (scan at (lines_code places n (suc j) lines) behind) (λ e. absurd (omega arith)) (omega arith) (λ e. (let s = starts n (suc j) lines behind k.0 in omega arith)))
+      (lines_ranked n (suc j) lines behind o k.1)
+  lines_ranked n j (PutChar to from ∷ lines) behind o k =
+      ranked_append at (call_code 1 putchar_label) (lines_code places n (suc j) lines) behind
+      (jump_ranked 1 putchar_label (scan at (lines_code places n (suc j) lines) behind) (λ e. absurd (omega arith)) (omega arith) (λ e. (let s = starts n (suc j) lines behind k.0 in omega arith)))
+      (lines_ranked n (suc j) lines behind o k.1)
+  lines_ranked n j (line ∷ lines) behind o k =
+      ranked_append at (line_code places (n j) line) (lines_code places n (suc j) lines) behind (plain_ranked at (line_code places (n j) line) (scan at (lines_code places n (suc j) lines) behind) (work_plain places (n j) line tt)) (lines_ranked n (suc j) lines behind o k)
 
   -- ---- blocks
 
-  abbrev body : Block → List CodeLine
-  body block = lines_code places block.lines.items ++ exit_code first frame block.exit
+  abbrev body : ℕ → Block → List CodeLine
+  body b block = lines_code places (m b) 0 block.lines.items ++ exit_code first frame block.exit
 
-  body_most : (b : ℕ) (block : Block) (behind : After) → BlockFacts functions f b block → (scan at (body block) behind).next ≤ at (first + b)
+  body_most : (b : ℕ) (block : Block) (behind : After) → BlockFacts functions f b block → (scan at (body b block) behind).next ≤ at (first + b)
   body_most b block behind facts =
-      subst (λ z. (scan at (body block) behind).next ≤ z) (sym (blocks b facts.inside)) (by (b == f.entry) refl)
+      subst (λ z. (scan at (body b block) behind).next ≤ z) (sym (blocks b facts.inside)) (by (b == f.entry) refl)
     where
       exits : After
       exits = scan at (exit_code first frame block.exit) behind
 
-      is : (scan at (body block) behind).next ≡ (scan at (lines_code places block.lines.items) exits).next
-      is = ap (λ (z : After). z.next) (scan_append at (lines_code places block.lines.items) (exit_code first frame block.exit) behind)
+      is : (scan at (body b block) behind).next ≡ (scan at (lines_code places (m b) 0 block.lines.items) exits).next
+      is = ap (λ (z : After). z.next) (scan_append at (lines_code places (m b) 0 block.lines.items) (exit_code first frame block.exit) behind)
 
-      by : (t : Bool) → (b == f.entry) ≡ t → (scan at (body block) behind).next ≤ rank_by_entry t (block_base + sum (suc b))
-      by true e = let s = starts block.lines.items exits (facts.entry (same_of b f.entry e)) in let q = is in omega arith
+      by : (t : Bool) → (b == f.entry) ≡ t → (scan at (body b block) behind).next ≤ rank_by_entry t (block_base + sum (suc b))
+      by true e = let s = starts (m b) 0 block.lines.items exits (facts.entry (same_of b f.entry e)) in let q = is in omega arith
       by false e =
-          let most = lines_most block.lines.items (block_base + sum b + 3) exits (omega arith) (exit_most b block.exit block.lines.items behind facts.descends facts.there facts.turn) facts.calls in
+          let most = lines_most (m b) 0 block.lines.items (block_base + sum b + 3) exits (omega arith) (exit_most b block.exit block.lines.items behind facts.descends facts.there facts.turn) facts.calls in
           let more = sum_more (weight places) f.blocks.items b block facts.is_block in
+          let same = lines_length places (m b) (λ j. 4) 0 0 block.lines.items in
           let q = is in
           omega arith
 
-  block_ranked : (b : ℕ) (block : Block) (behind : After) → BlockFacts functions f b block → AreRanked at (block_code places first frame b block) behind
+  block_ranked : (b : ℕ) (block : Block) (behind : After) → BlockFacts functions f b block → AreRanked at (block_code places (m b) first frame b block) behind
   block_ranked b block behind facts =
-      ranked_labelled at (first + b) (body block) behind (body_most b block behind facts)
-      (ranked_append at (lines_code places block.lines.items) (exit_code first frame block.exit) behind (lines_ranked block.lines.items (scan at (exit_code first frame block.exit) behind) facts.cuts) (exit_ranked block.exit behind))
+      ranked_labelled at (first + b) (body b block) behind (body_most b block behind facts)
+      (ranked_append at (lines_code places (m b) 0 block.lines.items) (exit_code first frame block.exit) behind (lines_ranked (m b) 0 block.lines.items (scan at (exit_code first frame block.exit) behind) (okay b) facts.cuts) (exit_ranked block.exit behind))
 
-  blocks_ranked : (b : ℕ) (xs : List Block) (behind : After) → ((j : ℕ) (block : Block) → slice_get xs j ≡ Some block → BlockFacts functions f (b + j) block) → AreRanked at (blocks_code places first frame b xs) behind
+  blocks_ranked : (b : ℕ) (xs : List Block) (behind : After) → ((j : ℕ) (block : Block) → slice_get xs j ≡ Some block → BlockFacts functions f (b + j) block) → AreRanked at (blocks_code places m first frame b xs) behind
   blocks_ranked b [] behind k = tt
   blocks_ranked b (x ∷ xs) behind k =
       let here : b + 0 ≡ b = omega arith in
-      ranked_append at (block_code places first frame b x) (blocks_code places first frame (suc b) xs) behind
-      (block_ranked b x (scan at (blocks_code places first frame (suc b) xs) behind) (subst (λ z. BlockFacts functions f z x) here (k 0 x refl)))
+      ranked_append at (block_code places (m b) first frame b x) (blocks_code places m first frame (suc b) xs) behind
+      (block_ranked b x (scan at (blocks_code places m first frame (suc b) xs) behind) (subst (λ z. BlockFacts functions f z x) here (k 0 x refl)))
       (blocks_ranked (suc b) xs behind (λ j block e. (let q : b + suc j ≡ suc b + j = omega arith in subst (λ z. BlockFacts functions f z block) q (k (suc j) block e))))
 
   -- ---- the prologue
@@ -283,11 +302,11 @@ module _ (at : ℕ → ℕ) (places : Name → ℕ) (functions first frame : ℕ
         (record { label = λ l e. absurd cc; goes = inl (refl, refl) }, (full.0, taken)),
       )
 
-  pub function_ranked : (i : ℕ) (behind : After) → i < functions → f.entry < length f.blocks.items → ((b : ℕ) (block : Block) → slice_get f.blocks.items b ≡ Some block → BlockFacts functions f b block) → AreRanked at (function_code places i first frame f.entry f.blocks.items) behind
+  pub function_ranked : (i : ℕ) (behind : After) → i < functions → f.entry < length f.blocks.items → ((b : ℕ) (block : Block) → slice_get f.blocks.items b ≡ Some block → BlockFacts functions f b block) → AreRanked at (function_code places m i first frame f.entry f.blocks.items) behind
   function_ranked i behind here there facts =
       let target : ℕ = first + f.entry in
       let by : ℕ = 2 ^ 32 - frame in
-      let rest : List CodeLine = blocks_code places first frame 0 f.blocks.items in
+      let rest : List CodeLine = blocks_code places m first frame 0 f.blocks.items in
       let onward : After = scan at rest behind in
       let e = ap (λ (z : After). z.next) (scan_append at (adds_code 6 by) (enter_code target) onward) in
       let p = plain_rank at (adds_code 6 by) (scan at (enter_code target) onward) (adds_plain 6 by) in

@@ -76,8 +76,8 @@ module _ (u : Code) (statics : List ℕ) (layouts : List Layout) (parts : List P
       let first : ℕ = first_label functions i in
       let objects = at_of (given_at functions statics i f own.layout) in
       let same : places functions statics layouts i f ≡ objects = ap (places_of functions statics i f) own.is_layout in
-      subst (λ z. AreRanked labelled z after) (sym (code_is parts (part_of i) part own.code is_part own.there ∙ own.selection.exact))
-      (function_ranked labelled objects (length functions) first own.layout.frame f (omega arith) (callees functions statics layouts)
+      subst (λ z. AreRanked labelled z after) (sym (code_is parts (part_of i) part own.code is_part own.there ∙ own.selection.exact.lines_are))
+      (function_ranked labelled objects (entries own.selection.exact.live f.blocks.items) (λ b j. entry_okay own.selection.exact.live (slice_get f.blocks.items b) j) (length functions) first own.layout.frame f (omega arith) (callees functions statics layouts)
       (λ b h. at_block functions statics layouts i b f e h ∙ ap (λ p. block_rank p f b) same)
       i after (slice_get_within functions i f e) own.selectable.entry (λ b block g.
       let closed = all_at (IsClosedBlock (given_at functions statics i f own.layout)) f.blocks.items b block own.selectable.closed g in

@@ -109,7 +109,7 @@ module _ (u : Code) (statics : List ℕ) (layouts : List Layout) (parts : List P
 
   -- where a label stands that a function's line leads to
   target : (i : ℕ) (f : Function) (e : slice_get u.functions.items i ≡ Some f) (code : List CodeLine) (k l : ℕ) (op : Op) → op ≡ Jal → IsTarget (given_at u.functions.items statics i f (program.functions i f e).layout) l → Goal parts code k l op
-  target i f e code k l op far (inl a) = Elsewhere 1 135 checkpoint_code program.saves (subst (HasLabel checkpoint_code 135) (sym a) (saved_there 31 (omega arith) (omega arith))) far
+  target i f e code k l op far (inl a) = let low = a.0 in let high = a.1 in Elsewhere 1 (5 * (l - 4)) checkpoint_code program.saves (saved_there l (omega arith) (omega arith)) far
   target i f e code k l op far (inr (inl a)) = Elsewhere 2 0 getchar program.gets (subst (HasLabel getchar 0) (sym a) (record { line = _; there = refl; is = refl })) far
   target i f e code k l op far (inr (inr (inl a))) = Elsewhere 3 0 putchar program.puts (subst (HasLabel putchar 0) (sym a) (record { line = _; there = refl; is = refl })) far
   target i f e code k l op far (inr (inr (inr (inl a)))) = Elsewhere 4 0 stack program.stops (subst (HasLabel stack 0) (sym a) (record { line = _; there = refl; is = refl })) far

@@ -105,26 +105,19 @@ displaced_plain base n = by (high_of n == 0)
     by true = tt
     by false = ((refl, refl), ((refl, refl), tt))
 
-pub displaced_wants : (base n : ℕ) (X : Type 0) (r : ℕ) → IsUnsaved r → Wants (displaced_code base n) X r → (r ≡ base) ⊎ X
+pub displaced_wants : (base n : ℕ) (X : Type 0) (r : ℕ) → IsUnsaved r → Wants (displaced_code base n) X r → (r ≡ base) ⊎ ((r ≡ displaced_base base n → r ≡ base) × X)
 displaced_wants base n X r u w = by (high_of n == 0) w
   where
-    second : (r ≡ 5) ⊎ (r ≡ base) ⊎ ((r ≢ 5) × X) → (r ≡ base) ⊎ X
-    second (inl e) = absurd (unsaved_not r 5 u refl e)
-    second (inr (inl e)) = inl e
-    second (inr (inr d)) = inr d.1
+    second : r ≢ 5 → (r ≡ 5) ⊎ (r ≡ base) ⊎ ((r ≢ 5) × X) → (r ≡ base) ⊎ ((r ≡ 5 → r ≡ base) × X)
+    second ne (inl e) = absurd (ne e)
+    second ne (inr (inl e)) = inl e
+    second ne (inr (inr d)) = inr ((λ e. absurd (ne e)), d.1)
 
-    by : (b : Bool) → Wants (displaced_by b base (high_of n)) X r → (r ≡ base) ⊎ X
-    by true x = inr x
+    by : (b : Bool) → Wants (displaced_by b base (high_of n)) X r → (r ≡ base) ⊎ ((r ≡ (if b then base else 5) → r ≡ base) × X)
+    by true x = inr ((λ e. e), x)
     by false (inl e) = absurd (unsaved_not r 0 u refl e)
     by false (inr (inl e)) = absurd (unsaved_not r 0 u refl e)
-    by false (inr (inr c)) = second c.1
-
-pub displaced_base_is : (base n r : ℕ) → IsUnsaved r → r ≡ displaced_base base n → r ≡ base
-displaced_base_is base n r u e = by (high_of n == 0) e
-  where
-    by : (b : Bool) → r ≡ (if b then base else 5) → r ≡ base
-    by true e = e
-    by false e = absurd (unsaved_not r 5 u refl e)
+    by false (inr (inr c)) = second c.0 c.1
 
 -- ---- the stack pointer plus a word
 
@@ -135,19 +128,19 @@ adds_plain rd n = by (high_of n == 0)
     by true = ((refl, refl), tt)
     by false = plain_append (constant_code 5 n) _ (constant_plain 5 n) ((refl, refl), tt)
 
-pub adds_wants : (rd n : ℕ) (X : Type 0) (r : ℕ) → IsUnsaved r → Wants (adds_code rd n) X r → X
+pub adds_wants : (rd n : ℕ) (X : Type 0) (r : ℕ) → IsUnsaved r → Wants (adds_code rd n) X r → (r ≢ rd) × X
 adds_wants rd n X r u w = by (high_of n == 0) w
   where
-    last : (r ≡ 2) ⊎ (r ≡ 5) ⊎ ((r ≢ rd) × X) → X
-    last (inl e) = absurd (unsaved_not r 2 u refl e)
-    last (inr (inl e)) = absurd (unsaved_not r 5 u refl e)
-    last (inr (inr c)) = c.1
+    last : r ≢ 5 → (r ≡ 2) ⊎ (r ≡ 5) ⊎ ((r ≢ rd) × X) → (r ≢ rd) × X
+    last ne (inl e) = absurd (unsaved_not r 2 u refl e)
+    last ne (inr (inl e)) = absurd (ne e)
+    last ne (inr (inr c)) = (c.0, c.1)
 
-    by : (b : Bool) → Wants (adds_by b rd n) X r → X
+    by : (b : Bool) → Wants (adds_by b rd n) X r → (r ≢ rd) × X
     by true (inl e) = absurd (unsaved_not r 2 u refl e)
     by true (inr (inl e)) = absurd (unsaved_not r 0 u refl e)
-    by true (inr (inr c)) = c.1
-    by false v = last (constant_wants 5 n _ r u (wants_append (constant_code 5 n) _ X r v)).1
+    by true (inr (inr c)) = (c.0, c.1)
+    by false v = let c = constant_wants 5 n _ r u (wants_append (constant_code 5 n) _ X r v) in last c.0 c.1
 
 -- ---- places
 
@@ -156,14 +149,10 @@ place_plain (Static object offset) n = ((refl, refl), tt)
 place_plain (Local object offset) n = displaced_plain 2 n
 place_plain (Through pointer offset) n = displaced_plain pointer n
 
-pub place_wants : (place : Place) (n : ℕ) (X : Type 0) (r : ℕ) → IsUnsaved r → Wants (place_code place n) X r → (place_uses place r ≡ true) ⊎ X
+-- used, or not its base unless it is used
+pub place_wants : (place : Place) (n : ℕ) (X : Type 0) (r : ℕ) → IsUnsaved r → Wants (place_code place n) X r → (place_uses place r ≡ true) ⊎ ((r ≡ place_base place n → place_uses place r ≡ true) × X)
 place_wants (Static object offset) n X r u (inl e) = absurd (unsaved_not r 0 u refl e)
 place_wants (Static object offset) n X r u (inr (inl e)) = absurd (unsaved_not r 0 u refl e)
-place_wants (Static object offset) n X r u (inr (inr c)) = inr c.1
-place_wants (Local object offset) n X r u w = elim (displaced_wants 2 n X r u w) [ inl e ↦ absurd (unsaved_not r 2 u refl e) | inr x ↦ inr x ]
-place_wants (Through pointer offset) n X r u w = elim (displaced_wants pointer n X r u w) [ inl e ↦ inl (same_is r pointer e) | inr x ↦ inr x ]
-
-pub place_base_is : (place : Place) (n r : ℕ) → IsUnsaved r → r ≡ place_base place n → place_uses place r ≡ true
-place_base_is (Static object offset) n r u e = absurd (unsaved_not r 5 u refl e)
-place_base_is (Local object offset) n r u e = absurd (unsaved_not r 2 u refl (displaced_base_is 2 n r u e))
-place_base_is (Through pointer offset) n r u e = same_is r pointer (displaced_base_is pointer n r u e)
+place_wants (Static object offset) n X r u (inr (inr c)) = inr ((λ e. absurd (c.0 e)), c.1)
+place_wants (Local object offset) n X r u w = elim (displaced_wants 2 n X r u w) [ inl e ↦ absurd (unsaved_not r 2 u refl e) | inr x ↦ inr ((λ e. absurd (unsaved_not r 2 u refl (x.0 e))), x.1) ]
+place_wants (Through pointer offset) n X r u w = elim (displaced_wants pointer n X r u w) [ inl e ↦ inl (same_is r pointer e) | inr x ↦ inr ((λ e. same_is r pointer (x.0 e)), x.1) ]

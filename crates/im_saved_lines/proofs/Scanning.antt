@@ -4,9 +4,8 @@ use Rattle.std.specs.Prelude.{◌==◌, ◌&&◌, ◌||◌, not}
 use Rattle.std.proofs.lemmas.Bool.Decides.{nat_tests}
 use Rattle.im_rv.specs.Lines.{CodeLine}
 use Rattle.im_gap.specs.declared.flow.Turn.TheVariants.{Passes}
-use Rattle.im_rtlib.specs.Laws.{is_saved}
 use Rattle.im_select.specs.Emitted.{labelled}
-use Rattle.im_saved_lines.specs.Scan.{way, After, onward, lives_at, before, scan, Goes, IsSoundLine, AreSound}
+use Rattle.im_saved_lines.specs.Scan.{way, is_base, After, onward, lives_at, before, scan, Goes, IsSoundLine, AreSound}
 
 pub both : (a b : Bool) → (a && b) ≡ true → (a ≡ true) × (b ≡ true)
 both true b h = (refl, h)
@@ -47,21 +46,21 @@ other_is a b ne = by (a == b) refl
     by true e = absurd (ne (same_of a b e))
     by false e = refl
 
--- a register that not each cut saves
+-- a register that may not live anywhere
 abbrev pub IsUnsaved : ℕ → Type 0
-IsUnsaved r = is_saved r ≡ false
+IsUnsaved r = is_base r ≡ false
 
--- it is none that each cut saves
-pub unsaved_not : (r s : ℕ) → IsUnsaved r → is_saved s ≡ true → r ≡ s → ⊥
-unsaved_not r s n e same = let k : is_saved r ≡ true = ap is_saved same ∙ e in cc
+-- it is none that may
+pub unsaved_not : (r s : ℕ) → IsUnsaved r → is_base s ≡ true → r ≡ s → ⊥
+unsaved_not r s n e same = let k : is_base r ≡ true = ap is_base same ∙ e in cc
 
-pub unsaved_true : (r : ℕ) → IsUnsaved r → is_saved r ≡ true → ⊥
+pub unsaved_true : (r : ℕ) → IsUnsaved r → is_base r ≡ true → ⊥
 unsaved_true r n e = cc
 
-pub or_unsaved : (X : Type 0) (r : ℕ) → (IsUnsaved r → X) → (is_saved r ≡ true) ⊎ X
-or_unsaved X r k = by (is_saved r) refl
+pub or_unsaved : (X : Type 0) (r : ℕ) → (IsUnsaved r → X) → (is_base r ≡ true) ⊎ X
+or_unsaved X r k = by (is_base r) refl
   where
-    by : (t : Bool) → is_saved r ≡ t → (is_saved r ≡ true) ⊎ X
+    by : (t : Bool) → is_base r ≡ t → (is_base r ≡ true) ⊎ X
     by true e = inl e
     by false e = inr (k e)
 
@@ -98,7 +97,7 @@ pub data Lives (at : ℕ → ℕ → Bool) (x : CodeLine) (after : After) (r : �
   Later : r ≢ x.line.rd → onward at (way x.line.op) x.line.rd x.target after r ≡ true → Lives at x after r
 
 pub line_lives : (at : ℕ → ℕ → Bool) (x : CodeLine) (after : After) (r : ℕ) → IsUnsaved r → lives_at at x after r ≡ true → Lives at x after r
-line_lives at x after r n w = elim (either (is_saved r) _ w) [
+line_lives at x after r n w = elim (either (is_base r) _ w) [
   | inl e ↦ absurd (unsaved_true r n e)
   | inr a ↦ elim (either (r == x.line.rs1 || r == x.line.rs2) _ a) [
     | inl u ↦ elim (either (r == x.line.rs1) (r == x.line.rs2) u) [ inl e ↦ First (same_of r x.line.rs1 e) | inr e ↦ Second (same_of r x.line.rs2 e) ]

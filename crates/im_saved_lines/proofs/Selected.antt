@@ -1,5 +1,5 @@
 -- The lines of a block, selected: what lives before them, and that they are sound.
-use Rattle.std.proofs.Common.{◌≡◌, ◌≢◌, ℕ, ◌+◌, ◌<◌, ◌≤◌, ◌⊎◌, inl, inr, Bool, true, false, cond, List, [], ◌∷◌, ◌++◌, Option, Some, None, refl, sym, ap, ◌∙◌, arith}
+use Rattle.std.proofs.Common.{◌≡◌, ◌≢◌, ℕ, suc, ◌+◌, ◌<◌, ◌≤◌, ◌⊎◌, inl, inr, Bool, true, false, cond, List, [], ◌∷◌, ◌++◌, Option, Some, None, refl, sym, ap, ◌∙◌, arith}
 use Rattle.std.specs.Prelude.{◌==◌, ◌&&◌, ◌||◌, not, nat_lt, nat_le, slice_get, All}
 use Rattle.std.proofs.lemmas.Bool.Decides.{nat_tests}
 use Rattle.std.proofs.lemmas.List.Elements.{All-head, All-tail}
@@ -8,7 +8,6 @@ use Rattle.im_rv.specs.declared.instr.Op.TheVariants.{Jalr, Beq, Lw}
 use Rattle.im_rv.specs.Lines.{CodeLine, plain_line}
 use Rattle.im_rv_reach.specs.Instructions.{with_immediate, branching, jumping}
 use Rattle.im_rtlib.specs.Routines.{aimed}
-use Rattle.im_rtlib.specs.Laws.{is_saved}
 use Rattle.im_store.specs.Objects.{Name}
 use Rattle.im_block.specs.declared.code.Place.{Place}
 use Rattle.im_block.specs.declared.code.Place.TheVariants.{Static, Local, Through}
@@ -18,21 +17,18 @@ use Rattle.im_block.specs.declared.code.Exit.{Exit}
 use Rattle.im_block.specs.declared.code.Exit.TheVariants.{Jump, Turn, Branch, Return}
 use Rattle.im_block.specs.declared.unit.Function.{Function}
 use Rattle.im_block.specs.Wellformed.{Takes, LineThere, ExitThere}
-use Rattle.im_alloc_placed.specs.Operands.{PlaceAtHome}
+use Rattle.im_alloc_placed.specs.Operands.{IsHome, PlaceAtHome}
 use Rattle.im_alloc_placed.specs.Placed.{IsPlacedLine, IsPlacedExit}
-use Rattle.im_alloc_relation.specs.Live.{place_uses, uses, sets, exit_lives, lives}
-use Rattle.im_alloc_relation.specs.Settled.{SettlesCalls}
-use Rattle.im_select.specs.Emitted.{checkpoint_label, entry_label, cut_code, call_code, line_code, lines_code, adds_code, leave_code, branch_code, exit_code}
-use Rattle.im_saved_lines.specs.Scan.{After, scan, AreSound}
-use Rattle.im_saved_lines.specs.Laws.{IsLow, HasEntries, HasBlocks}
+use Rattle.im_alloc_relation.specs.Live.{place_uses, uses, sets}
+use Rattle.im_live.specs.Reads.{reads, reads_stack, writes, exit_live, lives_before}
+use Rattle.im_select.specs.Emitted.{entry_label, cut_code, result_code, call_code, line_code, lines_code, adds_code, leave_code, branch_code, exit_code}
+use Rattle.im_saved_lines.specs.Scan.{is_base, is_returned, After, scan, AreSound}
+use Rattle.im_saved_lines.specs.Laws.{lives_inside, IsLow, HasEntries, HasBlocks, HoldsCalls, SavesFrom}
 use Rattle.im_saved_lines.proofs.Scanning.{both, both_are, either, or_left, or_right, not_true, same_of, same_is, IsUnsaved, unsaved_not, unsaved_true, or_unsaved, scan_append, sound_append, Lives, First, Second, Later, line_lives, plain_sound, Wants, plain_wants}
 use Rattle.im_saved_lines.proofs.Plain.{adds_plain, adds_wants}
 use Rattle.im_saved_lines.proofs.Working.{work_plain, work_wants}
 
 -- ---- registers that lines of placed code use are homes
-
-abbrev pub IsHome : ℕ → Type 0
-IsHome r = (6 < r) × (r < 32)
 
 home_is : (r s : ℕ) → IsHome s → (r == s) ≡ true → IsHome r
 home_is r s h e = let q : r ≡ s = same_of r s e in let a = h.0 in let b = h.1 in (omega arith, omega arith)
@@ -74,39 +70,51 @@ uses_home statics f (Call to i first count) r h e =
 uses_home statics f (GetChar to) r h e = absurd cc
 uses_home statics f (PutChar to from) r h e = let q : r ≡ from = same_of r from e in let at = h.1 in (omega arith, omega arith)
 
-exit_home : (wanted : ℕ → ℕ → Bool) (exit : Exit) (r : ℕ) → ((b s : ℕ) → wanted b s ≡ true → IsHome s) → IsPlacedExit exit → exit_lives wanted exit r ≡ true → IsHome r
-exit_home wanted (Jump b) r homes h e = homes b r e
-exit_home wanted (Turn b) r homes h e = homes b r e
-exit_home wanted (Branch on a b) r homes h e = elim (either (r == on || wanted a r) (wanted b r) e) [
-  | inl c ↦ elim (either (r == on) (wanted a r) c) [ inl d ↦ home_is r on h d | inr d ↦ homes a r d ]
-  | inr c ↦ homes b r c
-]
-exit_home wanted (Return None) r homes h e = absurd cc
-exit_home wanted (Return (Some x)) r homes h e = let q : r ≡ x = same_of r x e in let at : x ≡ 10 = h in (omega arith, omega arith)
+base_two : (r : ℕ) → (r == 2) ≡ true → is_base r ≡ true
+base_two r e = let q : r ≡ 2 = same_of r 2 e in ap is_base q
 
-lives_home : (statics : ℕ) (f : Function) (wanted : ℕ → ℕ → Bool) (lines : List Line) (exit : Exit) (r : ℕ) → ((b s : ℕ) → wanted b s ≡ true → IsHome s) → All (IsPlacedLine statics f) lines → IsPlacedExit exit → lives wanted lines exit r ≡ true → IsHome r
-lives_home statics f wanted [] exit r homes h k e = exit_home wanted exit r homes k e
-lives_home statics f wanted (line ∷ lines) exit r homes h k e = elim (either (uses line r) (not (sets line r) && lives wanted lines exit r) e) [
-  | inl a ↦ uses_home statics f line r (All-head (IsPlacedLine statics f) line lines h) a
-  | inr b ↦ lives_home statics f wanted lines exit r homes (All-tail (IsPlacedLine statics f) line lines h) k (both (not (sets line r)) (lives wanted lines exit r) b).1
+reads_home : (statics : ℕ) (f : Function) (line : Line) (r : ℕ) → IsPlacedLine statics f line → reads line r ≡ true → (is_base r ≡ true) ⊎ IsHome r
+reads_home statics f line r h e = elim (either (uses line r) (reads_stack line && r == 2) e) [
+  | inl a ↦ inr (uses_home statics f line r h a)
+  | inr b ↦ inl (base_two r (both (reads_stack line) (r == 2) b).1)
+]
+
+return_base : (r : ℕ) → (r == 1 || r == 2) ≡ true → is_base r ≡ true
+return_base r e = elim (either (r == 1) (r == 2) e) [ inl a ↦ (let q : r ≡ 1 = same_of r 1 a in ap is_base q) | inr b ↦ base_two r b ]
+
+exit_home : (live : ℕ → ℕ → Bool) (exit : Exit) (r : ℕ) → ((b s : ℕ) → live b s ≡ true → (is_base s ≡ true) ⊎ IsHome s) → IsPlacedExit exit → exit_live live exit r ≡ true → (is_base r ≡ true) ⊎ IsHome r
+exit_home live (Jump b) r homes h e = homes b r e
+exit_home live (Turn b) r homes h e = homes b r e
+exit_home live (Branch on a b) r homes h e = elim (either (r == on) (live a r || live b r) e) [
+  | inl c ↦ inr (home_is r on h c)
+  | inr c ↦ elim (either (live a r) (live b r) c) [ inl d ↦ homes a r d | inr d ↦ homes b r d ]
+]
+exit_home live (Return None) r homes h e = inl (return_base r e)
+exit_home live (Return (Some x)) r homes h e = elim (either (r == x) (r == 1 || r == 2) e) [
+  | inl a ↦ inr (let q : r ≡ x = same_of r x a in let at : x ≡ 10 = h in (omega arith, omega arith))
+  | inr b ↦ inl (return_base r b)
+]
+
+lives_home : (statics : ℕ) (f : Function) (live : ℕ → ℕ → Bool) (lines : List Line) (exit : Exit) (r : ℕ) → ((b s : ℕ) → live b s ≡ true → (is_base s ≡ true) ⊎ IsHome s) → All (IsPlacedLine statics f) lines → IsPlacedExit exit → lives_before live lines exit r ≡ true → (is_base r ≡ true) ⊎ IsHome r
+lives_home statics f live [] exit r homes h k e = exit_home live exit r homes k e
+lives_home statics f live (line ∷ lines) exit r homes h k e = elim (either (reads line r) (not (writes line r) && lives_before live lines exit r) e) [
+  | inl a ↦ reads_home statics f line r (All-head (IsPlacedLine statics f) line lines h) a
+  | inr b ↦ lives_home statics f live lines exit r homes (All-tail (IsPlacedLine statics f) line lines h) k (both (not (writes line r)) (lives_before live lines exit r) b).1
 ]
 
 -- ---- selected
 
-pub saved_low : (r : ℕ) → is_saved r ≡ true → (r ≤ 10) × (r ≢ 3) × (r ≢ 4)
-saved_low r e =
-    let a = both (nat_le r 10 && not (r == 3)) (not (r == 4)) e in
-    let b = both (nat_le r 10) (not (r == 3)) a.0 in
-    let small = b.0 in
-    (grind (arith, nat_tests), (λ q. not_true (r == 3) b.1 (same_is r 3 q)), (λ q. not_true (r == 4) a.1 (same_is r 4 q)))
+-- neither x3 nor x4 is among what lives
+not_own : (r : ℕ) → (is_base r ≡ true) ⊎ IsHome r → (r ≢ 3) × (r ≢ 4)
+not_own r (inl e) = let a : r ≤ 2 = grind (arith, nat_tests) in ((λ q. omega arith), (λ q. omega arith))
+not_own r (inr h) = let a = h.0 in ((λ q. omega arith), (λ q. omega arith))
 
--- what a cut that saves all registers saves
-high_saved : (r : ℕ) → (is_saved r ≡ true) ⊎ IsHome r → (r ≤ 31) × (r ≢ 3) × (r ≢ 4)
-high_saved r (inl e) = let a = saved_low r e in let a0 = a.0 in (omega arith, a.1, a.2)
-high_saved r (inr h) = let a = h.0 in let b = h.1 in (omega arith, (λ q. omega arith), (λ q. omega arith))
+returned_of : (r : ℕ) → (is_base r ≡ true) ⊎ (r ≡ 10) → is_returned r ≡ true
+returned_of r (inl e) = or_left (is_base r) (r == 10) e
+returned_of r (inr q) = or_right (is_base r) (r == 10) (same_is r 10 q)
 
-abbrev cut_line : Cause → CodeLine
-cut_line cause = record (plain_line (jumping 3 0)) { target = Some checkpoint_label; cause = Some cause }
+abbrev cut_line : ℕ → Cause → CodeLine
+cut_line m cause = record (plain_line (jumping 3 0)) { target = Some m; cause = Some cause }
 
 abbrev return_code : List CodeLine
 return_code = plain_line (with_immediate Jalr 0 1 0) ∷ []
@@ -124,7 +132,7 @@ module _ (at : ℕ → ℕ → Bool) where
       by (Second e) = absurd (unsaved_not r 0 u refl e)
       by (Later ne o) = sym (ap (λ b. cond b (behind.next r) (at label r)) other) ∙ o
 
-  pub jump_sound : (rd label : ℕ) (behind : After) → rd ≢ 3 → 32 ≤ label → (rd ≡ 1 → (r : ℕ) → behind.next r ≡ true → is_saved r ≡ true) → AreSound at (call_code rd label) behind
+  pub jump_sound : (rd label : ℕ) (behind : After) → rd ≢ 3 → 32 ≤ label → (rd ≡ 1 → (r : ℕ) → behind.next r ≡ true → is_returned r ≡ true) → AreSound at (call_code rd label) behind
   jump_sound rd label behind other far call = (
     record {
       labelled = λ l r e w. absurd cc;
@@ -133,41 +141,51 @@ module _ (at : ℕ → ℕ → Bool) where
     tt,
   )
 
-  cut_before : (cause : Cause) (behind : After) (r : ℕ) → IsUnsaved r → (scan at (cut_code cause) behind).next r ≡ true → behind.next r ≡ true
-  cut_before cause behind r u w = by (line_lives at (cut_line cause) behind r u w)
+  cut_before : (m : ℕ) (cause : Cause) (behind : After) (r : ℕ) → IsUnsaved r → (scan at (cut_code m cause) behind).next r ≡ true → behind.next r ≡ true
+  cut_before m cause behind r u w = by (line_lives at (cut_line m cause) behind r u w)
     where
-      by : Lives at (cut_line cause) behind r → behind.next r ≡ true
+      by : Lives at (cut_line m cause) behind r → behind.next r ≡ true
       by (First e) = absurd (unsaved_not r 0 u refl e)
       by (Second e) = absurd (unsaved_not r 0 u refl e)
       by (Later ne o) = o
 
-  cut_sound : (cause : Cause) (behind : After) → ((r : ℕ) → behind.next r ≡ true → (is_saved r ≡ true) ⊎ IsHome r) → AreSound at (cut_code cause) behind
-  cut_sound cause behind k = (
+  cut_sound : (m : ℕ) (cause : Cause) (behind : After) → 4 ≤ m → m ≤ 31 → ((r : ℕ) → behind.next r ≡ true → (r ≤ m) × (r ≢ 3) × (r ≢ 4)) → AreSound at (cut_code m cause) behind
+  cut_sound m cause behind low high k = (
     record {
       labelled = λ l r e w. absurd cc;
-      goes = (31, refl, record { cut = λ e. (omega arith, omega arith); saved = λ e r w. high_saved r (k r w); call = λ e. absurd (omega arith); other = λ e. absurd (e refl) });
+      goes = (m, refl, record { cut = λ e. (low, high); saved = λ e r w. k r w; call = λ e. absurd (omega arith); other = λ e. absurd (e refl) });
     },
     tt,
   )
 
   -- ---- before an exit
 
-  return_before : (behind : After) (r : ℕ) → IsUnsaved r → (scan at return_code behind).next r ≡ true → ⊥
+  -- where a run returns lives x10, which its caller may read
+  return_before : (behind : After) (r : ℕ) → IsUnsaved r → (scan at return_code behind).next r ≡ true → r ≡ 10
   return_before behind r u w = by (line_lives at (plain_line (with_immediate Jalr 0 1 0)) behind r u w)
     where
-      by : Lives at (plain_line (with_immediate Jalr 0 1 0)) behind r → ⊥
-      by (First e) = unsaved_not r 1 u refl e
-      by (Second e) = unsaved_not r 0 u refl e
-      by (Later ne o) = unsaved_true r u o
+      by : Lives at (plain_line (with_immediate Jalr 0 1 0)) behind r → r ≡ 10
+      by (First e) = absurd (unsaved_not r 1 u refl e)
+      by (Second e) = absurd (unsaved_not r 0 u refl e)
+      by (Later ne o) = elim (either (is_base r) (r == 10) o) [ inl a ↦ absurd (unsaved_true r u a) | inr b ↦ same_of r 10 b ]
 
-  leave_before : (frame : ℕ) (behind : After) (r : ℕ) → IsUnsaved r → (scan at (leave_code frame) behind).next r ≡ true → ⊥
+  leave_before : (frame : ℕ) (behind : After) (r : ℕ) → IsUnsaved r → (scan at (leave_code frame) behind).next r ≡ true → r ≡ 10
   leave_before frame behind r u w =
       by (plain_wants at (raised_code frame) (scan at return_code behind) r ((refl, refl), adds_plain 2 frame) u (sym (ap (λ (z : After). z.next r) (scan_append at (raised_code frame) return_code behind)) ∙ w))
     where
-      by : (r ≡ 2) ⊎ (r ≡ 0) ⊎ ((r ≢ 1) × Wants (adds_code 2 frame) ((scan at return_code behind).next r ≡ true) r) → ⊥
-      by (inl e) = unsaved_not r 2 u refl e
+      by : (r ≡ 2) ⊎ (r ≡ 0) ⊎ ((r ≢ 1) × Wants (adds_code 2 frame) ((scan at return_code behind).next r ≡ true) r) → r ≡ 10
+      by (inl e) = absurd (unsaved_not r 2 u refl e)
+      by (inr (inl e)) = absurd (unsaved_not r 0 u refl e)
+      by (inr (inr c)) = return_before behind r u (adds_wants 2 frame ((scan at return_code behind).next r ≡ true) r u c.1).1
+
+  -- without a result x10 is set, so nothing lives
+  none_before : (frame : ℕ) (behind : After) (r : ℕ) → IsUnsaved r → (scan at (result_code None ++ leave_code frame) behind).next r ≡ true → ⊥
+  none_before frame behind r u w = by (plain_wants at (result_code None) (scan at (leave_code frame) behind) r ((refl, refl), tt) u w)
+    where
+      by : (r ≡ 0) ⊎ (r ≡ 0) ⊎ ((r ≢ 10) × ((scan at (leave_code frame) behind).next r ≡ true)) → ⊥
+      by (inl e) = unsaved_not r 0 u refl e
       by (inr (inl e)) = unsaved_not r 0 u refl e
-      by (inr (inr c)) = return_before behind r u (adds_wants 2 frame ((scan at return_code behind).next r ≡ true) r u c.1)
+      by (inr (inr c)) = c.0 (leave_before frame behind r u c.1)
 
   leave_sound : (frame : ℕ) (behind : After) → AreSound at (leave_code frame) behind
   leave_sound frame behind =
@@ -190,31 +208,33 @@ module _ (at : ℕ → ℕ → Bool) where
       let first = jump_sound 0 there (scan at (call_code 0 other) behind) (λ e. absurd (omega arith)) a (λ e. absurd (omega arith)) in
       (record { labelled = λ l r e w. absurd cc; goes = inl (refl, refl) }, (first.0, second))
 
-module _ (functions : List Function) (statics first count frame : ℕ) (f : Function) (places : Name → ℕ) (wanted at : ℕ → ℕ → Bool) (above : 64 ≤ first) (low : IsLow at) (entries : HasEntries functions at) (blocks : HasBlocks wanted first count at) (homes : (b r : ℕ) → wanted b r ≡ true → IsHome r) where
-  block_wanted : (b r : ℕ) → b < count → IsUnsaved r → at (first + b) r ≡ true → wanted b r ≡ true
-  block_wanted b r there u e = elim (blocks.only b r there e) [ inl s ↦ absurd (unsaved_true r u s) | inr w ↦ w ]
+module _ (functions : List Function) (statics first count frame : ℕ) (f : Function) (places : Name → ℕ) (m : ℕ → ℕ) (live at : ℕ → ℕ → Bool) (above : 64 ≤ first) (low : IsLow at) (entries : HasEntries functions at) (blocks : HasBlocks live first count at) (homes : (b r : ℕ) → live b r ≡ true → (is_base r ≡ true) ⊎ IsHome r) where
+  block_live : (b r : ℕ) → b < count → IsUnsaved r → at (first + b) r ≡ true → live b r ≡ true
+  block_live b r there u e = elim (blocks.only b r there e) [ inl s ↦ absurd (unsaved_true r u s) | inr w ↦ w ]
 
-  exit_before : (exit : Exit) (behind : After) (r : ℕ) → ExitThere count exit → IsUnsaved r → (scan at (exit_code first frame exit) behind).next r ≡ true → exit_lives wanted exit r ≡ true
-  exit_before (Jump b) behind r there u w = block_wanted b r there u (jump_before at 0 (first + b) behind r refl u w)
-  exit_before (Turn b) behind r there u w = block_wanted b r there u (jump_before at 0 (first + b) behind r refl u w)
-  exit_before (Branch on x y) behind r there u w = by (branch_before at on (first + x) (first + y) behind r u w)
+  exit_before : (exit : Exit) (behind : After) (r : ℕ) → IsPlacedExit exit → ExitThere count exit → IsUnsaved r → (scan at (exit_code first frame exit) behind).next r ≡ true → exit_live live exit r ≡ true
+  exit_before (Jump b) behind r h there u w = block_live b r there u (jump_before at 0 (first + b) behind r refl u w)
+  exit_before (Turn b) behind r h there u w = block_live b r there u (jump_before at 0 (first + b) behind r refl u w)
+  exit_before (Branch on x y) behind r h there u w = by (branch_before at on (first + x) (first + y) behind r u w)
     where
-      by : (r ≡ on) ⊎ (at (first + x) r ≡ true) ⊎ (at (first + y) r ≡ true) → exit_lives wanted (Branch on x y) r ≡ true
-      by (inl e) = or_left (r == on || wanted x r) (wanted y r) (or_left (r == on) (wanted x r) (same_is r on e))
-      by (inr (inl e)) = or_left (r == on || wanted x r) (wanted y r) (or_right (r == on) (wanted x r) (block_wanted x r there.0 u e))
-      by (inr (inr e)) = or_right (r == on || wanted x r) (wanted y r) (block_wanted y r there.1 u e)
-  exit_before (Return from) behind r there u w = absurd (leave_before at frame behind r u w)
+      by : (r ≡ on) ⊎ (at (first + x) r ≡ true) ⊎ (at (first + y) r ≡ true) → exit_live live (Branch on x y) r ≡ true
+      by (inl e) = or_left (r == on) (live x r || live y r) (same_is r on e)
+      by (inr (inl e)) = or_right (r == on) (live x r || live y r) (or_left (live x r) (live y r) (block_live x r there.0 u e))
+      by (inr (inr e)) = or_right (r == on) (live x r || live y r) (or_right (live x r) (live y r) (block_live y r there.1 u e))
+  exit_before (Return None) behind r h there u w = absurd (none_before at frame behind r u w)
+  exit_before (Return (Some x)) behind r h there u w = or_left (r == x) (r == 1 || r == 2) (same_is r x (leave_before at frame behind r u w ∙ sym h))
 
   exit_sound : (exit : Exit) (behind : After) → AreSound at (exit_code first frame exit) behind
   exit_sound (Jump b) behind = jump_sound at 0 (first + b) behind (λ e. absurd (omega arith)) (omega arith) (λ e. absurd (omega arith))
   exit_sound (Turn b) behind = jump_sound at 0 (first + b) behind (λ e. absurd (omega arith)) (omega arith) (λ e. absurd (omega arith))
   exit_sound (Branch on x y) behind = branch_sound at on (first + x) (first + y) behind (omega arith) (omega arith)
-  exit_sound (Return from) behind = leave_sound at frame behind
+  exit_sound (Return None) behind = sound_append at (result_code None) (leave_code frame) behind (plain_sound at (result_code None) (scan at (leave_code frame) behind) ((refl, refl), tt)) (leave_sound at frame behind)
+  exit_sound (Return (Some x)) behind = leave_sound at frame behind
 
   -- ---- before a line
 
   abbrev Before : Line → After → ℕ → Type 0
-  Before line behind r = (uses line r ≡ true) ⊎ ((sets line r ≡ false) × (behind.next r ≡ true))
+  Before line behind r = (reads line r ≡ true) ⊎ ((writes line r ≡ false) × (behind.next r ≡ true))
 
   takes : (o : Option Function) (i given r : ℕ) → slice_get functions i ≡ o → Takes o given → IsUnsaved r → at (entry_label i) r ≡ true → (10 ≤ r) × (r < 10 + given)
   takes None i given r e t u w = absurd t
@@ -231,56 +251,80 @@ module _ (functions : List Function) (statics first count frame : ℕ) (f : Func
       let b : nat_lt r (start + given) ≡ true = grind (arith, nat_tests) in
       both_are (nat_le start r) (nat_lt r (start + given)) a b
 
-  line_before : (line : Line) (behind : After) (r : ℕ) → IsPlacedLine statics f line → LineThere functions line → IsUnsaved r → (scan at (line_code places line) behind).next r ≡ true → Before line behind r
-  line_before (Cut cause) behind r h t u w = inr (refl, cut_before at cause behind r u w)
-  line_before (Call to i start given) behind r h t u w = inl (called i start given r h.1 (takes (slice_get functions i) i given r refl t u (jump_before at 1 (entry_label i) behind r refl u w)))
-  line_before (GetChar to) behind r h t u w = absurd (unsaved_true r u (low.low 32 r (omega arith) (jump_before at 1 32 behind r refl u w)))
-  line_before (PutChar to from) behind r h t u w = absurd (unsaved_true r u (low.low 33 r (omega arith) (jump_before at 1 33 behind r refl u w)))
-  line_before line behind r h t u w = work_wants places line tt (behind.next r ≡ true) r u (plain_wants at (line_code places line) behind r (work_plain places line tt) u w)
+  -- as uses and sets
+  work_before : (line : Line) (behind : After) (r : ℕ) → ((r : ℕ) → writes line r ≡ sets line r) → (uses line r ≡ true) ⊎ ((sets line r ≡ false) × (behind.next r ≡ true)) → Before line behind r
+  work_before line behind r same (inl e) = inl (or_left (uses line r) (reads_stack line && r == 2) e)
+  work_before line behind r same (inr c) = inr (same r ∙ c.0, c.1)
 
-  pub lines_before : (lines : List Line) (exit : Exit) (behind : After) (r : ℕ) → ((s : ℕ) → IsUnsaved s → behind.next s ≡ true → exit_lives wanted exit s ≡ true) → All (IsPlacedLine statics f) lines → All (LineThere functions) lines → IsUnsaved r → (scan at (lines_code places lines) behind).next r ≡ true → lives wanted lines exit r ≡ true
-  lines_before [] exit behind r k h t u w = k r u w
-  lines_before (line ∷ lines) exit behind r k h t u w =
-      let rest : After = scan at (lines_code places lines) behind in
-      elim (line_before line rest r (All-head (IsPlacedLine statics f) line lines h) (All-head (LineThere functions) line lines t) u (sym (ap (λ (z : After). z.next r) (scan_append at (line_code places line) (lines_code places lines) behind)) ∙ w)) [
-        | inl e ↦ or_left (uses line r) (not (sets line r) && lives wanted lines exit r) e
-        | inr c ↦ or_right (uses line r) (not (sets line r) && lives wanted lines exit r)
-            (both_are (not (sets line r)) (lives wanted lines exit r) (ap not c.0) (lines_before lines exit behind r k (All-tail (IsPlacedLine statics f) line lines h) (All-tail (LineThere functions) line lines t) u c.1))
+  label_only : (l r : ℕ) → l < 64 → IsUnsaved r → at l r ≡ true → lives_inside l r ≡ true
+  label_only l r small u e = elim (either (is_base r) (lives_inside l r) (sym (low.is l r small) ∙ e)) [ inl s ↦ absurd (unsaved_true r u s) | inr w ↦ w ]
+
+  line_before : (k : ℕ) (line : Line) (behind : After) (r : ℕ) → IsPlacedLine statics f line → LineThere functions line → IsUnsaved r → (scan at (line_code places k line) behind).next r ≡ true → Before line behind r
+  line_before k (Cut cause) behind r h t u w = inr (refl, cut_before at k cause behind r u w)
+  line_before k (Call to i start given) behind r h t u w = inl (or_left (uses (Call to i start given) r) (true && r == 2) (called i start given r h.1 (takes (slice_get functions i) i given r refl t u (jump_before at 1 (entry_label i) behind r refl u w))))
+  line_before k (GetChar to) behind r h t u w = let away = label_only 32 r (omega arith) u (jump_before at 1 32 behind r refl u w) in absurd cc
+  line_before k (PutChar to from) behind r h t u w =
+      let is : r ≡ 10 = ten (label_only 33 r (omega arith) u (jump_before at 1 33 behind r refl u w)) in
+      inl (or_left (r == from) (true && r == 2) (same_is r from (is ∙ sym h.1)))
+    where
+      ten : lives_inside 33 r ≡ true → r ≡ 10
+      ten e = elim (either (r == 10) false e) [ inl a ↦ same_of r 10 a | inr b ↦ absurd cc ]
+  line_before k line behind r h t u w = work_before line behind r (λ q. refl) (work_wants places k line tt (behind.next r ≡ true) r u (plain_wants at (line_code places k line) behind r (work_plain places k line tt) u w))
+
+  pub lines_before : (j : ℕ) (lines : List Line) (exit : Exit) (behind : After) (r : ℕ) → ((s : ℕ) → IsUnsaved s → behind.next s ≡ true → exit_live live exit s ≡ true) → All (IsPlacedLine statics f) lines → All (LineThere functions) lines → IsUnsaved r → (scan at (lines_code places m j lines) behind).next r ≡ true → lives_before live lines exit r ≡ true
+  lines_before j [] exit behind r k h t u w = k r u w
+  lines_before j (line ∷ lines) exit behind r k h t u w =
+      let rest : After = scan at (lines_code places m (suc j) lines) behind in
+      elim (line_before (m j) line rest r (All-head (IsPlacedLine statics f) line lines h) (All-head (LineThere functions) line lines t) u (sym (ap (λ (z : After). z.next r) (scan_append at (line_code places (m j) line) (lines_code places m (suc j) lines) behind)) ∙ w)) [
+        | inl e ↦ or_left (reads line r) (not (writes line r) && lives_before live lines exit r) e
+        | inr c ↦ or_right (reads line r) (not (writes line r) && lives_before live lines exit r)
+            (both_are (not (writes line r)) (lives_before live lines exit r) (ap not c.0) (lines_before (suc j) lines exit behind r k (All-tail (IsPlacedLine statics f) line lines h) (All-tail (LineThere functions) line lines t) u c.1))
       ]
 
-  line_sound : (line : Line) (rest : List Line) (exit : Exit) (behind : After) → ((r : ℕ) → IsUnsaved r → behind.next r ≡ true → lives wanted rest exit r ≡ true) → ((r : ℕ) → lives wanted rest exit r ≡ true → IsHome r) → SettlesCalls wanted (line ∷ rest) exit → AreSound at (line_code places line) behind
-  line_sound (Cut cause) rest exit behind k home s = cut_sound at cause behind (λ r w. or_unsaved (IsHome r) r (λ u. home r (k r u w)))
-  line_sound (Call to i start given) rest exit behind k home s =
-      jump_sound at 1 (entry_label i) behind (λ e. absurd (omega arith)) (omega arith)
-      (λ e r w. elim (or_unsaved (r ≡ 10) r (λ u. s.0 tt r (k r u w))) [ inl a ↦ a | inr b ↦ ap is_saved b ])
-  line_sound (GetChar to) rest exit behind k home s =
-      jump_sound at 1 32 behind (λ e. absurd (omega arith)) (omega arith)
-      (λ e r w. elim (or_unsaved (r ≡ 10) r (λ u. s.0 tt r (k r u w))) [ inl a ↦ a | inr b ↦ ap is_saved b ])
-  line_sound (PutChar to from) rest exit behind k home s =
-      jump_sound at 1 33 behind (λ e. absurd (omega arith)) (omega arith)
-      (λ e r w. elim (or_unsaved (r ≡ 10) r (λ u. s.0 tt r (k r u w))) [ inl a ↦ a | inr b ↦ ap is_saved b ])
-  line_sound line rest exit behind k home s = plain_sound at (line_code places line) behind (work_plain places line tt)
+  abbrev Saves : ℕ → List Line → Exit → Type 0
+  Saves n rest exit = (4 ≤ n) × (n ≤ 31) × ((r : ℕ) → lives_before live rest exit r ≡ true → r ≤ n)
 
-  pub lines_sound : (lines : List Line) (exit : Exit) (behind : After) → ((s : ℕ) → IsUnsaved s → behind.next s ≡ true → exit_lives wanted exit s ≡ true) → All (IsPlacedLine statics f) lines → IsPlacedExit exit → All (LineThere functions) lines → SettlesCalls wanted lines exit → AreSound at (lines_code places lines) behind
-  lines_sound [] exit behind k h e t s = tt
-  lines_sound (line ∷ lines) exit behind k h e t s =
+  base_saved : (n r : ℕ) → 4 ≤ n → (is_base r ≡ true) ⊎ (r ≤ n) → r ≤ n
+  base_saved n r le (inl e) = let a : r ≤ 2 = grind (arith, nat_tests) in omega arith
+  base_saved n r le (inr x) = x
+
+  line_sound : (n : ℕ) (line : Line) (rest : List Line) (exit : Exit) (behind : After) → ((r : ℕ) → IsUnsaved r → behind.next r ≡ true → lives_before live rest exit r ≡ true) → ((r : ℕ) → lives_before live rest exit r ≡ true → (is_base r ≡ true) ⊎ IsHome r) → HoldsCalls live (line ∷ rest) exit → Saves n rest exit → AreSound at (line_code places n line) behind
+  line_sound n (Cut cause) rest exit behind k home s v =
+      cut_sound at n cause behind v.0 v.1
+      (λ r w. (
+      let o = not_own r (elim (or_unsaved ((is_base r ≡ true) ⊎ IsHome r) r (λ u. home r (k r u w))) [ inl a ↦ inl a | inr b ↦ b ]) in
+      (base_saved n r v.0 (or_unsaved (r ≤ n) r (λ u. v.2 r (k r u w))), o.0, o.1)))
+  line_sound n (Call to i start given) rest exit behind k home s v =
+      jump_sound at 1 (entry_label i) behind (λ e. absurd (omega arith)) (omega arith)
+      (λ e r w. returned_of r (elim (or_unsaved ((is_base r ≡ true) ⊎ (r ≡ 10)) r (λ u. s.0 tt r (k r u w))) [ inl a ↦ inl a | inr b ↦ b ]))
+  line_sound n (GetChar to) rest exit behind k home s v =
+      jump_sound at 1 32 behind (λ e. absurd (omega arith)) (omega arith)
+      (λ e r w. returned_of r (elim (or_unsaved ((is_base r ≡ true) ⊎ (r ≡ 10)) r (λ u. s.0 tt r (k r u w))) [ inl a ↦ inl a | inr b ↦ b ]))
+  line_sound n (PutChar to from) rest exit behind k home s v =
+      jump_sound at 1 33 behind (λ e. absurd (omega arith)) (omega arith)
+      (λ e r w. returned_of r (elim (or_unsaved ((is_base r ≡ true) ⊎ (r ≡ 10)) r (λ u. s.0 tt r (k r u w))) [ inl a ↦ inl a | inr b ↦ b ]))
+  line_sound n line rest exit behind k home s v = plain_sound at (line_code places n line) behind (work_plain places n line tt)
+
+  pub lines_sound : (j : ℕ) (lines : List Line) (exit : Exit) (behind : After) → ((s : ℕ) → IsUnsaved s → behind.next s ≡ true → exit_live live exit s ≡ true) → All (IsPlacedLine statics f) lines → IsPlacedExit exit → All (LineThere functions) lines → HoldsCalls live lines exit → SavesFrom live m j lines exit → AreSound at (lines_code places m j lines) behind
+  lines_sound j [] exit behind k h e t s v = tt
+  lines_sound j (line ∷ lines) exit behind k h e t s v =
       let h' = All-tail (IsPlacedLine statics f) line lines h in
       let t' = All-tail (LineThere functions) line lines t in
-      sound_append at (line_code places line) (lines_code places lines) behind
-      (line_sound line lines exit (scan at (lines_code places lines) behind) (λ r u w. lines_before lines exit behind r k h' t' u w) (λ r w. lives_home statics f wanted lines exit r homes h' e w) s)
-      (lines_sound lines exit behind k h' e t' s.1)
+      sound_append at (line_code places (m j) line) (lines_code places m (suc j) lines) behind
+      (line_sound (m j) line lines exit (scan at (lines_code places m (suc j) lines) behind) (λ r u w. lines_before (suc j) lines exit behind r k h' t' u w) (λ r w. lives_home statics f live lines exit r homes h' e w) s v.0)
+      (lines_sound (suc j) lines exit behind k h' e t' s.1 v.1)
 
   -- a block
   abbrev pub body : List Line → Exit → List CodeLine
-  body lines exit = lines_code places lines ++ exit_code first frame exit
+  body lines exit = lines_code places m 0 lines ++ exit_code first frame exit
 
-  pub body_before : (lines : List Line) (exit : Exit) (behind : After) (r : ℕ) → All (IsPlacedLine statics f) lines → All (LineThere functions) lines → ExitThere count exit → IsUnsaved r → (scan at (body lines exit) behind).next r ≡ true → lives wanted lines exit r ≡ true
-  body_before lines exit behind r h t there u w =
-      lines_before lines exit (scan at (exit_code first frame exit) behind) r (λ s v z. exit_before exit behind s there v z) h t u
-      (sym (ap (λ (z : After). z.next r) (scan_append at (lines_code places lines) (exit_code first frame exit) behind)) ∙ w)
+  pub body_before : (lines : List Line) (exit : Exit) (behind : After) (r : ℕ) → All (IsPlacedLine statics f) lines → IsPlacedExit exit → All (LineThere functions) lines → ExitThere count exit → IsUnsaved r → (scan at (body lines exit) behind).next r ≡ true → lives_before live lines exit r ≡ true
+  body_before lines exit behind r h e t there u w =
+      lines_before 0 lines exit (scan at (exit_code first frame exit) behind) r (λ s v z. exit_before exit behind s e there v z) h t u
+      (sym (ap (λ (z : After). z.next r) (scan_append at (lines_code places m 0 lines) (exit_code first frame exit) behind)) ∙ w)
 
-  pub body_sound : (lines : List Line) (exit : Exit) (behind : After) → All (IsPlacedLine statics f) lines → IsPlacedExit exit → All (LineThere functions) lines → ExitThere count exit → SettlesCalls wanted lines exit → AreSound at (body lines exit) behind
-  body_sound lines exit behind h e t there s =
-      sound_append at (lines_code places lines) (exit_code first frame exit) behind
-      (lines_sound lines exit (scan at (exit_code first frame exit) behind) (λ v u z. exit_before exit behind v there u z) h e t s)
+  pub body_sound : (lines : List Line) (exit : Exit) (behind : After) → All (IsPlacedLine statics f) lines → IsPlacedExit exit → All (LineThere functions) lines → ExitThere count exit → HoldsCalls live lines exit → SavesFrom live m 0 lines exit → AreSound at (body lines exit) behind
+  body_sound lines exit behind h e t there s saves =
+      sound_append at (lines_code places m 0 lines) (exit_code first frame exit) behind
+      (lines_sound 0 lines exit (scan at (exit_code first frame exit) behind) (λ v u z. exit_before exit behind v e there u z) h e t s saves)
       (exit_sound exit behind)

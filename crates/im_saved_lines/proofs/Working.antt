@@ -18,7 +18,7 @@ use Rattle.im_alloc_relation.specs.Live.{uses, sets, place_uses}
 use Rattle.im_select.specs.Emitted.{constant_code, displaced_code, displaced_base, place_number, place_code, place_base, compared_code, shifted_code, line_code}
 use Rattle.im_saved_lines.specs.Scan.{way}
 use Rattle.im_saved_lines.proofs.Scanning.{IsUnsaved, unsaved_not, other_is, or_left, or_right, same_is, ArePlain, plain_append, Wants, wants_append}
-use Rattle.im_saved_lines.proofs.Plain.{operation_way, less_way, load_way, store_way, step_way, constant_plain, constant_wants, displaced_plain, displaced_wants, displaced_base_is, place_plain, place_wants, place_base_is}
+use Rattle.im_saved_lines.proofs.Plain.{operation_way, less_way, load_way, store_way, step_way, constant_plain, constant_wants, displaced_plain, displaced_wants, place_plain, place_wants}
 
 -- no cut and no call
 abbrev pub IsWork : Line → Type 0
@@ -43,33 +43,33 @@ compared_plain to kind left right GreaterOrEqual = ((less_way kind, refl), ((ref
 compared_plain to kind left right Equal = ((refl, refl), ((refl, refl), tt))
 compared_plain to kind left right NotEqual = ((refl, refl), ((refl, refl), tt))
 
-pub work_plain : (at : Name → ℕ) (line : Line) → IsWork line → ArePlain (line_code at line)
-work_plain at (Put to z) work = constant_plain to (word z)
-work_plain at (PutNull to) work = ((refl, refl), tt)
-work_plain at (Copy to from) work = ((refl, refl), tt)
-work_plain at (Convert to I8 from) work = shifted_plain to 24 true from
-work_plain at (Convert to U8 from) work = shifted_plain to 24 false from
-work_plain at (Convert to I16 from) work = shifted_plain to 16 true from
-work_plain at (Convert to U16 from) work = shifted_plain to 16 false from
-work_plain at (Convert to I32 from) work = ((refl, refl), tt)
-work_plain at (Convert to U32 from) work = ((refl, refl), tt)
-work_plain at (Convert to Ptr from) work = ((refl, refl), tt)
-work_plain at (Unary to Negate kind from) work = ((refl, refl), tt)
-work_plain at (Unary to Complement kind from) work = ((refl, refl), tt)
-work_plain at (Not to from) work = ((refl, refl), tt)
-work_plain at (Compute to op kind left right) work = ((operation_way op kind, refl), tt)
-work_plain at (Compare to op kind left right) work = compared_plain to kind left right op
-work_plain at (Move to size back pointer by) work = plain_append (constant_code 5 size) _ (constant_plain 5 size) ((refl, refl), ((step_way back, refl), tt))
-work_plain at (Distance to size left right) work = ((refl, refl), plain_append (constant_code 6 size) _ (constant_plain 6 size) ((refl, refl), tt))
-work_plain at (Address to place) work = plain_append (place_code place (place_number at place)) _ (place_plain place (place_number at place)) ((refl, refl), tt)
-work_plain at (Read to place kind access) work = plain_append (place_code place (place_number at place)) _ (place_plain place (place_number at place)) ((load_way kind, refl), tt)
-work_plain at (Write place kind from access) work = plain_append (place_code place (place_number at place)) _ (place_plain place (place_number at place)) ((store_way kind, refl), tt)
-work_plain at (Reload to slot access) work = plain_append (displaced_code 2 (at (Slot slot))) _ (displaced_plain 2 (at (Slot slot))) ((refl, refl), tt)
-work_plain at (Spill slot from access) work = plain_append (displaced_code 2 (at (Slot slot))) _ (displaced_plain 2 (at (Slot slot))) ((refl, refl), tt)
-work_plain at (Cut cause) work = absurd work
-work_plain at (Call to i first count) work = absurd work
-work_plain at (GetChar to) work = absurd work
-work_plain at (PutChar to from) work = absurd work
+pub work_plain : (at : Name → ℕ) (m : ℕ) (line : Line) → IsWork line → ArePlain (line_code at m line)
+work_plain at m (Put to z) work = constant_plain to (word z)
+work_plain at m (PutNull to) work = ((refl, refl), tt)
+work_plain at m (Copy to from) work = ((refl, refl), tt)
+work_plain at m (Convert to I8 from) work = shifted_plain to 24 true from
+work_plain at m (Convert to U8 from) work = shifted_plain to 24 false from
+work_plain at m (Convert to I16 from) work = shifted_plain to 16 true from
+work_plain at m (Convert to U16 from) work = shifted_plain to 16 false from
+work_plain at m (Convert to I32 from) work = ((refl, refl), tt)
+work_plain at m (Convert to U32 from) work = ((refl, refl), tt)
+work_plain at m (Convert to Ptr from) work = ((refl, refl), tt)
+work_plain at m (Unary to Negate kind from) work = ((refl, refl), tt)
+work_plain at m (Unary to Complement kind from) work = ((refl, refl), tt)
+work_plain at m (Not to from) work = ((refl, refl), tt)
+work_plain at m (Compute to op kind left right) work = ((operation_way op kind, refl), tt)
+work_plain at m (Compare to op kind left right) work = compared_plain to kind left right op
+work_plain at m (Move to size back pointer by) work = plain_append (constant_code 5 size) _ (constant_plain 5 size) ((refl, refl), ((step_way back, refl), tt))
+work_plain at m (Distance to size left right) work = ((refl, refl), plain_append (constant_code 6 size) _ (constant_plain 6 size) ((refl, refl), tt))
+work_plain at m (Address to place) work = plain_append (place_code place (place_number at place)) _ (place_plain place (place_number at place)) ((refl, refl), tt)
+work_plain at m (Read to place kind access) work = plain_append (place_code place (place_number at place)) _ (place_plain place (place_number at place)) ((load_way kind, refl), tt)
+work_plain at m (Write place kind from access) work = plain_append (place_code place (place_number at place)) _ (place_plain place (place_number at place)) ((store_way kind, refl), tt)
+work_plain at m (Reload to slot access) work = plain_append (displaced_code 2 (at (Slot slot))) _ (displaced_plain 2 (at (Slot slot))) ((refl, refl), tt)
+work_plain at m (Spill slot from access) work = plain_append (displaced_code 2 (at (Slot slot))) _ (displaced_plain 2 (at (Slot slot))) ((refl, refl), tt)
+work_plain at m (Cut cause) work = absurd work
+work_plain at m (Call to i first count) work = absurd work
+work_plain at m (GetChar to) work = absurd work
+work_plain at m (PutChar to from) work = absurd work
 
 -- ---- what they want
 
@@ -128,112 +128,116 @@ module _ (X : Type 0) (r : ℕ) (u : IsUnsaved r) where
   turned_twice left right to (inr (inl e)) = inl (or_left (r == left) (r == right) (same_is r left e))
   turned_twice left right to (inr (inr c)) = inr (other_is r to c.0, on_to to c.0 c.1)
 
-  -- through x5
-  by_five : (left right to a b : ℕ) → ((r ≡ a) → ⊥) → ((r ≡ b) → ⊥) → One left right 5 (One a b to X) → Wanted (r == left || r == right) to
-  by_five left right to a b na nb (inl e) = inl (or_left (r == left) (r == right) (same_is r left e))
-  by_five left right to a b na nb (inr (inl e)) = inl (or_right (r == left) (r == right) (same_is r right e))
-  by_five left right to a b na nb (inr (inr (ne, inl e))) = absurd (na e)
-  by_five left right to a b na nb (inr (inr (ne, inr (inl e)))) = absurd (nb e)
-  by_five left right to a b na nb (inr (inr (ne, inr (inr c)))) = inr (other_is r to c.0, c.1)
-
-  moved_of : (pointer by to : ℕ) → One 5 by 5 (One pointer 5 to X) → Wanted (r == pointer || r == by) to
-  moved_of pointer by to (inl e) = absurd (unsaved_not r 5 u refl e)
-  moved_of pointer by to (inr (inl e)) = inl (or_right (r == pointer) (r == by) (same_is r by e))
-  moved_of pointer by to (inr (inr (ne, inl e))) = inl (or_left (r == pointer) (r == by) (same_is r pointer e))
-  moved_of pointer by to (inr (inr (ne, inr (inl e)))) = absurd (unsaved_not r 5 u refl e)
-  moved_of pointer by to (inr (inr (ne, inr (inr c)))) = inr (other_is r to c.0, c.1)
-
-  divided_of : (to : ℕ) → One 5 6 to X → Wanted false to
-  divided_of to (inl e) = absurd (unsaved_not r 5 u refl e)
-  divided_of to (inr (inl e)) = absurd (unsaved_not r 6 u refl e)
-  divided_of to (inr (inr c)) = inr (other_is r to c.0, c.1)
-
   zero_not : (r ≡ 0) → ⊥
   zero_not e = unsaved_not r 0 u refl e
 
-  five_not : (r ≡ 5) → ⊥
-  five_not e = unsaved_not r 5 u refl e
+  -- through x5
+  by_five : (left right to : ℕ) → One left right 5 (One 5 0 to X) → Wanted (r == left || r == right) to
+  by_five left right to (inl e) = inl (or_left (r == left) (r == right) (same_is r left e))
+  by_five left right to (inr (inl e)) = inl (or_right (r == left) (r == right) (same_is r right e))
+  by_five left right to (inr (inr (ne, inl e))) = absurd (ne e)
+  by_five left right to (inr (inr (ne, inr (inl e)))) = absurd (zero_not e)
+  by_five left right to (inr (inr (ne, inr (inr c)))) = inr (other_is r to c.0, c.1)
 
-  measured_of : (left right to : ℕ) (Y : Type 0) → (Y → One 5 6 to X) → One left right 5 Y → Wanted (r == left || r == right) to
+  not_five : (left right to : ℕ) → One left right 5 (One 0 5 to X) → Wanted (r == left || r == right) to
+  not_five left right to (inl e) = inl (or_left (r == left) (r == right) (same_is r left e))
+  not_five left right to (inr (inl e)) = inl (or_right (r == left) (r == right) (same_is r right e))
+  not_five left right to (inr (inr (ne, inl e))) = absurd (zero_not e)
+  not_five left right to (inr (inr (ne, inr (inl e)))) = absurd (ne e)
+  not_five left right to (inr (inr (ne, inr (inr c)))) = inr (other_is r to c.0, c.1)
+
+  moved_of : (pointer by to : ℕ) → r ≢ 5 → One 5 by 5 (One pointer 5 to X) → Wanted (r == pointer || r == by) to
+  moved_of pointer by to away (inl e) = absurd (away e)
+  moved_of pointer by to away (inr (inl e)) = inl (or_right (r == pointer) (r == by) (same_is r by e))
+  moved_of pointer by to away (inr (inr (ne, inl e))) = inl (or_left (r == pointer) (r == by) (same_is r pointer e))
+  moved_of pointer by to away (inr (inr (ne, inr (inl e)))) = absurd (ne e)
+  moved_of pointer by to away (inr (inr (ne, inr (inr c)))) = inr (other_is r to c.0, c.1)
+
+  divided_of : (to : ℕ) → r ≢ 5 → r ≢ 6 → One 5 6 to X → Wanted false to
+  divided_of to away apart (inl e) = absurd (away e)
+  divided_of to away apart (inr (inl e)) = absurd (apart e)
+  divided_of to away apart (inr (inr c)) = inr (other_is r to c.0, c.1)
+
+  measured_of : (left right to : ℕ) (Y : Type 0) → (Y → (r ≢ 6) × One 5 6 to X) → One left right 5 Y → Wanted (r == left || r == right) to
   measured_of left right to Y k (inl e) = inl (or_left (r == left) (r == right) (same_is r left e))
   measured_of left right to Y k (inr (inl e)) = inl (or_right (r == left) (r == right) (same_is r right e))
-  measured_of left right to Y k (inr (inr c)) = elim (divided_of to (k c.1)) [ inl e ↦ absurd cc | inr d ↦ inr d ]
+  measured_of left right to Y k (inr (inr c)) = let d = k c.1 in elim (divided_of to c.0 d.0 d.1) [ inl e ↦ absurd cc | inr x ↦ inr x ]
 
   -- a place, and then an instruction on its base
-  placed_of : (place : Place) (n to : ℕ) → One (place_base place n) 0 to X → Wanted (place_uses place r) to
-  placed_of place n to (inl e) = inl (place_base_is place n r u e)
-  placed_of place n to (inr (inl e)) = absurd (zero_not e)
-  placed_of place n to (inr (inr c)) = inr (other_is r to c.0, c.1)
+  placed_of : (place : Place) (n to : ℕ) → (r ≡ place_base place n → place_uses place r ≡ true) → One (place_base place n) 0 to X → Wanted (place_uses place r) to
+  placed_of place n to base (inl e) = inl (base e)
+  placed_of place n to base (inr (inl e)) = absurd (zero_not e)
+  placed_of place n to base (inr (inr c)) = inr (other_is r to c.0, c.1)
 
-  address_of : (place : Place) (n to : ℕ) → (place_uses place r ≡ true) ⊎ One (place_base place n) 0 to X → Wanted (place_uses place r) to
+  address_of : (place : Place) (n to : ℕ) → (place_uses place r ≡ true) ⊎ ((r ≡ place_base place n → place_uses place r ≡ true) × One (place_base place n) 0 to X) → Wanted (place_uses place r) to
   address_of place n to (inl e) = inl e
-  address_of place n to (inr w) = placed_of place n to w
+  address_of place n to (inr w) = placed_of place n to w.0 w.1
 
-  stored_of : (place : Place) (n from : ℕ) → (place_uses place r ≡ true) ⊎ One (place_base place n) from 0 X → ((place_uses place r || r == from) ≡ true) ⊎ X
+  stored_of : (place : Place) (n from : ℕ) → (place_uses place r ≡ true) ⊎ ((r ≡ place_base place n → place_uses place r ≡ true) × One (place_base place n) from 0 X) → ((place_uses place r || r == from) ≡ true) ⊎ X
   stored_of place n from (inl e) = inl (or_left (place_uses place r) (r == from) e)
-  stored_of place n from (inr (inl e)) = inl (or_left (place_uses place r) (r == from) (place_base_is place n r u e))
-  stored_of place n from (inr (inr (inl e))) = inl (or_right (place_uses place r) (r == from) (same_is r from e))
-  stored_of place n from (inr (inr (inr c))) = inr c.1
+  stored_of place n from (inr (base, inl e)) = inl (or_left (place_uses place r) (r == from) (base e))
+  stored_of place n from (inr (base, inr (inl e))) = inl (or_right (place_uses place r) (r == from) (same_is r from e))
+  stored_of place n from (inr (base, inr (inr c))) = inr c.1
 
   -- a slot is at the stack pointer
   two_not : (r ≡ 2) → ⊥
   two_not e = unsaved_not r 2 u refl e
 
-  reloaded_of : (n to : ℕ) → (r ≡ 2) ⊎ One (displaced_base 2 n) 0 to X → Wanted false to
+  reloaded_of : (n to : ℕ) → (r ≡ 2) ⊎ ((r ≡ displaced_base 2 n → r ≡ 2) × One (displaced_base 2 n) 0 to X) → Wanted false to
   reloaded_of n to (inl e) = absurd (two_not e)
-  reloaded_of n to (inr (inl e)) = absurd (two_not (displaced_base_is 2 n r u e))
-  reloaded_of n to (inr (inr (inl e))) = absurd (zero_not e)
-  reloaded_of n to (inr (inr (inr c))) = inr (other_is r to c.0, c.1)
+  reloaded_of n to (inr (base, inl e)) = absurd (two_not (base e))
+  reloaded_of n to (inr (base, inr (inl e))) = absurd (zero_not e)
+  reloaded_of n to (inr (base, inr (inr c))) = inr (other_is r to c.0, c.1)
 
-  spilled_of : (n from : ℕ) → (r ≡ 2) ⊎ One (displaced_base 2 n) from 0 X → ((r == from) ≡ true) ⊎ X
+  spilled_of : (n from : ℕ) → (r ≡ 2) ⊎ ((r ≡ displaced_base 2 n → r ≡ 2) × One (displaced_base 2 n) from 0 X) → ((r == from) ≡ true) ⊎ X
   spilled_of n from (inl e) = absurd (two_not e)
-  spilled_of n from (inr (inl e)) = absurd (two_not (displaced_base_is 2 n r u e))
-  spilled_of n from (inr (inr (inl e))) = inl (same_is r from e)
-  spilled_of n from (inr (inr (inr c))) = inr c.1
+  spilled_of n from (inr (base, inl e)) = absurd (two_not (base e))
+  spilled_of n from (inr (base, inr (inl e))) = inl (same_is r from e)
+  spilled_of n from (inr (base, inr (inr c))) = inr c.1
 
   sets_none : (used : Bool) → (used ≡ true) ⊎ X → (used ≡ true) ⊎ ((false ≡ false) × X)
   sets_none used (inl e) = inl e
   sets_none used (inr x) = inr (refl, x)
 
-pub work_wants : (at : Name → ℕ) (line : Line) → IsWork line → (X : Type 0) (r : ℕ) → IsUnsaved r → Wants (line_code at line) X r → (uses line r ≡ true) ⊎ ((sets line r ≡ false) × X)
-work_wants at (Put to z) work X r u w = let c = constant_wants to (word z) X r u w in inr (other_is r to c.0, c.1)
-work_wants at (PutNull to) work X r u w = none_of X r u to w
-work_wants at (Copy to from) work X r u w = one_of X r u from to w
-work_wants at (Convert to I8 from) work X r u w = one_twice X r u from to w
-work_wants at (Convert to U8 from) work X r u w = one_twice X r u from to w
-work_wants at (Convert to I16 from) work X r u w = one_twice X r u from to w
-work_wants at (Convert to U16 from) work X r u w = one_twice X r u from to w
-work_wants at (Convert to I32 from) work X r u w = one_of X r u from to w
-work_wants at (Convert to U32 from) work X r u w = one_of X r u from to w
-work_wants at (Convert to Ptr from) work X r u w = one_of X r u from to w
-work_wants at (Unary to Negate kind from) work X r u w = zero_one_of X r u from to w
-work_wants at (Unary to Complement kind from) work X r u w = one_of X r u from to w
-work_wants at (Not to from) work X r u w = one_of X r u from to w
-work_wants at (Compute to op kind left right) work X r u w = two_of X r u left right to w
-work_wants at (Compare to Less kind left right) work X r u w = two_of X r u left right to w
-work_wants at (Compare to Greater kind left right) work X r u w = turned_of X r u left right to w
-work_wants at (Compare to LessOrEqual kind left right) work X r u w = turned_twice X r u left right to w
-work_wants at (Compare to GreaterOrEqual kind left right) work X r u w = two_twice X r u left right to w
-work_wants at (Compare to Equal kind left right) work X r u w = by_five X r u left right to 5 0 (five_not X r u) (zero_not X r u) w
-work_wants at (Compare to NotEqual kind left right) work X r u w = by_five X r u left right to 0 5 (zero_not X r u) (five_not X r u) w
-work_wants at (Move to size back pointer by) work X r u w = moved_of X r u pointer by to (constant_wants 5 size _ r u (wants_append (constant_code 5 size) _ X r w)).1
-work_wants at (Distance to size left right) work X r u w = measured_of X r u left right to _ (λ y. (constant_wants 6 size _ r u (wants_append (constant_code 6 size) _ X r y)).1) w
-work_wants at (Address to place) work X r u w =
+pub work_wants : (at : Name → ℕ) (m : ℕ) (line : Line) → IsWork line → (X : Type 0) (r : ℕ) → IsUnsaved r → Wants (line_code at m line) X r → (uses line r ≡ true) ⊎ ((sets line r ≡ false) × X)
+work_wants at m (Put to z) work X r u w = let c = constant_wants to (word z) X r u w in inr (other_is r to c.0, c.1)
+work_wants at m (PutNull to) work X r u w = none_of X r u to w
+work_wants at m (Copy to from) work X r u w = one_of X r u from to w
+work_wants at m (Convert to I8 from) work X r u w = one_twice X r u from to w
+work_wants at m (Convert to U8 from) work X r u w = one_twice X r u from to w
+work_wants at m (Convert to I16 from) work X r u w = one_twice X r u from to w
+work_wants at m (Convert to U16 from) work X r u w = one_twice X r u from to w
+work_wants at m (Convert to I32 from) work X r u w = one_of X r u from to w
+work_wants at m (Convert to U32 from) work X r u w = one_of X r u from to w
+work_wants at m (Convert to Ptr from) work X r u w = one_of X r u from to w
+work_wants at m (Unary to Negate kind from) work X r u w = zero_one_of X r u from to w
+work_wants at m (Unary to Complement kind from) work X r u w = one_of X r u from to w
+work_wants at m (Not to from) work X r u w = one_of X r u from to w
+work_wants at m (Compute to op kind left right) work X r u w = two_of X r u left right to w
+work_wants at m (Compare to Less kind left right) work X r u w = two_of X r u left right to w
+work_wants at m (Compare to Greater kind left right) work X r u w = turned_of X r u left right to w
+work_wants at m (Compare to LessOrEqual kind left right) work X r u w = turned_twice X r u left right to w
+work_wants at m (Compare to GreaterOrEqual kind left right) work X r u w = two_twice X r u left right to w
+work_wants at m (Compare to Equal kind left right) work X r u w = by_five X r u left right to w
+work_wants at m (Compare to NotEqual kind left right) work X r u w = not_five X r u left right to w
+work_wants at m (Move to size back pointer by) work X r u w = (let c = constant_wants 5 size _ r u (wants_append (constant_code 5 size) _ X r w) in moved_of X r u pointer by to c.0 c.1)
+work_wants at m (Distance to size left right) work X r u w = measured_of X r u left right to _ (λ y. (let c = constant_wants 6 size _ r u (wants_append (constant_code 6 size) _ X r y) in (c.0, c.1))) w
+work_wants at m (Address to place) work X r u w =
     let n : ℕ = place_number at place in
     address_of X r u place n to (place_wants place n _ r u (wants_append (place_code place n) _ X r w))
-work_wants at (Read to place kind access) work X r u w =
+work_wants at m (Read to place kind access) work X r u w =
     let n : ℕ = place_number at place in
     address_of X r u place n to (place_wants place n _ r u (wants_append (place_code place n) _ X r w))
-work_wants at (Write place kind from access) work X r u w =
+work_wants at m (Write place kind from access) work X r u w =
     let n : ℕ = place_number at place in
     sets_none X r u (place_uses place r || r == from) (stored_of X r u place n from (place_wants place n _ r u (wants_append (place_code place n) _ X r w)))
-work_wants at (Reload to slot access) work X r u w =
+work_wants at m (Reload to slot access) work X r u w =
     let n : ℕ = at (Slot slot) in
     reloaded_of X r u n to (displaced_wants 2 n _ r u (wants_append (displaced_code 2 n) _ X r w))
-work_wants at (Spill slot from access) work X r u w =
+work_wants at m (Spill slot from access) work X r u w =
     let n : ℕ = at (Slot slot) in
     sets_none X r u (r == from) (spilled_of X r u n from (displaced_wants 2 n _ r u (wants_append (displaced_code 2 n) _ X r w)))
-work_wants at (Cut cause) work X r u w = absurd work
-work_wants at (Call to i first count) work X r u w = absurd work
-work_wants at (GetChar to) work X r u w = absurd work
-work_wants at (PutChar to from) work X r u w = absurd work
+work_wants at m (Cut cause) work X r u w = absurd work
+work_wants at m (Call to i first count) work X r u w = absurd work
+work_wants at m (GetChar to) work X r u w = absurd work
+work_wants at m (PutChar to from) work X r u w = absurd work

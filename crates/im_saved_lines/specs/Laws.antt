@@ -1,35 +1,63 @@
--- That lines are sound: those of a settled function, and the runtime's routines.
-use Rattle.std.specs.Prelude.{◌≡◌, ◌<◌, ◌≤◌, ◌⊎◌, ℕ, ◌+◌, Bool, true, List, Some, length, slice_get}
-use Rattle.im_rtlib.specs.Laws.{is_saved}
+-- That lines are sound: those of a function whose cuts save what lives behind them, and the runtime's routines.
+use Rattle.std.specs.Prelude.{◌≡◌, ◌≢◌, ◌<◌, ◌≤◌, ◌⊎◌, ℕ, suc, ◌+◌, ◌==◌, ◌&&◌, ◌||◌, nat_le, not, Bool, true, List, [], ◌∷◌, Some, drop, length, slice_get}
 use Rattle.im_rtlib.specs.Routines.{getchar, putchar, exit, stack}
 use Rattle.im_store.specs.Objects.{Name}
+use Rattle.im_block.specs.declared.code.Line.{Line}
+use Rattle.im_block.specs.declared.code.Exit.{Exit}
+use Rattle.im_block.specs.declared.code.Block.{Block}
 use Rattle.im_block.specs.declared.unit.Function.{Function}
 use Rattle.im_block.specs.Wellformed.{IsFunction}
+use Rattle.im_alloc_placed.specs.Operands.{IsHome}
 use Rattle.im_alloc_placed.specs.Placed.{IsPlacedFunction}
-use Rattle.im_alloc_relation.specs.Settled.{IsSettledFunction}
+use Rattle.im_alloc_relation.specs.Settled.{IsCall}
+use Rattle.im_live.specs.Reads.{lives_before}
 use Rattle.im_select.specs.Emitted.{entry_label, function_code}
-use Rattle.im_saved_lines.specs.Scan.{After, scan, AreSound}
+use Rattle.im_saved_lines.specs.Scan.{is_base, After, scan, AreSound}
 
--- what lives at the runtime's labels is saved by each cut
+-- what lives at the runtime's labels beside x0, x1 and x2: x10 at putchar and at the end of a run; x5 and x10 inside putchar,
+-- and x6 where the length is read
+abbrev pub lives_inside : ℕ → ℕ → Bool
+lives_inside l r =
+    ((l == 33 || l == 34) && r == 10)
+    || ((((nat_le 41 l && nat_le l 45) && not (l == 43)) && (r == 5 || r == 10)) || ((l == 42 || l == 44) && r == 6))
+
 pub record IsLow (at : ℕ → ℕ → Bool) : Type 0 where
-  pub low : (l r : ℕ) → l < 64 → at l r ≡ true → is_saved r ≡ true
-  pub saved : (l r : ℕ) → is_saved r ≡ true → at l r ≡ true
+  pub is : (l r : ℕ) → l < 64 → at l r ≡ (is_base r || lives_inside l r)
+  pub base : (l r : ℕ) → is_base r ≡ true → at l r ≡ true
 
 -- what lives at functions' labels beside: arguments
 pub record HasEntries (functions : List Function) (at : ℕ → ℕ → Bool) : Type 0 where
-  pub only : (i r : ℕ) (f : Function) → slice_get functions i ≡ Some f → at (entry_label i) r ≡ true → (is_saved r ≡ true) ⊎ ((10 ≤ r) × (r < 10 + f.parameters))
+  pub only : (i r : ℕ) (f : Function) → slice_get functions i ≡ Some f → at (entry_label i) r ≡ true → (is_base r ≡ true) ⊎ ((10 ≤ r) × (r < 10 + f.parameters))
   pub all : (i r : ℕ) (f : Function) → slice_get functions i ≡ Some f → 10 ≤ r → r < 10 + f.parameters → at (entry_label i) r ≡ true
 
 -- what lives at the labels of a function's blocks beside; block 0 has the label `first`
-pub record HasBlocks (wanted : ℕ → ℕ → Bool) (first count : ℕ) (at : ℕ → ℕ → Bool) : Type 0 where
-  pub only : (b r : ℕ) → b < count → at (first + b) r ≡ true → (is_saved r ≡ true) ⊎ (wanted b r ≡ true)
-  pub all : (b r : ℕ) → b < count → wanted b r ≡ true → at (first + b) r ≡ true
+pub record HasBlocks (live : ℕ → ℕ → Bool) (first count : ℕ) (at : ℕ → ℕ → Bool) : Type 0 where
+  pub only : (b r : ℕ) → b < count → at (first + b) r ≡ true → (is_base r ≡ true) ⊎ (live b r ≡ true)
+  pub all : (b r : ℕ) → b < count → live b r ≡ true → at (first + b) r ≡ true
+
+-- behind a call no register lives but the result's, and x1 and x2
+abbrev pub HoldsCalls : (ℕ → ℕ → Bool) → List Line → Exit → Type 0
+HoldsCalls live [] leaves = Unit {0}
+HoldsCalls live (line ∷ rest) leaves = (IsCall line → (r : ℕ) → lives_before live rest leaves r ≡ true → (is_base r ≡ true) ⊎ (r ≡ 10)) × HoldsCalls live rest leaves
+
+-- what lives in a function: homes, at its entry arguments alone, closed under its lines
+pub record IsHeld (live : ℕ → ℕ → Bool) (f : Function) : Type 0 where
+  pub homes : (b r : ℕ) → live b r ≡ true → (is_base r ≡ true) ⊎ IsHome r
+  pub closed : (b : ℕ) (block : Block) (r : ℕ) → slice_get f.blocks.items b ≡ Some block → lives_before live block.lines.items block.exit r ≡ true → live b r ≡ true
+  pub calls : (b : ℕ) (block : Block) → slice_get f.blocks.items b ≡ Some block → HoldsCalls live block.lines.items block.exit
+  pub entered : (r : ℕ) → live f.entry r ≡ true → (is_base r ≡ true) ⊎ ((10 ≤ r) × (r < 10 + f.parameters))
+
+-- the entries of a block's lines from number j on save what lives behind them
+abbrev pub SavesFrom : (ℕ → ℕ → Bool) → (ℕ → ℕ) → ℕ → List Line → Exit → Type 0
+SavesFrom live m j [] leaves = Unit {0}
+SavesFrom live m j (line ∷ rest) leaves = ((4 ≤ m j) × (m j ≤ 31) × ((r : ℕ) → lives_before live rest leaves r ≡ true → r ≤ m j)) × SavesFrom live m (suc j) rest leaves
 
 abbrev pub FunctionLinesLaw : Type 0
 FunctionLinesLaw =
-    (functions : List Function) (statics i first frame : ℕ) (f : Function) (places : Name → ℕ) (wanted at : ℕ → ℕ → Bool) → slice_get functions i ≡ Some f → 64 ≤ first →
-    IsLow at → HasEntries functions at → HasBlocks wanted first (length f.blocks.items) at → IsFunction functions f → IsPlacedFunction statics f → IsSettledFunction wanted f →
-    (behind : After) → AreSound at (function_code places i first frame f.entry f.blocks.items) behind
+    (functions : List Function) (statics i first frame : ℕ) (f : Function) (places : Name → ℕ) (m : ℕ → ℕ → ℕ) (live at : ℕ → ℕ → Bool) → slice_get functions i ≡ Some f → 64 ≤ first →
+    IsLow at → HasEntries functions at → HasBlocks live first (length f.blocks.items) at → IsFunction functions f → IsPlacedFunction statics f → IsHeld live f →
+    ((b : ℕ) (block : Block) → slice_get f.blocks.items b ≡ Some block → SavesFrom live (m b) 0 block.lines.items block.exit) →
+    (behind : After) → AreSound at (function_code places m i first frame f.entry f.blocks.items) behind
 
 pub record RoutineLinesLaw : Type 0 where
   pub getchar_sound : (at : ℕ → ℕ → Bool) → IsLow at → (behind : After) → AreSound at getchar behind
@@ -37,4 +65,4 @@ pub record RoutineLinesLaw : Type 0 where
   pub stack_sound : (at : ℕ → ℕ → Bool) → IsLow at → (behind : After) → AreSound at stack behind
   pub exit_sound : (at : ℕ → ℕ → Bool) → IsLow at → (behind : After) → AreSound at exit behind
   -- what lives where a run ends
-  pub exit_lives : (at : ℕ → ℕ → Bool) → IsLow at → (behind : After) (r : ℕ) → (scan at exit behind).next r ≡ true → is_saved r ≡ true
+  pub exit_lives : (at : ℕ → ℕ → Bool) → IsLow at → (behind : After) (r : ℕ) → (scan at exit behind).next r ≡ true → (is_base r ≡ true) ⊎ (r ≡ 10)

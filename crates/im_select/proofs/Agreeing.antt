@@ -22,26 +22,26 @@ place_same names w g (Static object offset) h = ap (λ z. z + offset) (sym (g.st
 place_same names w g (Local object offset) h = ap (λ z. z + offset) (sym (g.objects object h.0))
 place_same names w g (Through r offset) h = refl
 
-pub line_same : (names : Given) (w : Lines) → Agrees w names → (line : Line) → IsPlacedLine (length names.statics) names.function line → line_code (at_of names) line ≡ line_code w.at line
-line_same names w g (Put to z) h = refl
-line_same names w g (PutNull to) h = refl
-line_same names w g (Copy to from) h = refl
-line_same names w g (Convert to kind from) h = refl
-line_same names w g (Unary to op kind from) h = refl
-line_same names w g (Not to from) h = refl
-line_same names w g (Compute to op kind left right) h = refl
-line_same names w g (Compare to op kind left right) h = refl
-line_same names w g (Move to size back pointer by) h = refl
-line_same names w g (Distance to size left right) h = refl
-line_same names w g (Address to place) h = ap (address_code to place) (place_same names w g place h.2)
-line_same names w g (Read to place kind access) h = ap (fetch_code to place kind access) (place_same names w g place h.2)
-line_same names w g (Write place kind from access) h = ap (keep_code place kind from access) (place_same names w g place h.2)
-line_same names w g (Reload to slot access) h = ap (λ z. reload_code to z access) (sym (g.slots slot h.1))
-line_same names w g (Spill slot from access) h = ap (λ z. spill_code z from access) (sym (g.slots slot h.1))
-line_same names w g (Cut cause) h = refl
-line_same names w g (Call to i first count) h = refl
-line_same names w g (GetChar to) h = refl
-line_same names w g (PutChar to from) h = refl
+pub line_same : (names : Given) (w : Lines) (m : ℕ) → Agrees w names → (line : Line) → IsPlacedLine (length names.statics) names.function line → line_code (at_of names) m line ≡ line_code w.at m line
+line_same names w m g (Put to z) h = refl
+line_same names w m g (PutNull to) h = refl
+line_same names w m g (Copy to from) h = refl
+line_same names w m g (Convert to kind from) h = refl
+line_same names w m g (Unary to op kind from) h = refl
+line_same names w m g (Not to from) h = refl
+line_same names w m g (Compute to op kind left right) h = refl
+line_same names w m g (Compare to op kind left right) h = refl
+line_same names w m g (Move to size back pointer by) h = refl
+line_same names w m g (Distance to size left right) h = refl
+line_same names w m g (Address to place) h = ap (address_code to place) (place_same names w g place h.2)
+line_same names w m g (Read to place kind access) h = ap (fetch_code to place kind access) (place_same names w g place h.2)
+line_same names w m g (Write place kind from access) h = ap (keep_code place kind from access) (place_same names w g place h.2)
+line_same names w m g (Reload to slot access) h = ap (λ z. reload_code to z access) (sym (g.slots slot h.1))
+line_same names w m g (Spill slot from access) h = ap (λ z. spill_code z from access) (sym (g.slots slot h.1))
+line_same names w m g (Cut cause) h = refl
+line_same names w m g (Call to i first count) h = refl
+line_same names w m g (GetChar to) h = refl
+line_same names w m g (PutChar to from) h = refl
 
 place_low : (names : Given) → HasPlaces names → (place : Place) → PlaceExists (length names.statics) names.function place → place_number (at_of names) place < 2 ^ 32
 place_low names p (Static object offset) h =

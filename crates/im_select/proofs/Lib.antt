@@ -10,3 +10,4 @@ pub mod Naming
 pub mod Leading
 pub mod Agreeing
 pub mod Whole
+pub mod Machine

@@ -18,6 +18,7 @@ use Rattle.im_block.specs.declared.code.Line.TheVariants.{Put, PutNull, Copy, Co
 use Rattle.im_alloc_placed.specs.Operands.{PlaceAtHome}
 use Rattle.im_alloc_placed.specs.Placed.{IsPlacedLine}
 use Rattle.im_select_relation.specs.Symbolic.{Lines, HasLine, Plain, Aimed, ConstantIn, Small, Large, DisplacedIn, Near, Far, BasedIn, InFrame, InStatic, Behind, AddsIn, Short, Long, Lesser, Larger, NotLarger, NotLesser, Same, Other, Whole, Narrowed, SelectedIn, Numbers, Nulls, Copies, Converts, Negates, Complements, Nots, Computes, Compares, Moves, Measures, Addresses, Fetches, StoresValue, Reloads, Spills, Cuts_, Calls, Gets, Puts_}
+use Rattle.im_select_relation.specs.Selected.{IsEntry}
 use Rattle.im_select.specs.Emitted.{high_of, low_of, constant_by, constant_code, displaced_by, displaced_code, displaced_base, adds_by, adds_code, place_number, place_code, place_base, line_code}
 use Rattle.im_select.specs.Given.{Given}
 use Rattle.im_select.specs.Places.{CallsBelow}
@@ -67,63 +68,63 @@ Words at (Reload to slot access) = at (Slot slot) < 2 ^ 32
 Words at (Spill slot from access) = at (Slot slot) < 2 ^ 32
 Words at line = Unit {0}
 
-pub selected_in : (w : Lines) (given : Given) (k : ℕ) → Agrees w given → (line : Line) → IsPlacedLine (length given.statics) given.function line → CallsBelow given.functions line → Words w.at line → At w k (line_code w.at line) → SelectedIn w k line (after k (line_code w.at line))
-selected_in w given k g (Put to z) h c s a = Numbers to z _ h (constant_in w k to (word z) (word_small z) a)
-selected_in w given k g (PutNull to) h c s a = Nulls to h a.0
-selected_in w given k g (Copy to from) h c s a = Copies to from h.0 h.1 a.0
-selected_in w given k g (Convert to I8 from) h c s a = Converts to I8 from _ h.0 h.1 (Narrowed (λ e. cc) (λ e. cc) (λ e. cc) a.0 a.1.0)
-selected_in w given k g (Convert to U8 from) h c s a = Converts to U8 from _ h.0 h.1 (Narrowed (λ e. cc) (λ e. cc) (λ e. cc) a.0 a.1.0)
-selected_in w given k g (Convert to I16 from) h c s a = Converts to I16 from _ h.0 h.1 (Narrowed (λ e. cc) (λ e. cc) (λ e. cc) a.0 a.1.0)
-selected_in w given k g (Convert to U16 from) h c s a = Converts to U16 from _ h.0 h.1 (Narrowed (λ e. cc) (λ e. cc) (λ e. cc) a.0 a.1.0)
-selected_in w given k g (Convert to I32 from) h c s a = Converts to I32 from _ h.0 h.1 (Whole (inl refl) a.0)
-selected_in w given k g (Convert to U32 from) h c s a = Converts to U32 from _ h.0 h.1 (Whole (inr refl) a.0)
-selected_in w given k g (Convert to Ptr from) h c s a = absurd (h.2 refl)
-selected_in w given k g (Unary to Negate kind from) h c s a = Negates to kind from h.0 h.1 h.2 a.0
-selected_in w given k g (Unary to Complement kind from) h c s a = Complements to kind from h.0 h.1 h.2 a.0
-selected_in w given k g (Not to from) h c s a = Nots to from h.0 h.1 a.0
-selected_in w given k g (Compute to op kind left right) h c s a = Computes to op kind left right h.0 h.1 h.2 h.3 a.0
-selected_in w given k g (Compare to LessThan kind left right) h c s a = Compares to LessThan kind left right _ h.0 h.1 h.2 h.3 (Lesser a.0)
-selected_in w given k g (Compare to Greater kind left right) h c s a = Compares to Greater kind left right _ h.0 h.1 h.2 h.3 (Larger a.0)
-selected_in w given k g (Compare to LessOrEqual kind left right) h c s a = Compares to LessOrEqual kind left right _ h.0 h.1 h.2 h.3 (NotLarger a.0 a.1.0)
-selected_in w given k g (Compare to GreaterOrEqual kind left right) h c s a = Compares to GreaterOrEqual kind left right _ h.0 h.1 h.2 h.3 (NotLesser a.0 a.1.0)
-selected_in w given k g (Compare to Equal kind left right) h c s a = Compares to Equal kind left right _ h.0 h.1 h.2 h.3 (Same a.0 a.1.0)
-selected_in w given k g (Compare to NotEqual kind left right) h c s a = Compares to NotEqual kind left right _ h.0 h.1 h.2 h.3 (Other a.0 a.1.0)
-selected_in w given k g (Move to size back pointer by) h c s a =
+pub selected_in : (w : Lines) (given : Given) (k m : ℕ) → IsEntry m → Agrees w given → (line : Line) → IsPlacedLine (length given.statics) given.function line → CallsBelow given.functions line → Words w.at line → At w k (line_code w.at m line) → SelectedIn w k line (after k (line_code w.at m line))
+selected_in w given k m o g (Put to z) h c s a = Numbers to z _ h (constant_in w k to (word z) (word_small z) a)
+selected_in w given k m o g (PutNull to) h c s a = Nulls to h a.0
+selected_in w given k m o g (Copy to from) h c s a = Copies to from h.0 h.1 a.0
+selected_in w given k m o g (Convert to I8 from) h c s a = Converts to I8 from _ h.0 h.1 (Narrowed (λ e. cc) (λ e. cc) (λ e. cc) a.0 a.1.0)
+selected_in w given k m o g (Convert to U8 from) h c s a = Converts to U8 from _ h.0 h.1 (Narrowed (λ e. cc) (λ e. cc) (λ e. cc) a.0 a.1.0)
+selected_in w given k m o g (Convert to I16 from) h c s a = Converts to I16 from _ h.0 h.1 (Narrowed (λ e. cc) (λ e. cc) (λ e. cc) a.0 a.1.0)
+selected_in w given k m o g (Convert to U16 from) h c s a = Converts to U16 from _ h.0 h.1 (Narrowed (λ e. cc) (λ e. cc) (λ e. cc) a.0 a.1.0)
+selected_in w given k m o g (Convert to I32 from) h c s a = Converts to I32 from _ h.0 h.1 (Whole (inl refl) a.0)
+selected_in w given k m o g (Convert to U32 from) h c s a = Converts to U32 from _ h.0 h.1 (Whole (inr refl) a.0)
+selected_in w given k m o g (Convert to Ptr from) h c s a = absurd (h.2 refl)
+selected_in w given k m o g (Unary to Negate kind from) h c s a = Negates to kind from h.0 h.1 h.2 a.0
+selected_in w given k m o g (Unary to Complement kind from) h c s a = Complements to kind from h.0 h.1 h.2 a.0
+selected_in w given k m o g (Not to from) h c s a = Nots to from h.0 h.1 a.0
+selected_in w given k m o g (Compute to op kind left right) h c s a = Computes to op kind left right h.0 h.1 h.2 h.3 a.0
+selected_in w given k m o g (Compare to LessThan kind left right) h c s a = Compares to LessThan kind left right _ h.0 h.1 h.2 h.3 (Lesser a.0)
+selected_in w given k m o g (Compare to Greater kind left right) h c s a = Compares to Greater kind left right _ h.0 h.1 h.2 h.3 (Larger a.0)
+selected_in w given k m o g (Compare to LessOrEqual kind left right) h c s a = Compares to LessOrEqual kind left right _ h.0 h.1 h.2 h.3 (NotLarger a.0 a.1.0)
+selected_in w given k m o g (Compare to GreaterOrEqual kind left right) h c s a = Compares to GreaterOrEqual kind left right _ h.0 h.1 h.2 h.3 (NotLesser a.0 a.1.0)
+selected_in w given k m o g (Compare to Equal kind left right) h c s a = Compares to Equal kind left right _ h.0 h.1 h.2 h.3 (Same a.0 a.1.0)
+selected_in w given k m o g (Compare to NotEqual kind left right) h c s a = Compares to NotEqual kind left right _ h.0 h.1 h.2 h.3 (Other a.0 a.1.0)
+selected_in w given k m o g (Move to size back pointer by) h c s a =
     let r = at_right w k (constant_code 5 size) _ a in
     subst (SelectedIn w k (Move to size back pointer by)) (sym (after_append k (constant_code 5 size) _))
     (Moves to size back pointer by (after k (constant_code 5 size)) h.0 h.1 h.2 h.3 (constant_in w k 5 size h.3 (at_left w k (constant_code 5 size) _ a)) r.0 r.1.0)
-selected_in w given k g (Distance to size left right) h c s a =
+selected_in w given k m o g (Distance to size left right) h c s a =
     let r = at_right w (suc k) (constant_code 6 size) _ a.1 in
     let small : size < 2 ^ 32 = (let q = h.4 in omega arith) in
     subst (SelectedIn w k (Distance to size left right)) (sym (after_append (suc k) (constant_code 6 size) _))
     (Measures to size left right (after (suc k) (constant_code 6 size)) h.0 h.1 h.2 h.3 h.4 a.0 (constant_in w (suc k) 6 size small (at_left w (suc k) (constant_code 6 size) _ a.1)) r.0)
-selected_in w given k g (Address to place) h c s a =
+selected_in w given k m o g (Address to place) h c s a =
     let r = at_right w k (place_code place (place_number w.at place)) _ a in
     subst (SelectedIn w k (Address to place)) (sym (after_append k (place_code place (place_number w.at place)) _))
     (Addresses to place _ _ (after k (place_code place (place_number w.at place))) h.0 (based_in w k place s h.1 (at_left w k (place_code place (place_number w.at place)) _ a)) r.0)
-selected_in w given k g (Read to place kind access) h c s a =
+selected_in w given k m o g (Read to place kind access) h c s a =
     let r = at_right w k (place_code place (place_number w.at place)) _ a in
     subst (SelectedIn w k (Read to place kind access)) (sym (after_append k (place_code place (place_number w.at place)) _))
     (Fetches to place kind access _ _ (after k (place_code place (place_number w.at place))) h.0 (based_in w k place s h.1 (at_left w k (place_code place (place_number w.at place)) _ a)) r.0)
-selected_in w given k g (Write place kind from access) h c s a =
+selected_in w given k m o g (Write place kind from access) h c s a =
     let r = at_right w k (place_code place (place_number w.at place)) _ a in
     subst (SelectedIn w k (Write place kind from access)) (sym (after_append k (place_code place (place_number w.at place)) _))
     (StoresValue place kind from access _ _ (after k (place_code place (place_number w.at place))) h.0 (based_in w k place s h.1 (at_left w k (place_code place (place_number w.at place)) _ a)) r.0)
-selected_in w given k g (Reload to slot access) h c s a =
+selected_in w given k m o g (Reload to slot access) h c s a =
     let code = displaced_code 2 (w.at (Slot slot)) in
     let r = at_right w k code _ a in
     subst (SelectedIn w k (Reload to slot access)) (sym (after_append k code _))
     (Reloads to slot access _ _ (after k code) h.0 (displaced_in w k 2 (w.at (Slot slot)) s (at_left w k code _ a)) r.0)
-selected_in w given k g (Spill slot from access) h c s a =
+selected_in w given k m o g (Spill slot from access) h c s a =
     let code = displaced_code 2 (w.at (Slot slot)) in
     let r = at_right w k code _ a in
     subst (SelectedIn w k (Spill slot from access)) (sym (after_append k code _))
     (Spills slot from access _ _ (after k code) h.0 (displaced_in w k 2 (w.at (Slot slot)) s (at_left w k code _ a)) r.0)
-selected_in w given k g (Cut cause) h c s a = Cuts_ cause 31 (omega arith, omega arith) (subst (λ z. HasLine w k (jumping 3 0) (Some z) None (Some cause)) (sym g.checkpoint) a.0)
-selected_in w given k g (Call to i base count) h c s a =
+selected_in w given k m o g (Cut cause) h c s a = Cuts_ cause m o (subst (λ z. HasLine w k (jumping 3 0) (Some z) None (Some cause)) (sym (g.checkpoint m o)) a.0)
+selected_in w given k m o g (Call to i base count) h c s a =
     let call : Aimed w k (jumping 1 0) (w.entry i) = subst (Aimed w k (jumping 1 0)) (sym (g.entries i c)) a.0 in
     subst (λ z. SelectedIn w k (Call z i base count) (suc k)) (sym h.0) (subst (λ z. SelectedIn w k (Call 10 i z count) (suc k)) (sym h.1) (Calls i count call))
-selected_in w given k g (GetChar to) h c s a = subst (λ z. SelectedIn w k (GetChar z) (suc k)) (sym h) (Gets (subst (Aimed w k (jumping 1 0)) (sym g.gets) a.0))
-selected_in w given k g (PutChar to from) h c s a =
+selected_in w given k m o g (GetChar to) h c s a = subst (λ z. SelectedIn w k (GetChar z) (suc k)) (sym h) (Gets (subst (Aimed w k (jumping 1 0)) (sym g.gets) a.0))
+selected_in w given k m o g (PutChar to from) h c s a =
     let call : Aimed w k (jumping 1 0) w.puts = subst (Aimed w k (jumping 1 0)) (sym g.puts) a.0 in
     subst (λ z. SelectedIn w k (PutChar z from) (suc k)) (sym h.0) (subst (λ z. SelectedIn w k (PutChar 10 z) (suc k)) (sym h.1) (Puts_ call))

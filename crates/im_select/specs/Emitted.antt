@@ -1,5 +1,5 @@
 -- The very lines that are put for each line of placed code.
-use Rattle.std.specs.Prelude.{ℕ, suc, ◌+◌, ◌-◌, ◌/◌, ◌%◌, ◌^◌, ◌==◌, nat_lt, Bool, true, false, if◌then◌else◌, List, [], ◌∷◌, ◌++◌, Some}
+use Rattle.std.specs.Prelude.{ℕ, suc, ◌+◌, ◌-◌, ◌/◌, ◌%◌, ◌^◌, ◌==◌, nat_lt, Bool, true, false, if◌then◌else◌, List, [], ◌∷◌, ◌++◌, Option, Some, None}
 use Rattle.im_num.specs.declared.kind.Kind.{Kind}
 use Rattle.im_num.specs.declared.kind.Kind.TheVariants.{I8, U8, I16, U16, I32, U32, Ptr}
 use Rattle.im_num.specs.declared.values.Cause.{Cause}
@@ -28,10 +28,6 @@ use Rattle.im_rtlib.specs.Routines.{getchar_label, putchar_label, stack_label, a
 -- the labels of functions; those below 64 are the runtime's
 abbrev pub entry_label : ℕ → ℕ
 entry_label i = 64 + i
-
--- the checkpoint's entry that saves all registers
-abbrev pub checkpoint_label : ℕ
-checkpoint_label = 31
 
 -- ---- words in two parts
 
@@ -144,8 +140,9 @@ distance_code to size left right = plain_line (on_registers Sub 5 left right) �
 abbrev pub call_code : ℕ → ℕ → List CodeLine
 call_code rd label = aimed label (jumping rd 0) ∷ []
 
-abbrev pub cut_code : Cause → List CodeLine
-cut_code cause = record (plain_line (jumping 3 0)) { target = Some checkpoint_label; cause = Some cause } ∷ []
+-- a cut with entry Em of the checkpoint, whose label is m
+abbrev pub cut_code : ℕ → Cause → List CodeLine
+cut_code m cause = record (plain_line (jumping 3 0)) { target = Some m; cause = Some cause } ∷ []
 
 abbrev pub address_code : ℕ → Place → ℕ → List CodeLine
 address_code to place n = place_code place n ++ plain_line (with_immediate Addi to (place_base place n) (low_of n)) ∷ []
@@ -162,35 +159,42 @@ reload_code to place access = displaced_code 2 place ++ numbered access (with_im
 abbrev pub spill_code : ℕ → ℕ → ℕ → List CodeLine
 spill_code place from access = displaced_code 2 place ++ numbered access (storing Sw (displaced_base 2 place) from (low_of place)) ∷ []
 
-abbrev pub line_code : (Name → ℕ) → Line → List CodeLine
-line_code at (Put to number) = constant_code to (word number)
-line_code at (PutNull to) = moved_code to 0
-line_code at (Copy to from) = moved_code to from
-line_code at (Convert to kind from) = converted_code to kind from
-line_code at (Unary to op kind from) = unary_code to op from
-line_code at (Not to from) = not_code to from
-line_code at (Compute to op kind left right) = computed_code to op kind left right
-line_code at (Compare to op kind left right) = compared_code to (less_op kind) left right op
-line_code at (Move to size back pointer by) = pointer_code to size back pointer by
-line_code at (Distance to size left right) = distance_code to size left right
-line_code at (Address to place) = address_code to place (place_number at place)
-line_code at (Read to place kind access) = fetch_code to place kind access (place_number at place)
-line_code at (Write place kind from access) = keep_code place kind from access (place_number at place)
-line_code at (Reload to slot access) = reload_code to (at (Slot slot)) access
-line_code at (Spill slot from access) = spill_code (at (Slot slot)) from access
-line_code at (Cut cause) = cut_code cause
-line_code at (Call to function first count) = call_code 1 (entry_label function)
-line_code at (GetChar to) = call_code 1 getchar_label
-line_code at (PutChar to from) = call_code 1 putchar_label
+-- m: the entry, if it is a cut
+abbrev pub line_code : (Name → ℕ) → ℕ → Line → List CodeLine
+line_code at m (Put to number) = constant_code to (word number)
+line_code at m (PutNull to) = moved_code to 0
+line_code at m (Copy to from) = moved_code to from
+line_code at m (Convert to kind from) = converted_code to kind from
+line_code at m (Unary to op kind from) = unary_code to op from
+line_code at m (Not to from) = not_code to from
+line_code at m (Compute to op kind left right) = computed_code to op kind left right
+line_code at m (Compare to op kind left right) = compared_code to (less_op kind) left right op
+line_code at m (Move to size back pointer by) = pointer_code to size back pointer by
+line_code at m (Distance to size left right) = distance_code to size left right
+line_code at m (Address to place) = address_code to place (place_number at place)
+line_code at m (Read to place kind access) = fetch_code to place kind access (place_number at place)
+line_code at m (Write place kind from access) = keep_code place kind from access (place_number at place)
+line_code at m (Reload to slot access) = reload_code to (at (Slot slot)) access
+line_code at m (Spill slot from access) = spill_code (at (Slot slot)) from access
+line_code at m (Cut cause) = cut_code m cause
+line_code at m (Call to function first count) = call_code 1 (entry_label function)
+line_code at m (GetChar to) = call_code 1 getchar_label
+line_code at m (PutChar to from) = call_code 1 putchar_label
 
-abbrev pub lines_code : (Name → ℕ) → List Line → List CodeLine
-lines_code at [] = []
-lines_code at (line ∷ lines) = line_code at line ++ lines_code at lines
+-- lines from number j on; m: the entries of a block's lines
+abbrev pub lines_code : (Name → ℕ) → (ℕ → ℕ) → ℕ → List Line → List CodeLine
+lines_code at m j [] = []
+lines_code at m j (line ∷ lines) = line_code at (m j) line ++ lines_code at m (suc j) lines
 
 -- ---- the ends of blocks. Block b has the label first + b
 
 abbrev pub leave_code : ℕ → List CodeLine
 leave_code frame = plain_line (with_immediate Lw 1 2 0) ∷ (adds_code 2 frame ++ plain_line (with_immediate Jalr 0 1 0) ∷ [])
+
+-- where there is no result x10 is 0, so that nothing lives in it
+abbrev pub result_code : Option ℕ → List CodeLine
+result_code None = plain_line (with_immediate Addi 10 0 0) ∷ []
+result_code (Some r) = []
 
 -- by a register, over a jump
 abbrev pub branch_code : ℕ → ℕ → ℕ → List CodeLine
@@ -200,20 +204,21 @@ abbrev pub exit_code : ℕ → ℕ → Exit → List CodeLine
 exit_code first frame (Jump b) = call_code 0 (first + b)
 exit_code first frame (Turn b) = call_code 0 (first + b)
 exit_code first frame (Branch on x y) = branch_code on (first + x) (first + y)
-exit_code first frame (Return from) = leave_code frame
+exit_code first frame (Return from) = result_code from ++ leave_code frame
 
 -- the first line has a label
 abbrev pub labelled : ℕ → List CodeLine → List CodeLine
 labelled label [] = []
 labelled label (line ∷ lines) = record line { label = Some label } ∷ lines
 
-abbrev pub block_code : (Name → ℕ) → ℕ → ℕ → ℕ → Block → List CodeLine
-block_code at first frame b block = labelled (first + b) (lines_code at block.lines.items ++ exit_code first frame block.exit)
+-- m: the entries of its lines
+abbrev pub block_code : (Name → ℕ) → (ℕ → ℕ) → ℕ → ℕ → ℕ → Block → List CodeLine
+block_code at m first frame b block = labelled (first + b) (lines_code at m 0 block.lines.items ++ exit_code first frame block.exit)
 
--- blocks from number b on
-abbrev pub blocks_code : (Name → ℕ) → ℕ → ℕ → ℕ → List Block → List CodeLine
-blocks_code at first frame b [] = []
-blocks_code at first frame b (block ∷ blocks) = block_code at first frame b block ++ blocks_code at first frame (suc b) blocks
+-- blocks from number b on; m: the entries, by block and line
+abbrev pub blocks_code : (Name → ℕ) → (ℕ → ℕ → ℕ) → ℕ → ℕ → ℕ → List Block → List CodeLine
+blocks_code at m first frame b [] = []
+blocks_code at m first frame b (block ∷ blocks) = block_code at (m b) first frame b block ++ blocks_code at m first frame (suc b) blocks
 
 -- the test of the stack, and the entry into the first block
 abbrev pub enter_code : ℕ → List CodeLine
@@ -230,5 +235,5 @@ abbrev pub prologue_code : ℕ → ℕ → List CodeLine
 prologue_code frame target = adds_code 6 (2 ^ 32 - frame) ++ enter_code target
 
 -- the lines of function i
-abbrev pub function_code : (Name → ℕ) → ℕ → ℕ → ℕ → ℕ → List Block → List CodeLine
-function_code at i first frame entry blocks = labelled (entry_label i) (prologue_code frame (first + entry)) ++ blocks_code at first frame 0 blocks
+abbrev pub function_code : (Name → ℕ) → (ℕ → ℕ → ℕ) → ℕ → ℕ → ℕ → ℕ → List Block → List CodeLine
+function_code at m i first frame entry blocks = labelled (entry_label i) (prologue_code frame (first + entry)) ++ blocks_code at m first frame 0 blocks

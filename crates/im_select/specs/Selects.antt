@@ -1,5 +1,5 @@
 -- What selection gives: lines that may stand for the function, what linking asks of them, and how many they are.
-use Rattle.std.specs.Prelude.{◌≡◌, ◌⊎◌, ◌<◌, ◌≤◌, ℕ, ◌+◌, List, [], ◌∷◌, ◌++◌, Option, Some, None, length, slice_get, All}
+use Rattle.std.specs.Prelude.{◌≡◌, ◌⊎◌, ◌<◌, ◌≤◌, ℕ, ◌+◌, Bool, List, [], ◌∷◌, ◌++◌, Option, Some, None, length, slice_get, All}
 use Rattle.im_num.specs.declared.values.Cause.{Cause}
 use Rattle.im_rv.specs.declared.instr.Op.TheVariants.{Jal}
 use Rattle.im_rv.specs.Lines.{CodeLine}
@@ -12,10 +12,13 @@ use Rattle.im_block.specs.Wellformed.{accesses_of_blocks, ExitThere}
 use Rattle.im_alloc_placed.specs.Operands.{HasObject}
 use Rattle.im_alloc_placed.specs.Placed.{IsPlacedFunction}
 use Rattle.im_alloc_placed.specs.Apart.{CutsApart}
+use Rattle.im_select_relation.specs.Selected.{IsEntry}
 use Rattle.im_select_relation.specs.Symbolic.{Lines, IsSelected}
+use Rattle.im_live.specs.Reads.{IsLive}
+use Rattle.im_live.specs.Entries.{entries}
 use Rattle.im_rtlib.specs.Routines.{getchar_label, putchar_label, stack_label}
 use Rattle.im_select.specs.Given.{Given}
-use Rattle.im_select.specs.Emitted.{entry_label, checkpoint_label, function_code}
+use Rattle.im_select.specs.Emitted.{entry_label, function_code}
 use Rattle.im_select.specs.Places.{at_of, HasPlaces, CallsBelow}
 
 -- places and labels are read so: where this function's objects and blocks are and what it calls, the rest may be anything
@@ -25,7 +28,7 @@ pub record Agrees (w : Lines) (given : Given) : Type 0 where
   pub slots : (n : ℕ) → n < given.function.slots → w.at (Slot n) ≡ at_of given (Slot n)
   pub blocks : (b : ℕ) → b < length given.function.blocks.items → w.block b ≡ given.first_block + b
   pub entries : (i : ℕ) → i < given.functions → w.entry i ≡ entry_label i
-  pub checkpoint : w.checkpoint checkpoint_label ≡ checkpoint_label
+  pub checkpoint : (m : ℕ) → IsEntry m → w.checkpoint m ≡ m
   pub full : w.full ≡ stack_label
   pub puts : w.puts ≡ putchar_label
   pub gets : w.gets ≡ getchar_label
@@ -79,7 +82,7 @@ pub record HasLabel (lines : List CodeLine) (k l : ℕ) : Type 0 where
 -- the labels that a function's lines lead to: of the runtime, of functions, of its own blocks
 abbrev pub IsTarget : Given → ℕ → Type 0
 IsTarget given l =
-    (l ≡ checkpoint_label) ⊎ (l ≡ getchar_label) ⊎ (l ≡ putchar_label) ⊎ (l ≡ stack_label)
+    IsEntry l ⊎ (l ≡ getchar_label) ⊎ (l ≡ putchar_label) ⊎ (l ≡ stack_label)
     ⊎ ((i : ℕ) × (i < given.functions) × (l ≡ entry_label i))
     ⊎ ((b : ℕ) × (b < length given.function.blocks.items) × (l ≡ given.first_block + b))
 
@@ -88,9 +91,15 @@ pub record LeadsTo (given : Given) (line : CodeLine) (l : ℕ) : Type 0 where
   pub far : line.line.op ≡ Jal
   pub to : IsTarget given l
 
--- the lines of function i: these very ones, which have what follows
+-- the lines of function i: these very ones, each cut with the least entry that saves what lives behind it
+pub record IsFunctionCode (given : Given) (i : ℕ) (lines : List CodeLine) : Type 0 where
+  pub live : ℕ → ℕ → Bool
+  pub is_live : IsLive given.function.blocks.items live
+  pub lines_are : lines ≡ function_code (at_of given) (entries live given.function.blocks.items) i given.first_block given.layout.frame given.function.entry given.function.blocks.items
+
+-- and what follows from it
 pub record IsSelection (given : Given) (i : ℕ) (lines : List CodeLine) : Type 0 where
-  pub exact : lines ≡ function_code (at_of given) i given.first_block given.layout.frame given.function.entry given.function.blocks.items
+  pub exact : IsFunctionCode given i lines
   pub starts : ℕ → ℕ
   pub selected : (w : Lines) → w.lines ≡ lines → Agrees w given → IsSelected w given.layout.frame given.function starts
   pub accesses : accesses_in lines ≡ accesses_of_blocks given.function.blocks.items

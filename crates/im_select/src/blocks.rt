@@ -1,8 +1,10 @@
-ghost use Rattle.std.specs.Prelude.{◌≡◌, ◌<◌, ◌+◌, ◌++◌, length, OnOk, IfOk};
+ghost use Rattle.std.specs.Prelude.{◌≡◌, ◌<◌, ◌+◌, ◌++◌, length, slice_get, Some, OnOk, IfOk};
 ghost use Rattle.im_rv.specs.Lines.{code_lines};
 ghost use Rattle.im_block.specs.Wellformed.{ExitThere};
 ghost use Rattle.im_alloc_placed.specs.Placed.{IsPlacedExit, IsPlacedBlock};
-ghost use Rattle.im_select.specs.Emitted.{labelled, leave_code, branch_code, exit_code, enter_code, prologue_code, block_code};
+ghost use Rattle.im_live.specs.Words.{entry_at, starts_have};
+ghost use Rattle.im_live.specs.Entries.{entries};
+ghost use Rattle.im_select.specs.Emitted.{labelled, leave_code, result_code, branch_code, exit_code, enter_code, prologue_code, block_code};
 ghost use Rattle.im_select.specs.Given.{given};
 ghost use Rattle.im_select.specs.Places.{at_of, HasPlaces};
 ghost use Rattle.im_select.specs.Selects.{IsClosedBlock};
@@ -12,6 +14,7 @@ use crate::names::Names;
 use crate::push::{push, push_jump};
 use crate::words::{push_added, register};
 use im_block::{Block, Exit};
+use im_live::points;
 use im_num::NoMemory;
 use im_rtlib::STACK;
 use im_rv::Line;
@@ -50,6 +53,17 @@ fn push_branch(lines: &mut Vec<Line>, on: u32, holds: u32, fails: u32) -> Result
     push_jump(lines, 0, fails)
 }
 
+/// x10 is 0 where there is no result, so that nothing lives in it.
+fn push_result(lines: &mut Vec<Line>, from: Option<u32>) -> Result<(), NoMemory>
+    ensures { OnOk result (code_lines lines.new.items
+        ≡ code_lines lines.old.items ++ result_code from) }
+{
+    match from {
+        None => push(lines, addi(10, 0, 0)),
+        Some(_) => Ok(()),
+    }
+}
+
 /// The lines of a block's exit.
 fn push_exit(lines: &mut Vec<Line>, names: &Names, exit: Exit) -> Result<(), NoMemory>
     requires places { HasPlaces (given names.now) }
@@ -69,14 +83,18 @@ fn push_exit(lines: &mut Vec<Line>, names: &Names, exit: Exit) -> Result<(), NoM
                 names.first_block + fails,
             )
         }
-        Exit::Return(_) => push_leave(lines, names.layout.frame),
+        Exit::Return(from) => {
+            push_result(lines, from)?;
+            push_leave(lines, names.layout.frame)
+        }
     }
 }
 
-/// The lines of a block, by its number.
-pub(crate) fn block_lines(
+/// The lines of a block, by its number and the registers that live at its points.
+fn lines_by(
     alloc: Global,
     names: &Names,
+    points: &[u32],
     number: u32,
     block: &Block,
 ) -> Result<Vec<Line>, NoMemory>
@@ -85,14 +103,41 @@ pub(crate) fn block_lines(
     requires placed { IsPlacedBlock
         (length names.now.statics.now) names.now.function.now block.now }
     requires closed { IsClosedBlock (given names.now) block.now }
+    requires enough { length points.now ≡ length block.now.lines.items + 1 }
     ensures { IfOk result (λ lines. code_lines lines.items
-        ≡ block_code (at_of (given names.now)) names.now.first_block
+        ≡ block_code (at_of (given names.now)) (entry_at points.now) names.now.first_block
         names.now.layout.now.frame number block.now) }
 {
     let mut lines = Vec::new(alloc);
-    push_lines(&mut lines, names, &block.lines)?;
+    push_lines(&mut lines, names, points, &block.lines)?;
     push_exit(&mut lines, names, block.exit)?;
     label_first(&mut lines, names.first_block + number);
+    Ok(lines)
+}
+
+/// The lines of a block, by its number. A word of `live` has the registers that live at the start of
+/// a block.
+pub(crate) fn block_lines(
+    alloc: Global,
+    names: &Names,
+    live: &[u32],
+    number: u32,
+    block: &Block,
+) -> Result<Vec<Line>, NoMemory>
+    requires places { HasPlaces (given names.now) }
+    requires number { number < length names.now.function.now.blocks.items }
+    requires placed { IsPlacedBlock
+        (length names.now.statics.now) names.now.function.now block.now }
+    requires closed { IsClosedBlock (given names.now) block.now }
+    requires enough { length live.now ≡ length names.now.function.now.blocks.items }
+    requires this { slice_get names.now.function.now.blocks.items number ≡ Some block.now }
+    ensures { IfOk result (λ lines. code_lines lines.items
+        ≡ block_code (at_of (given names.now))
+        (entries (starts_have live.now) names.now.function.now.blocks.items number)
+        names.now.first_block names.now.layout.now.frame number block.now) }
+{
+    let words = points(alloc, live, block)?;
+    let lines = lines_by(alloc, names, &words, number, block)?;
     Ok(lines)
 }
 

@@ -1,7 +1,8 @@
-ghost use Rattle.std.specs.Prelude.{◌≡◌, ◌++◌, length, OnOk, All};
+ghost use Rattle.std.specs.Prelude.{◌≡◌, ◌+◌, ◌++◌, length, OnOk, All};
 ghost use Rattle.im_rv.specs.Lines.{code_lines};
 ghost use Rattle.im_alloc_placed.specs.Placed.{IsPlacedLine};
 ghost use Rattle.im_select.specs.Emitted.{line_code, lines_code};
+ghost use Rattle.im_live.specs.Words.{entry_at};
 ghost use Rattle.im_select.specs.Given.{given};
 ghost use Rattle.im_select.specs.Places.{at_of, HasPlaces, CallsBelow};
 
@@ -14,17 +15,23 @@ use crate::names::Names;
 use crate::push::{push_cut, push_jump};
 use crate::words::{push_constant, register, to_word};
 use im_block::Line as Placed;
+use im_live::entry_for;
 use im_num::NoMemory;
 use im_rtlib::{FIRST_FREE, GETCHAR, PUTCHAR};
 use im_rv::Line;
 
-/// The lines of one line of placed code.
-pub(crate) fn push_line(lines: &mut Vec<Line>, names: &Names, line: Placed) -> Result<(), NoMemory>
+/// The lines of one line of placed code. A cut has the entry.
+pub(crate) fn push_line(
+    lines: &mut Vec<Line>,
+    names: &Names,
+    entry: u32,
+    line: Placed,
+) -> Result<(), NoMemory>
     requires places { HasPlaces (given names.now) }
     requires placed { IsPlacedLine (length names.now.statics.now) names.now.function.now line }
     requires called { CallsBelow names.now.functions line }
     ensures { OnOk result (code_lines lines.new.items
-        ≡ code_lines lines.old.items ++ line_code (at_of (given names.now)) line) }
+        ≡ code_lines lines.old.items ++ line_code (at_of (given names.now)) entry line) }
 {
     match line {
         Placed::Put { to, number } => push_constant(lines, register(to), to_word(number)),
@@ -75,28 +82,32 @@ pub(crate) fn push_line(lines: &mut Vec<Line>, names: &Names, line: Placed) -> R
         } => { push_write(lines, names, place, kind, from, access) }
         Placed::Reload { to, slot, access } => push_reload(lines, names, to, slot, access),
         Placed::Spill { slot, from, access } => push_spill(lines, names, slot, from, access),
-        Placed::Cut(cause) => push_cut(lines, cause),
+        Placed::Cut(cause) => push_cut(lines, cause, entry),
         Placed::Call { function, .. } => push_jump(lines, 1, FIRST_FREE + function),
         Placed::GetChar { .. } => push_jump(lines, 1, GETCHAR),
         Placed::PutChar { .. } => push_jump(lines, 1, PUTCHAR),
     }
 }
 
-/// The lines of several, in order.
+/// The lines of several, in order. A word of `points` has the registers that live before a line, the
+/// one behind it those that live behind the line.
 pub(crate) fn push_lines(
     lines: &mut Vec<Line>,
     names: &Names,
+    points: &[u32],
     placed: &[Placed],
 ) -> Result<(), NoMemory>
+    requires enough { length points.now ≡ length placed.now + 1 }
     requires places { HasPlaces (given names.now) }
     requires placed { All
         (IsPlacedLine (length names.now.statics.now) names.now.function.now) placed.now }
     requires called { All (CallsBelow names.now.functions) placed.now }
     ensures { OnOk result (code_lines lines.new.items
-        ≡ code_lines lines.old.items ++ lines_code (at_of (given names.now)) placed.now) }
+        ≡ code_lines lines.old.items ++ lines_code (at_of (given names.now)) (entry_at points.now) 0 placed.now) }
 {
-    for line in placed {
-        push_line(lines, names, *line)?;
+    for (number, line) in placed.iter().enumerate() {
+        let entry = entry_for(points[number + 1]);
+        push_line(lines, names, entry, *line)?;
     }
     Ok(())
 }

@@ -9,9 +9,6 @@ use im_num::{Cause, NoMemory};
 use im_rv::assembler::jal;
 use im_rv::{Instr, Line, Op, plain};
 
-/// The label of the checkpoint's entry that saves all registers.
-const CHECKPOINT: u32 = 31;
-
 /// Adds an instruction.
 pub(crate) fn push(lines: &mut Vec<Line>, instr: Instr) -> Result<(), NoMemory>
     ensures { OnOk result
@@ -49,13 +46,13 @@ pub(crate) fn push_jump(lines: &mut Vec<Line>, rd: u8, label: u32) -> Result<(),
     Ok(())
 }
 
-/// Adds a cut, which saves all registers.
-pub(crate) fn push_cut(lines: &mut Vec<Line>, cause: Cause) -> Result<(), NoMemory>
+/// Adds a cut, by the entry of the checkpoint, which is the last register that it saves.
+pub(crate) fn push_cut(lines: &mut Vec<Line>, cause: Cause, entry: u32) -> Result<(), NoMemory>
     ensures { OnOk result (code_lines lines.new.items
-        ≡ code_lines lines.old.items ++ cut_code cause) }
+        ≡ code_lines lines.old.items ++ cut_code entry cause) }
 {
     let mut line = plain(jal(3, 0));
-    line.target = Some(CHECKPOINT);
+    line.target = Some(entry);
     line.cause = Some(cause);
     lines.push(line)?;
     Ok(())

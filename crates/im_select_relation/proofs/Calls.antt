@@ -30,9 +30,9 @@ use Rattle.im_block.specs.declared.code.Line.TheVariants.{Call}
 use Rattle.im_block.specs.declared.code.Block.{Block}
 use Rattle.im_block.specs.declared.unit.Function.{Function}
 use Rattle.im_block.specs.declared.unit.Unit.{Unit as Code}
-use Rattle.im_block.specs.Meaning.{Setting, Active, object_of, Frame, State, Next, Goes, Stops, Tests, Saves, Restores, link_shape, slot_shape, shapes_of, statics_of, number_of, passed, kept, kept_by, at_block, waiting, does, enters, returned, back}
+use Rattle.im_block.specs.Meaning.{Setting, Active, object_of, Frame, State, Next, Goes, Stops, Tests, Saves, Restores, link_shape, slot_shape, shapes_of, statics_of, number_of, passed, kept, kept_by, at_block, waiting, does, enters, back}
 use Rattle.im_select_relation.specs.Linking.{Linking, pointer_at, frame_of, limit_of, address, Means}
-use Rattle.im_select_relation.specs.Selected.{Leaves, InResult, Checked, Prologue, Stands}
+use Rattle.im_select_relation.specs.Selected.{Leaves, Checked, Prologue, Stands}
 use Rattle.im_select_relation.specs.Linked.{FunctionAt}
 use Rattle.im_select_relation.specs.Law.{Touches, Nothing, Testing, Saving, Restoring}
 use Rattle.im_select_relation.proofs.Registers.{RegsMean, means_at, set_scratch, only_arguments, only_result}
@@ -440,14 +440,56 @@ number_word p Null w z e m = absurd cc
 number_word p (Pointer o i) w z e m = absurd cc
 number_word p Unset w z e m = absurd cc
 
--- a result is in x10, or is none
-pub result_means : (p : Linking) (u : Code) (g : Setting) (from : Option ℕ) (registers : ℕ → Value) (w : ℕ) → InResult from → Means p (registers 10) w → Means p (returned u g from registers) w
-result_means p u g None registers w h m = tt
-result_means p u g (Some r) registers w h m = subst (λ z. Means p (registers z) w) (sym h) m
+-- back to the caller's place with a value in x10; a step more where it is none
+pub record Left (p : Linking) (m : Mem) (pc : ℕ) (x : ℕ → ℕ) (o : Object) (sp size : ℕ) (v : Value) : Type 0 where
+  pub n : ℕ
+  pub some : 0 < n
+  pub few : n ≤ 6
+  pub full : (z : ℤ) → number_of v ≡ Fine z → n ≤ 5
+  pub y : ℕ → ℕ
+  pub reach : Reach n (Loaded (address p o) 4 ∷ []) (record { pc = pc; x = x }) m (record { pc = little m sp 4; x = y }) m
+  pub y0 : y 0 ≡ 0
+  pub y2 : y 2 ≡ sp + size
+  pub result : Means p v (y 10)
+
+abbrev pub Leaver : Linking → Mem → ℕ → (ℕ → ℕ) → ℕ → Value → Type 0
+Leaver p m pc x size v = (o : Object) (sp : ℕ) → address p o ≡ sp → Fixed p.image m → x 0 ≡ 0 → x 2 ≡ sp → sp % 4 ≡ 0 → sp + size ≤ 3145728 → 384 ≤ sp → little m sp 4 % 4 ≡ 0 → little m sp 4 ≤ 1048576 → IsBehindCall p.image (little m sp 4) → Left p m pc x o sp size v
+
+pub gives : (p : Linking) (m : Mem) (pc : ℕ) (x : ℕ → ℕ) (size : ℕ) (v : Value) → Means p v (x 10) → Leaves p pc size → Leaver p m pc x size v
+gives p m pc x size v result leaves o sp at fixed x0 x2 even top low ra_even ra_low behind =
+    let b : Returned p m pc x o sp size = returns p m pc x o sp size at fixed x0 x2 even top low ra_even ra_low behind leaves in
+    record {
+      n = b.n;
+      some = b.some;
+      few = (let f = b.few in omega arith);
+      full = λ z e. b.few;
+      y = b.y;
+      reach = b.reach;
+      y0 = b.y0;
+      y2 = b.y2;
+      result = means_at p v _ (x 10) _ refl (b.homes 10 (omega arith)) result;
+    }
+
+pub clears : (p : Linking) (m : Mem) (pc : ℕ) (x : ℕ → ℕ) (size : ℕ) → Holds p.image pc (with_immediate Addi 10 0 0) → Leaves p (pc + 4) size → Leaver p m pc x size Unset
+clears p m pc x size h leaves o sp at fixed x0 x2 even top low ra_even ra_low behind =
+    let zero_ : ℕ = sum_of (x 0) 0 in
+    let x1 : ℕ → ℕ = with_reg x 10 zero_ in
+    let b : Returned p m (pc + 4) x1 o sp size = returns p m (pc + 4) x1 o sp size at fixed (other_reg x 10 zero_ 0 (omega arith) ∙ x0) (other_reg x 10 zero_ 2 (omega arith) ∙ x2) even top low ra_even ra_low behind leaves in
+    record {
+      n = suc b.n;
+      some = omega arith;
+      few = (let f = b.few in omega arith);
+      full = λ z e. absurd cc;
+      y = b.y;
+      reach = join 1 b.n [] (Loaded (address p o) 4 ∷ []) _ _ _ m m m (puts p.image m pc x (with_immediate Addi 10 0 0) zero_ fixed h refl refl) b.reach;
+      y0 = b.y0;
+      y2 = b.y2;
+      result = tt;
+    }
 
 -- back to a caller, or to the lines that end
-pub back_after : (p : Linking) (u : Code) (g : Setting) → Premises p u g → (s : State) (c : Cpu) (m : Mem) (r : Rel p u g s c m) (callers : List Frame) (v : Value) → Means p v (c.x 10) → Leaves p c.pc (frame_of g s.frame.function) → Mapped p s.store.shape (mark s.frame ∷ marks callers) → Ordered g.stack (mark s.frame ∷ marks callers) → AllLinked s.store.shape (mark s.frame ∷ marks callers) → Chain p u g m s.frame.active.depth (frame_of g s.frame.function) callers → After p u g 7 c m (back u g callers v s)
-back_after p u g l s c m r [] v result leaves mapped ordered linked chain =
+pub back_after : (p : Linking) (u : Code) (g : Setting) → Premises p u g → (s : State) (c : Cpu) (m : Mem) (r : Rel p u g s c m) (callers : List Frame) (v : Value) → Leaver p m c.pc c.x (frame_of g s.frame.function) v → Mapped p s.store.shape (mark s.frame ∷ marks callers) → Ordered g.stack (mark s.frame ∷ marks callers) → AllLinked s.store.shape (mark s.frame ∷ marks callers) → Chain p u g m s.frame.active.depth (frame_of g s.frame.function) callers → After p u g 7 c m (back u g callers v s)
+back_after p u g l s c m r [] v leave mapped ordered linked chain =
     let t = l.at.told in
     let depth : ℕ = s.frame.active.depth in
     let size : ℕ = frame_of g s.frame.function in
@@ -455,17 +497,16 @@ back_after p u g l s c m r [] v result leaves mapped ordered linked chain =
     let stack = l.at.stack in
     let at : address p o ≡ pointer_at depth = link_place p (mark s.frame) l.at.first linked.0 in
     let four = (l.at.functions s.frame.function r.f r.is).layout.inside Link link_shape refl in
-    let b : Returned p m c.pc c.x o (pointer_at depth) size = returns p m c.pc c.x o (pointer_at depth) size at r.fixed r.regs.zero_reg r.regs.stack (let q = ordered.1 in let k = ordered.0 in omega arith) (let q = chain.1 in let k = ordered.0 in omega arith) (let k = ordered.0 in omega arith) (chain_even p.begin (little m (pointer_at depth) 4) chain.0 (word_even (p.begin + 4) t.here)) (let q = chain.0 in let k = t.low in omega arith) (subst (λ z. IsBehindCall p.image z) (sym chain.0) (record { at = p.begin; behind = refl; imm = l.at.call; call = l.at.begins })) leaves in
+    let b : Left p m c.pc c.x o (pointer_at depth) size v = leave o (pointer_at depth) at r.fixed r.regs.zero_reg r.regs.stack (let q = ordered.1 in let k = ordered.0 in omega arith) (let q = chain.1 in let k = ordered.0 in omega arith) (let k = ordered.0 in omega arith) (chain_even p.begin (little m (pointer_at depth) 4) chain.0 (word_even (p.begin + 4) t.here)) (let q = chain.0 in let k = t.low in omega arith) (subst (λ z. IsBehindCall p.image z) (sym chain.0) (record { at = p.begin; behind = refl; imm = l.at.call; call = l.at.begins })) in
     checked_after p u g 7 c m _ _ (λ z f.
     let k : Mem = written m 4 (bytes_of 4 (b.y 10)) in
-    let mean : c.x 10 ≡ word z = number_word p v (c.x 10) z f result in
-    let y10 : b.y 10 ≡ word z = b.homes 10 (omega arith) ∙ mean in
+    let y10 : b.y 10 ≡ word z = number_word p v (b.y 10) z f b.result in
     let zlow : word z < 2 ^ 32 = word_small z in
     let reach : Reach b.n (Loaded (address p o) 4 ∷ []) c m (record { pc = p.begin + 4; x = b.y }) m = subst (λ q. Reach b.n (Loaded (address p o) 4 ∷ []) c m (record { pc = q; x = b.y }) m) chain.0 b.reach in
     record {
       n = plus b.n 2;
       some = (let q = plus_is b.n 2 in omega arith);
-      few = (let q = plus_is b.n 2 in let h = b.few in omega arith);
+      few = (let q = plus_is b.n 2 in let h = b.full z f in omega arith);
       ts = Loaded (address p o) 4 ∷ Stored 4 4 ∷ [];
       touches = subst (λ q. Touches p (Restores s.frame.active ∷ []) q) (sym (heard_load (address p o) 4 (let y = ordered.0 in omega arith) (let y = chain.1 in let w = l.at.first in let k = ordered.0 in omega arith))) (Restoring s.frame.active [] [] Nothing);
       orderly = joined (Loaded (address p o) 4 ∷ []) (Stored 4 4 ∷ []) (load_orderly (address p o) 4 (let y = ordered.0 in omega arith) (let y = chain.1 in let w = l.at.first in let k = ordered.0 in omega arith)) refl;
@@ -479,7 +520,7 @@ back_after p u g l s c m r [] v result leaves mapped ordered linked chain =
   where
     chain_even : (a b : ℕ) → b ≡ a + 4 → (a + 4) % 4 ≡ 0 → b % 4 ≡ 0
     chain_even a b e h = omega arith
-back_after p u g l s c m r (w ∷ ws) v result leaves mapped ordered linked chain =
+back_after p u g l s c m r (w ∷ ws) v leave mapped ordered linked chain =
     let depth : ℕ = s.frame.active.depth in
     let size : ℕ = frame_of g s.frame.function in
     let o : Object = object_of s.frame.active Link in
@@ -490,7 +531,7 @@ back_after p u g l s c m r (w ∷ ws) v result leaves mapped ordered linked chai
     let bk : Back p u g (little m (pointer_at depth) 4) w h = chain.1.1 in
     let up : depth ≡ w.active.depth + size = chain.0 in
     let deep = ordered.0 in
-    let b : Returned p m c.pc c.x o (pointer_at depth) size = returns p m c.pc c.x o (pointer_at depth) size at r.fixed r.regs.zero_reg r.regs.stack (let q = ordered.1 in omega arith) (omega arith) (omega arith) bk.even bk.low bk.behind leaves in
+    let b : Left p m c.pc c.x o (pointer_at depth) size v = leave o (pointer_at depth) at r.fixed r.regs.zero_reg r.regs.stack (let q = ordered.1 in omega arith) (omega arith) (omega arith) bk.even bk.low bk.behind in
     record {
       n = b.n;
       some = b.some;
@@ -504,7 +545,7 @@ back_after p u g l s c m r (w ∷ ws) v result leaves mapped ordered linked chai
       rel = record {
         fixed = r.fixed;
         regs = only_result p w.registers (pointer_at w.active.depth) w.to v b.y bk.lost b.y0 (b.y2 ∙ (omega arith))
-            (subst (λ z. Means p v (b.y z)) (sym bk.to) (means_at p v _ (c.x 10) _ refl (b.homes 10 (omega arith)) result));
+            (subst (λ z. Means p v (b.y z)) (sym bk.to) b.result);
         f = h;
         is = bk.is;
         code = bk.code;

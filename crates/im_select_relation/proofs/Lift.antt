@@ -117,7 +117,8 @@ exits : (p : Linking) (i : ℕ) (w : Lines) (place starts : ℕ → ℕ) → IsL
 exits p i w place starts l frame k (Jump b) h = jumps p i w place starts l k (w.block b) (p.place i b) (l.block b) h
 exits p i w place starts l frame k (Turn b) h = jumps p i w place starts l k (w.block b) (p.place i b) (l.block b) h
 exits p i w place starts l frame k (Branch on a b) h = (h.0, tested p i w place starts l k on a b h.1)
-exits p i w place starts l frame k (Return from) h = (h.0, leaves p i w place starts l k frame h.1)
+exits p i w place starts l frame k (Return None) h = (plain p i w place starts l k _ None None h.0, leaves p i w place starts l (suc k) frame h.1)
+exits p i w place starts l frame k (Return (Some r)) h = (h.0, leaves p i w place starts l k frame h.1)
 
 stands : (p : Linking) (i : ℕ) (w : Lines) (place starts : ℕ → ℕ) → IsLaid p i w place starts → (frame k : ℕ) (lines : List Line) (exit : Exit) → StandsIn w frame k lines exit → Stands p i frame (spot_of (p.entry i) k) lines exit
 stands p i w place starts l frame k [] exit h = exits p i w place starts l frame k exit h

@@ -26,7 +26,7 @@ use Rattle.im_block.specs.declared.code.Line.{Line}
 use Rattle.im_block.specs.declared.code.Exit.{Exit}
 use Rattle.im_block.specs.declared.code.Exit.TheVariants.{Jump, Turn, Branch, Return}
 use Rattle.im_block.specs.declared.unit.Unit.{Unit as Code}
-use Rattle.im_block.specs.Meaning.{Setting, statics_of, condition, returned, at_block, State, Next, Goes, Stops, Event, Serves, goes_to, leaves, step_at, step}
+use Rattle.im_block.specs.Meaning.{Setting, statics_of, condition, at_block, State, Next, Goes, Stops, Event, Serves, goes_to, leaves, step_at, step}
 use Rattle.im_block.specs.Runs.{Over, goes_on, exec, before, start}
 use Rattle.im_block.specs.Shape.{spot_weight, next_weight, after, spent, exit_words}
 use Rattle.im_select_relation.specs.Linking.{Linking, pointer_at, frame_of, address, Means}
@@ -40,7 +40,7 @@ use Rattle.im_select_relation.proofs.Shapes.{Premises}
 use Rattle.im_select_relation.proofs.Relation.{Rel, SlotsShaped, Advanced, Finished, After, checked_after, takes_after, moved_rel}
 use Rattle.im_select_relation.proofs.Ends.{jumps, tested_yes, tested_no}
 use Rattle.im_select_relation.proofs.Operators.{condition_word}
-use Rattle.im_select_relation.proofs.Calls.{first_after, enter_after, back_after, result_means}
+use Rattle.im_select_relation.proofs.Calls.{first_after, enter_after, back_after, clears, gives}
 use Rattle.im_select_relation.proofs.Lines.{line_after}
 use Rattle.im_select_relation.proofs.Fuel.{Paid, step_paid}
 
@@ -88,7 +88,8 @@ exit_after p u g l s c m r (Turn b) h = let j = jumps p m c.pc c.x _ r.fixed h i
 exit_after p u g l s c m r (Branch on a b) h =
     checked_after p u g 3 c m (condition s.store (s.frame.registers on)) _ (λ t e.
     branch_after p u g l s c m r on a b t (condition_word p s.store _ (s.frame.registers on) (c.x on) t r.mapped e (r.regs.homes on h.0.0)) h.1)
-exit_after p u g l s c m r (Return from) h = back_after p u g l s c m r s.callers (returned u g from s.frame.registers) (result_means p u g from s.frame.registers (c.x 10) h.0 (r.regs.homes 10 (omega arith))) h.1 r.mapped r.ordered r.linked r.chain
+exit_after p u g l s c m r (Return None) h = back_after p u g l s c m r s.callers Unset (clears p m c.pc c.x (frame_of g s.frame.function) h.0 h.1) r.mapped r.ordered r.linked r.chain
+exit_after p u g l s c m r (Return (Some k)) h = back_after p u g l s c m r s.callers (s.frame.registers k) (gives p m c.pc c.x (frame_of g s.frame.function) (s.frame.registers k) (subst (λ z. Means p (s.frame.registers z) (c.x 10)) (sym h.0) (r.regs.homes 10 (omega arith))) h.1) r.mapped r.ordered r.linked r.chain
 
 step_by : (p : Linking) (u : Code) (g : Setting) → Premises p u g → (s : State) (c : Cpu) (m : Mem) (r : Rel p u g s c m) (lines : List Line) → Stands p s.frame.function (frame_of g s.frame.function) c.pc lines s.frame.spot.exit → After p u g (next_weight (steps p) lines s.frame.spot.exit) c m (step_at u g lines s)
 step_by p u g l s c m r [] code = exit_after p u g l s c m r s.frame.spot.exit code

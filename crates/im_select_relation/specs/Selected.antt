@@ -115,16 +115,16 @@ pub record Leaves (p : Linking) (pc frame : ℕ) : Type 0 where
   pub raised : Adds p (pc + 4) 2 frame next
   pub returns : Holds p.image next (with_immediate Jalr 0 1 0)
 
--- a result is in x10
-abbrev pub InResult : Option ℕ → Type 0
-InResult None = Unit {0}
-InResult (Some r) = r ≡ 10
+-- a result is in x10; where there is none x10 is 0 from here on
+abbrev pub ReturnAt : Linking → ℕ → ℕ → Option ℕ → Type 0
+ReturnAt p frame pc None = Holds p.image pc (with_immediate Addi 10 0 0) × Leaves p (pc + 4) frame
+ReturnAt p frame pc (Some r) = (r ≡ 10) × Leaves p pc frame
 
 abbrev pub ExitAt : Linking → ℕ → ℕ → ℕ → Exit → Type 0
 ExitAt p i frame pc (Jump b) = Jumps p pc (p.place i b)
 ExitAt p i frame pc (Turn b) = Jumps p pc (p.place i b)
 ExitAt p i frame pc (Branch on a b) = IsHome on × Tested p pc on (p.place i a) (p.place i b)
-ExitAt p i frame pc (Return from) = InResult from × Leaves p pc frame
+ExitAt p i frame pc (Return from) = ReturnAt p frame pc from
 
 -- the lines of function i, which has this frame, from pc on
 abbrev pub Stands : Linking → ℕ → ℕ → ℕ → List Line → Exit → Type 0

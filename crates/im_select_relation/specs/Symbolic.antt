@@ -30,7 +30,7 @@ use Rattle.im_frame.specs.declared.layout.Layout.{Layout}
 use Rattle.im_frame.specs.Layout.{place_of as place_in, IsLayout}
 use Rattle.im_select_relation.specs.Linking.{Linking, LaidOut, frame_of}
 use Rattle.im_select_relation.specs.Linked.{FunctionAt}
-use Rattle.im_select_relation.specs.Selected.{IsHome, IsEntry, InResult, ones, unused_bits}
+use Rattle.im_select_relation.specs.Selected.{IsHome, IsEntry, ones, unused_bits}
 
 -- the lines of a function; the places of objects in frames and of statics; the labels of the function's blocks, of the
 -- functions' entries, of the lines for an exhausted stack, of a checkpoint by its last register, of putchar and getchar
@@ -134,11 +134,15 @@ pub record LeavesIn (w : Lines) (k frame : ℕ) : Type 0 where
   pub raised : AddsIn w (suc k) 2 frame next
   pub returns : Plain w next (with_immediate Jalr 0 1 0)
 
+abbrev pub ReturnIn : Lines → ℕ → ℕ → Option ℕ → Type 0
+ReturnIn w frame k None = Plain w k (with_immediate Addi 10 0 0) × LeavesIn w (suc k) frame
+ReturnIn w frame k (Some r) = (r ≡ 10) × LeavesIn w k frame
+
 abbrev pub ExitIn : Lines → ℕ → ℕ → Exit → Type 0
 ExitIn w frame k (Jump b) = JumpsIn w k (w.block b)
 ExitIn w frame k (Turn b) = JumpsIn w k (w.block b)
 ExitIn w frame k (Branch on a b) = IsHome on × TestedIn w k on (w.block a) (w.block b)
-ExitIn w frame k (Return from) = InResult from × LeavesIn w k frame
+ExitIn w frame k (Return from) = ReturnIn w frame k from
 
 -- the lines of a function that has this frame, from k on
 abbrev pub StandsIn : Lines → ℕ → ℕ → List Line → Exit → Type 0

@@ -1,0 +1,5 @@
+pub mod Bits
+pub mod Paths
+pub mod Sweeping
+pub mod Pointed
+pub mod Least
