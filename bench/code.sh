@@ -2,7 +2,7 @@
 # What compiled code costs: of each of the ten examples the words of its code beside those of `riscv64-unknown-elf-gcc -O0
 # -march=rv32im` (of .text, without a library), and of its run where power stays the instructions, the checkpoints, and the
 # instructions that are no checkpoint's. These are counted as the image runs on tools/counts.c: a checkpoint's go from the
-# jal at the cut through the routine's return, m + 8 of entry Em, so 39 in functions and 18 in getchar and putchar. The run's
+# jal at the cut through the routine's return, m + 8 of entry Em, so 18 in getchar and putchar. The run's
 # own counts have to be those of `intermit run`. INTERMIT names another program than ./intermit. It is no part of the gate.
 set -eu
 top=$(CDPATH= cd -- "$(dirname -- "$0")/.." && pwd)

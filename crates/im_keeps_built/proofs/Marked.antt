@@ -1,5 +1,5 @@
 -- A line of a program links x3 just where it has a cause.
-use Rattle.std.proofs.Common.{◌≡◌, ℕ, zero, suc, ◌+◌, ◌-◌, ◌^◌, inl, inr, Bool, true, false, List, [], ◌∷◌, ◌++◌, Some, length, map, refl, sym, ap, ◌∙◌, subst, arith}
+use Rattle.std.proofs.Common.{◌≡◌, ℕ, zero, suc, ◌+◌, ◌-◌, ◌^◌, inl, inr, Bool, true, false, List, [], ◌∷◌, ◌++◌, Option, Some, None, length, map, refl, sym, ap, ◌∙◌, subst, arith}
 use Rattle.std.specs.Prelude.{not, ◌&&◌, ◌==◌, slice_get}
 use Rattle.std.proofs.lemmas.Option.{slice_get_cases, slice_get_within}
 use Rattle.im_num.specs.declared.kind.Kind.TheVariants.{I8, U8, I16, U16, I32, U32, Ptr}
@@ -30,8 +30,9 @@ use Rattle.im_block.specs.declared.code.Block.{Block}
 use Rattle.im_block.specs.declared.unit.Function.{Function}
 use Rattle.im_block.specs.declared.unit.Unit.{Unit as Code}
 use Rattle.im_frame.specs.declared.layout.Layout.{Layout}
-use Rattle.im_select.specs.Emitted.{high_of, low_of, constant_by, constant_code, displaced_by, displaced_code, adds_by, adds_code, place_number, place_code, step_op, line_code, lines_code, exit_code, block_code, blocks_code, prologue_code, function_code, labelled, entry_label}
+use Rattle.im_select.specs.Emitted.{high_of, low_of, constant_by, constant_code, displaced_by, displaced_code, adds_by, adds_code, place_number, place_code, step_op, line_code, lines_code, exit_code, result_code, leave_code, block_code, blocks_code, prologue_code, function_code, labelled, entry_label}
 use Rattle.im_select.specs.Places.{at_of}
+use Rattle.im_live.specs.Entries.{entries}
 use Rattle.im_link_laws.specs.Program.{HasCode, part_of, first_label, given_at, start_code, IsProgram}
 use Rattle.im_saved_lines.specs.Scan.{way}
 use Rattle.im_saved_lines.proofs.Scanning.{both}
@@ -119,70 +120,77 @@ place_marked (Static object offset) n = (refl, tt)
 place_marked (Local object offset) n = displaced_marked 2 n
 place_marked (Through r offset) n = displaced_marked r n
 
-line_marked : (at : Name → ℕ) (line : Line) → AreMarked (line_code at line)
-line_marked at (Put to z) = constant_marked to (word z)
-line_marked at (PutNull to) = (refl, tt)
-line_marked at (Copy to from) = (refl, tt)
-line_marked at (Convert to I8 from) = (refl, (refl, tt))
-line_marked at (Convert to U8 from) = (refl, (refl, tt))
-line_marked at (Convert to I16 from) = (refl, (refl, tt))
-line_marked at (Convert to U16 from) = (refl, (refl, tt))
-line_marked at (Convert to I32 from) = (refl, tt)
-line_marked at (Convert to U32 from) = (refl, tt)
-line_marked at (Convert to Ptr from) = (refl, tt)
-line_marked at (Unary to Negate kind from) = (refl, tt)
-line_marked at (Unary to Complement kind from) = (refl, tt)
-line_marked at (Not to from) = (refl, tt)
-line_marked at (Compute to op kind left right) = (unlinked (operation op kind) to (operation_way op kind), tt)
-line_marked at (Compare to Less kind left right) = (unlinked (less_op kind) to (less_way kind), tt)
-line_marked at (Compare to Greater kind left right) = (unlinked (less_op kind) to (less_way kind), tt)
-line_marked at (Compare to LessOrEqual kind left right) = (unlinked (less_op kind) to (less_way kind), (refl, tt))
-line_marked at (Compare to GreaterOrEqual kind left right) = (unlinked (less_op kind) to (less_way kind), (refl, tt))
-line_marked at (Compare to Equal kind left right) = (refl, (refl, tt))
-line_marked at (Compare to NotEqual kind left right) = (refl, (refl, tt))
-line_marked at (Move to size back pointer by) = marked_append (constant_code 5 size) _ (constant_marked 5 size) (refl, (unlinked (step_op back) to (step_way back), tt))
-line_marked at (Distance to size left right) = (refl, marked_append (constant_code 6 size) _ (constant_marked 6 size) (refl, tt))
-line_marked at (Address to place) = marked_append (place_code place (place_number at place)) _ (place_marked place (place_number at place)) (refl, tt)
-line_marked at (Read to place kind access) = marked_append (place_code place (place_number at place)) _ (place_marked place (place_number at place)) (unlinked (load_op kind) to (load_way kind), tt)
-line_marked at (Write place kind from access) = marked_append (place_code place (place_number at place)) _ (place_marked place (place_number at place)) (unlinked (store_op kind) 0 (store_way kind), tt)
-line_marked at (Reload to slot access) = marked_append (displaced_code 2 (at (Slot slot))) _ (displaced_marked 2 (at (Slot slot))) (refl, tt)
-line_marked at (Spill slot from access) = marked_append (displaced_code 2 (at (Slot slot))) _ (displaced_marked 2 (at (Slot slot))) (refl, tt)
-line_marked at (Cut cause) = (refl, tt)
-line_marked at (Call to i first count) = (refl, tt)
-line_marked at (GetChar to) = (refl, tt)
-line_marked at (PutChar to from) = (refl, tt)
+line_marked : (at : Name → ℕ) (m : ℕ) (line : Line) → AreMarked (line_code at m line)
+line_marked at m (Put to z) = constant_marked to (word z)
+line_marked at m (PutNull to) = (refl, tt)
+line_marked at m (Copy to from) = (refl, tt)
+line_marked at m (Convert to I8 from) = (refl, (refl, tt))
+line_marked at m (Convert to U8 from) = (refl, (refl, tt))
+line_marked at m (Convert to I16 from) = (refl, (refl, tt))
+line_marked at m (Convert to U16 from) = (refl, (refl, tt))
+line_marked at m (Convert to I32 from) = (refl, tt)
+line_marked at m (Convert to U32 from) = (refl, tt)
+line_marked at m (Convert to Ptr from) = (refl, tt)
+line_marked at m (Unary to Negate kind from) = (refl, tt)
+line_marked at m (Unary to Complement kind from) = (refl, tt)
+line_marked at m (Not to from) = (refl, tt)
+line_marked at m (Compute to op kind left right) = (unlinked (operation op kind) to (operation_way op kind), tt)
+line_marked at m (Compare to Less kind left right) = (unlinked (less_op kind) to (less_way kind), tt)
+line_marked at m (Compare to Greater kind left right) = (unlinked (less_op kind) to (less_way kind), tt)
+line_marked at m (Compare to LessOrEqual kind left right) = (unlinked (less_op kind) to (less_way kind), (refl, tt))
+line_marked at m (Compare to GreaterOrEqual kind left right) = (unlinked (less_op kind) to (less_way kind), (refl, tt))
+line_marked at m (Compare to Equal kind left right) = (refl, (refl, tt))
+line_marked at m (Compare to NotEqual kind left right) = (refl, (refl, tt))
+line_marked at m (Move to size back pointer by) = marked_append (constant_code 5 size) _ (constant_marked 5 size) (refl, (unlinked (step_op back) to (step_way back), tt))
+line_marked at m (Distance to size left right) = (refl, marked_append (constant_code 6 size) _ (constant_marked 6 size) (refl, tt))
+line_marked at m (Address to place) = marked_append (place_code place (place_number at place)) _ (place_marked place (place_number at place)) (refl, tt)
+line_marked at m (Read to place kind access) = marked_append (place_code place (place_number at place)) _ (place_marked place (place_number at place)) (unlinked (load_op kind) to (load_way kind), tt)
+line_marked at m (Write place kind from access) = marked_append (place_code place (place_number at place)) _ (place_marked place (place_number at place)) (unlinked (store_op kind) 0 (store_way kind), tt)
+line_marked at m (Reload to slot access) = marked_append (displaced_code 2 (at (Slot slot))) _ (displaced_marked 2 (at (Slot slot))) (refl, tt)
+line_marked at m (Spill slot from access) = marked_append (displaced_code 2 (at (Slot slot))) _ (displaced_marked 2 (at (Slot slot))) (refl, tt)
+line_marked at m (Cut cause) = (refl, tt)
+line_marked at m (Call to i first count) = (refl, tt)
+line_marked at m (GetChar to) = (refl, tt)
+line_marked at m (PutChar to from) = (refl, tt)
 
-lines_marked : (at : Name → ℕ) (lines : List Line) → AreMarked (lines_code at lines)
-lines_marked at [] = tt
-lines_marked at (line ∷ lines) = marked_append (line_code at line) (lines_code at lines) (line_marked at line) (lines_marked at lines)
+lines_marked : (at : Name → ℕ) (m : ℕ → ℕ) (j : ℕ) (lines : List Line) → AreMarked (lines_code at m j lines)
+lines_marked at m j [] = tt
+lines_marked at m j (line ∷ lines) = marked_append (line_code at (m j) line) (lines_code at m (suc j) lines) (line_marked at (m j) line) (lines_marked at m (suc j) lines)
+
+result_marked : (from : Option ℕ) → AreMarked (result_code from)
+result_marked None = (refl, tt)
+result_marked (Some r) = tt
+
+leave_marked : (frame : ℕ) → AreMarked (leave_code frame)
+leave_marked frame = (refl, marked_append (adds_code 2 frame) _ (adds_marked 2 frame) (refl, tt))
 
 exit_marked : (first frame : ℕ) (exit : Exit) → AreMarked (exit_code first frame exit)
 exit_marked first frame (Jump b) = (refl, tt)
 exit_marked first frame (Turn b) = (refl, tt)
 exit_marked first frame (Branch on x y) = (refl, (refl, (refl, tt)))
-exit_marked first frame (Return from) = (refl, marked_append (adds_code 2 frame) _ (adds_marked 2 frame) (refl, tt))
+exit_marked first frame (Return from) = marked_append (result_code from) (leave_code frame) (result_marked from) (leave_marked frame)
 
 labelled_marked : (label : ℕ) (lines : List CodeLine) → AreMarked lines → AreMarked (labelled label lines)
 labelled_marked label [] a = tt
 labelled_marked label (x ∷ xs) a = (a.0, a.1)
 
-blocks_marked : (at : Name → ℕ) (first frame n : ℕ) (blocks : List Block) → AreMarked (blocks_code at first frame n blocks)
-blocks_marked at first frame n [] = tt
-blocks_marked at first frame n (block ∷ blocks) =
-    marked_append (block_code at first frame n block) (blocks_code at first frame (suc n) blocks)
-    (labelled_marked (first + n) (lines_code at block.lines.items ++ exit_code first frame block.exit)
-    (marked_append (lines_code at block.lines.items) (exit_code first frame block.exit) (lines_marked at block.lines.items) (exit_marked first frame block.exit)))
-    (blocks_marked at first frame (suc n) blocks)
+blocks_marked : (at : Name → ℕ) (m : ℕ → ℕ → ℕ) (first frame n : ℕ) (blocks : List Block) → AreMarked (blocks_code at m first frame n blocks)
+blocks_marked at m first frame n [] = tt
+blocks_marked at m first frame n (block ∷ blocks) =
+    marked_append (block_code at (m n) first frame n block) (blocks_code at m first frame (suc n) blocks)
+    (labelled_marked (first + n) (lines_code at (m n) 0 block.lines.items ++ exit_code first frame block.exit)
+    (marked_append (lines_code at (m n) 0 block.lines.items) (exit_code first frame block.exit) (lines_marked at (m n) 0 block.lines.items) (exit_marked first frame block.exit)))
+    (blocks_marked at m first frame (suc n) blocks)
 
 prologue_marked : (frame target : ℕ) → AreMarked (prologue_code frame target)
 prologue_marked frame target =
     marked_append (adds_code 6 (2 ^ 32 - frame)) _ (adds_marked 6 (2 ^ 32 - frame)) (refl, (refl, (refl, (refl, (refl, (refl, tt))))))
 
-function_marked : (at : Name → ℕ) (i first frame entry : ℕ) (blocks : List Block) → AreMarked (function_code at i first frame entry blocks)
-function_marked at i first frame entry blocks =
-    marked_append (labelled (entry_label i) (prologue_code frame (first + entry))) (blocks_code at first frame 0 blocks)
+function_marked : (at : Name → ℕ) (m : ℕ → ℕ → ℕ) (i first frame entry : ℕ) (blocks : List Block) → AreMarked (function_code at m i first frame entry blocks)
+function_marked at m i first frame entry blocks =
+    marked_append (labelled (entry_label i) (prologue_code frame (first + entry))) (blocks_code at m first frame 0 blocks)
     (labelled_marked (entry_label i) (prologue_code frame (first + entry)) (prologue_marked frame (first + entry)))
-    (blocks_marked at first frame 0 blocks)
+    (blocks_marked at m first frame 0 blocks)
 
 -- ---- the lines of all parts
 
@@ -218,9 +226,10 @@ module _ (u : Code) (statics : List ℕ) (layouts : List Layout) (parts : List P
   function_part : (i : ℕ) (f : Function) → slice_get u.functions.items i ≡ Some f → (part : Part) → IsPart parts (part_of i) part → AllMarked part.lines.items
   function_part i f e part is_part =
       let own = program.functions i f e in
+      let exact = own.selection.exact in
       by_code (part_of i) part own.code is_part own.there
-      (subst AreMarked (sym own.selection.exact)
-      (function_marked (at_of (given_at u.functions.items statics i f own.layout)) i (first_label u.functions.items i) own.layout.frame f.entry f.blocks.items))
+      (subst AreMarked (sym exact.lines_are)
+      (function_marked (at_of (given_at u.functions.items statics i f own.layout)) (entries exact.live f.blocks.items) i (first_label u.functions.items i) own.layout.frame f.entry f.blocks.items))
 
   part_marked : (p : ℕ) (part : Part) → IsPart parts p part → AllMarked part.lines.items
   part_marked zero part e = by_code 0 part _ e program.recovers recovery_marked

@@ -46,6 +46,11 @@ const WORDS: [u32; 32] = [
     0x0128a023, 0x01012e03, 0x000012b7, 0x011282b3, 0x01c28023, 0x01e12423, 0x000001ef, 0x000000ef,
 ];
 
+// What lives before each line and behind the last: x2, x10 and x11 behind the cut before the call.
+const POINTS: [u32; 22] = [
+    0, 0, 0, 0, 0, 0, 0, 0, 0, 0, 0, 0, 0, 0, 0, 0, 0, 0, 0, 0, 0xc04, 0x400,
+];
+
 #[test]
 fn lines_are_those_of_the_assembler(rt: HostRuntime) -> Result<(), Fail> {
     let function = sample(rt.alloc())?;
@@ -169,10 +174,13 @@ fn lines_are_those_of_the_assembler(rt: HostRuntime) -> Result<(), Fail> {
         },
     ];
     let mut lines = Vec::new(rt.alloc());
-    push_lines(&mut lines, &names, &placed)?;
+    push_lines(&mut lines, &names, &POINTS, &placed)?;
     assert_eq!(rt; lines.len(), WORDS.len());
     for (line, word) in lines.iter().zip(&WORDS) {
         assert_eq!(rt; encode(line.instr), *word);
+        if line.cause.is_some() {
+            assert_eq!(rt; line.target, Some(11));
+        }
     }
     Ok(())
 }
