@@ -23,7 +23,10 @@ use Rattle.im_compile.specs.Built.{IsBuilt, bytes_of}
 
 -- tags of no access; for its type the list takes what a vector of the unit has
 abbrev pub no_tags : Code → Tags
-no_tags u = record { tags = record { ptr = null_ptr; len = 0; cap = u.statics.cap; alloc = u.statics.alloc; items = []; ok = (refl, omega arith); small = u.statics.small } }
+no_tags u = record {
+  of = record { ptr = null_ptr; len = 0; cap = u.statics.cap; alloc = u.statics.alloc; items = []; ok = (refl, omega arith); small = u.statics.small };
+  tags = record { ptr = null_ptr; len = 0; cap = u.statics.cap; alloc = u.statics.alloc; items = []; ok = (refl, omega arith); small = u.statics.small };
+}
 
 -- what frames may need has 64 bits
 
