@@ -47,7 +47,7 @@ fn add(alloc: Global) -> Result<Function, Stop>
         },
         Line::Cut(Cause::Return),
         Line::Reload {
-            to: 7,
+            to: 9,
             slot: 0,
             access: 2,
         },
@@ -57,29 +57,29 @@ fn add(alloc: Global) -> Result<Function, Stop>
             access: 3,
         },
         Line::Read {
-            to: 8,
+            to: 21,
             place: Place::Through {
-                pointer: 7,
+                pointer: 9,
                 offset: 0,
             },
             kind: Kind::I32,
             access: 4,
         },
         Line::Compute {
-            to: 8,
+            to: 21,
             op: BinaryOp::Add,
             kind: Kind::I32,
-            left: 8,
+            left: 21,
             right: 31,
         },
         Line::Cut(Cause::Dep { read: 4, write: 5 }),
         Line::Write {
             place: Place::Through {
-                pointer: 7,
+                pointer: 9,
                 offset: 0,
             },
             kind: Kind::I32,
-            from: 8,
+            from: 21,
             access: 5,
         },
     ]?;

@@ -115,7 +115,7 @@ fn verdict(is_right: bool) -> &'static str {
 }
 
 /// `example`, a name: of a source, an input and an output that lie in files.
-pub(crate) fn example(rt: &HostRuntime, row: &Row<'_>, told: &mut Told) -> Result<(), Stop> {
+pub(crate) fn run_example(rt: &HostRuntime, row: &Row<'_>, told: &mut Told) -> Result<(), Stop> {
     let example = example_of(rt.alloc(), row.field(1)?)?;
     let is_meant = is_meant(rt, &example)?;
     let (whole, in_periods) = runs_of(rt, &example)?;

@@ -46,7 +46,7 @@ fn run_source(
 ) -> Result<bool, Stop> {
     let alloc = rt.alloc();
     match row.kind() {
-        "example" => examples::example(rt, row, told)?,
+        "example" => examples::run_example(rt, row, told)?,
         "program" => programs::program(alloc, texts, row, told)?,
         "source" => sources::source(alloc, texts, row, told)?,
         "typed" => typed::typed(alloc, texts, row, told)?,
