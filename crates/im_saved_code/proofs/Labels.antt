@@ -3,12 +3,12 @@ use Rattle.std.proofs.Common.{◌≡◌, ℕ, zero, suc, ◌+◌, ◌-◌, ◌<�
 use Rattle.std.specs.Prelude.{◌&&◌, ◌||◌, nat_lt, nat_le, if◌then◌else◌, slice_get}
 use Rattle.std.proofs.lemmas.Bool.Decides.{nat_tests}
 use Rattle.std.proofs.lemmas.Option.{slice_get_within}
-use Rattle.im_rtlib.specs.Laws.{is_saved}
 use Rattle.im_block.specs.declared.unit.Function.{Function}
 use Rattle.im_block.specs.Shape.{sum_of}
 use Rattle.im_select.specs.Emitted.{entry_label}
 use Rattle.im_link_laws.specs.Program.{first_label}
-use Rattle.im_saved_lines.specs.Laws.{IsLow, HasEntries, HasBlocks}
+use Rattle.im_saved_lines.specs.Scan.{is_base}
+use Rattle.im_saved_lines.specs.Laws.{lives_inside, IsLow, HasEntries, HasBlocks}
 use Rattle.im_saved_lines.proofs.Scanning.{both, both_are, either, or_left, or_right}
 
 less_is : (a b : ℕ) → a < b → nat_lt a b ≡ true
@@ -30,10 +30,10 @@ abbrev beyond_low : (ℕ → ℕ → ℕ → Bool) → List Function → ℕ →
 beyond_low wanted functions l r = if nat_lt l (entry_label (length functions)) then arguments (slice_get functions (l - 64)) r else in_blocks wanted functions 0 (l - entry_label (length functions)) r
 
 abbrev beside : (ℕ → ℕ → ℕ → Bool) → List Function → ℕ → ℕ → Bool
-beside wanted functions l r = if nat_lt l 64 then false else beyond_low wanted functions l r
+beside wanted functions l r = if nat_lt l 64 then lives_inside l r else beyond_low wanted functions l r
 
 abbrev pub at_labels : (ℕ → ℕ → ℕ → Bool) → List Function → ℕ → ℕ → Bool
-at_labels wanted functions l r = is_saved r || beside wanted functions l r
+at_labels wanted functions l r = is_base r || beside wanted functions l r
 
 found : (wanted : ℕ → ℕ → ℕ → Bool) (fs : List Function) (i k b r : ℕ) (f : Function) → slice_get fs k ≡ Some f → b < length f.blocks.items → in_blocks wanted fs i (sum_of (λ (z : Function). length z.blocks.items) (take k fs) + b) r ≡ wanted (i + k) b r
 found wanted [] i k b r f e h = absurd cc
@@ -55,16 +55,13 @@ found wanted (x ∷ xs) i (suc k) b r f e h =
 
 pub labels_low : (wanted : ℕ → ℕ → ℕ → Bool) (functions : List Function) → IsLow (at_labels wanted functions)
 labels_low wanted functions = record {
-  low = λ l r small w. elim (either (is_saved r) (beside wanted functions l r) w) [
-    | inl s ↦ s
-    | inr c ↦ (let n : beside wanted functions l r ≡ false = ap (λ t. if t then false else beyond_low wanted functions l r) (less_is l 64 small) in absurd cc)
-  ];
-  saved = λ l r s. or_left (is_saved r) (beside wanted functions l r) s;
+  is = λ l r small. ap (λ t. is_base r || (if t then lives_inside l r else beyond_low wanted functions l r)) (less_is l 64 small);
+  base = λ l r s. or_left (is_base r) (beside wanted functions l r) s;
 }
 
 pub labels_entries : (wanted : ℕ → ℕ → ℕ → Bool) (functions : List Function) → HasEntries functions (at_labels wanted functions)
 labels_entries wanted functions = record {
-  only = λ i r f e w. elim (either (is_saved r) (beside wanted functions (entry_label i) r) w) [
+  only = λ i r f e w. elim (either (is_base r) (beside wanted functions (entry_label i) r) w) [
     | inl s ↦ inl s
     | inr c ↦
         (let d = both (nat_le 10 r) (nat_lt r (10 + f.parameters)) (sym (at_entry i r f e) ∙ c) in
@@ -75,24 +72,24 @@ labels_entries wanted functions = record {
   all = λ i r f e low high. (
       let a : nat_le 10 r ≡ true = grind (arith, nat_tests) in
       let b : nat_lt r (10 + f.parameters) ≡ true = grind (arith, nat_tests) in
-      or_right (is_saved r) (beside wanted functions (entry_label i) r) (at_entry i r f e ∙ both_are (nat_le 10 r) (nat_lt r (10 + f.parameters)) a b));
+      or_right (is_base r) (beside wanted functions (entry_label i) r) (at_entry i r f e ∙ both_are (nat_le 10 r) (nat_lt r (10 + f.parameters)) a b));
 }
   where
     at_entry : (i r : ℕ) (f : Function) → slice_get functions i ≡ Some f → beside wanted functions (entry_label i) r ≡ (nat_le 10 r && nat_lt r (10 + f.parameters))
     at_entry i r f e =
         let within = slice_get_within functions i f e in
         let back : entry_label i - 64 ≡ i = omega arith in
-        ap (λ t. if t then false else beyond_low wanted functions (entry_label i) r) (less_not (entry_label i) 64 (omega arith))
+        ap (λ t. if t then lives_inside (entry_label i) r else beyond_low wanted functions (entry_label i) r) (less_not (entry_label i) 64 (omega arith))
         ∙ ap (λ t. if t then arguments (slice_get functions (entry_label i - 64)) r else in_blocks wanted functions 0 (entry_label i - entry_label (length functions)) r) (less_is (entry_label i) (entry_label (length functions)) (omega arith))
         ∙ ap (λ z. arguments z r) (ap (slice_get functions) back ∙ e)
 
 pub labels_blocks : (wanted : ℕ → ℕ → ℕ → Bool) (functions : List Function) (i : ℕ) (f : Function) → slice_get functions i ≡ Some f → HasBlocks (wanted i) (first_label functions i) (length f.blocks.items) (at_labels wanted functions)
 labels_blocks wanted functions i f e = record {
-  only = λ b r h w. elim (either (is_saved r) (beside wanted functions (first_label functions i + b) r) w) [
+  only = λ b r h w. elim (either (is_base r) (beside wanted functions (first_label functions i + b) r) w) [
     | inl s ↦ inl s
     | inr c ↦ inr (sym (at_block b r h) ∙ c)
   ];
-  all = λ b r h w. or_right (is_saved r) (beside wanted functions (first_label functions i + b) r) (at_block b r h ∙ w);
+  all = λ b r h w. or_right (is_base r) (beside wanted functions (first_label functions i + b) r) (at_block b r h ∙ w);
 }
   where
     at_block : (b r : ℕ) → b < length f.blocks.items → beside wanted functions (first_label functions i + b) r ≡ wanted i b r
@@ -102,6 +99,6 @@ labels_blocks wanted functions i f e = record {
         let l : ℕ = n + s + b in
         let back : l - n ≡ s + b = omega arith in
         let i0 : 0 + i ≡ i = omega arith in
-        ap (λ t. if t then false else beyond_low wanted functions l r) (less_not l 64 (omega arith))
+        ap (λ t. if t then lives_inside l r else beyond_low wanted functions l r) (less_not l 64 (omega arith))
         ∙ ap (λ t. if t then arguments (slice_get functions (l - 64)) r else in_blocks wanted functions 0 (l - n) r) (less_not l n (omega arith))
         ∙ ap (λ c. in_blocks wanted functions 0 c r) back ∙ found wanted functions 0 i b r f e h ∙ ap (λ c. wanted c b r) i0

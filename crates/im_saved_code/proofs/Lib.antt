@@ -1,5 +1,6 @@
 pub mod Labels
 pub mod Lists
+pub mod Held
 pub mod Parts
 pub mod Words
 pub mod Living

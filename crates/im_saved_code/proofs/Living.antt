@@ -16,14 +16,15 @@ use Rattle.im_gap.specs.declared.flow.Turn.{Turn}
 use Rattle.im_gap.specs.declared.flow.Turn.TheVariants.{Passes, Jumps, Branches, Returns, Stops}
 use Rattle.im_gap.specs.Flow.{turn_of, imm_of, links_by, links, IsBehind, Leads, Flow}
 use Rattle.im_link.specs.Links.{StandsAt, Does, AreWordsOf}
-use Rattle.im_rtlib.specs.Laws.{is_saved}
-use Rattle.im_saved_lines.specs.Scan.{way, After, nothing, at_target, onward, lives_at, before, GoesTo, Goes, IsSoundLine, AreSound}
+use Rattle.im_saved_lines.specs.Scan.{way, is_base, is_returned, After, nothing, at_target, onward, lives_at, before, GoesTo, Goes, IsSoundLine, AreSound}
 use Rattle.im_saved_lines.specs.Laws.{IsLow}
 use Rattle.im_saved_lines.proofs.Scanning.{both, both_are, either, or_left, or_right, is_not, same_of, same_is, IsUnsaved, unsaved_not, unsaved_true, or_unsaved}
-use Rattle.im_saved_lines.proofs.Selected.{saved_low}
 use Rattle.im_saved.specs.Liveness.{has_result, uses_register, sets_register, IsCutTo, IsLiveness, names_target, EntersByCuts}
 use Rattle.im_saved_code.proofs.Lists.{after_of, after_at, sound_at, over_is, code_at}
 use Rattle.im_saved_code.proofs.Words.{Word, word_of, no_word, resultless, turn_way, links_is, jumps_is}
+
+base_low : (r : ℕ) → is_base r ≡ true → r ≤ 2
+base_low r e = grind (arith, nat_tests)
 
 -- ---- a code
 
@@ -35,27 +36,27 @@ pub record IsLaidOut (lines outside : List Line) (words : List ℕ) (at : ℕ �
   pub low : IsLow at
   pub labels : (l j : ℕ) → 32 ≤ l → StandsAt lines l j → 237 ≤ j
   pub calls : (i : ℕ) → links 1 (instruction_at words i) ≡ true → 237 ≤ i
-  pub entries : (l j : ℕ) → 10 ≤ l → l ≤ 31 → StandsAt lines l j → address j ≡ entry_at l
+  pub entries : (l j : ℕ) → 4 ≤ l → l ≤ 31 → StandsAt lines l j → address j ≡ entry_at l
 
 module _ (lines outside : List Line) (words : List ℕ) (at : ℕ → ℕ → Bool) (h : IsLaidOut lines outside words at) where
   abbrev pub after : ℕ → After
   after k = after_of at (code_lines outside) k
 
   abbrev pub live : ℕ → ℕ → Bool
-  live i r = is_saved r || (after (i - 237)).next r
+  live i r = is_base r || (after (i - 237)).next r
 
   live_is : (i k r : ℕ) → i ≡ 237 + k → (IsUnsaved r → (after k).next r ≡ true) → live i r ≡ true
   live_is i k r e w =
       let q : i - 237 ≡ k = omega arith in
       elim (or_unsaved ((after k).next r ≡ true) r w) [
-        | inl s ↦ or_left (is_saved r) ((after (i - 237)).next r) s
-        | inr a ↦ or_right (is_saved r) ((after (i - 237)).next r) (subst (λ z. (after z).next r ≡ true) (sym q) a)
+        | inl s ↦ or_left (is_base r) ((after (i - 237)).next r) s
+        | inr a ↦ or_right (is_base r) ((after (i - 237)).next r) (subst (λ z. (after z).next r ≡ true) (sym q) a)
       ]
 
   live_past : (i k r : ℕ) → i ≡ 237 + k → IsUnsaved r → live i r ≡ true → (after k).next r ≡ true
   live_past i k r e u w =
       let q : i - 237 ≡ k = omega arith in
-      elim (either (is_saved r) ((after (i - 237)).next r) w) [
+      elim (either (is_base r) ((after (i - 237)).next r) w) [
         | inl s ↦ absurd (unsaved_true r u s)
         | inr a ↦ subst (λ z. (after z).next r ≡ true) q a
       ]
@@ -97,7 +98,7 @@ module _ (lines outside : List Line) (words : List ℕ) (at : ℕ → ℕ → Bo
   later i k r a ne w =
       let x : CodeLine = code_line a.line in
       now i k r a
-      (or_right (is_saved r) _
+      (or_right (is_base r) _
       (or_right (r == x.line.rs1 || r == x.line.rs2) _
       (both_are (not (r == x.line.rd)) (onward at (way x.line.op) x.line.rd x.target (after (suc k)) r) (is_not (r == x.line.rd) (λ q. ne (same_of r x.line.rd q))) w)))
 
@@ -113,7 +114,7 @@ module _ (lines outside : List Line) (words : List ℕ) (at : ℕ → ℕ → Bo
       (λ n.
       let z = (both (nat_lt 0 r) (r == 0 || r == 0) (ap (λ o. uses_register o r) (sym n) ∙ u)).1 in
       let e : r ≡ 0 = elim (either (r == 0) (r == 0) z) [ inl a ↦ same_of r 0 a | inr a ↦ same_of r 0 a ] in
-      or_left (is_saved r) ((after k).next r) (ap is_saved e))
+      or_left (is_base r) ((after k).next r) (ap is_base e))
       (λ a.
       let x : CodeLine = code_line a.line in
       let to = a.word.to in
@@ -123,7 +124,7 @@ module _ (lines outside : List Line) (words : List ℕ) (at : ℕ → ℕ → Bo
         | inl e ↦ or_left (r == x.line.rs1) (r == x.line.rs2) (same_is r x.line.rs1 (same_of r to.rs1 e ∙ a.word.rs1))
         | inr e ↦ or_right (r == x.line.rs1) (r == x.line.rs2) (same_is r x.line.rs2 (same_of r to.rs2 e ∙ a.word.rs2))
       ] in
-      live_is i k r (split i le) (λ v. now i k r a (or_right (is_saved r) _ (or_left (r == x.line.rs1 || r == x.line.rs2) _ named))))
+      live_is i k r (split i le) (λ v. now i k r a (or_right (is_base r) _ (or_left (r == x.line.rs1 || r == x.line.rs2) _ named))))
 
   -- ---- flows
 
@@ -216,21 +217,21 @@ module _ (lines outside : List Line) (words : List ℕ) (at : ℕ → ℕ → Bo
       or_right ((after (suc k)).next r) (at_target at a.line.target (after (suc k)).over r)
       (target_is a.line.target g.0 (after (suc k)).over r g.1 (at_label g.0 j r g.2 (lands i k j g.0 a g.1 q) u w))
 
-  -- behind a call only saved registers live
-  behind_call : (j r : ℕ) → IsBehind words 1 j → live j r ≡ true → is_saved r ≡ true
+  -- behind a call the result lives, and what may live anywhere
+  behind_call : (j r : ℕ) → IsBehind words 1 j → live j r ≡ true → is_returned r ≡ true
   behind_call j r b w =
       let c : ℕ = b.0 in
       let le : 237 ≤ c = h.calls c b.1 in
       let k : ℕ = c - 237 in
-      elim (or_unsaved (is_saved r ≡ true) r (λ u.
-      some_line c k (is_saved r ≡ true) (split c le)
+      elim (or_unsaved (is_returned r ≡ true) r (λ u.
+      some_line c k (is_returned r ≡ true) (split c le)
       (λ n. (let t : links 1 None ≡ true = ap (links 1) (sym n) ∙ b.1 in absurd cc))
       (λ a.
       let is = links_is 1 a.word.to (ap (links 1) (sym a.word.here) ∙ b.1) in
       let jal : way (line_of a.line.instr).op ≡ Jumps = ap way (sym a.word.op ∙ is.0) in
       let g = subst (λ z. Goes z (line_of a.line.instr) a.line.target (after (suc k))) jal a.sound.goes in
       g.2.call (sym a.word.rd ∙ is.1) r (next_live c k r (split c le) u (subst (λ z. live z r ≡ true) b.2 w))))) [
-        | inl s ↦ s
+        | inl s ↦ or_left (is_base r) (r == 10) s
         | inr s ↦ s
       ]
 
@@ -305,7 +306,7 @@ module _ (lines outside : List Line) (words : List ℕ) (at : ℕ → ℕ → Bo
       later i k r d.a (λ q. saved.1 (q ∙ d.rd)) (subst (λ z. onward at z d.a.line.instr.rd d.a.line.target (after (suc k)) r ≡ true) (sym d.way_is) jumps))
 
   -- where a cut leads
-  entry_of : (i k l : ℕ) (a : AtLine i k) → a.line.target ≡ Some l → 10 ≤ l → l ≤ 31 → sum_of (address i) (imm_of (instruction_at words i)) ≡ entry_at l
+  entry_of : (i k l : ℕ) (a : AtLine i k) → a.line.target ≡ Some l → 4 ≤ l → l ≤ 31 → sum_of (address i) (imm_of (instruction_at words i)) ≡ entry_at l
   entry_of i k l a t low high = by a.line.target t a.word.does
     where
       by : (o : Option ℕ) → o ≡ Some l → Does lines i a.line o a.word.to → sum_of (address i) (imm_of (instruction_at words i)) ≡ entry_at l
@@ -327,7 +328,7 @@ module _ (lines outside : List Line) (words : List ℕ) (at : ℕ → ℕ → Bo
       let below = c.below in
       let same : m ≡ l = omega arith in
       elim (or_unsaved ((r ≤ l) × (r ≢ 3) × (r ≢ 4)) r (λ u. d.goes.2.saved d.rd r (next_live i k r (split i le) u w))) [
-        | inl s ↦ (let t = saved_low r s in let t0 = t.0 in (omega arith, t.1, t.2))
+        | inl s ↦ (let t = base_low r s in (omega arith, (λ q. omega arith), (λ q. omega arith)))
         | inr t ↦ (let t0 = t.0 in (omega arith, t.1, t.2))
       ]
 
@@ -338,7 +339,7 @@ module _ (lines outside : List Line) (words : List ℕ) (at : ℕ → ℕ → Bo
       let bounds = d.goes.2.cut d.rd in
       let low = bounds.0 in
       let high = bounds.1 in
-      (d.goes.0, record { linked = c; above = omega arith; below = high; target = entry_of i k d.goes.0 d.a d.goes.1 low high })
+      (d.goes.0, record { linked = c; above = low; below = high; target = entry_of i k d.goes.0 d.a d.goes.1 low high })
 
   -- ---- entries into the runtime
 
@@ -392,21 +393,21 @@ module _ (lines outside : List Line) (words : List ℕ) (at : ℕ → ℕ → Bo
         | inr q ↦ (let bad : names_target Stops ≡ true = ap names_target (sym q) ∙ t in absurd cc)
       ])
 
-  -- at the entry only saved registers live
-  pub liveness : (entry : ℕ) → ((i r : ℕ) → address i ≡ entry → live i r ≡ true → is_saved r ≡ true) → IsLiveness words entry live
+  -- at the entry lives only what may live anywhere
+  pub liveness : (entry : ℕ) → ((i r : ℕ) → address i ≡ entry → live i r ≡ true → is_base r ≡ true) → IsLiveness words entry live
   liveness entry first = record {
     uses = uses_live;
     flows = flows_live;
     cuts = cuts_live;
     saved = saved_live;
-    first = λ i r e w. (let s = saved_low r (first i r e w) in let s0 = s.0 in (s.1, s.2, omega arith));
+    first = λ i r e w. (let s = base_low r (first i r e w) in ((λ q. omega arith), (λ q. omega arith), omega arith));
   }
 
   pub enters : (entry : ℕ) → checkpoint_end ≤ entry → EntersByCuts words entry
   enters entry begins = record { begins = begins; cuts = cut_leads; others = others_out; calls = h.calls }
 
   -- what lives at a line that is known
-  pub lives_here : (i r : ℕ) (line : Line) → 237 ≤ i → slice_get lines i ≡ Some line → ((behind : After) → IsUnsaved r → lives_at at (code_line line) behind r ≡ true → ⊥) → live i r ≡ true → is_saved r ≡ true
+  pub lives_here : (i r : ℕ) (line : Line) → 237 ≤ i → slice_get lines i ≡ Some line → ((behind : After) → IsUnsaved r → lives_at at (code_line line) behind r ≡ true → ⊥) → live i r ≡ true → is_base r ≡ true
   lives_here i r line le g none w =
       let k : ℕ = i - 237 in
       let a = at_line i k line (split i le) g in

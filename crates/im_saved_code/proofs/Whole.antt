@@ -15,7 +15,6 @@ use Rattle.im_link.specs.Parts.{lines_of, first_of, last_of}
 use Rattle.im_link.specs.Links.{StandsAt}
 use Rattle.im_link.specs.Code.{IsLinkable, IsLinked}
 use Rattle.im_link.proofs.Joining.{get_kept, get_behind, line_in, lines_count}
-use Rattle.im_rtlib.specs.Laws.{is_saved}
 use Rattle.im_rtlib.specs.Routines.{aimed}
 use Rattle.im_rv_reach.specs.Instructions.{jumping}
 use Rattle.im_block.specs.declared.unit.Unit.{Unit as Code}
@@ -27,7 +26,7 @@ use Rattle.im_select.specs.Selects.{HasLabel}
 use Rattle.im_link_laws.specs.Program.{HasCode, part_of, IsProgram}
 use Rattle.im_link_laws.proofs.Runtimes.{saved_there, size_of}
 use Rattle.im_link_laws.proofs.Standing.{behind}
-use Rattle.im_saved_lines.specs.Scan.{nothing, lives_at}
+use Rattle.im_saved_lines.specs.Scan.{is_base, nothing, lives_at}
 use Rattle.im_saved_code.specs.Laws.{IsLiveCode, LiveCodeLaw}
 use Rattle.im_saved_code.proofs.Lists.{parts_sound, code_at}
 use Rattle.im_saved_code.proofs.Words.{Word, word_of, no_word}
@@ -113,9 +112,9 @@ module _ (u : Code) (statics : List ℕ) (layouts : List Layout) (parts : List P
   ]
 
   -- where the label of an entry stands
-  entries : (l j : ℕ) → 10 ≤ l → l ≤ 31 → StandsAt (lines_of parts) l j → address j ≡ entry_at l
+  entries : (l j : ℕ) → 4 ≤ l → l ≤ 31 → StandsAt (lines_of parts) l j → address j ≡ entry_at l
   entries l j low high s =
-      let h : HasLabel checkpoint_code (5 * (l - 4)) l = saved_there l (omega arith) high in
+      let h : HasLabel checkpoint_code (5 * (l - 4)) l = saved_there l low high in
       let c = program.saves in
       let t : slice_get (code_lines c.part.lines.items) (5 * (l - 4)) ≡ Some h.line = ap (λ z. slice_get z (5 * (l - 4))) c.lines ∙ h.there in
       let b = behind c.part.lines.items (5 * (l - 4)) h.line t in
@@ -162,7 +161,7 @@ module _ (u : Code) (statics : List ℕ) (layouts : List Layout) (parts : List P
     | inr c ↦ c
   ]
 
-  first_live : (i r : ℕ) → address i ≡ code.entry → live (lines_of parts) (lines_of (others parts)) words labelled laid_out i r ≡ true → is_saved r ≡ true
+  first_live : (i r : ℕ) → address i ≡ code.entry → live (lines_of parts) (lines_of (others parts)) words labelled laid_out i r ≡ true → is_base r ≡ true
   first_live i r e w =
       let at_first : address i ≡ address first_word = e ∙ linked.entry in
       let is : i ≡ first_word = omega arith in
