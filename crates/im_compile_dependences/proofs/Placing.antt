@@ -48,7 +48,7 @@ load_before (InSlot n) scratch access rest new b = one_before (Reload scratch n 
 
 save_before : (h : Home) (access : ℕ) (rest new : List Line) → Before rest new → Before rest (save h access new)
 save_before (InRegister r) access rest new b = b
-save_before (InSlot n) access rest new b = one_before (Spill n 30 access) rest new refl b
+save_before (InSlot n) access rest new b = one_before (Spill n 7 access) rest new refl b
 
 into_before : (h : Home) (k access : ℕ) (rest new : List Line) → Before rest new → Before rest (into h k access new)
 into_before (InRegister r) k access rest new b = one_before (Copy k r) rest new refl b
@@ -66,7 +66,7 @@ bring_before h k first (suc count) access rest new b =
 place_before : (h : ℕ → Home) (place : Place) (access : ℕ) (rest new : List Line) → Before rest new → Before rest (load_place h place access new)
 place_before h (Static object offset) access rest new b = b
 place_before h (Local object offset) access rest new b = b
-place_before h (Through pointer offset) access rest new b = load_before (h pointer) 28 access rest new b
+place_before h (Through pointer offset) access rest new b = load_before (h pointer) 7 access rest new b
 
 -- a line that has no access of its own
 unnamed : (line : Line) (old new : List Line) → accesses_of_line line ≡ [] → Carries old new → Carries (line ∷ old) new
@@ -108,36 +108,36 @@ module _ (h : ℕ → Home) (n : ℕ) (old rest : List Line) (c : Carries old re
       (carry old (Cut ReturnCut ∷ give (h to) (n + 2) rest) (other ∷ Cut ReturnCut ∷ give (h to) (n + 2) rest) (one_before other (Cut ReturnCut ∷ give (h to) (n + 2) rest) (Cut ReturnCut ∷ give (h to) (n + 2) rest) bare (nothing_before (Cut ReturnCut ∷ give (h to) (n + 2) rest))) back)
 
   put_carries : (line : Line) (after : ℕ → Bool) → ValidLine h line after → Carries (line ∷ old) (put_line h n line rest)
-  put_carries (Put to z) after v = put (Put to z) (put_line h n (Put to z) rest) refl (one_before (Put (reg (h to) 30) z) rest (save (h to) (n + 2) rest) refl (saved to))
-  put_carries (PutNull to) after v = put (PutNull to) (put_line h n (PutNull to) rest) refl (one_before (PutNull (reg (h to) 30)) rest (save (h to) (n + 2) rest) refl (saved to))
+  put_carries (Put to z) after v = put (Put to z) (put_line h n (Put to z) rest) refl (one_before (Put (reg (h to) 7) z) rest (save (h to) (n + 2) rest) refl (saved to))
+  put_carries (PutNull to) after v = put (PutNull to) (put_line h n (PutNull to) rest) refl (one_before (PutNull (reg (h to) 7)) rest (save (h to) (n + 2) rest) refl (saved to))
   put_carries (Copy to from) after v =
-      put (Copy to from) (put_line h n (Copy to from) rest) refl (load_before (h from) 28 n rest (Copy (reg (h to) 30) (reg (h from) 28) ∷ save (h to) (n + 2) rest) (one_before (Copy (reg (h to) 30) (reg (h from) 28)) rest (save (h to) (n + 2) rest) refl (saved to)))
+      put (Copy to from) (put_line h n (Copy to from) rest) refl (load_before (h from) 7 n rest (Copy (reg (h to) 7) (reg (h from) 7) ∷ save (h to) (n + 2) rest) (one_before (Copy (reg (h to) 7) (reg (h from) 7)) rest (save (h to) (n + 2) rest) refl (saved to)))
   put_carries (Convert to kind from) after v =
-      put (Convert to kind from) (put_line h n (Convert to kind from) rest) refl (load_before (h from) 28 n rest (Convert (reg (h to) 30) kind (reg (h from) 28) ∷ save (h to) (n + 2) rest) (one_before (Convert (reg (h to) 30) kind (reg (h from) 28)) rest (save (h to) (n + 2) rest) refl (saved to)))
+      put (Convert to kind from) (put_line h n (Convert to kind from) rest) refl (load_before (h from) 7 n rest (Convert (reg (h to) 7) kind (reg (h from) 7) ∷ save (h to) (n + 2) rest) (one_before (Convert (reg (h to) 7) kind (reg (h from) 7)) rest (save (h to) (n + 2) rest) refl (saved to)))
   put_carries (Unary to op kind from) after v =
-      put (Unary to op kind from) (put_line h n (Unary to op kind from) rest) refl (load_before (h from) 28 n rest (Unary (reg (h to) 30) op kind (reg (h from) 28) ∷ save (h to) (n + 2) rest) (one_before (Unary (reg (h to) 30) op kind (reg (h from) 28)) rest (save (h to) (n + 2) rest) refl (saved to)))
+      put (Unary to op kind from) (put_line h n (Unary to op kind from) rest) refl (load_before (h from) 7 n rest (Unary (reg (h to) 7) op kind (reg (h from) 7) ∷ save (h to) (n + 2) rest) (one_before (Unary (reg (h to) 7) op kind (reg (h from) 7)) rest (save (h to) (n + 2) rest) refl (saved to)))
   put_carries (Not to from) after v =
-      put (Not to from) (put_line h n (Not to from) rest) refl (load_before (h from) 28 n rest (Not (reg (h to) 30) (reg (h from) 28) ∷ save (h to) (n + 2) rest) (one_before (Not (reg (h to) 30) (reg (h from) 28)) rest (save (h to) (n + 2) rest) refl (saved to)))
+      put (Not to from) (put_line h n (Not to from) rest) refl (load_before (h from) 7 n rest (Not (reg (h to) 7) (reg (h from) 7) ∷ save (h to) (n + 2) rest) (one_before (Not (reg (h to) 7) (reg (h from) 7)) rest (save (h to) (n + 2) rest) refl (saved to)))
   put_carries (Compute to op kind left right) after v =
-      put (Compute to op kind left right) (put_line h n (Compute to op kind left right) rest) refl (load_before (h left) 28 n rest (load (h right) 29 (n + 1) (Compute (reg (h to) 30) op kind (reg (h left) 28) (reg (h right) 29) ∷ save (h to) (n + 2) rest)) (load_before (h right) 29 (n + 1) rest (Compute (reg (h to) 30) op kind (reg (h left) 28) (reg (h right) 29) ∷ save (h to) (n + 2) rest) (one_before (Compute (reg (h to) 30) op kind (reg (h left) 28) (reg (h right) 29)) rest (save (h to) (n + 2) rest) refl (saved to))))
+      put (Compute to op kind left right) (put_line h n (Compute to op kind left right) rest) refl (load_before (h left) 7 n rest (load (h right) 8 (n + 1) (Compute (reg (h to) 7) op kind (reg (h left) 7) (reg (h right) 8) ∷ save (h to) (n + 2) rest)) (load_before (h right) 8 (n + 1) rest (Compute (reg (h to) 7) op kind (reg (h left) 7) (reg (h right) 8) ∷ save (h to) (n + 2) rest) (one_before (Compute (reg (h to) 7) op kind (reg (h left) 7) (reg (h right) 8)) rest (save (h to) (n + 2) rest) refl (saved to))))
   put_carries (Compare to op kind left right) after v =
-      put (Compare to op kind left right) (put_line h n (Compare to op kind left right) rest) refl (load_before (h left) 28 n rest (load (h right) 29 (n + 1) (Compare (reg (h to) 30) op kind (reg (h left) 28) (reg (h right) 29) ∷ save (h to) (n + 2) rest)) (load_before (h right) 29 (n + 1) rest (Compare (reg (h to) 30) op kind (reg (h left) 28) (reg (h right) 29) ∷ save (h to) (n + 2) rest) (one_before (Compare (reg (h to) 30) op kind (reg (h left) 28) (reg (h right) 29)) rest (save (h to) (n + 2) rest) refl (saved to))))
+      put (Compare to op kind left right) (put_line h n (Compare to op kind left right) rest) refl (load_before (h left) 7 n rest (load (h right) 8 (n + 1) (Compare (reg (h to) 7) op kind (reg (h left) 7) (reg (h right) 8) ∷ save (h to) (n + 2) rest)) (load_before (h right) 8 (n + 1) rest (Compare (reg (h to) 7) op kind (reg (h left) 7) (reg (h right) 8) ∷ save (h to) (n + 2) rest) (one_before (Compare (reg (h to) 7) op kind (reg (h left) 7) (reg (h right) 8)) rest (save (h to) (n + 2) rest) refl (saved to))))
   put_carries (Move to size back pointer by) after v =
-      put (Move to size back pointer by) (put_line h n (Move to size back pointer by) rest) refl (load_before (h pointer) 28 n rest (load (h by) 29 (n + 1) (Move (reg (h to) 30) size back (reg (h pointer) 28) (reg (h by) 29) ∷ save (h to) (n + 2) rest)) (load_before (h by) 29 (n + 1) rest (Move (reg (h to) 30) size back (reg (h pointer) 28) (reg (h by) 29) ∷ save (h to) (n + 2) rest) (one_before (Move (reg (h to) 30) size back (reg (h pointer) 28) (reg (h by) 29)) rest (save (h to) (n + 2) rest) refl (saved to))))
+      put (Move to size back pointer by) (put_line h n (Move to size back pointer by) rest) refl (load_before (h pointer) 7 n rest (load (h by) 8 (n + 1) (Move (reg (h to) 7) size back (reg (h pointer) 7) (reg (h by) 8) ∷ save (h to) (n + 2) rest)) (load_before (h by) 8 (n + 1) rest (Move (reg (h to) 7) size back (reg (h pointer) 7) (reg (h by) 8) ∷ save (h to) (n + 2) rest) (one_before (Move (reg (h to) 7) size back (reg (h pointer) 7) (reg (h by) 8)) rest (save (h to) (n + 2) rest) refl (saved to))))
   put_carries (Distance to size left right) after v =
-      put (Distance to size left right) (put_line h n (Distance to size left right) rest) refl (load_before (h left) 28 n rest (load (h right) 29 (n + 1) (Distance (reg (h to) 30) size (reg (h left) 28) (reg (h right) 29) ∷ save (h to) (n + 2) rest)) (load_before (h right) 29 (n + 1) rest (Distance (reg (h to) 30) size (reg (h left) 28) (reg (h right) 29) ∷ save (h to) (n + 2) rest) (one_before (Distance (reg (h to) 30) size (reg (h left) 28) (reg (h right) 29)) rest (save (h to) (n + 2) rest) refl (saved to))))
+      put (Distance to size left right) (put_line h n (Distance to size left right) rest) refl (load_before (h left) 7 n rest (load (h right) 8 (n + 1) (Distance (reg (h to) 7) size (reg (h left) 7) (reg (h right) 8) ∷ save (h to) (n + 2) rest)) (load_before (h right) 8 (n + 1) rest (Distance (reg (h to) 7) size (reg (h left) 7) (reg (h right) 8) ∷ save (h to) (n + 2) rest) (one_before (Distance (reg (h to) 7) size (reg (h left) 7) (reg (h right) 8)) rest (save (h to) (n + 2) rest) refl (saved to))))
   put_carries (Address to place) after v =
-      put (Address to place) (put_line h n (Address to place) rest) refl (place_before h place n rest (Address (reg (h to) 30) (on_place h place) ∷ save (h to) (n + 2) rest) (one_before (Address (reg (h to) 30) (on_place h place)) rest (save (h to) (n + 2) rest) refl (saved to)))
+      put (Address to place) (put_line h n (Address to place) rest) refl (place_before h place n rest (Address (reg (h to) 7) (on_place h place) ∷ save (h to) (n + 2) rest) (one_before (Address (reg (h to) 7) (on_place h place)) rest (save (h to) (n + 2) rest) refl (saved to)))
   put_carries (Read to place kind access) after v =
-      let other : Line = Read (reg (h to) 30) (on_place h place) kind access in
+      let other : Line = Read (reg (h to) 7) (on_place h place) kind access in
       let new : List Line = other ∷ save (h to) (n + 2) rest in
       carry (Read to place kind access ∷ old) new (load_place h place n new) (place_before h place n new new (nothing_before new))
       (kept (Read to place kind access) other old (save (h to) (n + 2) rest) refl refl (carry old rest (save (h to) (n + 2) rest) (saved to) c))
   put_carries (Write place kind from access) after v =
-      let other : Line = Write (on_place h place) kind (reg (h from) 29) access in
+      let other : Line = Write (on_place h place) kind (reg (h from) 8) access in
       let new : List Line = other ∷ rest in
-      carry (Write place kind from access ∷ old) new (load_place h place n (load (h from) 29 (n + 1) new))
-      (place_before h place n new (load (h from) 29 (n + 1) new) (load_before (h from) 29 (n + 1) new new (nothing_before new)))
+      carry (Write place kind from access ∷ old) new (load_place h place n (load (h from) 8 (n + 1) new))
+      (place_before h place n new (load (h from) 8 (n + 1) new) (load_before (h from) 8 (n + 1) new new (nothing_before new)))
       (kept (Write place kind from access) other old rest refl refl c)
   put_carries (Reload to slot access) after v = absurd v
   put_carries (Spill slot from access) after v = absurd v
@@ -164,7 +164,7 @@ result_before h n (Some r) = into_before (h r) 10 n [] [] (nothing_before [])
 exit_before : (h : ℕ → Home) (n : ℕ) (exit : Exit) → Before [] (exit_lines h n exit)
 exit_before h n (Jump b) = nothing_before []
 exit_before h n (Turn b) = nothing_before []
-exit_before h n (Branch on a b) = load_before (h on) 28 n [] [] (nothing_before [])
+exit_before h n (Branch on a b) = load_before (h on) 7 n [] [] (nothing_before [])
 exit_before h n (Return from) = result_before h n from
 
 blocks : (h : ℕ → Home) (live : ℕ → ℕ → Bool) (n : ℕ) (xs ys : List Block) → PlacedBlocks h n xs ys → ((b : ℕ) (block : Block) → slice_get xs b ≡ Some block → Valid h live block.lines.items block.exit) → CarriesBlocks xs ys

@@ -70,7 +70,7 @@ pub record IsLaidOut (lines outside : List Line) (words : List ℕ) (at : ℕ �
   pub runtime : (i : ℕ) (line : Line) → i < 237 → slice_get lines i ≡ Some line → IsRuntimeLine i (code_line line)
   pub past : (k : ℕ) → slice_get lines (237 + k) ≡ slice_get outside k
   pub ranked : AreRanked at (code_lines outside) nothing
-  pub entries : (l j : ℕ) → 10 ≤ l → l ≤ 31 → StandsAt lines l j → address j ≡ entry_at l
+  pub entries : (l j : ℕ) → 4 ≤ l → l ≤ 31 → StandsAt lines l j → address j ≡ entry_at l
 
 module _ (lines outside : List Line) (words : List ℕ) (at : ℕ → ℕ) (h : IsLaidOut lines outside words at) where
   abbrev after : ℕ → After

@@ -80,7 +80,7 @@ scan at (x ∷ xs) behind = before at x (scan at xs behind)
 
 -- ---- what is asked of lines
 
--- a jump to a label: a cut's is that of an entry from E10 on, any other's is not the checkpoint's; behind a call ranks are low
+-- a jump to a label: a cut's is that of an entry from E4 on, any other's is not the checkpoint's; behind a call ranks are low
 pub record GoesTo (rd l : ℕ) (after : After) : Type 0 where
   pub cut : rd ≡ 3 → (4 ≤ l) × (l ≤ 31)
   pub call : rd ≡ 1 → after.next ≤ cut_rank

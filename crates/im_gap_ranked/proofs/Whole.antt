@@ -1,5 +1,5 @@
 -- The linked code of a program has a longest gap.
-use Rattle.std.proofs.Common.{◌≡◌, ℕ, zero, suc, ◌+◌, ◌-◌, ◌*◌, ◌<◌, ◌≤◌, ◌⊎◌, inl, inr, List, Some, length, map, refl, sym, ap, ◌∙◌, subst, arith}
+use Rattle.std.proofs.Common.{◌≡◌, ℕ, zero, suc, ◌+◌, ◌-◌, ◌*◌, ◌<◌, ◌≤◌, ◌⊎◌, inl, inr, Bool, List, Option, Some, None, length, drop, map, refl, sym, ap, ◌∙◌, subst, arith}
 use Rattle.std.specs.Prelude.{slice_get, All}
 use Rattle.std.proofs.lemmas.Option.{slice_get_cases, slice_get_within, get_or_from_slice_get}
 use Rattle.im_rv.specs.declared.code.Part.{Part}
@@ -16,11 +16,15 @@ use Rattle.im_link.specs.Parts.{IsPart, lines_of, first_of, last_of}
 use Rattle.im_link.specs.Links.{StandsAt}
 use Rattle.im_link.specs.Code.{IsLinkable, IsLinked}
 use Rattle.im_link.proofs.Joining.{line_in, lines_count}
+use Rattle.im_block.specs.declared.code.Block.{Block}
 use Rattle.im_block.specs.declared.unit.Function.{Function}
 use Rattle.im_block.specs.declared.unit.Unit.{Unit as Code}
 use Rattle.im_block.specs.Shape.{AllOrdered}
 use Rattle.im_block.specs.Forced.{AllForced}
 use Rattle.im_frame.specs.declared.layout.Layout.{Layout}
+use Rattle.im_live.specs.Reads.{lives_before}
+use Rattle.im_live.specs.Entries.{entry_in, entries as least_entries}
+use Rattle.im_live.proofs.Least.{entry_within}
 use Rattle.im_select.specs.Emitted.{entry_label}
 use Rattle.im_select.specs.Places.{at_of}
 use Rattle.im_select.specs.Selects.{HasLabel, IsClosedBlock}
@@ -38,6 +42,10 @@ use Rattle.im_gap_ranked.proofs.Falling.{parts_ranked, IsLaidOut, rank, falls}
 
 all_at : {X : Type 0} (P : X → Type 0) (xs : List X) (i : ℕ) (x : X) → All P xs → slice_get xs i ≡ Some x → P x
 all_at P xs i x a e = subst P (get_or_from_slice_get xs i x x e) (a i x (slice_get_within xs i x e))
+
+entry_okay : (live : ℕ → ℕ → Bool) (block : Option Block) (j : ℕ) → (4 ≤ entry_in live block j) × (entry_in live block j ≤ 31)
+entry_okay live None j = (omega arith, omega arith)
+entry_okay live (Some block) j = let k = entry_within (lives_before live (drop (suc j) block.lines.items) block.exit) in let low = k.0 in let high = k.1 in (omega arith, omega arith)
 
 -- a bound of the first n numbers
 abbrev top_of : (ℕ → ℕ) → ℕ → ℕ
@@ -77,7 +85,7 @@ module _ (u : Code) (statics : List ℕ) (layouts : List Layout) (parts : List P
       let objects = at_of (given_at functions statics i f own.layout) in
       let same : places functions statics layouts i f ≡ objects = ap (places_of functions statics i f) own.is_layout in
       subst (λ z. AreRanked labelled z after) (sym (code_is parts (part_of i) part own.code is_part own.there ∙ own.selection.exact.lines_are))
-      (function_ranked labelled objects (entries own.selection.exact.live f.blocks.items) (λ b j. entry_okay own.selection.exact.live (slice_get f.blocks.items b) j) (length functions) first own.layout.frame f (omega arith) (callees functions statics layouts)
+      (function_ranked labelled objects (least_entries own.selection.exact.live f.blocks.items) (λ b j. entry_okay own.selection.exact.live (slice_get f.blocks.items b) j) (length functions) first own.layout.frame f (omega arith) (callees functions statics layouts)
       (λ b h. at_block functions statics layouts i b f e h ∙ ap (λ p. block_rank p f b) same)
       i after (slice_get_within functions i f e) own.selectable.entry (λ b block g.
       let closed = all_at (IsClosedBlock (given_at functions statics i f own.layout)) f.blocks.items b block own.selectable.closed g in
@@ -121,7 +129,7 @@ module _ (u : Code) (statics : List ℕ) (layouts : List Layout) (parts : List P
     few = let fits = linked.fits in let count = lines_count parts in omega arith
 
     -- where the label of an entry stands
-    entries : (l j : ℕ) → 10 ≤ l → l ≤ 31 → StandsAt (lines_of parts) l j → address j ≡ entry_at l
+    entries : (l j : ℕ) → 4 ≤ l → l ≤ 31 → StandsAt (lines_of parts) l j → address j ≡ entry_at l
     entries l j low high s =
         let h : HasLabel checkpoint_code (5 * (l - 4)) l = saved_there l (omega arith) high in
         let c = program.saves in
