@@ -1,3 +1,1 @@
-pub mod Two
-pub mod Laid
 pub mod Linkable

@@ -1,2 +1,1 @@
-pub mod Buildable
 pub mod Numbered

@@ -1,108 +1,74 @@
-use crate::row::Row;
-use crate::stop::Stop;
-use crate::texts::Texts;
-use crate::told::Told;
-use im_image::{Image, read_image, upgrade, write_image};
+use im_emu::Machine;
+use im_image::{Image, read_image};
+use im_mem::FlatMem;
+use im_num::CellValue;
+use im_power::Period;
 use std::alloc::Global;
+use std::test::Fail;
 
-// Why a text is refused, or how much of it an image has.
-fn tell_answer(alloc: Global, text: &[u8], told: &mut Told) -> Result<(), Stop> {
-    match read_image(alloc, text) {
-        Ok(_) => told.say(" an image"),
-        Err(fault) => told.say(&format!(in alloc; " {fault}")?),
-    }
-}
-
-/// `refused-image`, a name, a text, other bytes as places and values, more bytes behind: why that is refused.
-pub(crate) fn changed(
-    alloc: Global,
-    texts: &Texts,
-    row: &Row<'_>,
-    told: &mut Told,
-) -> Result<(), Stop> {
-    let mut text = row.bytes(alloc, texts, 2)?;
-    for change in row.field(3)?.split_ascii_whitespace() {
-        let (place, byte) = change.split_once('=').ok_or(Stop::Row)?;
-        let place = place.parse::<usize>().map_err(|_| Stop::Row)?;
-        let byte = byte.parse::<u8>().map_err(|_| Stop::Row)?;
-        if let Some(old) = text.get_mut(place) {
-            *old = byte;
-        }
-    }
-    text.extend_from_slice(&row.bytes(alloc, texts, 4)?)?;
-    tell_answer(alloc, &text, told)
-}
-
-/// `fronts-of-image`, a name, a text: how many of its fronts are refused as short at their end.
-pub(crate) fn fronts(
-    alloc: Global,
-    texts: &Texts,
-    row: &Row<'_>,
-    told: &mut Told,
-) -> Result<(), Stop> {
-    let text = row.bytes(alloc, texts, 2)?;
-    let mut refused: u32 = 0;
-    for end in 0..text.len() {
-        let mut answer = Told::new(alloc);
-        tell_answer(alloc, &text[..end], &mut answer)?;
-        let wanted = format!(in alloc; " short image at {end}")?;
-        if answer.as_str() == wanted.as_str() {
-            refused = refused.saturating_add(1);
-        }
-    }
-    told.number(refused)
-}
-
-fn tell_objects(alloc: Global, image: &Image, told: &mut Told) -> Result<(), Stop> {
-    for object in &image.objects {
-        told.say(",")?;
-        told.bytes(&object.name)?;
-        for run in &object.runs {
-            told.say(&format!(in alloc; " {} {:?}", run.offset, run.kind)?)?;
-        }
+fn put_words(text: &mut Vec<u8>, words: &[u32]) -> Result<(), Fail> {
+    for word in words {
+        text.extend_from_slice(&word.to_le_bytes())?;
     }
     Ok(())
 }
 
-fn tell_image(alloc: Global, image: &Image, text: &[u8], told: &mut Told) -> Result<(), Stop> {
-    told.number(image.version.number())?;
-    told.number(image.form.number())?;
-    told.number(image.stack)?;
-    told.number(image.entry)?;
-    for word in &image.words {
-        told.say(&format!(in alloc; " {word:08x}")?)?;
-    }
-    tell_objects(alloc, image, told)?;
-    if write_image(alloc, image)?.as_slice() == text {
-        told.say("; again the same")?;
-    }
-    Ok(())
+/// A static of one word.
+#[derive(Clone, Copy)]
+pub struct StaticWord {
+    pub name: u8,
+    /// What it holds at first.
+    pub first: u32,
 }
 
-/// `image`, a name, a text: its version, form, stack, entry, code and objects, and whether it is written again the same.
-pub(crate) fn image(
+/// The image of these words, which begins at this address. Its statics stand 8 bytes apart.
+pub(crate) fn image_of(
     alloc: Global,
-    texts: &Texts,
-    row: &Row<'_>,
-    told: &mut Told,
-) -> Result<(), Stop> {
-    let text = row.bytes(alloc, texts, 2)?;
-    match read_image(alloc, &text) {
-        Ok(image) => tell_image(alloc, &image, &text, told),
-        Err(fault) => told.say(&format!(in alloc; " {fault}")?),
+    words: &[u32],
+    entry: u32,
+    statics: &[StaticWord],
+) -> Result<Image, Fail> {
+    let mut text = Vec::new(alloc);
+    let count = u32::try_from(words.len()).ok().ok_or("few words")?;
+    let objects = u32::try_from(statics.len()).ok().ok_or("few statics")?;
+    let bytes = objects.checked_mul(8).ok_or("few statics")?;
+    let header = [0x5652_4d49, 2, count, bytes, 256, 8192, entry, objects, 1];
+    put_words(&mut text, &header)?;
+    put_words(&mut text, words)?;
+    for word in statics {
+        put_words(&mut text, &[word.first, 0])?;
+    }
+    let mut at: u32 = 0x10_0000;
+    for word in statics {
+        put_words(&mut text, &[at, 4, 1, 1])?;
+        text.push(word.name)?;
+        put_words(&mut text, &[0, 5, 1])?;
+        at = at.checked_add(8).ok_or("few statics")?;
+    }
+    Ok(read_image(alloc, &text).ok().ok_or("an image")?)
+}
+
+/// A machine with the image and this input.
+pub(crate) fn loaded(alloc: Global, image: &Image, input: &[u8]) -> Result<Machine<FlatMem>, Fail> {
+    Ok(Machine::load(alloc, image, input).ok().ok_or("a machine")?)
+}
+
+/// A period of so many instructions.
+pub(crate) fn period(n: u32, mask: u32) -> Period {
+    Period {
+        n,
+        junk: 0xa5a5_a5a5,
+        count: 1,
+        mask,
     }
 }
 
-/// `upgrade`, a name, a text: the text in version 2.
-pub(crate) fn upgraded(
+/// What the static of this number holds.
+pub(crate) fn value_of(
     alloc: Global,
-    texts: &Texts,
-    row: &Row<'_>,
-    told: &mut Told,
-) -> Result<(), Stop> {
-    let text = row.bytes(alloc, texts, 2)?;
-    match upgrade(alloc, &text) {
-        Ok(bytes) => told.bytes(&bytes),
-        Err(fault) => told.say(&format!(in alloc; " {fault}")?),
-    }
+    machine: &Machine<FlatMem>,
+    number: usize,
+) -> Result<Option<CellValue>, Fail> {
+    let vars = machine.vars(alloc)?;
+    Ok(vars.get(number).and_then(|var| var.cells.first().copied()))
 }

@@ -1,12 +1,13 @@
 ghost use Rattle.std.specs.Prelude.{IfOk};
 ghost use Rattle.im_link.specs.Code.{IsLinkable};
 
-use crate::stop::Stop;
-use crate::told::Told;
+use crate::seen::{holds, same};
 use im_link::link;
 use im_num::Cause;
-use im_rv::{Code, Cut, Instr, Line, Op, Part};
+use im_rv::{Cut, Instr, Line, Op, Part};
 use std::alloc::Global;
+use std::process::Abort;
+use std::test::Fail;
 
 // A line: its label, instruction, target, access and cause.
 macro_rules! line {
@@ -28,7 +29,7 @@ macro_rules! line {
 }
 
 // A routine and a function that use every branch, a call, a loop and a dependence.
-fn page(alloc: Global) -> Result<Vec<Part>, Stop>
+fn page(alloc: Global) -> Result<Vec<Part>, Fail>
     ensures { IfOk result (λ parts. IsLinkable parts.items) }
 {
     let routine = [
@@ -70,26 +71,42 @@ fn page(alloc: Global) -> Result<Vec<Part>, Stop>
     Ok(parts)
 }
 
-/// Tells cuts.
-pub(crate) fn tell_cuts(alloc: Global, cuts: &[Cut], told: &mut Told) -> Result<(), Stop> {
-    for cut in cuts {
-        let (at, function, cause) = (cut.at, cut.function.as_str(), cut.cause);
-        told.say(&format!(in alloc; "\n  {at:08x} {function} {cause:?}")?)?;
+// By llvm-mc.
+const WORDS: [u32; 23] = [
+    0x00002203, 0x00124213, 0x0080006f, 0x00000013, 0x00522a23, 0x00402023, 0x00018067, 0xfe5ff1ef,
+    0x12345537, 0xeef50513, 0xfd9ff1ef, 0x00052583, 0x02058463, 0xfea59ae3, 0xfea5c8e3, 0x00b55e63,
+    0x00b56663, 0xfea5f2e3, 0xfb9ff1ef, 0x00b52023, 0xfcdff0ef, 0xfadff1ef, 0x00100073,
+];
+
+/// The cuts of `main`.
+const CUTS: [(u32, Cause); 4] = [
+    (0x101C, Cause::Entry),
+    (0x1028, Cause::Loop),
+    (
+        0x1048,
+        Cause::Dep {
+            read: 0x102C,
+            write: 0x104C,
+        },
+    ),
+    (0x1054, Cause::Return),
+];
+
+/// Sees that cuts stand so, all of them in one function.
+pub(crate) fn are_cuts(rt: &impl Abort, cuts: &[Cut], wanted: &[(u32, Cause)], function: &str) {
+    same(rt, &function, &cuts.len(), &wanted.len());
+    for (cut, wanted) in cuts.iter().zip(wanted) {
+        same(rt, &function, &(cut.at, cut.cause), wanted);
+        holds(rt, wanted, cut.function.as_str() == function);
     }
+}
+
+#[test]
+fn a_page_of_two_parts(rt: HostRuntime) -> Result<(), Fail> {
+    let parts = page(rt.alloc())?;
+    let code = link(rt.alloc(), &parts)?;
+    same(&rt, &"words", &code.words.as_slice(), &WORDS.as_slice());
+    same(&rt, &"the entry", &code.entry, &0x101C);
+    are_cuts(&rt, &code.cuts, &CUTS, "main");
     Ok(())
-}
-
-fn tell_code(alloc: Global, code: &Code, told: &mut Told) -> Result<(), Stop> {
-    for word in &code.words {
-        told.say(&format!(in alloc; " {word:08x}")?)?;
-    }
-    told.say(&format!(in alloc; ", entry {:08x}", code.entry)?)?;
-    tell_cuts(alloc, &code.cuts, told)
-}
-
-/// The words, the entry and the cuts of a page of two parts that is linked.
-pub(crate) fn a_page_of_two_parts(alloc: Global, told: &mut Told) -> Result<(), Stop> {
-    let parts = page(alloc)?;
-    let code = link(alloc, &parts)?;
-    tell_code(alloc, &code, told)
 }

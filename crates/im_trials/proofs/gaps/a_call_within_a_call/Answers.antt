@@ -4,4 +4,4 @@ use Rattle.im_gap.proofs.Calls.{calls_law}
 use Rattle.im_trials.proofs.gaps.a_call_within_a_call.Goals as goal
 
 pub gap-requires-clause-defined : goal.gap-requires-clause-defined
-gap-requires-clause-defined c = subst (λ (z : List ℕ). HasGap z 0x1000) (sym c.in_ok-from_slice.ensures.items) calls_law
+gap-requires-clause-defined g c = subst (λ (z : List ℕ). HasGap z 0x1000) (sym c.in_ok-from_slice.ensures.items) calls_law

@@ -1,0 +1,155 @@
+use im_cmd_words::{
+    BuildOptions, Command, EvalOptions, RunOptions, WordsFault, building_law, evaluation_law,
+    faultless_law, files_law, options_law, read_words, words_refused_law, words_taken_law,
+};
+use std::alloc::Global;
+use std::test::Fail;
+
+fn words(alloc: Global, line: &[&str]) -> Result<Vec<String>, Fail> {
+    let mut words = Vec::new(alloc);
+    for word in line {
+        words.push(word.to_string(alloc)?)?;
+    }
+    Ok(words)
+}
+
+const BUILDING: BuildOptions = BuildOptions {
+    stack: 65536,
+    out_cap: 1_048_576,
+};
+
+const PLAIN: RunOptions<'static> = RunOptions {
+    input: None,
+    trace: None,
+    steps: 100_000_000,
+    vars: false,
+};
+
+const FULL: RunOptions<'static> = RunOptions {
+    input: Some("in"),
+    trace: Some("t"),
+    steps: 4_294_967_295,
+    vars: true,
+};
+
+/// A command line, and the command that it names.
+const COMMANDS: [(&[&str], Command<'static>); 7] = [
+    (
+        &["intermit", "build", "a.c", "a.img"],
+        Command::Build {
+            source: "a.c",
+            image: "a.img",
+            building: BUILDING,
+        },
+    ),
+    (
+        &["intermit", "run", "a.c", "a.img"],
+        Command::Run {
+            source: "a.c",
+            image: "a.img",
+            building: BUILDING,
+            options: PLAIN,
+        },
+    ),
+    (
+        &[
+            "intermit",
+            "exec",
+            "--input=in",
+            "--trace",
+            "t",
+            "a.img",
+            "--steps",
+            "4294967295",
+            "--vars",
+        ],
+        Command::Exec {
+            image: "a.img",
+            options: FULL,
+        },
+    ),
+    (
+        &["intermit", "dump", "a.img"],
+        Command::Dump { image: "a.img" },
+    ),
+    (
+        &["intermit", "upgrade", "a.img", "b.img"],
+        Command::Upgrade {
+            old: "a.img",
+            new: "b.img",
+        },
+    ),
+    (
+        &["intermit", "report", "--stack=256", "a.c", "--out-cap", "0"],
+        Command::Report {
+            source: "a.c",
+            building: BuildOptions {
+                stack: 256,
+                out_cap: 0,
+            },
+        },
+    ),
+    (
+        &["intermit", "eval", "a.c", "--fuel", "9", "--input=in"],
+        Command::Eval {
+            source: "a.c",
+            building: BUILDING,
+            options: EvalOptions {
+                input: Some("in"),
+                fuel: 9,
+                vars: false,
+            },
+        },
+    ),
+];
+
+#[test]
+fn names_the_command(rt: HostRuntime) -> Result<(), Fail> {
+    words_taken_law();
+    faultless_law();
+    files_law();
+    options_law();
+    building_law();
+    evaluation_law();
+    for (line, expected) in &COMMANDS {
+        let line = words(rt.alloc(), line)?;
+        let command = read_words(rt.alloc(), line.as_slice())?;
+        assert!(rt; command == *expected, "{expected:?}");
+    }
+    Ok(())
+}
+
+const REFUSED: [&[&str]; 18] = [
+    &["intermit"],
+    &["intermit", "run", "a.c"],
+    &["intermit", "run", "a.c", "a.img", "more"],
+    &["intermit", "--help"],
+    &["intermit", "help"],
+    &["intermit", "walk", "a.c", "a.img"],
+    &["intermit", "run", "-x", "a.img"],
+    &["intermit", "build", "a.c", "a.img", "--vars"],
+    &["intermit", "exec", "a.img", "--vars", "--vars"],
+    &["intermit", "exec", "a.img", "--steps", "4294967296"],
+    &["intermit", "exec", "a.img", "--steps", "+7"],
+    &["intermit", "exec", "a.img", "--steps", "07"],
+    &["intermit", "exec", "a.img", "--steps=-0"],
+    &["intermit", "report", "a.c", "--stack", "1048577"],
+    &["intermit", "build", "a.c", "a.img", "--out-cap", "00"],
+    &["intermit", "exec", "a.img", "--stack", "256"],
+    &["intermit", "eval", "a.c", "--fuel", "07"],
+    &["intermit", "eval", "a.c", "--steps", "7"],
+];
+
+#[test]
+fn refuses_other_words(rt: HostRuntime) -> Result<(), Fail> {
+    words_refused_law();
+    let alloc = rt.alloc();
+    for words_refused in &REFUSED {
+        let line = words(alloc, words_refused)?;
+        match read_words(alloc, line.as_slice()) {
+            Err(WordsFault::Usage(text)) => assert!(rt; !text.is_empty()),
+            _ => return Err("no usage text".into()),
+        }
+    }
+    Ok(())
+}
