@@ -154,18 +154,13 @@ specifiers_asked l f at xs = words_asked l at xs (named_asked f at xs)
 
 -- declarators at file scope
 
--- first values of statics, functions, and the place behind them
-pub record Externals : Type 0 where
+-- first values of statics, and the place behind them
+pub record Statics : Type 0 where
   pub values : List FirstValues
-  pub functions : List Func
   pub place : FilePlace
 
-abbrev pub before_externals : List FirstValues → List Func → Externals → Externals
-before_externals gs ks e = record { values = gs ++ e.values; functions = ks ++ e.functions; place = e.place }
-
--- behind a declarator's initialiser
-abbrev pub past_given : FilePlace → CType → t.MaybeInitializer → FilePlace
-past_given f a i = past_strings (given_strings f a i) f
+abbrev pub before_statics : List FirstValues → Statics → Statics
+before_statics gs k = record { values = gs ++ k.values; place = k.place }
 
 abbrev pub first_values : FilePlace → Name → CType → t.MaybeInitializer → List FirstValues
 first_values f x a t.no_initializer = []
@@ -177,11 +172,15 @@ static_type q f d i = completed (declared f.context q d).type i
 abbrev pub past_static : t.SpecifierList → Qualified → FilePlace → t.Declarator → t.MaybeInitializer → FilePlace
 past_static xs q f d i = past_declarator xs d (declared f.context q d) i f
 
-abbrev pub declarations : t.SpecifierList → Qualified → FilePlace → t.InitDeclarators → Externals
-declarations xs q f t.no_init_declarators = record { values = []; functions = []; place = f }
+-- behind a declarator and its initialiser
+abbrev pub past_given : t.SpecifierList → Qualified → FilePlace → t.Declarator → t.MaybeInitializer → FilePlace
+past_given xs q f d i = past_strings (given_strings f (static_type q f d i) i) (past_static xs q f d i)
+
+abbrev pub declarations : t.SpecifierList → Qualified → FilePlace → t.InitDeclarators → Statics
+declarations xs q f t.no_init_declarators = record { values = []; place = f }
 declarations xs q f (t.more_init_declarators d i ds) =
-    before_externals (first_values (past_static xs q f d i) (name_in (declared f.context q d).name) (static_type q f d i) i) []
-    (declarations xs q (past_given (past_static xs q f d i) (static_type q f d i) i) ds)
+    before_statics (first_values (past_static xs q f d i) (name_in (declared f.context q d).name) (static_type q f d i) i)
+    (declarations xs q (past_given xs q f d i) ds)
 
 -- each item of a static's initialiser is a constant
 abbrev pub constants_asked : FilePlace → List Item → Asked
@@ -200,9 +199,18 @@ declarations_asked xs q f (t.more_init_declarators d i ds) =
     only (first_then (declarator_asked f.context q d)
     (only (beside (both (leaf (declarator_token d) (file_asks f xs (declared f.context q d) (static_type q f d i) (is_initialised i)))
     (first_values_asked (past_static xs q f d i) (static_type q f d i) i))
-    (declarations_asked xs q (past_given (past_static xs q f d i) (static_type q f d i) i) ds))))
+    (declarations_asked xs q (past_given xs q f d i) ds))))
 
 -- functions (C11 6.9.1)
+
+-- first values of statics, functions, and the place behind them
+pub record Externals : Type 0 where
+  pub values : List FirstValues
+  pub functions : List Func
+  pub place : FilePlace
+
+abbrev pub before_externals : List FirstValues → List Func → Externals → Externals
+before_externals gs ks e = record { values = gs ++ e.values; functions = ks ++ e.functions; place = e.place }
 
 abbrev pub own : t.Declarator → t.Parameters
 own d = own_parameters (nearest d)
@@ -237,8 +245,11 @@ definition_asked xs s d is =
 
 -- external declarations
 
+abbrev pub without_functions : Statics → Externals
+without_functions k = record { values = k.values; functions = []; place = k.place }
+
 abbrev pub declarations_of : t.SpecifierList → Specified → t.InitDeclarators → Externals
-declarations_of xs s ds = declarations xs s.type s.place ds
+declarations_of xs s ds = without_functions (declarations xs s.type s.place ds)
 
 abbrev pub declarations_asked_of : t.SpecifierList → Specified → t.InitDeclarators → Asked
 declarations_asked_of xs s ds = declarations_asked xs s.type s.place ds
