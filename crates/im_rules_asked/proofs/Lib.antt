@@ -1,0 +1,4 @@
+pub mod Built
+pub mod Right
+pub mod Rightness
+pub mod Terms

@@ -1,0 +1,40 @@
+-- What is said of these functions.
+use Rattle.std.specs.Prelude.{◌≡◌, ℕ}
+use Rattle.im_rules.specs.im_ctree.Tree as t
+use Rattle.im_rules.specs.im_typed.Program.{Prog}
+use Rattle.im_rules.specs.Context.{Context}
+use Rattle.im_rules.specs.Terms.{Term}
+use Rattle.im_rules.specs.Declared.{Qualified, Declared}
+use Rattle.im_rules.specs.Typed.{Typed as TypedExpression, Names, Declares}
+use Rattle.im_rules_asked.specs.Asked.{Asked, IsRight, HasFault}
+use Rattle.im_rules_asked.specs.Expressions.{term, asked, named, name_asked, declared, declarator_asked}
+use Rattle.im_rules_asked.specs.Units.{Typed, Breaks}
+
+-- of any tree of demands
+abbrev pub RightHasNoFault : Type 0
+RightHasNoFault = (a : Asked) (rule token : ℕ) → IsRight a → HasFault rule token a → ⊥
+
+abbrev pub TypedBreaksNoRule : Type 0
+TypedBreaksNoRule = (u : t.Tree) (g : Prog) (rule token : ℕ) → Typed u g → Breaks rule token u → ⊥
+
+-- the relations of im_rules and these functions agree: what is typed is so to its term, and all that is asked of it is so
+
+abbrev pub ExpressionIsAsked : Type 0
+ExpressionIsAsked = (c : Context) (e : t.Expression) (x : Term) → TypedExpression c e x → IsRight (asked c e) × (term c e ≡ x)
+
+abbrev pub NameIsAsked : Type 0
+NameIsAsked = (c : Context) (n : t.TypeName) (q : Qualified) → Names c n q → IsRight (name_asked c n) × (named c n ≡ q)
+
+abbrev pub DeclaratorIsAsked : Type 0
+DeclaratorIsAsked = (c : Context) (q : Qualified) (e : t.Declarator) (d : Declared) → Declares c q e d → IsRight (declarator_asked c q e) × (declared c q e ≡ d)
+
+-- and the other way round
+
+abbrev pub AskedIsExpression : Type 0
+AskedIsExpression = (c : Context) (e : t.Expression) → IsRight (asked c e) → TypedExpression c e (term c e)
+
+abbrev pub AskedIsName : Type 0
+AskedIsName = (c : Context) (n : t.TypeName) → IsRight (name_asked c n) → Names c n (named c n)
+
+abbrev pub AskedIsDeclarator : Type 0
+AskedIsDeclarator = (c : Context) (q : Qualified) (e : t.Declarator) → IsRight (declarator_asked c q e) → Declares c q e (declared c q e)
