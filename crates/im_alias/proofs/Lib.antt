@@ -1,0 +1,12 @@
+mod Lists
+mod Ascendings
+mod Adding
+mod Flows
+mod Growing
+mod Scans
+mod Codes
+mod Tagging
+mod Blocks
+mod Whole
+mod Units
+mod Steps
