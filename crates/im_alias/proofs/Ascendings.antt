@@ -43,29 +43,29 @@ pub ascends : (xs : List ℕ) (i x : ℕ) → IsAscending xs → i ≤ length xs
 ascends xs i x up le low high = λ a b less within. pairs a b less (omega (arith, length-insert xs i x le)) (where_is i a) (where_is i b)
   where
     pairs : (a b : ℕ) → a < b → b < length xs + 1 → Where i a → Where i b → get_or (insert xs i x) a 0 < get_or (insert xs i x) b 0
-    pairs a b less within (Before a h) (Before b k) =
+    pairs a b less within (Before j h) (Before m k) =
         let p = get_or-insert_below xs i x 0 a h le in
         let q = get_or-insert_below xs i x 0 b k le in
         let r = up a b less (omega arith) in
         omega arith
-    pairs a b less within (Before a h) Here =
+    pairs a b less within (Before j h) Here =
         let p = get_or-insert_below xs i x 0 a h le in
         let q = get_or-insert_at xs i x 0 le in
         let r = low a h in
         omega arith
-    pairs a b less within (Before a h) (Behind j k) =
+    pairs a b less within (Before j h) (Behind m k) =
         let p = get_or-insert_below xs i x 0 a h le in
-        let q = get_or-insert_above xs i x 0 j k le in
-        let r = up a j (omega arith) (omega arith) in
+        let q = get_or-insert_above xs i x 0 m k le in
+        let r = up a m (omega arith) (omega arith) in
         omega arith
-    pairs a b less within Here (Before b k) = absurd (omega arith)
+    pairs a b less within Here (Before m k) = absurd (omega arith)
     pairs a b less within Here Here = absurd (omega arith)
-    pairs a b less within Here (Behind j k) =
+    pairs a b less within Here (Behind m k) =
         let p = get_or-insert_at xs i x 0 le in
-        let q = get_or-insert_above xs i x 0 j k le in
-        let r = high j k (omega arith) in
+        let q = get_or-insert_above xs i x 0 m k le in
+        let r = high m k (omega arith) in
         omega arith
-    pairs a b less within (Behind j h) (Before b k) = absurd (omega arith)
+    pairs a b less within (Behind j h) (Before m k) = absurd (omega arith)
     pairs a b less within (Behind j h) Here = absurd (omega arith)
     pairs a b less within (Behind j h) (Behind m k) =
         let p = get_or-insert_above xs i x 0 j h le in

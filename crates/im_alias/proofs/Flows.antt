@@ -1,5 +1,5 @@
 -- What tables make of sets, joined: start, one step after another, and the same by another condition.
-use Rattle.std.proofs.Common.{◌≡◌, ℕ, zero, suc, ◌+◌, ◌<◌, ◌≤◌, List, [], ◌∷◌, length, Bool, true, false, Option, Some, None, refl, sym, ap, ◌∙◌, subst, inl, inr, ⊎_elim, arith}
+use Rattle.std.proofs.Common.{◌≡◌, ℕ, zero, suc, ◌+◌, ◌<◌, ◌≤◌, List, [], ◌∷◌, length, Bool, true, false, Option, Some, None, refl, sym, ap, ◌∙◌, subst, inl, inr, ⊎_elim, ◌⊎◌, arith}
 use Rattle.std.specs.Prelude.{◌||◌, slice_get}
 use Rattle.im_block.specs.Sections.{Has}
 use Rattle.im_block_laws.specs.PointsTo.{Sub}
@@ -46,15 +46,12 @@ pub within_upto : (bound : ℕ) → IsWithin bound (upto bound)
 within_upto zero n h = absurd h
 within_upto (suc k) n h = ⊎_elim (λ e. omega arith) (λ t. omega (arith, within_upto k n t)) h
 
+upper_split : (n k : ℕ) → n < suc k → (k ≡ n) ⊎ (n < k)
+upper_split n k h = grind arith
+
 pub upto_has : (bound n : ℕ) → n < bound → Has (upto bound) n
 upto_has zero n h = absurd (omega arith)
-upto_has (suc k) n h = by_cases (split n k h)
-  where
-    split : (n k : ℕ) → n < suc k → (k ≡ n) ⊎ (n < k)
-    split n k h = grind arith
-
-    by_cases : ((k ≡ n) ⊎ (n < k)) → Has (upto (suc k)) n
-    by_cases s = ⊎_elim (λ e. inl e) (λ l. inr (upto_has k n l)) s
+upto_has (suc k) n h = ⊎_elim (λ e. inl e) (λ l. inr (upto_has k n l)) (upper_split n k h)
 
 abbrev pub full : ℕ → PointsAt
 full bound = record { register = λ i r. upto bound; object = λ n. upto bound; result = λ i. upto bound }

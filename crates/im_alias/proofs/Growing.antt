@@ -85,12 +85,15 @@ module _ (old new : List ObjectSet) (n : ℕ) (from : List ℕ) (changed : Bool)
       let f = few bound p.set.members.items p.set.ascending (subst (IsWithin bound) at_it within) in
       omega arith
 
+abbrev made : (ℕ → ℕ → List ℕ) → (ℕ → List ℕ) → (ℕ → List ℕ) → PointsAt
+made f g h = record { register = f; object = g; result = h }
+
 points_are : (p q : PointsAt) → ((i r : ℕ) → p.register i r ≡ q.register i r) → ((n : ℕ) → p.object n ≡ q.object n) → ((i : ℕ) → p.result i ≡ q.result i) → p ≡ q
 points_are p q a b c =
     let x : p.register ≡ q.register = fun_ext (λ i. fun_ext (λ r. a i r)) in
     let y : p.object ≡ q.object = fun_ext b in
     let z : p.result ≡ q.result = fun_ext c in
-    cc
+    ap (λ f. made f p.object p.result) x ∙ ap (λ g. made q.register g p.result) y ∙ ap (λ h. made q.register q.object h) z
 
 pub object_grows : (old new : Table) (n : ℕ) (from : List ℕ) (changed : Bool) → Put old.objects.items new.objects.items n from changed → new.returned.items ≡ old.returned.items → new.registers.items ≡ old.registers.items → Grows (Object n) from old new changed
 object_grows old new n from changed p a b =

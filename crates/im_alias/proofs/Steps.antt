@@ -1,5 +1,5 @@
 -- What single functions owe: a register gets its set, objects are gone through, accesses get their tags.
-use Rattle.std.proofs.Common.{◌≡◌, ◌≢◌, ℕ, zero, suc, ◌+◌, ◌<◌, ◌≤◌, List, [], ◌∷◌, ◌++◌, length, get_or, take, Bool, true, false, Option, Some, None, refl, sym, ap, ◌∙◌, subst, inl, inr, ⊎_elim, ◌⊎◌, arith, append_assoc, append-nil, eqb}
+use Rattle.std.proofs.Common.{◌≡◌, ◌≢◌, ℕ, zero, suc, ◌+◌, ◌<◌, ◌≤◌, List, [], ◌∷◌, ◌++◌, length, get_or, take, Bool, true, false, Option, Some, None, refl, sym, ap, ◌∙◌, subst, inl, inr, ⊎_elim, ◌⊎◌, arith, append_assoc, append-nil, eq-eqb}
 use Rattle.std.specs.Prelude.{slice_get, slice_set, ◌||◌, ◌==◌, if◌then◌else◌}
 use Rattle.std.proofs.lemmas.Bool.{eqb-true}
 use Rattle.std.proofs.lemmas.List.{take_more, length-set}
@@ -33,6 +33,9 @@ alike_same xs ys e = record { there = λ n h. subst (λ l. Has l n) e h; back = 
 pub set_there : (sets : List ObjectSet) (i : ℕ) (s : ObjectSet) → i < length sets → s ≡ get_or sets i s → set_in (slice_get sets i) ≡ s.members.items
 set_there sets i s h e = ap set_in (slice_get-get_or sets i s h) ∙ ap (λ (o : ObjectSet). o.members.items) (sym e)
 
+different : (r to : ℕ) → (r == to) ≡ false → r ≢ to
+different r to t e = let k = eq-eqb r to e in cc
+
 -- a register gets the set that its line gives it
 pub passes_none : (p : PointsAt) (line : Line) (row : RegisterSets) → target_of line ≡ None → Passes p line row row
 passes_none p line row e = record {
@@ -54,11 +57,8 @@ passes_some p line old new to s e there is alike = record {
         let it : row_sets new r ≡ s.members.items = ap (row_sets new) (eqb-true r to t) ∙ ap (λ l. set_in (slice_get l to)) is ∙ ap set_in (at_same old.sets.items to s there) in
         subst (λ l. Alike l given) (sym it) alike
     choose r false t =
-        let other : r ≢ to = λ k. different r to k t in
+        let other : r ≢ to = different r to t in
         alike_same (row_sets new r) (row_sets old r) (ap (λ l. set_in (slice_get l r)) is ∙ ap set_in (at_other old.sets.items to r s other))
-      where
-        different : (r to : ℕ) → r ≡ to → (r == to) ≡ false → _
-        different r to k t = absurd (omega arith)
 
 pub target_within : (n to : ℕ) (line : Line) → target_of line ≡ Some to → LineWithin n line → to < n
 target_within n to (Put t z) e h = let k : t ≡ to = cc in omega arith

@@ -11,6 +11,7 @@ use Rattle.im_block.specs.declared.unit.Constant.TheVariants.{Number, Null, Insi
 use Rattle.im_block.specs.declared.unit.Function.{Function}
 use Rattle.im_block.specs.declared.unit.Static.{Static as StaticOf}
 use Rattle.im_block.specs.declared.unit.Unit.{Unit as Code}
+use Rattle.im_block.specs.Sections.{Has}
 use Rattle.im_block.specs.Tagged.{IsSound}
 use Rattle.im_block.specs.Wellformed.{IsStatic, HasBytes, Suits, objects_below, accesses_of_functions}
 use Rattle.im_block_laws.specs.PointsTo.{ConstantIn, ConstantsIn}
@@ -21,7 +22,7 @@ use Rattle.im_alias_laws.proofs.LeastTags.{least_tags}
 use Rattle.im_alias.specs.declared.table.Table.{Table}
 use Rattle.im_alias.specs.declared.found.Found.{Found}
 use Rattle.im_alias.specs.Ascending.{IsWithin}
-use Rattle.im_alias.specs.Sets.{points, room, IsCode, IsPart, IsBounded, IsBlockOf, Flowed, StaticsFit}
+use Rattle.im_alias.specs.Sets.{points, room, HasShape, IsEmptyTable, IsCode, IsPart, IsBounded, IsBlockOf, Flowed, StaticsFit}
 use Rattle.im_alias.specs.Scan.{Agrees, BlocksFit, FunctionsFit, UnitFits, FunctionsTagged, FlowedUnit, Settled, numbers}
 use Rattle.im_alias.proofs.Flows.{full, upto, within_upto, upto_has, bounded_after}
 use Rattle.im_alias.proofs.Scans.{HasObjects, fit_full, have_tags, tags_within}
@@ -119,3 +120,24 @@ alias_is u t found tags code h agrees =
     } in
     let within : AreTagsWithin p u tags = record { lines = λ i f b block at at_b. tags_within p tags (p.register i) block.lines.items (alike i f b block at at_b) } in
     (sound_at u p tags closed tagged, least_tags u p tags h.least within)
+
+-- a table with nothing in its sets
+pub empty_below : (t : Table) (q : PointsAt) → IsEmptyTable t → Below (points t) q
+empty_below t q e = record {
+  register = λ i r n h. absurd (subst (λ l. Has l n) (e.registers i r) h);
+  object = λ m n h. absurd (subst (λ l. Has l n) (e.objects m) h);
+  result = λ i n h. absurd (subst (λ l. Has l n) (e.returned i) h);
+}
+
+pub part_start : (u : Code) (t : Table) → HasShape u t → IsEmptyTable t → IsPart u t
+part_start u t shape e = record {
+  shape = shape;
+  bounded = record {
+    register = λ i r n h. absurd (subst (λ l. Has l n) (e.registers i r) h);
+    object = λ m n h. absurd (subst (λ l. Has l n) (e.objects m) h);
+    result = λ i n h. absurd (subst (λ l. Has l n) (e.returned i) h);
+  };
+}
+
+pub least_start : (u : Code) (t : Table) → IsEmptyTable t → IsLeastAt (points t) u
+least_start u t e q closed = empty_below t q e
