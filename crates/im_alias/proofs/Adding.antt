@@ -1,6 +1,6 @@
 -- Sets to which one object after another is added.
 use Rattle.std.proofs.Common.{◌≡◌, ℕ, zero, suc, ◌+◌, ◌<◌, ◌≤◌, List, [], ◌∷◌, ◌++◌, length, get_or, take, Bool, true, false, Result, Ok, Err, MatchResult, refl, sym, ap, ◌∙◌, subst, inl, inr, ⊎_elim, ◌⊎◌, arith}
-use Rattle.std.specs.Prelude.{◌||◌}
+use Rattle.std.specs.Prelude.{◌||◌, if◌then◌else◌}
 use Rattle.std.specs.List.{insert}
 use Rattle.std.specs.List.Sorted.{IsBinarySearchResult}
 use Rattle.std.specs.Ordering.{nat_cmp}
@@ -81,3 +81,7 @@ pub adds_more : (a b d xs : List ℕ) (i x : ℕ) (c m : Bool) → i < length xs
 adds_more a b d xs i x c m within is f g =
     let e : take (i + 1) xs ≡ take i xs ++ x ∷ [] = take_more xs i 0 within ∙ ap (λ y. take i xs ++ y ∷ []) (sym is) in
     subst (λ l. Adds a l d (c || m)) (sym e) (adds_then a b d (take i xs) (x ∷ []) c m f g)
+
+pub ascends_either : (b : Bool) (xs ys zs : List ℕ) → zs ≡ (if b then xs else ys) → IsAscending xs → IsAscending ys → IsAscending zs
+ascends_either true xs ys zs e f g = subst IsAscending (sym e) f
+ascends_either false xs ys zs e f g = subst IsAscending (sym e) g
