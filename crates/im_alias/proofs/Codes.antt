@@ -4,7 +4,7 @@ use Rattle.std.specs.Prelude.{slice_get, All}
 use Rattle.std.proofs.lemmas.Option.{slice_get_within, get_or_from_slice_get}
 use Rattle.std.proofs.lemmas.List.{take_all}
 use Rattle.im_block.specs.declared.code.Line.{Line}
-use Rattle.im_block.specs.declared.code.Line.TheVariants.{Call}
+use Rattle.im_block.specs.declared.code.Line.TheVariants.{Call, Reload, Spill}
 use Rattle.im_block.specs.declared.code.Block.{Block}
 use Rattle.im_block.specs.declared.unit.Function.{Function}
 use Rattle.im_block.specs.declared.unit.Unit.{Unit as Code}
@@ -14,7 +14,7 @@ use Rattle.im_alloc_placed.specs.Placeable.{IsPlaceableFunction, IsPlaceableLine
 use Rattle.im_alias.specs.declared.table.RegisterSets.{RegisterSets}
 use Rattle.im_alias.specs.declared.table.Table.{Table}
 use Rattle.im_alias.specs.Sets.{IsCode, IsPart, HasShape, IsBlockOf, SameShape, width, points, row_sets}
-use Rattle.im_alias.specs.Scan.{CanPass, CanTake, TakesAll, CallsOf}
+use Rattle.im_alias.specs.Scan.{CanPass, CanTake, TakesAll, CallsOf, IsSlotless}
 use Rattle.im_alias.proofs.Scans.{HasObjects, Within, line_reached}
 
 pub all_get : {X : Type 0} (P : X → Type 0) (xs : List X) (i : ℕ) (x : X) → All P xs → slice_get xs i ≡ Some x → P x
@@ -76,6 +76,11 @@ module _ (u : Code) (code : IsCode u) where
   can_take t (Call to callee first count) shape h = takes_all t callee count (slice_get u.functions.items callee) shape refl h
   can_take t line shape h = tt
 
+  slotless_line : (f : Function) (line : Line) → IsPlaceableLine statics f line → IsSlotless line
+  slotless_line f (Reload to slot access) h = h
+  slotless_line f (Spill slot from access) h = h
+  slotless_line f line h = tt
+
   -- the line at a place of a block
   module _ (i : ℕ) (f : Function) (block : Block) (at : IsBlockOf u i f block) (t : Table) (shape : HasShape u t) (k : ℕ) (line : Line) (there : slice_get block.lines.items k ≡ Some line) where
     pub line_placeable : IsPlaceableLine statics f line
@@ -89,6 +94,7 @@ module _ (u : Code) (code : IsCode u) where
       within = subst (λ n. LineWithin n line) (sym count) (all_get (LineWithin f.register_count) block.lines.items k line (block_is i f block at).lines_within there);
       reaches = line_reached (length t.objects.items) statics f (row_sets spot) line (subst (λ n. HasObjects n statics f) (sym shape.objects) (objects_there i f at.function_there)) within line_placeable;
       calls = subst (λ n. CallsOf n line) (sym shape.returned) (calls_there line (all_get (LineThere u.functions.items) block.lines.items k line (block_is i f block at).lines_there there));
+      slotless = slotless_line f line line_placeable;
     }
 
 pub shape_kept : (u : Code) (a b : Table) → HasShape u a → SameShape a b → HasShape u b

@@ -2,7 +2,7 @@
 use Rattle.std.proofs.Common.{◌≡◌, ◌≢◌, ℕ, zero, suc, ◌+◌, ◌-◌, ◌<◌, ◌≤◌, List, [], ◌∷◌, length, get_or, Bool, true, false, Option, Some, None, refl, sym, ap, ◌∙◌, subst, inl, inr, ⊎_elim, ◌⊎◌, arith}
 use mathlib.Core.Path.{fun_ext}
 use Rattle.std.specs.Prelude.{slice_get, slice_set, sum_by}
-use Rattle.std.proofs.lemmas.Option.{slice_get-get_or}
+use Rattle.std.proofs.lemmas.Option.{slice_get-get_or, slice_get_within}
 use Rattle.std.proofs.lemmas.List.{length-set}
 use Rattle.std.proofs.lemmas.List.Sums.{sum_by-set}
 use Rattle.im_block.specs.Sections.{Has}
@@ -15,7 +15,7 @@ use Rattle.im_alias.specs.declared.table.Owner.{Owner}
 use Rattle.im_alias.specs.declared.table.Owner.TheVariants.{Object, Returned, Register}
 use Rattle.im_alias.specs.declared.table.Table.{Table}
 use Rattle.im_alias.specs.Ascending.{IsWithin, IsAscending, Adds}
-use Rattle.im_alias.specs.Sets.{set_in, row_sets, row_in, width, points, set_of, set_room, row_room, room, SameShape, IsBounded, Flowed, Grows}
+use Rattle.im_alias.specs.Sets.{set_in, row_sets, row_in, width, points, set_of, set_room, row_room, room, SameShape, IsBounded, Flowed, Put, Grows}
 use Rattle.im_alias.proofs.Lists.{at_same, at_other}
 use Rattle.im_alias.proofs.Ascendings.{few}
 
@@ -24,13 +24,6 @@ same_place zero zero = inl refl
 same_place zero (suc j) = inr (λ e. omega arith)
 same_place (suc i) zero = inr (λ e. omega arith)
 same_place (suc i) (suc j) = ⊎_elim (λ e. inl (ap suc e)) (λ n. inr (λ e. n (omega arith))) (same_place i j)
-
--- in a list of sets, one has changed
-pub record Put (old new : List ObjectSet) (n : ℕ) (from : List ℕ) (changed : Bool) : Type 0 where
-  pub set : ObjectSet
-  pub there : n < length old
-  pub is : new ≡ slice_set old n set
-  pub adds : Adds (set_in (slice_get old n)) from set.members.items changed
 
 module _ (old new : List ObjectSet) (n : ℕ) (from : List ℕ) (changed : Bool) (p : Put old new n from changed) where
   pub at_it : set_in (slice_get new n) ≡ p.set.members.items
@@ -259,3 +252,10 @@ register_grows old new i r from changed p a b =
         result = λ j x m. h.result j x (subst (λ l. Has (set_in (slice_get l j)) x) b m);
       };
     }
+
+row_within : (rows : List RegisterSets) (i r : ℕ) (o : Option RegisterSets) → slice_get rows i ≡ o → r < width o → i < length rows
+row_within rows i r None e h = absurd (omega arith)
+row_within rows i r (Some row) e h = slice_get_within rows i row e
+
+pub row_there : (rows : List RegisterSets) (i r : ℕ) → r < width (slice_get rows i) → i < length rows
+row_there rows i r h = row_within rows i r (slice_get rows i) refl h

@@ -10,3 +10,6 @@ mod Blocks
 mod Whole
 mod Units
 mod Steps
+mod Making
+mod Arms
+mod Turns

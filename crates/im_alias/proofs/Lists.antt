@@ -2,6 +2,7 @@
 use Rattle.std.proofs.Common.{◌≡◌, ◌≢◌, ℕ, zero, suc, ◌+◌, ◌<◌, ◌≤◌, List, [], ◌∷◌, ◌++◌, length, get_or, take, drop, Option, Some, None, refl, sym, ap, ◌∙◌, subst, inl, inr, ⊎_elim, ◌⊎◌, arith}
 use Rattle.std.specs.Prelude.{slice_get, slice_set}
 use Rattle.std.specs.List.{insert}
+use Rattle.std.proofs.lemmas.Option.{slice_get_read}
 use Rattle.im_block.specs.Sections.{Has}
 
 pub at_same : {X : Type 0} (xs : List X) (i : ℕ) (v : X) → i < length xs → slice_get (slice_set xs i v) i ≡ Some v
@@ -54,3 +55,7 @@ pub insert_new : (xs : List ℕ) (i y : ℕ) → Has (insert xs i y) y
 insert_new xs zero y = inl refl
 insert_new [] (suc i) y = inl refl
 insert_new (x ∷ xs) (suc i) y = inr (insert_new xs i y)
+
+-- an element of a list that another one is
+pub got : {X : Type 0} (all some : List X) (k : ℕ) (x : X) → some ≡ all → k < length some → x ≡ get_or some k x → slice_get all k ≡ Some x
+got all some k x e within is = ap (λ xs. slice_get xs k) (sym e) ∙ slice_get_read some (length some) k x refl within is

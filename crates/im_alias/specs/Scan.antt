@@ -77,11 +77,18 @@ abbrev pub CallsOf : ℕ → Line → Type 0
 CallsOf functions (Call to callee first count) = callee < functions
 CallsOf functions line = Unit {0}
 
+-- a line with no slot, as block code has before its registers are placed
+abbrev pub IsSlotless : Line → Type 0
+IsSlotless (Reload to slot access) = ⊥
+IsSlotless (Spill slot from access) = ⊥
+IsSlotless line = Unit {0}
+
 -- what a line needs of the table and of the sets before it
 pub record CanPass (t : Table) (spot : RegisterSets) (line : Line) : Type 0 where
   pub within : LineWithin (length spot.sets.items) line
   pub reaches : Reaches (length t.objects.items) (row_sets spot) line
   pub calls : CallsOf (length t.returned.items) line
+  pub slotless : IsSlotless line
 
 -- the sets have become those behind a line
 pub record Passes (p : PointsAt) (line : Line) (old new : RegisterSets) : Type 0 where

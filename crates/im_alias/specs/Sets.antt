@@ -1,5 +1,5 @@
 -- The sets of a table as a points-to assignment by definitions, and what a step makes of them.
-use Rattle.std.specs.Prelude.{◌≡◌, ℕ, ◌+◌, ◌-◌, ◌<◌, ◌≤◌, Bool, true, false, List, [], Option, Some, None, length, slice_get, sum_by}
+use Rattle.std.specs.Prelude.{◌≡◌, ℕ, ◌+◌, ◌-◌, ◌<◌, ◌≤◌, Bool, true, false, List, [], Option, Some, None, length, slice_get, slice_set, sum_by}
 use Rattle.im_block.specs.declared.code.Block.{Block}
 use Rattle.im_block.specs.declared.unit.Function.{Function}
 use Rattle.im_block.specs.declared.unit.Static.{Static as StaticOf}
@@ -14,7 +14,7 @@ use Rattle.im_alias.specs.declared.table.RegisterSets.{RegisterSets}
 use Rattle.im_alias.specs.declared.table.Owner.{Owner}
 use Rattle.im_alias.specs.declared.table.Owner.TheVariants.{Object, Returned, Register}
 use Rattle.im_alias.specs.declared.table.Table.{Table}
-use Rattle.im_alias.specs.Ascending.{IsWithin}
+use Rattle.im_alias.specs.Ascending.{Adds, IsWithin}
 
 abbrev pub set_in : Option ObjectSet → List ℕ
 set_in None = []
@@ -52,6 +52,13 @@ IsThere t (Register i r) = r < width (slice_get t.registers.items i)
 pub record SameSets (old new : RegisterSets) : Type 0 where
   pub count : length new.sets.items ≡ length old.sets.items
   pub sets : (r : ℕ) → row_sets new r ≡ row_sets old r
+
+-- in a list of sets, one has changed
+pub record Put (old new : List ObjectSet) (n : ℕ) (from : List ℕ) (changed : Bool) : Type 0 where
+  pub set : ObjectSet
+  pub there : n < length old
+  pub is : new ≡ slice_set old n set
+  pub adds : Adds (set_in (slice_get old n)) from set.members.items changed
 
 -- how many objects could yet join a set
 abbrev pub set_room : ℕ → ObjectSet → ℕ

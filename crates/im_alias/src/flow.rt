@@ -5,7 +5,7 @@ ghost use Rattle.im_alias.specs.Sets.{Flowed, IsBlockOf, IsCode, IsPart, Statics
 ghost use Rattle.im_alias_laws.specs.PointsAt.{ExitFits, LineFits, sets_at};
 ghost use Rattle.im_block.specs.Sections.{Has};
 ghost use Rattle.im_block.specs.Wellformed.{ExitWithin, PlaceWithin, accesses_of_blocks};
-ghost use Rattle.im_block_laws.specs.PointsTo.{ConstantsIn, PlaceHas, Sub};
+ghost use Rattle.im_block_laws.specs.PointsTo.{ConstantIn, ConstantsIn, PlaceHas, Sub};
 
 use crate::found::Found;
 use crate::set::{ObjectSet, either};
@@ -59,13 +59,28 @@ fn flow_values(
 {
     let mut changed = false;
     for value in values {
-        if let Constant::Inside { object, .. } = value {
-            let one = ObjectSet::one(alloc, *object)?;
-            let more = table.add_all(Owner::Object(number), &one)?;
-            changed = either(changed, more);
-        }
+        let more = flow_value(alloc, table, number, value)?;
+        changed = either(changed, more);
     }
     Ok(changed)
+}
+
+fn flow_value(
+    alloc: Global,
+    table: &mut Table,
+    number: usize,
+    value: &Constant,
+) -> Result<bool, NoMemory>
+    requires { number < length table.old.objects.items }
+    ensures { IfOk result (λ changed. Flowed (λ p. ConstantIn (p.object number) value.now) table.old table.new changed) }
+{
+    match value {
+        Constant::Inside { object, .. } => {
+            let one = ObjectSet::one(alloc, *object)?;
+            table.add_all(Owner::Object(number), &one)
+        }
+        _ => Ok(false),
+    }
 }
 
 fn flow_function(

@@ -1,5 +1,5 @@
 ghost use Rattle.std.specs.Prelude.{◌≡◌, ◌<◌, [], Some, IfOk, IsTrue, OnOk, length, slice_get};
-ghost use Rattle.im_alias.specs.Scan.{FindsAt, FindsTag, IsAmong, TagAlike};
+ghost use Rattle.im_alias.specs.Scan.{FindsAt, FindsTag, IsAmong, IsSlotless, TagAlike};
 ghost use Rattle.im_alias.specs.Sets.{row_sets};
 ghost use Rattle.im_block.specs.Wellformed.{LineWithin, PlaceWithin};
 
@@ -49,7 +49,8 @@ impl Found {
 
     /// Gives an access its tag.
     pub fn tag(&mut self, alloc: Global, spot: &RegisterSets, line: Line) -> Result<(), NoMemory>
-        requires { LineWithin (length spot.now.sets.items) line }
+        requires within { LineWithin (length spot.now.sets.items) line }
+        requires slotless { IsSlotless line }
         ensures { OnOk result (FindsAt (row_sets spot.now) line self.old self.new) }
     {
         match line {
@@ -80,14 +81,31 @@ impl Found {
         ensures { IfOk result (λ k. FindsTag k (IsAmong objects.now.members.items) self.old self.new) }
     {
         let bucket = bucket_of(&objects.members);
-        let place = self.recent[bucket];
+        let place = self.recalled(bucket);
         if self.is_among(place, objects) {
             return Ok(place);
         }
         let members = Vec::from_slice(alloc, &objects.members)?;
         let place = self.put(Tag::Through(members))?;
-        self.recent[bucket] = place;
+        self.remember(bucket, place);
         Ok(place)
+    }
+
+    fn recalled(&self, bucket: usize) -> u32 {
+        if bucket < self.recent.len() {
+            self.recent[bucket]
+        } else {
+            0
+        }
+    }
+
+    fn remember(&mut self, bucket: usize, place: u32)
+        ensures tags { self.new.tags ≡ self.old.tags }
+        ensures accesses { self.new.accesses ≡ self.old.accesses }
+    {
+        if bucket < self.recent.len() {
+            self.recent[bucket] = place;
+        }
     }
 
     fn is_among(&self, place: u32, objects: &ObjectSet) -> bool

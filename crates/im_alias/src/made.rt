@@ -34,7 +34,7 @@ fn push_empty(alloc: Global, sets: &mut Vec<ObjectSet>, count: usize) -> Result<
     ensures count { OnOk result (vec_len sets.new ≡ vec_len sets.old + count) }
     ensures nothing { OnOk result (HaveNothing sets.old.items → HaveNothing sets.new.items) }
 {
-    for _ in 0..count {
+    for _number in 0..count {
         sets.push(ObjectSet::new(alloc))?;
     }
     Ok(())

@@ -1,5 +1,5 @@
-ghost use Rattle.std.specs.Prelude.{◌≡◌, IfOk};
-ghost use Rattle.im_alias.specs.Sets.{Grows, IsThere, SameSets};
+ghost use Rattle.std.specs.Prelude.{◌≡◌, ◌<◌, IfOk, length};
+ghost use Rattle.im_alias.specs.Sets.{Grows, IsThere, Put, SameSets};
 
 use crate::set::ObjectSet;
 use im_num::NoMemory;
@@ -38,6 +38,14 @@ impl RegisterSets {
         }
         Ok(RegisterSets { sets })
     }
+
+    /// Whether the register's set wasn't all of that yet.
+    fn add_all(&mut self, register: usize, objects: &ObjectSet) -> Result<bool, NoMemory>
+        requires { register < length self.old.sets.items }
+        ensures { IfOk result (λ changed. Put self.old.sets.items self.new.sets.items register objects.now.members.items changed) }
+    {
+        self.sets[register].add_all(objects)
+    }
 }
 
 impl Table {
@@ -50,8 +58,7 @@ impl Table {
             Owner::Object(number) => self.objects[number].add_all(objects),
             Owner::Returned(function) => self.returned[function].add_all(objects),
             Owner::Register { function, register } => {
-                let row = &mut self.registers[function];
-                row.sets[register].add_all(objects)
+                self.registers[function].add_all(register, objects)
             }
         }
     }

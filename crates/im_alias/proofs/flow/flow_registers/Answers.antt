@@ -1,0 +1,18 @@
+use Rattle.std.proofs.Common.{ℕ, ◌≡◌, ◌+◌, ◌<◌, length, get_or, refl, sym, subst, ◌∙◌, arith}
+use Rattle.im_block_laws.specs.PointsTo.{Sub}
+use Rattle.im_alias.specs.declared.table.Owner.TheVariants.{Register}
+use Rattle.im_alias.specs.Sets.{Flowed, Grows, row_sets}
+use Rattle.im_alias.proofs.Steps.{set_there}
+use Rattle.im_alias.proofs.Arms.{rows_next, rows_all}
+use Rattle.im_alias.proofs.flow.flow_registers.Goals as goal
+
+pub loop-register-preserved : goal.loop-register-preserved
+loop-register-preserved c =
+    let l = c.loop-register in
+    let i = c.args.number in
+    let spot = c.args.spot.now in
+    let set = c.index-sets-register.result in
+    let is : row_sets spot l.register ≡ set.members.items = set_there spot.sets.items l.register set (omega arith) c.index-sets-register.is in
+    let grows : Grows (Register i l.register) (row_sets spot l.register) l.table c.add_all.new.self c.in_ok-more.more = subst (λ xs. Grows (Register i l.register) xs l.table c.add_all.new.self c.in_ok-more.more) (sym is) c.in_ok-more.ensures in
+    subst (λ e. Flowed (λ p. (r : ℕ) → r < l.register + 1 → Sub (row_sets spot r) (p.register i r)) c.args.table.now c.add_all.new.self e) (sym c.either-changed.ensures)
+    (rows_next (row_sets spot) i l.register c.args.table.now l.table c.add_all.new.self l.changed c.in_ok-more.more l.invariant grows)
