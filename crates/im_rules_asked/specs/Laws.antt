@@ -6,6 +6,7 @@ use Rattle.im_rules.specs.Context.{Context}
 use Rattle.im_rules.specs.Terms.{Term}
 use Rattle.im_rules.specs.Declared.{Qualified, Declared}
 use Rattle.im_rules.specs.Typed.{Typed as TypedExpression, Names, Declares}
+use Rattle.im_rules.specs.TypedUnit.{TypedUnit}
 use Rattle.im_rules_asked.specs.Asked.{Asked, IsRight, HasFault}
 use Rattle.im_rules_asked.specs.Expressions.{term, asked, named, name_asked, declared, declarator_asked}
 use Rattle.im_rules_asked.specs.Units.{Typed, Breaks}
@@ -38,3 +39,11 @@ AskedIsName = (c : Context) (n : t.TypeName) → IsRight (name_asked c n) → Na
 
 abbrev pub AskedIsDeclarator : Type 0
 AskedIsDeclarator = (c : Context) (q : Qualified) (e : t.Declarator) → IsRight (declarator_asked c q e) → Declares c q e (declared c q e)
+
+-- units
+
+abbrev pub AskedIsUnit : Type 0
+AskedIsUnit = (u : t.Tree) (g : Prog) → Typed u g → TypedUnit u g
+
+abbrev pub UnitIsAsked : Type 0
+UnitIsAsked = (u : t.Tree) (g : Prog) → TypedUnit u g → Typed u g

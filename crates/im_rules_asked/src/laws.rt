@@ -2,6 +2,7 @@
 ghost use Rattle.im_rules_asked.specs.Laws.{RightHasNoFault, TypedBreaksNoRule};
 ghost use Rattle.im_rules_asked.specs.Laws.{ExpressionIsAsked, NameIsAsked, DeclaratorIsAsked};
 ghost use Rattle.im_rules_asked.specs.Laws.{AskedIsExpression, AskedIsName, AskedIsDeclarator};
+ghost use Rattle.im_rules_asked.specs.Laws.{AskedIsUnit, UnitIsAsked};
 
 /// What is right has no fault, so a typed unit breaks no rule.
 pub fn right_has_no_fault_law()
@@ -23,4 +24,14 @@ pub fn asked_is_typed_law()
     ensures expression { AskedIsExpression }
     ensures type_name { AskedIsName }
     ensures declarator { AskedIsDeclarator }
+{}
+
+/// A unit that these functions type to a program is typed to it by `im_rules`.
+pub fn asked_unit_law()
+    ensures { AskedIsUnit }
+{}
+
+/// A unit that `im_rules` types to a program is typed to it by these functions.
+pub fn typed_unit_law()
+    ensures { UnitIsAsked }
 {}
