@@ -1,5 +1,5 @@
 -- What is found along lists of lines, blocks, functions, statics and values.
-use Rattle.std.proofs.Common.{◌≡◌, ℕ, zero, suc, ◌+◌, ◌<◌, ◌≤◌, List, [], ◌∷◌, ◌++◌, length, get_or, take, Option, Some, None, refl, sym, ap, ◌∙◌, subst, inl, inr, append_assoc, append-nil, arith}
+use Rattle.std.proofs.Common.{◌≡◌, ℕ, zero, suc, ◌+◌, ◌<◌, ◌≤◌, List, [], ◌∷◌, ◌++◌, length, get_or, take, Option, Some, None, refl, sym, ap, ◌∙◌, subst, inl, inr, ⊎_elim, append_assoc, append-nil, arith}
 use Rattle.std.specs.Prelude.{slice_get}
 use Rattle.std.proofs.lemmas.List.{take_more, take_all}
 use Rattle.std.proofs.lemmas.Option.{slice_get_read, slice_get_within, get_or_from_slice_get}
@@ -20,8 +20,7 @@ use Rattle.im_alias.specs.Found.{Each, Agrees, Finds, FindsTag, FindsAccess, num
 
 pub has_front : (xs ys : List ℕ) (n : ℕ) → Has xs n → Has (xs ++ ys) n
 has_front [] ys n h = absurd h
-has_front (x ∷ xs) ys n (inl e) = inl e
-has_front (x ∷ xs) ys n (inr t) = inr (has_front xs ys n t)
+has_front (x ∷ xs) ys n h = ⊎_elim (λ e. inl e) (λ t. inr (has_front xs ys n t)) h
 
 pub has_last : (xs : List ℕ) (n : ℕ) → Has (xs ++ n ∷ []) n
 has_last [] n = inl refl
