@@ -1,6 +1,6 @@
 -- What is found along lists of lines, blocks, functions, statics and values.
 use Rattle.std.proofs.Common.{◌≡◌, ℕ, zero, suc, ◌+◌, ◌<◌, ◌≤◌, List, [], ◌∷◌, ◌++◌, length, get_or, take, Option, Some, None, refl, sym, ap, ◌∙◌, subst, inl, inr, ⊎_elim, append_assoc, append-nil, arith}
-use Rattle.std.specs.Prelude.{slice_get}
+use Rattle.std.specs.Prelude.{slice_get, slice_index_or, Contains}
 use Rattle.std.proofs.lemmas.List.{take_more, take_all}
 use Rattle.std.proofs.lemmas.Option.{slice_get_read, slice_get_within, get_or_from_slice_get}
 use Rattle.im_block.specs.declared.access.Tag.{Tag}
@@ -25,6 +25,19 @@ has_front (x ∷ xs) ys n h = ⊎_elim (λ e. inl e) (λ t. inr (has_front xs ys
 pub has_last : (xs : List ℕ) (n : ℕ) → Has (xs ++ n ∷ []) n
 has_last [] n = inl refl
 has_last (x ∷ xs) n = inr (has_last xs n)
+
+pub has_contains : (xs : List ℕ) (x : ℕ) → Has xs x → Contains xs x
+has_contains [] x h = absurd h
+has_contains (y ∷ xs) x h =
+    ⊎_elim (λ e. (0, omega arith, e)) (λ t. let r = has_contains xs x t in (suc r.0, omega (arith, r.1), r.2)) h
+
+contains_at : (xs : List ℕ) (x k : ℕ) → k < length xs → slice_index_or xs k x ≡ x → Has xs x
+contains_at [] x k l e = absurd (omega arith)
+contains_at (y ∷ xs) x zero l e = inl e
+contains_at (y ∷ xs) x (suc k) l e = inr (contains_at xs x k (omega arith) e)
+
+pub contains_has : (xs : List ℕ) (x : ℕ) → Contains xs x → Has xs x
+contains_has xs x h = contains_at xs x h.0 h.1 h.2
 
 pub get_front : {X : Type 0} (xs : List X) (x : X) (k : ℕ) (y : X) → slice_get xs k ≡ Some y → slice_get (xs ++ x ∷ []) k ≡ Some y
 get_front [] x k y e = cc
@@ -105,14 +118,14 @@ takes_more a b o taken f same direct e h = record {
   of = λ k x at. h.of k x (subst (λ v. slice_get v.items k ≡ Some x) (sym same) at);
   direct = λ k x at. h.direct k x (subst (λ v. slice_get v.items k ≡ Some x) (sym direct) at);
   through = h.through;
-  taken = λ n m. h.taken n (subst (λ l. Has l n) (sym e) (has_front a.taken.items (o ∷ []) n m));
+  addresses = λ n m. h.addresses n (subst (λ l. Has l n) (sym e) (has_front a.taken.items (o ∷ []) n m));
 }
 
 pub finds_taken : (a b : Found) (o : ℕ) → b.accesses ≡ a.accesses → b.direct ≡ a.direct → b.taken.items ≡ a.taken.items ++ o ∷ [] → Finds [] (λ f t. Has t o) a b
 finds_taken a b o same direct e = record {
   numbers = ap (λ v. numbers v.items) same ∙ sym (append-nil (numbers a.accesses.items));
   more = λ f t h. takes_more a b o t f same direct e h;
-  fits = λ f t h. h.taken o (subst (λ l. Has l o) (sym e) (has_last a.taken.items o));
+  fits = λ f t h. h.addresses o (subst (λ l. Has l o) (sym e) (has_last a.taken.items o));
 }
 
 pub finds_direct : (a b : Found) (tag : Tag) (k : ℕ) → b.accesses ≡ a.accesses → b.taken ≡ a.taken → b.direct.items ≡ a.direct.items ++ tag ∷ [] → k ≡ length b.direct.items → FindsTag k (λ taken t. t ≡ Some tag) a b
@@ -125,7 +138,7 @@ finds_direct a b tag k same taken e is = record {
     of = λ j x at. h.of j x (subst (λ v. slice_get v.items j ≡ Some x) (sym same) at);
     direct = λ j x at. h.direct j x (subst (λ l. slice_get l j ≡ Some x) (sym e) (get_front a.direct.items tag j x at));
     through = h.through;
-    taken = λ n m. h.taken n (subst (λ v. Has v.items n) (sym taken) m);
+    addresses = λ n m. h.addresses n (subst (λ v. Has v.items n) (sym taken) m);
   };
   accesses = same;
 }
@@ -139,7 +152,7 @@ access_more a b access tag f taken g h = record {
   of = λ j x at. h.of j x (subst (λ l. slice_get l j ≡ Some x) (sym g.accesses) (get_front a.accesses.items (record { access = access; tag = tag }) j x at));
   direct = λ j x at. h.direct j x (subst (λ v. slice_get v.items j ≡ Some x) (sym g.direct) at);
   through = h.through;
-  taken = λ n m. h.taken n (subst (λ v. Has v.items n) (sym g.taken) m);
+  addresses = λ n m. h.addresses n (subst (λ v. Has v.items n) (sym g.taken) m);
 }
 
 access_at : (a b : Found) (access tag : ℕ) (f : Tags) (taken : List ℕ) → FindsAccess access tag a b → Agrees f taken b → slice_get f.of.items access ≡ Some tag

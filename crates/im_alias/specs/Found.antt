@@ -63,7 +63,15 @@ pub record Agrees (final : Tags) (taken : List ℕ) (found : Found) : Type 0 whe
   pub of : (k : ℕ) (a : Tagged) → slice_get found.accesses.items k ≡ Some a → slice_get final.of.items a.access ≡ Some a.tag
   pub direct : (k : ℕ) (tag : Tag) → slice_get found.direct.items k ≡ Some tag → slice_get final.tags.items (suc k) ≡ Some tag
   pub through : IsThrough taken (slice_get final.tags.items 0)
-  pub taken : Sub found.taken.items taken
+  pub addresses : Sub found.taken.items taken
+
+-- the tags that are made of what was found: that of these objects, and the direct ones
+pub record AreTagsOf (found : Found) (tags : List Tag) : Type 0 where
+  pub through : Tag
+  pub objects : List ℕ
+  pub are : tags ≡ through ∷ found.direct.items
+  pub is : IsThrough objects (Some through)
+  pub there : Sub found.taken.items objects
 
 abbrev pub numbers : List Tagged → List ℕ
 numbers [] = []

@@ -1,9 +1,10 @@
 ghost use Rattle.std.specs.Prelude.{◌≡◌, [], ◌∷◌, Some, IfOk, OnOk};
-ghost use Rattle.im_alias.specs.Found.{Finds, FindsAccess, FindsTag, LineFits, PlaceTaken, PlaceTagged};
+ghost use Rattle.im_alias.specs.Found.{AreTagsOf, Finds, FindsAccess, FindsTag, LineFits, PlaceTaken, PlaceTagged};
 ghost use Rattle.im_block.specs.Sections.{Has};
 ghost use Rattle.im_block.specs.Tagged.{tag_of};
 ghost use Rattle.im_block.specs.Wellformed.{accesses_of_line};
-ghost use Rattle.im_block.specs.declared.access.Tag.TheVariants.{Direct, Through};
+ghost use Rattle.im_block_laws.specs.PointsTo.{Sub};
+ghost use Rattle.im_block.specs.declared.access.Tag.TheVariants.{Direct};
 
 use im_block::{Line, Place, Tag};
 use im_num::NoMemory;
@@ -40,13 +41,16 @@ impl Found {
         }
     }
 
-    /// The tags alone.
+    /// The tags alone: first that of all accesses through pointers.
     pub fn into_tags(self) -> Result<Vec<Tag>, NoMemory>
-        ensures { IfOk result (λ tags. tags.items ≡ Through self.taken ∷ self.direct.items) }
+        ensures { IfOk result (λ tags. AreTagsOf self tags.items) }
     {
         let Found {
-            mut direct, taken, ..
+            mut direct,
+            taken,
+            ..
         } = self;
+        let taken = distinct(taken)?;
         direct.insert(THROUGH as usize, Tag::Through(taken))?;
         Ok(direct)
     }
@@ -118,4 +122,13 @@ impl Found {
         self.accesses.push(Tagged { access, tag })?;
         Ok(())
     }
+}
+
+/// The same objects, each once.
+fn distinct(mut objects: Vec<u32>) -> Result<Vec<u32>, NoMemory>
+    ensures { IfOk result (λ once. Sub objects.items once.items) }
+{
+    objects.sort()?;
+    objects.dedup();
+    Ok(objects)
 }
