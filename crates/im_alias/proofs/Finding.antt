@@ -108,7 +108,7 @@ module _ {X : Type 0} (all : List X → List ℕ) (one : X → List ℕ) (P : Ta
   finds_end xs k a b le h = subst (λ l. Finds (all l) (λ f t. Each (P f t) l) a b) (take_all k xs le) h
 
 -- what has no accesses
-pub none_of : {X : Type 0} → List X → List ℕ
+abbrev pub none_of : {X : Type 0} → List X → List ℕ
 none_of xs = []
 
 -- steps
