@@ -1,6 +1,6 @@
 -- The tags that a walk over a whole unit gives are sound, and direct where they can be: all that points anywhere points to
 -- objects whose address is taken.
-use Rattle.std.proofs.Common.{◌≡◌, ℕ, zero, suc, ◌+◌, ◌<◌, ◌≤◌, List, [], ◌∷◌, length, take, Option, Some, None, refl, sym, subst, inl, inr, arith}
+use Rattle.std.proofs.Common.{◌≡◌, ℕ, zero, suc, ◌≤◌, List, [], ◌∷◌, length, Option, Some, None, refl, sym, subst, arith}
 use Rattle.std.specs.Prelude.{slice_get, All}
 use Rattle.std.proofs.lemmas.Option.{slice_get_within, get_or_from_slice_get}
 use Rattle.im_block.specs.declared.access.Tag.{Tag}
@@ -15,11 +15,10 @@ use Rattle.im_block.specs.declared.code.Exit.TheVariants.{Jump, Turn, Branch, Re
 use Rattle.im_block.specs.declared.code.Block.{Block}
 use Rattle.im_block.specs.declared.unit.Constant.{Constant}
 use Rattle.im_block.specs.declared.unit.Function.{Function}
-use Rattle.im_block.specs.declared.unit.Static.{Static as StaticOf}
 use Rattle.im_block.specs.declared.unit.Unit.{Unit as Code}
 use Rattle.im_block.specs.Sections.{Has}
 use Rattle.im_block.specs.Tagged.{tag_of, IsSound}
-use Rattle.im_block.specs.Wellformed.{IsWellFormed, objects_below}
+use Rattle.im_block.specs.Wellformed.{IsWellFormed}
 use Rattle.im_block_laws.specs.PointsTo.{Points, PlaceHas, ExitGives, BlocksGive, CallClosed, LineClosed, TagFits, LineTagged, ConstantIn, ConstantsIn, LinesAre, IsClosed, AreTags}
 use Rattle.im_block_laws.proofs.Points.{sound}
 use Rattle.im_alloc_placed.specs.Operands.{PlaceExists}

@@ -1,4 +1,4 @@
-use Rattle.std.proofs.Common.{ℕ, ◌<◌, length, get_or, vec_len, arith}
+use Rattle.std.proofs.Common.{◌<◌, length, get_or, vec_len, arith}
 use Rattle.std.proofs.lemmas.Option.{slice_get-get_or}
 use Rattle.im_alias.specs.declared.found.Tagged.{Tagged}
 use Rattle.im_alias.proofs.Scattering.{scatter_next}

@@ -1,4 +1,4 @@
-use Rattle.std.proofs.Common.{ℕ, ◌<◌, ◌≤◌, length, get_or, arith, pos}
+use Rattle.std.proofs.Common.{◌<◌, ◌≤◌, length, get_or, arith, pos}
 use Rattle.std.proofs.lemmas.Option.{slice_get-get_or}
 use Rattle.im_block.specs.declared.code.Line.{Line}
 use Rattle.im_block.specs.declared.code.Line.TheVariants.{Put}

@@ -1,4 +1,4 @@
-use Rattle.std.proofs.Common.{◌≡◌, ℕ, [], ◌∷◌, sym, subst, ⊎_elim}
+use Rattle.std.proofs.Common.{[], ◌∷◌, sym, subst, ⊎_elim}
 use Rattle.std.specs.Prelude.{OnOk}
 use Rattle.std.proofs.lemmas.Result.{on_ok_weaker}
 use Rattle.im_block.specs.declared.code.Line.{Line}

@@ -1,8 +1,5 @@
-use Rattle.std.proofs.Common.{◌≡◌, ℕ, List, Option, Some, sym, subst, ⊎_elim}
+use Rattle.std.proofs.Common.{sym, subst, ⊎_elim}
 use Rattle.std.specs.Prelude.{IfOk}
-use Rattle.std.proofs.lemmas.Result.{IfOk-weaker}
-use Rattle.im_block.specs.declared.access.Tag.{Tag}
-use Rattle.im_block.specs.declared.access.Tag.TheVariants.{Direct}
 use Rattle.im_block.specs.declared.code.Place.{Place}
 use Rattle.im_alias.specs.Found.{FindsTag, PlaceTagged}
 use Rattle.im_alias.proofs.found.Found.tag_at.Goals as goal
