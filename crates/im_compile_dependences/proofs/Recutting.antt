@@ -9,12 +9,12 @@ use Rattle.im_block.specs.declared.code.Line.TheVariants.{Read, Write, Reload, S
 use Rattle.im_block.specs.declared.code.Exit.{Exit}
 use Rattle.im_block.specs.declared.code.Block.{Block}
 use Rattle.im_block.specs.declared.unit.Function.{Function}
-use Rattle.im_block.specs.Meaning.{Site, Spot}
+use Rattle.im_block.specs.Meaning.{Site, site_of, slot_site, Spot}
 use Rattle.im_block.specs.Paths.{Step, ReadStep, WriteStep, steps_of, Open, spot, Path, Here, Along, Across, IsEntry}
 use Rattle.im_block.specs.Wellformed.{accesses_of_line, accesses_of_lines, accesses_of_blocks}
 use Rattle.im_select.specs.Selects.{causes_of_line, causes_of_lines, causes_of_blocks}
 use Rattle.im_link_laws.specs.Laws.{NamesOwn}
-use Rattle.im_cut.specs.Greedy as g
+use Rattle.im_cut.specs.Greedy as greedy
 use Rattle.im_cut.specs.Greedy.{cause_of, BehindCut, Starts, IsDue, CutLines, Empty, Same, Added, CutBlocks, CutsTo}
 use Rattle.im_recut.specs.Recut.{RecutsFunctions}
 use Rattle.im_compile_dependences.specs.Laws.{RecutNames}
@@ -93,8 +93,8 @@ line_reads line r h = absurd h
 line_writes : (line : Line) (w : Site) → steps_of line ≡ WriteStep w ∷ [] → In w.number (accesses_of_line line)
 line_writes (Read to place kind access) w e = cc
 line_writes (Reload to slot access) w e = cc
-line_writes (Write place kind from access) w e = inl cc
-line_writes (Spill slot from access) w e = inl cc
+line_writes (Write place kind from access) w e = let same : site_of access kind ≡ w = cc in inl (ap (λ (s : Site). s.number) same)
+line_writes (Spill slot from access) w e = let same : slot_site access slot ≡ w = cc in inl (ap (λ (s : Site). s.number) same)
 line_writes line w e = cc
 
 path_reads : (blocks : List Block) (start : Spot) → Stands blocks start → (path : List Step) (s : Spot) → Path blocks start path s → (r : Site) → Meets path r → In r.number (accesses_of_blocks blocks)
@@ -174,7 +174,7 @@ function_named tags old new added h names =
     names_own (causes_of_blocks new.blocks.items) (accesses_of_blocks new.blocks.items) each
   where
     known : List Cause
-    known = g.causes_of_blocks old.blocks.items
+    known = greedy.causes_of_blocks old.blocks.items
 
     same : accesses_of_blocks new.blocks.items ≡ accesses_of_blocks old.blocks.items
     same = blocks_accesses tags new known 0 old.blocks.items new.blocks.items added h.blocks
