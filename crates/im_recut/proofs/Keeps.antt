@@ -2,14 +2,10 @@
 use Rattle.std.proofs.Common.{◌≡◌, ℕ, zero, suc, List, [], ◌∷◌, Some, refl, subst}
 use Rattle.std.specs.Prelude.{slice_get}
 use Rattle.im_block.specs.declared.access.Tags.{Tags}
-use Rattle.im_block.specs.declared.code.Block.{Block}
 use Rattle.im_block.specs.declared.unit.Function.{Function}
-use Rattle.im_block.specs.declared.unit.Unit.{Unit as Code}
-use Rattle.im_block.specs.Uncut.{SameFunctions, SameButCuts}
-use Rattle.im_block.specs.Paths.{IsSectioned, AllSectioned}
-use Rattle.im_alloc_placed.specs.Apart.{CutsApart, AllApart}
+use Rattle.im_block.specs.Uncut.{SameFunctions}
 use Rattle.im_cut.specs.Laws.{SameLaw, ApartLaw}
-use Rattle.im_recut.specs.Recut.{RecutsFunction, RecutsFunctions, RecutsTo}
+use Rattle.im_recut.specs.Recut.{RecutsFunction, RecutsFunctions}
 use Rattle.im_recut.specs.Laws.{RecutKeepsLaw}
 
 functions_same : SameLaw → (tags : Tags) (fs gs : List Function) → RecutsFunctions tags fs gs → SameFunctions fs gs

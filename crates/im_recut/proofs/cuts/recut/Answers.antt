@@ -19,8 +19,7 @@ pub loop-function-preserved : goal.loop-function-preserved
 loop-function-preserved c =
     let l = c.loop-function in
     let within : l.function-index < length l.function-items = omega arith in
-    let one = record { added = c.in_ok-cut_in.field-0.items; cuts = c.in_ok-cut_in.ensures } in
-    let m = functions_more c.args.tags.now l.function-index c.args.unit.functions.items l.function-items c.function-item.result c.cut_in.new.function within l.invariant.done l.invariant.left one in
+    let m = functions_more c.args.tags.now l.function-index c.args.unit.functions.items l.function-items c.function-item.result c.cut_in.new.function within l.invariant.done l.invariant.left (record { added = c.in_ok-cut_in.field-0.items; cuts = c.in_ok-cut_in.ensures }) in
     let next : suc l.function-index ≡ l.function-index + 1 = omega arith in
     let n = subst (λ j. FunctionsMore c.args.tags.now j c.args.unit.functions.items (slice_set l.function-items l.function-index c.cut_in.new.function)) next m in
     record { done = n.done; left = n.left }
