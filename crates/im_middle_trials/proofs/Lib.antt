@@ -1,2 +1,3 @@
 pub mod Two
 pub mod Laid
+pub mod Single

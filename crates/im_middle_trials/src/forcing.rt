@@ -98,7 +98,7 @@ const CUTS: [&[(usize, Cause)]; 4] = [
     &[],
     &[(0, Cause::Loop)],
     &[(0, Cause::Entry), (2, Cause::Return)],
-    &[(2, Cause::Dep { read: 2, write: 2 }), (5, Cause::Return)],
+    &[(4, Cause::Return)],
 ];
 
 #[test]

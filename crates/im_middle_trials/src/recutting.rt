@@ -1,38 +1,74 @@
-use crate::forcing::blocks_of;
+ghost use Rattle.std.specs.Prelude.{IfOk};
+ghost use Rattle.im_block.specs.Forced.{AllForced};
+ghost use Rattle.im_block.specs.Shape.{AllOrdered};
+
 use crate::seen::same;
-use im_block::{Exit, Function, Line, Place, Registers, Unit};
+use im_block::{Block, Exit, Function, Line, Place, Registers, Tag, Tags, Unit};
 use im_num::{Cause, Kind};
 use im_recut::recut;
 use std::alloc::Global;
 use std::test::Fail;
 
-/// Behind a call a result goes to its slot; then a write, and a result that goes to a slot.
-const LINES: [Line; 6] = [
-    Line::GetChar { to: 10 },
-    Line::Cut(Cause::Return),
-    Line::Spill {
-        slot: 0,
-        from: 10,
-        access: 18,
-    },
-    Line::Write {
-        place: Place::Static {
-            object: 0,
-            offset: 0,
-        },
-        kind: Kind::I32,
-        from: 10,
-        access: 1,
-    },
-    Line::Put { to: 30, number: 7 },
-    Line::Spill {
-        slot: 1,
-        from: 30,
-        access: 50,
-    },
-];
+/// The static.
+const S: Place = Place::Static {
+    object: 0,
+    offset: 0,
+};
 
-fn sample(alloc: Global) -> Result<Unit, Fail> {
+/// Slot 0 and the static are written first in their section; slot 1 is read, then written.
+fn sample(alloc: Global) -> Result<Unit, Fail>
+    ensures ordered { IfOk result AllOrdered }
+    ensures forced { IfOk result AllForced }
+{
+    let lines = vec![in alloc;
+        Line::Cut(Cause::Entry),
+        Line::GetChar { to: 10 },
+        Line::Cut(Cause::Return),
+        Line::Spill {
+            slot: 0,
+            from: 10,
+            access: 18,
+        },
+        Line::Write {
+            place: S,
+            kind: Kind::I32,
+            from: 10,
+            access: 1,
+        },
+        Line::Read {
+            to: 10,
+            place: S,
+            kind: Kind::I32,
+            access: 2,
+        },
+        Line::Reload {
+            to: 7,
+            slot: 1,
+            access: 49,
+        },
+        Line::Write {
+            place: S,
+            kind: Kind::I32,
+            from: 10,
+            access: 3,
+        },
+        Line::Spill {
+            slot: 1,
+            from: 10,
+            access: 50,
+        },
+        Line::Spill {
+            slot: 0,
+            from: 10,
+            access: 51,
+        },
+    ]?;
+    let blocks = vec![in alloc;
+        Block {
+            lines,
+            exit: Exit::Return(None),
+        },
+    ]?;
     let function = Function {
         nodes: 8,
         need: 112,
@@ -43,7 +79,7 @@ fn sample(alloc: Global) -> Result<Unit, Fail> {
         first_object: 1,
         objects: Vec::new(alloc),
         slots: 2,
-        blocks: blocks_of(alloc, &[(&LINES, Exit::Return(None))])?,
+        blocks,
         entry: 0,
     };
     Ok(Unit {
@@ -53,25 +89,36 @@ fn sample(alloc: Global) -> Result<Unit, Fail> {
     })
 }
 
+/// Each access with a tag is one of the static's first bytes.
+fn tags(alloc: Global) -> Result<Tags, Fail> {
+    Ok(Tags {
+        of: vec![in alloc; 0, 0, 0, 0]?,
+        tags: vec![in alloc; Tag::Direct { object: 0, offset: 0 }]?,
+    })
+}
+
 /// The cause of each line that is a cut.
-const CAUSES: [Option<Cause>; 8] = [
+const CAUSES: [Option<Cause>; 11] = [
+    Some(Cause::Entry),
     None,
     Some(Cause::Return),
     None,
-    Some(Cause::Dep { read: 1, write: 1 }),
+    None,
+    None,
     None,
     None,
     Some(Cause::Dep {
-        read: 50,
+        read: 49,
         write: 50,
     }),
+    None,
     None,
 ];
 
 #[test]
-fn each_write_stands_behind_a_cut(rt: HostRuntime) -> Result<(), Fail> {
+fn a_write_behind_an_open_read_is_cut(rt: HostRuntime) -> Result<(), Fail> {
     let alloc = rt.alloc();
-    let unit = recut(alloc, sample(alloc)?)?;
+    let unit = recut(alloc, sample(alloc)?, &tags(alloc)?)?;
     for function in unit.functions.iter() {
         for block in function.blocks.iter() {
             let mut causes = Vec::new(alloc);

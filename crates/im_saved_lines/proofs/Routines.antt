@@ -11,7 +11,7 @@ use Rattle.im_gap.specs.declared.flow.Turn.TheVariants.{Passes, Jumps, Branches,
 use Rattle.im_rtlib.specs.Laws.{is_saved}
 use Rattle.im_rtlib.specs.Routines.{getchar, putchar, exit, stack}
 use Rattle.im_saved_lines.specs.Scan.{is_base, is_returned, way, After, at_target, onward, lives_at, scan, Goes, GoesTo, IsSoundLine, AreSound}
-use Rattle.im_saved_lines.specs.Laws.{lives_inside, IsLow, RoutineLinesLaw}
+use Rattle.im_saved_lines.specs.Laws.{lives_inside, IsLow, AreLeast, RoutineLinesLaw}
 use Rattle.im_saved_lines.proofs.Scanning.{both, either, or_left, or_right, not_true, same_of, same_is, other_is}
 
 -- a label of the runtime, which the checkpoint has not
@@ -67,6 +67,15 @@ label_holds (Some l) r lives = not lives || known l r
 abbrev labels_hold : List CodeLine → After → ℕ → Bool
 labels_hold [] behind r = true
 labels_hold (x ∷ xs) behind r = label_holds x.label r ((scan known (x ∷ xs) behind).next r) && labels_hold xs behind r
+
+abbrev entry_lives : Option ℕ → (ℕ → Bool) → Bool
+entry_lives None lives = false
+entry_lives (Some m) lives = lives m
+
+-- at each cut's entry a register lives behind it
+abbrev least_test : List CodeLine → After → Bool
+least_test [] behind = true
+least_test (x ∷ xs) behind = (not (x.line.rd == 3) || entry_lives x.target (scan known xs behind).next) && least_test xs behind
 
 abbrev all_below : (ℕ → Bool) → ℕ → Bool
 all_below f zero = true
@@ -273,6 +282,26 @@ module _ (at : ℕ → ℕ → Bool) (low : IsLow at) where
       let split : (r : ℕ) → r < 11 → (label_holds x.label r ((scan known (x ∷ y ∷ xs) behind).next r) ≡ true) × (labels_hold (y ∷ xs) behind r ≡ true) = λ r lt. both (label_holds x.label r ((scan known (x ∷ y ∷ xs) behind).next r)) (labels_hold (y ∷ xs) behind r) (h r lt) in
       (line_sound x (y ∷ xs) behind t (inr (lines_saved (y ∷ xs) behind c.1)) (λ r lt. (split r lt).0), lines_sound (y ∷ xs) behind c.1 (λ r lt. (split r lt).1))
 
+  entry_least : (target : Option ℕ) (a b : ℕ → Bool) → ((r : ℕ) → a r ≡ b r) → entry_lives target b ≡ true → (m : ℕ) × (target ≡ Some m) × (a m ≡ true)
+  entry_least None a b s e = absurd cc
+  entry_least (Some m) a b s e = (m, refl, s m ∙ e)
+
+  line_least : (x : CodeLine) (xs : List CodeLine) (behind : After) → Same (scan at xs behind) (scan known xs behind) → (not (x.line.rd == 3) || entry_lives x.target (scan known xs behind).next) ≡ true → x.line.rd ≡ 3 → (m : ℕ) × (x.target ≡ Some m) × ((scan at xs behind).next m ≡ true)
+  line_least x xs behind s h e = elim (either (not (x.line.rd == 3)) (entry_lives x.target (scan known xs behind).next) h) [
+    | inl n ↦ absurd (not_true (x.line.rd == 3) n (same_is x.line.rd 3 e))
+    | inr l ↦ entry_least x.target (scan at xs behind).next (scan known xs behind).next s.next l
+  ]
+
+  pub lines_least : (xs : List CodeLine) (behind : After) → lines_test xs ≡ true → least_test xs behind ≡ true → AreLeast at xs behind
+  lines_least [] behind t h = tt
+  lines_least (x ∷ []) behind t h =
+      let c = both (not (x.line.rd == 3) || entry_lives x.target (scan known [] behind).next) (least_test [] behind) h in
+      (line_least x [] behind (scan_same [] behind (inl refl)) c.0, tt)
+  lines_least (x ∷ y ∷ xs) behind t h =
+      let c = both (not (x.line.rd == 3) || entry_lives x.target (scan known (y ∷ xs) behind).next) (least_test (y ∷ xs) behind) h in
+      let t' = (both (line_test x) (lines_test (y ∷ xs)) t).1 in
+      (line_least x (y ∷ xs) behind (scan_same (y ∷ xs) behind (inr t')) c.0, lines_least (y ∷ xs) behind t' c.1)
+
   -- where a run ends x10 is stored
   exit_ends : (behind : After) (r : ℕ) → (scan at exit behind).next r ≡ true → (is_base r ≡ true) ⊎ (r ≡ 10)
   exit_ends behind r w = elim (either (is_base r) ((r == 0 || r == 10) || (not (r == 0) && (is_base r || ((r == 0 || r == 0) || (not (r == 0) && false))))) w) [
@@ -296,6 +325,8 @@ pub routine_lines : RoutineLinesLaw
 routine_lines = record {
   getchar_sound = λ at low behind. lines_sound at low getchar behind refl (λ r lt. below_is (labels_hold getchar behind) 11 r refl lt);
   putchar_sound = λ at low behind. lines_sound at low putchar behind refl (λ r lt. below_is (labels_hold putchar behind) 11 r refl lt);
+  getchar_least = λ at low behind. lines_least at low getchar behind refl refl;
+  putchar_least = λ at low behind. lines_least at low putchar behind refl refl;
   stack_sound = λ at low behind. lines_sound at low stack behind refl (λ r lt. below_is (labels_hold stack behind) 11 r refl lt);
   exit_sound = λ at low behind. lines_sound at low exit behind refl (λ r lt. below_is (labels_hold exit behind) 11 r refl lt);
   exit_lives = λ at low behind r w. exit_ends at low behind r w;

@@ -12,6 +12,7 @@ use Rattle.im_alloc_placed.specs.Placed.{IsPlacedFunction}
 use Rattle.im_alloc_relation.specs.Settled.{IsCall}
 use Rattle.im_live.specs.Reads.{lives_before}
 use Rattle.im_select.specs.Emitted.{entry_label, function_code}
+use Rattle.im_rv.specs.Lines.{CodeLine}
 use Rattle.im_saved_lines.specs.Scan.{is_base, After, scan, AreSound}
 
 -- what lives at the runtime's labels beside x0, x1 and x2: x10 at putchar and at the end of a run; x5 and x10 inside putchar,
@@ -59,9 +60,16 @@ FunctionLinesLaw =
     ((b : ℕ) (block : Block) → slice_get f.blocks.items b ≡ Some block → SavesFrom live (m b) 0 block.lines.items block.exit) →
     (behind : After) → AreSound at (function_code places m i first frame f.entry f.blocks.items) behind
 
+-- each cut enters at a register that lives behind it: as all that lives there is saved, at the greatest
+abbrev pub AreLeast : (ℕ → ℕ → Bool) → List CodeLine → After → Type 0
+AreLeast at [] behind = Unit {0}
+AreLeast at (x ∷ xs) behind = (x.line.rd ≡ 3 → (m : ℕ) × (x.target ≡ Some m) × ((scan at xs behind).next m ≡ true)) × AreLeast at xs behind
+
 pub record RoutineLinesLaw : Type 0 where
   pub getchar_sound : (at : ℕ → ℕ → Bool) → IsLow at → (behind : After) → AreSound at getchar behind
   pub putchar_sound : (at : ℕ → ℕ → Bool) → IsLow at → (behind : After) → AreSound at putchar behind
+  pub getchar_least : (at : ℕ → ℕ → Bool) → IsLow at → (behind : After) → AreLeast at getchar behind
+  pub putchar_least : (at : ℕ → ℕ → Bool) → IsLow at → (behind : After) → AreLeast at putchar behind
   pub stack_sound : (at : ℕ → ℕ → Bool) → IsLow at → (behind : After) → AreSound at stack behind
   pub exit_sound : (at : ℕ → ℕ → Bool) → IsLow at → (behind : After) → AreSound at exit behind
   -- what lives where a run ends
