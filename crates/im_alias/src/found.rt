@@ -1,11 +1,10 @@
-ghost use Rattle.std.specs.Prelude.{◌≡◌, [], ◌∷◌, Some, IfOk, OnOk};
-ghost use Rattle.im_alias.specs.Found.{AreTagsOf, Finds, FindsAccess, FindsTag, LineFits, PlaceTaken, PlaceTagged};
-ghost use Rattle.im_block.specs.Sections.{Has};
-ghost use Rattle.im_block.specs.Tagged.{tag_of};
-ghost use Rattle.im_block.specs.Wellformed.{accesses_of_line};
-ghost use Rattle.im_block_laws.specs.PointsTo.{Sub};
-ghost use Rattle.im_block.specs.declared.access.Tag.TheVariants.{Direct};
+ghost use Rattle.std.specs.Prelude.{◌≡◌, ◌<◌, [], Some, IfOk, IsTrue, OnOk, length, slice_get};
+ghost use Rattle.im_alias.specs.Scan.{FindsAt, FindsTag, IsAmong, IsSlotless, TagAlike};
+ghost use Rattle.im_alias.specs.Sets.{row_sets};
+ghost use Rattle.im_block.specs.Wellformed.{LineWithin, PlaceWithin};
 
+use crate::set::ObjectSet;
+use crate::table::RegisterSets;
 use im_block::{Line, Place, Tag};
 use im_num::NoMemory;
 use std::alloc::Global;
@@ -17,118 +16,125 @@ pub struct Tagged {
     pub tag: u32,
 }
 
-/// What was found in the lines so far.
+/// The tags of a sweep.
 #[derive(Drop)]
 pub struct Found {
-    /// The tags of accesses to named places.
-    pub direct: Vec<Tag>,
+    pub tags: Vec<Tag>,
     pub accesses: Vec<Tagged>,
-    /// The objects whose address is taken.
-    pub taken: Vec<u32>,
+    /// By a hash of their objects, tags that stand already.
+    recent: Vec<u32>,
 }
 
-/// Where the tag of all accesses through pointers stands: before the direct ones.
-const THROUGH: u32 = 0;
+const BUCKETS: usize = 4096;
 
 impl Found {
-    pub fn new(alloc: Global) -> Found
-        ensures { result.accesses.items ≡ [] }
+    pub fn new(alloc: Global) -> Result<Found, NoMemory>
+        ensures { IfOk result (λ found. found.accesses.items ≡ []) }
     {
-        Found {
-            direct: Vec::new(alloc),
+        let recent = vec![in alloc; 0u32; BUCKETS]?;
+        Ok(Found {
+            tags: Vec::new(alloc),
             accesses: Vec::new(alloc),
-            taken: Vec::new(alloc),
-        }
+            recent,
+        })
     }
 
-    /// The tags alone: first that of all accesses through pointers.
-    pub fn into_tags(self) -> Result<Vec<Tag>, NoMemory>
-        ensures { IfOk result (λ tags. AreTagsOf self tags.items) }
+    /// The tags alone.
+    pub fn into_tags(self) -> Vec<Tag>
+        ensures { result ≡ self.tags }
     {
-        let Found {
-            mut direct,
-            taken,
-            ..
-        } = self;
-        let taken = distinct(taken)?;
-        direct.insert(THROUGH as usize, Tag::Through(taken))?;
-        Ok(direct)
+        let Found { tags, .. } = self;
+        tags
     }
 
-    /// Takes in the access of a line, or the address that it takes.
-    pub fn line(&mut self, line: Line) -> Result<(), NoMemory>
-        ensures { OnOk result (Finds (accesses_of_line line) (λ final taken. LineFits final taken line) self.old self.new) }
+    /// Gives an access its tag.
+    pub fn tag(&mut self, alloc: Global, spot: &RegisterSets, line: Line) -> Result<(), NoMemory>
+        requires within { LineWithin (length spot.now.sets.items) line }
+        requires slotless { IsSlotless line }
+        ensures { OnOk result (FindsAt (row_sets spot.now) line self.old self.new) }
     {
         match line {
-            Line::Address { place, .. } => self.address(place),
             Line::Read { place, access, .. } | Line::Write { place, access, .. } => {
-                self.access(place, access)
+                let tag = self.tag_at(alloc, spot, place)?;
+                self.accesses.push(Tagged { access, tag })?;
+                Ok(())
             }
-            // An access to a slot reaches its slot, whatever its tag.
-            Line::Reload { access, .. } | Line::Spill { access, .. } => self.tag(access, THROUGH),
             _ => Ok(()),
         }
     }
 
-    fn address(&mut self, place: Place) -> Result<(), NoMemory>
-        ensures { OnOk result (Finds [] (λ final taken. PlaceTaken taken place) self.old self.new) }
-    {
-        match place {
-            Place::Static { object, .. } | Place::Local { object, .. } => self.take(object),
-            Place::Through { .. } => Ok(()),
-        }
-    }
-
-    /// Takes in that an object's address is taken.
-    pub fn take(&mut self, object: u32) -> Result<(), NoMemory>
-        ensures { OnOk result (Finds [] (λ final taken. Has taken object) self.old self.new) }
-    {
-        self.taken.push(object)?;
-        Ok(())
-    }
-
-    fn access(&mut self, place: Place, access: u64) -> Result<(), NoMemory>
-        ensures { OnOk result (Finds (access ∷ []) (λ final taken. PlaceTagged taken place (tag_of final access)) self.old self.new) }
-    {
-        let tag = self.tag_at(place)?;
-        self.tag(access, tag)
-    }
-
     /// Where the tag of an access to a place stands.
-    fn tag_at(&mut self, place: Place) -> Result<u32, NoMemory>
-        ensures { IfOk result (λ k. FindsTag k (λ taken tag. PlaceTagged taken place tag) self.old self.new) }
+    fn tag_at(&mut self, alloc: Global, spot: &RegisterSets, place: Place) -> Result<u32, NoMemory>
+        requires { PlaceWithin (length spot.now.sets.items) place }
+        ensures { IfOk result (λ k. FindsTag k (TagAlike (row_sets spot.now) place) self.old self.new) }
     {
         match place {
             Place::Static { object, offset } | Place::Local { object, offset } => {
-                self.direct_at(object, offset)
+                self.put(Tag::Direct { object, offset })
             }
-            Place::Through { .. } => Ok(THROUGH),
+            Place::Through { pointer, .. } => self.among(alloc, &spot.sets[pointer as usize]),
         }
     }
 
-    fn direct_at(&mut self, object: u32, offset: u32) -> Result<u32, NoMemory>
-        ensures { IfOk result (λ k. FindsTag k (λ taken tag. tag ≡ Some (Direct object offset)) self.old self.new) }
+    /// Where a tag of just these objects stands; one that stands already, where it is known.
+    fn among(&mut self, alloc: Global, objects: &ObjectSet) -> Result<u32, NoMemory>
+        ensures { IfOk result (λ k. FindsTag k (IsAmong objects.now.members.items) self.old self.new) }
     {
-        self.direct.push(Tag::Direct { object, offset })?;
-        let Ok(place) = u32::try_from(self.direct.len()) else {
-            return Err(NoMemory::OutOfMemory);
-        };
+        let bucket = bucket_of(&objects.members);
+        let place = self.recalled(bucket);
+        if self.is_among(place, objects) {
+            return Ok(place);
+        }
+        let members = Vec::from_slice(alloc, &objects.members)?;
+        let place = self.put(Tag::Through(members))?;
+        self.remember(bucket, place);
         Ok(place)
     }
 
-    fn tag(&mut self, access: u64, tag: u32) -> Result<(), NoMemory>
-        ensures { OnOk result (FindsAccess access tag self.old self.new) }
+    fn recalled(&self, bucket: usize) -> u32 {
+        if bucket < self.recent.len() {
+            self.recent[bucket]
+        } else {
+            0
+        }
+    }
+
+    fn remember(&mut self, bucket: usize, place: u32)
+        ensures tags { self.new.tags ≡ self.old.tags }
+        ensures accesses { self.new.accesses ≡ self.old.accesses }
     {
-        self.accesses.push(Tagged { access, tag })?;
-        Ok(())
+        if bucket < self.recent.len() {
+            self.recent[bucket] = place;
+        }
+    }
+
+    fn is_among(&self, place: u32, objects: &ObjectSet) -> bool
+        ensures { IsTrue result → IsAmong objects.now.members.items (slice_get self.now.tags.items place) }
+    {
+        match self.tags.get(place as usize) {
+            Some(Tag::Through(members)) => members.as_slice() == objects.members.as_slice(),
+            _ => false,
+        }
+    }
+
+    fn put(&mut self, tag: Tag) -> Result<u32, NoMemory>
+        ensures { IfOk result (λ k. FindsTag k (λ found. found ≡ Some tag) self.old self.new) }
+    {
+        let Ok(place) = u32::try_from(self.tags.len()) else {
+            return Err(NoMemory::OutOfMemory);
+        };
+        self.tags.push(tag)?;
+        Ok(place)
     }
 }
 
-/// The same objects, each once.
-fn distinct(mut objects: Vec<u32>) -> Result<Vec<u32>, NoMemory>
-    ensures { IfOk result (λ once. Sub objects.items once.items) }
+/// A hash of objects, below the number of buckets.
+fn bucket_of(objects: &[u32]) -> usize
+    ensures { result < 4096 }
 {
-    objects.sort()?;
-    objects.dedup();
-    Ok(objects)
+    let mut hash = 0u32;
+    for object in objects {
+        hash = hash.wrapping_mul(31).wrapping_add(*object);
+    }
+    hash as usize % BUCKETS
 }

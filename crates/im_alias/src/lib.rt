@@ -1,9 +1,13 @@
-//! From a unit of block code to the tags of its accesses: the bytes of a named place, or through a pointer the objects
-//! whose address is taken.
+//! From a unit of block code to the tags of its accesses: the least points-to sets, by definition within a block.
 #![tactic(auto)]
 
+mod flow;
 mod found;
+mod made;
+mod place;
+mod set;
+mod spot;
+mod table;
 mod tags;
-mod walk;
 
 pub use tags::alias;

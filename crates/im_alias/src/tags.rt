@@ -1,28 +1,47 @@
 ghost use Rattle.std.specs.Prelude.{◌≡◌, ◌<◌, IfOk, OnOk, length, take, vec_len};
-ghost use Rattle.im_alias.specs.Found.{IsScattered, numbers};
-ghost use Rattle.im_alias.specs.Named.{NamesPlaces};
+ghost use Rattle.im_alias.specs.Scan.{IsScattered, Settled, numbers};
+ghost use Rattle.im_alias.specs.Sets.{IsCode, IsPart, points};
+ghost use Rattle.im_alias_laws.specs.Least.{AreLeast, IsLeastAt};
 ghost use Rattle.im_alloc_placed.specs.Placeable.{IsPlaceable};
 ghost use Rattle.im_block.specs.Tagged.{IsSound};
 ghost use Rattle.im_block.specs.Wellformed.{AreApart, IsWellFormed};
 
+use crate::flow::sweep;
 use crate::found::{Found, Tagged};
-use crate::walk::walk_unit;
+use crate::made::make_table;
+use crate::table::Table;
 use im_block::{Tags, Unit};
 use im_num::NoMemory;
 use std::alloc::Global;
 
-/// The tags of a unit's accesses: direct ones at named places, and through a pointer any object whose address is taken.
+/// The tags of a unit's accesses: the least that are sound by points-to sets.
 pub fn alias(alloc: Global, unit: &Unit) -> Result<Tags, NoMemory>
     requires well_formed { IsWellFormed unit.now }
     requires placeable { IsPlaceable unit.now }
     ensures sound { IfOk result (λ tags. IsSound unit.now tags) }
-    ensures direct { IfOk result (λ tags. NamesPlaces unit.now tags) }
+    ensures least { IfOk result (λ tags. AreLeast unit.now tags) }
 {
-    let mut found = Found::new(alloc);
-    walk_unit(unit, &mut found)?;
+    let mut table = make_table(alloc, unit)?;
+    let found = settle(alloc, unit, &mut table)?;
     let of = scatter(alloc, &found.accesses)?;
-    let tags = found.into_tags()?;
+    let tags = found.into_tags();
     Ok(Tags { of, tags })
+}
+
+/// Sweeps until one changes nothing, and the tags of that one.
+fn settle(alloc: Global, unit: &Unit, table: &mut Table) -> Result<Found, NoMemory>
+    requires code { IsCode unit.now }
+    requires part { IsPart unit.now table.old }
+    requires least { IsLeastAt (points table.old) unit.now }
+    ensures { IfOk result (λ found. Settled unit.now table.new found) }
+{
+    loop {
+        let mut found = Found::new(alloc)?;
+        let changed = sweep(alloc, unit, table, &mut found)?;
+        if !changed {
+            return Ok(found);
+        }
+    }
 }
 
 /// For each access, by its number, where its tag stands.

@@ -1,7 +1,7 @@
 use Rattle.std.proofs.Common.{◌<◌, length, get_or, vec_len, arith}
 use Rattle.std.proofs.lemmas.Option.{slice_get-get_or}
 use Rattle.im_alias.specs.declared.found.Tagged.{Tagged}
-use Rattle.im_alias.proofs.Scattering.{scatter_next}
+use Rattle.im_alias.proofs.Steps.{scatter_next}
 use Rattle.im_alias.proofs.tags.scatter.Goals as goal
 
 pub loop-each-preserved : goal.loop-each-preserved

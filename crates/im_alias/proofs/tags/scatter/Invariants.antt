@@ -1,4 +1,4 @@
-use Rattle.im_alias.specs.Found.{IsScattered}
+use Rattle.im_alias.specs.Scan.{IsScattered}
 use Rattle.im_alias.proofs.tags.scatter.Given as goal
 
 abbrev pub invariant-loop-each : goal.invariant-loop-each
