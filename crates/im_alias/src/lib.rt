@@ -15,7 +15,7 @@ pub fn alias(alloc: Global, unit: &Unit) -> Result<Tags, NoMemory>
     requires well_formed { IsWellFormed unit.now }
     requires placeable { IsPlaceable unit.now }
     ensures sound { IfOk result (λ tags. IsSound unit.now tags) }
-    ensures direct { IfOk result (λ tags. Unit {0}) }
+    ensures direct { IfOk result (λ tags. Prim.Unit {0}) }
 {
     Err(NoMemory::OutOfMemory)
 }
