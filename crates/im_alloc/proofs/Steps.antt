@@ -1,5 +1,5 @@
 -- One more argument, line, block or function.
-use Rattle.std.proofs.Common.{◌≡◌, ℕ, zero, suc, ◌+◌, ◌-◌, ◌*◌, ◌<◌, Bool, true, false, List, [], ◌∷◌, refl, sym, ap, ◌∙◌, subst, arith, length, take, drop, get_or, length-drop}
+use Rattle.std.proofs.Common.{◌≡◌, ℕ, zero, suc, ◌+◌, ◌-◌, ◌*◌, ◌<◌, ◌≤◌, Bool, true, false, List, [], ◌∷◌, ◌++◌, refl, sym, ap, ◌∙◌, subst, arith, length, take, drop, get_or, length-drop}
 use Rattle.std.specs.Prelude.{slice_set, All}
 use Rattle.std.proofs.lemmas.List.Elements.{All-head, All-tail}
 use Rattle.im_num.specs.declared.values.Cause.{Cause}
@@ -9,10 +9,10 @@ use Rattle.im_block.specs.declared.code.Exit.{Exit}
 use Rattle.im_block.specs.declared.code.Exit.TheVariants.{Jump, Turn, Branch, Return}
 use Rattle.im_block.specs.declared.code.Block.{Block}
 use Rattle.im_block.specs.declared.unit.Function.{Function}
-use Rattle.im_alloc_relation.specs.Homes.{Home, numbers_kept, into, bring, loop_cut, past_cut, behind, needed}
+use Rattle.im_alloc_relation.specs.Homes.{Home, numbers_kept, into, bring, put_line, loop_cut, past_cut, behind, needed, put_lines}
 use Rattle.im_alloc_relation.specs.Placing.{PlacedBlock, PlacedBlocks}
 use Rattle.im_alloc_laws.specs.Numbered.{numbers_of_blocks}
-use Rattle.im_alloc.specs.Parts.{calls, left_to_put, keeps_loop_cut, puts_line}
+use Rattle.im_alloc.specs.Parts.{Adds, calls, left_to_put, keeps_loop_cut, puts_line, AddsLines}
 use Rattle.im_alloc.specs.Slots.{home_in, SlotsFunction, SlotsFunctions, numbers_of}
 
 -- what holds of all old items holds of one that is as it was
@@ -36,7 +36,7 @@ bring_step h k f n a i rest lt =
 
 -- lines
 
-pub rest_of : (i : ℕ) (old : List Line) (d : Line) → i < length old → drop i old ≡ get_or old i d ∷ drop (suc i) old
+rest_of : (i : ℕ) (old : List Line) (d : Line) → i < length old → drop i old ≡ get_or old i d ∷ drop (suc i) old
 rest_of i [] d lt = absurd (omega arith)
 rest_of zero (x ∷ old) d lt = refl
 rest_of (suc i) (x ∷ old) d lt = rest_of i old d (omega arith)
@@ -65,7 +65,7 @@ past_put : (exit : Exit) (line : Line) (rest : List Line) → puts_line exit tru
 past_put exit (Cut cause) rest e = loop_cut_put exit cause rest e
 past_put exit line rest e = refl
 
-pub put_is : (exit : Exit) (behind_call : Bool) (line : Line) (rest : List Line) → puts_line exit behind_call line rest ≡ true → left_to_put exit behind_call (line ∷ rest) ≡ line ∷ left_to_put exit (calls line) rest
+put_is : (exit : Exit) (behind_call : Bool) (line : Line) (rest : List Line) → puts_line exit behind_call line rest ≡ true → left_to_put exit behind_call (line ∷ rest) ≡ line ∷ left_to_put exit (calls line) rest
 put_is exit true line rest e = past_put exit line rest e ∙ ap (λ q. line ∷ q) (behind_is exit line rest)
 put_is exit false line rest e = ap (λ q. line ∷ q) (behind_is exit line rest)
 
@@ -73,9 +73,67 @@ past_gone : (exit : Exit) (line : Line) (rest : List Line) → puts_line exit tr
 past_gone exit (Cut cause) rest e = loop_cut_gone exit cause rest e
 past_gone exit line rest e = absurd cc
 
-pub gone_is : (exit : Exit) (behind_call : Bool) (line : Line) (rest : List Line) → puts_line exit behind_call line rest ≡ false → left_to_put exit behind_call (line ∷ rest) ≡ left_to_put exit (calls line) rest
+gone_is : (exit : Exit) (behind_call : Bool) (line : Line) (rest : List Line) → puts_line exit behind_call line rest ≡ false → left_to_put exit behind_call (line ∷ rest) ≡ left_to_put exit (calls line) rest
 gone_is exit true line rest e = past_gone exit line rest e
 gone_is exit false line rest e = absurd cc
+
+left_put : (exit : Exit) (behind_call : Bool) (i : ℕ) (old : List Line) (d : Line) → i < length old → puts_line exit behind_call (get_or old i d) (drop (suc i) old) ≡ true → left_to_put exit behind_call (drop i old) ≡ get_or old i d ∷ left_to_put exit (calls (get_or old i d)) (drop (suc i) old)
+left_put exit behind_call i old d lt e = ap (λ q. left_to_put exit behind_call q) (rest_of i old d lt) ∙ put_is exit behind_call (get_or old i d) (drop (suc i) old) e
+
+left_gone : (exit : Exit) (behind_call : Bool) (i : ℕ) (old : List Line) (d : Line) → i < length old → puts_line exit behind_call (get_or old i d) (drop (suc i) old) ≡ false → left_to_put exit behind_call (drop i old) ≡ left_to_put exit (calls (get_or old i d)) (drop (suc i) old)
+left_gone exit behind_call i old d lt e = ap (λ q. left_to_put exit behind_call q) (rest_of i old d lt) ∙ gone_is exit behind_call (get_or old i d) (drop (suc i) old) e
+
+drop_none : (i : ℕ) (old : List Line) → length old ≤ i → drop i old ≡ []
+drop_none zero [] le = refl
+drop_none (suc i) [] le = refl
+drop_none zero (x ∷ old) le = absurd (omega arith)
+drop_none (suc i) (x ∷ old) le = drop_none i old (omega arith)
+
+left_none : (exit : Exit) (behind_call : Bool) (i : ℕ) (old : List Line) → length old ≤ i → left_to_put exit behind_call (drop i old) ≡ []
+left_none exit true i old le = ap (λ q. left_to_put exit true q) (drop_none i old le)
+left_none exit false i old le = ap (λ q. left_to_put exit false q) (drop_none i old le)
+
+-- the first i lines were placed, with numbers from first up to next, the others are left
+pub record SoFar (h : ℕ → Home) (exit : Exit) (old : List Line) (first : ℕ) (start : List Line) (next : ℕ) (behind_call : Bool) (i : ℕ) (lines : List Line) : Type 0 where
+  pub next_is : next + numbers_kept * length (left_to_put exit behind_call (drop i old)) ≡ first + numbers_kept * length (needed exit old)
+  pub adds : (tail : List Line) → lines ++ put_lines h next (left_to_put exit behind_call (drop i old)) tail ≡ start ++ put_lines h first (needed exit old) tail
+
+pub none_so_far : (h : ℕ → Home) (exit : Exit) (old : List Line) (first : ℕ) (start : List Line) → SoFar h exit old first start first false 0 start
+none_so_far h exit old first start = record { next_is = refl; adds = λ tail. refl }
+
+pub one_put : (h : ℕ → Home) (exit : Exit) (old : List Line) (first : ℕ) (start : List Line) (next : ℕ) (behind_call : Bool) (i : ℕ) (lines : List Line) (d : Line) (end : ℕ) (more : List Line) → SoFar h exit old first start next behind_call i lines → i < length old → puts_line exit behind_call (get_or old i d) (drop (suc i) old) ≡ true → end ≡ next + numbers_kept → Adds (put_line h next (get_or old i d)) lines more → SoFar h exit old first start end (calls (get_or old i d)) (suc i) more
+one_put h exit old first start next behind_call i lines d end more s lt put end_is one =
+    let line : Line = get_or old i d in
+    let rest : List Line = left_to_put exit (calls line) (drop (suc i) old) in
+    let is : left_to_put exit behind_call (drop i old) ≡ line ∷ rest = left_put exit behind_call i old d lt put in
+    let count : length (left_to_put exit behind_call (drop i old)) ≡ suc (length rest) = ap length is in
+    let before = s.next_is in
+    record {
+      next_is = omega arith;
+      adds = λ tail.
+          one (put_lines h end rest tail)
+          ∙ ap (λ m. lines ++ put_line h next line (put_lines h m rest tail)) end_is
+          ∙ ap (λ q. lines ++ put_lines h next q tail) (sym is)
+          ∙ s.adds tail;
+    }
+
+pub none_put : (h : ℕ → Home) (exit : Exit) (old : List Line) (first : ℕ) (start : List Line) (next : ℕ) (behind_call : Bool) (i : ℕ) (lines : List Line) (d : Line) → SoFar h exit old first start next behind_call i lines → i < length old → puts_line exit behind_call (get_or old i d) (drop (suc i) old) ≡ false → SoFar h exit old first start next (calls (get_or old i d)) (suc i) lines
+none_put h exit old first start next behind_call i lines d s lt gone =
+    let is = left_gone exit behind_call i old d lt gone in
+    record {
+      next_is = ap (λ (q : List Line). next + numbers_kept * length q) (sym is) ∙ s.next_is;
+      adds = λ tail. ap (λ q. lines ++ put_lines h next q tail) (sym is) ∙ s.adds tail;
+    }
+
+pub all_put : (h : ℕ → Home) (exit : Exit) (old : List Line) (first : ℕ) (start : List Line) (next : ℕ) (behind_call : Bool) (i : ℕ) (lines : List Line) → SoFar h exit old first start next behind_call i lines → length old ≤ i → AddsLines h first exit old next start lines
+all_put h exit old first start next behind_call i lines s le =
+    let none : [] ≡ left_to_put exit behind_call (drop i old) = sym (left_none exit behind_call i old le) in
+    let count : 0 ≡ length (left_to_put exit behind_call (drop i old)) = ap length none in
+    let all = s.next_is in
+    record {
+      next_is = omega arith;
+      adds = λ tail. ap (λ q. lines ++ put_lines h next q tail) none ∙ s.adds tail;
+    }
 
 -- blocks
 
