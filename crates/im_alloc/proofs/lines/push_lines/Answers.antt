@@ -1,4 +1,4 @@
-use Rattle.std.proofs.Common.{◌≡◌, ◌∙◌, ℕ, ◌+◌, ◌<◌, Bool, List, drop, length, get_or, sym, ap, subst, suc, pos, arith}
+use Rattle.std.proofs.Common.{◌≡◌, ◌∙◌, ℕ, ◌+◌, ◌-◌, ◌<◌, Bool, List, drop, length, length-drop, take_all, get_or, sym, ap, subst, suc, pos, arith}
 use Rattle.im_block.specs.declared.code.Line.{Line}
 use Rattle.im_block.specs.declared.code.Line.TheVariants.{Put}
 use Rattle.im_alloc_relation.specs.Homes.{Home}
@@ -20,7 +20,10 @@ loop-index-preserved c =
     let line : Line = get_or old l.index blank in
     let within : l.index < length old = c.loop-index-test.true in
     let after : suc l.index ≡ l.index + 1 = omega arith in
-    let put : c.is_put.result ≡ puts_line exit l.behind_call line (drop (suc l.index) old) = subst (λ j. c.is_put.result ≡ puts_line exit l.behind_call line (drop j old)) (sym after) c.is_put.ensures in
+    let rest : List Line = drop (l.index + 1) old in
+    let whole = take_all (length old - (l.index + 1)) rest (omega (arith, length-drop (l.index + 1) old)) in
+    let put : c.is_put.result ≡ puts_line exit l.behind_call line (drop (suc l.index) old) =
+    c.is_put.ensures ∙ ap (λ q. puts_line exit l.behind_call line q) whole ∙ ap (λ j. puts_line exit l.behind_call line (drop j old)) (sym after) in
     let further : SoFar h exit old first start c.if-is_put.next (calls line) (suc l.index) c.if-is_put.lines.items =
     elim c.if-is_put.branch [
       | then-is_put+in_ok-end+in_ok-push_line k ↦
