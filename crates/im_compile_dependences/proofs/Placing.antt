@@ -175,15 +175,15 @@ module _ (h : ℕ → Home) (live : ℕ → ℕ → Bool) (exit : Exit) (tail : 
   past_carries (Cut cause) lines n c all = loop_carries exit cause lines n c all
   past_carries line lines n c all = all
 
+  more_carries : (line : Line) (lines : List Line) → ValidLine h line (lives live lines exit) → CarriesBoth h exit lines tail → CarriesBoth h exit (line ∷ lines) tail
+  more_carries line lines v c = record { all = all; past = λ n. past_carries line lines n c (all n) }
+    where
+      all : (n : ℕ) → Carries (line ∷ lines) (put_lines h n (needed exit (line ∷ lines)) tail)
+      all n = put_carries h n lines (put_lines h (n + numbers_kept) (behind exit line (needed exit lines)) tail) (behind_carries line lines (n + numbers_kept) c) line (lives live lines exit) v
+
   lines_carry : (lines : List Line) → Valid h live lines exit → Carries [] tail → CarriesBoth h exit lines tail
   lines_carry [] v c = record { all = λ n. c; past = λ n. c }
-  lines_carry (line ∷ lines) v c = record { all = all; past = λ n. past_carries line lines n less (all n) }
-    where
-      less : CarriesBoth h exit lines tail
-      less = lines_carry lines v.1 c
-
-      all : (n : ℕ) → Carries (line ∷ lines) (put_lines h n (needed exit (line ∷ lines)) tail)
-      all n = put_carries h n lines (put_lines h (n + numbers_kept) (behind exit line (needed exit lines)) tail) (behind_carries line lines (n + numbers_kept) less) line (lives live lines exit) v.0
+  lines_carry (line ∷ lines) v c = more_carries line lines v.0 (lines_carry lines v.1 c)
 
 result_before : (h : ℕ → Home) (n : ℕ) (from : Option ℕ) → Before [] (bring_result h n from)
 result_before h n None = nothing_before []
