@@ -126,9 +126,8 @@ valid_less h (PutChar to from) after less le k = λ v t. k v (le v t)
 
 pub needed_valid : (h : ℕ → Home) (live : ℕ → ℕ → Bool) (exit : Exit) (lines : List Line) → Valid h live lines exit → Valid h live (needed exit lines) exit
 needed_valid h live exit [] v = tt
-needed_valid h live exit (line ∷ lines) v =
-    (
-      valid_less h line (lives live lines exit) (lives live (behind exit line (needed exit lines)) exit)
-          (λ q t. sym (behind_by exit (λ x y. lives live y exit q ≡ lives live x exit q) (λ rest. refl) (λ cause rest. refl) line (needed exit lines) ∙ needed_lives live exit lines q) ∙ t) v.0,
-      behind_by exit (λ x y. Valid h live x exit → Valid h live y exit) (λ rest k. k) (λ cause rest k. k.1) line (needed exit lines) (needed_valid h live exit lines v.1),
-    )
+needed_valid h live exit (line ∷ lines) v = (
+  valid_less h line (lives live lines exit) (lives live (behind exit line (needed exit lines)) exit)
+      (λ q t. sym (behind_by exit (λ x y. lives live y exit q ≡ lives live x exit q) (λ rest. refl) (λ cause rest. refl) line (needed exit lines) ∙ needed_lives live exit lines q) ∙ t) v.0,
+  behind_by exit (λ x y. Valid h live x exit → Valid h live y exit) (λ rest k. k) (λ cause rest k. k.1) line (needed exit lines) (needed_valid h live exit lines v.1),
+)
