@@ -7,7 +7,7 @@ comes all registers hold a word that is another one each time. No part of the ga
     bench/losses.py --small                                 three small programs
     bench/losses.py --examples --turns --every 97           the ten examples, by one loss in turn at each 97th instruction
 
-A file that shows something else is told with the trace that brings it about.
+A run that shows something else is told with its trace. --every and --turns make fewer runs.
 """
 import argparse
 import glob
