@@ -7,7 +7,7 @@ stand in a folder of out/, with the words of the command. No part of the gate.
     bench/fuzz.py --runs 2000 --seed 1
     bench/fuzz.py --seed 1 --first 1234 --runs 1       one run again
 
-The run of a number depends on the seed and that number alone.
+The run of a number depends on the seed and that number alone, as long as the repository stays as it is.
 """
 import argparse
 import collections
@@ -30,6 +30,7 @@ from program import TOP
 SECONDS, MEMORY, STACK = 10, 512 << 20, 2 << 20
 WAIT = 600  # seconds by the clock, of a machine that has other work too
 REFUSALS = {3, 5, 6, 7, 8, 9, 13, 14, 16}
+FOLDERS = ("examples", "examples/field", "crates/im_examples/data")  # of the sources, each below 4 KiB
 # the commands in turn, each with what is changed
 TURNS = (
     ("eval a.c --input in --fuel 20000 --vars", "a.c"),
@@ -69,7 +70,7 @@ HALT = b"IMRV" + b"".join(it.to_bytes(4, "little") for it in (1, 1, 0, 256, 0, 4
 
 def statuses():
     """The statuses of each command, from the page's table."""
-    page = open(f"{TOP}/docs/commands.md").read().split("## Exit statuses")[1].split("\n## ")[0]
+    page = bytes_of(f"{TOP}/docs/commands.md").decode().split("## Exit statuses")[1].split("\n## ")[0]
     rows = re.findall(r"^\| (\d+) \|.*?\| ([^|]*) \|$", page, re.M)
     names = {words.split()[0] for words, _ in TURNS}
     return {name: {int(status) for status, of in rows if f"`{name}`" in of or of in ("all commands", "all words")} for name in names}
@@ -152,17 +153,21 @@ CHANGES = {
 }
 
 
+def bytes_of(name):
+    with open(name, "rb") as file:
+        return file.read()
+
+
 class Given:
     """The texts that are changed: by the name of the file that they become."""
 
     def __init__(self, path):
-        names = [*glob.glob(f"{TOP}/examples/*.c"), *glob.glob(f"{TOP}/crates/im_examples/data/*.c"), *glob.glob(f"{TOP}/examples/field/*.c")]
-        sources = sorted(names, key=os.path.basename)
-        images = [HALT, open(f"{TOP}/examples/upper.img", "rb").read()]
+        sources = sorted(it for folder in FOLDERS for it in glob.glob(f"{TOP}/{folder}/*.c"))
+        images = [HALT, bytes_of(f"{TOP}/examples/upper.img")]
         for source in sources:
             if subprocess.run([PROGRAM, "build", source, f"{path}/a.img"], capture_output=True).returncode == 0:
-                images.append(open(f"{path}/a.img", "rb").read())
-        self.texts = {"a.c": [open(it, "rb").read() for it in sources], "a.img": images, "periods": TRACES}
+                images.append(bytes_of(f"{path}/a.img"))
+        self.texts = {"a.c": [bytes_of(it) for it in sources], "a.img": images, "periods": TRACES}
         self.inputs = (b"", b"abc\n", b"12 3\n", bytes(range(256)))
 
     def files(self, chance, name):
