@@ -14,7 +14,7 @@ echo 'int putchar(int); int getchar(void);
 typedef signed char int8_t; typedef unsigned char uint8_t; typedef short int16_t; typedef unsigned short uint16_t;
 typedef int int32_t; typedef unsigned uint32_t; typedef unsigned size_t;' > "$work/front.h"
 counted() { sed -n "s/^$1 //p" "$work/$2"; }
-for source in "$top"/crates/im_examples/data/*.c; do
+for source in "$top"/crates/im_trials/data/examples/*.c; do
     name=$(basename "$source" .c)
     "$program" run "$source" "$work/image" --input "${source%.c}.in" --steps 4000000000 > "$work/out" 2> "$work/err"
     "$work/counts" "$work/image" --input "${source%.c}.in" > "$work/counted"

@@ -67,7 +67,7 @@ def examples():
     """Builds the ten examples and loses power once at each place of each."""
     wrong = 0
     with tempfile.TemporaryDirectory() as folder:
-        for source in sorted(glob.glob("crates/im_examples/data/*.c")):
+        for source in sorted(glob.glob("crates/im_trials/data/examples/*.c")):
             image = os.path.join(folder, os.path.basename(source)[:-2] + ".img")
             subprocess.run([PROGRAM, "build", source, image], check=True, capture_output=True)
             wrong += tried(image, source[:-2] + ".in", True)

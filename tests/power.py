@@ -5,7 +5,7 @@ import os
 from base import TOP, Failed, holds, same, test
 
 ENDLESS = "4294967295"
-EXAMPLES = sorted(os.path.basename(it)[:-2] for it in glob.glob(TOP + "/crates/im_examples/data/*.c"))
+EXAMPLES = sorted(os.path.basename(it)[:-2] for it in glob.glob(TOP + "/crates/im_trials/data/examples/*.c"))
 
 
 def shown(done):
@@ -14,7 +14,7 @@ def shown(done):
 
 
 def register(name):
-    at = f"crates/im_examples/data/{name}"
+    at = f"crates/im_trials/data/examples/{name}"
 
     @test(f"{name} under losses of power gives its output")
     def losses(room):
@@ -68,7 +68,7 @@ for each in EXAMPLES:
 @test("eval says of each example what its code gives")
 def evaluated(room):
     for name in EXAMPLES:
-        at = f"crates/im_examples/data/{name}"
+        at = f"crates/im_trials/data/examples/{name}"
         with open(room.path(at + ".out"), "rb") as file:
             room.call("eval", at + ".c", "--input", at + ".in", "--fuel", ENDLESS).wants(name, 0, file.read())
 

@@ -86,6 +86,6 @@ def input_limit(room):
 @test("two builds of a source give the same image, byte for byte")
 def same_image(room):
     for name in ("sha256", "records", "calculator"):
-        room.build(f"crates/im_examples/data/{name}.c", "one.img")
-        room.build(f"crates/im_examples/data/{name}.c", "two.img")
+        room.build(f"crates/im_trials/data/examples/{name}.c", "one.img")
+        room.build(f"crates/im_trials/data/examples/{name}.c", "two.img")
         same(name, room.read("one.img"), room.read("two.img"))

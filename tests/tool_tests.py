@@ -32,8 +32,8 @@ def from_hex(text):
 
 @test("tools/image.py: flat binary and Intel HEX have the bytes of an image that is loaded")
 def forms(room):
-    room.build("crates/im_examples/data/sha256.c", "it.img")
-    words = ("--input", "crates/im_examples/data/sha256.in")
+    room.build("crates/im_trials/data/examples/sha256.c", "it.img")
+    words = ("--input", "crates/im_trials/data/examples/sha256.in")
     for form in ("bin", "hex", "code"):
         same(form, tool(room, "tools/image.py", form, "it.img", f"it.{form}", *words).returncode, 0)
     flat, image = room.read("it.bin"), image_tool.Image(room.read("it.img"))
@@ -59,7 +59,7 @@ def compared(room, python, processor, source, given, trace):
 
 def each_example(room, python, processor, most):
     """Each example on the board: in periods of its gap where its run isn't too long, and at random, perhaps not to its end."""
-    rows = [(f"crates/im_examples/data/{it}.c", f"crates/im_examples/data/{it}.in") for it in EXAMPLES]
+    rows = [(f"crates/im_trials/data/examples/{it}.c", f"crates/im_trials/data/examples/{it}.in") for it in EXAMPLES]
     for source, given in [("examples/sums.c", "examples/in.txt"), *rows]:
         gap = room.build(source, "it.img").number("gap")
         whole = room.call("exec", "it.img", "--input", given).number("instructions")

@@ -15,6 +15,8 @@ use Rattle.im_block.specs.declared.unit.Function.{Function}
 use Rattle.im_block.specs.declared.unit.Unit.{Unit as Code}
 use Rattle.im_block.specs.Meaning.{static_of}
 use Rattle.im_block.specs.Uncut.{SameFunctions}
+use Rattle.im_block.specs.Shape.{AllOrdered}
+use Rattle.im_block.specs.Forced.{AllForced}
 use Rattle.im_block.specs.Wellformed.{IsWellFormed}
 use Rattle.im_block.specs.Laws.{AddedCutsLaw}
 use Rattle.im_block_laws.specs.Laws.{CutsKeepCodeLaw}
@@ -26,7 +28,7 @@ use Rattle.im_force.specs.Laws.{ForceKeepsLaw}
 use Rattle.im_recut.specs.Laws.{RecutKeepsLaw}
 use Rattle.im_lower_relation.specs.Lowered.{IsLowered, AreSized}
 use Rattle.im_lower_relation.specs.Laws.{LoweredFormLaw}
-use Rattle.im_alloc_relation.specs.Placing.{PlacedFunctions}
+use Rattle.im_alloc_relation.specs.Placing.{IsPlaced, PlacedFunctions}
 use Rattle.im_alloc_laws.specs.Laws.{PlacedCodeLaw}
 use Rattle.im_compile_dependences.specs.Laws.{UncutNames, ForceNames, PlaceNames, RecutNames}
 use Rattle.im_frame.specs.Layout.{room, rooms, bytes_of}
@@ -41,6 +43,15 @@ forced_well form force cuts prog lowered forced s is sized f =
 
 pub forced_placeable : ForceKeepsLaw → CutsKeepPlacesLaw → (lowered forced : Code) → IsPlaceable lowered → Forces lowered forced → IsPlaceable forced
 forced_placeable force places lowered forced p f = places.placeable lowered forced (force.same lowered forced f) p
+
+-- placed code, which takes its last cuts
+
+pub placed_ordered : LoweredFormLaw → AddedCutsLaw → ForceKeepsLaw → PlacedCodeLaw → (prog : Prog) (lowered forced placed : Code) → IsSource prog → IsLowered (program_of prog) lowered → AreSized (program_of prog) lowered → Forces lowered forced → IsPlaced forced placed → AllOrdered placed
+placed_ordered form added force placing prog lowered forced placed s is sized f p =
+    placing.ordered forced placed p (added.ordered lowered forced (force.same lowered forced f) (form (program_of prog) lowered s.typed s.within is sized).1)
+
+pub placed_forced : ForceKeepsLaw → PlacedCodeLaw → (lowered forced placed : Code) → Forces lowered forced → IsPlaced forced placed → AllForced placed
+placed_forced force placing lowered forced placed f p = placing.forced forced placed p (force.forced lowered forced f)
 
 -- the bytes of statics
 
@@ -72,7 +83,7 @@ ready form added force cuts places placing recut uncut_names force_names place_n
     let well = forced_well form force cuts prog p.lowered p.forced s p.lower p.sized p.force in
     let placeable = forced_placeable force places p.lowered p.forced p.placeable p.force in
     let same_forced = force.same p.lowered p.forced p.force in
-    let same = recut.same p.placed code p.recut in
+    let same = recut.same p.tags p.placed code p.recut in
     let placed_well : IsWellFormed p.placed = placing.well_formed p.forced p.placed p.place placeable well in
     let placed : IsPlacedCode code = places.placed p.placed code same (placing.placed p.forced p.placed p.place placeable) in
     let statics : code.statics.items ≡ p.lowered.statics.items =
@@ -82,9 +93,9 @@ ready form added force cuts places placing recut uncut_names force_names place_n
     record {
       well_formed = cuts.well_formed p.placed code same placed_well;
       placed = placed;
-      ordered = added.ordered p.placed code same (placing.ordered p.forced p.placed p.place.placed (added.ordered p.lowered p.forced same_forced (form (program_of prog) p.lowered s.typed s.within p.lower p.sized).1));
-      forced = cuts.forced p.placed code same (placing.forced p.forced p.placed p.place.placed (force.forced p.lowered p.forced p.force));
-      named = recut_names p.placed code p.recut (place_names p.forced p.placed p.place.placed (force_names p.lowered p.forced p.force (uncut_names p.lowered p.uncut)));
+      ordered = added.ordered p.placed code same (placed_ordered form added force placing prog p.lowered p.forced p.placed s p.lower p.sized p.force p.place.placed);
+      forced = cuts.forced p.placed code same (placed_forced force placing p.lowered p.forced p.placed p.force p.place.placed);
+      named = recut_names p.tags p.placed code p.recut (place_names p.forced p.placed p.place.placed (force_names p.lowered p.forced p.force (uncut_names p.lowered p.uncut)));
       fits = All-weaker (λ (f : Function). IsPlacedFunction (length code.statics.items) f) (λ (f : Function). bytes_of f ≤ f.need) (λ f h. h.fits) code.functions.items placed.functions;
       room = subst (λ n. n ≤ statics_capacity) (sym bytes) s.within.statics;
       count = same_count p.placed.functions.items code.functions.items same.functions

@@ -5,10 +5,12 @@ use Rattle.im_typed.specs.declared.program.Prog.{Prog}
 use Rattle.im_typed.specs.ProgramOf.{program_of}
 use Rattle.im_typed.specs.Limits.{IsWithinLimits}
 use Rattle.im_typed.specs.Typing.{IsWellTyped}
+use Rattle.im_block.specs.declared.access.Tags.{Tags}
 use Rattle.im_block.specs.declared.unit.Function.{Function}
 use Rattle.im_block.specs.declared.unit.Unit.{Unit as Code}
 use Rattle.im_block.specs.Shape.{AllOrdered}
 use Rattle.im_block.specs.Forced.{AllForced}
+use Rattle.im_block.specs.Tagged.{IsSound}
 use Rattle.im_block.specs.Wellformed.{IsWellFormed}
 use Rattle.im_alloc_placed.specs.Placeable.{IsPlaceable}
 use Rattle.im_alloc_placed.specs.Placed.{IsPlacedCode}
@@ -35,7 +37,7 @@ pub record AreOptions (options : Options) : Type 0 where
   pub most_stack : options.stack ≤ stack_capacity
   pub output : options.out_cap ≤ output_capacity
 
--- lower, force, place, recut
+-- lower, force, alias, place, recut
 pub record IsPassed (prog : Prog) (code : Code) : Type 0 where
   pub lowered : Code
   pub lower : IsLowered (program_of prog) lowered
@@ -46,9 +48,11 @@ pub record IsPassed (prog : Prog) (code : Code) : Type 0 where
   pub told : All (λ (f : Function). f.need < 2 ^ 64 - 1) lowered.functions.items
   pub forced : Code
   pub force : Forces lowered forced
+  pub tags : Tags
+  pub alias : IsSound forced tags
   pub placed : Code
   pub place : IsWellPlaced forced placed
-  pub recut : RecutsTo placed code
+  pub recut : RecutsTo tags placed code
 
 -- what the passes behind ask of placed code, and its functions are those of the program
 pub record IsReady (prog : Prog) (code : Code) : Type 0 where

@@ -4,9 +4,11 @@ ghost use Rattle.im_compile.specs.Lowered.{AreNamesOf, IsLoweredCode, IsLoweredF
 ghost use Rattle.im_compile.specs.Passed.{IsPassed, IsReady, IsSource};
 
 use crate::laws::ready_law;
+use im_alias::alias;
 use im_alloc::place;
+use im_alloc_laws::placed_code_law;
 use im_alloc_placed::cuts_keep_places_law;
-use im_block::Unit;
+use im_block::{Unit, added_cuts_law};
 use im_block_laws::cuts_keep_code_law;
 use im_force::{force, force_keeps_law};
 use im_lower::lower;
@@ -54,12 +56,15 @@ pub(crate) fn placed_code(alloc: Global, lowered: Unit) -> Result<Unit, NoMemory
         → IfOk result (IsReady prog) }
 {
     lowered_form_law();
+    added_cuts_law();
     force_keeps_law();
     cuts_keep_code_law();
     cuts_keep_places_law();
+    placed_code_law();
     ready_law();
     let forced = force(alloc, lowered)?;
+    let tags = alias(alloc, &forced)?;
     let placed = place(alloc, forced)?;
-    let code = recut(alloc, placed)?;
+    let code = recut(alloc, placed, &tags)?;
     Ok(code)
 }

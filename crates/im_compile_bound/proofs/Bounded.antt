@@ -38,6 +38,7 @@ module _ (ready : ReadyLaw) (law : FunctionBoundLaw) (prog : Prog) (options : Op
     force = b.passed.force;
     placed = b.passed.placed;
     place = b.passed.place.placed;
+    tags = b.passed.tags;
     recut = b.passed.recut;
   }
 

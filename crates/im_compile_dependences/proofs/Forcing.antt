@@ -1,8 +1,8 @@
 -- Forced cuts.
-use Rattle.std.proofs.Common.{inl, ℕ, suc, Bool, true, false, List, [], ◌∷◌, ◌++◌, Option, Some, None, refl}
+use Rattle.std.proofs.Common.{ℕ, suc, Bool, true, false, List, [], ◌∷◌, ◌++◌, Option, Some, None, refl}
 use Rattle.std.specs.Prelude.{if◌then◌else◌, ◌==◌}
 use Rattle.im_num.specs.declared.values.Cause.{Cause}
-use Rattle.im_num.specs.declared.values.Cause.TheVariants.{Dep, Entry, Loop}
+use Rattle.im_num.specs.declared.values.Cause.TheVariants.{Entry, Loop}
 use Rattle.im_block.specs.declared.code.Line.{Line}
 use Rattle.im_block.specs.declared.code.Line.TheVariants.{Put, PutNull, Copy, Convert, Unary, Not, Compute, Compare, Move, Distance, Address, Read, Write, Reload, Spill, Cut, Call, GetChar, PutChar}
 use Rattle.im_block.specs.declared.code.Exit.{Exit}
@@ -10,7 +10,7 @@ use Rattle.im_block.specs.declared.code.Exit.TheVariants.{Jump, Turn, Branch, Re
 use Rattle.im_block.specs.declared.code.Block.{Block}
 use Rattle.im_block.specs.declared.unit.Function.{Function}
 use Rattle.im_block.specs.Wellformed.{accesses_of_lines}
-use Rattle.im_force.specs.Force.{due_before, due_behind, due_at, due_first, cut_of, forced_lines, ForcesBlocks, ForcesFunctions}
+use Rattle.im_force.specs.Force.{due_behind, due_at, due_first, cut_of, forced_lines, ForcesBlocks, ForcesFunctions}
 use Rattle.im_compile_dependences.specs.Laws.{ForceNames}
 use Rattle.im_compile_dependences.proofs.Members.{Names, Carries, CarriesBlocks, no_blocks, more_blocks, carried, same_line, cut_before, same_lines, equal_lines, Names_each, next}
 
@@ -51,32 +51,14 @@ at_end None (Turn b) h = cut_before Loop [] [] tt (same_lines [])
 at_end None (Branch on x y) h = same_lines []
 at_end None (Return from) h = same_lines []
 
-cut_here : (due : Option Cause) (line : Line) (old new : List Line) → Plain due → Carries old (line ∷ new) → Carries old (cut_of (due_before due line) ++ line ∷ new)
-cut_here (Some cause) line old new h c = cut_before cause old (line ∷ new) (h (accesses_of_lines (line ∷ new))) c
-cut_here None (Put to z) old new h c = c
-cut_here None (PutNull to) old new h c = c
-cut_here None (Copy to from) old new h c = c
-cut_here None (Convert to kind from) old new h c = c
-cut_here None (Unary to op kind from) old new h c = c
-cut_here None (Not to from) old new h c = c
-cut_here None (Compute to op kind left right) old new h c = c
-cut_here None (Compare to op kind left right) old new h c = c
-cut_here None (Move to size back pointer by) old new h c = c
-cut_here None (Distance to size left right) old new h c = c
-cut_here None (Address to place) old new h c = c
-cut_here None (Read to place kind access) old new h c = c
-cut_here None (Write place kind from access) old new h c = cut_before (Dep access access) old (Write place kind from access ∷ new) (inl refl, inl refl) c
-cut_here None (Reload to slot access) old new h c = c
-cut_here None (Spill slot from access) old new h c = cut_before (Dep access access) old (Spill slot from access ∷ new) (inl refl, inl refl) c
-cut_here None (Cut cause) old new h c = c
-cut_here None (Call to function first count) old new h c = c
-cut_here None (GetChar to) old new h c = c
-cut_here None (PutChar to from) old new h c = c
+cut_here : (due : Option Cause) (old new : List Line) → Plain due → Carries old new → Carries old (cut_of due ++ new)
+cut_here None old new h c = c
+cut_here (Some cause) old new h c = cut_before cause old new (h (accesses_of_lines new)) c
 
 forced_carries : (exit : Exit) (due : Option Cause) (lines : List Line) → Plain due → Carries lines (forced_lines exit due lines)
 forced_carries exit due [] h = at_end due exit h
 forced_carries exit due (line ∷ lines) h =
-    cut_here due line (line ∷ lines) (forced_lines exit (due_behind line) lines) h
+    cut_here due (line ∷ lines) (line ∷ forced_lines exit (due_behind line) lines) h
     (same_line line lines (forced_lines exit (due_behind line) lines) (forced_carries exit (due_behind line) lines (due_plain line)))
 
 blocks : (entry n : ℕ) (xs ys : List Block) → ForcesBlocks entry n xs ys → CarriesBlocks xs ys

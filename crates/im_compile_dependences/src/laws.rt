@@ -15,7 +15,7 @@ pub fn place_names_law()
     ensures { PlaceNames }
 {}
 
-/// Cuts before writes name accesses of their own function.
+/// Greedy cuts name accesses of their own function.
 pub fn recut_names_law()
     ensures { RecutNames }
 {}

@@ -3,6 +3,7 @@ use Rattle.std.specs.Prelude.{◌≡◌, ◌≤◌, ℕ, ◌+◌, ◌*◌, List,
 use Rattle.im_rv.specs.Lines.{CodeLine}
 use Rattle.im_typed.specs.Program.{Prog, Func}
 use Rattle.im_typed.specs.Counts.{func_nodes}
+use Rattle.im_block.specs.declared.access.Tags.{Tags}
 use Rattle.im_block.specs.declared.unit.Function.{Function}
 use Rattle.im_block.specs.declared.unit.Unit.{Unit as Code}
 use Rattle.im_alloc_placed.specs.Apart.{AllUncut}
@@ -13,7 +14,7 @@ use Rattle.im_recut.specs.Recut.{RecutsTo}
 use Rattle.im_select.specs.Given.{Given}
 use Rattle.im_select.specs.Selects.{IsSelection}
 
--- placed code with all its cuts, made of a typed program: lower, force, place, recut
+-- placed code with all its cuts, made of a typed program: lower, force, place, recut by some tags
 pub record IsMadeOf (g : Prog) (code : Code) : Type 0 where
   pub lowered : Code
   pub sized : AreSized g lowered
@@ -22,7 +23,8 @@ pub record IsMadeOf (g : Prog) (code : Code) : Type 0 where
   pub force : Forces lowered forced
   pub placed : Code
   pub place : IsPlaced forced placed
-  pub recut : RecutsTo placed code
+  pub tags : Tags
+  pub recut : RecutsTo tags placed code
 
 -- each line is an instruction, of four bytes
 abbrev pub bytes_of : List CodeLine → ℕ

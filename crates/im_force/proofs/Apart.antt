@@ -10,7 +10,7 @@ use Rattle.im_block.specs.declared.code.Block.{Block}
 use Rattle.im_block.specs.declared.unit.Function.{Function}
 use Rattle.im_block.specs.declared.unit.Unit.{Unit as Code}
 use Rattle.im_alloc_placed.specs.Apart.{CutsApart, AllApart, IsNoCut, AllUncut}
-use Rattle.im_force.specs.Force.{due_before, due_behind, due_at, cut_of, forced_lines, due_first, ForcesBlocks, ForcesFunctions, Forces}
+use Rattle.im_force.specs.Force.{due_behind, due_at, cut_of, forced_lines, due_first, ForcesBlocks, ForcesFunctions, Forces}
 
 only_one : (due : Option Cause) → CutsApart (cut_of due)
 only_one None = tt
@@ -27,7 +27,7 @@ due_apart (Some cause) line lines uncut h = (uncut, line_apart line lines uncut 
 lines_apart : (exit : Exit) (due : Option Cause) (lines : List Line) → All IsNoCut lines → CutsApart (forced_lines exit due lines)
 lines_apart exit due [] none = only_one (due_at due exit)
 lines_apart exit due (line ∷ lines) none =
-    due_apart (due_before due line) line (forced_lines exit (due_behind line) lines) (All-head IsNoCut line lines none) (lines_apart exit (due_behind line) lines (All-tail IsNoCut line lines none))
+    due_apart due line (forced_lines exit (due_behind line) lines) (All-head IsNoCut line lines none) (lines_apart exit (due_behind line) lines (All-tail IsNoCut line lines none))
 
 abbrev Uncut : List Block → Type 0
 Uncut xs = (b : ℕ) (block : Block) → slice_get xs b ≡ Some block → All IsNoCut block.lines.items

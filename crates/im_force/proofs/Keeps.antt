@@ -1,22 +1,19 @@
--- What forced cuts change, and that sections are right with them.
-use Rattle.std.proofs.Common.{◌≡◌, ℕ, zero, suc, ◌+◌, List, [], ◌∷◌, ◌++◌, false, Option, Some, None, refl, sym, ap, ◌∙◌, subst, arith, eq-eqb, ◌<◌, length, take, drop, get_or}
+-- What forced cuts change, and that each cut that must stand does.
+use Rattle.std.proofs.Common.{◌≡◌, ℕ, zero, suc, ◌+◌, List, [], ◌∷◌, ◌++◌, Option, Some, None, sym, ap, ◌∙◌, subst, arith, eq-eqb, ◌<◌, length, take, drop, get_or}
 use Rattle.std.specs.Prelude.{slice_get, slice_set, if◌then◌else◌}
 use Rattle.std.proofs.lemmas.Bool.{ne_eqb}
 use Rattle.im_num.specs.declared.values.Cause.{Cause}
-use Rattle.im_num.specs.declared.values.Cause.TheVariants.{Entry, Return as Back, Dep}
-use Rattle.im_block.specs.declared.access.Tags.{Tags}
+use Rattle.im_num.specs.declared.values.Cause.TheVariants.{Entry, Return as Back}
 use Rattle.im_block.specs.declared.code.Line.{Line}
-use Rattle.im_block.specs.declared.code.Line.TheVariants.{Write, Spill, Cut, Call, GetChar, PutChar}
+use Rattle.im_block.specs.declared.code.Line.TheVariants.{Cut, Call, GetChar, PutChar}
 use Rattle.im_block.specs.declared.code.Exit.{Exit}
 use Rattle.im_block.specs.declared.code.Exit.TheVariants.{Jump, Turn, Branch, Return}
 use Rattle.im_block.specs.declared.code.Block.{Block}
 use Rattle.im_block.specs.declared.unit.Function.{Function}
 use Rattle.im_block.specs.declared.unit.Unit.{Unit as Code}
 use Rattle.im_block.specs.Uncut.{WithCuts, Empty, Same, Added, SameBlock, SameBlocks, SameFunction, SameFunctions, SameButCuts}
-use Rattle.im_block.specs.Paths.{AllSectioned}
 use Rattle.im_block.specs.Forced.{StartsWithCut, EndsWithCut, CutAfterCalls, CutAtTurn, IsForced, AllForced}
-use Rattle.im_force.proofs.Behind.{cuts, WritesCut, fresher, after_cut, never}
-use Rattle.im_force.specs.Force.{due_before, due_behind, due_at, cut_of, forced_lines, ForcesBlock, due_first, ForcesBlocks, ForcesFunction, ForcesFunctions, Forces}
+use Rattle.im_force.specs.Force.{due_behind, due_at, cut_of, forced_lines, ForcesBlock, due_first, ForcesBlocks, ForcesFunction, ForcesFunctions, Forces}
 
 -- cuts are added, and nothing else
 
@@ -31,7 +28,7 @@ due_added (Some cause) old new h = Added cause old new h
 lines_same : (exit : Exit) (due : Option Cause) (lines : List Line) → WithCuts lines (forced_lines exit due lines)
 lines_same exit due [] = cut_added (due_at due exit)
 lines_same exit due (line ∷ lines) =
-    due_added (due_before due line) (line ∷ lines) (line ∷ forced_lines exit (due_behind line) lines)
+    due_added due (line ∷ lines) (line ∷ forced_lines exit (due_behind line) lines)
     (Same line lines (forced_lines exit (due_behind line) lines) (lines_same exit (due_behind line) lines))
 
 block_same : (due : Option Cause) (x y : Block) → ForcesBlock due x y → SameBlock x y
@@ -78,7 +75,7 @@ behind_call exit line lines h = h
 calls : (exit : Exit) (due : Option Cause) (lines : List Line) → CutAfterCalls (forced_lines exit due lines)
 calls exit due [] = only_due (due_at due exit)
 calls exit due (line ∷ lines) =
-    behind_due (due_before due line) (line ∷ forced_lines exit (due_behind line) lines) (behind_call exit line lines (calls exit (due_behind line) lines))
+    behind_due due (line ∷ forced_lines exit (due_behind line) lines) (behind_call exit line lines (calls exit (due_behind line) lines))
 
 ends_more : (line : Line) (lines : List Line) → EndsWithCut lines → EndsWithCut (line ∷ lines)
 ends_more line [] h = absurd h
@@ -92,7 +89,7 @@ turn : (b : ℕ) (due : Option Cause) (lines : List Line) → EndsWithCut (force
 turn b None [] = tt
 turn b (Some cause) [] = tt
 turn b due (line ∷ lines) =
-    ends_due (due_before due line) (line ∷ forced_lines (Turn b) (due_behind line) lines) (ends_more line (forced_lines (Turn b) (due_behind line) lines) (turn b (due_behind line) lines))
+    ends_due due (line ∷ forced_lines (Turn b) (due_behind line) lines) (ends_more line (forced_lines (Turn b) (due_behind line) lines) (turn b (due_behind line) lines))
 
 turns : (exit : Exit) (due : Option Cause) (lines : List Line) → CutAtTurn exit (forced_lines exit due lines)
 turns (Jump b) due lines = tt
@@ -155,35 +152,6 @@ of_old (f ∷ fs) (k ∷ gs) (suc i) g h e = let o = of_old fs gs i g h.1 e in r
 pub forced : (old new : Code) → Forces old new → AllForced new
 forced old new h = record {
   each = λ i g at. let o = of_old old.functions.items new.functions.items i g h.functions at in function_forced o.old g o.forces;
-}
-
--- a write stands directly behind a cut
-
-line_cut : (due : Option Cause) (line : Line) (lines : List Line) → WritesCut (cuts line) lines → WritesCut false (cut_of (due_before due line) ++ line ∷ lines)
-line_cut (Some cause) line lines h = after_cut cause (line ∷ lines) (λ w e. refl, h)
-line_cut None (Write place kind from access) lines h = after_cut (Dep access access) (Write place kind from access ∷ lines) (λ w e. refl, h)
-line_cut None (Spill slot from access) lines h = after_cut (Dep access access) (Spill slot from access ∷ lines) (λ w e. refl, h)
-line_cut None line lines h = (λ w e. cc, h)
-
-only_cut : (due : Option Cause) → WritesCut false (cut_of due)
-only_cut None = tt
-only_cut (Some cause) = after_cut cause [] tt
-
-lines_cut : (exit : Exit) (due : Option Cause) (lines : List Line) → WritesCut false (forced_lines exit due lines)
-lines_cut exit due [] = only_cut (due_at due exit)
-lines_cut exit due (line ∷ lines) =
-    line_cut due line (forced_lines exit (due_behind line) lines) (fresher (cuts line) (forced_lines exit (due_behind line) lines) (lines_cut exit (due_behind line) lines))
-
-pub sectioned : (old new : Code) (tags : Tags) → Forces old new → AllSectioned tags new
-sectioned old new tags h = record {
-  each = λ i g at. record {
-    each = λ start from path b line rest exit p w r is opened meet.
-        let o = of_old old.functions.items new.functions.items i g h.functions at in
-        let all = λ (b : ℕ) (block : Block) (there : slice_get g.blocks.items b ≡ Some block).
-        let m = made o.old.entry 0 o.old.blocks.items g.blocks.items b block o.forces.blocks there in
-        subst (WritesCut false) (sym m.forces.lines) (lines_cut m.old.exit (due_first o.old.entry m.number) m.old.lines.items) in
-        never g all start from path b line rest exit p tags w r is opened;
-  };
 }
 
 -- one more of a list has its cuts

@@ -1,23 +1,16 @@
--- Block code with its forced cuts: at the entry of each function, behind each call, on each loop edge, before each write;
--- nowhere else.
+-- Block code with its forced cuts: at the entry of each function, behind each call, on each loop edge; nowhere else.
 use Rattle.std.specs.Prelude.{◌≡◌, ℕ, ◌==◌, if◌then◌else◌, List, [], ◌∷◌, ◌++◌, Option, Some, None, suc}
 use Rattle.im_num.specs.declared.values.Cause.{Cause}
-use Rattle.im_num.specs.declared.values.Cause.TheVariants.{Entry, Return as Back, Loop, Dep}
+use Rattle.im_num.specs.declared.values.Cause.TheVariants.{Entry, Return as Back, Loop}
 use Rattle.im_block.specs.declared.code.Line.{Line}
-use Rattle.im_block.specs.declared.code.Line.TheVariants.{Write, Spill, Cut, Call, GetChar, PutChar}
+use Rattle.im_block.specs.declared.code.Line.TheVariants.{Cut, Call, GetChar, PutChar}
 use Rattle.im_block.specs.declared.code.Exit.{Exit}
 use Rattle.im_block.specs.declared.code.Exit.TheVariants.{Jump, Turn, Branch, Return}
 use Rattle.im_block.specs.declared.code.Block.{Block}
 use Rattle.im_block.specs.declared.unit.Function.{Function}
 use Rattle.im_block.specs.declared.unit.Unit.{Unit as Code}
 
--- why a cut stands before a line: for what was before, or for the write that the line is
-abbrev pub due_before : Option Cause → Line → Option Cause
-due_before (Some cause) line = Some cause
-due_before None (Write place kind from access) = Some (Dep access access)
-due_before None (Spill slot from access) = Some (Dep access access)
-due_before None line = None
-
+-- why a cut stands behind a line, and before a block's exit
 abbrev pub due_behind : Line → Option Cause
 due_behind (Call to function first count) = Some Back
 due_behind (GetChar to) = Some Back
@@ -38,7 +31,7 @@ cut_of (Some cause) = Cut cause ∷ []
 -- the lines of a block with that exit; due: why a cut stands before the first of them
 abbrev pub forced_lines : Exit → Option Cause → List Line → List Line
 forced_lines exit due [] = cut_of (due_at due exit)
-forced_lines exit due (line ∷ lines) = cut_of (due_before due line) ++ line ∷ forced_lines exit (due_behind line) lines
+forced_lines exit due (line ∷ lines) = cut_of due ++ line ∷ forced_lines exit (due_behind line) lines
 
 pub record ForcesBlock (due : Option Cause) (old new : Block) : Type 0 where
   pub lines : new.lines.items ≡ forced_lines old.exit due old.lines.items

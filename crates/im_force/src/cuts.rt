@@ -1,13 +1,13 @@
 ghost use Rattle.std.specs.Prelude.{◌≡◌, IfOk, OnOk};
 ghost use Rattle.im_force.specs.Force.{Forces, ForcesBlock, ForcesFunction, forced_lines};
-ghost use Rattle.im_force.specs.Force.{due_at, due_before, due_behind};
+ghost use Rattle.im_force.specs.Force.{due_at, due_behind};
 
 use im_block::{Block, Exit, Function, Line, Unit};
 use im_num::{Cause, NoMemory};
 use std::alloc::Global;
 
 /// The unit with its forced cuts: at the entry of each function, behind each call, on each loop
-/// edge and before each write.
+/// edge; nowhere else.
 pub fn force(alloc: Global, mut unit: Unit) -> Result<Unit, NoMemory>
     ensures { IfOk result (λ forced. Forces unit forced) }
 {
@@ -52,7 +52,7 @@ fn force_lines(
     let mut forced = Vec::new(alloc);
     let mut due = start;
     for line in lines {
-        if let Some(cause) = before(due, *line) {
+        if let Some(cause) = due {
             forced.push(Line::Cut(cause))?;
         }
         forced.push(*line)?;
@@ -62,20 +62,6 @@ fn force_lines(
         forced.push(Line::Cut(cause))?;
     }
     Ok(forced)
-}
-
-/// The cause of a cut before a line.
-fn before(due: Option<Cause>, line: Line) -> Option<Cause>
-    ensures { result ≡ due_before due line }
-{
-    match (due, line) {
-        (Some(cause), _) => Some(cause),
-        (None, Line::Write { access, .. } | Line::Spill { access, .. }) => Some(Cause::Dep {
-            read: access,
-            write: access,
-        }),
-        (None, _) => None,
-    }
 }
 
 /// The cause of a cut behind a line.

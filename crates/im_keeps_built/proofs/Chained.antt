@@ -2,14 +2,12 @@
 use Rattle.std.proofs.Common.{◌≡◌, ℕ, suc, ◌-◌, List, [], ◌∷◌, length, Some, refl, sym, subst, arith}
 use Rattle.std.specs.Prelude.{◌<◌, ◌^◌, min, All, slice_get}
 use Rattle.std.proofs.lemmas.List.Elements.{All-head, All-tail}
-use denote.RawPtr.{null_ptr}
 use Rattle.im_gap.specs.Gap.{IsGap}
 use Rattle.im_typed.specs.declared.program.Prog.{Prog}
 use Rattle.im_typed.specs.ProgramOf.{program_of}
 use Rattle.im_typed.specs.Program as p
 use Rattle.im_typed.specs.Counts.{func_need}
 use Rattle.im_typed.specs.Typing.{Each}
-use Rattle.im_block.specs.declared.access.Tags.{Tags}
 use Rattle.im_block.specs.declared.unit.Function.{Function}
 use Rattle.im_block.specs.declared.unit.Unit.{Unit as Code}
 use Rattle.im_lower_passes_laws.specs.Laws.{LowersLaw, NeedsFit}
@@ -20,13 +18,6 @@ use Rattle.im_compile.specs.declared.options.Options.{Options}
 use Rattle.im_compile.specs.declared.built.Built.{Built}
 use Rattle.im_compile.specs.Passed.{IsSource, IsPassed}
 use Rattle.im_compile.specs.Built.{IsBuilt, bytes_of}
-
--- tags of no access; for its type the list takes what a vector of the unit has
-abbrev pub no_tags : Code → Tags
-no_tags u = record {
-  of = record { ptr = null_ptr; len = 0; cap = u.statics.cap; alloc = u.statics.alloc; items = []; ok = (refl, omega arith); small = u.statics.small };
-  tags = record { ptr = null_ptr; len = 0; cap = u.statics.cap; alloc = u.statics.alloc; items = []; ok = (refl, omega arith); small = u.statics.small };
-}
 
 -- what frames may need has 64 bits
 
@@ -64,6 +55,8 @@ chain lowers prog options built s b selected = record {
       lowers (program_of prog) b.passed.lowered s.typed s.within (fit prog b.code b.passed) b.passed.lower b.passed.sized b.passed.placeable b.passed.uncut;
   forced = b.passed.forced;
   force = b.passed.force;
+  tags = b.passed.tags;
+  alias = b.passed.alias;
   placed = b.passed.placed;
   place = b.passed.place;
   sectioned = b.code;

@@ -1,5 +1,5 @@
 -- What is built keeps its program.
-use Rattle.std.proofs.Common.{ℕ, List, refl, sym, subst}
+use Rattle.std.proofs.Common.{ℕ, List, sym, subst}
 use Rattle.im_gap_bound.specs.Bound.{GapBoundLaw}
 use Rattle.im_typed.specs.ProgramOf.{program_of}
 use Rattle.im_lower_passes_laws.specs.Laws.{LowersLaw}
@@ -8,13 +8,13 @@ use Rattle.im_keeps_source.specs.Source.{source_of}
 use Rattle.im_keeps_source.specs.Laws.{ProgramKeeps, ProgramKeepsLaw}
 use Rattle.im_compile.specs.Built.{bytes_of}
 use Rattle.im_keeps_built.specs.Laws.{BuiltSelectsLaw, BuiltKeepsLaw}
-use Rattle.im_keeps_built.proofs.Chained.{no_tags, gap_of, chain}
+use Rattle.im_keeps_built.proofs.Chained.{gap_of, chain}
 use Rattle.im_keeps_built.proofs.Cuts.{cuts_of}
 
 pub kept : BuiltSelectsLaw → LowersLaw → MiddleLaw → ProgramKeepsLaw → GapBoundLaw → BuiltKeepsLaw
 kept selects lowers middle keeps bound prog options built source b =
     let passes =
-    middle.whole (source_of (program_of prog)) (bytes_of b.layouts) built.image built.gap (no_tags b.code) refl
+    middle.whole (source_of (program_of prog)) (bytes_of b.layouts) built.image built.gap
     (chain lowers prog options built source b (selects prog options built source b)) in
     record {
       keeps = subst (λ (l : List ℕ). ProgramKeeps (program_of prog) l built.image built.gap) (sym b.frames.sizes)

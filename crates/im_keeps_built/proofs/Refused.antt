@@ -39,6 +39,7 @@ module _ (lowers : LowersLaw) (middle : MiddleLaw) (words : WordsLaw) (prog : Pr
     lower = lowers (program_of prog) passed.lowered s.typed s.within (fit prog code passed) passed.lower passed.sized passed.placeable passed.uncut;
     forced = passed.forced;
     force = passed.force;
+    tags = passed.tags;
     placed = passed.placed;
     place = passed.place;
     recut = passed.recut;

@@ -27,7 +27,7 @@ use Rattle.im_keeps_built.specs.Laws.{BuiltSelectsLaw}
 -- cuts leave what placing settles
 settled : PlacedCodeLaw → RecutKeepsLaw → (prog : Prog) (code : Code) → IsPassed prog code → IsSettled code
 settled placing recut prog code p =
-    placing.recut p.placed code (recut.same p.placed code p.recut) (placing.settled p.forced p.placed p.place.placed)
+    placing.recut p.placed code (recut.same p.tags p.placed code p.recut) (placing.settled p.forced p.placed p.place.placed)
 
 module _ (prog : Prog) (options : Options) (built : Built) (b : IsBuilt prog options built) (able : IsReady prog b.code) (links : LinkableLaw) where
   linkable : IsLinkable b.parts

@@ -1,15 +1,10 @@
 -- Each relation keeps its line.
-use Rattle.std.proofs.Common.{◌≡◌, ℕ, List, [], ◌∷◌, map, length, Option, Some, None, refl, ap, ◌∙◌, subst, sym}
-use Rattle.std.specs.Prelude.{slice_get}
-use Rattle.im_block.specs.declared.access.Tag.{Tag}
+use Rattle.std.proofs.Common.{◌≡◌, ℕ, List, [], ◌∷◌, map, refl, ap, ◌∙◌}
 use Rattle.im_block.specs.declared.access.Tags.{Tags}
 use Rattle.im_block.specs.declared.code.Line.{Line}
 use Rattle.im_block.specs.declared.code.Block.{Block}
 use Rattle.im_block.specs.declared.unit.Function.{Function}
 use Rattle.im_block.specs.declared.unit.Unit.{Unit as Code}
-use Rattle.im_store.specs.Objects.{Object}
-use Rattle.im_block.specs.Meaning.{Active, Event, Reads, Writes, Tests, Saves, Restores, Serves, Cuts as ACut}
-use Rattle.im_block.specs.Tagged.{tag_in, tag_of, HoldsAt, AllHold, IsSound}
 use Rattle.im_block.specs.Uncut.{WithCuts, Empty, Same, SameBlocks, SameFunctions, SameButCuts}
 use Rattle.im_alloc_relation.specs.Placing.{PlacedFunctions}
 use Rattle.im_alloc_laws.specs.Numbered.{IsWellPlaced}
@@ -18,30 +13,7 @@ use Rattle.im_recut.specs.Recut.{RecutsTo}
 use Rattle.im_recut.specs.Laws.{RecutKeepsLaw}
 use Rattle.im_keeps_passes.specs.Passes.{Cuts, Places, Recuts}
 use Rattle.im_keeps_passes.specs.Laws.{CodeBoundsLaw}
-use Rattle.im_keeps_middle.specs.Middle.{AreNoTags}
 use Rattle.im_keeps_middle.specs.Laws.{MiddleLaw}
-
--- no tags
-
-no_tag : (tags : Tags) → AreNoTags tags → (n : ℕ) → tag_of tags n ≡ None
-no_tag tags e n = ap (λ (places : List ℕ). tag_in tags.tags.items (slice_get places n)) e
-
-holds_none : (statics : ℕ) (slot : Option ℕ) (tag : Option Tag) (by : Active) (o : Object) (i : ℕ) → tag ≡ None → HoldsAt statics slot tag by o i
-holds_none statics None tag by o i e = subst (λ t. HoldsAt statics None t by o i) (sym e) tt
-holds_none statics (Some slot) tag by o i e = tt
-
-all_hold : (statics : ℕ) (tags : Tags) → AreNoTags tags → (run : List Event) → AllHold statics tags run
-all_hold statics tags e [] = tt
-all_hold statics tags e (Reads site by o i ∷ run) = (holds_none statics site.slot (tag_of tags site.number) by o i (no_tag tags e site.number), all_hold statics tags e run)
-all_hold statics tags e (Writes site by o i ∷ run) = (holds_none statics site.slot (tag_of tags site.number) by o i (no_tag tags e site.number), all_hold statics tags e run)
-all_hold statics tags e (Tests ∷ run) = (tt, all_hold statics tags e run)
-all_hold statics tags e (Saves by ∷ run) = (tt, all_hold statics tags e run)
-all_hold statics tags e (Restores by ∷ run) = (tt, all_hold statics tags e run)
-all_hold statics tags e (Serves ∷ run) = (tt, all_hold statics tags e run)
-all_hold statics tags e (ACut ∷ run) = (tt, all_hold statics tags e run)
-
-alias : (u : Code) (tags : Tags) → AreNoTags tags → IsSound u tags
-alias u tags e = record { holds = λ g n o run defined runs. all_hold (length u.statics.items) tags e run }
 
 -- no cuts
 
@@ -85,12 +57,11 @@ place law u v w = record {
   cost = law.cost u v w.placed;
 }
 
-recut : RecutKeepsLaw → (u v : Code) (tags : Tags) → RecutsTo u v → Recuts tags u v
-recut law u v tags r = record { same = law.same u v r; apart = law.apart u v r; sectioned = law.sectioned u v tags r }
+recut : RecutKeepsLaw → (u v : Code) (tags : Tags) → RecutsTo tags u v → Recuts tags u v
+recut law u v tags r = record { same = law.same tags u v r; apart = law.apart tags u v r; sectioned = law.sectioned tags u v r }
 
 pub middle : PlacedCodeLaw → RecutKeepsLaw → CodeBoundsLaw → MiddleLaw
 middle placing cutting bounds = record {
-  alias = alias;
   cut = cut;
   place = place placing;
   recut = recut cutting;
@@ -103,21 +74,21 @@ middle placing cutting bounds = record {
     cut = cut c.forced;
     placed = c.placed;
     place = place placing c.forced c.placed c.place;
-    recut = record { same = cutting.same c.placed code c.recut; apart = cutting.apart c.placed code c.recut };
+    recut = record { same = cutting.same c.tags c.placed code c.recut; apart = cutting.apart c.tags c.placed code c.recut };
   });
-  whole = λ source frames image gap tags none c. record {
+  whole = λ source frames image gap c. record {
     lowered = c.lowered;
     lower = c.lower;
     forced = c.forced;
     force = c.force;
-    tags = tags;
-    alias = alias c.forced tags none;
+    tags = c.tags;
+    alias = c.alias;
     trimmed = c.forced;
     cut = cut c.forced;
     placed = c.placed;
     place = place placing c.forced c.placed c.place;
     sectioned = c.sectioned;
-    recut = recut cutting c.placed c.sectioned tags c.recut;
+    recut = recut cutting c.placed c.sectioned c.tags c.recut;
     select = c.select;
     measure = c.measure;
   };

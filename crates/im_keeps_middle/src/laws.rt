@@ -4,8 +4,8 @@ use im_alloc_laws::placed_code_law;
 use im_keeps_passes::code_bounds_law;
 use im_recut::recut_keeps_law;
 
-/// Forced cuts, places and the second cutting keep their lines of the record of passes; without
-/// alias sets nothing is cut between them.
+/// Forced cuts, places and the greedy cuts of placed code keep their lines of the record of passes;
+/// between forced cuts and places nothing is cut.
 pub fn middle_law()
     ensures { MiddleLaw }
 {

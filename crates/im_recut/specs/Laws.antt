@@ -1,4 +1,4 @@
--- What holds of code that is cut before each write.
+-- What holds of code with greedy cuts.
 use Rattle.im_block.specs.declared.access.Tags.{Tags}
 use Rattle.im_block.specs.declared.unit.Unit.{Unit as Code}
 use Rattle.im_block.specs.Uncut.{SameButCuts}
@@ -7,6 +7,6 @@ use Rattle.im_alloc_placed.specs.Apart.{AllApart}
 use Rattle.im_recut.specs.Recut.{RecutsTo}
 
 pub record RecutKeepsLaw : Type 0 where
-  pub same : (old new : Code) → RecutsTo old new → SameButCuts old new
-  pub sectioned : (old new : Code) (tags : Tags) → RecutsTo old new → AllSectioned tags new
-  pub apart : (old new : Code) → RecutsTo old new → AllApart old → AllApart new
+  pub same : (tags : Tags) (old new : Code) → RecutsTo tags old new → SameButCuts old new
+  pub sectioned : (tags : Tags) (old new : Code) → RecutsTo tags old new → AllSectioned tags new
+  pub apart : (tags : Tags) (old new : Code) → RecutsTo tags old new → AllApart old → AllApart new

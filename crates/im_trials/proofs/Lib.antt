@@ -1,1 +1,4 @@
+pub mod Two
+pub mod Laid
 pub mod Linkable
+pub mod Single

@@ -1,72 +1,54 @@
-use crate::words::WORDS;
+use crate::case::Case;
+use crate::row::Row;
+use crate::stop::Stop;
+use crate::texts::Texts;
 use im_gap::{gap, longest_gap};
 use im_rv::Code;
 use std::alloc::Global;
-use std::test::Fail;
 
-fn longest_from(alloc: Global, words: &[u32], entry: u32) -> Result<Option<u32>, Fail> {
-    if words.len() > 261120 {
-        return Ok(None);
-    }
+/// `gap`, a name, an entry, code words: the longest gap, if there is one.
+pub(crate) fn longest(texts: &Texts, row: &Row<'_>, case: &mut Case) {
+    let words = case.words_of(texts, row.field(3));
+    case.show(words.len());
     let code = Code {
-        words: Vec::from_slice(alloc, words)?,
-        entry,
-        cuts: Vec::new(alloc),
+        words,
+        entry: case.hex(row.field(2)),
+        cuts: Vec::new(case.alloc),
     };
-    Ok(longest_gap(alloc, &code)?)
+    tell_gap(&code, case);
 }
 
-#[test]
-fn recovery_and_routine_and_a_loop_of_one_cut(rt: HostRuntime) -> Result<(), Fail> {
-    let mut words = Vec::from_slice(rt.alloc(), &WORDS[..237])?;
-    words.extend_from_slice(&[0xd4dff1ef, 0xffdff06f])?;
-    let longest = longest_from(rt.alloc(), &words, 0x13B4)?;
-    assert!(rt; words.len() == 239 && longest == Some(45));
-    Ok(())
-}
-
-/// Words by llvm-mc, with no relocation left, and their longest gap.
-const SMALL: [(&[u32], Option<u32>); 3] = [
-    // bne over an arm of 3 to an arm of 7, then ebreak
-    (
-        &[
-            0x00029a63, 0x00000013, 0x00000013, 0x0240006f, 0x00000013, 0x00000013, 0x00000013,
-            0x00000013, 0x00000013, 0x00000013, 0x00000013, 0x00000013, 0x00100073,
-        ],
-        Some(33 + 9),
-    ),
-    // a loop of three instructions whose edge is a cut
-    (
-        &[
-            0x00000013, 0x00c001ef, 0xff9ff06f, 0x00100073, 0x00402023, 0x00018067,
-        ],
-        Some(33 + 4),
-    ),
-    // an endless loop
-    (&[0x00000013, 0xfe029ee3, 0x00100073], None),
-];
-
-#[test]
-fn small_codes(rt: HostRuntime) -> Result<(), Fail> {
-    for (words, longest) in &SMALL {
-        let found = longest_from(rt.alloc(), words, 0x1000)?;
-        assert!(rt; found == *longest, "{words:?}");
+/// Tells the longest gap of a code.
+pub(crate) fn tell_gap(code: &Code, case: &mut Case) {
+    if code.words.len() > 261120 {
+        case.end(Stop::Row);
+        return;
     }
-    Ok(())
+    match longest_gap(case.alloc, code) {
+        Ok(Some(longest)) => case.show(longest),
+        Ok(None) => case.say(" none"),
+        Err(_) => case.end(Stop::Memory),
+    }
 }
 
-#[test]
-fn a_call_within_a_call(rt: HostRuntime) -> Result<(), Fail> {
+// The gap of a call within a call.
+fn gap_of_calls(alloc: Global) -> Result<u32, Stop> {
     let words = [
         0x00c000ef, 0x01c001ef, 0x00100073, 0x00c000ef, 0x010001ef, 0x00008067, 0x00000013,
         0x00008067, 0x00402023, 0x00018067,
     ];
     let code = Code {
-        words: Vec::from_slice(rt.alloc(), &words)?,
+        words: Vec::from_slice(alloc, &words)?,
         entry: 0x1000,
-        cuts: Vec::new(rt.alloc()),
+        cuts: Vec::new(alloc),
     };
-    let found = gap(rt.alloc(), &code)?;
-    assert!(rt; found == 33 + 6);
-    Ok(())
+    Ok(gap(alloc, &code)?)
+}
+
+/// The gap of a call within a call.
+pub(crate) fn a_call_within_a_call(case: &mut Case) {
+    let alloc = case.alloc;
+    if let Some(gap) = case.take(gap_of_calls(alloc)) {
+        case.show(gap);
+    }
 }

@@ -1,74 +1,104 @@
-use im_emu::Machine;
-use im_image::{Image, read_image};
-use im_mem::FlatMem;
-use im_num::CellValue;
-use im_power::Period;
+use crate::case::Case;
+use crate::row::Row;
+use crate::stop::Stop;
+use crate::texts::Texts;
+use im_image::{Image, read_image, upgrade, write_image};
 use std::alloc::Global;
-use std::test::Fail;
 
-fn put_words(text: &mut Vec<u8>, words: &[u32]) -> Result<(), Fail> {
-    for word in words {
-        text.extend_from_slice(&word.to_le_bytes())?;
-    }
-    Ok(())
-}
-
-/// A static of one word.
-#[derive(Clone, Copy)]
-pub struct StaticWord {
-    pub name: u8,
-    /// What it holds at first.
-    pub first: u32,
-}
-
-/// The image of these words, which begins at this address. Its statics stand 8 bytes apart.
-pub(crate) fn image_of(
-    alloc: Global,
-    words: &[u32],
-    entry: u32,
-    statics: &[StaticWord],
-) -> Result<Image, Fail> {
-    let mut text = Vec::new(alloc);
-    let count = u32::try_from(words.len()).ok().ok_or("few words")?;
-    let objects = u32::try_from(statics.len()).ok().ok_or("few statics")?;
-    let bytes = objects.checked_mul(8).ok_or("few statics")?;
-    let header = [0x5652_4d49, 2, count, bytes, 256, 8192, entry, objects, 1];
-    put_words(&mut text, &header)?;
-    put_words(&mut text, words)?;
-    for word in statics {
-        put_words(&mut text, &[word.first, 0])?;
-    }
-    let mut at: u32 = 0x10_0000;
-    for word in statics {
-        put_words(&mut text, &[at, 4, 1, 1])?;
-        text.push(word.name)?;
-        put_words(&mut text, &[0, 5, 1])?;
-        at = at.checked_add(8).ok_or("few statics")?;
-    }
-    Ok(read_image(alloc, &text).ok().ok_or("an image")?)
-}
-
-/// A machine with the image and this input.
-pub(crate) fn loaded(alloc: Global, image: &Image, input: &[u8]) -> Result<Machine<FlatMem>, Fail> {
-    Ok(Machine::load(alloc, image, input).ok().ok_or("a machine")?)
-}
-
-/// A period of so many instructions.
-pub(crate) fn period(n: u32, mask: u32) -> Period {
-    Period {
-        n,
-        junk: 0xa5a5_a5a5,
-        count: 1,
-        mask,
+// Why a text is refused, or that it is an image.
+fn tell_answer(text: &[u8], case: &mut Case) {
+    match read_image(case.alloc, text) {
+        Ok(_) => case.say(" an image"),
+        Err(fault) => case.show(fault),
     }
 }
 
-/// What the static of this number holds.
-pub(crate) fn value_of(
-    alloc: Global,
-    machine: &Machine<FlatMem>,
-    number: usize,
-) -> Result<Option<CellValue>, Fail> {
-    let vars = machine.vars(alloc)?;
-    Ok(vars.get(number).and_then(|var| var.cells.first().copied()))
+// Puts another byte at a place, both in decimal digits with `=` between them.
+fn change(text: &mut [u8], change: &str, case: &mut Case) {
+    let (place, byte) = case.parted(change, '=');
+    let place = case.place(place);
+    let byte = case.small(byte);
+    if let Some(old) = text.get_mut(place) {
+        *old = (byte & 255) as u8;
+    }
+}
+
+/// `changed-image`, a name, a text, other bytes as places and values, more bytes behind: why that is refused.
+pub(crate) fn changed(texts: &Texts, row: &Row<'_>, case: &mut Case) {
+    let mut text = case.bytes_of(texts, row, 2);
+    for words in row.field(3).split_ascii_whitespace() {
+        change(&mut text, words, case);
+    }
+    let more = case.bytes_of(texts, row, 4);
+    if text.extend_from_slice(&more).is_err() {
+        case.end(Stop::Memory);
+    }
+    tell_answer(&text, case);
+}
+
+// Whether a text is refused as short at its end.
+fn is_short(alloc: Global, text: &[u8]) -> bool {
+    let mut answer = Case::new(alloc);
+    tell_answer(text, &mut answer);
+    let mut wanted = Case::new(alloc);
+    wanted.say(" short image at");
+    wanted.show(text.len());
+    answer.as_str() == wanted.as_str()
+}
+
+/// `fronts-of-image`, a name, a text: how many of its fronts are refused as short at their end.
+pub(crate) fn fronts(texts: &Texts, row: &Row<'_>, case: &mut Case) {
+    let text = case.bytes_of(texts, row, 2);
+    let mut refused: u32 = 0;
+    for end in 0..text.len() {
+        if is_short(case.alloc, &text[..end]) {
+            refused = refused.saturating_add(1);
+        }
+    }
+    case.show(refused);
+}
+
+fn tell_objects(image: &Image, case: &mut Case) {
+    for object in &image.objects {
+        case.say(",");
+        case.bytes(&object.name);
+        for run in &object.runs {
+            case.show(run.offset);
+            case.debug(&run.kind);
+        }
+    }
+}
+
+fn tell_image(image: &Image, text: &[u8], case: &mut Case) {
+    case.show(image.version.number());
+    case.show(image.form.number());
+    case.show(image.stack);
+    case.show(image.entry);
+    for word in &image.words {
+        case.word(*word);
+    }
+    tell_objects(image, case);
+    match write_image(case.alloc, image) {
+        Ok(again) if again.as_slice() == text => case.say("; again the same"),
+        Ok(_) => {}
+        Err(_) => case.end(Stop::Memory),
+    }
+}
+
+/// `image`, a name, a text: its version, form, stack, entry, code and objects, and whether it is written again the same.
+pub(crate) fn image(texts: &Texts, row: &Row<'_>, case: &mut Case) {
+    let text = case.bytes_of(texts, row, 2);
+    match read_image(case.alloc, &text) {
+        Ok(image) => tell_image(&image, &text, case),
+        Err(fault) => case.show(fault),
+    }
+}
+
+/// `upgrade`, a name, a text: the text in version 2.
+pub(crate) fn upgraded(texts: &Texts, row: &Row<'_>, case: &mut Case) {
+    let text = case.bytes_of(texts, row, 2);
+    match upgrade(case.alloc, &text) {
+        Ok(bytes) => case.bytes(&bytes),
+        Err(fault) => case.show(fault),
+    }
 }

@@ -1,13 +1,12 @@
 ghost use Rattle.std.specs.Prelude.{IfOk};
 ghost use Rattle.im_link.specs.Code.{IsLinkable};
 
-use crate::seen::{holds, same};
+use crate::case::Case;
+use crate::stop::Stop;
 use im_link::link;
 use im_num::Cause;
-use im_rv::{Cut, Instr, Line, Op, Part};
+use im_rv::{Code, Cut, Instr, Line, Op, Part};
 use std::alloc::Global;
-use std::process::Abort;
-use std::test::Fail;
 
 // A line: its label, instruction, target, access and cause.
 macro_rules! line {
@@ -29,7 +28,7 @@ macro_rules! line {
 }
 
 // A routine and a function that use every branch, a call, a loop and a dependence.
-fn page(alloc: Global) -> Result<Vec<Part>, Fail>
+fn page(alloc: Global) -> Result<Vec<Part>, Stop>
     ensures { IfOk result (λ parts. IsLinkable parts.items) }
 {
     let routine = [
@@ -71,42 +70,35 @@ fn page(alloc: Global) -> Result<Vec<Part>, Fail>
     Ok(parts)
 }
 
-// By llvm-mc.
-const WORDS: [u32; 23] = [
-    0x00002203, 0x00124213, 0x0080006f, 0x00000013, 0x00522a23, 0x00402023, 0x00018067, 0xfe5ff1ef,
-    0x12345537, 0xeef50513, 0xfd9ff1ef, 0x00052583, 0x02058463, 0xfea59ae3, 0xfea5c8e3, 0x00b55e63,
-    0x00b56663, 0xfea5f2e3, 0xfb9ff1ef, 0x00b52023, 0xfcdff0ef, 0xfadff1ef, 0x00100073,
-];
-
-/// The cuts of `main`.
-const CUTS: [(u32, Cause); 4] = [
-    (0x101C, Cause::Entry),
-    (0x1028, Cause::Loop),
-    (
-        0x1048,
-        Cause::Dep {
-            read: 0x102C,
-            write: 0x104C,
-        },
-    ),
-    (0x1054, Cause::Return),
-];
-
-/// Sees that cuts stand so, all of them in one function.
-pub(crate) fn are_cuts(rt: &impl Abort, cuts: &[Cut], wanted: &[(u32, Cause)], function: &str) {
-    same(rt, &function, &cuts.len(), &wanted.len());
-    for (cut, wanted) in cuts.iter().zip(wanted) {
-        same(rt, &function, &(cut.at, cut.cause), wanted);
-        holds(rt, wanted, cut.function.as_str() == function);
+/// Tells cuts.
+pub(crate) fn tell_cuts(cuts: &[Cut], case: &mut Case) {
+    for cut in cuts {
+        case.say("\n ");
+        case.word(cut.at);
+        case.say(" ");
+        case.say(&cut.function);
+        case.debug(&cut.cause);
     }
 }
 
-#[test]
-fn a_page_of_two_parts(rt: HostRuntime) -> Result<(), Fail> {
-    let parts = page(rt.alloc())?;
-    let code = link(rt.alloc(), &parts)?;
-    same(&rt, &"words", &code.words.as_slice(), &WORDS.as_slice());
-    same(&rt, &"the entry", &code.entry, &0x101C);
-    are_cuts(&rt, &code.cuts, &CUTS, "main");
-    Ok(())
+fn tell_code(code: &Code, case: &mut Case) {
+    for word in &code.words {
+        case.word(*word);
+    }
+    case.say(", entry");
+    case.word(code.entry);
+    tell_cuts(&code.cuts, case);
+}
+
+fn linked(alloc: Global) -> Result<Code, Stop> {
+    let parts = page(alloc)?;
+    Ok(link(alloc, &parts)?)
+}
+
+/// The words, the entry and the cuts of a page of two parts that is linked.
+pub(crate) fn a_page_of_two_parts(case: &mut Case) {
+    let alloc = case.alloc;
+    if let Some(code) = case.take(linked(alloc)) {
+        tell_code(&code, case);
+    }
 }

@@ -3,9 +3,9 @@ ghost use Rattle.im_link.specs.Code.{IsLinkable};
 ghost use Rattle.im_trials.specs.Numbered.{AreNumbered};
 
 use crate::lines::line_at;
+use crate::stop::Stop;
 use im_rv::{Line, Part};
 use std::alloc::{AllocError, Global};
-use std::test::Fail;
 
 // The lines from the number `first` on, up to `end`.
 fn lines_between(alloc: Global, first: u32, end: u32) -> Result<Vec<Line>, AllocError>
@@ -22,7 +22,7 @@ fn lines_between(alloc: Global, first: u32, end: u32) -> Result<Vec<Line>, Alloc
 }
 
 /// The routine and one part of 32639 functions: 261120 lines.
-pub fn largest_parts(alloc: Global) -> Result<Vec<Part>, Fail>
+pub fn largest_parts(alloc: Global) -> Result<Vec<Part>, Stop>
     ensures { IfOk result (λ parts. IsLinkable parts.items) }
 {
     let mut parts = Vec::new(alloc);

@@ -1,8 +1,16 @@
 use Rattle.im_typed.specs.declared.program.Prog.{Prog}
 use Rattle.im_compile.specs.Lowered.{IsLoweredCode}
 use Rattle.im_compile.specs.Passed.{IsPassed}
-use Rattle.im_compile.proofs.Ready.{forced_well, forced_placeable}
+use Rattle.im_compile.proofs.Ready.{forced_well, forced_placeable, placed_ordered, placed_forced}
 use Rattle.im_compile.proofs.passes.placed_code.Goals as goal
+
+pub alias-requires-clause-well_formed : goal.alias-requires-clause-well_formed
+alias-requires-clause-well_formed c =
+    let l = c.requires.2 in
+    forced_well c.lowered_form_law.ensures c.force_keeps_law.ensures c.cuts_keep_code_law.ensures c.requires.0 c.args.lowered c.in_ok-forced.forced c.requires.1 l.lower l.sized c.in_ok-forced.ensures
+
+pub alias-requires-clause-placeable : goal.alias-requires-clause-placeable
+alias-requires-clause-placeable c = forced_placeable c.force_keeps_law.ensures c.cuts_keep_places_law.ensures c.args.lowered c.in_ok-forced.forced c.requires.2.placeable c.in_ok-forced.ensures
 
 pub place-requires-clause-well_formed : goal.place-requires-clause-well_formed
 place-requires-clause-well_formed c =
@@ -11,6 +19,15 @@ place-requires-clause-well_formed c =
 
 pub place-requires-clause-placeable : goal.place-requires-clause-placeable
 place-requires-clause-placeable c = forced_placeable c.force_keeps_law.ensures c.cuts_keep_places_law.ensures c.args.lowered c.in_ok-forced.forced c.requires.2.placeable c.in_ok-forced.ensures
+
+pub recut-requires-clause-ordered : goal.recut-requires-clause-ordered
+recut-requires-clause-ordered c =
+    let l = c.requires.2 in
+    placed_ordered c.lowered_form_law.ensures c.added_cuts_law.ensures c.force_keeps_law.ensures c.placed_code_law.ensures c.requires.0 c.args.lowered c.in_ok-forced.forced c.in_ok-placed.placed c.requires.1 l.lower l.sized c.in_ok-forced.ensures c.in_ok-placed.ensures.placed
+
+pub recut-requires-clause-forced : goal.recut-requires-clause-forced
+recut-requires-clause-forced c =
+    placed_forced c.force_keeps_law.ensures c.placed_code_law.ensures c.args.lowered c.in_ok-forced.forced c.in_ok-placed.placed c.in_ok-forced.ensures c.in_ok-placed.ensures.placed
 
 passed : (c : goal.In_ok-code) (prog : Prog) → IsLoweredCode prog c.args.lowered → IsPassed prog c.in_ok-code.code
 passed c prog l = record {
@@ -22,6 +39,8 @@ passed c prog l = record {
   told = l.told;
   forced = c.in_ok-forced.forced;
   force = c.in_ok-forced.ensures;
+  tags = c.in_ok-tags.tags;
+  alias = c.in_ok-tags.ensures.sound;
   placed = c.in_ok-placed.placed;
   place = c.in_ok-placed.ensures;
   recut = c.in_ok-code.ensures;

@@ -1,6 +1,5 @@
-use Rattle.im_recut.proofs.Apart.{apart}
-use Rattle.im_recut.proofs.Keeps.{same, sectioned}
+use Rattle.im_recut.proofs.Keeps.{keeps}
 use Rattle.im_recut.proofs.laws.recut_keeps_law.Goals as goal
 
 pub returns : goal.returns
-returns c = record { same = same; sectioned = sectioned; apart = apart }
+returns c = keeps c.same_law.ensures c.apart_law.ensures
