@@ -16,6 +16,7 @@ import time
 
 from base import TESTS, TOP, Failed, Room, Skipped
 import beside  # noqa: F401  (each module registers its tests)
+import made_sources  # noqa: F401
 import pages
 import power  # noqa: F401
 import script  # noqa: F401
