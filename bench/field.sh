@@ -149,8 +149,6 @@ echo "| Power for ($name) | Instructions | Over power that stays | Recovery | Lo
 echo '|---|---|---|---|---|---|'
 "$work/counts" "$work/image" --input "$folder/$name.in" > "$work/whole"
 for period in $gap 100 150 200 300 500 1000 2000 5000 20000 100000; do
-    # shorter ones than the gap need not reach the end
-    [ "$period" -ge "$gap" ] || continue
     echo "$period 0 1000000" > "$work/trace"
     "$work/counts" "$work/image" --input "$folder/$name.in" --trace "$work/trace" > "$work/lost"
     echo "$period $(counted instructions lost) $(counted instructions whole) $(counted recovery lost) $(counted lost lost)" \

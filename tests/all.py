@@ -16,10 +16,6 @@ import time
 
 from base import TESTS, TOP, Failed, Room, Skipped
 import beside  # noqa: F401  (each module registers its tests)
-import bulk  # noqa: F401
-import cuts  # noqa: F401
-import failing  # noqa: F401
-import hostile  # noqa: F401
 import pages
 import power  # noqa: F401
 import script  # noqa: F401

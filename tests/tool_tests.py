@@ -108,7 +108,7 @@ def operations(room):
 
 @test("tools: each says what its words are")
 def help_of_tools(room):
-    for name in ("tools/image.py", "bench/losses.py", "bench/refused.py", "bench/fuzz.py", "bench/power.py"):
+    for name in ("tools/image.py", "bench/losses.py"):
         same(name, tool(room, name, "--help").returncode, 0)
     done = subprocess.run(["tools/build-unproved", "--help"], cwd=room.folder, capture_output=True)
     same("tools/build-unproved", done.returncode, 0)

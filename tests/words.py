@@ -4,11 +4,9 @@ import struct
 HALT, FAULT = 0x00100073, 0x00000000  # ebreak, and a word that is no instruction
 
 
-def image(*words, cap=0, form=None):
-    """The text of an image of these code words (docs/image.md), with the entry at its start: of version 1, or of version 2
-    where there is a form."""
-    head = [1 if form is None else 2, len(words), 0, 256, cap, 4096, 0] + ([] if form is None else [form])
-    return b"IMRV" + struct.pack(f"<{len(head)}I{len(words)}I", *head, *words)
+def image(*words, cap=0):
+    """The text of an image of these code words (docs/image.md): version 1, so form 0, with the entry at its start."""
+    return b"IMRV" + struct.pack(f"<7I{len(words)}I", 1, len(words), 0, 256, cap, 4096, 0, *words)
 
 
 def upper(register, value):

@@ -1,12 +1,10 @@
 -- The parts of a line's placing, for private contracts: operands, the line on registers, its result.
-use Rattle.std.specs.Prelude.{◌≡◌, ◌≤◌, ℕ, ◌+◌, ◌*◌, Bool, true, false, List, [], ◌∷◌, ◌++◌, Option, Some, None, length}
+use Rattle.std.specs.Prelude.{◌≡◌, ◌≤◌, ℕ, ◌+◌, ◌*◌, List, ◌∷◌, ◌++◌, Option, Some, None, length}
 use Rattle.im_block.specs.declared.code.Place.{Place}
 use Rattle.im_block.specs.declared.code.Place.TheVariants.{Static, Local, Through}
 use Rattle.im_block.specs.declared.code.Line.{Line}
-use Rattle.im_block.specs.declared.code.Line.TheVariants.{Put, PutNull, Copy, Convert, Unary, Not, Compute, Compare, Move, Distance, Address, Read, Write, Cut, Call, GetChar, PutChar}
-use Rattle.im_block.specs.declared.code.Exit.{Exit}
-use Rattle.im_block.specs.declared.code.Exit.TheVariants.{Turn}
-use Rattle.im_alloc_relation.specs.Homes.{Home, numbers_kept, load, reg, save, on_place, past_cut, needed, put_lines}
+use Rattle.im_block.specs.declared.code.Line.TheVariants.{Put, PutNull, Copy, Convert, Unary, Not, Compute, Compare, Move, Distance, Address, Read, Write, Call}
+use Rattle.im_alloc_relation.specs.Homes.{Home, numbers_kept, load, reg, save, on_place, put_lines}
 
 -- lines were added, as a function of what stands behind them
 abbrev pub Adds : (List Line → List Line) → List Line → List Line → Type 0
@@ -99,28 +97,7 @@ abbrev pub plain_line : (ℕ → Home) → ℕ → Line → List Line → List L
 plain_line h n line rest =
     load_some h (first_operand line) 7 n (load_some h (second_operand line) 8 (n + 1) (in_registers h line ∷ save_some h (target line) (n + 2) rest))
 
--- what is left to put: as much as is needed, and, behind a call, past its cut
-
-abbrev pub calls : Line → Bool
-calls (Call to i first given) = true
-calls (GetChar to) = true
-calls (PutChar to from) = true
-calls line = false
-
-abbrev pub left_to_put : Exit → Bool → List Line → List Line
-left_to_put exit true lines = past_cut exit (needed exit lines)
-left_to_put exit false lines = needed exit lines
-
-abbrev pub keeps_loop_cut : Exit → List Line → Bool
-keeps_loop_cut (Turn b) [] = true
-keeps_loop_cut exit rest = false
-
--- behind a call, or not: whether a line is put, before the rest of its block
-abbrev pub puts_line : Exit → Bool → Line → List Line → Bool
-puts_line exit true (Cut cause) rest = keeps_loop_cut exit rest
-puts_line exit behind_call line rest = true
-
--- the needed lines of a block with that exit, with numbers from n up to next
-pub record AddsLines (h : ℕ → Home) (n : ℕ) (exit : Exit) (lines : List Line) (next : ℕ) (old new : List Line) : Type 0 where
-  pub next_is : next ≡ n + numbers_kept * length (needed exit lines)
-  pub adds : (tail : List Line) → new ++ tail ≡ old ++ put_lines h n (needed exit lines) tail
+-- lines with numbers from n up to next
+pub record AddsLines (h : ℕ → Home) (n : ℕ) (lines : List Line) (next : ℕ) (old new : List Line) : Type 0 where
+  pub next_is : next ≡ n + numbers_kept * length lines
+  pub adds : (tail : List Line) → new ++ tail ≡ old ++ put_lines h n lines tail

@@ -4,7 +4,7 @@ use Rattle.std.specs.Prelude.{◌≡◌, ◌≤◌, ℕ, suc, ◌+◌, ◌*◌, 
 use Rattle.im_block.specs.declared.code.Block.{Block}
 use Rattle.im_block.specs.declared.unit.Registers.TheVariants.{Machine}
 use Rattle.im_block.specs.declared.unit.Function.{Function}
-use Rattle.im_alloc_relation.specs.Homes.{Home, InRegister, InSlot, numbers_kept, needed}
+use Rattle.im_alloc_relation.specs.Homes.{Home, InRegister, InSlot, numbers_kept}
 use Rattle.im_alloc_relation.specs.Placing.{PlacedBlock, PlacedBlocks}
 use Rattle.im_alloc_laws.specs.Numbered.{numbers_of_blocks}
 use Rattle.im_alloc.specs.Parts.{Fits}
@@ -31,7 +31,7 @@ pub record FitsFunction (f : Function) : Type 0 where
 -- with numbers from n up to next
 pub record SlotsBlock (h : ℕ → Home) (n next : ℕ) (old new : Block) : Type 0 where
   pub placed : PlacedBlock h n old new
-  pub next_is : next ≡ n + numbers_kept * suc (length (needed old.exit old.lines.items))
+  pub next_is : next ≡ n + numbers_kept * suc (length old.lines.items)
 
 pub record SlotsFunction (n next : ℕ) (old new : Function) : Type 0 where
   pub blocks : PlacedBlocks (home_in old.parameters old.register_count) n old.blocks.items new.blocks.items

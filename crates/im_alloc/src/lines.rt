@@ -2,13 +2,12 @@ ghost use Rattle.std.specs.Prelude.{◌≡◌, ◌<◌, ◌+◌, ◌*◌, ◌^�
 ghost use Rattle.im_alloc_relation.specs.Homes.{put_line};
 ghost use Rattle.im_alloc.specs.Slots.{homes_are};
 ghost use Rattle.im_alloc.specs.Parts.{Adds, AddsLines, Fits, load_some, save_some, plain_line};
-ghost use Rattle.im_alloc.specs.Parts.{calls, keeps_loop_cut, puts_line};
 
 use crate::homes::Homes;
 use crate::numbers::behind;
 use crate::operands::{first_of, in_registers, second_of, target_of};
 use crate::pieces::{push, push_arguments, push_call, push_into, push_load, push_save};
-use im_block::{Exit, Line};
+use im_block::Line;
 use im_num::NoMemory;
 
 fn push_operand(
@@ -99,57 +98,22 @@ pub(crate) fn push_line(
     }
 }
 
-/// What the lines of a block become, and the number behind all of theirs. A cut directly behind a
-/// call came with the call.
+/// What lines become, and the number behind all of theirs.
 pub(crate) fn push_lines(
     lines: &mut Vec<Line>,
     homes: Homes,
     number: u64,
     old: &[Line],
-    exit: Exit,
 ) -> Result<u64, NoMemory>
     requires { All (Fits homes.count) old.now }
     ensures { IfOk result (λ next.
-        AddsLines (homes_are homes) number exit old.now next lines.old.items lines.new.items) }
+        AddsLines (homes_are homes) number old.now next lines.old.items lines.new.items) }
 {
     let mut next = number;
-    let mut behind_call = false;
-    for (index, line) in old.iter().enumerate() {
-        if is_put(exit, behind_call, *line, &old[index + 1..]) {
-            let end = behind(next)?;
-            push_line(lines, homes, next, *line)?;
-            next = end;
-        }
-        behind_call = is_call(*line);
+    for line in old {
+        let end = behind(next)?;
+        push_line(lines, homes, next, *line)?;
+        next = end;
     }
     Ok(next)
-}
-
-/// Whether a line is put, before the rest of its block.
-fn is_put(exit: Exit, behind_call: bool, line: Line, rest: &[Line]) -> bool
-    ensures { result ≡ puts_line exit behind_call line rest.now }
-{
-    match line {
-        Line::Cut(_) => !behind_call || is_loop_cut(exit, rest),
-        _ => true,
-    }
-}
-
-/// Whether a cut before so much of its block is that of a loop edge.
-fn is_loop_cut(exit: Exit, rest: &[Line]) -> bool
-    ensures { result ≡ keeps_loop_cut exit rest.now }
-{
-    match exit {
-        Exit::Turn(_) => rest.is_empty(),
-        _ => false,
-    }
-}
-
-fn is_call(line: Line) -> bool
-    ensures { result ≡ calls line }
-{
-    matches!(
-        line,
-        Line::Call { .. } | Line::GetChar { .. } | Line::PutChar { .. }
-    )
 }

@@ -53,7 +53,7 @@ fn place_block(alloc: Global, homes: Homes, number: u64, block: &mut Block) -> R
         SlotsBlock (homes_are homes) number next block.old block.new) }
 {
     let mut lines = Vec::new(alloc);
-    let end = push_lines(&mut lines, homes, number, &block.lines, block.exit)?;
+    let end = push_lines(&mut lines, homes, number, &block.lines)?;
     push_exit(&mut lines, homes, end, block.exit)?;
     let next = behind(end)?;
     block.exit = exit_on(homes, block.exit);

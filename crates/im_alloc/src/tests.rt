@@ -2,7 +2,7 @@ ghost use Rattle.std.specs.Prelude.{IfOk};
 ghost use Rattle.im_alloc.specs.Sample.{IsTaken};
 
 use crate::homes::Homes;
-use crate::lines::{push_line, push_lines};
+use crate::lines::push_line;
 use crate::place;
 use im_block::{Block, Exit, Function, Line, Object, Place, Registers, Unit};
 use im_num::{Cause, Kind};
@@ -288,31 +288,6 @@ fn calls_have_their_arguments_in_order(rt: HostRuntime) -> Result<(), Fail> {
         spill(2, 10, 50),
     ];
     assert_eq!(rt; lines.as_slice(), want.as_slice());
-    Ok(())
-}
-
-#[test]
-fn a_call_is_put_with_its_cut(rt: HostRuntime) -> Result<(), Fail> {
-    let mut lines = Vec::new(rt.alloc());
-    let old = [
-        Line::GetChar { to: 1 },
-        Line::Cut(Cause::Return),
-        Line::PutChar { to: 2, from: 1 },
-        Line::Cut(Cause::Return),
-    ];
-    let next = push_lines(&mut lines, HOMES, 0, &old, Exit::Turn(0))?;
-    let want = [
-        Line::GetChar { to: 10 },
-        Line::Cut(Cause::Return),
-        spill(1, 10, 2),
-        reload(10, 1, 16),
-        Line::PutChar { to: 10, from: 10 },
-        Line::Cut(Cause::Return),
-        spill(2, 10, 18),
-        Line::Cut(Cause::Return),
-    ];
-    assert_eq!(rt; lines.as_slice(), want.as_slice());
-    assert_eq!(rt; next, 48);
     Ok(())
 }
 

@@ -13,10 +13,9 @@ use Rattle.im_block.specs.declared.unit.Function.{Function}
 use Rattle.im_block.specs.declared.unit.Unit.{Unit as Code}
 use Rattle.im_block.specs.Sections.{Has}
 use Rattle.im_block.specs.Wellformed.{AreApart, accesses_of_line, accesses_of_lines, accesses_of_blocks, accesses_of_functions}
-use Rattle.im_alloc_relation.specs.Homes.{Home, InRegister, InSlot, load, reg, save, into, give, bring, load_place, on_place, put_line, needed, put_lines, exit_lines}
+use Rattle.im_alloc_relation.specs.Homes.{Home, InRegister, InSlot, load, reg, save, into, give, bring, load_place, on_place, put_line, put_lines, exit_lines}
 use Rattle.im_alloc_relation.specs.Placing.{ValidLine, Valid, PlacedBlock, PlacedBlocks, PlacedFunctions}
 use Rattle.im_alloc_laws.specs.Numbered.{numbers_of_blocks, PlacedFrom, IsWellPlaced}
-use Rattle.im_alloc_laws.proofs.Needed.{needed_accesses, needed_valid}
 use Rattle.im_alloc_laws.proofs.Pieces.{put_app}
 use Rattle.im_alloc_laws.proofs.Numbers.{Once, once_of, apart_of, Fresh, Below, fresh_none, fresh_wide, fresh_new, fresh_own, fresh_join, split_left, split_right, below_left, below_right, below_more}
 
@@ -177,23 +176,19 @@ fresh_lines h n (line ∷ lines) tail few once below last =
     let all = subst (λ q. Fresh (own ++ old) q n (n + 16 + 16 * suc l)) (sym is) both in
     fresh_wide (own ++ old) (accesses_of_lines (put_line h n line more)) n (n + 16 + 16 * suc l) n (n + 16 * suc (suc l)) (omega arith) (omega arith) all
 
-fresh_block : (h : ℕ → Home) (n : ℕ) (x y : Block) → PlacedBlock h n x y → FewLines (needed x.exit x.lines.items) → Once (accesses_of_lines x.lines.items) → Below (accesses_of_lines x.lines.items) n → Fresh (accesses_of_lines x.lines.items) (accesses_of_lines y.lines.items) n (n + 16 * suc (length (needed x.exit x.lines.items)))
+fresh_block : (h : ℕ → Home) (n : ℕ) (x y : Block) → PlacedBlock h n x y → FewLines x.lines.items → Once (accesses_of_lines x.lines.items) → Below (accesses_of_lines x.lines.items) n → Fresh (accesses_of_lines x.lines.items) (accesses_of_lines y.lines.items) n (n + 16 * suc (length x.lines.items))
 fresh_block h n x y p few once below =
-    let lines : List Line = needed x.exit x.lines.items in
-    let end : ℕ = n + 16 * suc (length lines) in
-    let same : accesses_of_lines x.lines.items ≡ accesses_of_lines lines = sym (needed_accesses x.exit x.lines.items) in
-    subst (λ q. Fresh q (accesses_of_lines y.lines.items) n end) (sym same)
-    (subst (λ q. Fresh (accesses_of_lines lines) (accesses_of_lines q) n end) (sym p.lines)
-    (fresh_lines h n lines (exit_lines h (n + 16 * length lines) x.exit) few (subst Once same once) (subst (λ q. Below q n) same below) (fresh_exit h (n + 16 * length lines) x.exit)))
+    subst (λ q. Fresh (accesses_of_lines x.lines.items) (accesses_of_lines q) n (n + 16 * suc (length x.lines.items))) (sym p.lines)
+    (fresh_lines h n x.lines.items (exit_lines h (n + 16 * length x.lines.items) x.exit) few once below (fresh_exit h (n + 16 * length x.lines.items) x.exit))
 
-fresh_blocks : (h : ℕ → Home) (n : ℕ) (xs ys : List Block) → PlacedBlocks h n xs ys → ((b : ℕ) (block : Block) → slice_get xs b ≡ Some block → FewLines (needed block.exit block.lines.items)) → Once (accesses_of_blocks xs) → Below (accesses_of_blocks xs) n → Fresh (accesses_of_blocks xs) (accesses_of_blocks ys) n (n + numbers_of_blocks xs)
+fresh_blocks : (h : ℕ → Home) (n : ℕ) (xs ys : List Block) → PlacedBlocks h n xs ys → ((b : ℕ) (block : Block) → slice_get xs b ≡ Some block → FewLines block.lines.items) → Once (accesses_of_blocks xs) → Below (accesses_of_blocks xs) n → Fresh (accesses_of_blocks xs) (accesses_of_blocks ys) n (n + numbers_of_blocks xs)
 fresh_blocks h n [] [] p few once below = fresh_none n (n + 0)
 fresh_blocks h n [] (y ∷ ys) p few once below = absurd p
 fresh_blocks h n (x ∷ xs) [] p few once below = absurd p
 fresh_blocks h n (x ∷ xs) (y ∷ ys) p few once below =
     let own : List ℕ = accesses_of_lines x.lines.items in
     let old : List ℕ = accesses_of_blocks xs in
-    let k : ℕ = 16 * suc (length (needed x.exit x.lines.items)) in
+    let k : ℕ = 16 * suc (length x.lines.items) in
     let one = fresh_block h n x y p.0 (few 0 x refl) (split_left own old once) (below_left own old n below) in
     let rest = fresh_blocks h (n + k) xs ys p.1 (λ b block at. few (suc b) block at) (split_right own old once) (below_more old n (n + k) (omega arith) (below_right own old n below)) in
     let both = fresh_join own old (accesses_of_lines y.lines.items) (accesses_of_blocks ys) n (n + k) (n + k + numbers_of_blocks xs) (omega arith) (omega arith) once below one rest in
@@ -213,7 +208,7 @@ fresh_functions n (f ∷ fs) (g ∷ gs) p from once below =
     let k : ℕ = numbers_of_blocks f.blocks.items in
     let start : p.0.first_access ≡ n = from.0 in
     let blocks = subst (λ m. PlacedBlocks p.0.home m f.blocks.items g.blocks.items) start p.0.blocks in
-    let few = λ (b : ℕ) (block : Block) (at : slice_get f.blocks.items b ≡ Some block). few_lines p.0.home p.0.live (needed block.exit block.lines.items) block.exit (needed_valid p.0.home p.0.live block.exit block.lines.items (p.0.valid b block at)) in
+    let few = λ (b : ℕ) (block : Block) (at : slice_get f.blocks.items b ≡ Some block). few_lines p.0.home p.0.live block.lines.items block.exit (p.0.valid b block at) in
     let one = fresh_blocks p.0.home n f.blocks.items g.blocks.items blocks few (split_left own old once) (below_left own old n below) in
     let rest = fresh_functions (n + k) fs gs p.1 from.2 (split_right own old once) (below_more old n (n + k) (omega arith) (below_right own old n below)) in
     let both = fresh_join own old (accesses_of_blocks g.blocks.items) (accesses_of_functions gs) n (n + k) (n + k + numbers_of fs) (omega arith) (omega arith) once below one rest in

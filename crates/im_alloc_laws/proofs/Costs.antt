@@ -11,9 +11,8 @@ use Rattle.im_block.specs.declared.code.Block.{Block}
 use Rattle.im_block.specs.declared.unit.Function.{Function}
 use Rattle.im_block.specs.declared.unit.Unit.{Unit as Code}
 use Rattle.im_block.specs.Shape.{sum_of, with_cut, place_registers, cost, exit_words, exit_cost, block_cost, function_cost, placed_block_cost, placed_cost}
-use Rattle.im_alloc_relation.specs.Homes.{Home, InRegister, InSlot, numbers_kept, load, reg, save, into, give, bring, load_place, on_place, put_line, needed, put_lines, exit_lines, put_exit}
+use Rattle.im_alloc_relation.specs.Homes.{Home, InRegister, InSlot, numbers_kept, load, reg, save, into, give, bring, load_place, on_place, put_line, put_lines, exit_lines, put_exit}
 use Rattle.im_alloc_relation.specs.Placing.{PlacedBlock, PlacedBlocks, PlacedFunctions, IsPlaced}
-use Rattle.im_alloc_laws.proofs.Needed.{needed_cost}
 
 abbrev words : List Line → ℕ
 words lines = sum_of with_cut lines
@@ -117,11 +116,10 @@ exit_cost_kept h n (Return (Some r)) = let w = into_words (h r) 10 n [] in omega
 
 block_words : (h : ℕ → Home) (n : ℕ) (x y : Block) → PlacedBlock h n x y → placed_block_cost y ≤ block_cost x
 block_words h n x y p =
-    let m : ℕ = n + numbers_kept * length (needed x.exit x.lines.items) in
-    let a = lines_words h n (needed x.exit x.lines.items) (exit_lines h m x.exit) in
+    let m : ℕ = n + numbers_kept * length x.lines.items in
+    let a = lines_words h n x.lines.items (exit_lines h m x.exit) in
     let b = exit_cost_kept h m x.exit in
-    let e : words y.lines.items ≡ words (put_lines h n (needed x.exit x.lines.items) (exit_lines h m x.exit)) = ap words p.lines in
-    let less = needed_cost x.exit x.lines.items in
+    let e : words y.lines.items ≡ words (put_lines h n x.lines.items (exit_lines h m x.exit)) = ap words p.lines in
     let f : exit_words y.exit ≡ exit_words (put_exit h x.exit) = ap exit_words p.exit in
     omega arith
 
@@ -131,7 +129,7 @@ blocks_words h n [] (y ∷ ys) p = absurd p
 blocks_words h n (x ∷ xs) [] p = absurd p
 blocks_words h n (x ∷ xs) (y ∷ ys) p =
     let a = block_words h n x y p.0 in
-    let b = blocks_words h (n + numbers_kept * suc (length (needed x.exit x.lines.items))) xs ys p.1 in
+    let b = blocks_words h (n + numbers_kept * suc (length x.lines.items)) xs ys p.1 in
     omega arith
 
 functions_words : (fs gs : List Function) → PlacedFunctions fs gs → sum_of placed_cost gs ≤ sum_of function_cost fs

@@ -12,10 +12,9 @@ use Rattle.im_block.specs.declared.unit.Unit.{Unit as Code}
 use Rattle.im_block.specs.Paths.{IsCut}
 use Rattle.im_block.specs.Forced.{StartsWithCut}
 use Rattle.im_alloc_placed.specs.Apart.{CutsApart, AllApart}
-use Rattle.im_alloc_relation.specs.Homes.{Home, InRegister, InSlot, numbers_kept, load, reg, save, into, give, bring, load_place, on_place, put_line, needed, put_lines, exit_lines}
+use Rattle.im_alloc_relation.specs.Homes.{Home, InRegister, InSlot, numbers_kept, load, reg, save, into, give, bring, load_place, on_place, put_line, put_lines, exit_lines}
 use Rattle.im_alloc_relation.specs.Placing.{ValidLine, Valid, IsPlaced}
 use Rattle.im_alloc_laws.proofs.Carried.{IsPlain, Carries, carried, carried_load, carried_into}
-use Rattle.im_alloc_laws.proofs.Needed.{needed_apart, needed_valid}
 use Rattle.im_alloc_laws.proofs.Pieces.{made, of_old}
 
 abbrev Uncut : List Line → Type 0
@@ -124,7 +123,7 @@ apart u v p a = record {
       let o = of_old u.functions.items v.functions.items i g p.functions at in
       let f = o.placed in
       let m = made f.home f.first_access o.old.blocks.items g.blocks.items b y f.blocks there in
-      let k : ℕ = m.number + numbers_kept * length (needed m.old.exit m.old.lines.items) in
+      let k : ℕ = m.number + numbers_kept * length m.old.lines.items in
       subst CutsApart (sym m.placed.lines)
-      (apart_lines f.home f.live m.number (needed m.old.exit m.old.lines.items) (exit_lines f.home k m.old.exit) m.old.exit (needed_valid f.home f.live m.old.exit m.old.lines.items (f.valid b m.old m.at)) (needed_apart m.old.exit m.old.lines.items (a.each i o.old b m.old o.at m.at)) (uncut_exit f.home k m.old.exit) (apart_exit f.home k m.old.exit));
+      (apart_lines f.home f.live m.number m.old.lines.items (exit_lines f.home k m.old.exit) m.old.exit (f.valid b m.old m.at) (a.each i o.old b m.old o.at m.at) (uncut_exit f.home k m.old.exit) (apart_exit f.home k m.old.exit));
 }

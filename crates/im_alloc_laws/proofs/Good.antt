@@ -14,9 +14,8 @@ use Rattle.im_block.specs.declared.unit.Function.{Function}
 use Rattle.im_alloc_placed.specs.Operands.{IsHome, PlaceExists, PlaceAtHome}
 use Rattle.im_alloc_placed.specs.Placed.{IsPlacedLine, IsPlacedExit, IsPlacedBlock}
 use Rattle.im_alloc_placed.specs.Placeable.{IsPlaceableLine}
-use Rattle.im_alloc_relation.specs.Homes.{Home, InRegister, InSlot, numbers_kept, load, reg, save, into, give, bring, load_place, on_place, put_line, needed, put_lines, exit_lines, put_exit}
+use Rattle.im_alloc_relation.specs.Homes.{Home, InRegister, InSlot, numbers_kept, load, reg, save, into, give, bring, load_place, on_place, put_line, put_lines, exit_lines, put_exit}
 use Rattle.im_alloc_relation.specs.Placing.{PlacedBlock, PlacedBlocks}
-use Rattle.im_alloc_laws.proofs.Needed.{needed_all}
 
 -- what is known of homes
 pub record Homes (h : ℕ → Home) (limit : ℕ) : Type 0 where
@@ -181,9 +180,9 @@ module _ (statics : ℕ) (f g : Function) (h : ℕ → Home) (homes : Homes h g.
 
   good_block : (n : ℕ) (x y : Block) → PlacedBlock h n x y → All (IsPlaceableLine statics f) x.lines.items → IsPlacedBlock statics g y
   good_block n x y p q =
-      let m : ℕ = n + numbers_kept * length (needed x.exit x.lines.items) in
+      let m : ℕ = n + numbers_kept * length x.lines.items in
       record {
-        lines = subst (λ l. All (IsPlacedLine statics g) l) (sym p.lines) (good_lines n (needed x.exit x.lines.items) (exit_lines h m x.exit) (needed_all x.exit (IsPlaceableLine statics f) x.lines.items q) (good_exit_lines m x.exit));
+        lines = subst (λ l. All (IsPlacedLine statics g) l) (sym p.lines) (good_lines n x.lines.items (exit_lines h m x.exit) q (good_exit_lines m x.exit));
         exit = subst IsPlacedExit (sym p.exit) (good_exit x.exit);
       }
 
@@ -192,4 +191,4 @@ module _ (statics : ℕ) (f g : Function) (h : ℕ → Home) (homes : Homes h g.
   good_blocks n [] (y ∷ ys) p q = absurd p
   good_blocks n (x ∷ xs) [] p q = absurd p
   good_blocks n (x ∷ xs) (y ∷ ys) p q =
-      All-cons (IsPlacedBlock statics g) y ys (good_block n x y p.0 (q 0 x refl)) (good_blocks (n + numbers_kept * suc (length (needed x.exit x.lines.items))) xs ys p.1 (λ b block at. q (suc b) block at))
+      All-cons (IsPlacedBlock statics g) y ys (good_block n x y p.0 (q 0 x refl)) (good_blocks (n + numbers_kept * suc (length x.lines.items)) xs ys p.1 (λ b block at. q (suc b) block at))

@@ -11,10 +11,9 @@ use Rattle.im_block.specs.declared.unit.Unit.{Unit as Code}
 use Rattle.im_block.specs.Shape.{Descends, IsOrdered, AllOrdered}
 use Rattle.im_block.specs.Paths.{IsCut}
 use Rattle.im_block.specs.Forced.{StartsWithCut, EndsWithCut, CutAfterCalls, CutAtTurn, IsForced, AllForced}
-use Rattle.im_alloc_relation.specs.Homes.{Home, InRegister, InSlot, numbers_kept, give, put_line, needed, put_lines, exit_lines, put_exit}
+use Rattle.im_alloc_relation.specs.Homes.{Home, InRegister, InSlot, numbers_kept, give, put_line, put_lines, exit_lines, put_exit}
 use Rattle.im_alloc_relation.specs.Placing.{PlacedBlocks, PlacedFunction, PlacedFunctions, IsPlaced}
 use Rattle.im_alloc_laws.proofs.Carried.{IsPlain, Carries, carried, carried_load, carried_into}
-use Rattle.im_alloc_laws.proofs.Needed.{needed_starts, needed_ends}
 use Rattle.im_alloc_laws.proofs.Pieces.{put_app, made, of_old}
 
 -- edges
@@ -120,9 +119,9 @@ calls_exit h n (Branch on a b) = carried_load Any CutAfterCalls calls_carried (h
 calls_exit h n (Return None) = tt
 calls_exit h n (Return (Some r)) = carried_into Any CutAfterCalls calls_carried (h r) 10 n [] tt
 
-turn : (h : ℕ → Home) (n m : ℕ) (exit : Exit) (lines : List Line) → CutAtTurn exit lines → CutAtTurn (put_exit h exit) (put_lines h n (needed exit lines) (exit_lines h m exit))
+turn : (h : ℕ → Home) (n m : ℕ) (exit : Exit) (lines : List Line) → CutAtTurn exit lines → CutAtTurn (put_exit h exit) (put_lines h n lines (exit_lines h m exit))
 turn h n m (Jump b) lines e = tt
-turn h n m (Turn b) lines e = ends h n (needed (Turn b) lines) (needed_ends b lines e)
+turn h n m (Turn b) lines e = ends h n lines e
 turn h n m (Branch on a b) lines e = tt
 turn h n m (Return from) lines e = tt
 
@@ -132,14 +131,14 @@ function_forced f g p o = record {
       let m = made p.home p.first_access f.blocks.items g.blocks.items g.entry y p.blocks at in
       let same : g.entry ≡ f.entry = ap (λ (k : Function). k.entry) p.rest in
       let there : slice_get f.blocks.items f.entry ≡ Some m.old = subst (λ e. slice_get f.blocks.items e ≡ Some m.old) same m.at in
-      subst StartsWithCut (sym m.placed.lines) (starts p.home m.number (needed m.old.exit m.old.lines.items) (exit_lines p.home (m.number + numbers_kept * length (needed m.old.exit m.old.lines.items)) m.old.exit) (needed_starts m.old.exit m.old.lines.items (o.entry m.old there)));
+      subst StartsWithCut (sym m.placed.lines) (starts p.home m.number m.old.lines.items (exit_lines p.home (m.number + numbers_kept * length m.old.lines.items) m.old.exit) (o.entry m.old there));
   calls = λ b y at.
       let m = made p.home p.first_access f.blocks.items g.blocks.items b y p.blocks at in
-      let k : ℕ = m.number + numbers_kept * length (needed m.old.exit m.old.lines.items) in
-      subst CutAfterCalls (sym m.placed.lines) (calls_lines p.home m.number (needed m.old.exit m.old.lines.items) (exit_lines p.home k m.old.exit) (calls_exit p.home k m.old.exit));
+      let k : ℕ = m.number + numbers_kept * length m.old.lines.items in
+      subst CutAfterCalls (sym m.placed.lines) (calls_lines p.home m.number m.old.lines.items (exit_lines p.home k m.old.exit) (calls_exit p.home k m.old.exit));
   turns = λ b y at.
       let m = made p.home p.first_access f.blocks.items g.blocks.items b y p.blocks at in
-      let k : ℕ = m.number + numbers_kept * length (needed m.old.exit m.old.lines.items) in
+      let k : ℕ = m.number + numbers_kept * length m.old.lines.items in
       subst (λ e. CutAtTurn e y.lines.items) (sym m.placed.exit) (subst (CutAtTurn (put_exit p.home m.old.exit)) (sym m.placed.lines) (turn p.home m.number k m.old.exit m.old.lines.items (o.turns b m.old m.at)));
 }
 

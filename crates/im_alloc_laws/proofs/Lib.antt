@@ -4,7 +4,6 @@ pub mod Costs
 pub mod Cuts
 pub mod Good
 pub mod Kept
-pub mod Needed
 pub mod Numbers
 pub mod Pieces
 pub mod Settled

@@ -8,7 +8,7 @@ use Rattle.im_block.specs.declared.code.Line.{Line}
 use Rattle.im_block.specs.declared.code.Line.TheVariants.{Put, PutNull, Copy, Convert, Unary, Not, Compute, Compare, Move, Distance, Address, Read, Write, Reload, Spill, Cut, Call, GetChar, PutChar}
 use Rattle.im_block.specs.declared.code.Block.{Block}
 use Rattle.im_block.specs.declared.unit.Function.{Function}
-use Rattle.im_alloc_relation.specs.Homes.{Home, InRegister, InSlot, numbers_kept, load, reg, save, into, give, bring, load_place, on_place, put_line, needed}
+use Rattle.im_alloc_relation.specs.Homes.{Home, InRegister, InSlot, numbers_kept, load, reg, save, into, give, bring, load_place, on_place, put_line}
 use Rattle.im_alloc_relation.specs.Placing.{PlacedBlock, PlacedBlocks, PlacedFunction, PlacedFunctions}
 
 save_app : (home : Home) (a : ℕ) (rest : List Line) → save home a rest ≡ save home a [] ++ rest
@@ -94,7 +94,7 @@ made h n (x ∷ xs) (z ∷ ys) zero y p e =
     let one : z ≡ y = cc in
     record { old = x; at = refl; number = n; placed = subst (PlacedBlock h n x) one p.0 }
 made h n (x ∷ xs) (z ∷ ys) (suc b) y p e =
-    let m = made h (n + numbers_kept * suc (length (needed x.exit x.lines.items))) xs ys b y p.1 e in
+    let m = made h (n + numbers_kept * suc (length x.lines.items)) xs ys b y p.1 e in
     record { old = m.old; at = m.at; number = m.number; placed = m.placed }
 
 pub record OfOld (fs : List Function) (i : ℕ) (g : Function) : Type 0 where

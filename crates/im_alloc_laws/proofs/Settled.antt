@@ -7,11 +7,10 @@ use Rattle.im_block.specs.declared.code.Block.{Block}
 use Rattle.im_block.specs.declared.unit.Function.{Function}
 use Rattle.im_block.specs.declared.unit.Unit.{Unit as Code}
 use Rattle.im_block.specs.Uncut.{WithCuts, Empty, Same, Added, SameBlock, SameBlocks, SameFunction, SameFunctions, SameButCuts}
-use Rattle.im_alloc_relation.specs.Homes.{numbers_kept, needed, put_lines, exit_lines, put_exit}
+use Rattle.im_alloc_relation.specs.Homes.{numbers_kept, put_lines, exit_lines, put_exit}
 use Rattle.im_alloc_relation.specs.Live.{uses, sets, lives}
 use Rattle.im_alloc_relation.specs.Placing.{PlacedFunction, PlacedFunctions, IsPlaced}
 use Rattle.im_alloc_relation.specs.Settled.{SettlesCalls, IsSettledFunction, IsSettled}
-use Rattle.im_alloc_laws.proofs.Needed.{needed_lives, needed_valid}
 use Rattle.im_alloc_laws.proofs.Pieces.{made}
 use Rattle.im_alloc_laws.proofs.Settling.{Held, lines_live, lines_settle, exit_held, exit_settles}
 
@@ -24,18 +23,18 @@ module _ (f g : Function) (p : PlacedFunction f g) where
   block_closed : (b : ℕ) (block : Block) (r : ℕ) → slice_get g.blocks.items b ≡ Some block → lives p.wanted block.lines.items block.exit r ≡ true → p.wanted b r ≡ true
   block_closed b block r at w =
       let m = made p.home p.first_access f.blocks.items g.blocks.items b block p.blocks at in
-      let n : ℕ = m.number + numbers_kept * length (needed m.old.exit m.old.lines.items) in
-      let w' : lives p.wanted (put_lines p.home m.number (needed m.old.exit m.old.lines.items) (exit_lines p.home n m.old.exit)) (put_exit p.home m.old.exit) r ≡ true =
+      let n : ℕ = m.number + numbers_kept * length m.old.lines.items in
+      let w' : lives p.wanted (put_lines p.home m.number m.old.lines.items (exit_lines p.home n m.old.exit)) (put_exit p.home m.old.exit) r ≡ true =
       subst (λ z. lives p.wanted z (put_exit p.home m.old.exit) r ≡ true) m.placed.lines (subst (λ z. lives p.wanted block.lines.items z r ≡ true) m.placed.exit w) in
-      let k = lines_live p.wanted p.home (put_exit p.home m.old.exit) p.live m.old.exit m.number (needed m.old.exit m.old.lines.items) (exit_lines p.home n m.old.exit) (exit_held p.wanted p.live p.home n m.old.exit held_at) (needed_valid p.home p.live m.old.exit m.old.lines.items (p.valid b m.old m.at)) r w' in
-      p.held b k.0 r (p.closed b m.old k.0 m.at (sym (needed_lives p.live m.old.exit m.old.lines.items k.0) ∙ k.1)) k.2
+      let k = lines_live p.wanted p.home (put_exit p.home m.old.exit) p.live m.old.exit m.number m.old.lines.items (exit_lines p.home n m.old.exit) (exit_held p.wanted p.live p.home n m.old.exit held_at) (p.valid b m.old m.at) r w' in
+      p.held b k.0 r (p.closed b m.old k.0 m.at k.1) k.2
 
   block_settled : (b : ℕ) (block : Block) → slice_get g.blocks.items b ≡ Some block → SettlesCalls p.wanted block.lines.items block.exit
   block_settled b block at =
       let m = made p.home p.first_access f.blocks.items g.blocks.items b block p.blocks at in
-      let n : ℕ = m.number + numbers_kept * length (needed m.old.exit m.old.lines.items) in
-      let k = lines_settle p.wanted p.home (put_exit p.home m.old.exit) p.live m.old.exit m.number (needed m.old.exit m.old.lines.items) (exit_lines p.home n m.old.exit) (exit_held p.wanted p.live p.home n m.old.exit held_at) (exit_settles p.wanted p.home n m.old.exit) (needed_valid p.home p.live m.old.exit m.old.lines.items (p.valid b m.old m.at)) in
-      subst (λ z. SettlesCalls p.wanted z block.exit) (sym m.placed.lines) (subst (λ z. SettlesCalls p.wanted (put_lines p.home m.number (needed m.old.exit m.old.lines.items) (exit_lines p.home n m.old.exit)) z) (sym m.placed.exit) k)
+      let n : ℕ = m.number + numbers_kept * length m.old.lines.items in
+      let k = lines_settle p.wanted p.home (put_exit p.home m.old.exit) p.live m.old.exit m.number m.old.lines.items (exit_lines p.home n m.old.exit) (exit_held p.wanted p.live p.home n m.old.exit held_at) (exit_settles p.wanted p.home n m.old.exit) (p.valid b m.old m.at) in
+      subst (λ z. SettlesCalls p.wanted z block.exit) (sym m.placed.lines) (subst (λ z. SettlesCalls p.wanted (put_lines p.home m.number m.old.lines.items (exit_lines p.home n m.old.exit)) z) (sym m.placed.exit) k)
 
   entered_at : (r : ℕ) → p.wanted g.entry r ≡ true → (10 ≤ r) × (r < 10 + g.parameters)
   entered_at r w =

@@ -18,13 +18,12 @@ use Rattle.im_block.specs.Wellformed.{HasCells, PlaceWithin, LineWithin, ExitWit
 use Rattle.im_alloc_placed.specs.Operands.{PlaceAtHome}
 use Rattle.im_alloc_placed.specs.Placed.{IsPlacedLine, IsPlacedExit, IsPlacedBlock, IsPlacedFunction, IsPlacedCode}
 use Rattle.im_alloc_placed.specs.Placeable.{object_need, IsPlaceableFunction, IsPlaceable}
-use Rattle.im_alloc_relation.specs.Homes.{Home, InRegister, InSlot, numbers_kept, give, put_line, needed, put_lines, exit_lines, put_exit}
+use Rattle.im_alloc_relation.specs.Homes.{Home, InRegister, InSlot, numbers_kept, give, put_line, put_lines, exit_lines, put_exit}
 use Rattle.im_alloc_relation.specs.Placing.{PlacedBlock, PlacedBlocks, PlacedFunction, PlacedFunctions}
 use Rattle.im_alloc_laws.specs.Numbered.{numbers_of_blocks, PlacedFrom, IsWellPlaced}
 use Rattle.im_alloc_laws.proofs.Accesses.{accesses_apart}
 use Rattle.im_alloc_laws.proofs.Carried.{IsPlain, Carries, carried, carried_load, carried_into}
 use Rattle.im_alloc_laws.proofs.Good.{Homes, SameObjects, good_blocks}
-use Rattle.im_alloc_laws.proofs.Needed.{needed_all}
 use Rattle.im_alloc_laws.proofs.Pieces.{of_old}
 
 -- the forms that selection has
@@ -112,7 +111,7 @@ blocks_length : (h : ℕ → Home) (n : ℕ) (xs ys : List Block) → PlacedBloc
 blocks_length h n [] [] p = refl
 blocks_length h n [] (y ∷ ys) p = absurd p
 blocks_length h n (x ∷ xs) [] p = absurd p
-blocks_length h n (x ∷ xs) (y ∷ ys) p = ap suc (blocks_length h (n + numbers_kept * suc (length (needed x.exit x.lines.items))) xs ys p.1)
+blocks_length h n (x ∷ xs) (y ∷ ys) p = ap suc (blocks_length h (n + numbers_kept * suc (length x.lines.items)) xs ys p.1)
 
 takes_kept : (fs gs : List Function) (i count : ℕ) → PlacedFunctions fs gs → Takes (slice_get fs i) count → Takes (slice_get gs i) count
 takes_kept [] [] i count p t = absurd t
@@ -171,11 +170,11 @@ module _ (fs gs : List Function) (all : PlacedFunctions fs gs) where
 
   block_whole : (statics : ℕ) (f g : Function) (h : ℕ → Home) (n : ℕ) (x y : Block) → length g.blocks.items ≡ length f.blocks.items → g.register_count ≡ 32 → PlacedBlock h n x y → IsPlacedBlock statics g y → IsBlock fs f x → IsBlock gs g y
   block_whole statics f g h n x y count registers p good b =
-      let m : ℕ = n + numbers_kept * length (needed x.exit x.lines.items) in
+      let m : ℕ = n + numbers_kept * length x.lines.items in
       record {
         lines_within = subst (λ k. All (LineWithin k) y.lines.items) (sym registers) (All-weaker (IsPlacedLine statics g) (LineWithin 32) (within statics g) y.lines.items good.lines);
         exit_within = subst (λ k. ExitWithin k y.exit) (sym registers) (exit_within y.exit good.exit);
-        lines_there = subst (λ l. All There l) (sym p.lines) (there_lines h n (needed x.exit x.lines.items) (exit_lines h m x.exit) (needed_all x.exit There x.lines.items (All-weaker (LineThere fs) There line_there x.lines.items b.lines_there)) (there_exit h m x.exit));
+        lines_there = subst (λ l. All There l) (sym p.lines) (there_lines h n x.lines.items (exit_lines h m x.exit) (All-weaker (LineThere fs) There line_there x.lines.items b.lines_there) (there_exit h m x.exit));
         exit_there = subst (λ k. ExitThere k y.exit) (sym count) (subst (ExitThere (length f.blocks.items)) (sym p.exit) (exit_there h (length f.blocks.items) x.exit b.exit_there));
       }
 
@@ -186,7 +185,7 @@ module _ (fs gs : List Function) (all : PlacedFunctions fs gs) where
   blocks_whole statics f g h n (x ∷ xs) (y ∷ ys) count registers p good b =
       All-cons (IsBlock gs g) y ys
       (block_whole statics f g h n x y count registers p.0 (All-head (IsPlacedBlock statics g) y ys good) (All-head (IsBlock fs f) x xs b))
-      (blocks_whole statics f g h (n + numbers_kept * suc (length (needed x.exit x.lines.items))) xs ys count registers p.1 (All-tail (IsPlacedBlock statics g) y ys good) (All-tail (IsBlock fs f) x xs b))
+      (blocks_whole statics f g h (n + numbers_kept * suc (length x.lines.items)) xs ys count registers p.1 (All-tail (IsPlacedBlock statics g) y ys good) (All-tail (IsBlock fs f) x xs b))
 
   function_whole : (statics : ℕ) (f g : Function) → PlacedFunction f g → IsPlacedFunction statics g → IsFunction fs f → IsFunction gs g
   function_whole statics f g p good h =

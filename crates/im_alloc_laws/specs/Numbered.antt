@@ -5,13 +5,13 @@ use Rattle.im_block.specs.declared.unit.Function.{Function}
 use Rattle.im_block.specs.declared.unit.Unit.{Unit as Code}
 use Rattle.im_block.specs.Sections.{Has}
 use Rattle.im_block.specs.Wellformed.{accesses_of_functions}
-use Rattle.im_alloc_relation.specs.Homes.{numbers_kept, needed}
+use Rattle.im_alloc_relation.specs.Homes.{numbers_kept}
 use Rattle.im_alloc_relation.specs.Placing.{PlacedFunctions, IsPlaced}
 
--- so many for each line that is put, and as many for an exit
+-- so many for each line, and as many for an exit
 abbrev pub numbers_of_blocks : List Block → ℕ
 numbers_of_blocks [] = 0
-numbers_of_blocks (block ∷ blocks) = numbers_kept * suc (length (needed block.exit block.lines.items)) + numbers_of_blocks blocks
+numbers_of_blocks (block ∷ blocks) = numbers_kept * suc (length block.lines.items) + numbers_of_blocks blocks
 
 -- function by function, with numbers from n on, and at most a slot for each register
 abbrev pub PlacedFrom : (n : ℕ) (fs gs : List Function) → PlacedFunctions fs gs → Type 0

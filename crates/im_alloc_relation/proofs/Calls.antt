@@ -18,7 +18,7 @@ use Rattle.im_block.specs.declared.unit.Unit.{Unit as Code}
 use Rattle.im_block.specs.Wellformed.{Takes}
 use Rattle.im_block.specs.Meaning.{Setting, Active, Spot, Event, Tests, Saves, Serves, Cuts, Frame, State, Next, Goes, Stops, on_checked, takes, found, slot_shape, shapes_of, number_of, statics_of, ended, begun_by, passed, kept, kept_by, with_register, at_block, activates, next_active, enters, waiting, served, gets, puts, does, step}
 use Rattle.im_block.specs.Runs.{goes_on, exec, uncut}
-use Rattle.im_alloc_relation.specs.Homes.{Home, InRegister, InSlot, numbers_kept, into, give, bring, put_line, past_cut, needed, put_lines, exit_lines, put_exit}
+use Rattle.im_alloc_relation.specs.Homes.{Home, InRegister, InSlot, numbers_kept, into, give, bring, put_line, put_lines, exit_lines, put_exit}
 use Rattle.im_alloc_relation.specs.Live.{lives}
 use Rattle.im_alloc_relation.specs.Placing.{Survives, ValidLine, Valid, PlacedBlock, PlacedBlocks, PlacedFunction, PlacedFunctions, IsPlaced}
 use Rattle.im_alloc_relation.proofs.Seen.{Refines, refines_at, number_refines, is_slot}
@@ -58,7 +58,7 @@ placed_block h n [] [] b block p e = absurd cc
 placed_block h n [] (y ∷ ys) b block p e = absurd p
 placed_block h n (x ∷ xs) [] b block p e = absurd p
 placed_block h n (x ∷ xs) (y ∷ ys) zero block p e = (n, y, refl, let k : x ≡ block = cc in subst (λ z. PlacedBlock h n z y) k p.0)
-placed_block h n (x ∷ xs) (y ∷ ys) (suc b) block p e = placed_block h (n + numbers_kept * suc (length (needed x.exit x.lines.items))) xs ys b block p.1 e
+placed_block h n (x ∷ xs) (y ∷ ys) (suc b) block p e = placed_block h (n + numbers_kept * suc (length x.lines.items)) xs ys b block p.1 e
 
 -- what the statics show
 cells_same : (cells : List Cell) (a b : ℕ → Value) → ((i : ℕ) → b i ≡ a i) → cells_shown b cells ≡ cells_shown a cells
@@ -181,13 +181,13 @@ BlocksThere u = (i b : ℕ) (f : Function) (block : Block) → slice_get u.funct
 
 -- where a block is placed
 abbrev pub placed_spot : (ℕ → Home) → ℕ → ℕ → Block → Spot
-placed_spot h m b block = record { block = b; rest = put_lines h m (needed block.exit block.lines.items) (exit_lines h (m + numbers_kept * length (needed block.exit block.lines.items)) block.exit); exit = put_exit h block.exit }
+placed_spot h m b block = record { block = b; rest = put_lines h m block.lines.items (exit_lines h (m + numbers_kept * length block.lines.items) block.exit); exit = put_exit h block.exit }
 
 pub spot_is : (h : ℕ → Home) (m : ℕ) (block new : Block) (b c : ℕ) → c ≡ b → PlacedBlock h m block new → at_block c new ≡ placed_spot h m b block
 spot_is h m block new b c e p =
     ap (λ (z : ℕ). let r : Spot = record { block = z; rest = new.lines.items; exit = new.exit } in r) e
     ∙ ap (λ (z : List Line). let r : Spot = record { block = b; rest = z; exit = new.exit } in r) p.lines
-    ∙ ap (λ (z : Exit). let r : Spot = record { block = b; rest = put_lines h m (needed block.exit block.lines.items) (exit_lines h (m + numbers_kept * length (needed block.exit block.lines.items)) block.exit); exit = z } in r) p.exit
+    ∙ ap (λ (z : Exit). let r : Spot = record { block = b; rest = put_lines h m block.lines.items (exit_lines h (m + numbers_kept * length block.lines.items) block.exit); exit = z } in r) p.exit
 
 abbrev enters_at : ℕ → Spot → Active → (ℕ → Value) → List Frame → Store → ℕ → State → State
 enters_at i spot active registers callers store fuel s = record {
@@ -228,13 +228,11 @@ entered u v there s i fuel first first' count active registers y y0 z lines exit
         is_g = is_g;
         pf = pf;
         n = p.0;
-        e = p.0 + numbers_kept * length (needed block.exit block.lines.items);
+        e = p.0 + numbers_kept * length block.lines.items;
         y = passed 10 first' count y;
         z = 0;
         xs = xs;
         st = st2;
-        left = needed block.exit block.lines.items;
-        put = inl refl;
         is = refl;
         valid = pf.valid f.entry block at;
         there = there i f.entry f block is_f at;
@@ -285,12 +283,12 @@ pub loses_all : (u v : Code) (s : State) (k : Known u v s) (registers : ℕ → 
 loses_all u v s k registers = ap (λ o. kept_by o registers) k.is_g ∙ ap (λ (q : Function). kept q.registers registers) k.pf.rest
 
 -- a call
-pub call_after : (u v : Code) → BlocksThere u → IsPlaced u v → (g : Setting) (s : State) (k : Known u v s) (n e to i first count : ℕ) (rest : List Line) (y : ℕ → Value) (z : ℕ) (xs : List Frame) (st : Store) → ValidLine k.pf.home (Call to i first count) (lives k.pf.live rest s.frame.spot.exit) → Valid k.pf.home k.pf.live rest s.frame.spot.exit → Takes (slice_get u.functions.items i) count → AllThere u rest → Held u v s k.pf.home (lives k.pf.live (Call to i first count ∷ rest) s.frame.spot.exit) y xs st → After u v g (twin s (put_line k.pf.home n (Call to i first count) (put_lines k.pf.home (n + numbers_kept) (past_cut s.frame.spot.exit (needed s.frame.spot.exit rest)) (exit_lines k.pf.home e s.frame.spot.exit))) (put_exit k.pf.home s.frame.spot.exit) y z xs st) (does u g (Call to i first count) rest s)
+pub call_after : (u v : Code) → BlocksThere u → IsPlaced u v → (g : Setting) (s : State) (k : Known u v s) (n e to i first count : ℕ) (rest : List Line) (y : ℕ → Value) (z : ℕ) (xs : List Frame) (st : Store) → ValidLine k.pf.home (Call to i first count) (lives k.pf.live rest s.frame.spot.exit) → Valid k.pf.home k.pf.live rest s.frame.spot.exit → Takes (slice_get u.functions.items i) count → AllThere u rest → Held u v s k.pf.home (lives k.pf.live (Call to i first count ∷ rest) s.frame.spot.exit) y xs st → After u v g (twin s (put_line k.pf.home n (Call to i first count) (put_lines k.pf.home (n + numbers_kept) rest (exit_lines k.pf.home e s.frame.spot.exit))) (put_exit k.pf.home s.frame.spot.exit) y z xs st) (does u g (Call to i first count) rest s)
 call_after u v blocks pl g s k n e to i first count rest y z xs st okay valid takes_it there m =
     let h = k.pf.home in
     let after : ℕ → Bool = lives k.pf.live rest s.frame.spot.exit in
     let args : ℕ → Bool = λ q. nat_le first q && nat_lt q (first + count) in
-    let tail : List Line = Cut ReturnCut ∷ give (h to) (n + 2) (put_lines h (n + numbers_kept) (past_cut s.frame.spot.exit (needed s.frame.spot.exit rest)) (exit_lines h e s.frame.spot.exit)) in
+    let tail : List Line = Cut ReturnCut ∷ give (h to) (n + 2) (put_lines h (n + numbers_kept) rest (exit_lines h e s.frame.spot.exit)) in
     let one : Line = Call 10 i 10 count in
     let exit : Exit = put_exit h s.frame.spot.exit in
     let less : Held u v s h (without to after) y xs st = held_less u v s h _ (without to after) y xs st (λ q t. without_live (args q) q to after t) m in
@@ -336,11 +334,11 @@ takes_after u v g t zero output go go' e h = record { n = 1; ev = []; over = λ 
 takes_after u v g t (suc less) output go go' e h = h less e
 
 -- a built-in function has given a value
-served_after : (u v : Code) (g : Setting) (s : State) (k : Known u v s) (n e to : ℕ) (b : Value) (rest : List Line) (input output : List ℕ) (fuel : ℕ) (t : State) (y : ℕ → Value) (z : ℕ) (xs : List Frame) (st : Store) → Survives k.pf.home to (lives k.pf.live rest s.frame.spot.exit) → Valid k.pf.home k.pf.live rest s.frame.spot.exit → AllThere u rest → step v g t ≡ served v g 10 b (Cut ReturnCut ∷ give (k.pf.home to) (n + 2) (put_lines k.pf.home (n + numbers_kept) (past_cut s.frame.spot.exit (needed s.frame.spot.exit rest)) (exit_lines k.pf.home e s.frame.spot.exit))) input output fuel (twin s [] (put_exit k.pf.home s.frame.spot.exit) y z xs st) → Held u v s k.pf.home (without to (lives k.pf.live rest s.frame.spot.exit)) y xs st → After u v g t (served u g to b rest input output fuel s)
+served_after : (u v : Code) (g : Setting) (s : State) (k : Known u v s) (n e to : ℕ) (b : Value) (rest : List Line) (input output : List ℕ) (fuel : ℕ) (t : State) (y : ℕ → Value) (z : ℕ) (xs : List Frame) (st : Store) → Survives k.pf.home to (lives k.pf.live rest s.frame.spot.exit) → Valid k.pf.home k.pf.live rest s.frame.spot.exit → AllThere u rest → step v g t ≡ served v g 10 b (Cut ReturnCut ∷ give (k.pf.home to) (n + 2) (put_lines k.pf.home (n + numbers_kept) rest (exit_lines k.pf.home e s.frame.spot.exit))) input output fuel (twin s [] (put_exit k.pf.home s.frame.spot.exit) y z xs st) → Held u v s k.pf.home (without to (lives k.pf.live rest s.frame.spot.exit)) y xs st → After u v g t (served u g to b rest input output fuel s)
 served_after u v g s k n e to b rest input output fuel t y z xs st okay valid there is m =
     let h = k.pf.home in
     let after : ℕ → Bool = lives k.pf.live rest s.frame.spot.exit in
-    let lines : List Line = put_lines h (n + numbers_kept) (past_cut s.frame.spot.exit (needed s.frame.spot.exit rest)) (exit_lines h e s.frame.spot.exit) in
+    let lines : List Line = put_lines h (n + numbers_kept) rest (exit_lines h e s.frame.spot.exit) in
     let tail : List Line = give (h to) (n + 2) lines in
     let exit : Exit = put_exit h s.frame.spot.exit in
     let lost : ℕ → Value = λ r. Unset in
@@ -384,8 +382,6 @@ served_after u v g s k n e to b rest input output fuel t y z xs st okay valid th
         z = z;
         xs = xs;
         st = sv.st';
-        left = past_cut s.frame.spot.exit (needed s.frame.spot.exit rest);
-        put = inr refl;
         is = refl;
         valid = valid;
         there = there;
@@ -394,26 +390,26 @@ served_after u v g s k n e to b rest input output fuel t y z xs st okay valid th
     }
 
 -- getchar
-pub get_after : (u v : Code) (g : Setting) (s : State) (k : Known u v s) (n e to : ℕ) (rest : List Line) (y : ℕ → Value) (z : ℕ) (xs : List Frame) (st : Store) → Survives k.pf.home to (lives k.pf.live rest s.frame.spot.exit) → Valid k.pf.home k.pf.live rest s.frame.spot.exit → AllThere u rest → Held u v s k.pf.home (lives k.pf.live (GetChar to ∷ rest) s.frame.spot.exit) y xs st → After u v g (twin s (put_line k.pf.home n (GetChar to) (put_lines k.pf.home (n + numbers_kept) (past_cut s.frame.spot.exit (needed s.frame.spot.exit rest)) (exit_lines k.pf.home e s.frame.spot.exit))) (put_exit k.pf.home s.frame.spot.exit) y z xs st) (does u g (GetChar to) rest s)
+pub get_after : (u v : Code) (g : Setting) (s : State) (k : Known u v s) (n e to : ℕ) (rest : List Line) (y : ℕ → Value) (z : ℕ) (xs : List Frame) (st : Store) → Survives k.pf.home to (lives k.pf.live rest s.frame.spot.exit) → Valid k.pf.home k.pf.live rest s.frame.spot.exit → AllThere u rest → Held u v s k.pf.home (lives k.pf.live (GetChar to ∷ rest) s.frame.spot.exit) y xs st → After u v g (twin s (put_line k.pf.home n (GetChar to) (put_lines k.pf.home (n + numbers_kept) rest (exit_lines k.pf.home e s.frame.spot.exit))) (put_exit k.pf.home s.frame.spot.exit) y z xs st) (does u g (GetChar to) rest s)
 get_after u v g s k n e to rest y z xs st okay valid there m =
     takes_after u v g t s.fuel s.output _ _ refl (λ fuel is. by fuel s.input is)
   where
     t : State
-    t = twin s (put_line k.pf.home n (GetChar to) (put_lines k.pf.home (n + numbers_kept) (past_cut s.frame.spot.exit (needed s.frame.spot.exit rest)) (exit_lines k.pf.home e s.frame.spot.exit))) (put_exit k.pf.home s.frame.spot.exit) y z xs st
+    t = twin s (put_line k.pf.home n (GetChar to) (put_lines k.pf.home (n + numbers_kept) rest (exit_lines k.pf.home e s.frame.spot.exit))) (put_exit k.pf.home s.frame.spot.exit) y z xs st
 
     less : Held u v s k.pf.home (without to (lives k.pf.live rest s.frame.spot.exit)) y xs st
     less = held_less u v s k.pf.home _ _ y xs st (λ q t. t) m
 
-    by : (fuel : ℕ) (input : List ℕ) → step v g t ≡ gets v g 10 (Cut ReturnCut ∷ give (k.pf.home to) (n + 2) (put_lines k.pf.home (n + numbers_kept) (past_cut s.frame.spot.exit (needed s.frame.spot.exit rest)) (exit_lines k.pf.home e s.frame.spot.exit))) input fuel t → After u v g t (gets u g to rest input fuel s)
+    by : (fuel : ℕ) (input : List ℕ) → step v g t ≡ gets v g 10 (Cut ReturnCut ∷ give (k.pf.home to) (n + 2) (put_lines k.pf.home (n + numbers_kept) rest (exit_lines k.pf.home e s.frame.spot.exit))) input fuel t → After u v g t (gets u g to rest input fuel s)
     by fuel [] is = served_after u v g s k n e to (Number (negsuc 0)) rest [] s.output fuel t y z xs st okay valid there is less
     by fuel (byte ∷ input) is = served_after u v g s k n e to (Number (pos byte)) rest input s.output fuel t y z xs st okay valid there is less
 
 -- putchar
-pub put_after : (u v : Code) (g : Setting) (s : State) (k : Known u v s) (n e to from : ℕ) (rest : List Line) (y : ℕ → Value) (z : ℕ) (xs : List Frame) (st : Store) → Survives k.pf.home to (lives k.pf.live rest s.frame.spot.exit) → Valid k.pf.home k.pf.live rest s.frame.spot.exit → AllThere u rest → Held u v s k.pf.home (lives k.pf.live (PutChar to from ∷ rest) s.frame.spot.exit) y xs st → After u v g (twin s (put_line k.pf.home n (PutChar to from) (put_lines k.pf.home (n + numbers_kept) (past_cut s.frame.spot.exit (needed s.frame.spot.exit rest)) (exit_lines k.pf.home e s.frame.spot.exit))) (put_exit k.pf.home s.frame.spot.exit) y z xs st) (does u g (PutChar to from) rest s)
+pub put_after : (u v : Code) (g : Setting) (s : State) (k : Known u v s) (n e to from : ℕ) (rest : List Line) (y : ℕ → Value) (z : ℕ) (xs : List Frame) (st : Store) → Survives k.pf.home to (lives k.pf.live rest s.frame.spot.exit) → Valid k.pf.home k.pf.live rest s.frame.spot.exit → AllThere u rest → Held u v s k.pf.home (lives k.pf.live (PutChar to from ∷ rest) s.frame.spot.exit) y xs st → After u v g (twin s (put_line k.pf.home n (PutChar to from) (put_lines k.pf.home (n + numbers_kept) rest (exit_lines k.pf.home e s.frame.spot.exit))) (put_exit k.pf.home s.frame.spot.exit) y z xs st) (does u g (PutChar to from) rest s)
 put_after u v g s k n e to from rest y z xs st okay valid there m =
     let h = k.pf.home in
     let after : ℕ → Bool = lives k.pf.live rest s.frame.spot.exit in
-    let tail : List Line = Cut ReturnCut ∷ give (h to) (n + 2) (put_lines h (n + numbers_kept) (past_cut s.frame.spot.exit (needed s.frame.spot.exit rest)) (exit_lines h e s.frame.spot.exit)) in
+    let tail : List Line = Cut ReturnCut ∷ give (h to) (n + 2) (put_lines h (n + numbers_kept) rest (exit_lines h e s.frame.spot.exit)) in
     let exit : Exit = put_exit h s.frame.spot.exit in
     let l : Loaded u v g s h (without to after) (s.frame.registers from) (into (h from) 10 n (PutChar 10 10 ∷ tail)) (PutChar 10 10 ∷ tail) exit 10 10 y z xs st =
     into_home u v g s h (without to after) (s.frame.registers from) (h from) 10 n (PutChar 10 10 ∷ tail) exit y z xs st
@@ -428,7 +424,7 @@ put_after u v g s k n e to from rest y z xs st okay valid there m =
     (is ∙ ap (λ q. on_checked q (λ c. puts v g 10 tail (nat_abs (wrap U8 c)) fuel t1)) (number_refines (s.frame.registers from) (l.y' 10) c l.value f)) l.held)))
   where
     by : (fuel byte : ℕ) (y1 : ℕ → Value) (t1 : State) (room : Bool) →
-        step v g t1 ≡ cond room (served v g 10 (Number (pos byte)) (Cut ReturnCut ∷ give (k.pf.home to) (n + 2) (put_lines k.pf.home (n + numbers_kept) (past_cut s.frame.spot.exit (needed s.frame.spot.exit rest)) (exit_lines k.pf.home e s.frame.spot.exit))) s.input (s.output ++ byte ∷ []) fuel (twin s [] (put_exit k.pf.home s.frame.spot.exit) y1 z xs st)) (served v g 10 (Number (negsuc 0)) (Cut ReturnCut ∷ give (k.pf.home to) (n + 2) (put_lines k.pf.home (n + numbers_kept) (past_cut s.frame.spot.exit (needed s.frame.spot.exit rest)) (exit_lines k.pf.home e s.frame.spot.exit))) s.input s.output fuel (twin s [] (put_exit k.pf.home s.frame.spot.exit) y1 z xs st)) →
+        step v g t1 ≡ cond room (served v g 10 (Number (pos byte)) (Cut ReturnCut ∷ give (k.pf.home to) (n + 2) (put_lines k.pf.home (n + numbers_kept) rest (exit_lines k.pf.home e s.frame.spot.exit))) s.input (s.output ++ byte ∷ []) fuel (twin s [] (put_exit k.pf.home s.frame.spot.exit) y1 z xs st)) (served v g 10 (Number (negsuc 0)) (Cut ReturnCut ∷ give (k.pf.home to) (n + 2) (put_lines k.pf.home (n + numbers_kept) rest (exit_lines k.pf.home e s.frame.spot.exit))) s.input s.output fuel (twin s [] (put_exit k.pf.home s.frame.spot.exit) y1 z xs st)) →
         Held u v s k.pf.home (without to (lives k.pf.live rest s.frame.spot.exit)) y1 xs st → After u v g t1 (cond room (served u g to (Number (pos byte)) rest s.input (s.output ++ byte ∷ []) fuel s) (served u g to (Number (negsuc 0)) rest s.input s.output fuel s))
     by fuel byte y1 t1 true is m1 = served_after u v g s k n e to (Number (pos byte)) rest s.input (s.output ++ byte ∷ []) fuel t1 y1 z xs st okay valid there is m1
     by fuel byte y1 t1 false is m1 = served_after u v g s k n e to (Number (negsuc 0)) rest s.input s.output fuel t1 y1 z xs st okay valid there is m1

@@ -1,5 +1,5 @@
 -- Each line that computes, reads or writes.
-use Rattle.std.proofs.Common.{◌≡◌, ◌≢◌, ◌⊎◌, ℕ, ◌+◌, inl, inr, Bool, true, false, cond, List, [], ◌∷◌, ◌++◌, Some, None, sym, ap, ◌∙◌, subst, refl, append_assoc, arith}
+use Rattle.std.proofs.Common.{◌≡◌, ◌≢◌, ℕ, ◌+◌, inl, inr, Bool, true, false, cond, List, [], ◌∷◌, ◌++◌, Some, None, sym, ap, ◌∙◌, subst, refl, append_assoc, arith}
 use Rattle.std.specs.Prelude.{◌==◌, ◌&&◌, ◌||◌, not, slice_get}
 use Rattle.std.proofs.lemmas.Bool.Decides.{nat_tests}
 use Rattle.im_num.specs.declared.kind.Kind.{Kind}
@@ -17,16 +17,12 @@ use Rattle.im_block.specs.declared.unit.Function.{Function}
 use Rattle.im_block.specs.declared.unit.Unit.{Unit as Code}
 use Rattle.im_block.specs.Meaning.{Setting, object_of, Location, location_of, located, place_of, Found, Left, left_in, read_place, write_place, stored, Event, Frame, State, Next, Goes, Stops, on_checked, with_register, with_rest, computes, step}
 use Rattle.im_block.specs.Runs.{Over, exec, uncut}
-use Rattle.im_alloc_relation.specs.Homes.{Home, InRegister, InSlot, numbers_kept, load, reg, save, load_place, on_place, past_cut, needed, put_lines, exit_lines, put_exit}
+use Rattle.im_alloc_relation.specs.Homes.{Home, InRegister, InSlot, numbers_kept, load, reg, save, load_place, on_place, put_lines, exit_lines, put_exit}
 use Rattle.im_alloc_relation.specs.Live.{lives, place_uses}
 use Rattle.im_alloc_relation.specs.Placing.{KeepsHomes, Valid, PlacedFunction}
 use Rattle.im_alloc_relation.proofs.Seen.{Refines, refines_at, fine_is, bad_fine, is_slot, Seen, test_seen, unless_seen, lives_seen, then_seen, further_refines}
 use Rattle.im_alloc_relation.proofs.Walks.{plus, heard, heard_first, heard_last, Walk, walk_none, walk_one, walk_join, twin, own_slot, at_home, AllThere, Held, truth, seen_all, Loaded, load_home}
 use Rattle.im_alloc_relation.proofs.Results.{without, Saved, save_home, callers_kept}
-
--- what is left to put of the lines that are left: all that are needed, without the first cut where a call was put before
-abbrev pub IsLeft : Exit → List Line → List Line → Type 0
-IsLeft exit rest left = (left ≡ needed exit rest) ⊎ (left ≡ past_cut exit (needed exit rest))
 
 pub record Twin (u v : Code) (s t : State) : Type 0 where
   pub f : Function
@@ -40,9 +36,7 @@ pub record Twin (u v : Code) (s t : State) : Type 0 where
   pub z : ℕ
   pub xs : List Frame
   pub st : Store
-  pub left : List Line
-  pub put : IsLeft s.frame.spot.exit s.frame.spot.rest left
-  pub is : t ≡ twin s (put_lines pf.home n left (exit_lines pf.home e s.frame.spot.exit)) (put_exit pf.home s.frame.spot.exit) y z xs st
+  pub is : t ≡ twin s (put_lines pf.home n s.frame.spot.rest (exit_lines pf.home e s.frame.spot.exit)) (put_exit pf.home s.frame.spot.exit) y z xs st
   pub valid : Valid pf.home pf.live s.frame.spot.rest s.frame.spot.exit
   pub there : AllThere u s.frame.spot.rest
   pub held : Held u v s pf.home (lives pf.live s.frame.spot.rest s.frame.spot.exit) y xs st
@@ -130,14 +124,14 @@ self q = grind (arith, nat_tests)
 
 -- what stands behind a line of the block, and the whole of it placed
 abbrev pub tail_of : {u v : Code} {s : State} (k : Known u v s) → ℕ → ℕ → List Line → List Line
-tail_of {u} {v} {s} k n e rest = put_lines k.pf.home (n + numbers_kept) (needed s.frame.spot.exit rest) (exit_lines k.pf.home e s.frame.spot.exit)
+tail_of {u} {v} {s} k n e rest = put_lines k.pf.home (n + numbers_kept) rest (exit_lines k.pf.home e s.frame.spot.exit)
 
 -- the end of a line that sets a register
-pub sets_ends : (u v : Code) (g : Setting) (s : State) (k : Known u v s) (nr e access : ℕ) (rest : List Line) (to : ℕ) (b x : Value) (t : State) (n : ℕ) (ev more : List Event) (y : ℕ → Value) (z : ℕ) (xs : List Frame) (st : Store) → Valid k.pf.home k.pf.live rest s.frame.spot.exit → AllThere u rest → KeepsHomes k.pf.home to (lives k.pf.live rest s.frame.spot.exit) → Walk v g n ev t (twin s (save (k.pf.home to) access (put_lines k.pf.home nr (needed s.frame.spot.exit rest) (exit_lines k.pf.home e s.frame.spot.exit))) (put_exit k.pf.home s.frame.spot.exit) (with_register y (reg (k.pf.home to) 7) x) z xs st) → heard ev ≡ uncut more → Refines b x → Held u v s k.pf.home (without to (lives k.pf.live rest s.frame.spot.exit)) y xs st → Went u v g t (record s { frame = record (with_rest s.frame rest) { registers = with_register s.frame.registers to b } }) more
+pub sets_ends : (u v : Code) (g : Setting) (s : State) (k : Known u v s) (nr e access : ℕ) (rest : List Line) (to : ℕ) (b x : Value) (t : State) (n : ℕ) (ev more : List Event) (y : ℕ → Value) (z : ℕ) (xs : List Frame) (st : Store) → Valid k.pf.home k.pf.live rest s.frame.spot.exit → AllThere u rest → KeepsHomes k.pf.home to (lives k.pf.live rest s.frame.spot.exit) → Walk v g n ev t (twin s (save (k.pf.home to) access (put_lines k.pf.home nr rest (exit_lines k.pf.home e s.frame.spot.exit))) (put_exit k.pf.home s.frame.spot.exit) (with_register y (reg (k.pf.home to) 7) x) z xs st) → heard ev ≡ uncut more → Refines b x → Held u v s k.pf.home (without to (lives k.pf.live rest s.frame.spot.exit)) y xs st → Went u v g t (record s { frame = record (with_rest s.frame rest) { registers = with_register s.frame.registers to b } }) more
 sets_ends u v g s k nr e access rest to b x t n ev more y z xs st valid there keeps walk told r m =
     let h = k.pf.home in
     let after : ℕ → Bool = lives k.pf.live rest s.frame.spot.exit in
-    let lines : List Line = put_lines h nr (needed s.frame.spot.exit rest) (exit_lines h e s.frame.spot.exit) in
+    let lines : List Line = put_lines h nr rest (exit_lines h e s.frame.spot.exit) in
     let sv : Saved u v g s h after to b (save (h to) access lines) lines (put_exit h s.frame.spot.exit) (with_register y (reg (h to) 7) x) z xs st =
     save_home u v g s h after to b x (h to) access lines (put_exit h s.frame.spot.exit) y z xs st refl keeps r m in
     let held = sv.held in
@@ -159,8 +153,6 @@ sets_ends u v g s k nr e access rest to b x t n ev more y z xs st valid there ke
         z = z;
         xs = xs;
         st = sv.st';
-        left = needed s.frame.spot.exit rest;
-        put = inl refl;
         is = refl;
         valid = valid;
         there = there;
@@ -169,10 +161,10 @@ sets_ends u v g s k nr e access rest to b x t n ev more y z xs st valid there ke
     }
 
 -- a line that computes: its operands are in registers, and the placed one gives a value that stands for what it gives
-pub computes_after : (u v : Code) (g : Setting) (s : State) (k : Known u v s) (nr e access : ℕ) (rest : List Line) (to : ℕ) (line : Line) (c c' : Checked Value) (t : State) (n : ℕ) (ev : List Event) (y : ℕ → Value) (z : ℕ) (xs : List Frame) (st : Store) → Valid k.pf.home k.pf.live rest s.frame.spot.exit → AllThere u rest → KeepsHomes k.pf.home to (lives k.pf.live rest s.frame.spot.exit) → Walk v g n ev t (twin s (line ∷ save (k.pf.home to) access (put_lines k.pf.home nr (needed s.frame.spot.exit rest) (exit_lines k.pf.home e s.frame.spot.exit))) (put_exit k.pf.home s.frame.spot.exit) y z xs st) → heard ev ≡ [] → step v g (twin s (line ∷ save (k.pf.home to) access (put_lines k.pf.home nr (needed s.frame.spot.exit rest) (exit_lines k.pf.home e s.frame.spot.exit))) (put_exit k.pf.home s.frame.spot.exit) y z xs st) ≡ computes (reg (k.pf.home to) 7) c' (save (k.pf.home to) access (put_lines k.pf.home nr (needed s.frame.spot.exit rest) (exit_lines k.pf.home e s.frame.spot.exit))) (twin s (line ∷ save (k.pf.home to) access (put_lines k.pf.home nr (needed s.frame.spot.exit rest) (exit_lines k.pf.home e s.frame.spot.exit))) (put_exit k.pf.home s.frame.spot.exit) y z xs st) → ((b : Value) → c ≡ Fine b → (x : Value) × (c' ≡ Fine x) × Refines b x) → Held u v s k.pf.home (without to (lives k.pf.live rest s.frame.spot.exit)) y xs st → After u v g t (computes to c rest s)
+pub computes_after : (u v : Code) (g : Setting) (s : State) (k : Known u v s) (nr e access : ℕ) (rest : List Line) (to : ℕ) (line : Line) (c c' : Checked Value) (t : State) (n : ℕ) (ev : List Event) (y : ℕ → Value) (z : ℕ) (xs : List Frame) (st : Store) → Valid k.pf.home k.pf.live rest s.frame.spot.exit → AllThere u rest → KeepsHomes k.pf.home to (lives k.pf.live rest s.frame.spot.exit) → Walk v g n ev t (twin s (line ∷ save (k.pf.home to) access (put_lines k.pf.home nr rest (exit_lines k.pf.home e s.frame.spot.exit))) (put_exit k.pf.home s.frame.spot.exit) y z xs st) → heard ev ≡ [] → step v g (twin s (line ∷ save (k.pf.home to) access (put_lines k.pf.home nr rest (exit_lines k.pf.home e s.frame.spot.exit))) (put_exit k.pf.home s.frame.spot.exit) y z xs st) ≡ computes (reg (k.pf.home to) 7) c' (save (k.pf.home to) access (put_lines k.pf.home nr rest (exit_lines k.pf.home e s.frame.spot.exit))) (twin s (line ∷ save (k.pf.home to) access (put_lines k.pf.home nr rest (exit_lines k.pf.home e s.frame.spot.exit))) (put_exit k.pf.home s.frame.spot.exit) y z xs st) → ((b : Value) → c ≡ Fine b → (x : Value) × (c' ≡ Fine x) × Refines b x) → Held u v s k.pf.home (without to (lives k.pf.live rest s.frame.spot.exit)) y xs st → After u v g t (computes to c rest s)
 computes_after u v g s k nr e access rest to line c c' t n ev y z xs st valid there keeps walk silent is gives m =
     let h = k.pf.home in
-    let tail : List Line = save (h to) access (put_lines h nr (needed s.frame.spot.exit rest) (exit_lines h e s.frame.spot.exit)) in
+    let tail : List Line = save (h to) access (put_lines h nr rest (exit_lines h e s.frame.spot.exit)) in
     let t1 : State = twin s (line ∷ tail) (put_exit h s.frame.spot.exit) y z xs st in
     checked_after u v g t c _ (λ b f.
     let q = gives b f in

@@ -1,5 +1,5 @@
 -- Every line but calls.
-use Rattle.std.proofs.Common.{◌≡◌, ℕ, ◌+◌, inl, inr, Bool, true, false, List, [], ◌∷◌, ◌++◌, sym, ap, ◌∙◌, subst, refl}
+use Rattle.std.proofs.Common.{◌≡◌, ℕ, ◌+◌, inr, Bool, true, false, List, [], ◌∷◌, ◌++◌, sym, ap, ◌∙◌, subst, refl}
 use Rattle.std.specs.Prelude.{◌==◌, ◌&&◌, ◌||◌, not}
 use Rattle.im_num.specs.declared.kind.Kind.{Kind}
 use Rattle.im_store.specs.Checks.{Checked, Fine}
@@ -11,7 +11,7 @@ use Rattle.im_block.specs.declared.code.Line.TheVariants.{Put, PutNull, Copy, Co
 use Rattle.im_block.specs.declared.code.Exit.{Exit}
 use Rattle.im_block.specs.declared.unit.Unit.{Unit as Code}
 use Rattle.im_block.specs.Meaning.{Setting, Event, Reads, Writes, Cuts, Frame, State, as_number, as_truth, negation, converted, computed_one, computed, compared, moved, distance_of, place_of, read_place, write_place, site_of, with_rest, computes, reads, writes, does, step}
-use Rattle.im_alloc_relation.specs.Homes.{numbers_kept, load, reg, save, load_place, on_place, put_line, past_cut, behind, needed, put_lines, exit_lines, put_exit}
+use Rattle.im_alloc_relation.specs.Homes.{numbers_kept, load, reg, save, load_place, on_place, put_line, put_lines, exit_lines, put_exit}
 use Rattle.im_alloc_relation.specs.Live.{lives, place_uses}
 use Rattle.im_alloc_relation.specs.Placing.{KeepsHomes, ValidLine, Valid}
 use Rattle.im_alloc_relation.proofs.Seen.{Refines, refines_at, fine_is, convert_refines, unary_refines, not_refines, compute_refines, compare_refines, move_refines, distance_refines}
@@ -20,12 +20,12 @@ use Rattle.im_alloc_relation.proofs.Results.{without}
 use Rattle.im_alloc_relation.proofs.Lines.{Went, After, checked_after, held_less, Known, without_live, or_left, or_right, self, sets_ends, computes_after, PlaceReady, place_ready, not_second, read_refines, Wrote, write_refines, held_write}
 
 -- a line of one operand
-unary : (u v : Code) (g : Setting) (s : State) (k : Known u v s) (n e : ℕ) (rest : List Line) (line : ℕ → ℕ → Line) (to from : ℕ) (c : Value → Checked Value) (c' : Value → Checked Value) (y : ℕ → Value) (z : ℕ) (xs : List Frame) (st : Store) → Valid k.pf.home k.pf.live rest s.frame.spot.exit → AllThere u rest → KeepsHomes k.pf.home to (lives k.pf.live rest s.frame.spot.exit) → ((a b : ℕ) (y' : ℕ → Value) (tail : List Line) → step v g (twin s (line a b ∷ tail) (put_exit k.pf.home s.frame.spot.exit) y' z xs st) ≡ computes a (c' (y' b)) tail (twin s (line a b ∷ tail) (put_exit k.pf.home s.frame.spot.exit) y' z xs st)) → ((a x b : Value) → Refines a x → c a ≡ Fine b → (w : Value) × (c' x ≡ Fine w) × Refines b w) → Held u v s k.pf.home (λ q. (q == from) || (not (q == to) && lives k.pf.live rest s.frame.spot.exit q)) y xs st → After u v g (twin s (load (k.pf.home from) 7 n (line (reg (k.pf.home to) 7) (reg (k.pf.home from) 7) ∷ save (k.pf.home to) (n + 2) (put_lines k.pf.home (n + numbers_kept) (needed s.frame.spot.exit rest) (exit_lines k.pf.home e s.frame.spot.exit)))) (put_exit k.pf.home s.frame.spot.exit) y z xs st) (computes to (c (s.frame.registers from)) rest s)
+unary : (u v : Code) (g : Setting) (s : State) (k : Known u v s) (n e : ℕ) (rest : List Line) (line : ℕ → ℕ → Line) (to from : ℕ) (c : Value → Checked Value) (c' : Value → Checked Value) (y : ℕ → Value) (z : ℕ) (xs : List Frame) (st : Store) → Valid k.pf.home k.pf.live rest s.frame.spot.exit → AllThere u rest → KeepsHomes k.pf.home to (lives k.pf.live rest s.frame.spot.exit) → ((a b : ℕ) (y' : ℕ → Value) (tail : List Line) → step v g (twin s (line a b ∷ tail) (put_exit k.pf.home s.frame.spot.exit) y' z xs st) ≡ computes a (c' (y' b)) tail (twin s (line a b ∷ tail) (put_exit k.pf.home s.frame.spot.exit) y' z xs st)) → ((a x b : Value) → Refines a x → c a ≡ Fine b → (w : Value) × (c' x ≡ Fine w) × Refines b w) → Held u v s k.pf.home (λ q. (q == from) || (not (q == to) && lives k.pf.live rest s.frame.spot.exit q)) y xs st → After u v g (twin s (load (k.pf.home from) 7 n (line (reg (k.pf.home to) 7) (reg (k.pf.home from) 7) ∷ save (k.pf.home to) (n + 2) (put_lines k.pf.home (n + numbers_kept) rest (exit_lines k.pf.home e s.frame.spot.exit)))) (put_exit k.pf.home s.frame.spot.exit) y z xs st) (computes to (c (s.frame.registers from)) rest s)
 unary u v g s k n e rest line to from c c' y z xs st valid there keeps is gives m =
     let h = k.pf.home in
     let after : ℕ → Bool = lives k.pf.live rest s.frame.spot.exit in
     let live : ℕ → Bool = λ q. (q == from) || (not (q == to) && after q) in
-    let tail : List Line = save (h to) (n + 2) (put_lines h (n + numbers_kept) (needed s.frame.spot.exit rest) (exit_lines h e s.frame.spot.exit)) in
+    let tail : List Line = save (h to) (n + 2) (put_lines h (n + numbers_kept) rest (exit_lines h e s.frame.spot.exit)) in
     let exit : Exit = put_exit h s.frame.spot.exit in
     let l : Loaded u v g s h live (s.frame.registers from) (load (h from) 7 n (line (reg (h to) 7) (reg (h from) 7) ∷ tail)) (line (reg (h to) 7) (reg (h from) 7) ∷ tail) exit (reg (h from) 7) 7 y z xs st =
     load_home u v g s h live (s.frame.registers from) (h from) 7 n (line (reg (h to) 7) (reg (h from) 7) ∷ tail) exit y z xs st (λ q i f. (m.free q i f).0) (λ i f. m.own from i f) (m.agrees from (or_left (from == from) _ (self from))) m in
@@ -35,13 +35,13 @@ unary u v g s k n e rest line to from c c' y z xs st valid there keeps is gives 
     (held_less u v s h live (without to after) l.y' xs st (λ q t. without_live (q == from) q to after t) l.held)
 
 -- a line of two operands
-binary : (u v : Code) (g : Setting) (s : State) (k : Known u v s) (n e : ℕ) (rest : List Line) (line : ℕ → ℕ → ℕ → Line) (to left right : ℕ) (c : Value → Value → Checked Value) (c' : Value → Value → Checked Value) (y : ℕ → Value) (z : ℕ) (xs : List Frame) (st : Store) → Valid k.pf.home k.pf.live rest s.frame.spot.exit → AllThere u rest → KeepsHomes k.pf.home to (lives k.pf.live rest s.frame.spot.exit) → ((a b d : ℕ) (y' : ℕ → Value) (tail : List Line) → step v g (twin s (line a b d ∷ tail) (put_exit k.pf.home s.frame.spot.exit) y' z xs st) ≡ computes a (c' (y' b) (y' d)) tail (twin s (line a b d ∷ tail) (put_exit k.pf.home s.frame.spot.exit) y' z xs st)) → ((a x d w b : Value) → Refines a x → Refines d w → c a d ≡ Fine b → c' x w ≡ Fine b) → Held u v s k.pf.home (λ q. ((q == left) || (q == right)) || (not (q == to) && lives k.pf.live rest s.frame.spot.exit q)) y xs st → After u v g (twin s (load (k.pf.home left) 7 n (load (k.pf.home right) 8 (n + 1) (line (reg (k.pf.home to) 7) (reg (k.pf.home left) 7) (reg (k.pf.home right) 8) ∷ save (k.pf.home to) (n + 2) (put_lines k.pf.home (n + numbers_kept) (needed s.frame.spot.exit rest) (exit_lines k.pf.home e s.frame.spot.exit))))) (put_exit k.pf.home s.frame.spot.exit) y z xs st) (computes to (c (s.frame.registers left) (s.frame.registers right)) rest s)
+binary : (u v : Code) (g : Setting) (s : State) (k : Known u v s) (n e : ℕ) (rest : List Line) (line : ℕ → ℕ → ℕ → Line) (to left right : ℕ) (c : Value → Value → Checked Value) (c' : Value → Value → Checked Value) (y : ℕ → Value) (z : ℕ) (xs : List Frame) (st : Store) → Valid k.pf.home k.pf.live rest s.frame.spot.exit → AllThere u rest → KeepsHomes k.pf.home to (lives k.pf.live rest s.frame.spot.exit) → ((a b d : ℕ) (y' : ℕ → Value) (tail : List Line) → step v g (twin s (line a b d ∷ tail) (put_exit k.pf.home s.frame.spot.exit) y' z xs st) ≡ computes a (c' (y' b) (y' d)) tail (twin s (line a b d ∷ tail) (put_exit k.pf.home s.frame.spot.exit) y' z xs st)) → ((a x d w b : Value) → Refines a x → Refines d w → c a d ≡ Fine b → c' x w ≡ Fine b) → Held u v s k.pf.home (λ q. ((q == left) || (q == right)) || (not (q == to) && lives k.pf.live rest s.frame.spot.exit q)) y xs st → After u v g (twin s (load (k.pf.home left) 7 n (load (k.pf.home right) 8 (n + 1) (line (reg (k.pf.home to) 7) (reg (k.pf.home left) 7) (reg (k.pf.home right) 8) ∷ save (k.pf.home to) (n + 2) (put_lines k.pf.home (n + numbers_kept) rest (exit_lines k.pf.home e s.frame.spot.exit))))) (put_exit k.pf.home s.frame.spot.exit) y z xs st) (computes to (c (s.frame.registers left) (s.frame.registers right)) rest s)
 binary u v g s k n e rest line to left right c c' y z xs st valid there keeps is gives m =
     let h = k.pf.home in
     let after : ℕ → Bool = lives k.pf.live rest s.frame.spot.exit in
     let live : ℕ → Bool = λ q. ((q == left) || (q == right)) || (not (q == to) && after q) in
     let one : Line = line (reg (h to) 7) (reg (h left) 7) (reg (h right) 8) in
-    let tail : List Line = save (h to) (n + 2) (put_lines h (n + numbers_kept) (needed s.frame.spot.exit rest) (exit_lines h e s.frame.spot.exit)) in
+    let tail : List Line = save (h to) (n + 2) (put_lines h (n + numbers_kept) rest (exit_lines h e s.frame.spot.exit)) in
     let exit : Exit = put_exit h s.frame.spot.exit in
     let l : Loaded u v g s h live (s.frame.registers left) (load (h left) 7 n (load (h right) 8 (n + 1) (one ∷ tail))) (load (h right) 8 (n + 1) (one ∷ tail)) exit (reg (h left) 7) 7 y z xs st =
     load_home u v g s h live (s.frame.registers left) (h left) 7 n (load (h right) 8 (n + 1) (one ∷ tail)) exit y z xs st (λ q i f. (m.free q i f).0) (λ i f. m.own left i f) (m.agrees left (or_left ((left == left) || (left == right)) _ (or_left (left == left) _ (self left)))) m in
@@ -56,7 +56,7 @@ binary u v g s k n e rest line to left right c c' y z xs st valid there keeps is
     (held_less u v s h live (without to after) l2.y' xs st (λ q t. without_live ((q == left) || (q == right)) q to after t) l2.held)
 
 -- a line of none
-nullary : (u v : Code) (g : Setting) (s : State) (k : Known u v s) (n e : ℕ) (rest : List Line) (line : ℕ → Line) (to : ℕ) (b : Value) (y : ℕ → Value) (z : ℕ) (xs : List Frame) (st : Store) → Valid k.pf.home k.pf.live rest s.frame.spot.exit → AllThere u rest → KeepsHomes k.pf.home to (lives k.pf.live rest s.frame.spot.exit) → ((a : ℕ) (tail : List Line) → step v g (twin s (line a ∷ tail) (put_exit k.pf.home s.frame.spot.exit) y z xs st) ≡ computes a (Fine b) tail (twin s (line a ∷ tail) (put_exit k.pf.home s.frame.spot.exit) y z xs st)) → Held u v s k.pf.home (λ q. false || (not (q == to) && lives k.pf.live rest s.frame.spot.exit q)) y xs st → After u v g (twin s (line (reg (k.pf.home to) 7) ∷ save (k.pf.home to) (n + 2) (put_lines k.pf.home (n + numbers_kept) (needed s.frame.spot.exit rest) (exit_lines k.pf.home e s.frame.spot.exit))) (put_exit k.pf.home s.frame.spot.exit) y z xs st) (computes to (Fine b) rest s)
+nullary : (u v : Code) (g : Setting) (s : State) (k : Known u v s) (n e : ℕ) (rest : List Line) (line : ℕ → Line) (to : ℕ) (b : Value) (y : ℕ → Value) (z : ℕ) (xs : List Frame) (st : Store) → Valid k.pf.home k.pf.live rest s.frame.spot.exit → AllThere u rest → KeepsHomes k.pf.home to (lives k.pf.live rest s.frame.spot.exit) → ((a : ℕ) (tail : List Line) → step v g (twin s (line a ∷ tail) (put_exit k.pf.home s.frame.spot.exit) y z xs st) ≡ computes a (Fine b) tail (twin s (line a ∷ tail) (put_exit k.pf.home s.frame.spot.exit) y z xs st)) → Held u v s k.pf.home (λ q. false || (not (q == to) && lives k.pf.live rest s.frame.spot.exit q)) y xs st → After u v g (twin s (line (reg (k.pf.home to) 7) ∷ save (k.pf.home to) (n + 2) (put_lines k.pf.home (n + numbers_kept) rest (exit_lines k.pf.home e s.frame.spot.exit))) (put_exit k.pf.home s.frame.spot.exit) y z xs st) (computes to (Fine b) rest s)
 nullary u v g s k n e rest line to b y z xs st valid there keeps is m =
     let h = k.pf.home in
     let after : ℕ → Bool = lives k.pf.live rest s.frame.spot.exit in
@@ -68,12 +68,12 @@ same_value : (a x b : Value) → Refines a x → Fine a ≡ Fine b → (w : Valu
 same_value a x b r f = (x, refl, refines_at a b x x (sym (fine_is a b f)) refl r)
 
 -- a read
-read_line : (u v : Code) (g : Setting) (s : State) (k : Known u v s) (n e : ℕ) (rest : List Line) (to : ℕ) (place : Place) (kind : Kind) (access : ℕ) (y : ℕ → Value) (z : ℕ) (xs : List Frame) (st : Store) → Valid k.pf.home k.pf.live rest s.frame.spot.exit → AllThere u rest → KeepsHomes k.pf.home to (lives k.pf.live rest s.frame.spot.exit) → Held u v s k.pf.home (lives k.pf.live (Read to place kind access ∷ rest) s.frame.spot.exit) y xs st → After u v g (twin s (put_line k.pf.home n (Read to place kind access) (put_lines k.pf.home (n + numbers_kept) (needed s.frame.spot.exit rest) (exit_lines k.pf.home e s.frame.spot.exit))) (put_exit k.pf.home s.frame.spot.exit) y z xs st) (does u g (Read to place kind access) rest s)
+read_line : (u v : Code) (g : Setting) (s : State) (k : Known u v s) (n e : ℕ) (rest : List Line) (to : ℕ) (place : Place) (kind : Kind) (access : ℕ) (y : ℕ → Value) (z : ℕ) (xs : List Frame) (st : Store) → Valid k.pf.home k.pf.live rest s.frame.spot.exit → AllThere u rest → KeepsHomes k.pf.home to (lives k.pf.live rest s.frame.spot.exit) → Held u v s k.pf.home (lives k.pf.live (Read to place kind access ∷ rest) s.frame.spot.exit) y xs st → After u v g (twin s (put_line k.pf.home n (Read to place kind access) (put_lines k.pf.home (n + numbers_kept) rest (exit_lines k.pf.home e s.frame.spot.exit))) (put_exit k.pf.home s.frame.spot.exit) y z xs st) (does u g (Read to place kind access) rest s)
 read_line u v g s k n e rest to place kind access y z xs st valid there keeps m =
     let h = k.pf.home in
     let after : ℕ → Bool = lives k.pf.live rest s.frame.spot.exit in
     let live : ℕ → Bool = lives k.pf.live (Read to place kind access ∷ rest) s.frame.spot.exit in
-    let tail : List Line = save (h to) (n + 2) (put_lines h (n + numbers_kept) (needed s.frame.spot.exit rest) (exit_lines h e s.frame.spot.exit)) in
+    let tail : List Line = save (h to) (n + 2) (put_lines h (n + numbers_kept) rest (exit_lines h e s.frame.spot.exit)) in
     let one : Line = Read (reg (h to) 7) (on_place h place) kind access in
     let exit : Exit = put_exit h s.frame.spot.exit in
     let l : PlaceReady u v g s h live place (load_place h place n (one ∷ tail)) (one ∷ tail) exit y z xs st = place_ready u v g s h live place n (one ∷ tail) exit y z xs st (λ q t. or_left (place_uses place q) _ t) m in
@@ -87,12 +87,12 @@ read_line u v g s k n e rest to place kind access y z xs st valid there keeps m 
     (held_less u v s h live (without to after) l.y' xs st (λ q t. without_live (place_uses place q) q to after t) l.held))
 
 -- a write
-write_line : (u v : Code) (g : Setting) (s : State) (k : Known u v s) (n e : ℕ) (rest : List Line) (place : Place) (kind : Kind) (from access : ℕ) (y : ℕ → Value) (z : ℕ) (xs : List Frame) (st : Store) → Valid k.pf.home k.pf.live rest s.frame.spot.exit → AllThere u rest → Held u v s k.pf.home (lives k.pf.live (Write place kind from access ∷ rest) s.frame.spot.exit) y xs st → After u v g (twin s (put_line k.pf.home n (Write place kind from access) (put_lines k.pf.home (n + numbers_kept) (needed s.frame.spot.exit rest) (exit_lines k.pf.home e s.frame.spot.exit))) (put_exit k.pf.home s.frame.spot.exit) y z xs st) (does u g (Write place kind from access) rest s)
+write_line : (u v : Code) (g : Setting) (s : State) (k : Known u v s) (n e : ℕ) (rest : List Line) (place : Place) (kind : Kind) (from access : ℕ) (y : ℕ → Value) (z : ℕ) (xs : List Frame) (st : Store) → Valid k.pf.home k.pf.live rest s.frame.spot.exit → AllThere u rest → Held u v s k.pf.home (lives k.pf.live (Write place kind from access ∷ rest) s.frame.spot.exit) y xs st → After u v g (twin s (put_line k.pf.home n (Write place kind from access) (put_lines k.pf.home (n + numbers_kept) rest (exit_lines k.pf.home e s.frame.spot.exit))) (put_exit k.pf.home s.frame.spot.exit) y z xs st) (does u g (Write place kind from access) rest s)
 write_line u v g s k n e rest place kind from access y z xs st valid there m =
     let h = k.pf.home in
     let after : ℕ → Bool = lives k.pf.live rest s.frame.spot.exit in
     let live : ℕ → Bool = lives k.pf.live (Write place kind from access ∷ rest) s.frame.spot.exit in
-    let lines : List Line = put_lines h (n + numbers_kept) (needed s.frame.spot.exit rest) (exit_lines h e s.frame.spot.exit) in
+    let lines : List Line = put_lines h (n + numbers_kept) rest (exit_lines h e s.frame.spot.exit) in
     let one : Line = Write (on_place h place) kind (reg (h from) 8) access in
     let exit : Exit = put_exit h s.frame.spot.exit in
     let t0 : State = twin s (load_place h place n (load (h from) 8 (n + 1) (one ∷ lines))) exit y z xs st in
@@ -124,8 +124,6 @@ write_line u v g s k n e rest place kind from access y z xs st valid there m =
         z = z;
         xs = xs;
         st = st';
-        left = needed s.frame.spot.exit rest;
-        put = inl refl;
         is = refl;
         valid = valid;
         there = there;
@@ -138,7 +136,7 @@ write_line u v g s k n e rest place kind from access y z xs st valid there m =
     or_last false b t = t
 
 -- every line but calls, which come as arguments
-pub line_after : (u v : Code) (g : Setting) (s : State) (k : Known u v s) (n e : ℕ) (line : Line) (rest : List Line) (y : ℕ → Value) (z : ℕ) (xs : List Frame) (st : Store) → ((to i first count : ℕ) → line ≡ Call to i first count → After u v g (twin s (put_line k.pf.home n (Call to i first count) (put_lines k.pf.home (n + numbers_kept) (past_cut s.frame.spot.exit (needed s.frame.spot.exit rest)) (exit_lines k.pf.home e s.frame.spot.exit))) (put_exit k.pf.home s.frame.spot.exit) y z xs st) (does u g (Call to i first count) rest s)) → ((to : ℕ) → line ≡ GetChar to → After u v g (twin s (put_line k.pf.home n (GetChar to) (put_lines k.pf.home (n + numbers_kept) (past_cut s.frame.spot.exit (needed s.frame.spot.exit rest)) (exit_lines k.pf.home e s.frame.spot.exit))) (put_exit k.pf.home s.frame.spot.exit) y z xs st) (does u g (GetChar to) rest s)) → ((to from : ℕ) → line ≡ PutChar to from → After u v g (twin s (put_line k.pf.home n (PutChar to from) (put_lines k.pf.home (n + numbers_kept) (past_cut s.frame.spot.exit (needed s.frame.spot.exit rest)) (exit_lines k.pf.home e s.frame.spot.exit))) (put_exit k.pf.home s.frame.spot.exit) y z xs st) (does u g (PutChar to from) rest s)) → ValidLine k.pf.home line (lives k.pf.live rest s.frame.spot.exit) → Valid k.pf.home k.pf.live rest s.frame.spot.exit → AllThere u rest → Held u v s k.pf.home (lives k.pf.live (line ∷ rest) s.frame.spot.exit) y xs st → After u v g (twin s (put_line k.pf.home n line (put_lines k.pf.home (n + numbers_kept) (behind s.frame.spot.exit line (needed s.frame.spot.exit rest)) (exit_lines k.pf.home e s.frame.spot.exit))) (put_exit k.pf.home s.frame.spot.exit) y z xs st) (does u g line rest s)
+pub line_after : (u v : Code) (g : Setting) (s : State) (k : Known u v s) (n e : ℕ) (line : Line) (rest : List Line) (y : ℕ → Value) (z : ℕ) (xs : List Frame) (st : Store) → ((to i first count : ℕ) → line ≡ Call to i first count → After u v g (twin s (put_line k.pf.home n (Call to i first count) (put_lines k.pf.home (n + numbers_kept) rest (exit_lines k.pf.home e s.frame.spot.exit))) (put_exit k.pf.home s.frame.spot.exit) y z xs st) (does u g (Call to i first count) rest s)) → ((to : ℕ) → line ≡ GetChar to → After u v g (twin s (put_line k.pf.home n (GetChar to) (put_lines k.pf.home (n + numbers_kept) rest (exit_lines k.pf.home e s.frame.spot.exit))) (put_exit k.pf.home s.frame.spot.exit) y z xs st) (does u g (GetChar to) rest s)) → ((to from : ℕ) → line ≡ PutChar to from → After u v g (twin s (put_line k.pf.home n (PutChar to from) (put_lines k.pf.home (n + numbers_kept) rest (exit_lines k.pf.home e s.frame.spot.exit))) (put_exit k.pf.home s.frame.spot.exit) y z xs st) (does u g (PutChar to from) rest s)) → ValidLine k.pf.home line (lives k.pf.live rest s.frame.spot.exit) → Valid k.pf.home k.pf.live rest s.frame.spot.exit → AllThere u rest → Held u v s k.pf.home (lives k.pf.live (line ∷ rest) s.frame.spot.exit) y xs st → After u v g (twin s (put_line k.pf.home n line (put_lines k.pf.home (n + numbers_kept) rest (exit_lines k.pf.home e s.frame.spot.exit))) (put_exit k.pf.home s.frame.spot.exit) y z xs st) (does u g line rest s)
 line_after u v g s k n e (Put to x) rest y z xs st calls gets puts keeps valid there m = nullary u v g s k n e rest (λ a. Put a x) to (Number x) y z xs st valid there keeps (λ a tail. refl) m
 line_after u v g s k n e (PutNull to) rest y z xs st calls gets puts keeps valid there m = nullary u v g s k n e rest (λ a. PutNull a) to Null y z xs st valid there keeps (λ a tail. refl) m
 line_after u v g s k n e (Copy to from) rest y z xs st calls gets puts keeps valid there m = unary u v g s k n e rest (λ a b. Copy a b) to from (λ x. Fine x) (λ x. Fine x) y z xs st valid there keeps (λ a b y' tail. refl) same_value m
@@ -153,7 +151,7 @@ line_after u v g s k n e (Address to place) rest y z xs st calls gets puts keeps
     let h = k.pf.home in
     let after : ℕ → Bool = lives k.pf.live rest s.frame.spot.exit in
     let live : ℕ → Bool = lives k.pf.live (Address to place ∷ rest) s.frame.spot.exit in
-    let tail : List Line = save (h to) (n + 2) (put_lines h (n + numbers_kept) (needed s.frame.spot.exit rest) (exit_lines h e s.frame.spot.exit)) in
+    let tail : List Line = save (h to) (n + 2) (put_lines h (n + numbers_kept) rest (exit_lines h e s.frame.spot.exit)) in
     let one : Line = Address (reg (h to) 7) (on_place h place) in
     let l : PlaceReady u v g s h live place (load_place h place n (one ∷ tail)) (one ∷ tail) (put_exit h s.frame.spot.exit) y z xs st = place_ready u v g s h live place n (one ∷ tail) (put_exit h s.frame.spot.exit) y z xs st (λ q t. or_left (place_uses place q) _ t) m in
     computes_after u v g s k (n + numbers_kept) e (n + 2) rest to one (place_of place s.frame.active s.frame.registers s.store) (place_of (on_place h place) s.frame.active l.y' st) _ l.n l.ev l.y' z xs st valid there keeps l.walk l.silent refl
@@ -166,7 +164,7 @@ line_after u v g s k n e (Spill slot from access) rest y z xs st calls gets puts
 line_after u v g s k n e (Cut cause) rest y z xs st calls gets puts keeps valid there m = record {
   n = 1;
   ev = Cuts ∷ [];
-  t' = twin s (put_lines k.pf.home (n + numbers_kept) (needed s.frame.spot.exit rest) (exit_lines k.pf.home e s.frame.spot.exit)) (put_exit k.pf.home s.frame.spot.exit) y z xs st;
+  t' = twin s (put_lines k.pf.home (n + numbers_kept) rest (exit_lines k.pf.home e s.frame.spot.exit)) (put_exit k.pf.home s.frame.spot.exit) y z xs st;
   walk = walk_one v g (Cuts ∷ []) _ _ refl;
   told = refl;
   same = record {
@@ -181,8 +179,6 @@ line_after u v g s k n e (Cut cause) rest y z xs st calls gets puts keeps valid 
     z = z;
     xs = xs;
     st = st;
-    left = needed s.frame.spot.exit rest;
-    put = inl refl;
     is = refl;
     valid = valid;
     there = there;

@@ -16,7 +16,7 @@ use Rattle.im_block.specs.declared.unit.Unit.{Unit as Code}
 use Rattle.im_block.specs.Meaning.{Setting, Active, object_of, slot_site, slot_of, slot_shape, Event, Reads, Writes, Tests, Saves, Restores, Serves, Cuts, Frame, State, Goes, found_in, left_in, with_register, reads, writes, step}
 use Rattle.im_block.specs.Runs.{goes_on, exec, uncut}
 use Rattle.im_block.specs.Wellformed.{LineThere}
-use Rattle.im_alloc_relation.specs.Homes.{Home, InRegister, InSlot, load, reg, into, give, past_cut, needed, put_lines, exit_lines, put_exit}
+use Rattle.im_alloc_relation.specs.Homes.{Home, InRegister, InSlot, load, reg, into, give, put_lines, exit_lines, put_exit}
 use Rattle.im_alloc_relation.specs.Live.{lives}
 use Rattle.im_alloc_relation.specs.Placing.{Valid, PlacedFunction, beside, unslotted}
 use Rattle.im_alloc_relation.proofs.Seen.{Refines, refines_at, Seen, is_slot}
@@ -111,7 +111,7 @@ pub record WaitsFor (u v : Code) (st : Store) (w x : Frame) : Type 0 where
   pub give_number : ℕ
   pub n : ℕ
   pub e : ℕ
-  pub is : x ≡ record w { spot = record { block = w.spot.block; rest = Cut ReturnCut ∷ give (pf.home w.to) give_number (put_lines pf.home n (past_cut w.spot.exit (needed w.spot.exit w.spot.rest)) (exit_lines pf.home e w.spot.exit)); exit = put_exit pf.home w.spot.exit }; registers = λ r. Unset; to = 10 }
+  pub is : x ≡ record w { spot = record { block = w.spot.block; rest = Cut ReturnCut ∷ give (pf.home w.to) give_number (put_lines pf.home n w.spot.rest (exit_lines pf.home e w.spot.exit)); exit = put_exit pf.home w.spot.exit }; registers = λ r. Unset; to = 10 }
   pub valid : Valid pf.home pf.live w.spot.rest w.spot.exit
   pub there : AllThere u w.spot.rest
   pub survives : (q : ℕ) → lives pf.live w.spot.rest w.spot.exit q ≡ true → q ≢ w.to → (k : ℕ) × (pf.home q ≡ InSlot k) × (pf.home q ≢ pf.home w.to) × Refines (w.registers q) (st.values (own_slot w.active k) 0)

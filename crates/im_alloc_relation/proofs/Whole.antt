@@ -1,11 +1,10 @@
 -- The ends of blocks, and whole runs.
-use Rattle.std.proofs.Common.{◌≡◌, ◌≢◌, ℕ, zero, suc, ◌+◌, ◌<◌, ◌≤◌, Bool, true, false, cond, inl, inr, List, [], ◌∷◌, ◌++◌, Option, Some, None, sym, ap, ◌∙◌, subst, refl, append_assoc, arith}
+use Rattle.std.proofs.Common.{◌≡◌, ◌≢◌, ℕ, zero, suc, ◌+◌, ◌<◌, ◌≤◌, Bool, true, false, cond, inl, List, [], ◌∷◌, ◌++◌, Option, Some, None, sym, ap, ◌∙◌, subst, refl, append_assoc, arith}
 use Rattle.std.specs.Prelude.{◌*◌, length, ◌==◌, ◌||◌, slice_get, All}
 use Rattle.std.proofs.lemmas.Bool.Decides.{nat_tests}
 use Rattle.std.proofs.lemmas.Option.{slice_get_within, get_or_from_slice_get}
 use Rattle.std.proofs.lemmas.List.Elements.{All-get_or}
 use Rattle.im_num.specs.declared.kind.Kind.TheVariants.{I32}
-use Rattle.im_num.specs.declared.values.Cause.{Cause}
 use Rattle.im_num.specs.declared.values.Cause.TheVariants.{Return as ReturnCut}
 use Rattle.im_num.specs.Kinds.{wrap}
 use Rattle.im_store.specs.Objects.{Name, Named, Slot, Link, Object, Value, Unset, Shape, Store, ends}
@@ -21,13 +20,13 @@ use Rattle.im_block.specs.declared.unit.Unit.{Unit as Code}
 use Rattle.im_block.specs.Wellformed.{LineThere, IsBlock, IsFunction, IsWellFormed}
 use Rattle.im_block.specs.Meaning.{Setting, Spot, Event, Restores, Cuts, Frame, State, Next, Goes, Stops, on_checked, found, number_of, condition, statics_of, ended, with_register, at_block, enters, goes_to, back, leaves, step_at, step}
 use Rattle.im_block.specs.Runs.{before, start, Over, goes_on, exec, uncut}
-use Rattle.im_alloc_relation.specs.Homes.{Home, numbers_kept, load, reg, into, give, past_cut, needed, put_lines, exit_lines, put_exit}
+use Rattle.im_alloc_relation.specs.Homes.{Home, numbers_kept, load, reg, into, give, put_lines, exit_lines, put_exit}
 use Rattle.im_alloc_relation.specs.Live.{lives, exit_lives}
 use Rattle.im_alloc_relation.specs.Placing.{ValidLine, Valid, IsPlaced, PlaceKeeps}
 use Rattle.im_alloc_relation.proofs.Seen.{Refines, refines_at, number_refines, condition_refines, is_slot}
-use Rattle.im_alloc_relation.proofs.Walks.{plus, heard, uncut_append, heard_append, walk_none, walk_one, walk_join, twin, own_slot, at_home, AllThere, WaitsFor, Callers, Held, same_register, seen_all, Loaded, load_home, into_home}
+use Rattle.im_alloc_relation.proofs.Walks.{plus, heard, uncut_append, heard_append, walk_one, walk_join, twin, own_slot, at_home, AllThere, WaitsFor, Callers, Held, same_register, seen_all, Loaded, load_home, into_home}
 use Rattle.im_alloc_relation.proofs.Results.{callers_kept, without, Saved, give_home}
-use Rattle.im_alloc_relation.proofs.Lines.{IsLeft, Twin, Went, Ended, After, after_first, checked_after, held_less, Known, or_left, self}
+use Rattle.im_alloc_relation.proofs.Lines.{Twin, Went, Ended, After, after_first, checked_after, held_less, Known, or_left, self}
 use Rattle.im_alloc_relation.proofs.Straight.{line_after}
 use Rattle.im_alloc_relation.proofs.Calls.{NextRel, next_after, next_at, takes_both, placed_block, same_statics, shows, Outer, BlocksThere, placed_spot, spot_is, enters_both, split_without, call_after, get_after, put_after}
 
@@ -68,13 +67,11 @@ to_both u v there g s k b fuel after lines exit y z xs st le m =
             is_g = k.is_g;
             pf = k.pf;
             n = p.0;
-            e = p.0 + numbers_kept * length (needed block.exit block.lines.items);
+            e = p.0 + numbers_kept * length block.lines.items;
             y = y;
             z = z;
             xs = xs;
             st = st;
-            left = needed block.exit block.lines.items;
-            put = inl refl;
             is = refl;
             valid = k.pf.valid b block e;
             there = there s.frame.function b k.f block k.is_f e;
@@ -91,7 +88,7 @@ caller_goes u v g s b x w ws f xs t y st k below callers seen unseen holds fresh
     let st2 : Store = ends st a in
     let lost : ℕ → Value = λ r. Unset in
     let y2 : ℕ → Value = with_register lost 10 x in
-    let lines : List Line = put_lines h k.n (past_cut w.spot.exit (needed w.spot.exit w.spot.rest)) (exit_lines h k.e w.spot.exit) in
+    let lines : List Line = put_lines h k.n w.spot.rest (exit_lines h k.e w.spot.exit) in
     let tail : List Line = give (h w.to) k.give_number lines in
     let exit : Exit = put_exit h w.spot.exit in
     let s2 : State = record s { frame = w; callers = ws; store = ends s.store a } in
@@ -129,8 +126,6 @@ caller_goes u v g s b x w ws f xs t y st k below callers seen unseen holds fresh
         z = 10;
         xs = xs;
         st = sv.st';
-        left = past_cut w.spot.exit (needed w.spot.exit w.spot.rest);
-        put = inr refl;
         is = refl;
         valid = k.valid;
         there = k.there;
@@ -188,7 +183,7 @@ exit_after u v there pl g s k e (Return (Some from)) y z xs st m =
     after_first u v g l.n l.ev _ t1 _ l.walk l.silent
     (back_after u v pl g s h none (s.frame.registers from) (l.y' 10) t1 l.y' st s.callers xs xs [] (Return (Some 10)) z l.held m.callers l.value refl)
 
-step_by : (u v : Code) → BlocksThere u → IsPlaced u v → (g : Setting) (s : State) (k : Known u v s) (n e : ℕ) (lines : List Line) (y : ℕ → Value) (z : ℕ) (xs : List Frame) (st : Store) → Valid k.pf.home k.pf.live lines s.frame.spot.exit → AllThere u lines → Held u v s k.pf.home (lives k.pf.live lines s.frame.spot.exit) y xs st → After u v g (twin s (put_lines k.pf.home n (needed s.frame.spot.exit lines) (exit_lines k.pf.home e s.frame.spot.exit)) (put_exit k.pf.home s.frame.spot.exit) y z xs st) (step_at u g lines s)
+step_by : (u v : Code) → BlocksThere u → IsPlaced u v → (g : Setting) (s : State) (k : Known u v s) (n e : ℕ) (lines : List Line) (y : ℕ → Value) (z : ℕ) (xs : List Frame) (st : Store) → Valid k.pf.home k.pf.live lines s.frame.spot.exit → AllThere u lines → Held u v s k.pf.home (lives k.pf.live lines s.frame.spot.exit) y xs st → After u v g (twin s (put_lines k.pf.home n lines (exit_lines k.pf.home e s.frame.spot.exit)) (put_exit k.pf.home s.frame.spot.exit) y z xs st) (step_at u g lines s)
 step_by u v blocks pl g s k n e [] y z xs st valid there m = exit_after u v blocks pl g s k e s.frame.spot.exit y z xs st m
 step_by u v blocks pl g s k n e (line ∷ rest) y z xs st valid there m =
     let less : AllThere u rest = λ i l f. there (suc i) l f in
@@ -199,83 +194,10 @@ step_by u v blocks pl g s k n e (line ∷ rest) y z xs st valid there m =
     (λ to from f. put_after u v g s k n e to from rest y z xs st (subst (λ q. ValidLine k.pf.home q (lives k.pf.live rest s.frame.spot.exit)) f valid.0) valid.1 less (subst (λ q. Held u v s k.pf.home (lives k.pf.live (q ∷ rest) s.frame.spot.exit) y xs st) f m))
     valid.0 valid.1 less m
 
--- where the cut behind a call is next, and no loop edge's, it was put with the call
-record SkipsCut (exit : Exit) (rest left : List Line) : Type 0 where
-  cause : Cause
-  more : List Line
-  is_rest : rest ≡ Cut cause ∷ more
-  is_left : left ≡ needed exit more
-
-data Stands (exit : Exit) (rest left : List Line) : Type 0 where
-  AllLeft : left ≡ needed exit rest → Stands exit rest left
-  Skips : SkipsCut exit rest left → Stands exit rest left
-
-skips : (exit : Exit) (cause : Cause) (more : List Line) → Stands exit (Cut cause ∷ more) (needed exit more)
-skips exit cause more = Skips (record { cause = cause; more = more; is_rest = refl; is_left = refl })
-
-stands_cut : (exit : Exit) (cause : Cause) (more : List Line) → Stands exit (Cut cause ∷ more) (past_cut exit (Cut cause ∷ needed exit more))
-stands_cut (Turn b) cause [] = AllLeft refl
-stands_cut (Turn b) cause (next ∷ more) = skips (Turn b) cause (next ∷ more)
-stands_cut (Jump b) cause more = skips (Jump b) cause more
-stands_cut (Branch on a b) cause more = skips (Branch on a b) cause more
-stands_cut (Return from) cause more = skips (Return from) cause more
-
-stands_behind : (exit : Exit) (rest : List Line) → Stands exit rest (past_cut exit (needed exit rest))
-stands_behind exit [] = AllLeft refl
-stands_behind exit (Cut cause ∷ more) = stands_cut exit cause more
-stands_behind exit (line ∷ more) = AllLeft refl
-
-stands : (exit : Exit) (rest left : List Line) → IsLeft exit rest left → Stands exit rest left
-stands exit rest left (inl e) = AllLeft e
-stands exit rest left (inr e) = subst (Stands exit rest) (sym e) (stands_behind exit rest)
-
-skip_after : (u v : Code) (g : Setting) (s t : State) (w : Twin u v s t) → SkipsCut s.frame.spot.exit s.frame.spot.rest w.left → After u v g t (step u g s)
-skip_after u v g s t w k =
-    let exit : Exit = s.frame.spot.exit in
-    let valid : Valid w.pf.home w.pf.live (Cut k.cause ∷ k.more) exit = subst (λ q. Valid w.pf.home w.pf.live q exit) k.is_rest w.valid in
-    let there : AllThere u (Cut k.cause ∷ k.more) = subst (AllThere u) k.is_rest w.there in
-    let m : Held u v s w.pf.home (lives w.pf.live (Cut k.cause ∷ k.more) exit) w.y w.xs w.st = subst (λ q. Held u v s w.pf.home (lives w.pf.live q exit) w.y w.xs w.st) k.is_rest w.held in
-    subst (λ q. After u v g t (step_at u g q s)) (sym k.is_rest) (record {
-      n = 0;
-      ev = [];
-      t' = t;
-      walk = walk_none v g t;
-      told = refl;
-      same = record {
-        f = w.f;
-        g = w.g;
-        is_f = w.is_f;
-        is_g = w.is_g;
-        pf = w.pf;
-        n = w.n;
-        e = w.e;
-        y = w.y;
-        z = w.z;
-        xs = w.xs;
-        st = w.st;
-        left = w.left;
-        put = inl k.is_left;
-        is = w.is;
-        valid = valid.1;
-        there = λ i l f. there (suc i) l f;
-        held = record { agrees = m.agrees; own = m.own; free = m.free; seen = m.seen; unseen = m.unseen; holds = m.holds; callers = m.callers; fresh = m.fresh };
-      };
-    })
-
-all_after : (u v : Code) → BlocksThere u → IsPlaced u v → (g : Setting) (s t : State) (w : Twin u v s t) → w.left ≡ needed s.frame.spot.exit s.frame.spot.rest → After u v g t (step u g s)
-all_after u v blocks pl g s t w all =
-    let h = w.pf.home in
-    let exit : Exit = s.frame.spot.exit in
-    let is = w.is ∙ ap (λ (q : List Line). twin s (put_lines h w.n q (exit_lines h w.e exit)) (put_exit h exit) w.y w.z w.xs w.st) all in
-    subst (λ q. After u v g q (step u g s)) (sym is)
-    (step_by u v blocks pl g s (record { f = w.f; g = w.g; is_f = w.is_f; is_g = w.is_g; pf = w.pf }) w.n w.e s.frame.spot.rest w.y w.z w.xs w.st w.valid w.there w.held)
-
-step_stands : (u v : Code) → BlocksThere u → IsPlaced u v → (g : Setting) (s t : State) (w : Twin u v s t) → Stands s.frame.spot.exit s.frame.spot.rest w.left → After u v g t (step u g s)
-step_stands u v blocks pl g s t w (AllLeft all) = all_after u v blocks pl g s t w all
-step_stands u v blocks pl g s t w (Skips k) = skip_after u v g s t w k
-
 step_after : (u v : Code) → BlocksThere u → IsPlaced u v → (g : Setting) (s t : State) → Twin u v s t → After u v g t (step u g s)
-step_after u v blocks pl g s t w = step_stands u v blocks pl g s t w (stands s.frame.spot.exit s.frame.spot.rest w.left w.put)
+step_after u v blocks pl g s t w =
+    subst (λ q. After u v g q (step u g s)) (sym w.is)
+    (step_by u v blocks pl g s (record { f = w.f; g = w.g; is_f = w.is_f; is_g = w.is_g; pf = w.pf }) w.n w.e s.frame.spot.rest w.y w.z w.xs w.st w.valid w.there w.held)
 
 -- a whole run
 record Followed (v : Code) (g : Setting) (t : State) (o : Outcome) (events run : List Event) : Type 0 where

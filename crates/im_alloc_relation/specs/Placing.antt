@@ -11,7 +11,7 @@ use Rattle.im_block.specs.declared.unit.Unit.{Unit as Code}
 use Rattle.im_block.specs.Meaning.{Setting, Event, Reads, Writes, Tests, Saves, Restores, Serves, Cuts}
 use Rattle.im_block.specs.Runs.{Runs, uncut}
 use Rattle.im_block.specs.Wellformed.{IsWellFormed}
-use Rattle.im_alloc_relation.specs.Homes.{Home, InRegister, InSlot, numbers_kept, needed, put_lines, exit_lines, put_exit}
+use Rattle.im_alloc_relation.specs.Homes.{Home, InRegister, InSlot, numbers_kept, put_lines, exit_lines, put_exit}
 use Rattle.im_alloc_relation.specs.Live.{lives}
 
 -- what lives on has another home than what is set
@@ -54,12 +54,12 @@ Valid h live (line ∷ rest) exit = ValidLine h line (lives live rest exit) × V
 
 -- blocks one by one, with numbers from n on
 pub record PlacedBlock (h : ℕ → Home) (n : ℕ) (old new : Block) : Type 0 where
-  pub lines : new.lines.items ≡ put_lines h n (needed old.exit old.lines.items) (exit_lines h (n + numbers_kept * length (needed old.exit old.lines.items)) old.exit)
+  pub lines : new.lines.items ≡ put_lines h n old.lines.items (exit_lines h (n + numbers_kept * length old.lines.items) old.exit)
   pub exit : new.exit ≡ put_exit h old.exit
 
 abbrev pub PlacedBlocks : (ℕ → Home) → ℕ → List Block → List Block → Type 0
 PlacedBlocks h n [] [] = Unit {0}
-PlacedBlocks h n (x ∷ xs) (y ∷ ys) = PlacedBlock h n x y × PlacedBlocks h (n + numbers_kept * suc (length (needed x.exit x.lines.items))) xs ys
+PlacedBlocks h n (x ∷ xs) (y ∷ ys) = PlacedBlock h n x y × PlacedBlocks h (n + numbers_kept * suc (length x.lines.items)) xs ys
 PlacedBlocks h n [] (y ∷ ys) = ⊥
 PlacedBlocks h n (x ∷ xs) [] = ⊥
 

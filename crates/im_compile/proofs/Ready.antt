@@ -10,14 +10,12 @@ use Rattle.im_typed.specs.declared.program.Func.{Func}
 use Rattle.im_typed.specs.declared.program.Prog.{Prog}
 use Rattle.im_typed.specs.ProgramOf.{func_of, program_of}
 use Rattle.im_typed.specs.Limits.{static_bytes}
-use Rattle.im_block.specs.declared.access.Tags.{Tags}
 use Rattle.im_block.specs.declared.unit.Static.{Static as StaticOf}
 use Rattle.im_block.specs.declared.unit.Function.{Function}
 use Rattle.im_block.specs.declared.unit.Unit.{Unit as Code}
 use Rattle.im_block.specs.Meaning.{static_of}
 use Rattle.im_block.specs.Uncut.{SameFunctions}
 use Rattle.im_block.specs.Shape.{AllOrdered}
-use Rattle.im_block.specs.Tagged.{IsSound}
 use Rattle.im_block.specs.Forced.{AllForced}
 use Rattle.im_block.specs.Wellformed.{IsWellFormed}
 use Rattle.im_block.specs.Laws.{AddedCutsLaw}
@@ -27,17 +25,14 @@ use Rattle.im_alloc_placed.specs.Placed.{IsPlacedFunction, IsPlacedCode}
 use Rattle.im_alloc_placed.specs.Laws.{CutsKeepPlacesLaw}
 use Rattle.im_force.specs.Force.{Forces}
 use Rattle.im_force.specs.Laws.{ForceKeepsLaw}
-use Rattle.im_recut.specs.Recut.{RecutsTo}
 use Rattle.im_recut.specs.Laws.{RecutKeepsLaw}
 use Rattle.im_lower_relation.specs.Lowered.{IsLowered, AreSized}
 use Rattle.im_lower_relation.specs.Laws.{LoweredFormLaw}
 use Rattle.im_alloc_relation.specs.Placing.{IsPlaced, PlacedFunctions}
-use Rattle.im_alloc_laws.specs.Numbered.{IsWellPlaced}
 use Rattle.im_alloc_laws.specs.Laws.{PlacedCodeLaw}
 use Rattle.im_compile_dependences.specs.Laws.{UncutNames, ForceNames, PlaceNames, RecutNames}
 use Rattle.im_frame.specs.Layout.{room, rooms, bytes_of}
 use Rattle.im_select_addresses.specs.Statics.{objects_of}
-use Rattle.im_compile.specs.Lowered.{IsLoweredCode}
 use Rattle.im_compile.specs.Passed.{IsSource, IsPassed, IsReady}
 
 -- block code with its forced cuts, which placing takes
@@ -57,23 +52,6 @@ placed_ordered form added force placing prog lowered forced placed s is sized f 
 
 pub placed_forced : ForceKeepsLaw → PlacedCodeLaw → (lowered forced placed : Code) → Forces lowered forced → IsPlaced forced placed → AllForced placed
 placed_forced force placing lowered forced placed f p = placing.forced forced placed p (force.forced lowered forced f)
-
-pub passed : (prog : Prog) (lowered forced : Code) (tags : Tags) (placed code : Code) → IsLoweredCode prog lowered → Forces lowered forced → IsSound forced tags → IsWellPlaced forced placed → RecutsTo tags placed code → IsPassed prog code
-passed prog lowered forced tags placed code l force alias place recut = record {
-  lowered = lowered;
-  lower = l.lower;
-  sized = l.sized;
-  placeable = l.placeable;
-  uncut = l.uncut;
-  told = l.told;
-  forced = forced;
-  force = force;
-  tags = tags;
-  alias = alias;
-  placed = placed;
-  place = place;
-  recut = recut;
-}
 
 -- the bytes of statics
 

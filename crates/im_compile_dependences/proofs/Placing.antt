@@ -13,7 +13,7 @@ use Rattle.im_block.specs.declared.code.Block.{Block}
 use Rattle.im_block.specs.declared.unit.Function.{Function}
 use Rattle.im_block.specs.Wellformed.{accesses_of_line, accesses_of_lines}
 use Rattle.im_select.specs.Selects.{causes_of_line, causes_of_lines}
-use Rattle.im_alloc_relation.specs.Homes.{Home, InRegister, InSlot, numbers_kept, load, reg, save, into, give, bring, load_place, on_place, put_line, loop_cut, past_cut, behind, needed, put_lines, bring_result, exit_lines}
+use Rattle.im_alloc_relation.specs.Homes.{Home, InRegister, InSlot, numbers_kept, load, reg, save, into, give, bring, load_place, on_place, put_line, put_lines, bring_result, exit_lines}
 use Rattle.im_alloc_relation.specs.Live.{lives}
 use Rattle.im_alloc_relation.specs.Placing.{ValidLine, Valid, PlacedBlocks, PlacedFunctions}
 use Rattle.im_compile_dependences.specs.Laws.{PlaceNames}
@@ -152,38 +152,10 @@ module _ (h : ℕ → Home) (n : ℕ) (old rest : List Line) (c : Carries old re
       carry (PutChar to from ∷ old) new (into (h from) 10 n new) (into_before (h from) 10 n new new (nothing_before new))
       (called to (PutChar to from) (PutChar 10 10) refl refl)
 
--- the lines of a block, put with all that is needed of them, and without a cut that came with a call before them
-record CarriesBoth (h : ℕ → Home) (exit : Exit) (lines tail : List Line) : Type 0 where
-  all : (n : ℕ) → Carries lines (put_lines h n (needed exit lines) tail)
-  past : (n : ℕ) → Carries lines (put_lines h n (past_cut exit (needed exit lines)) tail)
-
-module _ (h : ℕ → Home) (live : ℕ → ℕ → Bool) (exit : Exit) (tail : List Line) where
-  behind_carries : (line : Line) (lines : List Line) (n : ℕ) → CarriesBoth h exit lines tail → Carries lines (put_lines h n (behind exit line (needed exit lines)) tail)
-  behind_carries (Call to function first count) lines n c = c.past n
-  behind_carries (GetChar to) lines n c = c.past n
-  behind_carries (PutChar to from) lines n c = c.past n
-  behind_carries line lines n c = c.all n
-
-  loop_carries : (on : Exit) (cause : Cause) (lines : List Line) (n : ℕ) → CarriesBoth h exit lines tail → Carries (Cut cause ∷ lines) (put_lines h n (Cut cause ∷ needed exit lines) tail) → Carries (Cut cause ∷ lines) (put_lines h n (loop_cut on cause (needed exit lines)) tail)
-  loop_carries (Turn b) cause [] n c all = all
-  loop_carries (Turn b) cause (next ∷ lines) n c all = unnamed (Cut cause) (next ∷ lines) (put_lines h n (needed exit (next ∷ lines)) tail) refl (c.all n)
-  loop_carries (Jump b) cause lines n c all = unnamed (Cut cause) lines (put_lines h n (needed exit lines) tail) refl (c.all n)
-  loop_carries (Branch on a b) cause lines n c all = unnamed (Cut cause) lines (put_lines h n (needed exit lines) tail) refl (c.all n)
-  loop_carries (Return from) cause lines n c all = unnamed (Cut cause) lines (put_lines h n (needed exit lines) tail) refl (c.all n)
-
-  past_carries : (line : Line) (lines : List Line) (n : ℕ) → CarriesBoth h exit lines tail → Carries (line ∷ lines) (put_lines h n (needed exit (line ∷ lines)) tail) → Carries (line ∷ lines) (put_lines h n (past_cut exit (needed exit (line ∷ lines))) tail)
-  past_carries (Cut cause) lines n c all = loop_carries exit cause lines n c all
-  past_carries line lines n c all = all
-
-  more_carries : (line : Line) (lines : List Line) → ValidLine h line (lives live lines exit) → CarriesBoth h exit lines tail → CarriesBoth h exit (line ∷ lines) tail
-  more_carries line lines v c = record { all = all; past = λ n. past_carries line lines n c (all n) }
-    where
-      all : (n : ℕ) → Carries (line ∷ lines) (put_lines h n (needed exit (line ∷ lines)) tail)
-      all n = put_carries h n lines (put_lines h (n + numbers_kept) (behind exit line (needed exit lines)) tail) (behind_carries line lines (n + numbers_kept) c) line (lives live lines exit) v
-
-  lines_carry : (lines : List Line) → Valid h live lines exit → Carries [] tail → CarriesBoth h exit lines tail
-  lines_carry [] v c = record { all = λ n. c; past = λ n. c }
-  lines_carry (line ∷ lines) v c = more_carries line lines v.0 (lines_carry lines v.1 c)
+lines_carry : (h : ℕ → Home) (live : ℕ → ℕ → Bool) (exit : Exit) (n : ℕ) (lines tail : List Line) → Valid h live lines exit → Carries [] tail → Carries lines (put_lines h n lines tail)
+lines_carry h live exit n [] tail v c = c
+lines_carry h live exit n (line ∷ lines) tail v c =
+    put_carries h n lines (put_lines h (n + numbers_kept) lines tail) (lines_carry h live exit (n + numbers_kept) lines tail v.1 c) line (lives live lines exit) v.0
 
 result_before : (h : ℕ → Home) (n : ℕ) (from : Option ℕ) → Before [] (bring_result h n from)
 result_before h n None = nothing_before []
@@ -200,12 +172,10 @@ blocks h live n [] [] p v = no_blocks
 blocks h live n [] (y ∷ ys) p v = absurd p
 blocks h live n (x ∷ xs) [] p v = absurd p
 blocks h live n (x ∷ xs) (y ∷ ys) p v =
-    let lines : List Line = needed x.exit x.lines.items in
-    let tail : List Line = exit_lines h (n + numbers_kept * length lines) x.exit in
-    let both = lines_carry h live x.exit tail x.lines.items (v 0 x refl) (carry [] [] tail (exit_before h (n + numbers_kept * length lines) x.exit) (same_lines [])) in
+    let at : ℕ = n + numbers_kept * length x.lines.items in
     more_blocks x y xs ys
-    (equal_lines x.lines.items (put_lines h n lines tail) y.lines.items p.0.lines (both.all n))
-    (blocks h live (n + numbers_kept * suc (length lines)) xs ys p.1 (λ b k e. v (suc b) k e))
+    (equal_lines x.lines.items (put_lines h n x.lines.items (exit_lines h at x.exit)) y.lines.items p.0.lines (lines_carry h live x.exit n x.lines.items (exit_lines h at x.exit) (v 0 x refl) (carry [] [] (exit_lines h at x.exit) (exit_before h at x.exit) (same_lines []))))
+    (blocks h live (n + numbers_kept * suc (length x.lines.items)) xs ys p.1 (λ b k e. v (suc b) k e))
 
 functions : (fs gs : List Function) → PlacedFunctions fs gs → Names_each fs → Names_each gs
 functions [] [] h names = names

@@ -1,6 +1,6 @@
 -- What the vectors of a sweep stand for, behind each step.
 use Rattle.std.proofs.Common.{◌≡◌, ℕ, zero, suc, ◌+◌, ◌<◌, ◌≤◌, length, get_or, List, [], ◌∷◌, ◌++◌, Option, Some, None, refl, sym, ap, ◌∙◌, subst, inl, inr, ⊎_elim, ◌⊎◌, arith}
-use Rattle.std.specs.Prelude.{Bool, true, false, not, ◌==◌, ◌&&◌, ◌||◌, nat_le, if◌then◌else◌, drop, take}
+use Rattle.std.specs.Prelude.{Bool, true, false, not, ◌==◌, ◌&&◌, ◌||◌, nat_le, if◌then◌else◌}
 use Rattle.std.proofs.lemmas.Bool.{eqb-true, eq-eqb, leb-true}
 use Rattle.im_block.specs.declared.access.Access.{Access}
 use Rattle.im_block.specs.declared.access.Tag.{Tag}
@@ -77,17 +77,6 @@ same_site_self a = all (a.number == a.number) (a.size == a.size) (same_slot a.sl
   where
     all : (x y z : Bool) → x ≡ true → y ≡ true → z ≡ true → (x && y && z) ≡ true
     all x y z p q r = ap (λ t. t && y && z) p ∙ ap (λ t. t && z) q ∙ r
-
-pub has_dropped : {X : Type 0} (n : ℕ) (xs : List X) (x : X) → Has (drop n xs) x → Has xs x
-has_dropped zero xs x h = h
-has_dropped (suc n) [] x h = h
-has_dropped (suc n) (y ∷ ys) x h = inr (has_dropped n ys x h)
-
-pub has_taken : {X : Type 0} (n : ℕ) (xs : List X) (x : X) → Has (take n xs) x → Has xs x
-has_taken zero xs x h = absurd h
-has_taken (suc n) [] x h = h
-has_taken (suc n) (y ∷ ys) x (inl e) = inl e
-has_taken (suc n) (y ∷ ys) x (inr h) = inr (has_taken n ys x h)
 
 pub has_item : {X : Type 0} (xs : List X) (i : ℕ) (d : X) → i < length xs → Has xs (get_or xs i d)
 has_item [] i d h = absurd (omega arith)

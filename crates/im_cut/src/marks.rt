@@ -75,23 +75,11 @@ fn read(marks: &mut Marks, access: &Access, tags: &Tags) -> Result<(), NoMemory>
     if is_written(&marks.written, direct_span(tags, access)) {
         return Ok(());
     }
-    if has_recent_alike(&marks.exposed, access, tags) {
+    if has_alike(&marks.exposed, access, tags) {
         return Ok(());
     }
     marks.exposed.push(*access)?;
     Ok(())
-}
-
-/// How many of the last reads are looked at for one of the same place and size. A read that is there twice does no harm, and in a
-/// long section a longer look would cost more than it spares.
-const RECENT: usize = 64;
-
-/// Whether one of the last reads has the place and size of this one.
-fn has_recent_alike(reads: &[Access], read: &Access, tags: &Tags) -> bool
-    ensures { IsTrue result → HasAlike tags.now reads.now (site_of_access read.now) }
-{
-    let first = reads.len().saturating_sub(RECENT);
-    has_alike(&reads[first..], read, tags)
 }
 
 /// Whether one of the reads has the place and size of this one.

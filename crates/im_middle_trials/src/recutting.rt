@@ -93,12 +93,7 @@ fn sample(alloc: Global) -> Result<Unit, Fail>
 fn tags(alloc: Global) -> Result<Tags, Fail> {
     Ok(Tags {
         of: vec![in alloc; 0, 0, 0, 0]?,
-        tags: vec![in alloc;
-            Tag::Direct {
-                object: 0,
-                offset: 0
-            },
-        ]?,
+        tags: vec![in alloc; Tag::Direct { object: 0, offset: 0 }]?,
     })
 }
 

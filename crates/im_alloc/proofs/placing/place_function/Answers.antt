@@ -1,7 +1,7 @@
 use Rattle.std.proofs.Common.{◌≡◌, ℕ, ◌+◌, ◌*◌, ◌<◌, suc, length, arith, subst, get_or, take}
 use Rattle.std.specs.Prelude.{slice_set, All}
 use Rattle.im_block.specs.declared.code.Block.{Block}
-use Rattle.im_alloc_relation.specs.Homes.{numbers_kept, needed}
+use Rattle.im_alloc_relation.specs.Homes.{numbers_kept}
 use Rattle.im_alloc_relation.specs.Placing.{PlacedBlock}
 use Rattle.im_alloc_laws.specs.Numbered.{numbers_of_blocks}
 use Rattle.im_alloc.specs.Parts.{Fits}
@@ -24,7 +24,7 @@ loop-block-preserved c =
     let k = c.in_ok-next.ensures in
     let one = subst (λ n. PlacedBlock h n (get_or l.block-items l.block-index c.block-item.result) c.place_block.new.block) l.invariant.next_is k.placed in
     let m = blocks_more h c.args.number l.block-index f.blocks.items l.block-items c.block-item.result c.place_block.new.block within l.invariant.done l.invariant.left one in
-    let count : ℕ = numbers_of_blocks (take l.block-index f.blocks.items) + numbers_kept * suc (length (needed (get_or l.block-items l.block-index c.block-item.result).exit (get_or l.block-items l.block-index c.block-item.result).lines.items)) in
+    let count : ℕ = numbers_of_blocks (take l.block-index f.blocks.items) + numbers_kept * suc (length (get_or l.block-items l.block-index c.block-item.result).lines.items) in
     let next : suc l.block-index ≡ l.block-index + 1 = omega arith in
     let n = subst (λ j. BlocksMore h c.args.number j count f.blocks.items (slice_set l.block-items l.block-index c.place_block.new.block)) next m in
     let counted = n.counted in

@@ -1,4 +1,7 @@
-use Rattle.im_compile.proofs.Ready.{forced_well, forced_placeable, placed_ordered, placed_forced, passed}
+use Rattle.im_typed.specs.declared.program.Prog.{Prog}
+use Rattle.im_compile.specs.Lowered.{IsLoweredCode}
+use Rattle.im_compile.specs.Passed.{IsPassed}
+use Rattle.im_compile.proofs.Ready.{forced_well, forced_placeable, placed_ordered, placed_forced}
 use Rattle.im_compile.proofs.passes.placed_code.Goals as goal
 
 pub alias-requires-clause-well_formed : goal.alias-requires-clause-well_formed
@@ -26,8 +29,25 @@ pub recut-requires-clause-forced : goal.recut-requires-clause-forced
 recut-requires-clause-forced c =
     placed_forced c.force_keeps_law.ensures c.placed_code_law.ensures c.args.lowered c.in_ok-forced.forced c.in_ok-placed.placed c.in_ok-forced.ensures c.in_ok-placed.ensures.placed
 
+passed : (c : goal.In_ok-code) (prog : Prog) → IsLoweredCode prog c.args.lowered → IsPassed prog c.in_ok-code.code
+passed c prog l = record {
+  lowered = c.args.lowered;
+  lower = l.lower;
+  sized = l.sized;
+  placeable = l.placeable;
+  uncut = l.uncut;
+  told = l.told;
+  forced = c.in_ok-forced.forced;
+  force = c.in_ok-forced.ensures;
+  tags = c.in_ok-tags.tags;
+  alias = c.in_ok-tags.ensures-sound;
+  placed = c.in_ok-placed.placed;
+  place = c.in_ok-placed.ensures;
+  recut = c.in_ok-code.ensures;
+}
+
 pub returns-clause-passed : goal.returns-clause-passed
-returns-clause-passed c prog source l = passed prog c.args.lowered c.in_ok-forced.forced c.in_ok-tags.tags c.in_ok-placed.placed c.in_ok-code.code l c.in_ok-forced.ensures c.in_ok-tags.ensures.sound c.in_ok-placed.ensures c.in_ok-code.ensures
+returns-clause-passed c prog source l = passed c prog l
 
 pub returns-clause-ready : goal.returns-clause-ready
-returns-clause-ready c prog source l = c.ready_law.ensures prog c.in_ok-code.code source (passed prog c.args.lowered c.in_ok-forced.forced c.in_ok-tags.tags c.in_ok-placed.placed c.in_ok-code.code l c.in_ok-forced.ensures c.in_ok-tags.ensures.sound c.in_ok-placed.ensures c.in_ok-code.ensures)
+returns-clause-ready c prog source l = c.ready_law.ensures prog c.in_ok-code.code source (passed c prog l)

@@ -18,11 +18,11 @@ returns-then-is_written c =
     let there : is_covered was (span_of tags site) ≡ true = sym (ap (λ (p : Option Span). is_covered was p) c.direct_span.ensures) ∙ ap (λ (l : List Span). is_covered l c.direct_span.result) (sym c.deref.ensures.value) ∙ sym c.is_written.ensures ∙ c.if-is_written.true in
     λ m h. stands_read tags c.args.marks.now c.args.access.now m (λ q. absurd (covered_not tags c.args.marks.now m site h there q)) h
 
-pub returns-then-has_recent_alike : goal.returns-then-has_recent_alike
-returns-then-has_recent_alike c =
+pub returns-then-has_alike : goal.returns-then-has_alike
+returns-then-has_alike c =
     let tags = c.args.tags.now in
     let site = site_of_access c.args.access.now in
-    λ m h. stands_read tags c.args.marks.now c.args.access.now m (λ q. subst (λ (l : List Access). HasAlike tags l site) c.deref-2.ensures.value (c.has_recent_alike.ensures c.if-has_recent_alike.true)) h
+    λ m h. stands_read tags c.args.marks.now c.args.access.now m (λ q. subst (λ (l : List Access). HasAlike tags l site) c.deref-2.ensures.value (c.has_alike.ensures c.if-has_alike.true)) h
 
 pub returns : goal.returns
 returns c =
