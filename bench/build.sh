@@ -1,7 +1,7 @@
 #!/bin/sh
 # How fast sources become images, how fast they are checked alone, and how fast they become block code: bytes of source per
 # second, and the exponent of the time between each two sizes (1 where twice the source takes twice the time). Images are
-# made of sources of up to 420000 bytes, as larger ones have more code than a device has room for; the memory is told beside
+# made of sources of up to 525000 bytes, as larger ones have more code than a device has room for; the memory is told beside
 # them: the most bytes that are allocated at once, as valgrind's massif counts them, and the most that the process holds, its
 # own pages among them. What `gcc -O0 -c` and `gcc -fsyntax-only` take is told too. Block code is made of sources of up to 4
 # MiB: the time up to it is that of the check and, by its share of the instructions, which valgrind counts, that of lowering,
@@ -106,7 +106,7 @@ expect() { # TEXT: stops where it isn't in what was printed
 
 echo 'images:'
 before=0
-for size in 65536 131072 262144 420000; do
+for size in 65536 131072 262144 524288; do
     source_of "$size" "$work/source.c"
     bytes=$(wc -c < "$work/source.c")
     time=$(milliseconds "$program" build "$work/source.c" "$work/source.img")
@@ -122,12 +122,15 @@ for size in 65536 131072 262144 420000; do
 done
 
 echo 'block code:'
-before=0 checked_before=0
+before=0 checked_before=0 built_before=0
 for size in 65536 524288 4190000; do
     source_of "$size" "$work/source.c"
     bytes=$(wc -c < "$work/source.c")
     time=$(milliseconds "$program" build "$work/source.c" "$work/source.img")
-    if [ "$size" -gt 262144 ]; then expect 'code .* over 1044480'; fi
+    if [ "$size" -gt 524288 ]; then expect 'code .* over 1044480'; fi
+    memory=$(kilobytes "$program" build "$work/source.c" "$work/source.img")
+    echo "$bytes bytes to their code with all its cuts: $(per_second "$time")$(exponent "$time" "$built_before"), $memory KiB held"
+    built_before=$time
     share=$(lowering "$work/source.c")
     echo 'int last(void) { return nowhere; }' >> "$work/source.c"
     checked=$(milliseconds "$program" build "$work/source.c" "$work/source.img")
