@@ -1,5 +1,7 @@
 -- Refusals of the driver's steps are refusals of the source.
-use Rattle.std.proofs.Common.{◌≡◌, ℕ, List, Err, refl}
+use Rattle.std.proofs.Common.{◌≡◌, ℕ, zero, suc, ◌<◌, ◌^◌, List, [], ◌∷◌, length, Some, Err, false, true, refl, sym, ap, ◌∙◌}
+use Rattle.std.specs.Prelude.{◌&&◌, slice_get}
+use Rattle.std.proofs.lemmas.Bool.{lt-ltb, and_parts, and_from}
 use Rattle.im_fault.specs.declared.fault.LineFault.{LineFault}
 use Rattle.im_fault.specs.declared.fault.LineFault.TheVariants.{BadByte, OpenComment, OpenLiteral, BadEscape, BadNumber, BadDirective, Syntax, Nesting, Rule}
 use Rattle.im_fault.specs.declared.fault.Quantity.{Quantity}
@@ -19,7 +21,10 @@ use Rattle.im_check.specs.Checked.{IsCheckFault}
 use Rattle.im_compile.specs.declared.fault.CompileFault.{CompileFault}
 use Rattle.im_compile.specs.declared.fault.CompileFault.TheVariants as compile
 use Rattle.im_compile.specs.Faults.{IsFaultOf}
-use Rattle.im_keeps_built.specs.Laws.{RefusedLaw}
+use Rattle.im_store.specs.Statics.{StaticObject}
+use Rattle.im_typed.specs.Typing.{Each}
+use Rattle.im_rules_sound_statics.specs.Namable.{IsNamable}
+use Rattle.im_keeps_built.specs.Laws.{RefusedLaw, can_be_named, HasNoName}
 use Rattle.im_driver.specs.Compiled.{IsTreeOf, IsRefused, IsLineRefused}
 use Rattle.im_driver.specs.Steps.{IsReady, fault_at, of_compile}
 
@@ -52,8 +57,24 @@ check_refused source tokens tree (check.Limit which.Size count) is_tree h = reco
 check_refused source tokens tree (check.Limit which.Statics count) is_tree h = record { tokens = tokens; tree = tree; is_tree = is_tree; exceeds = h.0; sizes = h.1 }
 check_refused source tokens tree check.OutOfMemory is_tree h = tt
 
+-- an image can name each static of a program that is ready
+
+can_name : (o : StaticObject) → IsNamable o → can_be_named o ≡ true
+can_name o h =
+    let name = and_parts _ _ h.1 in
+    let length_fits = and_parts _ _ name.0 in
+    and_from _ _ (and_from _ _ (and_from _ _ (lt-ltb 0 (length o.cells) h.0) length_fits.0) length_fits.1) name.1
+
+each_named : (os : List StaticObject) (n : ℕ) (o : StaticObject) → Each IsNamable os → slice_get os n ≡ Some o → can_be_named o ≡ false → ⊥
+each_named [] n o h e f = cc
+each_named (x ∷ os) zero o h e f =
+    let same : x ≡ o = cc in
+    let own = ap can_be_named (sym same) ∙ can_name x h.0 in
+    cc
+each_named (x ∷ os) (suc n) o h e f = each_named os n o h.1 e f
+
 pub made_refused : RefusedLaw → (source : List ℕ) (made : Prog) (fault : CompileFault) → IsReady source made → IsFaultOf made fault → IsRefused source (of_compile fault)
 made_refused law source made (compile.Frame function bytes) r h = record { prog = program_of made; program = r.program; function = function; large = law.frame made function bytes r.is_source h }
 made_refused law source made (compile.Code bytes) r h = record { prog = program_of made; program = r.program; large = law.code made bytes r.is_source h }
-made_refused law source made (compile.Unnamed number) r h = record { prog = program_of made; program = r.program; number = number; unnamed = law.named made number r.is_source h }
+made_refused law source made (compile.Unnamed number) r h = (let unnamed = law.named made number r.is_source h in absurd (each_named (program_of made).statics number unnamed.s r.namable unnamed.is_static unnamed.cannot))
 made_refused law source made compile.OutOfMemory r h = tt
