@@ -55,5 +55,4 @@ check_refused source tokens tree check.OutOfMemory is_tree h = tt
 pub made_refused : RefusedLaw → (source : List ℕ) (made : Prog) (fault : CompileFault) → IsReady source made → IsFaultOf made fault → IsRefused source (of_compile fault)
 made_refused law source made (compile.Frame function bytes) r h = record { prog = program_of made; program = r.program; function = function; large = law.frame made function bytes r.is_source h }
 made_refused law source made (compile.Code bytes) r h = record { prog = program_of made; program = r.program; large = law.code made bytes r.is_source h }
-made_refused law source made (compile.Unnamed number) r h = record { prog = program_of made; program = r.program; number = number; unnamed = law.named made number r.is_source h }
 made_refused law source made compile.OutOfMemory r h = tt
