@@ -5,7 +5,7 @@ use Rattle.im_fault.specs.declared.fault.LineFault.TheVariants.{BadByte, OpenCom
 use Rattle.im_fault.specs.declared.fault.Quantity.{Quantity}
 use Rattle.im_fault.specs.declared.fault.Quantity.TheVariants.{Source, Parameters, Size, Statics, Frame, Code}
 use Rattle.im_fault.specs.declared.fault.SourceFault.{SourceFault}
-use Rattle.im_fault.specs.declared.fault.SourceFault.TheVariants.{Line, Limit, NotYet, OutOfMemory}
+use Rattle.im_fault.specs.declared.fault.SourceFault.TheVariants.{Line, Limit, OutOfMemory}
 use Rattle.im_front.specs.Reading.{IsRead, IsWrong, token_lines}
 use Rattle.im_typed.specs.declared.program.Prog.{Prog}
 use Rattle.im_typed.specs.ProgramOf.{program_of}
@@ -42,7 +42,6 @@ read_refused source (Limit Size count) h = absurd h
 read_refused source (Limit Statics count) h = absurd h
 read_refused source (Limit Frame count) h = absurd h
 read_refused source (Limit Code count) h = absurd h
-read_refused source NotYet h = absurd h
 read_refused source OutOfMemory h = tt
 
 pub check_refused : (source : List ℕ) (tokens : List Token) (tree : Tree) (fault : CheckFault) → IsTreeOf source tokens tree → IsCheckFault (tree_of tree) fault → IsRefused source (fault_at source (token_lines tokens) fault)

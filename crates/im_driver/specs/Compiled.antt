@@ -5,7 +5,7 @@ use Rattle.im_fault.specs.declared.fault.LineFault.TheVariants.{BadByte, OpenCom
 use Rattle.im_fault.specs.declared.fault.Quantity.{Quantity}
 use Rattle.im_fault.specs.declared.fault.Quantity.TheVariants.{Source, Parameters, Size, Statics, Frame, Code}
 use Rattle.im_fault.specs.declared.fault.SourceFault.{SourceFault}
-use Rattle.im_fault.specs.declared.fault.SourceFault.TheVariants.{Line, Limit, NotYet, OutOfMemory}
+use Rattle.im_fault.specs.declared.fault.SourceFault.TheVariants.{Line, Limit, OutOfMemory}
 use Rattle.im_num.specs.Variables.{Variable}
 use Rattle.im_store.specs.Outcomes.{End}
 use Rattle.im_tok.specs.declared.token.Token.{Token}
@@ -137,9 +137,8 @@ IsLimitRefused source Statics count = IsExceededByStatics source count
 IsLimitRefused source Frame count = IsFrameRefused source count
 IsLimitRefused source Code count = IsCodeRefused source count
 
--- why a source isn't compiled; an image can name each static of a source's program
+-- why a source isn't compiled
 abbrev pub IsRefused : List ℕ → SourceFault → Type 0
 IsRefused source (Line line why) = IsLineRefused source line why
 IsRefused source (Limit quantity count) = IsLimitRefused source quantity count
-IsRefused source NotYet = ⊥
 IsRefused source OutOfMemory = Unit {0}

@@ -198,7 +198,7 @@ fn evaluations(rt: HostRuntime) -> Result<(), Fail> {
     Ok(())
 }
 
-const REFUSALS: [(Refusal, &str); 23] = [
+const REFUSALS: [(Refusal, &str); 22] = [
     (Refusal::CannotRead("a.c"), "cannot read a.c"),
     (
         Refusal::BadSource(
@@ -209,10 +209,6 @@ const REFUSALS: [(Refusal, &str); 23] = [
             },
         ),
         "a.c: source 4194305 over 4194304",
-    ),
-    (
-        Refusal::BadSource("a.c", SourceFault::NotYet),
-        "a.c: not yet compiled",
     ),
     (
         Refusal::BadSource(
