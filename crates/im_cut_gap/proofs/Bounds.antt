@@ -1,6 +1,6 @@
 -- Where all blocks are swept, no path without a cut costs more than the limit.
-use Rattle.std.proofs.Common.{◌≡◌, ◌⊎◌, ℕ, ◌+◌, ◌<◌, ◌≤◌, List, [], ◌∷◌, ◌++◌, Option, Some, None, refl, sym, ap, ◌∙◌, subst, append_assoc, ⊎_elim, arith}
-use Rattle.std.specs.Prelude.{Bool, true, slice_get}
+use Rattle.std.proofs.Common.{◌≡◌, ◌⊎◌, ℕ, ◌+◌, ◌≤◌, List, [], ◌∷◌, ◌++◌, Option, Some, None, refl, sym, ◌∙◌, subst, append_assoc, ⊎_elim, arith}
+use Rattle.std.specs.Prelude.{true, slice_get}
 use Rattle.std.proofs.lemmas.List.{append-nil}
 use Rattle.im_num.specs.declared.values.Cause.TheVariants.{Gap}
 use Rattle.im_block.specs.declared.code.Line.{Line}
@@ -15,7 +15,7 @@ use Rattle.im_block.specs.Shape.{with_cut}
 use Rattle.im_cut_gap.specs.Costs.{leave_cost, CostPath, Here, Along, Across, NoneLonger}
 use Rattle.im_cut_gap.specs.Starts.{Reaches, leads_to, turn_cost}
 use Rattle.im_cut_gap.specs.Sweep.{Spends, Nowhere, Fits, Splits, SweepLines, Leaves, AtCut, Skips, Keeps, Cuts}
-use Rattle.im_cut_gap.proofs.Costs.{cost_after, cost_along, end_cost, along_append, after_plain, after_cut, spent_zero, reaches_more, Small, small_reached, sweep_end, sweep_small}
+use Rattle.im_cut_gap.proofs.Costs.{cost_after, cost_along, end_cost, along_append, after_plain, after_cut, spent_zero, reaches_more, Small, small_reached, sweep_small}
 
 pub record SweptBlock (limit : ℕ) (starts : ℕ → Option ℕ) (old : List Block) (b : ℕ) (y : Block) : Type 0 where
   pub was : Block

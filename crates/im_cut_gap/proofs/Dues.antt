@@ -15,13 +15,13 @@ use Rattle.im_block.specs.Meaning.{Spot, at_block}
 use Rattle.im_block.specs.Sections.{Has}
 use Rattle.im_block.specs.Paths.{IsCut, IsEdge, spot, IsEntry}
 use Rattle.im_block.specs.Shape.{Descends, IsOrdered, with_cut}
-use Rattle.im_block.specs.Forced.{EndsWithCut, CutAtTurn}
-use Rattle.im_cut_gap.specs.Costs.{leave_cost, next_cost, CostPath, Here, Along, Across}
-use Rattle.im_cut_gap.specs.Gaps.{HasCause, IsEarlier, BehindCut, Starts, IsLong, GapLines, Empty, Same, Added, GapBlocks}
+use Rattle.im_block.specs.Forced.{CutAtTurn}
+use Rattle.im_cut_gap.specs.Costs.{leave_cost, CostPath, Here, Along, Across}
+use Rattle.im_cut_gap.specs.Gaps.{HasCause, IsEarlier, BehindCut, Starts, GapLines, Empty, Same, Added, GapBlocks}
 use Rattle.im_cut_gap.specs.Starts.{leads_to, turn_cost}
 use Rattle.im_cut_gap.specs.Sweep.{Spends, Nowhere, Fits, Splits, SweepLines, Leaves, AtCut, Skips, Keeps, Cuts}
-use Rattle.im_cut_gap.proofs.Costs.{some_same, none_some, spent, cost_after, cost_along, end_cost, after_plain, spent_zero, spent_from, zero_more, TurnEnd, turn_end}
-use Rattle.im_cut_gap.proofs.Bounds.{SweptBlock, Comes, Turns, Origin, Swept, leave_fits}
+use Rattle.im_cut_gap.proofs.Costs.{some_same, cost_along, end_cost, after_plain, spent_zero, spent_from, zero_more, turn_end}
+use Rattle.im_cut_gap.proofs.Bounds.{SweptBlock, Comes, Turns, Swept, leave_fits}
 
 or_cases : (x y : Bool) → (x || y) ≡ true → (x ≡ true) ⊎ (y ≡ true)
 or_cases true y e = inl refl

@@ -1,5 +1,5 @@
 -- Paths of code with further cuts are paths of the old code.
-use Rattle.std.proofs.Common.{◌≡◌, ◌⊎◌, ℕ, zero, suc, ◌+◌, ◌≤◌, List, [], ◌∷◌, Option, Some, refl, sym, ap, ◌∙◌, subst, arith}
+use Rattle.std.proofs.Common.{◌≡◌, ℕ, zero, suc, ◌+◌, ◌≤◌, List, [], ◌∷◌, Some, refl, sym, ap, subst, arith}
 use Rattle.std.specs.Prelude.{slice_get}
 use Rattle.im_block.specs.declared.code.Line.{Line}
 use Rattle.im_block.specs.declared.code.Line.TheVariants.{Cut}
@@ -7,7 +7,7 @@ use Rattle.im_block.specs.declared.code.Exit.{Exit}
 use Rattle.im_block.specs.declared.code.Block.{Block}
 use Rattle.im_block.specs.declared.unit.Function.{Function}
 use Rattle.im_block.specs.Meaning.{Spot, at_block}
-use Rattle.im_block.specs.Paths.{IsCut, IsEdge, spot, Begins}
+use Rattle.im_block.specs.Paths.{IsCut, spot, Begins}
 use Rattle.im_block.specs.Shape.{with_cut}
 use Rattle.im_block.specs.Uncut.{WithCuts, Empty, Same, Added, SameBlock, SameBlocks, SameFunction}
 use Rattle.im_cut_gap.specs.Costs.{leave_cost, CostPath, Here, Along, Across, NoneLonger}

@@ -11,12 +11,12 @@ use Rattle.im_block.specs.declared.code.Exit.{Exit}
 use Rattle.im_block.specs.declared.code.Block.{Block}
 use Rattle.im_block.specs.declared.unit.Function.{Function}
 use Rattle.im_block.specs.Meaning.{Spot}
-use Rattle.im_block.specs.Paths.{IsCut, spot, IsEntry, AfterCut, Begins}
+use Rattle.im_block.specs.Paths.{IsCut, spot, IsEntry, Begins}
 use Rattle.im_block.specs.Shape.{with_cut, narrowing}
 use Rattle.im_block.specs.Forced.{StartsWithCut}
 use Rattle.im_block.specs.Uncut.{WithCuts, Empty as NoLines, Same as SameLine, Added as AddedCut, SameBlocks, SameFunction}
 use Rattle.im_alloc_placed.specs.Apart.{CutsApart}
-use Rattle.im_cut_gap.specs.Costs.{leave_cost, next_cost, CostPath, Here, Along, Across, NoneLonger}
+use Rattle.im_cut_gap.specs.Costs.{next_cost, CostPath, Here, Along, Across, NoneLonger}
 use Rattle.im_cut_gap.specs.Gaps.{BehindCut, Starts, IsLong, GapLines, Empty, Same, Added, GapBlocks, GapCutsTo}
 use Rattle.im_cut_gap.proofs.Costs.{some_same}
 use Rattle.im_cut_gap.proofs.Bounds.{leave_fits}

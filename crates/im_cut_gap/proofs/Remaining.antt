@@ -1,7 +1,6 @@
 -- What is left of paths without a cut, from the first block on.
 use Rattle.std.proofs.Common.{◌≡◌, ◌⊎◌, ℕ, zero, suc, ◌+◌, ◌<◌, ◌≤◌, max, List, [], ◌∷◌, ◌++◌, length, get_or, Option, Some, None, refl, sym, ap, ◌∙◌, subst, inl, inr, ⊎_elim, length-append, arith}
 use Rattle.std.specs.Prelude.{slice_get}
-use Rattle.std.proofs.lemmas.Option.{slice_get_within}
 use Rattle.im_block.specs.declared.code.Line.{Line}
 use Rattle.im_block.specs.declared.code.Line.TheVariants.{Cut}
 use Rattle.im_block.specs.declared.code.Exit.{Exit}
@@ -9,7 +8,7 @@ use Rattle.im_block.specs.declared.code.Exit.TheVariants.{Jump, Turn, Branch, Re
 use Rattle.im_block.specs.declared.code.Block.{Block}
 use Rattle.im_block.specs.declared.unit.Function.{Function}
 use Rattle.im_block.specs.Meaning.{Spot, at_block}
-use Rattle.im_block.specs.Paths.{IsCut, IsEdge, spot, IsEntry, AfterCut, Begins}
+use Rattle.im_block.specs.Paths.{IsCut, spot, IsEntry, AfterCut, Begins}
 use Rattle.im_block.specs.Shape.{Descends, IsOrdered, with_cut}
 use Rattle.im_block.specs.Forced.{EndsWithCut, CutAtTurn}
 use Rattle.im_cut_gap.specs.Costs.{leave_cost, CostPath, Here, Along, Across, NoneLonger}
@@ -57,7 +56,7 @@ ends_rest : (line : Line) (rest : List Line) → (IsCut line → ⊥) → EndsWi
 ends_rest line [] uncut h = absurd (uncut h)
 ends_rest line (next ∷ rest) uncut h = h
 
-turn_rest : (exit : Exit) (line : Line) (rest : List Line) → (IsCut line → ⊥) → CutAtTurn exit (line ∷ rest) → CutAtTurn exit rest
+pub turn_rest : (exit : Exit) (line : Line) (rest : List Line) → (IsCut line → ⊥) → CutAtTurn exit (line ∷ rest) → CutAtTurn exit rest
 turn_rest (Jump c) line rest uncut h = tt
 turn_rest (Turn c) line rest uncut h = ends_rest line rest uncut h
 turn_rest (Branch on x y) line rest uncut h = tt
@@ -68,7 +67,7 @@ ends_suffix [] x y rest h = h
 ends_suffix (w ∷ []) x y rest h = h
 ends_suffix (w ∷ v ∷ front) x y rest h = ends_suffix (v ∷ front) x y rest h
 
-turn_suffix : (exit : Exit) (front : List Line) (x : Line) (rest : List Line) → CutAtTurn exit (front ++ x ∷ rest) → CutAtTurn exit rest ⊎ ((c : ℕ) × (rest ≡ []) × (exit ≡ Turn c))
+pub turn_suffix : (exit : Exit) (front : List Line) (x : Line) (rest : List Line) → CutAtTurn exit (front ++ x ∷ rest) → CutAtTurn exit rest ⊎ ((c : ℕ) × (rest ≡ []) × (exit ≡ Turn c))
 turn_suffix (Jump c) front x rest h = inl tt
 turn_suffix (Turn c) front x [] h = inr (c, refl, refl)
 turn_suffix (Turn c) front x (y ∷ rest) h = inl (ends_suffix front x y rest h)

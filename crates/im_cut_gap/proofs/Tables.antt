@@ -1,11 +1,11 @@
 -- The table of costs at the starts of blocks.
-use Rattle.std.proofs.Common.{◌≡◌, ◌⊎◌, ℕ, zero, suc, ◌+◌, ◌<◌, ◌≤◌, List, [], ◌∷◌, ◌++◌, length, get_or, replicate, Option, Some, None, refl, sym, ap, ◌∙◌, subst, inl, inr, ⊎_elim, arith}
+use Rattle.std.proofs.Common.{◌≡◌, ◌⊎◌, ℕ, zero, suc, ◌<◌, ◌≤◌, List, [], ◌∷◌, ◌++◌, length, get_or, Option, Some, None, refl, sym, ap, ◌∙◌, subst, inl, inr, ⊎_elim, arith}
 use Rattle.std.specs.Prelude.{Bool, true, false, ◌==◌, ◌||◌, nat_le, if◌then◌else◌, slice_get, slice_set}
 use Rattle.std.proofs.lemmas.Bool.{eqb-true, eq-eqb, leb-true, leb-false}
 use Rattle.im_block.specs.declared.code.Exit.{Exit}
 use Rattle.im_block.specs.declared.code.Exit.TheVariants.{Jump, Turn, Branch, Return}
 use Rattle.im_block.specs.declared.code.Block.{Block}
-use Rattle.im_cut_gap.specs.Starts.{Reaches, greater, leads_to, turns_to, is_turned, turn_cost, RaisedWhere, AreStarts}
+use Rattle.im_cut_gap.specs.Starts.{Reaches, greater, leads_to, turns_to, is_turned, turn_cost, RaisedWhere, AreBlank, AreStarts}
 use Rattle.im_cut_gap.proofs.Costs.{some_same, none_some}
 
 clash : true ≡ false → ⊥
@@ -233,17 +233,14 @@ turned (x ∷ xs) (suc p) c block at e = or_second (turns_to x.exit c) (is_turne
 
 -- ---- before the sweep
 
--- no path comes to any of these
-abbrev pub AreBlank : List (Option ℕ) → Type 0
-AreBlank costs = (c : ℕ) → get_or costs c None ≡ None
+pub blank_none : AreBlank []
+blank_none = λ c. refl
 
-pub blank_many : (n : ℕ) → AreBlank (replicate n None)
-blank_many n = λ c. many n c
-  where
-    many : (n c : ℕ) → get_or {A = Option ℕ} (replicate n None) c None ≡ None
-    many zero c = refl
-    many (suc n) zero = refl
-    many (suc n) (suc c) = many n c
+pub blank_more : (costs : List (Option ℕ)) → AreBlank costs → AreBlank (costs ++ None ∷ [])
+blank_more [] h zero = refl
+blank_more [] h (suc c) = refl
+blank_more (x ∷ costs) h zero = h zero
+blank_more (x ∷ costs) h (suc c) = blank_more costs (λ k. h (suc k)) c
 
 pub are_starts : (entry : ℕ) (blocks : List Block) (blank mid new : List (Option ℕ)) → AreBlank blank → RaisedWhere (λ c. entry == c) (Some 0) blank mid → RaisedWhere (is_turned blocks) (Some turn_cost) mid new → AreStarts entry blocks new
 are_starts entry blocks blank mid new none h k = record {

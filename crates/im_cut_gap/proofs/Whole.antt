@@ -1,9 +1,8 @@
 -- The function, as far as its blocks are swept, and the whole of it.
-use Rattle.std.proofs.Common.{◌≡◌, ◌⊎◌, ℕ, zero, suc, ◌+◌, ◌<◌, ◌≤◌, List, [], ◌∷◌, ◌++◌, length, get_or, Option, Some, None, refl, sym, ap, ◌∙◌, subst, inl, inr, ⊎_elim, arith}
+use Rattle.std.proofs.Common.{◌≡◌, ◌⊎◌, ℕ, suc, ◌<◌, ◌≤◌, List, length, get_or, Option, Some, None, refl, sym, ap, ◌∙◌, subst, inl, inr, ⊎_elim, arith}
 use Rattle.std.specs.Prelude.{Bool, true, false, ◌==◌, ◌||◌, slice_get, slice_set}
-use Rattle.std.proofs.lemmas.Bool.{eqb-true, eq-eqb, cases_lt}
+use Rattle.std.proofs.lemmas.Bool.{eq-eqb, cases_lt}
 use Rattle.std.proofs.lemmas.Option.{slice_get_within, slice_get-get_or}
-use Rattle.im_block.specs.declared.code.Line.{Line}
 use Rattle.im_block.specs.declared.code.Exit.{Exit}
 use Rattle.im_block.specs.declared.code.Exit.TheVariants.{Jump, Turn, Branch, Return}
 use Rattle.im_block.specs.declared.code.Block.{Block}
@@ -13,9 +12,9 @@ use Rattle.im_block.specs.Shape.{Descends, IsOrdered}
 use Rattle.im_block.specs.Forced.{CutAtTurn}
 use Rattle.im_cut_gap.specs.Costs.{leave_cost}
 use Rattle.im_cut_gap.specs.Gaps.{GapCutsTo}
-use Rattle.im_cut_gap.specs.Starts.{Reaches, leads_to, is_turned, turn_cost, RaisedWhere, AreStarts}
+use Rattle.im_cut_gap.specs.Starts.{Reaches, leads_to, is_turned, turn_cost, AreStarts}
 use Rattle.im_cut_gap.specs.Sweep.{SweepLines, SweepsBlock}
-use Rattle.im_cut_gap.proofs.Costs.{some_same, none_some, end_cost, reaches_down, Small, sweep_end, sweep_small, turn_end}
+use Rattle.im_cut_gap.proofs.Costs.{some_same, end_cost, reaches_down, Small, sweep_end, sweep_small, turn_end}
 use Rattle.im_cut_gap.proofs.Bounds.{SweptBlock, Comes, Turns, Origin, Swept, leave_fits, none_longer}
 use Rattle.im_cut_gap.proofs.Dues.{leads_down, swept_due}
 use Rattle.im_cut_gap.proofs.Gapping.{line_fits}

@@ -1,18 +1,9 @@
 -- What follows of gap cuts.
-use Rattle.std.specs.Prelude.{◌≡◌, ◌⊎◌, ℕ, ◌+◌, ◌≤◌, List, [], ◌∷◌, Some, slice_get}
-use Rattle.im_block.specs.declared.code.Line.{Line}
-use Rattle.im_block.specs.declared.code.Line.TheVariants.{Cut}
-use Rattle.im_block.specs.declared.code.Exit.{Exit}
-use Rattle.im_block.specs.declared.code.Exit.TheVariants.{Jump, Turn, Branch, Return}
+use Rattle.std.specs.Prelude.{◌≡◌, ℕ, ◌≤◌, Some, slice_get}
 use Rattle.im_block.specs.declared.code.Block.{Block}
 use Rattle.im_block.specs.declared.unit.Function.{Function}
-use Rattle.im_block.specs.Meaning.{Spot}
-use Rattle.im_block.specs.Paths.{IsEdge, Begins}
-use Rattle.im_block.specs.Shape.{IsOrdered, with_cut}
-use Rattle.im_block.specs.Forced.{CutAtTurn}
 use Rattle.im_block.specs.Uncut.{SameFunction}
 use Rattle.im_alloc_placed.specs.Apart.{CutsApart}
-use Rattle.im_cut_gap.specs.Costs.{leave_cost, NoneLonger}
 use Rattle.im_cut_gap.specs.Gaps.{GapCutsTo}
 
 -- gap cuts are further cuts alone

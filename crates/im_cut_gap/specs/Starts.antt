@@ -44,6 +44,10 @@ pub record RaisedWhere (test : ℕ → Bool) (cost : Option ℕ) (old new : List
   pub from : (c m : ℕ) → get_or new c None ≡ Some m → (get_or old c None ≡ Some m) ⊎ ((test c ≡ true) × (cost ≡ Some m))
   pub same : (c : ℕ) → test c ≡ false → get_or new c None ≡ get_or old c None
 
+-- no path comes to any of these places
+abbrev pub AreBlank : List (Option ℕ) → Type 0
+AreBlank costs = (c : ℕ) → get_or costs c None ≡ None
+
 -- what is known before the sweep: sections begin at the entry and before each loop edge
 pub record AreStarts (entry : ℕ) (blocks : List Block) (costs : List (Option ℕ)) : Type 0 where
   pub entered : entry < length costs → Reaches 0 (get_or costs entry None)

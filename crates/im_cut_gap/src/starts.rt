@@ -1,5 +1,5 @@
 ghost use Rattle.std.specs.Prelude.{◌≡◌, ◌==◌, IfOk, Some, length};
-ghost use Rattle.im_cut_gap.specs.Starts.{AreStarts, RaisedWhere, greater as greater_of, is_turned, leads_to, turn_cost, turns_to};
+ghost use Rattle.im_cut_gap.specs.Starts.{AreBlank, AreStarts, RaisedWhere, greater as greater_of, is_turned, leads_to, turn_cost, turns_to};
 
 use crate::lines::leave_cost;
 use im_block::{Block, Exit, Function};
@@ -12,9 +12,21 @@ pub(crate) fn start_costs(alloc: Global, function: &Function) -> Result<Vec<Opti
     ensures starts { IfOk result (λ costs. AreStarts function.now.entry function.now.blocks.items costs.items) }
     ensures len { IfOk result (λ costs. length costs.items ≡ length function.now.blocks.items) }
 {
-    let mut costs: Vec<Option<u32>> = vec![in alloc; None; function.blocks.len()]?;
+    let mut costs = blank_costs(alloc, function.blocks.len())?;
     reach(&mut costs, function.entry, Some(0));
     reach_turned(&mut costs, &function.blocks);
+    Ok(costs)
+}
+
+/// Costs of so many places that no path comes to.
+fn blank_costs(alloc: Global, count: usize) -> Result<Vec<Option<u32>>, NoMemory>
+    ensures blank { IfOk result (λ costs. AreBlank costs.items) }
+    ensures len { IfOk result (λ costs. length costs.items ≡ count) }
+{
+    let mut costs = Vec::new(alloc);
+    'places: while costs.len() < count {
+        costs.push(None)?;
+    }
     Ok(costs)
 }
 

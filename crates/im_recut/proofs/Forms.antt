@@ -1,5 +1,5 @@
 -- Functions with gap cuts: their edges, and the cuts before their loop edges.
-use Rattle.std.proofs.Common.{◌≡◌, ℕ, zero, suc, List, [], ◌∷◌, Option, Some, None, refl, sym, subst}
+use Rattle.std.proofs.Common.{◌≡◌, ℕ, zero, suc, List, [], ◌∷◌, Option, Some, None, refl, sym, ap, ◌∙◌, subst}
 use Rattle.std.specs.Prelude.{slice_get}
 use Rattle.im_block.specs.declared.code.Line.{Line}
 use Rattle.im_block.specs.declared.code.Line.TheVariants.{Cut}
@@ -31,6 +31,39 @@ function_same f = record { blocks = blocks_same f.blocks.items; rest = refl }
 pub gaps_same : GapSameLaw → (max_gap : Option ℕ) (old new : Function) → GapsTo max_gap old new → SameFunction old new
 gaps_same law None old new h = subst (SameFunction old) (sym h) (function_same old)
 gaps_same law (Some gap) old new h = law (cost_limit gap) old new h
+
+-- further cuts, and then more
+
+lines_twice : (a b c : List Line) → WithCuts a b → WithCuts b c → WithCuts a c
+lines_twice a b c h Empty = h
+lines_twice a b c h (Added cause x y k) = Added cause a y (lines_twice a x y h k)
+lines_twice a b c h (Same line x y k) = under a (line ∷ x) h refl
+  where
+    under : (p q : List Line) → WithCuts p q → q ≡ line ∷ x → WithCuts p (line ∷ y)
+    under p q Empty e = cc
+    under p q (Same l i j g) e =
+        let head : l ≡ line = cc in
+        let tail : j ≡ x = cc in
+        subst (λ (t : Line). WithCuts (t ∷ i) (line ∷ y)) (sym head) (Same line i y (lines_twice i x y (subst (WithCuts i) tail g) k))
+    under p q (Added cause i j g) e =
+        let head : Cut cause ≡ line = cc in
+        let tail : j ≡ x = cc in
+        subst (λ (t : Line). WithCuts p (t ∷ y)) head (Added cause p y (lines_twice p x y (subst (WithCuts p) tail g) k))
+
+blocks_twice : (xs ys zs : List Block) → SameBlocks xs ys → SameBlocks ys zs → SameBlocks xs zs
+blocks_twice [] [] [] h k = tt
+blocks_twice [] [] (z ∷ zs) h k = absurd k
+blocks_twice [] (y ∷ ys) zs h k = absurd h
+blocks_twice (x ∷ xs) [] zs h k = absurd h
+blocks_twice (x ∷ xs) (y ∷ ys) [] h k = absurd k
+blocks_twice (x ∷ xs) (y ∷ ys) (z ∷ zs) h k =
+    (record { lines = lines_twice x.lines.items y.lines.items z.lines.items h.0.lines k.0.lines; exit = k.0.exit ∙ h.0.exit }, blocks_twice xs ys zs h.1 k.1)
+
+pub twice_same : (f g h : Function) → SameFunction f g → SameFunction g h → SameFunction f h
+twice_same f g h a b = record {
+  blocks = blocks_twice f.blocks.items g.blocks.items h.blocks.items a.blocks b.blocks;
+  rest = b.rest ∙ ap (λ (k : Function). record k { blocks = h.blocks }) a.rest;
+}
 
 -- the last line is a cut
 

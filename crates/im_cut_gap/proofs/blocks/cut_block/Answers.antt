@@ -12,7 +12,7 @@ returns-clause-sweeps c =
     let start = c.index-start.result.now in
     let lines = c.in_ok-lines.lines.items in
     let end = c.in_ok-lines.end in
-    let is : start ≡ get_or costs number None = c.index-start.ensures.value ∙ any_default costs number start None c.requires.within in
+    let is : start ≡ get_or costs number None = c.index-start.ensures ∙ any_default costs number start None c.requires.within in
     record {
       end = end;
       lines = subst (λ (m : Option ℕ). SweepLines c.args.most block.exit m block.lines.items lines end) is

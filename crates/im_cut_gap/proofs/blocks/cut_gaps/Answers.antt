@@ -1,4 +1,4 @@
-use Rattle.std.proofs.Common.{◌≡◌, ℕ, suc, ◌<◌, ◌≤◌, ◌-◌, refl, arith, List, sym, subst, length}
+use Rattle.std.proofs.Common.{◌≡◌, ℕ, suc, ◌<◌, ◌≤◌, ◌-◌, refl, arith, sym, subst, length}
 use Rattle.std.proofs.lemmas.Option.{slice_get_read}
 use Rattle.im_cut_gap.proofs.Whole.{GapsSoFar, gaps_none, gaps_more, gaps_whole}
 use Rattle.im_cut_gap.proofs.blocks.cut_gaps.Goals as goal

@@ -1,4 +1,4 @@
-use Rattle.std.proofs.Common.{◌≡◌, ◌∙◌, ℕ, List, sym, subst}
+use Rattle.std.proofs.Common.{◌∙◌, ℕ, sym, subst}
 use Rattle.im_cut_gap.specs.Sweep.{Puts}
 use Rattle.im_cut_gap.proofs.Passing.{sweeps_cut, sweeps_plain}
 use Rattle.im_cut_gap.proofs.lines.cut_line.Goals as goal

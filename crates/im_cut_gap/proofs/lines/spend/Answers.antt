@@ -1,4 +1,4 @@
-use Rattle.std.proofs.Common.{◌≡◌, ◌+◌, ◌<◌, ◌≤◌, ℕ, Option, Some, None, sym, subst, arith}
+use Rattle.std.proofs.Common.{◌+◌, ◌<◌, ◌≤◌, ℕ, Option, Some, None, sym, subst, arith}
 use Rattle.im_cut_gap.specs.Sweep.{Puts}
 use Rattle.im_cut_gap.proofs.Passing.{puts_nowhere, puts_fits, puts_splits}
 use Rattle.im_cut_gap.proofs.lines.spend.Goals as goal
@@ -10,7 +10,7 @@ pub returns-then-so_far-most : goal.returns-then-so_far-most
 returns-then-so_far-most c =
     let m = c.in-Some.so_far in
     let long : c.args.most < m + c.args.step = omega arith in
-    subst (λ (k : Option ℕ). Puts c.args.most c.args.step k (Some c.args.step) c.args.cut.now.items _) (sym c.in-Some.is) (puts_splits c.args.most c.args.step m c.args.cut.now.items _ long c.in_ok-push-in-Some.ensures.items)
+    rw c.in-Some.is (puts_splits c.args.most c.args.step m c.args.cut.now.items _ long c.in_ok-push-in-Some.ensures.items)
 
 pub returns-else-so_far-most : goal.returns-else-so_far-most
 returns-else-so_far-most c =

@@ -1,4 +1,4 @@
-use Rattle.std.proofs.Common.{◌≡◌, ◌∙◌, ℕ, Option, Some, sym, ap, subst}
+use Rattle.std.proofs.Common.{◌≡◌, ℕ, Some, sym, ap, subst}
 use Rattle.std.specs.Prelude.{◌==◌}
 use Rattle.im_block.specs.declared.code.Exit.{Exit}
 use Rattle.im_cut_gap.specs.Starts.{RaisedWhere, turns_to, turn_cost}
