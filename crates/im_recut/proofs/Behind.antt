@@ -16,14 +16,14 @@ use Rattle.im_block.specs.declared.unit.Function.{Function}
 use Rattle.im_block.specs.Meaning.{Site, Spot, at_block}
 use Rattle.im_block.specs.Paths.{Step, WriteStep, steps_of, IsCut, IsEdge, spot, Path, Here, Along, Across, IsEntry, AfterCut, Begins}
 use Rattle.im_block.specs.Shape.{Descends, IsOrdered, with_cut}
-use Rattle.im_block.specs.Forced.{EndsWithCut, CutAtTurn}
+use Rattle.im_block.specs.Forced.{CutAtTurn}
 use Rattle.im_block.specs.Uncut.{WithCuts, Empty as NoLines, Same as SameLine, Added as AddedCut, SameFunction}
-use Rattle.im_cut.specs.Greedy.{cause_of, causes_of_blocks, BehindCut, Starts, IsDue, CutLines, Empty, Same, Added, CutBlocks, CutsTo}
+use Rattle.im_cut.specs.Greedy.{cause_of, causes_of_blocks, BehindCut, IsDue, CutLines, Empty, Same, Added, CutBlocks, CutsTo}
 use Rattle.im_cut_gap.specs.Costs.{leave_cost, CostPath}
 use Rattle.im_cut_gap.specs.Costs as costs
 use Rattle.im_cut_gap.specs.Remaining.{LiesOn}
 use Rattle.im_cut_gap.proofs.Costs.{some_same}
-use Rattle.im_cut_gap.proofs.Further.{twin, Follows, follows}
+use Rattle.im_cut_gap.proofs.Further.{twin, follows}
 use Rattle.im_cut_gap.proofs.Remaining.{turn_rest, turn_suffix}
 
 -- ---- where a path comes to
