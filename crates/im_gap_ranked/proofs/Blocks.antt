@@ -9,7 +9,7 @@
 --     since 11 words of putchar lead to its first cut. A call has one more, so block_base = cut_rank + 9 and its with_cut, 3, suffice;
 --   back: what stands behind a call is a cut, or the end of the run; a return has cut_rank + 1, and 5 words at most stand before it.
 -- So where a section begins, with at most n left, a word has at most 46 + n, and 49 where the run begins: K is at most 33 + 1 + 49 + n.
-use Rattle.std.proofs.Common.{◌≡◌, ◌≢◌, ℕ, zero, suc, ◌+◌, ◌-◌, ◌^◌, ◌<◌, ◌≤◌, max, ◌⊎◌, inl, inr, Bool, true, false, List, [], ◌∷◌, ◌++◌, Some, None, length, refl, sym, ap, ◌∙◌, subst, length-append, arith}
+use Rattle.std.proofs.Common.{◌≡◌, ◌≢◌, ℕ, suc, ◌+◌, ◌-◌, ◌^◌, ◌<◌, ◌≤◌, max, inl, Bool, true, false, List, [], ◌∷◌, ◌++◌, Some, None, length, refl, sym, ap, ◌∙◌, subst, length-append, arith}
 use Rattle.std.specs.Prelude.{◌==◌, slice_get, All}
 use Rattle.std.proofs.lemmas.List.Elements.{All-head, All-tail}
 use Rattle.im_num.specs.declared.values.Cause.{Cause}
@@ -32,10 +32,10 @@ use Rattle.im_cut_gap.specs.Remaining.{cost_on}
 use Rattle.im_select.specs.Emitted.{high_of, low_of, constant_by, constant_code, adds_by, adds_code, entry_label, labelled, call_code, cut_code, line_code, lines_code, leave_code, result_code, exit_code, block_code, blocks_code, enter_code, prologue_code, function_code}
 use Rattle.im_select.specs.Places.{CallsBelow}
 use Rattle.im_select.proofs.Counting.{paid}
-use Rattle.im_saved_lines.proofs.Scanning.{same_of, same_is, IsPlain, ArePlain}
+use Rattle.im_saved_lines.proofs.Scanning.{same_of, same_is, IsPlain}
 use Rattle.im_saved_lines.proofs.Plain.{adds_plain}
 use Rattle.im_saved_lines.proofs.Working.{IsWork, work_plain}
-use Rattle.im_gap_ranked.proofs.Ranks.{greater_within, After, cut_rank, scan, IsRankedLine, AreRanked, IsWithin, AreWithin, scan_append, ranked_append, ranked_labelled, within_append, within_labelled, plain_ranked, plain_rank, plain_within}
+use Rattle.im_gap_ranked.proofs.Ranks.{greater_within, After, cut_rank, scan, IsRankedLine, AreRanked, AreWithin, scan_append, ranked_append, ranked_labelled, within_append, within_labelled, plain_ranked, plain_rank, plain_within}
 use Rattle.im_gap_ranked.proofs.Routines.{entry_rank}
 
 -- ---- the stack pointer plus a word

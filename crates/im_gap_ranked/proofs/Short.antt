@@ -1,23 +1,14 @@
 -- Where no path without a cut costs more than a limit, little is left behind each cut, and no gap is long.
-use Rattle.std.proofs.Common.{◌≡◌, ℕ, ◌+◌, ◌≤◌, List, ◌∷◌, ◌++◌, length, Option, Some, None, inr, refl, subst, arith}
+use Rattle.std.proofs.Common.{◌≡◌, ℕ, ◌+◌, Option, Some, None, inr, refl, subst, arith}
 use Rattle.std.specs.Prelude.{slice_get}
-use Rattle.im_num.specs.declared.values.Cause.{Cause}
-use Rattle.im_rv.specs.declared.code.Part.{Part}
-use Rattle.im_rv.specs.declared.code.Code.{Code as Linked}
-use Rattle.im_gap.specs.Gap.{recovery_steps, IsGap}
-use Rattle.im_link.specs.Code.{IsLinkable, IsLinked}
-use Rattle.im_block.specs.declared.code.Line.{Line}
 use Rattle.im_block.specs.declared.code.Line.TheVariants.{Cut}
-use Rattle.im_block.specs.declared.code.Block.{Block}
 use Rattle.im_block.specs.declared.unit.Function.{Function}
 use Rattle.im_block.specs.declared.unit.Unit.{Unit as Code}
 use Rattle.im_block.specs.Paths.{spot}
 use Rattle.im_block.specs.Shape.{AllOrdered}
 use Rattle.im_block.specs.Forced.{AllForced}
-use Rattle.im_cut_gap.specs.Remaining.{cost_on, IsRemaining}
+use Rattle.im_cut_gap.specs.Remaining.{IsRemaining}
 use Rattle.im_cut_gap.proofs.Remaining.{remaining}
-use Rattle.im_frame.specs.declared.layout.Layout.{Layout}
-use Rattle.im_link_laws.specs.Program.{IsProgram}
 use Rattle.im_gap_ranked.specs.Laws.{AllShort, LinkedShortLaw}
 use Rattle.im_gap_ranked.proofs.Blocks.{block_base}
 use Rattle.im_gap_ranked.proofs.Whole.{within}
