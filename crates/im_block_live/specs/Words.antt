@@ -1,5 +1,5 @@
 -- Sets of 32 virtual registers as words: bit j for register base + j.
-use Rattle.std.specs.Prelude.{◌≡◌, ℕ, ◌+◌, ◌/◌, ◌%◌, ◌<◌, ◌≤◌, ◌^◌, ◌==◌, Bool, true, not, ◌||◌, false, List, Option, None, Some, Vec, All, length, drop, slice_get, slice_index, slice_set, bit_or}
+use Rattle.std.specs.Prelude.{◌≡◌, ℕ, ◌+◌, ◌*◌, ◌/◌, ◌%◌, ◌<◌, ◌≤◌, ◌^◌, ◌==◌, Bool, true, not, ◌||◌, false, List, Option, None, Some, Vec, All, length, drop, slice_get, slice_index, slice_set, bit_or}
 use Rattle.std.specs.Int.{bit_at}
 use Rattle.std.specs.declared.alloc.Global.{Global}
 use Rattle.im_block.specs.declared.code.Line.{Line}
@@ -68,3 +68,8 @@ AreWithin f = All (IsWithin f.register_count (length f.blocks.items)) f.blocks.i
 pub record ArePoints (base : ℕ) (starts : List ℕ) (lines : List Line) (exit : Exit) (words : List ℕ) : Type 0 where
   pub count : length words ≡ length lines + 1
   pub each : (i j : ℕ) → i ≤ length lines → j < 32 → has (slice_index words i) j ≡ lives (starts_have starts j) (drop i lines) exit (base + j)
+
+-- there are enough groups for so many registers, and each has a word for each block
+pub record HaveWords (registers blocks : ℕ) (groups : List (Vec ℕ Global)) : Type 0 where
+  pub enough : registers ≤ 32 * length groups
+  pub each : (i : ℕ) (words : Vec ℕ Global) → slice_get groups i ≡ Some words → length words.items ≡ blocks

@@ -1,7 +1,7 @@
-ghost use Rattle.std.specs.Prelude.{◌≡◌, ◌<◌, ◌≤◌, ◌+◌, ◌*◌, IfOk, length};
+ghost use Rattle.std.specs.Prelude.{IfOk, length};
 ghost use Rattle.im_block.specs.Wellformed.{ExitThere};
 ghost use Rattle.im_block_live.specs.Reads.{IsLive};
-ghost use Rattle.im_block_live.specs.Words.{starts_have, groups_have, AreWithin, ArePoints};
+ghost use Rattle.im_block_live.specs.Words.{groups_have, AreWithin, ArePoints, HaveWords};
 
 use crate::groups::Live;
 use crate::registers::{before, before_exit};
@@ -14,7 +14,9 @@ use std::alloc::Global;
 /// them before it sets them.
 pub fn live(alloc: Global, function: &Function) -> Result<Live, NoMemory>
     requires { AreWithin function.now }
-    ensures { IfOk result (λ live. IsLive function.now.blocks.items (groups_have live.groups.items)) }
+    ensures live { IfOk result (λ live. IsLive function.now.blocks.items (groups_have live.groups.items)) }
+    ensures words { IfOk result (λ live.
+        HaveWords function.now.register_count (length function.now.blocks.items) live.groups.items) }
 {
     let mut groups = Vec::new(alloc);
     for i in 0..function.register_count.div_ceil(32) {

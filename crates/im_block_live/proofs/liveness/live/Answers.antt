@@ -13,4 +13,7 @@ returns c =
     let past = c.loop-i-test.false in
     let count = l.invariant.count in
     let enough : c.args.function.now.register_count ≤ 32 * length l.groups.items = omega arith in
-    live_of c.args.function.now l.groups.items c.requires enough l.invariant.each
+    record {
+      live = live_of c.args.function.now l.groups.items c.requires enough l.invariant.each;
+      words = record { enough = enough; each = λ i words is. (l.invariant.each i words is).count };
+    }
