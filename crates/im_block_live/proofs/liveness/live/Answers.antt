@@ -1,4 +1,4 @@
-use Rattle.std.proofs.Common.{◌*◌, ◌≤◌, length, sym, subst, arith}
+use Rattle.std.proofs.Common.{◌+◌, ◌*◌, ◌<◌, ◌≤◌, length, sym, subst, arith}
 use Rattle.im_block_live.specs.Words.{AreLinked}
 use Rattle.im_block_live.proofs.Pointed.{linked, live_of}
 use Rattle.im_block_live.proofs.liveness.live.Goals as goal
@@ -13,7 +13,8 @@ returns c =
     let past = c.loop-i-test.false in
     let count = l.invariant.count in
     let enough : c.args.function.now.register_count ≤ 32 * length l.groups.items = omega arith in
+    let few : 32 * length l.groups.items < c.args.function.now.register_count + 32 = omega arith in
     record {
       live = live_of c.args.function.now l.groups.items c.requires enough l.invariant.each;
-      words = record { enough = enough; each = λ i words is. (l.invariant.each i words is).count };
+      words = record { enough = enough; few = few; each = λ i words is. (l.invariant.each i words is).count };
     }
