@@ -68,3 +68,7 @@ AreWithin f = All (IsWithin f.register_count (length f.blocks.items)) f.blocks.i
 pub record ArePoints (base : ℕ) (starts : List ℕ) (lines : List Line) (exit : Exit) (words : List ℕ) : Type 0 where
   pub count : length words ≡ length lines + 1
   pub each : (i j : ℕ) → i ≤ length lines → j < 32 → has (slice_index words i) j ≡ lives (starts_have starts j) (drop i lines) exit (base + j)
+
+-- each group has a word for each block
+abbrev pub HaveWords : ℕ → List (Vec ℕ Global) → Type 0
+HaveWords blocks groups = (i : ℕ) (words : Vec ℕ Global) → slice_get groups i ≡ Some words → length words.items ≡ blocks

@@ -1,8 +1,6 @@
 //! From block code to the virtual registers that live at its points.
 #![tactic(auto)]
 
-mod live;
-mod registers;
-mod sweeps;
+mod starts;
 
-pub use live::{Live, live};
+pub use starts::{LiveRegisters, live, points};

@@ -1,4 +1,0 @@
-pub mod Bits
-pub mod Paths
-pub mod Sweeping
-pub mod Pointed
