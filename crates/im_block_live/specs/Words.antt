@@ -69,6 +69,8 @@ pub record ArePoints (base : ℕ) (starts : List ℕ) (lines : List Line) (exit 
   pub count : length words ≡ length lines + 1
   pub each : (i j : ℕ) → i ≤ length lines → j < 32 → has (slice_index words i) j ≡ lives (starts_have starts j) (drop i lines) exit (base + j)
 
--- each group has a word for each block
-abbrev pub HaveWords : ℕ → List (Vec ℕ Global) → Type 0
-HaveWords blocks groups = (i : ℕ) (words : Vec ℕ Global) → slice_get groups i ≡ Some words → length words.items ≡ blocks
+-- there are just enough groups for so many registers, and each has a word for each block
+pub record HaveWords (registers blocks : ℕ) (groups : List (Vec ℕ Global)) : Type 0 where
+  pub enough : registers ≤ 32 * length groups
+  pub few : 32 * length groups < registers + 32
+  pub each : (i : ℕ) (words : Vec ℕ Global) → slice_get groups i ≡ Some words → length words.items ≡ blocks

@@ -20,7 +20,7 @@ pub struct LiveRegisters {
 pub fn live(_alloc: Global, _function: &Function) -> Result<LiveRegisters, NoMemory>
     requires { AreWithin _function.now }
     ensures live { IfOk result (λ live. IsLive _function.now.blocks.items (groups_have live.groups.items)) }
-    ensures words { IfOk result (λ live. HaveWords (length _function.now.blocks.items) live.groups.items) }
+    ensures words { IfOk result (λ live. HaveWords _function.now.register_count (length _function.now.blocks.items) live.groups.items) }
 {
     Err(NoMemory::OutOfMemory)
 }
