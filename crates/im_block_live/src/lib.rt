@@ -1,6 +1,12 @@
 //! From block code to the virtual registers that live at its points.
 #![tactic(auto)]
 
-mod starts;
+mod groups;
+mod laws;
+mod liveness;
+mod registers;
+mod sweeps;
 
-pub use starts::{LiveRegisters, live, points};
+pub use groups::Live;
+pub use laws::live_within_law;
+pub use liveness::{live, points};
