@@ -6,7 +6,6 @@ use Rattle.std.proofs.lemmas.Bool.{cases_lt, ltb-true}
 use Rattle.std.proofs.lemmas.Bool.Decides.{nat_tests}
 use Rattle.std.proofs.lemmas.List.{drop_more, length-set, get_or_default, get_or-set_same, get_or-set_other}
 use Rattle.std.proofs.lemmas.List.Elements.{All-head, All-tail, All-weaker}
-use Rattle.std.proofs.lemmas.Option.{slice_get_within, slice_get_past}
 use Rattle.im_block.specs.declared.code.Place.{Place}
 use Rattle.im_block.specs.declared.code.Place.TheVariants.{Static, Local, Through}
 use Rattle.im_block.specs.declared.code.Line.{Line}
@@ -18,7 +17,7 @@ use Rattle.im_block.specs.declared.unit.Function.{Function}
 use Rattle.im_block.specs.Wellformed.{PlaceWithin, LineWithin, ExitWithin, ExitThere}
 use Rattle.im_alloc_relation.specs.Live.{place_uses, uses, sets, exit_lives, lives}
 use Rattle.im_block_live.specs.Reads.{lives_in, reads_first, IsLive}
-use Rattle.im_block_live.specs.Words.{has, starts_have, AreStarts, AreLinked, group_has, groups_have, IsWithin, AreWithin, ArePoints}
+use Rattle.im_block_live.specs.Words.{has, starts_have, AreStarts, AreLinked, group_has, groups_have, IsWithin, AreWithin}
 use Rattle.im_block_live.proofs.Bits.{same_of, not_equal, has_zero}
 use Rattle.im_block_live.proofs.Paths.{all_read}
 use Rattle.im_block_live.proofs.Sweeping.{past_end}
@@ -133,6 +132,12 @@ module _ (n count v : ℕ) (le : n ≤ v) (none : ℕ → ℕ → Bool) (no : (b
 none_read : (n count v : ℕ) (blocks : List Block) → n ≤ v → All (IsWithin n count) blocks → (k b : ℕ) → reads_first blocks k b v ≡ false
 none_read n count v blocks le h zero b = refl
 none_read n count v blocks le h (suc k) b = block_none n count v le (reads_first blocks k) (λ c. none_read n count v blocks le h k c) blocks b h
+
+pub live_within : (f : Function) → AreWithin f → (n b v : ℕ) → reads_first f.blocks.items n b v ≡ true → v < f.register_count
+live_within f within n b v e = elim (cases_lt v f.register_count) [
+  | inl lt ↦ lt
+  | inr le ↦ (let no = none_read f.register_count (length f.blocks.items) v f.blocks.items le within n b in absurd cc)
+]
 
 -- all groups together
 

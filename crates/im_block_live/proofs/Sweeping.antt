@@ -26,7 +26,7 @@ less_left n old now len small less =
     let e : length now * 2 ^ 32 ≡ n * 2 ^ 32 = ap (λ z. z * 2 ^ 32) len in
     omega arith
 
-past_end : (xs : List ℕ) (i : ℕ) → length xs ≤ i → get_or xs i 0 ≡ 0
+pub past_end : (xs : List ℕ) (i : ℕ) → length xs ≤ i → get_or xs i 0 ≡ 0
 past_end [] i le = refl
 past_end (x ∷ xs) zero le = absurd (omega arith)
 past_end (x ∷ xs) (suc i) le = past_end xs i (omega arith)

@@ -1,5 +1,5 @@
 -- Which virtual registers live at the points of block code: read, on some path, before they are set.
-use Rattle.std.specs.Prelude.{◌≡◌, ℕ, zero, suc, Bool, true, false, List, Option, Some, None, slice_get, drop}
+use Rattle.std.specs.Prelude.{◌≡◌, ℕ, zero, suc, Bool, true, false, List, Option, Some, None, slice_get}
 use Rattle.im_block.specs.declared.code.Block.{Block}
 use Rattle.im_alloc_relation.specs.Live.{lives}
 

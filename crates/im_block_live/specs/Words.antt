@@ -68,3 +68,9 @@ AreWithin f = All (IsWithin f.register_count (length f.blocks.items)) f.blocks.i
 pub record ArePoints (base : ℕ) (starts : List ℕ) (lines : List Line) (exit : Exit) (words : List ℕ) : Type 0 where
   pub count : length words ≡ length lines + 1
   pub each : (i j : ℕ) → i ≤ length lines → j < 32 → has (slice_index words i) j ≡ lives (starts_have starts j) (drop i lines) exit (base + j)
+
+-- there are just enough groups for so many registers, and each has a word for each block
+pub record HaveWords (registers blocks : ℕ) (groups : List (Vec ℕ Global)) : Type 0 where
+  pub enough : registers ≤ 32 * length groups
+  pub few : 32 * length groups < registers + 32
+  pub each : (i : ℕ) (words : Vec ℕ Global) → slice_get groups i ≡ Some words → length words.items ≡ blocks

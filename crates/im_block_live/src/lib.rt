@@ -1,8 +1,12 @@
 //! From block code to the virtual registers that live at its points.
 #![tactic(auto)]
 
-mod live;
+mod groups;
+mod laws;
+mod liveness;
 mod registers;
 mod sweeps;
 
-pub use live::{Live, live};
+pub use groups::Live;
+pub use laws::live_within_law;
+pub use liveness::{live, points};

@@ -25,13 +25,7 @@ fn before_block(base: u64, starts: &[u32], block: &Block) -> u32
 }
 
 /// What lives before a block joins its word. Says whether any word has had news so far.
-fn join_block(
-    base: u64,
-    starts: &mut [u32],
-    number: usize,
-    block: &Block,
-    was_news: bool,
-) -> bool
+fn join_block(base: u64, starts: &mut [u32], number: usize, block: &Block, was_news: bool) -> bool
     requires number { number < length starts.old }
     requires there { ExitThere (length starts.old) block.now.exit }
     ensures { Joins base block.now number starts.old starts.new was_news result }

@@ -1,5 +1,5 @@
-use Rattle.std.proofs.Common.{◌+◌, ap, ◌∙◌}
-use Rattle.std.specs.Prelude.{◌==◌, ◌||◌, bit_or}
+use Rattle.std.proofs.Common.{ap, ◌∙◌}
+use Rattle.std.specs.Prelude.{◌||◌, bit_or}
 use Rattle.im_block_live.specs.Words.{has}
 use Rattle.im_block_live.proofs.Bits.{has_or}
 use Rattle.im_block_live.proofs.registers.before_branch.Goals as goal

@@ -11,8 +11,8 @@ pub loop-i-preserved : goal.loop-i-preserved
 loop-i-preserved c j lt =
     let l = c.loop-i in
     let n = c.args.base + j in
-    let at : c.from.result + c.from-2.result ≡ c.args.first + l.i = omega (arith, c.from.ensures, c.from-2.ensures) in
-    has_or l.word c.one.result j
-    ∙ ap (λ z. z || has c.one.result j) (l.invariant j lt)
-    ∙ ap (λ z. (nat_le c.args.first n && nat_lt n (c.args.first + l.i)) || z) (c.one.ensures j lt ∙ ap (λ z. n == z) at)
+    let at : c.from.result + c.from-in-loop-i.result ≡ c.args.first + l.i = omega (arith, c.from.ensures, c.from-in-loop-i.ensures) in
+    has_or l.word c.one-word.result j
+    ∙ ap (λ z. z || has c.one-word.result j) (l.invariant j lt)
+    ∙ ap (λ z. (nat_le c.args.first n && nat_lt n (c.args.first + l.i)) || z) (c.one-word.ensures j lt ∙ ap (λ z. n == z) at)
     ∙ run_more c.args.first n l.i

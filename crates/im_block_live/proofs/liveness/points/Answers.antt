@@ -1,6 +1,6 @@
 use Rattle.std.proofs.Common.{◌<◌, arith}
 use Rattle.im_block_live.proofs.Pointed.{points_step}
-use Rattle.im_block_live.proofs.live.points.Goals as goal
+use Rattle.im_block_live.proofs.liveness.points.Goals as goal
 
 pub loop-left-preserved : goal.loop-left-preserved
 loop-left-preserved c =

@@ -1,8 +1,8 @@
-use Rattle.std.proofs.Common.{◌≡◌, ℕ, ◌*◌, ◌<◌, length, Some}
+use Rattle.std.proofs.Common.{◌≡◌, ℕ, ◌*◌, length, Some}
 use Rattle.std.specs.Prelude.{Vec, slice_get}
 use Rattle.std.specs.declared.alloc.Global.{Global}
 use Rattle.im_block_live.specs.Words.{AreStarts}
-use Rattle.im_block_live.proofs.live.live.Given as goal
+use Rattle.im_block_live.proofs.liveness.live.Given as goal
 
 abbrev pub invariant-loop-i : goal.invariant-loop-i
 invariant-loop-i l = record {

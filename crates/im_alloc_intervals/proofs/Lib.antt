@@ -1,0 +1,10 @@
+pub mod Adding
+pub mod Blocks
+pub mod Lining
+pub mod Lives
+pub mod Paths
+pub mod Placing
+pub mod Stepping
+pub mod Targets
+pub mod Whole
+pub mod Words
