@@ -30,13 +30,13 @@ fn give(
     tables: &Tables,
     register: usize,
     taken: &mut Taken,
-    of: &mut [Home],
+    of: &mut Vec<Home>,
 ) -> Result<(), NoMemory>
     requires fits { AreFitting tables.now }
     requires within { register < length tables.now.intervals.items }
-    requires count { length of.old ≡ length tables.now.intervals.items }
+    requires count { length of.old.items ≡ length tables.now.intervals.items }
     requires few { length taken.old.slots.items < 2 ^ 32 }
-    ensures { OnOk result (Gives tables.now register taken.old taken.new of.old of.new) }
+    ensures { OnOk result (Gives tables.now register taken.old taken.new of.old.items of.new.items) }
 {
     if let Some(interval) = tables.intervals[register] {
         let is_slotted = tables.slotted[register];
