@@ -1,12 +1,12 @@
 -- The homes before the scan.
-use Rattle.std.proofs.Common.{◌≡◌, ◌≢◌, ◌⊎◌, ◌<◌, ◌≤◌, ◌+◌, ℕ, zero, suc, List, [], ◌∷◌, length, set, replicate, ⊎_elim, refl, sym, ap, ◌∙◌, subst, arith}
+use Rattle.std.proofs.Common.{◌≡◌, ◌≢◌, ◌⊎◌, ◌<◌, ◌≤◌, ◌+◌, ℕ, zero, suc, List, [], ◌∷◌, None, length, set, replicate, ⊎_elim, refl, sym, ap, ◌∙◌, subst, arith}
 use Rattle.std.proofs.lemmas.Bool.{cases_eq}
 use Rattle.std.proofs.lemmas.List.{length-set, length-replicate}
 use Rattle.im_alloc_relation.specs.Homes.{Home, InRegister}
 use Rattle.im_alloc_intervals.specs.declared.table.Home.{Home as HomeOf}
 use Rattle.im_alloc_intervals.specs.declared.table.Home.TheVariants.{Register}
 use Rattle.im_alloc_intervals.specs.Homes.{home_or, home_at}
-use Rattle.im_alloc_intervals.specs.Scans.{AreFirst}
+use Rattle.im_alloc_intervals.specs.Scans.{AreFirst, register_at}
 use Rattle.im_alloc_intervals.proofs.Gets.{set_same, set_other}
 
 at_replicate : (n v : ℕ) → home_at (replicate n (Register 31)) v ≡ InRegister 31
@@ -37,3 +37,9 @@ first_next q count of new lt x is = record {
 
     other : (v : ℕ) → v ≢ q → home_at new v ≡ home_at of v
     other v ne = ap (λ (z : List HomeOf). home_at z v) is ∙ ap home_or (set_other of q v (Register (10 + q)) ne)
+
+-- no register is in use
+pub register_none : (n r : ℕ) → register_at (replicate n None) r ≡ None
+register_none zero r = refl
+register_none (suc n) zero = refl
+register_none (suc n) (suc r) = register_none n r

@@ -1,5 +1,6 @@
 pub mod Adding
 pub mod Blocks
+pub mod Deref
 pub mod Entering
 pub mod Firsts
 pub mod Gets

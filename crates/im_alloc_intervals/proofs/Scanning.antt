@@ -268,6 +268,20 @@ module _ (p : ℕ) (t : Tables) (starts : List Start) (listed : AreStarts p t.in
       easy = easy;
     }
 
+  pub start_within : (k : ℕ) (s : Start) → slice_get starts k ≡ Some s → s.register < length t.intervals.items
+  start_within k s at =
+      let one = listed.each k s at in
+      ⊎_elim
+      (λ (lt : s.register < length t.intervals.items). lt)
+      (λ (le : length t.intervals.items ≤ s.register). absurd (none-some one.interval (sym (get_or_past t.intervals.items s.register None le) ∙ one.at)))
+      (cases_lt s.register (length t.intervals.items))
+
+  pub scan_step : AreFitting t → (k : ℕ) (s : Start) → slice_get starts k ≡ Some s → (of new_of : List HomeOf) (old new : Taken) → Scan p t starts k of old → Gives t s.register old new of new_of → Scan p t starts (k + 1) new_of new
+  scan_step fits k s at of new_of old new scan gives =
+      let one = listed.each k s at in
+      let given : GivesHome t s.register one.interval old new of new_of = subst (λ (o : Option Interval). GivesSome t s.register o old new of new_of) one.at gives in
+      scan_next k s at one.interval one.at (fits.ordered s.register one.interval one.at) of new_of old new scan given
+
   -- ---- the end
 
   module _ (k : ℕ) (homes : Homes) (taken : Taken) (all : length starts ≤ k) (some : k ≤ length starts) (slots : homes.slots ≡ length taken.slots.items) (few_parameters : p ≤ 8) (scan : Scan p t starts k homes.of.items taken) where

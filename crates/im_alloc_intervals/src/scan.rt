@@ -7,7 +7,7 @@ ghost use Rattle.im_alloc_intervals.specs.Tables.{AreFitting};
 use crate::starts::starts;
 use crate::table::{Home, Homes};
 use crate::tables::{Tables, measure};
-use crate::taken::{Taken, take};
+use crate::taken::{Taken, nothing_taken, take};
 use im_block::Function;
 use im_num::NoMemory;
 use std::alloc::Global;
@@ -46,6 +46,17 @@ fn give(
     Ok(())
 }
 
+fn finish(of: Vec<Home>, taken: &Taken) -> Homes
+    requires { length taken.now.slots.items < 2 ^ 32 }
+    ensures of { result.of ≡ of }
+    ensures slots { result.slots ≡ length taken.now.slots.items }
+{
+    Homes {
+        of,
+        slots: taken.slots.len() as u32,
+    }
+}
+
 /// Homes by a linear scan over the intervals.
 fn scan(alloc: Global, parameters: u32, tables: &Tables) -> Result<Homes, NoMemory>
     requires fits { AreFitting tables.now }
@@ -55,15 +66,11 @@ fn scan(alloc: Global, parameters: u32, tables: &Tables) -> Result<Homes, NoMemo
 {
     let starts = starts(alloc, parameters, &tables.intervals)?;
     let mut of = first_homes(alloc, parameters, tables.intervals.len())?;
-    let mut taken = Taken {
-        registers: [None; 32],
-        slots: Vec::new(alloc),
-    };
+    let mut taken = nothing_taken(alloc);
     for start in &starts {
         give(tables, start.register as usize, &mut taken, &mut of)?;
     }
-    let slots = taken.slots.len() as u32;
-    Ok(Homes { of, slots })
+    Ok(finish(of, &taken))
 }
 
 /// The homes of a function's registers. Parameters stay in x10 and on. What lives across a call, and

@@ -1,4 +1,4 @@
-use Rattle.std.proofs.Common.{◌≡◌, ◌<◌, ◌-◌, ◌+◌, ℕ, List, Some, suc, length, refl, ap, ◌∙◌, arith}
+use Rattle.std.proofs.Common.{◌≡◌, ◌<◌, ◌-◌, ◌+◌, ℕ, List, Some, suc, length, refl, sym, ap, ◌∙◌, arith}
 use Rattle.std.specs.Prelude.{slice_get}
 use Rattle.std.proofs.lemmas.Option.{slice_get_read}
 use Rattle.im_block.specs.declared.code.Block.{Block}
@@ -14,7 +14,7 @@ loop-left-preserved c =
     let pos : 0 < l.left = (let t = c.loop-left-test.true in omega arith) in
     let lt : l.left - 1 < length blocks = (let w = l.invariant.within in omega arith) in
     let at : slice_get blocks (l.left - 1) ≡ Some block = slice_get_read blocks (length blocks) (l.left - 1) block refl lt c.index-blocks-left.is in
-    let is = c.in_ok-next.ensures.sum ∙ ap (λ (z : List Line). l.next + suc (length z)) c.deref.ensures.value in
+    let is = c.in_ok-next.ensures.sum ∙ ap (λ (z : List Line). l.next + suc (length z)) c.deref.ensures.value ∙ ap (λ (b : Block). l.next + suc (length b.lines.items)) (sym c.index-blocks-left.is) in
     places_step blocks l.places.items l.next l.left c.in_ok-next.next block pos at l.invariant is c.in_ok-next.ensures.small
 
 pub returns : goal.returns
