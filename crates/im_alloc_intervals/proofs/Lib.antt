@@ -1,9 +1,17 @@
 pub mod Adding
 pub mod Blocks
+pub mod Deref
+pub mod Entering
+pub mod Firsts
+pub mod Gets
 pub mod Lining
 pub mod Lives
+pub mod Measuring
 pub mod Paths
 pub mod Placing
+pub mod Pointing
+pub mod Scanning
+pub mod Sorting
 pub mod Stepping
 pub mod Targets
 pub mod Whole

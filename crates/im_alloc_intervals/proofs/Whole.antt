@@ -235,8 +235,8 @@ module _ (f : Function) (able : IsAble f) where
     no_call leaf k = leaf.none k.b k.block k.i k.line k.at k.stands k.is_call
 
     bool_false : (b : Bool) → (b ≡ true → ⊥) → b ≡ false
-    bool_false true no = absurd (no refl)
-    bool_false false no = refl
+    bool_false true f = absurd (f refl)
+    bool_false false f = refl
 
     holds_at : (v q : ℕ) → HoldsIn (own v) q → HoldsAt blocks v q
     holds_at v q x = by (own v) refl x

@@ -1,5 +1,5 @@
 -- The scan: where intervals begin, what is in use, and the homes that it gives.
-use Rattle.std.specs.Prelude.{◌≡◌, ◌≢◌, ◌<◌, ◌≤◌, ◌⊎◌, ◌^◌, ℕ, ◌+◌, ◌==◌, if◌then◌else◌, Bool, true, false, List, Option, Some, None, length, slice_get, slice_index_or, slice_set}
+use Rattle.std.specs.Prelude.{◌≡◌, ◌≢◌, ◌<◌, ◌≤◌, ◌⊎◌, ◌^◌, ℕ, ◌+◌, ◌==◌, if◌then◌else◌, Bool, true, false, List, [], ◌∷◌, Option, Some, None, length, slice_get, slice_index_or, slice_set}
 use Rattle.std.specs.List.{sum_by}
 use Rattle.im_block.specs.Sections.{Has}
 use Rattle.im_alloc_relation.specs.Homes.{Home, InRegister, InSlot}
@@ -25,6 +25,10 @@ pub record IsListed (starts : List Start) (v : ℕ) : Type 0 where
   pub start : Start
   pub at : slice_get starts k ≡ Some start
   pub is : start.register ≡ v
+
+abbrev pub starts_of_one : ℕ → Option Interval → List Start
+starts_of_one r None = []
+starts_of_one r (Some i) = record { first = i.first; register = r } ∷ []
 
 -- how often a register is in a list of starts
 abbrev pub one_if : ℕ → Start → ℕ

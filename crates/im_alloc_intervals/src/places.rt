@@ -8,7 +8,8 @@ use std::alloc::Global;
 /// The position behind a block's exit. Positions that pass 64 bits count as want of memory: so many
 /// lines have no room.
 fn behind(start: u64, lines: &[Line]) -> Result<u64, NoMemory>
-    ensures { IfOk result (λ next. next ≡ start + suc (length lines.now)) }
+    ensures sum { IfOk result (λ next. next ≡ start + suc (length lines.now)) }
+    ensures small { IfOk result (λ next. next < 2 ^ 64) }
 {
     match start.checked_add(lines.len() as u64 + 1) {
         Some(next) => Ok(next),

@@ -7,7 +7,7 @@ ghost use Rattle.im_alloc_intervals.specs.Tables.{AreFitting};
 use crate::starts::starts;
 use crate::table::{Home, Homes};
 use crate::tables::{Tables, measure};
-use crate::taken::{Taken, take};
+use crate::taken::{Taken, nothing_taken, take};
 use im_block::Function;
 use im_num::NoMemory;
 use std::alloc::Global;
@@ -30,13 +30,13 @@ fn give(
     tables: &Tables,
     register: usize,
     taken: &mut Taken,
-    of: &mut [Home],
+    of: &mut Vec<Home>,
 ) -> Result<(), NoMemory>
     requires fits { AreFitting tables.now }
     requires within { register < length tables.now.intervals.items }
-    requires count { length of.old ≡ length tables.now.intervals.items }
+    requires count { length of.old.items ≡ length tables.now.intervals.items }
     requires few { length taken.old.slots.items < 2 ^ 32 }
-    ensures { OnOk result (Gives tables.now register taken.old taken.new of.old of.new) }
+    ensures { OnOk result (Gives tables.now register taken.old taken.new of.old.items of.new.items) }
 {
     if let Some(interval) = tables.intervals[register] {
         let is_slotted = tables.slotted[register];
@@ -44,6 +44,17 @@ fn give(
         of[register] = take(taken, interval, is_slotted, is_argument)?;
     }
     Ok(())
+}
+
+fn finish(of: Vec<Home>, taken: &Taken) -> Homes
+    requires { length taken.now.slots.items < 2 ^ 32 }
+    ensures of { result.of ≡ of }
+    ensures slots { result.slots ≡ length taken.now.slots.items }
+{
+    Homes {
+        of,
+        slots: taken.slots.len() as u32,
+    }
 }
 
 /// Homes by a linear scan over the intervals.
@@ -55,15 +66,11 @@ fn scan(alloc: Global, parameters: u32, tables: &Tables) -> Result<Homes, NoMemo
 {
     let starts = starts(alloc, parameters, &tables.intervals)?;
     let mut of = first_homes(alloc, parameters, tables.intervals.len())?;
-    let mut taken = Taken {
-        registers: [None; 32],
-        slots: Vec::new(alloc),
-    };
+    let mut taken = nothing_taken(alloc);
     for start in &starts {
         give(tables, start.register as usize, &mut taken, &mut of)?;
     }
-    let slots = taken.slots.len() as u32;
-    Ok(Homes { of, slots })
+    Ok(finish(of, &taken))
 }
 
 /// The homes of a function's registers. Parameters stay in x10 and on. What lives across a call, and

@@ -1,9 +1,9 @@
-ghost use Rattle.std.specs.Prelude.{◌≡◌, ◌<◌, ◌+◌, ◌*◌, ◌^◌, All, IfOk, OnOk, length, suc};
+ghost use Rattle.std.specs.Prelude.{◌≡◌, ◌<◌, ◌+◌, ◌*◌, ◌^◌, ℕ, false, All, IfOk, OnOk, length, suc};
 ghost use Rattle.im_block.specs.Wellformed.{LineWithin, ExitThere};
 ghost use Rattle.im_alloc_intervals.specs.Lines.{IsSetAt, IsPassed};
 ghost use Rattle.im_block_live.specs.Words.{AreLinked};
 ghost use Rattle.im_alloc_intervals.specs.Homes.{IsAble};
-ghost use Rattle.im_alloc_intervals.specs.Marks.{Adds, Flags};
+ghost use Rattle.im_alloc_intervals.specs.Marks.{Adds, Flags, interval_at, flag_at};
 ghost use Rattle.im_alloc_intervals.specs.Tables.{AreTables, ArePlaces, AreLinesWithin, HaveLength, HaveBlock};
 ghost use Rattle.im_alloc_intervals.specs.Tables.{IsLivingAt, IsLivingIn, IsLivingOf, IsSetIn, IsPassedIn};
 ghost use Rattle.im_alloc_intervals.specs.Tables.{IsCrossingAt, IsCrossingIn, IsCrossingOf, IsEnteringOf};
@@ -147,6 +147,22 @@ fn flag_entering(slotted: &mut [bool], groups: &[Vec<u32>], entry: u32)
     }
 }
 
+fn no_intervals(alloc: Global, count: usize) -> Result<Vec<Option<Interval>>, NoMemory>
+    ensures count { IfOk result (λ table. length table.items ≡ count) }
+    ensures none { IfOk result (λ table. (v : ℕ) → interval_at table.items v ≡ None) }
+{
+    let table: Vec<Option<Interval>> = vec![in alloc; None; count]?;
+    Ok(table)
+}
+
+fn no_flags(alloc: Global, count: usize) -> Result<Vec<bool>, NoMemory>
+    ensures count { IfOk result (λ flags. length flags.items ≡ count) }
+    ensures none { IfOk result (λ flags. (v : ℕ) → flag_at flags.items v ≡ false) }
+{
+    let flags: Vec<bool> = vec![in alloc; false; count]?;
+    Ok(flags)
+}
+
 /// The tables of a function.
 pub(crate) fn measure(alloc: Global, function: &Function) -> Result<Tables, NoMemory>
     requires { IsAble function.now }
@@ -155,9 +171,9 @@ pub(crate) fn measure(alloc: Global, function: &Function) -> Result<Tables, NoMe
     let lives = live(alloc, function)?;
     let places = places(alloc, &function.blocks)?;
     let count = function.register_count as usize;
-    let mut intervals: Vec<Option<Interval>> = vec![in alloc; None; count]?;
-    let mut slotted: Vec<bool> = vec![in alloc; false; count]?;
-    let mut arguments: Vec<bool> = vec![in alloc; false; count]?;
+    let mut intervals = no_intervals(alloc, count)?;
+    let mut slotted = no_flags(alloc, count)?;
+    let mut arguments = no_flags(alloc, count)?;
     mark_lines(&function.blocks, &places, &mut intervals, &mut arguments);
     flag_entering(&mut slotted, &lives.groups, function.entry);
     mark_groups(

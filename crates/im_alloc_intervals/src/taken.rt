@@ -1,15 +1,26 @@
-ghost use Rattle.std.specs.Prelude.{◌≡◌, ◌<◌, ◌≤◌, ◌^◌, ◌↔◌, IfOk, IsTrue, length};
-ghost use Rattle.im_alloc_intervals.specs.Scans.{IsFreeAt, FindsRegister, FindsSlot, TakesRegister, TakesSlot, Takes, MayTake};
+ghost use Rattle.std.specs.Prelude.{◌≡◌, ℕ, None, ◌<◌, ◌≤◌, ◌^◌, ◌↔◌, IfOk, IsTrue, length};
+ghost use Rattle.im_alloc_intervals.specs.Scans.{IsFreeAt, FindsRegister, FindsSlot, TakesRegister, TakesSlot, Takes, MayTake, register_at};
 
 use crate::marks::Interval;
 use crate::table::Home;
 use im_num::NoMemory;
+use std::alloc::Global;
 
 /// Up to which position registers and slots are in use, where they are.
 #[derive(Drop)]
 pub(crate) struct Taken {
     pub(crate) registers: [Option<u64>; 32],
     pub(crate) slots: Vec<u64>,
+}
+
+pub(crate) fn nothing_taken(alloc: Global) -> Taken
+    ensures registers { (r : ℕ) → register_at result.registers r ≡ None }
+    ensures slots { length result.slots.items ≡ 0 }
+{
+    Taken {
+        registers: [None; 32],
+        slots: Vec::new(alloc),
+    }
 }
 
 fn is_free(until: Option<u64>, position: u64) -> bool

@@ -19,8 +19,8 @@ pub mark_targets-requires : goal.mark_targets-requires
 mark_targets-requires c =
     let l = c.loop-b in
     let blocks = c.args.blocks.now in
-    let block : Block = c.block-item.result in
-    let at : slice_get blocks l.b ≡ Some block = slice_get_read blocks (length blocks) l.b block refl c.loop-b-test.true c.block-item.is in
+    let block : Block = c.index-blocks-b.result in
+    let at : slice_get blocks l.b ≡ Some block = slice_get_read blocks (length blocks) l.b block refl c.loop-b-test.true c.index-blocks-b.is in
     record {
       within = lines_at (length l.intervals) blocks l.b block (subst (λ (n : ℕ). All (λ (x : Block). All (LineWithin n) x.lines.items) blocks) (sym l.auto.intervals) c.requires.within) at;
       count = l.auto.arguments ∙ c.requires.count ∙ sym l.auto.intervals;
@@ -32,8 +32,8 @@ pub loop-b-preserved : goal.loop-b-preserved
 loop-b-preserved c =
     let l = c.loop-b in
     let blocks = c.args.blocks.now in
-    let block : Block = c.block-item.result in
-    let at : slice_get blocks l.b ≡ Some block = slice_get_read blocks (length blocks) l.b block refl c.loop-b-test.true c.block-item.is in
+    let block : Block = c.index-blocks-b.result in
+    let at : slice_get blocks l.b ≡ Some block = slice_get_read blocks (length blocks) l.b block refl c.loop-b-test.true c.index-blocks-b.is in
     let m = c.mark_targets in
     record {
       set = adds_at blocks (λ (k : ℕ) (x : Block). IsSetAt x.lines.items (slice_index c.args.places.now k)) l.b block c.args.intervals.now l.intervals m.new.intervals at l.invariant.set m.ensures.set;
