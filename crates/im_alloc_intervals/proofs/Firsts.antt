@@ -1,8 +1,8 @@
 -- The homes before the scan.
-use Rattle.std.proofs.Common.{◌≡◌, ◌≢◌, ◌⊎◌, ◌<◌, ◌≤◌, ◌+◌, ℕ, zero, suc, List, [], ◌∷◌, None, length, set, replicate, ⊎_elim, refl, sym, ap, ◌∙◌, subst, arith}
+use Rattle.std.proofs.Common.{◌≡◌, ◌≢◌, ◌<◌, ◌+◌, ℕ, zero, suc, List, None, length, set, replicate, ⊎_elim, refl, sym, ap, ◌∙◌, arith}
 use Rattle.std.proofs.lemmas.Bool.{cases_eq}
 use Rattle.std.proofs.lemmas.List.{length-set, length-replicate}
-use Rattle.im_alloc_relation.specs.Homes.{Home, InRegister}
+use Rattle.im_alloc_relation.specs.Homes.{InRegister}
 use Rattle.im_alloc_intervals.specs.declared.table.Home.{Home as HomeOf}
 use Rattle.im_alloc_intervals.specs.declared.table.Home.TheVariants.{Register}
 use Rattle.im_alloc_intervals.specs.Homes.{home_or, home_at}

@@ -1,11 +1,11 @@
 -- Marks of lines, one after the other.
-use Rattle.std.proofs.Common.{◌≡◌, ◌≢◌, ◌<◌, ◌≤◌, ◌+◌, ℕ, suc, Bool, List, Option, Some, length, get_or, refl, sym, ap, ◌∙◌, subst, arith, pos}
+use Rattle.std.proofs.Common.{◌≡◌, ◌<◌, ◌≤◌, ◌+◌, ℕ, Bool, List, Some, length, get_or, sym, ◌∙◌, subst, arith, pos}
 use Rattle.std.specs.Prelude.{slice_get, slice_index}
 use Rattle.std.proofs.lemmas.Option.{slice_get_within, slice_get-get_or, same_Some}
 use Rattle.im_block.specs.declared.code.Line.{Line}
 use Rattle.im_block.specs.declared.code.Line.TheVariants.{Put}
 use Rattle.im_alloc_intervals.specs.Marks.{Adds, Flags}
-use Rattle.im_alloc_intervals.specs.Lines.{target_of, result_of, IsTarget, IsBehind, IsArgument, SetBy, CrossedBy, PassedBy, IsSetAt, IsAcross, IsPassed}
+use Rattle.im_alloc_intervals.specs.Lines.{result_of, IsTarget, IsBehind, IsArgument, SetBy, CrossedBy, PassedBy, IsSetAt, IsAcross, IsPassed}
 use Rattle.im_alloc_intervals.proofs.Adding.{Table, adds_same, flags_same}
 use Rattle.im_alloc_intervals.proofs.Stepping.{Under, Below, adds_next, adds_all, flags_next, flags_all}
 
@@ -22,8 +22,8 @@ pub targets_next : (lines : List Line) (start i : ℕ) (a b c : Table) → i < l
 targets_next lines start i a b c lt x y =
     adds_next (SetBy lines start) i a b c x
     (adds_same (SetBy lines start i) (IsTarget (get_or lines i blank) (start + i)) b c y
-        (λ v p small k. subst (λ z. IsTarget z (start + i) v p) (the_line lines i k.line lt k.at) k.target)
-        (λ v p k. record { line = get_or lines i blank; at = there lines i lt; target = k }))
+    (λ v p small k. subst (λ z. IsTarget z (start + i) v p) (the_line lines i k.line lt k.at) k.target)
+    (λ v p k. record { line = get_or lines i blank; at = there lines i lt; target = k }))
 
 pub targets_all : (lines : List Line) (start i : ℕ) (a b : Table) → length lines ≤ i → Adds (Under (SetBy lines start) i) a b → Adds (IsSetAt lines start) a b
 targets_all lines start i a b le x =
@@ -33,8 +33,8 @@ pub across_next : (base : ℕ) (words : List ℕ) (lines : List Line) (i : ℕ) 
 across_next base words lines i a b c lt x y =
     flags_next (CrossedBy base words lines) i a b c x
     (flags_same (CrossedBy base words lines i) (IsBehind base (slice_index words (i + 1)) (result_of (get_or lines i blank))) b c y
-        (λ v small k. subst (λ z. IsBehind base (slice_index words (i + 1)) (result_of z) v) (the_line lines i k.line lt k.at) k.behind)
-        (λ v k. record { line = get_or lines i blank; at = there lines i lt; behind = k }))
+    (λ v small k. subst (λ z. IsBehind base (slice_index words (i + 1)) (result_of z) v) (the_line lines i k.line lt k.at) k.behind)
+    (λ v k. record { line = get_or lines i blank; at = there lines i lt; behind = k }))
 
 pub across_all : (base : ℕ) (words : List ℕ) (lines : List Line) (i : ℕ) (a b : List Bool) → length lines ≤ i → Flags (Below (CrossedBy base words lines) i) a b → Flags (IsAcross base words lines) a b
 across_all base words lines i a b le x =
@@ -44,8 +44,8 @@ pub passed_next : (lines : List Line) (i : ℕ) (a b c : List Bool) → i < leng
 passed_next lines i a b c lt x y =
     flags_next (PassedBy lines) i a b c x
     (flags_same (PassedBy lines i) (IsArgument (get_or lines i blank)) b c y
-        (λ v small k. subst (λ z. IsArgument z v) (the_line lines i k.line lt k.at) k.argument)
-        (λ v k. record { line = get_or lines i blank; at = there lines i lt; argument = k }))
+    (λ v small k. subst (λ z. IsArgument z v) (the_line lines i k.line lt k.at) k.argument)
+    (λ v k. record { line = get_or lines i blank; at = there lines i lt; argument = k }))
 
 pub passed_all : (lines : List Line) (i : ℕ) (a b : List Bool) → length lines ≤ i → Flags (Below (PassedBy lines) i) a b → Flags (IsPassed lines) a b
 passed_all lines i a b le x =

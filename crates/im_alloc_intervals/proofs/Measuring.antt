@@ -1,11 +1,11 @@
 -- The tables of a function, of what its lines set and of what lives in its blocks.
-use Rattle.std.proofs.Common.{◌≡◌, ◌≢◌, ◌⊎◌, ◌<◌, ◌≤◌, ◌+◌, ◌*◌, ◌/◌, ◌%◌, ◌^◌, ℕ, zero, suc, Bool, true, false, List, [], ◌∷◌, Option, Some, None, inl, inr, ⊎_elim, length, get_or, refl, sym, ap, ◌∙◌, subst, drop, arith}
+use Rattle.std.proofs.Common.{◌≡◌, ◌≢◌, ◌<◌, ◌≤◌, ◌+◌, ◌*◌, ◌/◌, ◌%◌, ◌^◌, ℕ, zero, suc, Bool, true, false, List, [], ◌∷◌, Option, Some, None, inl, inr, ⊎_elim, length, refl, sym, ap, ◌∙◌, subst, drop, arith}
 use Rattle.std.specs.Prelude.{Vec, ◌==◌, ◌&&◌, ◌||◌, not, slice_get, slice_index, All}
 use Rattle.std.specs.declared.alloc.Global.{Global}
 use Rattle.std.proofs.lemmas.Bool.{cases_lt}
 use Rattle.std.proofs.lemmas.List.{get_or_past}
-use Rattle.std.proofs.lemmas.List.Elements.{All-head, All-tail}
-use Rattle.std.proofs.lemmas.Option.{slice_get_within, slice_get_past, none-some, same_Some}
+use Rattle.std.proofs.lemmas.List.Elements.{All-tail}
+use Rattle.std.proofs.lemmas.Option.{slice_get_within, none-some, same_Some}
 use Rattle.im_block.specs.declared.code.Line.{Line}
 use Rattle.im_block.specs.declared.code.Line.TheVariants.{Put, PutNull, Copy, Convert, Unary, Not, Compute, Compare, Move, Distance, Address, Read, Write, Reload, Spill, Cut, Call, GetChar, PutChar}
 use Rattle.im_block.specs.declared.code.Exit.{Exit}
@@ -21,7 +21,7 @@ use Rattle.im_alloc_intervals.specs.declared.tables.Tables.{Tables}
 use Rattle.im_alloc_intervals.specs.Homes.{IsAble}
 use Rattle.im_alloc_intervals.specs.Leaves.{position, IsNeededAt, sets_at}
 use Rattle.im_alloc_intervals.specs.Lines.{target_of, result_of, IsArgument}
-use Rattle.im_alloc_intervals.specs.Marks.{interval_at, HoldsIn, IsEndOf, Adds, flag_at, Flags, IsBit}
+use Rattle.im_alloc_intervals.specs.Marks.{interval_at, HoldsIn, IsEndOf, Adds, flag_at, Flags}
 use Rattle.im_alloc_intervals.specs.Tables.{ArePlaces, IsSetIn, IsPassedIn, IsLivingOf, IsCrossingOf, IsEnteringOf, HasCall, AreTables}
 use Rattle.im_alloc_intervals.proofs.Adding.{Table}
 use Rattle.im_alloc_intervals.proofs.Blocks.{all_at}
@@ -140,16 +140,29 @@ module _ (f : Function) (able : IsAble f) (groups : List (Vec ℕ Global)) (plac
 
   living_mark : (b : ℕ) (block : Block) (i v : ℕ) → slice_get blocks b ≡ Some block → i ≤ length block.lines.items → lives live (drop i block.lines.items) block.exit v ≡ true → IsLivingOf groups blocks places v (position blocks b i)
   living_mark b block i v at le e =
-      let k = grouped v (within b block i v at e) in
-      (k.g, (k.starts, k.at, (b, (block, at, record {
-        i = i;
-        j = k.j;
-        inside = le;
-        small = k.small;
-        is = place_is b block i at;
-        register = k.is;
-        living = same_lives k.g k.j v k.starts k.at k.small k.is (drop i block.lines.items) block.exit ∙ e;
-      }))))
+      let k = grouped v (within b block i v at e) in (
+        k.g,
+        (
+          k.starts,
+          k.at,
+          (
+            b,
+            (
+              block,
+              at,
+              record {
+                i = i;
+                j = k.j;
+                inside = le;
+                small = k.small;
+                is = place_is b block i at;
+                register = k.is;
+                living = same_lives k.g k.j v k.starts k.at k.small k.is (drop i block.lines.items) block.exit ∙ e;
+              },
+            ),
+          ),
+        ),
+      )
 
   living_needed : (v p : ℕ) → IsLivingOf groups blocks places v p → IsNeededAt blocks v p
   living_needed v p k =
@@ -192,19 +205,32 @@ module _ (f : Function) (able : IsAble f) (groups : List (Vec ℕ Global)) (plac
   crossing_mark : (b : ℕ) (block : Block) (i : ℕ) (line : Line) (to v : ℕ) → slice_get blocks b ≡ Some block → slice_get block.lines.items i ≡ Some line → result_of line ≡ Some to → lives live (drop (suc i) block.lines.items) block.exit v ≡ true → v ≢ to → IsCrossingOf groups blocks v
   crossing_mark b block i line to v at stands call e ne =
       let k = grouped v (within b block (suc i) v at e) in
-      let next : i + 1 ≡ suc i = omega arith in
-      (k.g, (k.starts, k.at, (b, (block, at, record {
-        i = i;
-        j = k.j;
-        line = line;
-        to = to;
-        at = stands;
-        call = call;
-        small = k.small;
-        register = k.is;
-        living = ap (λ (z : ℕ). lives (starts_have k.starts.items k.j) (drop z block.lines.items) block.exit v) next ∙ same_lives k.g k.j v k.starts k.at k.small k.is (drop (suc i) block.lines.items) block.exit ∙ e;
-        other = ne;
-      }))))
+      let next : i + 1 ≡ suc i = omega arith in (
+        k.g,
+        (
+          k.starts,
+          k.at,
+          (
+            b,
+            (
+              block,
+              at,
+              record {
+                i = i;
+                j = k.j;
+                line = line;
+                to = to;
+                at = stands;
+                call = call;
+                small = k.small;
+                register = k.is;
+                living = ap (λ (z : ℕ). lives (starts_have k.starts.items k.j) (drop z block.lines.items) block.exit v) next ∙ same_lives k.g k.j v k.starts k.at k.small k.is (drop (suc i) block.lines.items) block.exit ∙ e;
+                other = ne;
+              },
+            ),
+          ),
+        ),
+      )
 
   crossing_call : (v : ℕ) → IsCrossingOf groups blocks v → HasCall blocks
   crossing_call v k =

@@ -1,5 +1,5 @@
 -- The scan: one register after the other gets a home.
-use Rattle.std.proofs.Common.{◌≡◌, ◌≢◌, ◌⊎◌, ◌<◌, ◌≤◌, ◌+◌, ℕ, zero, suc, Bool, true, false, List, [], ◌∷◌, Option, Some, None, inl, inr, ⊎_elim, length, get_or, set, refl, sym, ap, ◌∙◌, subst, arith}
+use Rattle.std.proofs.Common.{◌≡◌, ◌≢◌, ◌⊎◌, ◌<◌, ◌≤◌, ◌+◌, ℕ, zero, suc, List, [], ◌∷◌, Option, Some, None, inl, inr, ⊎_elim, length, refl, sym, ap, ◌∙◌, subst, arith}
 use Rattle.std.specs.Prelude.{slice_get}
 use Rattle.std.proofs.lemmas.Bool.{cases_eq, cases_lt}
 use Rattle.std.proofs.lemmas.List.{length-set, get_or_past}
@@ -16,7 +16,7 @@ use Rattle.im_alloc_intervals.specs.Homes.{home_of, home_or, home_at}
 use Rattle.im_alloc_intervals.specs.Leaves.{AreDistinct}
 use Rattle.im_alloc_intervals.specs.Marks.{interval_at, HoldsIn, flag_at}
 use Rattle.im_alloc_intervals.specs.Tables.{AreFitting}
-use Rattle.im_alloc_intervals.specs.Scans.{IsStart, AreStarts, IsFreeAt, IsUsedAt, MayTake, register_at, NoneFree, until, IsRegisterFor, IsSlotBelow, Takes, AreFirst, GivesHome, GivesSome, Gives, IsEasy, AreDisjoint, AreScanned}
+use Rattle.im_alloc_intervals.specs.Scans.{AreStarts, IsFreeAt, IsUsedAt, NoneFree, until, IsRegisterFor, IsSlotBelow, AreFirst, GivesHome, GivesSome, Gives, IsEasy, AreDisjoint, AreScanned}
 use Rattle.im_alloc_intervals.proofs.Gets.{set_same, set_other, cases_home, same_register, not_slot}
 
 -- a register among the first k of the list

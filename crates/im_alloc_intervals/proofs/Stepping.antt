@@ -1,9 +1,8 @@
 -- Marks by an index, one after the other.
-use Rattle.std.proofs.Common.{◌≡◌, ◌≢◌, ◌⊎◌, ◌<◌, ◌≤◌, ◌+◌, ℕ, Bool, true, false, List, Option, Some, length, inl, inr, ⊎_elim, refl, sym, ap, ◌∙◌, subst, arith}
+use Rattle.std.proofs.Common.{◌≡◌, ◌≢◌, ◌<◌, ◌≤◌, ◌+◌, ℕ, Bool, List, Some, length, inl, inr, ⊎_elim, sym, ◌∙◌, subst, arith}
 use Rattle.std.specs.Prelude.{slice_get}
 use Rattle.std.proofs.lemmas.Bool.{cases_eq}
 use Rattle.std.proofs.lemmas.Option.{slice_get_within, same_Some}
-use Rattle.im_alloc_intervals.specs.declared.marks.Interval.{Interval}
 use Rattle.im_alloc_intervals.specs.Marks.{Adds, Flags}
 use Rattle.im_alloc_intervals.specs.Tables.{At}
 use Rattle.im_alloc_intervals.proofs.Adding.{Table, adds_none, adds_more, adds_same, flags_none, flags_more, flags_same}
@@ -19,9 +18,9 @@ pub adds_next : (F : ℕ → ℕ → ℕ → Type 0) (i : ℕ) (a b c : Table) �
 adds_next F i a b c x y =
     adds_more (Under F (i + 1)) (Under F i) (F i) a b c x y
     (λ v p lt k. ⊎_elim
-        (λ (e : k.0 ≡ i). inr (subst (λ z. F z v p) e k.2))
-        (λ (ne : k.0 ≢ i). (let less = k.1 in inl (k.0, omega arith, k.2)))
-        (cases_eq k.0 i))
+    (λ (e : k.0 ≡ i). inr (subst (λ z. F z v p) e k.2))
+    (λ (ne : k.0 ≢ i). (let less = k.1 in inl (k.0, omega arith, k.2)))
+    (cases_eq k.0 i))
     (λ v p k. (let less = k.1 in (k.0, omega arith, k.2)))
     (λ v p k. (i, omega arith, k))
 
@@ -38,9 +37,9 @@ pub flags_next : (F : ℕ → ℕ → Type 0) (i : ℕ) (a b c : List Bool) → 
 flags_next F i a b c x y =
     flags_more (Below F (i + 1)) (Below F i) (F i) a b c x y
     (λ v lt k. ⊎_elim
-        (λ (e : k.0 ≡ i). inr (subst (λ z. F z v) e k.2))
-        (λ (ne : k.0 ≢ i). (let less = k.1 in inl (k.0, omega arith, k.2)))
-        (cases_eq k.0 i))
+    (λ (e : k.0 ≡ i). inr (subst (λ z. F z v) e k.2))
+    (λ (ne : k.0 ≢ i). (let less = k.1 in inl (k.0, omega arith, k.2)))
+    (cases_eq k.0 i))
     (λ v k. (let less = k.1 in (k.0, omega arith, k.2)))
     (λ v k. (i, omega arith, k))
 
@@ -57,8 +56,8 @@ module _ {X : Type 0} (xs : List X) (F : ℕ → X → ℕ → ℕ → Type 0) w
   adds_at i x a b c at m n =
       adds_next By i a b c m
       (adds_same (By i) (F i x) b c n
-          (λ v p small k. subst (λ (z : X). F i z v p) (same_Some k.0 x (sym k.1 ∙ at)) k.2)
-          (λ v p k. (x, at, k)))
+      (λ v p small k. subst (λ (z : X). F i z v p) (same_Some k.0 x (sym k.1 ∙ at)) k.2)
+      (λ v p k. (x, at, k)))
 
   pub adds_ats : (i : ℕ) (a b : Table) → length xs ≤ i → Adds (Under By i) a b → Adds (λ (v p : ℕ). (k : ℕ) × By k v p) a b
   adds_ats i a b le m = adds_all By (λ (v p : ℕ). (k : ℕ) × By k v p) i a b (λ v p l. l) (λ v p k f. (k, f)) (λ v p k f. (let lt = slice_get_within xs k f.0 f.1 in omega arith)) m
@@ -71,8 +70,8 @@ module _ {X : Type 0} (xs : List X) (F : ℕ → X → ℕ → Type 0) where
   flags_at i x a b c at m n =
       flags_next FlagBy i a b c m
       (flags_same (FlagBy i) (F i x) b c n
-          (λ v small k. subst (λ (z : X). F i z v) (same_Some k.0 x (sym k.1 ∙ at)) k.2)
-          (λ v k. (x, at, k)))
+      (λ v small k. subst (λ (z : X). F i z v) (same_Some k.0 x (sym k.1 ∙ at)) k.2)
+      (λ v k. (x, at, k)))
 
   pub flags_ats : (i : ℕ) (a b : List Bool) → length xs ≤ i → Flags (Below FlagBy i) a b → Flags (λ (v : ℕ). (k : ℕ) × FlagBy k v) a b
   flags_ats i a b le m = flags_all FlagBy (λ (v : ℕ). (k : ℕ) × FlagBy k v) i a b (λ v l. l) (λ v k f. (k, f)) (λ v k f. (let lt = slice_get_within xs k f.0 f.1 in omega arith)) m

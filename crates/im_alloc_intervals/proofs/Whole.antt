@@ -1,6 +1,6 @@
 -- Homes by intervals are homes of the function; a leaf with few intervals has no slot.
 use Rattle.std.proofs.Common.{◌≡◌, ◌≢◌, ◌⊎◌, ◌<◌, ◌≤◌, ◌+◌, ℕ, zero, suc, Bool, true, false, List, [], ◌∷◌, Option, Some, None, inl, inr, ⊎_elim, refl, sym, ap, ◌∙◌, subst, drop, arith}
-use Rattle.std.specs.Prelude.{◌==◌, slice_get, All}
+use Rattle.std.specs.Prelude.{slice_get, All}
 use Rattle.std.proofs.lemmas.Bool.{cases_eq, cases_lt}
 use Rattle.std.proofs.lemmas.List.Elements.{All-head, All-tail}
 use Rattle.std.proofs.lemmas.Option.{slice_get_within}
@@ -10,18 +10,17 @@ use Rattle.im_block.specs.declared.code.Exit.{Exit}
 use Rattle.im_block.specs.declared.code.Block.{Block}
 use Rattle.im_block.specs.declared.unit.Function.{Function}
 use Rattle.im_block.specs.Paths.{IsEdge}
-use Rattle.im_block.specs.Sections.{Has}
 use Rattle.im_block.specs.Wellformed.{IsBlock}
 use Rattle.im_alloc_placed.specs.Placeable.{IsPlaceableLine, LineFrom, ExitFrom, Receives, first_free}
 use Rattle.im_alloc_relation.specs.Homes.{Home, InRegister, InSlot}
 use Rattle.im_alloc_relation.specs.Live.{lives}
-use Rattle.im_alloc_relation.specs.Placing.{KeepsHomes, Survives, Clear, ValidLine, Valid}
+use Rattle.im_alloc_relation.specs.Placing.{KeepsHomes, Survives, ValidLine, Valid}
 use Rattle.im_block_live.specs.Reads.{lives_in, reads_first}
 use Rattle.im_alloc_intervals.specs.declared.marks.Interval.{Interval}
 use Rattle.im_alloc_intervals.specs.declared.table.Homes.{Homes}
 use Rattle.im_alloc_intervals.specs.declared.tables.Tables.{Tables}
 use Rattle.im_alloc_intervals.specs.Homes.{home_at, IsAble, AreHomes}
-use Rattle.im_alloc_intervals.specs.Leaves.{position, IsNeededAt, HoldsAt, AreDistinct, IsLeaf, IsTight, NothingElseEnters}
+use Rattle.im_alloc_intervals.specs.Leaves.{position, HoldsAt, IsLeaf, IsTight, NothingElseEnters}
 use Rattle.im_alloc_intervals.specs.Lines.{target_of, result_of, IsArgument}
 use Rattle.im_alloc_intervals.specs.Marks.{interval_at, HoldsIn, IsEndOf, flag_at}
 use Rattle.im_alloc_intervals.specs.Scans.{AreScanned, IsEasy}

@@ -1,10 +1,9 @@
 -- Words at positions side by side.
-use Rattle.std.proofs.Common.{◌≡◌, ◌≢◌, ◌⊎◌, ◌<◌, ◌≤◌, ◌+◌, ℕ, Bool, true, false, List, Option, length, get_or, inl, inr, ⊎_elim, refl, sym, ap, ◌∙◌, subst, arith}
+use Rattle.std.proofs.Common.{◌≡◌, ◌≢◌, ◌<◌, ◌≤◌, ◌+◌, ℕ, false, List, length, inl, inr, ⊎_elim, sym, ap, ◌∙◌, subst, arith}
 use Rattle.std.specs.Prelude.{slice_index, ◌==◌}
 use Rattle.std.proofs.lemmas.Bool.{cases_eq}
 use Rattle.std.proofs.lemmas.Nat.Bits.{bit_at-zero}
 use Rattle.im_block_live.specs.Words.{has}
-use Rattle.im_alloc_intervals.specs.declared.marks.Interval.{Interval}
 use Rattle.im_alloc_intervals.specs.Marks.{Adds, IsBit, IsBitAt, IsBitOf}
 use Rattle.im_alloc_intervals.proofs.Adding.{Table, adds_none, adds_more, adds_same}
 
@@ -21,9 +20,9 @@ pub words_step : (base start : ℕ) (words : List ℕ) (i word : ℕ) (a b c : T
 words_step base start words i word a b c within is x y =
     adds_more (λ v q. Below base words start (i + 1) v q) (λ v q. Below base words start i v q) (IsBitAt base word (start + i)) a b c x y
     (λ v q lt k. ⊎_elim
-        (λ (e : k.0.i ≡ i). inr (subst (λ z. IsBit 32 base z v) (ap (λ z. slice_index words z) e ∙ is) k.0.bit, k.0.is ∙ ap (λ z. start + z) e))
-        (λ (ne : k.0.i ≢ i). (let less = k.1 in inl (k.0, omega arith)))
-        (cases_eq k.0.i i))
+    (λ (e : k.0.i ≡ i). inr (subst (λ z. IsBit 32 base z v) (ap (λ z. slice_index words z) e ∙ is) k.0.bit, k.0.is ∙ ap (λ z. start + z) e))
+    (λ (ne : k.0.i ≢ i). (let less = k.1 in inl (k.0, omega arith)))
+    (cases_eq k.0.i i))
     (λ v q k. (let less = k.1 in (k.0, omega arith)))
     (λ v q k. (record { i = i; inside = within; is = k.1; bit = subst (λ z. IsBit 32 base z v) (sym is) k.0 }, omega arith))
 

@@ -1,6 +1,5 @@
 -- Tables with an interval, or a flag, for each register, and what marks add to them.
-use Rattle.std.specs.Prelude.{◌≡◌, ◌≢◌, ◌<◌, ◌≤◌, ◌⊎◌, ℕ, ◌+◌, min, max, Bool, true, false, List, Option, Some, None, length, slice_get, slice_index, slice_index_or}
-use Rattle.im_block.specs.declared.code.Line.{Line}
+use Rattle.std.specs.Prelude.{◌≡◌, ◌≢◌, ◌<◌, ◌≤◌, ◌⊎◌, ℕ, ◌+◌, min, max, Bool, true, false, List, Option, Some, None, length, slice_index, slice_index_or}
 use Rattle.im_block_live.specs.Words.{has}
 use Rattle.im_alloc_intervals.specs.declared.marks.Interval.{Interval}
 

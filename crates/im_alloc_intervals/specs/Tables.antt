@@ -1,5 +1,5 @@
 -- What is known of a function's registers, from its lines and from what lives in them.
-use Rattle.std.specs.Prelude.{◌≡◌, ◌≢◌, ◌<◌, ◌≤◌, ◌⊎◌, ◌^◌, ◌*◌, ℕ, suc, ◌+◌, Bool, true, List, Vec, Option, Some, None, All, length, slice_get, slice_index, drop}
+use Rattle.std.specs.Prelude.{◌≡◌, ◌≢◌, ◌<◌, ◌≤◌, ◌⊎◌, ◌^◌, ◌*◌, ℕ, suc, ◌+◌, Bool, true, List, Vec, Some, All, length, slice_get, slice_index, drop}
 use Rattle.std.specs.declared.alloc.Global.{Global}
 use Rattle.im_block.specs.declared.code.Line.{Line}
 use Rattle.im_block.specs.declared.code.Block.{Block}

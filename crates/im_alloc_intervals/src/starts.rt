@@ -30,11 +30,7 @@ fn push_start(
 }
 
 /// The registers from a number on that have intervals.
-fn begun(
-    alloc: Global,
-    from: u32,
-    intervals: &[Option<Interval>],
-) -> Result<Vec<Start>, NoMemory>
+fn begun(alloc: Global, from: u32, intervals: &[Option<Interval>]) -> Result<Vec<Start>, NoMemory>
     requires small { length intervals.now < 2 ^ 32 }
     requires within { from ≤ length intervals.now }
     ensures { IfOk result (λ starts. AreBegun from (length intervals.now) intervals.now starts.items) }

@@ -131,7 +131,15 @@ fn mark_groups(
         (Flags (IsCrossingOf groups.now blocks.now) slotted.old slotted.new) }
 {
     for (g, starts) in groups.iter().enumerate() {
-        mark_group(alloc, 32 * g as u64, starts, blocks, places, intervals, slotted)?;
+        mark_group(
+            alloc,
+            32 * g as u64,
+            starts,
+            blocks,
+            places,
+            intervals,
+            slotted,
+        )?;
     }
     Ok(())
 }

@@ -40,11 +40,7 @@ fn may_take(register: usize, is_argument: bool) -> bool
 }
 
 /// The lowest of x9 to x31 that is free at a position.
-fn find_register(
-    registers: &[Option<u64>; 32],
-    position: u64,
-    is_argument: bool,
-) -> Option<usize>
+fn find_register(registers: &[Option<u64>; 32], position: u64, is_argument: bool) -> Option<usize>
     ensures { FindsRegister registers.now position is_argument result }
 {
     for register in 9..32 {

@@ -1,4 +1,3 @@
-use Rattle.std.proofs.Common.{◌≤◌, length, arith}
 use Rattle.im_alloc_intervals.proofs.Stepping.{flags_start}
 use Rattle.im_alloc_intervals.specs.Lines.{PassedBy}
 use Rattle.im_alloc_intervals.proofs.Lining.{passed_next, passed_all}

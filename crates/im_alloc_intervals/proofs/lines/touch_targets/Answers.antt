@@ -1,4 +1,3 @@
-use Rattle.std.proofs.Common.{◌≤◌, length, arith}
 use Rattle.im_alloc_intervals.proofs.Stepping.{adds_start}
 use Rattle.im_alloc_intervals.specs.Lines.{SetBy}
 use Rattle.im_alloc_intervals.proofs.Lining.{targets_next, targets_all}

@@ -1,4 +1,4 @@
-use Rattle.std.proofs.Common.{◌≡◌, ◌≢◌, ℕ, Some}
+use Rattle.std.proofs.Common.{◌≢◌, ℕ, Some}
 use Rattle.im_alloc_intervals.specs.Marks.{Flags, IsBit}
 use Rattle.im_alloc_intervals.proofs.marks.flag_word.Given as goal
 

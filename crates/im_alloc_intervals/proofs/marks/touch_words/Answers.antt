@@ -1,4 +1,4 @@
-use Rattle.std.proofs.Common.{◌≡◌, ◌<◌, ◌+◌, ℕ, length, get_or, refl, subst, sym, arith}
+use Rattle.std.proofs.Common.{◌+◌, get_or, refl, subst, sym, arith}
 use Rattle.im_alloc_intervals.specs.Marks.{Adds, IsBitAt}
 use Rattle.im_alloc_intervals.proofs.Adding.{Table}
 use Rattle.im_alloc_intervals.proofs.Words.{words_step, no_word, words_all}
@@ -12,8 +12,8 @@ loop-i-preserved c =
     let word = get_or a.words.now l.i 0 in
     let step = λ (n : Table) (one : Adds (IsBitAt a.base word (a.start + l.i)) l.table n). words_step a.base a.start a.words.now l.i word a.table.now l.table n c.loop-i-test.true refl l.invariant one in
     elim c.if-word-ne0.branch [
-    | then-word-ne0 w ↦ step c.if-word-ne0.table (subst (λ (z : Table). Adds (IsBitAt a.base word (a.start + l.i)) l.table z) (sym w.table-is) w.touch_word.ensures)
-    | else-word-ne0 w ↦ step c.if-word-ne0.table (no_word a.base word (a.start + l.i) l.table c.if-word-ne0.table w.if-word-ne0.false w.table-is)
+      | then-word-ne0 w ↦ step c.if-word-ne0.table (subst (λ (z : Table). Adds (IsBitAt a.base word (a.start + l.i)) l.table z) (sym w.table-is) w.touch_word.ensures)
+      | else-word-ne0 w ↦ step c.if-word-ne0.table (no_word a.base word (a.start + l.i) l.table c.if-word-ne0.table w.if-word-ne0.false w.table-is)
     ]
 
 pub returns : goal.returns

@@ -1,4 +1,4 @@
-use Rattle.std.proofs.Common.{◌≡◌, ℕ, ◌<◌}
+use Rattle.std.proofs.Common.{ℕ, ◌<◌}
 use Rattle.im_alloc_intervals.specs.Marks.{Adds, IsBitOf}
 use Rattle.im_alloc_intervals.proofs.marks.touch_words.Given as goal
 

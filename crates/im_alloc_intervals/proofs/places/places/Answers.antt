@@ -1,9 +1,9 @@
-use Rattle.std.proofs.Common.{◌≡◌, ◌<◌, ◌-◌, ◌+◌, ℕ, List, Some, suc, length, refl, sym, ap, ◌∙◌, arith}
+use Rattle.std.proofs.Common.{◌≡◌, ◌<◌, ◌-◌, ◌+◌, List, Some, suc, length, refl, sym, ap, ◌∙◌, arith}
 use Rattle.std.specs.Prelude.{slice_get}
 use Rattle.std.proofs.lemmas.Option.{slice_get_read}
 use Rattle.im_block.specs.declared.code.Block.{Block}
 use Rattle.im_block.specs.declared.code.Line.{Line}
-use Rattle.im_alloc_intervals.proofs.Placing.{places_begin, places_step, places_end}
+use Rattle.im_alloc_intervals.proofs.Placing.{places_step, places_end}
 use Rattle.im_alloc_intervals.proofs.places.places.Goals as goal
 
 pub loop-left-preserved : goal.loop-left-preserved

@@ -1,4 +1,4 @@
-use Rattle.std.proofs.Common.{◌<◌, length, refl, arith}
+use Rattle.std.proofs.Common.{refl, arith}
 use Rattle.im_alloc_intervals.proofs.Firsts.{first_begin, first_next}
 use Rattle.im_alloc_intervals.proofs.scan.first_homes.Goals as goal
 

@@ -1,4 +1,4 @@
-use Rattle.std.proofs.Common.{◌≡◌, ◌≤◌, ◌+◌, length, arith}
+use Rattle.std.proofs.Common.{arith}
 use Rattle.std.proofs.lemmas.Result.{IfOk-weaker}
 use Rattle.im_alloc_intervals.specs.declared.table.Homes.{Homes}
 use Rattle.im_alloc_intervals.specs.Homes.{AreHomes}

@@ -1,4 +1,4 @@
-use Rattle.std.proofs.Common.{◌≡◌, ◌<◌, ◌≤◌, None, length, get_or, refl, arith}
+use Rattle.std.proofs.Common.{None, get_or, refl}
 use Rattle.im_alloc_intervals.proofs.Sorting.{begun_step}
 use Rattle.im_alloc_intervals.proofs.starts.begun.Goals as goal
 

@@ -1,4 +1,4 @@
-use Rattle.std.proofs.Common.{◌≡◌, ◌<◌, ◌^◌, ℕ, Bool, List, Option, length, sym, ap, ◌∙◌, subst, arith}
+use Rattle.std.proofs.Common.{◌≡◌, ◌<◌, ◌^◌, Bool, List, Option, length, sym, ap, ◌∙◌, subst, arith}
 use Rattle.std.specs.Prelude.{Vec}
 use Rattle.std.specs.Vec.{with_items}
 use Rattle.std.specs.declared.alloc.Global.{Global}
@@ -6,8 +6,7 @@ use Rattle.std.proofs.lemmas.List.{with_items_is}
 use Rattle.im_block.specs.declared.code.Block.{Block}
 use Rattle.im_alloc_intervals.specs.declared.marks.Interval.{Interval}
 use Rattle.im_alloc_intervals.specs.declared.tables.Tables.{Tables}
-use Rattle.im_alloc_intervals.specs.Marks.{Adds, Flags}
-use Rattle.im_alloc_intervals.specs.Tables.{ArePlaces, IsSetIn, IsPassedIn, IsLivingOf, IsCrossingOf, IsEnteringOf}
+use Rattle.im_alloc_intervals.specs.Tables.{ArePlaces}
 use Rattle.im_alloc_intervals.proofs.Deref.{set_as, passed_as, living_as, crossing_as, entering_as}
 use Rattle.im_alloc_intervals.proofs.Measuring.{are_tables}
 use Rattle.im_alloc_intervals.proofs.tables.measure.Goals as goal
