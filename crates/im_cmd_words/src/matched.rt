@@ -59,7 +59,15 @@ fn build_options(found: &ArgMatches<'_>) -> Option<BuildOptions>
 {
     let stack = number_of(found, "stack", 256, 1_048_576)?;
     let out_cap = number_of(found, "out-cap", 0, 1_048_576)?;
-    Some(BuildOptions { stack, out_cap })
+    let max_gap = match value_of(found, "max-gap") {
+        Some(text) => Some(number_between(text, 160, 1_000_000)?),
+        None => None,
+    };
+    Some(BuildOptions {
+        stack,
+        out_cap,
+        max_gap,
+    })
 }
 
 fn build_command<'a>(found: &ArgMatches<'a>) -> Option<Command<'a>>
