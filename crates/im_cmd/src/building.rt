@@ -56,6 +56,7 @@ pub fn build_text<'a>(
     let options = Options {
         stack: building.stack,
         out_cap: building.out_cap,
+        max_gap: None,
     };
     match compile(alloc, text, options) {
         Ok(built) => Ok(built),
@@ -78,6 +79,7 @@ fn compile_text<'a>(
     let options = Options {
         stack: building.stack,
         out_cap: building.out_cap,
+        max_gap: None,
     };
     match compile_whole(alloc, text, options) {
         Ok(whole) => Ok(whole),

@@ -1,5 +1,5 @@
 -- Layouts, addresses and names make a unit that may be assembled.
-use Rattle.std.proofs.Common.{String, ◌≡◌, ◌≤◌, ◌<◌, ℕ, zero, suc, ◌+◌, List, [], ◌∷◌, length, map, refl, sym, ap, ◌∙◌, subst, arith}
+use Rattle.std.proofs.Common.{String, ◌≡◌, ◌≤◌, ◌<◌, ℕ, zero, suc, ◌+◌, List, [], ◌∷◌, Option, length, map, refl, sym, ap, ◌∙◌, subst, arith}
 use Rattle.std.specs.Prelude.{slice_index, string_bytes, encode_utf8_all}
 use Rattle.std.specs.Global.{Global}
 use Rattle.std.proofs.lemmas.List.{length-map}
@@ -33,9 +33,9 @@ place_below start (o ∷ os) (suc n) h =
     let t = place_below (start + room o.size) os n (omega (arith, h)) in
     omega (arith, t)
 
-pub assemblable : (prog : Prog) (u : Code) (program : Program) → IsReady prog u → AreLayouts u.functions.items program.layouts.now →
+pub assemblable : (prog : Prog) (max_gap : Option ℕ) (u : Code) (program : Program) → IsReady prog max_gap u → AreLayouts u.functions.items program.layouts.now →
     program.statics.now ≡ places_from statics_start (objects_of u.statics.items) → length program.names.now ≡ length prog.funcs.items → IsAssemblable u program
-assemblable prog u program ready layouts statics names =
+assemblable prog max_gap u program ready layouts statics names =
     let objects = objects_of u.statics.items in
     record {
       well_formed = ready.well_formed;

@@ -1,5 +1,5 @@
 -- Placed code is ready for the passes behind.
-use Rattle.std.proofs.Common.{◌≡◌, ◌≤◌, ℕ, suc, ◌+◌, ◌*◌, List, [], ◌∷◌, map, length, refl, sym, ap, ◌∙◌, subst, arith}
+use Rattle.std.proofs.Common.{◌≡◌, ◌≤◌, ℕ, suc, ◌+◌, ◌*◌, List, [], ◌∷◌, Option, Some, None, map, length, refl, sym, ap, ◌∙◌, subst, arith}
 use Rattle.std.specs.Prelude.{◌/◌}
 use Rattle.std.proofs.lemmas.List.{length-map}
 use Rattle.std.proofs.lemmas.List.Elements.{All-weaker}
@@ -27,7 +27,7 @@ use Rattle.im_alloc_placed.specs.Placed.{IsPlacedFunction, IsPlacedCode}
 use Rattle.im_alloc_placed.specs.Laws.{CutsKeepPlacesLaw}
 use Rattle.im_force.specs.Force.{Forces}
 use Rattle.im_force.specs.Laws.{ForceKeepsLaw}
-use Rattle.im_recut.specs.Recut.{RecutsTo}
+use Rattle.im_recut.specs.Recut.{IsGapLimit, RecutsTo}
 use Rattle.im_recut.specs.Laws.{RecutKeepsLaw}
 use Rattle.im_lower_relation.specs.Lowered.{IsLowered, AreSized}
 use Rattle.im_lower_relation.specs.Laws.{LoweredFormLaw}
@@ -39,7 +39,7 @@ use Rattle.im_frame.specs.Layout.{room, rooms, bytes_of}
 use Rattle.im_select_addresses.specs.Statics.{objects_of}
 use Rattle.im_compile.specs.Lowered.{IsLoweredCode}
 use Rattle.im_pack.specs.Packed.{AreNamable}
-use Rattle.im_compile.specs.Passed.{IsSource, IsPassed, IsReady}
+use Rattle.im_compile.specs.Passed.{IsGapOption, IsSource, IsPassed, IsReady}
 
 -- block code with its forced cuts, which placing takes
 
@@ -52,6 +52,10 @@ forced_placeable force places lowered forced p f = places.placeable lowered forc
 
 -- placed code, which takes its last cuts
 
+pub limit_of : (max_gap : Option ℕ) → IsGapOption max_gap → IsGapLimit max_gap
+limit_of None h = tt
+limit_of (Some gap) h = h.0
+
 pub placed_ordered : LoweredFormLaw → AddedCutsLaw → ForceKeepsLaw → PlacedCodeLaw → (prog : Prog) (lowered forced placed : Code) → IsSource prog → IsLowered (program_of prog) lowered → AreSized (program_of prog) lowered → Forces lowered forced → IsPlaced forced placed → AllOrdered placed
 placed_ordered form added force placing prog lowered forced placed s is sized f p =
     placing.ordered forced placed p (added.ordered lowered forced (force.same lowered forced f) (form (program_of prog) lowered s.typed s.within is sized).1)
@@ -59,8 +63,8 @@ placed_ordered form added force placing prog lowered forced placed s is sized f 
 pub placed_forced : ForceKeepsLaw → PlacedCodeLaw → (lowered forced placed : Code) → Forces lowered forced → IsPlaced forced placed → AllForced placed
 placed_forced force placing lowered forced placed f p = placing.forced forced placed p (force.forced lowered forced f)
 
-pub passed : (prog : Prog) (lowered forced : Code) (tags : Tags) (placed code : Code) → IsLoweredCode prog lowered → Forces lowered forced → IsSound forced tags → IsWellPlaced forced placed → RecutsTo tags placed code → IsPassed prog code
-passed prog lowered forced tags placed code l force alias place recut = record {
+pub passed : (prog : Prog) (lowered forced : Code) (tags : Tags) (max_gap : Option ℕ) (placed code : Code) → IsLoweredCode prog lowered → Forces lowered forced → IsSound forced tags → IsWellPlaced forced placed → RecutsTo tags max_gap placed code → IsPassed prog max_gap code
+passed prog lowered forced tags max_gap placed code l force alias place recut = record {
   lowered = lowered;
   lower = l.lower;
   sized = l.sized;
@@ -89,13 +93,13 @@ rooms_are (s ∷ ss) =
 
 -- the statics are those of the program
 
-code_statics : (prog : Prog) (code : Code) (p : IsPassed prog code) → code.statics.items ≡ p.lowered.statics.items
-code_statics prog code p =
+code_statics : (prog : Prog) (max_gap : Option ℕ) (code : Code) (p : IsPassed prog max_gap code) → code.statics.items ≡ p.lowered.statics.items
+code_statics prog max_gap code p =
     ap (λ (u : Code). u.statics.items) p.recut.rest ∙ ap (λ (u : Code). u.statics.items) p.place.placed.rest ∙ ap (λ (u : Code). u.statics.items) p.force.rest
 
-pub namable : (prog : Prog) (code : Code) → IsPassed prog code → AreNamable (program_of prog).statics → AreNamable (statics_of code)
-namable prog code p h =
-    let same : statics_of code ≡ (program_of prog).statics = ap (λ (z : List StaticOf). map {A = StaticOf} static_of z) (code_statics prog code p) ∙ p.lower.statics in
+pub namable : (prog : Prog) (max_gap : Option ℕ) (code : Code) → IsPassed prog max_gap code → AreNamable (program_of prog).statics → AreNamable (statics_of code)
+namable prog max_gap code p h =
+    let same : statics_of code ≡ (program_of prog).statics = ap (λ (z : List StaticOf). map {A = StaticOf} static_of z) (code_statics prog max_gap code p) ∙ p.lower.statics in
     subst AreNamable (sym same) h
 
 -- functions are as many as before
@@ -112,23 +116,26 @@ placed_count [] (g ∷ gs) h = absurd h
 placed_count (f ∷ fs) [] h = absurd h
 placed_count (f ∷ fs) (g ∷ gs) h = ap (λ n. suc n) (placed_count fs gs h.1)
 
-pub ready : LoweredFormLaw → AddedCutsLaw → ForceKeepsLaw → CutsKeepCodeLaw → CutsKeepPlacesLaw → PlacedCodeLaw → RecutKeepsLaw → UncutNames → ForceNames → PlaceNames → RecutNames → (prog : Prog) (code : Code) → IsSource prog → IsPassed prog code → IsReady prog code
-ready form added force cuts places placing recut uncut_names force_names place_names recut_names prog code s p =
+pub ready : LoweredFormLaw → AddedCutsLaw → ForceKeepsLaw → CutsKeepCodeLaw → CutsKeepPlacesLaw → PlacedCodeLaw → RecutKeepsLaw → UncutNames → ForceNames → PlaceNames → RecutNames → (prog : Prog) (max_gap : Option ℕ) (code : Code) → IsSource prog → IsPassed prog max_gap code → IsReady prog max_gap code
+ready form added force cuts places placing recut uncut_names force_names place_names recut_names prog max_gap code s p =
     let well = forced_well form force cuts prog p.lowered p.forced s p.lower p.sized p.force in
     let placeable = forced_placeable force places p.lowered p.forced p.placeable p.force in
     let same_forced = force.same p.lowered p.forced p.force in
-    let same = recut.same p.tags p.placed code p.recut in
+    let same = recut.same p.tags max_gap p.placed code p.recut in
     let placed_well : IsWellFormed p.placed = placing.well_formed p.forced p.placed p.place placeable well in
     let placed : IsPlacedCode code = places.placed p.placed code same (placing.placed p.forced p.placed p.place placeable) in
-    let statics = code_statics prog code p in
+    let statics = code_statics prog max_gap code p in
     let bytes : rooms (objects_of code.statics.items) ≡ static_bytes (program_of prog).statics =
     rooms_are code.statics.items ∙ ap (λ (z : List StaticOf). static_bytes (map {A = StaticOf} static_of z)) statics ∙ ap (λ l. static_bytes l) p.lower.statics in
+    let ordered = placed_ordered form added force placing prog p.lowered p.forced p.placed s p.lower p.sized p.force p.place.placed in
+    let all_forced = placed_forced force placing p.lowered p.forced p.placed p.force p.place.placed in
     record {
       well_formed = cuts.well_formed p.placed code same placed_well;
       placed = placed;
-      ordered = added.ordered p.placed code same (placed_ordered form added force placing prog p.lowered p.forced p.placed s p.lower p.sized p.force p.place.placed);
-      forced = cuts.forced p.placed code same (placed_forced force placing p.lowered p.forced p.placed p.force p.place.placed);
-      named = recut_names p.tags p.placed code p.recut (place_names p.forced p.placed p.place.placed (force_names p.lowered p.forced p.force (uncut_names p.lowered p.uncut)));
+      ordered = added.ordered p.placed code same ordered;
+      forced = cuts.forced p.placed code same all_forced;
+      short = recut.short p.tags max_gap p.placed code p.recut ordered all_forced;
+      named = recut_names p.tags max_gap p.placed code p.recut (place_names p.forced p.placed p.place.placed (force_names p.lowered p.forced p.force (uncut_names p.lowered p.uncut)));
       fits = All-weaker (λ (f : Function). IsPlacedFunction (length code.statics.items) f) (λ (f : Function). bytes_of f ≤ f.need) (λ f h. h.fits) code.functions.items placed.functions;
       room = subst (λ n. n ≤ statics_capacity) (sym bytes) s.within.statics;
       count = same_count p.placed.functions.items code.functions.items same.functions

@@ -1,5 +1,5 @@
 -- What is built of a program, pass by pass.
-use Rattle.std.specs.Prelude.{◌≡◌, ℕ, List, map, encode_utf8_all}
+use Rattle.std.specs.Prelude.{◌≡◌, ◌≤◌, ℕ, List, Option, Some, None, map, encode_utf8_all}
 use Rattle.im_mem.specs.Map.{statics_start}
 use Rattle.im_rv.specs.declared.code.Part.{Part}
 use Rattle.im_rv.specs.declared.code.Code.{Code as Linked}
@@ -34,10 +34,15 @@ pub record AreFrames (funcs : List Func) (layouts : List Layout) (frames : List 
 abbrev pub function_names : List Func → List (List ℕ)
 function_names funcs = map (λ (f : Func). encode_utf8_all f.name.items) funcs
 
+-- the gap is no longer than was asked for
+abbrev pub IsGapWithin : Option ℕ → ℕ → Type 0
+IsGapWithin None gap = Unit {0}
+IsGapWithin (Some most) gap = gap ≤ most
+
 -- lower, force, place, recut; frames; statics; assemble, link, gap, pack
 pub record IsBuilt (prog : Prog) (options : Options) (built : Built) : Type 0 where
   pub code : Code
-  pub passed : IsPassed prog code
+  pub passed : IsPassed prog options.max_gap code
   pub layouts : List Layout
   pub lay_out : AreLayouts code.functions.items layouts
   pub addresses : List ℕ

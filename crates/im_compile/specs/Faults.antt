@@ -1,5 +1,5 @@
 -- Why a program has no image.
-use Rattle.std.specs.Prelude.{◌≡◌, ◌<◌, ◌≤◌, ℕ, List, Some, slice_get}
+use Rattle.std.specs.Prelude.{◌≡◌, ◌<◌, ◌≤◌, ℕ, List, Option, Some, slice_get}
 use Rattle.im_mem.specs.Map.{statics_start}
 use Rattle.im_rv.specs.declared.code.Part.{Part}
 use Rattle.im_link.specs.Parts.{byte_count}
@@ -24,15 +24,15 @@ pub record IsFrameTooLarge (functions : List Function) (i bytes : ℕ) : Type 0 
   pub large : 65536 < bytes
   pub first : (k : ℕ) (g : Function) → k < i → slice_get functions k ≡ Some g → bytes_of g ≤ 65536
 
-pub record HasLargeFrame (prog : Prog) (i bytes : ℕ) : Type 0 where
+pub record HasLargeFrame (prog : Prog) (max_gap : Option ℕ) (i bytes : ℕ) : Type 0 where
   pub code : Code
-  pub passed : IsPassed prog code
+  pub passed : IsPassed prog max_gap code
   pub frame : IsFrameTooLarge code.functions.items i bytes
 
 -- the parts of the program
-pub record IsAssembled (prog : Prog) (parts : List Part) : Type 0 where
+pub record IsAssembled (prog : Prog) (max_gap : Option ℕ) (parts : List Part) : Type 0 where
   pub code : Code
-  pub passed : IsPassed prog code
+  pub passed : IsPassed prog max_gap code
   pub layouts : List Layout
   pub lay_out : AreLayouts code.functions.items layouts
   pub addresses : List ℕ
@@ -40,13 +40,13 @@ pub record IsAssembled (prog : Prog) (parts : List Part) : Type 0 where
   pub assemble : IsProgram code addresses layouts parts
 
 -- the code doesn't fit between 0x1000 and 0x100000
-pub record HasLargeCode (prog : Prog) (bytes : ℕ) : Type 0 where
+pub record HasLargeCode (prog : Prog) (max_gap : Option ℕ) (bytes : ℕ) : Type 0 where
   pub parts : List Part
-  pub assembled : IsAssembled prog parts
+  pub assembled : IsAssembled prog max_gap parts
   pub large : byte_limit < byte_count parts
   pub told : bytes ≡ told_count parts
 
-abbrev pub IsFaultOf : Prog → CompileFault → Type 0
-IsFaultOf prog (Frame function bytes) = HasLargeFrame prog function bytes
-IsFaultOf prog (TooMuchCode bytes) = HasLargeCode prog bytes
-IsFaultOf prog OutOfMemory = Unit {0}
+abbrev pub IsFaultOf : Prog → Option ℕ → CompileFault → Type 0
+IsFaultOf prog max_gap (Frame function bytes) = HasLargeFrame prog max_gap function bytes
+IsFaultOf prog max_gap (TooMuchCode bytes) = HasLargeCode prog max_gap bytes
+IsFaultOf prog max_gap OutOfMemory = Unit {0}

@@ -1,5 +1,5 @@
 -- Placed code with all its cuts, as the passes make it of a typed program.
-use Rattle.std.specs.Prelude.{◌≡◌, ◌<◌, ◌≤◌, ◌-◌, ◌^◌, length, All}
+use Rattle.std.specs.Prelude.{◌≡◌, ◌<◌, ◌≤◌, ◌-◌, ◌^◌, ℕ, Option, Some, None, length, All}
 use Rattle.im_mem.specs.Map.{stack_capacity, output_capacity, statics_capacity}
 use Rattle.im_typed.specs.declared.program.Prog.{Prog}
 use Rattle.im_typed.specs.ProgramOf.{program_of}
@@ -17,6 +17,7 @@ use Rattle.im_alloc_placed.specs.Placed.{IsPlacedCode}
 use Rattle.im_alloc_placed.specs.Apart.{AllUncut}
 use Rattle.im_force.specs.Force.{Forces}
 use Rattle.im_recut.specs.Recut.{RecutsTo}
+use Rattle.im_recut.specs.Laws.{AllShort}
 use Rattle.im_lower_relation.specs.Lowered.{IsLowered, AreSized}
 use Rattle.im_lower_plain.specs.MakeUnit.{KnowsTypes}
 use Rattle.im_alloc_laws.specs.Numbered.{IsWellPlaced}
@@ -31,14 +32,20 @@ pub record IsSource (prog : Prog) : Type 0 where
   pub typed : IsWellTyped (program_of prog)
   pub within : IsWithinLimits (program_of prog)
 
+-- the longest gap that may be asked for, in instructions
+abbrev pub IsGapOption : Option ℕ → Type 0
+IsGapOption None = Unit {0}
+IsGapOption (Some gap) = (160 ≤ gap) × (gap ≤ 1000000)
+
 -- what is asked of the options, in bytes
 pub record AreOptions (options : Options) : Type 0 where
   pub some_stack : 256 ≤ options.stack
   pub most_stack : options.stack ≤ stack_capacity
   pub output : options.out_cap ≤ output_capacity
+  pub gap : IsGapOption options.max_gap
 
 -- lower, force, alias, place, recut
-pub record IsPassed (prog : Prog) (code : Code) : Type 0 where
+pub record IsPassed (prog : Prog) (max_gap : Option ℕ) (code : Code) : Type 0 where
   pub lowered : Code
   pub lower : IsLowered (program_of prog) lowered
   pub sized : AreSized (program_of prog) lowered
@@ -52,18 +59,19 @@ pub record IsPassed (prog : Prog) (code : Code) : Type 0 where
   pub alias : IsSound forced tags
   pub placed : Code
   pub place : IsWellPlaced forced placed
-  pub recut : RecutsTo tags placed code
+  pub recut : RecutsTo tags max_gap placed code
 
 -- what the passes behind ask of placed code, and its functions are those of the program
-pub record IsReady (prog : Prog) (code : Code) : Type 0 where
+pub record IsReady (prog : Prog) (max_gap : Option ℕ) (code : Code) : Type 0 where
   pub well_formed : IsWellFormed code
   pub placed : IsPlacedCode code
   pub ordered : AllOrdered code
   pub forced : AllForced code
+  pub short : AllShort max_gap code
   pub named : NamesAccesses code
   pub fits : All (λ (f : Function). bytes_of f ≤ f.need) code.functions.items
   pub room : rooms (objects_of code.statics.items) ≤ statics_capacity
   pub count : length code.functions.items ≡ length prog.funcs.items
 
 abbrev pub ReadyLaw : Type 0
-ReadyLaw = (prog : Prog) (code : Code) → IsSource prog → IsPassed prog code → IsReady prog code
+ReadyLaw = (prog : Prog) (max_gap : Option ℕ) (code : Code) → IsSource prog → IsPassed prog max_gap code → IsReady prog max_gap code

@@ -23,11 +23,11 @@ use std::alloc::Global;
 
 /// The image of placed code.
 fn finished(alloc: Global, prepared: Prepared, options: Options) -> Result<Built, CompileFault>
-    requires prepared { (prog : TypedProgram) × IsPrepared prog prepared }
+    requires prepared { (prog : TypedProgram) × IsPrepared prog options.max_gap prepared }
     requires named { AreNamable (statics_of prepared.unit) }
     requires options { AreOptions options }
-    ensures { (prog : TypedProgram) → IsPrepared prog prepared
-        → MatchResult result (IsBuilt prog options) (IsFaultOf prog) }
+    ensures { (prog : TypedProgram) → IsPrepared prog options.max_gap prepared
+        → MatchResult result (IsBuilt prog options) (IsFaultOf prog options.max_gap) }
 {
     linked_gap_law();
     let Prepared {
@@ -65,10 +65,10 @@ pub fn compile(alloc: Global, prog: &Prog, options: Options) -> Result<Built, Co
     requires source { IsSource prog.now }
     requires named { AreNamable (program_of prog.now).statics }
     requires options { AreOptions options }
-    ensures { MatchResult result (IsBuilt prog.now options) (IsFaultOf prog.now) }
+    ensures { MatchResult result (IsBuilt prog.now options) (IsFaultOf prog.now options.max_gap) }
 {
     let lowered = lowered_code(alloc, prog)?;
-    let prepared = prepare(alloc, lowered)?;
+    let prepared = prepare(alloc, lowered, options.max_gap)?;
     finished(alloc, prepared, options)
 }
 
@@ -77,10 +77,10 @@ pub fn compile_owned(alloc: Global, prog: Prog, options: Options) -> Result<Buil
     requires source { IsSource prog }
     requires named { AreNamable (program_of prog).statics }
     requires options { AreOptions options }
-    ensures { MatchResult result (IsBuilt prog options) (IsFaultOf prog) }
+    ensures { MatchResult result (IsBuilt prog options) (IsFaultOf prog options.max_gap) }
 {
     let lowered = lowered_code(alloc, &prog)?;
     drop(prog);
-    let prepared = prepare(alloc, lowered)?;
+    let prepared = prepare(alloc, lowered, options.max_gap)?;
     finished(alloc, prepared, options)
 }

@@ -5,4 +5,6 @@ pub struct Options {
     pub stack: u32,
     /// The output's capacity in bytes.
     pub out_cap: u32,
+    /// The longest gap that is asked for, in instructions, from 160 on.
+    pub max_gap: Option<u32>,
 }

@@ -2,6 +2,7 @@ ghost use Rattle.std.specs.Prelude.{◌≡◌, IfOk};
 ghost use Rattle.im_typed.specs.declared.program.Prog.{Prog as TypedProgram};
 ghost use Rattle.im_compile.specs.Lowered.{AreNamesOf, IsLoweredCode, IsLoweredFrom};
 ghost use Rattle.im_compile.specs.Passed.{IsPassed, IsReady, IsSource};
+ghost use Rattle.im_recut.specs.Recut.{IsGapLimit};
 
 use crate::laws::ready_law;
 use im_alias::alias;
@@ -48,12 +49,17 @@ pub(crate) fn lowered_code(alloc: Global, prog: &Prog) -> Result<Lowered, NoMemo
 }
 
 /// Block code as placed code with all its cuts.
-pub(crate) fn placed_code(alloc: Global, lowered: Unit) -> Result<Unit, NoMemory>
-    requires { (prog : TypedProgram) × IsSource prog × IsLoweredCode prog lowered }
+pub(crate) fn placed_code(
+    alloc: Global,
+    lowered: Unit,
+    max_gap: Option<u32>,
+) -> Result<Unit, NoMemory>
+    requires source { (prog : TypedProgram) × IsSource prog × IsLoweredCode prog lowered }
+    requires limit { IsGapLimit max_gap }
     ensures passed { (prog : TypedProgram) → IsSource prog → IsLoweredCode prog lowered
-        → IfOk result (IsPassed prog) }
+        → IfOk result (IsPassed prog max_gap) }
     ensures ready { (prog : TypedProgram) → IsSource prog → IsLoweredCode prog lowered
-        → IfOk result (IsReady prog) }
+        → IfOk result (IsReady prog max_gap) }
 {
     lowered_form_law();
     added_cuts_law();
@@ -65,6 +71,6 @@ pub(crate) fn placed_code(alloc: Global, lowered: Unit) -> Result<Unit, NoMemory
     let forced = force(alloc, lowered)?;
     let tags = alias(alloc, &forced)?;
     let placed = place(alloc, forced)?;
-    let code = recut(alloc, placed, &tags)?;
+    let code = recut(alloc, placed, &tags, max_gap)?;
     Ok(code)
 }

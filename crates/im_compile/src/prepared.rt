@@ -4,6 +4,7 @@ ghost use Rattle.im_compile.specs.Faults.{IsFaultOf};
 ghost use Rattle.im_compile.specs.Lowered.{IsLoweredFrom};
 ghost use Rattle.im_compile.specs.Passed.{IsSource};
 ghost use Rattle.im_compile.specs.Prepared.{IsPrepared};
+ghost use Rattle.im_recut.specs.Recut.{IsGapLimit};
 
 use crate::fault::CompileFault;
 use crate::frames::{frames_of, layouts_of};
@@ -30,16 +31,21 @@ pub(crate) struct Prepared {
 }
 
 /// The placed code of block code, its frames, and the places of its statics.
-pub(crate) fn prepare(alloc: Global, lowered: Lowered) -> Result<Prepared, CompileFault>
-    requires { (prog : TypedProgram) × IsSource prog × IsLoweredFrom prog lowered }
+pub(crate) fn prepare(
+    alloc: Global,
+    lowered: Lowered,
+    max_gap: Option<u32>,
+) -> Result<Prepared, CompileFault>
+    requires source { (prog : TypedProgram) × IsSource prog × IsLoweredFrom prog lowered }
+    requires limit { IsGapLimit max_gap }
     ensures { (prog : TypedProgram) → IsSource prog → IsLoweredFrom prog lowered
-        → MatchResult result (IsPrepared prog) (IsFaultOf prog) }
+        → MatchResult result (IsPrepared prog max_gap) (IsFaultOf prog max_gap) }
 {
     let Lowered {
         unit: lowered,
         names: bytes,
     } = lowered;
-    let unit = placed_code(alloc, lowered)?;
+    let unit = placed_code(alloc, lowered, max_gap)?;
     let layouts = layouts_of(alloc, &unit.functions)?;
     let addresses = place_statics(alloc, &unit.statics)?;
     let names = texts_of(alloc, &bytes)?;

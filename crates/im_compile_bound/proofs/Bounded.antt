@@ -39,13 +39,14 @@ module _ (ready : ReadyLaw) (law : FunctionBoundLaw) (prog : Prog) (options : Op
     placed = b.passed.placed;
     place = b.passed.place.placed;
     tags = b.passed.tags;
+    max_gap = options.max_gap;
     recut = b.passed.recut;
   }
 
   few : (k : ℕ) (f : Func) (part : Part) → slice_get (program_of prog).funcs k ≡ Some f → IsPart b.parts (part_of k) part → bytes_of part ≤ 256 * (func_nodes f + 1)
   few k f part e is =
       let below = slice_get_within (program_of prog).funcs k f e in
-      let count = (ready prog b.code s b.passed).count in
+      let count = (ready prog options.max_gap b.code s b.passed).count in
       let typed = length-map {A = TypedFunction} prog.funcs.items (func_of prog.types) in
       elim (slice_get_cases b.code.functions.items k).1 [
         | inl c ↦

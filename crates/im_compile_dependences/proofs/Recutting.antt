@@ -1,7 +1,8 @@
--- Greedy cuts: each names the write behind it, and a read of the path for which it stands.
-use Rattle.std.proofs.Common.{◌≡◌, ◌⊎◌, inl, inr, ℕ, zero, suc, List, [], ◌∷◌, ◌++◌, Some, refl, sym, ap, ◌∙◌, subst, ⊎_elim, append_assoc}
+-- Gap cuts name no access. Greedy cuts: each names the write behind it, and a read of the path for which it stands.
+use Rattle.std.proofs.Common.{◌≡◌, ◌⊎◌, inl, inr, ℕ, zero, suc, List, [], ◌∷◌, ◌++◌, Option, Some, None, refl, sym, ap, ◌∙◌, subst, ⊎_elim, append_assoc}
 use Rattle.std.specs.Prelude.{slice_get}
 use Rattle.im_num.specs.declared.values.Cause.{Cause}
+use Rattle.im_num.specs.declared.values.Cause.TheVariants.{Gap}
 use Rattle.im_block.specs.declared.access.Tags.{Tags}
 use Rattle.im_block.specs.declared.access.Dep.{Dep}
 use Rattle.im_block.specs.declared.code.Line.{Line}
@@ -16,7 +17,9 @@ use Rattle.im_select.specs.Selects.{causes_of_line, causes_of_lines, causes_of_b
 use Rattle.im_link_laws.specs.Laws.{NamesOwn}
 use Rattle.im_cut.specs.Greedy as greedy
 use Rattle.im_cut.specs.Greedy.{cause_of, BehindCut, Starts, IsDue, CutLines, Empty, Same, Added, CutBlocks, CutsTo}
-use Rattle.im_recut.specs.Recut.{RecutsFunctions}
+use Rattle.im_cut_gap.specs.Gaps as gaps
+use Rattle.im_cut_gap.specs.Gaps.{GapLines, GapBlocks, GapCutsTo}
+use Rattle.im_recut.specs.Recut.{cost_limit, GapsTo, RecutsFunctions}
 use Rattle.im_compile_dependences.specs.Laws.{RecutNames}
 use Rattle.im_compile_dependences.proofs.Members.{In, in_left, in_right, in_either, Names, all_named, names_own, Names_each, next}
 
@@ -185,12 +188,71 @@ function_named tags old new added h names =
       | inr b ↦ b
     ]
 
-functions : (tags : Tags) (fs gs : List Function) → RecutsFunctions tags fs gs → Names_each fs → Names_each gs
-functions tags [] [] h names = names
-functions tags [] (g ∷ gs) h names = absurd h
-functions tags (f ∷ fs) [] h names = absurd h
-functions tags (f ∷ fs) (g ∷ gs) h names =
-    next g gs (function_named tags f g h.0.added h.0.cuts (names 0 f refl)) (functions tags fs gs h.1 (λ i k e. names (suc i) k e))
+-- gap cuts name nothing
+
+module _ (limit : ℕ) (was : List Block) (f : Function) where
+  gap_lines_named : (b : ℕ) (exit : Exit) (n : ℕ) (old new : List Line) → GapLines limit was f b exit n old new → (c : Cause) → In c (causes_of_lines new) → In c (causes_of_lines old) ⊎ (c ≡ Gap)
+  gap_lines_named b exit n old new (gaps.Empty k) c h = absurd h
+  gap_lines_named b exit n old new (gaps.Same k line x y g) c h = elim (in_either c (causes_of_line line) (causes_of_lines y) h) [
+    | inl a ↦ inl (in_left c (causes_of_line line) (causes_of_lines x) a)
+    | inr z ↦ elim (gap_lines_named b exit (suc k) x y g c z) [
+      | inl p ↦ inl (in_right c (causes_of_line line) (causes_of_lines x) p)
+      | inr q ↦ inr q
+    ]
+  ]
+  gap_lines_named b exit n old new (gaps.Added k x y due g) c (inl e) = inr (sym e)
+  gap_lines_named b exit n old new (gaps.Added k x y due g) c (inr h) = gap_lines_named b exit (suc k) x y g c h
+
+  gap_lines_accesses : (b : ℕ) (exit : Exit) (n : ℕ) (old new : List Line) → GapLines limit was f b exit n old new → accesses_of_lines new ≡ accesses_of_lines old
+  gap_lines_accesses b exit n old new (gaps.Empty k) = refl
+  gap_lines_accesses b exit n old new (gaps.Same k line x y g) = ap (λ l. accesses_of_line line ++ l) (gap_lines_accesses b exit (suc k) x y g)
+  gap_lines_accesses b exit n old new (gaps.Added k x y due g) = gap_lines_accesses b exit (suc k) x y g
+
+  gap_blocks_named : (b : ℕ) (xs ys : List Block) → GapBlocks limit was f b xs ys → (c : Cause) → In c (causes_of_blocks ys) → In c (causes_of_blocks xs) ⊎ (c ≡ Gap)
+  gap_blocks_named b [] [] h c i = absurd i
+  gap_blocks_named b [] (y ∷ ys) h c i = absurd h
+  gap_blocks_named b (x ∷ xs) [] h c i = absurd h
+  gap_blocks_named b (x ∷ xs) (y ∷ ys) h c i = elim (in_either c (causes_of_lines y.lines.items) (causes_of_blocks ys) i) [
+    | inl a ↦ elim (gap_lines_named b y.exit 0 x.lines.items y.lines.items h.0 c a) [
+      | inl p ↦ inl (in_left c (causes_of_lines x.lines.items) (causes_of_blocks xs) p)
+      | inr q ↦ inr q
+    ]
+    | inr z ↦ elim (gap_blocks_named (suc b) xs ys h.2 c z) [
+      | inl p ↦ inl (in_right c (causes_of_lines x.lines.items) (causes_of_blocks xs) p)
+      | inr q ↦ inr q
+    ]
+  ]
+
+  gap_blocks_accesses : (b : ℕ) (xs ys : List Block) → GapBlocks limit was f b xs ys → accesses_of_blocks ys ≡ accesses_of_blocks xs
+  gap_blocks_accesses b [] [] h = refl
+  gap_blocks_accesses b [] (y ∷ ys) h = absurd h
+  gap_blocks_accesses b (x ∷ xs) [] h = absurd h
+  gap_blocks_accesses b (x ∷ xs) (y ∷ ys) h =
+      ap (λ l. l ++ accesses_of_blocks ys) (gap_lines_accesses b y.exit 0 x.lines.items y.lines.items h.0) ∙ ap (λ l. accesses_of_lines x.lines.items ++ l) (gap_blocks_accesses (suc b) xs ys h.2)
+
+gapped_named : (limit : ℕ) (old new : Function) → GapCutsTo limit old new → NamesOwn (causes_of_blocks old.blocks.items) (accesses_of_blocks old.blocks.items) → NamesOwn (causes_of_blocks new.blocks.items) (accesses_of_blocks new.blocks.items)
+gapped_named limit old new h names =
+    names_own (causes_of_blocks new.blocks.items) (accesses_of_blocks new.blocks.items) each
+  where
+    same : accesses_of_blocks new.blocks.items ≡ accesses_of_blocks old.blocks.items
+    same = gap_blocks_accesses limit old.blocks.items new 0 old.blocks.items new.blocks.items h.blocks
+
+    each : (c : Cause) → In c (causes_of_blocks new.blocks.items) → Names (accesses_of_blocks new.blocks.items) c
+    each c i = elim (gap_blocks_named limit old.blocks.items new 0 old.blocks.items new.blocks.items h.blocks c i) [
+      | inl a ↦ subst (λ l. Names l c) (sym same) (all_named (causes_of_blocks old.blocks.items) (accesses_of_blocks old.blocks.items) names c a)
+      | inr e ↦ subst (Names (accesses_of_blocks new.blocks.items)) (sym e) tt
+    ]
+
+gaps_named : (max_gap : Option ℕ) (old new : Function) → GapsTo max_gap old new → NamesOwn (causes_of_blocks old.blocks.items) (accesses_of_blocks old.blocks.items) → NamesOwn (causes_of_blocks new.blocks.items) (accesses_of_blocks new.blocks.items)
+gaps_named None old new h names = subst (λ (f : Function). NamesOwn (causes_of_blocks f.blocks.items) (accesses_of_blocks f.blocks.items)) (sym h) names
+gaps_named (Some gap) old new h names = gapped_named (cost_limit gap) old new h names
+
+functions : (tags : Tags) (max_gap : Option ℕ) (fs gs : List Function) → RecutsFunctions tags max_gap fs gs → Names_each fs → Names_each gs
+functions tags max_gap [] [] h names = names
+functions tags max_gap [] (g ∷ gs) h names = absurd h
+functions tags max_gap (f ∷ fs) [] h names = absurd h
+functions tags max_gap (f ∷ fs) (g ∷ gs) h names =
+    next g gs (function_named tags h.0.gapped g h.0.added h.0.cuts (gaps_named max_gap f h.0.gapped h.0.gaps (names 0 f refl))) (functions tags max_gap fs gs h.1 (λ i k e. names (suc i) k e))
 
 pub recut : RecutNames
-recut tags old new h names = record { each = functions tags old.functions.items new.functions.items h.functions names.each }
+recut tags max_gap old new h names = record { each = functions tags max_gap old.functions.items new.functions.items h.functions names.each }

@@ -1,4 +1,5 @@
 -- Each pass that adds cuts or accesses leaves dependences that name accesses of their own function.
+use Rattle.std.specs.Prelude.{ℕ, Option}
 use Rattle.im_block.specs.declared.access.Tags.{Tags}
 use Rattle.im_block.specs.declared.unit.Unit.{Unit as Code}
 use Rattle.im_alloc_placed.specs.Apart.{AllUncut}
@@ -17,4 +18,4 @@ abbrev pub PlaceNames : Type 0
 PlaceNames = (old new : Code) → IsPlaced old new → NamesAccesses old → NamesAccesses new
 
 abbrev pub RecutNames : Type 0
-RecutNames = (tags : Tags) (old new : Code) → RecutsTo tags old new → NamesAccesses old → NamesAccesses new
+RecutNames = (tags : Tags) (max_gap : Option ℕ) (old new : Code) → RecutsTo tags max_gap old new → NamesAccesses old → NamesAccesses new

@@ -17,12 +17,12 @@ use Rattle.im_compile_function_bound.proofs.Rows.{same_at, placed_at, placed_cos
 module _ (force : ForceKeepsLaw) (cuts : CutsKeepCodeLaw) (placing : PlacedCodeLaw) (recut : RecutKeepsLaw) (g : Prog) (code : Code) (m : IsMadeOf g code) where
   apart : AllApart code
   apart =
-      recut.apart m.tags m.placed code m.recut
+      recut.apart m.tags m.max_gap m.placed code m.recut
       (placing.apart m.forced m.placed m.place (force.apart m.lowered m.forced m.force m.uncut))
 
   cost_at : (k : ℕ) (f : Func) (c : Function) → slice_get g.funcs k ≡ Some f → slice_get code.functions.items k ≡ Some c → placed_cost c ≤ 64 * (func_nodes f + 1)
   cost_at k f c e there =
-      let r = same_at m.placed.functions.items code.functions.items (recut.same m.tags m.placed code m.recut).functions k c there in
+      let r = same_at m.placed.functions.items code.functions.items (recut.same m.tags m.max_gap m.placed code m.recut).functions k c there in
       let p = placed_at m.forced.functions.items m.placed.functions.items m.place.functions k r.old r.there in
       let s = same_at m.lowered.functions.items m.forced.functions.items (force.same m.lowered m.forced m.force).functions k p.old p.there in
       let size = (m.sized.functions k f s.old e s.there).small in

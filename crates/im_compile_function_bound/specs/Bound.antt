@@ -1,5 +1,5 @@
 -- A bound of the instructions of one function.
-use Rattle.std.specs.Prelude.{◌≡◌, ◌≤◌, ℕ, ◌+◌, ◌*◌, List, Some, length, slice_get}
+use Rattle.std.specs.Prelude.{◌≡◌, ◌≤◌, ℕ, ◌+◌, ◌*◌, List, Option, Some, length, slice_get}
 use Rattle.im_rv.specs.Lines.{CodeLine}
 use Rattle.im_typed.specs.Program.{Prog, Func}
 use Rattle.im_typed.specs.Counts.{func_nodes}
@@ -24,7 +24,8 @@ pub record IsMadeOf (g : Prog) (code : Code) : Type 0 where
   pub placed : Code
   pub place : IsPlaced forced placed
   pub tags : Tags
-  pub recut : RecutsTo tags placed code
+  pub max_gap : Option ℕ
+  pub recut : RecutsTo tags max_gap placed code
 
 -- each line is an instruction, of four bytes
 abbrev pub bytes_of : List CodeLine → ℕ

@@ -77,6 +77,7 @@ pub(crate) fn see_counts(rt: &impl Abort, alloc: Global) -> Result<(), Fail> {
     let options = Options {
         stack: 65536,
         out_cap: 64,
+        max_gap: None,
     };
     let whole = compile_whole(alloc, COUNTED, options)
         .ok()

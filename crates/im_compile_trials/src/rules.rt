@@ -23,6 +23,7 @@ pub(crate) fn refusal(alloc: Global, source: &str) -> Option<SourceFault> {
     let options = Options {
         stack: 256,
         out_cap: 0,
+        max_gap: None,
     };
     compile(alloc, source.as_bytes(), options).err()
 }

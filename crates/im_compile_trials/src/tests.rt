@@ -119,6 +119,7 @@ fn runs(rt: &impl Abort, alloc: Global, row: &Row) -> Result<(), Fail> {
     let options = Options {
         stack: 65536,
         out_cap: 64,
+        max_gap: None,
     };
     let built = compile(alloc, row.source, options).ok().ok_or(row.what)?;
     let mut whole = loaded(alloc, &built.image, row)?;

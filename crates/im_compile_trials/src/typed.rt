@@ -109,6 +109,7 @@ pub(crate) fn is_typed_so(rt: &impl Abort, alloc: Global) -> Result<(), Fail> {
     let options = Options {
         stack: 65536,
         out_cap: 64,
+        max_gap: None,
     };
     let whole = compile_whole(alloc, PROGRAM, options)
         .ok()

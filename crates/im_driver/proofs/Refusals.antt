@@ -1,5 +1,5 @@
 -- Refusals of the driver's steps are refusals of the source.
-use Rattle.std.proofs.Common.{◌≡◌, ℕ, List, Err, refl}
+use Rattle.std.proofs.Common.{◌≡◌, ℕ, List, Option, Err, refl}
 use Rattle.im_fault.specs.declared.fault.LineFault.{LineFault}
 use Rattle.im_fault.specs.declared.fault.LineFault.TheVariants.{BadByte, OpenComment, OpenLiteral, BadEscape, BadNumber, BadDirective, Syntax, Nesting, Rule}
 use Rattle.im_fault.specs.declared.fault.Quantity.{Quantity}
@@ -51,7 +51,7 @@ check_refused source tokens tree (check.Limit which.Size count) is_tree h = reco
 check_refused source tokens tree (check.Limit which.Statics count) is_tree h = record { tokens = tokens; tree = tree; is_tree = is_tree; exceeds = h.0; sizes = h.1 }
 check_refused source tokens tree check.OutOfMemory is_tree h = tt
 
-pub made_refused : RefusedLaw → (source : List ℕ) (made : Prog) (fault : CompileFault) → IsReady source made → IsFaultOf made fault → IsRefused source (of_compile fault)
-made_refused law source made (compile.Frame function bytes) r h = record { prog = program_of made; program = r.program; function = function; large = law.frame made function bytes r.is_source h }
-made_refused law source made (compile.Code bytes) r h = record { prog = program_of made; program = r.program; large = law.code made bytes r.is_source h }
-made_refused law source made compile.OutOfMemory r h = tt
+pub made_refused : RefusedLaw → (source : List ℕ) (made : Prog) (max_gap : Option ℕ) (fault : CompileFault) → IsReady source made → IsFaultOf made max_gap fault → IsRefused source (of_compile fault)
+made_refused law source made max_gap (compile.Frame function bytes) r h = record { prog = program_of made; program = r.program; function = function; large = law.frame made max_gap function bytes r.is_source h }
+made_refused law source made max_gap (compile.Code bytes) r h = record { prog = program_of made; program = r.program; large = law.code made max_gap bytes r.is_source h }
+made_refused law source made max_gap compile.OutOfMemory r h = tt

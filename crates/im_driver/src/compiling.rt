@@ -1,5 +1,6 @@
 ghost use Rattle.std.specs.Prelude.{◌≡◌, ◌≤◌, MatchResult};
 ghost use Rattle.im_mem.specs.Map.{stack_capacity, output_capacity};
+ghost use Rattle.im_compile.specs.Passed.{IsGapOption};
 ghost use Rattle.im_driver.specs.Compiled.{IsCompiled, IsCompiledFrom, IsRefused};
 ghost use Rattle.im_driver.specs.Steps.{of_compile};
 
@@ -46,6 +47,7 @@ pub fn compile_whole(
     requires some_stack { 256 ≤ options.stack }
     requires most_stack { options.stack ≤ stack_capacity }
     requires output { options.out_cap ≤ output_capacity }
+    requires gap { IsGapOption options.max_gap }
     ensures { MatchResult result
         (λ whole. IsCompiledFrom source.now options whole.prog whole.built) (IsRefused source.now) }
 {
@@ -64,6 +66,7 @@ pub fn compile(alloc: Global, source: &[u8], options: Options) -> Result<Built, 
     requires some_stack { 256 ≤ options.stack }
     requires most_stack { options.stack ≤ stack_capacity }
     requires output { options.out_cap ≤ output_capacity }
+    requires gap { IsGapOption options.max_gap }
     ensures { MatchResult result (IsCompiled source.now options) (IsRefused source.now) }
 {
     kept_law();

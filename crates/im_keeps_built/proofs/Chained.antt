@@ -1,5 +1,5 @@
 -- What is built is a chain of passes.
-use Rattle.std.proofs.Common.{◌≡◌, ℕ, suc, ◌-◌, List, [], ◌∷◌, length, Some, refl, sym, subst, arith}
+use Rattle.std.proofs.Common.{◌≡◌, ℕ, suc, ◌-◌, List, [], ◌∷◌, Option, length, Some, refl, sym, subst, arith}
 use Rattle.std.specs.Prelude.{◌<◌, ◌^◌, min, All, slice_get}
 use Rattle.std.proofs.lemmas.List.Elements.{All-head, All-tail}
 use Rattle.im_gap.specs.Gap.{IsGap}
@@ -36,8 +36,8 @@ needs_fit (f ∷ fs) (c ∷ cs) count are told =
     let small : c.need < 2 ^ 64 - 1 = All-head IsTold c cs told in
     (omega (arith, need, small), needs_fit fs cs rest (λ k x y a b. are (suc k) x y a b) (All-tail IsTold c cs told))
 
-pub fit : (prog : Prog) (code : Code) → IsPassed prog code → NeedsFit (program_of prog)
-fit prog code passed = record {
+pub fit : (prog : Prog) (max_gap : Option ℕ) (code : Code) → IsPassed prog max_gap code → NeedsFit (program_of prog)
+fit prog max_gap code passed = record {
   functions = needs_fit (program_of prog).funcs passed.lowered.functions.items passed.lower.count
       (λ k f c a b. (passed.lower.functions k f c a b).need) passed.told;
 }
@@ -52,10 +52,11 @@ pub chain : LowersLaw → (prog : Prog) (options : Options) (built : Built) → 
 chain lowers prog options built s b selected = record {
   lowered = b.passed.lowered;
   lower =
-      lowers (program_of prog) b.passed.lowered s.typed s.within (fit prog b.code b.passed) b.passed.lower b.passed.sized b.passed.placeable b.passed.uncut;
+      lowers (program_of prog) b.passed.lowered s.typed s.within (fit prog options.max_gap b.code b.passed) b.passed.lower b.passed.sized b.passed.placeable b.passed.uncut;
   forced = b.passed.forced;
   force = b.passed.force;
   tags = b.passed.tags;
+  max_gap = options.max_gap;
   alias = b.passed.alias;
   placed = b.passed.placed;
   place = b.passed.place;

@@ -1,5 +1,5 @@
 -- What is too large for an image, by the program's own counts.
-use Rattle.std.proofs.Common.{◌≡◌, ℕ, zero, suc, ◌+◌, ◌*◌, ◌<◌, ◌≤◌, List, [], ◌∷◌, map, Some, None, refl, sym, ap, ◌∙◌, subst, arith}
+use Rattle.std.proofs.Common.{◌≡◌, ℕ, zero, suc, ◌+◌, ◌*◌, ◌<◌, ◌≤◌, List, [], ◌∷◌, map, Option, Some, None, refl, sym, ap, ◌∙◌, subst, arith}
 use Rattle.std.specs.Prelude.{◌-◌, ◌^◌, min, option_map, slice_get}
 use Rattle.std.proofs.lemmas.Option.{slice_get-map}
 use Rattle.im_link.specs.Parts.{word_count}
@@ -30,21 +30,22 @@ at_same u v (a ∷ xs) (b ∷ ys) zero x e at =
 at_same u v (a ∷ xs) (b ∷ ys) (suc i) x e at = let rest : map u xs ≡ map v ys = cc in at_same u v xs ys i x rest at
 
 module _ (lowers : LowersLaw) (middle : MiddleLaw) (words : WordsLaw) (prog : Prog) (s : IsSource prog) where
-  bounds : (code : Code) → IsPassed prog code → CodeBounds (source_of (program_of prog)) code
-  bounds code passed = middle.bounds (source_of (program_of prog)) code (record {
+  bounds : (max_gap : Option ℕ) (code : Code) → IsPassed prog max_gap code → CodeBounds (source_of (program_of prog)) code
+  bounds max_gap code passed = middle.bounds (source_of (program_of prog)) code (record {
     lowered = passed.lowered;
-    lower = lowers (program_of prog) passed.lowered s.typed s.within (fit prog code passed) passed.lower passed.sized passed.placeable passed.uncut;
+    lower = lowers (program_of prog) passed.lowered s.typed s.within (fit prog max_gap code passed) passed.lower passed.sized passed.placeable passed.uncut;
     forced = passed.forced;
     force = passed.force;
     tags = passed.tags;
+    max_gap = max_gap;
     placed = passed.placed;
     place = passed.place;
     recut = passed.recut;
   })
 
-  frame_refused : (i bytes : ℕ) → HasLargeFrame prog i bytes → IsLargeFrame (program_of prog) i bytes
-  frame_refused i bytes h =
-      let b = bounds h.code h.passed in
+  frame_refused : (max_gap : Option ℕ) (i bytes : ℕ) → HasLargeFrame prog max_gap i bytes → IsLargeFrame (program_of prog) i bytes
+  frame_refused max_gap i bytes h =
+      let b = bounds max_gap h.code h.passed in
       let f = h.frame.f in
       let there = at_same (λ (x : Function). x.need) (λ (x : p.Func). func_need x) h.code.functions.items (program_of prog).funcs i f b.needs h.frame.is_function in
       let need = b.frames_fit i (func_need there.0) f (slice_get-map (λ (x : p.Func). func_need x) (program_of prog).funcs i ∙ ap (option_map (λ (x : p.Func). func_need x)) there.1) h.frame.is_function in
@@ -53,10 +54,10 @@ module _ (lowers : LowersLaw) (middle : MiddleLaw) (words : WordsLaw) (prog : Pr
   told_within : (c n : ℕ) → 1044480 < 4 * c → n ≡ min (4 * c) (2 ^ 64 - 1) → (1044480 < n) × (n ≤ 4 * c)
   told_within c n large e = (omega (arith, large, e), omega (arith, large, e))
 
-  code_refused : (bytes : ℕ) → HasLargeCode prog bytes → IsLargeCode (program_of prog) bytes
-  code_refused bytes h =
+  code_refused : (max_gap : Option ℕ) (bytes : ℕ) → HasLargeCode prog max_gap bytes → IsLargeCode (program_of prog) bytes
+  code_refused max_gap bytes h =
       let a = h.assembled in
-      let b = bounds a.code a.passed in
+      let b = bounds max_gap a.code a.passed in
       let few = words a.code a.addresses a.layouts h.parts a.assemble b.apart in
       let cost = b.cost in
       let told = told_within (word_count h.parts) bytes h.large h.told in
@@ -66,6 +67,6 @@ module _ (lowers : LowersLaw) (middle : MiddleLaw) (words : WordsLaw) (prog : Pr
 
 pub refused : LowersLaw → MiddleLaw → WordsLaw → RefusedLaw
 refused lowers middle words = record {
-  frame = λ prog i bytes s h. frame_refused lowers middle words prog s i bytes h;
-  code = λ prog bytes s h. code_refused lowers middle words prog s bytes h;
+  frame = λ prog max_gap i bytes s h. frame_refused lowers middle words prog s max_gap i bytes h;
+  code = λ prog max_gap bytes s h. code_refused lowers middle words prog s max_gap bytes h;
 }

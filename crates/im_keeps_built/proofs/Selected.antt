@@ -1,5 +1,5 @@
 -- Selection keeps its line of the record of passes.
-use Rattle.std.proofs.Common.{◌≡◌, ℕ, List, sym, ap, ◌∙◌, subst}
+use Rattle.std.proofs.Common.{◌≡◌, ℕ, List, Option, sym, ap, ◌∙◌, subst}
 use Rattle.std.specs.Prelude.{map}
 use Rattle.im_link.specs.Code.{IsLinkable}
 use Rattle.im_typed.specs.declared.program.Prog.{Prog}
@@ -25,11 +25,11 @@ use Rattle.im_compile.specs.Built.{IsBuilt, bytes_of}
 use Rattle.im_keeps_built.specs.Laws.{BuiltSelectsLaw}
 
 -- cuts leave what placing settles
-settled : PlacedCodeLaw → RecutKeepsLaw → (prog : Prog) (code : Code) → IsPassed prog code → IsSettled code
-settled placing recut prog code p =
-    placing.recut p.placed code (recut.same p.tags p.placed code p.recut) (placing.settled p.forced p.placed p.place.placed)
+settled : PlacedCodeLaw → RecutKeepsLaw → (prog : Prog) (max_gap : Option ℕ) (code : Code) → IsPassed prog max_gap code → IsSettled code
+settled placing recut prog max_gap code p =
+    placing.recut p.placed code (recut.same p.tags max_gap p.placed code p.recut) (placing.settled p.forced p.placed p.place.placed)
 
-module _ (prog : Prog) (options : Options) (built : Built) (b : IsBuilt prog options built) (able : IsReady prog b.code) (links : LinkableLaw) where
+module _ (prog : Prog) (options : Options) (built : Built) (b : IsBuilt prog options built) (able : IsReady prog options.max_gap b.code) (links : LinkableLaw) where
   linkable : IsLinkable b.parts
   linkable = links b.code b.addresses b.layouts b.parts b.assemble able.named
 
@@ -63,8 +63,8 @@ module _ (prog : Prog) (options : Options) (built : Built) (b : IsBuilt prog opt
 
 pub selects : ReadyLaw → PlacedCodeLaw → RecutKeepsLaw → LinkableLaw → LiveCodeLaw → ExecutesLaw → SelectsLaw → BuiltSelectsLaw
 selects ready placing recut links living executes selecting prog options built source b =
-    let able = ready prog b.code source b.passed in
-    let live = lives prog options built b able links living (settled placing recut prog b.code b.passed) in
+    let able = ready prog options.max_gap b.code source b.passed in
+    let live = lives prog options built b able links living (settled placing recut prog options.max_gap b.code b.passed) in
     selecting b.code b.addresses b.layouts b.parts b.linked options.stack options.out_cap built.image
     (image_of prog options built b able links)
     (execute prog options built b able links executes live)

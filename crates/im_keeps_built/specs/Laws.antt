@@ -1,5 +1,5 @@
 -- What is built of a program keeps it.
-use Rattle.std.specs.Prelude.{◌≡◌, ℕ, ◌+◌, ◌*◌, ◌<◌, ◌≤◌, List, length, map, Some, slice_get}
+use Rattle.std.specs.Prelude.{◌≡◌, ℕ, ◌+◌, ◌*◌, ◌<◌, ◌≤◌, List, Option, length, map, Some, slice_get}
 use Rattle.im_gap.specs.Gap.{recovery_steps, IsGap}
 use Rattle.im_typed.specs.declared.frames.Frame.{Frame}
 use Rattle.im_typed.specs.declared.program.Prog.{Prog}
@@ -52,5 +52,5 @@ pub record IsLargeCode (prog : Program) (bytes : ℕ) : Type 0 where
 
 -- a program that is refused by what is made of it is one that may need so much, by its own counts
 pub record RefusedLaw : Type 0 where
-  pub frame : (prog : Prog) (i bytes : ℕ) → IsSource prog → HasLargeFrame prog i bytes → IsLargeFrame (program_of prog) i bytes
-  pub code : (prog : Prog) (bytes : ℕ) → IsSource prog → HasLargeCode prog bytes → IsLargeCode (program_of prog) bytes
+  pub frame : (prog : Prog) (max_gap : Option ℕ) (i bytes : ℕ) → IsSource prog → HasLargeFrame prog max_gap i bytes → IsLargeFrame (program_of prog) i bytes
+  pub code : (prog : Prog) (max_gap : Option ℕ) (bytes : ℕ) → IsSource prog → HasLargeCode prog max_gap bytes → IsLargeCode (program_of prog) bytes

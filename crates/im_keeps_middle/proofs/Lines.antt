@@ -1,5 +1,5 @@
 -- Each relation keeps its line.
-use Rattle.std.proofs.Common.{◌≡◌, ℕ, List, [], ◌∷◌, map, refl, ap, ◌∙◌}
+use Rattle.std.proofs.Common.{◌≡◌, ℕ, List, [], ◌∷◌, Option, map, refl, ap, ◌∙◌}
 use Rattle.im_block.specs.declared.access.Tags.{Tags}
 use Rattle.im_block.specs.declared.code.Line.{Line}
 use Rattle.im_block.specs.declared.code.Block.{Block}
@@ -57,8 +57,8 @@ place law u v w = record {
   cost = law.cost u v w.placed;
 }
 
-recut : RecutKeepsLaw → (u v : Code) (tags : Tags) → RecutsTo tags u v → Recuts tags u v
-recut law u v tags r = record { same = law.same tags u v r; apart = law.apart tags u v r; sectioned = law.sectioned tags u v r }
+recut : RecutKeepsLaw → (u v : Code) (tags : Tags) (max_gap : Option ℕ) → RecutsTo tags max_gap u v → Recuts tags u v
+recut law u v tags max_gap r = record { same = law.same tags max_gap u v r; apart = law.apart tags max_gap u v r; sectioned = law.sectioned tags max_gap u v r }
 
 pub middle : PlacedCodeLaw → RecutKeepsLaw → CodeBoundsLaw → MiddleLaw
 middle placing cutting bounds = record {
@@ -74,7 +74,7 @@ middle placing cutting bounds = record {
     cut = cut c.forced;
     placed = c.placed;
     place = place placing c.forced c.placed c.place;
-    recut = record { same = cutting.same c.tags c.placed code c.recut; apart = cutting.apart c.tags c.placed code c.recut };
+    recut = record { same = cutting.same c.tags c.max_gap c.placed code c.recut; apart = cutting.apart c.tags c.max_gap c.placed code c.recut };
   });
   whole = λ source frames image gap c. record {
     lowered = c.lowered;
@@ -88,7 +88,7 @@ middle placing cutting bounds = record {
     placed = c.placed;
     place = place placing c.forced c.placed c.place;
     sectioned = c.sectioned;
-    recut = recut cutting c.placed c.sectioned c.tags c.recut;
+    recut = recut cutting c.placed c.sectioned c.tags c.max_gap c.recut;
     select = c.select;
     measure = c.measure;
   };

@@ -1,5 +1,5 @@
 -- The relations of the passes keep their lines of the record.
-use Rattle.std.specs.Prelude.{ℕ, List}
+use Rattle.std.specs.Prelude.{ℕ, List, Option}
 use Rattle.im_image.specs.Contents.{ImageValue}
 use Rattle.im_block.specs.declared.access.Tags.{Tags}
 use Rattle.im_block.specs.declared.unit.Unit.{Unit as Code}
@@ -14,7 +14,7 @@ pub record MiddleLaw : Type 0 where
   -- no cuts may be added
   pub cut : (u : Code) → Cuts u u
   pub place : (u v : Code) → IsWellPlaced u v → Places u v
-  pub recut : (u v : Code) (tags : Tags) → RecutsTo tags u v → Recuts tags u v
+  pub recut : (u v : Code) (tags : Tags) (max_gap : Option ℕ) → RecutsTo tags max_gap u v → Recuts tags u v
   -- so the passes before selection bound what the code costs and what frames need, whether it has an image or not
   pub bounds : (source : Source) (code : Code) → Front source code → CodeBounds source code
   -- so with lowering and selection the record is whole

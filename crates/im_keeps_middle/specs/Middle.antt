@@ -1,5 +1,5 @@
 -- The passes from block code to placed code with all its cuts, by their own relations.
-use Rattle.std.specs.Prelude.{ℕ, List}
+use Rattle.std.specs.Prelude.{ℕ, List, Option}
 use Rattle.im_image.specs.Contents.{ImageValue}
 use Rattle.im_block.specs.declared.access.Tags.{Tags}
 use Rattle.im_block.specs.declared.unit.Unit.{Unit as Code}
@@ -20,7 +20,8 @@ pub record Front (source : Source) (code : Code) : Type 0 where
   pub tags : Tags
   pub placed : Code
   pub place : IsWellPlaced forced placed
-  pub recut : RecutsTo tags placed code
+  pub max_gap : Option ℕ
+  pub recut : RecutsTo tags max_gap placed code
 
 -- all passes
 pub record Chain (source : Source) (frames : List ℕ) (image : ImageValue) (gap : ℕ) : Type 0 where
@@ -33,6 +34,7 @@ pub record Chain (source : Source) (frames : List ℕ) (image : ImageValue) (gap
   pub placed : Code
   pub place : IsWellPlaced forced placed
   pub sectioned : Code
-  pub recut : RecutsTo tags placed sectioned
+  pub max_gap : Option ℕ
+  pub recut : RecutsTo tags max_gap placed sectioned
   pub select : Selects sectioned frames image
   pub measure : IsGap image.words image.entry gap

@@ -95,6 +95,7 @@ fn compiled(alloc: Global) -> Option<Compiled>
     let options = Options {
         stack: 65536,
         out_cap: 16,
+        max_gap: None,
     };
     match compile_whole(alloc, SOURCE, options) {
         Ok(whole) => Some(whole),

@@ -127,6 +127,7 @@ fn try_one(rt: &impl Abort, alloc: Global, trial: &Trial) -> Result<(), Fail> {
     let options = Options {
         stack: 4096,
         out_cap: 64,
+        max_gap: None,
     };
     match compile_whole(alloc, trial.source, options) {
         Ok(whole) => agree(rt, alloc, &whole, trial),

@@ -123,7 +123,7 @@ const CAUSES: [Option<Cause>; 11] = [
 #[test]
 fn a_write_behind_an_open_read_is_cut(rt: HostRuntime) -> Result<(), Fail> {
     let alloc = rt.alloc();
-    let unit = recut(alloc, sample(alloc)?, &tags(alloc)?)?;
+    let unit = recut(alloc, sample(alloc)?, &tags(alloc)?, None)?;
     for function in unit.functions.iter() {
         for block in function.blocks.iter() {
             let mut causes = Vec::new(alloc);

@@ -1,2 +1,4 @@
 pub mod Keeps
 pub mod Rows
+pub mod Forms
+pub mod Behind

@@ -1,4 +1,4 @@
-//! From placed code to placed code with greedy cuts over all its accesses, those to slots too.
+//! From placed code to placed code with gap cuts and with greedy cuts over all its accesses, those to slots too.
 #![tactic(auto)]
 
 mod cuts;

@@ -15,7 +15,7 @@ pub linked_code-requires-clause-assemblable : goal.linked_code-requires-clause-a
 linked_code-requires-clause-assemblable c =
     let prog = c.requires.prepared.0 in
     let p = c.requires.prepared.1 in
-    assemblable prog c.args.prepared.unit _ p.ready (layouts_at _ _ _ c.deref.ensures.value p.lay_out) (c.deref-2.ensures.value ∙ p.place_statics)
+    assemblable prog c.args.options.max_gap c.args.prepared.unit _ p.ready (layouts_at _ _ _ c.deref.ensures.value p.lay_out) (c.deref-2.ensures.value ∙ p.place_statics)
     (ap (λ l. length l) c.deref-3.ensures.value ∙ names_count c.args.prepared.names.items prog.funcs.items p.named)
 
 pub linked_code-requires-clause-named : goal.linked_code-requires-clause-named
@@ -25,8 +25,8 @@ pub returns-in_err-linked : goal.returns-in_err-linked
 returns-in_err-linked c prog p =
     let e = err_from_is_err_and c.from_residual.result c.from_residual.ensures.1 in
     let unit = c.args.prepared.unit in
-    let has : HasPlaces prog unit c.deref-2.result.now c.deref.result.now = record { passed = p.passed; lay_out = layouts_at _ _ _ c.deref.ensures.value p.lay_out; place_statics = c.deref-2.ensures.value ∙ p.place_statics } in
-    rw (e.1, e.2) (of_linking prog unit c.deref-2.result.now c.deref.result.now has c.in_err-linked.field-0.0 c.in_err-linked.ensures)
+    let has : HasPlaces prog c.args.options.max_gap unit c.deref-2.result.now c.deref.result.now = record { passed = p.passed; lay_out = layouts_at _ _ _ c.deref.ensures.value p.lay_out; place_statics = c.deref-2.ensures.value ∙ p.place_statics } in
+    rw (e.1, e.2) (of_linking prog c.args.options.max_gap unit c.deref-2.result.now c.deref.result.now has c.in_err-linked.field-0.0 c.in_err-linked.ensures)
 
 pub gap-requires-clause-defined : goal.gap-requires-clause-defined
 gap-requires-clause-defined c =

@@ -13,19 +13,19 @@ use Rattle.im_compile.proofs.Faulty.{of_frames}
 use Rattle.im_compile.proofs.Names.{texts_are, frames_are}
 use Rattle.im_compile.proofs.prepared.prepare.Goals as goal
 
-pub placed_code-requires : goal.placed_code-requires
-placed_code-requires c = (c.requires.0, c.requires.1, c.requires.2.code)
+pub placed_code-requires-clause-source : goal.placed_code-requires-clause-source
+placed_code-requires-clause-source c = (c.requires.source.0, c.requires.source.1, c.requires.source.2.code)
 
 pub layouts_of-requires : goal.layouts_of-requires
 layouts_of-requires c =
-    let ready = c.in_ok-unit.ensures.ready c.requires.0 c.requires.1 c.requires.2.code in
+    let ready = c.in_ok-unit.ensures.ready c.requires.source.0 c.requires.source.1 c.requires.source.2.code in
     rw c.deref.ensures.value ready.fits
 
 pub returns-in_err-layouts : goal.returns-in_err-layouts
 returns-in_err-layouts c prog source l =
     let p = err_from_is_err_and c.from_residual-in_err-layouts.result c.from_residual-in_err-layouts.ensures.1 in
     let e = c.in_err-layouts.field-0.0 in
-    rw (p.1, p.2) (of_frames prog c.in_ok-unit.unit (c.in_ok-unit.ensures.passed prog source l.code) e (subst (λ (fs : List Function). IsFrameFault fs e) c.deref.ensures.value c.in_err-layouts.ensures))
+    rw (p.1, p.2) (of_frames prog c.args.max_gap c.in_ok-unit.unit (c.in_ok-unit.ensures.passed prog source l.code) e (subst (λ (fs : List Function). IsFrameFault fs e) c.deref.ensures.value c.in_err-layouts.ensures))
 
 pub returns : goal.returns
 returns c prog source l =

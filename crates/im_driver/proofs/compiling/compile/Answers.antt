@@ -11,4 +11,4 @@ pub returns-in-Ok : goal.returns-in-Ok
 returns-in-Ok c = (c.kept_law.ensures c.args.source.now c.in_ok-prog.prog c.args.options c.in-Ok.built c.in_ok-prog.ensures c.in-Ok.ensures).compiled
 
 pub returns-in-Err : goal.returns-in-Err
-returns-in-Err c = rw c.unmade.ensures (made_refused c.refused_law.ensures c.args.source.now c.in_ok-prog.prog c.in-Err.fault c.in_ok-prog.ensures c.in-Err.ensures)
+returns-in-Err c = rw c.unmade.ensures (made_refused c.refused_law.ensures c.args.source.now c.in_ok-prog.prog c.args.options.max_gap c.in-Err.fault c.in_ok-prog.ensures c.in-Err.ensures)

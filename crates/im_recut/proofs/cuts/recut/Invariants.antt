@@ -7,6 +7,6 @@ abbrev pub invariant-loop-function : goal.invariant-loop-function
 invariant-loop-function l =
     let old = l.fn.unit.functions.items in
     record {
-      done : RecutsFunctions l.tags (take l.function-index old) (take l.function-index l.function-items);
+      done : RecutsFunctions l.tags l.fn.max_gap (take l.function-index old) (take l.function-index l.function-items);
       left : drop l.function-index l.function-items ≡ drop l.function-index old;
     }

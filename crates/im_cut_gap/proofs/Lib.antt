@@ -1,0 +1,9 @@
+pub mod Costs
+pub mod Bounds
+pub mod Dues
+pub mod Gapping
+pub mod Tables
+pub mod Passing
+pub mod Whole
+pub mod Remaining
+pub mod Further
