@@ -40,3 +40,31 @@ def pointers(room):
         room.file("pointers.c", text % other)
         found = [it for it in dependences(room, "pointers.c") if it[1] == "main"]
         same(f"cuts of q=&{other}", len(found), wanted)
+
+
+def causes(done):
+    """The cause of each cut that a report tells."""
+    lines = [line.split() for line in done.out.decode().splitlines()]
+    return [words[3] for words in lines if words[0] == "cut"]
+
+
+@test("--max-gap bounds the longest gap, by cuts of their own cause")
+def bounded(room):
+    room.file("met.c", "int x;void f(int*p,int*q){*p=*q+1;}int main(void){f(&x,&x);f(&x,&x);return x;}\n")
+    done = room.call("report", "met.c", "--max-gap", "160").wants("a met pointer", 0)
+    holds("a met pointer: a longer gap", done.number("gap") <= 160)
+    # no write meets a read, so without the option there is no cut in between
+    room.file("long.c", "int a=7,b,c;int main(void){" + "b=a;c=a;" * 1000 + "return b;}\n")
+    free = room.call("report", "long.c").wants("no bound", 0)
+    holds("no bound: a short gap", free.number("gap") > 1000)
+    same("no bound: gap cuts", causes(free).count("gap"), 0)
+    for limit in (160, 300, 1000):
+        done = room.call("run", "long.c", "it.img", "--max-gap", str(limit), "--vars").wants(f"at most {limit}", 0)
+        gap = done.number("gap")
+        holds(f"at most {limit}: {gap}", gap <= limit)
+        report = room.call("report", "long.c", "--max-gap", str(limit)).wants(f"at most {limit}, reported", 0)
+        same(f"at most {limit}, reported: the gap", report.number("gap"), gap)
+        holds(f"at most {limit}: no gap cut", "gap" in causes(report))
+        room.file("short.trace", f"{gap} 0 1000000\n")
+        again = room.call("exec", "it.img", "--trace", "short.trace", "--vars").wants(f"at most {limit}, in short periods", 0)
+        same(f"at most {limit}, in short periods: the status", again.number("status"), 7)

@@ -1,11 +1,13 @@
 -- A source is built and its image stored: the stages put together.
-use Rattle.std.proofs.Common.{◌≡◌, ℕ, List, refl}
+use Rattle.std.proofs.Common.{◌≡◌, ◌≤◌, ℕ, List, Option, Some, None, refl}
+use Rattle.std.specs.Prelude.{IfSome}
 use Rattle.im_io.specs.Shelf.{ShelfState}
 use Rattle.im_image.specs.Text.{image_text}
 use Rattle.im_fault.specs.declared.fault.SourceFault.{SourceFault}
 use Rattle.im_fault.specs.declared.fault.SourceFault.TheVariants.{Line, Limit, OutOfMemory}
 use Rattle.im_cmd_words.specs.declared.command.BuildOptions.{BuildOptions}
 use Rattle.im_compile.specs.declared.built.Built.{Built}
+use Rattle.im_compile.specs.Passed.{IsGapOption}
 use Rattle.im_typed.specs.declared.program.Prog.{Prog}
 use Rattle.im_image.specs.Contents.{IsImage}
 use Rattle.im_driver.specs.Compiled.{IsCompiled, IsCompiledFrom, IsRefused}
@@ -14,6 +16,10 @@ use Rattle.im_cmd.specs.Files.{ReadsFile, StoresText}
 use Rattle.im_cmd.specs.Builds.{Builds, RefusesBuild, Compiles, RefusesSource, IsBuilt, IsFaulty, built_with, source_limit, source_faulty, source_starved, uncompiled, unwritable}
 use Rattle.im_cmd.specs.Stages.{IsBuiltFrom, CompilesFrom, RefusesText, text_faulty, text_starved, RefusesStore, store_failed, store_starved}
 use Rattle.im_cmd.proofs.Refusing.{unchanged_read, unchanged_then}
+
+pub gap_option : (max_gap : Option ℕ) → IfSome max_gap (λ gap. (160 ≤ gap) × (gap ≤ 1000000)) → IsGapOption max_gap
+gap_option None h = tt
+gap_option (Some gap) h = h
 
 pub faulty : (text : List ℕ) (fault : SourceFault) → (fault ≡ OutOfMemory → ⊥) → IsRefused text fault → IsFaulty text fault
 faulty text (Line line why) other h = h

@@ -1,5 +1,5 @@
 -- A source is compiled, and its image stored.
-use Rattle.std.specs.Prelude.{ℕ, ◌+◌, List, None}
+use Rattle.std.specs.Prelude.{ℕ, ◌+◌, List}
 use Rattle.im_io.specs.Shelf.{ShelfState}
 use Rattle.im_image.specs.Contents.{IsImage}
 use Rattle.im_image.specs.Text.{image_text}
@@ -17,9 +17,9 @@ use Rattle.im_cmd.specs.Files.{Unchanged, ReadsFile, RefusesFile, StoresText, St
 abbrev pub source_limit : ℕ
 source_limit = 4194304
 
--- what is compiled with: the bytes of stack and of output that the words give
+-- what is compiled with: the bytes of stack and of output, and the longest gap that is asked for, as the words give them
 abbrev pub built_with : BuildOptions → BuildsWith
-built_with building = record { stack = building.stack; out_cap = building.out_cap; max_gap = None }
+built_with building = record { stack = building.stack; out_cap = building.out_cap; max_gap = building.max_gap }
 
 -- The image is one, and keeps the meaning of the text's program with so many bytes of stack and of output, with the frames
 -- and the longest gap that are told: the headline.

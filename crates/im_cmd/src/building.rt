@@ -56,7 +56,7 @@ pub fn build_text<'a>(
     let options = Options {
         stack: building.stack,
         out_cap: building.out_cap,
-        max_gap: None,
+        max_gap: building.max_gap,
     };
     match compile(alloc, text, options) {
         Ok(built) => Ok(built),
@@ -79,7 +79,7 @@ fn compile_text<'a>(
     let options = Options {
         stack: building.stack,
         out_cap: building.out_cap,
-        max_gap: None,
+        max_gap: building.max_gap,
     };
     match compile_whole(alloc, text, options) {
         Ok(whole) => Ok(whole),

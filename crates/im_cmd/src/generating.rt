@@ -21,6 +21,7 @@ use std::alloc::Global;
 const DEFAULT_BUILDING: BuildOptions = BuildOptions {
     stack: 65_536,
     out_cap: 1_048_576,
+    max_gap: None,
 };
 
 // What is built of the made source of so many functions.

@@ -1,6 +1,6 @@
 -- What clap finds for words without a fault has a value for each name, and its numbers are numbers.
-use Rattle.std.proofs.Common.{ap, ap₂, refl, sym, subst, true, false, true≢false, not, ℕ, pos, zero, suc, Bool, List, [], ◌∷◌, ◌++◌, Option, Some, None, ◌≡◌, ◌∙◌, ◌&&◌, ◌||◌, codes, cond, drop, fold, is_some, length}
-use Rattle.std.specs.Prelude.{IfSome, encode_utf8, slice_get}
+use Rattle.std.proofs.Common.{ap, ap₂, refl, sym, subst, ◌⊎◌, inl, inr, true, false, true≢false, not, ℕ, pos, zero, suc, Bool, List, [], ◌∷◌, ◌++◌, Option, Some, None, ◌≡◌, ◌∙◌, ◌&&◌, ◌||◌, codes, cond, drop, fold, is_some, length}
+use Rattle.std.specs.Prelude.{IfSome, encode_utf8, option_and_then, slice_get}
 use Rattle.std.specs.List.{find, list_all}
 use Rattle.std.specs.Option.{option_map_or}
 use Rattle.std.specs.Str.{bytes_eq, chars}
@@ -48,13 +48,13 @@ has_any (v ∷ vs) = true
 
 -- the options and operands that have numbers, and the bounds of each
 abbrev pub is_number : Text → Bool
-is_number id = bytes_eq id (codes "steps") || (bytes_eq id (codes "fuel") || (bytes_eq id (codes "stack") || (bytes_eq id (codes "out-cap") || bytes_eq id (codes "N"))))
+is_number id = bytes_eq id (codes "steps") || (bytes_eq id (codes "fuel") || (bytes_eq id (codes "stack") || (bytes_eq id (codes "out-cap") || (bytes_eq id (codes "max-gap") || bytes_eq id (codes "N")))))
 
 abbrev pub least : Text → ℕ
-least id = cond (bytes_eq id (codes "stack")) 256 (cond (bytes_eq id (codes "N")) 1 0)
+least id = cond (bytes_eq id (codes "stack")) 256 (cond (bytes_eq id (codes "max-gap")) 160 (cond (bytes_eq id (codes "N")) 1 0))
 
 abbrev pub most : Text → ℕ
-most id = cond (bytes_eq id (codes "steps") || bytes_eq id (codes "fuel")) 4294967295 (cond (bytes_eq id (codes "N")) 300 1048576)
+most id = cond (bytes_eq id (codes "steps") || bytes_eq id (codes "fuel")) 4294967295 (cond (bytes_eq id (codes "max-gap")) 1000000 (cond (bytes_eq id (codes "N")) 300 1048576))
 
 -- a value of such an option is a number that clap's parser takes
 abbrev pub fits : Text → Text → Bool
@@ -332,6 +332,23 @@ first_good id (r ∷ rs) g e = go (bytes_eq r.id id) refl e (first_good id rs g.
     go false t h later =
         let l = later h in
         record { text = l.text; is_first = rw t l.is_first; fit = l.fit }
+
+none_first_of : (id : Text) (rows : List Row) → has_row id rows ≡ false → first_of id rows ≡ None
+none_first_of id [] e = refl
+none_first_of id (r ∷ rs) e = go (bytes_eq r.id id) e (none_first_of id rs)
+  where
+    go : (b : Bool) → (b || has_row id rs) ≡ false → (has_row id rs ≡ false → first_of id rs ≡ None)
+        → option_and_then (λ (x : Row). slice_get x.values 0) (cond b (Some r) (find (λ x. bytes_eq x.id id) rs)) ≡ None
+    go true t later = absurd (true≢false t)
+    go false t later = later t
+
+-- no row of this name, or one with a first value
+pub optional_good : (id : Text) (rows : List Row) → AllGood rows → (first_of id rows ≡ None) ⊎ Holds id rows
+optional_good id rows g = go (has_row id rows) refl
+  where
+    go : (b : Bool) → has_row id rows ≡ b → (first_of id rows ≡ None) ⊎ Holds id rows
+    go true t = inr (first_good id rows g t)
+    go false t = inl (none_first_of id rows t)
 
 given_row : (id : Text) (rows : List Row) → is_given id rows ≡ true → has_row id rows ≡ true
 given_row id [] e = absurd (true≢false (sym e))

@@ -1,5 +1,5 @@
 -- Words in which clap finds no fault name a command.
-use Rattle.std.proofs.Common.{ap, ap₂, arith, refl, sym, subst, true, false, not, ℕ, pos, Bool, List, [], ◌∷◌, Option, Some, None, ◌≡◌, ◌∙◌, ◌&&◌, ◌||◌, ◌^◌, ◌<◌, codes, cond, drop, take, is_some, length, nat_lt, ◌≤◌}
+use Rattle.std.proofs.Common.{ap, ap₂, arith, refl, sym, subst, ◌⊎◌, inl, inr, true, false, not, ℕ, pos, Bool, List, [], ◌∷◌, Option, Some, None, ◌≡◌, ◌∙◌, ◌&&◌, ◌||◌, ◌^◌, ◌<◌, codes, cond, drop, take, is_some, length, nat_lt, ◌≤◌}
 use Rattle.std.specs.Prelude.{if◌then◌else◌, IfSome, option_and_then, option_map, slice_index_or}
 use Rattle.std.specs.List.{list_all}
 use Rattle.std.specs.Str.{bytes_eq}
@@ -17,13 +17,13 @@ use Rattle.clap.specs.declared.error.kind.ErrorKind.TheVariants.{MissingRequired
 use Rattle.clap.proofs.SimpleLemmas.{is_nil}
 use Rattle.im_cmd_words.specs.Table.{command_line}
 use Rattle.clap.proofs.WalkLemmas.{both}
-use Rattle.im_cmd_words.specs.Numbers.{is_numeral, number_between, plain_number, starts_plainly, within}
+use Rattle.im_cmd_words.specs.Numbers.{is_numeral, number_between, optional_between, plain_number, starts_plainly, within}
 use Rattle.im_cmd_words.specs.declared.command.BuildOptions.{BuildOptions}
 use Rattle.im_cmd_words.specs.Named.{Asked, build_asked, building_asked, builds, dump_asked, dumps, eval_asked, evaluates, exec_asked, executes, gen_asked, generates, is_faultless, IsPlain, is_set, named, number_asked, report_asked, reports, run_asked, runs, text_found, upgrade_asked, upgrades}
 use Rattle.im_cmd_words.proofs.OperandLemmas.{asked_of, build_fault, build_found, build_named, command_shape, dump_fault, dump_found, dump_named, eval_fault, eval_found, eval_named, exec_fault, exec_found, exec_named, gen_fault, gen_found, gen_named, report_fault, report_found, report_named, run_fault, run_found, run_named, upgrade_fault, upgrade_found, upgrade_named}
 use Rattle.im_cmd_words.proofs.FirstWordLemmas.{dashes_refused, first_refused, help_refused, name_refused, no_command, nothing_refused, stray_kind}
 use Rattle.im_cmd_words.proofs.OptionLemmas.{first_apart, reads}
-use Rattle.im_cmd_words.proofs.RowLemmas.{AllGood, AllSound, Fits, Holds, Sets, Sound, defaults_give, first_good, fits, given_holds, kinds_accept, level_good, no_kind, none_first, none_then, set_sound, text_fit, is_number}
+use Rattle.im_cmd_words.proofs.RowLemmas.{AllGood, AllSound, Fits, Holds, Sets, Sound, defaults_give, first_good, fits, optional_good, given_holds, kinds_accept, level_good, no_kind, none_first, none_then, set_sound, text_fit, is_number}
 
 -- ---- numbers
 
@@ -81,7 +81,12 @@ build_sound = (
         set_sound (rule_at 0 3) (λ values rows. refl) (number_fit (rule_at 0 3) (codes "out-cap") refl (λ again rows e. no_kind _ _ e)
             (λ again v vs rows e. kinds_accept false (Signed (pos 0) (pos 1048576)) (v ∷ vs) (none_then (repeat_fault again (codes "out-cap") rows) _ (none_then (range_kinds 1 1 (length (v ∷ vs))) _ e)))),
         refl,
-        (λ again values rows e g. g, refl, tt),
+        (
+          set_sound (rule_at 0 4) (λ values rows. refl) (number_fit (rule_at 0 4) (codes "max-gap") refl (λ again rows e. no_kind _ _ e)
+              (λ again v vs rows e. kinds_accept false (Signed (pos 160) (pos 1000000)) (v ∷ vs) (none_then (repeat_fault again (codes "max-gap") rows) _ (none_then (range_kinds 1 1 (length (v ∷ vs))) _ e)))),
+          refl,
+          (λ again values rows e g. g, refl, tt),
+        ),
       ),
     ),
   ),
@@ -103,16 +108,25 @@ run_sound = (
             (λ again v vs rows e. kinds_accept false (Signed (pos 0) (pos 1048576)) (v ∷ vs) (none_then (repeat_fault again (codes "out-cap") rows) _ (none_then (range_kinds 1 1 (length (v ∷ vs))) _ e)))),
         refl,
         (
-          text_sound (rule_at 1 4) (λ values rows. refl) refl (λ again rows e. no_kind _ _ e),
+          set_sound (rule_at 1 4) (λ values rows. refl) (number_fit (rule_at 1 4) (codes "max-gap") refl (λ again rows e. no_kind _ _ e)
+              (λ again v vs rows e. kinds_accept false (Signed (pos 160) (pos 1000000)) (v ∷ vs) (none_then (repeat_fault again (codes "max-gap") rows) _ (none_then (range_kinds 1 1 (length (v ∷ vs))) _ e)))),
           refl,
           (
             text_sound (rule_at 1 5) (λ values rows. refl) refl (λ again rows e. no_kind _ _ e),
             refl,
             (
-              set_sound (rule_at 1 6) (λ values rows. refl) (number_fit (rule_at 1 6) (codes "steps") refl (λ again rows e. no_kind _ _ e)
-                  (λ again v vs rows e. kinds_accept false (Signed (pos 0) (pos 4294967295)) (v ∷ vs) (none_then (repeat_fault again (codes "steps") rows) _ (none_then (range_kinds 1 1 (length (v ∷ vs))) _ e)))),
+              text_sound (rule_at 1 6) (λ values rows. refl) refl (λ again rows e. no_kind _ _ e),
               refl,
-              (set_sound (rule_at 1 7) (λ values rows. refl) (text_fit (rule_at 1 7) refl (λ again rows e. refl)), refl, (λ again values rows e g. g, refl, tt)),
+              (
+                set_sound (rule_at 1 7) (λ values rows. refl) (number_fit (rule_at 1 7) (codes "steps") refl (λ again rows e. no_kind _ _ e)
+                    (λ again v vs rows e. kinds_accept false (Signed (pos 0) (pos 4294967295)) (v ∷ vs) (none_then (repeat_fault again (codes "steps") rows) _ (none_then (range_kinds 1 1 (length (v ∷ vs))) _ e)))),
+                refl,
+                (
+                  set_sound (rule_at 1 8) (λ values rows. refl) (text_fit (rule_at 1 8) refl (λ again rows e. refl)),
+                  refl,
+                  (λ again values rows e g. g, refl, tt),
+                ),
+              ),
             ),
           ),
         ),
@@ -159,7 +173,12 @@ report_sound = (
       set_sound (rule_at 5 2) (λ values rows. refl) (number_fit (rule_at 5 2) (codes "out-cap") refl (λ again rows e. no_kind _ _ e)
           (λ again v vs rows e. kinds_accept false (Signed (pos 0) (pos 1048576)) (v ∷ vs) (none_then (repeat_fault again (codes "out-cap") rows) _ (none_then (range_kinds 1 1 (length (v ∷ vs))) _ e)))),
       refl,
-      (λ again values rows e g. g, refl, tt),
+      (
+        set_sound (rule_at 5 3) (λ values rows. refl) (number_fit (rule_at 5 3) (codes "max-gap") refl (λ again rows e. no_kind _ _ e)
+            (λ again v vs rows e. kinds_accept false (Signed (pos 160) (pos 1000000)) (v ∷ vs) (none_then (repeat_fault again (codes "max-gap") rows) _ (none_then (range_kinds 1 1 (length (v ∷ vs))) _ e)))),
+        refl,
+        (λ again values rows e g. g, refl, tt),
+      ),
     ),
   ),
 )
@@ -177,13 +196,22 @@ eval_sound = (
           (λ again v vs rows e. kinds_accept false (Signed (pos 0) (pos 1048576)) (v ∷ vs) (none_then (repeat_fault again (codes "out-cap") rows) _ (none_then (range_kinds 1 1 (length (v ∷ vs))) _ e)))),
       refl,
       (
-        text_sound (rule_at 6 3) (λ values rows. refl) refl (λ again rows e. no_kind _ _ e),
+        set_sound (rule_at 6 3) (λ values rows. refl) (number_fit (rule_at 6 3) (codes "max-gap") refl (λ again rows e. no_kind _ _ e)
+            (λ again v vs rows e. kinds_accept false (Signed (pos 160) (pos 1000000)) (v ∷ vs) (none_then (repeat_fault again (codes "max-gap") rows) _ (none_then (range_kinds 1 1 (length (v ∷ vs))) _ e)))),
         refl,
         (
-          set_sound (rule_at 6 4) (λ values rows. refl) (number_fit (rule_at 6 4) (codes "fuel") refl (λ again rows e. no_kind _ _ e)
-              (λ again v vs rows e. kinds_accept false (Signed (pos 0) (pos 4294967295)) (v ∷ vs) (none_then (repeat_fault again (codes "fuel") rows) _ (none_then (range_kinds 1 1 (length (v ∷ vs))) _ e)))),
+          text_sound (rule_at 6 4) (λ values rows. refl) refl (λ again rows e. no_kind _ _ e),
           refl,
-          (set_sound (rule_at 6 5) (λ values rows. refl) (text_fit (rule_at 6 5) refl (λ again rows e. refl)), refl, (λ again values rows e g. g, refl, tt)),
+          (
+            set_sound (rule_at 6 5) (λ values rows. refl) (number_fit (rule_at 6 5) (codes "fuel") refl (λ again rows e. no_kind _ _ e)
+                (λ again v vs rows e. kinds_accept false (Signed (pos 0) (pos 4294967295)) (v ∷ vs) (none_then (repeat_fault again (codes "fuel") rows) _ (none_then (range_kinds 1 1 (length (v ∷ vs))) _ e)))),
+            refl,
+            (
+              set_sound (rule_at 6 6) (λ values rows. refl) (text_fit (rule_at 6 6) refl (λ again rows e. refl)),
+              refl,
+              (λ again values rows e g. g, refl, tt),
+            ),
+          ),
         ),
       ),
     ),
@@ -234,6 +262,7 @@ pub record ArePlain (found : Text → Option Text) : Type 0 where
   pub fuel : Plainly (found (codes "fuel"))
   pub stack : Plainly (found (codes "stack"))
   pub out_cap : Plainly (found (codes "out-cap"))
+  pub gap : Plainly (found (codes "max-gap"))
   pub count : Plainly (found (codes "N"))
 
 abbrev in_rows : List Row → Text → Option Text
@@ -265,11 +294,26 @@ count_of rows held plain =
     let begins : starts_plainly held.text ≡ true = subst Plainly held.is_first plain.count in
     (digits_value 10 held.text, ap (option_and_then (number_between 1 300)) held.is_first ∙ between_read 1 300 held.text (number_read 1 300 held.text (omega arith) held.fit begins))
 
-building_of : (rows : List Row) → Holds (codes "stack") rows → Holds (codes "out-cap") rows → ArePlain (in_rows rows) → (building : BuildOptions) × (building_asked rows ≡ Some building)
-building_of rows stack out_cap plain =
+-- the number that the rows hold for the longest gap, or none
+gap_of : (rows : List Row) → (first_of (codes "max-gap") rows ≡ None) ⊎ Holds (codes "max-gap") rows → ArePlain (in_rows rows)
+    → (limit : Option ℕ) × (optional_between 160 1000000 (first_of (codes "max-gap") rows) ≡ Some limit)
+gap_of rows (inl none) plain = (None, ap (λ (o : Option Text). optional_between 160 1000000 o) none)
+gap_of rows (inr held) plain =
+    let begins : starts_plainly held.text ≡ true = subst Plainly held.is_first plain.gap in (
+      Some (digits_value 10 held.text),
+      ap (λ (o : Option Text). optional_between 160 1000000 o) held.is_first
+          ∙ ap (option_map Some) (between_read 160 1000000 held.text (number_read 160 1000000 held.text (omega arith) held.fit begins)),
+    )
+
+building_of : (rows : List Row) → AllGood rows → Holds (codes "stack") rows → Holds (codes "out-cap") rows → ArePlain (in_rows rows)
+    → (building : BuildOptions) × (building_asked rows ≡ Some building)
+building_of rows good stack out_cap plain =
     let bytes = stack_of rows stack plain in
     let most = out_cap_of rows out_cap plain in
-    (record { stack = bytes.0; out_cap = most.0 }, (λ i. option_and_then (λ b. option_map (λ m. record { stack = b; out_cap = m }) (most.1 i)) (bytes.1 i)))
+    let limit = gap_of rows (optional_good (codes "max-gap") rows good) plain in (
+      record { stack = bytes.0; out_cap = most.0; max_gap = limit.0 },
+      (λ i. option_and_then (λ b. option_and_then (λ m. option_map (λ g. record { stack = b; out_cap = m; max_gap = g }) (limit.1 i)) (most.1 i)) (bytes.1 i)),
+    )
 
 abbrev rows_before : ℕ → List Text → List Row
 rows_before shape words = (settled (command_shape shape).rules (walk (command_shape shape).rules [] nothing_held words).held).rows
@@ -285,7 +329,7 @@ build_read words e plain =
     (defaults_give (take 2 (command_shape 0).rules) (drop 3 (command_shape 0).rules) (rule_at 0 2) (rows_before 0 words) refl refl) in
     let out_cap = first_good (codes "out-cap") rows facts.0
     (defaults_give (take 3 (command_shape 0).rules) (drop 4 (command_shape 0).rules) (rule_at 0 3) (rows_before 0 words) refl refl) in
-    let building = building_of rows stack out_cap plain in
+    let building = building_of rows facts.0 stack out_cap plain in
     (λ i. is_some (option_and_then (λ b. option_and_then (λ s. option_map (λ m. builds s m b) (image.is_first i)) (source.is_first i)) (building.1 i)))
 
 report_read : (words : List Text) → Passes 5 words → ArePlain (in_rows (rows_at 5 words)) → is_some (report_asked (rows_at 5 words)) ≡ true
@@ -297,7 +341,7 @@ report_read words e plain =
     (defaults_give (take 1 (command_shape 5).rules) (drop 2 (command_shape 5).rules) (rule_at 5 1) (rows_before 5 words) refl refl) in
     let out_cap = first_good (codes "out-cap") rows facts.0
     (defaults_give (take 2 (command_shape 5).rules) (drop 3 (command_shape 5).rules) (rule_at 5 2) (rows_before 5 words) refl refl) in
-    let building = building_of rows stack out_cap plain in
+    let building = building_of rows facts.0 stack out_cap plain in
     (λ i. is_some (option_and_then (λ b. option_map (λ s. reports s b) (source.is_first i)) (building.1 i)))
 
 eval_read : (words : List Text) → Passes 6 words → ArePlain (in_rows (rows_at 6 words)) → is_some (eval_asked (rows_at 6 words)) ≡ true
@@ -310,8 +354,8 @@ eval_read words e plain =
     let out_cap = first_good (codes "out-cap") rows facts.0
     (defaults_give (take 2 (command_shape 6).rules) (drop 3 (command_shape 6).rules) (rule_at 6 2) (rows_before 6 words) refl refl) in
     let fuel = first_good (codes "fuel") rows facts.0
-    (defaults_give (take 4 (command_shape 6).rules) (drop 5 (command_shape 6).rules) (rule_at 6 4) (rows_before 6 words) refl refl) in
-    let building = building_of rows stack out_cap plain in
+    (defaults_give (take 5 (command_shape 6).rules) (drop 6 (command_shape 6).rules) (rule_at 6 5) (rows_before 6 words) refl refl) in
+    let building = building_of rows facts.0 stack out_cap plain in
     let number = fuel_of rows fuel plain in
     (λ i. is_some (option_and_then (λ b. option_and_then (λ evaluation. option_map (λ s. evaluates s b evaluation) (source.is_first i)) (option_map (λ n. record {
       input = first_of (codes "input") rows;
@@ -367,8 +411,8 @@ run_read words e plain =
     let out_cap = first_good (codes "out-cap") rows facts.0
     (defaults_give (take 3 (command_shape 1).rules) (drop 4 (command_shape 1).rules) (rule_at 1 3) (rows_before 1 words) refl refl) in
     let steps = first_good (codes "steps") rows facts.0
-    (defaults_give (take 6 (command_shape 1).rules) (drop 7 (command_shape 1).rules) (rule_at 1 6) (rows_before 1 words) refl refl) in
-    let building = building_of rows stack out_cap plain in
+    (defaults_give (take 7 (command_shape 1).rules) (drop 8 (command_shape 1).rules) (rule_at 1 7) (rows_before 1 words) refl refl) in
+    let building = building_of rows facts.0 stack out_cap plain in
     let number = steps_of rows steps plain in
     (λ i. is_some (option_and_then (λ b. option_and_then (λ options. option_and_then (λ s. option_map (λ m. runs s m b options) (image.is_first i)) (source.is_first i)) (option_map (λ n. record {
       input = first_of (codes "input") rows;
@@ -451,9 +495,9 @@ word_taken name program rest false false false false false false false false fal
     other_taken name program rest bt rt xt dt ut pt vt gt ht (bytes_eq name (codes "--")) refl
 
 pub faultless_taken : (words : List Text) → is_faultless words ≡ true → IsPlain (codes "steps") words → IsPlain (codes "fuel") words → IsPlain (codes "stack") words
-    → IsPlain (codes "out-cap") words → IsPlain (codes "N") words → is_some (named words) ≡ true
-faultless_taken [] e steps fuel stack out_cap count = absurd (nothing_refused e)
-faultless_taken (program ∷ []) e steps fuel stack out_cap count = absurd (name_refused program e)
-faultless_taken (program ∷ name ∷ rest) e steps fuel stack out_cap count =
+    → IsPlain (codes "out-cap") words → IsPlain (codes "max-gap") words → IsPlain (codes "N") words → is_some (named words) ≡ true
+faultless_taken [] e steps fuel stack out_cap gap count = absurd (nothing_refused e)
+faultless_taken (program ∷ []) e steps fuel stack out_cap gap count = absurd (name_refused program e)
+faultless_taken (program ∷ name ∷ rest) e steps fuel stack out_cap gap count =
     word_taken name program rest _ _ _ _ _ _ _ _ _ refl refl refl refl refl refl refl refl refl e
-    (record { steps = steps; fuel = fuel; stack = stack; out_cap = out_cap; count = count })
+    (record { steps = steps; fuel = fuel; stack = stack; out_cap = out_cap; gap = gap; count = count })

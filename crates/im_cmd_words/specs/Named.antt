@@ -6,7 +6,7 @@ use Rattle.std.specs.Option.{option_map_or}
 use Rattle.std.specs.Str.{bytes_eq}
 use Rattle.clap.specs.Words.{Row, Text, fault_of, first_of, subcommand_of}
 use Rattle.clap.specs.Walk.{is_empty}
-use Rattle.im_cmd_words.specs.Numbers.{number_between, plain_number, starts_plainly}
+use Rattle.im_cmd_words.specs.Numbers.{number_between, optional_between, plain_number, starts_plainly}
 use Rattle.im_cmd_words.specs.Table.{command_line}
 use Rattle.im_cmd_words.specs.declared.command.BuildOptions.{BuildOptions}
 use Rattle.im_cmd_words.specs.declared.command.EvalOptions.{EvalOptions}
@@ -40,7 +40,7 @@ abbrev pub default_evaluation : Evaluation
 default_evaluation = record { input = None; fuel = 1000000; vars = false }
 
 abbrev pub default_building : BuildOptions
-default_building = record { stack = 65536; out_cap = 1048576 }
+default_building = record { stack = 65536; out_cap = 1048576; max_gap = None }
 
 -- the word begins with a hyphen (45) and has more characters; other words are files and values
 abbrev pub is_option : Text → Bool
@@ -64,8 +64,9 @@ evaluation_words input fuel vars = given (codes "--input") input
     ++ (given (codes "--fuel") fuel ++ (if vars then codes "--vars" ∷ [] else []))
 
 -- the words of a build's options
-abbrev pub building_words : Option Text → Option Text → List Text
-building_words stack out_cap = given (codes "--stack") stack ++ given (codes "--out-cap") out_cap
+abbrev pub building_words : Option Text → Option Text → Option Text → List Text
+building_words stack out_cap max_gap = given (codes "--stack") stack
+    ++ (given (codes "--out-cap") out_cap ++ given (codes "--max-gap") max_gap)
 
 -- what a command asks for, its files by name
 pub data Asked : Type 0 where
@@ -101,10 +102,12 @@ number_asked name least most rows =
     option_and_then (number_between least most) (first_of name rows)
 
 abbrev pub building_asked : List Row → Option BuildOptions
-building_asked rows = option_and_then (λ stack. option_map (λ out_cap. record {
+building_asked rows = option_and_then (λ stack. option_and_then (λ out_cap. option_map (λ max_gap. record {
   stack = stack;
   out_cap = out_cap;
-}) (number_asked (codes "out-cap") 0 1048576 rows)) (number_asked (codes "stack") 256 1048576 rows)
+  max_gap = max_gap;
+}) (optional_between 160 1000000 (first_of (codes "max-gap") rows)))
+    (number_asked (codes "out-cap") 0 1048576 rows)) (number_asked (codes "stack") 256 1048576 rows)
 
 abbrev pub build_asked : List Row → Option Asked
 build_asked rows = option_and_then (λ building.
@@ -185,6 +188,7 @@ pub record IsInBounds (building : BuildOptions) : Type 0 where
   pub some_stack : 256 ≤ building.stack
   pub most_stack : building.stack ≤ 1048576
   pub output : building.out_cap ≤ 1048576
+  pub gap : IfSome building.max_gap (λ gap. (160 ≤ gap) × (gap ≤ 1000000))
 
 -- the options of a command that builds are in their bounds
 abbrev pub HasBounds : Command → Type 0

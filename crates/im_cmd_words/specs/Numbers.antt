@@ -1,5 +1,5 @@
 -- The numbers that words write.
-use Rattle.std.specs.Prelude.{ℕ, Bool, ◌&&◌, ◌||◌, ◌^◌, Option, Some, None, List, if◌then◌else◌, option_and_then}
+use Rattle.std.specs.Prelude.{ℕ, Bool, ◌&&◌, ◌||◌, ◌^◌, Option, Some, None, List, if◌then◌else◌, option_and_then, option_map}
 use Rattle.std.specs.Prelude.{codes, length, nat_le, nat_lt, slice_index}
 use Rattle.std.specs.Char.{is_digit}
 use Rattle.std.specs.List.{list_all}
@@ -28,3 +28,8 @@ within least most number = if nat_lt number least || nat_lt most number then Non
 -- the number in these bounds that decimal digits write so
 abbrev pub number_between : ℕ → ℕ → List ℕ → Option ℕ
 number_between least most text = option_and_then (within least most) (plain_number text)
+
+-- no number where there is no text, else the number in these bounds that the text writes
+abbrev pub optional_between : ℕ → ℕ → Option (List ℕ) → Option (Option ℕ)
+optional_between least most None = Some None
+optional_between least most (Some text) = option_map Some (number_between least most text)

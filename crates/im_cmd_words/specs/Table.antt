@@ -17,14 +17,15 @@ flag name = record (new_rule name) { long = Some name; action = Some SetTrue }
 abbrev pub valued : Text → Rule
 valued name = record (new_rule name) { long = Some name; value_names = 1 }
 
--- `--name N`, and N where it isn't given; a number from the one bound to the other
-abbrev pub numbered : Text → Text → ℕ → ℕ → Rule
-numbered name default least most = record (valued name) {
-  defaults = default ∷ [];
-  parser = Some (Signed (pos least) (pos most));
-}
+-- `--name N`, a number from the one bound to the other
+abbrev pub limit : Text → ℕ → ℕ → Rule
+limit name least most = record (valued name) { parser = Some (Signed (pos least) (pos most)) }
 
--- the same, a number from the one bound to the other
+-- the same, and a number where it isn't given
+abbrev pub numbered : Text → Text → ℕ → ℕ → Rule
+numbered name default least most = record (limit name least most) { defaults = default ∷ [] }
+
+-- a number from the one bound to the other that the command needs, by its place
 abbrev pub counted : Text → ℕ → ℕ → Rule
 counted name least most = record (operand name) { parser = Some (Signed (pos least) (pos most)) }
 
@@ -48,10 +49,11 @@ step_options =
 abbrev pub run_options : List Rule
 run_options = file_options ++ step_options
 
--- --stack N --out-cap N, the bytes of an image's stack and of its output
+-- --stack N --out-cap N --max-gap N, the bytes of an image's stack and of its output, and its longest gap at most
 abbrev pub build_options : List Rule
 build_options = numbered (codes "stack") (codes "65536") 256 1048576
-    ∷ numbered (codes "out-cap") (codes "1048576") 0 1048576 ∷ []
+    ∷ numbered (codes "out-cap") (codes "1048576") 0 1048576
+    ∷ limit (codes "max-gap") 160 1000000 ∷ []
 
 -- build SRC IMG, with options
 abbrev pub build_row : Shape

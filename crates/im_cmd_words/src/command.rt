@@ -52,6 +52,8 @@ pub struct BuildOptions {
     pub stack: u32,
     /// Bytes of output that the image has room for, 0 to 1048576.
     pub out_cap: u32,
+    /// The longest gap that is asked for in instructions, 160 to 1000000. Where none is, any will do.
+    pub max_gap: Option<u32>,
 }
 
 /// How a source is evaluated.

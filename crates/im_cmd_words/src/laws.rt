@@ -5,7 +5,7 @@ ghost use Rattle.im_cmd_words.specs.Named.{building_words, builds, default_build
 ghost use Rattle.im_cmd_words.specs.Named.{default_evaluation, evaluates, evaluation_words, generates};
 ghost use Rattle.im_cmd_words.specs.Named.{dumps, executes, is_faultless, is_option, IsPlain, named};
 ghost use Rattle.im_cmd_words.specs.Named.{option_words, reports, runs, upgrades};
-ghost use Rattle.im_cmd_words.specs.Numbers.{number_between, plain_number};
+ghost use Rattle.im_cmd_words.specs.Numbers.{number_between, optional_between, plain_number};
 
 /// Words that name a command, one line for each.
 pub fn words_taken_law()
@@ -16,7 +16,7 @@ pub fn words_taken_law()
         (record { input = None; trace = None; steps = 100000000; vars = false })) }
     ensures numbers { named (codes "intermit" ∷ codes "run" ∷ codes "--steps" ∷ codes "9"
         ∷ codes "--out-cap=0" ∷ codes "a" ∷ codes "--stack" ∷ codes "256" ∷ codes "b" ∷ [])
-        ≡ Some (runs (codes "a") (codes "b") (record { stack = 256; out_cap = 0 })
+        ≡ Some (runs (codes "a") (codes "b") (record { stack = 256; out_cap = 0; max_gap = None })
         (record { input = None; trace = None; steps = 9; vars = false })) }
     ensures exec { named (codes "p" ∷ codes "exec" ∷ codes "--vars"
         ∷ codes "--steps=7" ∷ codes "b" ∷ codes "--input" ∷ codes "f" ∷ [])
@@ -27,11 +27,14 @@ pub fn words_taken_law()
     ensures upgrade { named (codes "intermit" ∷ codes "upgrade" ∷ codes "a" ∷ codes "b" ∷ [])
         ≡ Some (upgrades (codes "a") (codes "b")) }
     ensures report { named (codes "intermit" ∷ codes "report" ∷ codes "--out-cap" ∷ codes "9"
-        ∷ codes "a" ∷ []) ≡ Some (reports (codes "a") (record { stack = 65536; out_cap = 9 })) }
+        ∷ codes "a" ∷ []) ≡ Some (reports (codes "a") (record { stack = 65536; out_cap = 9; max_gap = None })) }
     ensures eval { named (codes "intermit" ∷ codes "eval" ∷ codes "--fuel" ∷ codes "9" ∷ codes "a"
         ∷ codes "--vars" ∷ codes "--stack=256" ∷ codes "--input" ∷ codes "f" ∷ [])
-        ≡ Some (evaluates (codes "a") (record { stack = 256; out_cap = 1048576 })
+        ≡ Some (evaluates (codes "a") (record { stack = 256; out_cap = 1048576; max_gap = None })
         (record { input = Some (codes "f"); fuel = 9; vars = true })) }
+    ensures gap { named (codes "intermit" ∷ codes "build" ∷ codes "--max-gap" ∷ codes "160"
+        ∷ codes "a" ∷ codes "b" ∷ []) ≡ Some (builds (codes "a") (codes "b")
+        (record { stack = 65536; out_cap = 1048576; max_gap = Some 160 })) }
     ensures made { named (codes "intermit" ∷ codes "gen" ∷ codes "300" ∷ [])
         ≡ Some (generates 300) }
 {}
@@ -60,30 +63,38 @@ pub fn files_law()
 
 /// A build's options, each given or not, after the files.
 pub fn building_law()
-    ensures build { (program source image : Text) (stack out_cap : Option Text) (bytes most : ℕ)
+    ensures build { (program source image : Text) (stack out_cap max_gap : Option Text)
+        (bytes most : ℕ) (limit : Option ℕ)
         → is_option source ≡ false → is_option image ≡ false
         → number_between 256 1048576 (unwrap_or stack (codes "65536")) ≡ Some bytes
         → number_between 0 1048576 (unwrap_or out_cap (codes "1048576")) ≡ Some most
-        → named (program ∷ codes "build" ∷ source ∷ image ∷ building_words stack out_cap)
-        ≡ Some (builds source image (record { stack = bytes; out_cap = most })) }
-    ensures run { (program source image : Text) (stack out_cap : Option Text) (bytes most : ℕ)
+        → optional_between 160 1000000 max_gap ≡ Some limit
+        → named (program ∷ codes "build" ∷ source ∷ image ∷ building_words stack out_cap max_gap)
+        ≡ Some (builds source image (record { stack = bytes; out_cap = most; max_gap = limit })) }
+    ensures run { (program source image : Text) (stack out_cap max_gap : Option Text)
+        (bytes most : ℕ) (limit : Option ℕ)
         → is_option source ≡ false → is_option image ≡ false
         → number_between 256 1048576 (unwrap_or stack (codes "65536")) ≡ Some bytes
         → number_between 0 1048576 (unwrap_or out_cap (codes "1048576")) ≡ Some most
-        → named (program ∷ codes "run" ∷ source ∷ image ∷ building_words stack out_cap)
-        ≡ Some (runs source image (record { stack = bytes; out_cap = most }) default_options) }
-    ensures report { (program source : Text) (stack out_cap : Option Text) (bytes most : ℕ)
+        → optional_between 160 1000000 max_gap ≡ Some limit
+        → named (program ∷ codes "run" ∷ source ∷ image ∷ building_words stack out_cap max_gap)
+        ≡ Some (runs source image (record { stack = bytes; out_cap = most; max_gap = limit }) default_options) }
+    ensures report { (program source : Text) (stack out_cap max_gap : Option Text)
+        (bytes most : ℕ) (limit : Option ℕ)
         → is_option source ≡ false
         → number_between 256 1048576 (unwrap_or stack (codes "65536")) ≡ Some bytes
         → number_between 0 1048576 (unwrap_or out_cap (codes "1048576")) ≡ Some most
-        → named (program ∷ codes "report" ∷ source ∷ building_words stack out_cap)
-        ≡ Some (reports source (record { stack = bytes; out_cap = most })) }
-    ensures eval { (program source : Text) (stack out_cap : Option Text) (bytes most : ℕ)
+        → optional_between 160 1000000 max_gap ≡ Some limit
+        → named (program ∷ codes "report" ∷ source ∷ building_words stack out_cap max_gap)
+        ≡ Some (reports source (record { stack = bytes; out_cap = most; max_gap = limit })) }
+    ensures eval { (program source : Text) (stack out_cap max_gap : Option Text)
+        (bytes most : ℕ) (limit : Option ℕ)
         → is_option source ≡ false
         → number_between 256 1048576 (unwrap_or stack (codes "65536")) ≡ Some bytes
         → number_between 0 1048576 (unwrap_or out_cap (codes "1048576")) ≡ Some most
-        → named (program ∷ codes "eval" ∷ source ∷ building_words stack out_cap)
-        ≡ Some (evaluates source (record { stack = bytes; out_cap = most }) default_evaluation) }
+        → optional_between 160 1000000 max_gap ≡ Some limit
+        → named (program ∷ codes "eval" ∷ source ∷ building_words stack out_cap max_gap)
+        ≡ Some (evaluates source (record { stack = bytes; out_cap = most; max_gap = limit }) default_evaluation) }
 {}
 
 /// A run's options, each given or not, after the files.
@@ -125,7 +136,8 @@ pub fn generation_law()
 pub fn faultless_law()
     ensures { (words : List Text) → is_faultless words ≡ true → IsPlain (codes "steps") words
         → IsPlain (codes "fuel") words → IsPlain (codes "stack") words
-        → IsPlain (codes "out-cap") words → IsPlain (codes "N") words
+        → IsPlain (codes "out-cap") words → IsPlain (codes "max-gap") words
+        → IsPlain (codes "N") words
         → is_some (named words) ≡ true }
 {}
 
@@ -144,6 +156,12 @@ pub fn words_refused_law()
         ∷ codes "--stack" ∷ codes "255" ∷ []) ≡ None }
     ensures output { named (codes "intermit" ∷ codes "report" ∷ codes "a"
         ∷ codes "--out-cap" ∷ codes "1048577" ∷ []) ≡ None }
+    ensures short { named (codes "intermit" ∷ codes "report" ∷ codes "a"
+        ∷ codes "--max-gap" ∷ codes "159" ∷ []) ≡ None }
+    ensures long { named (codes "intermit" ∷ codes "report" ∷ codes "a"
+        ∷ codes "--max-gap" ∷ codes "1000001" ∷ []) ≡ None }
+    ensures other { named (codes "intermit" ∷ codes "exec" ∷ codes "a"
+        ∷ codes "--max-gap" ∷ codes "160" ∷ []) ≡ None }
     ensures fuel { named (codes "intermit" ∷ codes "eval" ∷ codes "a"
         ∷ codes "--fuel" ∷ codes "4294967296" ∷ []) ≡ None }
     ensures sign { named (codes "intermit" ∷ codes "exec" ∷ codes "b"

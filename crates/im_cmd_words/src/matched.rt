@@ -1,9 +1,10 @@
-ghost use Rattle.std.specs.Prelude.{◌≡◌, ◌≤◌, IfSome, option_map};
+ghost use Rattle.std.specs.Prelude.{◌≡◌, ◌≤◌, IfSome, codes, option_map};
 ghost use Rattle.clap.specs.Words.{first_of, found_of, rows_of, subcommand_rows_of};
 ghost use Rattle.im_cmd_words.specs.Named.{asked, asked_by, build_asked, building_asked, dump_asked, exec_asked, gen_asked};
 ghost use Rattle.im_cmd_words.specs.Named.{eval_asked, evaluation_asked, evaluation_meaning};
 ghost use Rattle.im_cmd_words.specs.Named.{is_set, meaning, number_asked, options_asked, options_meaning};
 ghost use Rattle.im_cmd_words.specs.Named.{HasBounds, IsInBounds, report_asked, run_asked, upgrade_asked};
+ghost use Rattle.im_cmd_words.specs.Numbers.{optional_between};
 
 use crate::number::{number_between, plain_number};
 use crate::{BuildOptions, Command, EvalOptions, RunOptions};
@@ -53,13 +54,33 @@ fn number_of(found: &ArgMatches<'_>, name: &str, least: u32, most: u32) -> Optio
     number_between(value_of(found, name)?, least, most)
 }
 
+/// The longest gap that is asked for; `Some(None)` where the words ask for none.
+fn gap_of(found: &ArgMatches<'_>) -> Option<Option<u32>>
+    ensures gap { result ≡ optional_between 160 1000000
+        (first_of (codes "max-gap") (rows_of (found_of found.now))) }
+    ensures bounds { IfSome result (λ gap. IfSome gap (λ gap. (160 ≤ gap) × (gap ≤ 1000000))) }
+{
+    match value_of(found, "max-gap") {
+        Some(text) => {
+            let gap = number_between(text, 160, 1_000_000)?;
+            Some(Some(gap))
+        }
+        None => Some(None),
+    }
+}
+
 fn build_options(found: &ArgMatches<'_>) -> Option<BuildOptions>
     ensures asked { result ≡ building_asked (rows_of (found_of found.now)) }
     ensures bounds { IfSome result IsInBounds }
 {
     let stack = number_of(found, "stack", 256, 1_048_576)?;
     let out_cap = number_of(found, "out-cap", 0, 1_048_576)?;
-    Some(BuildOptions { stack, out_cap })
+    let max_gap = gap_of(found)?;
+    Some(BuildOptions {
+        stack,
+        out_cap,
+        max_gap,
+    })
 }
 
 fn build_command<'a>(found: &ArgMatches<'a>) -> Option<Command<'a>>

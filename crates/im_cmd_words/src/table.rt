@@ -3,7 +3,7 @@ ghost use Rattle.clap.specs.Words.{app_of, rule_of, shape_of};
 ghost use Rattle.clap.specs.declared.builder.command.Command.TheViews.{out-Command};
 ghost use Rattle.im_cmd_words.specs.Table.{build_options, build_row, command_line, counted, dump_row, exec_row};
 ghost use Rattle.im_cmd_words.specs.Table.{eval_options, eval_row, gen_row};
-ghost use Rattle.im_cmd_words.specs.Table.{file_options, flag, numbered, operand, report_row, run_row};
+ghost use Rattle.im_cmd_words.specs.Table.{file_options, flag, limit, numbered, operand, report_row, run_row};
 ghost use Rattle.im_cmd_words.specs.Table.{step_options, upgrade_row, valued, with_rules};
 
 use clap::builder::ValueParser;
@@ -48,6 +48,17 @@ fn valued<'a>(alloc: Global, name: &'a str, placeholder: &'a str, help: &'a str)
 }
 
 /// An option whose value is a number from `least` to `most`.
+fn limit<'a>(alloc: Global, name: &'a str, least: u32, most: u32, help: &'a str) -> Arg<'a>
+    ensures rule { rule_of result ≡ limit name.entry.now least most }
+    ensures local { result.global ≡ false }
+{
+    valued(alloc, name, "N", help).value_parser(ValueParser::signed(
+        i64::from(least),
+        i64::from(most),
+    ))
+}
+
+/// The same, with a number that stands where the words give none.
 fn numbered<'a>(
     alloc: Global,
     name: &'a str,
@@ -59,9 +70,7 @@ fn numbered<'a>(
     ensures rule { rule_of result ≡ numbered name.entry.now default.entry.now least most }
     ensures local { result.global ≡ false }
 {
-    valued(alloc, name, "N", help)
-        .default_value(default)
-        .value_parser(ValueParser::signed(i64::from(least), i64::from(most)))
+    limit(alloc, name, least, most, help).default_value(default)
 }
 
 /// What an image is built with.
@@ -73,23 +82,13 @@ fn with_build_options<'a>(
     ensures row { IfOk result (λ c. app_of c ≡ with_rules (app_of command.entry) build_options) }
     ensures local { IfOk result (λ c. (out-Command c).has_globals ≡ false) }
 {
+    let stack = "Bytes of stack, 256 to 1048576";
+    let output = "Bytes of output that there is room for, 0 to 1048576";
+    let gap = "Instructions of the longest gap at most, 160 to 1000000; any without it";
     command
-        .arg(numbered(
-            alloc,
-            "stack",
-            "65536",
-            256,
-            1_048_576,
-            "Bytes of stack, 256 to 1048576",
-        ))?
-        .arg(numbered(
-            alloc,
-            "out-cap",
-            "1048576",
-            0,
-            1_048_576,
-            "Bytes of output that there is room for, 0 to 1048576",
-        ))
+        .arg(numbered(alloc, "stack", "65536", 256, 1_048_576, stack))?
+        .arg(numbered(alloc, "out-cap", "1048576", 0, 1_048_576, output))?
+        .arg(limit(alloc, "max-gap", 160, 1_000_000, gap))
 }
 
 /// The files that a run reads.

@@ -33,6 +33,7 @@ fn built_of(alloc: Global, source: &[u8]) -> io::Result<Built> {
     let options = Options {
         stack: 65536,
         out_cap: 65536,
+        max_gap: None,
     };
     compile(alloc, source, options).map_err(|_| no_answer())
 }

@@ -17,6 +17,7 @@ fn words(alloc: Global, line: &[&str]) -> Result<Vec<String>, Fail> {
 const BUILDING: BuildOptions = BuildOptions {
     stack: 65536,
     out_cap: 1_048_576,
+    max_gap: None,
 };
 
 const PLAIN: RunOptions<'static> = RunOptions {
@@ -34,7 +35,7 @@ const FULL: RunOptions<'static> = RunOptions {
 };
 
 /// A command line, and the command that it names.
-const COMMANDS: [(&[&str], Command<'static>); 8] = [
+const COMMANDS: [(&[&str], Command<'static>); 9] = [
     (
         &["intermit", "build", "a.c", "a.img"],
         Command::Build {
@@ -87,6 +88,18 @@ const COMMANDS: [(&[&str], Command<'static>); 8] = [
             building: BuildOptions {
                 stack: 256,
                 out_cap: 0,
+                max_gap: None,
+            },
+        },
+    ),
+    (
+        &["intermit", "build", "--max-gap=1000000", "a.c", "a.img"],
+        Command::Build {
+            source: "a.c",
+            image: "a.img",
+            building: BuildOptions {
+                max_gap: Some(1_000_000),
+                ..BUILDING
             },
         },
     ),
@@ -122,7 +135,7 @@ fn names_the_command(rt: HostRuntime) -> Result<(), Fail> {
     Ok(())
 }
 
-const REFUSED: [&[&str]; 24] = [
+const REFUSED: [&[&str]; 28] = [
     &["intermit"],
     &["intermit", "run", "a.c"],
     &["intermit", "run", "a.c", "a.img", "more"],
@@ -141,6 +154,10 @@ const REFUSED: [&[&str]; 24] = [
     &["intermit", "exec", "a.img", "--stack", "256"],
     &["intermit", "eval", "a.c", "--fuel", "07"],
     &["intermit", "eval", "a.c", "--steps", "7"],
+    &["intermit", "run", "a.c", "a.img", "--max-gap", "159"],
+    &["intermit", "eval", "a.c", "--max-gap", "1000001"],
+    &["intermit", "report", "a.c", "--max-gap", "0160"],
+    &["intermit", "exec", "a.img", "--max-gap", "160"],
     &["intermit", "gen"],
     &["intermit", "gen", "0"],
     &["intermit", "gen", "301"],

@@ -42,6 +42,18 @@ pub returns-clause-output : goal.returns-clause-output
 unfolding clap_on_literals
 returns-clause-output c = refl
 
+pub returns-clause-short : goal.returns-clause-short
+unfolding clap_on_literals
+returns-clause-short c = refl
+
+pub returns-clause-long : goal.returns-clause-long
+unfolding clap_on_literals
+returns-clause-long c = refl
+
+pub returns-clause-other : goal.returns-clause-other
+unfolding clap_on_literals
+returns-clause-other c = refl
+
 pub returns-clause-none : goal.returns-clause-none
 unfolding clap_on_literals
 returns-clause-none c = refl

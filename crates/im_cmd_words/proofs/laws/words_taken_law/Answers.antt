@@ -34,6 +34,10 @@ pub returns-clause-eval : goal.returns-clause-eval
 unfolding clap_on_literals
 returns-clause-eval c = refl
 
+pub returns-clause-gap : goal.returns-clause-gap
+unfolding clap_on_literals
+returns-clause-gap c = refl
+
 pub returns-clause-made : goal.returns-clause-made
 unfolding clap_on_literals
 returns-clause-made c = refl

@@ -7,4 +7,5 @@ pub returns-clause-row : goal.returns-clause-row
 returns-clause-row c =
     let stack = c.in_ok-arg.ensures.shape c.numbered.ensures.local
     ∙ ap (with_rule (app_of c.args.command)) c.numbered.ensures.rule in
-    IfOk-weaker c.arg-2.result _ _ (λ m h. h.shape c.numbered-2.ensures.local ∙ ap₂ with_rule stack c.numbered-2.ensures.rule) c.arg-2.ensures
+    let output = c.in_ok-arg-2.ensures.shape c.numbered-2.ensures.local ∙ ap₂ with_rule stack c.numbered-2.ensures.rule in
+    IfOk-weaker c.arg-3.result _ _ (λ m h. h.shape c.limit.ensures.local ∙ ap₂ with_rule output c.limit.ensures.rule) c.arg-3.ensures
