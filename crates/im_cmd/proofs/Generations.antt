@@ -1,6 +1,6 @@
 -- A made source is built and run: the stages put together.
 use Rattle.std.proofs.Common.{◌≡◌, ◌<◌, ◌≤◌, ◌⊎◌, inl, inr, ℕ, ℤ, ◌+◌, ◌*◌, ◌/◌, ◌^◌, List, [], ◌∷◌, map, length, arith, refl, ap, ◌∙◌}
-use Rattle.std.specs.Prelude.{codes}
+use Rattle.std.specs.Prelude.{codes, nat_le}
 use Rattle.std.specs.List.{range_with_len}
 use Rattle.std.proofs.Math.Nat.{div-lt_iff_lt-mul}
 use Rattle.std.proofs.lemmas.Bool.{leb-true}
@@ -30,7 +30,7 @@ use Rattle.im_cmd.proofs.Counts.{trace_run}
 
 period_short : (gap word : ℕ) → gap < 2 ^ 31 → word < 2 ^ 32 → (gen_period gap word).n < 2 ^ 32
 period_short gap word few small =
-    let more : word / 2 ^ 26 < 64 = (div-lt_iff_lt-mul {2 ^ 26} {word} {64} (omega arith)).1 (omega (arith, small)) in
+    let more : word / 2 ^ 26 < 64 = (div-lt_iff_lt-mul {k = 2 ^ 26} {x = word} {y = 64} (omega arith)).1 (omega (arith, small)) in
     omega (arith, few, more)
 
 all_short : (n gap : ℕ) (ks : List ℕ) → n < 2 ^ 32 → gap < 2 ^ 31 → AreShort (map (λ k. gen_period gap (sequence n (n + k))) ks)
@@ -47,7 +47,8 @@ gen_trace_is n gap small few =
 pub gap_small : (text : List ℕ) (building : BuildOptions) (built : Built) → IsBuilt text building built → built.gap < 2 ^ 31
 gap_small text building built is =
     let short = is.compiled.short in
-    let words : length built.image.words ≤ 261120 = leb-true _ _ (both_true _ _ is.is_image.word_count) in
+    let count = length built.image.words in
+    let words : count ≤ 261120 = leb-true count 261120 (both_true (nat_le 1 count) (nat_le count 261120) is.is_image.word_count) in
     omega (arith, short, words)
 
 -- ---- building and running
