@@ -3,3 +3,4 @@ mod Ready
 mod Layouts
 mod Names
 mod Rows
+mod Short

@@ -53,6 +53,7 @@ pub record IsBuilt (prog : Prog) (options : Options) (built : Built) : Type 0 wh
   pub linked : Linked
   pub link : IsLinked parts linked
   pub measure : IsGap linked.words.items linked.entry built.gap
+  pub short : IsGapWithin options.max_gap built.gap
   pub pack : IsPacked code addresses linked options.stack options.out_cap built.image
   pub is_image : IsImage built.image
   -- what is told of it: each function's frame, and the cuts by address with their causes

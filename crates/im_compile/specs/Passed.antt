@@ -17,7 +17,7 @@ use Rattle.im_alloc_placed.specs.Placed.{IsPlacedCode}
 use Rattle.im_alloc_placed.specs.Apart.{AllUncut}
 use Rattle.im_force.specs.Force.{Forces}
 use Rattle.im_recut.specs.Recut.{RecutsTo}
-use Rattle.im_recut.specs.Laws.{AllShort}
+use Rattle.im_recut.specs.Laws.{AllWithinGap}
 use Rattle.im_lower_relation.specs.Lowered.{IsLowered, AreSized}
 use Rattle.im_lower_plain.specs.MakeUnit.{KnowsTypes}
 use Rattle.im_alloc_laws.specs.Numbered.{IsWellPlaced}
@@ -67,7 +67,7 @@ pub record IsReady (prog : Prog) (max_gap : Option ℕ) (code : Code) : Type 0 w
   pub placed : IsPlacedCode code
   pub ordered : AllOrdered code
   pub forced : AllForced code
-  pub short : AllShort max_gap code
+  pub short : AllWithinGap max_gap code
   pub named : NamesAccesses code
   pub fits : All (λ (f : Function). bytes_of f ≤ f.need) code.functions.items
   pub room : rooms (objects_of code.statics.items) ≤ statics_capacity

@@ -15,7 +15,7 @@ use crate::options::Options;
 use crate::passes::lowered_code;
 use crate::prepared::{Prepared, prepare};
 use im_gap::gap;
-use im_gap_ranked::linked_gap_law;
+use im_gap_ranked::{linked_gap_law, linked_short_law};
 use im_pack::pack;
 use im_select_assemble::Program;
 use im_typed::Prog;
@@ -30,6 +30,7 @@ fn finished(alloc: Global, prepared: Prepared, options: Options) -> Result<Built
         → MatchResult result (IsBuilt prog options) (IsFaultOf prog options.max_gap) }
 {
     linked_gap_law();
+    linked_short_law();
     let Prepared {
         unit,
         layouts,

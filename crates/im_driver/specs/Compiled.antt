@@ -26,6 +26,7 @@ use Rattle.im_check.specs.Checked.{HasNoLargeType}
 use Rattle.im_compile.specs.declared.options.Options.{Options}
 use Rattle.im_compile.specs.declared.built.Built.{Built}
 use Rattle.im_compile.specs.Passed.{IsSource}
+use Rattle.im_compile.specs.Built.{IsGapWithin}
 use Rattle.im_gap.specs.Gap.{recovery_steps, IsGap}
 use Rattle.im_keeps.specs.Keeps.{IsInput, IsRightFor, Keeps}
 use Rattle.im_keeps_passes.specs.Laws.{Survives, KeepsUninterrupted, ReachesUninterrupted}
@@ -76,6 +77,8 @@ pub record IsCompiled (source : List ℕ) (options : Options) (built : Built) : 
   -- what is told: K is the longest gap of the image's code, W its words; each function's frame; the cuts
   pub measure : IsGap built.image.words built.image.entry built.gap
   pub short : built.gap ≤ recovery_steps + length built.image.words
+  -- and no longer than was asked for
+  pub within : IsGapWithin options.max_gap built.gap
   pub small : 4 * length built.image.words ≤ 4096 + 256 * prog_nodes prog
   pub frames : AreFrames prog.funcs built.frames.frames.items
   pub cuts : AreCuts (names_of prog.funcs) built.image.words built.cuts.items

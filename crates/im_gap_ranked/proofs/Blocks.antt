@@ -1,5 +1,15 @@
--- The lines of a function are ranked: blocks by their numbers, above all that is called, and what follows a call is a cut.
-use Rattle.std.proofs.Common.{◌≡◌, ◌≢◌, ℕ, zero, suc, ◌+◌, ◌-◌, ◌^◌, ◌<◌, ◌≤◌, ◌⊎◌, inl, inr, Bool, true, false, List, [], ◌∷◌, ◌++◌, Some, None, length, refl, sym, ap, ◌∙◌, subst, length-append, arith}
+-- The lines of a function are ranked, by what is left to the next cut.
+--
+-- The number of a line bounds the words behind it on a way to a flip or a halt. Within a function it is block_base and cost_on left:
+-- with_cut of each line that is left before the next cut, and leave_cost of each exit on the way. left b is no less than what is left
+-- at the start of block b; any such numbers do. It falls at each step:
+--   on to the next line or another block: a line has at most with_cut words, an exit at most leave_cost of them;
+--   into the checkpoint: a cut has cut_rank = 37, an entry of the checkpoint at most 36, and one less with each word to the flip, 0;
+--   into a function: its entry has cut_rank + 8, since 8 words at most lead to the cut at its start; into a routine: cut_rank + 11,
+--     since 11 words of putchar lead to its first cut. A call has one more, so block_base = cut_rank + 9 and its with_cut, 3, suffice;
+--   back: what stands behind a call is a cut, or the end of the run; a return has cut_rank + 1, and 5 words at most stand before it.
+-- So where a section begins, with at most n left, a word has at most 46 + n, and 49 where the run begins: K is at most 33 + 1 + 49 + n.
+use Rattle.std.proofs.Common.{◌≡◌, ◌≢◌, ℕ, suc, ◌+◌, ◌-◌, ◌^◌, ◌<◌, ◌≤◌, max, inl, Bool, true, false, List, [], ◌∷◌, ◌++◌, Some, None, length, refl, sym, ap, ◌∙◌, subst, length-append, arith}
 use Rattle.std.specs.Prelude.{◌==◌, slice_get, All}
 use Rattle.std.proofs.lemmas.List.Elements.{All-head, All-tail}
 use Rattle.im_num.specs.declared.values.Cause.{Cause}
@@ -14,38 +24,19 @@ use Rattle.im_block.specs.declared.code.Exit.{Exit}
 use Rattle.im_block.specs.declared.code.Exit.TheVariants.{Jump, Turn, Branch, Return}
 use Rattle.im_block.specs.declared.code.Block.{Block}
 use Rattle.im_block.specs.declared.unit.Function.{Function}
-use Rattle.im_block.specs.Shape.{Descends, sum_below}
+use Rattle.im_block.specs.Shape.{with_cut}
 use Rattle.im_block.specs.Paths.{IsCut}
-use Rattle.im_block.specs.Forced.{StartsWithCut, EndsWithCut, CutAfterCalls, CutAtTurn}
+use Rattle.im_block.specs.Forced.{StartsWithCut, CutAfterCalls}
 use Rattle.im_block.specs.Wellformed.{ExitThere}
+use Rattle.im_cut_gap.specs.Remaining.{cost_on}
 use Rattle.im_select.specs.Emitted.{high_of, low_of, constant_by, constant_code, adds_by, adds_code, entry_label, labelled, call_code, cut_code, line_code, lines_code, leave_code, result_code, exit_code, block_code, blocks_code, enter_code, prologue_code, function_code}
 use Rattle.im_select.specs.Places.{CallsBelow}
-use Rattle.im_saved_lines.proofs.Scanning.{same_of, same_is, IsPlain, ArePlain}
+use Rattle.im_select.proofs.Counting.{paid}
+use Rattle.im_saved_lines.proofs.Scanning.{same_of, same_is, IsPlain}
 use Rattle.im_saved_lines.proofs.Plain.{adds_plain}
-use Rattle.im_saved_lines.proofs.Working.{work_plain}
-use Rattle.im_gap_ranked.proofs.Ranks.{greater_within, After, cut_rank, scan, IsRankedLine, AreRanked, scan_append, ranked_append, ranked_labelled, plain_ranked, plain_rank}
+use Rattle.im_saved_lines.proofs.Working.{IsWork, work_plain}
+use Rattle.im_gap_ranked.proofs.Ranks.{greater_within, After, cut_rank, scan, IsRankedLine, AreRanked, AreWithin, scan_append, ranked_append, ranked_labelled, within_append, within_labelled, plain_ranked, plain_rank, plain_within}
 use Rattle.im_gap_ranked.proofs.Routines.{entry_rank}
-
--- ---- sums over blocks
-
-sum_zero : {X : Type 0} (w : X → ℕ) (xs : List X) → sum_below w xs 0 ≡ 0
-sum_zero w [] = refl
-sum_zero w (x ∷ xs) = refl
-
-sum_more : {X : Type 0} (w : X → ℕ) (xs : List X) (b : ℕ) (x : X) → slice_get xs b ≡ Some x → sum_below w xs (suc b) ≡ sum_below w xs b + w x
-sum_more w [] b x e = absurd cc
-sum_more w (y ∷ xs) zero x e =
-    let same : y ≡ x = cc in
-    let z = sum_zero w xs in
-    let here : w y ≡ w x = ap w same in
-    omega arith
-sum_more w (y ∷ xs) (suc b) x e = let h = sum_more w xs b x e in omega arith
-
-sum_up : {X : Type 0} (w : X → ℕ) (xs : List X) (m n : ℕ) → m ≤ n → sum_below w xs m ≤ sum_below w xs n
-sum_up w [] m n h = omega arith
-sum_up w (y ∷ xs) zero n h = omega arith
-sum_up w (y ∷ xs) (suc m) zero h = absurd (omega arith)
-sum_up w (y ∷ xs) (suc m) (suc n) h = let k = sum_up w xs m n (omega arith) in omega arith
 
 -- ---- the stack pointer plus a word
 
@@ -69,33 +60,17 @@ adds_few rd n = by (high_of n == 0)
 
 -- ---- ranks of labels
 
--- above those of calls
+-- of a call, but for its own cost
 abbrev pub block_base : ℕ
-block_base = entry_rank + 1
-
-abbrev pub weight : (Name → ℕ) → Block → ℕ
-weight places block = length (lines_code places (λ j. 4) 0 block.lines.items) + 3
-
-line_length : (places : Name → ℕ) (a b : ℕ) (line : Line) → length (line_code places a line) ≡ length (line_code places b line)
-line_length places a b (Cut cause) = refl
-line_length places a b line = refl
-
--- it is the same whatever the entries
-lines_length : (places : Name → ℕ) (n o : ℕ → ℕ) (j k : ℕ) (lines : List Line) → length (lines_code places n j lines) ≡ length (lines_code places o k lines)
-lines_length places n o j k [] = refl
-lines_length places n o j k (line ∷ lines) =
-    length-append (line_code places (n j) line) (lines_code places n (suc j) lines)
-    ∙ ap (λ z. z + length (lines_code places n (suc j) lines)) (line_length places (n j) (o k) line)
-    ∙ ap (λ z. length (line_code places (o k) line) + z) (lines_length places n o (suc j) (suc k) lines)
-    ∙ sym (length-append (line_code places (o k) line) (lines_code places o (suc k) lines))
+block_base = cut_rank + 9
 
 -- that of block b; the entry block begins with a cut
 abbrev pub rank_by_entry : Bool → ℕ → ℕ
 rank_by_entry true high = cut_rank
 rank_by_entry false high = high
 
-abbrev pub block_rank : (Name → ℕ) → Function → ℕ → ℕ
-block_rank places f b = rank_by_entry (b == f.entry) (block_base + sum_below (weight places) f.blocks.items (suc b))
+abbrev pub block_rank : (ℕ → ℕ) → Function → ℕ → ℕ
+block_rank left f b = rank_by_entry (b == f.entry) (block_base + left b)
 
 pub record HasCallees (functions : ℕ) (at : ℕ → ℕ) : Type 0 where
   pub stops : at stack_label ≤ cut_rank
@@ -103,39 +78,39 @@ pub record HasCallees (functions : ℕ) (at : ℕ → ℕ) : Type 0 where
   pub puts : at putchar_label ≤ entry_rank
   pub entries : (i : ℕ) → i < functions → at (entry_label i) ≡ entry_rank
 
-pub record BlockFacts (functions : ℕ) (f : Function) (b : ℕ) (block : Block) : Type 0 where
-  pub is_block : slice_get f.blocks.items b ≡ Some block
+pub record BlockFacts (functions : ℕ) (left : ℕ → ℕ) (f : Function) (b : ℕ) (block : Block) : Type 0 where
   pub inside : b < length f.blocks.items
   pub calls : All (CallsBelow functions) block.lines.items
   pub there : ExitThere (length f.blocks.items) block.exit
-  pub descends : Descends block.exit b
   pub cuts : CutAfterCalls block.lines.items
-  pub turn : CutAtTurn block.exit block.lines.items
+  pub most : cost_on left block.lines.items block.exit ≤ left b
   pub entry : b ≡ f.entry → StartsWithCut block.lines.items
 
 plain_one : (at : ℕ → ℕ) (x : CodeLine) (after : After) → IsPlain x → IsRankedLine at x after
 plain_one at x after h = (plain_ranked at (x ∷ []) after (h, tt)).0
 
-ends_rest : (line : Line) (lines : List Line) → (IsCut line → ⊥) → EndsWithCut (line ∷ lines) → EndsWithCut lines
-ends_rest line [] h e = absurd (h e)
-ends_rest line (next ∷ lines) h e = e
+-- a line has at most its words
+line_few : (places : Name → ℕ) (m : ℕ) (line : Line) → (IsCut line → ⊥) → length (line_code places m line) ≤ with_cut line
+line_few places m (Cut cause) uncut = absurd (uncut tt)
+line_few places m line uncut =
+    let p = paid places (λ j. m) 0 (line ∷ []) tt in
+    let own = p.own (λ e. e) in
+    let e = length-append (line_code places m line) [] in
+    omega arith
 
 abbrev return_code : List CodeLine
 return_code = plain_line (with_immediate Jalr 0 1 0) ∷ []
 
-module _ (at : ℕ → ℕ) (places : Name → ℕ) (m : ℕ → ℕ → ℕ) (okay : (b j : ℕ) → (4 ≤ m b j) × (m b j ≤ 31)) (functions first frame : ℕ) (f : Function) (above : 64 ≤ first) (callees : HasCallees functions at) (blocks : (b : ℕ) → b < length f.blocks.items → at (first + b) ≡ block_rank places f b) where
-  abbrev sum : ℕ → ℕ
-  sum b = sum_below (weight places) f.blocks.items b
-
-  block_most : (b : ℕ) → b < length f.blocks.items → at (first + b) ≤ block_base + sum (suc b)
-  block_most b h = subst (λ z. z ≤ block_base + sum (suc b)) (sym (blocks b h)) (by (b == f.entry))
+module _ (at : ℕ → ℕ) (places : Name → ℕ) (m : ℕ → ℕ → ℕ) (okay : (b j : ℕ) → (4 ≤ m b j) × (m b j ≤ 31)) (functions first frame : ℕ) (left : ℕ → ℕ) (f : Function) (above : 64 ≤ first) (callees : HasCallees functions at) (blocks : (b : ℕ) → b < length f.blocks.items → at (first + b) ≡ block_rank left f b) where
+  block_most : (b : ℕ) → b < length f.blocks.items → at (first + b) ≤ block_base + left b
+  block_most b h = subst (λ z. z ≤ block_base + left b) (sym (blocks b h)) (by (b == f.entry))
     where
-      by : (t : Bool) → rank_by_entry t (block_base + sum (suc b)) ≤ block_base + sum (suc b)
+      by : (t : Bool) → rank_by_entry t (block_base + left b) ≤ block_base + left b
       by true = omega arith
       by false = omega arith
 
   entry_is : f.entry < length f.blocks.items → at (first + f.entry) ≡ cut_rank
-  entry_is h = blocks f.entry h ∙ ap (λ t. rank_by_entry t (block_base + sum (suc f.entry))) (same_is f.entry f.entry refl)
+  entry_is h = blocks f.entry h ∙ ap (λ t. rank_by_entry t (block_base + left f.entry)) (same_is f.entry f.entry refl)
 
   -- ---- jumps
 
@@ -172,27 +147,20 @@ module _ (at : ℕ → ℕ) (places : Name → ℕ) (m : ℕ → ℕ → ℕ) (o
     ranked_append at (adds_code 2 frame) return_code behind (plain_ranked at (adds_code 2 frame) (scan at return_code behind) (adds_plain 2 frame)) (record { label = λ l e. absurd cc; goes = tt }, tt),
   )
 
-  exit_most : (b : ℕ) (exit : Exit) (lines : List Line) (behind : After) → Descends exit b → ExitThere (length f.blocks.items) exit → CutAtTurn exit lines → ((scan at (exit_code first frame exit) behind).next ≤ block_base + sum b + 3) ⊎ EndsWithCut lines
-  exit_most b (Jump c) lines behind d there t =
-      let most = block_most c there in
-      let up = sum_up (weight places) f.blocks.items (suc c) b (omega arith) in
-      let goal : suc (at (first + c)) ≤ block_base + sum b + 3 = omega arith in
-      inl goal
-  exit_most b (Turn c) lines behind d there t = inr t
-  exit_most b (Branch on x y) lines behind d there t =
-      let dx = d.0 in
-      let dy = d.1 in
+  exit_most : (exit : Exit) (behind : After) → ExitThere (length f.blocks.items) exit → (scan at (exit_code first frame exit) behind).next ≤ block_base + cost_on left [] exit
+  exit_most (Jump c) behind there = let most = block_most c there in omega arith
+  exit_most (Turn c) behind there = let most = block_most c there in omega arith
+  exit_most (Branch on x y) behind there =
       let most = block_most x there.0 in
       let other = block_most y there.1 in
-      let up = sum_up (weight places) f.blocks.items (suc x) b (omega arith) in
-      let over = sum_up (weight places) f.blocks.items (suc y) b (omega arith) in
-      let within = greater_within (suc (at (first + x))) (suc (at (first + y))) (block_base + sum b + 2) (omega arith) (omega arith) in
-      inl (omega arith)
-  exit_most b (Return None) lines behind d there t =
+      let bound : ℕ = block_base + max (left x) (left y) in
+      let within = greater_within (suc (at (first + x))) (suc (at (first + y))) (suc bound) (omega arith) (omega arith) in
+      omega arith
+  exit_most (Return None) behind there =
       let most = leave_most behind in
       let set = plain_rank at (result_code None) (scan at (leave_code frame) behind) ((refl, refl), tt) in
-      inl (omega arith)
-  exit_most b (Return (Some r)) lines behind d there t = let most = leave_most behind in inl (omega arith)
+      omega arith
+  exit_most (Return (Some r)) behind there = let most = leave_most behind in omega arith
 
   exit_ranked : (exit : Exit) (behind : After) → AreRanked at (exit_code first frame exit) behind
   exit_ranked (Jump b) behind = jump_ranked 0 (first + b) behind (λ e. absurd (omega arith)) (omega arith) (λ e. absurd (omega arith))
@@ -211,23 +179,22 @@ module _ (at : ℕ → ℕ) (places : Name → ℕ) (m : ℕ → ℕ → ℕ) (o
   starts n j (Cut cause ∷ lines) behind s = refl
   starts n j (line ∷ lines) behind s = absurd s
 
-  work_most : (n : ℕ → ℕ) (j : ℕ) (line : Line) (lines : List Line) (most : ℕ) (behind : After) → ArePlain (line_code places (n j) line) → (scan at (lines_code places n (suc j) lines) behind).next ≤ most + length (lines_code places n (suc j) lines) → (scan at (line_code places (n j) line ++ lines_code places n (suc j) lines) behind).next ≤ most + length (line_code places (n j) line ++ lines_code places n (suc j) lines)
-  work_most n j line lines most behind plain h =
+  work_most : (n : ℕ → ℕ) (j : ℕ) (line : Line) (lines : List Line) (rest : ℕ) (behind : After) → IsWork line → (IsCut line → ⊥) → (scan at (lines_code places n (suc j) lines) behind).next ≤ block_base + rest → (scan at (line_code places (n j) line ++ lines_code places n (suc j) lines) behind).next ≤ block_base + (with_cut line + rest)
+  work_most n j line lines rest behind work uncut h =
       let e = ap (λ (z : After). z.next) (scan_append at (line_code places (n j) line) (lines_code places n (suc j) lines) behind) in
-      let p = plain_rank at (line_code places (n j) line) (scan at (lines_code places n (suc j) lines) behind) plain in
-      let q = length-append (line_code places (n j) line) (lines_code places n (suc j) lines) in
+      let p = plain_rank at (line_code places (n j) line) (scan at (lines_code places n (suc j) lines) behind) (work_plain places (n j) line work) in
+      let few = line_few places (n j) line uncut in
       omega arith
 
-  lines_most : (n : ℕ → ℕ) (j : ℕ) (lines : List Line) (most : ℕ) (behind : After) → block_base ≤ most → (behind.next ≤ most) ⊎ EndsWithCut lines → All (CallsBelow functions) lines → (scan at (lines_code places n j lines) behind).next ≤ most + length (lines_code places n j lines)
-  lines_most n j [] most behind h (inl k) c = omega arith
-  lines_most n j [] most behind h (inr k) c = absurd k
-  lines_most n j (Cut cause ∷ lines) most behind h k c = omega arith
-  lines_most n j (Call to i start given ∷ lines) most behind h k c = let e = callees.entries i (All-head (CallsBelow functions) (Call to i start given) lines c) in omega arith
-  lines_most n j (GetChar to ∷ lines) most behind h k c = let e = callees.gets in omega arith
-  lines_most n j (PutChar to from ∷ lines) most behind h k c = let e = callees.puts in omega arith
-  lines_most n j (line ∷ lines) most behind h k c =
-      work_most n j line lines most behind (work_plain places (n j) line tt)
-      (lines_most n (suc j) lines most behind h (elim k [ inl a ↦ inl a | inr b ↦ inr (ends_rest line lines (λ z. z) b) ]) (All-tail (CallsBelow functions) line lines c))
+  lines_most : (n : ℕ → ℕ) (j : ℕ) (lines : List Line) (exit : Exit) (behind : After) → behind.next ≤ block_base + cost_on left [] exit → All (CallsBelow functions) lines → (scan at (lines_code places n j lines) behind).next ≤ block_base + cost_on left lines exit
+  lines_most n j [] exit behind h c = h
+  lines_most n j (Cut cause ∷ lines) exit behind h c = omega arith
+  lines_most n j (Call to i start given ∷ lines) exit behind h c = let e = callees.entries i (All-head (CallsBelow functions) (Call to i start given) lines c) in omega arith
+  lines_most n j (GetChar to ∷ lines) exit behind h c = let e = callees.gets in omega arith
+  lines_most n j (PutChar to from ∷ lines) exit behind h c = let e = callees.puts in omega arith
+  lines_most n j (line ∷ lines) exit behind h c =
+      work_most n j line lines (cost_on left lines exit) behind tt (λ z. z)
+      (lines_most n (suc j) lines exit behind h (All-tail (CallsBelow functions) line lines c))
 
   lines_ranked : (n : ℕ → ℕ) (j : ℕ) (lines : List Line) (behind : After) → ((j : ℕ) → (4 ≤ n j) × (n j ≤ 31)) → CutAfterCalls lines → AreRanked at (lines_code places n j lines) behind
   lines_ranked n j [] behind o k = tt
@@ -252,7 +219,7 @@ module _ (at : ℕ → ℕ) (places : Name → ℕ) (m : ℕ → ℕ → ℕ) (o
   abbrev body : ℕ → Block → List CodeLine
   body b block = lines_code places (m b) 0 block.lines.items ++ exit_code first frame block.exit
 
-  body_most : (b : ℕ) (block : Block) (behind : After) → BlockFacts functions f b block → (scan at (body b block) behind).next ≤ at (first + b)
+  body_most : (b : ℕ) (block : Block) (behind : After) → BlockFacts functions left f b block → (scan at (body b block) behind).next ≤ at (first + b)
   body_most b block behind facts =
       subst (λ z. (scan at (body b block) behind).next ≤ z) (sym (blocks b facts.inside)) (by (b == f.entry) refl)
     where
@@ -262,27 +229,26 @@ module _ (at : ℕ → ℕ) (places : Name → ℕ) (m : ℕ → ℕ → ℕ) (o
       is : (scan at (body b block) behind).next ≡ (scan at (lines_code places (m b) 0 block.lines.items) exits).next
       is = ap (λ (z : After). z.next) (scan_append at (lines_code places (m b) 0 block.lines.items) (exit_code first frame block.exit) behind)
 
-      by : (t : Bool) → (b == f.entry) ≡ t → (scan at (body b block) behind).next ≤ rank_by_entry t (block_base + sum (suc b))
+      by : (t : Bool) → (b == f.entry) ≡ t → (scan at (body b block) behind).next ≤ rank_by_entry t (block_base + left b)
       by true e = let s = starts (m b) 0 block.lines.items exits (facts.entry (same_of b f.entry e)) in let q = is in omega arith
       by false e =
-          let most = lines_most (m b) 0 block.lines.items (block_base + sum b + 3) exits (omega arith) (exit_most b block.exit block.lines.items behind facts.descends facts.there facts.turn) facts.calls in
-          let more = sum_more (weight places) f.blocks.items b block facts.is_block in
-          let same = lines_length places (m b) (λ j. 4) 0 0 block.lines.items in
+          let whole = lines_most (m b) 0 block.lines.items block.exit exits (exit_most block.exit behind facts.there) facts.calls in
+          let most = facts.most in
           let q = is in
           omega arith
 
-  block_ranked : (b : ℕ) (block : Block) (behind : After) → BlockFacts functions f b block → AreRanked at (block_code places (m b) first frame b block) behind
+  block_ranked : (b : ℕ) (block : Block) (behind : After) → BlockFacts functions left f b block → AreRanked at (block_code places (m b) first frame b block) behind
   block_ranked b block behind facts =
       ranked_labelled at (first + b) (body b block) behind (body_most b block behind facts)
       (ranked_append at (lines_code places (m b) 0 block.lines.items) (exit_code first frame block.exit) behind (lines_ranked (m b) 0 block.lines.items (scan at (exit_code first frame block.exit) behind) (okay b) facts.cuts) (exit_ranked block.exit behind))
 
-  blocks_ranked : (b : ℕ) (xs : List Block) (behind : After) → ((j : ℕ) (block : Block) → slice_get xs j ≡ Some block → BlockFacts functions f (b + j) block) → AreRanked at (blocks_code places m first frame b xs) behind
+  blocks_ranked : (b : ℕ) (xs : List Block) (behind : After) → ((j : ℕ) (block : Block) → slice_get xs j ≡ Some block → BlockFacts functions left f (b + j) block) → AreRanked at (blocks_code places m first frame b xs) behind
   blocks_ranked b [] behind k = tt
   blocks_ranked b (x ∷ xs) behind k =
       let here : b + 0 ≡ b = omega arith in
       ranked_append at (block_code places (m b) first frame b x) (blocks_code places m first frame (suc b) xs) behind
-      (block_ranked b x (scan at (blocks_code places m first frame (suc b) xs) behind) (subst (λ z. BlockFacts functions f z x) here (k 0 x refl)))
-      (blocks_ranked (suc b) xs behind (λ j block e. (let q : b + suc j ≡ suc b + j = omega arith in subst (λ z. BlockFacts functions f z block) q (k (suc j) block e))))
+      (block_ranked b x (scan at (blocks_code places m first frame (suc b) xs) behind) (subst (λ z. BlockFacts functions left f z x) here (k 0 x refl)))
+      (blocks_ranked (suc b) xs behind (λ j block e. (let q : b + suc j ≡ suc b + j = omega arith in subst (λ z. BlockFacts functions left f z block) q (k (suc j) block e))))
 
   -- ---- the prologue
 
@@ -302,7 +268,7 @@ module _ (at : ℕ → ℕ) (places : Name → ℕ) (m : ℕ → ℕ → ℕ) (o
         (record { label = λ l e. absurd cc; goes = inl (refl, refl) }, (full.0, taken)),
       )
 
-  pub function_ranked : (i : ℕ) (behind : After) → i < functions → f.entry < length f.blocks.items → ((b : ℕ) (block : Block) → slice_get f.blocks.items b ≡ Some block → BlockFacts functions f b block) → AreRanked at (function_code places m i first frame f.entry f.blocks.items) behind
+  pub function_ranked : (i : ℕ) (behind : After) → i < functions → f.entry < length f.blocks.items → ((b : ℕ) (block : Block) → slice_get f.blocks.items b ≡ Some block → BlockFacts functions left f b block) → AreRanked at (function_code places m i first frame f.entry f.blocks.items) behind
   function_ranked i behind here there facts =
       let target : ℕ = first + f.entry in
       let by : ℕ = 2 ^ 32 - frame in
@@ -316,4 +282,75 @@ module _ (at : ℕ → ℕ) (places : Name → ℕ) (m : ℕ → ℕ → ℕ) (o
       ranked_append at (labelled (entry_label i) (prologue_code frame target)) rest behind
       (ranked_labelled at (entry_label i) (prologue_code frame target) onward (omega arith)
       (ranked_append at (adds_code 6 by) (enter_code target) onward (plain_ranked at (adds_code 6 by) (scan at (enter_code target) onward) (adds_plain 6 by)) (enter_ranked target onward (omega arith))))
-      (blocks_ranked 0 f.blocks.items behind (λ j block e. (let q : 0 + j ≡ j = omega arith in subst (λ z. BlockFacts functions f z block) (sym q) (facts j block e))))
+      (blocks_ranked 0 f.blocks.items behind (λ j block e. (let q : 0 + j ≡ j = omega arith in subst (λ z. BlockFacts functions left f z block) (sym q) (facts j block e))))
+
+  -- ---- what stands behind cuts
+
+  -- behind each cut of the function so little is left
+  abbrev HasLittleLeft : ℕ → List Line → Exit → Type 0
+  HasLittleLeft top lines exit = (before : List Line) (cause : Cause) (rest : List Line) → lines ≡ before ++ Cut cause ∷ rest → block_base + cost_on left rest exit ≤ top
+
+  -- one line, whose jump isn't a cut
+  jump_within : (top rd label : ℕ) (behind : After) → rd ≢ 3 → AreWithin at top (call_code rd label) behind
+  jump_within top rd label behind other = ((λ jumps cut. absurd (other cut)), tt)
+
+  leave_within : (top : ℕ) (behind : After) → AreWithin at top (leave_code frame) behind
+  leave_within top behind = ((λ jumps cut. absurd cc), within_append at top (adds_code 2 frame) return_code behind (plain_within at top (adds_code 2 frame) (scan at return_code behind) (adds_plain 2 frame)) ((λ jumps cut. absurd cc), tt))
+
+  exit_within : (top : ℕ) (exit : Exit) (behind : After) → AreWithin at top (exit_code first frame exit) behind
+  exit_within top (Jump b) behind = jump_within top 0 (first + b) behind (λ e. absurd (omega arith))
+  exit_within top (Turn b) behind = jump_within top 0 (first + b) behind (λ e. absurd (omega arith))
+  exit_within top (Branch on x y) behind = ((λ jumps cut. absurd cc), ((λ jumps cut. absurd cc), ((λ jumps cut. absurd cc), tt)))
+  exit_within top (Return None) behind = ((λ jumps cut. absurd cc), leave_within top behind)
+  exit_within top (Return (Some r)) behind = leave_within top behind
+
+  lines_within : (top : ℕ) (n : ℕ → ℕ) (j : ℕ) (lines : List Line) (exit : Exit) (behind : After) → behind.next ≤ block_base + cost_on left [] exit → All (CallsBelow functions) lines → HasLittleLeft top lines exit → AreWithin at top (lines_code places n j lines) behind
+  lines_within top n j [] exit behind h c little = tt
+  lines_within top n j (line ∷ lines) exit behind h c little =
+      within_append at top (line_code places (n j) line) (lines_code places n (suc j) lines) behind (one line little)
+      (lines_within top n (suc j) lines exit behind h tail (λ before cause rest e. little (line ∷ before) cause rest (ap (λ z. line ∷ z) e)))
+    where
+      tail : All (CallsBelow functions) lines
+      tail = All-tail (CallsBelow functions) line lines c
+
+      onward : After
+      onward = scan at (lines_code places n (suc j) lines) behind
+
+      one : (x : Line) → HasLittleLeft top (x ∷ lines) exit → AreWithin at top (line_code places (n j) x) onward
+      one (Cut cause) k = ((λ jumps cut. (let most = lines_most n (suc j) lines exit behind h tail in let little = k [] cause lines refl in omega arith)), tt)
+      one (Call to i start given) k = jump_within top 1 (entry_label i) onward (λ e. absurd (omega arith))
+      one (GetChar to) k = jump_within top 1 getchar_label onward (λ e. absurd (omega arith))
+      one (PutChar to from) k = jump_within top 1 putchar_label onward (λ e. absurd (omega arith))
+      one x k = plain_within at top (line_code places (n j) x) onward (work_plain places (n j) x tt)
+
+  block_within : (top b : ℕ) (block : Block) (behind : After) → BlockFacts functions left f b block → HasLittleLeft top block.lines.items block.exit → AreWithin at top (block_code places (m b) first frame b block) behind
+  block_within top b block behind facts little =
+      within_labelled at top (first + b) (body b block) behind
+      (within_append at top (lines_code places (m b) 0 block.lines.items) (exit_code first frame block.exit) behind
+      (lines_within top (m b) 0 block.lines.items block.exit (scan at (exit_code first frame block.exit) behind) (exit_most block.exit behind facts.there) facts.calls little)
+      (exit_within top block.exit behind))
+
+  -- a block's facts, and little left behind its cuts
+  abbrev Facts : ℕ → ℕ → Block → Type 0
+  Facts top b block = BlockFacts functions left f b block × HasLittleLeft top block.lines.items block.exit
+
+  blocks_within : (top b : ℕ) (xs : List Block) (behind : After) → ((j : ℕ) (block : Block) → slice_get xs j ≡ Some block → Facts top (b + j) block) → AreWithin at top (blocks_code places m first frame b xs) behind
+  blocks_within top b [] behind k = tt
+  blocks_within top b (x ∷ xs) behind k =
+      let here : b + 0 ≡ b = omega arith in
+      let facts = subst (λ z. Facts top z x) here (k 0 x refl) in
+      within_append at top (block_code places (m b) first frame b x) (blocks_code places m first frame (suc b) xs) behind
+      (block_within top b x (scan at (blocks_code places m first frame (suc b) xs) behind) facts.0 facts.1)
+      (blocks_within top (suc b) xs behind (λ j block e. (let q : b + suc j ≡ suc b + j = omega arith in subst (λ z. Facts top z block) q (k (suc j) block e))))
+
+  prologue_within : (top target : ℕ) (behind : After) → AreWithin at top (prologue_code frame target) behind
+  prologue_within top target behind =
+      within_append at top (adds_code 6 (2 ^ 32 - frame)) (enter_code target) behind (plain_within at top (adds_code 6 (2 ^ 32 - frame)) (scan at (enter_code target) behind) (adds_plain 6 (2 ^ 32 - frame)))
+      ((λ jumps cut. absurd cc), ((λ jumps cut. absurd cc), ((λ jumps cut. absurd cc), ((λ jumps cut. absurd cc), ((λ jumps cut. absurd cc), ((λ jumps cut. absurd cc), tt))))))
+
+  pub function_within : (top i : ℕ) (behind : After) → ((b : ℕ) (block : Block) → slice_get f.blocks.items b ≡ Some block → Facts top b block) → AreWithin at top (function_code places m i first frame f.entry f.blocks.items) behind
+  function_within top i behind facts =
+      let rest : List CodeLine = blocks_code places m first frame 0 f.blocks.items in
+      within_append at top (labelled (entry_label i) (prologue_code frame (first + f.entry))) rest behind
+      (within_labelled at top (entry_label i) (prologue_code frame (first + f.entry)) (scan at rest behind) (prologue_within top (first + f.entry) (scan at rest behind)))
+      (blocks_within top 0 f.blocks.items behind (λ j block e. (let q : 0 + j ≡ j = omega arith in subst (λ z. Facts top z block) (sym q) (facts j block e))))

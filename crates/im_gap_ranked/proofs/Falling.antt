@@ -1,5 +1,5 @@
 -- From ranked lines to a number for each word that falls along the flow.
-use Rattle.std.proofs.Common.{◌≡◌, ℕ, zero, suc, ◌+◌, ◌-◌, ◌<◌, ◌≤◌, ◌⊎◌, inl, inr, true, false, Bool, cond, List, [], ◌∷◌, Option, Some, None, drop, length, refl, sym, ap, ◌∙◌, subst, arith}
+use Rattle.std.proofs.Common.{◌≡◌, ℕ, zero, suc, ◌+◌, ◌-◌, ◌%◌, ◌<◌, ◌≤◌, ◌⊎◌, inl, inr, true, false, Bool, cond, List, [], ◌∷◌, Option, Some, None, drop, length, refl, sym, ap, ◌∙◌, subst, arith}
 use Rattle.std.specs.Prelude.{◌==◌, nat_lt, slice_get}
 use Rattle.std.proofs.lemmas.Bool.{cases_lt}
 use Rattle.std.proofs.lemmas.Bool.Decides.{nat_tests}
@@ -21,7 +21,7 @@ use Rattle.im_saved_lines.specs.Scan.{way}
 use Rattle.im_saved_code.proofs.Lists.{code_append, code_at}
 use Rattle.im_saved_code.proofs.Words.{Word, word_of, no_word, turn_way, links_is}
 use Rattle.im_saved_lines.proofs.Scanning.{same_of}
-use Rattle.im_gap_ranked.proofs.Ranks.{greater, greater_left, greater_right, After, nothing, cut_rank, at_target, rank_by, rank_of, before, scan, Goes, IsRankedLine, AreRanked, ranked_append}
+use Rattle.im_gap_ranked.proofs.Ranks.{greater, greater_left, greater_right, After, nothing, cut_rank, at_target, rank_by, rank_of, before, scan, Goes, IsRankedLine, AreRanked, IsWithin, AreWithin, ranked_append, within_append}
 use Rattle.im_gap_ranked.proofs.Runtime.{runtime_rank, Falls, TurnFalls, IsRuntimeLine}
 
 -- ---- lines by their numbers
@@ -40,6 +40,11 @@ ranked_at at [] k x s e = absurd cc
 ranked_at at (y ∷ xs) zero x s e = let same : y ≡ x = cc in subst (λ (z : CodeLine). IsRankedLine at z (scan at xs nothing)) same s.0
 ranked_at at (y ∷ xs) (suc k) x s e = ranked_at at xs k x s.1 e
 
+within_at : (at : ℕ → ℕ) (top : ℕ) (xs : List CodeLine) (k : ℕ) (x : CodeLine) → AreWithin at top xs nothing → slice_get xs k ≡ Some x → IsWithin top x (after_of at xs (suc k))
+within_at at top [] k x s e = absurd cc
+within_at at top (y ∷ xs) zero x s e = let same : y ≡ x = cc in subst (λ (z : CodeLine). IsWithin top z (scan at xs nothing)) same s.0
+within_at at top (y ∷ xs) (suc k) x s e = within_at at top xs k x s.1 e
+
 none_over : (at : ℕ → ℕ) (k : ℕ) → (after_of at [] k).over ≡ (after_of at [] (suc k)).next
 none_over at zero = refl
 none_over at (suc k) = refl
@@ -55,12 +60,30 @@ parts_ranked at (x ∷ xs) behind k =
     subst (λ z. AreRanked at z behind) (sym (code_append x.lines.items (lines_of xs)))
     (ranked_append at (code_lines x.lines.items) (code_lines (lines_of xs)) behind (k 0 x (scan at (code_lines (lines_of xs)) behind) refl) (parts_ranked at xs behind (λ p part after e. k (suc p) part after e)))
 
+pub parts_within : (at : ℕ → ℕ) (top : ℕ) (parts : List Part) (behind : After) → ((p : ℕ) (part : Part) (after : After) → slice_get parts p ≡ Some part → AreWithin at top (code_lines part.lines.items) after) → AreWithin at top (code_lines (lines_of parts)) behind
+parts_within at top [] behind k = tt
+parts_within at top (x ∷ xs) behind k =
+    subst (λ z. AreWithin at top z behind) (sym (code_append x.lines.items (lines_of xs)))
+    (within_append at top (code_lines x.lines.items) (code_lines (lines_of xs)) behind (k 0 x (scan at (code_lines (lines_of xs)) behind) refl) (parts_within at top xs behind (λ p part after e. k (suc p) part after e)))
+
 checkpoint_low : (j : ℕ) → 64 ≤ j → j < 236 → runtime_rank j < cut_rank
 checkpoint_low j low high =
     let a : nat_lt j 64 ≡ false = grind (arith, nat_tests) in
-    let b : nat_lt j 236 ≡ true = grind (arith, nat_tests) in
-    let is : runtime_rank j ≡ 236 - j = ap (λ t. cond t (cut_rank + 65 - j) (cond (nat_lt j 236) (236 - j) (cut_rank + 1))) a ∙ ap (λ t. cond t (236 - j) (cut_rank + 1)) b in
-    subst (λ z. z < cut_rank) (sym is) (let less : 236 - j < 237 = omega arith in less)
+    let first = ap (λ t. cond t (cut_rank + 65 - j) (cond (nat_lt j 204) (36 - (j - 64) % 5) (cond (nat_lt j 236) (235 - j) (cut_rank + 1)))) a in
+    elim (cases_lt j 204) [
+      | inl c ↦
+          (let b : nat_lt j 204 ≡ true = grind (arith, nat_tests) in
+          let is : runtime_rank j ≡ 36 - (j - 64) % 5 = first ∙ ap (λ t. cond t (36 - (j - 64) % 5) (cond (nat_lt j 236) (235 - j) (cut_rank + 1))) b in
+          subst (λ z. z < cut_rank) (sym is) (entry ((j - 64) % 5)))
+      | inr c ↦
+          (let b : nat_lt j 204 ≡ false = grind (arith, nat_tests) in
+          let d : nat_lt j 236 ≡ true = grind (arith, nat_tests) in
+          let is : runtime_rank j ≡ 235 - j = first ∙ ap (λ t. cond t (36 - (j - 64) % 5) (cond (nat_lt j 236) (235 - j) (cut_rank + 1))) b ∙ ap (λ t. cond t (235 - j) (cut_rank + 1)) d in
+          subst (λ z. z < cut_rank) (sym is) (let less : 235 - j < 37 = omega arith in less))
+    ]
+  where
+    entry : (r : ℕ) → 36 - r < 37
+    entry r = omega arith
 
 -- ---- a code
 
@@ -117,25 +140,27 @@ module _ (lines outside : List Line) (words : List ℕ) (at : ℕ → ℕ) (h : 
   split : (i : ℕ) → 237 ≤ i → i ≡ 237 + (i - 237)
   split i le = omega arith
 
-  -- a label from 32 on is none of the runtime's, and no line of it is a call
+  -- a label from 32 on is none of the runtime's, and no line of it is a call or a cut
   labels : (l j : ℕ) → 32 ≤ l → StandsAt lines l j → 237 ≤ j
   labels l j far s = elim (cases_lt j 237) [
     | inl c ↦ (let r = (h.runtime j s.line c s.is_line).label l s.label in absurd (omega arith))
     | inr c ↦ c
   ]
 
-  calls : (i : ℕ) → links 1 (instruction_at words i) ≡ true → 237 ≤ i
-  calls i e = elim (cases_lt i 237) [
+  linking : (r i : ℕ) → ((line : Line) → IsRuntimeLine i (code_line line) → links_by line.instr.op r line.instr.rd ≡ true → ⊥) → links r (instruction_at words i) ≡ true → 237 ≤ i
+  linking r i none e = elim (cases_lt i 237) [
     | inr c ↦ c
     | inl c ↦ absurd (elim (slice_get_cases lines i).1 [
       | inl g ↦
           (let w : Word lines words i g.0 = word_of lines words i g.0 h.are g.2 in
-          let t : links_by w.to.op 1 w.to.rd ≡ true = ap (links 1) (sym w.here) ∙ e in
-          let s : links_by (code_line g.0).line.op 1 (code_line g.0).line.rd ≡ true = ap (λ z. links_by z 1 (code_line g.0).line.rd) (sym w.op) ∙ ap (links_by w.to.op 1) (sym w.rd) ∙ t in
-          (h.runtime i g.0 c g.2).call s)
-      | inr g ↦ (let n = no_word lines words i h.are g.1 in let t : links 1 None ≡ true = ap (links 1) (sym n) ∙ e in absurd cc)
+          let t : links_by w.to.op r w.to.rd ≡ true = ap (links r) (sym w.here) ∙ e in
+          none g.0 (h.runtime i g.0 c g.2) (ap (λ z. links_by z r g.0.instr.rd) (sym w.op) ∙ ap (links_by w.to.op r) (sym w.rd) ∙ t))
+      | inr g ↦ (let n = no_word lines words i h.are g.1 in let t : links r None ≡ true = ap (links r) (sym n) ∙ e in absurd cc)
     ])
   ]
+
+  calls : (i : ℕ) → links 1 (instruction_at words i) ≡ true → 237 ≤ i
+  calls i e = linking 1 i (λ line is. is.call) e
 
   -- where a word leads that goes to a target
   lands : (i k j l : ℕ) (a : AtLine i k) → a.line.target ≡ Some l → address j ≡ sum_of (address i) (imm_of (instruction_at words i)) → StandsAt lines l j
@@ -315,3 +340,34 @@ module _ (lines outside : List Line) (words : List ℕ) (at : ℕ → ℕ) (h : 
 
   pub falls : (i j : ℕ) → Flow words i j → rank j < rank i
   falls i j flow = elim (cases_lt i 237) [ inl c ↦ runtime_falls i j c flow | inr c ↦ past_falls i j c flow ]
+
+  -- ---- where sections begin
+
+  pub behind_cut : (top j : ℕ) → AreWithin at top (code_lines outside) nothing → IsBehind words 3 j → rank j ≤ top
+  behind_cut top j within b =
+      let c : ℕ = b.0 in
+      let le : 237 ≤ c = linking 3 c (λ line is. is.cut) b.1 in
+      let k : ℕ = c - 237 in
+      some_line c k (rank j ≤ top) (split c le)
+      (λ n. (let t : links 3 None ≡ true = ap (links 3) (sym n) ∙ b.1 in absurd cc))
+      (λ a.
+      let is = links_is 3 a.word.to (ap (links 3) (sym a.word.here) ∙ b.1) in
+      let jal : way a.line.instr.op ≡ Jumps = ap way (sym a.word.op ∙ is.0) in
+      let there : slice_get outside k ≡ Some a.line = sym (h.past k) ∙ ap (slice_get lines) (sym (split c le)) ∙ a.is_line in
+      let most : (after (suc k)).next ≤ top = within_at at top (code_lines outside) k (code_line a.line) within (code_at outside k a.line there) jal (sym a.word.rd ∙ is.1) in
+      let b2 = b.2 in
+      let q : j ≡ 237 + suc k = omega arith in
+      subst (λ z. z ≤ top) (sym (rank_past j (suc k) q)) most)
+
+  -- a call has one more than its label
+  pub call_rank : (i l : ℕ) (line : Line) → slice_get lines i ≡ Some line → line.target ≡ Some l → way line.instr.op ≡ Jumps → line.instr.rd ≡ 1 → rank i ≡ suc (at l)
+  call_rank i l line g target jumps call = elim (cases_lt i 237) [
+    | inl c ↦ (let none = (h.runtime i line c g).target in let bad : None ≡ Some l = sym none ∙ target in absurd cc)
+    | inr c ↦
+        (let k : ℕ = i - 237 in
+        let a = at_line i k line (split i c) g in
+        rank_past i k (split i c) ∙ ap (λ (z : After). z.next) a.is
+        ∙ ap (λ t. rank_by at t line.instr.rd line.target (after (suc k))) jumps
+        ∙ ap (λ z. rank_by at Jumps z line.target (after (suc k))) call
+        ∙ ap (λ o. suc (at_target at o 0)) target)
+  ]

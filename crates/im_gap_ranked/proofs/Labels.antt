@@ -1,14 +1,11 @@
 -- The number of each label of a program.
-use Rattle.std.proofs.Common.{◌≡◌, ℕ, true, false, zero, suc, ◌+◌, ◌-◌, ◌<◌, ◌≤◌, List, [], ◌∷◌, Option, Some, None, length, take, ap, ◌∙◌, arith}
+use Rattle.std.proofs.Common.{◌≡◌, ℕ, true, false, zero, suc, ◌+◌, ◌-◌, ◌<◌, ◌≤◌, List, [], ◌∷◌, Some, length, take, ap, ◌∙◌, arith}
 use Rattle.std.specs.Prelude.{nat_lt, if◌then◌else◌, slice_get}
 use Rattle.std.proofs.lemmas.Bool.Decides.{nat_tests}
-use Rattle.im_store.specs.Objects.{Name}
 use Rattle.im_block.specs.declared.unit.Function.{Function}
 use Rattle.im_block.specs.Shape.{sum_of}
-use Rattle.im_frame.specs.declared.layout.Layout.{Layout}
 use Rattle.im_select.specs.Emitted.{entry_label}
-use Rattle.im_select.specs.Places.{at_of}
-use Rattle.im_link_laws.specs.Program.{first_label, given_at}
+use Rattle.im_link_laws.specs.Program.{first_label}
 use Rattle.im_gap_ranked.proofs.Routines.{entry_rank, low_rank, at_labels}
 use Rattle.im_gap_ranked.proofs.Blocks.{block_rank, HasCallees}
 
@@ -18,19 +15,12 @@ less_is a b h = grind (arith, nat_tests)
 less_not : (a b : ℕ) → b ≤ a → nat_lt a b ≡ false
 less_not a b h = grind (arith, nat_tests)
 
--- where the objects of function i are
-abbrev pub places_of : List Function → List ℕ → ℕ → Function → Option Layout → Name → ℕ
-places_of functions statics i f None = λ n. 0
-places_of functions statics i f (Some layout) = at_of (given_at functions statics i f layout)
-
-module _ (functions : List Function) (statics : List ℕ) (layouts : List Layout) where
-  abbrev pub places : ℕ → Function → Name → ℕ
-  places i f = places_of functions statics i f (slice_get layouts i)
-
+-- lefts: of each function, what is left at the starts of its blocks
+module _ (functions : List Function) (lefts : ℕ → ℕ → ℕ) where
   -- these functions from number i on, and block b behind
   abbrev in_blocks : List Function → ℕ → ℕ → ℕ
   in_blocks [] i b = 0
-  in_blocks (f ∷ fs) i b = if nat_lt b (length f.blocks.items) then block_rank (places i f) f b else in_blocks fs (suc i) (b - length f.blocks.items)
+  in_blocks (f ∷ fs) i b = if nat_lt b (length f.blocks.items) then block_rank (lefts i) f b else in_blocks fs (suc i) (b - length f.blocks.items)
 
   abbrev pub beyond : ℕ → ℕ
   beyond l = if nat_lt l (entry_label (length functions)) then entry_rank else in_blocks functions 0 (l - entry_label (length functions))
@@ -38,7 +28,7 @@ module _ (functions : List Function) (statics : List ℕ) (layouts : List Layout
   abbrev pub at : ℕ → ℕ
   at = at_labels beyond
 
-  found : (fs : List Function) (i k b : ℕ) (f : Function) → slice_get fs k ≡ Some f → b < length f.blocks.items → in_blocks fs i (sum_of (λ (z : Function). length z.blocks.items) (take k fs) + b) ≡ block_rank (places (i + k) f) f b
+  found : (fs : List Function) (i k b : ℕ) (f : Function) → slice_get fs k ≡ Some f → b < length f.blocks.items → in_blocks fs i (sum_of (λ (z : Function). length z.blocks.items) (take k fs) + b) ≡ block_rank (lefts (i + k)) f b
   found [] i k b f e h = absurd cc
   found (x ∷ xs) i zero b f e h =
       let same : x ≡ f = cc in
@@ -46,22 +36,22 @@ module _ (functions : List Function) (statics : List ℕ) (layouts : List Layout
       let z : 0 + b ≡ b = omega arith in
       let i0 : i ≡ i + 0 = omega arith in
       ap (λ c. in_blocks (x ∷ xs) i c) z
-      ∙ ap (λ t. if t then block_rank (places i x) x b else in_blocks xs (suc i) (b - length x.blocks.items)) (less_is b (length x.blocks.items) (omega arith))
-      ∙ ap (λ c. block_rank (places i c) c b) same ∙ ap (λ c. block_rank (places c f) f b) i0
+      ∙ ap (λ t. if t then block_rank (lefts i) x b else in_blocks xs (suc i) (b - length x.blocks.items)) (less_is b (length x.blocks.items) (omega arith))
+      ∙ ap (λ c. block_rank (lefts i) c b) same ∙ ap (λ c. block_rank (lefts c) f b) i0
   found (x ∷ xs) i (suc k) b f e h =
       let n : ℕ = length x.blocks.items in
       let s : ℕ = sum_of (λ (z : Function). length z.blocks.items) (take k xs) in
       let rest : n + s + b - n ≡ s + b = omega arith in
       let i1 : suc i + k ≡ i + suc k = omega arith in
-      ap (λ t. if t then block_rank (places i x) x (n + s + b) else in_blocks xs (suc i) (n + s + b - n)) (less_not (n + s + b) n (omega arith))
-      ∙ ap (λ c. in_blocks xs (suc i) c) rest ∙ found xs (suc i) k b f e h ∙ ap (λ c. block_rank (places c f) f b) i1
+      ap (λ t. if t then block_rank (lefts i) x (n + s + b) else in_blocks xs (suc i) (n + s + b - n)) (less_not (n + s + b) n (omega arith))
+      ∙ ap (λ c. in_blocks xs (suc i) c) rest ∙ found xs (suc i) k b f e h ∙ ap (λ c. block_rank (lefts c) f b) i1
 
   pub at_entry : (i : ℕ) → i < length functions → at (entry_label i) ≡ entry_rank
   at_entry i h =
       ap (λ t. if t then low_rank (entry_label i) else beyond (entry_label i)) (less_not (entry_label i) 64 (omega arith))
       ∙ ap (λ t. if t then entry_rank else in_blocks functions 0 (entry_label i - entry_label (length functions))) (less_is (entry_label i) (entry_label (length functions)) (omega arith))
 
-  pub at_block : (i b : ℕ) (f : Function) → slice_get functions i ≡ Some f → b < length f.blocks.items → at (first_label functions i + b) ≡ block_rank (places i f) f b
+  pub at_block : (i b : ℕ) (f : Function) → slice_get functions i ≡ Some f → b < length f.blocks.items → at (first_label functions i + b) ≡ block_rank (lefts i) f b
   at_block i b f e h =
       let n : ℕ = entry_label (length functions) in
       let s : ℕ = sum_of (λ (z : Function). length z.blocks.items) (take i functions) in
@@ -70,7 +60,7 @@ module _ (functions : List Function) (statics : List ℕ) (layouts : List Layout
       let i0 : 0 + i ≡ i = omega arith in
       ap (λ t. if t then low_rank l else beyond l) (less_not l 64 (omega arith))
       ∙ ap (λ t. if t then entry_rank else in_blocks functions 0 (l - n)) (less_not l n (omega arith))
-      ∙ ap (λ c. in_blocks functions 0 c) back ∙ found functions 0 i b f e h ∙ ap (λ c. block_rank (places c f) f b) i0
+      ∙ ap (λ c. in_blocks functions 0 c) back ∙ found functions 0 i b f e h ∙ ap (λ c. block_rank (lefts c) f b) i0
 
   pub callees : HasCallees (length functions) at
   callees = record { stops = omega arith; gets = omega arith; puts = omega arith; entries = at_entry }

@@ -5,3 +5,5 @@ pub mod Labels
 pub mod Runtime
 pub mod Falling
 pub mod Whole
+pub mod Sums
+pub mod Short

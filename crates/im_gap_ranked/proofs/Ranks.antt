@@ -51,9 +51,10 @@ pub record After : Type 0 where
 abbrev pub nothing : After
 nothing = record { next = 0; over = 0 }
 
--- that of a cut: those of the checkpoint are below, those of the lines behind calls no greater
+-- that of a cut: those of the checkpoint are below, at most 36 at an entry, 5 words and as many stores as registers before the flip;
+-- those of the lines behind calls are no greater
 abbrev pub cut_rank : ℕ
-cut_rank = 237
+cut_rank = 37
 
 abbrev pub at_target : (ℕ → ℕ) → Option ℕ → ℕ → ℕ
 at_target at None other = other
@@ -101,6 +102,16 @@ abbrev pub AreRanked : (ℕ → ℕ) → List CodeLine → After → Type 0
 AreRanked at [] behind = Unit {0}
 AreRanked at (x ∷ xs) behind = IsRankedLine at x (scan at xs behind) × AreRanked at xs behind
 
+-- ---- what is asked of sections
+
+-- what stands behind a cut has at most this number
+abbrev pub IsWithin : ℕ → CodeLine → After → Type 0
+IsWithin top x after = way x.line.op ≡ Jumps → x.line.rd ≡ 3 → after.next ≤ top
+
+abbrev pub AreWithin : (ℕ → ℕ) → ℕ → List CodeLine → After → Type 0
+AreWithin at top [] behind = Unit {0}
+AreWithin at top (x ∷ xs) behind = IsWithin top x (scan at xs behind) × AreWithin at top xs behind
+
 -- ---- one after another
 
 pub scan_append : (at : ℕ → ℕ) (xs ys : List CodeLine) (behind : After) → scan at (xs ++ ys) behind ≡ scan at xs (scan at ys behind)
@@ -110,6 +121,14 @@ scan_append at (x ∷ xs) ys behind = ap (before at x) (scan_append at xs ys beh
 pub ranked_append : (at : ℕ → ℕ) (xs ys : List CodeLine) (behind : After) → AreRanked at xs (scan at ys behind) → AreRanked at ys behind → AreRanked at (xs ++ ys) behind
 ranked_append at [] ys behind a b = b
 ranked_append at (x ∷ xs) ys behind a b = (subst (IsRankedLine at x) (sym (scan_append at xs ys behind)) a.0, ranked_append at xs ys behind a.1 b)
+
+pub within_append : (at : ℕ → ℕ) (top : ℕ) (xs ys : List CodeLine) (behind : After) → AreWithin at top xs (scan at ys behind) → AreWithin at top ys behind → AreWithin at top (xs ++ ys) behind
+within_append at top [] ys behind a b = b
+within_append at top (x ∷ xs) ys behind a b = (subst (IsWithin top x) (sym (scan_append at xs ys behind)) a.0, within_append at top xs ys behind a.1 b)
+
+pub within_labelled : (at : ℕ → ℕ) (top l : ℕ) (xs : List CodeLine) (behind : After) → AreWithin at top xs behind → AreWithin at top (labelled l xs) behind
+within_labelled at top l [] behind h = tt
+within_labelled at top l (x ∷ xs) behind h = (h.0, h.1)
 
 -- the first line's label
 pub ranked_labelled : (at : ℕ → ℕ) (l : ℕ) (xs : List CodeLine) (behind : After) → (scan at xs behind).next ≤ at l → AreRanked at xs behind → AreRanked at (labelled l xs) behind
@@ -140,3 +159,7 @@ plain_rank at (x ∷ xs) behind h =
     let k = plain_rank at xs behind h.1 in
     let one : suc (scan at xs behind).next ≡ suc (length xs) + behind.next = omega arith in
     ap (λ t. rank_by at t x.line.rd x.target (scan at xs behind)) h.0.0 ∙ one
+
+pub plain_within : (at : ℕ → ℕ) (top : ℕ) (xs : List CodeLine) (behind : After) → ArePlain xs → AreWithin at top xs behind
+plain_within at top [] behind h = tt
+plain_within at top (x ∷ xs) behind h = ((λ jumps cut. (let passes = h.0.0 in absurd cc)), plain_within at top xs behind h.1)

@@ -1,6 +1,6 @@
 -- The runtime's routines are ranked: a test of known lines.
 use Rattle.std.proofs.Common.{◌≡◌, ◌<◌, ◌≤◌, ◌⊎◌, inl, inr, ℕ, ◌+◌, Bool, true, false, cond, List, [], ◌∷◌, Option, Some, None, refl, sym, ap, ◌∙◌, arith}
-use Rattle.std.specs.Prelude.{◌==◌, ◌&&◌, ◌||◌, nat_lt, nat_le, if◌then◌else◌}
+use Rattle.std.specs.Prelude.{◌==◌, ◌&&◌, ◌||◌, not, nat_lt, nat_le, if◌then◌else◌}
 use Rattle.std.proofs.lemmas.Bool.Decides.{nat_tests}
 use Rattle.im_rv.specs.declared.instr.Op.{Op}
 use Rattle.im_rv.specs.declared.instr.Op.TheVariants.{Ebreak}
@@ -10,8 +10,8 @@ use Rattle.im_gap.specs.declared.flow.Turn.{Turn}
 use Rattle.im_gap.specs.declared.flow.Turn.TheVariants.{Passes, Jumps, Branches, Returns, Stops}
 use Rattle.im_rtlib.specs.Routines.{getchar, putchar, exit, stack}
 use Rattle.im_saved_lines.specs.Scan.{way}
-use Rattle.im_saved_lines.proofs.Scanning.{both, same_of}
-use Rattle.im_gap_ranked.proofs.Ranks.{After, cut_rank, rank_of, scan, GoesTo, Goes, AreRanked}
+use Rattle.im_saved_lines.proofs.Scanning.{both, either, not_true, same_of, same_is}
+use Rattle.im_gap_ranked.proofs.Ranks.{After, cut_rank, rank_of, scan, GoesTo, Goes, AreRanked, AreWithin}
 
 -- what calls lead to is no greater
 abbrev pub entry_rank : ℕ
@@ -101,6 +101,28 @@ tested at (x ∷ xs) behind t =
     let b = both (label_test at x.label (rank_of at x (scan at xs behind))) (goes_test (way x.line.op) x.line x.target) a.0 in
     (record { label = λ l e. label_is at x.label (rank_of at x (scan at xs behind)) l b.0 e; goes = goes_is (way x.line.op) x.line x.target (scan at xs behind) b.1 }, tested at xs behind a.1)
 
+-- ---- what stands behind cuts
+
+abbrev within_test : ℕ → CodeLine → After → Bool
+within_test most x after = not (x.line.rd == 3) || nat_le after.next most
+
+abbrev all_test : (ℕ → ℕ) → ℕ → List CodeLine → After → Bool
+all_test at most [] behind = true
+all_test at most (x ∷ xs) behind = within_test most x (scan at xs behind) && all_test at most xs behind
+
+within_is : (at : ℕ → ℕ) (most top : ℕ) (xs : List CodeLine) (behind : After) → most ≤ top → all_test at most xs behind ≡ true → AreWithin at top xs behind
+within_is at most top [] behind le t = tt
+within_is at most top (x ∷ xs) behind le t =
+    let a = both (within_test most x (scan at xs behind)) (all_test at most xs behind) t in
+    ((λ jumps cut. by (scan at xs behind).next (elim (either (not (x.line.rd == 3)) _ a.0) [ inl e ↦ absurd (not_true (x.line.rd == 3) e (same_is x.line.rd 3 cut)) | inr e ↦ e ])), within_is at most top xs behind le a.1)
+  where
+    by : (n : ℕ) → nat_le n most ≡ true → n ≤ top
+    by n e = let k : n ≤ most = grind (arith, nat_tests) in omega arith
+
+-- that of the line behind the routines' cuts is no greater
+abbrev pub routine_rank : ℕ
+routine_rank = cut_rank + 3
+
 -- ---- the routines
 
 module _ (beyond : ℕ → ℕ) (behind : After) where
@@ -119,3 +141,16 @@ module _ (beyond : ℕ → ℕ) (behind : After) where
   -- what stands behind the call of main
   pub exit_rank : (scan (at_labels beyond) exit behind).next ≡ 1
   exit_rank = refl
+
+  module _ (top : ℕ) (enough : routine_rank ≤ top) where
+    pub getchar_within : AreWithin (at_labels beyond) top getchar behind
+    getchar_within = within_is (at_labels beyond) routine_rank top getchar behind enough refl
+
+    pub putchar_within : AreWithin (at_labels beyond) top putchar behind
+    putchar_within = within_is (at_labels beyond) routine_rank top putchar behind enough refl
+
+    pub stack_within : AreWithin (at_labels beyond) top stack behind
+    stack_within = within_is (at_labels beyond) routine_rank top stack behind enough refl
+
+    pub exit_within : AreWithin (at_labels beyond) top exit behind
+    exit_within = within_is (at_labels beyond) routine_rank top exit behind enough refl

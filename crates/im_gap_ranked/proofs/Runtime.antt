@@ -1,5 +1,5 @@
 -- The words of the runtime: its lines are known, and numbers fall along them.
-use Rattle.std.proofs.Common.{◌≡◌, ◌<◌, inl, inr, ℕ, zero, suc, ◌+◌, ◌-◌, ◌/◌, Bool, true, false, cond, List, [], ◌∷◌, ◌++◌, Option, Some, None, length, map, refl, sym, ap, ◌∙◌, subst, arith}
+use Rattle.std.proofs.Common.{◌≡◌, ◌<◌, inl, inr, ℕ, zero, suc, ◌+◌, ◌-◌, ◌/◌, ◌%◌, Bool, true, false, cond, List, [], ◌∷◌, ◌++◌, Option, Some, None, length, map, refl, sym, ap, ◌∙◌, subst, arith}
 use Rattle.std.specs.Prelude.{◌==◌, ◌&&◌, not, nat_lt, slice_get}
 use Rattle.std.proofs.lemmas.Bool.{cases_lt}
 use Rattle.std.proofs.lemmas.Bool.Decides.{nat_tests}
@@ -24,9 +24,10 @@ use Rattle.im_gap_ranked.proofs.Ranks.{cut_rank}
 abbrev pub runtime_lines : List CodeLine
 runtime_lines = map plain_line recovery ++ checkpoint_code
 
--- recovery above its returns; the checkpoint by the distance to the flip; its return above what stands behind calls
+-- recovery above its returns; the checkpoint by the distance to the flip, an entry's as if it were E31's; its return above what stands
+-- behind calls
 abbrev pub runtime_rank : ℕ → ℕ
-runtime_rank i = cond (nat_lt i 64) (cut_rank + 65 - i) (cond (nat_lt i 236) (236 - i) (cut_rank + 1))
+runtime_rank i = cond (nat_lt i 64) (cut_rank + 65 - i) (cond (nat_lt i 204) (36 - (i - 64) % 5) (cond (nat_lt i 236) (235 - i) (cut_rank + 1)))
 
 -- ---- a test
 
@@ -55,7 +56,7 @@ no_target None = true
 no_target (Some l) = false
 
 abbrev line_test : ℕ → CodeLine → Bool
-line_test i x = (turn_test i x.line.imm (turn_by x.line.op x.line) && no_target x.target) && (label_small x.label && not (links_by x.line.op 1 x.line.rd))
+line_test i x = (turn_test i x.line.imm (turn_by x.line.op x.line) && no_target x.target) && (label_small x.label && (not (links_by x.line.op 1 x.line.rd) && not (links_by x.line.op 3 x.line.rd)))
 
 abbrev lines_test : ℕ → List CodeLine → Bool
 lines_test i [] = true
@@ -78,6 +79,7 @@ pub record IsRuntimeLine (i : ℕ) (x : CodeLine) : Type 0 where
   pub target : x.target ≡ None
   pub label : (l : ℕ) → x.label ≡ Some l → l < 32
   pub call : links_by x.line.op 1 x.line.rd ≡ true → ⊥
+  pub cut : links_by x.line.op 3 x.line.rd ≡ true → ⊥
 
 small_is : (o : Option ℕ) (l : ℕ) → label_small o ≡ true → o ≡ Some l → l < 32
 small_is None l t e = absurd cc
@@ -122,14 +124,16 @@ tested (y ∷ xs) i zero x t e =
     let same : y ≡ x = cc in
     let here : i ≡ i + 0 = omega arith in
     let a = both (line_test i y) (lines_test (suc i) xs) t in
-    let b = both (turn_test i y.line.imm (turn_by y.line.op y.line) && no_target y.target) (label_small y.label && not (links_by y.line.op 1 y.line.rd)) a.0 in
+    let b = both (turn_test i y.line.imm (turn_by y.line.op y.line) && no_target y.target) (label_small y.label && (not (links_by y.line.op 1 y.line.rd) && not (links_by y.line.op 3 y.line.rd))) a.0 in
     let c = both (turn_test i y.line.imm (turn_by y.line.op y.line)) (no_target y.target) b.0 in
-    let d = both (label_small y.label) (not (links_by y.line.op 1 y.line.rd)) b.1 in
+    let d = both (label_small y.label) (not (links_by y.line.op 1 y.line.rd) && not (links_by y.line.op 3 y.line.rd)) b.1 in
+    let no = both (not (links_by y.line.op 1 y.line.rd)) (not (links_by y.line.op 3 y.line.rd)) d.1 in
     subst (λ z. IsRuntimeLine z x) here (subst (IsRuntimeLine i) same (record {
       falls = turn_is i y.line.imm (turn_by y.line.op y.line) c.0;
       target = none_is y.target c.1;
       label = λ l q. small_is y.label l d.0 q;
-      call = λ q. (let n : not true ≡ true = ap not (sym q) ∙ d.1 in absurd cc);
+      call = λ q. (let n : not true ≡ true = ap not (sym q) ∙ no.0 in absurd cc);
+      cut = λ q. (let n : not true ≡ true = ap not (sym q) ∙ no.1 in absurd cc);
     }))
 tested (y ∷ xs) i (suc k) x t e =
     let q : suc i + k ≡ i + suc k = omega arith in

@@ -1,26 +1,31 @@
--- The linked code of a program has a longest gap.
-use Rattle.std.proofs.Common.{◌≡◌, ℕ, zero, suc, ◌+◌, ◌-◌, ◌*◌, ◌<◌, ◌≤◌, ◌⊎◌, inl, inr, Bool, List, Option, Some, None, length, drop, map, refl, sym, ap, ◌∙◌, subst, arith}
+-- The linked code of a program has a longest gap, by any numbers that are no less than what is left at the starts of blocks.
+use Rattle.std.proofs.Common.{◌≡◌, ℕ, zero, suc, ◌+◌, ◌-◌, ◌*◌, ◌<◌, ◌≤◌, ◌⊎◌, inl, inr, Bool, List, ◌∷◌, ◌++◌, Option, Some, None, length, drop, map, refl, sym, ap, ◌∙◌, subst, arith}
 use Rattle.std.specs.Prelude.{slice_get, All}
 use Rattle.std.proofs.lemmas.Option.{slice_get_cases, slice_get_within, get_or_from_slice_get}
+use Rattle.im_num.specs.declared.values.Cause.{Cause}
 use Rattle.im_rv.specs.declared.code.Part.{Part}
 use Rattle.im_rv.specs.declared.code.Code.{Code as Linked}
 use Rattle.im_rv.specs.Lines.{CodeLine, plain_line, code_lines}
 use Rattle.im_rv.specs.Code.{address}
 use Rattle.im_ckpt.specs.Recovery.{recovery}
 use Rattle.im_ckpt.specs.Checkpoint.{checkpoint_code, entry_at}
-use Rattle.im_gap.specs.Flow.{IsResumeWord}
-use Rattle.im_gap.specs.Gap.{HasGap}
+use Rattle.im_rv_reach.specs.Instructions.{jumping}
+use Rattle.im_rtlib.specs.Routines.{aimed, getchar, putchar, stack}
+use Rattle.im_gap.specs.Flow.{Flow, IsResumeWord}
+use Rattle.im_gap.specs.Gap.{IsBounded, HasGap}
 use Rattle.im_gap.proofs.Walking.{rank_law}
 use Rattle.im_gap_bound.proofs.Bounded.{bounded}
 use Rattle.im_link.specs.Parts.{IsPart, lines_of, first_of, last_of}
 use Rattle.im_link.specs.Links.{StandsAt}
 use Rattle.im_link.specs.Code.{IsLinkable, IsLinked}
 use Rattle.im_link.proofs.Joining.{line_in, lines_count}
+use Rattle.im_block.specs.declared.code.Line.{Line as BlockLine}
+use Rattle.im_block.specs.declared.code.Line.TheVariants.{Cut}
 use Rattle.im_block.specs.declared.code.Block.{Block}
 use Rattle.im_block.specs.declared.unit.Function.{Function}
 use Rattle.im_block.specs.declared.unit.Unit.{Unit as Code}
-use Rattle.im_block.specs.Shape.{AllOrdered}
 use Rattle.im_block.specs.Forced.{AllForced}
+use Rattle.im_cut_gap.specs.Remaining.{cost_on}
 use Rattle.im_frame.specs.declared.layout.Layout.{Layout}
 use Rattle.im_live.specs.Reads.{lives_before}
 use Rattle.im_live.specs.Entries.{entry_in, entries as least_entries}
@@ -32,13 +37,14 @@ use Rattle.im_link_laws.specs.Program.{HasCode, part_of, first_label, given_at, 
 use Rattle.im_link_laws.proofs.Runtimes.{saved_there, size_of}
 use Rattle.im_link_laws.proofs.Standing.{behind}
 use Rattle.im_saved_code.proofs.Parts.{code_is}
-use Rattle.im_gap_ranked.specs.Laws.{HasShortGap, LinkedGapLaw}
-use Rattle.im_gap_ranked.proofs.Ranks.{After, nothing, AreRanked}
-use Rattle.im_gap_ranked.proofs.Routines.{getchar_ranked, putchar_ranked, stack_ranked, exit_ranked}
-use Rattle.im_gap_ranked.proofs.Blocks.{block_rank, function_ranked}
-use Rattle.im_gap_ranked.proofs.Labels.{places_of, places, beyond, at, at_block, callees}
+use Rattle.im_saved_lines.specs.Scan.{way}
+use Rattle.im_gap_ranked.specs.Laws.{HasShortGap}
+use Rattle.im_gap_ranked.proofs.Ranks.{After, nothing, AreRanked, AreWithin}
+use Rattle.im_gap_ranked.proofs.Routines.{entry_rank, routine_rank, getchar_ranked, putchar_ranked, stack_ranked, exit_ranked, getchar_within, putchar_within, stack_within, exit_within}
+use Rattle.im_gap_ranked.proofs.Blocks.{block_base, BlockFacts, function_ranked, function_within}
+use Rattle.im_gap_ranked.proofs.Labels.{beyond, at, at_block, callees}
 use Rattle.im_gap_ranked.proofs.Runtime.{others, other_part, Split, split}
-use Rattle.im_gap_ranked.proofs.Falling.{parts_ranked, IsLaidOut, rank, falls}
+use Rattle.im_gap_ranked.proofs.Falling.{parts_ranked, parts_within, IsLaidOut, rank, falls, behind_cut, call_rank}
 
 all_at : {X : Type 0} (P : X → Type 0) (xs : List X) (i : ℕ) (x : X) → All P xs → slice_get xs i ≡ Some x → P x
 all_at P xs i x a e = subst P (get_or_from_slice_get xs i x x e) (a i x (slice_get_within xs i x e))
@@ -62,12 +68,15 @@ top_above number (suc n) i h = elim (last_or i n h) [
     last_or : (i k : ℕ) → i < suc k → (i < k) ⊎ (i ≡ k)
     last_or i k l = grind arith
 
-module _ (u : Code) (statics : List ℕ) (layouts : List Layout) (parts : List Part) (program : IsProgram u statics layouts parts) (ordered : AllOrdered u) (forced : AllForced u) where
+module _ (u : Code) (statics : List ℕ) (layouts : List Layout) (parts : List Part) (program : IsProgram u statics layouts parts) (forced : AllForced u) (lefts : ℕ → ℕ → ℕ) (enough : (i : ℕ) (f : Function) → slice_get u.functions.items i ≡ Some f → (b : ℕ) (block : Block) → slice_get f.blocks.items b ≡ Some block → cost_on (lefts i) block.lines.items block.exit ≤ lefts i b) where
   abbrev functions : List Function
   functions = u.functions.items
 
+  abbrev numbers : ℕ → ℕ
+  numbers = beyond functions lefts
+
   abbrev labelled : ℕ → ℕ
-  labelled l = at functions statics layouts l
+  labelled = at functions lefts
 
   start_ranked : (after : After) → AreRanked labelled (start_code u.main) after
   start_ranked after = (
@@ -75,49 +84,76 @@ module _ (u : Code) (statics : List ℕ) (layouts : List Layout) (parts : List P
       label = λ l e. absurd cc;
       goes = (entry_label u.main, refl, record { cut = λ e. absurd (omega arith); call = λ e. omega arith; other = λ e. omega arith });
     },
-    exit_ranked (beyond functions statics layouts) after,
+    exit_ranked numbers after,
   )
 
-  function_part : (i : ℕ) (f : Function) → slice_get functions i ≡ Some f → (part : Part) (after : After) → IsPart parts (part_of i) part → AreRanked labelled (code_lines part.lines.items) after
-  function_part i f e part after is_part =
+  start_within : (top : ℕ) (after : After) → routine_rank ≤ top → AreWithin labelled top (start_code u.main) after
+  start_within top after le = ((λ jumps cut. absurd cc), exit_within numbers after top le)
+
+  block_facts : (i : ℕ) (f : Function) → slice_get functions i ≡ Some f → (b : ℕ) (block : Block) → slice_get f.blocks.items b ≡ Some block → BlockFacts (length functions) (lefts i) f b block
+  block_facts i f e b block g =
       let own = program.functions i f e in
-      let first : ℕ = first_label functions i in
-      let objects = at_of (given_at functions statics i f own.layout) in
-      let same : places functions statics layouts i f ≡ objects = ap (places_of functions statics i f) own.is_layout in
-      subst (λ z. AreRanked labelled z after) (sym (code_is parts (part_of i) part own.code is_part own.there ∙ own.selection.exact.lines_are))
-      (function_ranked labelled objects (least_entries own.selection.exact.live f.blocks.items) (λ b j. entry_okay own.selection.exact.live (slice_get f.blocks.items b) j) (length functions) first own.layout.frame f (omega arith) (callees functions statics layouts)
-      (λ b h. at_block functions statics layouts i b f e h ∙ ap (λ p. block_rank p f b) same)
-      i after (slice_get_within functions i f e) own.selectable.entry (λ b block g.
       let closed = all_at (IsClosedBlock (given_at functions statics i f own.layout)) f.blocks.items b block own.selectable.closed g in
       let cuts = forced.each i f e in
       record {
-        is_block = g;
         inside = slice_get_within f.blocks.items b block g;
         calls = closed.calls;
         there = closed.edges;
-        descends = (ordered.each i f e).each b block g;
         cuts = cuts.calls b block g;
-        turn = cuts.turns b block g;
+        most = enough i f e b block g;
         entry = λ q. cuts.entry block (ap (slice_get f.blocks.items) (sym q) ∙ g);
-      }))
+      }
 
-  known_part : (p : ℕ) (part : Part) (after : After) (code : List CodeLine) → IsPart parts p part → HasCode parts p code → AreRanked labelled code after → AreRanked labelled (code_lines part.lines.items) after
-  known_part p part after code is_part c s = subst (λ z. AreRanked labelled z after) (sym (code_is parts p part code is_part c)) s
+  function_ranks : (i : ℕ) (f : Function) (e : slice_get functions i ≡ Some f) (after : After) → AreRanked labelled (program.functions i f e).code after
+  function_ranks i f e after =
+      let own = program.functions i f e in
+      let objects = at_of (given_at functions statics i f own.layout) in
+      subst (λ z. AreRanked labelled z after) (sym own.selection.exact.lines_are)
+      (function_ranked labelled objects (least_entries own.selection.exact.live f.blocks.items) (λ b j. entry_okay own.selection.exact.live (slice_get f.blocks.items b) j) (length functions) (first_label functions i) own.layout.frame (lefts i) f (omega arith) (callees functions lefts) (λ b h. at_block functions lefts i b f e h)
+      i after (slice_get_within functions i f e) own.selectable.entry (block_facts i f e))
 
-  -- behind recovery and the checkpoint
+  -- behind each cut so little is left
+  abbrev IsLittle : ℕ → Type 0
+  IsLittle top = (i : ℕ) (f : Function) → slice_get functions i ≡ Some f → (b : ℕ) (block : Block) → slice_get f.blocks.items b ≡ Some block → (before : List BlockLine) (cause : Cause) (rest : List BlockLine) → block.lines.items ≡ before ++ Cut cause ∷ rest → block_base + cost_on (lefts i) rest block.exit ≤ top
+
+  function_bounds : (top : ℕ) → IsLittle top → (i : ℕ) (f : Function) (e : slice_get functions i ≡ Some f) (after : After) → AreWithin labelled top (program.functions i f e).code after
+  function_bounds top little i f e after =
+      let own = program.functions i f e in
+      let objects = at_of (given_at functions statics i f own.layout) in
+      subst (λ z. AreWithin labelled top z after) (sym own.selection.exact.lines_are)
+      (function_within labelled objects (least_entries own.selection.exact.live f.blocks.items) (λ b j. entry_okay own.selection.exact.live (slice_get f.blocks.items b) j) (length functions) (first_label functions i) own.layout.frame (lefts i) f (omega arith) (callees functions lefts) (λ b h. at_block functions lefts i b f e h)
+      top i after (λ b block g. (block_facts i f e b block g, little i f e b block g)))
+
+  -- what holds of the lines of each of these parts
+  module _ (P : List CodeLine → Type 0) (gets : P getchar) (puts : P putchar) (stops : P stack) (starts : P (start_code u.main)) (each : (i : ℕ) (f : Function) (e : slice_get functions i ≡ Some f) → P (program.functions i f e).code) where
+    known : (p : ℕ) (part : Part) (code : List CodeLine) → IsPart parts p part → HasCode parts p code → P code → P (code_lines part.lines.items)
+    known p part code is_part c s = subst P (sym (code_is parts p part code is_part c)) s
+
+    -- behind recovery and the checkpoint
+    each_part : (p : ℕ) (part : Part) → IsPart parts (suc (suc p)) part → P (code_lines part.lines.items)
+    each_part zero part e = known 2 part getchar e program.gets gets
+    each_part (suc zero) part e = known 3 part putchar e program.puts puts
+    each_part (suc (suc zero)) part e = known 4 part stack e program.stops stops
+    each_part (suc (suc (suc i))) part e = elim (slice_get_cases functions i).1 [
+      | inl c ↦
+          (let q : suc (suc (suc (suc (suc i)))) ≡ part_of i = omega arith in
+          let own = program.functions i c.0 c.2 in
+          known (part_of i) part own.code (subst (λ z. IsPart parts z part) q e) own.there (each i c.0 c.2))
+      | inr c ↦
+          (let le = c.0 in
+          let count = program.count in
+          let within = slice_get_within parts (suc (suc (suc (suc (suc i))))) part e in
+          let q : suc (suc (suc (suc (suc i)))) ≡ part_of (length functions) = omega arith in
+          known (part_of (length functions)) part (start_code u.main) (subst (λ z. IsPart parts z part) q e) program.begins starts)
+    ]
+
   part_ranked : (p : ℕ) (part : Part) (after : After) → IsPart parts (suc (suc p)) part → AreRanked labelled (code_lines part.lines.items) after
-  part_ranked zero part after e = known_part 2 part after _ e program.gets (getchar_ranked (beyond functions statics layouts) after)
-  part_ranked (suc zero) part after e = known_part 3 part after _ e program.puts (putchar_ranked (beyond functions statics layouts) after)
-  part_ranked (suc (suc zero)) part after e = known_part 4 part after _ e program.stops (stack_ranked (beyond functions statics layouts) after)
-  part_ranked (suc (suc (suc i))) part after e = elim (slice_get_cases functions i).1 [
-    | inl c ↦ (let q : suc (suc (suc (suc (suc i)))) ≡ part_of i = omega arith in function_part i c.0 c.2 part after (subst (λ z. IsPart parts z part) q e))
-    | inr c ↦
-        (let le = c.0 in
-        let count = program.count in
-        let within = slice_get_within parts (suc (suc (suc (suc (suc i))))) part e in
-        let q : suc (suc (suc (suc (suc i)))) ≡ part_of (length functions) = omega arith in
-        known_part (part_of (length functions)) part after (start_code u.main) (subst (λ z. IsPart parts z part) q e) program.begins (start_ranked after))
-  ]
+  part_ranked p part after e =
+      each_part (λ z. AreRanked labelled z after) (getchar_ranked numbers after) (putchar_ranked numbers after) (stack_ranked numbers after) (start_ranked after) (λ i f g. function_ranks i f g after) p part e
+
+  part_within : (top p : ℕ) (part : Part) (after : After) → routine_rank ≤ top → IsLittle top → IsPart parts (suc (suc p)) part → AreWithin labelled top (code_lines part.lines.items) after
+  part_within top p part after le little e =
+      each_part (λ z. AreWithin labelled top z after) (getchar_within numbers after top le) (putchar_within numbers after top le) (stack_within numbers after top le) (start_within top after le) (λ i f g. function_bounds top little i f g after) p part e
 
   -- ---- linked
 
@@ -154,21 +190,57 @@ module _ (u : Code) (statics : List ℕ) (layouts : List Layout) (parts : List P
     abbrev ranked : ℕ → ℕ
     ranked i = rank (lines_of parts) (lines_of (others parts)) code.words.items labelled laid_out i
 
-    first_resumes : IsResumeWord code.words.items code.entry (first_of parts (last_of parts))
+    ranks_fall : (i j : ℕ) → Flow code.words.items i j → ranked j < ranked i
+    ranks_fall i j flow = falls (lines_of parts) (lines_of (others parts)) code.words.items labelled laid_out i j flow
+
+    abbrev first : ℕ
+    first = first_of parts (last_of parts)
+
+    first_resumes : IsResumeWord code.words.items code.entry first
     first_resumes = record { inside = linked.inside; is = inl (sym linked.entry) }
 
     has_gap : HasGap code.words.items code.entry
     has_gap = record {
-      first = first_of parts (last_of parts);
+      first = first;
       resumes = first_resumes;
       bound = top_of ranked (length code.words.items);
-      bounded = rank_law code.words.items code.entry (top_of ranked (length code.words.items)) ranked
-          (λ i j flow. falls (lines_of parts) (lines_of (others parts)) code.words.items labelled laid_out i j flow)
-          (λ i r. top_above ranked (length code.words.items) i r.inside);
+      bounded = rank_law code.words.items code.entry (top_of ranked (length code.words.items)) ranked ranks_fall (λ i r. top_above ranked (length code.words.items) i r.inside);
     }
 
     pub whole : HasShortGap code.words.items code.entry
     whole = record { has = has_gap; short = λ k g. bounded code.words.items code.entry k g }
 
-pub linked_gap : LinkedGapLaw
-linked_gap u statics layouts parts program ordered forced code linkable linked = whole u statics layouts parts program ordered forced code linkable linked
+    -- ---- sections
+
+    -- the run begins with a call
+    first_rank : ranked first ≡ suc entry_rank
+    first_rank =
+        let n : ℕ = length functions in
+        let count = program.count in
+        let last : last_of parts ≡ part_of n = omega arith in
+        let c = program.begins in
+        let call : CodeLine = aimed (entry_label u.main) (jumping 1 0) in
+        let t : slice_get (code_lines c.part.lines.items) 0 ≡ Some call = ap (λ z. slice_get z 0) c.lines in
+        let b = behind c.part.lines.items 0 call t in
+        let at_first : first_of parts (part_of n) + 0 ≡ first = (let z = ap (first_of parts) last in omega arith) in
+        let there : slice_get (lines_of parts) first ≡ Some b.line = sym (ap (slice_get (lines_of parts)) at_first) ∙ line_in parts (part_of n) 0 c.part b.line c.is_part b.there in
+        call_rank (lines_of parts) (lines_of (others parts)) code.words.items labelled laid_out first (entry_label u.main) b.line there
+        (ap (λ (z : CodeLine). z.target) b.is) (ap (λ (z : CodeLine). way z.line.op) b.is) (ap (λ (z : CodeLine). z.line.rd) b.is)
+        ∙ ap suc ((callees functions lefts).entries u.main program.main)
+
+    module _ (top : ℕ) (high : suc entry_rank ≤ top) (little : IsLittle top) where
+      all_within : AreWithin labelled top (code_lines (lines_of (others parts))) nothing
+      all_within = parts_within labelled top (others parts) nothing (λ p part after e. part_within top p part after (omega arith) little (other_part parts p part e))
+
+      resumed : (i : ℕ) → IsResumeWord code.words.items code.entry i → ranked i ≤ top
+      resumed i r = elim r.is [
+        | inl e ↦
+            (let entry = linked.entry in
+            let there : i ≡ first = omega arith in
+            let is : ranked i ≡ suc entry_rank = ap ranked there ∙ first_rank in
+            omega arith)
+        | inr b ↦ behind_cut (lines_of parts) (lines_of (others parts)) code.words.items labelled laid_out top i all_within b
+      ]
+
+      pub within : IsBounded code.words.items code.entry top
+      within = rank_law code.words.items code.entry top ranked ranks_fall resumed

@@ -3,4 +3,4 @@
 
 mod laws;
 
-pub use laws::linked_gap_law;
+pub use laws::{linked_gap_law, linked_short_law};

@@ -16,14 +16,14 @@ use Rattle.im_block.specs.declared.unit.Function.{Function}
 use Rattle.im_block.specs.Meaning.{Site, Spot, at_block}
 use Rattle.im_block.specs.Paths.{Step, WriteStep, steps_of, IsCut, IsEdge, spot, Path, Here, Along, Across, IsEntry, AfterCut, Begins}
 use Rattle.im_block.specs.Shape.{Descends, IsOrdered, with_cut}
-use Rattle.im_block.specs.Forced.{EndsWithCut, CutAtTurn}
+use Rattle.im_block.specs.Forced.{CutAtTurn}
 use Rattle.im_block.specs.Uncut.{WithCuts, Empty as NoLines, Same as SameLine, Added as AddedCut, SameFunction}
-use Rattle.im_cut.specs.Greedy.{cause_of, causes_of_blocks, BehindCut, Starts, IsDue, CutLines, Empty, Same, Added, CutBlocks, CutsTo}
+use Rattle.im_cut.specs.Greedy.{cause_of, causes_of_blocks, BehindCut, IsDue, CutLines, Empty, Same, Added, CutBlocks, CutsTo}
 use Rattle.im_cut_gap.specs.Costs.{leave_cost, CostPath}
 use Rattle.im_cut_gap.specs.Costs as costs
 use Rattle.im_cut_gap.specs.Remaining.{LiesOn}
 use Rattle.im_cut_gap.proofs.Costs.{some_same}
-use Rattle.im_cut_gap.proofs.Further.{twin, Follows, follows}
+use Rattle.im_cut_gap.proofs.Further.{twin, follows}
 use Rattle.im_cut_gap.proofs.Remaining.{turn_rest, turn_suffix}
 
 -- ---- where a path comes to
@@ -250,16 +250,16 @@ module _ (tags : Tags) (old new : Function) (added : List Dep) (same : SameFunct
       let c = costed new.blocks.items t path (spot s.block (Cut (cause_of a.is.d) ∷ s.rest) s.exit) q in
       let none : l.cost ≡ l.cost + 0 = omega arith in
       let r = follows old new same l.start t l.cost c.0 (spot s.block (Cut (cause_of a.is.d) ∷ s.rest) s.exit) (record { rest = l.rest; path = subst (λ (m : ℕ). CostPath old.blocks.items l.start m (spot t.block l.rest t.exit)) none l.path; more = l.more }) c.1 in
-      ends r.rest (l.cost + c.0) r.path r.more refl
+      ends r.rest (l.cost + c.0) r.path (Cut (cause_of a.is.d) ∷ s.rest) r.more refl
     where
-      ends : (left : List Line) (n : ℕ) → CostPath old.blocks.items l.start n (spot s.block left s.exit) → (longer : List Line) → WithCuts left longer → longer ≡ Cut (cause_of a.is.d) ∷ s.rest → LiesOn old s
-      ends left n p longer NoLines e = cc
-      ends left n p longer (SameLine line x y h) e =
+      ends : (left : List Line) (n : ℕ) → CostPath old.blocks.items l.start n (spot s.block left s.exit) → (lines : List Line) → WithCuts left lines → lines ≡ Cut (cause_of a.is.d) ∷ s.rest → LiesOn old s
+      ends left n p lines NoLines e = cc
+      ends left n p lines (SameLine line x y h) e =
           let head : line ≡ Cut (cause_of a.is.d) = cc in
           let tail : y ≡ s.rest = cc in
           let k = stands old.blocks.items l.start (begin_stands old l.start l.begins) n (spot s.block (line ∷ x) s.exit) p in
           at_start s x (inr (record { block = k.block; before = k.before; cut = line; at = k.at; lines = k.lines; is_cut = subst IsCut (sym head) tt; exit = k.exit })) (subst (WithCuts x) tail h)
-      ends left n p longer (AddedCut cause x y h) e =
+      ends left n p lines (AddedCut cause x y h) e =
           let tail : y ≡ s.rest = cc in
           record { start = l.start; begins = l.begins; cost = n; rest = left; path = p; more = subst (WithCuts left) tail h }
 

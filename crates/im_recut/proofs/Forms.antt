@@ -1,5 +1,5 @@
 -- Functions with gap cuts: their edges, and the cuts before their loop edges.
-use Rattle.std.proofs.Common.{◌≡◌, ℕ, zero, suc, List, [], ◌∷◌, Option, Some, None, refl, sym, ap, ◌∙◌, subst}
+use Rattle.std.proofs.Common.{◌≡◌, ℕ, List, [], ◌∷◌, Option, Some, None, refl, sym, ap, ◌∙◌, subst}
 use Rattle.std.specs.Prelude.{slice_get}
 use Rattle.im_block.specs.declared.code.Line.{Line}
 use Rattle.im_block.specs.declared.code.Line.TheVariants.{Cut}
@@ -37,18 +37,18 @@ gaps_same law (Some gap) old new h = law (cost_limit gap) old new h
 lines_twice : (a b c : List Line) → WithCuts a b → WithCuts b c → WithCuts a c
 lines_twice a b c h Empty = h
 lines_twice a b c h (Added cause x y k) = Added cause a y (lines_twice a x y h k)
-lines_twice a b c h (Same line x y k) = under a (line ∷ x) h refl
+lines_twice a b c h (Same line x y k) = under (λ i g. lines_twice i x y g k) a (line ∷ x) h refl
   where
-    under : (p q : List Line) → WithCuts p q → q ≡ line ∷ x → WithCuts p (line ∷ y)
-    under p q Empty e = cc
-    under p q (Same l i j g) e =
+    under : ((i : List Line) → WithCuts i x → WithCuts i y) → (p q : List Line) → WithCuts p q → q ≡ line ∷ x → WithCuts p (line ∷ y)
+    under again p q Empty e = cc
+    under again p q (Same l i j g) e =
         let head : l ≡ line = cc in
         let tail : j ≡ x = cc in
-        subst (λ (t : Line). WithCuts (t ∷ i) (line ∷ y)) (sym head) (Same line i y (lines_twice i x y (subst (WithCuts i) tail g) k))
-    under p q (Added cause i j g) e =
+        subst (λ (t : Line). WithCuts (t ∷ i) (line ∷ y)) (sym head) (Same line i y (again i (subst (WithCuts i) tail g)))
+    under again p q (Added cause i j g) e =
         let head : Cut cause ≡ line = cc in
         let tail : j ≡ x = cc in
-        subst (λ (t : Line). WithCuts p (t ∷ y)) head (Added cause p y (lines_twice p x y (subst (WithCuts p) tail g) k))
+        subst (λ (t : Line). WithCuts p (t ∷ y)) head (Added cause p y (again p (subst (WithCuts p) tail g)))
 
 blocks_twice : (xs ys zs : List Block) → SameBlocks xs ys → SameBlocks ys zs → SameBlocks xs zs
 blocks_twice [] [] [] h k = tt

@@ -14,7 +14,7 @@ use Rattle.im_cut_gap.specs.Costs.{NoneLonger}
 use Rattle.im_cut_gap.specs.Laws.{GapSameLaw, GapApartLaw}
 use Rattle.im_cut_gap.specs.Remaining.{FurtherLaw}
 use Rattle.im_recut.specs.Recut.{IsGapLimit, cost_limit, GapsTo, RecutsFunction, RecutsFunctions, RecutsTo}
-use Rattle.im_recut.specs.Laws.{AllShort, RecutKeepsLaw}
+use Rattle.im_recut.specs.Laws.{AllWithinGap, RecutKeepsLaw}
 use Rattle.im_recut.proofs.Forms.{gaps_same, twice_same, ordered, turns}
 use Rattle.im_recut.proofs.Behind.{begin_lies}
 
@@ -63,7 +63,7 @@ function_short same gap_same further tags gap f g h order turn =
     let turn_now = turns h.gapped g second (turns f h.gapped first turn) in
     further (cost_limit gap) h.gapped g second (begin_lies tags h.gapped g h.added second h.cuts order_now turn_now) h.gaps.bounded
 
-all_short : SameLaw → GapSameLaw → FurtherLaw → (tags : Tags) (max_gap : Option ℕ) (old new : Code) → RecutsTo tags max_gap old new → AllOrdered old → AllForced old → AllShort max_gap new
+all_short : SameLaw → GapSameLaw → FurtherLaw → (tags : Tags) (max_gap : Option ℕ) (old new : Code) → RecutsTo tags max_gap old new → AllOrdered old → AllForced old → AllWithinGap max_gap new
 all_short same gap_same further tags None old new h order forced = tt
 all_short same gap_same further tags (Some gap) old new h order forced = λ i g at.
     let m = made tags (Some gap) old.functions.items new.functions.items h.functions i g at in

@@ -12,12 +12,12 @@ use Rattle.im_cut_gap.specs.Costs.{NoneLonger}
 use Rattle.im_recut.specs.Recut.{RecutsTo, cost_limit}
 
 -- where a longest gap was asked for, no path of a function without a cut costs more than is left for it
-abbrev pub AllShort : Option ℕ → Code → Type 0
-AllShort None u = Unit {0}
-AllShort (Some gap) u = (i : ℕ) (f : Function) → slice_get u.functions.items i ≡ Some f → NoneLonger (cost_limit gap) f
+abbrev pub AllWithinGap : Option ℕ → Code → Type 0
+AllWithinGap None u = Unit {0}
+AllWithinGap (Some gap) u = (i : ℕ) (f : Function) → slice_get u.functions.items i ≡ Some f → NoneLonger (cost_limit gap) f
 
 pub record RecutKeepsLaw : Type 0 where
   pub same : (tags : Tags) (max_gap : Option ℕ) (old new : Code) → RecutsTo tags max_gap old new → SameButCuts old new
   pub sectioned : (tags : Tags) (max_gap : Option ℕ) (old new : Code) → RecutsTo tags max_gap old new → AllSectioned tags new
   pub apart : (tags : Tags) (max_gap : Option ℕ) (old new : Code) → RecutsTo tags max_gap old new → AllApart old → AllApart new
-  pub short : (tags : Tags) (max_gap : Option ℕ) (old new : Code) → RecutsTo tags max_gap old new → AllOrdered old → AllForced old → AllShort max_gap new
+  pub short : (tags : Tags) (max_gap : Option ℕ) (old new : Code) → RecutsTo tags max_gap old new → AllOrdered old → AllForced old → AllWithinGap max_gap new

@@ -52,11 +52,7 @@ fn recut_function(
 }
 
 /// The gap cuts of one function, if a longest gap is asked for.
-fn bound_gaps(
-    alloc: Global,
-    function: &mut Function,
-    max_gap: Option<u32>,
-) -> Result<(), NoMemory>
+fn bound_gaps(alloc: Global, function: &mut Function, max_gap: Option<u32>) -> Result<(), NoMemory>
     requires ordered { IsOrdered function.old.blocks.items }
     requires turns { (b : ℕ) (block : Block) → slice_get function.old.blocks.items b ≡ Some block → CutAtTurn block.exit block.lines.items }
     requires limit { IsGapLimit max_gap }

@@ -8,6 +8,7 @@ use Rattle.im_block.specs.declared.unit.Static.{Static as StaticOf}
 use Rattle.im_block.specs.Meaning.{static_of}
 use Rattle.im_frame.specs.declared.layout.Layout.{Layout}
 use Rattle.im_compile.proofs.Faulty.{HasPlaces, of_linking}
+use Rattle.im_compile.proofs.Short.{gap_within}
 use Rattle.im_compile.proofs.Layouts.{names_count, assemblable, room_of, layouts_at, places_at}
 use Rattle.im_compile.proofs.compiling.finished.Goals as goal
 
@@ -74,6 +75,7 @@ returns c prog p =
       linked = c.in_ok-linked.linked.code;
       link = l.link;
       measure = c.in_ok-gap.ensures;
+      short = gap_within c.linked_short_law.ensures prog c.args.options.max_gap unit c.deref-2.result.now c.deref.result.now l.parts c.requires.options.gap p.ready l.assemble c.in_ok-linked.linked.code l.linkable l.link c.in_ok-gap.gap c.in_ok-gap.ensures;
       pack = subst (λ (k : List ℕ). IsPacked unit k c.in_ok-linked.linked.code c.args.options.stack c.args.options.out_cap c.in_ok-image.image) c.deref-5.ensures.value (c.in_ok-image.ensures unit (sym same));
       is_image = search rules;
       frames = p.frames;

@@ -17,6 +17,7 @@ returns c source prog options built ready is_built =
         reaching = passes.reaching;
         measure = kept.measure;
         short = kept.gap;
+        within = is_built.short;
         small = passes.small;
         frames = frames prog options built is_built passes.frames_fit;
         cuts = kept.cuts;
