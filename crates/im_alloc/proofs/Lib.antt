@@ -1,7 +1,6 @@
-pub mod Assigned
 pub mod Beyond
-pub mod Lives
+pub mod Placed
 pub mod Plain
 pub mod Steps
-pub mod Valid
+pub mod Wanted
 pub mod Whole

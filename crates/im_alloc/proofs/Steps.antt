@@ -13,7 +13,8 @@ use Rattle.im_alloc_relation.specs.Homes.{Home, numbers_kept, into, bring, put_l
 use Rattle.im_alloc_relation.specs.Placing.{PlacedBlock, PlacedBlocks}
 use Rattle.im_alloc_laws.specs.Numbered.{numbers_of_blocks}
 use Rattle.im_alloc.specs.Parts.{Adds, calls, left_to_put, keeps_loop_cut, puts_line, AddsLines}
-use Rattle.im_alloc.specs.Slots.{home_in, SlotsFunction, SlotsFunctions, numbers_of}
+use Rattle.im_alloc_intervals.specs.Homes.{home_at}
+use Rattle.im_alloc.specs.Places.{PlacesFunction, PlacesFunctions, numbers_of}
 
 -- what holds of all old items holds of one that is as it was
 pub item_all : {X : Type 0} (P : X → Type 0) (xs ys : List X) (i : ℕ) (d : X) → i < length ys → drop i ys ≡ drop i xs → All P xs → P (get_or ys i d)
@@ -159,29 +160,45 @@ blocks_more h n (suc i) (a ∷ xs) (b ∷ ys) d y lt done left one =
     let counted = m.counted in
     record { done = (done.0, m.done); left = m.left; counted = omega arith }
 
+pub blocks_done : (h : ℕ → Home) (n i : ℕ) (xs ys : List Block) → length ys ≤ i → PlacedBlocks h n (take i xs) (take i ys) → drop i ys ≡ drop i xs → PlacedBlocks h n xs ys
+blocks_done h n i [] [] le done left = tt
+blocks_done h n zero [] (y ∷ ys) le done left = absurd (omega arith)
+blocks_done h n (suc i) [] (y ∷ ys) le done left = absurd done
+blocks_done h n zero (x ∷ xs) [] le done left = absurd cc
+blocks_done h n (suc i) (x ∷ xs) [] le done left = absurd done
+blocks_done h n zero (x ∷ xs) (y ∷ ys) le done left = absurd (omega arith)
+blocks_done h n (suc i) (x ∷ xs) (y ∷ ys) le done left = (done.0, blocks_done h (n + numbers_kept * suc (length (needed x.exit x.lines.items))) i xs ys (omega arith) done.1 left)
+
 -- functions
 
 pub record FunctionsMore (n j count : ℕ) (fs gs : List Function) : Type 0 where
-  pub done : SlotsFunctions n (take j fs) (take j gs)
+  pub done : PlacesFunctions n (take j fs) (take j gs)
   pub left : drop j gs ≡ drop j fs
   pub counted : numbers_of (take j fs) ≡ count
 
-whole : (n m next : ℕ) (f g : Function) → n ≡ m → SlotsFunction n next f g → SlotsFunction m (m + numbers_of_blocks f.blocks.items) f g
-whole n m next f g e h = record { blocks = subst (λ k. PlacedBlocks (home_in f.parameters f.register_count) k f.blocks.items g.blocks.items) e h.blocks; rest = h.rest; next_is = refl }
+whole : (n m next : ℕ) (f g : Function) → n ≡ m → PlacesFunction n next f g → PlacesFunction m (m + numbers_of_blocks f.blocks.items) f g
+whole n m next f g e s = record {
+  homes = s.homes;
+  suits = s.suits;
+  leaf = s.leaf;
+  blocks = subst (λ k. PlacedBlocks (home_at s.homes.of.items) k f.blocks.items g.blocks.items) e s.blocks;
+  rest = s.rest;
+  next_is = refl;
+}
 
-pub functions_more : (n i next : ℕ) (xs ys : List Function) (d y : Function) → i < length ys → SlotsFunctions n (take i xs) (take i ys) → drop i ys ≡ drop i xs → SlotsFunction (n + numbers_of (take i xs)) next (get_or ys i d) y → FunctionsMore n (suc i) (numbers_of (take i xs) + numbers_of_blocks (get_or ys i d).blocks.items) xs (slice_set ys i y)
+pub functions_more : (n i next : ℕ) (xs ys : List Function) (d y : Function) → i < length ys → PlacesFunctions n (take i xs) (take i ys) → drop i ys ≡ drop i xs → PlacesFunction (n + numbers_of (take i xs)) next (get_or ys i d) y → FunctionsMore n (suc i) (numbers_of (take i xs) + numbers_of_blocks (get_or ys i d).blocks.items) xs (slice_set ys i y)
 functions_more n zero next xs [] d y lt done left one = absurd (omega arith)
 functions_more n zero next [] (b ∷ ys) d y lt done left one = cc
 functions_more n zero next (a ∷ xs) (b ∷ ys) d y lt done left one =
     let same : a ≡ b = cc in
     let rest : ys ≡ xs = cc in
-    let first : SlotsFunction n (n + numbers_of_blocks a.blocks.items) a y = subst (λ (z : Function). SlotsFunction n (n + numbers_of_blocks z.blocks.items) z y) (sym same) (whole (n + 0) n next b y (omega arith) one) in
+    let first : PlacesFunction n (n + numbers_of_blocks a.blocks.items) a y = subst (λ (z : Function). PlacesFunction n (n + numbers_of_blocks z.blocks.items) z y) (sym same) (whole (n + 0) n next b y (omega arith) one) in
     let count : numbers_of_blocks a.blocks.items ≡ numbers_of_blocks b.blocks.items = ap (λ (z : Function). numbers_of_blocks z.blocks.items) same in
     record { done = (first, tt); left = rest; counted = omega arith }
 functions_more n (suc i) next xs [] d y lt done left one = absurd (omega arith)
 functions_more n (suc i) next [] (b ∷ ys) d y lt done left one = absurd done
 functions_more n (suc i) next (a ∷ xs) (b ∷ ys) d y lt done left one =
     let k : ℕ = numbers_of_blocks a.blocks.items in
-    let m = functions_more (n + k) i next xs ys d y (omega arith) done.1 left (subst (λ q. SlotsFunction q next (get_or ys i d) y) (omega arith) one) in
+    let m = functions_more (n + k) i next xs ys d y (omega arith) done.1 left (subst (λ q. PlacesFunction q next (get_or ys i d) y) (omega arith) one) in
     let counted = m.counted in
     record { done = (done.0, m.done); left = m.left; counted = omega arith }

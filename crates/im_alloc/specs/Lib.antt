@@ -1,4 +1,5 @@
+pub mod Leaves
 pub mod Numbers
 pub mod Parts
+pub mod Places
 pub mod Sample
-pub mod Slots

@@ -12,10 +12,10 @@ use Rattle.im_alloc_relation.specs.Homes.{Home, numbers_kept, load, reg, save, o
 abbrev pub Adds : (List Line → List Line) → List Line → List Line → Type 0
 Adds piece old new = (rest : List Line) → new ++ rest ≡ old ++ piece rest
 
--- a call's arguments are registers of the function, and at most eight
-abbrev pub Fits : ℕ → Line → Type 0
-Fits count (Call to i first given) = (first + given ≤ count) × (given ≤ 8)
-Fits count line = Unit {0}
+-- a call has at most eight arguments
+abbrev pub Fits : Line → Type 0
+Fits (Call to i first given) = given ≤ 8
+Fits line = Unit {0}
 
 abbrev pub pointer_in : Place → Option ℕ
 pointer_in (Static object offset) = None

@@ -1,42 +1,25 @@
 ghost use Rattle.std.specs.Prelude.{◌≡◌};
 ghost use Rattle.im_alloc_relation.specs.Homes.{reg};
-ghost use Rattle.im_alloc.specs.Slots.{home_of, home_in};
+ghost use Rattle.im_alloc_intervals.specs.Homes.{home_of, home_at};
 
-/// Where a virtual register's value is kept.
-#[derive(Clone, Copy, PartialEq, Eq, Debug)]
-pub(crate) enum Home {
-    Register(u32),
-    Slot(u32),
-}
+use im_alloc_intervals::Home;
 
-/// The homes of a function's registers: the parameters stay in x10 and on, in which they come; each
-/// other register has the slot of its number.
-#[derive(Clone, Copy, PartialEq, Eq, Debug)]
-pub(crate) struct Homes {
-    pub(crate) parameters: u8,
-    pub(crate) count: u32,
-}
-
-impl Homes {
-    pub(crate) fn home(self, register: u32) -> Home
-        ensures { home_of result ≡ home_in self.parameters self.count register }
-    {
-        if register < u32::from(self.parameters) {
-            Home::Register(10 + register)
-        } else if register < self.count {
-            Home::Slot(register)
-        } else {
-            Home::Register(31)
-        }
+/// Where a register's value is kept. A number beyond the table is in x31.
+pub(crate) fn home_at(homes: &[Home], register: usize) -> Home
+    ensures { home_of result ≡ home_at homes.now register }
+{
+    match homes.get(register) {
+        Some(home) => *home,
+        None => Home::Register(31),
     }
+}
 
-    /// The register that a value is in once it was brought from its home.
-    pub(crate) fn register(self, register: u32, scratch: u32) -> u32
-        ensures { result ≡ reg (home_in self.parameters self.count register) scratch }
-    {
-        match self.home(register) {
-            Home::Register(own) => own,
-            Home::Slot(_) => scratch,
-        }
+/// The register that a value is in once it was brought from its home.
+pub(crate) fn register_at(homes: &[Home], register: u32, scratch: u32) -> u32
+    ensures { result ≡ reg (home_at homes.now register) scratch }
+{
+    match home_at(homes, register as usize) {
+        Home::Register(own) => own,
+        Home::Slot(_) => scratch,
     }
 }

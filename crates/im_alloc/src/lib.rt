@@ -1,4 +1,4 @@
-//! From block code to placed code: each register in a slot of its own, parameters where they come.
+//! From block code to placed code: each register in its home, one of the machine's or a slot.
 #![tactic(auto)]
 
 mod exits;

@@ -1,55 +1,61 @@
 ghost use Rattle.std.specs.Prelude.{◌≡◌, ◌<◌, ◌+◌, ◌*◌, ◌^◌, All, IfOk, OnOk, length};
 ghost use Rattle.im_alloc_relation.specs.Homes.{put_line};
-ghost use Rattle.im_alloc.specs.Slots.{homes_are};
+ghost use Rattle.im_alloc_intervals.specs.Homes.{home_at};
 ghost use Rattle.im_alloc.specs.Parts.{Adds, AddsLines, Fits, load_some, save_some, plain_line};
 ghost use Rattle.im_alloc.specs.Parts.{calls, keeps_loop_cut, puts_line};
 
-use crate::homes::Homes;
+use crate::homes::home_at;
 use crate::numbers::behind;
 use crate::operands::{first_of, in_registers, second_of, target_of};
 use crate::pieces::{push, push_arguments, push_call, push_into, push_load, push_save};
+use im_alloc_intervals::Home;
 use im_block::{Exit, Line};
 use im_num::NoMemory;
 
 fn push_operand(
     lines: &mut Vec<Line>,
-    homes: Homes,
+    homes: &[Home],
     operand: Option<u32>,
     scratch: u32,
     access: u64,
 ) -> Result<(), NoMemory>
     ensures { OnOk result
         (Adds
-        (load_some (homes_are homes) operand scratch access)
+        (load_some (home_at homes.now) operand scratch access)
         lines.old.items
         lines.new.items) }
 {
     match operand {
         None => Ok(()),
-        Some(register) => push_load(lines, homes.home(register), scratch, access),
+        Some(register) => push_load(lines, home_at(homes, register as usize), scratch, access),
     }
 }
 
 fn push_result(
     lines: &mut Vec<Line>,
-    homes: Homes,
+    homes: &[Home],
     to: Option<u32>,
     access: u64,
 ) -> Result<(), NoMemory>
     ensures { OnOk result
-        (Adds (save_some (homes_are homes) to access) lines.old.items lines.new.items) }
+        (Adds (save_some (home_at homes.now) to access) lines.old.items lines.new.items) }
 {
     match to {
         None => Ok(()),
-        Some(register) => push_save(lines, homes.home(register), access),
+        Some(register) => push_save(lines, home_at(homes, register as usize), access),
     }
 }
 
 /// A line that is no call: its operands come, it works on registers, its result goes home.
-fn push_plain(lines: &mut Vec<Line>, homes: Homes, number: u64, line: Line) -> Result<(), NoMemory>
+fn push_plain(
+    lines: &mut Vec<Line>,
+    homes: &[Home],
+    number: u64,
+    line: Line,
+) -> Result<(), NoMemory>
     requires { number + 16 < 2 ^ 64 }
     ensures { OnOk result
-        (Adds (plain_line (homes_are homes) number line) lines.old.items lines.new.items) }
+        (Adds (plain_line (home_at homes.now) number line) lines.old.items lines.new.items) }
 {
     push_operand(lines, homes, first_of(line), 7, number)?;
     push_operand(lines, homes, second_of(line), 8, number + 1)?;
@@ -60,14 +66,14 @@ fn push_plain(lines: &mut Vec<Line>, homes: Homes, number: u64, line: Line) -> R
 /// What a line becomes. It takes its numbers from those that `number` begins.
 pub(crate) fn push_line(
     lines: &mut Vec<Line>,
-    homes: Homes,
+    homes: &[Home],
     number: u64,
     line: Line,
 ) -> Result<(), NoMemory>
-    requires fits { Fits homes.count line }
+    requires fits { Fits line }
     requires room { number + 16 < 2 ^ 64 }
     ensures { OnOk result
-        (Adds (put_line (homes_are homes) number line) lines.old.items lines.new.items) }
+        (Adds (put_line (home_at homes.now) number line) lines.old.items lines.new.items) }
 {
     match line {
         Line::Call {
@@ -83,16 +89,16 @@ pub(crate) fn push_line(
                 first: 10,
                 count,
             };
-            push_call(lines, call, homes.home(to), number + 2)
+            push_call(lines, call, home_at(homes, to as usize), number + 2)
         }
         Line::GetChar { to } => {
             let call = Line::GetChar { to: 10 };
-            push_call(lines, call, homes.home(to), number + 2)
+            push_call(lines, call, home_at(homes, to as usize), number + 2)
         }
         Line::PutChar { to, from } => {
-            push_into(lines, homes.home(from), 10, number)?;
+            push_into(lines, home_at(homes, from as usize), 10, number)?;
             let call = Line::PutChar { to: 10, from: 10 };
-            push_call(lines, call, homes.home(to), number + 2)
+            push_call(lines, call, home_at(homes, to as usize), number + 2)
         }
         Line::Reload { .. } | Line::Spill { .. } => Ok(()),
         _ => push_plain(lines, homes, number, line),
@@ -103,14 +109,14 @@ pub(crate) fn push_line(
 /// call came with the call.
 pub(crate) fn push_lines(
     lines: &mut Vec<Line>,
-    homes: Homes,
+    homes: &[Home],
     number: u64,
     old: &[Line],
     exit: Exit,
 ) -> Result<u64, NoMemory>
-    requires { All (Fits homes.count) old.now }
+    requires { All Fits old.now }
     ensures { IfOk result (λ next.
-        AddsLines (homes_are homes) number exit old.now next lines.old.items lines.new.items) }
+        AddsLines (home_at homes.now) number exit old.now next lines.old.items lines.new.items) }
 {
     let mut next = number;
     let mut behind_call = false;

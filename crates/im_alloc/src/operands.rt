@@ -1,11 +1,12 @@
 ghost use Rattle.std.specs.Prelude.{◌≡◌};
 ghost use Rattle.im_alloc_relation.specs.Homes.{on_place};
-ghost use Rattle.im_alloc.specs.Slots.{homes_are};
+ghost use Rattle.im_alloc_intervals.specs.Homes.{home_at};
 ghost use Rattle.im_alloc.specs.Parts.{pointer_in, first_operand, second_operand, target};
 ghost use Rattle.im_alloc.specs.Parts.{values_in, operators_in, pointers_in, places_in};
 ghost use Rattle.im_alloc.specs.Parts.{in_registers};
 
-use crate::homes::Homes;
+use crate::homes::register_at;
+use im_alloc_intervals::Home;
 use im_block::{Line, Place};
 
 fn pointer_of(place: Place) -> Option<u32>
@@ -71,55 +72,55 @@ pub(crate) fn target_of(line: Line) -> Option<u32>
     }
 }
 
-fn place_on(homes: Homes, place: Place) -> Place
-    ensures { result ≡ on_place (homes_are homes) place }
+fn place_on(homes: &[Home], place: Place) -> Place
+    ensures { result ≡ on_place (home_at homes.now) place }
 {
     match place {
         Place::Static { .. } | Place::Local { .. } => place,
         Place::Through { pointer, offset } => Place::Through {
-            pointer: homes.register(pointer, 7),
+            pointer: register_at(homes, pointer, 7),
             offset,
         },
     }
 }
 
-fn values_on(homes: Homes, line: Line) -> Line
-    ensures { result ≡ values_in (homes_are homes) line }
+fn values_on(homes: &[Home], line: Line) -> Line
+    ensures { result ≡ values_in (home_at homes.now) line }
 {
     match line {
         Line::Put { to, number } => Line::Put {
-            to: homes.register(to, 7),
+            to: register_at(homes, to, 7),
             number,
         },
         Line::PutNull { to } => Line::PutNull {
-            to: homes.register(to, 7),
+            to: register_at(homes, to, 7),
         },
         Line::Copy { to, from } => Line::Copy {
-            to: homes.register(to, 7),
-            from: homes.register(from, 7),
+            to: register_at(homes, to, 7),
+            from: register_at(homes, from, 7),
         },
         Line::Convert { to, kind, from } => Line::Convert {
-            to: homes.register(to, 7),
+            to: register_at(homes, to, 7),
             kind,
-            from: homes.register(from, 7),
+            from: register_at(homes, from, 7),
         },
         Line::Not { to, from } => Line::Not {
-            to: homes.register(to, 7),
-            from: homes.register(from, 7),
+            to: register_at(homes, to, 7),
+            from: register_at(homes, from, 7),
         },
         _ => line,
     }
 }
 
-fn operators_on(homes: Homes, line: Line) -> Line
-    ensures { result ≡ operators_in (homes_are homes) line }
+fn operators_on(homes: &[Home], line: Line) -> Line
+    ensures { result ≡ operators_in (home_at homes.now) line }
 {
     match line {
         Line::Unary { to, op, kind, from } => Line::Unary {
-            to: homes.register(to, 7),
+            to: register_at(homes, to, 7),
             op,
             kind,
-            from: homes.register(from, 7),
+            from: register_at(homes, from, 7),
         },
         Line::Compute {
             to,
@@ -128,11 +129,11 @@ fn operators_on(homes: Homes, line: Line) -> Line
             left,
             right,
         } => Line::Compute {
-            to: homes.register(to, 7),
+            to: register_at(homes, to, 7),
             op,
             kind,
-            left: homes.register(left, 7),
-            right: homes.register(right, 8),
+            left: register_at(homes, left, 7),
+            right: register_at(homes, right, 8),
         },
         Line::Compare {
             to,
@@ -141,18 +142,18 @@ fn operators_on(homes: Homes, line: Line) -> Line
             left,
             right,
         } => Line::Compare {
-            to: homes.register(to, 7),
+            to: register_at(homes, to, 7),
             op,
             kind,
-            left: homes.register(left, 7),
-            right: homes.register(right, 8),
+            left: register_at(homes, left, 7),
+            right: register_at(homes, right, 8),
         },
         _ => line,
     }
 }
 
-fn pointers_on(homes: Homes, line: Line) -> Line
-    ensures { result ≡ pointers_in (homes_are homes) line }
+fn pointers_on(homes: &[Home], line: Line) -> Line
+    ensures { result ≡ pointers_in (home_at homes.now) line }
 {
     match line {
         Line::Move {
@@ -162,11 +163,11 @@ fn pointers_on(homes: Homes, line: Line) -> Line
             pointer,
             by,
         } => Line::Move {
-            to: homes.register(to, 7),
+            to: register_at(homes, to, 7),
             size,
             back,
-            pointer: homes.register(pointer, 7),
-            by: homes.register(by, 8),
+            pointer: register_at(homes, pointer, 7),
+            by: register_at(homes, by, 8),
         },
         Line::Distance {
             to,
@@ -174,21 +175,21 @@ fn pointers_on(homes: Homes, line: Line) -> Line
             left,
             right,
         } => Line::Distance {
-            to: homes.register(to, 7),
+            to: register_at(homes, to, 7),
             size,
-            left: homes.register(left, 7),
-            right: homes.register(right, 8),
+            left: register_at(homes, left, 7),
+            right: register_at(homes, right, 8),
         },
         _ => line,
     }
 }
 
-fn places_on(homes: Homes, line: Line) -> Line
-    ensures { result ≡ places_in (homes_are homes) line }
+fn places_on(homes: &[Home], line: Line) -> Line
+    ensures { result ≡ places_in (home_at homes.now) line }
 {
     match line {
         Line::Address { to, place } => Line::Address {
-            to: homes.register(to, 7),
+            to: register_at(homes, to, 7),
             place: place_on(homes, place),
         },
         Line::Read {
@@ -197,7 +198,7 @@ fn places_on(homes: Homes, line: Line) -> Line
             kind,
             access,
         } => Line::Read {
-            to: homes.register(to, 7),
+            to: register_at(homes, to, 7),
             place: place_on(homes, place),
             kind,
             access,
@@ -210,7 +211,7 @@ fn places_on(homes: Homes, line: Line) -> Line
         } => Line::Write {
             place: place_on(homes, place),
             kind,
-            from: homes.register(from, 8),
+            from: register_at(homes, from, 8),
             access,
         },
         _ => line,
@@ -218,8 +219,8 @@ fn places_on(homes: Homes, line: Line) -> Line
 }
 
 /// A line that is no call, over the registers in which its values are.
-pub(crate) fn in_registers(homes: Homes, line: Line) -> Line
-    ensures { result ≡ in_registers (homes_are homes) line }
+pub(crate) fn in_registers(homes: &[Home], line: Line) -> Line
+    ensures { result ≡ in_registers (home_at homes.now) line }
 {
     let line = values_on(homes, line);
     let line = operators_on(homes, line);

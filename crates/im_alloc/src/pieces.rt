@@ -2,10 +2,11 @@ ghost use Rattle.std.specs.Prelude.{◌≡◌, ◌<◌, ◌≤◌, ◌+◌, ◌^
 ghost use Rattle.im_num.specs.declared.values.Cause.TheVariants.{Return as ReturnCut};
 ghost use Rattle.im_block.specs.declared.code.Line.TheVariants.{Cut};
 ghost use Rattle.im_alloc_relation.specs.Homes.{bring, give, into, load, save};
-ghost use Rattle.im_alloc.specs.Slots.{home_of, homes_are};
+ghost use Rattle.im_alloc_intervals.specs.Homes.{home_of, home_at};
 ghost use Rattle.im_alloc.specs.Parts.{Adds};
 
-use crate::homes::{Home, Homes};
+use crate::homes::home_at;
+use im_alloc_intervals::Home;
 use im_block::Line;
 use im_num::{Cause, NoMemory};
 
@@ -101,19 +102,19 @@ pub(crate) fn push_call(
 /// So many arguments come into x10 and on.
 pub(crate) fn push_arguments(
     lines: &mut Vec<Line>,
-    homes: Homes,
+    homes: &[Home],
     first: u32,
     count: u32,
     access: u64,
 ) -> Result<(), NoMemory>
-    requires within { first + count ≤ homes.count }
     requires few { count ≤ 8 }
     requires room { access + count < 2 ^ 64 }
     ensures { OnOk result
-        (Adds (bring (homes_are homes) 10 first count access) lines.old.items lines.new.items) }
+        (Adds (bring (home_at homes.now) 10 first count access) lines.old.items lines.new.items) }
 {
     for i in 0..count {
-        push_into(lines, homes.home(first + i), 10 + i, access + u64::from(i))?;
+        let home = home_at(homes, first as usize + i as usize);
+        push_into(lines, home, 10 + i, access + u64::from(i))?;
     }
     Ok(())
 }

@@ -1,30 +1,36 @@
 ghost use Rattle.std.specs.Prelude.{IfOk};
 ghost use Rattle.im_alloc.specs.Sample.{IsTaken};
 
-use crate::homes::Homes;
 use crate::lines::{push_line, push_lines};
 use crate::place;
+use im_alloc_intervals::Home;
 use im_block::{Block, Exit, Function, Line, Object, Place, Registers, Unit};
 use im_num::{Cause, Kind};
 use im_store::{BinaryOp, Comparison, UnaryOp};
 use std::alloc::Global;
 use std::test::Fail;
 
-// Register 0 is a parameter, in x10; the others are in the slots of their numbers.
-const HOMES: Homes = Homes {
-    parameters: 1,
-    count: 8,
-};
+// Register 0 is in x10, the others are in the slots of their numbers.
+const HOMES: [Home; 8] = [
+    Home::Register(10),
+    Home::Slot(1),
+    Home::Slot(2),
+    Home::Slot(3),
+    Home::Slot(4),
+    Home::Slot(5),
+    Home::Slot(6),
+    Home::Slot(7),
+];
 
 #[test]
 fn values_come_and_go_home(rt: HostRuntime) -> Result<(), Fail> {
     let mut lines = Vec::new(rt.alloc());
-    push_line(&mut lines, HOMES, 0, Line::Put { to: 1, number: 7 })?;
-    push_line(&mut lines, HOMES, 16, Line::PutNull { to: 2 })?;
-    push_line(&mut lines, HOMES, 32, Line::Copy { to: 3, from: 0 })?;
+    push_line(&mut lines, &HOMES, 0, Line::Put { to: 1, number: 7 })?;
+    push_line(&mut lines, &HOMES, 16, Line::PutNull { to: 2 })?;
+    push_line(&mut lines, &HOMES, 32, Line::Copy { to: 3, from: 0 })?;
     push_line(
         &mut lines,
-        HOMES,
+        &HOMES,
         48,
         Line::Convert {
             to: 1,
@@ -34,7 +40,7 @@ fn values_come_and_go_home(rt: HostRuntime) -> Result<(), Fail> {
     )?;
     push_line(
         &mut lines,
-        HOMES,
+        &HOMES,
         64,
         Line::Unary {
             to: 4,
@@ -43,7 +49,7 @@ fn values_come_and_go_home(rt: HostRuntime) -> Result<(), Fail> {
             from: 1,
         },
     )?;
-    push_line(&mut lines, HOMES, 80, Line::Not { to: 5, from: 0 })?;
+    push_line(&mut lines, &HOMES, 80, Line::Not { to: 5, from: 0 })?;
     let want = [
         Line::Put { to: 7, number: 7 },
         spill(1, 7, 2),
@@ -78,7 +84,7 @@ fn two_operands_come(rt: HostRuntime) -> Result<(), Fail> {
     let mut lines = Vec::new(rt.alloc());
     push_line(
         &mut lines,
-        HOMES,
+        &HOMES,
         0,
         Line::Compute {
             to: 2,
@@ -90,7 +96,7 @@ fn two_operands_come(rt: HostRuntime) -> Result<(), Fail> {
     )?;
     push_line(
         &mut lines,
-        HOMES,
+        &HOMES,
         16,
         Line::Compare {
             to: 4,
@@ -102,7 +108,7 @@ fn two_operands_come(rt: HostRuntime) -> Result<(), Fail> {
     )?;
     push_line(
         &mut lines,
-        HOMES,
+        &HOMES,
         32,
         Line::Move {
             to: 5,
@@ -114,7 +120,7 @@ fn two_operands_come(rt: HostRuntime) -> Result<(), Fail> {
     )?;
     push_line(
         &mut lines,
-        HOMES,
+        &HOMES,
         48,
         Line::Distance {
             to: 6,
@@ -177,7 +183,7 @@ fn places_are_over_registers(rt: HostRuntime) -> Result<(), Fail> {
     let kind = Kind::I32;
     push_line(
         &mut lines,
-        HOMES,
+        &HOMES,
         16,
         Line::Address {
             to: 5,
@@ -186,7 +192,7 @@ fn places_are_over_registers(rt: HostRuntime) -> Result<(), Fail> {
     )?;
     push_line(
         &mut lines,
-        HOMES,
+        &HOMES,
         32,
         Line::Read {
             to: 6,
@@ -197,7 +203,7 @@ fn places_are_over_registers(rt: HostRuntime) -> Result<(), Fail> {
     )?;
     push_line(
         &mut lines,
-        HOMES,
+        &HOMES,
         48,
         Line::Write {
             place: behind(5),
@@ -208,7 +214,7 @@ fn places_are_over_registers(rt: HostRuntime) -> Result<(), Fail> {
     )?;
     push_line(
         &mut lines,
-        HOMES,
+        &HOMES,
         64,
         Line::Write {
             place: local,
@@ -253,10 +259,10 @@ fn places_are_over_registers(rt: HostRuntime) -> Result<(), Fail> {
 #[test]
 fn calls_have_their_arguments_in_order(rt: HostRuntime) -> Result<(), Fail> {
     let mut lines = Vec::new(rt.alloc());
-    push_line(&mut lines, HOMES, 0, Line::Cut(Cause::Entry))?;
+    push_line(&mut lines, &HOMES, 0, Line::Cut(Cause::Entry))?;
     push_line(
         &mut lines,
-        HOMES,
+        &HOMES,
         16,
         Line::Call {
             to: 7,
@@ -265,8 +271,8 @@ fn calls_have_their_arguments_in_order(rt: HostRuntime) -> Result<(), Fail> {
             count: 2,
         },
     )?;
-    push_line(&mut lines, HOMES, 32, Line::GetChar { to: 1 })?;
-    push_line(&mut lines, HOMES, 48, Line::PutChar { to: 2, from: 1 })?;
+    push_line(&mut lines, &HOMES, 32, Line::GetChar { to: 1 })?;
+    push_line(&mut lines, &HOMES, 48, Line::PutChar { to: 2, from: 1 })?;
     let want = [
         Line::Cut(Cause::Entry),
         reload(10, 3, 19),
@@ -292,6 +298,51 @@ fn calls_have_their_arguments_in_order(rt: HostRuntime) -> Result<(), Fail> {
 }
 
 #[test]
+fn registers_at_home_are_not_moved(rt: HostRuntime) -> Result<(), Fail> {
+    let mut lines = Vec::new(rt.alloc());
+    let homes = [
+        Home::Register(10),
+        Home::Register(9),
+        Home::Register(18),
+        Home::Slot(0),
+    ];
+    for (number, to) in [(0, 2), (16, 3)] {
+        let line = Line::Compute {
+            to,
+            op: BinaryOp::Add,
+            kind: Kind::I32,
+            left: 0,
+            right: 1,
+        };
+        push_line(&mut lines, &homes, number, line)?;
+    }
+    let call = Line::Call {
+        to: 1,
+        function: 1,
+        first: 2,
+        count: 2,
+    };
+    push_line(&mut lines, &homes, 32, call)?;
+    let want = [
+        add(18),
+        add(7),
+        spill(0, 7, 18),
+        Line::Copy { to: 10, from: 18 },
+        reload(11, 0, 36),
+        Line::Call {
+            to: 10,
+            function: 1,
+            first: 10,
+            count: 2,
+        },
+        Line::Cut(Cause::Return),
+        Line::Copy { to: 9, from: 10 },
+    ];
+    assert_eq!(rt; lines.as_slice(), want.as_slice());
+    Ok(())
+}
+
+#[test]
 fn a_call_is_put_with_its_cut(rt: HostRuntime) -> Result<(), Fail> {
     let mut lines = Vec::new(rt.alloc());
     let old = [
@@ -300,7 +351,7 @@ fn a_call_is_put_with_its_cut(rt: HostRuntime) -> Result<(), Fail> {
         Line::PutChar { to: 2, from: 1 },
         Line::Cut(Cause::Return),
     ];
-    let next = push_lines(&mut lines, HOMES, 0, &old, Exit::Turn(0))?;
+    let next = push_lines(&mut lines, &HOMES, 0, &old, Exit::Turn(0))?;
     let want = [
         Line::GetChar { to: 10 },
         Line::Cut(Cause::Return),
@@ -362,7 +413,7 @@ fn a_unit_is_placed(rt: HostRuntime) -> Result<(), Fail> {
     let placed = place(rt.alloc(), sample(rt.alloc())?)?;
     let want = [
         Line::Read {
-            to: 7,
+            to: 9,
             place: Place::Local {
                 object: 0,
                 offset: 0,
@@ -370,11 +421,10 @@ fn a_unit_is_placed(rt: HostRuntime) -> Result<(), Fail> {
             kind: Kind::I32,
             access: 5,
         },
-        spill(0, 7, 8),
-        reload(10, 0, 22),
+        Line::Copy { to: 10, from: 9 },
     ];
     for function in placed.functions.iter() {
-        assert_eq!(rt; function.slots, 1);
+        assert_eq!(rt; function.slots, 0);
         assert_eq!(rt; function.registers, Registers::Machine);
         for block in function.blocks.iter() {
             assert_eq!(rt; block.lines.as_slice(), want.as_slice());
@@ -382,6 +432,16 @@ fn a_unit_is_placed(rt: HostRuntime) -> Result<(), Fail> {
         }
     }
     Ok(())
+}
+
+fn add(to: u32) -> Line {
+    Line::Compute {
+        to,
+        op: BinaryOp::Add,
+        kind: Kind::I32,
+        left: 10,
+        right: 9,
+    }
 }
 
 fn reload(to: u32, slot: u32, access: u64) -> Line {

@@ -9,3 +9,6 @@ in_front_of_five a b c d e f = simp append_assoc
 
 pub thirteen : (a b c d e f g h i j k l m : List ℕ) → a ++ (b ++ (c ++ (d ++ (e ++ (f ++ (g ++ (h ++ (i ++ (j ++ (k ++ (l ++ m))))))))))) ≡ a ++ b ++ c ++ d ++ e ++ f ++ g ++ h ++ i ++ j ++ k ++ l ++ m
 thirteen a b c d e f g h i j k l m = simp append_assoc
+
+pub nine : (a b c d e f g h i : List ℕ) → a ++ (b ++ (c ++ (d ++ (e ++ (f ++ (g ++ (h ++ i))))))) ≡ a ++ b ++ c ++ d ++ e ++ f ++ g ++ h ++ i
+nine a b c d e f g h i = simp append_assoc

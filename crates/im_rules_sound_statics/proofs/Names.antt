@@ -79,7 +79,7 @@ literal-name k le =
     let short = length-decimal-le_succ k (omega (arith, le)) in
     let counted = length-append (codes "$") (decimal k) in
     is-name (codes "$" ++ decimal k) (omega (arith, counted)) (omega (arith, counted, short, le))
-        (list_all-append is_name_byte (codes "$") (decimal k) ∙ digit-bytes (decimal k) digits.1)
+    (list_all-append is_name_byte (codes "$") (decimal k) ∙ digit-bytes (decimal k) digits.1)
 
 -- there are no more statics than bytes of them
 

@@ -3,7 +3,7 @@ use Rattle.im_block.specs.declared.code.Line.{Line}
 use Rattle.im_block.specs.declared.code.Line.TheVariants.{Put}
 use Rattle.im_alloc_relation.specs.Homes.{Home}
 use Rattle.im_alloc.specs.Parts.{calls, puts_line}
-use Rattle.im_alloc.specs.Slots.{homes_are}
+use Rattle.im_alloc_intervals.specs.Homes.{home_at}
 use Rattle.im_alloc.proofs.Steps.{SoFar, one_put, none_put}
 use Rattle.im_alloc.proofs.lines.push_lines.Goals as goal
 use Rattle.im_alloc.proofs.lines.push_lines.Goals.{then-is_put+in_ok-end+in_ok-push_line, else-is_put}
@@ -11,7 +11,7 @@ use Rattle.im_alloc.proofs.lines.push_lines.Goals.{then-is_put+in_ok-end+in_ok-p
 pub loop-index-preserved : goal.loop-index-preserved
 loop-index-preserved c =
     let l = c.loop-index in
-    let h : ℕ → Home = homes_are c.args.homes in
+    let h : ℕ → Home = home_at c.args.homes.now in
     let exit = c.args.exit in
     let old : List Line = c.args.old.now in
     let first : ℕ = c.args.number in

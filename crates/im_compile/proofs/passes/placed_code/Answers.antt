@@ -20,14 +20,14 @@ place-requires-clause-placeable c = forced_placeable c.force_keeps_law.ensures c
 pub recut-requires-clause-ordered : goal.recut-requires-clause-ordered
 recut-requires-clause-ordered c =
     let l = c.requires.source.2 in
-    placed_ordered c.lowered_form_law.ensures c.added_cuts_law.ensures c.force_keeps_law.ensures c.placed_code_law.ensures c.requires.source.0 c.args.lowered c.in_ok-forced.forced c.in_ok-placed.placed c.requires.source.1 l.lower l.sized c.in_ok-forced.ensures c.in_ok-placed.ensures.placed
+    placed_ordered c.lowered_form_law.ensures c.added_cuts_law.ensures c.force_keeps_law.ensures c.placed_code_law.ensures c.requires.source.0 c.args.lowered c.in_ok-forced.forced c.in_ok-placed.placed c.requires.source.1 l.lower l.sized c.in_ok-forced.ensures c.in_ok-placed.ensures.placed.placed
 
 pub recut-requires-clause-forced : goal.recut-requires-clause-forced
 recut-requires-clause-forced c =
-    placed_forced c.force_keeps_law.ensures c.placed_code_law.ensures c.args.lowered c.in_ok-forced.forced c.in_ok-placed.placed c.in_ok-forced.ensures c.in_ok-placed.ensures.placed
+    placed_forced c.force_keeps_law.ensures c.placed_code_law.ensures c.args.lowered c.in_ok-forced.forced c.in_ok-placed.placed c.in_ok-forced.ensures c.in_ok-placed.ensures.placed.placed
 
 pub returns-clause-passed : goal.returns-clause-passed
-returns-clause-passed c prog source l = passed prog c.args.lowered c.in_ok-forced.forced c.in_ok-tags.tags c.args.max_gap c.in_ok-placed.placed c.in_ok-code.code l c.in_ok-forced.ensures c.in_ok-tags.ensures.sound c.in_ok-placed.ensures c.in_ok-code.ensures
+returns-clause-passed c prog source l = passed prog c.args.lowered c.in_ok-forced.forced c.in_ok-tags.tags c.args.max_gap c.in_ok-placed.placed c.in_ok-code.code l c.in_ok-forced.ensures c.in_ok-tags.ensures.sound c.in_ok-placed.ensures.placed c.in_ok-code.ensures
 
 pub returns-clause-ready : goal.returns-clause-ready
-returns-clause-ready c prog source l = c.ready_law.ensures prog c.args.max_gap c.in_ok-code.code source (passed prog c.args.lowered c.in_ok-forced.forced c.in_ok-tags.tags c.args.max_gap c.in_ok-placed.placed c.in_ok-code.code l c.in_ok-forced.ensures c.in_ok-tags.ensures.sound c.in_ok-placed.ensures c.in_ok-code.ensures)
+returns-clause-ready c prog source l = c.ready_law.ensures prog c.args.max_gap c.in_ok-code.code source (passed prog c.args.lowered c.in_ok-forced.forced c.in_ok-tags.tags c.args.max_gap c.in_ok-placed.placed c.in_ok-code.code l c.in_ok-forced.ensures c.in_ok-tags.ensures.sound c.in_ok-placed.ensures.placed c.in_ok-code.ensures)
