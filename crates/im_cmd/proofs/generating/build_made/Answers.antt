@@ -9,5 +9,5 @@ returns-in-Err-OutOfMemory c = gen_starved
 pub returns-in-Ok-build_text : goal.returns-in-Ok-build_text
 returns-in-Ok-build_text c = rw (c.deref.ensures.value, c.in-Ok.ensures) at c.in-Ok-build_text.ensures
 
-pub returns-in-Err : goal.returns-in-Err
-returns-in-Err c = text_refused _ (refused_of c.in-Err.refusal) (rw (c.deref.ensures.value, c.in-Ok.ensures) at c.in-Err.ensures)
+pub returns : goal.returns
+returns c = text_refused _ (refused_of c.in-Err.refusal) (rw (c.deref.ensures.value, c.in-Ok.ensures) at c.in-Err.ensures)

@@ -11,5 +11,5 @@ returns-in-Err c = load_refused _ (refused_of c.in-Err.refusal) c.in-Err.ensures
 
 pub returns : goal.returns
 returns c =
-    runs_made c.args.count c.args.built.now _ _ c.ranges.count c.requires c.in-Ok-load.ensures
+    runs_made c.args.count c.args.built.now _ _ c.ranges.count.fits c.requires c.in-Ok-load.ensures
     (rw c.in-Ok.ensures at c.run.ensures.device) c.run.ensures.image
