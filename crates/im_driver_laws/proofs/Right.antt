@@ -1,0 +1,110 @@
+-- A source has one program, and of a right source no refusal but want of memory is true.
+use Rattle.std.proofs.Common.{◌≡◌, ℕ, ◌+◌, ◌*◌, ◌≤◌, List, Some, refl, sym, subst, arith}
+use Rattle.std.specs.Prelude.{slice_get}
+use Rattle.im_fault.specs.declared.fault.LineFault.{LineFault}
+use Rattle.im_fault.specs.declared.fault.LineFault.TheVariants.{BadByte, OpenComment, OpenLiteral, BadEscape, BadNumber, BadDirective, Syntax, Nesting, Rule}
+use Rattle.im_fault.specs.declared.fault.Quantity.TheVariants.{Source, Parameters, Size, Statics, Frame, Code}
+use Rattle.im_fault.specs.declared.fault.SourceFault.TheVariants.{Line, Limit, OutOfMemory}
+use Rattle.im_tok.specs.declared.token.Token.{Token}
+use Rattle.im_lex.specs.Lexing.{Lexes, StuckAt}
+use Rattle.im_word.specs.Words.{Word}
+use Rattle.im_word.specs.Nesting.{NoneOver}
+use Rattle.im_ctree.specs.Tree as t
+use Rattle.im_ctree.specs.declared.unit.Tree.{Tree}
+use Rattle.im_ctree.specs.Shape.{tree_of}
+use Rattle.im_ctree.specs.Units.{Spells}
+use Rattle.im_parse.specs.Spelling.{AreWords}
+use Rattle.im_parse.specs.declared.text.ParseFault.TheVariants as unit
+use Rattle.im_front.specs.Reading.{IsNoToken, IsRefusedAt}
+use Rattle.im_front.specs.Laws.{OneListLaw}
+use Rattle.im_typed.specs.Program.{Prog}
+use Rattle.im_typed.specs.Counts.{prog_nodes}
+use Rattle.im_check.specs.im_rules.TypedUnit.{TypedUnit}
+use Rattle.im_check.specs.im_rules.Laws.{UnitOnce, UnitBreaksNone}
+use Rattle.im_check.specs.im_rules_limits.Limits as limits
+use Rattle.im_driver.specs.Compiled.{IsTreeOf, IsProgramOf, IsRuleBroken, IsExceeded, IsExceededByStatics}
+use Rattle.im_driver_laws.specs.Laws.{OneProgramLaw, RightLaw}
+
+abbrev pub TokensLaw : Type 0
+TokensLaw = (text : List ℕ) (a b : List Token) → Lexes text a → Lexes text b → a ≡ b
+
+abbrev pub ApartLaw : Type 0
+ApartLaw = (text : List ℕ) (tokens : List Token) (at : ℕ) → Lexes text tokens → StuckAt text at → ⊥
+
+abbrev pub SpeltOnceLaw : Type 0
+SpeltOnceLaw = (u v : t.Tree) (words : List Word) → Spells u words → Spells v words → u ≡ v
+
+module _ (lexed : TokensLaw) (apart : ApartLaw) (listed : OneListLaw) (spelt : SpeltOnceLaw) (once : UnitOnce) (breaks : UnitBreaksNone) where
+  one_list : (source : List ℕ) (ts us : List Token) (vs ws : List Word) → Lexes source ts → Lexes source us → AreWords source ts vs → AreWords source us ws → vs ≡ ws
+  one_list source ts us vs ws a b v w = listed source us vs ws (subst (λ (z : List Token). AreWords source z vs) (lexed source ts us a b) v) w
+
+  one_tree : (source : List ℕ) (ts us : List Token) (a b : Tree) → IsTreeOf source ts a → IsTreeOf source us b → tree_of a ≡ tree_of b
+  one_tree source ts us a b x y =
+      let same = one_list source ts us x.parsed.0 y.parsed.0 x.lexes y.lexes x.parsed.1 y.parsed.1 in
+      spelt (tree_of a) (tree_of b) y.parsed.0 (subst (λ (z : List Word). Spells (tree_of a) z) same x.parsed.2.1) y.parsed.2.1
+
+  pub one_program : OneProgramLaw
+  one_program source p q x y =
+      let same = one_tree source x.tokens y.tokens x.tree y.tree x.is_tree y.is_tree in
+      once (tree_of y.tree) p q (subst (λ (z : t.Tree). TypedUnit z p) same x.typed) y.typed
+
+  module _ (source : List ℕ) (prog : Prog) (h : IsProgramOf source prog) where
+    typed_as : (ts : List Token) (tree : Tree) → IsTreeOf source ts tree → TypedUnit (tree_of tree) prog
+    typed_as ts tree x = subst (λ (z : t.Tree). TypedUnit z prog) (one_tree source h.tokens ts h.tree tree h.is_tree x) h.typed
+
+    within_as : (ts : List Token) (tree : Tree) → IsTreeOf source ts tree → limits.IsWithinLimits (tree_of tree)
+    within_as ts tree x = subst limits.IsWithinLimits (one_tree source h.tokens ts h.tree tree h.is_tree x) h.within
+
+    no_token : (line : ℕ) (why : LineFault) → IsNoToken source line why → ⊥
+    no_token line why n = apart source h.tokens n.at h.is_tree.lexes n.stuck
+
+    nested : (line : ℕ) → IsRefusedAt source line unit.Depth → ⊥
+    nested line r =
+        let same = one_list source r.tokens h.tokens r.refused.0 h.is_tree.parsed.0 r.lexes h.is_tree.lexes r.refused.1 h.is_tree.parsed.1 in
+        let none = subst (λ (z : List Word). NoneOver 200 z) (sym same) h.is_tree.parsed.2.0 in
+        let over = r.refused.2.over in
+        let most = none r.number r.refused.2.within in
+        absurd (omega (arith, over, most))
+
+    unspelt : (line : ℕ) → IsRefusedAt source line unit.Syntax → ⊥
+    unspelt line r =
+        let same = one_list source r.tokens h.tokens r.refused.0 h.is_tree.parsed.0 r.lexes h.is_tree.lexes r.refused.1 h.is_tree.parsed.1 in
+        r.refused.2.1.unspelt (tree_of h.tree) (subst (λ (z : List Word). Spells (tree_of h.tree) z) (sym same) h.is_tree.parsed.2.1)
+
+    unbroken : (line rule : ℕ) → IsRuleBroken source line rule → ⊥
+    unbroken line rule b = breaks (tree_of b.tree) prog rule b.token (typed_as b.tokens b.tree b.is_tree) b.broken
+
+    not_over : (limit : limits.Limit) (count : ℕ) → IsExceeded source limit count → ⊥
+    not_over limit count e = within_as e.tokens e.tree e.is_tree limit count e.exceeds
+
+    few_statics : (count : ℕ) → IsExceededByStatics source count → ⊥
+    few_statics count e = within_as e.tokens e.tree e.is_tree limits.of_statics count e.exceeds
+
+  pub right : RightLaw
+  right source prog (Line line BadByte) h r = absurd (no_token source prog h.program line BadByte r)
+  right source prog (Line line OpenComment) h r = absurd (no_token source prog h.program line OpenComment r)
+  right source prog (Line line OpenLiteral) h r = absurd (no_token source prog h.program line OpenLiteral r)
+  right source prog (Line line BadEscape) h r = absurd (no_token source prog h.program line BadEscape r)
+  right source prog (Line line BadNumber) h r = absurd (no_token source prog h.program line BadNumber r)
+  right source prog (Line line BadDirective) h r = absurd (no_token source prog h.program line BadDirective r)
+  right source prog (Line line Nesting) h r = absurd (nested source prog h.program line r)
+  right source prog (Line line Syntax) h r = absurd (unspelt source prog h.program line r)
+  right source prog (Line line (Rule number)) h r = absurd (unbroken source prog h.program line number r)
+  right source prog (Limit Source count) h r = let few = h.short in let many = r.0 in let is = r.1 in absurd (omega (arith, few, many, is))
+  right source prog (Limit Parameters count) h r = absurd (not_over source prog h.program limits.of_parameters count r)
+  right source prog (Limit Size count) h r = absurd (not_over source prog h.program limits.of_size count r)
+  right source prog (Limit Statics count) h r = absurd (few_statics source prog h.program count r)
+  right source prog (Limit Frame count) h r =
+      let same = one_program source r.prog prog r.program h.program in
+      let large = r.large in
+      let most = h.frames r.function large.f (subst (λ (z : Prog). slice_get z.funcs r.function ≡ Some large.f) same large.is_function) in
+      let over = large.large in
+      let need = large.need in
+      absurd (omega (arith, most, over, need))
+  right source prog (Limit Code count) h r =
+      let same = one_program source r.prog prog r.program h.program in
+      let most = h.code in
+      let over = r.large.large in
+      let nodes = subst (λ (z : Prog). count ≤ 4096 + 256 * prog_nodes z) same r.large.nodes in
+      absurd (omega (arith, most, over, nodes))
+  right source prog OutOfMemory h r = refl
