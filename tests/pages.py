@@ -179,8 +179,8 @@ def chains(room):
     for what, (most, source_of) in CHAINS.items():
         same(f"{most} of {what}", refused(room, source_of(most)), "built")
         same(f"{most + 10} of {what}", refused(room, source_of(most + 10)), "1: nesting over 200")
-    same("a long frame", refused(room, "int main(void) { char a[65500]; a[0] = 1; return a[0]; }")[:6], "frame ")
-    same("a frame", refused(room, "int main(void) { char a[65400]; a[0] = 1; return a[0]; }"), "built")
+    same("a long frame", refused(room, "int main(void) { char a[65530]; a[0] = 1; return a[0]; }")[:6], "frame ")
+    same("a frame", refused(room, "int main(void) { char a[65500]; a[0] = 1; return a[0]; }"), "built")
 
 
 @test("docs/pitfalls.md: each program has the cause that it stands under")
