@@ -1,0 +1,7 @@
+pub mod Promote
+pub mod Written
+pub mod Placeable
+pub mod Promoted
+pub mod Words
+pub mod Homes
+pub mod Laws
