@@ -38,6 +38,9 @@ module _ (statics p n : ℕ) (f : Function) (live : ℕ → ℕ → Bool) (below
   keeps : (to : ℕ) (after : ℕ → Bool) → to < n → Behind after → KeepsHomes h to after
   keeps to after lt b v t ne = apart p n v to (b v t).0 lt ne
 
+  keeps_any : (to : ℕ) (after : ℕ → Bool) → to < n → ((v : ℕ) → after v ≡ true → v < n) → KeepsHomes h to after
+  keeps_any to after lt b v t ne = apart p n v to (b v t) lt ne
+
   survives : (to : ℕ) (after : ℕ → Bool) → to < n → Behind after → Survives h to after
   survives to after lt b v t ne = let k = b v t in (v, home_slot p n v k.1 k.0, apart p n v to k.0 lt ne)
 
@@ -91,6 +94,16 @@ module _ (statics p n : ℕ) (f : Function) (live : ℕ → ℕ → Bool) (below
       (tt, entry_valid lines exit (All-tail (LineWithin n) (Write place kind source access) lines w) from (All-tail (IsPlaceableLine statics f) (Write place kind source access) lines k) we fe edges)
   entry_valid (Cut cause ∷ lines) exit w from k we fe edges =
       (tt, entry_valid lines exit (All-tail (LineWithin n) (Cut cause) lines w) from (All-tail (IsPlaceableLine statics f) (Cut cause) lines k) we fe edges)
+  entry_valid (Copy to source ∷ lines) exit w from k we fe edges =
+      let w' : Within lines = All-tail (LineWithin n) (Copy to source) lines w in (
+        keeps_any to (lives live lines exit) (All-head (LineWithin n) (Copy to source) lines w).0 (λ v t. lives_below n live lines exit below w' we v t),
+        entry_valid lines exit w' from.1 (All-tail (IsPlaceableLine statics f) (Copy to source) lines k) we fe edges,
+      )
+  entry_valid (Convert to kind source ∷ lines) exit w from k we fe edges =
+      let w' : Within lines = All-tail (LineWithin n) (Convert to kind source) lines w in (
+        keeps_any to (lives live lines exit) (All-head (LineWithin n) (Convert to kind source) lines w).0 (λ v t. lives_below n live lines exit below w' we v t),
+        entry_valid lines exit w' from.1 (All-tail (IsPlaceableLine statics f) (Convert to kind source) lines k) we fe edges,
+      )
   entry_valid (line ∷ lines) exit w from k we fe edges = lines_valid (line ∷ lines) exit w from k we fe edges
 
 -- a function

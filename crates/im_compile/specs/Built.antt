@@ -34,7 +34,7 @@ pub record AreFrames (funcs : List Func) (layouts : List Layout) (frames : List 
 abbrev pub function_names : List Func → List (List ℕ)
 function_names funcs = map (λ (f : Func). encode_utf8_all f.name.items) funcs
 
--- lower, force, place, recut; frames; statics; assemble, link, gap, pack
+-- lower, promote, force, place, recut; frames; statics; assemble, link, gap, pack
 pub record IsBuilt (prog : Prog) (options : Options) (built : Built) : Type 0 where
   pub code : Code
   pub passed : IsPassed prog code

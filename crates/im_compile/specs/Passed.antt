@@ -16,6 +16,7 @@ use Rattle.im_alloc_placed.specs.Placeable.{IsPlaceable}
 use Rattle.im_alloc_placed.specs.Placed.{IsPlacedCode}
 use Rattle.im_alloc_placed.specs.Apart.{AllUncut}
 use Rattle.im_force.specs.Force.{Forces}
+use Rattle.im_promote.specs.Promoted.{IsPromoted}
 use Rattle.im_recut.specs.Recut.{RecutsTo}
 use Rattle.im_lower_relation.specs.Lowered.{IsLowered, AreSized}
 use Rattle.im_lower_plain.specs.MakeUnit.{KnowsTypes}
@@ -37,7 +38,7 @@ pub record AreOptions (options : Options) : Type 0 where
   pub most_stack : options.stack ≤ stack_capacity
   pub output : options.out_cap ≤ output_capacity
 
--- lower, force, alias, place, recut
+-- lower, promote, force, alias, place, recut
 pub record IsPassed (prog : Prog) (code : Code) : Type 0 where
   pub lowered : Code
   pub lower : IsLowered (program_of prog) lowered
@@ -46,8 +47,10 @@ pub record IsPassed (prog : Prog) (code : Code) : Type 0 where
   pub uncut : AllUncut lowered
   -- what a frame may need is a number of 64 bits
   pub told : All (λ (f : Function). f.need < 2 ^ 64 - 1) lowered.functions.items
+  pub promoted : Code
+  pub promote : IsPromoted lowered promoted
   pub forced : Code
-  pub force : Forces lowered forced
+  pub force : Forces promoted forced
   pub tags : Tags
   pub alias : IsSound forced tags
   pub placed : Code

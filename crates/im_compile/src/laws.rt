@@ -7,6 +7,7 @@ use im_block_laws::cuts_keep_code_law;
 use im_compile_dependences::{force_names_law, place_names_law, recut_names_law, uncut_names_law};
 use im_force::force_keeps_law;
 use im_lower_relation::lowered_form_law;
+use im_promote::{formed_law, ordered_law, placeable_law, rest_law};
 use im_recut::recut_keeps_law;
 
 /// What the passes make of a program is what those behind them ask.
@@ -14,6 +15,10 @@ pub fn ready_law()
     ensures { ReadyLaw }
 {
     lowered_form_law();
+    formed_law();
+    ordered_law();
+    placeable_law();
+    rest_law();
     added_cuts_law();
     force_keeps_law();
     cuts_keep_code_law();

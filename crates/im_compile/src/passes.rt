@@ -14,6 +14,7 @@ use im_force::{force, force_keeps_law};
 use im_lower::lower;
 use im_lower_relation::lowered_form_law;
 use im_num::NoMemory;
+use im_promote::{formed_law, ordered_law, placeable_law, promote};
 use im_recut::recut;
 use im_typed::{Func, Prog};
 use std::alloc::Global;
@@ -56,13 +57,17 @@ pub(crate) fn placed_code(alloc: Global, lowered: Unit) -> Result<Unit, NoMemory
         → IfOk result (IsReady prog) }
 {
     lowered_form_law();
+    formed_law();
+    ordered_law();
+    placeable_law();
     added_cuts_law();
     force_keeps_law();
     cuts_keep_code_law();
     cuts_keep_places_law();
     placed_code_law();
     ready_law();
-    let forced = force(alloc, lowered)?;
+    let promoted = promote(alloc, lowered)?;
+    let forced = force(alloc, promoted)?;
     let tags = alias(alloc, &forced)?;
     let placed = place(alloc, forced)?;
     let code = recut(alloc, placed, &tags)?;

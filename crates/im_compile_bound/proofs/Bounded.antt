@@ -34,6 +34,8 @@ module _ (ready : ReadyLaw) (law : FunctionBoundLaw) (prog : Prog) (options : Op
     lowered = b.passed.lowered;
     sized = b.passed.sized;
     uncut = b.passed.uncut;
+    promoted = b.passed.promoted;
+    promote = b.passed.promote.promotes;
     forced = b.passed.forced;
     force = b.passed.force;
     placed = b.passed.placed;

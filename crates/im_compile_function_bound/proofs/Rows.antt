@@ -1,5 +1,5 @@
 -- Functions of one pass and of the next, one by one.
-use Rattle.std.proofs.Common.{◌≡◌, ◌≤◌, ℕ, zero, suc, List, [], ◌∷◌, Some, refl, subst, arith}
+use Rattle.std.proofs.Common.{◌≡◌, ◌≤◌, ℕ, zero, suc, List, [], ◌∷◌, Option, Some, refl, subst, arith}
 use Rattle.std.specs.Prelude.{slice_get}
 use denote.RawPtr.{null_ptr}
 use lib.Dec.{lit<}
@@ -8,6 +8,7 @@ use Rattle.im_block.specs.declared.unit.Function.{Function}
 use Rattle.im_block.specs.declared.unit.Unit.{Unit as Code}
 use Rattle.im_block.specs.Shape.{function_cost, placed_cost}
 use Rattle.im_block.specs.Uncut.{SameFunction, SameFunctions}
+use Rattle.im_promote.specs.Promote.{PromotesFunction, PromotesFunctions}
 use Rattle.im_alloc_relation.specs.Placing.{PlacedFunction, PlacedFunctions}
 use Rattle.im_alloc_laws.specs.Laws.{PlacedCodeLaw}
 
@@ -17,6 +18,11 @@ pub record SameFrom (fs : List Function) (k : ℕ) (y : Function) : Type 0 where
   pub old : Function
   pub there : slice_get fs k ≡ Some old
   pub same : SameFunction old y
+
+pub record PromotedFrom (homes : ℕ → Option ℕ) (fs : List Function) (k : ℕ) (y : Function) : Type 0 where
+  pub old : Function
+  pub there : slice_get fs k ≡ Some old
+  pub promoted : PromotesFunction homes old y
 
 pub record PlacedFrom (fs : List Function) (k : ℕ) (y : Function) : Type 0 where
   pub old : Function
@@ -31,6 +37,15 @@ same_at (f ∷ fs) (g ∷ gs) h zero y e =
     let one : g ≡ y = cc in record { old = f; there = refl; same = subst (λ z. SameFunction f z) one h.0 }
 same_at (f ∷ fs) (g ∷ gs) h (suc k) y e =
     let r = same_at fs gs h.1 k y e in record { old = r.old; there = r.there; same = r.same }
+
+pub promoted_at : (homes : ℕ → Option ℕ) (fs gs : List Function) → PromotesFunctions homes fs gs → (k : ℕ) (y : Function) → slice_get gs k ≡ Some y → PromotedFrom homes fs k y
+promoted_at homes [] [] h k y e = cc
+promoted_at homes [] (g ∷ gs) h k y e = absurd h
+promoted_at homes (f ∷ fs) [] h k y e = absurd h
+promoted_at homes (f ∷ fs) (g ∷ gs) h zero y e =
+    let one : g ≡ y = cc in record { old = f; there = refl; promoted = subst (λ z. PromotesFunction homes f z) one h.0 }
+promoted_at homes (f ∷ fs) (g ∷ gs) h (suc k) y e =
+    let r = promoted_at homes fs gs h.1 k y e in record { old = r.old; there = r.there; promoted = r.promoted }
 
 pub placed_at : (fs gs : List Function) → PlacedFunctions fs gs → (k : ℕ) (y : Function) → slice_get gs k ≡ Some y → PlacedFrom fs k y
 placed_at [] [] h k y e = cc

@@ -3,6 +3,7 @@ ghost use Rattle.im_compile_function_bound.specs.Bound.{FunctionBoundLaw};
 use im_alloc_laws::placed_code_law;
 use im_block_laws::cuts_keep_code_law;
 use im_force::force_keeps_law;
+use im_promote::{cost_law, rest_law};
 use im_recut::recut_keeps_law;
 
 /// The instructions of one function have at most 256 bytes for each node of the typed function,
@@ -10,6 +11,8 @@ use im_recut::recut_keeps_law;
 pub fn function_bound_law()
     ensures { FunctionBoundLaw }
 {
+    cost_law();
+    rest_law();
     force_keeps_law();
     cuts_keep_code_law();
     placed_code_law();

@@ -1,5 +1,5 @@
 -- Each relation keeps its line.
-use Rattle.std.proofs.Common.{◌≡◌, ℕ, List, [], ◌∷◌, map, refl, ap, ◌∙◌}
+use Rattle.std.proofs.Common.{◌≡◌, ◌≤◌, ℕ, ◌*◌, List, [], ◌∷◌, map, refl, ap, ◌∙◌, arith}
 use Rattle.im_block.specs.declared.access.Tags.{Tags}
 use Rattle.im_block.specs.declared.code.Line.{Line}
 use Rattle.im_block.specs.declared.code.Block.{Block}
@@ -9,9 +9,12 @@ use Rattle.im_block.specs.Uncut.{WithCuts, Empty, Same, SameBlocks, SameFunction
 use Rattle.im_alloc_relation.specs.Placing.{PlacedFunctions}
 use Rattle.im_alloc_laws.specs.Numbered.{IsWellPlaced}
 use Rattle.im_alloc_laws.specs.Laws.{PlacedCodeLaw}
+use Rattle.im_promote.specs.Promoted.{IsPromoted}
+use Rattle.im_promote.specs.Laws.{PromoteLaw, OrderedLaw, FormedLaw, PlaceableLaw, RestLaw}
 use Rattle.im_recut.specs.Recut.{RecutsTo}
 use Rattle.im_recut.specs.Laws.{RecutKeepsLaw}
-use Rattle.im_keeps_passes.specs.Passes.{Cuts, Places, Recuts}
+use Rattle.im_keeps_passes.specs.Source.{Source}
+use Rattle.im_keeps_passes.specs.Passes.{Lowers, Cuts, Places, Recuts}
 use Rattle.im_keeps_passes.specs.Laws.{CodeBoundsLaw}
 use Rattle.im_keeps_middle.specs.Laws.{MiddleLaw}
 
@@ -34,6 +37,20 @@ uncut_same u = record { functions = functions_same u.functions.items; rest = ref
 
 cut : (u : Code) → Cuts u u
 cut u = record { same = uncut_same u; apart = λ h. h }
+
+-- promotes
+
+promote : PromoteLaw → OrderedLaw → FormedLaw → PlaceableLaw → RestLaw → (source : Source) (lowered promoted : Code) → Lowers source lowered → IsPromoted lowered promoted → Lowers source promoted
+promote runs ordered formed placeable rest source lowered promoted l p = record {
+  runs = λ g n input defined. (let r = l.runs g n input defined in runs lowered promoted p.promotes g n (source.means g n) r.0 defined r.1);
+  statics = rest.statics lowered promoted p.promotes ∙ l.statics;
+  needs = rest.needs lowered promoted p.promotes ∙ l.needs;
+  ordered = ordered lowered promoted p.promotes l.ordered;
+  well_formed = formed lowered promoted p.promotes l.well_formed;
+  placeable = placeable lowered promoted p l.placeable;
+  uncut = rest.uncut lowered promoted p.promotes l.uncut;
+  cost = (let less = rest.cost lowered promoted p.promotes in let few = l.cost in omega (arith, less, few));
+}
 
 -- places
 
@@ -60,8 +77,9 @@ place law u v w = record {
 recut : RecutKeepsLaw → (u v : Code) (tags : Tags) → RecutsTo tags u v → Recuts tags u v
 recut law u v tags r = record { same = law.same tags u v r; apart = law.apart tags u v r; sectioned = law.sectioned tags u v r }
 
-pub middle : PlacedCodeLaw → RecutKeepsLaw → CodeBoundsLaw → MiddleLaw
-middle placing cutting bounds = record {
+pub middle : PromoteLaw → OrderedLaw → FormedLaw → PlaceableLaw → RestLaw → PlacedCodeLaw → RecutKeepsLaw → CodeBoundsLaw → MiddleLaw
+middle runs ordered formed placeable rest placing cutting bounds = record {
+  promote = promote runs ordered formed placeable rest;
   cut = cut;
   place = place placing;
   recut = recut cutting;

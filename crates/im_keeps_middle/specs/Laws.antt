@@ -4,13 +4,16 @@ use Rattle.im_image.specs.Contents.{ImageValue}
 use Rattle.im_block.specs.declared.access.Tags.{Tags}
 use Rattle.im_block.specs.declared.unit.Unit.{Unit as Code}
 use Rattle.im_alloc_laws.specs.Numbered.{IsWellPlaced}
+use Rattle.im_promote.specs.Promoted.{IsPromoted}
 use Rattle.im_recut.specs.Recut.{RecutsTo}
 use Rattle.im_keeps_passes.specs.Source.{Source}
-use Rattle.im_keeps_passes.specs.Passes.{Cuts, Places, Recuts, Passes}
+use Rattle.im_keeps_passes.specs.Passes.{Lowers, Cuts, Places, Recuts, Passes}
 use Rattle.im_keeps_passes.specs.Laws.{CodeBounds}
 use Rattle.im_keeps_middle.specs.Middle.{Front, Chain}
 
 pub record MiddleLaw : Type 0 where
+  -- promoted code is still what lowering promises
+  pub promote : (source : Source) (lowered promoted : Code) → Lowers source lowered → IsPromoted lowered promoted → Lowers source promoted
   -- no cuts may be added
   pub cut : (u : Code) → Cuts u u
   pub place : (u v : Code) → IsWellPlaced u v → Places u v
