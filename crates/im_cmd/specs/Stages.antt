@@ -5,13 +5,15 @@ use Rattle.im_num.specs.declared.values.Var.{Var}
 use Rattle.im_mem.specs.Memory.{view}
 use Rattle.im_io.specs.Shelf.{ShelfState}
 use Rattle.im_io.specs.Sink.{SinkState}
+use Rattle.im_io.specs.Whole.{SentAll, SentFirst}
 use Rattle.im_image.specs.Contents.{ImageValue}
 use Rattle.im_power.specs.declared.period.Period.{Period}
 use Rattle.im_mem.specs.Map.{input_capacity}
 use Rattle.im_image.specs.declared.form.Form.{Form}
-use Rattle.im_device.specs.Periods.{Device, fresh}
+use Rattle.im_device.specs.Periods.{Device, fresh, power}
 use Rattle.im_device.specs.Load.{memory_of}
 use Rattle.im_power.specs.Text.{repeats}
+use Rattle.im_gen.specs.Gen.{gen_trace}
 use Rattle.im_emu.specs.State.{Held, IsImageOf, device_of}
 use Rattle.im_num.specs.Variables.{Variable, variable_of}
 use Rattle.im_fault.specs.declared.fault.SourceFault.{SourceFault}
@@ -27,6 +29,7 @@ use Rattle.im_compile.specs.Passed.{IsSource}
 use Rattle.im_cmd_words.specs.declared.command.BuildOptions.{BuildOptions}
 use Rattle.im_cmd.specs.Builds.{IsBuilt, IsFaulty, Compiles}
 use Rattle.im_cmd.specs.Runs.{ReadsPeriods, RunsImage, RefusesTrace}
+use Rattle.im_cmd.specs.Generations.{Generates}
 use Rattle.im_cmd.specs.Outcome.{Got, shown, no_output_line, refusal_status}
 
 -- the machine as the end of a run
@@ -104,12 +107,28 @@ pub record Ran (options : Options) (image : ImageValue) (form : Form) (ended : D
   pub form_is : form ≡ image.form
   pub are_shown : variables ≡ shown options.vars image.objects ended.mem
 
+-- what was built of a made source was run on this machine
+pub record RunsMade (count : ℕ) (built : Built) (machine : Held (List ℕ)) : Type 0 where
+  pub run : ended_of machine ≡ power (gen_trace count built.gap) (fresh (memory_of built.image []))
+  pub form_is : machine.form ≡ built.image.form
+
+-- a made source was built, and its image run on this machine
+pub record Generated (count : ℕ) (machine : Held (List ℕ)) : Type 0 where
+  pub built : Built
+  pub generates : Generates count built (ended_of machine)
+  pub form_is : machine.form ≡ built.image.form
+
 -- ---- telling
 
 -- a text was sent, or wasn't and the second sink got the line that says so
 abbrev pub Finishes : {A F : Type 0} → Result A F → SinkState → SinkState → ℕ → Type 0
 Finishes (Ok done) err err' status = (err' ≡ err) × (status ≡ 0)
 Finishes (Err fault) err err' status = Got no_output_line err err' × (status ≡ 8)
+
+-- a text was sent to the second sink, for this status; where it wasn't taken whole the status is 8
+pub data TellsSecond (text : List ℕ) (status : ℕ) (err err' : SinkState) : ℕ → Type 0 where
+  second_told : SentAll text err err' → TellsSecond text status err err' status
+  second_not_told : SentFirst text err err' → TellsSecond text status err err' 8
 
 -- what is told of words that name no command, that text, or for which memory ran out
 abbrev pub TellsFault : WordsFault → SinkState → SinkState → ℕ → Type 0

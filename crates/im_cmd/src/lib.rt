@@ -3,11 +3,14 @@
 #![tactic(auto)]
 
 mod building;
+mod checking;
 mod commands;
 mod entry;
 mod evaluated;
 mod evaluating;
 mod files;
+mod generated;
+mod generating;
 mod running;
 mod status;
 mod stored;

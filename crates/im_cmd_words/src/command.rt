@@ -39,6 +39,14 @@ pub enum Command<'a> {
         building: BuildOptions,
         options: EvalOptions<'a>,
     },
+    /// Build a made source of so many functions, 1 to 300, and run its image.
+    Gen {
+        count: u32,
+    },
+    /// Tell where and why the source isn't compiled, or nothing.
+    Check {
+        source: &'a str,
+    },
 }
 
 /// How a source is built.

@@ -33,3 +33,11 @@ returns-clause-report c = refl
 pub returns-clause-eval : goal.returns-clause-eval
 unfolding clap_on_literals
 returns-clause-eval c = refl
+
+pub returns-clause-made : goal.returns-clause-made
+unfolding clap_on_literals
+returns-clause-made c = refl
+
+pub returns-clause-check : goal.returns-clause-check
+unfolding clap_on_literals
+returns-clause-check c = refl
