@@ -25,9 +25,32 @@ enum Inside {
     Part,
 }
 
+/// What a statement or declaration has begun with.
+#[derive(Clone, Copy, PartialEq, Eq)]
+enum Start {
+    Nothing,
+    /// One name, which may be a typedef name.
+    Name,
+    /// A word of a type, or two names: commas outside of brackets stand between declarators.
+    Type,
+    Other,
+}
+
+/// Whether a keyword is one of a declaration's specifiers (C11 6.7).
+fn begins_declaration(text: &[u8]) -> bool {
+    match text {
+        b"typedef" | b"extern" | b"static" | b"const" => true,
+        b"void" | b"char" | b"short" | b"int" | b"long" | b"signed" | b"unsigned" => true,
+        b"struct" | b"enum" => true,
+        _ => false,
+    }
+}
+
 /// What is known before a token.
 #[derive(Drop)]
 struct Run {
+    /// What the statement or declaration has begun with.
+    start: Start,
     /// Links since the run began.
     links: usize,
     /// Parentheses and brackets that are open.
@@ -43,6 +66,7 @@ struct Run {
 impl Run {
     fn new(alloc: Global) -> Run {
         Run {
+            start: Start::Nothing,
             links: 0,
             open: 0,
             inside: Vec::new(alloc),
@@ -66,7 +90,30 @@ impl Run {
     fn end(&mut self) {
         if self.open == 0 {
             self.links = 0;
+            self.start = Start::Nothing;
         }
+    }
+
+    /// A declarator ends where this is a declaration; else the comma is an operator.
+    fn block_comma(&mut self) {
+        if self.open == 0 && self.start == Start::Type {
+            self.links = 0;
+        } else {
+            self.link();
+        }
+    }
+
+    /// Takes the first words of a statement or declaration.
+    fn begin(&mut self, kind: TokenKind, text: &[u8]) {
+        self.start = match (self.start, kind) {
+            (Start::Nothing, TokenKind::Name) => Start::Name,
+            (Start::Name, TokenKind::Name) => Start::Type,
+            (Start::Nothing | Start::Name, TokenKind::Keyword) if begins_declaration(text) => {
+                Start::Type
+            }
+            (Start::Type, _) => Start::Type,
+            _ => Start::Other,
+        };
     }
 
     fn open(&mut self, inside: Inside) -> Result<(), NoMemory> {
@@ -107,7 +154,8 @@ impl Run {
         match self.innermost() {
             Inside::List => self.end(),
             Inside::Arguments => {}
-            Inside::Block | Inside::Part => self.link(),
+            Inside::Block => self.block_comma(),
+            Inside::Part => self.link(),
         }
         self.next = Inside::List;
     }
@@ -145,6 +193,7 @@ impl Run {
         let Some(text) = source.get(token.span.0 as usize..token.span.1 as usize) else {
             return Ok(());
         };
+        self.begin(token.kind, text);
         match token.kind {
             TokenKind::Punctuator => self.punctuator(text)?,
             TokenKind::Keyword => self.keyword(text),
