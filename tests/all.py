@@ -20,6 +20,7 @@ import bulk  # noqa: F401
 import cuts  # noqa: F401
 import failing  # noqa: F401
 import hostile  # noqa: F401
+import made_sources  # noqa: F401
 import pages
 import power  # noqa: F401
 import script  # noqa: F401

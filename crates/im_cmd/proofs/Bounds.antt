@@ -86,7 +86,7 @@ chosen : (b : Bool) (v n : ℕ) → (b ≡ true → v < 2 ^ 32) → (if b then S
 chosen true v n h e = let q : v ≡ n = cc in omega (arith, h refl)
 chosen false v n h e = absurd cc
 
-both_true : (a b : Bool) → (a && b) ≡ true → b ≡ true
+pub both_true : (a b : Bool) → (a && b) ≡ true → b ≡ true
 both_true true b e = e
 both_true false b e = absurd cc
 

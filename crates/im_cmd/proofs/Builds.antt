@@ -3,7 +3,7 @@ use Rattle.std.proofs.Common.{◌≡◌, ℕ, List, refl}
 use Rattle.im_io.specs.Shelf.{ShelfState}
 use Rattle.im_image.specs.Text.{image_text}
 use Rattle.im_fault.specs.declared.fault.SourceFault.{SourceFault}
-use Rattle.im_fault.specs.declared.fault.SourceFault.TheVariants.{Line, Limit, NotYet, OutOfMemory}
+use Rattle.im_fault.specs.declared.fault.SourceFault.TheVariants.{Line, Limit, OutOfMemory}
 use Rattle.im_cmd_words.specs.declared.command.BuildOptions.{BuildOptions}
 use Rattle.im_compile.specs.declared.built.Built.{Built}
 use Rattle.im_typed.specs.declared.program.Prog.{Prog}
@@ -18,7 +18,6 @@ use Rattle.im_cmd.proofs.Refusing.{unchanged_read, unchanged_then}
 pub faulty : (text : List ℕ) (fault : SourceFault) → (fault ≡ OutOfMemory → ⊥) → IsRefused text fault → IsFaulty text fault
 faulty text (Line line why) other h = h
 faulty text (Limit quantity count) other h = h
-faulty text NotYet other h = h
 faulty text OutOfMemory other h = absurd (other refl)
 
 pub built_from : (text : List ℕ) (building : BuildOptions) (prog : Prog) (built : Built) → IsImage built.image → IsCompiledFrom text (built_with building) prog built → IsBuiltFrom text building prog built

@@ -7,3 +7,4 @@ pub mod Stages
 pub mod Reports
 pub mod Entries
 pub mod Evaluations
+pub mod Generations

@@ -5,7 +5,7 @@ use Rattle.im_io.specs.Sink.{SinkState}
 use Rattle.im_image.specs.Contents.{ImageValue}
 use Rattle.im_device.specs.Periods.{Device}
 use Rattle.im_cmd_words.specs.declared.command.BuildOptions.{BuildOptions}
-use Rattle.im_cmd_words.specs.Named.{Asked, Evaluation, Options, builds, runs, executes, dumps, upgrades, reports, evaluates, named}
+use Rattle.im_cmd_words.specs.Named.{Asked, Evaluation, Options, builds, runs, executes, dumps, upgrades, reports, evaluates, generates, named}
 use Rattle.im_compile.specs.declared.built.Built.{Built}
 use Rattle.im_cmd_lines.specs.Dumps.{dump_lines}
 use Rattle.im_cmd_lines.specs.Upgrades.{upgrade_line}
@@ -15,6 +15,7 @@ use Rattle.im_cmd.specs.Images.{ReadsImage, RefusesImage, Upgrades, RefusesUpgra
 use Rattle.im_cmd.specs.Runs.{RunsImage, RefusesRun}
 use Rattle.im_store.specs.Outcomes.{Outcome as EndOfRun}
 use Rattle.im_cmd.specs.Evaluations.{Evaluates, RefusesEvaluation, evaluation_outcome}
+use Rattle.im_cmd.specs.Generations.{Generates, RefusesGeneration, generation_outcome}
 use Rattle.im_cmd.specs.Outcome.{Outcome, refused, done, Got, Tells, built_lines, reported_lines, run_outcome}
 
 -- what comes of what a command asks for, by the files of the shelf before and after it
@@ -57,6 +58,10 @@ pub data Comes (old new : ShelfState) : Asked → Outcome → Type 0 where
       → Comes old new (evaluates source building evaluation) (refused r)
   evaluated : (source : List ℕ) (building : BuildOptions) (evaluation : Evaluation) (b : Built) (end : EndOfRun) → Evaluates source building evaluation b end old new
       → Comes old new (evaluates source building evaluation) (evaluation_outcome b evaluation.vars end)
+  -- a made source is built and its image run, and no file is touched
+  gen_refused : (count : ℕ) (r : Refused) → RefusesGeneration count r → new ≡ old → Comes old new (generates count) (refused r)
+  generated : (count : ℕ) (b : Built) (ended : Device) → Generates count b ended → new ≡ old
+      → Comes old new (generates count) (generation_outcome count b.image.form ended)
 
 -- what comes of it is told
 pub record CarriesOut (asked : Asked) (old new : ShelfState) (out out' err err' : SinkState) (status : ℕ) : Type 0 where

@@ -4,5 +4,6 @@ pub mod Images
 pub mod Runs
 pub mod Outcome
 pub mod Evaluations
+pub mod Generations
 pub mod Answers
 pub mod Stages

@@ -9,9 +9,10 @@ use Rattle.im_image.specs.Contents.{ImageValue}
 use Rattle.im_power.specs.declared.period.Period.{Period}
 use Rattle.im_mem.specs.Map.{input_capacity}
 use Rattle.im_image.specs.declared.form.Form.{Form}
-use Rattle.im_device.specs.Periods.{Device, fresh}
+use Rattle.im_device.specs.Periods.{Device, fresh, power}
 use Rattle.im_device.specs.Load.{memory_of}
 use Rattle.im_power.specs.Text.{repeats}
+use Rattle.im_gen.specs.Gen.{gen_trace}
 use Rattle.im_emu.specs.State.{Held, IsImageOf, device_of}
 use Rattle.im_num.specs.Variables.{Variable, variable_of}
 use Rattle.im_fault.specs.declared.fault.SourceFault.{SourceFault}
@@ -27,6 +28,7 @@ use Rattle.im_compile.specs.Passed.{IsSource}
 use Rattle.im_cmd_words.specs.declared.command.BuildOptions.{BuildOptions}
 use Rattle.im_cmd.specs.Builds.{IsBuilt, IsFaulty, Compiles}
 use Rattle.im_cmd.specs.Runs.{ReadsPeriods, RunsImage, RefusesTrace}
+use Rattle.im_cmd.specs.Generations.{Generates}
 use Rattle.im_cmd.specs.Outcome.{Got, shown, no_output_line, refusal_status}
 
 -- the machine as the end of a run
@@ -103,6 +105,17 @@ pub record Ran (options : Options) (image : ImageValue) (form : Form) (ended : D
   pub run : RunsImage options image ended old new
   pub form_is : form ≡ image.form
   pub are_shown : variables ≡ shown options.vars image.objects ended.mem
+
+-- what was built of a made source was run on this machine
+pub record RunsMade (count : ℕ) (built : Built) (machine : Held (List ℕ)) : Type 0 where
+  pub run : ended_of machine ≡ power (gen_trace count built.gap) (fresh (memory_of built.image []))
+  pub form_is : machine.form ≡ built.image.form
+
+-- a made source was built, and its image run on this machine
+pub record Generated (count : ℕ) (machine : Held (List ℕ)) : Type 0 where
+  pub built : Built
+  pub generates : Generates count built (ended_of machine)
+  pub form_is : machine.form ≡ built.image.form
 
 -- ---- telling
 

@@ -42,8 +42,8 @@ fn read_source<'a, H: Shelf>(
     }
 }
 
-// What is built of a source file's text.
-fn build_text<'a>(
+/// What is built of a source's text.
+pub fn build_text<'a>(
     alloc: Global,
     source: &'a str,
     building: BuildOptions,

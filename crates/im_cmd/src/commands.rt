@@ -1,9 +1,12 @@
-ghost use Rattle.im_cmd_words.specs.Named.{IsInBounds, evaluation_meaning, options_meaning, builds, runs, executes, dumps, upgrades, reports, evaluates};
+ghost use Rattle.im_io.specs.Shelf.{ShelfState};
+ghost use Rattle.im_cmd_words.specs.Named.{IsInBounds, evaluation_meaning, options_meaning, builds, runs, executes, dumps, upgrades, reports, evaluates, generates};
 ghost use Rattle.im_cmd.specs.Answers.{CarriesOut};
 
 use crate::building::{build, compile_source};
 use crate::evaluated::tell_evaluation;
 use crate::evaluating::evaluate;
+use crate::generated::tell_generation;
+use crate::generating::generate;
 use crate::running::run_image;
 use crate::stored::read_stored;
 use crate::telling::{finish, send_built, send_report_of, tell_refusal, tell_run};
@@ -168,6 +171,18 @@ pub fn evaluate_source<H: Shelf, O: Sink, E: Sink>(
 {
     match evaluate(alloc, shelf, source, building, options) {
         Ok(evaluation) => tell_evaluation(out, err, &evaluation, options.vars),
+        Err(refusal) => tell_refusal(err, &refusal),
+    }
+}
+
+/// Builds the made source of so many functions, and runs its image under periods that all commit; no file
+/// is touched. `out` gets the line of the run.
+pub fn generate_and_run<O: Sink, E: Sink>(alloc: Global, out: &mut O, err: &mut E, count: u32) -> u8
+    ensures { (shelf : ShelfState) → CarriesOut (generates count) shelf shelf (O.state out.old)
+        (O.state out.new) (E.state err.old) (E.state err.new) result }
+{
+    match generate(alloc, count) {
+        Ok(machine) => tell_generation(out, err, count, &machine),
         Err(refusal) => tell_refusal(err, &refusal),
     }
 }

@@ -4,7 +4,9 @@ ghost use Rattle.im_cmd_words.specs.Named.{HasBounds, meaning};
 ghost use Rattle.im_cmd.specs.Stages.{TellsFault};
 ghost use Rattle.im_cmd.specs.Answers.{Answers, CarriesOut};
 
-use crate::commands::{build_source, dump, evaluate_source, execute, report, run_source, upgrade};
+use crate::commands::{
+    build_source, dump, evaluate_source, execute, generate_and_run, report, run_source, upgrade,
+};
 use crate::status::USAGE;
 use crate::telling::tell_refusal;
 use im_cmd_lines::Refusal;
@@ -94,5 +96,6 @@ fn carry_out<H: Shelf, O: Sink, E: Sink>(
             building,
             options,
         } => evaluate_source(alloc, shelf, out, err, source, building, options),
+        Command::Gen { count } => generate_and_run(alloc, out, err, count),
     }
 }

@@ -8,6 +8,8 @@ mod entry;
 mod evaluated;
 mod evaluating;
 mod files;
+mod generated;
+mod generating;
 mod running;
 mod status;
 mod stored;

@@ -47,8 +47,8 @@ pub fn read_input<'a, H: Shelf>(
     }
 }
 
-// A machine with an image and an input.
-fn load<'a>(alloc: Global, image: &Image, input: &[u8]) -> Result<Machine<FlatMem>, Refusal<'a>>
+/// A machine with an image and an input.
+pub fn load<'a>(alloc: Global, image: &Image, input: &[u8]) -> Result<Machine<FlatMem>, Refusal<'a>>
     ensures { MatchResult result (λ machine. Loads image.now input.now machine)
         (λ refusal. RefusesLoad input.now (refused_of refusal)) }
 {

@@ -7,3 +7,4 @@ pub mod Upgrades
 pub mod Dumps
 pub mod Refusals
 pub mod Variables
+pub mod Generations

@@ -7,7 +7,8 @@ use crate::numerals::hex_text;
 use im_io::{Failed, Sink, send, send_pieces};
 use itoa::Buffer;
 
-fn send_ending_line<S: Sink>(sink: &mut S, ending: Ending, status: i32) -> Result<(), Failed>
+/// Sends how a run ended: the status that the program returned, or why there is none.
+pub fn send_ending_line<S: Sink>(sink: &mut S, ending: Ending, status: i32) -> Result<(), Failed>
     ensures { Sends (ending_line ending status) result (S.state sink.old) (S.state sink.new) }
 {
     match ending {

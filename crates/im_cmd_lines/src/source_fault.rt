@@ -161,7 +161,6 @@ pub fn send_source_fault<S: Sink>(
     match fault {
         SourceFault::Line { line, why } => send_line_fault(sink, name, *line, *why),
         SourceFault::Limit { quantity, count } => send_limit(sink, name, *quantity, *count),
-        SourceFault::NotYet => send_about(sink, name, b"not yet compiled"),
         SourceFault::OutOfMemory => send_about(sink, name, b"no memory"),
     }
 }

@@ -1,4 +1,5 @@
 mod evaluations;
+mod generations;
 mod images;
 mod limits;
 mod profile;

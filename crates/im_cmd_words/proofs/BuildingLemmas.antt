@@ -25,11 +25,11 @@ within_facts least most d n e = go (nat_lt d least) (nat_lt most d) refl refl e
     go false false a b f = (ltb-false d least a, ltb-false most d b)
 
 -- a number that the table takes: a value, and accepted
-record IsTaken (least most : ℕ) (text : List ℕ) : Type 0 where
+pub record IsTaken (least most : ℕ) (text : List ℕ) : Type 0 where
   pub is_value : is_option text ≡ false
   pub accepted : is_signed_in (pos least) (pos most) text ≡ true
 
-taken_between : (least most : ℕ) (text : List ℕ) (n : ℕ) → number_between least most text ≡ Some n → IsTaken least most text
+pub taken_between : (least most : ℕ) (text : List ℕ) (n : ℕ) → number_between least most text ≡ Some n → IsTaken least most text
 taken_between least most text n e = go (starts_plainly text && (is_numeral text && nat_lt (digits_value 10 text) (2 ^ 32))) refl
   where
     go : (b : Bool) → (starts_plainly text && (is_numeral text && nat_lt (digits_value 10 text) (2 ^ 32))) ≡ b → IsTaken least most text

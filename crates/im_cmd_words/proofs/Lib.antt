@@ -7,3 +7,4 @@ pub mod BuildingLemmas
 pub mod RowLemmas
 pub mod FirstWordLemmas
 pub mod TakenLemmas
+pub mod GenerationLemmas

@@ -11,7 +11,7 @@ use Rattle.clap.proofs.FaultLemmas.{stopped_fault}
 use Rattle.clap.proofs.WalkLemmas.{walk_stopped}
 use Rattle.clap.proofs.OnLiterals.{clap_on_literals}
 use Rattle.im_cmd_words.specs.Table.{command_line}
-use Rattle.im_cmd_words.specs.Named.{Asked, asked, build_asked, builds, default_building, default_evaluation, default_options, dump_asked, dumps, eval_asked, evaluates, exec_asked, executes, is_option, named, report_asked, reports, run_asked, runs, upgrade_asked, upgrades}
+use Rattle.im_cmd_words.specs.Named.{Asked, asked, build_asked, builds, default_building, default_evaluation, default_options, dump_asked, dumps, eval_asked, evaluates, exec_asked, executes, gen_asked, is_option, named, report_asked, reports, run_asked, runs, upgrade_asked, upgrades}
 
 -- ---- one word
 
@@ -162,6 +162,12 @@ eval_named program rest =
     name_answer (codes "eval") rest refl refl program
     ∙ ap (λ (k : Kinds). if is_empty k then eval_asked (rows_after (command_shape 6).rules [] rest) else None) (last_fault (level_fault (command_shape 6) [] nothing_held rest false []))
 
+pub gen_named : (program : Text) (rest : List Text) → named (program ∷ codes "gen" ∷ rest) ≡ asked_of gen_asked (command_shape 7) rest
+unfolding clap_on_literals
+gen_named program rest =
+    name_answer (codes "gen") rest refl refl program
+    ∙ ap (λ (k : Kinds). if is_empty k then gen_asked (rows_after (command_shape 7).rules [] rest) else None) (last_fault (level_fault (command_shape 7) [] nothing_held rest false []))
+
 -- ---- the words after it
 
 -- what the end of the walk and its fault ask for
@@ -284,3 +290,11 @@ eval_fault program rest = name_fault (codes "eval") rest refl refl program ∙ l
 pub eval_found : (program : Text) (rest : List Text) → subcommand_of command_line (program ∷ codes "eval" ∷ rest) ≡ Some (codes "eval", rows_after (command_shape 6).rules [] rest)
 unfolding clap_on_literals
 eval_found program rest = name_found (codes "eval") rest refl refl program
+
+pub gen_fault : (program : Text) (rest : List Text) → fault_of command_line (program ∷ codes "gen" ∷ rest) ≡ level_fault (command_shape 7) [] nothing_held rest false []
+unfolding clap_on_literals
+gen_fault program rest = name_fault (codes "gen") rest refl refl program ∙ last_fault (level_fault (command_shape 7) [] nothing_held rest false [])
+
+pub gen_found : (program : Text) (rest : List Text) → subcommand_of command_line (program ∷ codes "gen" ∷ rest) ≡ Some (codes "gen", rows_after (command_shape 7).rules [] rest)
+unfolding clap_on_literals
+gen_found program rest = name_found (codes "gen") rest refl refl program

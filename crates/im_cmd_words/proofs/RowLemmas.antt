@@ -46,15 +46,15 @@ abbrev pub has_any : List Text → Bool
 has_any [] = false
 has_any (v ∷ vs) = true
 
--- the options that have numbers, and the bounds of each
+-- the options and operands that have numbers, and the bounds of each
 abbrev pub is_number : Text → Bool
-is_number id = bytes_eq id (codes "steps") || (bytes_eq id (codes "fuel") || (bytes_eq id (codes "stack") || bytes_eq id (codes "out-cap")))
+is_number id = bytes_eq id (codes "steps") || (bytes_eq id (codes "fuel") || (bytes_eq id (codes "stack") || (bytes_eq id (codes "out-cap") || bytes_eq id (codes "N"))))
 
 abbrev pub least : Text → ℕ
-least id = cond (bytes_eq id (codes "stack")) 256 0
+least id = cond (bytes_eq id (codes "stack")) 256 (cond (bytes_eq id (codes "N")) 1 0)
 
 abbrev pub most : Text → ℕ
-most id = cond (bytes_eq id (codes "steps") || bytes_eq id (codes "fuel")) 4294967295 1048576
+most id = cond (bytes_eq id (codes "steps") || bytes_eq id (codes "fuel")) 4294967295 (cond (bytes_eq id (codes "N")) 300 1048576)
 
 -- a value of such an option is a number that clap's parser takes
 abbrev pub fits : Text → Text → Bool

@@ -19,8 +19,8 @@ use Rattle.im_cmd_words.specs.Table.{command_line}
 use Rattle.clap.proofs.WalkLemmas.{both}
 use Rattle.im_cmd_words.specs.Numbers.{is_numeral, number_between, plain_number, starts_plainly, within}
 use Rattle.im_cmd_words.specs.declared.command.BuildOptions.{BuildOptions}
-use Rattle.im_cmd_words.specs.Named.{Asked, build_asked, building_asked, builds, dump_asked, dumps, eval_asked, evaluates, exec_asked, executes, is_faultless, IsPlain, is_set, named, number_asked, report_asked, reports, run_asked, runs, text_found, upgrade_asked, upgrades}
-use Rattle.im_cmd_words.proofs.OperandLemmas.{asked_of, build_fault, build_found, build_named, command_shape, dump_fault, dump_found, dump_named, eval_fault, eval_found, eval_named, exec_fault, exec_found, exec_named, report_fault, report_found, report_named, run_fault, run_found, run_named, upgrade_fault, upgrade_found, upgrade_named}
+use Rattle.im_cmd_words.specs.Named.{Asked, build_asked, building_asked, builds, dump_asked, dumps, eval_asked, evaluates, exec_asked, executes, gen_asked, generates, is_faultless, IsPlain, is_set, named, number_asked, report_asked, reports, run_asked, runs, text_found, upgrade_asked, upgrades}
+use Rattle.im_cmd_words.proofs.OperandLemmas.{asked_of, build_fault, build_found, build_named, command_shape, dump_fault, dump_found, dump_named, eval_fault, eval_found, eval_named, exec_fault, exec_found, exec_named, gen_fault, gen_found, gen_named, report_fault, report_found, report_named, run_fault, run_found, run_named, upgrade_fault, upgrade_found, upgrade_named}
 use Rattle.im_cmd_words.proofs.FirstWordLemmas.{dashes_refused, first_refused, help_refused, name_refused, no_command, nothing_refused, stray_kind}
 use Rattle.im_cmd_words.proofs.OptionLemmas.{first_apart, reads}
 use Rattle.im_cmd_words.proofs.RowLemmas.{AllGood, AllSound, Fits, Holds, Sets, Sound, defaults_give, first_good, fits, given_holds, kinds_accept, level_good, no_kind, none_first, none_then, set_sound, text_fit, is_number}
@@ -190,6 +190,14 @@ eval_sound = (
   ),
 )
 
+gen_sound : AllSound (command_shape 7).rules
+gen_sound = (
+  set_sound (rule_at 7 0) (λ values rows. refl) (number_fit (rule_at 7 0) (codes "N") refl (λ again rows e. no_kind _ _ e)
+      (λ again v vs rows e. kinds_accept false (Signed (pos 1) (pos 300)) (v ∷ vs) (none_then (repeat_fault again (codes "N") rows) _ (none_then (range_kinds 1 1 (length (v ∷ vs))) _ e)))),
+  refl,
+  (λ again values rows e g. g, refl, tt),
+)
+
 -- ---- a level of the table without a fault
 
 level_facts : (s : Shape) → AllSound s.rules → (words : List Text) → level_fault s [] nothing_held words false [] ≡ []
@@ -220,12 +228,13 @@ Passes shape words = level_fault (command_shape shape) [] nothing_held words fal
 abbrev Plainly : Option Text → Type 0
 Plainly text = IfSome text (λ text. starts_plainly text ≡ true)
 
--- the numbers of the options begin plainly
+-- the numbers of the options and operands begin plainly
 pub record ArePlain (found : Text → Option Text) : Type 0 where
   pub steps : Plainly (found (codes "steps"))
   pub fuel : Plainly (found (codes "fuel"))
   pub stack : Plainly (found (codes "stack"))
   pub out_cap : Plainly (found (codes "out-cap"))
+  pub count : Plainly (found (codes "N"))
 
 abbrev in_rows : List Row → Text → Option Text
 in_rows rows name = first_of name rows
@@ -250,6 +259,11 @@ out_cap_of : (rows : List Row) → Holds (codes "out-cap") rows → ArePlain (in
 out_cap_of rows held plain =
     let begins : starts_plainly held.text ≡ true = subst Plainly held.is_first plain.out_cap in
     (digits_value 10 held.text, ap (option_and_then (number_between 0 1048576)) held.is_first ∙ between_read 0 1048576 held.text (number_read 0 1048576 held.text (omega arith) held.fit begins))
+
+count_of : (rows : List Row) → Holds (codes "N") rows → ArePlain (in_rows rows) → (n : ℕ) × (number_asked (codes "N") 1 300 rows ≡ Some n)
+count_of rows held plain =
+    let begins : starts_plainly held.text ≡ true = subst Plainly held.is_first plain.count in
+    (digits_value 10 held.text, ap (option_and_then (number_between 1 300)) held.is_first ∙ between_read 1 300 held.text (number_read 1 300 held.text (omega arith) held.fit begins))
 
 building_of : (rows : List Row) → Holds (codes "stack") rows → Holds (codes "out-cap") rows → ArePlain (in_rows rows) → (building : BuildOptions) × (building_asked rows ≡ Some building)
 building_of rows stack out_cap plain =
@@ -318,6 +332,13 @@ upgrade_read words e =
     let old = given_holds (codes "IN") (rows_at 4 words) facts.0 given.0 in
     let new = given_holds (codes "OUT") (rows_at 4 words) facts.0 given.1 in
     (λ i. is_some (option_and_then (λ o. option_map (λ n. upgrades o n) (new.is_first i)) (old.is_first i)))
+
+gen_read : (words : List Text) → Passes 7 words → ArePlain (in_rows (rows_at 7 words)) → is_some (gen_asked (rows_at 7 words)) ≡ true
+gen_read words e plain =
+    let rows = rows_at 7 words in
+    let facts = level_facts (command_shape 7) gen_sound words e in
+    let held = given_holds (codes "N") rows facts.0 (required_one _ facts.1) in
+    ap (λ o. is_some (option_map generates o)) (count_of rows held plain).1
 
 exec_read : (words : List Text) → Passes 2 words → ArePlain (in_rows (rows_at 2 words)) → is_some (exec_asked (rows_at 2 words)) ≡ true
 exec_read words e plain =
@@ -398,35 +419,41 @@ eval_taken : (program : Text) (rest : List Text) → Taken (program ∷ codes "e
 eval_taken program rest = row_taken eval_asked (codes "eval") 6 (program ∷ codes "eval" ∷ rest) rest
     (eval_named program rest) (eval_fault program rest) (eval_found program rest) (eval_read rest)
 
+gen_taken : (program : Text) (rest : List Text) → Taken (program ∷ codes "gen" ∷ rest)
+gen_taken program rest = row_taken gen_asked (codes "gen") 7 (program ∷ codes "gen" ∷ rest) rest
+    (gen_named program rest) (gen_fault program rest) (gen_found program rest) (gen_read rest)
+
 -- a first word that is this text
 same_taken : (text name program : Text) (rest : List Text) → bytes_eq text name ≡ true → Taken (program ∷ text ∷ rest) → Taken (program ∷ name ∷ rest)
 same_taken text name program rest same taken = subst (λ (n : Text). Taken (program ∷ n ∷ rest)) ((bytes_eq-Decides text name).0 same) taken
 
 other_taken : (name program : Text) (rest : List Text) → bytes_eq (codes "build") name ≡ false → bytes_eq (codes "run") name ≡ false → bytes_eq (codes "exec") name ≡ false
-    → bytes_eq (codes "dump") name ≡ false → bytes_eq (codes "upgrade") name ≡ false → bytes_eq (codes "report") name ≡ false → bytes_eq (codes "eval") name ≡ false → bytes_eq (codes "help") name ≡ false
+    → bytes_eq (codes "dump") name ≡ false → bytes_eq (codes "upgrade") name ≡ false → bytes_eq (codes "report") name ≡ false → bytes_eq (codes "eval") name ≡ false → bytes_eq (codes "gen") name ≡ false → bytes_eq (codes "help") name ≡ false
     → (b : Bool) → bytes_eq name (codes "--") ≡ b → Taken (program ∷ name ∷ rest)
-other_taken name program rest b r x d u p v h true t =
+other_taken name program rest b r x d u p v g h true t =
     subst (λ (n : Text). Taken (program ∷ n ∷ rest)) (sym ((bytes_eq-Decides name (codes "--")).0 t)) (λ faultless plain. absurd (dashes_refused program rest faultless))
-other_taken name program rest b r x d u p v h false t = λ faultless plain. absurd (first_refused program name rest (stray_kind name (no_command name b r x d u p v h) t) faultless)
+other_taken name program rest b r x d u p v g h false t = λ faultless plain. absurd (first_refused program name rest (stray_kind name (no_command name b r x d u p v g h) t) faultless)
 
-word_taken : (name program : Text) (rest : List Text) (b r x d u p v h : Bool) → bytes_eq (codes "build") name ≡ b → bytes_eq (codes "run") name ≡ r
+word_taken : (name program : Text) (rest : List Text) (b r x d u p v g h : Bool) → bytes_eq (codes "build") name ≡ b → bytes_eq (codes "run") name ≡ r
     → bytes_eq (codes "exec") name ≡ x → bytes_eq (codes "dump") name ≡ d → bytes_eq (codes "upgrade") name ≡ u → bytes_eq (codes "report") name ≡ p
-    → bytes_eq (codes "eval") name ≡ v → bytes_eq (codes "help") name ≡ h → Taken (program ∷ name ∷ rest)
-word_taken name program rest true r x d u p v h bt rt xt dt ut pt vt ht = same_taken (codes "build") name program rest bt (build_taken program rest)
-word_taken name program rest false true x d u p v h bt rt xt dt ut pt vt ht = same_taken (codes "run") name program rest rt (run_taken program rest)
-word_taken name program rest false false true d u p v h bt rt xt dt ut pt vt ht = same_taken (codes "exec") name program rest xt (exec_taken program rest)
-word_taken name program rest false false false true u p v h bt rt xt dt ut pt vt ht = same_taken (codes "dump") name program rest dt (dump_taken program rest)
-word_taken name program rest false false false false true p v h bt rt xt dt ut pt vt ht = same_taken (codes "upgrade") name program rest ut (upgrade_taken program rest)
-word_taken name program rest false false false false false true v h bt rt xt dt ut pt vt ht = same_taken (codes "report") name program rest pt (report_taken program rest)
-word_taken name program rest false false false false false false true h bt rt xt dt ut pt vt ht = same_taken (codes "eval") name program rest vt (eval_taken program rest)
-word_taken name program rest false false false false false false false true bt rt xt dt ut pt vt ht =
+    → bytes_eq (codes "eval") name ≡ v → bytes_eq (codes "gen") name ≡ g → bytes_eq (codes "help") name ≡ h → Taken (program ∷ name ∷ rest)
+word_taken name program rest true r x d u p v g h bt rt xt dt ut pt vt gt ht = same_taken (codes "build") name program rest bt (build_taken program rest)
+word_taken name program rest false true x d u p v g h bt rt xt dt ut pt vt gt ht = same_taken (codes "run") name program rest rt (run_taken program rest)
+word_taken name program rest false false true d u p v g h bt rt xt dt ut pt vt gt ht = same_taken (codes "exec") name program rest xt (exec_taken program rest)
+word_taken name program rest false false false true u p v g h bt rt xt dt ut pt vt gt ht = same_taken (codes "dump") name program rest dt (dump_taken program rest)
+word_taken name program rest false false false false true p v g h bt rt xt dt ut pt vt gt ht = same_taken (codes "upgrade") name program rest ut (upgrade_taken program rest)
+word_taken name program rest false false false false false true v g h bt rt xt dt ut pt vt gt ht = same_taken (codes "report") name program rest pt (report_taken program rest)
+word_taken name program rest false false false false false false true g h bt rt xt dt ut pt vt gt ht = same_taken (codes "eval") name program rest vt (eval_taken program rest)
+word_taken name program rest false false false false false false false true h bt rt xt dt ut pt vt gt ht = same_taken (codes "gen") name program rest gt (gen_taken program rest)
+word_taken name program rest false false false false false false false false true bt rt xt dt ut pt vt gt ht =
     same_taken (codes "help") name program rest ht (λ faultless plain. absurd (help_refused program rest faultless))
-word_taken name program rest false false false false false false false false bt rt xt dt ut pt vt ht =
-    other_taken name program rest bt rt xt dt ut pt vt ht (bytes_eq name (codes "--")) refl
+word_taken name program rest false false false false false false false false false bt rt xt dt ut pt vt gt ht =
+    other_taken name program rest bt rt xt dt ut pt vt gt ht (bytes_eq name (codes "--")) refl
 
 pub faultless_taken : (words : List Text) → is_faultless words ≡ true → IsPlain (codes "steps") words → IsPlain (codes "fuel") words → IsPlain (codes "stack") words
-    → IsPlain (codes "out-cap") words → is_some (named words) ≡ true
-faultless_taken [] e steps fuel stack out_cap = absurd (nothing_refused e)
-faultless_taken (program ∷ []) e steps fuel stack out_cap = absurd (name_refused program e)
-faultless_taken (program ∷ name ∷ rest) e steps fuel stack out_cap =
-    word_taken name program rest _ _ _ _ _ _ _ _ refl refl refl refl refl refl refl refl e (record { steps = steps; fuel = fuel; stack = stack; out_cap = out_cap })
+    → IsPlain (codes "out-cap") words → IsPlain (codes "N") words → is_some (named words) ≡ true
+faultless_taken [] e steps fuel stack out_cap count = absurd (nothing_refused e)
+faultless_taken (program ∷ []) e steps fuel stack out_cap count = absurd (name_refused program e)
+faultless_taken (program ∷ name ∷ rest) e steps fuel stack out_cap count =
+    word_taken name program rest _ _ _ _ _ _ _ _ _ refl refl refl refl refl refl refl refl refl e
+    (record { steps = steps; fuel = fuel; stack = stack; out_cap = out_cap; count = count })

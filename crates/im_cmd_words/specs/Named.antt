@@ -76,6 +76,7 @@ pub data Asked : Type 0 where
   upgrades : Text → Text → Asked
   reports : Text → BuildOptions → Asked
   evaluates : Text → BuildOptions → Evaluation → Asked
+  generates : ℕ → Asked
 
 -- SRC and IMG
 abbrev pub pair_asked : (Text → Text → Asked) → List Row → Option Asked
@@ -94,7 +95,7 @@ options_asked rows = option_map (λ steps. record {
   vars = is_set (codes "vars") rows;
 }) (option_and_then plain_number (first_of (codes "steps") rows))
 
--- the number in these bounds that the option of this name has
+-- the number in these bounds that the option or operand of this name has
 abbrev pub number_asked : Text → ℕ → ℕ → List Row → Option ℕ
 number_asked name least most rows =
     option_and_then (number_between least most) (first_of name rows)
@@ -142,6 +143,10 @@ eval_asked rows = option_and_then (λ building. option_and_then (λ evaluation.
     option_map (λ source. evaluates source building evaluation) (first_of (codes "SRC") rows))
     (evaluation_asked rows)) (building_asked rows)
 
+-- how many functions the made source has
+abbrev pub gen_asked : List Row → Option Asked
+gen_asked rows = option_map generates (number_asked (codes "N") 1 300 rows)
+
 -- what the command of this name asks for, by what was found for the words after it
 abbrev pub asked_by : Text → List Row → Option Asked
 asked_by name rows = if bytes_eq name (codes "build") then build_asked rows
@@ -150,7 +155,8 @@ asked_by name rows = if bytes_eq name (codes "build") then build_asked rows
     else (if bytes_eq name (codes "dump") then dump_asked rows
     else (if bytes_eq name (codes "upgrade") then upgrade_asked rows
     else (if bytes_eq name (codes "report") then report_asked rows
-    else (if bytes_eq name (codes "eval") then eval_asked rows else None))))))
+    else (if bytes_eq name (codes "eval") then eval_asked rows
+    else (if bytes_eq name (codes "gen") then gen_asked rows else None)))))))
 
 abbrev pub asked : Option (Text × List Row) → Option Asked
 asked = option_and_then (λ found. asked_by found.0 found.1)
@@ -189,6 +195,7 @@ HasBounds (command.Eval source building options) = IsInBounds building
 HasBounds (command.Exec image options) = ⊤
 HasBounds (command.Dump image) = ⊤
 HasBounds (command.Upgrade old new) = ⊤
+HasBounds (command.Gen count) = ⊤
 
 abbrev pub options_meaning : RunOptions → Options
 options_meaning options = record {
@@ -216,6 +223,7 @@ meaning (command.Upgrade old new) = upgrades old.now new.now
 meaning (command.Report source building) = reports source.now building
 meaning (command.Eval source building options) =
     evaluates source.now building (evaluation_meaning options)
+meaning (command.Gen count) = generates count
 
 abbrev pub IsUsage : WordsFault → Type 0
 IsUsage (fault.Usage text) = ⊤

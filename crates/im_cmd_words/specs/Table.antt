@@ -24,6 +24,10 @@ numbered name default least most = record (valued name) {
   parser = Some (Signed (pos least) (pos most));
 }
 
+-- the same, a number from the one bound to the other
+abbrev pub counted : Text → ℕ → ℕ → Rule
+counted name least most = record (operand name) { parser = Some (Signed (pos least) (pos most)) }
+
 -- a command with more that may follow
 abbrev pub with_rules : App → List Rule → App
 with_rules = fold with_rule
@@ -83,9 +87,13 @@ eval_options = valued (codes "input")
 abbrev pub eval_row : Shape
 eval_row = row (codes "eval") (operand (codes "SRC") ∷ build_options ++ eval_options)
 
+-- gen N
+abbrev pub gen_row : Shape
+gen_row = row (codes "gen") (counted (codes "N") 1 300 ∷ [])
+
 -- the program's own name, and then one of the commands
 abbrev pub command_line : App
 command_line = record {
   top = record (new_shape (codes "intermit")) { is_leaf = false; subcommand_required = true };
-  subs = build_row ∷ run_row ∷ exec_row ∷ dump_row ∷ upgrade_row ∷ report_row ∷ eval_row ∷ [];
+  subs = build_row ∷ run_row ∷ exec_row ∷ dump_row ∷ upgrade_row ∷ report_row ∷ eval_row ∷ gen_row ∷ [];
 }

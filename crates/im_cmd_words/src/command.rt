@@ -39,6 +39,10 @@ pub enum Command<'a> {
         building: BuildOptions,
         options: EvalOptions<'a>,
     },
+    /// Build a made source of so many functions, 1 to 300, and run its image.
+    Gen {
+        count: u32,
+    },
 }
 
 /// How a source is built.

@@ -2,7 +2,7 @@ ghost use Rattle.std.specs.Prelude.{◌≡◌, ℕ, ◌∷◌, [], Bool, IfSome,
 ghost use Rattle.std.specs.Prelude.{List, false, is_some, true, unwrap_or};
 ghost use Rattle.clap.specs.Words.{Text};
 ghost use Rattle.im_cmd_words.specs.Named.{building_words, builds, default_building, default_options};
-ghost use Rattle.im_cmd_words.specs.Named.{default_evaluation, evaluates, evaluation_words};
+ghost use Rattle.im_cmd_words.specs.Named.{default_evaluation, evaluates, evaluation_words, generates};
 ghost use Rattle.im_cmd_words.specs.Named.{dumps, executes, is_faultless, is_option, IsPlain, named};
 ghost use Rattle.im_cmd_words.specs.Named.{option_words, reports, runs, upgrades};
 ghost use Rattle.im_cmd_words.specs.Numbers.{number_between, plain_number};
@@ -32,6 +32,8 @@ pub fn words_taken_law()
         ∷ codes "--vars" ∷ codes "--stack=256" ∷ codes "--input" ∷ codes "f" ∷ [])
         ≡ Some (evaluates (codes "a") (record { stack = 256; out_cap = 1048576 })
         (record { input = Some (codes "f"); fuel = 9; vars = true })) }
+    ensures made { named (codes "intermit" ∷ codes "gen" ∷ codes "300" ∷ [])
+        ≡ Some (generates 300) }
 {}
 
 /// Each command takes its files by their places, whatever their names are but options.
@@ -113,11 +115,17 @@ pub fn evaluation_law()
         (record { input = input; fuel = number; vars = vars })) }
 {}
 
+/// `gen` takes each number from 1 to 300 that has no sign and no zero before it.
+pub fn generation_law()
+    ensures { (program text : Text) (number : ℕ) → number_between 1 300 text ≡ Some number
+        → named (program ∷ codes "gen" ∷ text ∷ []) ≡ Some (generates number) }
+{}
+
 /// Words in which clap finds no fault name a command, unless a number has a sign or a zero before it.
 pub fn faultless_law()
     ensures { (words : List Text) → is_faultless words ≡ true → IsPlain (codes "steps") words
         → IsPlain (codes "fuel") words → IsPlain (codes "stack") words
-        → IsPlain (codes "out-cap") words
+        → IsPlain (codes "out-cap") words → IsPlain (codes "N") words
         → is_some (named words) ≡ true }
 {}
 
@@ -142,4 +150,8 @@ pub fn words_refused_law()
         ∷ codes "--steps" ∷ codes "+7" ∷ []) ≡ None }
     ensures zero { named (codes "intermit" ∷ codes "exec" ∷ codes "b"
         ∷ codes "--steps" ∷ codes "07" ∷ []) ≡ None }
+    ensures none { named (codes "intermit" ∷ codes "gen" ∷ codes "0" ∷ []) ≡ None }
+    ensures over { named (codes "intermit" ∷ codes "gen" ∷ codes "301" ∷ []) ≡ None }
+    ensures plus { named (codes "intermit" ∷ codes "gen" ∷ codes "+1" ∷ []) ≡ None }
+    ensures padded { named (codes "intermit" ∷ codes "gen" ∷ codes "01" ∷ []) ≡ None }
 {}

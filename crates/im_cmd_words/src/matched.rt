@@ -1,6 +1,6 @@
 ghost use Rattle.std.specs.Prelude.{◌≡◌, ◌≤◌, IfSome, option_map};
 ghost use Rattle.clap.specs.Words.{first_of, found_of, rows_of, subcommand_rows_of};
-ghost use Rattle.im_cmd_words.specs.Named.{asked, asked_by, build_asked, building_asked, dump_asked, exec_asked};
+ghost use Rattle.im_cmd_words.specs.Named.{asked, asked_by, build_asked, building_asked, dump_asked, exec_asked, gen_asked};
 ghost use Rattle.im_cmd_words.specs.Named.{eval_asked, evaluation_asked, evaluation_meaning};
 ghost use Rattle.im_cmd_words.specs.Named.{is_set, meaning, number_asked, options_asked, options_meaning};
 ghost use Rattle.im_cmd_words.specs.Named.{HasBounds, IsInBounds, report_asked, run_asked, upgrade_asked};
@@ -44,7 +44,7 @@ fn eval_options<'a>(found: &ArgMatches<'a>) -> Option<EvalOptions<'a>>
     Some(EvalOptions { input, fuel, vars })
 }
 
-/// The number that the option of this name has.
+/// The number that the option or operand of this name has.
 fn number_of(found: &ArgMatches<'_>, name: &str, least: u32, most: u32) -> Option<u32>
     ensures number { result ≡ number_asked name.now least most (rows_of (found_of found.now)) }
     ensures least { IfSome result (λ number. least ≤ number) }
@@ -141,6 +141,14 @@ fn eval_command<'a>(found: &ArgMatches<'a>) -> Option<Command<'a>>
     })
 }
 
+fn gen_command<'a>(found: &ArgMatches<'a>) -> Option<Command<'a>>
+    ensures asked { option_map meaning result ≡ gen_asked (rows_of (found_of found.now)) }
+    ensures bounds { IfSome result HasBounds }
+{
+    let count = number_of(found, "N", 1, 300)?;
+    Some(Command::Gen { count })
+}
+
 /// The command of this name, with what was found for the words after it.
 fn command_of<'a>(name: &str, found: &ArgMatches<'a>) -> Option<Command<'a>>
     ensures asked { option_map meaning result ≡ asked_by name.now (rows_of (found_of found.now)) }
@@ -154,6 +162,7 @@ fn command_of<'a>(name: &str, found: &ArgMatches<'a>) -> Option<Command<'a>>
         "upgrade" => upgrade_command(found),
         "report" => report_command(found),
         "eval" => eval_command(found),
+        "gen" => gen_command(found),
         _ => None,
     }
 }

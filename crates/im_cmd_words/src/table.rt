@@ -1,8 +1,8 @@
 ghost use Rattle.std.specs.Prelude.{◌≡◌, IfOk, false};
 ghost use Rattle.clap.specs.Words.{app_of, rule_of, shape_of};
 ghost use Rattle.clap.specs.declared.builder.command.Command.TheViews.{out-Command};
-ghost use Rattle.im_cmd_words.specs.Table.{build_options, build_row, command_line, dump_row, exec_row};
-ghost use Rattle.im_cmd_words.specs.Table.{eval_options, eval_row};
+ghost use Rattle.im_cmd_words.specs.Table.{build_options, build_row, command_line, counted, dump_row, exec_row};
+ghost use Rattle.im_cmd_words.specs.Table.{eval_options, eval_row, gen_row};
 ghost use Rattle.im_cmd_words.specs.Table.{file_options, flag, numbered, operand, report_row, run_row};
 ghost use Rattle.im_cmd_words.specs.Table.{step_options, upgrade_row, valued, with_rules};
 
@@ -16,6 +16,14 @@ fn operand<'a>(alloc: Global, name: &'a str, help: &'a str) -> Arg<'a>
     ensures local { result.global ≡ false }
 {
     Arg::new(alloc, name).required(true).help(help)
+}
+
+/// A number from `least` to `most` that a command needs, by its place.
+fn counted<'a>(alloc: Global, name: &'a str, least: u32, most: u32, help: &'a str) -> Arg<'a>
+    ensures rule { rule_of result ≡ counted name.entry.now least most }
+    ensures local { result.global ≡ false }
+{
+    operand(alloc, name, help).value_parser(ValueParser::signed(i64::from(least), i64::from(most)))
 }
 
 fn flag<'a>(alloc: Global, name: &'a str, help: &'a str) -> Arg<'a>
@@ -207,6 +215,15 @@ fn eval_row<'a>(alloc: Global) -> Result<clap::Command<'a>, AllocError>
     with_eval_options(alloc, command)
 }
 
+fn gen_row<'a>(alloc: Global) -> Result<clap::Command<'a>, AllocError>
+    ensures row { IfOk result (λ c. shape_of c ≡ gen_row) }
+    ensures local { IfOk result (λ c. (out-Command c).has_globals ≡ false) }
+{
+    clap::Command::new(alloc, "gen")
+        .about("Builds and runs a made source, and tells its output's length and sum")
+        .arg(counted(alloc, "N", 1, 300, "Functions of the source, 1 to 300"))
+}
+
 /// The table of commands, as clap reads it.
 pub(crate) fn command_table<'a>(alloc: Global) -> Result<clap::Command<'a>, AllocError>
     ensures { IfOk result (λ c. app_of c ≡ command_line) }
@@ -221,5 +238,6 @@ pub(crate) fn command_table<'a>(alloc: Global) -> Result<clap::Command<'a>, Allo
         .subcommand(dump_row(alloc)?)?
         .subcommand(upgrade_row(alloc)?)?
         .subcommand(report_row(alloc)?)?
-        .subcommand(eval_row(alloc)?)
+        .subcommand(eval_row(alloc)?)?
+        .subcommand(gen_row(alloc)?)
 }

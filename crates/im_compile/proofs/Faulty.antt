@@ -12,19 +12,15 @@ use Rattle.im_link.specs.declared.fault.LinkFault.{LinkFault}
 use Rattle.im_link.specs.declared.fault.LinkFault.TheVariants.{Limit, OutOfMemory as NoRoom}
 use Rattle.im_link.specs.Code.{IsFaultOf as IsFaultOfLinking}
 use Rattle.im_link_laws.specs.Program.{IsProgram}
-use Rattle.im_pack.specs.declared.fault.PackFault.{PackFault}
-use Rattle.im_pack.specs.declared.fault.PackFault.TheVariants.{Unnamed as NoName, OutOfMemory as NoSpace}
-use Rattle.im_pack.specs.Packed.{IsFaultOf as IsPackFault}
 use Rattle.im_compile.specs.declared.fault.CompileFault.{CompileFault}
-use Rattle.im_compile.specs.declared.fault.CompileFault.TheVariants.{Frame, Code as TooMuchCode, Unnamed, OutOfMemory}
+use Rattle.im_compile.specs.declared.fault.CompileFault.TheVariants.{Frame, Code as TooMuchCode, OutOfMemory}
 use Rattle.im_compile.specs.Passed.{IsPassed}
 use Rattle.im_compile.specs.Faults.{IsFaultOf, IsAssembled}
-use Rattle.im_compile.specs.Ready.{IsFrameFault, IsLinkFault, of_link, of_pack}
+use Rattle.im_compile.specs.Ready.{IsFrameFault, IsLinkFault, of_link}
 
 pub of_frames : (prog : Prog) (code : Code) → IsPassed prog code → (e : CompileFault) → IsFrameFault code.functions.items e → IsFaultOf prog e
 of_frames prog code passed (Frame i bytes) h = record { code = code; passed = passed; frame = h }
 of_frames prog code passed (TooMuchCode bytes) h = absurd h
-of_frames prog code passed (Unnamed n) h = absurd h
 of_frames prog code passed OutOfMemory h = tt
 
 -- placed code with its statics and frames
@@ -41,12 +37,7 @@ pub of_linking : (prog : Prog) (code : Code) (addresses : List ℕ) (layouts : L
 of_linking prog code addresses layouts a (Frame i bytes) h = absurd h
 of_linking prog code addresses layouts a (TooMuchCode bytes) h =
     record { parts = h.parts; assembled = assembled prog code addresses layouts h.parts a h.assemble; large = h.large; told = h.told }
-of_linking prog code addresses layouts a (Unnamed n) h = absurd h
 of_linking prog code addresses layouts a OutOfMemory h = tt
-
-pub of_image : (prog : Prog) (code : Code) → IsPassed prog code → (e : PackFault) → IsPackFault code.statics.items e → IsFaultOf prog (of_pack e)
-of_image prog code passed (NoName n) h = record { code = code; passed = passed; unnamed = h }
-of_image prog code passed NoSpace h = tt
 
 pub of_link_fault : (code : Code) (addresses : List ℕ) (layouts : List Layout) (parts : List Part) → IsProgram code addresses layouts parts → (e : LinkFault) → IsFaultOfLinking parts e → IsLinkFault code addresses layouts (of_link e)
 of_link_fault code addresses layouts parts h (Limit bytes) f = record { parts = parts; assemble = h; large = f.0; told = f.1 }

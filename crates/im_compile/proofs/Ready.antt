@@ -14,7 +14,7 @@ use Rattle.im_block.specs.declared.access.Tags.{Tags}
 use Rattle.im_block.specs.declared.unit.Static.{Static as StaticOf}
 use Rattle.im_block.specs.declared.unit.Function.{Function}
 use Rattle.im_block.specs.declared.unit.Unit.{Unit as Code}
-use Rattle.im_block.specs.Meaning.{static_of}
+use Rattle.im_block.specs.Meaning.{static_of, statics_of}
 use Rattle.im_block.specs.Uncut.{SameFunctions}
 use Rattle.im_block.specs.Shape.{AllOrdered}
 use Rattle.im_block.specs.Tagged.{IsSound}
@@ -38,6 +38,7 @@ use Rattle.im_compile_dependences.specs.Laws.{UncutNames, ForceNames, PlaceNames
 use Rattle.im_frame.specs.Layout.{room, rooms, bytes_of}
 use Rattle.im_select_addresses.specs.Statics.{objects_of}
 use Rattle.im_compile.specs.Lowered.{IsLoweredCode}
+use Rattle.im_pack.specs.Packed.{AreNamable}
 use Rattle.im_compile.specs.Passed.{IsSource, IsPassed, IsReady}
 
 -- block code with its forced cuts, which placing takes
@@ -86,6 +87,17 @@ rooms_are (s ∷ ss) =
     ap (λ n. n + rooms (objects_of ss)) (room_is s.object.size) ∙ ap (λ n. (s.object.size + 1 + 3) / 4 * 4 + n) (rooms_are ss)
     ∙ sym (sum_by-cons (λ (o : StaticObject). (o.size + 1 + 3) / 4 * 4) (static_of s) (map {A = StaticOf} static_of ss))
 
+-- the statics are those of the program
+
+code_statics : (prog : Prog) (code : Code) (p : IsPassed prog code) → code.statics.items ≡ p.lowered.statics.items
+code_statics prog code p =
+    ap (λ (u : Code). u.statics.items) p.recut.rest ∙ ap (λ (u : Code). u.statics.items) p.place.placed.rest ∙ ap (λ (u : Code). u.statics.items) p.force.rest
+
+pub namable : (prog : Prog) (code : Code) → IsPassed prog code → AreNamable (program_of prog).statics → AreNamable (statics_of code)
+namable prog code p h =
+    let same : statics_of code ≡ (program_of prog).statics = ap (λ (z : List StaticOf). map {A = StaticOf} static_of z) (code_statics prog code p) ∙ p.lower.statics in
+    subst AreNamable (sym same) h
+
 -- functions are as many as before
 
 same_count : (fs gs : List Function) → SameFunctions fs gs → length gs ≡ length fs
@@ -108,8 +120,7 @@ ready form added force cuts places placing recut uncut_names force_names place_n
     let same = recut.same p.tags p.placed code p.recut in
     let placed_well : IsWellFormed p.placed = placing.well_formed p.forced p.placed p.place placeable well in
     let placed : IsPlacedCode code = places.placed p.placed code same (placing.placed p.forced p.placed p.place placeable) in
-    let statics : code.statics.items ≡ p.lowered.statics.items =
-    ap (λ (u : Code). u.statics.items) p.recut.rest ∙ ap (λ (u : Code). u.statics.items) p.place.placed.rest ∙ ap (λ (u : Code). u.statics.items) p.force.rest in
+    let statics = code_statics prog code p in
     let bytes : rooms (objects_of code.statics.items) ≡ static_bytes (program_of prog).statics =
     rooms_are code.statics.items ∙ ap (λ (z : List StaticOf). static_bytes (map {A = StaticOf} static_of z)) statics ∙ ap (λ l. static_bytes l) p.lower.statics in
     record {

@@ -12,9 +12,8 @@ use Rattle.im_frame.specs.Layout.{bytes_of, places_from}
 use Rattle.im_select_addresses.specs.Addresses.{AreLayouts}
 use Rattle.im_select_addresses.specs.Statics.{objects_of}
 use Rattle.im_link_laws.specs.Program.{IsProgram}
-use Rattle.im_pack.specs.Packed.{IsUnnamed}
 use Rattle.im_compile.specs.declared.fault.CompileFault.{CompileFault}
-use Rattle.im_compile.specs.declared.fault.CompileFault.TheVariants.{Frame, Code as TooMuchCode, Unnamed, OutOfMemory}
+use Rattle.im_compile.specs.declared.fault.CompileFault.TheVariants.{Frame, Code as TooMuchCode, OutOfMemory}
 use Rattle.im_compile.specs.Passed.{IsPassed}
 
 -- the first function whose frame is larger than 65536 bytes, and so many it has
@@ -47,14 +46,7 @@ pub record HasLargeCode (prog : Prog) (bytes : ℕ) : Type 0 where
   pub large : byte_limit < byte_count parts
   pub told : bytes ≡ told_count parts
 
--- a static can't be named in an image
-pub record HasUnnamed (prog : Prog) (n : ℕ) : Type 0 where
-  pub code : Code
-  pub passed : IsPassed prog code
-  pub unnamed : IsUnnamed code.statics.items n
-
 abbrev pub IsFaultOf : Prog → CompileFault → Type 0
 IsFaultOf prog (Frame function bytes) = HasLargeFrame prog function bytes
 IsFaultOf prog (TooMuchCode bytes) = HasLargeCode prog bytes
-IsFaultOf prog (Unnamed n) = HasUnnamed prog n
 IsFaultOf prog OutOfMemory = Unit {0}

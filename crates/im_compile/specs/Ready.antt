@@ -14,17 +14,14 @@ use Rattle.im_frame.specs.declared.fault.FrameFault.{FrameFault}
 use Rattle.im_frame.specs.declared.fault.FrameFault.TheVariants.{Limit as TooLarge, OutOfMemory as NoHeap}
 use Rattle.im_link_laws.specs.Program.{IsProgram}
 use Rattle.im_select_assemble.specs.Names.{part_names, program_names}
-use Rattle.im_pack.specs.declared.fault.PackFault.{PackFault}
-use Rattle.im_pack.specs.declared.fault.PackFault.TheVariants.{Unnamed as NoName, OutOfMemory as NoSpace}
 use Rattle.im_compile.specs.declared.fault.CompileFault.{CompileFault}
-use Rattle.im_compile.specs.declared.fault.CompileFault.TheVariants.{Frame, Code as TooMuchCode, Unnamed, OutOfMemory}
+use Rattle.im_compile.specs.declared.fault.CompileFault.TheVariants.{Frame, Code as TooMuchCode, OutOfMemory}
 use Rattle.im_compile.specs.Faults.{IsFrameTooLarge}
 
 -- the first function whose frame is too large, or want of memory
 abbrev pub IsFrameFault : List Function → CompileFault → Type 0
 IsFrameFault functions (Frame i bytes) = IsFrameTooLarge functions i bytes
 IsFrameFault functions (TooMuchCode bytes) = ⊥
-IsFrameFault functions (Unnamed n) = ⊥
 IsFrameFault functions OutOfMemory = Unit {0}
 
 pub record IsFrameOf (name : List ℕ) (layout : Layout) (frame : FrameOf) : Type 0 where
@@ -48,7 +45,6 @@ pub record IsTooLong (code : Code) (addresses : List ℕ) (layouts : List Layout
 abbrev pub IsLinkFault : Code → List ℕ → List Layout → CompileFault → Type 0
 IsLinkFault code addresses layouts (Frame i bytes) = ⊥
 IsLinkFault code addresses layouts (TooMuchCode bytes) = IsTooLong code addresses layouts bytes
-IsLinkFault code addresses layouts (Unnamed n) = ⊥
 IsLinkFault code addresses layouts OutOfMemory = Unit {0}
 
 -- what a fault of a pass is called here
@@ -59,7 +55,3 @@ of_link NoRoom = OutOfMemory
 abbrev pub of_frame : ℕ → FrameFault → CompileFault
 of_frame i (TooLarge bytes) = Frame i bytes
 of_frame i NoHeap = OutOfMemory
-
-abbrev pub of_pack : PackFault → CompileFault
-of_pack (NoName n) = Unnamed n
-of_pack NoSpace = OutOfMemory

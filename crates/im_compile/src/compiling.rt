@@ -1,5 +1,8 @@
 ghost use Rattle.std.specs.Prelude.{MatchResult};
 ghost use Rattle.im_typed.specs.declared.program.Prog.{Prog as TypedProgram};
+ghost use Rattle.im_typed.specs.ProgramOf.{program_of};
+ghost use Rattle.im_block.specs.Meaning.{statics_of};
+ghost use Rattle.im_pack.specs.Packed.{AreNamable};
 ghost use Rattle.im_compile.specs.Built.{IsBuilt};
 ghost use Rattle.im_compile.specs.Faults.{IsFaultOf};
 ghost use Rattle.im_compile.specs.Passed.{AreOptions, IsSource};
@@ -21,6 +24,7 @@ use std::alloc::Global;
 /// The image of placed code.
 fn finished(alloc: Global, prepared: Prepared, options: Options) -> Result<Built, CompileFault>
     requires prepared { (prog : TypedProgram) × IsPrepared prog prepared }
+    requires named { AreNamable (statics_of prepared.unit) }
     requires options { AreOptions options }
     ensures { (prog : TypedProgram) → IsPrepared prog prepared
         → MatchResult result (IsBuilt prog options) (IsFaultOf prog) }
@@ -56,9 +60,10 @@ fn finished(alloc: Global, prepared: Prepared, options: Options) -> Result<Built
     })
 }
 
-/// The image of a program, by all passes in a row.
+/// The image of a program, by all passes in a row. Its statics are such that an image can name them.
 pub fn compile(alloc: Global, prog: &Prog, options: Options) -> Result<Built, CompileFault>
     requires source { IsSource prog.now }
+    requires named { AreNamable (program_of prog.now).statics }
     requires options { AreOptions options }
     ensures { MatchResult result (IsBuilt prog.now options) (IsFaultOf prog.now) }
 {
@@ -70,6 +75,7 @@ pub fn compile(alloc: Global, prog: &Prog, options: Options) -> Result<Built, Co
 /// The image of a program, as `compile` gives it; the program is given back once it is block code.
 pub fn compile_owned(alloc: Global, prog: Prog, options: Options) -> Result<Built, CompileFault>
     requires source { IsSource prog }
+    requires named { AreNamable (program_of prog).statics }
     requires options { AreOptions options }
     ensures { MatchResult result (IsBuilt prog options) (IsFaultOf prog) }
 {

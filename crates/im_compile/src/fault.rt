@@ -1,10 +1,9 @@
 ghost use Rattle.std.specs.Prelude.{◌≡◌};
 ghost use Rattle.im_compile.specs.declared.fault.CompileFault.TheVariants.{OutOfMemory};
-ghost use Rattle.im_compile.specs.Ready.{of_link, of_pack};
+ghost use Rattle.im_compile.specs.Ready.{of_link};
 
 use im_link::LinkFault;
 use im_num::NoMemory;
-use im_pack::PackFault;
 use std::alloc::{AllocError, AllocFailed};
 use thiserror::Error;
 
@@ -17,9 +16,6 @@ pub enum CompileFault {
     /// The code would have so many bytes, more than 1044480 (2^64 - 1 where it would have more).
     #[error("code of {0} bytes")]
     Code(u64),
-    /// The static of this number has no cell, or no name of letters, digits, `_` and `$`.
-    #[error("static {0} cannot be named")]
-    Unnamed(u32),
     #[error("no memory")]
     OutOfMemory,
 }
@@ -55,17 +51,6 @@ impl From<LinkFault> for CompileFault {
         match fault {
             LinkFault::Limit(bytes) => CompileFault::Code(bytes),
             LinkFault::OutOfMemory => CompileFault::OutOfMemory,
-        }
-    }
-}
-
-impl From<PackFault> for CompileFault {
-    ghost from_gives = { λ fault e. e ≡ of_pack fault };
-
-    fn from(fault: PackFault) -> CompileFault {
-        match fault {
-            PackFault::Unnamed(number) => CompileFault::Unnamed(number),
-            PackFault::OutOfMemory => CompileFault::OutOfMemory,
         }
     }
 }

@@ -1,5 +1,6 @@
 pub mod Lexical
 pub mod Typed
+pub mod Namable
 pub mod Programs
 pub mod Frames
 pub mod Refusals

@@ -5,7 +5,7 @@ use Rattle.im_fault.specs.declared.fault.LineFault.TheVariants.{BadByte, OpenCom
 use Rattle.im_fault.specs.declared.fault.Quantity.{Quantity}
 use Rattle.im_fault.specs.declared.fault.Quantity.TheVariants.{Source, Parameters, Size, Statics, Frame, Code}
 use Rattle.im_fault.specs.declared.fault.SourceFault.{SourceFault}
-use Rattle.im_fault.specs.declared.fault.SourceFault.TheVariants.{Line, Limit, NotYet, OutOfMemory}
+use Rattle.im_fault.specs.declared.fault.SourceFault.TheVariants.{Line, Limit, OutOfMemory}
 use Rattle.im_front.specs.Reading.{IsRead, IsWrong, token_lines}
 use Rattle.im_typed.specs.declared.program.Prog.{Prog}
 use Rattle.im_typed.specs.ProgramOf.{program_of}
@@ -42,7 +42,6 @@ read_refused source (Limit Size count) h = absurd h
 read_refused source (Limit Statics count) h = absurd h
 read_refused source (Limit Frame count) h = absurd h
 read_refused source (Limit Code count) h = absurd h
-read_refused source NotYet h = absurd h
 read_refused source OutOfMemory h = tt
 
 pub check_refused : (source : List ℕ) (tokens : List Token) (tree : Tree) (fault : CheckFault) → IsTreeOf source tokens tree → IsCheckFault (tree_of tree) fault → IsRefused source (fault_at source (token_lines tokens) fault)
@@ -55,5 +54,4 @@ check_refused source tokens tree check.OutOfMemory is_tree h = tt
 pub made_refused : RefusedLaw → (source : List ℕ) (made : Prog) (fault : CompileFault) → IsReady source made → IsFaultOf made fault → IsRefused source (of_compile fault)
 made_refused law source made (compile.Frame function bytes) r h = record { prog = program_of made; program = r.program; function = function; large = law.frame made function bytes r.is_source h }
 made_refused law source made (compile.Code bytes) r h = record { prog = program_of made; program = r.program; large = law.code made bytes r.is_source h }
-made_refused law source made (compile.Unnamed number) r h = record { prog = program_of made; program = r.program; number = number; unnamed = law.named made number r.is_source h }
 made_refused law source made compile.OutOfMemory r h = tt

@@ -5,7 +5,7 @@ use Rattle.im_fault.specs.declared.fault.LineFault.TheVariants.{BadByte, OpenCom
 use Rattle.im_fault.specs.declared.fault.Quantity.{Quantity}
 use Rattle.im_fault.specs.declared.fault.Quantity.TheVariants.{Source, Parameters, Size, Statics, Frame, Code}
 use Rattle.im_fault.specs.declared.fault.SourceFault.{SourceFault}
-use Rattle.im_fault.specs.declared.fault.SourceFault.TheVariants.{Line, Limit, NotYet, OutOfMemory}
+use Rattle.im_fault.specs.declared.fault.SourceFault.TheVariants.{Line, Limit, OutOfMemory}
 use Rattle.im_num.specs.Variables.{Variable}
 use Rattle.im_store.specs.Outcomes.{End}
 use Rattle.im_tok.specs.declared.token.Token.{Token}
@@ -31,7 +31,7 @@ use Rattle.im_keeps.specs.Keeps.{IsInput, IsRightFor, Keeps}
 use Rattle.im_keeps_passes.specs.Laws.{Survives, KeepsUninterrupted, ReachesUninterrupted}
 use Rattle.im_keeps_source.specs.Laws.{meaning_of}
 use Rattle.im_keeps_built.specs.Cuts.{AreCuts}
-use Rattle.im_keeps_built.specs.Laws.{frames_of, IsLargeFrame, IsLargeCode, HasNoName}
+use Rattle.im_keeps_built.specs.Laws.{frames_of, IsLargeFrame, IsLargeCode}
 
 -- the tree that a source's tokens spell
 pub record IsTreeOf (source : List ℕ) (tokens : List Token) (tree : Tree) : Type 0 where
@@ -137,16 +137,8 @@ IsLimitRefused source Statics count = IsExceededByStatics source count
 IsLimitRefused source Frame count = IsFrameRefused source count
 IsLimitRefused source Code count = IsCodeRefused source count
 
--- a static of the source's program has no cell, or no name that an image can have
-pub record IsUnnamed (source : List ℕ) : Type 0 where
-  pub prog : Prog
-  pub program : IsProgramOf source prog
-  pub number : ℕ
-  pub unnamed : HasNoName prog number
-
 -- why a source isn't compiled
 abbrev pub IsRefused : List ℕ → SourceFault → Type 0
 IsRefused source (Line line why) = IsLineRefused source line why
 IsRefused source (Limit quantity count) = IsLimitRefused source quantity count
-IsRefused source NotYet = IsUnnamed source
 IsRefused source OutOfMemory = Unit {0}

@@ -1,10 +1,11 @@
 -- For private contracts: what the driver's steps lead to.
-use Rattle.std.specs.Prelude.{ℕ, ◌<◌, List, All, slice_index}
+use Rattle.std.specs.Prelude.{ℕ, ◌<◌, ◌≤◌, List, All, length, slice_index}
 use Rattle.im_fault.specs.declared.fault.LineFault.TheVariants.{Rule}
 use Rattle.im_fault.specs.declared.fault.Quantity.{Quantity}
-use Rattle.im_fault.specs.declared.fault.Quantity.TheVariants.{Parameters, Size, Statics, Frame, Code}
+use Rattle.im_fault.specs.declared.fault.Quantity.TheVariants.{Source, Parameters, Size, Statics, Frame, Code}
 use Rattle.im_fault.specs.declared.fault.SourceFault.{SourceFault}
-use Rattle.im_fault.specs.declared.fault.SourceFault.TheVariants.{Line, Limit, NotYet, OutOfMemory}
+use Rattle.im_fault.specs.declared.fault.SourceFault.TheVariants.{Line, Limit, OutOfMemory}
+use Rattle.im_fault.specs.Texts.{limit_of}
 use Rattle.im_front.specs.Reading.{line_among}
 use Rattle.im_check.specs.declared.fault.CheckFault.{CheckFault}
 use Rattle.im_check.specs.declared.fault.CheckFault.TheVariants as check
@@ -20,16 +21,18 @@ use Rattle.im_typed.specs.declared.program.Prog.{Prog}
 use Rattle.im_typed.specs.ProgramOf.{program_of}
 use Rattle.im_check.specs.im_rules_sound_places.Units.{IsWrittenUnit}
 use Rattle.im_check.specs.Checked.{IsChecked}
+use Rattle.im_pack.specs.Packed.{AreNamable}
 use Rattle.im_compile.specs.declared.options.Options.{Options}
 use Rattle.im_compile.specs.declared.built.Built.{Built}
 use Rattle.im_compile.specs.Passed.{IsSource}
 use Rattle.im_compile.specs.Built.{IsBuilt}
 use Rattle.im_driver.specs.Compiled.{IsTreeOf, IsProgramOf, IsCompiledFrom}
 
--- a checked program is its source's, and what compiling asks
+-- a checked program is its source's, and what compiling asks; an image can name its statics
 pub record IsReady (source : List ℕ) (prog : Prog) : Type 0 where
   pub program : IsProgramOf source (program_of prog)
   pub is_source : IsSource prog
+  pub named : AreNamable (program_of prog).statics
 
 abbrev pub WrittenLaw : Type 0
 WrittenLaw =
@@ -39,7 +42,8 @@ WrittenLaw =
 abbrev pub ProgramLaw : Type 0
 ProgramLaw =
     (source : List ℕ) (tokens : List Token) (tree : Tree) (prog : Prog) → ((i : ℕ) → slice_index source i < 256) →
-    All (IsTokenOf source) tokens → IsTreeOf source tokens tree → IsChecked (tree_of tree) prog → IsReady source prog
+    length source ≤ limit_of Source → All (IsTokenOf source) tokens → IsTreeOf source tokens tree →
+    IsChecked (tree_of tree) prog → IsReady source prog
 
 abbrev pub KeptLaw : Type 0
 KeptLaw =
@@ -62,5 +66,4 @@ fault_at source lines check.OutOfMemory = OutOfMemory
 abbrev pub of_compile : CompileFault → SourceFault
 of_compile (compile.Frame function bytes) = Limit Frame bytes
 of_compile (compile.Code bytes) = Limit Code bytes
-of_compile (compile.Unnamed number) = NotYet
 of_compile compile.OutOfMemory = OutOfMemory

@@ -31,7 +31,6 @@ fn unmade(fault: CompileFault) -> SourceFault
             quantity: Quantity::Code,
             count: bytes,
         },
-        CompileFault::Unnamed(_) => SourceFault::NotYet,
         CompileFault::OutOfMemory => SourceFault::OutOfMemory,
     }
 }

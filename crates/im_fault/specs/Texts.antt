@@ -5,7 +5,7 @@ use Rattle.im_fault.specs.declared.fault.LineFault.TheVariants.{BadByte, OpenCom
 use Rattle.im_fault.specs.declared.fault.Quantity.{Quantity}
 use Rattle.im_fault.specs.declared.fault.Quantity.TheVariants.{Source, Parameters, Size, Statics, Frame, Code}
 use Rattle.im_fault.specs.declared.fault.SourceFault.{SourceFault}
-use Rattle.im_fault.specs.declared.fault.SourceFault.TheVariants.{Line, Limit, NotYet, OutOfMemory}
+use Rattle.im_fault.specs.declared.fault.SourceFault.TheVariants.{Line, Limit, OutOfMemory}
 
 abbrev pub line_fault_text : LineFault → List ℕ
 line_fault_text BadByte = codes "bad byte"
@@ -40,5 +40,4 @@ abbrev pub source_fault_text : SourceFault → List ℕ
 source_fault_text (Line line why) = codes ":" ++ decimal line ++ codes ": " ++ line_fault_text why
 source_fault_text (Limit quantity count) =
     codes ": " ++ quantity_name quantity ++ codes " " ++ decimal count ++ codes " over " ++ decimal (limit_of quantity)
-source_fault_text NotYet = codes ": not yet compiled"
 source_fault_text OutOfMemory = codes ": no memory"

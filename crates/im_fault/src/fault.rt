@@ -46,8 +46,6 @@ pub enum SourceFault {
     Line { line: u32, why: LineFault },
     /// A quantity over its limit, and how much there is.
     Limit { quantity: Quantity, count: u64 },
-    /// The source has a static without a cell, or without a name that an image can have (docs/packing.md).
-    NotYet,
     /// Memory ran out.
     OutOfMemory,
 }

@@ -15,7 +15,7 @@ use Rattle.im_fault.specs.declared.fault.LineFault.TheVariants.{BadByte, OpenCom
 use Rattle.im_fault.specs.declared.fault.Quantity.{Quantity}
 use Rattle.im_fault.specs.declared.fault.Quantity.TheVariants.{Source, Parameters, Size, Statics, Frame, Code}
 use Rattle.im_fault.specs.declared.fault.SourceFault.{SourceFault}
-use Rattle.im_fault.specs.declared.fault.SourceFault.TheVariants.{Line, Limit, NotYet, OutOfMemory}
+use Rattle.im_fault.specs.declared.fault.SourceFault.TheVariants.{Line, Limit, OutOfMemory}
 use Rattle.im_fault.specs.Texts.{limit_of}
 use Rattle.im_front.specs.declared.reading.Text.{Text}
 
@@ -53,7 +53,6 @@ pub record IsNoToken (source : List ℕ) (line : ℕ) (why : LineFault) : Type 0
 abbrev pub IsTokenFault : List ℕ → SourceFault → Type 0
 IsTokenFault source (Line line why) = IsNoToken source line why
 IsTokenFault source (Limit quantity count) = ⊥
-IsTokenFault source NotYet = ⊥
 IsTokenFault source OutOfMemory = Unit {0}
 
 abbrev pub AreTokens : List ℕ → Vec Token Global → Type 0
@@ -99,5 +98,4 @@ abbrev pub IsRead : List ℕ → Result Text SourceFault → Type 0
 IsRead source (Ok text) = (length source ≤ limit_of Source) × IsTextOf source text
 IsRead source (Err (Line line why)) = (length source ≤ limit_of Source) × IsWrong source line why
 IsRead source (Err (Limit quantity count)) = IsOver source quantity count
-IsRead source (Err NotYet) = ⊥
 IsRead source (Err OutOfMemory) = Unit {0}

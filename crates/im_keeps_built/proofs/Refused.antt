@@ -7,9 +7,6 @@ use Rattle.im_typed.specs.declared.program.Prog.{Prog}
 use Rattle.im_typed.specs.ProgramOf.{program_of}
 use Rattle.im_typed.specs.Program as p
 use Rattle.im_typed.specs.Counts.{func_need}
-use Rattle.im_store.specs.Statics.{StaticObject}
-use Rattle.im_block.specs.declared.unit.Static.{Static as StaticOf}
-use Rattle.im_block.specs.Meaning.{static_of}
 use Rattle.im_block.specs.declared.unit.Function.{Function}
 use Rattle.im_block.specs.declared.unit.Unit.{Unit as Code}
 use Rattle.im_link_laws.specs.Laws.{WordsLaw}
@@ -18,8 +15,8 @@ use Rattle.im_keeps_passes.specs.Laws.{CodeBounds}
 use Rattle.im_keeps_middle.specs.Laws.{MiddleLaw}
 use Rattle.im_keeps_source.specs.Source.{source_of}
 use Rattle.im_compile.specs.Passed.{IsSource, IsPassed}
-use Rattle.im_compile.specs.Faults.{HasLargeFrame, HasLargeCode, HasUnnamed}
-use Rattle.im_keeps_built.specs.Laws.{IsLargeFrame, IsLargeCode, HasNoName, RefusedLaw}
+use Rattle.im_compile.specs.Faults.{HasLargeFrame, HasLargeCode}
+use Rattle.im_keeps_built.specs.Laws.{IsLargeFrame, IsLargeCode, RefusedLaw}
 use Rattle.im_keeps_built.proofs.Chained.{fit}
 
 -- lists that are mapped to the same list
@@ -67,19 +64,8 @@ module _ (lowers : LowersLaw) (middle : MiddleLaw) (words : WordsLaw) (prog : Pr
       let most = told.1 in
       record { large = told.0; nodes = omega (arith, few, cost, most) }
 
-  no_name : (n : ℕ) → HasUnnamed prog n → HasNoName (program_of prog) n
-  no_name n h =
-      let b = bounds h.code h.passed in
-      let s = h.unnamed.s in
-      record {
-        s = static_of s;
-        is_static = sym (ap (λ (l : List StaticObject). slice_get l n) b.statics) ∙ slice_get-map {A = StaticOf} static_of h.code.statics.items n ∙ ap (option_map static_of) h.unnamed.is_static;
-        cannot = h.unnamed.cannot;
-      }
-
 pub refused : LowersLaw → MiddleLaw → WordsLaw → RefusedLaw
 refused lowers middle words = record {
   frame = λ prog i bytes s h. frame_refused lowers middle words prog s i bytes h;
   code = λ prog bytes s h. code_refused lowers middle words prog s bytes h;
-  named = λ prog n s h. no_name lowers middle words prog s n h;
 }

@@ -1,9 +1,6 @@
 -- What is built of a program keeps it.
-use Rattle.std.specs.Prelude.{◌≡◌, ℕ, ◌+◌, ◌*◌, ◌<◌, ◌≤◌, ◌^◌, ◌&&◌, nat_lt, Bool, false, List, length, map, Some, slice_get}
+use Rattle.std.specs.Prelude.{◌≡◌, ℕ, ◌+◌, ◌*◌, ◌<◌, ◌≤◌, List, length, map, Some, slice_get}
 use Rattle.im_gap.specs.Gap.{recovery_steps, IsGap}
-use Rattle.std.specs.List.{list_all}
-use Rattle.im_image.specs.Contents.{is_name_byte}
-use Rattle.im_store.specs.Statics.{StaticObject}
 use Rattle.im_typed.specs.declared.frames.Frame.{Frame}
 use Rattle.im_typed.specs.declared.program.Prog.{Prog}
 use Rattle.im_typed.specs.ProgramOf.{program_of}
@@ -15,7 +12,7 @@ use Rattle.im_compile.specs.declared.options.Options.{Options}
 use Rattle.im_compile.specs.declared.built.Built.{Built}
 use Rattle.im_compile.specs.Passed.{IsSource}
 use Rattle.im_compile.specs.Built.{IsBuilt, bytes_of}
-use Rattle.im_compile.specs.Faults.{HasLargeFrame, HasLargeCode, HasUnnamed}
+use Rattle.im_compile.specs.Faults.{HasLargeFrame, HasLargeCode}
 use Rattle.im_keeps_built.specs.Cuts.{AreCuts}
 
 -- the bytes of each function's frame
@@ -53,17 +50,7 @@ pub record IsLargeCode (prog : Program) (bytes : ℕ) : Type 0 where
   pub large : 1044480 < bytes
   pub nodes : bytes ≤ 4096 + 256 * prog_nodes prog
 
--- an image can name a static that has a cell, and a name of letters, digits, _ and $, shorter than 2^32
-abbrev pub can_be_named : StaticObject → Bool
-can_be_named s = nat_lt 0 (length s.cells) && nat_lt 0 (length s.name) && nat_lt (length s.name) (2 ^ 32) && list_all is_name_byte s.name
-
-pub record HasNoName (prog : Program) (n : ℕ) : Type 0 where
-  pub s : StaticObject
-  pub is_static : slice_get prog.statics n ≡ Some s
-  pub cannot : can_be_named s ≡ false
-
--- a program that is refused by what is made of it is one that may need so much, by its own counts, or has such a static
+-- a program that is refused by what is made of it is one that may need so much, by its own counts
 pub record RefusedLaw : Type 0 where
   pub frame : (prog : Prog) (i bytes : ℕ) → IsSource prog → HasLargeFrame prog i bytes → IsLargeFrame (program_of prog) i bytes
   pub code : (prog : Prog) (bytes : ℕ) → IsSource prog → HasLargeCode prog bytes → IsLargeCode (program_of prog) bytes
-  pub named : (prog : Prog) (n : ℕ) → IsSource prog → HasUnnamed prog n → HasNoName (program_of prog) n

@@ -1,5 +1,5 @@
 -- A unit of two functions and one static.
-use Rattle.std.proofs.Common.{◌≡◌, ◌≤◌, ℕ, zero, suc, ◌+◌, List, [], ◌∷◌, ◌++◌, length, take, Some, refl, sym, ap, ◌∙◌, subst, arith}
+use Rattle.std.proofs.Common.{◌≡◌, ◌≤◌, ℕ, zero, suc, ◌+◌, List, [], ◌∷◌, ◌++◌, length, map, take, Some, refl, sym, ap, ◌∙◌, subst, arith}
 use Rattle.std.specs.Prelude.{slice_get, All}
 use Rattle.im_num.specs.declared.values.Cause.TheVariants.{Entry, Return, Dep}
 use Rattle.im_mem.specs.Map.{statics_capacity}
@@ -8,11 +8,14 @@ use Rattle.im_block.specs.declared.unit.Function.{Function}
 use Rattle.im_block.specs.declared.unit.Unit.{Unit as Code}
 use Rattle.im_block.specs.Shape.{sum_of}
 use Rattle.im_block.specs.Wellformed.{IsStatic, IsFunction, Takes, AreApart, accesses_of_blocks, accesses_of_functions}
+use Rattle.im_store.specs.Statics.{StaticObject}
+use Rattle.im_block.specs.Meaning.{static_of}
 use Rattle.im_frame.specs.Layout.{rooms}
 use Rattle.im_select_addresses.specs.Statics.{objects_of}
 use Rattle.im_alloc_placed.specs.Placed.{IsPlacedFunction}
 use Rattle.im_select.specs.Selects.{causes_of_blocks}
 use Rattle.im_link_laws.specs.Laws.{NamesOwn}
+use Rattle.im_pack.specs.Packed.{IsNamable, AreNamable}
 use Rattle.im_middle_trials.specs.Buildable.{IsBuildable, IsGiven}
 
 -- numbers in order
@@ -75,9 +78,16 @@ numbered f g none one two (suc zero) h e =
     omega (arith, first, none)
 numbered f g none one two (suc (suc i)) h e = cc
 
-pub buildable : (u : Code) (s : StaticOf) (f g : Function) → u.statics.items ≡ s ∷ [] → u.functions.items ≡ f ∷ g ∷ [] → u.main ≡ 1 → IsStatic (s ∷ []) s → s.object.size ≡ 4 →
+one_named : (s : StaticOf) → IsNamable (static_of s) → AreNamable (map {A = StaticOf} static_of (s ∷ []))
+one_named s h = record { each = each }
+  where
+    each : (n : ℕ) (o : StaticObject) → slice_get (static_of s ∷ []) n ≡ Some o → IsNamable o
+    each zero o e = let same : static_of s ≡ o = cc in subst IsNamable same h
+    each (suc n) o e = cc
+
+pub buildable : (u : Code) (s : StaticOf) (f g : Function) → u.statics.items ≡ s ∷ [] → u.functions.items ≡ f ∷ g ∷ [] → u.main ≡ 1 → IsStatic (s ∷ []) s → s.object.size ≡ 4 → IsNamable (static_of s) →
     IsGiven 2 0 (0 ∷ 1 ∷ 2 ∷ 3 ∷ 4 ∷ 5 ∷ []) (Entry ∷ Return ∷ Dep 4 5 ∷ []) f → IsGiven 0 1 (6 ∷ 7 ∷ 8 ∷ 9 ∷ []) (Entry ∷ Return ∷ Return ∷ []) g → IsBuildable u
-buildable u s f g statics functions main is size one two =
+buildable u s f g statics functions main is size named one two =
     let called : Takes (slice_get (f ∷ g ∷ []) 0) 2 = one.parameters in
     let accesses : accesses_of_functions (f ∷ g ∷ []) ≡ 0 ∷ 1 ∷ 2 ∷ 3 ∷ 4 ∷ 5 ∷ 6 ∷ 7 ∷ 8 ∷ 9 ∷ [] =
     ap (λ xs. xs ++ (accesses_of_blocks g.blocks.items ++ [])) one.accesses ∙ ap (λ xs. (0 ∷ 1 ∷ 2 ∷ 3 ∷ 4 ∷ 5 ∷ []) ++ (xs ++ [])) two.accesses in
@@ -102,4 +112,5 @@ buildable u s f g statics functions main is size one two =
         each = λ i h e. each_of_two (λ (k : Function). NamesOwn (causes_of_blocks k.blocks.items) (accesses_of_blocks k.blocks.items)) f g names_one names_two i h (subst (λ fs. slice_get fs i ≡ Some h) functions e);
       };
       room = subst (λ ss. rooms (objects_of ss) ≤ statics_capacity) (sym statics) room;
+      namable = subst (λ ss. AreNamable (map {A = StaticOf} static_of ss)) (sym statics) (one_named s named);
     }

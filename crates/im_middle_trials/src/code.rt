@@ -1,6 +1,8 @@
 ghost use Rattle.std.specs.Prelude.{◌≡◌, [], ◌∷◌, length, IfOk};
 ghost use Rattle.im_num.specs.declared.values.Cause.TheVariants.{Entry, Return, Dep};
 ghost use Rattle.im_block.specs.Wellformed.{IsStatic};
+ghost use Rattle.im_block.specs.Meaning.{static_of};
+ghost use Rattle.im_pack.specs.Packed.{IsNamable};
 ghost use Rattle.im_middle_trials.specs.Buildable.{IsBuildable, IsGiven};
 
 use im_block::{Block, Constant, Exit, Function, Line, Object, Place, Registers, Static, Unit};
@@ -205,6 +207,7 @@ fn main_of(alloc: Global) -> Result<Function, Fail>
 fn total(alloc: Global) -> Result<Static, Fail>
     ensures holds { IfOk result (λ s. IsStatic (s ∷ []) s) }
     ensures size { IfOk result (λ s. s.object.size ≡ 4) }
+    ensures named { IfOk result (λ s. IsNamable (static_of s)) }
 {
     let cell = Cell {
         offset: 0,

@@ -1,6 +1,7 @@
 use im_cmd_lines::{
-    Ending, Evaluated, Refusal, send_build_lines, send_dump_lines, send_evaluation_lines,
-    send_instruction, send_refusal_line, send_report_lines, send_run_lines, send_variable_lines,
+    Ending, Evaluated, Refusal, send_build_lines, send_dump_lines, send_ending_line,
+    send_evaluation_lines, send_generation_line, send_instruction, send_refusal_line,
+    send_report_lines, send_run_lines, send_variable_lines,
 };
 use im_fault::{LineFault, Quantity, SourceFault};
 use im_image::{ImageFault, read_image};
@@ -198,7 +199,19 @@ fn evaluations(rt: HostRuntime) -> Result<(), Fail> {
     Ok(())
 }
 
-const REFUSALS: [(Refusal, &str); 23] = [
+#[test]
+fn generations(rt: HostRuntime) -> Result<(), Fail> {
+    let alloc = rt.alloc();
+    let mut line = sink(alloc)?;
+    let sent = send_generation_line(&mut line, 2, &[190, 2], 0);
+    wrote(&rt, &line, sent, "gen 2: output 2 sum 192 status 0\n");
+    let mut line = sink(alloc)?;
+    let sent = send_ending_line(&mut line, Ending::OutOfPower, 0);
+    wrote(&rt, &line, sent, "intermit: out of power\n");
+    Ok(())
+}
+
+const REFUSALS: [(Refusal, &str); 22] = [
     (Refusal::CannotRead("a.c"), "cannot read a.c"),
     (
         Refusal::BadSource(
@@ -209,10 +222,6 @@ const REFUSALS: [(Refusal, &str); 23] = [
             },
         ),
         "a.c: source 4194305 over 4194304",
-    ),
-    (
-        Refusal::BadSource("a.c", SourceFault::NotYet),
-        "a.c: not yet compiled",
     ),
     (
         Refusal::BadSource(

@@ -1,6 +1,7 @@
 use im_cmd_words::{
     BuildOptions, Command, EvalOptions, RunOptions, WordsFault, building_law, evaluation_law,
-    faultless_law, files_law, options_law, read_words, words_refused_law, words_taken_law,
+    faultless_law, files_law, generation_law, options_law, read_words, words_refused_law,
+    words_taken_law,
 };
 use std::alloc::Global;
 use std::test::Fail;
@@ -33,7 +34,7 @@ const FULL: RunOptions<'static> = RunOptions {
 };
 
 /// A command line, and the command that it names.
-const COMMANDS: [(&[&str], Command<'static>); 7] = [
+const COMMANDS: [(&[&str], Command<'static>); 8] = [
     (
         &["intermit", "build", "a.c", "a.img"],
         Command::Build {
@@ -101,6 +102,7 @@ const COMMANDS: [(&[&str], Command<'static>); 7] = [
             },
         },
     ),
+    (&["intermit", "gen", "300"], Command::Gen { count: 300 }),
 ];
 
 #[test]
@@ -111,6 +113,7 @@ fn names_the_command(rt: HostRuntime) -> Result<(), Fail> {
     options_law();
     building_law();
     evaluation_law();
+    generation_law();
     for (line, expected) in &COMMANDS {
         let line = words(rt.alloc(), line)?;
         let command = read_words(rt.alloc(), line.as_slice())?;
@@ -119,7 +122,7 @@ fn names_the_command(rt: HostRuntime) -> Result<(), Fail> {
     Ok(())
 }
 
-const REFUSED: [&[&str]; 18] = [
+const REFUSED: [&[&str]; 24] = [
     &["intermit"],
     &["intermit", "run", "a.c"],
     &["intermit", "run", "a.c", "a.img", "more"],
@@ -138,6 +141,12 @@ const REFUSED: [&[&str]; 18] = [
     &["intermit", "exec", "a.img", "--stack", "256"],
     &["intermit", "eval", "a.c", "--fuel", "07"],
     &["intermit", "eval", "a.c", "--steps", "7"],
+    &["intermit", "gen"],
+    &["intermit", "gen", "0"],
+    &["intermit", "gen", "301"],
+    &["intermit", "gen", "+1"],
+    &["intermit", "gen", "01"],
+    &["intermit", "gen", "1", "2"],
 ];
 
 #[test]

@@ -1,16 +1,15 @@
 -- The objects of statics.
 use Rattle.std.proofs.Common.{◌≡◌, ◌<◌, ◌≤◌, ℕ, zero, suc, ◌+◌, ◌*◌, ◌%◌, ◌^◌, true, List, [], ◌∷◌, Some, length, refl, sym, ap, ◌∙◌, subst, arith}
 use Rattle.std.specs.Prelude.{slice_get, slice_index}
-use Rattle.std.specs.List.{list_all}
-use Rattle.std.proofs.lemmas.Bool.{ltb-true, le-leb, and_parts, and_from}
-use Rattle.im_image.specs.Contents.{ObjectValue, IsObject, AreObjects, is_name_byte, is_object_place}
+use Rattle.std.proofs.lemmas.Bool.{le-leb, and_from}
+use Rattle.im_image.specs.Contents.{ObjectValue, IsObject, AreObjects, is_object_place}
 use Rattle.im_ctype.specs.declared.cell.Cell.{Cell}
 use Rattle.im_block.specs.declared.unit.Object.{Object}
 use Rattle.im_block.specs.declared.unit.Static.{Static as StaticOf}
 use Rattle.im_block.specs.Wellformed.{HasCells}
 use Rattle.im_frame.specs.Layout.{room, rooms, places_from}
 use Rattle.im_select_addresses.specs.Statics.{objects_of}
-use Rattle.im_pack.specs.Packed.{IsObjectOf, AreObjectsOf, can_be_named}
+use Rattle.im_pack.specs.Packed.{IsObjectOf, AreObjectsOf}
 use Rattle.im_pack.specs.Objects.{object_of, objects_at, runs_of, AreNamed}
 use Rattle.im_pack.proofs.Cells.{cells_from, some_bytes}
 use Rattle.im_pack.proofs.Joined.{all_cells, some_run, are_runs}
@@ -54,19 +53,6 @@ pub even_rooms : (os : List Object) → rooms os % 4 ≡ 0
 even_rooms [] = refl
 even_rooms (o ∷ os) = let e = even_rooms os in omega arith
 
-record Parts (s : StaticOf) : Type 0 where
-  cells : 0 < length s.object.cells.items
-  some : 0 < length s.name.items
-  short : length s.name.items < 2 ^ 32
-  bytes : list_all is_name_byte s.name.items ≡ true
-
-parts : (s : StaticOf) → can_be_named s ≡ true → Parts s
-parts s t =
-    let p = and_parts _ _ t in
-    let q = and_parts _ _ p.0 in
-    let r = and_parts _ _ q.0 in
-    record { cells = ltb-true _ _ r.0; some = ltb-true _ _ r.1; short = ltb-true _ _ q.1; bytes = p.1 }
-
 in_place : (total least at size name runs : ℕ) → 1 ≤ size → least ≤ at → at + size ≤ 1048576 + total → 1 ≤ name → 1 ≤ runs → is_object_place total least at size name runs ≡ true
 in_place total least at size name runs a b c d e =
     and_from _ _ (and_from _ _ (and_from _ _ (and_from _ _ (le-leb _ _ a) (le-leb _ _ b)) (le-leb _ _ c)) (le-leb _ _ d)) (le-leb _ _ e)
@@ -76,9 +62,9 @@ pub rules : (total least start : ℕ) (statics : List StaticOf) → least ≤ st
 rules total least start [] low even fits have named = tt
 rules total least start (s ∷ statics) low even fits have named =
     let h = (have 0 s refl).cells in
-    let n = parts s (named.each 0 s refl) in
-    let size = some_size s.object h n.cells in
-    let runs = some_run s.object.cells.items n.cells in
+    let n = named.each 0 s refl in
+    let size = some_size s.object h n.cell in
+    let runs = some_run s.object.cells.items n.cell in
     let some = n.some in
     let first : IsObject total least (object_of start s) = record {
       place = in_place total least start s.object.size (length s.name.items) (length (runs_of s.object.cells.items)) (omega arith) low (omega arith) (omega arith) (omega arith);

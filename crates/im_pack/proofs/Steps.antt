@@ -1,8 +1,7 @@
 -- Steps of the loops.
-use Rattle.std.proofs.Common.{◌≡◌, ◌<◌, inl, inr, ℕ, suc, ◌+◌, ◌-◌, ◌/◌, ◌%◌, true, false, List, [], ◌∷◌, ◌++◌, Some, length, drop, refl, sym, ap, ◌∙◌, subst, arith, add-one, append_assoc, length-append}
+use Rattle.std.proofs.Common.{◌≡◌, ◌<◌, ℕ, suc, ◌+◌, ◌-◌, ◌/◌, ◌%◌, true, false, List, [], ◌∷◌, ◌++◌, Some, length, drop, refl, sym, ap, ◌∙◌, subst, arith, add-one, append_assoc, length-append}
 use Rattle.std.specs.Prelude.{slice_get, replicate, if◌then◌else◌}
 use Rattle.std.proofs.Math.Seq.{drop-cons}
-use Rattle.std.proofs.lemmas.Bool.{cases_lt}
 use Rattle.std.proofs.lemmas.Option.{slice_get_within, get_or_from_slice_get}
 use Rattle.im_num.specs.Bytes.{bytes_of}
 use Rattle.im_num.specs.Kinds.{kind_size}
@@ -13,7 +12,7 @@ use Rattle.im_ctype.specs.declared.cell.Cell.{Cell}
 use Rattle.im_block.specs.declared.unit.Constant.{Constant}
 use Rattle.im_block.specs.declared.unit.Static.{Static as StaticOf}
 use Rattle.im_frame.specs.Layout.{room}
-use Rattle.im_pack.specs.Packed.{word_of, can_be_named}
+use Rattle.im_pack.specs.Packed.{word_of}
 use Rattle.im_pack.specs.Bytes.{cells_bytes, HasWords, AreFirstCells}
 use Rattle.im_pack.specs.Objects.{one_cell, goes_on, longer, added, object_of, objects_at}
 use Rattle.im_pack.proofs.Views.{length_zeros}
@@ -88,15 +87,3 @@ next_object objects new statics addresses i a s e g is =
     ∙ append_assoc objects (object_of a s ∷ []) (objects_at (drop (i + 1) statics) (drop (i + 1) addresses))
     ∙ ap (λ z. objects ++ objects_at (s ∷ drop (i + 1) statics) z) (sym (drop_next addresses i a g))
     ∙ ap (λ z. objects ++ objects_at z (drop i addresses)) (sym (drop_next statics i s e))
-
-pub next_named : (statics : List StaticOf) (i : ℕ) (x : StaticOf) → slice_get statics i ≡ Some x → can_be_named x ≡ true
-    → ((n : ℕ) (s : StaticOf) → n < i → slice_get statics n ≡ Some s → can_be_named s ≡ true)
-    → (n : ℕ) (s : StaticOf) → n < i + 1 → slice_get statics n ≡ Some s → can_be_named s ≡ true
-next_named statics i x e named h n s l g = elim (cases_lt n i) [
-  | inl b ↦ h n s b g
-  | inr b ↦
-      (let q : n ≡ i = omega arith in
-      let both : Some s ≡ Some x = sym g ∙ ap (slice_get statics) q ∙ e in
-      let same : s ≡ x = cc in
-      subst (λ (z : StaticOf). can_be_named z ≡ true) (sym same) named)
-]

@@ -1,9 +1,9 @@
 -- What packing is given, and that it makes an image.
 use Rattle.std.proofs.Common.{◌≡◌, ◌<◌, ◌≤◌, ℕ, zero, suc, ◌+◌, ◌*◌, ◌/◌, ◌%◌, ◌^◌, List, [], ◌∷◌, Option, Some, None, length, refl, sym, ap, ◌∙◌, subst, arith}
-use Rattle.std.specs.Prelude.{All, slice_get, slice_index}
+use Rattle.std.specs.Prelude.{All, map, option_map, slice_get, slice_index}
 use Rattle.std.proofs.lemmas.Bool.{le-leb, eq-eqb, and_from}
 use Rattle.std.proofs.lemmas.List.Elements.{All-get_or}
-use Rattle.std.proofs.lemmas.Option.{get_or_from_slice_get, slice_get_within}
+use Rattle.std.proofs.lemmas.Option.{get_or_from_slice_get, slice_get_within, slice_get-map}
 use Rattle.im_num.specs.declared.kind.Kind.{Kind}
 use Rattle.im_ctype.specs.declared.cell.Cell.{Cell}
 use Rattle.im_rv.specs.declared.code.Code.{Code as Linked}
@@ -18,7 +18,8 @@ use Rattle.im_block.specs.Wellformed.{IsWellFormed, IsStatic, HasBytes, Suits}
 use Rattle.im_frame.specs.Layout.{rooms, places_from}
 use Rattle.im_frame.proofs.Places.{lies, count_from}
 use Rattle.im_select_addresses.specs.Statics.{objects_of}
-use Rattle.im_pack.specs.Packed.{AreOfUnit, IsLoadable}
+use Rattle.im_block.specs.Meaning.{static_of}
+use Rattle.im_pack.specs.Packed.{AreOfUnit, IsLoadable, AreNamable}
 use Rattle.im_pack.specs.Bytes.{IsWord, HasWords, AreReady, statics_bytes}
 use Rattle.im_pack.specs.Objects.{objects_at, AreNamed}
 use Rattle.im_pack.proofs.Statics.{object_is, AllHave, whole}
@@ -32,6 +33,9 @@ is_static u w n s e = all_at (IsStatic u.statics.items) u.statics.items n s w.st
 
 pub have : (u : Code) → IsWellFormed u → AllHave u.statics.items
 have u w n s e = let i = is_static u w n s e in record { cells = i.cells; count = i.count }
+
+pub statics_named : (statics : List StaticOf) → AreNamable (map {A = StaticOf} static_of statics) → AreNamed statics
+statics_named statics h = record { each = λ n s e. h.each n (static_of s) (slice_get-map {A = StaticOf} static_of statics n ∙ ap (option_map static_of) e) }
 
 pub count_of : (statics : List StaticOf) → length (objects_of statics) ≡ length statics
 count_of [] = refl

@@ -1,10 +1,11 @@
 -- For private contracts: how cells become runs, and statics objects.
-use Rattle.std.specs.Prelude.{◌≡◌, ℕ, ◌+◌, Bool, true, if◌then◌else◌, List, [], ◌∷◌, Some, slice_get}
+use Rattle.std.specs.Prelude.{◌≡◌, ℕ, ◌+◌, Bool, if◌then◌else◌, List, [], ◌∷◌, Some, slice_get}
 use Rattle.im_image.specs.declared.object.CellRun.{CellRun}
 use Rattle.im_image.specs.Contents.{ObjectValue, continues}
 use Rattle.im_ctype.specs.declared.cell.Cell.{Cell}
 use Rattle.im_block.specs.declared.unit.Static.{Static as StaticOf}
-use Rattle.im_pack.specs.Packed.{can_be_named}
+use Rattle.im_block.specs.Meaning.{static_of}
+use Rattle.im_pack.specs.Packed.{IsNamable}
 
 abbrev pub one_cell : Cell → CellRun
 one_cell c = record { offset = c.offset; kind = c.kind; count = 1 }
@@ -40,4 +41,4 @@ objects_at (s ∷ statics) [] = []
 objects_at (s ∷ statics) (a ∷ addresses) = object_of a s ∷ objects_at statics addresses
 
 pub record AreNamed (statics : List StaticOf) : Type 0 where
-  pub each : (n : ℕ) (s : StaticOf) → slice_get statics n ≡ Some s → can_be_named s ≡ true
+  pub each : (n : ℕ) (s : StaticOf) → slice_get statics n ≡ Some s → IsNamable (static_of s)

@@ -1,5 +1,5 @@
 -- The image of linked code and of the statics of its unit.
-use Rattle.std.specs.Prelude.{◌≡◌, ◌⊎◌, ◌<◌, ◌≤◌, ℕ, ◌+◌, ◌-◌, ◌*◌, ◌%◌, ◌^◌, nat_lt, ◌&&◌, Bool, false, List, length, Some, slice_get, slice_index}
+use Rattle.std.specs.Prelude.{◌≡◌, ◌⊎◌, ◌<◌, ◌≤◌, ℕ, ◌+◌, ◌-◌, ◌*◌, ◌%◌, ◌^◌, true, List, length, Some, slice_get, slice_index}
 use Rattle.std.specs.List.{flat_map, list_all}
 use Rattle.im_num.specs.Kinds.{kind_size, word}
 use Rattle.im_mem.specs.Map.{statics_start}
@@ -10,6 +10,7 @@ use Rattle.im_image.specs.declared.version.Version.TheVariants.{Two}
 use Rattle.im_image.specs.declared.form.Form.TheVariants.{TwoLengths}
 use Rattle.im_image.specs.Contents.{ImageValue, ObjectValue, is_name_byte}
 use Rattle.im_ctype.specs.declared.cell.Cell.{Cell}
+use Rattle.im_store.specs.Statics.{StaticObject}
 use Rattle.im_block.specs.declared.unit.Constant.{Constant}
 use Rattle.im_block.specs.declared.unit.Constant.TheVariants.{Number, Null, Inside}
 use Rattle.im_block.specs.declared.unit.Static.{Static as StaticOf}
@@ -18,8 +19,6 @@ use Rattle.im_block.specs.Wellformed.{IsWellFormed}
 use Rattle.im_frame.specs.Layout.{rooms}
 use Rattle.im_select_addresses.specs.Statics.{objects_of}
 use Rattle.im_select_statics.specs.Named.{cells_of_run}
-use Rattle.im_pack.specs.declared.fault.PackFault.{PackFault}
-use Rattle.im_pack.specs.declared.fault.PackFault.TheVariants.{Unnamed, OutOfMemory}
 
 -- the word of a first value, where the statics have these addresses
 abbrev pub word_of : List ℕ → Constant → ℕ
@@ -78,16 +77,12 @@ pub record IsLoadable (code : Linked) : Type 0 where
   pub inside : first < length code.words.items
   pub entry : code.entry ≡ address first
 
--- an image can name a static that has a cell and a name of letters, digits, _ and $
-abbrev pub can_be_named : StaticOf → Bool
-can_be_named s =
-    nat_lt 0 (length s.object.cells.items) && nat_lt 0 (length s.name.items) && nat_lt (length s.name.items) (2 ^ 32) && list_all is_name_byte s.name.items
+-- an image can name a static that has a cell, and a name of letters, digits, _ and $, fewer than 2^32 of them
+pub record IsNamable (s : StaticObject) : Type 0 where
+  pub cell : 0 < length s.cells
+  pub some : 0 < length s.name
+  pub short : length s.name < 2 ^ 32
+  pub bytes : list_all is_name_byte s.name ≡ true
 
-pub record IsUnnamed (statics : List StaticOf) (n : ℕ) : Type 0 where
-  pub s : StaticOf
-  pub is_static : slice_get statics n ≡ Some s
-  pub cannot : can_be_named s ≡ false
-
-abbrev pub IsFaultOf : List StaticOf → PackFault → Type 0
-IsFaultOf statics (Unnamed n) = IsUnnamed statics n
-IsFaultOf statics OutOfMemory = Unit {0}
+pub record AreNamable (statics : List StaticObject) : Type 0 where
+  pub each : (n : ℕ) (s : StaticObject) → slice_get statics n ≡ Some s → IsNamable s

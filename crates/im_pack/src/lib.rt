@@ -2,10 +2,8 @@
 #![tactic(auto)]
 
 mod bytes;
-mod fault;
 mod objects;
 mod packing;
 mod runs;
 
-pub use fault::PackFault;
 pub use packing::pack;

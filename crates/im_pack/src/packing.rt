@@ -1,12 +1,12 @@
-ghost use Rattle.std.specs.Prelude.{◌≡◌, ◌≤◌, ◌<◌, ◌^◌, slice_index, IfOk, MatchResult, ℕ};
+ghost use Rattle.std.specs.Prelude.{◌≡◌, ◌≤◌, ◌<◌, ◌^◌, map, slice_index, IfOk, ℕ};
 ghost use Rattle.im_mem.specs.Map.{output_capacity, stack_capacity, statics_capacity, statics_start};
 ghost use Rattle.im_block.specs.declared.unit.Unit.{Unit};
+ghost use Rattle.im_block.specs.Meaning.{static_of};
 ghost use Rattle.im_frame.specs.Layout.{places_from, rooms};
 ghost use Rattle.im_select_addresses.specs.Statics.{objects_of};
-ghost use Rattle.im_pack.specs.Packed.{AreOfUnit, IsFaultOf, IsLoadable, IsPacked};
+ghost use Rattle.im_pack.specs.Packed.{AreNamable, AreOfUnit, IsLoadable, IsPacked};
 
 use crate::bytes::first_bytes;
-use crate::fault::PackFault;
 use crate::objects::objects_of_statics;
 use im_block::Static;
 use im_image::{Form, Image, Version};
@@ -31,18 +31,18 @@ pub fn pack(
     code: &Code,
     stack: u32,
     out_cap: u32,
-) -> Result<Image, PackFault>
+) -> Result<Image, NoMemory>
     requires well_formed { AreOfUnit statics.now }
+    requires named { AreNamable (map static_of statics.now) }
     requires room { rooms (objects_of statics.now) ≤ statics_capacity }
     requires places { addresses.now ≡ places_from statics_start (objects_of statics.now) }
     requires code { IsLoadable code.now }
     requires some_stack { 256 ≤ stack }
     requires most_stack { stack ≤ stack_capacity }
     requires output { out_cap ≤ output_capacity }
-    ensures { MatchResult result
+    ensures { IfOk result
         (λ image. (u : Unit) → u.statics.items ≡ statics.now
-        → IsPacked u addresses.now code.now stack out_cap image)
-        (λ fault. IsFaultOf statics.now fault) }
+        → IsPacked u addresses.now code.now stack out_cap image) }
 {
     let bytes = first_bytes(alloc, statics, addresses)?;
     let objects = objects_of_statics(alloc, statics, addresses)?;

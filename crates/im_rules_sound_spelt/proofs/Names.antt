@@ -1,5 +1,5 @@
 -- The names of a unit's statics.
-use Rattle.std.proofs.Common.{◌≡◌, ℕ, ◌+◌, ◌<◌, ◌≤◌, nat_lt, List, [], ◌∷◌, ◌++◌, map, Bool, true, false, refl, sym, ap, ◌∙◌, subst}
+use Rattle.std.proofs.Common.{◌≡◌, ℕ, suc, ◌+◌, ◌<◌, ◌≤◌, nat_lt, List, [], ◌∷◌, ◌++◌, length, length-append, map, Bool, true, false, refl, sym, ap, ◌∙◌, subst, arith}
 use Rattle.std.specs.Prelude.{◌&&◌, if◌then◌else◌}
 use Rattle.std.proofs.lemmas.Bool.{ltb-true, ltb-false}
 use Rattle.im_word.specs.Words.{Name, Word}
@@ -82,16 +82,16 @@ module _ (test : Name → Bool) where
       by-test true = added-good i.name before h k.0
       by-test false = h
 
-  abbrev HasName : StaticObject → Type 0
-  HasName o = IsStaticName test o.name
+  abbrev HasName : ℕ → StaticObject → Type 0
+  HasName count o = IsStaticName test count o.name
 
-  objects-named : (e : FilePlace) (gs : List FirstValues) (xs : List Name) → Each Good xs → Each HasName (map (static_named e gs) xs)
-  objects-named e gs [] h = tt
-  objects-named e gs (x ∷ xs) h = (declared h.0, objects-named e gs xs h.1)
+  objects-named : (count : ℕ) (e : FilePlace) (gs : List FirstValues) (xs : List Name) → Each Good xs → Each (HasName count) (map (static_named e gs) xs)
+  objects-named count e gs [] h = tt
+  objects-named count e gs (x ∷ xs) h = (declared h.0, objects-named count e gs xs h.1)
 
-  literals-named : (known : Structs) (k : ℕ) (ss : List Name) → Each HasName (string_statics known k ss)
-  literals-named known k [] = tt
-  literals-named known k (s ∷ ss) = (literal k, literals-named known (k + 1) ss)
+  literals-named : (count : ℕ) (known : Structs) (k : ℕ) (ss : List Name) → k + length (string_statics known k ss) ≤ suc count → Each (HasName count) (string_statics known k ss)
+  literals-named count known k [] few = tt
+  literals-named count known k (s ∷ ss) few = (literal k (omega (arith, few)), literals-named count known (k + 1) ss (omega (arith, few)))
 
 no-more : (n most : ℕ) → (most < n → ⊥) → n ≤ most
 no-more n most h = by-test (nat_lt most n) refl
@@ -101,11 +101,15 @@ no-more n most h = by-test (nat_lt most n) refl
     by-test false e = ltb-false most n e
 
 pub names-of-source : (test : Name → Bool) (u : t.Tree) (words : List Word) (g : Prog) → Spells u words → AreLexical words → AreNamedBy test words → TypedUnit u g → IsWithinLimits u
-    → Each {A = StaticObject} (λ o. IsStaticName test o.name) g.statics
+    → Each {A = StaticObject} (λ o. IsStaticName test (length g.statics) o.name) g.statics
 names-of-source test u words _ d h k (of_unit {e = e} {gs = gs} {ks = ks} x m) l =
     let within : IsFileWithin (file_start u) (some_externals u) = λ n z. no-more n size_limit (λ lt. l of_size n (too_large z lt)) in
     let all = externals-step x (start-fine u) (unit-written d h) within in
     let items = (whole_walk u).items in
     let good = objects-good test items [] items tt (unit-good test _ d k tt) in
     let named = subst (λ (o : Outline). Each (Good test) o.statics) (sym all.grows.unit) good in
-    join-each (HasName test) (map (static_named e gs) e.context.unit.statics) (string_statics e.context.known 1 e.strings) (objects-named test e gs e.context.unit.statics named) (literals-named test e.context.known 1 e.strings)
+    let objects = map (static_named e gs) e.context.unit.statics in
+    let literals = string_statics e.context.known 1 e.strings in
+    let all_of = length-append objects literals in
+    let count = length (objects ++ literals) in
+    join-each (HasName test count) objects literals (objects-named test count e gs e.context.unit.statics named) (literals-named test count e.context.known 1 e.strings (omega (arith, all_of)))

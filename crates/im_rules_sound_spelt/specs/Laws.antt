@@ -31,4 +31,4 @@ SourcesLaw =
 abbrev pub NamesLaw : Type 0
 NamesLaw =
     (test : Name → Bool) (u : t.Tree) (words : List Word) (g : Prog) → Spells u words → AreLexical words → AreNamedBy test words
-    → TypedUnit u g → IsWithinLimits u → Each {A = StaticObject} (λ o. IsStaticName test o.name) g.statics
+    → TypedUnit u g → IsWithinLimits u → Each {A = StaticObject} (λ o. IsStaticName test (length g.statics) o.name) g.statics

@@ -29,7 +29,7 @@ IsNamedBy test unknown = Unit {0}
 abbrev pub AreNamedBy : (Name → Bool) → List Word → Type 0
 AreNamedBy test words = Each (IsNamedBy test) words
 
--- the name of a static: one that passes the test, or that of a string literal
-pub data IsStaticName (test : Name → Bool) : Name → Type 0 where
-  declared : {n : Name} → test n ≡ true → IsStaticName test n
-  literal : (k : ℕ) → IsStaticName test (codes "$" ++ decimal k)
+-- the name of one of so many statics: one that passes the test, or that of a string literal
+pub data IsStaticName (test : Name → Bool) (count : ℕ) : Name → Type 0 where
+  declared : {n : Name} → test n ≡ true → IsStaticName test count n
+  literal : (k : ℕ) → k ≤ count → IsStaticName test count (codes "$" ++ decimal k)

@@ -34,3 +34,6 @@ returns-in-Report g c = rw c.in-Report.is c.report.ensures
 
 pub returns-in-Eval : goal.returns-in-Eval
 returns-in-Eval g c = rw c.in-Eval.is c.evaluate_source.ensures
+
+pub returns-in-Gen : goal.returns-in-Gen
+returns-in-Gen g c = rw c.in-Gen.is (c.generate_and_run.ensures (g.H.Shelf.state c.args.shelf.now))

@@ -1,7 +1,4 @@
 use Rattle.im_cmd_lines.proofs.source_fault.send_source_fault.Goals as goal
 
-pub returns-in-NotYet : goal.returns-in-NotYet
-returns-in-NotYet g c = rw c.in-NotYet.is c.send_about.ensures
-
 pub returns-in-OutOfMemory : goal.returns-in-OutOfMemory
-returns-in-OutOfMemory g c = rw c.in-OutOfMemory.is c.send_about-in-OutOfMemory.ensures
+returns-in-OutOfMemory g c = rw c.in-OutOfMemory.is c.send_about.ensures

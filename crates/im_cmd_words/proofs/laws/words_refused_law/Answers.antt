@@ -41,3 +41,19 @@ returns-clause-stack c = refl
 pub returns-clause-output : goal.returns-clause-output
 unfolding clap_on_literals
 returns-clause-output c = refl
+
+pub returns-clause-none : goal.returns-clause-none
+unfolding clap_on_literals
+returns-clause-none c = refl
+
+pub returns-clause-over : goal.returns-clause-over
+unfolding clap_on_literals
+returns-clause-over c = refl
+
+pub returns-clause-plus : goal.returns-clause-plus
+unfolding clap_on_literals
+returns-clause-plus c = refl
+
+pub returns-clause-padded : goal.returns-clause-padded
+unfolding clap_on_literals
+returns-clause-padded c = refl

@@ -33,3 +33,7 @@ returns-clause-report c = refl
 pub returns-clause-eval : goal.returns-clause-eval
 unfolding clap_on_literals
 returns-clause-eval c = refl
+
+pub returns-clause-made : goal.returns-clause-made
+unfolding clap_on_literals
+returns-clause-made c = refl

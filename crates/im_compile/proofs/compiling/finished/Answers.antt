@@ -2,11 +2,12 @@ use Rattle.std.proofs.Common.{◌≡◌, ℕ, List, map, length, rules, refl, sy
 use Rattle.std.specs.Prelude.{string_bytes}
 use Rattle.std.proofs.lemmas.Result.{err_from_is_err_and}
 use Rattle.im_link_laws.specs.Program.{IsProgram}
-use Rattle.im_pack.specs.Packed.{IsPacked, IsFaultOf as IsPackFault}
+use Rattle.im_pack.specs.Packed.{IsPacked, AreNamable}
 use Rattle.im_select_assemble.specs.Names.{program_names}
 use Rattle.im_block.specs.declared.unit.Static.{Static as StaticOf}
+use Rattle.im_block.specs.Meaning.{static_of}
 use Rattle.im_frame.specs.declared.layout.Layout.{Layout}
-use Rattle.im_compile.proofs.Faulty.{HasPlaces, of_linking, of_image}
+use Rattle.im_compile.proofs.Faulty.{HasPlaces, of_linking}
 use Rattle.im_compile.proofs.Layouts.{names_count, assemblable, room_of, layouts_at, places_at}
 use Rattle.im_compile.proofs.compiling.finished.Goals as goal
 
@@ -38,6 +39,11 @@ pack-requires-clause-well_formed c =
     let same : c.deref-4.result.now ≡ c.args.prepared.unit.statics.items = c.deref-4.ensures.value ∙ ap (λ z. z.items) c.in_ok-linked.ensures.0 in
     (c.args.prepared.unit, sym same, c.requires.prepared.1.ready.well_formed)
 
+pub pack-requires-clause-named : goal.pack-requires-clause-named
+pack-requires-clause-named c =
+    let same : c.deref-4.result.now ≡ c.args.prepared.unit.statics.items = c.deref-4.ensures.value ∙ ap (λ z. z.items) c.in_ok-linked.ensures.0 in
+    subst (λ (z : List StaticOf). AreNamable (map {A = StaticOf} static_of z)) (sym same) c.requires.named
+
 pub pack-requires-clause-room : goal.pack-requires-clause-room
 pack-requires-clause-room c =
     let same : c.deref-4.result.now ≡ c.args.prepared.unit.statics.items = c.deref-4.ensures.value ∙ ap (λ z. z.items) c.in_ok-linked.ensures.0 in
@@ -47,12 +53,6 @@ pub pack-requires-clause-places : goal.pack-requires-clause-places
 pack-requires-clause-places c =
     let same : c.deref-4.result.now ≡ c.args.prepared.unit.statics.items = c.deref-4.ensures.value ∙ ap (λ z. z.items) c.in_ok-linked.ensures.0 in
     places_at c.args.prepared.unit c.deref-4.result.now same _ (c.deref-5.ensures.value ∙ c.requires.prepared.1.place_statics)
-
-pub returns-in_err-image : goal.returns-in_err-image
-returns-in_err-image c prog p =
-    let e = err_from_is_err_and c.from_residual-in_err-image.result c.from_residual-in_err-image.ensures.1 in
-    let same : c.deref-4.result.now ≡ c.args.prepared.unit.statics.items = c.deref-4.ensures.value ∙ ap (λ z. z.items) c.in_ok-linked.ensures.0 in
-    rw (e.1, e.2) (of_image prog c.args.prepared.unit p.passed c.in_err-image.field-0.0 (subst (λ (k : List StaticOf). IsPackFault k c.in_err-image.field-0.0) same c.in_err-image.ensures))
 
 pub returns : goal.returns
 returns c prog p =

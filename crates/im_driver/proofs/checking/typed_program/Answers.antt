@@ -15,7 +15,7 @@ check-requires c =
 pub returns-in-Ok-check : goal.returns-in-Ok-check
 returns-in-Ok-check c =
     let text = c.in-Ok.ensures.1 in
-    c.program_law.ensures c.args.source.now text.tokens c.in-Ok.text.tree c.in-Ok-check.prog (λ i. omega (arith, c.type_inv.source i)) text.each (record { lexes = text.lexes; parsed = text.parsed }) c.in-Ok-check.ensures
+    c.program_law.ensures c.args.source.now text.tokens c.in-Ok.text.tree c.in-Ok-check.prog (λ i. omega (arith, c.type_inv.source i)) c.in-Ok.ensures.0 text.each (record { lexes = text.lexes; parsed = text.parsed }) c.in-Ok-check.ensures
 
 pub returns : goal.returns
 returns c =

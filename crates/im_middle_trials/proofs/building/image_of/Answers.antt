@@ -1,10 +1,12 @@
-use Rattle.std.proofs.Common.{◌≡◌, List, length, sym, ap, ◌∙◌, subst}
+use Rattle.std.proofs.Common.{◌≡◌, List, length, map, sym, ap, ◌∙◌, subst}
 use Rattle.im_mem.specs.Map.{statics_start, statics_capacity}
 use Rattle.im_block.specs.declared.unit.Static.{Static as StaticOf}
 use Rattle.im_block.specs.declared.unit.Function.{Function}
+use Rattle.im_block.specs.Meaning.{static_of}
 use Rattle.im_frame.specs.Layout.{places_from, rooms}
 use Rattle.im_select_addresses.specs.Addresses.{AreLayouts}
 use Rattle.im_select_addresses.specs.Statics.{objects_of}
+use Rattle.im_pack.specs.Packed.{AreNamable}
 use Rattle.im_middle_trials.proofs.Laid.{assemblable, loadable, room_of}
 use Rattle.im_middle_trials.proofs.building.image_of.Goals as goal
 
@@ -21,6 +23,11 @@ pub pack-requires-clause-well_formed : goal.pack-requires-clause-well_formed
 pack-requires-clause-well_formed c =
     let same : c.deref-6.result.now ≡ c.args.unit.statics.items = c.deref-6.ensures.value ∙ ap (λ z. z.items) c.in_ok-assembled.ensures.statics in
     (c.args.unit, sym same, c.requires.buildable.well_formed)
+
+pub pack-requires-clause-named : goal.pack-requires-clause-named
+pack-requires-clause-named c =
+    let same : c.deref-6.result.now ≡ c.args.unit.statics.items = c.deref-6.ensures.value ∙ ap (λ z. z.items) c.in_ok-assembled.ensures.statics in
+    subst (λ (z : List StaticOf). AreNamable (map {A = StaticOf} static_of z)) (sym same) c.requires.buildable.namable
 
 pub pack-requires-clause-room : goal.pack-requires-clause-room
 pack-requires-clause-room c =

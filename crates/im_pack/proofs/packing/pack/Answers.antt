@@ -6,7 +6,7 @@ use Rattle.im_pack.specs.Bytes.{statics_bytes}
 use Rattle.im_pack.specs.Objects.{objects_at}
 use Rattle.im_pack.proofs.Statics.{first_bytes, small_bytes}
 use Rattle.im_pack.proofs.Naming.{objects_are}
-use Rattle.im_pack.proofs.Whole.{ready_statics, statics_have, is_image}
+use Rattle.im_pack.proofs.Whole.{ready_statics, statics_have, statics_named, is_image}
 use Rattle.im_pack.proofs.packing.pack.Goals as goal
 
 pub first_bytes-requires : goal.first_bytes-requires
@@ -21,7 +21,7 @@ invariant_of-result c =
     let addresses = c.args.addresses.now in
     let words : c.in_ok-copy_of.field-0.items ≡ c.args.code.now.words.items = c.in_ok-copy_of.ensures.same ∙ c.deref.ensures.value in
     let small : (k : ℕ) → slice_index c.in_ok-bytes.bytes.items k < 256 = λ k. subst (λ (z : List ℕ). slice_index z k < 256) (sym c.in_ok-bytes.ensures) (small_bytes addresses statics k) in
-    is_image statics addresses c.args.code.now c.in_ok-bytes.bytes.items c.in_ok-copy_of.field-0.items c.in_ok-objects.objects.items c.args.stack c.args.out_cap (statics_have statics c.requires.well_formed) c.requires.room c.requires.places c.requires.code c.requires.some_stack c.requires.most_stack c.requires.output c.in_ok-objects.ensures.named c.in_ok-bytes.ensures c.in_ok-objects.ensures.objects words c.in_ok-copy_of.ensures.wide small
+    is_image statics addresses c.args.code.now c.in_ok-bytes.bytes.items c.in_ok-copy_of.field-0.items c.in_ok-objects.objects.items c.args.stack c.args.out_cap (statics_have statics c.requires.well_formed) c.requires.room c.requires.places c.requires.code c.requires.some_stack c.requires.most_stack c.requires.output (statics_named statics c.requires.named) c.in_ok-bytes.ensures c.in_ok-objects.ensures words c.in_ok-copy_of.ensures.wide small
 
 pub returns : goal.returns
 returns c u same =
@@ -38,5 +38,5 @@ returns c u same =
       statics = subst (λ (z : List StaticOf). AreFirstBytes z addresses c.in_ok-bytes.bytes.items) (sym same)
           (subst (AreFirstBytes statics addresses) (sym c.in_ok-bytes.ensures) (first_bytes addresses statics (statics_have statics c.requires.well_formed) c.requires.places));
       objects = subst (λ (z : List StaticOf). AreObjectsOf z addresses c.in_ok-objects.objects.items) (sym same)
-          (subst (AreObjectsOf statics addresses) (sym c.in_ok-objects.ensures.objects) (objects_are statics addresses ready.count));
+          (subst (AreObjectsOf statics addresses) (sym c.in_ok-objects.ensures) (objects_are statics addresses ready.count));
     }

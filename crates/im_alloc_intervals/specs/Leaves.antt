@@ -1,0 +1,71 @@
+-- Functions that need no slot: they call nothing, and at most 20 intervals hold any one of their lines.
+use Rattle.std.specs.Prelude.{◌≡◌, ◌<◌, ◌≤◌, ◌⊎◌, ℕ, suc, ◌+◌, Bool, true, false, List, [], ◌∷◌, Option, Some, None, length, slice_get, drop}
+use Rattle.im_block.specs.declared.code.Line.{Line}
+use Rattle.im_block.specs.declared.code.Line.TheVariants.{Call, GetChar, PutChar}
+use Rattle.im_block.specs.declared.code.Exit.{Exit}
+use Rattle.im_block.specs.declared.code.Block.{Block}
+use Rattle.im_block.specs.declared.unit.Function.{Function}
+use Rattle.im_block.specs.Sections.{Has}
+use Rattle.im_block.specs.Shape.{sum_of}
+use Rattle.im_alloc_placed.specs.Placeable.{first_free}
+use Rattle.im_alloc_relation.specs.Live.{sets, lives}
+use Rattle.im_block_live.specs.Reads.{reads_first}
+
+-- lines and exits have positions, through the function from its last block to its first. Edges but loop edges lead to blocks of lower
+-- numbers, so this is the order in which they run
+abbrev pub size_of : Block → ℕ
+size_of block = suc (length block.lines.items)
+
+abbrev pub position : List Block → ℕ → ℕ → ℕ
+position blocks b i = sum_of size_of (drop (suc b) blocks) + i
+
+-- a register lives at a point: from there some path reads it before it sets it
+abbrev pub LivesBefore : List Block → List Line → Exit → ℕ → Type 0
+LivesBefore blocks lines exit v = (n : ℕ) × (lives (reads_first blocks n) lines exit v ≡ true)
+
+abbrev pub sets_at : Option Line → ℕ → Bool
+sets_at None v = false
+sets_at (Some line) v = sets line v
+
+-- a register lives before the line, or the exit, at a position, or is set there
+pub record IsNeededAt (blocks : List Block) (v p : ℕ) : Type 0 where
+  pub b : ℕ
+  pub i : ℕ
+  pub block : Block
+  pub at : slice_get blocks b ≡ Some block
+  pub inside : i ≤ length block.lines.items
+  pub is : p ≡ position blocks b i
+  pub needed : LivesBefore blocks (drop i block.lines.items) block.exit v ⊎ (sets_at (slice_get block.lines.items i) v ≡ true)
+
+-- a register's interval holds what lies between the first and the last of these positions
+pub record HoldsAt (blocks : List Block) (v p : ℕ) : Type 0 where
+  pub first : ℕ
+  pub last : ℕ
+  pub begins : IsNeededAt blocks v first
+  pub ends : IsNeededAt blocks v last
+  pub low : first ≤ p
+  pub high : p ≤ last
+
+abbrev pub AreDistinct : List ℕ → Type 0
+AreDistinct [] = Unit {0}
+AreDistinct (x ∷ xs) = (Has xs x → ⊥) × AreDistinct xs
+
+-- at most so many intervals hold any one position
+pub record IsTight (f : Function) (most : ℕ) : Type 0 where
+  pub few : (p : ℕ) (vs : List ℕ) → AreDistinct vs → ((v : ℕ) → Has vs v → HoldsAt f.blocks.items v p) → length vs ≤ most
+
+abbrev pub IsCall : Line → Type 0
+IsCall (Call to i first count) = Unit {0}
+IsCall (GetChar to) = Unit {0}
+IsCall (PutChar to from) = Unit {0}
+IsCall line = ⊥
+
+pub record IsLeaf (f : Function) : Type 0 where
+  pub none : (b : ℕ) (block : Block) (i : ℕ) (line : Line) → slice_get f.blocks.items b ≡ Some block → slice_get block.lines.items i ≡ Some line → IsCall line → ⊥
+
+-- at the entry nothing lives but parameters
+pub record NothingElseEnters (f : Function) : Type 0 where
+  pub only : (v n : ℕ) → reads_first f.blocks.items n f.entry v ≡ true → v < first_free f
+
+abbrev pub NeedsNoSlot : Function → ℕ → Type 0
+NeedsNoSlot f slots = IsLeaf f → IsTight f 20 → NothingElseEnters f → slots ≡ 0

@@ -1,0 +1,4 @@
+pub mod Bits
+pub mod Paths
+pub mod Sweeping
+pub mod Pointed

@@ -1,0 +1,9 @@
+use Rattle.std.proofs.Common.{◌≡◌, ◌≤◌, ◌++◌}
+use Rattle.std.specs.List.{flat_map, range_with_len}
+use Rattle.std.specs.String.{string_bytes}
+use Rattle.im_gen.specs.Gen.{call_text}
+use Rattle.im_gen.proofs.text.write_calls.Given as goal
+
+abbrev pub invariant-loop-k : goal.invariant-loop-k
+invariant-loop-k l =
+    (string_bytes l.text ≡ string_bytes l.fn.text ++ flat_map call_text (range_with_len 1 l.k)) × (l.k ≤ l.count)

@@ -1,0 +1,4 @@
+pub mod Functions
+pub mod Objects
+pub mod Cells
+pub mod Names

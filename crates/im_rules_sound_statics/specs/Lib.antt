@@ -1,0 +1,2 @@
+pub mod Namable
+pub mod Laws
