@@ -1,15 +1,17 @@
 """What bench/ has to try the program in bulk: each runs a little here, finds nothing of the program, and what is wrong of one
-that is made wrong."""
+that is made wrong. Power is lost at each instruction of three programs, by the masks and second losses in turn."""
 import os
 import subprocess
 import sys
 
 from base import holds, same, test, text_of
 
+FEW_LOSSES = "losses.py --small --turns --every 50 --jobs 1"
+CHANCE = "fuzz.py --runs 140 --jobs 1"
 LITTLE = (
-    "losses.py --small --turns --every 50 --jobs 1",
+    "losses.py --small --turns",
     "refused.py --only dump --every 10",
-    "fuzz.py --runs 140 --jobs 1",
+    CHANCE,
 )
 # writes a byte more where the trace on its standard input has a loss
 FORGETS = """#!/bin/sh
@@ -37,7 +39,7 @@ def bench(room, line, program=None):
     )
 
 
-@test("bench: losses, refused memory and chance find nothing in a few runs")
+@test("bench: losses at each instruction of three programs, refused memory and chance find nothing")
 def little(room):
     for line in LITTLE:
         done = bench(room, line)
@@ -47,7 +49,7 @@ def little(room):
 
 @test("bench: a program that forgets, and one that falls, are found")
 def found(room):
-    for line, text, told in ((LITTLE[0], FORGETS, "other than"), (LITTLE[2], FALLS, "ended by signal 11")):
+    for line, text, told in ((FEW_LOSSES, FORGETS, "other than"), (CHANCE, FALLS, "ended by signal 11")):
         room.file("wrong", text.format(program=room.program))
         os.chmod(room.path("wrong"), 0o755)
         done = bench(room, line, room.path("wrong"))
