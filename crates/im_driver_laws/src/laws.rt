@@ -5,8 +5,8 @@ use im_front::one_word_law;
 use im_lex::one_reading;
 use im_rules::laws::{typed_breaks_none_law, typed_once_law};
 
-/// A source has one program at most. A right source, within the limits by its own counts, has no fault: where it isn't
-/// compiled, memory ran out.
+/// A source has one program at most. Of a right source, within the limits by its own counts, no fault but want of memory is
+/// true.
 pub fn right_source_law()
     ensures one { OneProgramLaw }
     ensures right { RightLaw }
