@@ -15,7 +15,8 @@ use Rattle.im_block.specs.declared.unit.Function.{Function}
 use Rattle.im_block.specs.Wellformed.{PlaceWithin, LineWithin, ExitWithin}
 use Rattle.im_promote.specs.Promote.{taken_into, read_as, write_as, home_of, promoted, Owns, PlaceFits, LineFits, LinesFit, PromotesFunction}
 use Rattle.im_alloc_relation.specs.Live.{place_uses, uses, sets, exit_lives, lives}
-use Rattle.im_promote.specs.Written.{names, reads_object, writes_object, exit_objects, object_lives, IsWrittenFirst, WritesObjectsFirst, lives_in, reads_first, WritesFirst}
+use Rattle.im_alloc_relation.specs.Reads.{lives_in, reads_first, WritesFirst}
+use Rattle.im_promote.specs.Written.{names, reads_object, writes_object, exit_objects, object_lives, IsWrittenFirst, WritesObjectsFirst}
 use Rattle.im_promote.proofs.Alikes.{false_or, both}
 use Rattle.im_promote.proofs.Sims.{BothBlocks, both_blocks, some_is}
 

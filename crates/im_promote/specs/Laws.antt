@@ -9,9 +9,10 @@ use Rattle.im_block.specs.Shape.{AllOrdered, sum_of, function_cost}
 use Rattle.im_block.specs.Wellformed.{IsWellFormed}
 use Rattle.im_alloc_placed.specs.Placeable.{IsPlaceable}
 use Rattle.im_alloc_placed.specs.Apart.{AllUncut}
+use Rattle.im_alloc_relation.specs.Reads.{WritesFirst}
 use Rattle.im_promote.specs.Promote.{PromotesFunction, Promotes}
 use Rattle.im_promote.specs.Promoted.{IsPromoted}
-use Rattle.im_promote.specs.Written.{WritesObjectsFirst, WritesFirst}
+use Rattle.im_promote.specs.Written.{WritesObjectsFirst}
 
 -- the same outcome at the same fuel, whatever the frames, the stack, the capacity and the input, where it is defined
 abbrev pub PromoteLaw : Type 0

@@ -1,5 +1,5 @@
 -- Why no register of the new code is read before it was written: no path reads a promoted object before it writes it.
-use Rattle.std.specs.Prelude.{◌≡◌, ◌<◌, ℕ, zero, suc, ◌==◌, ◌&&◌, ◌||◌, Bool, true, false, not, List, [], ◌∷◌, Option, Some, None, slice_get}
+use Rattle.std.specs.Prelude.{◌≡◌, ℕ, ◌==◌, ◌&&◌, ◌||◌, Bool, true, false, not, List, [], ◌∷◌, Option, Some, slice_get}
 use Rattle.im_block.specs.declared.code.Place.{Place}
 use Rattle.im_block.specs.declared.code.Place.TheVariants.{Static, Local, Through}
 use Rattle.im_block.specs.declared.code.Line.{Line}
@@ -8,7 +8,6 @@ use Rattle.im_block.specs.declared.code.Exit.{Exit}
 use Rattle.im_block.specs.declared.code.Exit.TheVariants.{Jump, Turn, Branch, Return}
 use Rattle.im_block.specs.declared.code.Block.{Block}
 use Rattle.im_block.specs.declared.unit.Function.{Function}
-use Rattle.im_alloc_relation.specs.Live.{lives}
 use Rattle.im_promote.specs.Promote.{Owns}
 
 abbrev pub names : Place → ℕ → Bool
@@ -44,16 +43,3 @@ pub record IsWrittenFirst (f : Function) (n : ℕ) : Type 0 where
 
 pub record WritesObjectsFirst (homes : ℕ → Option ℕ) (f : Function) : Type 0 where
   pub each : (n r : ℕ) → Owns f n → homes n ≡ Some r → IsWrittenFirst f n
-
-abbrev pub lives_in : (ℕ → ℕ → Bool) → Option Block → ℕ → Bool
-lives_in live None v = false
-lives_in live (Some block) v = lives live block.lines.items block.exit v
-
--- a path of at most n blocks, begun with block b, reads register v before it writes it
-abbrev pub reads_first : List Block → ℕ → ℕ → ℕ → Bool
-reads_first blocks zero b v = false
-reads_first blocks (suc n) b v = lives_in (reads_first blocks n) (slice_get blocks b) v
-
--- what is read before it was written is an argument
-pub record WritesFirst (f : Function) : Type 0 where
-  pub each : (n v : ℕ) → reads_first f.blocks.items n f.entry v ≡ true → v < f.parameters
