@@ -37,13 +37,13 @@ pub record IsNeededAt (blocks : List Block) (v p : ℕ) : Type 0 where
   pub is : p ≡ position blocks b i
   pub needed : LivesBefore blocks (drop i block.lines.items) block.exit v ⊎ (sets_at (slice_get block.lines.items i) v ≡ true)
 
--- a register's interval holds what lies between the first and the last of these positions
-pub record HoldsAt (blocks : List Block) (v p : ℕ) : Type 0 where
+-- a register's interval holds what lies between the first and the last of these positions. A parameter's begins with the function
+pub record HoldsAt (f : Function) (v p : ℕ) : Type 0 where
   pub first : ℕ
   pub last : ℕ
-  pub begins : IsNeededAt blocks v first
-  pub ends : IsNeededAt blocks v last
-  pub low : first ≤ p
+  pub begins : IsNeededAt f.blocks.items v first
+  pub ends : IsNeededAt f.blocks.items v last
+  pub low : (first ≤ p) ⊎ (v < first_free f)
   pub high : p ≤ last
 
 abbrev pub AreDistinct : List ℕ → Type 0
@@ -52,7 +52,7 @@ AreDistinct (x ∷ xs) = (Has xs x → ⊥) × AreDistinct xs
 
 -- at most so many intervals hold any one position
 pub record IsTight (f : Function) (most : ℕ) : Type 0 where
-  pub few : (p : ℕ) (vs : List ℕ) → AreDistinct vs → ((v : ℕ) → Has vs v → HoldsAt f.blocks.items v p) → length vs ≤ most
+  pub few : (p : ℕ) (vs : List ℕ) → AreDistinct vs → ((v : ℕ) → Has vs v → HoldsAt f v p) → length vs ≤ most
 
 abbrev pub IsCall : Line → Type 0
 IsCall (Call to i first count) = Unit {0}
