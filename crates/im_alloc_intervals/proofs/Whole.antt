@@ -28,7 +28,7 @@ use Rattle.im_alloc_intervals.specs.Tables.{AreTables, HasCall}
 use Rattle.im_alloc_intervals.proofs.Blocks.{all_at}
 use Rattle.im_alloc_intervals.proofs.Lives.{EdgesFrom, lives_below, lives_above}
 use Rattle.im_alloc_intervals.proofs.Paths.{at_start, at_none, closed}
-use Rattle.im_alloc_intervals.proofs.Targets.{sets_other, result_target, argument_used, lives_through, lives_used}
+use Rattle.im_alloc_intervals.proofs.Targets.{result_target, argument_used, lives_used}
 
 -- what homes keep at a line, behind which these live
 record KeptLine (h : ℕ → Home) (p : ℕ) (line : Line) (after : ℕ → Bool) : Type 0 where
@@ -188,7 +188,7 @@ module _ (f : Function) (able : IsAble f) where
     kept b block at i line stands =
         let lt = slice_get_within block.lines.items i line stands in
         record {
-          apart = λ to is v after ne. meet v to (position blocks b i) ne (tables.living b block i v at (omega arith) (lives_through tables.live block.lines.items block.exit i line v stands (sets_other line to v is ne) after)) (tables.setting b block i line to at stands is);
+          apart = λ to is v after ne. meet v to (position blocks b (suc i)) ne (tables.living b block (suc i) v at (omega arith) after) (tables.setting b block i line to at stands is);
           slot = λ to call v after a ne. in_slot v (position blocks b (suc i)) a (tables.crossing b block i line to v at stands call after ne) (tables.living b block (suc i) v at (omega arith) after);
           argument = λ v r is a e. of_argument v (position blocks b i) r a (tables.passed b block i line v at stands is) (tables.living b block i v at (omega arith) (lives_used tables.live block.lines.items block.exit i line v stands (argument_used line v is))) e;
         }

@@ -1,5 +1,5 @@
 -- Functions that need no slot: they call nothing, and at most 20 intervals hold any one of their lines.
-use Rattle.std.specs.Prelude.{◌≡◌, ◌<◌, ◌≤◌, ◌⊎◌, ℕ, suc, ◌+◌, Bool, true, false, List, [], ◌∷◌, Option, Some, None, length, slice_get, drop}
+use Rattle.std.specs.Prelude.{◌≡◌, ◌<◌, ◌≤◌, ◌⊎◌, ℕ, zero, suc, ◌+◌, Bool, true, false, List, [], ◌∷◌, Option, Some, None, length, slice_get, drop}
 use Rattle.im_block.specs.declared.code.Line.{Line}
 use Rattle.im_block.specs.declared.code.Line.TheVariants.{Call, GetChar, PutChar}
 use Rattle.im_block.specs.declared.code.Exit.{Exit}
@@ -27,7 +27,11 @@ abbrev pub sets_at : Option Line → ℕ → Bool
 sets_at None v = false
 sets_at (Some line) v = sets line v
 
--- a register lives before the line, or the exit, at a position, or is set there
+abbrev pub sets_behind : List Line → ℕ → ℕ → Bool
+sets_behind lines zero v = false
+sets_behind lines (suc i) v = sets_at (slice_get lines i) v
+
+-- a register lives before the line, or the exit, at a position, or the line before it sets it
 pub record IsNeededAt (blocks : List Block) (v p : ℕ) : Type 0 where
   pub b : ℕ
   pub i : ℕ
@@ -35,7 +39,7 @@ pub record IsNeededAt (blocks : List Block) (v p : ℕ) : Type 0 where
   pub at : slice_get blocks b ≡ Some block
   pub inside : i ≤ length block.lines.items
   pub is : p ≡ position blocks b i
-  pub needed : LivesBefore blocks (drop i block.lines.items) block.exit v ⊎ (sets_at (slice_get block.lines.items i) v ≡ true)
+  pub needed : LivesBefore blocks (drop i block.lines.items) block.exit v ⊎ (sets_behind block.lines.items i v ≡ true)
 
 -- a register's interval holds what lies between the first and the last of these positions. A parameter's begins with the function
 pub record HoldsAt (f : Function) (v p : ℕ) : Type 0 where
