@@ -1,12 +1,12 @@
 -- What a line sets, and what a call does.
-use Rattle.std.proofs.Common.{◌≡◌, ◌≢◌, ℕ, zero, suc, Bool, true, false, List, [], ◌∷◌, Some, refl, sym, ap, ◌∙◌, drop, eq-eqb}
+use Rattle.std.proofs.Common.{◌≡◌, ℕ, zero, suc, Bool, true, List, [], ◌∷◌, Some, refl, sym, ap, ◌∙◌, drop, eq-eqb}
 use Rattle.std.specs.Prelude.{◌==◌, ◌&&◌, ◌||◌, ◌+◌, not, nat_le, nat_lt, slice_get}
 use Rattle.std.proofs.lemmas.Option.{same_Some}
 use Rattle.im_block.specs.declared.code.Line.{Line}
 use Rattle.im_block.specs.declared.code.Line.TheVariants.{Put, PutNull, Copy, Convert, Unary, Not, Compute, Compare, Move, Distance, Address, Read, Write, Reload, Spill, Cut, Call, GetChar, PutChar}
 use Rattle.im_block.specs.declared.code.Exit.{Exit}
 use Rattle.im_alloc_relation.specs.Live.{uses, sets, lives}
-use Rattle.im_alloc_intervals.specs.Leaves.{IsCall}
+use Rattle.im_alloc_relation.specs.Settled.{IsCall}
 use Rattle.im_alloc_intervals.specs.Lines.{target_of, result_of, IsArgument}
 use Rattle.im_alloc_intervals.proofs.Lives.{both_are, same_of, less_is, most_is}
 

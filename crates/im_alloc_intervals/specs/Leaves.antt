@@ -1,7 +1,6 @@
 -- Functions that need no slot: they call nothing, and at most 20 intervals hold any one of their lines.
 use Rattle.std.specs.Prelude.{◌≡◌, ◌<◌, ◌≤◌, ◌⊎◌, ℕ, zero, suc, ◌+◌, Bool, true, false, List, [], ◌∷◌, Option, Some, None, length, slice_get, drop}
 use Rattle.im_block.specs.declared.code.Line.{Line}
-use Rattle.im_block.specs.declared.code.Line.TheVariants.{Call, GetChar, PutChar}
 use Rattle.im_block.specs.declared.code.Exit.{Exit}
 use Rattle.im_block.specs.declared.code.Block.{Block}
 use Rattle.im_block.specs.declared.unit.Function.{Function}
@@ -9,7 +8,8 @@ use Rattle.im_block.specs.Sections.{Has}
 use Rattle.im_block.specs.Shape.{sum_of}
 use Rattle.im_alloc_placed.specs.Placeable.{first_free}
 use Rattle.im_alloc_relation.specs.Live.{sets, lives}
-use Rattle.im_block_live.specs.Reads.{reads_first}
+use Rattle.im_alloc_relation.specs.Reads.{reads_first}
+use Rattle.im_alloc_relation.specs.Settled.{IsCall}
 
 -- lines and exits have positions, through the function from its last block to its first. Edges but loop edges lead to blocks of lower
 -- numbers, so this is the order in which they run
@@ -57,12 +57,6 @@ AreDistinct (x ∷ xs) = (Has xs x → ⊥) × AreDistinct xs
 -- at most so many intervals hold any one position
 pub record IsTight (f : Function) (most : ℕ) : Type 0 where
   pub few : (p : ℕ) (vs : List ℕ) → AreDistinct vs → ((v : ℕ) → Has vs v → HoldsAt f v p) → length vs ≤ most
-
-abbrev pub IsCall : Line → Type 0
-IsCall (Call to i first count) = Unit {0}
-IsCall (GetChar to) = Unit {0}
-IsCall (PutChar to from) = Unit {0}
-IsCall line = ⊥
 
 pub record IsLeaf (f : Function) : Type 0 where
   pub none : (b : ℕ) (block : Block) (i : ℕ) (line : Line) → slice_get f.blocks.items b ≡ Some block → slice_get block.lines.items i ≡ Some line → IsCall line → ⊥

@@ -6,11 +6,12 @@ use Rattle.im_block.specs.declared.code.Block.{Block}
 use Rattle.im_block.specs.declared.unit.Function.{Function}
 use Rattle.im_block.specs.Wellformed.{LineWithin}
 use Rattle.im_alloc_relation.specs.Live.{lives}
+use Rattle.im_alloc_relation.specs.Settled.{IsCall}
 use Rattle.im_block_live.specs.Reads.{IsLive}
 use Rattle.im_block_live.specs.Words.{starts_have}
 use Rattle.im_alloc_intervals.specs.declared.marks.Interval.{Interval}
 use Rattle.im_alloc_intervals.specs.declared.tables.Tables.{Tables}
-use Rattle.im_alloc_intervals.specs.Leaves.{position, IsNeededAt, IsCall}
+use Rattle.im_alloc_intervals.specs.Leaves.{position, IsNeededAt}
 use Rattle.im_alloc_intervals.specs.Lines.{target_of, result_of, IsSetAt, IsPassed, IsArgument}
 use Rattle.im_alloc_intervals.specs.Marks.{IsBit, HoldsIn, IsEndOf, interval_at, flag_at}
 
