@@ -183,7 +183,7 @@ module _ (f : Function) (able : IsAble f) (groups : List (Vec ℕ Global)) (plac
       }
 
   set_mark : (b : ℕ) (block : Block) (i : ℕ) (line : Line) (v : ℕ) → slice_get blocks b ≡ Some block → slice_get block.lines.items i ≡ Some line → target_of line ≡ Some v → IsSetIn blocks places v (position blocks b (suc i))
-  set_mark b block i line v at stands e = (b, (block, at, (i, record { line = line; at = stands; target = (e, let is = place_is b block (suc i) at in omega arith) })))
+  set_mark b block i line v at stands e = (b, (block, at, (i, record { line = line; at = stands; target = (e, (let is = place_is b block (suc i) at in omega arith)) })))
 
   set_needed : (v p : ℕ) → IsSetIn blocks places v p → IsNeededAt blocks v p
   set_needed v p k =
