@@ -17,17 +17,31 @@ number digits = if list_all is_digit digits && nat_lt (value_of digits) (2 ^ 32)
 abbrev pub number_where_some : List ℕ → Option ℕ
 number_where_some digits = if length digits == 0 then None else number digits
 
--- the number of the line behind this one, where this one is a line marker: `#`, blanks and tabs, and a number
+abbrev pub begins_marker : List ℕ → Bool
+begins_marker line = slice_index line 0 == 35
+
+-- behind `#`, blanks and tabs
+abbrev pub marker_digits : List ℕ → List ℕ
+marker_digits line = run Digits (behind Gaps (drop 1 line))
+
+-- the number of the line behind this one, where this one is a line marker
 abbrev pub marked_line : List ℕ → Option ℕ
-marked_line line = if slice_index line 0 == 35 then number_where_some (run Digits (behind Gaps (drop 1 line))) else None
+marked_line line = if begins_marker line then number_where_some (marker_digits line) else None
+
+abbrev pub begins_quoted : List ℕ → Bool
+begins_quoted text = slice_index text 0 == 34
 
 -- what stands in quotation marks, where the text begins with one
 abbrev pub quoted_or : List ℕ → List ℕ → List ℕ
-quoted_or name text = if slice_index text 0 == 34 then run Quoted (drop 1 text) else name
+quoted_or name text = if begins_quoted text then run Quoted (drop 1 text) else name
+
+-- what stands behind the number of a line marker, and blanks and tabs
+abbrev pub behind_number : List ℕ → List ℕ
+behind_number line = behind Gaps (behind Digits (behind Gaps (drop 1 line)))
 
 -- the name of the file behind a line marker: where none stands behind the number, the one before it
 abbrev pub marked_name : List ℕ → List ℕ → List ℕ
-marked_name name line = quoted_or name (behind Gaps (behind Digits (behind Gaps (drop 1 line))))
+marked_name name line = quoted_or name (behind_number line)
 
 -- the file, the number of a line, and the line or its front
 pub record Reading : Type 0 where

@@ -1,5 +1,5 @@
 ghost use Rattle.std.specs.Prelude.{◌≡◌, ◌<◌, ◌≤◌, ◌+◌, ◌^◌, ℕ, drop, length};
-ghost use Rattle.im_cmd_check.specs.Reading.{enter as next_reading, marked_line as line_marked, marked_name as name_marked, presumed as presumed_reading, quoted_or as name_quoted_or, reading_of};
+ghost use Rattle.im_cmd_check.specs.Reading.{begins_marker as marker_begins, begins_quoted as quoted_begins, behind_number as behind_digits, enter as next_reading, marker_digits as digits_of_marker, marked_line as line_marked, marked_name as name_marked, presumed as presumed_reading, quoted_or as name_quoted_or, reading_of};
 
 use crate::number::read_number;
 use crate::runs::{Run, behind_run, front_run};
@@ -18,33 +18,57 @@ fn tail(text: &[u8]) -> &[u8]
     &text[text.len().min(1)..]
 }
 
+fn begins_marker(line: &[u8]) -> bool
+    ensures { result ≡ marker_begins line.now }
+{
+    line.first() == Some(&b'#')
+}
+
+fn marker_digits(line: &[u8]) -> &[u8]
+    ensures { result.now ≡ digits_of_marker line.now }
+{
+    front_run(behind_run(tail(line), Run::Gaps), Run::Digits)
+}
+
 // The number of the line behind a line marker (C11 6.10.4); none where the line is no marker.
 fn marked_line(line: &[u8]) -> Option<u32>
     ensures { result ≡ line_marked line.now }
 {
-    if line.first() == Some(&b'#') {
-        read_number(front_run(behind_run(tail(line), Run::Gaps), Run::Digits))
+    if begins_marker(line) {
+        read_number(marker_digits(line))
     } else {
         None
     }
 }
 
+fn begins_quoted(text: &[u8]) -> bool
+    ensures { result ≡ quoted_begins text.now }
+{
+    text.first() == Some(&b'"')
+}
+
 fn quoted_or<'a>(name: &'a [u8], text: &'a [u8]) -> &'a [u8]
     ensures { result.now ≡ name_quoted_or name.now text.now }
 {
-    if text.first() == Some(&b'"') {
+    if begins_quoted(text) {
         front_run(tail(text), Run::Quoted)
     } else {
         name
     }
 }
 
+fn behind_number(line: &[u8]) -> &[u8]
+    ensures { result.now ≡ behind_digits line.now }
+{
+    let number = behind_run(tail(line), Run::Gaps);
+    behind_run(behind_run(number, Run::Digits), Run::Gaps)
+}
+
 // The name of the file behind a line marker.
 fn marked_name<'a>(name: &'a [u8], line: &'a [u8]) -> &'a [u8]
     ensures { result.now ≡ name_marked name.now line.now }
 {
-    let number = behind_run(tail(line), Run::Gaps);
-    quoted_or(name, behind_run(behind_run(number, Run::Digits), Run::Gaps))
+    quoted_or(name, behind_number(line))
 }
 
 fn enter<'a>(before: Reading<'a>, text: &'a [u8]) -> Reading<'a>
