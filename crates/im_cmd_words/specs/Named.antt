@@ -37,8 +37,8 @@ default_options = record {
   save = None;
 }
 
--- how a source is evaluated: the file that is named for its input, its fuel, and whether the variables
--- are shown
+-- how a source is evaluated: the file that is named for its input, its fuel, and whether the
+-- variables are shown
 pub record Evaluation : Type 0 where
   pub input : Option Text
   pub fuel : ℕ
@@ -134,7 +134,8 @@ number_asked name least most rows =
     option_and_then (number_between least most) (first_of name rows)
 
 abbrev pub building_asked : List Row → Option BuildOptions
-building_asked rows = option_and_then (λ stack. option_and_then (λ out_cap. option_map (λ max_gap. record {
+building_asked rows = option_and_then (λ stack. option_and_then (λ out_cap.
+    option_map (λ max_gap. record {
   stack = stack;
   out_cap = out_cap;
   max_gap = max_gap;

@@ -41,8 +41,8 @@ row name rules = record (new_shape name) { rules = rules }
 abbrev pub file_options : List Rule
 file_options = valued (codes "input") ∷ valued (codes "trace") ∷ []
 
--- --steps N --vars --save F, how long a run lasts, whether its variables are shown, and the file that
--- gets its last memory
+-- --steps N --vars --save F, how long a run lasts, whether its variables are shown, and the file
+-- that gets its last memory
 abbrev pub step_options : List Rule
 step_options = numbered (codes "steps") (codes "100000000") 0 4294967295
     ∷ flag (codes "vars") ∷ valued (codes "save") ∷ []
@@ -50,8 +50,8 @@ step_options = numbered (codes "steps") (codes "100000000") 0 4294967295
 abbrev pub run_options : List Rule
 run_options = file_options ++ step_options
 
--- --stack N --out-cap N --max-gap N, the bytes of an image's stack and of its output, and its longest
--- gap at most
+-- --stack N --out-cap N --max-gap N, the bytes of an image's stack and of its output, and its
+-- longest gap at most
 abbrev pub build_options : List Rule
 build_options = numbered (codes "stack") (codes "65536") 256 1048576
     ∷ numbered (codes "out-cap") (codes "1048576") 0 1048576
@@ -66,10 +66,13 @@ abbrev pub run_row : Shape
 run_row = row (codes "run")
     (operand (codes "SRC") ∷ operand (codes "IMG") ∷ build_options ++ run_options)
 
--- exec IMG, with options, --resume F the file of the memory that the run begins with
+-- --resume F, the file of the memory that a run begins with
+abbrev pub exec_options : List Rule
+exec_options = run_options ++ (valued (codes "resume") ∷ [])
+
+-- exec IMG, with options
 abbrev pub exec_row : Shape
-exec_row = row (codes "exec")
-    (operand (codes "IMG") ∷ run_options ++ (valued (codes "resume") ∷ []))
+exec_row = row (codes "exec") (operand (codes "IMG") ∷ exec_options)
 
 -- dump IMG
 abbrev pub dump_row : Shape

@@ -6,8 +6,8 @@ ghost use Rattle.im_cmd_words.specs.Named.{Evaluation, IsPlain, Options, Words, 
 ghost use Rattle.im_cmd_words.specs.Named.{building_words, builds, checks, default_building};
 ghost use Rattle.im_cmd_words.specs.Named.{default_evaluation, default_options, dumps, evaluates};
 ghost use Rattle.im_cmd_words.specs.Named.{evaluation_words, executes, generates, is_faultless};
-ghost use Rattle.im_cmd_words.specs.Named.{is_option, memory_words, named, option_words, reports, runs};
-ghost use Rattle.im_cmd_words.specs.Named.{saving_options, upgrades};
+ghost use Rattle.im_cmd_words.specs.Named.{is_option, memory_words, named, option_words, reports};
+ghost use Rattle.im_cmd_words.specs.Named.{runs, saving_options, upgrades};
 ghost use Rattle.im_cmd_words.specs.Numbers.{number_between, plain_number};
 
 /// Words that name a command, one line for each.
@@ -28,8 +28,8 @@ pub fn words_taken_law()
         ∷ codes "b" ∷ codes "--vars" ∷ []) ≡ Some (runs (codes "a") (codes "b") default_building
         (record default_options { vars = true; save = Some (codes "m") })) }
     ensures resume { named (codes "intermit" ∷ codes "exec" ∷ codes "--resume=m" ∷ codes "a"
-        ∷ codes "--trace" ∷ codes "t" ∷ codes "--save" ∷ codes "m" ∷ []) ≡ Some (executes (codes "a")
-        (record default_options { trace = Some (codes "t"); save = Some (codes "m") })
+        ∷ codes "--trace" ∷ codes "t" ∷ codes "--save" ∷ codes "m" ∷ [])
+        ≡ Some (executes (codes "a") (record default_options { trace = Some (codes "t"); save = Some (codes "m") })
         (Some (codes "m"))) }
     ensures dump { named (codes "intermit" ∷ codes "dump"
         ∷ codes "b" ∷ []) ≡ Some (dumps (codes "b")) }

@@ -3,8 +3,9 @@ ghost use Rattle.clap.specs.Words.{first_of, found_of, rows_of, subcommand_rows_
 ghost use Rattle.im_cmd_words.specs.Named.{asked, asked_by, build_asked, building_asked};
 ghost use Rattle.im_cmd_words.specs.Named.{check_asked, dump_asked, exec_asked, gen_asked};
 ghost use Rattle.im_cmd_words.specs.Named.{eval_asked, evaluation_asked, evaluation_meaning};
-ghost use Rattle.im_cmd_words.specs.Named.{is_set, meaning, number_asked, options_asked, options_meaning};
-ghost use Rattle.im_cmd_words.specs.Named.{HasBounds, IsInBounds, report_asked, run_asked, upgrade_asked};
+ghost use Rattle.im_cmd_words.specs.Named.{HasBounds, IsInBounds, is_set, meaning, number_asked};
+ghost use Rattle.im_cmd_words.specs.Named.{options_asked, options_meaning, report_asked, run_asked};
+ghost use Rattle.im_cmd_words.specs.Named.{upgrade_asked};
 ghost use Rattle.im_cmd_words.specs.Numbers.{optional_between};
 
 use crate::number::{number_between, plain_number};

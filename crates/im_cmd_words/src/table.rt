@@ -2,9 +2,10 @@ ghost use Rattle.std.specs.Prelude.{◌≡◌, IfOk, false};
 ghost use Rattle.clap.specs.Words.{app_of, rule_of, shape_of};
 ghost use Rattle.clap.specs.declared.builder.command.Command.TheViews.{out-Command};
 ghost use Rattle.im_cmd_words.specs.Table.{build_options, build_row, check_row, command_line};
-ghost use Rattle.im_cmd_words.specs.Table.{counted, dump_row, eval_options, eval_row, exec_row, gen_row};
-ghost use Rattle.im_cmd_words.specs.Table.{file_options, flag, limit, numbered, operand, report_row, run_row};
-ghost use Rattle.im_cmd_words.specs.Table.{run_options, step_options, upgrade_row, valued, with_rules};
+ghost use Rattle.im_cmd_words.specs.Table.{counted, dump_row, eval_options, eval_row, exec_row};
+ghost use Rattle.im_cmd_words.specs.Table.{exec_options, file_options, flag, gen_row, limit, numbered};
+ghost use Rattle.im_cmd_words.specs.Table.{operand, report_row, run_options, run_row, step_options};
+ghost use Rattle.im_cmd_words.specs.Table.{upgrade_row, valued, with_rules};
 
 use clap::builder::ValueParser;
 use clap::{Arg, ArgAction};
@@ -137,6 +138,19 @@ fn with_run_options<'a>(
     with_step_options(alloc, with_file_options(alloc, command)?)
 }
 
+/// The same, and the memory that a run begins with.
+fn with_exec_options<'a>(
+    alloc: Global,
+    command: clap::Command<'a>,
+) -> Result<clap::Command<'a>, AllocError>
+    requires local { (out-Command command).has_globals ≡ false }
+    ensures row { IfOk result (λ c. app_of c ≡ with_rules (app_of command.entry) exec_options) }
+    ensures local { IfOk result (λ c. (out-Command c).has_globals ≡ false) }
+{
+    let resume = "The file of a saved memory that the run begins with; --input isn't read then";
+    with_run_options(alloc, command)?.arg(valued(alloc, "resume", "F", resume))
+}
+
 fn build_row<'a>(alloc: Global) -> Result<clap::Command<'a>, AllocError>
     ensures row { IfOk result (λ c. shape_of c ≡ build_row) }
     ensures local { IfOk result (λ c. (out-Command c).has_globals ≡ false) }
@@ -167,8 +181,7 @@ fn exec_row<'a>(alloc: Global) -> Result<clap::Command<'a>, AllocError>
     let command = clap::Command::new(alloc, "exec")
         .about("Runs an image")
         .arg(operand(alloc, "IMG", "The image's file"))?;
-    let resume = "The file of a saved memory that the run begins with, without its --input";
-    with_run_options(alloc, command)?.arg(valued(alloc, "resume", "F", resume))
+    with_exec_options(alloc, command)
 }
 
 fn dump_row<'a>(alloc: Global) -> Result<clap::Command<'a>, AllocError>
