@@ -12,7 +12,7 @@ use im_cmd_words::RunOptions;
 use im_emu::{LoadFault, Machine};
 use im_image::{Form, Image};
 use im_io::Shelf;
-use im_mem::FlatMem;
+use im_mem_paged::PagedMem;
 use im_num::{NoMemory, Var};
 use im_power::{Period, Trace, TraceFault, read_trace};
 use std::alloc::Global;
@@ -23,7 +23,7 @@ const RUN_FILE_LIMIT: u64 = 16 * 1024 * 1024;
 /// A machine on which an image was run.
 #[derive(Drop)]
 pub struct Run {
-    pub machine: Machine<FlatMem>,
+    pub machine: Machine<PagedMem>,
     /// The image's variables as the run left them, where they are to be shown.
     pub variables: Option<Vec<Var>>,
 }
@@ -48,7 +48,7 @@ pub fn read_input<'a, H: Shelf>(
 }
 
 /// A machine with an image and an input.
-pub fn load<'a>(alloc: Global, image: &Image, input: &[u8]) -> Result<Machine<FlatMem>, Refusal<'a>>
+pub fn load<'a>(alloc: Global, image: &Image, input: &[u8]) -> Result<Machine<PagedMem>, Refusal<'a>>
     ensures { MatchResult result (λ machine. Loads image.now input.now machine)
         (λ refusal. RefusesLoad input.now (refused_of refusal)) }
 {
@@ -137,7 +137,7 @@ fn needs_form(form: Form, trace: &Trace) -> bool
 // The variables of a machine's image, where they are to be shown.
 fn shown_variables(
     alloc: Global,
-    machine: &Machine<FlatMem>,
+    machine: &Machine<PagedMem>,
     vars: bool,
 ) -> Result<Option<Vec<Var>>, NoMemory>
     ensures { IfOk result (λ variables. variables_of (λ vars. vars.items) variables
