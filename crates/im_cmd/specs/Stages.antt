@@ -14,6 +14,7 @@ use Rattle.im_device.specs.Load.{memory_of}
 use Rattle.im_power.specs.Text.{repeats}
 use Rattle.im_gen.specs.Gen.{gen_trace}
 use Rattle.im_emu.specs.State.{Held, IsImageOf, device_of}
+use Rattle.im_emu.specs.Resume.{IsResumed}
 use Rattle.im_num.specs.Variables.{Variable, variable_of}
 use Rattle.im_fault.specs.declared.fault.SourceFault.{SourceFault}
 use Rattle.im_cmd_words.specs.declared.fault.WordsFault.{WordsFault}
@@ -80,23 +81,26 @@ pub data RefusesLoad (input : List ℕ) : Refused → Type 0 where
   load_starved : RefusesLoad input NoMemory
 
 -- a machine with the memory that a text says, and nothing was run on it
-pub record IsResumed (image : ImageValue) (text : List ℕ) (machine : Held (List ℕ)) : Type 0 where
+pub record ResumesText (image : ImageValue) (text : List ℕ) (machine : Held (List ℕ)) : Type 0 where
   pub right : fault_of text ≡ None
   pub made : device_of view machine ≡ fresh (memory_at text)
-  pub form : machine.form ≡ form_at text
-  pub version : machine.version ≡ image.version
-  pub objects : machine.objects ≡ image.objects
+  pub of_image : IsResumed image text machine
 
 -- why the text of that file isn't taken as a memory's
 pub data RefusesMemory (name text : List ℕ) : Refused → Type 0 where
   faulty_memory : (fault : MemoryFault) → fault_of text ≡ Some fault → RefusesMemory name text (NotAMemory name fault)
   memory_starved : RefusesMemory name text NoMemory
 
+-- why it isn't taken as an image's
+pub data RefusesImageText (name text : List ℕ) : Refused → Type 0 where
+  faulty_image : (fault : ImageFault) → image_faults.fault_of text ≡ Some fault → RefusesImageText name text (NotAnImage name fault)
+  image_starved : RefusesImageText name text NoMemory
+
 -- the same from a file, in the image's form
 pub record ResumesOn (image : ImageValue) (name : List ℕ) (machine : Held (List ℕ)) (old new : ShelfState) : Type 0 where
   pub text : List ℕ
   pub reads : ReadsFile name text memory_limit old new
-  pub resumed : IsResumed image text machine
+  pub resumed : ResumesText image text machine
   pub form : form_at text ≡ image.form
 
 -- an image and a memory of different forms
@@ -125,12 +129,7 @@ pub data RefusesSave (named : Option (List ℕ)) (form : Form) (m : Mem) (old ne
   save_failed : (name : List ℕ) → named ≡ Some name → StoresMemoryPart name form m old new → RefusesSave named form m old new (CannotWrite name)
   save_starved : Unchanged old new → RefusesSave named form m old new NoMemory
 
--- nor as an image's
-pub data RefusesImageText (name text : List ℕ) : Refused → Type 0 where
-  faulty_image : (fault : ImageFault) → image_faults.fault_of text ≡ Some fault → RefusesImageText name text (NotAnImage name fault)
-  image_starved : RefusesImageText name text NoMemory
-
--- and why it gives none of either kind
+-- why it gives nothing to be stored in version 2
 pub data RefusesContent (name text : List ℕ) : Refused → Type 0 where
   neither_held : (r : Refused) → HoldsNeither name text r → RefusesContent name text r
   content_starved : RefusesContent name text NoMemory

@@ -1,5 +1,5 @@
 -- An image or a memory is read from its file, and stored in version 2 under another name.
-use Rattle.std.specs.Prelude.{◌≡◌, ℕ, Bool, true, false, List, Some, None, codes, nat_eq}
+use Rattle.std.specs.Prelude.{◌≡◌, ℕ, Bool, true, false, List, Some, codes, nat_eq}
 use Rattle.std.specs.List.{starts_with}
 use Rattle.im_io.specs.Shelf.{ShelfState}
 use Rattle.im_image.specs.Contents.{ImageValue, IsImage}
@@ -9,8 +9,9 @@ use Rattle.im_image.specs.Upgrade.{upgraded}
 use Rattle.im_image.specs.declared.fault.ImageFault.{ImageFault}
 use Rattle.im_image.specs.declared.version.Version.{Version}
 use Rattle.im_image.specs.declared.version.Version.TheVariants.{Two}
+use Rattle.im_image.specs.declared.form.Form.{Form}
+use Rattle.im_mem.specs.Memory.{Mem}
 use Rattle.im_mem_file.specs.Text.{MemoryText}
-use Rattle.im_mem_file.specs.Faults.{form_at, memory_at, version_at}
 use Rattle.im_mem_file.specs.Faults as memory_faults
 use Rattle.im_mem_file.specs.declared.fault.MemoryFault.{MemoryFault}
 use Rattle.im_cmd_lines.specs.Refusals.{Refused, NotAnImage, NotAMemory, CannotWrite}
@@ -25,8 +26,8 @@ is_memory text = starts_with nat_eq text (codes "IMMM")
 -- in version 2.
 pub data IsUpgraded (text : List ℕ) : Version → List ℕ → Type 0 where
   of_image : (image : ImageValue) → IsImage image → text ≡ image_text image → IsUpgraded text image.version (image_text (upgraded image))
-  of_memory : (new_text : List ℕ) → memory_faults.fault_of text ≡ None → MemoryText new_text Two (form_at text) (memory_at text)
-      → IsUpgraded text (version_at text) new_text
+  of_memory : (new_text : List ℕ) (version : Version) (form : Form) (m : Mem) → MemoryText text version form m → MemoryText new_text Two form m
+      → IsUpgraded text version new_text
 
 -- the text of a file holds neither, by its first fault
 pub data HoldsNeither (name text : List ℕ) : Refused → Type 0 where

@@ -1,7 +1,7 @@
 ghost use Rattle.std.specs.Prelude.{◌≡◌, MatchResult};
 ghost use Rattle.im_cmd_lines.specs.Refusals.{refused_of};
 ghost use Rattle.im_cmd.specs.Memories.{RefusesResume};
-ghost use Rattle.im_cmd.specs.Stages.{AreOther, IsResumed, RefusesMemory, ResumesOn};
+ghost use Rattle.im_cmd.specs.Stages.{AreOther, RefusesMemory, ResumesOn, ResumesText};
 
 use crate::files::read_file;
 use im_cmd_lines::Refusal;
@@ -22,7 +22,7 @@ fn resume_text<'a>(
     name: &'a str,
     text: &[u8],
 ) -> Result<Machine<PagedMem>, Refusal<'a>>
-    ensures { MatchResult result (λ machine. IsResumed image.now text.now machine)
+    ensures { MatchResult result (λ machine. ResumesText image.now text.now machine)
         (λ refusal. RefusesMemory name.now text.now (refused_of refusal)) }
 {
     match Machine::resume(alloc, image, text) {

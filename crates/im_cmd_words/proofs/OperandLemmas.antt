@@ -309,10 +309,10 @@ pub gen_found : (program : Text) (rest : List Text) → subcommand_of command_li
 unfolding clap_on_literals
 gen_found program rest = name_found (codes "gen") rest refl refl program
 
-pub check_fault : (program : Text) (rest : List Text) → fault_of command_line (program ∷ codes "check" ∷ rest) ≡ level_fault (command_shape 8) [] nothing_held rest false []
+pub check_word_fault : (program : Text) (rest : List Text) → fault_of command_line (program ∷ codes "check" ∷ rest) ≡ level_fault (command_shape 8) [] nothing_held rest false []
 unfolding clap_on_literals
-check_fault program rest = name_fault (codes "check") rest refl refl program ∙ last_fault (level_fault (command_shape 8) [] nothing_held rest false [])
+check_word_fault program rest = name_fault (codes "check") rest refl refl program ∙ last_fault (level_fault (command_shape 8) [] nothing_held rest false [])
 
-pub check_found : (program : Text) (rest : List Text) → subcommand_of command_line (program ∷ codes "check" ∷ rest) ≡ Some (codes "check", rows_after (command_shape 8).rules [] rest)
+pub check_word_found : (program : Text) (rest : List Text) → subcommand_of command_line (program ∷ codes "check" ∷ rest) ≡ Some (codes "check", rows_after (command_shape 8).rules [] rest)
 unfolding clap_on_literals
-check_found program rest = name_found (codes "check") rest refl refl program
+check_word_found program rest = name_found (codes "check") rest refl refl program

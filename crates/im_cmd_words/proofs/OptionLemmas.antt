@@ -238,7 +238,7 @@ pub exec_options : (program image : Text) (options : Options) (steps : Option Te
 exec_options program image options steps a w =
     exec_named program (image ∷ option_words options steps)
     ∙ ap (λ words. asked_of exec_asked (command_shape 2) (image ∷ words)) (sym (texts_read options.input options.trace steps options.vars))
-    ∙ exec_read image a options.input options.trace steps options.vars options.steps w.input w.trace w.steps
+    ∙ exec_read image a options.input options.trace steps options.vars options.steps w.input w.trace w.number
     ∙ ap (λ file. Some (executes image (record options { save = file }) None)) (sym w.save)
 
 run_read : (source image : Text) → is_option source ≡ false → is_option image ≡ false → Reads (runs source image default_building) run_asked (command_shape 1) (value source ∷ value image ∷ [])
@@ -297,5 +297,5 @@ pub run_options : (program source image : Text) (options : Options) (steps : Opt
 run_options program source image options steps a i w =
     run_named program (source ∷ image ∷ option_words options steps)
     ∙ ap (λ words. asked_of run_asked (command_shape 1) (source ∷ image ∷ words)) (sym (texts_read options.input options.trace steps options.vars))
-    ∙ run_read source image a i options.input options.trace steps options.vars options.steps w.input w.trace w.steps
+    ∙ run_read source image a i options.input options.trace steps options.vars options.steps w.input w.trace w.number
     ∙ ap (λ file. Some (runs source image default_building (record options { save = file }))) (sym w.save)

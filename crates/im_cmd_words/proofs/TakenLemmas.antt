@@ -20,7 +20,7 @@ use Rattle.clap.proofs.WalkLemmas.{both}
 use Rattle.im_cmd_words.specs.Numbers.{is_numeral, number_between, optional_between, plain_number, starts_plainly, within}
 use Rattle.im_cmd_words.specs.declared.command.BuildOptions.{BuildOptions}
 use Rattle.im_cmd_words.specs.Named.{Asked, build_asked, building_asked, builds, check_asked, checks, dump_asked, dumps, eval_asked, evaluates, exec_asked, executes, gen_asked, generates, is_faultless, IsPlain, is_set, named, number_asked, report_asked, reports, run_asked, runs, text_found, upgrade_asked, upgrades}
-use Rattle.im_cmd_words.proofs.OperandLemmas.{asked_of, build_fault, build_found, build_named, check_fault, check_found, check_named, command_shape, dump_fault, dump_found, dump_named, eval_fault, eval_found, eval_named, exec_fault, exec_found, exec_named, gen_fault, gen_found, gen_named, report_fault, report_found, report_named, run_fault, run_found, run_named, upgrade_fault, upgrade_found, upgrade_named}
+use Rattle.im_cmd_words.proofs.OperandLemmas.{asked_of, build_fault, build_found, build_named, check_named, check_word_fault, check_word_found, command_shape, dump_fault, dump_found, dump_named, eval_fault, eval_found, eval_named, exec_fault, exec_found, exec_named, gen_fault, gen_found, gen_named, report_fault, report_found, report_named, run_fault, run_found, run_named, upgrade_fault, upgrade_found, upgrade_named}
 use Rattle.im_cmd_words.proofs.FirstWordLemmas.{dashes_refused, first_refused, help_refused, name_refused, no_command, nothing_refused, stray_kind}
 use Rattle.im_cmd_words.proofs.OptionLemmas.{first_apart, reads}
 use Rattle.im_cmd_words.proofs.RowLemmas.{AllGood, AllSound, Fits, Holds, Sets, Sound, defaults_give, first_good, fits, optional_good, given_holds, kinds_accept, level_good, no_kind, none_first, none_then, set_sound, text_fit, is_number}
@@ -488,7 +488,7 @@ gen_taken program rest = row_taken gen_asked (codes "gen") 7 (program ∷ codes 
 
 check_taken : (program : Text) (rest : List Text) → Taken (program ∷ codes "check" ∷ rest)
 check_taken program rest = row_taken check_asked (codes "check") 8 (program ∷ codes "check" ∷ rest) rest
-    (check_named program rest) (check_fault program rest) (check_found program rest) (λ e plain. check_read rest e)
+    (check_named program rest) (check_word_fault program rest) (check_word_found program rest) (λ e plain. check_read rest e)
 
 -- a first word that is this text
 same_taken : (text name program : Text) (rest : List Text) → bytes_eq text name ≡ true → Taken (program ∷ text ∷ rest) → Taken (program ∷ name ∷ rest)

@@ -71,7 +71,7 @@ option_words options steps = given (codes "--input") options.input
 pub record Words (options : Options) (steps : Option Text) : Type 0 where
   pub input : IfSome options.input (λ file. is_option file ≡ false)
   pub trace : IfSome options.trace (λ file. is_option file ≡ false)
-  pub steps : plain_number (unwrap_or steps (codes "100000000")) ≡ Some options.steps
+  pub number : plain_number (unwrap_or steps (codes "100000000")) ≡ Some options.steps
   pub save : options.save ≡ None
 
 -- the words of the files of memories, the one that gets the last and the one that a run begins with
