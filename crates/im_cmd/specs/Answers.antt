@@ -3,14 +3,17 @@ use Rattle.std.specs.Prelude.{◌≡◌, ℕ, List, [], Option, Some, None}
 use Rattle.im_io.specs.Shelf.{ShelfState}
 use Rattle.im_io.specs.Sink.{SinkState}
 use Rattle.im_image.specs.Contents.{ImageValue}
+use Rattle.im_fault.specs.declared.fault.SourceFault.{SourceFault}
 use Rattle.im_device.specs.Periods.{Device}
 use Rattle.im_cmd_words.specs.declared.command.BuildOptions.{BuildOptions}
-use Rattle.im_cmd_words.specs.Named.{Asked, Evaluation, Options, builds, runs, executes, dumps, upgrades, reports, evaluates, generates, named}
+use Rattle.im_cmd_words.specs.Named.{Asked, Evaluation, Options, builds, runs, executes, dumps, upgrades, reports, evaluates, generates, checks, default_building, named}
 use Rattle.im_compile.specs.declared.built.Built.{Built}
 use Rattle.im_cmd_lines.specs.Dumps.{dump_lines}
 use Rattle.im_cmd_lines.specs.Upgrades.{upgrade_line}
 use Rattle.im_cmd_lines.specs.Refusals.{Refused, NoMemory}
-use Rattle.im_cmd.specs.Builds.{Builds, RefusesBuild, Compiles, RefusesSource}
+use Rattle.im_cmd_check.specs.Message.{source_message}
+use Rattle.im_cmd.specs.Files.{Unchanged, ReadsFile}
+use Rattle.im_cmd.specs.Builds.{Builds, RefusesBuild, Compiles, RefusesSource, RefusesReading, IsFaulty, source_limit}
 use Rattle.im_image.specs.declared.version.Version.{Version}
 use Rattle.im_cmd.specs.Images.{ReadsImage, RefusesImage}
 use Rattle.im_cmd.specs.Upgrades.{Upgrades, RefusesUpgrade}
@@ -65,6 +68,12 @@ pub data Comes (old new : ShelfState) : Asked → Outcome → Type 0 where
   gen_refused : (count : ℕ) (r : Refused) → RefusesGeneration count r → new ≡ old → Comes old new (generates count) (refused r)
   generated : (count : ℕ) (b : Built) (ended : Device) → Generates count b ended → new ≡ old
       → Comes old new (generates count) (generation_outcome count b.image.form ended)
+  -- a source is read and compiled, nothing is stored, and nothing is told but why it is refused
+  check_unread : (source : List ℕ) (r : Refused) → RefusesReading source old new r → Comes old new (checks source) (refused r)
+  check_starved : (source : List ℕ) → Unchanged old new → Comes old new (checks source) (refused NoMemory)
+  check_refused : (source text : List ℕ) (fault : SourceFault) → ReadsFile source text source_limit old new → IsFaulty text fault
+      → Comes old new (checks source) (done [] (source_message source text fault) 3)
+  checked : (source : List ℕ) (b : Built) → Compiles source default_building b old new → Comes old new (checks source) (done [] [] 0)
 
 -- what comes of it is told
 pub record CarriesOut (asked : Asked) (old new : ShelfState) (out out' err err' : SinkState) (status : ℕ) : Type 0 where

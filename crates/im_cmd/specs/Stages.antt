@@ -5,6 +5,7 @@ use Rattle.im_num.specs.declared.values.Var.{Var}
 use Rattle.im_mem.specs.Memory.{view}
 use Rattle.im_io.specs.Shelf.{ShelfState}
 use Rattle.im_io.specs.Sink.{SinkState}
+use Rattle.im_io.specs.Whole.{SentAll, SentFirst}
 use Rattle.im_image.specs.Contents.{ImageValue}
 use Rattle.im_power.specs.declared.period.Period.{Period}
 use Rattle.im_mem.specs.Map.{input_capacity}
@@ -190,6 +191,11 @@ pub record Generated (count : ℕ) (machine : Held (List ℕ)) : Type 0 where
 abbrev pub Finishes : {A F : Type 0} → Result A F → SinkState → SinkState → ℕ → Type 0
 Finishes (Ok done) err err' status = (err' ≡ err) × (status ≡ 0)
 Finishes (Err fault) err err' status = Got no_output_line err err' × (status ≡ 8)
+
+-- a text was sent to the second sink, for this status; where it wasn't taken whole the status is 8
+pub data TellsSecond (text : List ℕ) (status : ℕ) (err err' : SinkState) : ℕ → Type 0 where
+  second_told : SentAll text err err' → TellsSecond text status err err' status
+  second_not_told : SentFirst text err err' → TellsSecond text status err err' 8
 
 -- what is told of words that name no command, that text, or for which memory ran out
 abbrev pub TellsFault : WordsFault → SinkState → SinkState → ℕ → Type 0

@@ -4,6 +4,7 @@ ghost use Rattle.im_cmd_words.specs.Named.{HasBounds, meaning};
 ghost use Rattle.im_cmd.specs.Stages.{TellsFault};
 ghost use Rattle.im_cmd.specs.Answers.{Answers, CarriesOut};
 
+use crate::checking::check_source;
 use crate::commands::{
     build_source, dump, evaluate_source, execute, generate_and_run, report, run_source, upgrade,
 };
@@ -103,5 +104,6 @@ fn carry_out<H: Shelf, O: Sink, E: Sink>(
             options,
         } => evaluate_source(alloc, shelf, out, err, source, building, options),
         Command::Gen { count } => generate_and_run(alloc, out, err, count),
+        Command::Check { source } => check_source(alloc, shelf, out, err, source),
     }
 }

@@ -3,6 +3,7 @@
 #![tactic(auto)]
 
 mod building;
+mod checking;
 mod commands;
 mod entry;
 mod evaluated;
