@@ -1,5 +1,5 @@
 -- A sentence for each typing rule, and for what else is wrong in a source.
-use Rattle.std.specs.Prelude.{ℕ, ◌==◌, List, [], ◌∷◌, codes, decimal, if◌then◌else◌}
+use Rattle.std.specs.Prelude.{ℕ, ◌==◌, List, [], ◌∷◌, ◌++◌, codes, decimal, if◌then◌else◌}
 use Rattle.im_fault.specs.declared.fault.LineFault.{LineFault}
 use Rattle.im_fault.specs.declared.fault.LineFault.TheVariants.{BadByte, OpenComment, OpenLiteral, BadEscape, BadNumber, BadDirective, Syntax, Nesting, Rule}
 
@@ -42,22 +42,6 @@ rule_sentence rule =
     if rule == 34 then codes "this statement can't stand here" else
     []
 
--- the kind of a fault, as the other commands tell it; of a rule, what stands in front of its number
-abbrev pub label : LineFault → List ℕ
-label BadByte = codes "bad byte"
-label OpenComment = codes "open comment"
-label OpenLiteral = codes "open literal"
-label BadEscape = codes "bad escape"
-label BadNumber = codes "bad number"
-label BadDirective = codes "bad directive"
-label Syntax = codes "syntax"
-label Nesting = codes "nesting over 200"
-label (Rule number) = codes "rule "
-
-abbrev pub rule_number : LineFault → List ℕ
-rule_number (Rule number) = decimal number
-rule_number why = []
-
 -- in front of the token at the place, and behind it; nothing where none stands there
 abbrev pub opening : List ℕ → List ℕ
 opening [] = []
@@ -72,14 +56,19 @@ abbrev pub syntax_sentence : List ℕ → List ℕ
 syntax_sentence [] = codes "the text ends too early"
 syntax_sentence (byte ∷ bytes) = codes "no unit goes on with it"
 
--- why this is a fault, where this token stands
-abbrev pub sentence : LineFault → List ℕ → List ℕ
-sentence BadByte token = codes "no token begins with it"
-sentence OpenComment token = codes "its */ is missing"
-sentence OpenLiteral token = codes "its quotation mark is missing, or it hasn't one character"
-sentence BadEscape token = codes "no character is written so"
-sentence BadNumber token = codes "it is no integer, or no type holds it"
-sentence BadDirective token = codes "only line markers begin with #"
-sentence Syntax token = syntax_sentence token
-sentence Nesting token = codes "more than 200 stand in one another"
-sentence (Rule number) token = rule_sentence number
+-- a fault of this kind, with the number of its rule, the token at its place, and why
+abbrev pub told : List ℕ → List ℕ → List ℕ → List ℕ → List ℕ
+told kind number token why =
+    kind ++ (number ++ (opening token ++ (token ++ (closing token ++ (codes ": " ++ (why ++ codes "\n"))))))
+
+abbrev pub fault_text : LineFault → List ℕ → List ℕ
+fault_text BadByte token = told (codes "bad byte") [] token (codes "no token begins with it")
+fault_text OpenComment token = told (codes "open comment") [] token (codes "its */ is missing")
+fault_text OpenLiteral token =
+    told (codes "open literal") [] token (codes "its quotation mark is missing, or it hasn't one character")
+fault_text BadEscape token = told (codes "bad escape") [] token (codes "no character is written so")
+fault_text BadNumber token = told (codes "bad number") [] token (codes "it is no integer, or no type holds it")
+fault_text BadDirective token = told (codes "bad directive") [] token (codes "only line markers begin with #")
+fault_text Syntax token = told (codes "syntax") [] token (syntax_sentence token)
+fault_text Nesting token = told (codes "nesting over 200") [] token (codes "more than 200 stand in one another")
+fault_text (Rule number) token = told (codes "rule ") (decimal number) token (rule_sentence number)

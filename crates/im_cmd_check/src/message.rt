@@ -1,81 +1,131 @@
-ghost use Rattle.std.specs.Prelude.{◌≡◌, ◌<◌, ◌^◌, length};
+ghost use Rattle.std.specs.Prelude.{◌≡◌, ◌<◌, ◌+◌, ◌++◌, ◌^◌, [], codes, decimal, length};
 ghost use Rattle.std.specs.List.{flat_map};
 ghost use Rattle.im_io.specs.Whole.{Sends};
 ghost use Rattle.im_fault.specs.Texts.{limit_of, quantity_name};
 ghost use Rattle.im_fault.specs.declared.fault.SourceFault.TheVariants.{Line};
-ghost use Rattle.im_cmd_check.specs.Message.{caret_line, limit_message, line_message, source_message, told_fault, under};
+ghost use Rattle.im_cmd_check.specs.Message.{caret_line, limit_message, line_message, shown_line, source_message, under};
 ghost use Rattle.im_cmd_check.specs.Reading.{reading_of};
-ghost use Rattle.im_cmd_check.specs.Sentences.{rule_number};
+ghost use Rattle.im_cmd_check.specs.Sentences.{fault_text, told, rule_sentence as rule_sentence_of, syntax_sentence as syntax_sentence_of};
 
 use crate::reading::{Reading, presumed};
 use crate::runs::{Run, front_run, part_of, rest_of};
-use crate::sentences::{closing, label, opening, sentence};
+use crate::sentences::{closing, opening, rule_sentence, syntax_sentence};
 use im_fault::{LineFault, Place, Quantity, SourceFault};
 use im_io::{Failed, Sink, send, send_pieces};
 use itoa::Buffer;
 
-// The place, the fault with the token there, and the line.
-fn send_told<S: Sink>(
-    sink: &mut S,
-    reading: Reading<'_>,
-    why: LineFault,
-    number: &[u8],
-    token: &[u8],
-    rest: &[u8],
-) -> Result<(), Failed>
-    requires { number.now ≡ rule_number why }
-    ensures { Sends (told_fault (reading_of reading.entry) why token.now rest.now) result
-        (S.state sink.old) (S.state sink.new) }
+fn send_place<S: Sink>(sink: &mut S, name: &[u8], line: u64, front: &[u8]) -> Result<(), Failed>
+    ensures { Sends (name.now ++ (codes ":" ++ (decimal line ++ (codes ":"
+        ++ (decimal (length front.now + 1) ++ codes ": "))))) result (S.state sink.old)
+        (S.state sink.new) }
 {
     let mut line_text = Buffer::new();
     let mut column_text = Buffer::new();
     send_pieces(
         sink,
         &[
-            reading.name,
+            name,
             b":",
-            line_text.format(reading.line).as_bytes(),
+            line_text.format(line).as_bytes(),
             b":",
-            column_text.format(reading.front.len() + 1).as_bytes(),
+            column_text.format(front.len() + 1).as_bytes(),
             b": ",
-            label(why),
-            number,
-            opening(token),
-            token,
-            closing(token),
-            b": ",
-            sentence(why, token),
-            b"\n",
-            reading.front,
-            front_run(rest, Run::Line),
-            b"\n",
         ],
     )
 }
 
-fn send_told_fault<S: Sink>(
+fn send_parts<S: Sink>(
     sink: &mut S,
-    reading: Reading<'_>,
-    why: LineFault,
+    kind: &[u8],
+    number: &[u8],
+    opening: &[u8],
     token: &[u8],
-    rest: &[u8],
+    closing: &[u8],
+    why: &[u8],
 ) -> Result<(), Failed>
-    ensures { Sends (told_fault (reading_of reading.entry) why token.now rest.now) result
+    ensures { Sends (kind.now ++ (number.now ++ (opening.now ++ (token.now ++ (closing.now
+        ++ (codes ": " ++ (why.now ++ codes "\n"))))))) result (S.state sink.old)
+        (S.state sink.new) }
+{
+    send_pieces(
+        sink,
+        &[kind, number, opening, token, closing, b": ", why, b"\n"],
+    )
+}
+
+fn send_told<S: Sink>(
+    sink: &mut S,
+    kind: &[u8],
+    number: &[u8],
+    token: &[u8],
+    why: &[u8],
+) -> Result<(), Failed>
+    ensures { Sends (told kind.now number.now token.now why.now) result (S.state sink.old)
+        (S.state sink.new) }
+{
+    let before = opening(token);
+    let behind = closing(token);
+    send_parts(sink, kind, number, before, token, behind, why)
+}
+
+fn send_rule<S: Sink>(sink: &mut S, number: u32, token: &[u8]) -> Result<(), Failed>
+    ensures { Sends (told (codes "rule ") (decimal number) token.now (rule_sentence_of number))
+        result (S.state sink.old) (S.state sink.new) }
+{
+    let mut text = Buffer::new();
+    let why = rule_sentence(number);
+    send_told(sink, b"rule ", text.format(number).as_bytes(), token, why)
+}
+
+fn send_syntax<S: Sink>(sink: &mut S, token: &[u8]) -> Result<(), Failed>
+    ensures { Sends (told (codes "syntax") [] token.now (syntax_sentence_of token.now)) result
         (S.state sink.old) (S.state sink.new) }
 {
+    let why = syntax_sentence(token);
+    send_told(sink, b"syntax", b"", token, why)
+}
+
+fn send_why<S: Sink>(sink: &mut S, why: LineFault, token: &[u8]) -> Result<(), Failed>
+    ensures { Sends (fault_text why token.now) result (S.state sink.old) (S.state sink.new) }
+{
     match why {
-        LineFault::Rule(number) => {
-            let mut text = Buffer::new();
-            send_told(sink, reading, why, text.format(number).as_bytes(), token, rest)
+        LineFault::BadByte => send_told(sink, b"bad byte", b"", token, b"no token begins with it"),
+        LineFault::OpenComment => {
+            send_told(sink, b"open comment", b"", token, b"its */ is missing")
         }
-        LineFault::BadByte
-        | LineFault::OpenComment
-        | LineFault::OpenLiteral
-        | LineFault::BadEscape
-        | LineFault::BadNumber
-        | LineFault::BadDirective
-        | LineFault::Syntax
-        | LineFault::Nesting => send_told(sink, reading, why, b"", token, rest),
+        LineFault::OpenLiteral => send_told(
+            sink,
+            b"open literal",
+            b"",
+            token,
+            b"its quotation mark is missing, or it hasn't one character",
+        ),
+        LineFault::BadEscape => {
+            send_told(sink, b"bad escape", b"", token, b"no character is written so")
+        }
+        LineFault::BadNumber => send_told(
+            sink,
+            b"bad number",
+            b"",
+            token,
+            b"it is no integer, or no type holds it",
+        ),
+        LineFault::BadDirective => send_told(
+            sink,
+            b"bad directive",
+            b"",
+            token,
+            b"only line markers begin with #",
+        ),
+        LineFault::Syntax => send_syntax(sink, token),
+        LineFault::Nesting => send_told(
+            sink,
+            b"nesting over 200",
+            b"",
+            token,
+            b"more than 200 stand in one another",
+        ),
+        LineFault::Rule(number) => send_rule(sink, number, token),
     }
 }
 
@@ -110,6 +160,40 @@ fn send_caret<S: Sink>(sink: &mut S, front: &[u8]) -> Result<(), Failed>
     }
 }
 
+// The front of a line and the rest of it.
+fn send_line<S: Sink>(sink: &mut S, front: &[u8], rest: &[u8]) -> Result<(), Failed>
+    ensures { Sends (front.now ++ (rest.now ++ codes "\n")) result (S.state sink.old)
+        (S.state sink.new) }
+{
+    send_pieces(sink, &[front, rest, b"\n"])
+}
+
+fn send_shown_line<S: Sink>(sink: &mut S, front: &[u8], rest: &[u8]) -> Result<(), Failed>
+    ensures { Sends (shown_line front.now rest.now) result (S.state sink.old)
+        (S.state sink.new) }
+{
+    match send_line(sink, front, front_run(rest, Run::Line)) {
+        Ok(()) => send_caret(sink, front),
+        Err(fault) => Err(fault),
+    }
+}
+
+fn send_behind_place<S: Sink>(
+    sink: &mut S,
+    why: LineFault,
+    front: &[u8],
+    token: &[u8],
+    rest: &[u8],
+) -> Result<(), Failed>
+    ensures { Sends (fault_text why token.now ++ shown_line front.now rest.now) result
+        (S.state sink.old) (S.state sink.new) }
+{
+    match send_why(sink, why, token) {
+        Ok(()) => send_shown_line(sink, front, rest),
+        Err(fault) => Err(fault),
+    }
+}
+
 fn send_line_message<S: Sink>(
     sink: &mut S,
     reading: Reading<'_>,
@@ -120,8 +204,8 @@ fn send_line_message<S: Sink>(
     ensures { Sends (line_message (reading_of reading.entry) why token.now rest.now) result
         (S.state sink.old) (S.state sink.new) }
 {
-    match send_told_fault(sink, reading, why, token, rest) {
-        Ok(()) => send_caret(sink, reading.front),
+    match send_place(sink, reading.name, reading.line, reading.front) {
+        Ok(()) => send_behind_place(sink, why, reading.front, token, rest),
         Err(fault) => Err(fault),
     }
 }
@@ -169,13 +253,16 @@ fn most_of(quantity: Quantity) -> u64
     }
 }
 
-fn send_limit<S: Sink>(
+// A quantity of a file that is over its limit.
+fn send_over<S: Sink>(
     sink: &mut S,
     file: &str,
-    quantity: Quantity,
+    quantity: &str,
     count: u64,
+    limit: u64,
 ) -> Result<(), Failed>
-    ensures { Sends (limit_message file.now quantity count) result (S.state sink.old)
+    ensures { Sends (file.now ++ (codes ": " ++ (quantity.now ++ (codes " " ++ (decimal count
+        ++ (codes " over " ++ (decimal limit ++ codes "\n"))))))) result (S.state sink.old)
         (S.state sink.new) }
 {
     let mut count_text = Buffer::new();
@@ -185,14 +272,27 @@ fn send_limit<S: Sink>(
         &[
             file.as_bytes(),
             b": ",
-            name_of(quantity).as_bytes(),
+            quantity.as_bytes(),
             b" ",
             count_text.format(count).as_bytes(),
             b" over ",
-            limit_text.format(most_of(quantity)).as_bytes(),
+            limit_text.format(limit).as_bytes(),
             b"\n",
         ],
     )
+}
+
+fn send_limit<S: Sink>(
+    sink: &mut S,
+    file: &str,
+    quantity: Quantity,
+    count: u64,
+) -> Result<(), Failed>
+    ensures { Sends (limit_message file.now quantity count) result (S.state sink.old)
+        (S.state sink.new) }
+{
+    let name = name_of(quantity);
+    send_over(sink, file, name, count, most_of(quantity))
 }
 
 /// Sends the message of a source that is refused: its text, and the name of its file.

@@ -1,9 +1,8 @@
 ghost use Rattle.std.specs.Prelude.{◌≡◌};
-ghost use Rattle.im_cmd_check.specs.Sentences.{closing as closing_of, label as label_of, opening as opening_of, rule_sentence as rule_sentence_of, sentence as sentence_of, syntax_sentence as syntax_sentence_of};
+ghost use Rattle.im_cmd_check.specs.Sentences.{closing as closing_of, opening as opening_of, rule_sentence as rule_sentence_of, syntax_sentence as syntax_sentence_of};
 
-use im_fault::LineFault;
-
-fn rule_sentence(rule: u32) -> &'static [u8]
+/// What a typing rule asks for, in one sentence.
+pub fn rule_sentence(rule: u32) -> &'static [u8]
     ensures { result.now ≡ rule_sentence_of rule }
 {
     match rule {
@@ -45,23 +44,6 @@ fn rule_sentence(rule: u32) -> &'static [u8]
     }
 }
 
-/// The kind of a fault; of a rule, what stands in front of its number.
-pub fn label(why: LineFault) -> &'static [u8]
-    ensures { result.now ≡ label_of why }
-{
-    match why {
-        LineFault::BadByte => b"bad byte",
-        LineFault::OpenComment => b"open comment",
-        LineFault::OpenLiteral => b"open literal",
-        LineFault::BadEscape => b"bad escape",
-        LineFault::BadNumber => b"bad number",
-        LineFault::BadDirective => b"bad directive",
-        LineFault::Syntax => b"syntax",
-        LineFault::Nesting => b"nesting over 200",
-        LineFault::Rule(_) => b"rule ",
-    }
-}
-
 /// What stands in front of a token.
 pub fn opening(token: &[u8]) -> &'static [u8]
     ensures { result.now ≡ opening_of token.now }
@@ -76,29 +58,13 @@ pub fn closing(token: &[u8]) -> &'static [u8]
     if token.is_empty() { b"" } else { b"'" }
 }
 
-fn syntax_sentence(token: &[u8]) -> &'static [u8]
+/// Why the grammar doesn't go on.
+pub fn syntax_sentence(token: &[u8]) -> &'static [u8]
     ensures { result.now ≡ syntax_sentence_of token.now }
 {
     if token.is_empty() {
         b"the text ends too early"
     } else {
         b"no unit goes on with it"
-    }
-}
-
-/// Why this is a fault, where this token stands.
-pub fn sentence(why: LineFault, token: &[u8]) -> &'static [u8]
-    ensures { result.now ≡ sentence_of why token.now }
-{
-    match why {
-        LineFault::BadByte => b"no token begins with it",
-        LineFault::OpenComment => b"its */ is missing",
-        LineFault::OpenLiteral => b"its quotation mark is missing, or it hasn't one character",
-        LineFault::BadEscape => b"no character is written so",
-        LineFault::BadNumber => b"it is no integer, or no type holds it",
-        LineFault::BadDirective => b"only line markers begin with #",
-        LineFault::Syntax => syntax_sentence(token),
-        LineFault::Nesting => b"more than 200 stand in one another",
-        LineFault::Rule(number) => rule_sentence(number),
     }
 }
