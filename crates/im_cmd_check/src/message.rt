@@ -100,9 +100,13 @@ fn send_why<S: Sink>(sink: &mut S, why: LineFault, token: &[u8]) -> Result<(), F
             token,
             b"its quotation mark is missing, or it hasn't one character",
         ),
-        LineFault::BadEscape => {
-            send_told(sink, b"bad escape", b"", token, b"no character is written so")
-        }
+        LineFault::BadEscape => send_told(
+            sink,
+            b"bad escape",
+            b"",
+            token,
+            b"no character is written so",
+        ),
         LineFault::BadNumber => send_told(
             sink,
             b"bad number",
