@@ -1,7 +1,7 @@
 use Rattle.std.proofs.Common.{◌∙◌, sym, subst, arith}
 use Rattle.im_emu.specs.Layouts.{AreLaidOut}
 use Rattle.im_emu.proofs.Layouts.{laid_out}
-use Rattle.im_emu.proofs.machine.Machine+FlatMem.load.Goals as goal
+use Rattle.im_emu.proofs.machine.Machine+PagedMem.load.Goals as goal
 
 pub invariant_of-result : goal.invariant_of-result
 invariant_of-result c = record {
