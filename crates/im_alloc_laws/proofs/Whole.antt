@@ -1,6 +1,6 @@
 -- Placed code is well formed, and has the forms that selection has.
 use Rattle.std.proofs.Common.{◌≡◌, ℕ, zero, suc, ◌+◌, ◌*◌, ◌≤◌, List, [], ◌∷◌, Some, None, refl, sym, ap, ◌∙◌, subst, arith, length, take}
-use Rattle.std.specs.Prelude.{slice_get, All, ◌/◌}
+use Rattle.std.specs.Prelude.{slice_get, All}
 use Rattle.std.proofs.lemmas.List.Elements.{All-nil, All-cons, All-head, All-tail, All-weaker}
 use Rattle.im_num.specs.declared.values.Cause.TheVariants.{Return as ReturnCut}
 use Rattle.im_block.specs.declared.code.Place.{Place}
@@ -10,14 +10,13 @@ use Rattle.im_block.specs.declared.code.Line.TheVariants.{Put, PutNull, Copy, Co
 use Rattle.im_block.specs.declared.code.Exit.{Exit}
 use Rattle.im_block.specs.declared.code.Exit.TheVariants.{Jump, Turn, Branch, Return}
 use Rattle.im_block.specs.declared.code.Block.{Block}
-use Rattle.im_block.specs.declared.unit.Object.{Object}
 use Rattle.im_block.specs.declared.unit.Function.{Function}
 use Rattle.im_block.specs.declared.unit.Unit.{Unit as Code}
 use Rattle.im_block.specs.Shape.{sum_of}
 use Rattle.im_block.specs.Wellformed.{HasCells, PlaceWithin, LineWithin, ExitWithin, ExitThere, Takes, LineThere, IsBlock, IsFunction, IsWellFormed}
 use Rattle.im_alloc_placed.specs.Operands.{PlaceAtHome}
 use Rattle.im_alloc_placed.specs.Placed.{IsPlacedLine, IsPlacedExit, IsPlacedBlock, IsPlacedFunction, IsPlacedCode}
-use Rattle.im_alloc_placed.specs.Placeable.{object_need, IsPlaceableFunction, IsPlaceable}
+use Rattle.im_alloc_placed.specs.Placeable.{object_room, IsPlaceableFunction, IsPlaceable}
 use Rattle.im_alloc_relation.specs.Homes.{Home, InRegister, InSlot, numbers_kept, give, put_line, needed, put_lines, exit_lines, put_exit}
 use Rattle.im_alloc_relation.specs.Placing.{PlacedBlock, PlacedBlocks, PlacedFunction, PlacedFunctions}
 use Rattle.im_alloc_laws.specs.Numbered.{numbers_of_blocks, PlacedFrom, IsWellPlaced}
@@ -28,13 +27,6 @@ use Rattle.im_alloc_laws.proofs.Needed.{needed_all}
 use Rattle.im_alloc_laws.proofs.Pieces.{of_old}
 
 -- the forms that selection has
-
-abbrev room : Object → ℕ
-room o = (o.size / 4 + 1) * 4
-
-room_needed : (os : List Object) → sum_of room os ≤ sum_of object_need os
-room_needed [] = omega arith
-room_needed (o ∷ os) = let rest = room_needed os in omega arith
 
 homes_of : (f g : Function) (p : PlacedFunction f g) → Homes p.home g.slots
 homes_of f g p = record { free = λ v r e. let k = p.free v r e in let a = k.0 in (omega arith, k.1); slots = p.slots }
@@ -49,10 +41,8 @@ function_good statics f g p few h = record {
   received = ap (λ (k : Function). k.first_parameter) p.rest;
   fits =
       let need : g.need ≡ f.need = ap (λ (k : Function). k.need) p.rest in
-      let objects : sum_of room g.objects.items ≡ sum_of room f.objects.items = ap (λ (k : Function). sum_of room k.objects.items) p.rest in
-      let rooms = room_needed f.objects.items in
-      let registers = h.few in
-      let enough = h.need in
+      let objects : sum_of object_room g.objects.items ≡ sum_of object_room f.objects.items = ap (λ (k : Function). sum_of object_room k.objects.items) p.rest in
+      let enough = h.room in
       omega arith;
   blocks = good_blocks statics f g p.home (homes_of f g p) (objects_of f g p) p.first_access f.blocks.items g.blocks.items p.blocks h.lines;
 }

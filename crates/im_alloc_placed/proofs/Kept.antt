@@ -116,6 +116,8 @@ receives_kept : (n : ℕ) (old new : List Line) → WithCuts old new → Receive
 receives_kept n old new Empty h = h
 receives_kept n old new (Same (Write place kind from access) a b d) h = receives_kept n a b d h
 receives_kept n old new (Same (Cut cause) a b d) h = receives_kept n a b d h
+receives_kept n old new (Same (Copy to from) a b d) h = (h.0, receives_kept n a b d h.1)
+receives_kept n old new (Same (Convert to kind from) a b d) h = (h.0, receives_kept n a b d h.1)
 receives_kept n old new (Same line a b d) h = lines_all (LineFrom n) (λ cause. tt) (line ∷ a) (line ∷ b) (Same line a b d) h
 receives_kept n old new (Added cause a b d) h = receives_kept n old b d h
 
@@ -124,8 +126,7 @@ placeable_in statics f g same h = record {
   registers = h.registers;
   slots = h.slots;
   first = h.first;
-  few = h.few;
-  need = h.need;
+  room = h.room;
   lines = λ b block at.
       let o = old_block f.blocks.items g.blocks.items b block same at in
       placeable_lines statics f g o.old.lines.items block.lines.items o.same.lines (h.lines b o.old o.at);

@@ -65,28 +65,33 @@ ExitFrom n (Branch on a b) = n ≤ on
 ExitFrom n (Return None) = Unit {0}
 ExitFrom n (Return (Some r)) = n ≤ r
 
--- the lines of an entry: first come writes, which keep the arguments, and cuts; from the first other line on no parameter
--- is used or set
+-- the lines of an entry: first come writes, copies and conversions, which keep the arguments, and cuts; from the first other
+-- line on no parameter is used or set
 abbrev pub Receives : ℕ → List Line → Type 0
 Receives n [] = Unit {0}
 Receives n (Write place kind from access ∷ rest) = Receives n rest
 Receives n (Cut cause ∷ rest) = Receives n rest
+Receives n (Copy to from ∷ rest) = (n ≤ to) × Receives n rest
+Receives n (Convert to kind from ∷ rest) = (n ≤ to) × Receives n rest
 Receives n (line ∷ rest) = All (LineFrom n) (line ∷ rest)
 
 -- the first register that is no parameter's
 abbrev pub first_free : Function → ℕ
 first_free f = f.first_parameter + f.parameters
 
--- bytes that a frame may need for an object: whole words, and an unused one
-abbrev pub object_need : Object → ℕ
-object_need o = (o.size + 3) / 4 * 4 + 4
+-- bytes of a frame for an object: whole words, with an unused byte
+abbrev pub object_room : Object → ℕ
+object_room o = (o.size / 4 + 1) * 4
+
+-- a frame has room for the return address, a slot for each register, and the objects
+abbrev pub HasRoom : Function → Type 0
+HasRoom f = 8 + 8 * f.register_count + sum_of object_room f.objects.items ≤ f.need
 
 pub record IsPlaceableFunction (statics : ℕ) (f : Function) : Type 0 where
   pub registers : f.registers ≡ Virtual
   pub slots : f.slots ≡ 0
   pub first : f.first_parameter ≡ 0
-  pub few : f.register_count ≤ f.nodes
-  pub need : 16 + 12 * f.nodes + sum_of object_need f.objects.items ≤ f.need
+  pub room : HasRoom f
   pub lines : (b : ℕ) (block : Block) → slice_get f.blocks.items b ≡ Some block → All (IsPlaceableLine statics f) block.lines.items
   -- parameters are used in the entry block alone, to which no edge leads
   pub others : (b : ℕ) (block : Block) → slice_get f.blocks.items b ≡ Some block → b ≢ f.entry → All (LineFrom (first_free f)) block.lines.items

@@ -24,7 +24,7 @@ use Rattle.im_store.specs.Statics.{StaticObject}
 use Rattle.im_block.specs.Shape.{sum_of}
 use Rattle.im_block.specs.Wellformed.{ExitThere}
 use Rattle.im_block.specs.Paths.{IsEdge}
-use Rattle.im_alloc_placed.specs.Placeable.{LineFrom, ExitFrom, Receives, IsPlaceableLine, IsPlaceableFunction, IsPlaceable, object_need, first_free}
+use Rattle.im_alloc_placed.specs.Placeable.{LineFrom, ExitFrom, Receives, IsPlaceableLine, IsPlaceableFunction, IsPlaceable, object_room, first_free}
 use Rattle.im_alloc_placed.specs.Apart.{IsNoCut, AllUncut}
 use Rattle.im_lower_relation.specs.Codes.{Point}
 use Rattle.im_lower_relation.specs.Lowered.{AreObjects}
@@ -71,6 +71,8 @@ receives_each : (low : ℕ) (lines : List Line) → Each (LineFrom low) lines �
 receives_each low [] h = tt
 receives_each low (Write place kind from access ∷ lines) h = receives_each low lines h.1
 receives_each low (Cut cause ∷ lines) h = receives_each low lines h.1
+receives_each low (Copy to from ∷ lines) h = (h.0.0, receives_each low lines h.1)
+receives_each low (Convert to kind from ∷ lines) h = (h.0.0, receives_each low lines h.1)
 receives_each low (line ∷ lines) h = all_from low (line ∷ lines) h
 
 receives_parameters : (low object from : ℕ) (os : List Object) (n : Made) → Receives low n.point.rest → Receives low (put_parameters object from os n).point.rest
@@ -95,13 +97,16 @@ no_edge n (Branch on x y) h (inl e) = let one = h.0 in absurd (omega arith)
 no_edge n (Branch on x y) h (inr e) = let one = h.1 in absurd (omega arith)
 no_edge n (Return from) h e = e
 
-needs_same : (xs : List p.LocalObject) (os : List Object) → AreObjects xs os → sum_of object_need os ≡ sum_by slot_bytes xs
-needs_same [] [] are = refl
-needs_same [] (o ∷ os) are = absurd are
-needs_same (x ∷ xs) [] are = absurd are
-needs_same (x ∷ xs) (o ∷ os) are =
-    ap (λ size. (size + 3) / 4 * 4 + 4 + sum_of object_need os) are.0
-    ∙ ap (λ n. slot_bytes x + n) (needs_same xs os are.2) ∙ sym (sum_by-cons slot_bytes x xs)
+objects_need : (xs : List p.LocalObject) (os : List Object) → AreObjects xs os → sum_of object_room os ≤ sum_by slot_bytes xs
+objects_need [] [] are = omega arith
+objects_need [] (o ∷ os) are = absurd are
+objects_need (x ∷ xs) [] are = absurd are
+objects_need (x ∷ xs) (o ∷ os) are =
+    let size = are.0 in
+    let one : (o.size + 3) / 4 * 4 + 4 ≡ slot_bytes x = ap (λ n. (n + 3) / 4 * 4 + 4) size in
+    let all = sum_by-cons slot_bytes x xs in
+    let rest = objects_need xs os are.2 in
+    omega (arith, one, all, rest)
 
 record FunctionPlaceable (statics : ℕ) (made : Function) : Type 0 where
   placeable : IsPlaceableFunction statics made
@@ -155,7 +160,7 @@ function_placeable g f is_main first accesses made next h premises typed =
     let nodes = h.nodes in
     let need = h.need in
     let small = h.small in
-    let slots = needs_same F.objects os h.objects in
+    let slots = objects_need F.objects os h.objects in
     let free : low ≡ first_free made = let one = h.first_parameter in let two = h.parameters in omega arith in
     let same_blocks = parameters_blocks first 0 (take low os) done in
     let entry : made.entry ≡ length done.blocks = h.entry ∙ ap {B = ℕ} (λ (ps : List Point). length ps) same_blocks in
@@ -167,8 +172,7 @@ function_placeable g f is_main first accesses made next h premises typed =
         registers = h.registers;
         slots = h.slots;
         first = h.first_parameter;
-        few = omega arith;
-        need = omega arith;
+        room = omega arith;
         lines = λ b block e. each_all (GoodLine G made 0 last.registers) (IsPlaceableLine (length G.statics) made) block.lines.items (λ line fine. fine.fits.placeable) (good.blocks b (point_of block) (point b block e)).lines;
         others = λ b block e ne. subst (λ n. All (LineFrom n) block.lines.items) free (other_lines G made low done body_good all.point block b (λ same. ne (same ∙ sym entry)) (place b block e));
         entry = λ block e. subst (λ n. Receives n block.lines.items) free (entered G made low done body_good all.point block made.entry entry (receives_parameters low first 0 (take low os) done (receives_each low done.point.rest (lines_from G made low done.registers done.point.rest body_good.point.lines))) (place made.entry block e));

@@ -11,8 +11,8 @@ use Rattle.im_block.specs.declared.code.Line.TheVariants.{Read, Write}
 use Rattle.im_block.specs.declared.code.Exit.TheVariants.{Jump, Turn, Branch}
 use Rattle.im_block.specs.declared.code.Block.{Block}
 use Rattle.im_alloc_relation.specs.Live.{place_uses, uses, sets, lives}
+use Rattle.im_alloc_relation.specs.Reads.{lives_in, reads_first}
 use Rattle.im_lower_relation.specs.Codes.{Point, before, ends, Begins, further_in, reads_of, writes_of}
-use Rattle.im_lower_written_laws.specs.Live.{lives_in, reads_first}
 
 -- a register, the register of a place, several side by side; or what else
 abbrev pub Or : ℕ → (ℕ → Type 0) → ℕ → Type 0

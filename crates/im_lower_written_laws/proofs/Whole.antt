@@ -14,7 +14,8 @@ use Rattle.im_block.specs.declared.code.Block.{Block}
 use Rattle.im_block.specs.declared.unit.Function.{Function}
 use Rattle.im_lower_relation.specs.Codes.{Point, ends}
 use Rattle.im_lower_relation.specs.Lowered.{CodesFunction, CodesParameters, kind_of_one, brace}
-use Rattle.im_lower_written_laws.specs.Live.{WritesFirst, WrittenFirstLaw}
+use Rattle.im_alloc_relation.specs.Reads.{WritesFirst}
+use Rattle.im_lower_written_laws.specs.Live.{WrittenFirstLaw}
 use Rattle.im_lower_written_laws.proofs.Ways.{Or, OrPlace, unplaced, weaker, sets_none, writes, jump}
 use Rattle.im_lower_written_laws.proofs.Statements.{Below, Calm, statement_calm}
 

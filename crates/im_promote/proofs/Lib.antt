@@ -1,0 +1,16 @@
+mod Alikes
+mod Sims
+mod Writtens
+mod Formed
+mod Costing
+mod Rest
+mod Placeables
+mod Bits
+mod Sweeping
+mod Lists
+mod Numbering
+mod Emptying
+mod Functions
+mod Rehoming
+mod Units
+mod Spoiling
