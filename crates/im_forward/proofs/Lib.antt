@@ -6,3 +6,6 @@ mod Knowing
 mod Using
 mod Leaving
 mod Functions
+mod Placeables
+mod Writtens
+mod Rest
