@@ -1,0 +1,3 @@
+mod Same
+mod Sims
+mod Shapes
