@@ -182,8 +182,8 @@ module _ (f : Function) (able : IsAble f) (groups : List (Vec ℕ Global)) (plac
             (sym (same_lives k.0 m.j v starts k.1.1 m.small m.register (drop m.i block.lines.items) block.exit) ∙ m.living));
       }
 
-  set_mark : (b : ℕ) (block : Block) (i : ℕ) (line : Line) (v : ℕ) → slice_get blocks b ≡ Some block → slice_get block.lines.items i ≡ Some line → target_of line ≡ Some v → IsSetIn blocks places v (position blocks b i)
-  set_mark b block i line v at stands e = (b, (block, at, (i, record { line = line; at = stands; target = (e, place_is b block i at) })))
+  set_mark : (b : ℕ) (block : Block) (i : ℕ) (line : Line) (v : ℕ) → slice_get blocks b ≡ Some block → slice_get block.lines.items i ≡ Some line → target_of line ≡ Some v → IsSetIn blocks places v (position blocks b (suc i))
+  set_mark b block i line v at stands e = (b, (block, at, (i, record { line = line; at = stands; target = (e, let is = place_is b block (suc i) at in omega arith) })))
 
   set_needed : (v p : ℕ) → IsSetIn blocks places v p → IsNeededAt blocks v p
   set_needed v p k =
@@ -194,11 +194,11 @@ module _ (f : Function) (able : IsAble f) (groups : List (Vec ℕ Global)) (plac
       let lt = slice_get_within block.lines.items i m.line m.at in
       record {
         b = b;
-        i = i;
+        i = suc i;
         block = block;
         at = k.1.1;
         inside = omega arith;
-        is = m.target.1 ∙ sym (place_is b block i k.1.1);
+        is = (let e = m.target.1 in let is = place_is b block (suc i) k.1.1 in omega arith);
         needed = inr (subst (λ (o : Option Line). sets_at o v ≡ true) (sym m.at) (sets_target m.line v m.target.0));
       }
 
@@ -289,7 +289,7 @@ module _ (f : Function) (able : IsAble f) (groups : List (Vec ℕ Global)) (plac
         ordered = ordered;
       };
       living = λ b block i v at le e. living.holds v (position blocks b i) (let lt = within b block i v at e in let c = set.count in omega arith) (living_mark b block i v at le e);
-      setting = λ b block i line v at stands e. living.keeps v (position blocks b i) (set.holds v (position blocks b i) (let lt = target_within n line v (line_of b block i line at stands) e in omega arith) (set_mark b block i line v at stands e));
+      setting = λ b block i line v at stands e. living.keeps v (position blocks b (suc i)) (set.holds v (position blocks b (suc i)) (let lt = target_within n line v (line_of b block i line at stands) e in omega arith) (set_mark b block i line v at stands e));
       ends = λ v p e.
           ⊎_elim
           (λ (k : IsLivingOf groups blocks places v p). living_needed v p k)

@@ -14,9 +14,10 @@ use Rattle.im_alloc_intervals.specs.declared.tables.Tables.{Tables}
 use Rattle.im_alloc_intervals.specs.declared.taken.Taken.{Taken}
 use Rattle.im_alloc_intervals.specs.Homes.{home_of, home_or, home_at}
 use Rattle.im_alloc_intervals.specs.Leaves.{AreDistinct}
-use Rattle.im_alloc_intervals.specs.Marks.{interval_at, HoldsIn, flag_at}
+use Rattle.im_alloc_intervals.specs.Marks.{interval_at, flag_at}
 use Rattle.im_alloc_intervals.specs.Tables.{AreFitting}
-use Rattle.im_alloc_intervals.specs.Scans.{AreStarts, IsFreeAt, IsUsedAt, NoneFree, until, IsRegisterFor, IsSlotBelow, AreFirst, GivesHome, GivesSome, Gives, IsEasy, AreDisjoint, AreScanned}
+use Rattle.im_alloc_intervals.specs.Scans.{AreStarts, IsFreeAt, IsUsedAt, NoneFree, until, IsRegisterFor, IsSlotBelow, last_of, AreWaiting, AreFirst, GivesHome, GivesSome, Gives, HoldsFrom, IsEasy, AreDisjoint, AreScanned}
+use Rattle.im_alloc_intervals.proofs.Firsts.{waits_in}
 use Rattle.im_alloc_intervals.proofs.Gets.{set_same, set_other, cases_home, same_register, not_slot}
 
 -- a register among the first k of the list
@@ -27,10 +28,14 @@ pub record Done (starts : List Start) (k v : ℕ) : Type 0 where
   pub at : slice_get starts j ≡ Some start
   pub is : start.register ≡ v
 
-pub record IsTaker (t : Tables) (starts : List Start) (k : ℕ) (of : List HomeOf) (r last : ℕ) : Type 0 where
+-- a parameter, or one of these
+abbrev pub Given : ℕ → List Start → ℕ → ℕ → Type 0
+Given p starts k v = (v < p) ⊎ Done starts k v
+
+pub record IsTaker (p : ℕ) (t : Tables) (starts : List Start) (k : ℕ) (of : List HomeOf) (r last : ℕ) : Type 0 where
   pub v : ℕ
   pub interval : Interval
-  pub done : Done starts k v
+  pub given : Given p starts k v
   pub at : interval_at t.intervals.items v ≡ Some interval
   pub is : interval.last ≡ last
   pub home : home_at of v ≡ InRegister r
@@ -39,12 +44,12 @@ pub record Scan (p : ℕ) (t : Tables) (starts : List Start) (k : ℕ) (of : Lis
   pub count : length of ≡ length t.intervals.items
   pub received : (v : ℕ) → v < p → home_at of v ≡ InRegister (10 + v)
   pub others : (v : ℕ) → p ≤ v → (Done starts k v → ⊥) → home_at of v ≡ InRegister 31
-  pub used : (v : ℕ) (i : Interval) → Done starts k v → interval_at t.intervals.items v ≡ Some i → IsUsedAt (until taken (home_at of v)) i.last
-  pub apart : (v w : ℕ) (i j : Interval) → Done starts k v → Done starts k w → v ≢ w → interval_at t.intervals.items v ≡ Some i → interval_at t.intervals.items w ≡ Some j → home_at of v ≡ home_at of w → AreDisjoint i j
+  pub used : (v : ℕ) (i : Interval) → Given p starts k v → interval_at t.intervals.items v ≡ Some i → IsUsedAt (until taken (home_at of v)) i.last
+  pub apart : (v w : ℕ) (i j : Interval) → Given p starts k v → Given p starts k w → v ≢ w → interval_at t.intervals.items v ≡ Some i → interval_at t.intervals.items w ≡ Some j → home_at of v ≡ home_at of w → AreDisjoint i j
   pub register : (v : ℕ) → Done starts k v → IsRegisterFor (flag_at t.slotted.items v) (flag_at t.arguments.items v) (home_at of v)
   pub slot : (v : ℕ) → Done starts k v → IsSlotBelow (length taken.slots.items) (home_at of v)
   pub few : length taken.slots.items ≤ k
-  pub takers : (r last : ℕ) → until taken (InRegister r) ≡ Some last → IsTaker t starts k of r last
+  pub takers : (r last : ℕ) → until taken (InRegister r) ≡ Some last → IsTaker p t starts k of r last
   pub easy : IsEasy p t → length taken.slots.items ≡ 0
 
 used_free : (o : Option ℕ) (a b : ℕ) → IsUsedAt o a → IsFreeAt o b → a < b
@@ -56,16 +61,16 @@ slot_more a b (InRegister r) le s = tt
 slot_more a b (InSlot n) le s = omega arith
 
 -- a list of registers of the machine, from x9 on, each in use by a register whose interval holds a position
-record Chosen (t : Tables) (of : List HomeOf) (q n : ℕ) : Type 0 where
+record Chosen (p : ℕ) (t : Tables) (of : List HomeOf) (q n : ℕ) : Type 0 where
   vs : List ℕ
   long : length vs ≡ n
   distinct : AreDistinct vs
-  each : (v : ℕ) → Has vs v → HoldsIn (interval_at t.intervals.items v) q × ((r : ℕ) × (r < 9 + n) × (home_at of v ≡ InRegister r))
+  each : (v : ℕ) → Has vs v → HoldsFrom p v (interval_at t.intervals.items v) q × ((r : ℕ) × (r < 9 + n) × (home_at of v ≡ InRegister r))
 
-choose : (t : Tables) (of : List HomeOf) (q n : ℕ) → n ≤ 23 → ((r : ℕ) → 8 < r → r < 32 → (v : ℕ) × HoldsIn (interval_at t.intervals.items v) q × (home_at of v ≡ InRegister r)) → Chosen t of q n
-choose t of q zero le taken = record { vs = []; long = refl; distinct = tt; each = λ v k. absurd k }
-choose t of q (suc n) le taken =
-    let c = choose t of q n (omega arith) taken in
+choose : (p : ℕ) (t : Tables) (of : List HomeOf) (q n : ℕ) → n ≤ 23 → ((r : ℕ) → 8 < r → r < 32 → (v : ℕ) × HoldsFrom p v (interval_at t.intervals.items v) q × (home_at of v ≡ InRegister r)) → Chosen p t of q n
+choose p t of q zero le taken = record { vs = []; long = refl; distinct = tt; each = λ v k. absurd k }
+choose p t of q (suc n) le taken =
+    let c = choose p t of q n (omega arith) taken in
     let one = taken (9 + n) (omega arith) (omega arith) in
     record {
       vs = one.0 ∷ c.vs;
@@ -76,7 +81,7 @@ choose t of q (suc n) le taken =
       );
       each = λ v k.
           ⊎_elim
-          (λ (e : one.0 ≡ v). (subst (λ (z : ℕ). HoldsIn (interval_at t.intervals.items z) q) e one.1, (9 + n, omega arith, ap (λ (z : ℕ). home_at of z) (sym e) ∙ one.2)))
+          (λ (e : one.0 ≡ v). (subst (λ (z : ℕ). HoldsFrom p z (interval_at t.intervals.items z) q) e one.1, (9 + n, omega arith, ap (λ (z : ℕ). home_at of z) (sym e) ∙ one.2)))
           (λ (h : Has c.vs v). (let o = c.each v h in let less = o.1.1 in (o.0, (o.1.0, omega arith, o.1.2))))
           k;
     }
@@ -87,19 +92,40 @@ module _ (p : ℕ) (t : Tables) (starts : List Start) (listed : AreStarts p t.in
 
   -- ---- the begin
 
-  pub scan_begin : (of : List HomeOf) (taken : Taken) → AreFirst p (length t.intervals.items) of → ((r : ℕ) → until taken (InRegister r) ≡ None) → length taken.slots.items ≡ 0 → Scan p t starts 0 of taken
-  scan_begin of taken first free none = record {
+  pub scan_begin : (of : List HomeOf) (taken : Taken) → AreFirst p (length t.intervals.items) of → AreWaiting p t.intervals.items taken.registers → length taken.slots.items ≡ 0 → Scan p t starts 0 of taken
+  scan_begin of taken first waiting none = record {
     count = first.long;
     received = first.received;
     others = λ v le no. first.rest v le;
-    used = λ v i d e. (let lt = d.less in absurd (omega arith));
-    apart = λ v w i j d e ne a b same. (let lt = d.less in absurd (omega arith));
+    used = λ v i d e. used v i (parameter v d) e;
+    apart = λ v w i j d e ne a b same. absurd (ne (one v w (parameter v d) (parameter w e) same));
     register = λ v d. (let lt = d.less in absurd (omega arith));
     slot = λ v d. (let lt = d.less in absurd (omega arith));
     few = omega arith;
-    takers = λ r last e. absurd (none-some last (sym (free r) ∙ e));
+    takers = λ r last e.
+        (let w = waits_in p t.intervals.items taken.registers waiting r last e in
+        record {
+          v = w.v;
+          interval = w.interval;
+          given = inl w.less;
+          at = w.at;
+          is = w.is;
+          home = first.received w.v w.less ∙ ap (λ (z : ℕ). InRegister z) w.home;
+        });
     easy = λ e. none;
   }
+    where
+      parameter : (v : ℕ) → Given p starts 0 v → v < p
+      parameter v (inl lt) = lt
+      parameter v (inr d) = let lt = d.less in absurd (omega arith)
+
+      used : (v : ℕ) (i : Interval) → v < p → own v ≡ Some i → IsUsedAt (until taken (home_at of v)) i.last
+      used v i lt e =
+          let at : until taken (home_at of v) ≡ Some i.last = ap (λ (g : Home). until taken g) (first.received v lt) ∙ waiting.each v lt ∙ ap last_of e in
+          subst (λ (o : Option ℕ). IsUsedAt o i.last) (sym at) (omega arith)
+
+      one : (v w : ℕ) → v < p → w < p → home_at of v ≡ home_at of w → v ≡ w
+      one v w a b same = let e : 10 + v ≡ 10 + w = same_register (10 + v) (10 + w) (sym (first.received v a) ∙ same ∙ first.received w b) in omega arith
 
   -- ---- one register more
 
@@ -126,11 +152,16 @@ module _ (p : ℕ) (t : Tables) (starts : List Start) (listed : AreStarts p t.in
     now_done : Done starts (k + 1) s.register
     now_done = record { j = k; start = s; less = omega arith; at = at_start; is = refl }
 
-    later : (w : ℕ) → Done starts k w → Done starts (k + 1) w
-    later w d = record { j = d.j; start = d.start; less = (let lt = d.less in omega arith); at = d.at; is = d.is }
+    done_later : (w : ℕ) → Done starts k w → Done starts (k + 1) w
+    done_later w d = record { j = d.j; start = d.start; less = (let lt = d.less in omega arith); at = d.at; is = d.is }
 
-    other : (w : ℕ) → Done starts k w → w ≢ s.register
-    other w d e = not_done (subst (λ (z : ℕ). Done starts k z) e d)
+    later : (w : ℕ) → Given p starts k w → Given p starts (k + 1) w
+    later w (inl lt) = inl lt
+    later w (inr d) = inr (done_later w d)
+
+    other : (w : ℕ) → Given p starts k w → w ≢ s.register
+    other w (inl lt) e = let low = (listed.each k s at_start).low in omega arith
+    other w (inr d) e = not_done (subst (λ (z : ℕ). Done starts k z) e d)
 
     done_cases : (w : ℕ) → Done starts (k + 1) w → Done starts k w ⊎ (w ≡ s.register)
     done_cases w d =
@@ -139,17 +170,21 @@ module _ (p : ℕ) (t : Tables) (starts : List Start) (listed : AreStarts p t.in
         (λ (ne : d.j ≢ k). inl (record { j = d.j; start = d.start; less = (let lt = d.less in omega arith); at = d.at; is = d.is }))
         (cases_eq d.j k)
 
+    given_cases : (w : ℕ) → Given p starts (k + 1) w → Given p starts k w ⊎ (w ≡ s.register)
+    given_cases w (inl lt) = inl (inl lt)
+    given_cases w (inr d) = ⊎_elim (λ (was : Done starts k w). inl (inr was)) (λ (is : w ≡ s.register). inr is) (done_cases w d)
+
     -- who has the same home has it no more where the new interval begins
-    gone : (w : ℕ) (j : Interval) → Done starts k w → own w ≡ Some j → home_at of w ≡ h → j.last < i.first
+    gone : (w : ℕ) (j : Interval) → Given p starts k w → own w ≡ Some j → home_at of w ≡ h → j.last < i.first
     gone w j d e same = used_free (until old h) j.last i.first (subst (λ (g : Home). IsUsedAt (until old g) j.last) same (scan.used w j d e)) gives.takes.free
 
     same_interval : (w : ℕ) (j : Interval) → w ≡ s.register → own w ≡ Some j → i ≡ j
     same_interval w j e f = same_Some i j (sym at_own ∙ ap own (sym e) ∙ f)
 
-    used : (w : ℕ) (j : Interval) → Done starts (k + 1) w → own w ≡ Some j → IsUsedAt (until new (home_at new_of w)) j.last
+    used : (w : ℕ) (j : Interval) → Given p starts (k + 1) w → own w ≡ Some j → IsUsedAt (until new (home_at new_of w)) j.last
     used w j d e =
         ⊎_elim
-        (λ (was : Done starts k w).
+        (λ (was : Given p starts k w).
         subst (λ (g : Home). IsUsedAt (until new g) j.last) (sym (home_old w (other w was)))
         (⊎_elim
         (λ (same : home_at of w ≡ h).
@@ -161,34 +196,34 @@ module _ (p : ℕ) (t : Tables) (starts : List Start) (listed : AreStarts p t.in
         subst (λ (g : Home). IsUsedAt (until new g) j.last) (sym (ap (λ (z : ℕ). home_at new_of z) is ∙ home_new))
         (subst (λ (o : Option ℕ). IsUsedAt o j.last) (sym gives.takes.now)
         (let q : i.last ≡ j.last = ap (λ (z : Interval). z.last) (same_interval w j is e) in omega arith)))
-        (done_cases w d)
+        (given_cases w d)
 
     -- one is new
-    apart_new : (w u : ℕ) (j l : Interval) → w ≡ s.register → Done starts k u → own w ≡ Some j → own u ≡ Some l → home_at new_of w ≡ home_at new_of u → l.last < j.first
+    apart_new : (w u : ℕ) (j l : Interval) → w ≡ s.register → Given p starts k u → own w ≡ Some j → own u ≡ Some l → home_at new_of w ≡ home_at new_of u → l.last < j.first
     apart_new w u j l is was e f same =
         let lt = gone u l was f (sym (home_old u (other u was)) ∙ sym same ∙ ap (λ (z : ℕ). home_at new_of z) is ∙ home_new) in
         let q : i.first ≡ j.first = ap (λ (z : Interval). z.first) (same_interval w j is e) in
         omega arith
 
-    apart : (w u : ℕ) (j l : Interval) → Done starts (k + 1) w → Done starts (k + 1) u → w ≢ u → own w ≡ Some j → own u ≡ Some l → home_at new_of w ≡ home_at new_of u → AreDisjoint j l
+    apart : (w u : ℕ) (j l : Interval) → Given p starts (k + 1) w → Given p starts (k + 1) u → w ≢ u → own w ≡ Some j → own u ≡ Some l → home_at new_of w ≡ home_at new_of u → AreDisjoint j l
     apart w u j l dw du ne e f same =
         ⊎_elim
-        (λ (was : Done starts k w).
+        (λ (was : Given p starts k w).
         ⊎_elim
-        (λ (had : Done starts k u). scan.apart w u j l was had ne e f (sym (home_old w (other w was)) ∙ same ∙ home_old u (other u had)))
+        (λ (had : Given p starts k u). scan.apart w u j l was had ne e f (sym (home_old w (other w was)) ∙ same ∙ home_old u (other u had)))
         (λ (is : u ≡ s.register). inl (apart_new u w l j is was f e (sym same)))
-        (done_cases u du))
+        (given_cases u du))
         (λ (is : w ≡ s.register).
         ⊎_elim
-        (λ (had : Done starts k u). inr (apart_new w u j l is had e f same))
+        (λ (had : Given p starts k u). inr (apart_new w u j l is had e f same))
         (λ (too : u ≡ s.register). absurd (ne (is ∙ sym too)))
-        (done_cases u du))
-        (done_cases w dw)
+        (given_cases u du))
+        (given_cases w dw)
 
     register : (w : ℕ) → Done starts (k + 1) w → IsRegisterFor (flag_at t.slotted.items w) (flag_at t.arguments.items w) (home_at new_of w)
     register w d =
         ⊎_elim
-        (λ (was : Done starts k w). subst (λ (g : Home). IsRegisterFor (flag_at t.slotted.items w) (flag_at t.arguments.items w) g) (sym (home_old w (other w was))) (scan.register w was))
+        (λ (was : Done starts k w). subst (λ (g : Home). IsRegisterFor (flag_at t.slotted.items w) (flag_at t.arguments.items w) g) (sym (home_old w (other w (inr was)))) (scan.register w was))
         (λ (is : w ≡ s.register).
         subst (λ (z : ℕ). IsRegisterFor (flag_at t.slotted.items z) (flag_at t.arguments.items z) (home_at new_of z)) (sym is)
         (subst (λ (g : Home). IsRegisterFor (flag_at t.slotted.items s.register) (flag_at t.arguments.items s.register) g) (sym home_new) gives.takes.register))
@@ -197,48 +232,53 @@ module _ (p : ℕ) (t : Tables) (starts : List Start) (listed : AreStarts p t.in
     slot : (w : ℕ) → Done starts (k + 1) w → IsSlotBelow (length new.slots.items) (home_at new_of w)
     slot w d =
         ⊎_elim
-        (λ (was : Done starts k w). subst (λ (g : Home). IsSlotBelow (length new.slots.items) g) (sym (home_old w (other w was))) (slot_more (length old.slots.items) (length new.slots.items) (home_at of w) gives.takes.more (scan.slot w was)))
+        (λ (was : Done starts k w). subst (λ (g : Home). IsSlotBelow (length new.slots.items) g) (sym (home_old w (other w (inr was)))) (slot_more (length old.slots.items) (length new.slots.items) (home_at of w) gives.takes.more (scan.slot w was)))
         (λ (is : w ≡ s.register). subst (λ (g : Home). IsSlotBelow (length new.slots.items) g) (sym (ap (λ (z : ℕ). home_at new_of z) is ∙ home_new)) gives.takes.slot)
         (done_cases w d)
 
-    takers : (r last : ℕ) → until new (InRegister r) ≡ Some last → IsTaker t starts (k + 1) new_of r last
+    takers : (r last : ℕ) → until new (InRegister r) ≡ Some last → IsTaker p t starts (k + 1) new_of r last
     takers r last e =
         ⊎_elim
         (λ (same : InRegister r ≡ h).
         record {
           v = s.register;
           interval = i;
-          done = now_done;
+          given = inr now_done;
           at = at_own;
           is = same_Some i.last last (sym gives.takes.now ∙ ap (λ (g : Home). until new g) (sym same) ∙ e);
           home = home_new ∙ sym same;
         })
         (λ (ne : InRegister r ≢ h).
         (let was = scan.takers r last (sym (gives.takes.others (InRegister r) ne) ∙ e) in
-        record { v = was.v; interval = was.interval; done = later was.v was.done; at = was.at; is = was.is; home = home_old was.v (other was.v was.done) ∙ was.home }))
+        record { v = was.v; interval = was.interval; given = later was.v was.given; at = was.at; is = was.is; home = home_old was.v (other was.v was.given) ∙ was.home }))
         (cases_home (InRegister r) h)
 
     -- where no register is free, more intervals hold the position than may
-    holder : (r last : ℕ) → IsTaker t starts k of r last → i.first ≤ last → (w : ℕ) × HoldsIn (own w) i.first × (home_at of w ≡ InRegister r)
-    holder r last taker le =
-        let was = listed.each taker.done.j taker.done.start taker.done.at in
-        let own_is : own taker.v ≡ Some was.interval = ap own (sym taker.done.is) ∙ was.at in
-        let same : was.interval ≡ taker.interval = same_Some was.interval taker.interval (sym own_is ∙ taker.at) in
+    begun : (w : ℕ) (j : Interval) → own w ≡ Some j → Given p starts k w → (j.first ≤ i.first) ⊎ (w < p)
+    begun w j e (inl lt) = inr lt
+    begun w j e (inr d) =
+        let was = listed.each d.j d.start d.at in
+        let own_is : own w ≡ Some was.interval = ap own (sym d.is) ∙ was.at in
+        let same : was.interval ≡ j = same_Some was.interval j (sym own_is ∙ e) in
         let one = listed.each k s at_start in
         let mine : one.interval ≡ i = same_Some one.interval i (sym one.at ∙ at_own) in
-        let up = listed.sorted taker.done.j k taker.done.start s taker.done.at at_start (let lt = taker.done.less in omega arith) in
-        let a : was.interval.first ≡ taker.interval.first = ap (λ (z : Interval). z.first) same in
+        let up = listed.sorted d.j k d.start s d.at at_start (let lt = d.less in omega arith) in
+        let a : was.interval.first ≡ j.first = ap (λ (z : Interval). z.first) same in
         let b : one.interval.first ≡ i.first = ap (λ (z : Interval). z.first) mine in
         let c = was.first in
-        let d = one.first in
-        let z = taker.is in
-        let held : HoldsIn (Some taker.interval) i.first = (omega arith, omega arith) in
-        (taker.v, subst (λ (o : Option Interval). HoldsIn o i.first) (sym taker.at) held, taker.home)
+        let q = one.first in
+        inl (omega arith)
 
-    all_held : (r : ℕ) → IsUsedAt (until old (InRegister r)) i.first → (w : ℕ) × HoldsIn (own w) i.first × (home_at of w ≡ InRegister r)
+    holder : (r last : ℕ) → IsTaker p t starts k of r last → i.first ≤ last → (w : ℕ) × HoldsFrom p w (own w) i.first × (home_at of w ≡ InRegister r)
+    holder r last taker le =
+        let z = taker.is in
+        let held : HoldsFrom p taker.v (Some taker.interval) i.first = (begun taker.v taker.interval taker.at taker.given, omega arith) in
+        (taker.v, subst (λ (o : Option Interval). HoldsFrom p taker.v o i.first) (sym taker.at) held, taker.home)
+
+    all_held : (r : ℕ) → IsUsedAt (until old (InRegister r)) i.first → (w : ℕ) × HoldsFrom p w (own w) i.first × (home_at of w ≡ InRegister r)
     all_held r used = by (until old (InRegister r)) refl used
       where
-        by : (o : Option ℕ) → until old (InRegister r) ≡ o → IsUsedAt o i.first → (w : ℕ) × HoldsIn (own w) i.first × (home_at of w ≡ InRegister r)
+        by : (o : Option ℕ) → until old (InRegister r) ≡ o → IsUsedAt o i.first → (w : ℕ) × HoldsFrom p w (own w) i.first × (home_at of w ≡ InRegister r)
         by None e x = absurd x
         by (Some last) e x = holder r last (scan.takers r last e) x
 
@@ -248,7 +288,7 @@ module _ (p : ℕ) (t : Tables) (starts : List Start) (listed : AreStarts p t.in
         (λ (same : length new.slots.items ≡ length old.slots.items). same ∙ scan.easy e)
         (λ (none : NoneFree old.registers i.first (flag_at t.arguments.items s.register)).
         (let no = e.arguments s.register in
-        let c = choose t of i.first 23 (omega arith) (λ r low high. all_held r (none r low high (λ yes. absurd cc))) in
+        let c = choose p t of i.first 23 (omega arith) (λ r low high. all_held r (none r low high (λ yes. absurd cc))) in
         let few = e.few i.first c.vs c.distinct (λ w m. (c.each w m).0) in
         let long = c.long in
         absurd (omega arith)))
@@ -258,7 +298,7 @@ module _ (p : ℕ) (t : Tables) (starts : List Start) (listed : AreStarts p t.in
     scan_next = record {
       count = ap length gives.is ∙ length-set of s.register gives.home ∙ scan.count;
       received = λ w lt. home_old w (λ e. (let low = (listed.each k s at_start).low in omega arith)) ∙ scan.received w lt;
-      others = λ w le no. home_old w (λ e. no (subst (λ (z : ℕ). Done starts (k + 1) z) (sym e) now_done)) ∙ scan.others w le (λ d. no (later w d));
+      others = λ w le no. home_old w (λ e. no (subst (λ (z : ℕ). Done starts (k + 1) z) (sym e) now_done)) ∙ scan.others w le (λ d. no (done_later w d));
       used = used;
       apart = apart;
       register = register;
@@ -293,6 +333,9 @@ module _ (p : ℕ) (t : Tables) (starts : List Start) (listed : AreStarts p t.in
         let l = listed.all v i le e in
         let lt = slice_get_within starts l.k l.start l.at in
         record { j = l.k; start = l.start; less = omega arith; at = l.at; is = l.is }
+
+    given : (v : ℕ) (i : Interval) → own v ≡ Some i → Given p starts k v
+    given v i e = ⊎_elim (λ (lt : v < p). inl lt) (λ (le : p ≤ v). inr (done v i le e)) (cases_lt v p)
 
     undone : (v : ℕ) → own v ≡ None → Done starts k v → ⊥
     undone v none d = let one = listed.each d.j d.start d.at in none-some one.interval (sym none ∙ ap own (sym d.is) ∙ one.at)
@@ -331,7 +374,7 @@ module _ (p : ℕ) (t : Tables) (starts : List Start) (listed : AreStarts p t.in
       slots = slot_there;
       few = (let a = scan.few in let b = listed.few in omega arith);
       free = free;
-      apart = λ v w i j a b ne e f same. scan.apart v w i j (done v i a e) (done w j b f) ne e f same;
+      apart = λ v w i j ne e f same. scan.apart v w i j (given v i e) (given w j f) ne e f same;
       register = λ v r i le is e. (let k = registers v r i le is e in (k.3, k.2));
       easy = λ e. slots ∙ scan.easy e;
     }

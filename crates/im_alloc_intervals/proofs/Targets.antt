@@ -1,27 +1,17 @@
 -- What a line sets, and what a call does.
-use Rattle.std.proofs.Common.{◌≡◌, ◌≢◌, ℕ, zero, suc, Bool, true, false, List, [], ◌∷◌, Some, refl, sym, ap, ◌∙◌, drop, eq-eqb}
+use Rattle.std.proofs.Common.{◌≡◌, ℕ, zero, suc, Bool, true, List, [], ◌∷◌, Some, refl, sym, ap, ◌∙◌, drop, eq-eqb}
 use Rattle.std.specs.Prelude.{◌==◌, ◌&&◌, ◌||◌, ◌+◌, not, nat_le, nat_lt, slice_get}
 use Rattle.std.proofs.lemmas.Option.{same_Some}
 use Rattle.im_block.specs.declared.code.Line.{Line}
 use Rattle.im_block.specs.declared.code.Line.TheVariants.{Put, PutNull, Copy, Convert, Unary, Not, Compute, Compare, Move, Distance, Address, Read, Write, Reload, Spill, Cut, Call, GetChar, PutChar}
 use Rattle.im_block.specs.declared.code.Exit.{Exit}
 use Rattle.im_alloc_relation.specs.Live.{uses, sets, lives}
-use Rattle.im_alloc_intervals.specs.Leaves.{IsCall}
+use Rattle.im_alloc_relation.specs.Settled.{IsCall}
 use Rattle.im_alloc_intervals.specs.Lines.{target_of, result_of, IsArgument}
 use Rattle.im_alloc_intervals.proofs.Lives.{both_are, same_of, less_is, most_is}
 
 one_sets : (v to : ℕ) → Some to ≡ Some v → (v == to) ≡ true
 one_sets v to e = eq-eqb v to (sym (same_Some to v e))
-
-one_target : (v to : ℕ) → (v == to) ≡ true → Some to ≡ Some v
-one_target v to e = ap (λ (z : ℕ). Some z) (sym (same_of v to e))
-
-one_other : (to w v : ℕ) → Some w ≡ Some to → v ≢ to → (v == w) ≡ false
-one_other to w v e ne = by (v == w) refl
-  where
-    by : (b : Bool) → (v == w) ≡ b → b ≡ false
-    by true q = absurd (ne (same_of v w q ∙ same_Some w to e))
-    by false q = refl
 
 pub sets_target : (line : Line) (v : ℕ) → target_of line ≡ Some v → sets line v ≡ true
 sets_target (Put to z) v e = one_sets v to e
@@ -43,27 +33,6 @@ sets_target (Cut cause) v e = absurd cc
 sets_target (Call to i first count) v e = one_sets v to e
 sets_target (GetChar to) v e = one_sets v to e
 sets_target (PutChar to from) v e = one_sets v to e
-
-pub sets_other : (line : Line) (to v : ℕ) → target_of line ≡ Some to → v ≢ to → sets line v ≡ false
-sets_other (Put w z) to v e ne = one_other to w v e ne
-sets_other (PutNull w) to v e ne = one_other to w v e ne
-sets_other (Copy w from) to v e ne = one_other to w v e ne
-sets_other (Convert w kind from) to v e ne = one_other to w v e ne
-sets_other (Unary w op kind from) to v e ne = one_other to w v e ne
-sets_other (Not w from) to v e ne = one_other to w v e ne
-sets_other (Compute w op kind left right) to v e ne = one_other to w v e ne
-sets_other (Compare w op kind left right) to v e ne = one_other to w v e ne
-sets_other (Move w size back pointer by) to v e ne = one_other to w v e ne
-sets_other (Distance w size left right) to v e ne = one_other to w v e ne
-sets_other (Address w place) to v e ne = one_other to w v e ne
-sets_other (Read w place kind access) to v e ne = one_other to w v e ne
-sets_other (Write place kind from access) to v e ne = refl
-sets_other (Reload w slot access) to v e ne = one_other to w v e ne
-sets_other (Spill slot from access) to v e ne = refl
-sets_other (Cut cause) to v e ne = refl
-sets_other (Call w i first count) to v e ne = one_other to w v e ne
-sets_other (GetChar w) to v e ne = one_other to w v e ne
-sets_other (PutChar w from) to v e ne = one_other to w v e ne
 
 pub result_target : (line : Line) (to : ℕ) → result_of line ≡ Some to → target_of line ≡ Some to
 result_target (Call w i first count) to e = e
@@ -90,16 +59,7 @@ drop_line [] i line e = absurd cc
 drop_line (x ∷ xs) zero line e = ap (λ (z : Line). z ∷ xs) (same_Some x line e)
 drop_line (x ∷ xs) (suc i) line e = drop_line xs i line e
 
-through : (u s a : Bool) → s ≡ false → a ≡ true → (u || (not s && a)) ≡ true
-through true s a p q = refl
-through false false a p q = q
-through false true a p q = absurd cc
-
--- what lives behind a line that doesn't set it lives before it, as does what the line uses
-pub lives_through : (live : ℕ → ℕ → Bool) (lines : List Line) (exit : Exit) (i : ℕ) (line : Line) (v : ℕ) → slice_get lines i ≡ Some line → sets line v ≡ false → lives live (drop (suc i) lines) exit v ≡ true → lives live (drop i lines) exit v ≡ true
-lives_through live lines exit i line v at unset behind =
-    ap (λ (z : List Line). lives live z exit v) (drop_line lines i line at) ∙ through (uses line v) (sets line v) (lives live (drop (suc i) lines) exit v) unset behind
-
+-- what a line uses lives before it
 pub lives_used : (live : ℕ → ℕ → Bool) (lines : List Line) (exit : Exit) (i : ℕ) (line : Line) (v : ℕ) → slice_get lines i ≡ Some line → uses line v ≡ true → lives live (drop i lines) exit v ≡ true
 lives_used live lines exit i line v at used =
     ap (λ (z : List Line). lives live z exit v) (drop_line lines i line at) ∙ ap (λ (z : Bool). z || (not (sets line v) && lives live (drop (suc i) lines) exit v)) used

@@ -23,16 +23,16 @@ use Rattle.im_alloc_intervals.specs.Homes.{home_at, IsAble, AreHomes}
 use Rattle.im_alloc_intervals.specs.Leaves.{position, HoldsAt, IsLeaf, IsTight, NothingElseEnters}
 use Rattle.im_alloc_intervals.specs.Lines.{target_of, result_of, IsArgument}
 use Rattle.im_alloc_intervals.specs.Marks.{interval_at, HoldsIn, IsEndOf, flag_at}
-use Rattle.im_alloc_intervals.specs.Scans.{AreScanned, IsEasy}
+use Rattle.im_alloc_intervals.specs.Scans.{HoldsFrom, AreScanned, IsEasy}
 use Rattle.im_alloc_intervals.specs.Tables.{AreTables, HasCall}
 use Rattle.im_alloc_intervals.proofs.Blocks.{all_at}
 use Rattle.im_alloc_intervals.proofs.Lives.{EdgesFrom, lives_below, lives_above}
 use Rattle.im_alloc_intervals.proofs.Paths.{at_start, at_none, closed}
-use Rattle.im_alloc_intervals.proofs.Targets.{sets_other, result_target, argument_used, lives_through, lives_used}
+use Rattle.im_alloc_intervals.proofs.Targets.{result_target, argument_used, lives_used}
 
 -- what homes keep at a line, behind which these live
 record KeptLine (h : ℕ → Home) (p : ℕ) (line : Line) (after : ℕ → Bool) : Type 0 where
-  apart : (to : ℕ) → target_of line ≡ Some to → (v : ℕ) → after v ≡ true → p ≤ v → p ≤ to → v ≢ to → h v ≢ h to
+  apart : (to : ℕ) → target_of line ≡ Some to → (v : ℕ) → after v ≡ true → v ≢ to → h v ≢ h to
   slot : (to : ℕ) → result_of line ≡ Some to → (v : ℕ) → after v ≡ true → p ≤ v → v ≢ to → (n : ℕ) × (h v ≡ InSlot n)
   argument : (v r : ℕ) → IsArgument line v → p ≤ v → h v ≡ InRegister r → (r < 10) ⊎ (17 < r)
 
@@ -40,37 +40,37 @@ module _ (statics p : ℕ) (f : Function) (h : ℕ → Home) where
   abbrev Behind : (ℕ → Bool) → Type 0
   Behind after = (v : ℕ) → after v ≡ true → p ≤ v
 
-  keeps : (line : Line) (to : ℕ) (after : ℕ → Bool) → KeptLine h p line after → target_of line ≡ Some to → p ≤ to → Behind after → KeepsHomes h to after
-  keeps line to after kept is le behind v t ne = kept.apart to is v t (behind v t) le ne
+  keeps : (line : Line) (to : ℕ) (after : ℕ → Bool) → KeptLine h p line after → target_of line ≡ Some to → KeepsHomes h to after
+  keeps line to after kept is v t ne = kept.apart to is v t ne
 
-  survives : (line : Line) (to : ℕ) (after : ℕ → Bool) → KeptLine h p line after → result_of line ≡ Some to → p ≤ to → Behind after → Survives h to after
-  survives line to after kept is le behind v t ne =
+  survives : (line : Line) (to : ℕ) (after : ℕ → Bool) → KeptLine h p line after → result_of line ≡ Some to → Behind after → Survives h to after
+  survives line to after kept is behind v t ne =
       let s = kept.slot to is v t (behind v t) ne in
-      (s.0, s.1, kept.apart to (result_target line to is) v t (behind v t) le ne)
+      (s.0, s.1, kept.apart to (result_target line to is) v t ne)
 
   line_valid : (line : Line) (after : ℕ → Bool) → KeptLine h p line after → LineFrom p line → IsPlaceableLine statics f line → Behind after → ValidLine h line after
-  line_valid (Put to z) after kept from k b = keeps (Put to z) to after kept refl from b
-  line_valid (PutNull to) after kept from k b = keeps (PutNull to) to after kept refl from b
-  line_valid (Copy to source) after kept from k b = keeps (Copy to source) to after kept refl from.0 b
-  line_valid (Convert to kind source) after kept from k b = keeps (Convert to kind source) to after kept refl from.0 b
-  line_valid (Unary to op kind source) after kept from k b = keeps (Unary to op kind source) to after kept refl from.0 b
-  line_valid (Not to source) after kept from k b = keeps (Not to source) to after kept refl from.0 b
-  line_valid (Compute to op kind left right) after kept from k b = keeps (Compute to op kind left right) to after kept refl from.0 b
-  line_valid (Compare to op kind left right) after kept from k b = keeps (Compare to op kind left right) to after kept refl from.0 b
-  line_valid (Move to size back pointer by) after kept from k b = keeps (Move to size back pointer by) to after kept refl from.0 b
-  line_valid (Distance to size left right) after kept from k b = keeps (Distance to size left right) to after kept refl from.0 b
-  line_valid (Address to place) after kept from k b = keeps (Address to place) to after kept refl from.0 b
-  line_valid (Read to place kind access) after kept from k b = keeps (Read to place kind access) to after kept refl from.0 b
+  line_valid (Put to z) after kept from k b = keeps (Put to z) to after kept refl
+  line_valid (PutNull to) after kept from k b = keeps (PutNull to) to after kept refl
+  line_valid (Copy to source) after kept from k b = keeps (Copy to source) to after kept refl
+  line_valid (Convert to kind source) after kept from k b = keeps (Convert to kind source) to after kept refl
+  line_valid (Unary to op kind source) after kept from k b = keeps (Unary to op kind source) to after kept refl
+  line_valid (Not to source) after kept from k b = keeps (Not to source) to after kept refl
+  line_valid (Compute to op kind left right) after kept from k b = keeps (Compute to op kind left right) to after kept refl
+  line_valid (Compare to op kind left right) after kept from k b = keeps (Compare to op kind left right) to after kept refl
+  line_valid (Move to size back pointer by) after kept from k b = keeps (Move to size back pointer by) to after kept refl
+  line_valid (Distance to size left right) after kept from k b = keeps (Distance to size left right) to after kept refl
+  line_valid (Address to place) after kept from k b = keeps (Address to place) to after kept refl
+  line_valid (Read to place kind access) after kept from k b = keeps (Read to place kind access) to after kept refl
   line_valid (Write place kind source access) after kept from k b = tt
   line_valid (Reload to slot access) after kept from k b = absurd k
   line_valid (Spill slot source access) after kept from k b = absurd k
   line_valid (Cut cause) after kept from k b = tt
   line_valid (Call to i first count) after kept from k b = (
-    survives (Call to i first count) to after kept refl from.0 b,
+    survives (Call to i first count) to after kept refl b,
     record { few = k; apart = λ v r low high e. kept.argument v r (low, high) (let le = from.1 in omega arith) e },
   )
-  line_valid (GetChar to) after kept from k b = survives (GetChar to) to after kept refl from b
-  line_valid (PutChar to source) after kept from k b = survives (PutChar to source) to after kept refl from.0 b
+  line_valid (GetChar to) after kept from k b = survives (GetChar to) to after kept refl b
+  line_valid (PutChar to source) after kept from k b = survives (PutChar to source) to after kept refl b
 
   abbrev Kept : (ℕ → ℕ → Bool) → List Line → Exit → Type 0
   Kept live lines exit = (i : ℕ) (line : Line) → slice_get lines i ≡ Some line → KeptLine h p line (lives live (drop (suc i) lines) exit)
@@ -86,13 +86,21 @@ module _ (statics p : ℕ) (f : Function) (h : ℕ → Home) where
         lines_valid live lines exit (λ i x at. kept (suc i) x at) from' (All-tail (IsPlaceableLine statics f) line lines k) fe edges,
       )
 
-  -- the entry block, where parameters are written first
+  -- the entry block, which keeps the parameters first
   entry_valid : (live : ℕ → ℕ → Bool) (lines : List Line) (exit : Exit) → Kept live lines exit → Receives p lines → Able lines → ExitFrom p exit → EdgesFrom p live exit → Valid h live lines exit
   entry_valid live [] exit kept from k fe edges = tt
   entry_valid live (Write place kind source access ∷ lines) exit kept from k fe edges =
       (tt, entry_valid live lines exit (λ i x at. kept (suc i) x at) from (All-tail (IsPlaceableLine statics f) (Write place kind source access) lines k) fe edges)
   entry_valid live (Cut cause ∷ lines) exit kept from k fe edges =
       (tt, entry_valid live lines exit (λ i x at. kept (suc i) x at) from (All-tail (IsPlaceableLine statics f) (Cut cause) lines k) fe edges)
+  entry_valid live (Copy to source ∷ lines) exit kept from k fe edges = (
+    keeps (Copy to source) to (lives live lines exit) (kept 0 (Copy to source) refl) refl,
+    entry_valid live lines exit (λ i x at. kept (suc i) x at) from.1 (All-tail (IsPlaceableLine statics f) (Copy to source) lines k) fe edges,
+  )
+  entry_valid live (Convert to kind source ∷ lines) exit kept from k fe edges = (
+    keeps (Convert to kind source) to (lives live lines exit) (kept 0 (Convert to kind source) refl) refl,
+    entry_valid live lines exit (λ i x at. kept (suc i) x at) from.1 (All-tail (IsPlaceableLine statics f) (Convert to kind source) lines k) fe edges,
+  )
   entry_valid live (line ∷ lines) exit kept from k fe edges = lines_valid live (line ∷ lines) exit kept from k fe edges
 
 module _ (f : Function) (able : IsAble f) where
@@ -149,8 +157,8 @@ module _ (f : Function) (able : IsAble f) where
     edges : (b : ℕ) (block : Block) → slice_get blocks b ≡ Some block → EdgesFrom p tables.live block.exit
     edges b block at c edge v e = let k = tables.is_live.some c v e in reads_above k.0 c v (no_way b block c at edge) k.1
 
-    meet : (v w q : ℕ) → p ≤ v → p ≤ w → v ≢ w → HoldsIn (own v) q → HoldsIn (own w) q → h v ≡ h w → ⊥
-    meet v w q a b ne x y same = by (own v) (own w) refl refl x y
+    meet : (v w q : ℕ) → v ≢ w → HoldsIn (own v) q → HoldsIn (own w) q → h v ≡ h w → ⊥
+    meet v w q ne x y same = by (own v) (own w) refl refl x y
       where
         by : (o r : Option Interval) → own v ≡ o → own w ≡ r → HoldsIn o q → HoldsIn r q → ⊥
         by None r e g m n = m
@@ -159,7 +167,7 @@ module _ (f : Function) (able : IsAble f) where
             ⊎_elim
             (λ (k : i.last < j.first). (let u = m.1 in let z = n.0 in omega arith))
             (λ (k : j.last < i.first). (let u = m.0 in let z = n.1 in omega arith))
-            (s.apart v w i j a b ne e g same)
+            (s.apart v w i j ne e g same)
 
     in_slot : (v q : ℕ) → p ≤ v → flag_at t.slotted.items v ≡ true → HoldsIn (own v) q → (n : ℕ) × (h v ≡ InSlot n)
     in_slot v q a flag x = by (own v) refl x (h v) refl
@@ -180,7 +188,7 @@ module _ (f : Function) (able : IsAble f) where
     kept b block at i line stands =
         let lt = slice_get_within block.lines.items i line stands in
         record {
-          apart = λ to is v after a le ne. meet v to (position blocks b i) a le ne (tables.living b block i v at (omega arith) (lives_through tables.live block.lines.items block.exit i line v stands (sets_other line to v is ne) after)) (tables.setting b block i line to at stands is);
+          apart = λ to is v after ne. meet v to (position blocks b (suc i)) ne (tables.living b block (suc i) v at (omega arith) after) (tables.setting b block i line to at stands is);
           slot = λ to call v after a ne. in_slot v (position blocks b (suc i)) a (tables.crossing b block i line to v at stands call after ne) (tables.living b block (suc i) v at (omega arith) after);
           argument = λ v r is a e. of_argument v (position blocks b i) r a (tables.passed b block i line v at stands is) (tables.living b block i v at (omega arith) (lives_used tables.live block.lines.items block.exit i line v stands (argument_used line v is))) e;
         }
@@ -237,17 +245,17 @@ module _ (f : Function) (able : IsAble f) where
     bool_false true f = absurd (f refl)
     bool_false false f = refl
 
-    holds_at : (v q : ℕ) → HoldsIn (own v) q → HoldsAt blocks v q
+    holds_at : (v q : ℕ) → HoldsFrom p v (own v) q → HoldsAt f v q
     holds_at v q x = by (own v) refl x
       where
-        by : (o : Option Interval) → own v ≡ o → HoldsIn o q → HoldsAt blocks v q
+        by : (o : Option Interval) → own v ≡ o → HoldsFrom p v o q → HoldsAt f v q
         by None e m = absurd m
         by (Some i) e m = record {
           first = i.first;
           last = i.last;
           begins = tables.ends v i.first (subst (λ z. IsEndOf z i.first) (sym e) (inl refl));
           ends = tables.ends v i.last (subst (λ z. IsEndOf z i.last) (sym e) (inr refl));
-          low = m.0;
+          low = ⊎_elim (λ (le : i.first ≤ q). inl le) (λ (lt : v < p). inr (let is = all_free in omega arith)) m.0;
           high = m.1;
         }
 

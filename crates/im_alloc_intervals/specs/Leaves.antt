@@ -1,7 +1,6 @@
 -- Functions that need no slot: they call nothing, and at most 20 intervals hold any one of their lines.
-use Rattle.std.specs.Prelude.{◌≡◌, ◌<◌, ◌≤◌, ◌⊎◌, ℕ, suc, ◌+◌, Bool, true, false, List, [], ◌∷◌, Option, Some, None, length, slice_get, drop}
+use Rattle.std.specs.Prelude.{◌≡◌, ◌<◌, ◌≤◌, ◌⊎◌, ℕ, zero, suc, ◌+◌, Bool, true, false, List, [], ◌∷◌, Option, Some, None, length, slice_get, drop}
 use Rattle.im_block.specs.declared.code.Line.{Line}
-use Rattle.im_block.specs.declared.code.Line.TheVariants.{Call, GetChar, PutChar}
 use Rattle.im_block.specs.declared.code.Exit.{Exit}
 use Rattle.im_block.specs.declared.code.Block.{Block}
 use Rattle.im_block.specs.declared.unit.Function.{Function}
@@ -9,7 +8,8 @@ use Rattle.im_block.specs.Sections.{Has}
 use Rattle.im_block.specs.Shape.{sum_of}
 use Rattle.im_alloc_placed.specs.Placeable.{first_free}
 use Rattle.im_alloc_relation.specs.Live.{sets, lives}
-use Rattle.im_block_live.specs.Reads.{reads_first}
+use Rattle.im_alloc_relation.specs.Reads.{reads_first}
+use Rattle.im_alloc_relation.specs.Settled.{IsCall}
 
 -- lines and exits have positions, through the function from its last block to its first. Edges but loop edges lead to blocks of lower
 -- numbers, so this is the order in which they run
@@ -27,7 +27,11 @@ abbrev pub sets_at : Option Line → ℕ → Bool
 sets_at None v = false
 sets_at (Some line) v = sets line v
 
--- a register lives before the line, or the exit, at a position, or is set there
+abbrev pub sets_behind : List Line → ℕ → ℕ → Bool
+sets_behind lines zero v = false
+sets_behind lines (suc i) v = sets_at (slice_get lines i) v
+
+-- a register lives before the line, or the exit, at a position, or the line before it sets it
 pub record IsNeededAt (blocks : List Block) (v p : ℕ) : Type 0 where
   pub b : ℕ
   pub i : ℕ
@@ -35,15 +39,15 @@ pub record IsNeededAt (blocks : List Block) (v p : ℕ) : Type 0 where
   pub at : slice_get blocks b ≡ Some block
   pub inside : i ≤ length block.lines.items
   pub is : p ≡ position blocks b i
-  pub needed : LivesBefore blocks (drop i block.lines.items) block.exit v ⊎ (sets_at (slice_get block.lines.items i) v ≡ true)
+  pub needed : LivesBefore blocks (drop i block.lines.items) block.exit v ⊎ (sets_behind block.lines.items i v ≡ true)
 
--- a register's interval holds what lies between the first and the last of these positions
-pub record HoldsAt (blocks : List Block) (v p : ℕ) : Type 0 where
+-- a register's interval holds what lies between the first and the last of these positions. A parameter's begins with the function
+pub record HoldsAt (f : Function) (v p : ℕ) : Type 0 where
   pub first : ℕ
   pub last : ℕ
-  pub begins : IsNeededAt blocks v first
-  pub ends : IsNeededAt blocks v last
-  pub low : first ≤ p
+  pub begins : IsNeededAt f.blocks.items v first
+  pub ends : IsNeededAt f.blocks.items v last
+  pub low : (first ≤ p) ⊎ (v < first_free f)
   pub high : p ≤ last
 
 abbrev pub AreDistinct : List ℕ → Type 0
@@ -52,13 +56,7 @@ AreDistinct (x ∷ xs) = (Has xs x → ⊥) × AreDistinct xs
 
 -- at most so many intervals hold any one position
 pub record IsTight (f : Function) (most : ℕ) : Type 0 where
-  pub few : (p : ℕ) (vs : List ℕ) → AreDistinct vs → ((v : ℕ) → Has vs v → HoldsAt f.blocks.items v p) → length vs ≤ most
-
-abbrev pub IsCall : Line → Type 0
-IsCall (Call to i first count) = Unit {0}
-IsCall (GetChar to) = Unit {0}
-IsCall (PutChar to from) = Unit {0}
-IsCall line = ⊥
+  pub few : (p : ℕ) (vs : List ℕ) → AreDistinct vs → ((v : ℕ) → Has vs v → HoldsAt f v p) → length vs ≤ most
 
 pub record IsLeaf (f : Function) : Type 0 where
   pub none : (b : ℕ) (block : Block) (i : ℕ) (line : Line) → slice_get f.blocks.items b ≡ Some block → slice_get block.lines.items i ≡ Some line → IsCall line → ⊥

@@ -36,7 +36,7 @@ abbrev pub IsArgument : Line → ℕ → Type 0
 IsArgument (Call to i first count) v = IsBetween first count v
 IsArgument line v = ⊥
 
--- a line at a position sets a register
+-- a line sets a register, of which a position is taken
 abbrev pub IsTarget : Line → ℕ → ℕ → ℕ → Type 0
 IsTarget line p v q = (target_of line ≡ Some v) × (q ≡ p)
 

@@ -11,7 +11,7 @@ use Rattle.im_alloc_intervals.specs.declared.tables.Tables.{Tables}
 use Rattle.im_alloc_intervals.specs.declared.taken.Taken.{Taken}
 use Rattle.im_alloc_intervals.specs.Homes.{home_of, home_at}
 use Rattle.im_alloc_intervals.specs.Leaves.{AreDistinct}
-use Rattle.im_alloc_intervals.specs.Marks.{interval_at, HoldsIn, flag_at}
+use Rattle.im_alloc_intervals.specs.Marks.{interval_at, flag_at}
 
 -- a start is of a register from a number on, where its interval begins
 pub record IsStart (from : ℕ) (table : List (Option Interval)) (s : Start) : Type 0 where
@@ -120,6 +120,17 @@ pub record Takes (interval : Interval) (is_slotted is_argument : Bool) (old new 
   pub one : length new.slots.items ≤ length old.slots.items + 1
   pub none_free : is_slotted ≡ false → (length new.slots.items ≡ length old.slots.items) ⊎ NoneFree old.registers interval.first is_argument
 
+-- parameters wait in x10 and on, up to where they are used last
+
+abbrev pub last_of : Option Interval → Option ℕ
+last_of None = None
+last_of (Some i) = Some i.last
+
+pub record AreWaiting (parameters : ℕ) (table : List (Option Interval)) (registers : List (Option ℕ)) : Type 0 where
+  pub long : length registers ≡ 32
+  pub each : (v : ℕ) → v < parameters → register_at registers (10 + v) ≡ last_of (interval_at table v)
+  pub rest : (r : ℕ) → (r < 10) ⊎ (10 + parameters ≤ r) → register_at registers r ≡ None
+
 pub record AreFirst (parameters count : ℕ) (of : List HomeOf) : Type 0 where
   pub long : length of ≡ count
   pub received : (v : ℕ) → v < parameters → home_at of v ≡ InRegister (10 + v)
@@ -137,11 +148,16 @@ GivesSome t v (Some interval) old new of of_new = GivesHome t v interval old new
 abbrev pub Gives : Tables → ℕ → Taken → Taken → List HomeOf → List HomeOf → Type 0
 Gives t v old new of of_new = GivesSome t v (interval_at t.intervals.items v) old new of of_new
 
+-- a register's interval holds a position; those below a number begin with the function
+abbrev pub HoldsFrom : ℕ → ℕ → Option Interval → ℕ → Type 0
+HoldsFrom from v None p = ⊥
+HoldsFrom from v (Some i) p = ((i.first ≤ p) ⊎ (v < from)) × (p ≤ i.last)
+
 -- nothing must be in a slot, and at most 20 intervals hold any one position
 pub record IsEasy (from : ℕ) (t : Tables) : Type 0 where
   pub slotted : (v : ℕ) → from ≤ v → flag_at t.slotted.items v ≡ false
   pub arguments : (v : ℕ) → flag_at t.arguments.items v ≡ false
-  pub few : (p : ℕ) (vs : List ℕ) → AreDistinct vs → ((v : ℕ) → Has vs v → HoldsIn (interval_at t.intervals.items v) p) → length vs ≤ 20
+  pub few : (p : ℕ) (vs : List ℕ) → AreDistinct vs → ((v : ℕ) → Has vs v → HoldsFrom from v (interval_at t.intervals.items v) p) → length vs ≤ 20
 
 -- two registers whose intervals meet have different homes
 abbrev pub AreDisjoint : Interval → Interval → Type 0
@@ -153,6 +169,6 @@ pub record AreScanned (parameters : ℕ) (t : Tables) (homes : Homes) : Type 0 w
   pub slots : (v n : ℕ) → home_at homes.of.items v ≡ InSlot n → n < homes.slots
   pub few : homes.slots ≤ length t.intervals.items
   pub free : (v r : ℕ) → home_at homes.of.items v ≡ InRegister r → (8 < r) × (r < 32)
-  pub apart : (v w : ℕ) (i j : Interval) → parameters ≤ v → parameters ≤ w → v ≢ w → interval_at t.intervals.items v ≡ Some i → interval_at t.intervals.items w ≡ Some j → home_at homes.of.items v ≡ home_at homes.of.items w → AreDisjoint i j
+  pub apart : (v w : ℕ) (i j : Interval) → v ≢ w → interval_at t.intervals.items v ≡ Some i → interval_at t.intervals.items w ≡ Some j → home_at homes.of.items v ≡ home_at homes.of.items w → AreDisjoint i j
   pub register : (v r : ℕ) (i : Interval) → parameters ≤ v → interval_at t.intervals.items v ≡ Some i → home_at homes.of.items v ≡ InRegister r → (flag_at t.slotted.items v ≡ false) × MayTake r (flag_at t.arguments.items v)
   pub easy : IsEasy parameters t → homes.slots ≡ 0

@@ -6,11 +6,12 @@ use Rattle.im_block.specs.declared.code.Block.{Block}
 use Rattle.im_block.specs.declared.unit.Function.{Function}
 use Rattle.im_block.specs.Wellformed.{LineWithin}
 use Rattle.im_alloc_relation.specs.Live.{lives}
+use Rattle.im_alloc_relation.specs.Settled.{IsCall}
 use Rattle.im_block_live.specs.Reads.{IsLive}
 use Rattle.im_block_live.specs.Words.{starts_have}
 use Rattle.im_alloc_intervals.specs.declared.marks.Interval.{Interval}
 use Rattle.im_alloc_intervals.specs.declared.tables.Tables.{Tables}
-use Rattle.im_alloc_intervals.specs.Leaves.{position, IsNeededAt, IsCall}
+use Rattle.im_alloc_intervals.specs.Leaves.{position, IsNeededAt}
 use Rattle.im_alloc_intervals.specs.Lines.{target_of, result_of, IsSetAt, IsPassed, IsArgument}
 use Rattle.im_alloc_intervals.specs.Marks.{IsBit, HoldsIn, IsEndOf, interval_at, flag_at}
 
@@ -35,7 +36,7 @@ abbrev pub At : {X : Type 0} → List X → ℕ → (X → Type 0) → Type 0
 At {X} xs k P = (x : X) × (slice_get xs k ≡ Some x) × P x
 
 abbrev pub SetIn : List Block → List ℕ → ℕ → ℕ → ℕ → Type 0
-SetIn blocks places b v p = At blocks b (λ (block : Block). IsSetAt block.lines.items (slice_index places b) v p)
+SetIn blocks places b v p = At blocks b (λ (block : Block). IsSetAt block.lines.items (slice_index places b + 1) v p)
 
 abbrev pub PassedIn : List Block → ℕ → ℕ → Type 0
 PassedIn blocks b v = At blocks b (λ (block : Block). IsPassed block.lines.items v)
@@ -115,14 +116,14 @@ pub record HasCall (blocks : List Block) : Type 0 where
   pub stands : slice_get block.lines.items i ≡ Some line
   pub is_call : IsCall line
 
--- intervals hold where registers live or are set, and end there; what lives across a call or at the entry is to have a slot
+-- intervals hold where registers live, and what is directly behind a line that sets them, and end there; what lives across a call or at the entry is to have a slot
 pub record AreTables (f : Function) (t : Tables) : Type 0 where
   pub live : ℕ → ℕ → Bool
   pub is_live : IsLive f.blocks.items live
   pub count : length t.intervals.items ≡ f.register_count
   pub fitting : AreFitting t
   pub living : (b : ℕ) (block : Block) (i v : ℕ) → slice_get f.blocks.items b ≡ Some block → i ≤ length block.lines.items → lives live (drop i block.lines.items) block.exit v ≡ true → HoldsIn (interval_at t.intervals.items v) (position f.blocks.items b i)
-  pub setting : (b : ℕ) (block : Block) (i : ℕ) (line : Line) (v : ℕ) → slice_get f.blocks.items b ≡ Some block → slice_get block.lines.items i ≡ Some line → target_of line ≡ Some v → HoldsIn (interval_at t.intervals.items v) (position f.blocks.items b i)
+  pub setting : (b : ℕ) (block : Block) (i : ℕ) (line : Line) (v : ℕ) → slice_get f.blocks.items b ≡ Some block → slice_get block.lines.items i ≡ Some line → target_of line ≡ Some v → HoldsIn (interval_at t.intervals.items v) (position f.blocks.items b (suc i))
   pub ends : (v p : ℕ) → IsEndOf (interval_at t.intervals.items v) p → IsNeededAt f.blocks.items v p
   pub crossing : (b : ℕ) (block : Block) (i : ℕ) (line : Line) (to v : ℕ) → slice_get f.blocks.items b ≡ Some block → slice_get block.lines.items i ≡ Some line → result_of line ≡ Some to → lives live (drop (suc i) block.lines.items) block.exit v ≡ true → v ≢ to → flag_at t.slotted.items v ≡ true
   pub entering : (v : ℕ) → live f.entry v ≡ true → flag_at t.slotted.items v ≡ true

@@ -51,7 +51,7 @@ fn touch_target(table: &mut [Option<Interval>], line: Line, position: u64)
     }
 }
 
-/// What lines set is marked where they stand, from a position on.
+/// What lines set is marked at positions side by side.
 pub(crate) fn touch_targets(table: &mut [Option<Interval>], lines: &[Line], start: u64)
     requires within { All (LineWithin (length table.old)) lines.now }
     requires room { start + length lines.now < 2 ^ 64 }

@@ -3,7 +3,8 @@ ghost use Rattle.im_block_live.specs.Words.{has};
 ghost use Rattle.im_alloc_intervals.specs.Marks.{Adds, Flags, IsAt, IsBitAt, IsBitOf, IsOtherBit, IsBetween};
 ghost use Rattle.im_alloc_intervals.specs.Marks.{touched as touched_at};
 
-/// The stretch of positions from the first to the last at which a register lives or is set.
+/// The stretch of positions from the first to the last at which a register lives, or was set by the
+/// line right before.
 #[derive(Clone, Copy, PartialEq, Eq, Debug)]
 pub(crate) struct Interval {
     pub(crate) first: u64,

@@ -7,7 +7,7 @@ ghost use Rattle.im_alloc_intervals.specs.Tables.{AreFitting};
 use crate::starts::starts;
 use crate::table::{Home, Homes};
 use crate::tables::{Tables, measure};
-use crate::taken::{Taken, nothing_taken, take};
+use crate::taken::{Taken, only_waiting, take};
 use im_block::Function;
 use im_num::NoMemory;
 use std::alloc::Global;
@@ -66,16 +66,16 @@ fn scan(alloc: Global, parameters: u32, tables: &Tables) -> Result<Homes, NoMemo
 {
     let starts = starts(alloc, parameters, &tables.intervals)?;
     let mut of = first_homes(alloc, parameters, tables.intervals.len())?;
-    let mut taken = nothing_taken(alloc);
+    let mut taken = only_waiting(alloc, parameters, &tables.intervals);
     for start in &starts {
         give(tables, start.register as usize, &mut taken, &mut of)?;
     }
     Ok(finish(of, &taken))
 }
 
-/// The homes of a function's registers. Parameters stay in x10 and on. What lives across a call, and
-/// what enters the function without being a parameter, has a slot; else a register has the lowest of
-/// x9 to x31 that none uses whose interval meets its own.
+/// The homes of a function's registers. Parameters stay in x10 and on, up to their last uses. What
+/// lives across a call, and what enters the function without being a parameter, has a slot; else a
+/// register has the lowest of x9 to x31 that none uses whose interval meets its own.
 pub fn homes(alloc: Global, function: &Function) -> Result<Homes, NoMemory>
     requires { IsAble function.now }
     ensures homes { IfOk result (λ homes. AreHomes function.now homes) }

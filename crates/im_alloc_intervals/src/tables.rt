@@ -25,7 +25,7 @@ pub(crate) struct Tables {
     pub(crate) arguments: Vec<bool>,
 }
 
-/// What a block's lines set is marked, and arguments are flagged.
+/// What a block's lines set is marked behind them, and arguments are flagged.
 fn mark_targets(
     block: &Block,
     place: u64,
@@ -36,10 +36,10 @@ fn mark_targets(
     requires count { length arguments.old ≡ length intervals.old }
     requires small { length intervals.old < 2 ^ 32 }
     requires room { place + suc (length block.now.lines.items) < 2 ^ 64 }
-    ensures set { Adds (IsSetAt block.now.lines.items place) intervals.old intervals.new }
+    ensures set { Adds (IsSetAt block.now.lines.items (place + 1)) intervals.old intervals.new }
     ensures passed { Flags (IsPassed block.now.lines.items) arguments.old arguments.new }
 {
-    touch_targets(intervals, &block.lines, place);
+    touch_targets(intervals, &block.lines, place + 1);
     flag_arguments(arguments, &block.lines);
 }
 

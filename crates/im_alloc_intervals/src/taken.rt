@@ -1,5 +1,6 @@
-ghost use Rattle.std.specs.Prelude.{◌≡◌, ℕ, None, ◌<◌, ◌≤◌, ◌^◌, ◌↔◌, IfOk, IsTrue, length};
-ghost use Rattle.im_alloc_intervals.specs.Scans.{IsFreeAt, FindsRegister, FindsSlot, TakesRegister, TakesSlot, Takes, MayTake, register_at};
+ghost use Rattle.std.specs.Prelude.{◌≡◌, ◌<◌, ◌≤◌, ◌^◌, ◌↔◌, IfOk, IsTrue, length};
+ghost use Rattle.im_alloc_intervals.specs.Scans.{IsFreeAt, FindsRegister, FindsSlot, TakesRegister, TakesSlot, Takes, MayTake};
+ghost use Rattle.im_alloc_intervals.specs.Scans.{AreWaiting, last_of as last_of_interval};
 
 use crate::marks::Interval;
 use crate::table::Home;
@@ -13,12 +14,38 @@ pub(crate) struct Taken {
     pub(crate) slots: Vec<u64>,
 }
 
-pub(crate) fn nothing_taken(alloc: Global) -> Taken
-    ensures registers { (r : ℕ) → register_at result.registers r ≡ None }
+fn last_of(interval: Option<Interval>) -> Option<u64>
+    ensures { result ≡ last_of_interval interval }
+{
+    Some(interval?.last)
+}
+
+/// Parameters wait in x10 and on, each up to its last use.
+fn waiting(parameters: u32, intervals: &[Option<Interval>]) -> [Option<u64>; 32]
+    requires few { parameters ≤ 8 }
+    requires within { parameters ≤ length intervals.now }
+    ensures { AreWaiting parameters intervals.now result }
+{
+    let mut registers = [None; 32];
+    for parameter in 0..parameters as usize {
+        registers[10 + parameter] = last_of(intervals[parameter]);
+    }
+    registers
+}
+
+/// What is in use before the scan.
+pub(crate) fn only_waiting(
+    alloc: Global,
+    parameters: u32,
+    intervals: &[Option<Interval>],
+) -> Taken
+    requires few { parameters ≤ 8 }
+    requires within { parameters ≤ length intervals.now }
+    ensures registers { AreWaiting parameters intervals.now result.registers }
     ensures slots { length result.slots.items ≡ 0 }
 {
     Taken {
-        registers: [None; 32],
+        registers: waiting(parameters, intervals),
         slots: Vec::new(alloc),
     }
 }
@@ -51,12 +78,13 @@ fn find_register(registers: &[Option<u64>; 32], position: u64, is_argument: bool
     None
 }
 
-/// The first slot that is free at a position.
+/// The first slot that is free at a position, and was so at the one before: what a line reads and what
+/// it sets have slots of their own, since a cut would have to stand between.
 fn find_slot(slots: &[u64], position: u64) -> Option<usize>
     ensures { FindsSlot slots.now position result }
 {
     for (slot, last) in slots.iter().enumerate() {
-        if *last < position {
+        if last.saturating_add(1) < position {
             return Some(slot);
         }
     }

@@ -6,7 +6,7 @@ use Rattle.im_num.specs.declared.values.Cause.{Cause}
 use Rattle.im_block.specs.declared.code.Place.{Place}
 use Rattle.im_block.specs.declared.code.Place.TheVariants.{Static, Local, Through}
 use Rattle.im_block.specs.declared.code.Line.{Line}
-use Rattle.im_block.specs.declared.code.Line.TheVariants.{Address, Read, Write, Cut}
+use Rattle.im_block.specs.declared.code.Line.TheVariants.{Copy, Convert, Address, Read, Write, Cut}
 use Rattle.im_block.specs.declared.code.Block.{Block}
 use Rattle.im_block.specs.declared.unit.Function.{Function}
 use Rattle.im_block.specs.declared.unit.Unit.{Unit as Code}

@@ -1,5 +1,5 @@
 use im_driver::{Options, compile};
-use im_fault::{LineFault, SourceFault};
+use im_fault::{LineFault, Place, SourceFault};
 use std::alloc::Global;
 use std::process::Abort;
 use std::test::Fail;
@@ -25,7 +25,21 @@ pub(crate) fn refusal(alloc: Global, source: &str) -> Option<SourceFault> {
         out_cap: 0,
         max_gap: None,
     };
-    compile(alloc, source.as_bytes(), options).err()
+    match compile(alloc, source.as_bytes(), options) {
+        Ok(_) => None,
+        Err(SourceFault::Line { place, why }) => Some(in_line(place.line, why)),
+        Err(fault) => Some(fault),
+    }
+}
+
+/// What is wrong in a line, wherever in it.
+fn in_line(line: u32, why: LineFault) -> SourceFault {
+    let place = Place {
+        line,
+        start: 0,
+        end: 0,
+    };
+    SourceFault::Line { place, why }
 }
 
 /// Sees that a source is refused so, or compiled where no fault is wanted.
@@ -37,10 +51,7 @@ pub(crate) fn is_told(rt: &impl Abort, alloc: Global, source: &str, wanted: Opti
 pub(crate) fn name_lines(rt: &impl Abort, alloc: Global, rules: &Rules) -> Result<(), Fail> {
     for (number, ahead, part) in rules.broken {
         let source = format!(in alloc; "{}{ahead}\n{part}\n{}", rules.before, rules.behind)?;
-        let wanted = SourceFault::Line {
-            line: 2,
-            why: LineFault::Rule(*number),
-        };
+        let wanted = in_line(2, LineFault::Rule(*number));
         is_told(rt, alloc, &source, Some(wanted));
     }
     Ok(())

@@ -37,7 +37,7 @@ limit_of Code = 1044480
 
 -- behind the name of the source's file
 abbrev pub source_fault_text : SourceFault → List ℕ
-source_fault_text (Line line why) = codes ":" ++ decimal line ++ codes ": " ++ line_fault_text why
+source_fault_text (Line place why) = codes ":" ++ decimal place.line ++ codes ": " ++ line_fault_text why
 source_fault_text (Limit quantity count) =
     codes ": " ++ quantity_name quantity ++ codes " " ++ decimal count ++ codes " over " ++ decimal (limit_of quantity)
 source_fault_text OutOfMemory = codes ": no memory"

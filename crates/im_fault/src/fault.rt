@@ -39,11 +39,22 @@ pub enum Quantity {
     Code,
 }
 
+/// Where a source is at fault.
+#[derive(Clone, Copy, PartialEq, Eq, Debug)]
+pub struct Place {
+    /// The line on which the place begins, counted from 1.
+    pub line: u32,
+    /// The byte of the source at which it begins, counted from 0.
+    pub start: u32,
+    /// The byte behind its token; `start` where no token stands there.
+    pub end: u32,
+}
+
 /// Why a source is refused.
 #[derive(Clone, Copy, PartialEq, Eq, Debug)]
 pub enum SourceFault {
-    /// The line, counted from 1, and what is wrong there.
-    Line { line: u32, why: LineFault },
+    /// The place, and what is wrong there.
+    Line { place: Place, why: LineFault },
     /// A quantity over its limit, and how much there is.
     Limit { quantity: Quantity, count: u64 },
     /// Memory ran out.

@@ -1,4 +1,4 @@
-//! The front end: from the bytes of a source to its syntax tree, or the line where it is no C.
+//! The front end: from the bytes of a source to its syntax tree, or the place where it is no C.
 #![tactic(auto)]
 
 mod laws;
@@ -6,4 +6,4 @@ mod reading;
 mod runs;
 
 pub use laws::one_word_law;
-pub use reading::{Text, line_of, read_source};
+pub use reading::{Text, place_of, read_source};

@@ -1,10 +1,10 @@
 ghost use Rattle.std.specs.Prelude.{◌≡◌, ◌<◌, ◌^◌, length, IfOk, MatchResult};
 ghost use Rattle.im_lex.specs.Lexing.{line_at};
-ghost use Rattle.im_front.specs.Reading.{IsRead, IsTokenFault, AreTokens, of_token, token_lines, line_among};
+ghost use Rattle.im_front.specs.Reading.{IsRead, IsTokenFault, AreTokens, of_token, token_spans, place_at, place_among};
 
 use crate::runs::may_outgrow_stack;
 use im_ctree::Tree;
-use im_fault::{LineFault, Quantity, SourceFault};
+use im_fault::{LineFault, Place, Quantity, SourceFault};
 use im_lex::{LexFault, LexFaultKind, lex};
 use im_num::NoMemory;
 use im_parse::{ParseFault, parse};
@@ -14,14 +14,14 @@ use std::alloc::Global;
 /// The most bytes of a source.
 const LIMIT: usize = 4_194_304;
 
-/// The tree that the tokens of a source spell, and the line of each token.
+/// The tree that the tokens of a source spell, and the bytes of each token: from the first place on, up to before the second.
 #[derive(Drop)]
 pub struct Text {
-    pub lines: Vec<u32>,
+    pub spans: Vec<(u32, u32)>,
     pub tree: Tree,
 }
 
-/// How many lines end in these bytes, and 1.
+/// The line in which these bytes end: how many lines end in them, and 1.
 fn last_line(source: &[u8]) -> u32
     requires { length source.now < 2 ^ 31 }
     ensures { result ≡ line_at source.now (length source.now) }
@@ -29,27 +29,42 @@ fn last_line(source: &[u8]) -> u32
     1 + source.iter().filter(|byte| **byte == b'\n').count() as u32
 }
 
-/// The line of each token.
-fn lines_of(alloc: Global, tokens: &[Token]) -> Result<Vec<u32>, NoMemory>
-    ensures { IfOk result (λ lines. lines.items ≡ token_lines tokens.now) }
+/// The place of these bytes of a source.
+fn place(source: &[u8], span: (u32, u32)) -> Place
+    requires { length source.now < 2 ^ 31 }
+    ensures { result ≡ place_at source.now span }
 {
-    let mut lines = Vec::with_capacity(alloc, tokens.len())?;
-    for token in tokens {
-        lines.push(token.line)?;
+    let (start, end) = span;
+    let front = source.len().min(start as usize);
+    Place {
+        line: last_line(&source[..front]),
+        start,
+        end,
     }
-    Ok(lines)
 }
 
-/// The line of a token by its number, given those of all tokens, or of the end of the text where
-/// there is no such token.
-pub fn line_of(source: &[u8], lines: &[u32], number: u32) -> u32
-    requires { length source.now < 2 ^ 31 }
-    ensures { result ≡ line_among source.now lines.now number }
+/// The bytes of each token.
+fn spans_of(alloc: Global, tokens: &[Token]) -> Result<Vec<(u32, u32)>, NoMemory>
+    ensures { IfOk result (λ spans. spans.items ≡ token_spans tokens.now) }
 {
-    if (number as usize) < lines.len() {
-        lines[number as usize]
+    let mut spans = Vec::with_capacity(alloc, tokens.len())?;
+    for token in tokens {
+        spans.push(token.span)?;
+    }
+    Ok(spans)
+}
+
+/// The place of a token by its number, given the bytes of all tokens, or the end of the text where
+/// there is no such token.
+pub fn place_of(source: &[u8], spans: &[(u32, u32)], number: u32) -> Place
+    requires { length source.now < 2 ^ 31 }
+    ensures { result ≡ place_among source.now spans.now number }
+{
+    if (number as usize) < spans.len() {
+        place(source, spans[number as usize])
     } else {
-        last_line(source)
+        let end = source.len() as u32;
+        place(source, (end, end))
     }
 }
 
@@ -76,14 +91,14 @@ fn lexed(alloc: Global, source: &[u8]) -> Result<Vec<Token>, SourceFault>
             Ok(tokens)
         }
         Err(LexFault::Stuck { at, kind }) => Err(SourceFault::Line {
-            line: last_line(&source[..at as usize]),
+            place: place(source, (at, at)),
             why: line_fault(kind),
         }),
         Err(LexFault::OutOfMemory) => Err(SourceFault::OutOfMemory),
     }
 }
 
-/// The tree of a source (C11 6.4, 6.9) and the lines of its tokens, or why it has none: its length is looked at
+/// The tree of a source (C11 6.4, 6.9) and where its tokens stand, or why it has none: its length is looked at
 /// first, then its tokens, their nesting, and the unit. A tree that would go further down than the
 /// stack surely has room for is answered by want of memory.
 pub fn read_source(alloc: Global, source: &[u8]) -> Result<Text, SourceFault>
@@ -100,17 +115,17 @@ pub fn read_source(alloc: Global, source: &[u8]) -> Result<Text, SourceFault>
         Ok(false) => {}
         Ok(true) | Err(_) => return Err(SourceFault::OutOfMemory),
     }
-    let Ok(lines) = lines_of(alloc, &tokens) else {
+    let Ok(spans) = spans_of(alloc, &tokens) else {
         return Err(SourceFault::OutOfMemory);
     };
     match parse(alloc, source, tokens) {
-        Ok(tree) => Ok(Text { lines, tree }),
+        Ok(tree) => Ok(Text { spans, tree }),
         Err(ParseFault::Depth(number)) => Err(SourceFault::Line {
-            line: line_of(source, &lines, number),
+            place: place_of(source, &spans, number),
             why: LineFault::Nesting,
         }),
         Err(ParseFault::Syntax(number)) => Err(SourceFault::Line {
-            line: line_of(source, &lines, number),
+            place: place_of(source, &spans, number),
             why: LineFault::Syntax,
         }),
         Err(ParseFault::Memory) => Err(SourceFault::OutOfMemory),

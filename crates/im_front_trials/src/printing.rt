@@ -1,5 +1,5 @@
 use crate::seen::same;
-use im_fault::{LineFault, SourceFault};
+use im_fault::{LineFault, Place, SourceFault};
 use im_front::read_source;
 use im_num::NoMemory;
 use im_print::print_tree;
@@ -17,16 +17,26 @@ pub(crate) fn printed(alloc: Global, source: &[u8]) -> Result<Vec<u8>, SourceFau
 
 /// How many external declarations a text has.
 pub(crate) fn count(alloc: Global, text: &[u8]) -> Result<usize, SourceFault> {
-    let text = read_source(alloc, text)?;
-    Ok(text.tree.externals.len())
+    match read_source(alloc, text) {
+        Ok(text) => Ok(text.tree.externals.len()),
+        Err(SourceFault::Line { place, why }) => Err(in_line(place.line, why)),
+        Err(fault) => Err(fault),
+    }
+}
+
+/// What is wrong in a line, wherever in it.
+pub(crate) fn in_line(line: u32, why: LineFault) -> SourceFault {
+    let place = Place {
+        line,
+        start: 0,
+        end: 0,
+    };
+    SourceFault::Line { place, why }
 }
 
 /// The answer where no unit goes on with what stands on a line.
 pub(crate) fn refused(line: u32) -> Result<usize, SourceFault> {
-    Err(SourceFault::Line {
-        line,
-        why: LineFault::Syntax,
-    })
+    Err(in_line(line, LineFault::Syntax))
 }
 
 /// Sources, and what they are printed as by the grammar (C11 6.5 to 6.9), by hand.

@@ -1,6 +1,6 @@
-use crate::printing::count;
+use crate::printing::{count, in_line};
 use crate::seen::same;
-use im_fault::{LineFault, SourceFault};
+use im_fault::LineFault;
 
 /// A text, and how many external declarations it has, or the line that is wrong and why.
 const TEXTS: [(&[u8], Result<usize, (u32, LineFault)>); 6] = [
@@ -26,10 +26,7 @@ fn texts_have_their_tree_or_a_line(rt: HostRuntime) {
     for (text, answer) in &TEXTS {
         let wanted = match answer {
             Ok(externals) => Ok(*externals),
-            Err((line, why)) => Err(SourceFault::Line {
-                line: *line,
-                why: *why,
-            }),
+            Err((line, why)) => Err(in_line(*line, *why)),
         };
         same(&rt, text, &count(rt.alloc(), text), &wanted);
     }

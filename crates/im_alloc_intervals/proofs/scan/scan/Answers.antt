@@ -5,7 +5,7 @@ use Rattle.std.proofs.lemmas.Option.{slice_get-get_or}
 use Rattle.im_alloc_intervals.specs.declared.marks.Interval.{Interval}
 use Rattle.im_alloc_intervals.specs.declared.starts.Start.{Start}
 use Rattle.im_alloc_intervals.specs.declared.table.Home.{Home as HomeOf}
-use Rattle.im_alloc_intervals.specs.Scans.{AreFirst, AreStarts}
+use Rattle.im_alloc_intervals.specs.Scans.{AreFirst, AreStarts, AreWaiting}
 use Rattle.im_alloc_intervals.proofs.Scanning.{Scan, scan_begin, scan_step, scan_end, start_within}
 use Rattle.im_alloc_intervals.proofs.scan.scan.Goals as goal
 
@@ -23,7 +23,8 @@ loop-start-init c =
     let all : AreStarts p t.intervals.items items = listed p c.deref.result.now t.intervals.items c.in_ok-starts.starts.items items c.deref.ensures.value c.deref-start-items.ensures.value c.in_ok-starts.ensures in
     let long : c.len.result ≡ length t.intervals.items = omega (arith, c.len.ensures, t.intervals.ok.0) in
     let first : AreFirst p (length t.intervals.items) c.in_ok-of.of.items = subst (λ (n : ℕ). AreFirst p n c.in_ok-of.of.items) long c.in_ok-of.ensures in
-    scan_begin p t items all c.in_ok-of.of.items c.nothing_taken-taken.result first c.nothing_taken-taken.ensures.registers c.nothing_taken-taken.ensures.slots
+    let waiting : AreWaiting p t.intervals.items c.only_waiting-taken.result.registers = subst (λ (z : List (Option Interval)). AreWaiting p z c.only_waiting-taken.result.registers) c.deref-2.ensures.value c.only_waiting-taken.ensures.registers in
+    scan_begin p t items all c.in_ok-of.of.items c.only_waiting-taken.result first waiting c.only_waiting-taken.ensures.slots
 
 pub give-requires : goal.give-requires
 give-requires c =

@@ -1,4 +1,4 @@
-use Rattle.std.proofs.Common.{◌≡◌, ℕ, Some, length, refl, sym, subst, ◌∙◌, arith}
+use Rattle.std.proofs.Common.{◌≡◌, ◌+◌, ℕ, Some, length, refl, sym, subst, ◌∙◌, arith}
 use Rattle.std.specs.Prelude.{All, slice_get, slice_index}
 use Rattle.std.proofs.lemmas.Option.{slice_get_read}
 use Rattle.im_block.specs.declared.code.Block.{Block}
@@ -36,12 +36,12 @@ loop-b-preserved c =
     let at : slice_get blocks l.b ≡ Some block = slice_get_read blocks (length blocks) l.b block refl c.loop-b-test.true c.index-blocks-b.is in
     let m = c.mark_targets in
     record {
-      set = adds_at blocks (λ (k : ℕ) (x : Block). IsSetAt x.lines.items (slice_index c.args.places.now k)) l.b block c.args.intervals.now l.intervals m.new.intervals at l.invariant.set m.ensures.set;
+      set = adds_at blocks (λ (k : ℕ) (x : Block). IsSetAt x.lines.items (slice_index c.args.places.now k + 1)) l.b block c.args.intervals.now l.intervals m.new.intervals at l.invariant.set m.ensures.set;
       passed = flags_at blocks (λ (k : ℕ) (x : Block). IsPassed x.lines.items) l.b block c.args.arguments.now l.arguments m.new.arguments at l.invariant.passed m.ensures.passed;
     }
 
 pub returns-clause-set : goal.returns-clause-set
-returns-clause-set c = adds_ats c.args.blocks.now (λ (k : ℕ) (x : Block). IsSetAt x.lines.items (slice_index c.args.places.now k)) c.loop-b.b c.args.intervals.now c.loop-b.intervals c.loop-b-test.false c.loop-b.invariant.set
+returns-clause-set c = adds_ats c.args.blocks.now (λ (k : ℕ) (x : Block). IsSetAt x.lines.items (slice_index c.args.places.now k + 1)) c.loop-b.b c.args.intervals.now c.loop-b.intervals c.loop-b-test.false c.loop-b.invariant.set
 
 pub returns-clause-passed : goal.returns-clause-passed
 returns-clause-passed c = flags_ats c.args.blocks.now (λ (k : ℕ) (x : Block). IsPassed x.lines.items) c.loop-b.b c.args.arguments.now c.loop-b.arguments c.loop-b-test.false c.loop-b.invariant.passed
