@@ -133,7 +133,7 @@ placed_count (f ∷ fs) (g ∷ gs) h = ap (λ n. suc n) (placed_count fs gs h.1)
 
 registers_count : (fs gs : List Function) → map (λ (f : Function). f.need) gs ≡ map (λ (f : Function). f.need) fs → length gs ≡ length fs
 registers_count fs gs e =
-    sym (length-map {A = Function} gs (λ f. f.need)) ∙ ap (λ (ns : List ℕ). length ns) e ∙ length-map {A = Function} fs (λ f. f.need)
+    sym (length-map {A = Function} gs (λ (f : Function). f.need)) ∙ ap (λ (ns : List ℕ). length ns) e ∙ length-map {A = Function} fs (λ (f : Function). f.need)
 
 pub ready : LoweredFormLaw → RegistersLaw → AddedCutsLaw → ForceKeepsLaw → CutsKeepCodeLaw → CutsKeepPlacesLaw → PlacedCodeLaw → RecutKeepsLaw → UncutNames → ForceNames → PlaceNames → RecutNames → (prog : Prog) (max_gap : Option ℕ) (code : Code) → IsSource prog → IsPassed prog max_gap code → IsReady prog max_gap code
 ready form registers added force cuts places placing recut uncut_names force_names place_names recut_names prog max_gap code s p =
