@@ -17,6 +17,7 @@ import time
 from base import TESTS, TOP, Failed, Room, Skipped
 import beside  # noqa: F401  (each module registers its tests)
 import bulk  # noqa: F401
+import check_messages  # noqa: F401
 import cuts  # noqa: F401
 import failing  # noqa: F401
 import hostile  # noqa: F401

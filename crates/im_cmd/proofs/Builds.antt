@@ -13,7 +13,7 @@ use Rattle.im_image.specs.Contents.{IsImage}
 use Rattle.im_driver.specs.Compiled.{IsCompiled, IsCompiledFrom, IsRefused}
 use Rattle.im_cmd_lines.specs.Refusals.{Refused, NoMemory}
 use Rattle.im_cmd.specs.Files.{ReadsFile, StoresText}
-use Rattle.im_cmd.specs.Builds.{Builds, RefusesBuild, Compiles, RefusesSource, IsBuilt, IsFaulty, built_with, source_limit, source_faulty, source_starved, uncompiled, unwritable}
+use Rattle.im_cmd.specs.Builds.{Builds, RefusesBuild, Compiles, RefusesReading, reading_failed, reading_too_long, reading_starved, RefusesSource, source_unreadable, source_too_long, IsBuilt, IsFaulty, built_with, source_limit, source_faulty, source_starved, uncompiled, unwritable}
 use Rattle.im_cmd.specs.Stages.{IsBuiltFrom, CompilesFrom, RefusesText, text_faulty, text_starved, RefusesStore, store_failed, store_starved}
 use Rattle.im_cmd.proofs.Refusing.{unchanged_read, unchanged_then}
 
@@ -22,7 +22,7 @@ gap_option None h = tt
 gap_option (Some gap) h = h
 
 pub faulty : (text : List ℕ) (fault : SourceFault) → (fault ≡ OutOfMemory → ⊥) → IsRefused text fault → IsFaulty text fault
-faulty text (Line line why) other h = h
+faulty text (Line place why) other h = h
 faulty text (Limit quantity count) other h = h
 faulty text OutOfMemory other h = absurd (other refl)
 
@@ -43,6 +43,11 @@ compiles_from source text building prog built a b read h =
 pub text_refused : (source text : List ℕ) (a b : ShelfState) → ReadsFile source text source_limit a b → (r : Refused) → RefusesText source text r → RefusesSource source a b r
 text_refused source text a b read r (text_faulty fault h) = source_faulty text fault read h
 text_refused source text a b read r text_starved = source_starved (unchanged_read source text source_limit a b read)
+
+pub unread : (source : List ℕ) (a b : ShelfState) (r : Refused) → RefusesReading source a b r → RefusesSource source a b r
+unread source a b r (reading_failed h) = source_unreadable h
+unread source a b r (reading_too_long h) = source_too_long h
+unread source a b r (reading_starved h) = source_starved h
 
 pub store_refused : (source name : List ℕ) (building : BuildOptions) (built : Built) (a b c : ShelfState) → Compiles source building built a b
     → (r : Refused) → RefusesStore name (image_text built.image) b c r → RefusesBuild source name building a c r

@@ -1,5 +1,6 @@
 pub mod Builds
 pub mod Images
+pub mod Upgrades
 pub mod Bounds
 pub mod Counts
 pub mod Refusing

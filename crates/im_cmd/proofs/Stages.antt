@@ -1,24 +1,29 @@
 -- An image is run: the stages put together.
-use Rattle.std.proofs.Common.{◌≡◌, ◌<◌, ℕ, suc, length, arith, true, false, Option, Some, None, List, ◌∷◌, [], Ok, Err, sym, ap, ◌∙◌, subst}
+use Rattle.std.proofs.Common.{◌≡◌, ◌<◌, ℕ, suc, length, arith, true, false, Option, Some, None, List, ◌∷◌, [], Ok, Err, refl, sym, ap, ◌∙◌, subst}
 use Rattle.im_io.specs.Shelf.{ShelfState}
 use Rattle.std.specs.Prelude.{All, slice_index}
 use Rattle.std.proofs.lemmas.List.Elements.{All-cons, All-nil}
-use Rattle.im_mem.specs.Memory.{view}
+use Rattle.im_mem.specs.Memory.{Mem, view}
+use Rattle.im_image.specs.declared.form.Form.{Form}
+use Rattle.im_mem_file.specs.Faults.{memory_at}
 use Rattle.im_image.specs.Contents.{ImageValue}
 use Rattle.im_power.specs.declared.period.Period.{Period}
 use Rattle.im_power.specs.Text.{trace_of}
 use Rattle.im_power.specs.declared.fault.TraceFault.{TraceFault}
 use Rattle.im_device.specs.Load.{memory_of}
-use Rattle.im_device.specs.Periods.{fresh, power}
+use Rattle.im_device.specs.Periods.{Device, fresh, power}
 use Rattle.im_emu.specs.State.{Held, SameImage, counted, device_of}
 use Rattle.im_num.specs.Variables.{Variable}
 use Rattle.im_cmd_words.specs.Named.{Options}
 use Rattle.im_mem.specs.Map.{input_capacity}
-use Rattle.im_cmd_lines.specs.Refusals.{Refused, InputTooLong, NotATrace, TornStores, NoMemory}
+use Rattle.im_cmd_lines.specs.Refusals.{Refused, FormsDiffer, InputTooLong, NotATrace, TornStores, NoMemory}
 use Rattle.im_cmd.specs.Files.{Unchanged, ReadsFile, RefusesFile, file_starved}
-use Rattle.im_cmd.specs.Runs.{ReadsInput, ReadsPeriods, ReadsTrace, TakesInput, RefusesInput, input_unread, input_too_long, RefusesTrace, trace_unread, no_trace, RefusesRun, no_input, periods_unread, torn_stores, run_starved, needs_form, run_file_limit}
+use Rattle.im_cmd.specs.Memories.{RefusesResume, memory_unread, no_memory, other_form, Saves, StoresMemory, StoresMemoryPart, memory_limit}
+use Rattle.im_cmd.specs.Runs.{Begins, ReadsInput, ReadsPeriods, ReadsTrace, TakesInput, RefusesInput, input_unread, input_too_long, RefusesTrace, trace_unread, no_trace, RunsImage, RefusesRun, unbegun, periods_unread, torn_stores, unsaved, run_starved, needs_form, run_file_limit}
 use Rattle.im_cmd.specs.Outcome.{shown}
-use Rattle.im_cmd.specs.Stages.{IsTakable, IsTooLong, too_long, Loads, RefusesLoad, long_input, load_starved, TakesPeriods, RefusesPeriods, trace_refused, periods_starved, Ran, ended_of}
+use Rattle.im_cmd.specs.Stages.{AreOther, are_other, IsBegun, IsTakable, IsTooLong, too_long, Loads, RefusesLoad, long_input, load_starved, RefusesMachine, not_begun, machine_starved}
+use Rattle.im_cmd.specs.Stages.{RefusesMemory, faulty_memory, memory_starved, ResumesOn, ResumesText, RefusesSave, save_failed, save_starved, RefusesStoring, storing_failed, storing_starved}
+use Rattle.im_cmd.specs.Stages.{TakesPeriods, RefusesPeriods, trace_refused, periods_starved, Ran, RanOn, ended_of}
 use Rattle.im_cmd.proofs.Bounds.{trace_is}
 use Rattle.im_cmd.proofs.Counts.{trace_run}
 use Rattle.im_cmd.proofs.Refusing.{unchanged_none, unchanged_then, unchanged_read}
@@ -27,8 +32,8 @@ bytes_all : (xs : List ℕ) → ((k : ℕ) → slice_index xs k < 256) → All (
 bytes_all [] h = All-nil (λ byte. byte < 256)
 bytes_all (x ∷ xs) h = All-cons (λ byte. byte < 256) x xs (h 0) (bytes_all xs (λ k. h (suc k)))
 
-takes : (options : Options) (image : ImageValue) (input : List ℕ) (loaded : Held (List ℕ)) (a b : ShelfState) → ReadsInput options.input input a b → Loads image input loaded → TakesInput options.input input a b
-takes options image input loaded a b read l = record { reads = read; fits = l.fits; bytes = bytes_all input l.bytes }
+takes : (named : Option (List ℕ)) (image : ImageValue) (input : List ℕ) (loaded : Held (List ℕ)) (a b : ShelfState) → ReadsInput named input a b → Loads image input loaded → TakesInput named input a b
+takes named image input loaded a b read l = record { reads = read; fits = l.fits; bytes = bytes_all input l.bytes }
 
 pub long_load : (input : List ℕ) (count limit : ℕ) → (count ≡ length input) × (limit ≡ input_capacity) × (limit < count) → RefusesLoad input (InputTooLong count limit)
 long_load input count limit h =
@@ -81,46 +86,131 @@ periods_unchanged : (named : Option (List ℕ)) (steps : ℕ) (periods : List Pe
 periods_unchanged None steps periods a b h = subst (λ c. Unchanged a c) (sym h.1) (unchanged_none a)
 periods_unchanged (Some name) steps periods a b h = unchanged_read name h.text run_file_limit a b h.reads
 
+-- ---- the memory that a run begins with
+
+pub begins_anew : (image : ImageValue) (named : Option (List ℕ)) (input : List ℕ) (loaded : Held (List ℕ)) (a b : ShelfState) → ReadsInput named input a b → Loads image input loaded → IsBegun image named None loaded a b
+begins_anew image named input loaded a b read l = record {
+  first = memory_of image input;
+  begins = record { input = input; takes = takes named image input loaded a b read l; memory = refl };
+  made = l.made;
+  of_image = l.of_image;
+}
+
+pub anew_unread : (image_name : List ℕ) (image : ImageValue) (named : Option (List ℕ)) (a b : ShelfState) (r : Refused) → RefusesInput named a b r → RefusesMachine image_name image named None a b r
+anew_unread image_name image named a b r h = not_begun r h
+
+pub anew_unloaded : (image_name : List ℕ) (image : ImageValue) (named : Option (List ℕ)) (input : List ℕ) (a b : ShelfState) → ReadsInput named input a b → (r : Refused) → RefusesLoad input r → RefusesMachine image_name image named None a b r
+anew_unloaded image_name image named input a b read r (long_input over) = not_begun r (input_too_long input read over)
+anew_unloaded image_name image named input a b read r load_starved = machine_starved (input_unchanged named input a b read)
+
+pub begins_resumed : (image : ImageValue) (input resume : Option (List ℕ)) (name : List ℕ) (machine : Held (List ℕ)) (a b : ShelfState) → resume ≡ Some name → ResumesOn image name machine a b → IsBegun image input resume machine a b
+begins_resumed image input resume name machine a b e h = subst (λ (r : Option (List ℕ)). IsBegun image input r machine a b) (sym e) (record {
+  first = memory_at h.text;
+  begins = record { text = h.text; reads = h.reads; right = h.resumed.right; form = h.form; memory = refl };
+  made = h.resumed.made;
+  of_image = record {
+    version = h.resumed.of_image.version;
+    form = h.resumed.of_image.form ∙ h.form;
+    objects = h.resumed.of_image.objects;
+  };
+})
+
+pub resume_refused : (image_name : List ℕ) (image : ImageValue) (input resume : Option (List ℕ)) (name : List ℕ) (a b : ShelfState) → resume ≡ Some name → (r : Refused) → RefusesResume image_name image name a b r
+    → RefusesMachine image_name image input resume a b r
+resume_refused image_name image input resume name a b e r h = subst (λ (s : Option (List ℕ)). RefusesMachine image_name image input s a b r) (sym e) (not_begun r h)
+
+begun_unchanged : (image : ImageValue) (input resume : Option (List ℕ)) (m : Mem) (a b : ShelfState) → Begins image input resume m a b → Unchanged a b
+begun_unchanged image input None m a b h = input_unchanged input h.input a b h.takes.reads
+begun_unchanged image input (Some name) m a b h = unchanged_read name h.text memory_limit a b h.reads
+
+-- ---- a memory's file
+
+pub memory_unheld : (image_name : List ℕ) (image : ImageValue) (name text : List ℕ) (a b : ShelfState) → ReadsFile name text memory_limit a b → (r : Refused) → RefusesMemory name text r → RefusesResume image_name image name a b r
+memory_unheld image_name image name text a b read r (faulty_memory fault e) = no_memory text fault read e
+memory_unheld image_name image name text a b read r memory_starved = memory_unread NoMemory (file_starved (unchanged_read name text memory_limit a b read))
+
+pub resumes_on : (image : ImageValue) (name text : List ℕ) (machine : Held (List ℕ)) (a b : ShelfState) → ReadsFile name text memory_limit a b → ResumesText image text machine → machine.form ≡ image.form → ResumesOn image name machine a b
+resumes_on image name text machine a b read h e = record { text = text; reads = read; resumed = h; form = sym h.of_image.form ∙ e }
+
+pub form_refused : (image_name : List ℕ) (image : ImageValue) (name text : List ℕ) (machine : Held (List ℕ)) (a b : ShelfState) → ReadsFile name text memory_limit a b → ResumesText image text machine
+    → (r : Refused) → AreOther image_name image.form name machine.form r → RefusesResume image_name image name a b r
+form_refused image_name image name text machine a b read h r (are_other apart) =
+    subst (λ (f : Form). RefusesResume image_name image name a b (FormsDiffer image_name image.form name f)) (sym h.of_image.form)
+    (other_form text read h.right (λ e. apart (h.of_image.form ∙ e)))
+
 -- ---- the run
 
-pub run_input_refused : (image : ImageValue) (options : Options) (a b : ShelfState) (r : Refused) → RefusesInput options.input a b r → RefusesRun image options a b r
-run_input_refused image options a b r h = no_input r h
+pub run_unbegun : (image_name : List ℕ) (image : ImageValue) (resume : Option (List ℕ)) (options : Options) (a b : ShelfState) (r : Refused) → RefusesMachine image_name image options.input resume a b r → RefusesRun image_name image resume options a b r
+run_unbegun image_name image resume options a b r (not_begun s h) = unbegun s h
+run_unbegun image_name image resume options a b r (machine_starved same) = run_starved same
 
-pub run_load_refused : (image : ImageValue) (options : Options) (input : List ℕ) (a b : ShelfState) → ReadsInput options.input input a b → (r : Refused) → RefusesLoad input r → RefusesRun image options a b r
-run_load_refused image options input a b read r (long_input over) = no_input r (input_too_long input read over)
-run_load_refused image options input a b read r load_starved = run_starved (input_unchanged options.input input a b read)
-
-pub run_periods_refused : (options : Options) (image : ImageValue) (input : List ℕ) (loaded : Held (List ℕ)) (a b c : ShelfState) → ReadsInput options.input input a b → Loads image input loaded
-    → (r : Refused) → RefusesPeriods options.trace b c r → RefusesRun image options a c r
-run_periods_refused options image input loaded a b c read l r (trace_refused name s e h) = periods_unread input b name s (takes options image input loaded a b read l) e h
-run_periods_refused options image input loaded a b c read l r (periods_starved same) = run_starved (unchanged_then a b c (input_unchanged options.input input a b read) same)
+pub run_periods_refused : (image_name : List ℕ) (image : ImageValue) (resume : Option (List ℕ)) (options : Options) (begun : Held (List ℕ)) (a b c : ShelfState) → IsBegun image options.input resume begun a b
+    → (r : Refused) → RefusesPeriods options.trace b c r → RefusesRun image_name image resume options a c r
+run_periods_refused image_name image resume options begun a b c l r (trace_refused name s e h) = periods_unread l.first b name s l.begins e h
+run_periods_refused image_name image resume options begun a b c l r (periods_starved same) =
+    run_starved (unchanged_then a b c (begun_unchanged image options.input resume l.first a b l.begins) same)
 
 -- the periods are refused for the image's form
-pub run_torn : (options : Options) (image : ImageValue) (input : List ℕ) (periods : List Period) (loaded : Held (List ℕ)) (a b c : ShelfState) → ReadsInput options.input input a b → Loads image input loaded
-    → TakesPeriods options periods b c → needs_form loaded.form periods ≡ true → RefusesRun image options a c TornStores
-run_torn options image input periods loaded a b c read l h needs =
-    torn_stores input b periods (takes options image input loaded a b read l) h.reads (ap (λ form. needs_form form periods) (sym l.of_image.form) ∙ needs)
+pub run_torn : (image_name : List ℕ) (image : ImageValue) (resume : Option (List ℕ)) (options : Options) (periods : List Period) (begun : Held (List ℕ)) (a b c : ShelfState) → IsBegun image options.input resume begun a b
+    → TakesPeriods options periods b c → needs_form begun.form periods ≡ true → RefusesRun image_name image resume options a c TornStores
+run_torn image_name image resume options periods begun a b c l h needs =
+    torn_stores l.first b periods l.begins h.reads (ap (λ form. needs_form form periods) (sym l.of_image.form) ∙ needs)
 
-pub variables_starved : (options : Options) (image : ImageValue) (input : List ℕ) (periods : List Period) (a b c : ShelfState) → ReadsInput options.input input a b → TakesPeriods options periods b c → RefusesRun image options a c NoMemory
-variables_starved options image input periods a b c read h = run_starved (unchanged_then a b c (input_unchanged options.input input a b read) (periods_unchanged options.trace options.steps periods b c h.reads))
-
-pub ran : (options : Options) (image : ImageValue) (input : List ℕ) (periods : List Period) (loaded run : Held (List ℕ)) (variables : Option (List Variable)) (a b c : ShelfState) →
-    ReadsInput options.input input a b → Loads image input loaded → TakesPeriods options periods b c → needs_form loaded.form periods ≡ false →
-    device_of view run ≡ counted (power periods (device_of view loaded)) → SameImage loaded run →
-    variables ≡ shown options.vars run.objects (view run.memory) → Ran options image run.form (ended_of run) variables a c
-ran options image input periods loaded run variables a b c read l h allowed e same vars =
-    let m = memory_of image input in
-    let whole : device_of view run ≡ counted (power periods (fresh m)) = e ∙ ap (λ d. counted (power periods d)) l.made in
+pub ran_on : (image : ImageValue) (resume : Option (List ℕ)) (options : Options) (periods : List Period) (begun run : Held (List ℕ)) (a b c : ShelfState) → IsBegun image options.input resume begun a b
+    → TakesPeriods options periods b c → needs_form begun.form periods ≡ false → device_of view run ≡ counted (power periods (device_of view begun)) → SameImage begun run
+    → RanOn resume options image run a c
+ran_on image resume options periods begun run a b c l h allowed e same =
+    let whole : device_of view run ≡ counted (power periods (fresh l.first)) = e ∙ ap (λ d. counted (power periods d)) l.made in
     record {
       run = record {
-        input = input;
-        taken = b;
-        takes = takes options image input loaded a b read l;
+        first = l.first;
+        begun = b;
+        begins = l.begins;
         periods = periods;
         reads = h.reads;
         allowed = ap (λ form. needs_form form periods) (sym l.of_image.form) ∙ allowed;
-        run = trace_run periods m (device_of view run) h.is_trace whole;
+        run = trace_run periods l.first (device_of view run) h.is_trace whole;
       };
-      form_is = same.form ∙ l.of_image.form;
-      are_shown = vars ∙ ap (λ objects. shown options.vars objects (view run.memory)) (same.objects ∙ l.of_image.objects);
+      of_image = record {
+        version = same.version ∙ l.of_image.version;
+        form = same.form ∙ l.of_image.form;
+        objects = same.objects ∙ l.of_image.objects;
+      };
     }
+
+ran_unchanged : (image : ImageValue) (resume : Option (List ℕ)) (options : Options) (ended : Device) (a b : ShelfState) → RunsImage resume options image ended a b → Unchanged a b
+ran_unchanged image resume options ended a b h =
+    unchanged_then a h.begun b (begun_unchanged image options.input resume h.first a h.begun h.begins) (periods_unchanged options.trace options.steps h.periods h.begun b h.reads)
+
+pub variables_starved : (image_name : List ℕ) (image : ImageValue) (resume : Option (List ℕ)) (options : Options) (machine : Held (List ℕ)) (a b : ShelfState) → RanOn resume options image machine a b
+    → RefusesRun image_name image resume options a b NoMemory
+variables_starved image_name image resume options machine a b h = run_starved (ran_unchanged image resume options (ended_of machine) a b h.run)
+
+pub ran : (image : ImageValue) (resume : Option (List ℕ)) (options : Options) (machine : Held (List ℕ)) (variables : Option (List Variable)) (a b c : ShelfState) → RanOn resume options image machine a b
+    → variables ≡ shown options.vars machine.objects (view machine.memory) → Saves options.save machine.form (view machine.memory) b c
+    → Ran resume options image machine.form (ended_of machine) variables a c
+ran image resume options machine variables a b c h vars saved = record {
+  run = record {
+    ran = b;
+    runs = h.run;
+    saves = subst (λ (form : Form). Saves options.save form (view machine.memory) b c) h.of_image.form saved;
+  };
+  form_is = h.of_image.form;
+  are_shown = vars ∙ ap (λ objects. shown options.vars objects (view machine.memory)) h.of_image.objects;
+}
+
+pub save_refused : (image_name : List ℕ) (image : ImageValue) (resume : Option (List ℕ)) (options : Options) (machine : Held (List ℕ)) (a b c : ShelfState) → RanOn resume options image machine a b
+    → (r : Refused) → RefusesSave options.save machine.form (view machine.memory) b c r → RefusesRun image_name image resume options a c r
+save_refused image_name image resume options machine a b c h r (save_failed name e part) =
+    unsaved (ended_of machine) b name h.run e (subst (λ (form : Form). StoresMemoryPart name form (view machine.memory) b c) h.of_image.form part)
+save_refused image_name image resume options machine a b c h r (save_starved same) =
+    run_starved (unchanged_then a b c (ran_unchanged image resume options (ended_of machine) a b h.run) same)
+
+-- ---- the last memory
+
+pub saved_named : (named : Option (List ℕ)) (name : List ℕ) (form : Form) (m : Mem) (a b : ShelfState) → named ≡ Some name → StoresMemory name form m a b → Saves named form m a b
+saved_named named name form m a b e h = subst (λ (n : Option (List ℕ)). Saves n form m a b) (sym e) h
+
+pub storing_refused : (named : Option (List ℕ)) (name : List ℕ) (form : Form) (m : Mem) (a b : ShelfState) → named ≡ Some name → (r : Refused) → RefusesStoring name form m a b r → RefusesSave named form m a b r
+storing_refused named name form m a b e r (storing_failed part) = save_failed name e part
+storing_refused named name form m a b e r (storing_starved same) = save_starved same

@@ -1,18 +1,23 @@
 -- What the top call answers, why, and what it leaves.
-use Rattle.std.specs.Prelude.{◌≡◌, ℕ, List, [], Some, None}
+use Rattle.std.specs.Prelude.{◌≡◌, ℕ, List, [], Option, Some, None}
 use Rattle.im_io.specs.Shelf.{ShelfState}
 use Rattle.im_io.specs.Sink.{SinkState}
 use Rattle.im_image.specs.Contents.{ImageValue}
+use Rattle.im_fault.specs.declared.fault.SourceFault.{SourceFault}
 use Rattle.im_device.specs.Periods.{Device}
 use Rattle.im_cmd_words.specs.declared.command.BuildOptions.{BuildOptions}
-use Rattle.im_cmd_words.specs.Named.{Asked, Evaluation, Options, builds, runs, executes, dumps, upgrades, reports, evaluates, generates, named}
+use Rattle.im_cmd_words.specs.Named.{Asked, Evaluation, Options, builds, runs, executes, dumps, upgrades, reports, evaluates, generates, checks, default_building, named}
 use Rattle.im_compile.specs.declared.built.Built.{Built}
 use Rattle.im_cmd_lines.specs.Dumps.{dump_lines}
 use Rattle.im_cmd_lines.specs.Upgrades.{upgrade_line}
 use Rattle.im_cmd_lines.specs.Refusals.{Refused, NoMemory}
-use Rattle.im_cmd.specs.Builds.{Builds, RefusesBuild, Compiles, RefusesSource}
-use Rattle.im_cmd.specs.Images.{ReadsImage, RefusesImage, Upgrades, RefusesUpgrade}
-use Rattle.im_cmd.specs.Runs.{RunsImage, RefusesRun}
+use Rattle.im_cmd_check.specs.Message.{source_message}
+use Rattle.im_cmd.specs.Files.{Unchanged, ReadsFile}
+use Rattle.im_cmd.specs.Builds.{Builds, RefusesBuild, Compiles, RefusesSource, RefusesReading, IsFaulty, source_limit}
+use Rattle.im_image.specs.declared.version.Version.{Version}
+use Rattle.im_cmd.specs.Images.{ReadsImage, RefusesImage}
+use Rattle.im_cmd.specs.Upgrades.{Upgrades, RefusesUpgrade}
+use Rattle.im_cmd.specs.Runs.{RunsAndSaves, RefusesRun}
 use Rattle.im_store.specs.Outcomes.{Outcome as EndOfRun}
 use Rattle.im_cmd.specs.Evaluations.{Evaluates, RefusesEvaluation, evaluation_outcome}
 use Rattle.im_cmd.specs.Generations.{Generates, RefusesGeneration, generation_outcome}
@@ -29,25 +34,26 @@ pub data Comes (old new : ShelfState) : Asked → Outcome → Type 0 where
   run_unbuilt : (source image : List ℕ) (building : BuildOptions) (options : Options) (r : Refused) → RefusesBuild source image building old new r
       → Comes old new (runs source image building options) (refused r)
   run_refused : (source image : List ℕ) (building : BuildOptions) (options : Options) (b : Built) (stored : ShelfState) (r : Refused)
-      → Builds source image building b old stored → RefusesRun b.image options stored new r
+      → Builds source image building b old stored → RefusesRun image b.image None options stored new r
       → Comes old new (runs source image building options) (refused r)
   ran : (source image : List ℕ) (building : BuildOptions) (options : Options) (b : Built) (stored : ShelfState) (ended : Device)
-      → Builds source image building b old stored → RunsImage options b.image ended stored new
+      → Builds source image building b old stored → RunsAndSaves None options b.image ended stored new
       → Comes old new (runs source image building options) (run_outcome (Some b) options.vars b.image ended)
-  -- an image is read and run
-  exec_unread : (name : List ℕ) (options : Options) (r : Refused) → RefusesImage name old new r → Comes old new (executes name options) (refused r)
-  exec_refused : (name : List ℕ) (options : Options) (image : ImageValue) (read : ShelfState) (r : Refused)
-      → ReadsImage name image old read → RefusesRun image options read new r → Comes old new (executes name options) (refused r)
-  executed : (name : List ℕ) (options : Options) (image : ImageValue) (read : ShelfState) (ended : Device)
-      → ReadsImage name image old read → RunsImage options image ended read new
-      → Comes old new (executes name options) (run_outcome None options.vars image ended)
+  -- an image is read and run, from the memory of the file that is named to be resumed where one is
+  exec_unread : (name : List ℕ) (options : Options) (resume : Option (List ℕ)) (r : Refused) → RefusesImage name old new r
+      → Comes old new (executes name options resume) (refused r)
+  exec_refused : (name : List ℕ) (options : Options) (resume : Option (List ℕ)) (image : ImageValue) (read : ShelfState) (r : Refused)
+      → ReadsImage name image old read → RefusesRun name image resume options read new r → Comes old new (executes name options resume) (refused r)
+  executed : (name : List ℕ) (options : Options) (resume : Option (List ℕ)) (image : ImageValue) (read : ShelfState) (ended : Device)
+      → ReadsImage name image old read → RunsAndSaves resume options image ended read new
+      → Comes old new (executes name options resume) (run_outcome None options.vars image ended)
   -- an image is read and shown
   dump_refused : (name : List ℕ) (r : Refused) → RefusesImage name old new r → Comes old new (dumps name) (refused r)
   dumped : (name : List ℕ) (image : ImageValue) → ReadsImage name image old new → Comes old new (dumps name) (done (dump_lines image) [] 0)
-  -- an image is read, and stored in version 2
+  -- an image or a memory is read, and stored in version 2
   upgrade_refused : (source target : List ℕ) (r : Refused) → RefusesUpgrade source target old new r → Comes old new (upgrades source target) (refused r)
-  upgraded : (source target : List ℕ) (image : ImageValue) → Upgrades source target image old new
-      → Comes old new (upgrades source target) (done (upgrade_line image.version) [] 0)
+  upgraded : (source target : List ℕ) (version : Version) → Upgrades source target version old new
+      → Comes old new (upgrades source target) (done (upgrade_line version) [] 0)
   -- a source is built and told of, and nothing is stored
   report_refused : (source : List ℕ) (building : BuildOptions) (r : Refused) → RefusesSource source old new r
       → Comes old new (reports source building) (refused r)
@@ -62,6 +68,12 @@ pub data Comes (old new : ShelfState) : Asked → Outcome → Type 0 where
   gen_refused : (count : ℕ) (r : Refused) → RefusesGeneration count r → new ≡ old → Comes old new (generates count) (refused r)
   generated : (count : ℕ) (b : Built) (ended : Device) → Generates count b ended → new ≡ old
       → Comes old new (generates count) (generation_outcome count b.image.form ended)
+  -- a source is read and compiled, nothing is stored, and nothing is told but why it is refused
+  check_unread : (source : List ℕ) (r : Refused) → RefusesReading source old new r → Comes old new (checks source) (refused r)
+  check_starved : (source : List ℕ) → Unchanged old new → Comes old new (checks source) (refused NoMemory)
+  check_refused : (source text : List ℕ) (fault : SourceFault) → ReadsFile source text source_limit old new → IsFaulty text fault
+      → Comes old new (checks source) (done [] (source_message source text fault) 3)
+  checked : (source : List ℕ) (b : Built) → Compiles source default_building b old new → Comes old new (checks source) (done [] [] 0)
 
 -- what comes of it is told
 pub record CarriesOut (asked : Asked) (old new : ShelfState) (out out' err err' : SinkState) (status : ℕ) : Type 0 where

@@ -53,6 +53,13 @@ pub data RefusesSource (source : List ℕ) (old new : ShelfState) : Refused → 
       → RefusesSource source old new (BadSource source fault)
   source_starved : Unchanged old new → RefusesSource source old new NoMemory
 
+-- why a source can't be read
+pub data RefusesReading (source : List ℕ) (old new : ShelfState) : Refused → Type 0 where
+  reading_failed : RefusesFile source source_limit old new (CannotRead source) → RefusesReading source old new (CannotRead source)
+  reading_too_long : RefusesFile source source_limit old new (FileTooLong source source_limit)
+      → RefusesReading source old new (BadSource source (Limit Source (source_limit + 1)))
+  reading_starved : Unchanged old new → RefusesReading source old new NoMemory
+
 -- why a source isn't built: it isn't compiled, or its image can't be stored
 pub data RefusesBuild (source image_name : List ℕ) (building : BuildOptions) (old new : ShelfState) : Refused → Type 0 where
   uncompiled : (r : Refused) → RefusesSource source old new r → RefusesBuild source image_name building old new r

@@ -1,13 +1,12 @@
--- An image is read from its file, and stored in version 2 under another name.
+-- An image is read from its file.
 use Rattle.std.specs.Prelude.{◌≡◌, ℕ, List, Some}
 use Rattle.im_io.specs.Shelf.{ShelfState}
 use Rattle.im_image.specs.Contents.{ImageValue, IsImage}
 use Rattle.im_image.specs.Text.{image_text}
 use Rattle.im_image.specs.Faults.{fault_of}
-use Rattle.im_image.specs.Upgrade.{upgraded}
 use Rattle.im_image.specs.declared.fault.ImageFault.{ImageFault}
-use Rattle.im_cmd_lines.specs.Refusals.{Refused, NotAnImage, CannotWrite}
-use Rattle.im_cmd.specs.Files.{ReadsFile, RefusesFile, StoresText, StoresPart}
+use Rattle.im_cmd_lines.specs.Refusals.{Refused, NotAnImage}
+use Rattle.im_cmd.specs.Files.{ReadsFile, RefusesFile}
 
 -- bytes of an image's file
 abbrev pub image_limit : ℕ
@@ -23,15 +22,3 @@ pub data RefusesImage (name : List ℕ) (old new : ShelfState) : Refused → Typ
   image_unread : (r : Refused) → RefusesFile name image_limit old new r → RefusesImage name old new r
   no_image : (text : List ℕ) (fault : ImageFault) → ReadsFile name text image_limit old new → fault_of text ≡ Some fault
       → RefusesImage name old new (NotAnImage name fault)
-
--- an image was read, and then stored in version 2
-pub record Upgrades (source target : List ℕ) (image : ImageValue) (old new : ShelfState) : Type 0 where
-  pub read : ShelfState
-  pub reads : ReadsImage source image old read
-  pub stores : StoresText target (image_text (upgraded image)) read new
-
--- why an image isn't upgraded: it isn't read, or can't be stored
-pub data RefusesUpgrade (source target : List ℕ) (old new : ShelfState) : Refused → Type 0 where
-  upgrade_unread : (r : Refused) → RefusesImage source old new r → RefusesUpgrade source target old new r
-  upgrade_unwritten : (image : ImageValue) (read : ShelfState) → ReadsImage source image old read
-      → StoresPart target (image_text (upgraded image)) read new → RefusesUpgrade source target old new (CannotWrite target)

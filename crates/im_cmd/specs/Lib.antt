@@ -1,6 +1,8 @@
 pub mod Files
 pub mod Builds
 pub mod Images
+pub mod Memories
+pub mod Upgrades
 pub mod Runs
 pub mod Outcome
 pub mod Evaluations

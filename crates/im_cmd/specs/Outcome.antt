@@ -15,7 +15,7 @@ use Rattle.im_cmd_lines.specs.Builds.{build_lines}
 use Rattle.im_cmd_lines.specs.Reports.{report_lines}
 use Rattle.im_cmd_lines.specs.Runs.{ending_of, run_lines}
 use Rattle.im_cmd_lines.specs.Variables.{variable_lines}
-use Rattle.im_cmd_lines.specs.Refusals.{Refused, CannotRead, BadSource, NotAnImage, CannotWrite, InputTooLong, FileTooLong, NotATrace, TornStores, NoMemory, refusal_line}
+use Rattle.im_cmd_lines.specs.Refusals.{Refused, CannotRead, BadSource, NotAnImage, CannotWrite, InputTooLong, FileTooLong, NotATrace, TornStores, NotAMemory, FormsDiffer, NoMemory, refusal_line}
 
 -- what comes of a command: why it isn't carried out; or a text for the first sink, one for the second, and the exit status
 pub data Outcome : Type 0 where
@@ -30,7 +30,9 @@ refusal_status (CannotWrite name) = 8
 refusal_status (InputTooLong count limit) = 13
 refusal_status (FileTooLong name limit) = 14
 refusal_status (NotATrace name fault) = 6
+refusal_status (NotAMemory name fault) = 15
 refusal_status TornStores = 16
+refusal_status (FormsDiffer image form memory other) = 17
 refusal_status NoMemory = 9
 
 abbrev pub ending_status : Ending → ℕ

@@ -1,4 +1,4 @@
--- An image is run, with the input and under the periods that the options name.
+-- An image is run, with the input or the memory and under the periods that the options name, and its last memory is stored.
 use Rattle.std.specs.List.{list_any}
 use Rattle.std.specs.Prelude.{◌≡◌, ℕ, ◌==◌, not, Bool, true, false, ◌≤◌, ◌<◌, List, [], ◌∷◌, length, All, Option, Some, None, Ok, Err}
 use Rattle.im_io.specs.Shelf.{ShelfState}
@@ -9,11 +9,13 @@ use Rattle.im_power.specs.declared.period.Period.{Period}
 use Rattle.im_power.specs.declared.fault.TraceFault.{TraceFault}
 use Rattle.im_power.specs.Text.{trace_of}
 use Rattle.im_mem.specs.Map.{input_capacity}
+use Rattle.im_mem.specs.Memory.{Mem}
 use Rattle.im_device.specs.Periods.{Device, fresh, power}
 use Rattle.im_device.specs.Load.{memory_of}
 use Rattle.im_cmd_words.specs.Named.{Options}
-use Rattle.im_cmd_lines.specs.Refusals.{Refused, InputTooLong, NotATrace, TornStores, NoMemory}
+use Rattle.im_cmd_lines.specs.Refusals.{Refused, CannotWrite, InputTooLong, NotATrace, TornStores, NoMemory}
 use Rattle.im_cmd.specs.Files.{Unchanged, ReadsFile, RefusesFile}
+use Rattle.im_cmd.specs.Memories.{Resumes, RefusesResume, Saves, StoresMemoryPart}
 
 -- bytes of an input's or a trace's file
 abbrev pub run_file_limit : ℕ
@@ -36,6 +38,23 @@ pub data RefusesInput (named : Option (List ℕ)) (old new : ShelfState) : Refus
   input_too_long : (input : List ℕ) → ReadsInput named input old new → input_capacity < length input
       → RefusesInput named old new (InputTooLong (length input) input_capacity)
 
+-- the image's own first memory, with an input
+pub record BeginsAnew (image : ImageValue) (named : Option (List ℕ)) (m : Mem) (old new : ShelfState) : Type 0 where
+  pub input : List ℕ
+  pub takes : TakesInput named input old new
+  pub memory : m ≡ memory_of image input
+
+-- The memory that a run begins with: that of the file that is named to be resumed, and then no input is looked at; without a
+-- name the image's own.
+abbrev pub Begins : ImageValue → Option (List ℕ) → Option (List ℕ) → Mem → ShelfState → ShelfState → Type 0
+Begins image input None m old new = BeginsAnew image input m old new
+Begins image input (Some name) m old new = Resumes image name m old new
+
+-- why there is none
+abbrev pub RefusesBegin : List ℕ → ImageValue → Option (List ℕ) → Option (List ℕ) → ShelfState → ShelfState → Refused → Type 0
+RefusesBegin image_name image input None old new r = RefusesInput input old new r
+RefusesBegin image_name image input (Some name) old new r = RefusesResume image_name image name old new r
+
 -- the named file's text is a trace's, of these periods
 pub record ReadsTrace (name : List ℕ) (periods : List Period) (old new : ShelfState) : Type 0 where
   pub text : List ℕ
@@ -56,15 +75,21 @@ abbrev pub needs_form : Form → List Period → Bool
 needs_form OneLength periods = has_torn periods
 needs_form TwoLengths periods = false
 
--- the run of an image: the input was read, then the periods, and nothing failed outside
-pub record RunsImage (options : Options) (image : ImageValue) (ended : Device) (old new : ShelfState) : Type 0 where
-  pub input : List ℕ
-  pub taken : ShelfState
-  pub takes : TakesInput options.input input old taken
+-- the run of an image: the input or the memory was read, then the periods, and nothing failed outside
+pub record RunsImage (resume : Option (List ℕ)) (options : Options) (image : ImageValue) (ended : Device) (old new : ShelfState) : Type 0 where
+  pub first : Mem
+  pub begun : ShelfState
+  pub begins : Begins image options.input resume first old begun
   pub periods : List Period
-  pub reads : ReadsPeriods options.trace options.steps periods taken new
+  pub reads : ReadsPeriods options.trace options.steps periods begun new
   pub allowed : needs_form image.form periods ≡ false
-  pub run : ended ≡ power periods (fresh (memory_of image input))
+  pub run : ended ≡ power periods (fresh first)
+
+-- and then its last memory was stored, where the options name a file for it
+pub record RunsAndSaves (resume : Option (List ℕ)) (options : Options) (image : ImageValue) (ended : Device) (old new : ShelfState) : Type 0 where
+  pub ran : ShelfState
+  pub runs : RunsImage resume options image ended old ran
+  pub saves : Saves options.save image.form ended.mem ran new
 
 -- why a trace isn't read: its file isn't, or holds a text that is no trace's, by its first fault
 pub data RefusesTrace (name : List ℕ) (old new : ShelfState) : Refused → Type 0 where
@@ -72,12 +97,14 @@ pub data RefusesTrace (name : List ℕ) (old new : ShelfState) : Refused → Typ
   no_trace : (text : List ℕ) (fault : TraceFault) → ReadsFile name text run_file_limit old new → trace_of text ≡ Err fault
       → RefusesTrace name old new (NotATrace name fault)
 
--- why an image isn't run
-pub data RefusesRun (image : ImageValue) (options : Options) (old new : ShelfState) : Refused → Type 0 where
-  no_input : (r : Refused) → RefusesInput options.input old new r → RefusesRun image options old new r
-  periods_unread : (input : List ℕ) (taken : ShelfState) (name : List ℕ) (r : Refused) → TakesInput options.input input old taken
-      → options.trace ≡ Some name → RefusesTrace name taken new r → RefusesRun image options old new r
-  torn_stores : (input : List ℕ) (taken : ShelfState) (periods : List Period) → TakesInput options.input input old taken
-      → ReadsPeriods options.trace options.steps periods taken new → needs_form image.form periods ≡ true
-      → RefusesRun image options old new TornStores
-  run_starved : Unchanged old new → RefusesRun image options old new NoMemory
+-- why an image isn't run, or its last memory not stored
+pub data RefusesRun (image_name : List ℕ) (image : ImageValue) (resume : Option (List ℕ)) (options : Options) (old new : ShelfState) : Refused → Type 0 where
+  unbegun : (r : Refused) → RefusesBegin image_name image options.input resume old new r → RefusesRun image_name image resume options old new r
+  periods_unread : (first : Mem) (begun : ShelfState) (name : List ℕ) (r : Refused) → Begins image options.input resume first old begun
+      → options.trace ≡ Some name → RefusesTrace name begun new r → RefusesRun image_name image resume options old new r
+  torn_stores : (first : Mem) (begun : ShelfState) (periods : List Period) → Begins image options.input resume first old begun
+      → ReadsPeriods options.trace options.steps periods begun new → needs_form image.form periods ≡ true
+      → RefusesRun image_name image resume options old new TornStores
+  unsaved : (ended : Device) (ran : ShelfState) (name : List ℕ) → RunsImage resume options image ended old ran → options.save ≡ Some name
+      → StoresMemoryPart name image.form ended.mem ran new → RefusesRun image_name image resume options old new (CannotWrite name)
+  run_starved : Unchanged old new → RefusesRun image_name image resume options old new NoMemory

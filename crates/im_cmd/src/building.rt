@@ -1,9 +1,9 @@
-ghost use Rattle.std.specs.Prelude.{MatchResult};
+ghost use Rattle.std.specs.Prelude.{◌≤◌, length, IfOk, MatchResult};
 ghost use Rattle.im_image.specs.Text.{image_text};
 ghost use Rattle.im_cmd_lines.specs.Refusals.{refused_of};
 ghost use Rattle.im_cmd.specs.Files.{ReadsFile, StoresText};
 ghost use Rattle.im_cmd_words.specs.Named.{IsInBounds};
-ghost use Rattle.im_cmd.specs.Builds.{Builds, RefusesBuild, Compiles, RefusesSource, IsBuilt, source_limit};
+ghost use Rattle.im_cmd.specs.Builds.{Builds, RefusesBuild, Compiles, RefusesReading, RefusesSource, IsBuilt, source_limit};
 ghost use Rattle.im_cmd.specs.Stages.{IsBuiltFrom, CompilesFrom, RefusesText, RefusesStore};
 
 use im_cmd_lines::Refusal;
@@ -23,15 +23,16 @@ const TOO_LONG: SourceFault = SourceFault::Limit {
     count: SOURCE_LIMIT + 1,
 };
 
-// The text of a source file.
-fn read_source<'a, H: Shelf>(
+/// The text of a source file.
+pub fn read_source<'a, H: Shelf>(
     alloc: Global,
     shelf: &mut H,
     source: &'a str,
 ) -> Result<Vec<u8>, Refusal<'a>>
-    ensures { MatchResult result (λ text. ReadsFile source.now text.items source_limit
+    ensures short { IfOk result (λ text. length text.items ≤ source_limit) }
+    ensures read { MatchResult result (λ text. ReadsFile source.now text.items source_limit
         (H.state shelf.old) (H.state shelf.new))
-        (λ refusal. RefusesSource source.now (H.state shelf.old) (H.state shelf.new) (refused_of refusal)) }
+        (λ refusal. RefusesReading source.now (H.state shelf.old) (H.state shelf.new) (refused_of refusal)) }
 {
     match read_whole(alloc, shelf, source, SOURCE_LIMIT) {
         Ok(text) => Ok(text),

@@ -1,3 +1,4 @@
+ghost use Rattle.std.specs.Prelude.{option_map};
 ghost use Rattle.im_io.specs.Shelf.{ShelfState};
 ghost use Rattle.im_cmd_words.specs.Named.{IsInBounds, evaluation_meaning, options_meaning, builds, runs, executes, dumps, upgrades, reports, evaluates, generates};
 ghost use Rattle.im_cmd.specs.Answers.{CarriesOut};
@@ -10,7 +11,7 @@ use crate::generating::generate;
 use crate::running::run_image;
 use crate::stored::read_stored;
 use crate::telling::{finish, send_built, send_report_of, tell_refusal, tell_run};
-use crate::upgrading::upgrade_image;
+use crate::upgrading::upgrade_file;
 use im_cmd_lines::{send_dump_lines, send_upgrade_line};
 use im_cmd_words::{BuildOptions, EvalOptions, RunOptions};
 use im_io::{Shelf, Sink};
@@ -61,13 +62,14 @@ pub fn run_source<H: Shelf, O: Sink, E: Sink>(
         Ok(built) => built,
         Err(refusal) => return tell_refusal(err, &refusal),
     };
-    match run_image(alloc, shelf, &built.image, options) {
+    match run_image(alloc, shelf, image_name, &built.image, options, None) {
         Ok(run) => tell_run(out, err, &built.image, Some(&built), &run),
         Err(refusal) => tell_refusal(err, &refusal),
     }
 }
 
-/// Runs an image. `out` gets the run's output, and `err` the lines of the run.
+/// Runs an image, from the memory of the file that is named for it where one is. `out` gets the run's
+/// output, and `err` the lines of the run.
 pub fn execute<H: Shelf, O: Sink, E: Sink>(
     alloc: Global,
     shelf: &mut H,
@@ -75,16 +77,17 @@ pub fn execute<H: Shelf, O: Sink, E: Sink>(
     err: &mut E,
     image_name: &str,
     options: RunOptions<'_>,
+    resume: Option<&str>,
 ) -> u8
-    ensures { CarriesOut (executes image_name.now (options_meaning options.entry)) (H.state shelf.old)
-        (H.state shelf.new) (O.state out.old) (O.state out.new) (E.state err.old) (E.state err.new)
-        result }
+    ensures { CarriesOut (executes image_name.now (options_meaning options.entry)
+        (option_map (λ file. file.now) resume.entry)) (H.state shelf.old) (H.state shelf.new)
+        (O.state out.old) (O.state out.new) (E.state err.old) (E.state err.new) result }
 {
     let image = match read_stored(alloc, shelf, image_name) {
         Ok(image) => image,
         Err(refusal) => return tell_refusal(err, &refusal),
     };
-    match run_image(alloc, shelf, &image, options) {
+    match run_image(alloc, shelf, image_name, &image, options, resume) {
         Ok(run) => tell_run(out, err, &image, None, &run),
         Err(refusal) => tell_refusal(err, &refusal),
     }
@@ -110,7 +113,7 @@ pub fn dump<H: Shelf, O: Sink, E: Sink>(
     }
 }
 
-/// Stores an image in version 2 under another name. `out` gets the line of the upgrade.
+/// Stores an image or a memory in version 2 under another name. `out` gets the line of the upgrade.
 pub fn upgrade<H: Shelf, O: Sink, E: Sink>(
     alloc: Global,
     shelf: &mut H,
@@ -122,7 +125,7 @@ pub fn upgrade<H: Shelf, O: Sink, E: Sink>(
     ensures { CarriesOut (upgrades old.now new.now) (H.state shelf.old) (H.state shelf.new)
         (O.state out.old) (O.state out.new) (E.state err.old) (E.state err.new) result }
 {
-    match upgrade_image(alloc, shelf, old, new) {
+    match upgrade_file(alloc, shelf, old, new) {
         Ok(version) => {
             let sent = send_upgrade_line(out, version);
             finish(err, sent)

@@ -4,6 +4,7 @@ ghost use Rattle.im_cmd_words.specs.Named.{HasBounds, meaning};
 ghost use Rattle.im_cmd.specs.Stages.{TellsFault};
 ghost use Rattle.im_cmd.specs.Answers.{Answers, CarriesOut};
 
+use crate::checking::check_source;
 use crate::commands::{
     build_source, dump, evaluate_source, execute, generate_and_run, report, run_source, upgrade,
 };
@@ -25,17 +26,19 @@ use std::alloc::Global;
 /// | 2 | the words name no command, or ask for help |
 /// | 3 | the source is refused: it is no C, breaks a rule, is over a limit, or has a static that no image can name |
 /// | 4 | a run neither halted nor faulted in the periods of power that it had |
-/// | 5 | the file that is to be run, shown or upgraded holds no image |
+/// | 5 | the file that is to be run, shown or upgraded holds no image (nor, to be upgraded, a memory) |
 /// | 6 | the text of the trace's file is no trace's |
 /// | 7 | a file can't be read |
-/// | 8 | the image, the output or the report can't be written |
+/// | 8 | the image, the memory, the output or the report can't be written |
 /// | 9 | memory ran out |
 /// | 10 | a run ended by a machine fault |
 /// | 11 | what a source that is evaluated does is undefined |
 /// | 12 | an evaluation ran out of fuel |
 /// | 13 | the input is longer than 1048576 bytes |
 /// | 14 | another file is longer than files of its kind may be |
+/// | 15 | the file that is to be resumed or upgraded holds no memory |
 /// | 16 | a period of the trace ends within a store, and the image's form is 0 |
+/// | 17 | the image and the memory that is to be resumed have different forms |
 pub fn top<H: Shelf, O: Sink, E: Sink>(
     alloc: Global,
     words: &[String],
@@ -87,7 +90,11 @@ fn carry_out<H: Shelf, O: Sink, E: Sink>(
             building,
             options,
         } => run_source(alloc, shelf, out, err, source, image, building, options),
-        Command::Exec { image, options } => execute(alloc, shelf, out, err, image, options),
+        Command::Exec {
+            image,
+            options,
+            resume,
+        } => execute(alloc, shelf, out, err, image, options, resume),
         Command::Dump { image } => dump(alloc, shelf, out, err, image),
         Command::Upgrade { old, new } => upgrade(alloc, shelf, out, err, old, new),
         Command::Report { source, building } => report(alloc, shelf, out, err, source, building),
@@ -97,5 +104,6 @@ fn carry_out<H: Shelf, O: Sink, E: Sink>(
             options,
         } => evaluate_source(alloc, shelf, out, err, source, building, options),
         Command::Gen { count } => generate_and_run(alloc, out, err, count),
+        Command::Check { source } => check_source(alloc, shelf, out, err, source),
     }
 }

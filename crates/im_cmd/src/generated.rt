@@ -10,7 +10,7 @@ use crate::telling::finish;
 use im_cmd_lines::{Ending, send_ending_line, send_generation_line};
 use im_emu::Machine;
 use im_io::{Failed, Sink};
-use im_mem::FlatMem;
+use im_mem_paged::PagedMem;
 
 // Sends to `err` how a run ended that has no other line, and gives the exit status.
 fn tell_ending<E: Sink>(err: &mut E, ending: Ending, status: i32) -> u8
@@ -51,7 +51,7 @@ pub fn tell_generation<O: Sink, E: Sink>(
     out: &mut O,
     err: &mut E,
     count: u32,
-    machine: &Machine<FlatMem>,
+    machine: &Machine<PagedMem>,
 ) -> u8
     ensures { Tells (O.state out.old) (O.state out.new) (E.state err.old) (E.state err.new)
         (generation_outcome count machine.now.form (ended_of machine.now)) result }

@@ -13,7 +13,7 @@ use im_cmd_words::BuildOptions;
 use im_driver::Built;
 use im_emu::Machine;
 use im_gen::{source, trace};
-use im_mem::FlatMem;
+use im_mem_paged::PagedMem;
 use im_num::NoMemory;
 use std::alloc::Global;
 
@@ -40,7 +40,7 @@ fn build_made<'a>(alloc: Global, count: u32) -> Result<Built, Refusal<'a>>
 }
 
 // The machine on which what was built is run, with no input and under the periods of its longest gap.
-fn run_made<'a>(alloc: Global, count: u32, built: &Built) -> Result<Machine<FlatMem>, Refusal<'a>>
+fn run_made<'a>(alloc: Global, count: u32, built: &Built) -> Result<Machine<PagedMem>, Refusal<'a>>
     requires { built.now.gap < 2 ^ 31 }
     ensures { MatchResult result (RunsMade count built.now)
         (λ refusal. RefusesGeneration count (refused_of refusal)) }
@@ -58,7 +58,7 @@ fn run_made<'a>(alloc: Global, count: u32, built: &Built) -> Result<Machine<Flat
 }
 
 /// Builds the made source of so many functions and runs its image. Answers the machine as the run left it.
-pub fn generate<'a>(alloc: Global, count: u32) -> Result<Machine<FlatMem>, Refusal<'a>>
+pub fn generate<'a>(alloc: Global, count: u32) -> Result<Machine<PagedMem>, Refusal<'a>>
     ensures { MatchResult result (Generated count)
         (λ refusal. RefusesGeneration count (refused_of refusal)) }
 {

@@ -3,6 +3,7 @@
 #![tactic(auto)]
 
 mod building;
+mod checking;
 mod commands;
 mod entry;
 mod evaluated;
@@ -10,7 +11,9 @@ mod evaluating;
 mod files;
 mod generated;
 mod generating;
+mod resuming;
 mod running;
+mod saving;
 mod status;
 mod stored;
 mod telling;

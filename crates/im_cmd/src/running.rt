@@ -1,18 +1,22 @@
-ghost use Rattle.std.specs.Prelude.{◌≡◌, ◌∷◌, [], IfOk, MatchResult, option_map};
+ghost use Rattle.std.specs.Prelude.{◌≡◌, ◌∷◌, [], ℕ, IfOk, List, MatchResult, None, option_map};
 ghost use Rattle.im_mem.specs.Memory.{view};
 ghost use Rattle.im_cmd_words.specs.Named.{options_meaning};
 ghost use Rattle.im_cmd_lines.specs.Refusals.{refused_of};
-ghost use Rattle.im_cmd.specs.Runs.{ReadsInput, RefusesInput, ReadsTrace, RefusesTrace, RefusesRun, has_torn, needs_form};
+ghost use Rattle.im_cmd.specs.Runs.{ReadsInput, RefusesInput, ReadsTrace, RefusesTrace, RefusesRun};
+ghost use Rattle.im_cmd.specs.Runs.{has_torn, needs_form};
 ghost use Rattle.im_cmd.specs.Outcome.{shown};
-ghost use Rattle.im_cmd.specs.Stages.{ended_of, variables_of, Loads, RefusesLoad, TakesPeriods, RefusesPeriods, Ran};
+ghost use Rattle.im_cmd.specs.Stages.{ended_of, variables_of, IsBegun, Loads, Ran, RanOn};
+ghost use Rattle.im_cmd.specs.Stages.{RefusesLoad, RefusesMachine, RefusesPeriods, TakesPeriods};
 
 use crate::files::read_file;
+use crate::resuming::resume_image;
+use crate::saving::save_memory;
 use im_cmd_lines::Refusal;
 use im_cmd_words::RunOptions;
 use im_emu::{LoadFault, Machine};
 use im_image::{Form, Image};
 use im_io::Shelf;
-use im_mem::FlatMem;
+use im_mem_paged::PagedMem;
 use im_num::{NoMemory, Var};
 use im_power::{Period, Trace, TraceFault, read_trace};
 use std::alloc::Global;
@@ -23,7 +27,7 @@ const RUN_FILE_LIMIT: u64 = 16 * 1024 * 1024;
 /// A machine on which an image was run.
 #[derive(Drop)]
 pub struct Run {
-    pub machine: Machine<FlatMem>,
+    pub machine: Machine<PagedMem>,
     /// The image's variables as the run left them, where they are to be shown.
     pub variables: Option<Vec<Var>>,
 }
@@ -48,7 +52,7 @@ pub fn read_input<'a, H: Shelf>(
 }
 
 /// A machine with an image and an input.
-pub fn load<'a>(alloc: Global, image: &Image, input: &[u8]) -> Result<Machine<FlatMem>, Refusal<'a>>
+pub fn load<'a>(alloc: Global, image: &Image, input: &[u8]) -> Result<Machine<PagedMem>, Refusal<'a>>
     ensures { MatchResult result (λ machine. Loads image.now input.now machine)
         (λ refusal. RefusesLoad input.now (refused_of refusal)) }
 {
@@ -56,6 +60,57 @@ pub fn load<'a>(alloc: Global, image: &Image, input: &[u8]) -> Result<Machine<Fl
         Ok(machine) => Ok(machine),
         Err(LoadFault::InputTooLong(length, limit)) => Err(Refusal::InputTooLong(length, limit)),
         Err(LoadFault::OutOfMemory) => Err(Refusal::OutOfMemory),
+    }
+}
+
+// A machine with an image and the input that is named.
+fn begin_anew<'a, H: Shelf>(
+    alloc: Global,
+    shelf: &mut H,
+    image: &Image,
+    file: Option<&'a str>,
+) -> Result<Machine<PagedMem>, Refusal<'a>>
+    ensures { let named = option_map (λ file. file.now) file.entry in
+        (image_name : List ℕ) → MatchResult result
+        (λ machine. IsBegun image.now named None machine (H.state shelf.old) (H.state shelf.new))
+        (λ refusal. RefusesMachine image_name image.now named None (H.state shelf.old)
+        (H.state shelf.new) (refused_of refusal)) }
+{
+    let input = match read_input(alloc, shelf, file) {
+        Ok(input) => input,
+        Err(refusal) => return Err(refusal),
+    };
+    match load(alloc, image, &input) {
+        Ok(machine) => Ok(machine),
+        Err(refusal) => Err(refusal),
+    }
+}
+
+// A machine with what a run begins with: the memory of the file that is named to be resumed, and
+// without one the image's own with the input that is named.
+fn begin<'a, H: Shelf>(
+    alloc: Global,
+    shelf: &mut H,
+    image_name: &'a str,
+    image: &Image,
+    input: Option<&'a str>,
+    resume: Option<&'a str>,
+) -> Result<Machine<PagedMem>, Refusal<'a>>
+    ensures { let input = option_map (λ file. file.now) input.entry in
+        let resume = option_map (λ file. file.now) resume.entry in MatchResult result
+        (λ machine. IsBegun image.now input resume machine (H.state shelf.old) (H.state shelf.new))
+        (λ refusal. RefusesMachine image_name.now image.now input resume (H.state shelf.old)
+        (H.state shelf.new) (refused_of refusal)) }
+{
+    match resume {
+        Some(name) => match resume_image(alloc, shelf, image_name, image, name) {
+            Ok(machine) => Ok(machine),
+            Err(refusal) => Err(refusal),
+        },
+        None => match begin_anew(alloc, shelf, image, input) {
+            Ok(machine) => Ok(machine),
+            Err(refusal) => Err(refusal),
+        },
     }
 }
 
@@ -137,7 +192,7 @@ fn needs_form(form: Form, trace: &Trace) -> bool
 // The variables of a machine's image, where they are to be shown.
 fn shown_variables(
     alloc: Global,
-    machine: &Machine<FlatMem>,
+    machine: &Machine<PagedMem>,
     vars: bool,
 ) -> Result<Option<Vec<Var>>, NoMemory>
     ensures { IfOk result (λ variables. variables_of (λ vars. vars.items) variables
@@ -150,23 +205,22 @@ fn shown_variables(
     }
 }
 
-/// Runs an image with the input and under the periods that the options name.
-pub fn run_image<'a, H: Shelf>(
+// The machine on which an image was run.
+fn run_machine<'a, H: Shelf>(
     alloc: Global,
     shelf: &mut H,
+    image_name: &'a str,
     image: &Image,
     options: RunOptions<'a>,
-) -> Result<Run, Refusal<'a>>
-    ensures { MatchResult result (λ run. Ran (options_meaning options.entry) image.now
-        run.machine.form (ended_of run.machine) (variables_of (λ vars. vars.items) run.variables)
+    resume: Option<&'a str>,
+) -> Result<Machine<PagedMem>, Refusal<'a>>
+    ensures { let resume = option_map (λ file. file.now) resume.entry in MatchResult result
+        (λ machine. RanOn resume (options_meaning options.entry) image.now machine
         (H.state shelf.old) (H.state shelf.new))
-        (λ refusal. RefusesRun image.now (options_meaning options.entry) (H.state shelf.old) (H.state shelf.new) (refused_of refusal)) }
+        (λ refusal. RefusesRun image_name.now image.now resume (options_meaning options.entry)
+        (H.state shelf.old) (H.state shelf.new) (refused_of refusal)) }
 {
-    let input = match read_input(alloc, shelf, options.input) {
-        Ok(input) => input,
-        Err(refusal) => return Err(refusal),
-    };
-    let mut machine = match load(alloc, image, &input) {
+    let mut machine = match begin(alloc, shelf, image_name, image, options.input, resume) {
         Ok(machine) => machine,
         Err(refusal) => return Err(refusal),
     };
@@ -178,8 +232,36 @@ pub fn run_image<'a, H: Shelf>(
         return Err(Refusal::TornStores);
     }
     machine.run(&trace);
-    match shown_variables(alloc, &machine, options.vars) {
-        Ok(variables) => Ok(Run { machine, variables }),
-        Err(NoMemory::OutOfMemory) => Err(Refusal::OutOfMemory),
+    Ok(machine)
+}
+
+/// Runs an image with the input or the memory and under the periods that the options name, and
+/// stores its last memory where they name a file for it.
+pub fn run_image<'a, H: Shelf>(
+    alloc: Global,
+    shelf: &mut H,
+    image_name: &'a str,
+    image: &Image,
+    options: RunOptions<'a>,
+    resume: Option<&'a str>,
+) -> Result<Run, Refusal<'a>>
+    ensures { let resume = option_map (λ file. file.now) resume.entry in MatchResult result
+        (λ run. Ran resume (options_meaning options.entry) image.now run.machine.form
+        (ended_of run.machine) (variables_of (λ vars. vars.items) run.variables)
+        (H.state shelf.old) (H.state shelf.new))
+        (λ refusal. RefusesRun image_name.now image.now resume (options_meaning options.entry)
+        (H.state shelf.old) (H.state shelf.new) (refused_of refusal)) }
+{
+    let machine = match run_machine(alloc, shelf, image_name, image, options, resume) {
+        Ok(machine) => machine,
+        Err(refusal) => return Err(refusal),
+    };
+    let variables = match shown_variables(alloc, &machine, options.vars) {
+        Ok(variables) => variables,
+        Err(NoMemory::OutOfMemory) => return Err(Refusal::OutOfMemory),
+    };
+    match save_memory(alloc, shelf, &machine, options.save) {
+        Ok(()) => Ok(Run { machine, variables }),
+        Err(refusal) => Err(refusal),
     }
 }

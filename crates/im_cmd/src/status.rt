@@ -46,8 +46,14 @@ pub const INPUT_TOO_LONG: u8 = 13;
 /// Another file is longer than files of its kind may be.
 pub const FILE_TOO_LONG: u8 = 14;
 
+/// A file holds no memory.
+pub const REFUSED_MEMORY: u8 = 15;
+
 /// A period ends within a store, which the image's form doesn't allow.
 pub const TORN_STORES: u8 = 16;
+
+/// An image and a memory have different forms.
+pub const OTHER_FORM: u8 = 17;
 
 /// The exit status of a command that is refused.
 pub fn status_of_refusal(refusal: &Refusal) -> u8
@@ -62,6 +68,8 @@ pub fn status_of_refusal(refusal: &Refusal) -> u8
         Refusal::FileTooLong(_, _) => FILE_TOO_LONG,
         Refusal::NotATrace(_, _) => REFUSED_TRACE,
         Refusal::TornStores => TORN_STORES,
+        Refusal::NotAMemory(_, _) => REFUSED_MEMORY,
+        Refusal::FormsDiffer(_, _, _, _) => OTHER_FORM,
         Refusal::OutOfMemory => STARVED,
     }
 }

@@ -9,7 +9,7 @@ use im_io::Shelf;
 use std::alloc::Global;
 
 /// Bytes of an image's file.
-const IMAGE_LIMIT: u64 = 64 * 1024 * 1024;
+pub const IMAGE_LIMIT: u64 = 64 * 1024 * 1024;
 
 /// The image that a file holds.
 pub fn read_stored<'a, H: Shelf>(

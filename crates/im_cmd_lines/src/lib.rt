@@ -7,6 +7,7 @@ mod ending;
 mod evaluations;
 mod generations;
 mod instruction;
+mod memory_fault;
 mod numerals;
 mod refusal;
 mod reports;

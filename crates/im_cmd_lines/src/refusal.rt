@@ -1,11 +1,14 @@
 ghost use Rattle.std.specs.Prelude.{◌++◌, codes, decimal};
 ghost use Rattle.im_io.specs.Whole.{Sends};
-ghost use Rattle.im_cmd_lines.specs.Refusals.{FileTooLong, InputTooLong, NotAnImage, NotATrace, refusal_line, refused_of};
+ghost use Rattle.im_cmd_lines.specs.Refusals.{FileTooLong, InputTooLong, NotAnImage, NotATrace};
+ghost use Rattle.im_cmd_lines.specs.Refusals.{refusal_line, refused_of};
 
+use crate::memory_fault::{send_forms_differ, send_memory_fault};
 use crate::source_fault::send_source_fault;
 use im_fault::SourceFault;
-use im_image::ImageFault;
+use im_image::{Form, ImageFault};
 use im_io::{Failed, Sink, send, send_pieces};
+use im_mem_file::MemoryFault;
 use im_num::NoMemory;
 use im_power::TraceFault;
 use itoa::Buffer;
@@ -24,6 +27,9 @@ pub enum Refusal<'a> {
     NotATrace(&'a str, TraceFault),
     /// A period ends within a store, and the image's form is 0.
     TornStores,
+    NotAMemory(&'a str, MemoryFault),
+    /// The image and its form, and the memory's file and its form.
+    FormsDiffer(&'a str, Form, &'a str, Form),
     OutOfMemory,
 }
 
@@ -46,8 +52,13 @@ pub fn send_about<S: Sink>(sink: &mut S, name: &str, wrong: &[u8]) -> Result<(),
     send_pieces(sink, &[b"intermit: ", name.as_bytes(), b": ", wrong, b"\n"])
 }
 
-// The same, where a number says more.
-fn send_numbered<S: Sink>(sink: &mut S, name: &str, wrong: &[u8], number: u64) -> Result<(), Failed>
+/// The same, where a number says more.
+pub fn send_numbered<S: Sink>(
+    sink: &mut S,
+    name: &str,
+    wrong: &[u8],
+    number: u64,
+) -> Result<(), Failed>
     ensures { Sends (codes "intermit: " ++ (name.now ++ codes ": " ++ (wrong.now ++ decimal number))
         ++ codes "\n") result (S.state sink.old) (S.state sink.new) }
 {
@@ -150,6 +161,10 @@ pub fn send_refusal_line<S: Sink>(sink: &mut S, refusal: &Refusal) -> Result<(),
         Refusal::FileTooLong(name, limit) => send_file_too_long(sink, name, *limit),
         Refusal::NotATrace(name, fault) => send_trace_fault(sink, name, fault),
         Refusal::TornStores => send(sink, b"intermit: torn stores need form 1\n"),
+        Refusal::NotAMemory(name, fault) => send_memory_fault(sink, name, fault),
+        Refusal::FormsDiffer(image, form, memory, other) => {
+            send_forms_differ(sink, image, *form, memory, *other)
+        }
         Refusal::OutOfMemory => send(sink, b"intermit: no memory\n"),
     }
 }

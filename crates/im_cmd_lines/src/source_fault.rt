@@ -5,7 +5,7 @@ ghost use Rattle.im_fault.specs.Texts.{limit_of, quantity_name};
 ghost use Rattle.im_cmd_lines.specs.Refusals.{BadSource, refusal_line};
 
 use crate::refusal::send_about;
-use im_fault::{LineFault, Quantity, SourceFault};
+use im_fault::{LineFault, Place, Quantity, SourceFault};
 use im_io::{Failed, Sink, send_pieces};
 use itoa::Buffer;
 
@@ -62,22 +62,22 @@ fn send_numbered_in_line<S: Sink>(
 fn send_line_fault<S: Sink>(
     sink: &mut S,
     name: &str,
-    line: u32,
+    place: Place,
     why: LineFault,
 ) -> Result<(), Failed>
-    ensures { Sends (refusal_line (BadSource name.now (Line line why))) result (S.state sink.old)
+    ensures { Sends (refusal_line (BadSource name.now (Line place why))) result (S.state sink.old)
         (S.state sink.new) }
 {
     match why {
-        LineFault::BadByte => send_in_line(sink, name, line, b"bad byte"),
-        LineFault::OpenComment => send_in_line(sink, name, line, b"open comment"),
-        LineFault::OpenLiteral => send_in_line(sink, name, line, b"open literal"),
-        LineFault::BadEscape => send_in_line(sink, name, line, b"bad escape"),
-        LineFault::BadNumber => send_in_line(sink, name, line, b"bad number"),
-        LineFault::BadDirective => send_in_line(sink, name, line, b"bad directive"),
-        LineFault::Syntax => send_in_line(sink, name, line, b"syntax"),
-        LineFault::Nesting => send_in_line(sink, name, line, b"nesting over 200"),
-        LineFault::Rule(number) => send_numbered_in_line(sink, name, line, b"rule ", number),
+        LineFault::BadByte => send_in_line(sink, name, place.line, b"bad byte"),
+        LineFault::OpenComment => send_in_line(sink, name, place.line, b"open comment"),
+        LineFault::OpenLiteral => send_in_line(sink, name, place.line, b"open literal"),
+        LineFault::BadEscape => send_in_line(sink, name, place.line, b"bad escape"),
+        LineFault::BadNumber => send_in_line(sink, name, place.line, b"bad number"),
+        LineFault::BadDirective => send_in_line(sink, name, place.line, b"bad directive"),
+        LineFault::Syntax => send_in_line(sink, name, place.line, b"syntax"),
+        LineFault::Nesting => send_in_line(sink, name, place.line, b"nesting over 200"),
+        LineFault::Rule(number) => send_numbered_in_line(sink, name, place.line, b"rule ", number),
     }
 }
 
@@ -159,7 +159,7 @@ pub fn send_source_fault<S: Sink>(
         (S.state sink.new) }
 {
     match fault {
-        SourceFault::Line { line, why } => send_line_fault(sink, name, *line, *why),
+        SourceFault::Line { place, why } => send_line_fault(sink, name, *place, *why),
         SourceFault::Limit { quantity, count } => send_limit(sink, name, *quantity, *count),
         SourceFault::OutOfMemory => send_about(sink, name, b"no memory"),
     }

@@ -10,7 +10,7 @@ use Rattle.clap.proofs.OnLiterals.{clap_on_literals}
 use Rattle.clap.proofs.WalkLemmas.{both}
 use Rattle.im_cmd_words.specs.declared.command.BuildOptions.{BuildOptions}
 use Rattle.im_cmd_words.specs.Numbers.{is_numeral, number_between, optional_between, starts_plainly, within}
-use Rattle.im_cmd_words.specs.Named.{Asked, build_asked, building_words, builds, default_evaluation, default_options, eval_asked, evaluates, is_option, named, report_asked, reports, run_asked, runs}
+use Rattle.im_cmd_words.specs.Named.{Asked, Writes, build_asked, building_words, builds, default_evaluation, default_options, eval_asked, evaluates, is_option, named, report_asked, reports, run_asked, runs}
 use Rattle.im_cmd_words.proofs.OperandLemmas.{asked_of, build_named, command_shape, eval_named, report_named, run_named}
 use Rattle.im_cmd_words.proofs.OptionLemmas.{Word, given_words, number_accepted, number_fault, plain_value, text_of, value, words_read}
 
@@ -251,44 +251,30 @@ eval_read source a (Some stack) (Some out_cap) (Some max_gap) bytes most limit d
     words_read eval_asked (command_shape 6) (value source ∷ [] ++ building_read (Some stack) (Some out_cap) (Some max_gap)) (refl, refl, a, refl, (refl, (refl, refl, b.is_value, refl, (ap before_option b.accepted, (refl, refl, m.is_value, refl, (ap before_option m.accepted, (refl, refl, g.is_value, refl, tt))))))) (ap number_fault g.accepted) refl
     ∙ (λ i. with_numbers (λ building. evaluates source building default_evaluation) (d i) (e i) (f i))
 
-pub build_options : (program source image : Text) (stack out_cap max_gap : Option Text) (bytes most : ℕ) (limit : Option ℕ) → is_option source ≡ false → is_option image ≡ false
-    → number_between 256 1048576 (unwrap_or stack (codes "65536")) ≡ Some bytes
-    → number_between 0 1048576 (unwrap_or out_cap (codes "1048576")) ≡ Some most
-    → optional_between 160 1000000 max_gap ≡ Some limit
-    → named (program ∷ codes "build" ∷ source ∷ image ∷ building_words stack out_cap max_gap) ≡ Some (builds source image (record { stack = bytes; out_cap = most; max_gap = limit }))
-build_options program source image stack out_cap max_gap bytes most limit a i d e f =
+pub build_options : (program source image : Text) (stack out_cap max_gap : Option Text) (building : BuildOptions) → is_option source ≡ false → is_option image ≡ false → Writes stack out_cap max_gap building
+    → named (program ∷ codes "build" ∷ source ∷ image ∷ building_words stack out_cap max_gap) ≡ Some (builds source image building)
+build_options program source image stack out_cap max_gap building a i w =
     build_named program (source ∷ image ∷ building_words stack out_cap max_gap)
     ∙ ap (λ words. asked_of build_asked (command_shape 0) (source ∷ image ∷ words)) (sym (texts_read stack out_cap max_gap))
-    ∙ build_read source image a i stack out_cap max_gap bytes most limit d e f
+    ∙ build_read source image a i stack out_cap max_gap building.stack building.out_cap building.max_gap w.bytes w.most w.gap
 
-pub run_building : (program source image : Text) (stack out_cap max_gap : Option Text) (bytes most : ℕ) (limit : Option ℕ) → is_option source ≡ false → is_option image ≡ false
-    → number_between 256 1048576 (unwrap_or stack (codes "65536")) ≡ Some bytes
-    → number_between 0 1048576 (unwrap_or out_cap (codes "1048576")) ≡ Some most
-    → optional_between 160 1000000 max_gap ≡ Some limit
-    → named (program ∷ codes "run" ∷ source ∷ image ∷ building_words stack out_cap max_gap)
-    ≡ Some (runs source image (record { stack = bytes; out_cap = most; max_gap = limit }) default_options)
-run_building program source image stack out_cap max_gap bytes most limit a i d e f =
+pub run_building : (program source image : Text) (stack out_cap max_gap : Option Text) (building : BuildOptions) → is_option source ≡ false → is_option image ≡ false → Writes stack out_cap max_gap building
+    → named (program ∷ codes "run" ∷ source ∷ image ∷ building_words stack out_cap max_gap) ≡ Some (runs source image building default_options)
+run_building program source image stack out_cap max_gap building a i w =
     run_named program (source ∷ image ∷ building_words stack out_cap max_gap)
     ∙ ap (λ words. asked_of run_asked (command_shape 1) (source ∷ image ∷ words)) (sym (texts_read stack out_cap max_gap))
-    ∙ run_read source image a i stack out_cap max_gap bytes most limit d e f
+    ∙ run_read source image a i stack out_cap max_gap building.stack building.out_cap building.max_gap w.bytes w.most w.gap
 
-pub report_options : (program source : Text) (stack out_cap max_gap : Option Text) (bytes most : ℕ) (limit : Option ℕ) → is_option source ≡ false
-    → number_between 256 1048576 (unwrap_or stack (codes "65536")) ≡ Some bytes
-    → number_between 0 1048576 (unwrap_or out_cap (codes "1048576")) ≡ Some most
-    → optional_between 160 1000000 max_gap ≡ Some limit
-    → named (program ∷ codes "report" ∷ source ∷ building_words stack out_cap max_gap) ≡ Some (reports source (record { stack = bytes; out_cap = most; max_gap = limit }))
-report_options program source stack out_cap max_gap bytes most limit a d e f =
+pub report_options : (program source : Text) (stack out_cap max_gap : Option Text) (building : BuildOptions) → is_option source ≡ false → Writes stack out_cap max_gap building
+    → named (program ∷ codes "report" ∷ source ∷ building_words stack out_cap max_gap) ≡ Some (reports source building)
+report_options program source stack out_cap max_gap building a w =
     report_named program (source ∷ building_words stack out_cap max_gap)
     ∙ ap (λ words. asked_of report_asked (command_shape 5) (source ∷ words)) (sym (texts_read stack out_cap max_gap))
-    ∙ report_read source a stack out_cap max_gap bytes most limit d e f
+    ∙ report_read source a stack out_cap max_gap building.stack building.out_cap building.max_gap w.bytes w.most w.gap
 
-pub eval_building : (program source : Text) (stack out_cap max_gap : Option Text) (bytes most : ℕ) (limit : Option ℕ) → is_option source ≡ false
-    → number_between 256 1048576 (unwrap_or stack (codes "65536")) ≡ Some bytes
-    → number_between 0 1048576 (unwrap_or out_cap (codes "1048576")) ≡ Some most
-    → optional_between 160 1000000 max_gap ≡ Some limit
-    → named (program ∷ codes "eval" ∷ source ∷ building_words stack out_cap max_gap)
-    ≡ Some (evaluates source (record { stack = bytes; out_cap = most; max_gap = limit }) default_evaluation)
-eval_building program source stack out_cap max_gap bytes most limit a d e f =
+pub eval_building : (program source : Text) (stack out_cap max_gap : Option Text) (building : BuildOptions) → is_option source ≡ false → Writes stack out_cap max_gap building
+    → named (program ∷ codes "eval" ∷ source ∷ building_words stack out_cap max_gap) ≡ Some (evaluates source building default_evaluation)
+eval_building program source stack out_cap max_gap building a w =
     eval_named program (source ∷ building_words stack out_cap max_gap)
     ∙ ap (λ words. asked_of eval_asked (command_shape 6) (source ∷ words)) (sym (texts_read stack out_cap max_gap))
-    ∙ eval_read source a stack out_cap max_gap bytes most limit d e f
+    ∙ eval_read source a stack out_cap max_gap building.stack building.out_cap building.max_gap w.bytes w.most w.gap

@@ -11,7 +11,7 @@ use Rattle.im_cmd_words.proofs.OptionLemmas.{Word, before_flag, flag_read, flag_
 abbrev evaluation_read : Option Text → Option Text → Bool → List Word
 evaluation_read input fuel vars = given_words (codes "--input") input ++ (given_words (codes "--fuel") fuel ++ flag_words vars)
 
-texts_read : (input fuel : Option Text) (vars : Bool) → map text_of (evaluation_read input fuel vars) ≡ evaluation_words input fuel vars
+texts_read : (input fuel : Option Text) (vars : Bool) → map text_of (evaluation_read input fuel vars) ≡ evaluation_words (record { input = input; fuel = 0; vars = vars }) fuel
 texts_read input fuel vars =
     given_read (codes "--input") input _ ∙ ap (λ xs. given (codes "--input") input ++ xs) (given_read (codes "--fuel") fuel (flag_words vars)
     ∙ ap (λ xs. given (codes "--fuel") fuel ++ xs) (flag_read vars))
@@ -50,11 +50,10 @@ eval_read source a (Some input) (Some text) true number b e =
     words_read eval_asked (command_shape 6) (value source ∷ [] ++ evaluation_read (Some input) (Some text) true) (refl, refl, a, refl, (refl, (refl, refl, b, refl, (refl, (refl, refl, number_plain text number e, refl, (ap before_flag (number_taken text number e), tt)))))) refl refl
     ∙ ap (with_fuel (evaluates source default_building) (Some input) true) e
 
-pub eval_options : (program source : Text) (input fuel : Option Text) (vars : Bool) (number : ℕ) → is_option source ≡ false → IfSome input (λ file. is_option file ≡ false)
-    → plain_number (unwrap_or fuel (codes "1000000")) ≡ Some number
-    → named (program ∷ codes "eval" ∷ source ∷ evaluation_words input fuel vars)
-    ≡ Some (evaluates source default_building (record { input = input; fuel = number; vars = vars }))
-eval_options program source input fuel vars number a b e =
-    eval_named program (source ∷ evaluation_words input fuel vars)
-    ∙ ap (λ words. asked_of eval_asked (command_shape 6) (source ∷ words)) (sym (texts_read input fuel vars))
-    ∙ eval_read source a input fuel vars number b e
+pub eval_options : (program source : Text) (options : Evaluation) (fuel : Option Text) → is_option source ≡ false → IfSome options.input (λ file. is_option file ≡ false)
+    → plain_number (unwrap_or fuel (codes "1000000")) ≡ Some options.fuel
+    → named (program ∷ codes "eval" ∷ source ∷ evaluation_words options fuel) ≡ Some (evaluates source default_building options)
+eval_options program source options fuel a b e =
+    eval_named program (source ∷ evaluation_words options fuel)
+    ∙ ap (λ words. asked_of eval_asked (command_shape 6) (source ∷ words)) (sym (texts_read options.input fuel options.vars))
+    ∙ eval_read source a options.input fuel options.vars options.fuel b e

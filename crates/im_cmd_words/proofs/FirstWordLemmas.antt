@@ -98,6 +98,6 @@ abbrev label : ℕ → Text × List Text
 label k = slice_index_or (names_of line) k ([], [])
 
 pub no_command : (name : Text) → bytes_eq (codes "build") name ≡ false → bytes_eq (codes "run") name ≡ false → bytes_eq (codes "exec") name ≡ false
-    → bytes_eq (codes "dump") name ≡ false → bytes_eq (codes "upgrade") name ≡ false → bytes_eq (codes "report") name ≡ false → bytes_eq (codes "eval") name ≡ false → bytes_eq (codes "gen") name ≡ false → bytes_eq (codes "help") name ≡ false → subcommand_met (names_of line) idle name ≡ None
-no_command name b r x d u p v g h = λ i. option_map (λ s. s.0) (cond (b i || false) (Some (label 0)) (cond (r i || false) (Some (label 1))
-    (cond (x i || false) (Some (label 2)) (cond (d i || false) (Some (label 3)) (cond (u i || false) (Some (label 4)) (cond (p i || false) (Some (label 5)) (cond (v i || false) (Some (label 6)) (cond (g i || false) (Some (label 7)) (cond (h i || false) (Some (label 8)) None)))))))))
+    → bytes_eq (codes "dump") name ≡ false → bytes_eq (codes "upgrade") name ≡ false → bytes_eq (codes "report") name ≡ false → bytes_eq (codes "eval") name ≡ false → bytes_eq (codes "gen") name ≡ false → bytes_eq (codes "check") name ≡ false → bytes_eq (codes "help") name ≡ false → subcommand_met (names_of line) idle name ≡ None
+no_command name b r x d u p v g k h = λ i. option_map (λ s. s.0) (cond (b i || false) (Some (label 0)) (cond (r i || false) (Some (label 1))
+    (cond (x i || false) (Some (label 2)) (cond (d i || false) (Some (label 3)) (cond (u i || false) (Some (label 4)) (cond (p i || false) (Some (label 5)) (cond (v i || false) (Some (label 6)) (cond (g i || false) (Some (label 7)) (cond (k i || false) (Some (label 8)) (cond (h i || false) (Some (label 9)) None))))))))))

@@ -2,6 +2,7 @@ pub mod NumberLemmas
 pub mod NamedLemmas
 pub mod OperandLemmas
 pub mod OptionLemmas
+pub mod MemoryLemmas
 pub mod EvaluationLemmas
 pub mod BuildingLemmas
 pub mod RowLemmas

@@ -11,7 +11,7 @@ use Rattle.clap.proofs.FaultLemmas.{stopped_fault}
 use Rattle.clap.proofs.WalkLemmas.{walk_stopped}
 use Rattle.clap.proofs.OnLiterals.{clap_on_literals}
 use Rattle.im_cmd_words.specs.Table.{command_line}
-use Rattle.im_cmd_words.specs.Named.{Asked, asked, build_asked, builds, default_building, default_evaluation, default_options, dump_asked, dumps, eval_asked, evaluates, exec_asked, executes, gen_asked, is_option, named, report_asked, reports, run_asked, runs, upgrade_asked, upgrades}
+use Rattle.im_cmd_words.specs.Named.{Asked, asked, build_asked, builds, check_asked, checks, default_building, default_evaluation, default_options, dump_asked, dumps, eval_asked, evaluates, exec_asked, executes, gen_asked, is_option, named, report_asked, reports, run_asked, runs, upgrade_asked, upgrades}
 
 -- ---- one word
 
@@ -168,6 +168,12 @@ gen_named program rest =
     name_answer (codes "gen") rest refl refl program
     ∙ ap (λ (k : Kinds). if is_empty k then gen_asked (rows_after (command_shape 7).rules [] rest) else None) (last_fault (level_fault (command_shape 7) [] nothing_held rest false []))
 
+pub check_named : (program : Text) (rest : List Text) → named (program ∷ codes "check" ∷ rest) ≡ asked_of check_asked (command_shape 8) rest
+unfolding clap_on_literals
+check_named program rest =
+    name_answer (codes "check") rest refl refl program
+    ∙ ap (λ (k : Kinds). if is_empty k then check_asked (rows_after (command_shape 8).rules [] rest) else None) (last_fault (level_fault (command_shape 8) [] nothing_held rest false []))
+
 -- ---- the words after it
 
 -- what the end of the walk and its fault ask for
@@ -206,7 +212,7 @@ pub dump_files : (program image : Text) → is_option image ≡ false → named 
 unfolding clap_on_literals
 dump_files program image plain = dump_named program (image ∷ []) ∙ one_file dump_asked (command_shape 3) image plain
 
-pub exec_files : (program image : Text) → is_option image ≡ false → named (program ∷ codes "exec" ∷ image ∷ []) ≡ Some (executes image default_options)
+pub exec_files : (program image : Text) → is_option image ≡ false → named (program ∷ codes "exec" ∷ image ∷ []) ≡ Some (executes image default_options None)
 unfolding clap_on_literals
 exec_files program image plain = exec_named program (image ∷ []) ∙ one_file exec_asked (command_shape 2) image plain
 
@@ -232,6 +238,10 @@ pub upgrade_files : (program old new : Text) → is_option old ≡ false → is_
     → named (program ∷ codes "upgrade" ∷ old ∷ new ∷ []) ≡ Some (upgrades old new)
 unfolding clap_on_literals
 upgrade_files program old new plain also = upgrade_named program (old ∷ new ∷ []) ∙ two_files upgrade_asked (command_shape 4) old new plain also refl refl
+
+pub check_files : (program source : Text) → is_option source ≡ false → named (program ∷ codes "check" ∷ source ∷ []) ≡ Some (checks source)
+unfolding clap_on_literals
+check_files program source plain = check_named program (source ∷ []) ∙ one_file check_asked (command_shape 8) source plain
 
 -- what clap finds, and its fault, at each command
 
@@ -298,3 +308,11 @@ gen_fault program rest = name_fault (codes "gen") rest refl refl program ∙ las
 pub gen_found : (program : Text) (rest : List Text) → subcommand_of command_line (program ∷ codes "gen" ∷ rest) ≡ Some (codes "gen", rows_after (command_shape 7).rules [] rest)
 unfolding clap_on_literals
 gen_found program rest = name_found (codes "gen") rest refl refl program
+
+pub check_word_fault : (program : Text) (rest : List Text) → fault_of command_line (program ∷ codes "check" ∷ rest) ≡ level_fault (command_shape 8) [] nothing_held rest false []
+unfolding clap_on_literals
+check_word_fault program rest = name_fault (codes "check") rest refl refl program ∙ last_fault (level_fault (command_shape 8) [] nothing_held rest false [])
+
+pub check_word_found : (program : Text) (rest : List Text) → subcommand_of command_line (program ∷ codes "check" ∷ rest) ≡ Some (codes "check", rows_after (command_shape 8).rules [] rest)
+unfolding clap_on_literals
+check_word_found program rest = name_found (codes "check") rest refl refl program

@@ -14,7 +14,7 @@ use Rattle.clap.specs.declared.error.kind.ErrorKind.TheVariants.{ValueValidation
 use Rattle.clap.proofs.OnLiterals.{clap_on_literals}
 use Rattle.clap.proofs.WalkLemmas.{both}
 use Rattle.im_cmd_words.specs.Numbers.{is_numeral, plain_number, starts_plainly}
-use Rattle.im_cmd_words.specs.Named.{Asked, Options, default_building, exec_asked, executes, given, is_option, named, option_words, run_asked, runs}
+use Rattle.im_cmd_words.specs.Named.{Asked, Options, Words, default_building, exec_asked, executes, given, is_option, named, option_words, run_asked, runs}
 use Rattle.im_cmd_words.proofs.OperandLemmas.{asked_of, command_shape, ended, exec_named, run_named, file_turn, file_walked, taken, taken_fault}
 
 -- ---- numbers
@@ -144,9 +144,16 @@ abbrev options_read : Option Text → Option Text → Option Text → Bool → L
 options_read input trace steps vars =
     given_words (codes "--input") input ++ (given_words (codes "--trace") trace ++ (given_words (codes "--steps") steps ++ flag_words vars))
 
+abbrev with_steps : Option Text → Option Text → Bool → ℕ → Options
+with_steps input trace vars steps = record { input = input; trace = trace; steps = steps; vars = vars; save = None }
+
+-- a run from the image's own first memory
+abbrev begins : Text → Options → Asked
+begins image options = executes image options None
+
 abbrev with_number : (Options → Asked) → Option Text → Option Text → Bool → Option ℕ → Option Asked
 with_number asks input trace vars number =
-    option_and_then (λ options. Some (asks options)) (option_map (λ n. record { input = input; trace = trace; steps = n; vars = vars }) number)
+    option_and_then (λ options. Some (asks options)) (option_map (λ n. with_steps input trace vars n) number)
 
 pub number_taken : (text : Text) (number : ℕ) → plain_number text ≡ Some number → is_signed_in (pos 0) (pos 4294967295) text ≡ true
 number_taken text number e = let facts = plain_facts text number e in let below = facts.below in number_accepted 0 4294967295 text facts.begins facts.numeral below (omega arith) (omega (arith, below))
@@ -162,7 +169,7 @@ pub flag_read : (vars : Bool) → map text_of (flag_words vars) ≡ (if vars the
 flag_read true = refl
 flag_read false = refl
 
-texts_read : (input trace steps : Option Text) (vars : Bool) → map text_of (options_read input trace steps vars) ≡ option_words input trace steps vars
+texts_read : (input trace steps : Option Text) (vars : Bool) → map text_of (options_read input trace steps vars) ≡ option_words (with_steps input trace vars 0) steps
 texts_read input trace steps vars =
     given_read (codes "--input") input _ ∙ ap (λ xs. given (codes "--input") input ++ xs) (given_read (codes "--trace") trace _
     ∙ ap (λ xs. given (codes "--trace") trace ++ xs) (given_read (codes "--steps") steps (flag_words vars)
@@ -173,66 +180,66 @@ abbrev Reads : (Options → Asked) → (List Row → Option Asked) → Shape →
 Reads asks asked s files = (input trace steps : Option Text) (vars : Bool) (number : ℕ) → IfSome input (λ file. is_option file ≡ false)
     → IfSome trace (λ file. is_option file ≡ false) → plain_number (unwrap_or steps (codes "100000000")) ≡ Some number
     → asked_of asked s (map text_of (files ++ options_read input trace steps vars))
-    ≡ Some (asks (record { input = input; trace = trace; steps = number; vars = vars }))
+    ≡ Some (asks (with_steps input trace vars number))
 
-exec_read : (image : Text) → is_option image ≡ false → Reads (executes image) exec_asked (command_shape 2) (value image ∷ [])
+exec_read : (image : Text) → is_option image ≡ false → Reads (begins image) exec_asked (command_shape 2) (value image ∷ [])
 unfolding clap_on_literals
 exec_read image a None None None false number b c e =
     words_read exec_asked (command_shape 2) (value image ∷ [] ++ options_read None None None false) (refl, refl, a, refl, tt) refl refl
-    ∙ ap (with_number (executes image) None None false) e
+    ∙ ap (with_number (begins image) None None false) e
 exec_read image a None None None true number b c e =
     words_read exec_asked (command_shape 2) (value image ∷ [] ++ options_read None None None true) (refl, refl, a, refl, (refl, tt)) refl refl
-    ∙ ap (with_number (executes image) None None true) e
+    ∙ ap (with_number (begins image) None None true) e
 exec_read image a None None (Some text) false number b c e =
     words_read exec_asked (command_shape 2) (value image ∷ [] ++ options_read None None (Some text) false) (refl, refl, a, refl, (refl, (refl, refl, number_plain text number e, refl, tt))) (ap number_fault (number_taken text number e)) refl
-    ∙ ap (with_number (executes image) None None false) e
+    ∙ ap (with_number (begins image) None None false) e
 exec_read image a None None (Some text) true number b c e =
     words_read exec_asked (command_shape 2) (value image ∷ [] ++ options_read None None (Some text) true) (refl, refl, a, refl, (refl, (refl, refl, number_plain text number e, refl, (ap before_flag (number_taken text number e), tt)))) refl refl
-    ∙ ap (with_number (executes image) None None true) e
+    ∙ ap (with_number (begins image) None None true) e
 exec_read image a None (Some trace) None false number b c e =
     words_read exec_asked (command_shape 2) (value image ∷ [] ++ options_read None (Some trace) None false) (refl, refl, a, refl, (refl, (refl, refl, c, refl, tt))) refl refl
-    ∙ ap (with_number (executes image) None (Some trace) false) e
+    ∙ ap (with_number (begins image) None (Some trace) false) e
 exec_read image a None (Some trace) None true number b c e =
     words_read exec_asked (command_shape 2) (value image ∷ [] ++ options_read None (Some trace) None true) (refl, refl, a, refl, (refl, (refl, refl, c, refl, (refl, tt)))) refl refl
-    ∙ ap (with_number (executes image) None (Some trace) true) e
+    ∙ ap (with_number (begins image) None (Some trace) true) e
 exec_read image a None (Some trace) (Some text) false number b c e =
     words_read exec_asked (command_shape 2) (value image ∷ [] ++ options_read None (Some trace) (Some text) false) (refl, refl, a, refl, (refl, (refl, refl, c, refl, (refl, (refl, refl, number_plain text number e, refl, tt))))) (ap number_fault (number_taken text number e)) refl
-    ∙ ap (with_number (executes image) None (Some trace) false) e
+    ∙ ap (with_number (begins image) None (Some trace) false) e
 exec_read image a None (Some trace) (Some text) true number b c e =
     words_read exec_asked (command_shape 2) (value image ∷ [] ++ options_read None (Some trace) (Some text) true) (refl, refl, a, refl, (refl, (refl, refl, c, refl, (refl, (refl, refl, number_plain text number e, refl, (ap before_flag (number_taken text number e), tt)))))) refl refl
-    ∙ ap (with_number (executes image) None (Some trace) true) e
+    ∙ ap (with_number (begins image) None (Some trace) true) e
 exec_read image a (Some input) None None false number b c e =
     words_read exec_asked (command_shape 2) (value image ∷ [] ++ options_read (Some input) None None false) (refl, refl, a, refl, (refl, (refl, refl, b, refl, tt))) refl refl
-    ∙ ap (with_number (executes image) (Some input) None false) e
+    ∙ ap (with_number (begins image) (Some input) None false) e
 exec_read image a (Some input) None None true number b c e =
     words_read exec_asked (command_shape 2) (value image ∷ [] ++ options_read (Some input) None None true) (refl, refl, a, refl, (refl, (refl, refl, b, refl, (refl, tt)))) refl refl
-    ∙ ap (with_number (executes image) (Some input) None true) e
+    ∙ ap (with_number (begins image) (Some input) None true) e
 exec_read image a (Some input) None (Some text) false number b c e =
     words_read exec_asked (command_shape 2) (value image ∷ [] ++ options_read (Some input) None (Some text) false) (refl, refl, a, refl, (refl, (refl, refl, b, refl, (refl, (refl, refl, number_plain text number e, refl, tt))))) (ap number_fault (number_taken text number e)) refl
-    ∙ ap (with_number (executes image) (Some input) None false) e
+    ∙ ap (with_number (begins image) (Some input) None false) e
 exec_read image a (Some input) None (Some text) true number b c e =
     words_read exec_asked (command_shape 2) (value image ∷ [] ++ options_read (Some input) None (Some text) true) (refl, refl, a, refl, (refl, (refl, refl, b, refl, (refl, (refl, refl, number_plain text number e, refl, (ap before_flag (number_taken text number e), tt)))))) refl refl
-    ∙ ap (with_number (executes image) (Some input) None true) e
+    ∙ ap (with_number (begins image) (Some input) None true) e
 exec_read image a (Some input) (Some trace) None false number b c e =
     words_read exec_asked (command_shape 2) (value image ∷ [] ++ options_read (Some input) (Some trace) None false) (refl, refl, a, refl, (refl, (refl, refl, b, refl, (refl, (refl, refl, c, refl, tt))))) refl refl
-    ∙ ap (with_number (executes image) (Some input) (Some trace) false) e
+    ∙ ap (with_number (begins image) (Some input) (Some trace) false) e
 exec_read image a (Some input) (Some trace) None true number b c e =
     words_read exec_asked (command_shape 2) (value image ∷ [] ++ options_read (Some input) (Some trace) None true) (refl, refl, a, refl, (refl, (refl, refl, b, refl, (refl, (refl, refl, c, refl, (refl, tt)))))) refl refl
-    ∙ ap (with_number (executes image) (Some input) (Some trace) true) e
+    ∙ ap (with_number (begins image) (Some input) (Some trace) true) e
 exec_read image a (Some input) (Some trace) (Some text) false number b c e =
     words_read exec_asked (command_shape 2) (value image ∷ [] ++ options_read (Some input) (Some trace) (Some text) false) (refl, refl, a, refl, (refl, (refl, refl, b, refl, (refl, (refl, refl, c, refl, (refl, (refl, refl, number_plain text number e, refl, tt))))))) (ap number_fault (number_taken text number e)) refl
-    ∙ ap (with_number (executes image) (Some input) (Some trace) false) e
+    ∙ ap (with_number (begins image) (Some input) (Some trace) false) e
 exec_read image a (Some input) (Some trace) (Some text) true number b c e =
     words_read exec_asked (command_shape 2) (value image ∷ [] ++ options_read (Some input) (Some trace) (Some text) true) (refl, refl, a, refl, (refl, (refl, refl, b, refl, (refl, (refl, refl, c, refl, (refl, (refl, refl, number_plain text number e, refl, (ap before_flag (number_taken text number e), tt)))))))) refl refl
-    ∙ ap (with_number (executes image) (Some input) (Some trace) true) e
+    ∙ ap (with_number (begins image) (Some input) (Some trace) true) e
 
-pub exec_options : (program image : Text) (input trace steps : Option Text) (vars : Bool) (number : ℕ) → is_option image ≡ false → IfSome input (λ file. is_option file ≡ false)
-    → IfSome trace (λ file. is_option file ≡ false) → plain_number (unwrap_or steps (codes "100000000")) ≡ Some number
-    → named (program ∷ codes "exec" ∷ image ∷ option_words input trace steps vars) ≡ Some (executes image (record { input = input; trace = trace; steps = number; vars = vars }))
-exec_options program image input trace steps vars number a b c e =
-    exec_named program (image ∷ option_words input trace steps vars)
-    ∙ ap (λ words. asked_of exec_asked (command_shape 2) (image ∷ words)) (sym (texts_read input trace steps vars))
-    ∙ exec_read image a input trace steps vars number b c e
+pub exec_options : (program image : Text) (options : Options) (steps : Option Text) → is_option image ≡ false → Words options steps
+    → named (program ∷ codes "exec" ∷ image ∷ option_words options steps) ≡ Some (executes image options None)
+exec_options program image options steps a w =
+    exec_named program (image ∷ option_words options steps)
+    ∙ ap (λ words. asked_of exec_asked (command_shape 2) (image ∷ words)) (sym (texts_read options.input options.trace steps options.vars))
+    ∙ exec_read image a options.input options.trace steps options.vars options.steps w.input w.trace w.number
+    ∙ ap (λ file. Some (executes image (record options { save = file }) None)) (sym w.save)
 
 run_read : (source image : Text) → is_option source ≡ false → is_option image ≡ false → Reads (runs source image default_building) run_asked (command_shape 1) (value source ∷ value image ∷ [])
 unfolding clap_on_literals
@@ -285,11 +292,10 @@ run_read source image a i (Some input) (Some trace) (Some text) true number b c 
     words_read run_asked (command_shape 1) (value source ∷ value image ∷ [] ++ options_read (Some input) (Some trace) (Some text) true) (refl, refl, a, refl, (refl, refl, i, refl, (refl, (refl, refl, b, refl, (refl, (refl, refl, c, refl, (refl, (refl, refl, number_plain text number e, refl, (ap before_flag (number_taken text number e), tt))))))))) refl refl
     ∙ ap (with_number (runs source image default_building) (Some input) (Some trace) true) e
 
-pub run_options : (program source image : Text) (input trace steps : Option Text) (vars : Bool) (number : ℕ) → is_option source ≡ false → is_option image ≡ false
-    → IfSome input (λ file. is_option file ≡ false) → IfSome trace (λ file. is_option file ≡ false) → plain_number (unwrap_or steps (codes "100000000")) ≡ Some number
-    → named (program ∷ codes "run" ∷ source ∷ image ∷ option_words input trace steps vars)
-    ≡ Some (runs source image default_building (record { input = input; trace = trace; steps = number; vars = vars }))
-run_options program source image input trace steps vars number a i b c e =
-    run_named program (source ∷ image ∷ option_words input trace steps vars)
-    ∙ ap (λ words. asked_of run_asked (command_shape 1) (source ∷ image ∷ words)) (sym (texts_read input trace steps vars))
-    ∙ run_read source image a i input trace steps vars number b c e
+pub run_options : (program source image : Text) (options : Options) (steps : Option Text) → is_option source ≡ false → is_option image ≡ false → Words options steps
+    → named (program ∷ codes "run" ∷ source ∷ image ∷ option_words options steps) ≡ Some (runs source image default_building options)
+run_options program source image options steps a i w =
+    run_named program (source ∷ image ∷ option_words options steps)
+    ∙ ap (λ words. asked_of run_asked (command_shape 1) (source ∷ image ∷ words)) (sym (texts_read options.input options.trace steps options.vars))
+    ∙ run_read source image a i options.input options.trace steps options.vars options.steps w.input w.trace w.number
+    ∙ ap (λ file. Some (runs source image default_building (record options { save = file }))) (sym w.save)

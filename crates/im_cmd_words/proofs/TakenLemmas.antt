@@ -19,8 +19,8 @@ use Rattle.im_cmd_words.specs.Table.{command_line}
 use Rattle.clap.proofs.WalkLemmas.{both}
 use Rattle.im_cmd_words.specs.Numbers.{is_numeral, number_between, optional_between, plain_number, starts_plainly, within}
 use Rattle.im_cmd_words.specs.declared.command.BuildOptions.{BuildOptions}
-use Rattle.im_cmd_words.specs.Named.{Asked, build_asked, building_asked, builds, dump_asked, dumps, eval_asked, evaluates, exec_asked, executes, gen_asked, generates, is_faultless, IsPlain, is_set, named, number_asked, report_asked, reports, run_asked, runs, text_found, upgrade_asked, upgrades}
-use Rattle.im_cmd_words.proofs.OperandLemmas.{asked_of, build_fault, build_found, build_named, command_shape, dump_fault, dump_found, dump_named, eval_fault, eval_found, eval_named, exec_fault, exec_found, exec_named, gen_fault, gen_found, gen_named, report_fault, report_found, report_named, run_fault, run_found, run_named, upgrade_fault, upgrade_found, upgrade_named}
+use Rattle.im_cmd_words.specs.Named.{Asked, build_asked, building_asked, builds, check_asked, checks, dump_asked, dumps, eval_asked, evaluates, exec_asked, executes, gen_asked, generates, is_faultless, IsPlain, is_set, named, number_asked, report_asked, reports, run_asked, runs, text_found, upgrade_asked, upgrades}
+use Rattle.im_cmd_words.proofs.OperandLemmas.{asked_of, build_fault, build_found, build_named, check_named, check_word_fault, check_word_found, command_shape, dump_fault, dump_found, dump_named, eval_fault, eval_found, eval_named, exec_fault, exec_found, exec_named, gen_fault, gen_found, gen_named, report_fault, report_found, report_named, run_fault, run_found, run_named, upgrade_fault, upgrade_found, upgrade_named}
 use Rattle.im_cmd_words.proofs.FirstWordLemmas.{dashes_refused, first_refused, help_refused, name_refused, no_command, nothing_refused, stray_kind}
 use Rattle.im_cmd_words.proofs.OptionLemmas.{first_apart, reads}
 use Rattle.im_cmd_words.proofs.RowLemmas.{AllGood, AllSound, Fits, Holds, Sets, Sound, defaults_give, first_good, fits, optional_good, given_holds, kinds_accept, level_good, no_kind, none_first, none_then, set_sound, text_fit, is_number}
@@ -124,7 +124,7 @@ run_sound = (
                 (
                   set_sound (rule_at 1 8) (λ values rows. refl) (text_fit (rule_at 1 8) refl (λ again rows e. refl)),
                   refl,
-                  (λ again values rows e g. g, refl, tt),
+                  (text_sound (rule_at 1 9) (λ values rows. refl) refl (λ again rows e. no_kind _ _ e), refl, (λ again values rows e g. g, refl, tt)),
                 ),
               ),
             ),
@@ -149,7 +149,15 @@ exec_sound = (
         set_sound (rule_at 2 3) (λ values rows. refl) (number_fit (rule_at 2 3) (codes "steps") refl (λ again rows e. no_kind _ _ e)
             (λ again v vs rows e. kinds_accept false (Signed (pos 0) (pos 4294967295)) (v ∷ vs) (none_then (repeat_fault again (codes "steps") rows) _ (none_then (range_kinds 1 1 (length (v ∷ vs))) _ e)))),
         refl,
-        (set_sound (rule_at 2 4) (λ values rows. refl) (text_fit (rule_at 2 4) refl (λ again rows e. refl)), refl, (λ again values rows e g. g, refl, tt)),
+        (
+          set_sound (rule_at 2 4) (λ values rows. refl) (text_fit (rule_at 2 4) refl (λ again rows e. refl)),
+          refl,
+          (
+            text_sound (rule_at 2 5) (λ values rows. refl) refl (λ again rows e. no_kind _ _ e),
+            refl,
+            (text_sound (rule_at 2 6) (λ values rows. refl) refl (λ again rows e. no_kind _ _ e), refl, (λ again values rows e g. g, refl, tt)),
+          ),
+        ),
       ),
     ),
   ),
@@ -225,6 +233,9 @@ gen_sound = (
   refl,
   (λ again values rows e g. g, refl, tt),
 )
+
+check_sound : AllSound (command_shape 8).rules
+check_sound = (text_sound (rule_at 8 0) (λ values rows. refl) refl (λ again rows e. no_kind _ _ e), refl, (λ again values rows e g. g, refl, tt))
 
 -- ---- a level of the table without a fault
 
@@ -384,6 +395,12 @@ gen_read words e plain =
     let held = given_holds (codes "N") rows facts.0 (required_one _ facts.1) in
     ap (λ o. is_some (option_map generates o)) (count_of rows held plain).1
 
+check_read : (words : List Text) → Passes 8 words → is_some (check_asked (rows_at 8 words)) ≡ true
+check_read words e =
+    let facts = level_facts (command_shape 8) check_sound words e in
+    let source = given_holds (codes "SRC") (rows_at 8 words) facts.0 (required_one _ facts.1) in
+    ap (λ o. is_some (option_map checks o)) source.is_first
+
 exec_read : (words : List Text) → Passes 2 words → ArePlain (in_rows (rows_at 2 words)) → is_some (exec_asked (rows_at 2 words)) ≡ true
 exec_read words e plain =
     let rows = rows_at 2 words in
@@ -392,11 +409,12 @@ exec_read words e plain =
     let steps = first_good (codes "steps") rows facts.0
     (defaults_give (take 3 (command_shape 2).rules) (drop 4 (command_shape 2).rules) (rule_at 2 3) (rows_before 2 words) refl refl) in
     let number = steps_of rows steps plain in
-    (λ i. is_some (option_and_then (λ options. option_map (λ m. executes m options) (image.is_first i)) (option_map (λ n. record {
+    (λ i. is_some (option_and_then (λ options. option_map (λ m. executes m options (first_of (codes "resume") rows)) (image.is_first i)) (option_map (λ n. record {
       input = first_of (codes "input") rows;
       trace = first_of (codes "trace") rows;
       steps = n;
       vars = is_set (codes "vars") rows;
+      save = first_of (codes "save") rows;
     }) (number.1 i))))
 
 run_read : (words : List Text) → Passes 1 words → ArePlain (in_rows (rows_at 1 words)) → is_some (run_asked (rows_at 1 words)) ≡ true
@@ -419,6 +437,7 @@ run_read words e plain =
       trace = first_of (codes "trace") rows;
       steps = n;
       vars = is_set (codes "vars") rows;
+      save = first_of (codes "save") rows;
     }) (number.1 i))) (building.1 i)))
 
 -- ---- the words after the program's name
@@ -467,37 +486,42 @@ gen_taken : (program : Text) (rest : List Text) → Taken (program ∷ codes "ge
 gen_taken program rest = row_taken gen_asked (codes "gen") 7 (program ∷ codes "gen" ∷ rest) rest
     (gen_named program rest) (gen_fault program rest) (gen_found program rest) (gen_read rest)
 
+check_taken : (program : Text) (rest : List Text) → Taken (program ∷ codes "check" ∷ rest)
+check_taken program rest = row_taken check_asked (codes "check") 8 (program ∷ codes "check" ∷ rest) rest
+    (check_named program rest) (check_word_fault program rest) (check_word_found program rest) (λ e plain. check_read rest e)
+
 -- a first word that is this text
 same_taken : (text name program : Text) (rest : List Text) → bytes_eq text name ≡ true → Taken (program ∷ text ∷ rest) → Taken (program ∷ name ∷ rest)
 same_taken text name program rest same taken = subst (λ (n : Text). Taken (program ∷ n ∷ rest)) ((bytes_eq-Decides text name).0 same) taken
 
 other_taken : (name program : Text) (rest : List Text) → bytes_eq (codes "build") name ≡ false → bytes_eq (codes "run") name ≡ false → bytes_eq (codes "exec") name ≡ false
-    → bytes_eq (codes "dump") name ≡ false → bytes_eq (codes "upgrade") name ≡ false → bytes_eq (codes "report") name ≡ false → bytes_eq (codes "eval") name ≡ false → bytes_eq (codes "gen") name ≡ false → bytes_eq (codes "help") name ≡ false
+    → bytes_eq (codes "dump") name ≡ false → bytes_eq (codes "upgrade") name ≡ false → bytes_eq (codes "report") name ≡ false → bytes_eq (codes "eval") name ≡ false → bytes_eq (codes "gen") name ≡ false → bytes_eq (codes "check") name ≡ false → bytes_eq (codes "help") name ≡ false
     → (b : Bool) → bytes_eq name (codes "--") ≡ b → Taken (program ∷ name ∷ rest)
-other_taken name program rest b r x d u p v g h true t =
+other_taken name program rest b r x d u p v g k h true t =
     subst (λ (n : Text). Taken (program ∷ n ∷ rest)) (sym ((bytes_eq-Decides name (codes "--")).0 t)) (λ faultless plain. absurd (dashes_refused program rest faultless))
-other_taken name program rest b r x d u p v g h false t = λ faultless plain. absurd (first_refused program name rest (stray_kind name (no_command name b r x d u p v g h) t) faultless)
+other_taken name program rest b r x d u p v g k h false t = λ faultless plain. absurd (first_refused program name rest (stray_kind name (no_command name b r x d u p v g k h) t) faultless)
 
-word_taken : (name program : Text) (rest : List Text) (b r x d u p v g h : Bool) → bytes_eq (codes "build") name ≡ b → bytes_eq (codes "run") name ≡ r
+word_taken : (name program : Text) (rest : List Text) (b r x d u p v g k h : Bool) → bytes_eq (codes "build") name ≡ b → bytes_eq (codes "run") name ≡ r
     → bytes_eq (codes "exec") name ≡ x → bytes_eq (codes "dump") name ≡ d → bytes_eq (codes "upgrade") name ≡ u → bytes_eq (codes "report") name ≡ p
-    → bytes_eq (codes "eval") name ≡ v → bytes_eq (codes "gen") name ≡ g → bytes_eq (codes "help") name ≡ h → Taken (program ∷ name ∷ rest)
-word_taken name program rest true r x d u p v g h bt rt xt dt ut pt vt gt ht = same_taken (codes "build") name program rest bt (build_taken program rest)
-word_taken name program rest false true x d u p v g h bt rt xt dt ut pt vt gt ht = same_taken (codes "run") name program rest rt (run_taken program rest)
-word_taken name program rest false false true d u p v g h bt rt xt dt ut pt vt gt ht = same_taken (codes "exec") name program rest xt (exec_taken program rest)
-word_taken name program rest false false false true u p v g h bt rt xt dt ut pt vt gt ht = same_taken (codes "dump") name program rest dt (dump_taken program rest)
-word_taken name program rest false false false false true p v g h bt rt xt dt ut pt vt gt ht = same_taken (codes "upgrade") name program rest ut (upgrade_taken program rest)
-word_taken name program rest false false false false false true v g h bt rt xt dt ut pt vt gt ht = same_taken (codes "report") name program rest pt (report_taken program rest)
-word_taken name program rest false false false false false false true g h bt rt xt dt ut pt vt gt ht = same_taken (codes "eval") name program rest vt (eval_taken program rest)
-word_taken name program rest false false false false false false false true h bt rt xt dt ut pt vt gt ht = same_taken (codes "gen") name program rest gt (gen_taken program rest)
-word_taken name program rest false false false false false false false false true bt rt xt dt ut pt vt gt ht =
+    → bytes_eq (codes "eval") name ≡ v → bytes_eq (codes "gen") name ≡ g → bytes_eq (codes "check") name ≡ k → bytes_eq (codes "help") name ≡ h → Taken (program ∷ name ∷ rest)
+word_taken name program rest true r x d u p v g k h bt rt xt dt ut pt vt gt kt ht = same_taken (codes "build") name program rest bt (build_taken program rest)
+word_taken name program rest false true x d u p v g k h bt rt xt dt ut pt vt gt kt ht = same_taken (codes "run") name program rest rt (run_taken program rest)
+word_taken name program rest false false true d u p v g k h bt rt xt dt ut pt vt gt kt ht = same_taken (codes "exec") name program rest xt (exec_taken program rest)
+word_taken name program rest false false false true u p v g k h bt rt xt dt ut pt vt gt kt ht = same_taken (codes "dump") name program rest dt (dump_taken program rest)
+word_taken name program rest false false false false true p v g k h bt rt xt dt ut pt vt gt kt ht = same_taken (codes "upgrade") name program rest ut (upgrade_taken program rest)
+word_taken name program rest false false false false false true v g k h bt rt xt dt ut pt vt gt kt ht = same_taken (codes "report") name program rest pt (report_taken program rest)
+word_taken name program rest false false false false false false true g k h bt rt xt dt ut pt vt gt kt ht = same_taken (codes "eval") name program rest vt (eval_taken program rest)
+word_taken name program rest false false false false false false false true k h bt rt xt dt ut pt vt gt kt ht = same_taken (codes "gen") name program rest gt (gen_taken program rest)
+word_taken name program rest false false false false false false false false true h bt rt xt dt ut pt vt gt kt ht = same_taken (codes "check") name program rest kt (check_taken program rest)
+word_taken name program rest false false false false false false false false false true bt rt xt dt ut pt vt gt kt ht =
     same_taken (codes "help") name program rest ht (λ faultless plain. absurd (help_refused program rest faultless))
-word_taken name program rest false false false false false false false false false bt rt xt dt ut pt vt gt ht =
-    other_taken name program rest bt rt xt dt ut pt vt gt ht (bytes_eq name (codes "--")) refl
+word_taken name program rest false false false false false false false false false false bt rt xt dt ut pt vt gt kt ht =
+    other_taken name program rest bt rt xt dt ut pt vt gt kt ht (bytes_eq name (codes "--")) refl
 
 pub faultless_taken : (words : List Text) → is_faultless words ≡ true → IsPlain (codes "steps") words → IsPlain (codes "fuel") words → IsPlain (codes "stack") words
     → IsPlain (codes "out-cap") words → IsPlain (codes "max-gap") words → IsPlain (codes "N") words → is_some (named words) ≡ true
 faultless_taken [] e steps fuel stack out_cap gap count = absurd (nothing_refused e)
 faultless_taken (program ∷ []) e steps fuel stack out_cap gap count = absurd (name_refused program e)
 faultless_taken (program ∷ name ∷ rest) e steps fuel stack out_cap gap count =
-    word_taken name program rest _ _ _ _ _ _ _ _ _ refl refl refl refl refl refl refl refl refl e
+    word_taken name program rest _ _ _ _ _ _ _ _ _ _ refl refl refl refl refl refl refl refl refl refl e
     (record { steps = steps; fuel = fuel; stack = stack; out_cap = out_cap; gap = gap; count = count })

@@ -1,12 +1,13 @@
 -- The command that words name.
-use Rattle.std.specs.Prelude.{◌≡◌, ◌≤◌, ℕ, ◌==◌, Bool, true, false, Option, Some, None, IfSome}
+use Rattle.std.specs.Prelude.{◌≡◌, ◌≤◌, ℕ, ◌==◌, Bool, true, false, Option, Some, None, IfSome, ⊤}
 use Rattle.std.specs.Prelude.{List, [], ◌∷◌, ◌++◌, codes}
-use Rattle.std.specs.Prelude.{if◌then◌else◌, option_and_then, option_map}
+use Rattle.std.specs.Prelude.{if◌then◌else◌, option_and_then, option_map, unwrap_or}
 use Rattle.std.specs.Option.{option_map_or}
 use Rattle.std.specs.Str.{bytes_eq}
 use Rattle.clap.specs.Words.{Row, Text, fault_of, first_of, subcommand_of}
 use Rattle.clap.specs.Walk.{is_empty}
-use Rattle.im_cmd_words.specs.Numbers.{number_between, optional_between, plain_number, starts_plainly}
+use Rattle.im_cmd_words.specs.Numbers.{number_between, optional_between, plain_number}
+use Rattle.im_cmd_words.specs.Numbers.{starts_plainly}
 use Rattle.im_cmd_words.specs.Table.{command_line}
 use Rattle.im_cmd_words.specs.declared.command.BuildOptions.{BuildOptions}
 use Rattle.im_cmd_words.specs.declared.command.EvalOptions.{EvalOptions}
@@ -15,22 +16,29 @@ use Rattle.im_cmd_words.specs.declared.command.Command.{Command}
 use Rattle.im_cmd_words.specs.declared.command.Command.TheVariants as command
 use Rattle.im_cmd_words.specs.declared.fault.WordsFault.{WordsFault}
 use Rattle.im_cmd_words.specs.declared.fault.WordsFault.TheVariants as fault
-use Rattle.std.specs.Prelude.{⊤}
 
 -- how an image is run: the files that are named for its input and its periods, the steps of the
--- one period that there is without a trace, and whether the variables are shown
+-- one period that there is without a trace, whether the variables are shown, and the file that is
+-- named for the last memory
 pub record Options : Type 0 where
   pub input : Option Text
   pub trace : Option Text
   pub steps : ℕ
   pub vars : Bool
+  pub save : Option Text
 
 -- the options where no word gives any
 abbrev pub default_options : Options
-default_options = record { input = None; trace = None; steps = 100000000; vars = false }
+default_options = record {
+  input = None;
+  trace = None;
+  steps = 100000000;
+  vars = false;
+  save = None;
+}
 
--- how a source is evaluated: the file that is named for its input, its fuel, and whether the variables
--- are shown
+-- how a source is evaluated: the file that is named for its input, its fuel, and whether the
+-- variables are shown
 pub record Evaluation : Type 0 where
   pub input : Option Text
   pub fuel : ℕ
@@ -52,32 +60,55 @@ abbrev pub given : Text → Option Text → List Text
 given option None = []
 given option (Some value) = option ∷ value ∷ []
 
--- the words of the options that are given, in the table's order
-abbrev pub option_words : Option Text → Option Text → Option Text → Bool → List Text
-option_words input trace steps vars = given (codes "--input") input
-    ++ (given (codes "--trace") trace ++ (given (codes "--steps") steps
-    ++ (if vars then codes "--vars" ∷ [] else [])))
+-- the words of a run's options but --save, by the text of its number
+abbrev pub option_words : Options → Option Text → List Text
+option_words options steps = given (codes "--input") options.input
+    ++ (given (codes "--trace") options.trace ++ (given (codes "--steps") steps
+    ++ (if options.vars then codes "--vars" ∷ [] else [])))
 
--- the words of an evaluation's options
-abbrev pub evaluation_words : Option Text → Option Text → Bool → List Text
-evaluation_words input fuel vars = given (codes "--input") input
-    ++ (given (codes "--fuel") fuel ++ (if vars then codes "--vars" ∷ [] else []))
+-- these words stand for these options: the files are none that look like options, the text of the
+-- number writes it, and no file is named for the last memory
+pub record Words (options : Options) (steps : Option Text) : Type 0 where
+  pub input : IfSome options.input (λ file. is_option file ≡ false)
+  pub trace : IfSome options.trace (λ file. is_option file ≡ false)
+  pub number : plain_number (unwrap_or steps (codes "100000000")) ≡ Some options.steps
+  pub save : options.save ≡ None
+
+-- the words of the files of memories, the one that gets the last and the one that a run begins with
+abbrev pub memory_words : Option Text → Option Text → List Text
+memory_words save resume = given (codes "--save") save ++ given (codes "--resume") resume
+
+-- the options of a run whose last memory is stored
+abbrev pub saving_options : Option Text → Options
+saving_options save = record default_options { save = save }
+
+-- the words of an evaluation's options, by the text of its fuel
+abbrev pub evaluation_words : Evaluation → Option Text → List Text
+evaluation_words options fuel = given (codes "--input") options.input
+    ++ (given (codes "--fuel") fuel ++ (if options.vars then codes "--vars" ∷ [] else []))
 
 -- the words of a build's options
 abbrev pub building_words : Option Text → Option Text → Option Text → List Text
 building_words stack out_cap max_gap = given (codes "--stack") stack
     ++ (given (codes "--out-cap") out_cap ++ given (codes "--max-gap") max_gap)
 
+-- the texts of a build's numbers write these options
+pub record Writes (stack out_cap max_gap : Option Text) (building : BuildOptions) : Type 0 where
+  pub bytes : number_between 256 1048576 (unwrap_or stack (codes "65536")) ≡ Some building.stack
+  pub most : number_between 0 1048576 (unwrap_or out_cap (codes "1048576")) ≡ Some building.out_cap
+  pub gap : optional_between 160 1000000 max_gap ≡ Some building.max_gap
+
 -- what a command asks for, its files by name
 pub data Asked : Type 0 where
   builds : Text → Text → BuildOptions → Asked
   runs : Text → Text → BuildOptions → Options → Asked
-  executes : Text → Options → Asked
+  executes : Text → Options → Option Text → Asked
   dumps : Text → Asked
   upgrades : Text → Text → Asked
   reports : Text → BuildOptions → Asked
   evaluates : Text → BuildOptions → Evaluation → Asked
   generates : ℕ → Asked
+  checks : Text → Asked
 
 -- SRC and IMG
 abbrev pub pair_asked : (Text → Text → Asked) → List Row → Option Asked
@@ -94,6 +125,7 @@ options_asked rows = option_map (λ steps. record {
   trace = first_of (codes "trace") rows;
   steps = steps;
   vars = is_set (codes "vars") rows;
+  save = first_of (codes "save") rows;
 }) (option_and_then plain_number (first_of (codes "steps") rows))
 
 -- the number in these bounds that the option or operand of this name has
@@ -102,7 +134,8 @@ number_asked name least most rows =
     option_and_then (number_between least most) (first_of name rows)
 
 abbrev pub building_asked : List Row → Option BuildOptions
-building_asked rows = option_and_then (λ stack. option_and_then (λ out_cap. option_map (λ max_gap. record {
+building_asked rows = option_and_then (λ stack. option_and_then (λ out_cap.
+    option_map (λ max_gap. record {
   stack = stack;
   out_cap = out_cap;
   max_gap = max_gap;
@@ -119,7 +152,8 @@ run_asked rows = option_and_then (λ building. option_and_then (λ options.
     (options_asked rows)) (building_asked rows)
 
 abbrev pub exec_asked : List Row → Option Asked
-exec_asked rows = option_and_then (λ options. option_map (λ image. executes image options)
+exec_asked rows = option_and_then (λ options. option_map (λ image.
+    executes image options (first_of (codes "resume") rows))
     (first_of (codes "IMG") rows)) (options_asked rows)
 
 abbrev pub dump_asked : List Row → Option Asked
@@ -150,6 +184,9 @@ eval_asked rows = option_and_then (λ building. option_and_then (λ evaluation.
 abbrev pub gen_asked : List Row → Option Asked
 gen_asked rows = option_map generates (number_asked (codes "N") 1 300 rows)
 
+abbrev pub check_asked : List Row → Option Asked
+check_asked rows = option_map checks (first_of (codes "SRC") rows)
+
 -- what the command of this name asks for, by what was found for the words after it
 abbrev pub asked_by : Text → List Row → Option Asked
 asked_by name rows = if bytes_eq name (codes "build") then build_asked rows
@@ -159,7 +196,8 @@ asked_by name rows = if bytes_eq name (codes "build") then build_asked rows
     else (if bytes_eq name (codes "upgrade") then upgrade_asked rows
     else (if bytes_eq name (codes "report") then report_asked rows
     else (if bytes_eq name (codes "eval") then eval_asked rows
-    else (if bytes_eq name (codes "gen") then gen_asked rows else None)))))))
+    else (if bytes_eq name (codes "gen") then gen_asked rows
+    else (if bytes_eq name (codes "check") then check_asked rows else None))))))))
 
 abbrev pub asked : Option (Text × List Row) → Option Asked
 asked = option_and_then (λ found. asked_by found.0 found.1)
@@ -196,10 +234,11 @@ HasBounds (command.Build source image building) = IsInBounds building
 HasBounds (command.Run source image building options) = IsInBounds building
 HasBounds (command.Report source building) = IsInBounds building
 HasBounds (command.Eval source building options) = IsInBounds building
-HasBounds (command.Exec image options) = ⊤
+HasBounds (command.Exec image options resume) = ⊤
 HasBounds (command.Dump image) = ⊤
 HasBounds (command.Upgrade old new) = ⊤
 HasBounds (command.Gen count) = ⊤
+HasBounds (command.Check source) = ⊤
 
 abbrev pub options_meaning : RunOptions → Options
 options_meaning options = record {
@@ -207,6 +246,7 @@ options_meaning options = record {
   trace = option_map (λ file. file.now) options.trace;
   steps = options.steps;
   vars = options.vars;
+  save = option_map (λ file. file.now) options.save;
 }
 
 abbrev pub evaluation_meaning : EvalOptions → Evaluation
@@ -221,13 +261,15 @@ abbrev pub meaning : Command → Asked
 meaning (command.Build source image building) = builds source.now image.now building
 meaning (command.Run source image building options) =
     runs source.now image.now building (options_meaning options)
-meaning (command.Exec image options) = executes image.now (options_meaning options)
+meaning (command.Exec image options resume) =
+    executes image.now (options_meaning options) (option_map (λ file. file.now) resume)
 meaning (command.Dump image) = dumps image.now
 meaning (command.Upgrade old new) = upgrades old.now new.now
 meaning (command.Report source building) = reports source.now building
 meaning (command.Eval source building options) =
     evaluates source.now building (evaluation_meaning options)
 meaning (command.Gen count) = generates count
+meaning (command.Check source) = checks source.now
 
 abbrev pub IsUsage : WordsFault → Type 0
 IsUsage (fault.Usage text) = ⊤

@@ -41,15 +41,17 @@ row name rules = record (new_shape name) { rules = rules }
 abbrev pub file_options : List Rule
 file_options = valued (codes "input") ∷ valued (codes "trace") ∷ []
 
--- --steps N --vars, how long a run lasts and whether its variables are shown
+-- --steps N --vars --save F, how long a run lasts, whether its variables are shown, and the file
+-- that gets its last memory
 abbrev pub step_options : List Rule
-step_options =
-    numbered (codes "steps") (codes "100000000") 0 4294967295 ∷ flag (codes "vars") ∷ []
+step_options = numbered (codes "steps") (codes "100000000") 0 4294967295
+    ∷ flag (codes "vars") ∷ valued (codes "save") ∷ []
 
 abbrev pub run_options : List Rule
 run_options = file_options ++ step_options
 
--- --stack N --out-cap N --max-gap N, the bytes of an image's stack and of its output, and its longest gap at most
+-- --stack N --out-cap N --max-gap N, the bytes of an image's stack and of its output, and its
+-- longest gap at most
 abbrev pub build_options : List Rule
 build_options = numbered (codes "stack") (codes "65536") 256 1048576
     ∷ numbered (codes "out-cap") (codes "1048576") 0 1048576
@@ -64,9 +66,13 @@ abbrev pub run_row : Shape
 run_row = row (codes "run")
     (operand (codes "SRC") ∷ operand (codes "IMG") ∷ build_options ++ run_options)
 
+-- --resume F, the file of the memory that a run begins with
+abbrev pub exec_options : List Rule
+exec_options = run_options ++ (valued (codes "resume") ∷ [])
+
 -- exec IMG, with options
 abbrev pub exec_row : Shape
-exec_row = row (codes "exec") (operand (codes "IMG") ∷ run_options)
+exec_row = row (codes "exec") (operand (codes "IMG") ∷ exec_options)
 
 -- dump IMG
 abbrev pub dump_row : Shape
@@ -93,9 +99,14 @@ eval_row = row (codes "eval") (operand (codes "SRC") ∷ build_options ++ eval_o
 abbrev pub gen_row : Shape
 gen_row = row (codes "gen") (counted (codes "N") 1 300 ∷ [])
 
+-- check SRC
+abbrev pub check_row : Shape
+check_row = row (codes "check") (operand (codes "SRC") ∷ [])
+
 -- the program's own name, and then one of the commands
 abbrev pub command_line : App
 command_line = record {
   top = record (new_shape (codes "intermit")) { is_leaf = false; subcommand_required = true };
-  subs = build_row ∷ run_row ∷ exec_row ∷ dump_row ∷ upgrade_row ∷ report_row ∷ eval_row ∷ gen_row ∷ [];
+  subs = build_row ∷ run_row ∷ exec_row ∷ dump_row ∷ upgrade_row ∷ report_row ∷ eval_row
+      ∷ gen_row ∷ check_row ∷ [];
 }

@@ -14,16 +14,17 @@ pub enum Command<'a> {
         building: BuildOptions,
         options: RunOptions<'a>,
     },
-    /// Run an image.
+    /// Run an image, from its own first memory or from the memory of the file that is named for it.
     Exec {
         image: &'a str,
         options: RunOptions<'a>,
+        resume: Option<&'a str>,
     },
     /// Show what an image holds.
     Dump {
         image: &'a str,
     },
-    /// Store the image of the first name under the second, in version 2.
+    /// Store the image or the memory of the first name under the second, in version 2.
     Upgrade {
         old: &'a str,
         new: &'a str,
@@ -43,6 +44,10 @@ pub enum Command<'a> {
     Gen {
         count: u32,
     },
+    /// Tell where and why the source isn't compiled, or nothing.
+    Check {
+        source: &'a str,
+    },
 }
 
 /// How a source is built.
@@ -52,7 +57,7 @@ pub struct BuildOptions {
     pub stack: u32,
     /// Bytes of output that the image has room for, 0 to 1048576.
     pub out_cap: u32,
-    /// The longest gap that is asked for in instructions, 160 to 1000000. Where none is, any will do.
+    /// The longest gap that is asked for, 160 to 1000000 instructions. Where none is, any will do.
     pub max_gap: Option<u32>,
 }
 
@@ -61,7 +66,7 @@ pub struct BuildOptions {
 pub struct EvalOptions<'a> {
     /// The file that the program reads. Where none is named its input is empty.
     pub input: Option<&'a str>,
-    /// How much fuel there is: a call, a turn of a loop, a byte read and a byte written take a unit each.
+    /// Units of fuel. A call, a turn of a loop, a byte read and a byte written take one each.
     pub fuel: u32,
     /// Whether the variables are shown at the end.
     pub vars: bool,
@@ -78,4 +83,6 @@ pub struct RunOptions<'a> {
     pub steps: u32,
     /// Whether the variables are shown at the end.
     pub vars: bool,
+    /// The file that gets the last memory. Where none is named it is stored nowhere.
+    pub save: Option<&'a str>,
 }

@@ -12,7 +12,7 @@ mod words;
 pub use command::{BuildOptions, Command, EvalOptions, RunOptions};
 pub use fault::WordsFault;
 pub use laws::{
-    building_law, evaluation_law, faultless_law, files_law, generation_law, options_law,
-    words_refused_law, words_taken_law,
+    building_law, evaluation_law, faultless_law, files_law, generation_law, memories_law,
+    options_law, words_refused_law, words_taken_law,
 };
 pub use words::read_words;

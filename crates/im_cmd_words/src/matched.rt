@@ -1,9 +1,11 @@
 ghost use Rattle.std.specs.Prelude.{◌≡◌, ◌≤◌, IfSome, codes, option_map};
 ghost use Rattle.clap.specs.Words.{first_of, found_of, rows_of, subcommand_rows_of};
-ghost use Rattle.im_cmd_words.specs.Named.{asked, asked_by, build_asked, building_asked, dump_asked, exec_asked, gen_asked};
+ghost use Rattle.im_cmd_words.specs.Named.{asked, asked_by, build_asked, building_asked};
+ghost use Rattle.im_cmd_words.specs.Named.{check_asked, dump_asked, exec_asked, gen_asked};
 ghost use Rattle.im_cmd_words.specs.Named.{eval_asked, evaluation_asked, evaluation_meaning};
-ghost use Rattle.im_cmd_words.specs.Named.{is_set, meaning, number_asked, options_asked, options_meaning};
-ghost use Rattle.im_cmd_words.specs.Named.{HasBounds, IsInBounds, report_asked, run_asked, upgrade_asked};
+ghost use Rattle.im_cmd_words.specs.Named.{HasBounds, IsInBounds, is_set, meaning, number_asked};
+ghost use Rattle.im_cmd_words.specs.Named.{options_asked, options_meaning, report_asked, run_asked};
+ghost use Rattle.im_cmd_words.specs.Named.{upgrade_asked};
 ghost use Rattle.im_cmd_words.specs.Numbers.{optional_between};
 
 use crate::number::{number_between, plain_number};
@@ -33,6 +35,7 @@ fn run_options<'a>(found: &ArgMatches<'a>) -> Option<RunOptions<'a>>
         trace: value_of(found, "trace"),
         steps,
         vars: is_set(found, "vars"),
+        save: value_of(found, "save"),
     })
 }
 
@@ -119,7 +122,12 @@ fn exec_command<'a>(found: &ArgMatches<'a>) -> Option<Command<'a>>
 {
     let options = run_options(found)?;
     let image = value_of(found, "IMG")?;
-    Some(Command::Exec { image, options })
+    let resume = value_of(found, "resume");
+    Some(Command::Exec {
+        image,
+        options,
+        resume,
+    })
 }
 
 fn dump_command<'a>(found: &ArgMatches<'a>) -> Option<Command<'a>>
@@ -170,6 +178,14 @@ fn gen_command<'a>(found: &ArgMatches<'a>) -> Option<Command<'a>>
     Some(Command::Gen { count })
 }
 
+fn check_command<'a>(found: &ArgMatches<'a>) -> Option<Command<'a>>
+    ensures asked { option_map meaning result ≡ check_asked (rows_of (found_of found.now)) }
+    ensures bounds { IfSome result HasBounds }
+{
+    let source = value_of(found, "SRC")?;
+    Some(Command::Check { source })
+}
+
 /// The command of this name, with what was found for the words after it.
 fn command_of<'a>(name: &str, found: &ArgMatches<'a>) -> Option<Command<'a>>
     ensures asked { option_map meaning result ≡ asked_by name.now (rows_of (found_of found.now)) }
@@ -184,6 +200,7 @@ fn command_of<'a>(name: &str, found: &ArgMatches<'a>) -> Option<Command<'a>>
         "report" => report_command(found),
         "eval" => eval_command(found),
         "gen" => gen_command(found),
+        "check" => check_command(found),
         _ => None,
     }
 }

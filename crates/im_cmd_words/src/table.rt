@@ -1,10 +1,11 @@
 ghost use Rattle.std.specs.Prelude.{◌≡◌, IfOk, false};
 ghost use Rattle.clap.specs.Words.{app_of, rule_of, shape_of};
 ghost use Rattle.clap.specs.declared.builder.command.Command.TheViews.{out-Command};
-ghost use Rattle.im_cmd_words.specs.Table.{build_options, build_row, command_line, counted, dump_row, exec_row};
-ghost use Rattle.im_cmd_words.specs.Table.{eval_options, eval_row, gen_row};
-ghost use Rattle.im_cmd_words.specs.Table.{file_options, flag, limit, numbered, operand, report_row, run_row};
-ghost use Rattle.im_cmd_words.specs.Table.{step_options, upgrade_row, valued, with_rules};
+ghost use Rattle.im_cmd_words.specs.Table.{build_options, build_row, check_row, command_line};
+ghost use Rattle.im_cmd_words.specs.Table.{counted, dump_row, eval_options, eval_row, exec_row};
+ghost use Rattle.im_cmd_words.specs.Table.{exec_options, file_options, flag, gen_row, limit, numbered};
+ghost use Rattle.im_cmd_words.specs.Table.{operand, report_row, run_options, run_row, step_options};
+ghost use Rattle.im_cmd_words.specs.Table.{upgrade_row, valued, with_rules};
 
 use clap::builder::ValueParser;
 use clap::{Arg, ArgAction};
@@ -107,7 +108,7 @@ fn with_file_options<'a>(
         .arg(valued(alloc, "trace", "F", trace))
 }
 
-/// How long a run lasts, and whether its variables are shown.
+/// How long a run lasts, whether its variables are shown, and where its last memory is stored.
 fn with_step_options<'a>(
     alloc: Global,
     command: clap::Command<'a>,
@@ -118,9 +119,36 @@ fn with_step_options<'a>(
 {
     let steps = "Instructions of the one period without --trace, 0 to 4294967295";
     let vars = "Shows the program's variables at the end";
+    let save = "The file that gets the last memory";
     command
         .arg(numbered(alloc, "steps", "100000000", 0, 4_294_967_295, steps))?
-        .arg(flag(alloc, "vars", vars))
+        .arg(flag(alloc, "vars", vars))?
+        .arg(valued(alloc, "save", "F", save))
+}
+
+/// What an image is run with.
+fn with_run_options<'a>(
+    alloc: Global,
+    command: clap::Command<'a>,
+) -> Result<clap::Command<'a>, AllocError>
+    requires local { (out-Command command).has_globals ≡ false }
+    ensures row { IfOk result (λ c. app_of c ≡ with_rules (app_of command.entry) run_options) }
+    ensures local { IfOk result (λ c. (out-Command c).has_globals ≡ false) }
+{
+    with_step_options(alloc, with_file_options(alloc, command)?)
+}
+
+/// The same, and the memory that a run begins with.
+fn with_exec_options<'a>(
+    alloc: Global,
+    command: clap::Command<'a>,
+) -> Result<clap::Command<'a>, AllocError>
+    requires local { (out-Command command).has_globals ≡ false }
+    ensures row { IfOk result (λ c. app_of c ≡ with_rules (app_of command.entry) exec_options) }
+    ensures local { IfOk result (λ c. (out-Command c).has_globals ≡ false) }
+{
+    let resume = "The file of a saved memory that the run begins with; --input isn't read then";
+    with_run_options(alloc, command)?.arg(valued(alloc, "resume", "F", resume))
 }
 
 fn build_row<'a>(alloc: Global) -> Result<clap::Command<'a>, AllocError>
@@ -143,7 +171,7 @@ fn run_row<'a>(alloc: Global) -> Result<clap::Command<'a>, AllocError>
         .arg(operand(alloc, "SRC", "The C source"))?
         .arg(operand(alloc, "IMG", "The file that gets the image"))?;
     let command = with_build_options(alloc, command)?;
-    with_step_options(alloc, with_file_options(alloc, command)?)
+    with_run_options(alloc, command)
 }
 
 fn exec_row<'a>(alloc: Global) -> Result<clap::Command<'a>, AllocError>
@@ -153,7 +181,7 @@ fn exec_row<'a>(alloc: Global) -> Result<clap::Command<'a>, AllocError>
     let command = clap::Command::new(alloc, "exec")
         .about("Runs an image")
         .arg(operand(alloc, "IMG", "The image's file"))?;
-    with_step_options(alloc, with_file_options(alloc, command)?)
+    with_exec_options(alloc, command)
 }
 
 fn dump_row<'a>(alloc: Global) -> Result<clap::Command<'a>, AllocError>
@@ -170,8 +198,8 @@ fn upgrade_row<'a>(alloc: Global) -> Result<clap::Command<'a>, AllocError>
     ensures local { IfOk result (λ c. (out-Command c).has_globals ≡ false) }
 {
     clap::Command::new(alloc, "upgrade")
-        .about("Stores an image in version 2 under another name")
-        .arg(operand(alloc, "IN", "The image's file"))?
+        .about("Stores an image or a saved memory in version 2 under another name")
+        .arg(operand(alloc, "IN", "The file of the image or of the memory"))?
         .arg(operand(alloc, "OUT", "The file that gets version 2"))
 }
 
@@ -223,6 +251,15 @@ fn gen_row<'a>(alloc: Global) -> Result<clap::Command<'a>, AllocError>
         .arg(counted(alloc, "N", 1, 300, "Functions of the source, 1 to 300"))
 }
 
+fn check_row<'a>(alloc: Global) -> Result<clap::Command<'a>, AllocError>
+    ensures row { IfOk result (λ c. shape_of c ≡ check_row) }
+    ensures local { IfOk result (λ c. (out-Command c).has_globals ≡ false) }
+{
+    clap::Command::new(alloc, "check")
+        .about("Tells where and why a C source is refused")
+        .arg(operand(alloc, "SRC", "The C source"))
+}
+
 /// The table of commands, as clap reads it.
 pub(crate) fn command_table<'a>(alloc: Global) -> Result<clap::Command<'a>, AllocError>
     ensures { IfOk result (λ c. app_of c ≡ command_line) }
@@ -238,5 +275,6 @@ pub(crate) fn command_table<'a>(alloc: Global) -> Result<clap::Command<'a>, Allo
         .subcommand(upgrade_row(alloc)?)?
         .subcommand(report_row(alloc)?)?
         .subcommand(eval_row(alloc)?)?
-        .subcommand(gen_row(alloc)?)
+        .subcommand(gen_row(alloc)?)?
+        .subcommand(check_row(alloc)?)
 }

@@ -39,7 +39,7 @@ abbrev pub IsGapWithin : Option ℕ → ℕ → Type 0
 IsGapWithin None gap = Unit {0}
 IsGapWithin (Some most) gap = gap ≤ most
 
--- lower, force, place, recut; frames; statics; assemble, link, gap, pack
+-- lower, promote and forward, force, alias, place, recut; frames; statics; assemble, link, gap, pack
 pub record IsBuilt (prog : Prog) (options : Options) (built : Built) : Type 0 where
   pub code : Code
   pub passed : IsPassed prog options.max_gap code

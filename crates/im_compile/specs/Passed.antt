@@ -15,6 +15,7 @@ use Rattle.im_block.specs.Wellformed.{IsWellFormed}
 use Rattle.im_alloc_placed.specs.Placeable.{IsPlaceable}
 use Rattle.im_alloc_placed.specs.Placed.{IsPlacedCode}
 use Rattle.im_alloc_placed.specs.Apart.{AllUncut}
+use Rattle.im_registers.specs.Registers.{InRegisters}
 use Rattle.im_force.specs.Force.{Forces}
 use Rattle.im_recut.specs.Recut.{RecutsTo}
 use Rattle.im_recut.specs.Laws.{AllWithinGap}
@@ -44,7 +45,7 @@ pub record AreOptions (options : Options) : Type 0 where
   pub output : options.out_cap ≤ output_capacity
   pub gap : IsGapOption options.max_gap
 
--- lower, force, alias, place, recut
+-- lower, promote and forward, force, alias, place, recut
 pub record IsPassed (prog : Prog) (max_gap : Option ℕ) (code : Code) : Type 0 where
   pub lowered : Code
   pub lower : IsLowered (program_of prog) lowered
@@ -53,8 +54,10 @@ pub record IsPassed (prog : Prog) (max_gap : Option ℕ) (code : Code) : Type 0 
   pub uncut : AllUncut lowered
   -- what a frame may need is a number of 64 bits
   pub told : All (λ (f : Function). f.need < 2 ^ 64 - 1) lowered.functions.items
+  pub forwarded : Code
+  pub registers : InRegisters lowered forwarded
   pub forced : Code
-  pub force : Forces lowered forced
+  pub force : Forces forwarded forced
   pub tags : Tags
   pub alias : IsSound forced tags
   pub placed : Code

@@ -8,12 +8,14 @@ use im_compile_dependences::{force_names_law, place_names_law, recut_names_law, 
 use im_force::force_keeps_law;
 use im_lower_relation::lowered_form_law;
 use im_recut::recut_keeps_law;
+use im_registers::registers_law;
 
 /// What the passes make of a program is what those behind them ask.
 pub fn ready_law()
     ensures { ReadyLaw }
 {
     lowered_form_law();
+    registers_law();
     added_cuts_law();
     force_keeps_law();
     cuts_keep_code_law();

@@ -16,6 +16,7 @@ use im_lower::lower;
 use im_lower_relation::lowered_form_law;
 use im_num::NoMemory;
 use im_recut::recut;
+use im_registers::{in_registers, registers_law};
 use im_typed::{Func, Prog};
 use std::alloc::Global;
 
@@ -62,13 +63,15 @@ pub(crate) fn placed_code(
         → IfOk result (IsReady prog max_gap) }
 {
     lowered_form_law();
+    registers_law();
     added_cuts_law();
     force_keeps_law();
     cuts_keep_code_law();
     cuts_keep_places_law();
     placed_code_law();
     ready_law();
-    let forced = force(alloc, lowered)?;
+    let forwarded = in_registers(alloc, lowered)?;
+    let forced = force(alloc, forwarded)?;
     let tags = alias(alloc, &forced)?;
     let placed = place(alloc, forced)?;
     let code = recut(alloc, placed, &tags, max_gap)?;

@@ -34,6 +34,8 @@ module _ (ready : ReadyLaw) (law : FunctionBoundLaw) (prog : Prog) (options : Op
     lowered = b.passed.lowered;
     sized = b.passed.sized;
     uncut = b.passed.uncut;
+    forwarded = b.passed.forwarded;
+    registers = b.passed.registers;
     forced = b.passed.forced;
     force = b.passed.force;
     placed = b.passed.placed;

@@ -8,19 +8,23 @@ use Rattle.im_block.specs.declared.unit.Function.{Function}
 use Rattle.im_block.specs.declared.unit.Unit.{Unit as Code}
 use Rattle.im_alloc_placed.specs.Apart.{AllUncut}
 use Rattle.im_lower_relation.specs.Lowered.{AreSized}
+use Rattle.im_registers.specs.Registers.{InRegisters}
 use Rattle.im_force.specs.Force.{Forces}
 use Rattle.im_alloc_relation.specs.Placing.{IsPlaced}
 use Rattle.im_recut.specs.Recut.{RecutsTo}
 use Rattle.im_select.specs.Given.{Given}
 use Rattle.im_select.specs.Selects.{IsSelection}
 
--- placed code with all its cuts, made of a typed program: lower, force, place, recut by some tags
+-- placed code with all its cuts, made of a typed program: lower, promote and forward, force, place, recut by some
+-- tags
 pub record IsMadeOf (g : Prog) (code : Code) : Type 0 where
   pub lowered : Code
   pub sized : AreSized g lowered
   pub uncut : AllUncut lowered
+  pub forwarded : Code
+  pub registers : InRegisters lowered forwarded
   pub forced : Code
-  pub force : Forces lowered forced
+  pub force : Forces forwarded forced
   pub placed : Code
   pub place : IsPlaced forced placed
   pub tags : Tags

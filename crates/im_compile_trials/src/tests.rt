@@ -20,7 +20,7 @@ use crate::whole_rows::{INITIALISERS, OBJECTS, OPERANDS};
 use im_driver::{Options, compile};
 use im_emu::Machine;
 use im_image::Image;
-use im_mem::FlatMem;
+use im_mem_paged::PagedMem;
 use im_num::{CellValue, Var};
 use im_power::Period;
 use im_rv::Went;
@@ -41,7 +41,7 @@ fn period(n: u32, count: u32, mask: u32) -> Period {
     }
 }
 
-fn loaded(alloc: Global, image: &Image, row: &Row) -> Result<Machine<FlatMem>, Fail> {
+fn loaded(alloc: Global, image: &Image, row: &Row) -> Result<Machine<PagedMem>, Fail> {
     let machine = Machine::load(alloc, image, row.input)
         .ok()
         .ok_or("a machine")?;
@@ -77,7 +77,7 @@ fn hold(vars: &[Var], wanted: &[(&str, i128)]) -> bool {
 fn is_right(
     rt: &impl Abort,
     alloc: Global,
-    machine: &Machine<FlatMem>,
+    machine: &Machine<PagedMem>,
     row: &Row,
 ) -> Result<(), Fail> {
     let at = (row.what, machine.instructions());

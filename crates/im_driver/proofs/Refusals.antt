@@ -2,11 +2,12 @@
 use Rattle.std.proofs.Common.{◌≡◌, ℕ, List, Option, Err, refl}
 use Rattle.im_fault.specs.declared.fault.LineFault.{LineFault}
 use Rattle.im_fault.specs.declared.fault.LineFault.TheVariants.{BadByte, OpenComment, OpenLiteral, BadEscape, BadNumber, BadDirective, Syntax, Nesting, Rule}
+use Rattle.im_fault.specs.declared.fault.Place.{Place}
 use Rattle.im_fault.specs.declared.fault.Quantity.{Quantity}
 use Rattle.im_fault.specs.declared.fault.Quantity.TheVariants.{Source, Parameters, Size, Statics, Frame, Code}
 use Rattle.im_fault.specs.declared.fault.SourceFault.{SourceFault}
 use Rattle.im_fault.specs.declared.fault.SourceFault.TheVariants.{Line, Limit, OutOfMemory}
-use Rattle.im_front.specs.Reading.{IsRead, IsWrong, token_lines}
+use Rattle.im_front.specs.Reading.{IsRead, IsWrong, token_spans}
 use Rattle.im_typed.specs.declared.program.Prog.{Prog}
 use Rattle.im_typed.specs.ProgramOf.{program_of}
 use Rattle.im_tok.specs.declared.token.Token.{Token}
@@ -23,19 +24,19 @@ use Rattle.im_keeps_built.specs.Laws.{RefusedLaw}
 use Rattle.im_driver.specs.Compiled.{IsTreeOf, IsRefused, IsLineRefused}
 use Rattle.im_driver.specs.Steps.{IsReady, fault_at, of_compile}
 
-line_refused : (source : List ℕ) (line : ℕ) (why : LineFault) → IsWrong source line why → IsLineRefused source line why
-line_refused source line BadByte h = h
-line_refused source line OpenComment h = h
-line_refused source line OpenLiteral h = h
-line_refused source line BadEscape h = h
-line_refused source line BadNumber h = h
-line_refused source line BadDirective h = h
-line_refused source line Syntax h = h
-line_refused source line Nesting h = h
-line_refused source line (Rule number) h = absurd h
+line_refused : (source : List ℕ) (place : Place) (why : LineFault) → IsWrong source place why → IsLineRefused source place why
+line_refused source place BadByte h = h
+line_refused source place OpenComment h = h
+line_refused source place OpenLiteral h = h
+line_refused source place BadEscape h = h
+line_refused source place BadNumber h = h
+line_refused source place BadDirective h = h
+line_refused source place Syntax h = h
+line_refused source place Nesting h = h
+line_refused source place (Rule number) h = absurd h
 
 pub read_refused : (source : List ℕ) (fault : SourceFault) → IsRead source (Err fault) → IsRefused source fault
-read_refused source (Line line why) h = line_refused source line why h.1
+read_refused source (Line place why) h = line_refused source place why h.1
 read_refused source (Limit Source count) h = h
 read_refused source (Limit Parameters count) h = absurd h
 read_refused source (Limit Size count) h = absurd h
@@ -44,8 +45,8 @@ read_refused source (Limit Frame count) h = absurd h
 read_refused source (Limit Code count) h = absurd h
 read_refused source OutOfMemory h = tt
 
-pub check_refused : (source : List ℕ) (tokens : List Token) (tree : Tree) (fault : CheckFault) → IsTreeOf source tokens tree → IsCheckFault (tree_of tree) fault → IsRefused source (fault_at source (token_lines tokens) fault)
-check_refused source tokens tree (check.Rule number token) is_tree h = record { tokens = tokens; tree = tree; is_tree = is_tree; token = token; broken = h; is_line = refl }
+pub check_refused : (source : List ℕ) (tokens : List Token) (tree : Tree) (fault : CheckFault) → IsTreeOf source tokens tree → IsCheckFault (tree_of tree) fault → IsRefused source (fault_at source (token_spans tokens) fault)
+check_refused source tokens tree (check.Rule number token) is_tree h = record { tokens = tokens; tree = tree; is_tree = is_tree; token = token; broken = h; is_place = refl }
 check_refused source tokens tree (check.Limit which.Parameters count) is_tree h = record { tokens = tokens; tree = tree; is_tree = is_tree; exceeds = h }
 check_refused source tokens tree (check.Limit which.Size count) is_tree h = record { tokens = tokens; tree = tree; is_tree = is_tree; exceeds = h }
 check_refused source tokens tree (check.Limit which.Statics count) is_tree h = record { tokens = tokens; tree = tree; is_tree = is_tree; exceeds = h.0; sizes = h.1 }

@@ -2,6 +2,7 @@
 use Rattle.std.specs.Prelude.{◌≡◌, ◌≤◌, ℕ, ◌+◌, ◌*◌, ℤ, List, length, map, Ok, Some, slice_get}
 use Rattle.im_fault.specs.declared.fault.LineFault.{LineFault}
 use Rattle.im_fault.specs.declared.fault.LineFault.TheVariants.{BadByte, OpenComment, OpenLiteral, BadEscape, BadNumber, BadDirective, Syntax, Nesting, Rule}
+use Rattle.im_fault.specs.declared.fault.Place.{Place}
 use Rattle.im_fault.specs.declared.fault.Quantity.{Quantity}
 use Rattle.im_fault.specs.declared.fault.Quantity.TheVariants.{Source, Parameters, Size, Statics, Frame, Code}
 use Rattle.im_fault.specs.declared.fault.SourceFault.{SourceFault}
@@ -13,7 +14,7 @@ use Rattle.im_lex.specs.Lexing.{Lexes}
 use Rattle.im_ctree.specs.declared.unit.Tree.{Tree}
 use Rattle.im_ctree.specs.Shape.{tree_of}
 use Rattle.im_parse.specs.Spelling.{IsParsedText}
-use Rattle.im_front.specs.Reading.{IsWrong, IsOver, line_of_token}
+use Rattle.im_front.specs.Reading.{IsWrong, IsOver, place_of_token}
 use Rattle.im_typed.specs.Program.{Prog, Func}
 use Rattle.im_typed.specs.Counts.{func_need, prog_nodes}
 use Rattle.im_typed.specs.declared.frames.Frame.{Frame as FrameOf}
@@ -92,14 +93,14 @@ pub record IsCompiledFrom (source : List ℕ) (options : Options) (made : MadePr
   pub is_made : compiled.prog ≡ program_of made
   pub is_source : IsSource made
 
--- a node of the source's tree, whose first token is of this line, breaks the rule
-pub record IsRuleBroken (source : List ℕ) (line rule : ℕ) : Type 0 where
+-- a node of the source's tree, whose first token stands at this place, breaks the rule
+pub record IsRuleBroken (source : List ℕ) (place : Place) (rule : ℕ) : Type 0 where
   pub tokens : List Token
   pub tree : Tree
   pub is_tree : IsTreeOf source tokens tree
   pub token : ℕ
   pub broken : UnitBroken (tree_of tree) rule token
-  pub is_line : line ≡ line_of_token source tokens token
+  pub is_place : place ≡ place_of_token source tokens token
 
 pub record IsExceeded (source : List ℕ) (limit : limits.Limit) (count : ℕ) : Type 0 where
   pub tokens : List Token
@@ -128,9 +129,9 @@ pub record IsCodeRefused (source : List ℕ) (count : ℕ) : Type 0 where
   pub program : IsProgramOf source prog
   pub large : IsLargeCode prog count
 
-abbrev pub IsLineRefused : List ℕ → ℕ → LineFault → Type 0
-IsLineRefused source line (Rule number) = IsRuleBroken source line number
-IsLineRefused source line why = IsWrong source line why
+abbrev pub IsLineRefused : List ℕ → Place → LineFault → Type 0
+IsLineRefused source place (Rule number) = IsRuleBroken source place number
+IsLineRefused source place why = IsWrong source place why
 
 abbrev pub IsLimitRefused : List ℕ → Quantity → ℕ → Type 0
 IsLimitRefused source Source count = IsOver source Source count
@@ -142,6 +143,6 @@ IsLimitRefused source Code count = IsCodeRefused source count
 
 -- why a source isn't compiled
 abbrev pub IsRefused : List ℕ → SourceFault → Type 0
-IsRefused source (Line line why) = IsLineRefused source line why
+IsRefused source (Line place why) = IsLineRefused source place why
 IsRefused source (Limit quantity count) = IsLimitRefused source quantity count
 IsRefused source OutOfMemory = Unit {0}

@@ -6,7 +6,7 @@ use Rattle.im_fault.specs.declared.fault.Quantity.TheVariants.{Source, Parameter
 use Rattle.im_fault.specs.declared.fault.SourceFault.{SourceFault}
 use Rattle.im_fault.specs.declared.fault.SourceFault.TheVariants.{Line, Limit, OutOfMemory}
 use Rattle.im_fault.specs.Texts.{limit_of}
-use Rattle.im_front.specs.Reading.{line_among}
+use Rattle.im_front.specs.Reading.{place_among}
 use Rattle.im_check.specs.declared.fault.CheckFault.{CheckFault}
 use Rattle.im_check.specs.declared.fault.CheckFault.TheVariants as check
 use Rattle.im_check.specs.declared.fault.Limit as k
@@ -57,11 +57,11 @@ quantity_of which.Parameters = Parameters
 quantity_of which.Size = Size
 quantity_of which.Statics = Statics
 
--- the lines are those of the source's tokens
-abbrev pub fault_at : List ℕ → List ℕ → CheckFault → SourceFault
-fault_at source lines (check.Rule number token) = Line (line_among source lines token) (Rule number)
-fault_at source lines (check.Limit which count) = Limit (quantity_of which) count
-fault_at source lines check.OutOfMemory = OutOfMemory
+-- these are the bytes of the source's tokens
+abbrev pub fault_at : List ℕ → List (ℕ × ℕ) → CheckFault → SourceFault
+fault_at source spans (check.Rule number token) = Line (place_among source spans token) (Rule number)
+fault_at source spans (check.Limit which count) = Limit (quantity_of which) count
+fault_at source spans check.OutOfMemory = OutOfMemory
 
 abbrev pub of_compile : CompileFault → SourceFault
 of_compile (compile.Frame function bytes) = Limit Frame bytes

@@ -5,7 +5,7 @@ ghost use Rattle.im_driver.specs.Steps.{IsReady, fault_at, quantity_of};
 use crate::laws::{program_law, written_law};
 use im_check::{CheckFault, Limit, check};
 use im_fault::{LineFault, Quantity, SourceFault};
-use im_front::{Text, line_of, read_source};
+use im_front::{Text, place_of, read_source};
 use im_typed::Prog;
 use std::alloc::Global;
 
@@ -19,14 +19,14 @@ fn quantity(which: Limit) -> Quantity
     }
 }
 
-// Why a source has no program, of whose tree this is told; its tokens have these lines.
-fn untyped(source: &[u8], lines: &[u32], fault: CheckFault) -> SourceFault
+// Why a source has no program, of whose tree this is told; these are the bytes of its tokens.
+fn untyped(source: &[u8], spans: &[(u32, u32)], fault: CheckFault) -> SourceFault
     requires { length source.now < 2 ^ 31 }
-    ensures { result ≡ fault_at source.now lines.now fault }
+    ensures { result ≡ fault_at source.now spans.now fault }
 {
     match fault {
         CheckFault::Rule { number, token } => SourceFault::Line {
-            line: line_of(source, lines, token),
+            place: place_of(source, spans, token),
             why: LineFault::Rule(number),
         },
         CheckFault::Limit { which, count } => SourceFault::Limit {
@@ -43,12 +43,12 @@ pub(crate) fn typed_program(alloc: Global, source: &[u8]) -> Result<Prog, Source
 {
     written_law();
     program_law();
-    let Text { lines, tree } = match read_source(alloc, source) {
+    let Text { spans, tree } = match read_source(alloc, source) {
         Ok(text) => text,
         Err(fault) => return Err(fault),
     };
     match check(alloc, tree) {
         Ok(prog) => Ok(prog),
-        Err(fault) => Err(untyped(source, &lines, fault)),
+        Err(fault) => Err(untyped(source, &spans, fault)),
     }
 }

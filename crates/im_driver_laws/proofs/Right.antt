@@ -3,6 +3,7 @@ use Rattle.std.proofs.Common.{◌≡◌, ℕ, ◌+◌, ◌*◌, ◌≤◌, List,
 use Rattle.std.specs.Prelude.{slice_get}
 use Rattle.im_fault.specs.declared.fault.LineFault.{LineFault}
 use Rattle.im_fault.specs.declared.fault.LineFault.TheVariants.{BadByte, OpenComment, OpenLiteral, BadEscape, BadNumber, BadDirective, Syntax, Nesting, Rule}
+use Rattle.im_fault.specs.declared.fault.Place.{Place}
 use Rattle.im_fault.specs.declared.fault.Quantity.TheVariants.{Source, Parameters, Size, Statics, Frame, Code}
 use Rattle.im_fault.specs.declared.fault.SourceFault.TheVariants.{Line, Limit, OutOfMemory}
 use Rattle.im_tok.specs.declared.token.Token.{Token}
@@ -55,24 +56,24 @@ module _ (lexed : TokensLaw) (apart : ApartLaw) (listed : OneListLaw) (spelt : S
     within_as : (ts : List Token) (tree : Tree) → IsTreeOf source ts tree → limits.IsWithinLimits (tree_of tree)
     within_as ts tree x = subst limits.IsWithinLimits (one_tree source h.tokens ts h.tree tree h.is_tree x) h.within
 
-    no_token : (line : ℕ) (why : LineFault) → IsNoToken source line why → ⊥
-    no_token line why n = apart source h.tokens n.at h.is_tree.lexes n.stuck
+    no_token : (place : Place) (why : LineFault) → IsNoToken source place why → ⊥
+    no_token place why n = apart source h.tokens n.at h.is_tree.lexes n.stuck
 
-    nested : (line : ℕ) → IsRefusedAt source line unit.Depth → ⊥
-    nested line r =
+    nested : (place : Place) → IsRefusedAt source place unit.Depth → ⊥
+    nested place r =
         let same = one_list source r.tokens h.tokens r.refused.0 h.is_tree.parsed.0 r.lexes h.is_tree.lexes r.refused.1 h.is_tree.parsed.1 in
         let none = subst (λ (z : List Word). NoneOver 200 z) (sym same) h.is_tree.parsed.2.0 in
         let over = r.refused.2.over in
         let most = none r.number r.refused.2.within in
         absurd (omega (arith, over, most))
 
-    unspelt : (line : ℕ) → IsRefusedAt source line unit.Syntax → ⊥
-    unspelt line r =
+    unspelt : (place : Place) → IsRefusedAt source place unit.Syntax → ⊥
+    unspelt place r =
         let same = one_list source r.tokens h.tokens r.refused.0 h.is_tree.parsed.0 r.lexes h.is_tree.lexes r.refused.1 h.is_tree.parsed.1 in
         r.refused.2.1.unspelt (tree_of h.tree) (subst (λ (z : List Word). Spells (tree_of h.tree) z) (sym same) h.is_tree.parsed.2.1)
 
-    unbroken : (line rule : ℕ) → IsRuleBroken source line rule → ⊥
-    unbroken line rule b = breaks (tree_of b.tree) prog rule b.token (typed_as b.tokens b.tree b.is_tree) b.broken
+    unbroken : (place : Place) (rule : ℕ) → IsRuleBroken source place rule → ⊥
+    unbroken place rule b = breaks (tree_of b.tree) prog rule b.token (typed_as b.tokens b.tree b.is_tree) b.broken
 
     not_over : (limit : limits.Limit) (count : ℕ) → IsExceeded source limit count → ⊥
     not_over limit count e = within_as e.tokens e.tree e.is_tree limit count e.exceeds
@@ -81,15 +82,15 @@ module _ (lexed : TokensLaw) (apart : ApartLaw) (listed : OneListLaw) (spelt : S
     few_statics count e = within_as e.tokens e.tree e.is_tree limits.of_statics count e.exceeds
 
   pub right : RightLaw
-  right source prog (Line line BadByte) h r = absurd (no_token source prog h.program line BadByte r)
-  right source prog (Line line OpenComment) h r = absurd (no_token source prog h.program line OpenComment r)
-  right source prog (Line line OpenLiteral) h r = absurd (no_token source prog h.program line OpenLiteral r)
-  right source prog (Line line BadEscape) h r = absurd (no_token source prog h.program line BadEscape r)
-  right source prog (Line line BadNumber) h r = absurd (no_token source prog h.program line BadNumber r)
-  right source prog (Line line BadDirective) h r = absurd (no_token source prog h.program line BadDirective r)
-  right source prog (Line line Nesting) h r = absurd (nested source prog h.program line r)
-  right source prog (Line line Syntax) h r = absurd (unspelt source prog h.program line r)
-  right source prog (Line line (Rule number)) h r = absurd (unbroken source prog h.program line number r)
+  right source prog (Line place BadByte) h r = absurd (no_token source prog h.program place BadByte r)
+  right source prog (Line place OpenComment) h r = absurd (no_token source prog h.program place OpenComment r)
+  right source prog (Line place OpenLiteral) h r = absurd (no_token source prog h.program place OpenLiteral r)
+  right source prog (Line place BadEscape) h r = absurd (no_token source prog h.program place BadEscape r)
+  right source prog (Line place BadNumber) h r = absurd (no_token source prog h.program place BadNumber r)
+  right source prog (Line place BadDirective) h r = absurd (no_token source prog h.program place BadDirective r)
+  right source prog (Line place Nesting) h r = absurd (nested source prog h.program place r)
+  right source prog (Line place Syntax) h r = absurd (unspelt source prog h.program place r)
+  right source prog (Line place (Rule number)) h r = absurd (unbroken source prog h.program place number r)
   right source prog (Limit Source count) h r = let few = h.short in let many = r.0 in let is = r.1 in absurd (omega (arith, few, many, is))
   right source prog (Limit Parameters count) h r = absurd (not_over source prog h.program limits.of_parameters count r)
   right source prog (Limit Size count) h r = absurd (not_over source prog h.program limits.of_size count r)

@@ -1,4 +1,5 @@
 pub mod State
+pub mod Resume
 pub mod Stretch
 pub mod Layouts
 pub mod Laws

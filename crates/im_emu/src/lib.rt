@@ -11,5 +11,6 @@ mod stretch;
 mod vars;
 
 pub use fault::LoadFault;
+pub use im_mem_file::{MemoryFault, upgrade_memory};
 pub use laws::{periods_law, place_law};
 pub use machine::Machine;

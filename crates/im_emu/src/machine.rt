@@ -7,7 +7,9 @@ use crate::shows::{output, word_at};
 use crate::stretch::run_period;
 use crate::vars::variables;
 use im_image::{Form, Image, Object, Version};
-use im_mem::{FlatMem, INPUT_CAPACITY, Memory, REASON, STATUS};
+use im_mem::{INPUT_CAPACITY, Memory, REASON, STATUS};
+use im_mem_file::{MemoryFault, read_memory, write_memory};
+use im_mem_paged::PagedMem;
 use im_num::{NoMemory, Var};
 use im_power::{Period, Trace};
 use im_rv::Went;
@@ -25,6 +27,7 @@ pub struct Machine<M: Memory> {
     commits: u64,
     /// The image's.
     version: Version,
+    /// The image's, or the memory file's.
     form: Form,
     /// The image's, by address.
     objects: Vec<Object>,
@@ -141,7 +144,7 @@ impl<M: Memory> Machine<M> {
         self.version
     }
 
-    /// How memory tells the length of the output: the image's form.
+    /// How memory tells the length of the output: the image's form, or the memory file's.
     pub fn form(&self) -> Form
         ensures { result ≡ self.now.form }
     {
@@ -171,18 +174,24 @@ impl<M: Memory> Machine<M> {
     }
 }
 
-impl Machine<FlatMem> {
-    ghost use Rattle.std.specs.Prelude.{◌≡◌, ◌≤◌, ◌<◌, length, IfOk, IsOkUnless, Err};
-    ghost use Rattle.im_mem.specs.Memory.{view};
+impl Machine<PagedMem> {
+    ghost use Rattle.std.specs.Prelude.{◌≡◌, ◌≤◌, ◌<◌, length, IfOk, OnOk, IfErr, IsOkUnless, Err, None};
+    ghost use Rattle.im_mem.specs.Memory.{Mem, view};
     ghost use Rattle.im_mem.specs.Map.{input_capacity};
+    ghost use Rattle.im_image.specs.declared.version.Version.{Version};
+    ghost use Rattle.im_image.specs.declared.version.Version.TheVariants.{Two};
+    ghost use Rattle.im_image.specs.declared.form.Form.{Form};
+    ghost use Rattle.im_mem_file.specs.Text.{MemoryText};
+    ghost use Rattle.im_mem_file.specs.Faults.{fault_of, memory_at, IsFaultOf};
     ghost use Rattle.im_device.specs.Periods.{fresh};
     ghost use Rattle.im_device.specs.Load.{memory_of};
     ghost use Rattle.im_device.specs.Shows.{output_of};
     ghost use Rattle.im_emu.specs.State.{device_of, IsImageOf};
+    ghost use Rattle.im_emu.specs.Resume.{IsResumed, Resumes};
 
     /// A machine with an image and an input, before power comes. An input of more than 1048576
     /// bytes is refused, and then no machine is made.
-    pub fn load(alloc: Global, image: &Image, input: &[u8]) -> Result<Machine<FlatMem>, LoadFault>
+    pub fn load(alloc: Global, image: &Image, input: &[u8]) -> Result<Machine<PagedMem>, LoadFault>
         ensures made { IfOk result (λ machine. device_of view machine
             ≡ fresh (memory_of image.now input.now)) }
         ensures image { IfOk result (λ machine. IsImageOf image.now machine) }
@@ -204,7 +213,59 @@ impl Machine<FlatMem> {
         })
     }
 
-    /// The output so far, as long as memory says by the image's form, and at most 1048576 bytes.
+    fn resumed(
+        alloc: Global,
+        image: &Image,
+        text: &[u8],
+    ) -> Result<Machine<PagedMem>, MemoryFault>
+        ensures made { IfOk result (λ machine. device_of view machine
+            ≡ fresh (memory_at text.now)) }
+        ensures image { IfOk result (λ machine. IsResumed image.now text.now machine) }
+        ensures right { OnOk result (fault_of text.now ≡ None) }
+        ensures wrong { IfErr result (λ fault. IsFaultOf fault (fault_of text.now)) }
+    {
+        let saved = read_memory(alloc, text)?;
+        let objects = copy_objects(alloc, &image.objects)?;
+        Ok(Machine {
+            memory: saved.memory,
+            went: Went::On,
+            instructions: 0,
+            commits: 0,
+            version: image.version,
+            form: saved.form,
+            objects,
+        })
+    }
+
+    /// A machine with the memory and the form of a memory file, before power comes. Of the image it
+    /// has the version and the objects alone.
+    pub fn resume(
+        alloc: Global,
+        image: &Image,
+        text: &[u8],
+    ) -> Result<Machine<PagedMem>, MemoryFault>
+        ensures made { IfOk result (λ machine. device_of view machine
+            ≡ fresh (memory_at text.now)) }
+        ensures image { IfOk result (λ machine. IsResumed image.now text.now machine) }
+        // A machine is made of a memory's text alone; a refusal names the first fault.
+        ensures right { OnOk result (fault_of text.now ≡ None) }
+        ensures wrong { IfErr result (λ fault. IsFaultOf fault (fault_of text.now)) }
+        // The text of a memory, as `save` writes it, gives that memory back.
+        ensures reads_back { (version : Version) (form : Form) (m : Mem) →
+            MemoryText text.now version form m → Resumes result form m }
+    {
+        Machine::resumed(alloc, image, text)
+    }
+
+    /// The text of a memory file, of version 2, with the memory and its form.
+    pub fn save(&self, alloc: Global) -> Result<Vec<u8>, NoMemory>
+        ensures { IfOk result (λ text. MemoryText text.items Two self.now.form
+            (view self.now.memory)) }
+    {
+        write_memory(alloc, &self.memory, self.form)
+    }
+
+    /// The output so far, as long as memory says by its form, and at most 1048576 bytes.
     pub fn output(&self) -> &[u8]
         ensures { result.now ≡ output_of self.now.form (view self.now.memory) }
     {

@@ -3,7 +3,8 @@ ghost use Rattle.im_mem.specs.Memory.{little, view, is_place};
 ghost use Rattle.im_device.specs.Shows.{output_length as output_length_of, output_of};
 
 use im_image::Form;
-use im_mem::{FlatMem, Memory, OUT_LEN0, OUT_LEN1, OUT_SEL, OUTPUT_CAPACITY, OUTPUT_START};
+use im_mem::{Memory, OUT_LEN0, OUT_LEN1, OUT_SEL, OUTPUT_CAPACITY, OUTPUT_START};
+use im_mem_paged::PagedMem;
 
 /// The word at an address of the runtime's.
 pub fn word_at<M: Memory>(memory: &M, at: u32) -> u32
@@ -44,7 +45,7 @@ fn output_length<M: Memory>(memory: &M, form: Form) -> u32
 }
 
 /// The output that a memory shows under a form.
-pub fn output(memory: &FlatMem, form: Form) -> &[u8]
+pub fn output(memory: &PagedMem, form: Form) -> &[u8]
     ensures { result.now ≡ output_of form (view memory.now) }
 {
     memory.bytes_at(

@@ -2,7 +2,7 @@ use crate::example::Example;
 use im_driver::{Built, Options, compile};
 use im_emu::Machine;
 use im_image::Image;
-use im_mem::FlatMem;
+use im_mem_paged::PagedMem;
 use im_power::Period;
 use im_rv::Went;
 use std::alloc::Global;
@@ -46,7 +46,7 @@ fn halts_with(
     period: Period,
     expected: &[u8],
 ) -> io::Result<bool> {
-    let mut machine: Machine<FlatMem> = Machine::load(alloc, image, input).map_err(
+    let mut machine: Machine<PagedMem> = Machine::load(alloc, image, input).map_err(
         |_| no_answer(),
     )?;
     machine.power(period);

@@ -12,8 +12,9 @@ use Rattle.im_block.specs.declared.unit.Function.{Function}
 use Rattle.im_block.specs.declared.unit.Unit.{Unit as Code}
 use Rattle.im_lower_passes_laws.specs.Laws.{LowersLaw, NeedsFit}
 use Rattle.im_keeps_source.specs.Source.{source_of}
-use Rattle.im_pack_image_laws.specs.im_keeps_passes.Passes.{Selects}
+use Rattle.im_pack_image_laws.specs.im_keeps_passes.Passes.{Lowers, Selects}
 use Rattle.im_keeps_middle.specs.Middle.{Chain}
+use Rattle.im_keeps_middle.specs.Laws.{MiddleLaw}
 use Rattle.im_compile.specs.declared.options.Options.{Options}
 use Rattle.im_compile.specs.declared.built.Built.{Built}
 use Rattle.im_compile.specs.Passed.{IsSource, IsPassed}
@@ -47,12 +48,17 @@ gap_of prog options built b =
     subst (λ (l : List ℕ). IsGap l built.image.entry built.gap) (sym b.pack.words)
     (subst (λ n. IsGap b.linked.words.items n built.gap) (sym b.pack.entry) b.measure)
 
-pub chain : LowersLaw → (prog : Prog) (options : Options) (built : Built) → IsSource prog → (b : IsBuilt prog options built)
+-- with its locals in registers the code is still what lowering promises
+pub lowers_in_registers : LowersLaw → MiddleLaw → (prog : Prog) (max_gap : Option ℕ) (code : Code) → IsSource prog → (p : IsPassed prog max_gap code) → Lowers (source_of (program_of prog)) p.forwarded
+lowers_in_registers lowers middle prog max_gap code s p =
+    middle.registers (source_of (program_of prog)) p.lowered p.forwarded
+    (lowers (program_of prog) p.lowered s.typed s.within (fit prog max_gap code p) p.lower p.sized p.placeable p.uncut) p.registers
+
+pub chain : LowersLaw → MiddleLaw → (prog : Prog) (options : Options) (built : Built) → IsSource prog → (b : IsBuilt prog options built)
     → Selects b.code (bytes_of b.layouts) built.image → Chain (source_of (program_of prog)) (bytes_of b.layouts) built.image built.gap
-chain lowers prog options built s b selected = record {
-  lowered = b.passed.lowered;
-  lower =
-      lowers (program_of prog) b.passed.lowered s.typed s.within (fit prog options.max_gap b.code b.passed) b.passed.lower b.passed.sized b.passed.placeable b.passed.uncut;
+chain lowers middle prog options built s b selected = record {
+  lowered = b.passed.forwarded;
+  lower = lowers_in_registers lowers middle prog options.max_gap b.code s b.passed;
   forced = b.passed.forced;
   force = b.passed.force;
   tags = b.passed.tags;

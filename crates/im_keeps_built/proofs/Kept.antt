@@ -15,7 +15,7 @@ pub kept : BuiltSelectsLaw → LowersLaw → MiddleLaw → ProgramKeepsLaw → G
 kept selects lowers middle keeps bound prog options built source b =
     let passes =
     middle.whole (source_of (program_of prog)) (bytes_of b.layouts) built.image built.gap
-    (chain lowers prog options built source b (selects prog options built source b)) in
+    (chain lowers middle prog options built source b (selects prog options built source b)) in
     record {
       keeps = subst (λ (l : List ℕ). ProgramKeeps (program_of prog) l built.image built.gap) (sym b.frames.sizes)
           (keeps (program_of prog) (bytes_of b.layouts) built.image built.gap source.typed passes);

@@ -17,7 +17,7 @@ use Rattle.im_keeps_source.specs.Source.{source_of}
 use Rattle.im_compile.specs.Passed.{IsSource, IsPassed}
 use Rattle.im_compile.specs.Faults.{HasLargeFrame, HasLargeCode}
 use Rattle.im_keeps_built.specs.Laws.{IsLargeFrame, IsLargeCode, RefusedLaw}
-use Rattle.im_keeps_built.proofs.Chained.{fit}
+use Rattle.im_keeps_built.proofs.Chained.{lowers_in_registers}
 
 -- lists that are mapped to the same list
 at_same : {X Y Z : Type 0} (u : X → Z) (v : Y → Z) (xs : List X) (ys : List Y) (i : ℕ) (x : X) → map u xs ≡ map v ys → slice_get xs i ≡ Some x → (y : Y) × (slice_get ys i ≡ Some y) × (v y ≡ u x)
@@ -32,8 +32,8 @@ at_same u v (a ∷ xs) (b ∷ ys) (suc i) x e at = let rest : map u xs ≡ map v
 module _ (lowers : LowersLaw) (middle : MiddleLaw) (words : WordsLaw) (prog : Prog) (s : IsSource prog) where
   bounds : (max_gap : Option ℕ) (code : Code) → IsPassed prog max_gap code → CodeBounds (source_of (program_of prog)) code
   bounds max_gap code passed = middle.bounds (source_of (program_of prog)) code (record {
-    lowered = passed.lowered;
-    lower = lowers (program_of prog) passed.lowered s.typed s.within (fit prog max_gap code passed) passed.lower passed.sized passed.placeable passed.uncut;
+    lowered = passed.forwarded;
+    lower = lowers_in_registers lowers middle prog max_gap code s passed;
     forced = passed.forced;
     force = passed.force;
     tags = passed.tags;

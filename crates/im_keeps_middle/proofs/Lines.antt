@@ -1,17 +1,22 @@
 -- Each relation keeps its line.
-use Rattle.std.proofs.Common.{◌≡◌, ℕ, List, [], ◌∷◌, Option, map, refl, ap, ◌∙◌}
+use Rattle.std.proofs.Common.{◌≡◌, ◌≤◌, ℕ, ◌*◌, List, [], ◌∷◌, Option, map, refl, ap, ◌∙◌, arith}
 use Rattle.im_block.specs.declared.access.Tags.{Tags}
 use Rattle.im_block.specs.declared.code.Line.{Line}
 use Rattle.im_block.specs.declared.code.Block.{Block}
 use Rattle.im_block.specs.declared.unit.Function.{Function}
+use Rattle.im_block.specs.declared.unit.Static.{Static as StaticOf}
 use Rattle.im_block.specs.declared.unit.Unit.{Unit as Code}
+use Rattle.im_block.specs.Meaning.{static_of}
 use Rattle.im_block.specs.Uncut.{WithCuts, Empty, Same, SameBlocks, SameFunctions, SameButCuts}
 use Rattle.im_alloc_relation.specs.Placing.{PlacedFunctions}
 use Rattle.im_alloc_laws.specs.Numbered.{IsWellPlaced}
 use Rattle.im_alloc_laws.specs.Laws.{PlacedCodeLaw}
+use Rattle.im_registers.specs.Registers.{InRegisters}
+use Rattle.im_registers.specs.Laws.{RegistersLaw}
 use Rattle.im_recut.specs.Recut.{RecutsTo}
 use Rattle.im_recut.specs.Laws.{RecutKeepsLaw}
-use Rattle.im_keeps_passes.specs.Passes.{Cuts, Places, Recuts}
+use Rattle.im_keeps_passes.specs.Source.{Source}
+use Rattle.im_keeps_passes.specs.Passes.{Lowers, Cuts, Places, Recuts}
 use Rattle.im_keeps_passes.specs.Laws.{CodeBoundsLaw}
 use Rattle.im_keeps_middle.specs.Laws.{MiddleLaw}
 
@@ -34,6 +39,20 @@ uncut_same u = record { functions = functions_same u.functions.items; rest = ref
 
 cut : (u : Code) → Cuts u u
 cut u = record { same = uncut_same u; apart = λ h. h }
+
+-- registers
+
+registers : RegistersLaw → (source : Source) (lowered forwarded : Code) → Lowers source lowered → InRegisters lowered forwarded → Lowers source forwarded
+registers law source lowered forwarded l r = record {
+  runs = λ g n input defined. (let run = l.runs g n input defined in law.runs lowered forwarded r g n (source.means g n) run.0 defined run.1);
+  statics = ap (λ (z : List StaticOf). map {A = StaticOf} static_of z) (law.statics lowered forwarded r) ∙ l.statics;
+  needs = law.needs lowered forwarded r ∙ l.needs;
+  ordered = law.ordered lowered forwarded r l.ordered;
+  well_formed = law.well_formed lowered forwarded r l.well_formed;
+  placeable = law.placeable lowered forwarded r l.placeable;
+  uncut = law.uncut lowered forwarded r l.uncut;
+  cost = (let less = law.cost lowered forwarded r in let few = l.cost in omega (arith, less, few));
+}
 
 -- places
 
@@ -60,8 +79,9 @@ place law u v w = record {
 recut : RecutKeepsLaw → (u v : Code) (tags : Tags) (max_gap : Option ℕ) → RecutsTo tags max_gap u v → Recuts tags u v
 recut law u v tags max_gap r = record { same = law.same tags max_gap u v r; apart = law.apart tags max_gap u v r; sectioned = law.sectioned tags max_gap u v r }
 
-pub middle : PlacedCodeLaw → RecutKeepsLaw → CodeBoundsLaw → MiddleLaw
-middle placing cutting bounds = record {
+pub middle : RegistersLaw → PlacedCodeLaw → RecutKeepsLaw → CodeBoundsLaw → MiddleLaw
+middle law placing cutting bounds = record {
+  registers = registers law;
   cut = cut;
   place = place placing;
   recut = recut cutting;

@@ -4,13 +4,16 @@ use Rattle.im_image.specs.Contents.{ImageValue}
 use Rattle.im_block.specs.declared.access.Tags.{Tags}
 use Rattle.im_block.specs.declared.unit.Unit.{Unit as Code}
 use Rattle.im_alloc_laws.specs.Numbered.{IsWellPlaced}
+use Rattle.im_registers.specs.Registers.{InRegisters}
 use Rattle.im_recut.specs.Recut.{RecutsTo}
 use Rattle.im_keeps_passes.specs.Source.{Source}
-use Rattle.im_keeps_passes.specs.Passes.{Cuts, Places, Recuts, Passes}
+use Rattle.im_keeps_passes.specs.Passes.{Lowers, Cuts, Places, Recuts, Passes}
 use Rattle.im_keeps_passes.specs.Laws.{CodeBounds}
 use Rattle.im_keeps_middle.specs.Middle.{Front, Chain}
 
 pub record MiddleLaw : Type 0 where
+  -- code with its locals in registers is still what lowering promises
+  pub registers : (source : Source) (lowered forwarded : Code) → Lowers source lowered → InRegisters lowered forwarded → Lowers source forwarded
   -- no cuts may be added
   pub cut : (u : Code) → Cuts u u
   pub place : (u v : Code) → IsWellPlaced u v → Places u v

@@ -1,1 +1,2 @@
 pub mod Unmarked
+pub mod Memories

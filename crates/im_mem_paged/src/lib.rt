@@ -4,4 +4,4 @@
 mod marks;
 mod paged;
 
-pub use paged::{PAGE_COUNT, PAGE_SIZE, PagedMem};
+pub use paged::{PAGE_COUNT, PAGE_SIZE, PagedMem, are_zero};

@@ -1,4 +1,5 @@
 ghost use Rattle.std.specs.Prelude.{◌≡◌, IfOk, length};
+ghost use Rattle.im_mem_paged.specs.Pages as pages;
 
 use crate::marks::mark_bytes;
 use im_mem::{FlatMem, Memory};
@@ -26,6 +27,7 @@ impl Model for PagedMem {
     ghost use Rattle.std.specs.Prelude.{◌≡◌, ℕ, List, length};
     ghost use Rattle.im_mem.specs.Memory.{view as bytes_in};
     ghost use Rattle.im_mem_paged.specs.Marks.{UnmarkedAreZero};
+    ghost use Rattle.im_mem_paged.specs.Pages.{IsMemory};
 
     ghost Value = { List ℕ };
 
@@ -34,6 +36,7 @@ impl Model for PagedMem {
     ghost invariant = { λ m. record {
       count : length m.marks.items ≡ 1280;
       zero : UnmarkedAreZero (bytes_in m.flat) m.marks.items;
+      memory : IsMemory (bytes_in m.flat);
     } };
 }
 
@@ -41,7 +44,7 @@ impl PagedMem {
     ghost use Rattle.std.specs.Prelude.{◌≡◌, ◌≤◌, ◌<◌, ◌+◌, length, false, IfOk};
     ghost use Rattle.im_mem.specs.Map.{memory_size};
     ghost use Rattle.im_mem.specs.Memory.{view, written, zeroed, bytes_from};
-    ghost use Rattle.im_mem_paged.specs.Pages.{IsZeroPage};
+    ghost use Rattle.im_mem_paged.specs.Pages.{IsMemory, IsZeroPage, page_of, pages_of};
 
     /// Memory whose bytes are all 0. No later call takes memory.
     pub fn new(alloc: Global) -> Result<PagedMem, NoMemory>
@@ -71,6 +74,15 @@ impl PagedMem {
         self.flat.bytes_at(at, count)
     }
 
+    /// The bytes of a page.
+    #[tactic(auto, unfolding(crate::specs::Pages::page_of))]
+    pub fn page(&self, page: u32) -> &[u8]
+        requires { page < 1280 }
+        ensures { result.now ≡ page_of (view self.now) page }
+    {
+        self.flat.bytes_at(PAGE_SIZE * page, PAGE_SIZE)
+    }
+
     /// A page that isn't marked is zero.
     pub fn is_marked(&self, page: u32) -> bool
         requires { page < 1280 }
@@ -78,6 +90,36 @@ impl PagedMem {
     {
         self.marks[page as usize]
     }
+
+    /// Each byte of the page is 0. Of a page without a mark no byte is looked at.
+    fn is_zero_page(&self, page: u32) -> bool
+        requires { page < 1280 }
+        ensures { result ≡ pages.are_zero (page_of (view self.now) page) }
+    {
+        !self.is_marked(page) || are_zero(self.page(page))
+    }
+
+    /// The numbers of the pages that aren't zero, which rise.
+    pub fn nonzero_pages(&self, alloc: Global) -> Result<Vec<u32>, NoMemory>
+        ensures pages { IfOk result (λ pages. pages.items ≡ pages_of 1280 0 (view self.now)) }
+        ensures memory { IsMemory (view self.now) }
+    {
+        let marks = &self.marks;
+        let mut pages = Vec::new(alloc);
+        for page in 0..marks.len() as u32 {
+            if !self.is_zero_page(page) {
+                pages.push(page)?;
+            }
+        }
+        Ok(pages)
+    }
+}
+
+/// Each byte is 0.
+pub fn are_zero(bytes: &[u8]) -> bool
+    ensures { result ≡ pages.are_zero bytes.now }
+{
+    bytes.iter().all(|byte| *byte == 0)
 }
 
 fn no_marks(alloc: Global) -> Result<Vec<bool>, AllocError>

@@ -3,7 +3,7 @@ use crate::code::unit;
 use crate::seen::{holds, same};
 use im_emu::Machine;
 use im_image::Image;
-use im_mem::FlatMem;
+use im_mem_paged::PagedMem;
 use im_num::CellValue;
 use im_power::Period;
 use im_rv::Went;
@@ -20,19 +20,19 @@ fn period(n: u32, count: u32, mask: u32) -> Period {
     }
 }
 
-fn loaded(alloc: Global, image: &Image) -> Result<Machine<FlatMem>, Fail> {
+fn loaded(alloc: Global, image: &Image) -> Result<Machine<PagedMem>, Fail> {
     let machine = Machine::load(alloc, image, &[]).ok().ok_or("a machine")?;
     Ok(machine)
 }
 
 // What the image's one variable holds.
-fn total(alloc: Global, machine: &Machine<FlatMem>) -> Result<Option<CellValue>, Fail> {
+fn total(alloc: Global, machine: &Machine<PagedMem>) -> Result<Option<CellValue>, Fail> {
     let vars = machine.vars(alloc)?;
     Ok(vars.first().and_then(|var| var.cells.first().copied()))
 }
 
 // Whether a run has ended as C says: 1 + 2 + 3 is added up, put out, kept, and given.
-fn is_right(alloc: Global, machine: &Machine<FlatMem>) -> Result<bool, Fail> {
+fn is_right(alloc: Global, machine: &Machine<PagedMem>) -> Result<bool, Fail> {
     let sum = total(alloc, machine)?;
     Ok(
         machine.went() == Went::Halted
@@ -44,7 +44,7 @@ fn is_right(alloc: Global, machine: &Machine<FlatMem>) -> Result<bool, Fail> {
 }
 
 // From a commit to the next one: power fails after each number of instructions, by each mask.
-fn pass_section(machine: &mut Machine<FlatMem>) {
+fn pass_section(machine: &mut Machine<PagedMem>) {
     let commits = machine.commits();
     for row in 0..3200 {
         if machine.commits() == commits {

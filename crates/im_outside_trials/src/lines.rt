@@ -3,7 +3,7 @@ use im_cmd_lines::{
     send_evaluation_lines, send_generation_line, send_instruction, send_refusal_line,
     send_report_lines, send_run_lines, send_variable_lines,
 };
-use im_fault::{LineFault, Quantity, SourceFault};
+use im_fault::{LineFault, Place, Quantity, SourceFault};
 use im_image::{ImageFault, read_image};
 use im_io::{Failed, MemSink};
 use im_num::{Cause, CellValue, Var};
@@ -227,7 +227,11 @@ const REFUSALS: [(Refusal, &str); 22] = [
         Refusal::BadSource(
             "a.c",
             SourceFault::Line {
-                line: 3,
+                place: Place {
+                    line: 3,
+                    start: 0,
+                    end: 0,
+                },
                 why: LineFault::Syntax,
             },
         ),
@@ -237,7 +241,11 @@ const REFUSALS: [(Refusal, &str); 22] = [
         Refusal::BadSource(
             "a.c",
             SourceFault::Line {
-                line: 4194305,
+                place: Place {
+                    line: 4194305,
+                    start: 0,
+                    end: 0,
+                },
                 why: LineFault::Nesting,
             },
         ),
@@ -247,7 +255,11 @@ const REFUSALS: [(Refusal, &str); 22] = [
         Refusal::BadSource(
             "a.c",
             SourceFault::Line {
-                line: 2,
+                place: Place {
+                    line: 2,
+                    start: 0,
+                    end: 0,
+                },
                 why: LineFault::Rule(17),
             },
         ),

@@ -1,6 +1,6 @@
 use im_emu::Machine;
 use im_image::{Image, read_image};
-use im_mem::FlatMem;
+use im_mem_paged::PagedMem;
 use im_num::CellValue;
 use im_power::Period;
 use std::alloc::Global;
@@ -49,7 +49,7 @@ pub(crate) fn image_of(
 }
 
 /// A machine with the image and this input.
-pub(crate) fn loaded(alloc: Global, image: &Image, input: &[u8]) -> Result<Machine<FlatMem>, Fail> {
+pub(crate) fn loaded(alloc: Global, image: &Image, input: &[u8]) -> Result<Machine<PagedMem>, Fail> {
     Ok(Machine::load(alloc, image, input).ok().ok_or("a machine")?)
 }
 
@@ -66,7 +66,7 @@ pub(crate) fn period(n: u32, mask: u32) -> Period {
 /// What the static of this number holds.
 pub(crate) fn value_of(
     alloc: Global,
-    machine: &Machine<FlatMem>,
+    machine: &Machine<PagedMem>,
     number: usize,
 ) -> Result<Option<CellValue>, Fail> {
     let vars = machine.vars(alloc)?;

@@ -3,7 +3,7 @@ use crate::sums::SUMS;
 use crate::words::WORDS;
 use im_emu::Machine;
 use im_image::Image;
-use im_mem::FlatMem;
+use im_mem_paged::PagedMem;
 use im_num::CellValue;
 use im_rv::Went;
 use std::alloc::Global;
@@ -48,7 +48,7 @@ fn sums_image(alloc: Global) -> Result<Image, Fail> {
 
 /// Whether the run has ended as one that keeps its power does, with the input AA: 2 is added to
 /// `sum` for the first byte, 3 for the second.
-fn is_right(alloc: Global, machine: &Machine<FlatMem>) -> Result<bool, Fail> {
+fn is_right(alloc: Global, machine: &Machine<PagedMem>) -> Result<bool, Fail> {
     let sum = value_of(alloc, machine, 0)?;
     let next = value_of(alloc, machine, 1)?;
     Ok(
@@ -62,7 +62,7 @@ fn is_right(alloc: Global, machine: &Machine<FlatMem>) -> Result<bool, Fail> {
 }
 
 /// The number of instructions from power-up to the next commit, that one included.
-fn next_commit(machine: &mut Machine<FlatMem>) -> Result<u32, Fail> {
+fn next_commit(machine: &mut Machine<PagedMem>) -> Result<u32, Fail> {
     let commits = machine.commits();
     for n in 0..120 {
         machine.power(period(n, 0));
@@ -75,7 +75,7 @@ fn next_commit(machine: &mut Machine<FlatMem>) -> Result<u32, Fail> {
 
 /// How many instructions of a run that keeps its power stand before each of its sections: recovery,
 /// and the sections before it, each up to the return from the checkpoint that ends it.
-fn section_starts(alloc: Global, machine: &mut Machine<FlatMem>) -> Result<Vec<u32>, Fail> {
+fn section_starts(alloc: Global, machine: &mut Machine<PagedMem>) -> Result<Vec<u32>, Fail> {
     let mut starts = Vec::new(alloc);
     let mut start = RECOVERY;
     for _ in 0..COMMITS {
@@ -94,7 +94,7 @@ fn section_starts(alloc: Global, machine: &mut Machine<FlatMem>) -> Result<Vec<u
 
 /// The instructions from power-up to where a run that keeps its power has executed `n`. None where
 /// what is committed is past that.
-fn distance(machine: &Machine<FlatMem>, starts: &[u32], n: u32) -> Option<u32> {
+fn distance(machine: &Machine<PagedMem>, starts: &[u32], n: u32) -> Option<u32> {
     let section = usize::try_from(machine.commits()).ok()?;
     let start = *starts.get(section)?;
     if section > 0 && n < start {
@@ -105,7 +105,7 @@ fn distance(machine: &Machine<FlatMem>, starts: &[u32], n: u32) -> Option<u32> {
 
 /// Power fails within a run of so many instructions.
 fn lose(
-    machine: &mut Machine<FlatMem>,
+    machine: &mut Machine<PagedMem>,
     starts: &[u32],
     count: u32,
     losses: Losses,

@@ -2,7 +2,7 @@ use crate::images::{ONE_WORD, THREE_WORDS, image_of};
 use crate::seen::{holds, same};
 use im_emu::{LoadFault, Machine};
 use im_image::{Image, Version};
-use im_mem::FlatMem;
+use im_mem_paged::PagedMem;
 use im_num::CellValue;
 use im_power::{Period, Trace, read_trace};
 use im_rv::Went;
@@ -15,7 +15,7 @@ const NO_WORD: &[u8] = &[
     0, 0, 0, 0, 0, 0x73, 0, 0, 0,
 ];
 
-fn loaded(alloc: Global, image: &Image) -> Result<Machine<FlatMem>, Fail> {
+fn loaded(alloc: Global, image: &Image) -> Result<Machine<PagedMem>, Fail> {
     Ok(Machine::load(alloc, image, &[]).ok().ok_or("a machine")?)
 }
 
@@ -27,7 +27,7 @@ fn trace_of(alloc: Global, lines: &[u8]) -> Result<Trace, Fail> {
 type Run = (Went, u64, u64);
 
 /// What a machine has done, which has gone so.
-fn run_of(machine: &Machine<FlatMem>, went: Went) -> Run {
+fn run_of(machine: &Machine<PagedMem>, went: Went) -> Run {
     (went, machine.commits(), machine.instructions())
 }
 
@@ -114,7 +114,7 @@ fn put_words(text: &mut Vec<u8>, words: &[u32]) -> Result<(), Fail> {
 }
 
 /// A machine of version 2 with this form word and these code words.
-fn machine_of(alloc: Global, form: u32, words: &[u32]) -> Result<Machine<FlatMem>, Fail> {
+fn machine_of(alloc: Global, form: u32, words: &[u32]) -> Result<Machine<PagedMem>, Fail> {
     let count = u32::try_from(words.len()).ok().ok_or("few words")?;
     let head = [0x5652_4d49, 2, count, 0, 256, 1024, 0x1000, 0, form];
     let mut text = Vec::new(alloc);

@@ -37,3 +37,6 @@ returns-in-Eval g c = rw c.in-Eval.is c.evaluate_source.ensures
 
 pub returns-in-Gen : goal.returns-in-Gen
 returns-in-Gen g c = rw c.in-Gen.is (c.generate_and_run.ensures (g.H.Shelf.state c.args.shelf.now))
+
+pub returns-in-Check : goal.returns-in-Check
+returns-in-Check g c = rw c.in-Check.is c.check_source.ensures

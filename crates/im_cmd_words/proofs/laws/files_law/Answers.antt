@@ -1,4 +1,4 @@
-use Rattle.im_cmd_words.proofs.OperandLemmas.{build_files, dump_files, eval_files, exec_files, report_files, run_files, upgrade_files}
+use Rattle.im_cmd_words.proofs.OperandLemmas.{build_files, check_files, dump_files, eval_files, exec_files, report_files, run_files, upgrade_files}
 use Rattle.im_cmd_words.proofs.laws.files_law.Goals as goal
 
 pub returns-clause-build : goal.returns-clause-build
@@ -21,3 +21,6 @@ returns-clause-report c = report_files
 
 pub returns-clause-eval : goal.returns-clause-eval
 returns-clause-eval c = eval_files
+
+pub returns-clause-check : goal.returns-clause-check
+returns-clause-check c = check_files

@@ -69,3 +69,19 @@ returns-clause-plus c = refl
 pub returns-clause-padded : goal.returns-clause-padded
 unfolding clap_on_literals
 returns-clause-padded c = refl
+
+pub returns-clause-resume : goal.returns-clause-resume
+unfolding clap_on_literals
+returns-clause-resume c = refl
+
+pub returns-clause-save : goal.returns-clause-save
+unfolding clap_on_literals
+returns-clause-save c = refl
+
+pub returns-clause-unnamed : goal.returns-clause-unnamed
+unfolding clap_on_literals
+returns-clause-unnamed c = refl
+
+pub returns-clause-check : goal.returns-clause-check
+unfolding clap_on_literals
+returns-clause-check c = refl

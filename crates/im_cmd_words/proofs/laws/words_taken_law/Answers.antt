@@ -41,3 +41,15 @@ returns-clause-gap c = refl
 pub returns-clause-made : goal.returns-clause-made
 unfolding clap_on_literals
 returns-clause-made c = refl
+
+pub returns-clause-save : goal.returns-clause-save
+unfolding clap_on_literals
+returns-clause-save c = refl
+
+pub returns-clause-resume : goal.returns-clause-resume
+unfolding clap_on_literals
+returns-clause-resume c = refl
+
+pub returns-clause-check : goal.returns-clause-check
+unfolding clap_on_literals
+returns-clause-check c = refl

@@ -2,7 +2,7 @@ use Rattle.std.proofs.Common.{◌≡◌, ◌∙◌, [], ap, ap₂, codes, true}
 use Rattle.std.proofs.lemmas.Result.{IfOk-weaker}
 use Rattle.clap.specs.Simple.{app_of_fields}
 use Rattle.clap.specs.Words.{App, app_of, new_app, with_subcommand}
-use Rattle.im_cmd_words.specs.Table.{build_row, command_line, dump_row, eval_row, exec_row, gen_row, report_row, run_row, upgrade_row}
+use Rattle.im_cmd_words.specs.Table.{build_row, check_row, command_line, dump_row, eval_row, exec_row, gen_row, report_row, run_row, upgrade_row}
 use Rattle.im_cmd_words.proofs.table.command_table.Goals as goal
 
 -- a command must follow
@@ -31,5 +31,7 @@ returns c =
     c.in_ok-subcommand-6.ensures.shape c.in_ok-report_row.ensures.local ∙ ap₂ with_subcommand five c.in_ok-report_row.ensures.row in
     let seven : app_of c.in_ok-subcommand-7.field-0 ≡ with_subcommand (with_subcommand (with_subcommand (with_subcommand (with_subcommand (with_subcommand (with_subcommand empty build_row) run_row) exec_row) dump_row) upgrade_row) report_row) eval_row =
     c.in_ok-subcommand-7.ensures.shape c.in_ok-eval_row.ensures.local ∙ ap₂ with_subcommand six c.in_ok-eval_row.ensures.row in
-    IfOk-weaker c.subcommand-8.result _ _ (λ m h. h.shape c.in_ok-gen_row.ensures.local
-    ∙ ap₂ with_subcommand seven c.in_ok-gen_row.ensures.row) c.subcommand-8.ensures
+    let eight : app_of c.in_ok-subcommand-8.field-0 ≡ with_subcommand (with_subcommand (with_subcommand (with_subcommand (with_subcommand (with_subcommand (with_subcommand (with_subcommand empty build_row) run_row) exec_row) dump_row) upgrade_row) report_row) eval_row) gen_row =
+    c.in_ok-subcommand-8.ensures.shape c.in_ok-gen_row.ensures.local ∙ ap₂ with_subcommand seven c.in_ok-gen_row.ensures.row in
+    IfOk-weaker c.subcommand-9.result _ _ (λ m h. h.shape c.in_ok-check_row.ensures.local
+    ∙ ap₂ with_subcommand eight c.in_ok-check_row.ensures.row) c.subcommand-9.ensures

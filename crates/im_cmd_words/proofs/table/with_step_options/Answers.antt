@@ -7,4 +7,5 @@ pub returns-clause-row : goal.returns-clause-row
 returns-clause-row c =
     let steps = c.in_ok-arg.ensures.shape c.numbered.ensures.local
     ∙ ap (with_rule (app_of c.args.command)) c.numbered.ensures.rule in
-    IfOk-weaker c.arg-2.result _ _ (λ m h. h.shape c.flag.ensures.local ∙ ap₂ with_rule steps c.flag.ensures.rule) c.arg-2.ensures
+    let vars = c.in_ok-arg-2.ensures.shape c.flag.ensures.local ∙ ap₂ with_rule steps c.flag.ensures.rule in
+    IfOk-weaker c.arg-3.result _ _ (λ m h. h.shape c.valued.ensures.local ∙ ap₂ with_rule vars c.valued.ensures.rule) c.arg-3.ensures

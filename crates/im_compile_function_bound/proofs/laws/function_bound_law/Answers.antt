@@ -3,4 +3,4 @@ use Rattle.im_compile_function_bound.proofs.laws.function_bound_law.Goals as goa
 
 pub returns : goal.returns
 returns c =
-    bounded c.force_keeps_law.ensures c.cuts_keep_code_law.ensures c.placed_code_law.ensures c.recut_keeps_law.ensures
+    bounded c.registers_law.ensures c.force_keeps_law.ensures c.cuts_keep_code_law.ensures c.placed_code_law.ensures c.recut_keeps_law.ensures

@@ -22,5 +22,5 @@ returns c =
     let text = c.in-Ok.ensures.1 in
     let fault = c.in-Err-check.fault in
     rw (c.untyped.ensures, c.deref.ensures.value)
-    (subst (λ (z : List ℕ). IsRefused c.args.source.now (fault_at c.args.source.now z fault)) (sym text.lines)
+    (subst (λ (z : List (ℕ × ℕ)). IsRefused c.args.source.now (fault_at c.args.source.now z fault)) (sym text.spans)
     (check_refused c.args.source.now text.tokens c.in-Ok.text.tree fault (record { lexes = text.lexes; parsed = text.parsed }) c.in-Err-check.ensures))

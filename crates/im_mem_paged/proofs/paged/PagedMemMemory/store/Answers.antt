@@ -1,10 +1,13 @@
-use Rattle.std.proofs.Common.{◌≡◌, ◌∙◌, ap}
+use Rattle.std.proofs.Common.{◌≡◌, ◌∙◌, sym, ap, subst}
 use Rattle.im_mem.specs.Memory.{Mem, view}
+use Rattle.im_mem_paged.specs.Pages.{IsMemory}
 use Rattle.im_mem_paged.proofs.Unmarked.{stored-unmarked}
+use Rattle.im_mem_paged.proofs.Memories.{stored-memory}
 use Rattle.im_mem_paged.proofs.paged.PagedMemMemory.store.Goals as goal
 
 pub invariant_of-self : goal.invariant_of-self
 invariant_of-self c = record {
   count = c.mark_bytes.ensures.length ∙ c.self.invariant.count;
   zero = λ k inside unmarked. ap (λ (m : Mem). m k) c.store.ensures.bytes ∙ stored-unmarked (view c.self.inside.flat) c.self.inside.marks.items c.mark_bytes.new.marks.items c.args.addr c.args.size c.args.word c.self.invariant.zero c.mark_bytes.ensures.keeps c.mark_bytes.ensures.all k inside unmarked;
+  memory = subst IsMemory (sym c.store.ensures.bytes) (stored-memory (view c.self.inside.flat) c.args.addr c.args.size c.args.word c.self.invariant.memory);
 }

@@ -1,0 +1,38 @@
+use Rattle.std.proofs.Common.{refl, rules}
+use Rattle.im_io.proofs.Pieces.{sent_none}
+use Rattle.im_cmd_lines.specs.Refusals.{refused_of}
+use Rattle.im_cmd.specs.Answers.{check_unread, check_starved, check_refused, checked}
+use Rattle.im_cmd.specs.Builds.{source_limit}
+use Rattle.im_cmd.specs.Outcome.{told}
+use Rattle.im_cmd.proofs.Builds.{compiles_of, is_built_of, faulty}
+use Rattle.im_cmd.proofs.Refusing.{unchanged_read}
+use Rattle.im_cmd.proofs.Reports.{tells_refusal, tells_second}
+use Rattle.im_cmd.proofs.checking.check_source.Goals as goal
+
+pub returns-in-Err : goal.returns-in-Err
+returns-in-Err g c = record {
+  outcome = _;
+  comes = check_unread _ (refused_of c.in-Err.refusal) c.in-Err.ensures.read;
+  tells = tells_refusal _ _ _ _ _ c.tell_refusal.ensures.status c.tell_refusal.ensures.err;
+}
+
+pub returns-in-Ok-compile : goal.returns-in-Ok-compile
+returns-in-Ok-compile g c = record {
+  outcome = _;
+  comes = checked _ c.in-Ok-compile.field-0 (compiles_of _ _ _ _ _ _ c.in-Ok.ensures.read (is_built_of _ _ _ (search rules) (rw c.deref.ensures.value at c.in-Ok-compile.ensures)));
+  tells = told _ _ 0 (sent_none _) (sent_none _);
+}
+
+pub returns-in-Err-OutOfMemory : goal.returns-in-Err-OutOfMemory
+returns-in-Err-OutOfMemory g c = record {
+  outcome = _;
+  comes = check_starved _ (unchanged_read _ _ source_limit _ _ c.in-Ok.ensures.read);
+  tells = tells_refusal _ _ _ _ _ c.tell_refusal-in-Err-OutOfMemory.ensures.status c.tell_refusal-in-Err-OutOfMemory.ensures.err;
+}
+
+pub returns : goal.returns
+returns g c = record {
+  outcome = _;
+  comes = check_refused _ _ c.in-Err-compile.fault c.in-Ok.ensures.read (faulty _ _ (search rules) (rw c.deref.ensures.value at c.in-Err-compile.ensures));
+  tells = tells_second _ 3 _ _ _ _ c.tell_fault.ensures;
+}

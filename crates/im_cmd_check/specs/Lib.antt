@@ -1,0 +1,4 @@
+pub mod Runs
+pub mod Reading
+pub mod Sentences
+pub mod Message

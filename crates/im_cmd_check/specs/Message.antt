@@ -1,0 +1,48 @@
+-- The message of a source that is refused: where and why, the line, and a caret under the place.
+use Rattle.std.specs.Prelude.{ℕ, ◌+◌, ◌==◌, List, ◌++◌, codes, decimal, drop, length, if◌then◌else◌}
+use Rattle.std.specs.List.{flat_map}
+use Rattle.im_fault.specs.declared.fault.LineFault.{LineFault}
+use Rattle.im_fault.specs.declared.fault.Quantity.{Quantity}
+use Rattle.im_fault.specs.declared.fault.SourceFault.{SourceFault}
+use Rattle.im_fault.specs.declared.fault.SourceFault.TheVariants.{Line, Limit, OutOfMemory}
+use Rattle.im_fault.specs.Texts.{limit_of, quantity_name}
+use Rattle.im_cmd_check.specs.declared.runs.Run.TheVariants as run_kind
+use Rattle.im_cmd_check.specs.Runs.{part, run}
+use Rattle.im_cmd_check.specs.Reading.{Reading, presumed}
+use Rattle.im_cmd_check.specs.Sentences.{fault_text}
+
+-- the file, its line and its column, counted in bytes from 1
+abbrev pub place_text : Reading → List ℕ
+place_text reading =
+    reading.name ++ (codes ":" ++ (decimal reading.line ++ (codes ":" ++ (decimal (length reading.front + 1) ++ codes ": "))))
+
+-- the line with this front, of which this is the rest of the text
+abbrev pub line_text : List ℕ → List ℕ → List ℕ
+line_text front rest = front ++ (run run_kind.Line rest ++ codes "\n")
+
+-- what stands in front of the caret: a tab under a tab, and else a blank
+abbrev pub under : ℕ → List ℕ
+under byte = if byte == 9 then codes "\t" else codes " "
+
+-- a caret under the place
+abbrev pub caret_line : List ℕ → List ℕ
+caret_line front = flat_map under front ++ codes "^\n"
+
+-- the line, and below it the caret
+abbrev pub shown_line : List ℕ → List ℕ → List ℕ
+shown_line front rest = line_text front rest ++ caret_line front
+
+abbrev pub line_message : Reading → LineFault → List ℕ → List ℕ → List ℕ
+line_message reading why token rest = place_text reading ++ (fault_text why token ++ shown_line reading.front rest)
+
+abbrev pub limit_message : List ℕ → Quantity → ℕ → List ℕ
+limit_message file quantity count =
+    file ++ (codes ": " ++ (quantity_name quantity ++ (codes " " ++ (decimal count
+    ++ (codes " over " ++ (decimal (limit_of quantity) ++ codes "\n"))))))
+
+-- the message of a fault of the source that has this file
+abbrev pub source_message : List ℕ → List ℕ → SourceFault → List ℕ
+source_message file source (Line place why) =
+    line_message (presumed file (part source 0 place.start)) why (part source place.start place.end) (drop place.start source)
+source_message file source (Limit quantity count) = limit_message file quantity count
+source_message file source OutOfMemory = codes "intermit: no memory\n"

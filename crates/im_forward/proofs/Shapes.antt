@@ -1,0 +1,435 @@
+-- What forwarding leaves of code: its order, what it costs, that no cut stands in it, and what its lines name.
+use Rattle.std.proofs.Common.{◌≡◌, ◌⊎◌, inl, inr, ⊎_elim, ℕ, zero, suc, ◌+◌, ◌*◌, ◌<◌, ◌≤◌, List, [], ◌∷◌, ◌++◌, length, take, Option, Some, None, refl, sym, ap, ◌∙◌, subst, arith}
+use Rattle.std.specs.Prelude.{slice_get, All, Bool}
+use Rattle.std.proofs.lemmas.List.Elements.{All-nil, All-cons, All-head, All-tail}
+use Rattle.im_block.specs.declared.code.Place.{Place}
+use Rattle.im_block.specs.declared.code.Place.TheVariants.{Static, Local, Through}
+use Rattle.im_block.specs.declared.code.Line.{Line}
+use Rattle.im_block.specs.declared.code.Line.TheVariants.{Put, PutNull, Copy, Convert, Unary, Not, Compute, Compare, Move, Distance, Address, Read, Write, Reload, Spill, Cut, Call, GetChar, PutChar}
+use Rattle.im_block.specs.declared.code.Exit.{Exit}
+use Rattle.im_block.specs.declared.code.Exit.TheVariants.{Jump, Turn, Branch, Return}
+use Rattle.im_block.specs.declared.code.Block.{Block}
+use Rattle.im_block.specs.declared.unit.Function.{Function}
+use Rattle.im_block.specs.declared.unit.Unit.{Unit as Code}
+use Rattle.im_block.specs.Shape.{Descends, IsOrdered, AllOrdered, sum_of, place_registers, cost, exit_cost, block_cost, function_cost}
+use Rattle.im_block.specs.Wellformed.{HasCells, PlaceWithin, LineWithin, ExitWithin, ExitThere, Takes, LineThere, IsBlock, IsFunction, accesses_of_line, accesses_of_lines, accesses_of_blocks, accesses_of_functions, AreApart, objects_below, IsWellFormed}
+use Rattle.im_alloc_placed.specs.Apart.{IsNoCut, AllUncut}
+use Rattle.im_alloc_placed.specs.Placeable.{first_free}
+use Rattle.im_forward.specs.Copies.{IsCopy, Copied, Further, Since, IsSame, Itself, CopyOf}
+use Rattle.im_forward.specs.Forward.{place_using, line_using, exit_using, MayUse, ForwardsLine, ForwardsExit, ForwardsLines, Ends, Kept, LeftOut, ForwardsBlock, ForwardsBlocks, ForwardsFunction, ForwardsFunctions, Forwards}
+use Rattle.im_forward.proofs.Sims.{BothBlocks, both_blocks, BothFunctions, both_functions}
+
+-- the exit, by the lines before it
+pub record Leaving (free : ℕ) (a b : Exit) : Type 0 where
+  pub behind : List Line
+  pub exit : ForwardsExit free behind a b
+
+pub leaving : (free : ℕ) (live : ℕ → ℕ → Bool) (a b : Exit) (before old new : List Line) → ForwardsLines free live a b before old new → Leaving free a b
+leaving free live a b before old new (Ends gone e) = record { behind = gone; exit = e }
+leaving free live a b before old new (Kept gone rest rest' x y k left) = leaving free live a b (x ∷ gone) rest rest' left
+leaving free live a b before old new (LeftOut gone rest rest' to from dead left) = leaving free live a b (Copy to from ∷ gone) rest rest' left
+
+-- ---- costs
+
+place_cost : (instead : ℕ → ℕ) (place : Place) → place_registers (place_using instead place) ≡ place_registers place
+place_cost instead (Static object offset) = refl
+place_cost instead (Local object offset) = refl
+place_cost instead (Through pointer offset) = refl
+
+line_cost : (instead : ℕ → ℕ) (line : Line) → cost (line_using instead line) ≡ cost line
+line_cost instead (Put to z) = refl
+line_cost instead (PutNull to) = refl
+line_cost instead (Copy to from) = refl
+line_cost instead (Convert to kind from) = refl
+line_cost instead (Unary to op kind from) = refl
+line_cost instead (Not to from) = refl
+line_cost instead (Compute to op kind left right) = refl
+line_cost instead (Compare to op kind left right) = refl
+line_cost instead (Move to size back pointer by) = refl
+line_cost instead (Distance to size left right) = refl
+line_cost instead (Address to place) = let e = place_cost instead place in omega (arith, e)
+line_cost instead (Read to place kind access) = let e = place_cost instead place in omega (arith, e)
+line_cost instead (Write place kind from access) = let e = place_cost instead place in omega (arith, e)
+line_cost instead (Reload to slot access) = refl
+line_cost instead (Spill slot from access) = refl
+line_cost instead (Cut cause) = refl
+line_cost instead (Call to i first count) = refl
+line_cost instead (GetChar to) = refl
+line_cost instead (PutChar to from) = refl
+
+exit_same : (instead : ℕ → ℕ) (exit : Exit) → exit_cost (exit_using instead exit) ≡ exit_cost exit
+exit_same instead (Jump b) = refl
+exit_same instead (Turn b) = refl
+exit_same instead (Branch on a b) = refl
+exit_same instead (Return None) = refl
+exit_same instead (Return (Some r)) = refl
+
+lines_cost : (free : ℕ) (live : ℕ → ℕ → Bool) (a b : Exit) (before old new : List Line) → ForwardsLines free live a b before old new → sum_of cost new ≤ sum_of cost old
+lines_cost free live a b before old new (Ends gone e) = omega arith
+lines_cost free live a b before old new (Kept gone rest rest' x y k left) =
+    let less = lines_cost free live a b (x ∷ gone) rest rest' left in
+    let same : cost y ≡ cost x = ap cost k.line ∙ line_cost k.instead x in
+    omega (arith, less, same)
+lines_cost free live a b before old new (LeftOut gone rest rest' to from dead left) =
+    let less = lines_cost free live a b (Copy to from ∷ gone) rest rest' left in
+    omega (arith, less)
+
+blocks_cost : (free : ℕ) (live : ℕ → ℕ → Bool) (xs ys : List Block) → ForwardsBlocks free live xs ys → sum_of block_cost ys ≤ sum_of block_cost xs
+blocks_cost free live [] [] h = omega arith
+blocks_cost free live [] (y ∷ ys) h = absurd h
+blocks_cost free live (x ∷ xs) [] h = absurd h
+blocks_cost free live (x ∷ xs) (y ∷ ys) h =
+    let lines = lines_cost free live x.exit y.exit [] x.lines.items y.lines.items h.0.lines in
+    let e = (leaving free live x.exit y.exit [] x.lines.items y.lines.items h.0.lines).exit in
+    let exit : exit_cost y.exit ≡ exit_cost x.exit = ap exit_cost e.exit ∙ exit_same e.instead x.exit in
+    let rest = blocks_cost free live xs ys h.1 in
+    omega (arith, lines, exit, rest)
+
+pub costs : (old new : Function) → ForwardsFunction old new → function_cost new ≤ function_cost old
+costs old new p = let a = blocks_cost (first_free old) p.live old.blocks.items new.blocks.items p.blocks in omega (arith, a)
+
+-- ---- order
+
+descends : (instead : ℕ → ℕ) (exit : Exit) (b : ℕ) → Descends exit b → Descends (exit_using instead exit) b
+descends instead (Jump c) b h = h
+descends instead (Turn c) b h = h
+descends instead (Branch on x y) b h = h
+descends instead (Return None) b h = h
+descends instead (Return (Some r)) b h = h
+
+blocks_ordered : (free : ℕ) (live : ℕ → ℕ → Bool) (xs ys : List Block) → ForwardsBlocks free live xs ys → IsOrdered xs → IsOrdered ys
+blocks_ordered free live xs ys h ordered = record { each = λ b block at. one b block (slice_get xs b) (slice_get ys b) (both_blocks free live xs ys b h) refl at }
+  where
+    one : (b : ℕ) (block : Block) (p q : Option Block) → BothBlocks free live p q → p ≡ slice_get xs b → q ≡ Some block → Descends block.exit b
+    one b block None None both at at' = cc
+    one b block None (Some y) both at at' = absurd both
+    one b block (Some x) None both at at' = absurd both
+    one b block (Some x) (Some y) both at at' =
+        let same : y ≡ block = cc in
+        let e = (leaving free live x.exit y.exit [] x.lines.items y.lines.items both.lines).exit in
+        subst (λ (z : Block). Descends z.exit b) same (subst (λ z. Descends z b) (sym e.exit) (descends e.instead x.exit b (ordered.each b x (sym at))))
+
+pub ordered_kept : (old new : Code) → Forwards old new → AllOrdered old → AllOrdered new
+ordered_kept old new all ordered = record { each = λ i h at. one i h (slice_get old.functions.items i) (slice_get new.functions.items i) (both_functions old.functions.items new.functions.items i all.functions) refl at }
+  where
+    one : (i : ℕ) (h : Function) (p q : Option Function) → BothFunctions p q → p ≡ slice_get old.functions.items i → q ≡ Some h → IsOrdered h.blocks.items
+    one i h None None both at at' = cc
+    one i h None (Some q) both at at' = absurd both
+    one i h (Some f) None both at at' = absurd both
+    one i h (Some f) (Some q) both at at' =
+        let same : q ≡ h = cc in
+        subst (λ (x : Function). IsOrdered x.blocks.items) same (blocks_ordered (first_free f) both.live f.blocks.items q.blocks.items both.blocks (ordered.each i f (sym at)))
+
+-- ---- no cuts
+
+line_uncut : (instead : ℕ → ℕ) (line : Line) → IsNoCut line → IsNoCut (line_using instead line)
+line_uncut instead (Put to z) h e = h e
+line_uncut instead (PutNull to) h e = h e
+line_uncut instead (Copy to from) h e = h e
+line_uncut instead (Convert to kind from) h e = h e
+line_uncut instead (Unary to op kind from) h e = h e
+line_uncut instead (Not to from) h e = h e
+line_uncut instead (Compute to op kind left right) h e = h e
+line_uncut instead (Compare to op kind left right) h e = h e
+line_uncut instead (Move to size back pointer by) h e = h e
+line_uncut instead (Distance to size left right) h e = h e
+line_uncut instead (Address to place) h e = h e
+line_uncut instead (Read to place kind access) h e = h e
+line_uncut instead (Write place kind from access) h e = h e
+line_uncut instead (Reload to slot access) h e = h e
+line_uncut instead (Spill slot from access) h e = h e
+line_uncut instead (Cut cause) h e = h e
+line_uncut instead (Call to i first count) h e = h e
+line_uncut instead (GetChar to) h e = h e
+line_uncut instead (PutChar to from) h e = h e
+
+lines_uncut : (free : ℕ) (live : ℕ → ℕ → Bool) (a b : Exit) (before old new : List Line) → ForwardsLines free live a b before old new → All IsNoCut old → All IsNoCut new
+lines_uncut free live a b before old new (Ends gone e) h = All-nil IsNoCut
+lines_uncut free live a b before old new (Kept gone rest rest' x y k left) h =
+    All-cons IsNoCut y rest' (subst IsNoCut (sym k.line) (line_uncut k.instead x (All-head IsNoCut x rest h)))
+    (lines_uncut free live a b (x ∷ gone) rest rest' left (All-tail IsNoCut x rest h))
+lines_uncut free live a b before old new (LeftOut gone rest rest' to from dead left) h =
+    lines_uncut free live a b (Copy to from ∷ gone) rest rest' left (All-tail IsNoCut (Copy to from) rest h)
+
+pub uncut_kept : (old new : Code) → Forwards old new → AllUncut old → AllUncut new
+uncut_kept old new p h = record {
+  each = λ i g b y at there. in_function i g b y (slice_get old.functions.items i) (slice_get new.functions.items i) (both_functions old.functions.items new.functions.items i p.functions) refl at there;
+}
+  where
+    in_block : (i : ℕ) (f : Function) (free : ℕ) (live : ℕ → ℕ → Bool) (b : ℕ) (y : Block) (o q : Option Block) → BothBlocks free live o q → slice_get old.functions.items i ≡ Some f → o ≡ slice_get f.blocks.items b → q ≡ Some y → All IsNoCut y.lines.items
+    in_block i f free live b y None None both at there is = cc
+    in_block i f free live b y None (Some z) both at there is = absurd both
+    in_block i f free live b y (Some x) None both at there is = absurd both
+    in_block i f free live b y (Some x) (Some z) both at there is =
+        let same : z ≡ y = cc in
+        subst (λ (k : Block). All IsNoCut k.lines.items) same (lines_uncut free live x.exit z.exit [] x.lines.items z.lines.items both.lines (h.each i f b x at (sym there)))
+
+    in_function : (i : ℕ) (g : Function) (b : ℕ) (y : Block) (o q : Option Function) → BothFunctions o q → o ≡ slice_get old.functions.items i → q ≡ Some g → slice_get g.blocks.items b ≡ Some y → All IsNoCut y.lines.items
+    in_function i g b y None None both at is there = cc
+    in_function i g b y None (Some k) both at is there = absurd both
+    in_function i g b y (Some f) None both at is there = absurd both
+    in_function i g b y (Some f) (Some k) both at is there =
+        let same : k ≡ g = cc in
+        let there' : slice_get k.blocks.items b ≡ Some y = subst (λ (q : Function). slice_get q.blocks.items b ≡ Some y) (sym same) there in
+        in_block i f (first_free f) both.live b y (slice_get f.blocks.items b) (slice_get k.blocks.items b) (both_blocks (first_free f) both.live f.blocks.items k.blocks.items b both.blocks) (sym at) refl there'
+
+-- ---- what lines name
+
+copy_within : (n : ℕ) (before : List Line) (a b : ℕ) → IsCopy before a b → All (LineWithin n) before → b < n
+copy_within n before a b (Copied above to from ne) h = (All-head (LineWithin n) (Copy to from) above h).1
+copy_within n before a b (Further above to from source ne nf r) h = copy_within n above from source r (All-tail (LineWithin n) (Copy to from) above h)
+copy_within n before a b (Since line above to from p q r) h = copy_within n above to from r (All-tail (LineWithin n) line above h)
+
+same_within : (n : ℕ) (before : List Line) (v w : ℕ) → IsSame before v w → All (LineWithin n) before → v < n → w < n
+same_within n before v w (Itself behind u) h lt = lt
+same_within n before v w (CopyOf behind u k t p q) h lt = same_within n behind k t q h (copy_within n behind u k p h)
+
+abbrev KeepsWithin : ℕ → (ℕ → ℕ) → Type 0
+KeepsWithin n instead = (v : ℕ) → v < n → instead v < n
+
+place_within : (n : ℕ) (instead : ℕ → ℕ) → KeepsWithin n instead → (place : Place) → PlaceWithin n place → PlaceWithin n (place_using instead place)
+place_within n instead k (Static object offset) w = tt
+place_within n instead k (Local object offset) w = tt
+place_within n instead k (Through pointer offset) w = k pointer w
+
+line_within : (n : ℕ) (instead : ℕ → ℕ) → KeepsWithin n instead → (line : Line) → LineWithin n line → LineWithin n (line_using instead line)
+line_within n instead k (Put to z) w = w
+line_within n instead k (PutNull to) w = w
+line_within n instead k (Copy to from) w = (w.0, k from w.1)
+line_within n instead k (Convert to kind from) w = (w.0, k from w.1)
+line_within n instead k (Unary to op kind from) w = (w.0, k from w.1)
+line_within n instead k (Not to from) w = (w.0, k from w.1)
+line_within n instead k (Compute to op kind left right) w = (w.0, k left w.1, k right w.2)
+line_within n instead k (Compare to op kind left right) w = (w.0, k left w.1, k right w.2)
+line_within n instead k (Move to size back pointer by) w = (w.0, k pointer w.1, k by w.2)
+line_within n instead k (Distance to size left right) w = (w.0, k left w.1, k right w.2)
+line_within n instead k (Address to place) w = (w.0, place_within n instead k place w.1)
+line_within n instead k (Read to place kind access) w = (w.0, place_within n instead k place w.1)
+line_within n instead k (Write place kind from access) w = (place_within n instead k place w.0, k from w.1)
+line_within n instead k (Reload to slot access) w = w
+line_within n instead k (Spill slot from access) w = k from w
+line_within n instead k (Cut cause) w = w
+line_within n instead k (Call to i first count) w = w
+line_within n instead k (GetChar to) w = w
+line_within n instead k (PutChar to from) w = (w.0, k from w.1)
+
+exit_within : (n : ℕ) (instead : ℕ → ℕ) → KeepsWithin n instead → (exit : Exit) → ExitWithin n exit → ExitWithin n (exit_using instead exit)
+exit_within n instead k (Jump b) w = w
+exit_within n instead k (Turn b) w = w
+exit_within n instead k (Branch on a b) w = k on w
+exit_within n instead k (Return None) w = w
+exit_within n instead k (Return (Some r)) w = k r w
+
+pub exit_there : (n : ℕ) (instead : ℕ → ℕ) (exit : Exit) → ExitThere n exit → ExitThere n (exit_using instead exit)
+exit_there n instead (Jump b) w = w
+exit_there n instead (Turn b) w = w
+exit_there n instead (Branch on a b) w = w
+exit_there n instead (Return None) w = w
+exit_there n instead (Return (Some r)) w = w
+
+line_there : (fs : List Function) (instead : ℕ → ℕ) (line : Line) → LineThere fs line → LineThere fs (line_using instead line)
+line_there fs instead (Put to z) h = h
+line_there fs instead (PutNull to) h = h
+line_there fs instead (Copy to from) h = h
+line_there fs instead (Convert to kind from) h = h
+line_there fs instead (Unary to op kind from) h = h
+line_there fs instead (Not to from) h = h
+line_there fs instead (Compute to op kind left right) h = h
+line_there fs instead (Compare to op kind left right) h = h
+line_there fs instead (Move to size back pointer by) h = h
+line_there fs instead (Distance to size left right) h = h
+line_there fs instead (Address to place) h = h
+line_there fs instead (Read to place kind access) h = h
+line_there fs instead (Write place kind from access) h = h
+line_there fs instead (Reload to slot access) h = h
+line_there fs instead (Spill slot from access) h = h
+line_there fs instead (Cut cause) h = h
+line_there fs instead (Call to i first count) h = h
+line_there fs instead (GetChar to) h = h
+line_there fs instead (PutChar to from) h = h
+
+line_accesses : (instead : ℕ → ℕ) (line : Line) → accesses_of_line (line_using instead line) ≡ accesses_of_line line
+line_accesses instead (Put to z) = refl
+line_accesses instead (PutNull to) = refl
+line_accesses instead (Copy to from) = refl
+line_accesses instead (Convert to kind from) = refl
+line_accesses instead (Unary to op kind from) = refl
+line_accesses instead (Not to from) = refl
+line_accesses instead (Compute to op kind left right) = refl
+line_accesses instead (Compare to op kind left right) = refl
+line_accesses instead (Move to size back pointer by) = refl
+line_accesses instead (Distance to size left right) = refl
+line_accesses instead (Address to place) = refl
+line_accesses instead (Read to place kind access) = refl
+line_accesses instead (Write place kind from access) = refl
+line_accesses instead (Reload to slot access) = refl
+line_accesses instead (Spill slot from access) = refl
+line_accesses instead (Cut cause) = refl
+line_accesses instead (Call to i first count) = refl
+line_accesses instead (GetChar to) = refl
+line_accesses instead (PutChar to from) = refl
+
+-- lines, and the exit behind them
+
+pub lines_within : (n free : ℕ) (live : ℕ → ℕ → Bool) (a b : Exit) (before old new : List Line) → ForwardsLines free live a b before old new → All (LineWithin n) before → All (LineWithin n) old → ExitWithin n a → All (LineWithin n) new × ExitWithin n b
+lines_within n free live a b before old new (Ends gone e) h w x = (
+  All-nil (LineWithin n),
+  subst (ExitWithin n) (sym e.exit) (exit_within n e.instead (λ v lt. same_within n gone v (e.instead v) (e.may.same v) h lt) a x),
+)
+lines_within n free live a b before old new (Kept gone rest rest' x y k left) h w e =
+    let here = All-head (LineWithin n) x rest w in
+    let more = lines_within n free live a b (x ∷ gone) rest rest' left (All-cons (LineWithin n) x gone here h) (All-tail (LineWithin n) x rest w) e in (
+      All-cons (LineWithin n) y rest' (subst (LineWithin n) (sym k.line) (line_within n k.instead (λ v lt. same_within n gone v (k.instead v) (k.may.same v) h lt) x here)) more.0,
+      more.1,
+    )
+lines_within n free live a b before old new (LeftOut gone rest rest' to from dead left) h w e =
+    lines_within n free live a b (Copy to from ∷ gone) rest rest' left (All-cons (LineWithin n) (Copy to from) gone (All-head (LineWithin n) (Copy to from) rest w) h) (All-tail (LineWithin n) (Copy to from) rest w) e
+
+lines_there : (fs : List Function) (free : ℕ) (live : ℕ → ℕ → Bool) (a b : Exit) (before old new : List Line) → ForwardsLines free live a b before old new → All (LineThere fs) old → All (LineThere fs) new
+lines_there fs free live a b before old new (Ends gone e) h = All-nil (LineThere fs)
+lines_there fs free live a b before old new (Kept gone rest rest' x y k left) h =
+    All-cons (LineThere fs) y rest' (subst (LineThere fs) (sym k.line) (line_there fs k.instead x (All-head (LineThere fs) x rest h)))
+    (lines_there fs free live a b (x ∷ gone) rest rest' left (All-tail (LineThere fs) x rest h))
+lines_there fs free live a b before old new (LeftOut gone rest rest' to from dead left) h =
+    lines_there fs free live a b (Copy to from ∷ gone) rest rest' left (All-tail (LineThere fs) (Copy to from) rest h)
+
+lines_accesses : (free : ℕ) (live : ℕ → ℕ → Bool) (a b : Exit) (before old new : List Line) → ForwardsLines free live a b before old new → accesses_of_lines new ≡ accesses_of_lines old
+lines_accesses free live a b before old new (Ends gone e) = refl
+lines_accesses free live a b before old new (Kept gone rest rest' x y k left) =
+    ap (λ (l : List ℕ). l ++ accesses_of_lines rest') (ap accesses_of_line k.line ∙ line_accesses k.instead x)
+    ∙ ap (λ (l : List ℕ). accesses_of_line x ++ l) (lines_accesses free live a b (x ∷ gone) rest rest' left)
+lines_accesses free live a b before old new (LeftOut gone rest rest' to from dead left) = lines_accesses free live a b (Copy to from ∷ gone) rest rest' left
+
+blocks_accesses : (free : ℕ) (live : ℕ → ℕ → Bool) (xs ys : List Block) → ForwardsBlocks free live xs ys → accesses_of_blocks ys ≡ accesses_of_blocks xs
+blocks_accesses free live [] [] h = refl
+blocks_accesses free live [] (y ∷ ys) h = absurd h
+blocks_accesses free live (x ∷ xs) [] h = absurd h
+blocks_accesses free live (x ∷ xs) (y ∷ ys) h =
+    ap (λ (l : List ℕ). l ++ accesses_of_blocks ys) (lines_accesses free live x.exit y.exit [] x.lines.items y.lines.items h.0.lines)
+    ∙ ap (λ (l : List ℕ). accesses_of_lines x.lines.items ++ l) (blocks_accesses free live xs ys h.1)
+
+functions_accesses : (fs gs : List Function) → ForwardsFunctions fs gs → accesses_of_functions gs ≡ accesses_of_functions fs
+functions_accesses [] [] h = refl
+functions_accesses [] (g ∷ gs) h = absurd h
+functions_accesses (f ∷ fs) [] h = absurd h
+functions_accesses (f ∷ fs) (g ∷ gs) h =
+    ap (λ (l : List ℕ). l ++ accesses_of_functions gs) (blocks_accesses (first_free f) h.0.live f.blocks.items g.blocks.items h.0.blocks)
+    ∙ ap (λ (l : List ℕ). accesses_of_blocks f.blocks.items ++ l) (functions_accesses fs gs h.1)
+
+-- functions
+
+pub blocks_length : (free : ℕ) (live : ℕ → ℕ → Bool) (xs ys : List Block) → ForwardsBlocks free live xs ys → length ys ≡ length xs
+blocks_length free live [] [] h = refl
+blocks_length free live [] (y ∷ ys) h = absurd h
+blocks_length free live (x ∷ xs) [] h = absurd h
+blocks_length free live (x ∷ xs) (y ∷ ys) h = ap suc (blocks_length free live xs ys h.1)
+
+takes_kept : (p q : Option Function) (count : ℕ) → BothFunctions p q → Takes p count → Takes q count
+takes_kept None None count both h = h
+takes_kept None (Some g) count both h = absurd both
+takes_kept (Some f) None count both h = absurd both
+takes_kept (Some f) (Some g) count both h = ap (λ (k : Function). k.parameters) both.rest ∙ h
+
+objects_sum : (fs gs : List Function) (i : ℕ) → ForwardsFunctions fs gs → sum_of (λ (f : Function). length f.objects.items) (take i gs) ≡ sum_of (λ (f : Function). length f.objects.items) (take i fs)
+objects_sum fs gs zero h = refl
+objects_sum [] [] (suc i) h = refl
+objects_sum [] (g ∷ gs) (suc i) h = absurd h
+objects_sum (f ∷ fs) [] (suc i) h = absurd h
+objects_sum (f ∷ fs) (g ∷ gs) (suc i) h =
+    let a : length g.objects.items ≡ length f.objects.items = ap (λ (k : Function). length k.objects.items) h.0.rest in
+    let b = objects_sum fs gs i h.1 in
+    omega (arith, a, b)
+
+module _ (fs gs : List Function) (all : ForwardsFunctions fs gs) where
+  called : (line : Line) → LineThere fs line → LineThere gs line
+  called (Put to z) h = h
+  called (PutNull to) h = h
+  called (Copy to from) h = h
+  called (Convert to kind from) h = h
+  called (Unary to op kind from) h = h
+  called (Not to from) h = h
+  called (Compute to op kind left right) h = h
+  called (Compare to op kind left right) h = h
+  called (Move to size back pointer by) h = h
+  called (Distance to size left right) h = h
+  called (Address to place) h = h
+  called (Read to place kind access) h = h
+  called (Write place kind from access) h = h
+  called (Reload to slot access) h = h
+  called (Spill slot from access) h = h
+  called (Cut cause) h = h
+  called (Call to i first count) h = takes_kept (slice_get fs i) (slice_get gs i) count (both_functions fs gs i all) h
+  called (GetChar to) h = h
+  called (PutChar to from) h = h
+
+  all_called : (lines : List Line) → All (LineThere fs) lines → All (LineThere gs) lines
+  all_called [] h = All-nil (LineThere gs)
+  all_called (line ∷ lines) h = All-cons (LineThere gs) line lines (called line (All-head (LineThere fs) line lines h)) (all_called lines (All-tail (LineThere fs) line lines h))
+
+  module _ (f g : Function) (p : ForwardsFunction f g) where
+    count : length g.blocks.items ≡ length f.blocks.items
+    count = blocks_length (first_free f) p.live f.blocks.items g.blocks.items p.blocks
+
+    registers : g.register_count ≡ f.register_count
+    registers = ap (λ (k : Function). k.register_count) p.rest
+
+    block_formed : (x y : Block) → ForwardsBlock (first_free f) p.live x y → IsBlock fs f x → IsBlock gs g y
+    block_formed x y h k =
+        let within = lines_within f.register_count (first_free f) p.live x.exit y.exit [] x.lines.items y.lines.items h.lines (All-nil (LineWithin f.register_count)) k.lines_within k.exit_within in
+        let e = (leaving (first_free f) p.live x.exit y.exit [] x.lines.items y.lines.items h.lines).exit in
+        record {
+          lines_within = subst (λ n. All (LineWithin n) y.lines.items) (sym registers) within.0;
+          exit_within = subst (λ n. ExitWithin n y.exit) (sym registers) within.1;
+          lines_there = lines_there gs (first_free f) p.live x.exit y.exit [] x.lines.items y.lines.items h.lines (all_called x.lines.items k.lines_there);
+          exit_there = subst (λ n. ExitThere n y.exit) (sym count) (subst (ExitThere (length f.blocks.items)) (sym e.exit) (exit_there (length f.blocks.items) e.instead x.exit k.exit_there));
+        }
+
+    blocks_formed : (xs ys : List Block) → ForwardsBlocks (first_free f) p.live xs ys → All (IsBlock fs f) xs → All (IsBlock gs g) ys
+    blocks_formed [] [] h k = All-nil (IsBlock gs g)
+    blocks_formed [] (y ∷ ys) h k = absurd h
+    blocks_formed (x ∷ xs) [] h k = absurd h
+    blocks_formed (x ∷ xs) (y ∷ ys) h k = All-cons (IsBlock gs g) y ys (block_formed x y h.0 (All-head (IsBlock fs f) x xs k)) (blocks_formed xs ys h.1 (All-tail (IsBlock fs f) x xs k))
+
+    function_formed : IsFunction fs f → IsFunction gs g
+    function_formed k =
+        let parameters : g.parameters ≡ f.parameters = ap (λ (z : Function). z.parameters) p.rest in
+        let first : g.first_parameter ≡ f.first_parameter = ap (λ (z : Function). z.first_parameter) p.rest in
+        let entry : g.entry ≡ f.entry = ap (λ (z : Function). z.entry) p.rest in
+        let same = count in
+        let many = registers in
+        let eight = k.parameters in
+        let received = k.received in
+        let begins = k.entry in
+        record {
+          parameters = omega (arith, eight, parameters);
+          received = omega (arith, received, many, parameters, first);
+          entry = omega (arith, begins, same, entry);
+          objects = subst (λ (z : Function). All HasCells z.objects.items) (sym p.rest) k.objects;
+          blocks = blocks_formed f.blocks.items g.blocks.items p.blocks k.blocks;
+        }
+
+  functions_formed : (xs ys : List Function) → ForwardsFunctions xs ys → All (IsFunction fs) xs → All (IsFunction gs) ys
+  functions_formed [] [] h k = All-nil (IsFunction gs)
+  functions_formed [] (y ∷ ys) h k = absurd h
+  functions_formed (x ∷ xs) [] h k = absurd h
+  functions_formed (x ∷ xs) (y ∷ ys) h k = All-cons (IsFunction gs) y ys (function_formed x y h.0 (All-head (IsFunction fs) x xs k)) (functions_formed xs ys h.1 (All-tail (IsFunction fs) x xs k))
+
+pub formed : (old new : Code) → Forwards old new → IsWellFormed old → IsWellFormed new
+formed old new p h = subst IsWellFormed (sym p.rest) (record {
+  statics = h.statics;
+  functions = functions_formed old.functions.items new.functions.items p.functions old.functions.items new.functions.items p.functions h.functions;
+  numbered = λ i g at. at_number i g at (slice_get old.functions.items i) (slice_get new.functions.items i) refl at (both_functions old.functions.items new.functions.items i p.functions);
+  main = takes_kept (slice_get old.functions.items old.main) (slice_get new.functions.items old.main) 0 (both_functions old.functions.items new.functions.items old.main p.functions) h.main;
+  accesses = subst AreApart (sym (functions_accesses old.functions.items new.functions.items p.functions)) h.accesses;
+})
+  where
+    at_number : (i : ℕ) (g : Function) → slice_get new.functions.items i ≡ Some g → (x y : Option Function) → slice_get old.functions.items i ≡ x → y ≡ Some g → BothFunctions x y → g.first_object ≡ objects_below (record old { functions = new.functions }) i
+    at_number i g at None None e e' b = cc
+    at_number i g at None (Some y) e e' b = absurd b
+    at_number i g at (Some x) None e e' b = absurd b
+    at_number i g at (Some x) (Some y) e e' b =
+        let same : y ≡ g = cc in
+        let first : g.first_object ≡ x.first_object = ap (λ (k : Function). k.first_object) (sym same) ∙ ap (λ (k : Function). k.first_object) b.rest in
+        let sums = objects_sum old.functions.items new.functions.items i p.functions in
+        let before = h.numbered i x e in
+        omega arith

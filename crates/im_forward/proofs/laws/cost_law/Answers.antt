@@ -1,0 +1,5 @@
+use Rattle.im_forward.proofs.Shapes.{costs}
+use Rattle.im_forward.proofs.laws.cost_law.Goals as goal
+
+pub returns : goal.returns
+returns c = costs

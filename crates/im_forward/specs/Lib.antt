@@ -1,0 +1,4 @@
+pub mod Copies
+pub mod Forward
+pub mod Known
+pub mod Laws

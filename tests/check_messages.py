@@ -1,0 +1,88 @@
+"""What `check` says of a source: where and why, its line, and a caret under the place."""
+from base import same, test
+
+UNKNOWN = "this name isn't declared before it, or names a function that isn't called"
+BYTE = "bad byte: no token begins with it"
+
+# a source, and what is said of it as a.c: the place, the fault, the line, and how many of its bytes stand in front of the caret
+ROWS = [
+    # each kind of fault
+    ("int a@b;\n", "a.c:1:6", BYTE, "int a@b;", 5),
+    ("int a; /* a\n", "a.c:1:8", "open comment: its */ is missing", "int a; /* a", 7),
+    ("int a = 'ab';\n", "a.c:1:9", "open literal: its quotation mark is missing, or it hasn't one character", "int a = 'ab';", 8),
+    ("int a = 08;\n", "a.c:1:9", "bad number: it is no integer, or no type holds it", "int a = 08;", 8),
+    ("#define N 4\n", "a.c:1:1", "bad directive: only line markers begin with #", "#define N 4", 0),
+    ("int main(void)\n{\n    return 1 }\n", "a.c:3:14", "syntax at '}': no unit goes on with it", "    return 1 }", 13),
+    ("int main(void)\n{\n    return x;\n}\n", "a.c:3:12", f"rule 18 at 'x': {UNKNOWN}", "    return x;", 11),
+    # the name of a function that isn't there, and of a member
+    ("int main(void) { return twice(21); }\n", "a.c:1:25", f"rule 18 at 'twice': {UNKNOWN}", "int main(void) { return twice(21); }", 24),
+    # the end of the text, behind its last line and on it
+    ("int main(void) {\n", "a.c:2:1", "syntax: the text ends too early", "", 0),
+    ("int main(void) {", "a.c:1:17", "syntax: the text ends too early", "int main(void) {", 16),
+    # a tab stands under a tab
+    ("int main(void)\n{\n\tint\ta = b;\n}\n", "a.c:3:10", f"rule 18 at 'b': {UNKNOWN}", "\tint\ta = b;", 9),
+    # a line that ends with CR, and one without an end
+    ("int a@b;\r\n", "a.c:1:6", BYTE, "int a@b;\r", 5),
+    ("int a;\nint a@b;", "a.c:2:6", BYTE, "int a@b;", 5),
+    # line markers: the last one before the line counts, one without a name keeps the name before it
+    ('# 12 "my.c"\nint a@b;\n', "my.c:12:6", BYTE, "int a@b;", 5),
+    ('# 1 "b.h" 1\nint x;\n# 7 "b.c" 2\n\nint a@b;\n', "b.c:8:6", BYTE, "int a@b;", 5),
+    ('# 1 "b.h"\n# 40\nint a@b;\n', "b.h:40:6", BYTE, "int a@b;", 5),
+    ('#\t9 "dir a/b.c"\nint a@b;\n', "dir a/b.c:9:6", BYTE, "int a@b;", 5),
+    ('# 4294967295 "b.c"\n\nint a@b;\n', "b.c:4294967296:6", BYTE, "int a@b;", 5),
+    ('# 4294967296 "b.c"\nint a@b;\n', "a.c:2:6", BYTE, "int a@b;", 5),
+    ('# 5\nint a@b;\n# 9 "c.c"\n', "a.c:5:6", BYTE, "int a@b;", 5),
+]
+
+# a source over a limit, and the one line that is said of it
+LIMITS = [
+    ("char a[1048577]; int main(void) { return 0; }\n", "a.c: size 1048577 over 1048576"),
+    ("char a[600000], b[600000]; int main(void) { return 0; }\n", "a.c: statics 1200008 over 1048576"),
+    ("void f(int a, int b, int c, int d, int e, int g, int h, int i, int j) {} int main(void) {}\n", "a.c: parameters 9 over 8"),
+]
+
+
+def under(front):
+    return "".join("\t" if byte == "\t" else " " for byte in front) + "^"
+
+
+def says(room, what, source, lines):
+    room.file("a.c", source)
+    done = room.call("check", "a.c")
+    same(what, (done.status, done.out, done.err.decode()), (3, b"", "".join(f"{line}\n" for line in lines)))
+
+
+@test("check says where a source is at fault, and why")
+def check_says_where(room):
+    for source, place, fault, line, front in ROWS:
+        says(room, source, source, (f"{place}: {fault}", line, under(line[:front])))
+
+
+@test("check tells nesting over 200, and a line of nearly 4 MiB whole")
+def check_long_lines(room):
+    deep = "int a = " + "(" * 201 + "1" + ")" * 201 + ";"
+    says(room, "nesting", deep + "\n", ("a.c:1:209: nesting over 200 at '(': more than 200 stand in one another", deep, under(deep[:208])))
+    front = "/*" + "x" * (4 * 1024 * 1024 - 20) + "*/"
+    line = front + "int a@b;"
+    says(room, "a long line", line, (f"a.c:1:{len(front) + 6}: {BYTE}", line, under(line[: len(front) + 5])))
+
+
+@test("check says nothing of a source that is right")
+def check_says_nothing(room):
+    for source in ("int main(void) { return 0; }\n", '# 1 "b.c"\nint main(void) { putchar(72); return 7; }'):
+        room.file("a.c", source)
+        done = room.call("check", "a.c")
+        same(source, (done.status, done.out, done.err), (0, b"", b""))
+
+
+@test("check tells a limit by one line")
+def check_tells_limits(room):
+    for source, line in LIMITS:
+        says(room, source, source, (line,))
+
+
+@test("check tells a file that it can't read, and one that is too long, as other commands do")
+def check_tells_files(room):
+    done = room.call("check", "none.c")
+    same("no file", (done.status, done.out, done.err), (7, b"", b"intermit: cannot read none.c\n"))
+    says(room, "a byte too many", " " * (4 * 1024 * 1024 + 1), ("intermit: a.c: source 4194305 over 4194304",))
