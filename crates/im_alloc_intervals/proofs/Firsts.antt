@@ -52,7 +52,7 @@ register_none (suc n) (suc r) = register_none n r
 
 pub waiting_begin : (table : Table) (registers : List (Option ℕ)) → registers ≡ replicate 32 None → AreWaiting 0 table registers
 waiting_begin table registers is = record {
-  long = ap length is ∙ length-replicate 32 None;
+  long = ap length is ∙ length-replicate {A = Option ℕ} 32 None;
   each = λ v lt. absurd (omega arith);
   rest = λ r k. ap (λ (z : List (Option ℕ)). register_at z r) is ∙ register_none 32 r;
 }

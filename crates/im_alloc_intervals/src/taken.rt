@@ -34,11 +34,7 @@ fn waiting(parameters: u32, intervals: &[Option<Interval>]) -> [Option<u64>; 32]
 }
 
 /// What is in use before the scan.
-pub(crate) fn only_waiting(
-    alloc: Global,
-    parameters: u32,
-    intervals: &[Option<Interval>],
-) -> Taken
+pub(crate) fn only_waiting(alloc: Global, parameters: u32, intervals: &[Option<Interval>]) -> Taken
     requires few { parameters ≤ 8 }
     requires within { parameters ≤ length intervals.now }
     ensures registers { AreWaiting parameters intervals.now result.registers }
