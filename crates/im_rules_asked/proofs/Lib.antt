@@ -1,4 +1,13 @@
 pub mod Built
+pub mod BuiltBodies
+pub mod BuiltUnits
+pub mod Faults
+pub mod FaultyBodies
+pub mod FaultyExpressions
+pub mod FaultyUnits
+pub mod FirstFaults
 pub mod Right
+pub mod RightBodies
+pub mod RightUnits
 pub mod Rightness
 pub mod Terms

@@ -1,14 +1,16 @@
 -- What is said of these functions.
-use Rattle.std.specs.Prelude.{◌≡◌, ℕ}
+use Rattle.std.specs.Prelude.{◌≡◌, ℕ, Some, None}
 use Rattle.im_rules.specs.im_ctree.Tree as t
 use Rattle.im_rules.specs.im_typed.Program.{Prog}
 use Rattle.im_rules.specs.Context.{Context}
 use Rattle.im_rules.specs.Terms.{Term}
 use Rattle.im_rules.specs.Declared.{Qualified, Declared}
 use Rattle.im_rules.specs.Typed.{Typed as TypedExpression, Names, Declares}
-use Rattle.im_rules_asked.specs.Asked.{Asked, IsRight, HasFault}
+use Rattle.im_rules.specs.TypedUnit.{TypedUnit}
+use Rattle.im_rules.specs.UnitBreaks.{UnitBroken}
+use Rattle.im_rules_asked.specs.Asked.{Asked, IsRight, HasFault, Fault}
 use Rattle.im_rules_asked.specs.Expressions.{term, asked, named, name_asked, declared, declarator_asked}
-use Rattle.im_rules_asked.specs.Units.{Typed, Breaks}
+use Rattle.im_rules_asked.specs.Units.{Typed, Breaks, unit, first_fault_of}
 
 -- of any tree of demands
 abbrev pub RightHasNoFault : Type 0
@@ -38,3 +40,26 @@ AskedIsName = (c : Context) (n : t.TypeName) → IsRight (name_asked c n) → Na
 
 abbrev pub AskedIsDeclarator : Type 0
 AskedIsDeclarator = (c : Context) (q : Qualified) (e : t.Declarator) → IsRight (declarator_asked c q e) → Declares c q e (declared c q e)
+
+-- units: both define which ones are typed, and to which program
+
+abbrev pub AskedIsUnit : Type 0
+AskedIsUnit = (u : t.Tree) (g : Prog) → Typed u g → TypedUnit u g
+
+abbrev pub UnitIsAsked : Type 0
+UnitIsAsked = (u : t.Tree) (g : Prog) → TypedUnit u g → Typed u g
+
+-- a node that the relations call broken has that fault
+abbrev pub BrokenIsAsked : Type 0
+BrokenIsAsked = (u : t.Tree) (rule token : ℕ) → UnitBroken u rule token → Breaks rule token u
+
+-- so what computes decides: a unit without a first fault is typed, and one that is typed has none; a first fault is one
+
+abbrev pub FaultlessIsTyped : Type 0
+FaultlessIsTyped = (u : t.Tree) → first_fault_of u ≡ None → TypedUnit u (unit u)
+
+abbrev pub TypedIsFaultless : Type 0
+TypedIsFaultless = (u : t.Tree) (g : Prog) → TypedUnit u g → first_fault_of u ≡ None
+
+abbrev pub FirstFaultIsOne : Type 0
+FirstFaultIsOne = (u : t.Tree) (f : Fault) → first_fault_of u ≡ Some f → Breaks f.rule f.token u

@@ -2,6 +2,8 @@
 ghost use Rattle.im_rules_asked.specs.Laws.{RightHasNoFault, TypedBreaksNoRule};
 ghost use Rattle.im_rules_asked.specs.Laws.{ExpressionIsAsked, NameIsAsked, DeclaratorIsAsked};
 ghost use Rattle.im_rules_asked.specs.Laws.{AskedIsExpression, AskedIsName, AskedIsDeclarator};
+ghost use Rattle.im_rules_asked.specs.Laws.{UnitIsAsked, AskedIsUnit, BrokenIsAsked};
+ghost use Rattle.im_rules_asked.specs.Laws.{FaultlessIsTyped, TypedIsFaultless, FirstFaultIsOne};
 
 /// What is right has no fault, so a typed unit breaks no rule.
 pub fn right_has_no_fault_law()
@@ -23,4 +25,20 @@ pub fn asked_is_typed_law()
     ensures expression { AskedIsExpression }
     ensures type_name { AskedIsName }
     ensures declarator { AskedIsDeclarator }
+{}
+
+/// A unit is typed to a program by `im_rules` exactly where these functions type it to that one,
+/// and a node that `im_rules` calls broken has that fault here.
+pub fn units_agree_law()
+    ensures typed { UnitIsAsked }
+    ensures asked { AskedIsUnit }
+    ensures broken { BrokenIsAsked }
+{}
+
+/// `first_fault_of` decides whether `im_rules` types a unit: it is `None` exactly where it does,
+/// and else a rule and the first token of a node that breaks it.
+pub fn first_fault_law()
+    ensures none { FaultlessIsTyped }
+    ensures typed { TypedIsFaultless }
+    ensures some { FirstFaultIsOne }
 {}
