@@ -1,3 +1,11 @@
 mod Same
 mod Sims
 mod Shapes
+mod Lists
+mod Knowing
+mod Using
+mod Leaving
+mod Functions
+mod Placeables
+mod Writtens
+mod Rest

@@ -8,7 +8,7 @@ use Rattle.im_block.specs.declared.code.Line.TheVariants.{Copy}
 use Rattle.im_block.specs.declared.code.Exit.{Exit}
 use Rattle.im_block.specs.Meaning.{with_register, passed}
 use Rattle.im_alloc_relation.specs.Live.{uses, sets, lives}
-use Rattle.im_forward.specs.Copies.{IsCopy, Copied, Since, IsSame, Itself, CopyOf}
+use Rattle.im_forward.specs.Copies.{IsCopy, Copied, Further, Since, IsSame, Itself, CopyOf}
 
 -- ---- truth values
 
@@ -51,6 +51,7 @@ same_value before v w (CopyOf behind u k t p q) x h = same_value behind k t q x 
 
 no_copy_in : (ls : List Line) (a b : ℕ) → IsCopy ls a b → ls ≡ [] → ⊥
 no_copy_in ls a b (Copied before to from ne) e = cc
+no_copy_in ls a b (Further before to from source ne nf r) e = cc
 no_copy_in ls a b (Since line before to from p q r) e = cc
 
 pub no_copies : (x : ℕ → Value) → HaveCopies [] x
@@ -59,6 +60,13 @@ no_copies x a b p = absurd (no_copy_in [] a b p refl)
 -- behind one line more
 copies_behind : (ls : List Line) (a b : ℕ) → IsCopy ls a b → (line : Line) (before : List Line) → ls ≡ line ∷ before → (x y : ℕ → Value) → HaveCopies before x → Stays line x y → ((to from : ℕ) → line ≡ Copy to from → to ≢ from → y to ≡ y from) → y a ≡ y b
 copies_behind ls a b (Copied above to from ne) line before e x y h k c = (let here : line ≡ Copy to from = cc in c to from here ne)
+copies_behind ls a b (Further above to from source ne nf r) line before e x y h k c =
+    let here : line ≡ Copy to from = cc in
+    let rest : above ≡ before = cc in
+    let from_kept : sets line from ≡ false = ap (λ z. sets z from) here ∙ not_equal from to (λ e. ne (sym e)) in
+    let source_kept : sets line source ≡ false = ap (λ z. sets z source) here ∙ not_equal source to (λ e. nf (sym e)) in
+    let was : IsCopy before from source = subst (λ z. IsCopy z from source) rest r in
+    c to from here ne ∙ k from from_kept ∙ h from source was ∙ sym (k source source_kept)
 copies_behind ls a b (Since other above to from p q r) line before e x y h k c =
     let one : line ≡ other = cc in
     let rest : above ≡ before = cc in
@@ -72,6 +80,7 @@ copies_next line before x y h k c a b p = copies_behind (line ∷ before) a b p 
 
 unset_behind : (ls : List Line) (a b : ℕ) → IsCopy ls a b → (line : Line) (before : List Line) → ls ≡ line ∷ before → ((to from : ℕ) → line ≡ Copy to from → ⊥) → (sets line a ≡ false) × (sets line b ≡ false)
 unset_behind ls a b (Copied above to from ne) line before e c = (let here : line ≡ Copy to from = cc in absurd (c to from here))
+unset_behind ls a b (Further above to from source ne nf r) line before e c = (let here : line ≡ Copy to from = cc in absurd (c to from here))
 unset_behind ls a b (Since other above to from p q r) line before e c =
     let one : line ≡ other = cc in
     (ap (λ z. sets z to) one ∙ p, ap (λ z. sets z from) one ∙ q)

@@ -15,16 +15,16 @@ use Rattle.im_block.specs.Shape.{Descends, IsOrdered, AllOrdered, sum_of, place_
 use Rattle.im_block.specs.Wellformed.{HasCells, PlaceWithin, LineWithin, ExitWithin, ExitThere, Takes, LineThere, IsBlock, IsFunction, accesses_of_line, accesses_of_lines, accesses_of_blocks, accesses_of_functions, AreApart, objects_below, IsWellFormed}
 use Rattle.im_alloc_placed.specs.Apart.{IsNoCut, AllUncut}
 use Rattle.im_alloc_placed.specs.Placeable.{first_free}
-use Rattle.im_forward.specs.Copies.{IsCopy, Copied, Since, IsSame, Itself, CopyOf}
+use Rattle.im_forward.specs.Copies.{IsCopy, Copied, Further, Since, IsSame, Itself, CopyOf}
 use Rattle.im_forward.specs.Forward.{place_using, line_using, exit_using, MayUse, ForwardsLine, ForwardsExit, ForwardsLines, Ends, Kept, LeftOut, ForwardsBlock, ForwardsBlocks, ForwardsFunction, ForwardsFunctions, Forwards}
 use Rattle.im_forward.proofs.Sims.{BothBlocks, both_blocks, BothFunctions, both_functions}
 
 -- the exit, by the lines before it
-record Leaving (free : ℕ) (a b : Exit) : Type 0 where
-  behind : List Line
-  exit : ForwardsExit free behind a b
+pub record Leaving (free : ℕ) (a b : Exit) : Type 0 where
+  pub behind : List Line
+  pub exit : ForwardsExit free behind a b
 
-leaving : (free : ℕ) (live : ℕ → ℕ → Bool) (a b : Exit) (before old new : List Line) → ForwardsLines free live a b before old new → Leaving free a b
+pub leaving : (free : ℕ) (live : ℕ → ℕ → Bool) (a b : Exit) (before old new : List Line) → ForwardsLines free live a b before old new → Leaving free a b
 leaving free live a b before old new (Ends gone e) = record { behind = gone; exit = e }
 leaving free live a b before old new (Kept gone rest rest' x y k left) = leaving free live a b (x ∷ gone) rest rest' left
 leaving free live a b before old new (LeftOut gone rest rest' to from dead left) = leaving free live a b (Copy to from ∷ gone) rest rest' left
@@ -177,6 +177,7 @@ uncut_kept old new p h = record {
 
 copy_within : (n : ℕ) (before : List Line) (a b : ℕ) → IsCopy before a b → All (LineWithin n) before → b < n
 copy_within n before a b (Copied above to from ne) h = (All-head (LineWithin n) (Copy to from) above h).1
+copy_within n before a b (Further above to from source ne nf r) h = copy_within n above from source r (All-tail (LineWithin n) (Copy to from) above h)
 copy_within n before a b (Since line above to from p q r) h = copy_within n above to from r (All-tail (LineWithin n) line above h)
 
 same_within : (n : ℕ) (before : List Line) (v w : ℕ) → IsSame before v w → All (LineWithin n) before → v < n → w < n
@@ -219,7 +220,7 @@ exit_within n instead k (Branch on a b) w = k on w
 exit_within n instead k (Return None) w = w
 exit_within n instead k (Return (Some r)) w = k r w
 
-exit_there : (n : ℕ) (instead : ℕ → ℕ) (exit : Exit) → ExitThere n exit → ExitThere n (exit_using instead exit)
+pub exit_there : (n : ℕ) (instead : ℕ → ℕ) (exit : Exit) → ExitThere n exit → ExitThere n (exit_using instead exit)
 exit_there n instead (Jump b) w = w
 exit_there n instead (Turn b) w = w
 exit_there n instead (Branch on a b) w = w
@@ -270,7 +271,7 @@ line_accesses instead (PutChar to from) = refl
 
 -- lines, and the exit behind them
 
-lines_within : (n free : ℕ) (live : ℕ → ℕ → Bool) (a b : Exit) (before old new : List Line) → ForwardsLines free live a b before old new → All (LineWithin n) before → All (LineWithin n) old → ExitWithin n a → All (LineWithin n) new × ExitWithin n b
+pub lines_within : (n free : ℕ) (live : ℕ → ℕ → Bool) (a b : Exit) (before old new : List Line) → ForwardsLines free live a b before old new → All (LineWithin n) before → All (LineWithin n) old → ExitWithin n a → All (LineWithin n) new × ExitWithin n b
 lines_within n free live a b before old new (Ends gone e) h w x = (
   All-nil (LineWithin n),
   subst (ExitWithin n) (sym e.exit) (exit_within n e.instead (λ v lt. same_within n gone v (e.instead v) (e.may.same v) h lt) a x),
@@ -317,7 +318,7 @@ functions_accesses (f ∷ fs) (g ∷ gs) h =
 
 -- functions
 
-blocks_length : (free : ℕ) (live : ℕ → ℕ → Bool) (xs ys : List Block) → ForwardsBlocks free live xs ys → length ys ≡ length xs
+pub blocks_length : (free : ℕ) (live : ℕ → ℕ → Bool) (xs ys : List Block) → ForwardsBlocks free live xs ys → length ys ≡ length xs
 blocks_length free live [] [] h = refl
 blocks_length free live [] (y ∷ ys) h = absurd h
 blocks_length free live (x ∷ xs) [] h = absurd h

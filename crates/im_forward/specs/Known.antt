@@ -1,5 +1,5 @@
 -- The copies that are known at a line, and what each step makes of a block.
-use Rattle.std.specs.Prelude.{◌≡◌, ◌≢◌, ◌≤◌, ◌<◌, ◌==◌, ◌&&◌, ℕ, ◌+◌, Bool, false, not, if◌then◌else◌, List, [], ◌∷◌, Option, Some, None, All, length, slice_index}
+use Rattle.std.specs.Prelude.{◌≡◌, ◌≤◌, ◌<◌, ◌==◌, ◌&&◌, ◌⊎◌, ℕ, ◌+◌, Bool, false, not, if◌then◌else◌, List, [], ◌∷◌, Option, Some, None, All, slice_index}
 use Rattle.im_block.specs.declared.code.Line.{Line}
 use Rattle.im_block.specs.declared.code.Line.TheVariants.{Copy}
 use Rattle.im_block.specs.declared.code.Exit.{Exit}
@@ -63,10 +63,16 @@ abbrev pub IsDead : ℕ → ℕ → Line → Type 0
 IsDead base behind (Copy to from) = IsOutside base behind to
 IsDead base behind line = ⊥
 
-pub data LeavesOutLines (live : ℕ → ℕ → Bool) (exit : Exit) : List Line → List Line → Type 0 where
-  Ends : LeavesOutLines live exit [] []
-  Keeps : (line : Line) (old new : List Line) → LeavesOutLines live exit old new → LeavesOutLines live exit (line ∷ old) (line ∷ new)
-  Drops : (to from : ℕ) (old new : List Line) → lives live old exit to ≡ false → LeavesOutLines live exit old new → LeavesOutLines live exit (Copy to from ∷ old) new
+-- a copy to a register that doesn't live behind it
+abbrev pub IsIdle : (ℕ → ℕ → Bool) → Exit → List Line → Line → Type 0
+IsIdle live exit behind (Copy to from) = lives live behind exit to ≡ false
+IsIdle live exit behind line = ⊥
+
+-- each line stays, or is a copy to a register that doesn't live in the new lines
+abbrev pub LeavesOutLines : (ℕ → ℕ → Bool) → Exit → List Line → List Line → Type 0
+LeavesOutLines live exit [] new = new ≡ []
+LeavesOutLines live exit (line ∷ old) new =
+    ((rest : List Line) × (new ≡ line ∷ rest) × LeavesOutLines live exit old rest) ⊎ (IsIdle live exit new line × LeavesOutLines live exit old new)
 
 pub record LeavesOut (live : ℕ → ℕ → Bool) (old new : Block) : Type 0 where
   pub lines : LeavesOutLines live old.exit old.lines.items new.lines.items

@@ -1,4 +1,4 @@
-ghost use Rattle.im_forward.specs.Laws.{CostLaw, ForwardLaw, FormedLaw, OrderedLaw, UncutLaw};
+ghost use Rattle.im_forward.specs.Laws.{CostLaw, ForwardLaw, FormedLaw, OrderedLaw, PlaceableLaw, RestLaw, UncutLaw, WrittenLaw};
 
 /// Code whose copies are forwarded does what the code does.
 pub fn forward_law()
@@ -23,4 +23,19 @@ pub fn uncut_law()
 /// It costs no more.
 pub fn cost_law()
     ensures { CostLaw }
+{}
+
+/// It is placeable.
+pub fn placeable_law()
+    ensures { PlaceableLaw }
+{}
+
+/// No register of it is read before it was written but those of arguments.
+pub fn written_law()
+    ensures { WrittenLaw }
+{}
+
+/// Its statics and what frames may need are as before, and it costs no more in all.
+pub fn rest_law()
+    ensures { RestLaw }
 {}

@@ -8,4 +8,6 @@ mod laws;
 mod sources;
 
 pub use forwarding::forward;
-pub use laws::{cost_law, formed_law, forward_law, ordered_law, uncut_law};
+pub use laws::{
+    cost_law, formed_law, forward_law, ordered_law, placeable_law, rest_law, uncut_law, written_law,
+};

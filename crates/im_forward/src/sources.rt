@@ -26,15 +26,21 @@ fn line_with(copies: &[Known], mut line: Line) -> Line
     ensures { result ≡ line_using (instead_of copies.now) line }
 {
     match &mut line {
-        Line::Copy { from, .. }
-        | Line::Convert { from, .. }
-        | Line::Unary { from, .. }
-        | Line::Not { from, .. }
-        | Line::Spill { from, .. }
-        | Line::PutChar { from, .. } => *from = instead(copies, *from),
-        Line::Compute { left, right, .. }
-        | Line::Compare { left, right, .. }
-        | Line::Distance { left, right, .. } => {
+        Line::Copy { from, .. } => *from = instead(copies, *from),
+        Line::Convert { from, .. } => *from = instead(copies, *from),
+        Line::Unary { from, .. } => *from = instead(copies, *from),
+        Line::Not { from, .. } => *from = instead(copies, *from),
+        Line::Spill { from, .. } => *from = instead(copies, *from),
+        Line::PutChar { from, .. } => *from = instead(copies, *from),
+        Line::Compute { left, right, .. } => {
+            *left = instead(copies, *left);
+            *right = instead(copies, *right);
+        }
+        Line::Compare { left, right, .. } => {
+            *left = instead(copies, *left);
+            *right = instead(copies, *right);
+        }
+        Line::Distance { left, right, .. } => {
             *left = instead(copies, *left);
             *right = instead(copies, *right);
         }
@@ -42,9 +48,8 @@ fn line_with(copies: &[Known], mut line: Line) -> Line
             *pointer = instead(copies, *pointer);
             *by = instead(copies, *by);
         }
-        Line::Address { place, .. } | Line::Read { place, .. } => {
-            *place = place_with(copies, *place);
-        }
+        Line::Address { place, .. } => *place = place_with(copies, *place),
+        Line::Read { place, .. } => *place = place_with(copies, *place),
         Line::Write { place, from, .. } => {
             *place = place_with(copies, *place);
             *from = instead(copies, *from);

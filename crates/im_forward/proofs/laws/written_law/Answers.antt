@@ -1,0 +1,5 @@
+use Rattle.im_forward.proofs.Writtens.{written}
+use Rattle.im_forward.proofs.laws.written_law.Goals as goal
+
+pub returns : goal.returns
+returns c = written
