@@ -4,9 +4,7 @@ use Rattle.im_block.specs.declared.access.Tags.{Tags}
 use Rattle.im_block.specs.declared.code.Line.{Line}
 use Rattle.im_block.specs.declared.code.Block.{Block}
 use Rattle.im_block.specs.declared.unit.Function.{Function}
-use Rattle.im_block.specs.declared.unit.Static.{Static as StaticOf}
 use Rattle.im_block.specs.declared.unit.Unit.{Unit as Code}
-use Rattle.im_block.specs.Meaning.{static_of}
 use Rattle.im_block.specs.Uncut.{WithCuts, Empty, Same, SameBlocks, SameFunctions, SameButCuts}
 use Rattle.im_alloc_relation.specs.Placing.{PlacedFunctions}
 use Rattle.im_alloc_laws.specs.Numbered.{IsWellPlaced}
@@ -45,7 +43,7 @@ cut u = record { same = uncut_same u; apart = λ h. h }
 registers : RegistersLaw → (source : Source) (lowered forwarded : Code) → Lowers source lowered → InRegisters lowered forwarded → Lowers source forwarded
 registers law source lowered forwarded l r = record {
   runs = λ g n input defined. (let run = l.runs g n input defined in law.runs lowered forwarded r g n (source.means g n) run.0 defined run.1);
-  statics = ap (λ (z : List StaticOf). map {A = StaticOf} static_of z) (law.statics lowered forwarded r) ∙ l.statics;
+  statics = law.statics lowered forwarded r ∙ l.statics;
   needs = law.needs lowered forwarded r ∙ l.needs;
   ordered = law.ordered lowered forwarded r l.ordered;
   well_formed = law.well_formed lowered forwarded r l.well_formed;

@@ -1,13 +1,13 @@
 -- What both passes keep.
-use Rattle.std.proofs.Common.{◌≡◌, ◌≤◌, ℕ, zero, suc, List, [], ◌∷◌, Option, Some, refl, ap, ◌∙◌, subst, arith}
-use Rattle.std.specs.Prelude.{map, slice_get}
+use Rattle.std.proofs.Common.{◌≡◌, ◌≤◌, ℕ, zero, suc, List, [], ◌∷◌, Option, Some, refl, ◌∙◌, subst, arith}
+use Rattle.std.specs.Prelude.{slice_get}
 use Rattle.im_block.specs.declared.unit.Function.{Function}
 use Rattle.im_block.specs.declared.unit.Unit.{Unit as Code}
 use Rattle.im_block.specs.Shape.{sum_of, function_cost}
 use Rattle.im_promote.specs.Promote.{PromotesFunctions}
 use Rattle.im_promote.specs.Laws.{PromoteLaw, OrderedLaw, FormedLaw, PlaceableLaw, CostLaw, RestLaw}
 use Rattle.im_forward.specs.Forward.{ForwardsFunctions}
-use Rattle.im_forward.specs.Laws.{ForwardLaw, OrderedLaw as StaysOrdered, FormedLaw as StaysFormed, PlaceableLaw as StaysPlaceable, UncutLaw as StaysUncut, CostLaw as CostsLess}
+use Rattle.im_forward.specs.Laws.{ForwardLaw, OrderedLaw as StaysOrdered, FormedLaw as StaysFormed, PlaceableLaw as StaysPlaceable, UncutLaw as StaysUncut, CostLaw as CostsLess, RestLaw as StaysSame}
 use Rattle.im_registers.specs.Registers.{InRegisters}
 use Rattle.im_registers.specs.Laws.{CostsNoMore, RegistersLaw}
 
@@ -44,35 +44,22 @@ each promoting forwarding old new r k g e =
 
 -- all functions
 
-needs : (fs gs : List Function) → ForwardsFunctions fs gs → map (λ (f : Function). f.need) gs ≡ map (λ (f : Function). f.need) fs
-needs [] [] h = refl
-needs [] (g ∷ gs) h = absurd h
-needs (f ∷ fs) [] h = absurd h
-needs (f ∷ fs) (g ∷ gs) h =
-    ap (λ n. n ∷ map (λ (k : Function). k.need) gs) (ap (λ (k : Function). k.need) h.0.rest) ∙ ap (λ ns. f.need ∷ ns) (needs fs gs h.1)
-
-total_cost : CostsLess → (fs gs : List Function) → ForwardsFunctions fs gs → sum_of function_cost gs ≤ sum_of function_cost fs
-total_cost law [] [] h = omega arith
-total_cost law [] (g ∷ gs) h = absurd h
-total_cost law (f ∷ fs) [] h = absurd h
-total_cost law (f ∷ fs) (g ∷ gs) h = let a = law f g h.0 in let b = total_cost law fs gs h.1 in omega (arith, a, b)
-
-cost : RestLaw → CostsLess → (old new : Code) → InRegisters old new → sum_of function_cost new.functions.items ≤ sum_of function_cost old.functions.items
-cost rest forwarding old new r =
+cost : RestLaw → StaysSame → (old new : Code) → InRegisters old new → sum_of function_cost new.functions.items ≤ sum_of function_cost old.functions.items
+cost rest same old new r =
     let less = rest.cost old r.promoted r.promote.promotes in
-    let least = total_cost forwarding r.promoted.functions.items new.functions.items r.forward.functions in
+    let least = same.cost r.promoted new r.forward in
     omega (arith, less, least)
 
 pub registers : PromoteLaw → OrderedLaw → FormedLaw → PlaceableLaw → CostLaw → RestLaw
-    → ForwardLaw → StaysOrdered → StaysFormed → StaysPlaceable → StaysUncut → CostsLess → RegistersLaw
-registers promotes ordered formed placeable costs rest forwards still_ordered still_formed still_placeable still_uncut costs_less = record {
+    → ForwardLaw → StaysOrdered → StaysFormed → StaysPlaceable → StaysUncut → CostsLess → StaysSame → RegistersLaw
+registers promotes ordered formed placeable costs rest forwards still_ordered still_formed still_placeable still_uncut costs_less same = record {
   runs = λ old new r g n o run defined h. (let p = promotes old r.promoted r.promote.promotes g n o run defined h in (p.0, forwards r.promoted new r.forward g n o p.0 p.1));
-  statics = λ old new r. ap (λ (u : Code). u.statics.items) r.forward.rest ∙ ap (λ (u : Code). u.statics.items) r.promote.promotes.rest;
-  needs = λ old new r. needs r.promoted.functions.items new.functions.items r.forward.functions ∙ rest.needs old r.promoted r.promote.promotes;
+  statics = λ old new r. same.statics r.promoted new r.forward ∙ rest.statics old r.promoted r.promote.promotes;
+  needs = λ old new r. same.needs r.promoted new r.forward ∙ rest.needs old r.promoted r.promote.promotes;
   ordered = λ old new r h. still_ordered r.promoted new r.forward (ordered old r.promoted r.promote.promotes h);
   well_formed = λ old new r h. still_formed r.promoted new r.forward (formed old r.promoted r.promote.promotes h);
   placeable = λ old new r h. still_placeable r.promoted new r.forward (placeable old r.promoted r.promote h);
   uncut = λ old new r h. still_uncut r.promoted new r.forward (rest.uncut old r.promoted r.promote.promotes h);
   each = each costs costs_less;
-  cost = cost rest costs_less;
+  cost = cost rest same;
 }

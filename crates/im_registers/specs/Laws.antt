@@ -3,7 +3,7 @@ use Rattle.std.specs.Prelude.{◌≡◌, ◌≤◌, ℕ, List, Some, map, length
 use Rattle.im_store.specs.Outcomes.{Outcome, IsDefined}
 use Rattle.im_block.specs.declared.unit.Function.{Function}
 use Rattle.im_block.specs.declared.unit.Unit.{Unit as Code}
-use Rattle.im_block.specs.Meaning.{Setting, Event}
+use Rattle.im_block.specs.Meaning.{Setting, Event, statics_of}
 use Rattle.im_block.specs.Runs.{Runs}
 use Rattle.im_block.specs.Shape.{AllOrdered, sum_of, function_cost}
 use Rattle.im_block.specs.Wellformed.{IsWellFormed}
@@ -20,7 +20,7 @@ pub record CostsNoMore (old : List Function) (k : ℕ) (g : Function) : Type 0 w
 pub record RegistersLaw : Type 0 where
   -- the same outcome at the same fuel, whatever the frames, the stack, the capacity and the input, where it is defined
   pub runs : (old new : Code) → InRegisters old new → (g : Setting) (n : ℕ) (o : Outcome) (run : List Event) → IsDefined o → Runs old g n o run → (run' : List Event) × Runs new g n o run'
-  pub statics : (old new : Code) → InRegisters old new → new.statics.items ≡ old.statics.items
+  pub statics : (old new : Code) → InRegisters old new → statics_of new ≡ statics_of old
   pub needs : (old new : Code) → InRegisters old new → map (λ (f : Function). f.need) new.functions.items ≡ map (λ (f : Function). f.need) old.functions.items
   pub ordered : (old new : Code) → InRegisters old new → AllOrdered old → AllOrdered new
   pub well_formed : (old new : Code) → InRegisters old new → IsWellFormed old → IsWellFormed new

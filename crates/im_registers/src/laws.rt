@@ -17,4 +17,5 @@ pub fn registers_law()
     im_forward::placeable_law();
     im_forward::uncut_law();
     im_forward::cost_law();
+    im_forward::rest_law();
 }
