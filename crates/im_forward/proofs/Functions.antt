@@ -165,3 +165,6 @@ zip_forwards [] [] h = tt
 zip_forwards [] (g ∷ gs) h = absurd h
 zip_forwards (f ∷ fs) [] h = absurd h
 zip_forwards (f ∷ fs) (g ∷ gs) h = (h.0, zip_forwards fs gs h.1)
+
+pub unit_forwards : (u v : Code) → v ≡ record u { functions = v.functions } → AllZip ForwardsFunction u.functions.items v.functions.items → Forwards u v
+unit_forwards u v rest h = record { functions = zip_forwards u.functions.items v.functions.items h; rest = rest }
