@@ -61,7 +61,7 @@ def check_says_where(room):
 @test("check tells nesting over 200, and a line of nearly 4 MiB whole")
 def check_long_lines(room):
     deep = "int a = " + "(" * 201 + "1" + ")" * 201 + ";"
-    says(room, "nesting", deep + "\n", ("a.c:1:209: nesting over 200 at '(': more than 200 stand in one another", deep, under(deep[:208])))
+    says(room, "nesting", deep + "\n", ("a.c:1:208: nesting over 200 at '(': more than 200 stand in one another", deep, under(deep[:207])))
     front = "/*" + "x" * (4 * 1024 * 1024 - 20) + "*/"
     line = front + "int a@b;"
     says(room, "a long line", line, (f"a.c:1:{len(front) + 6}: {BYTE}", line, under(line[: len(front) + 5])))
