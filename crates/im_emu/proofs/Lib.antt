@@ -3,3 +3,4 @@ pub mod Periods
 pub mod Loads
 pub mod Layouts
 pub mod Places
+pub mod Resumed

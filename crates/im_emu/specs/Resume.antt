@@ -17,6 +17,6 @@ pub record IsResumed {M : Type 0} (image : ImageValue) (text : List ℕ) (h : He
 
 -- the machine has this memory, on which nothing was run, in this form; only want of memory is a refusal
 pub record Resumes (result : Result (Held (List ℕ)) MemoryFault) (form : Form) (m : Mem) : Type 0 where
-  pub device : IfOk result (λ machine. device_of view machine ≡ fresh m)
-  pub form : IfOk result (λ machine. machine.form ≡ form)
+  pub device_is : IfOk result (λ machine. device_of view machine ≡ fresh m)
+  pub form_is : IfOk result (λ machine. machine.form ≡ form)
   pub refused : IfErr result (λ fault. fault ≡ OutOfMemory)

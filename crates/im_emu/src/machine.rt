@@ -213,6 +213,30 @@ impl Machine<PagedMem> {
         })
     }
 
+    fn resumed(
+        alloc: Global,
+        image: &Image,
+        text: &[u8],
+    ) -> Result<Machine<PagedMem>, MemoryFault>
+        ensures made { IfOk result (λ machine. device_of view machine
+            ≡ fresh (memory_at text.now)) }
+        ensures image { IfOk result (λ machine. IsResumed image.now text.now machine) }
+        ensures right { OnOk result (fault_of text.now ≡ None) }
+        ensures wrong { IfErr result (λ fault. IsFaultOf fault (fault_of text.now)) }
+    {
+        let saved = read_memory(alloc, text)?;
+        let objects = copy_objects(alloc, &image.objects)?;
+        Ok(Machine {
+            memory: saved.memory,
+            went: Went::On,
+            instructions: 0,
+            commits: 0,
+            version: image.version,
+            form: saved.form,
+            objects,
+        })
+    }
+
     /// A machine with the memory and the form of a memory file, before power comes. Of the image it
     /// has the version and the objects alone.
     pub fn resume(
@@ -230,16 +254,7 @@ impl Machine<PagedMem> {
         ensures reads_back { (version : Version) (form : Form) (m : Mem) →
             MemoryText text.now version form m → Resumes result form m }
     {
-        let saved = read_memory(alloc, text)?;
-        Ok(Machine {
-            objects: copy_objects(alloc, &image.objects)?,
-            memory: saved.memory,
-            went: Went::On,
-            instructions: 0,
-            commits: 0,
-            version: image.version,
-            form: saved.form,
-        })
+        Machine::resumed(alloc, image, text)
     }
 
     /// The text of a memory file, of version 2, with the memory and its form.

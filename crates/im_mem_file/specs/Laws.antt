@@ -9,10 +9,10 @@ use Rattle.im_mem_file.specs.Faults.{fault_of, memory_at, form_at}
 
 -- a text without a fault, and what it says
 pub record Says (text : List ℕ) (version : Version) (form : Form) (m : Mem) : Type 0 where
-  pub fault : fault_of text ≡ None
-  pub version : version_at text ≡ version
-  pub form : form_at text ≡ form
-  pub memory : memory_at text ≡ m
+  pub no_fault : fault_of text ≡ None
+  pub version_is : version_at text ≡ version
+  pub form_is : form_at text ≡ form
+  pub memory_is : memory_at text ≡ m
 
 -- a memory's text has no fault, and says that memory and that form
 abbrev pub OneMemory : Type 0

@@ -68,5 +68,6 @@ pub fn read_pages(
         least = read_page(memory, bytes, least, at)? + 1;
         at += 4 + PAGE_SIZE as usize;
     }
-    check(at == bytes.len(), MemoryFault::Trailing(at as u64))
+    check(at == bytes.len(), MemoryFault::Trailing(at as u64))?;
+    Ok(())
 }
