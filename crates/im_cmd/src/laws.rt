@@ -1,6 +1,6 @@
 ghost use Rattle.im_cmd.specs.Laws.{JoinedLaw};
 
-/// Two runs over a saved memory are one run under the periods of both, where the first was still on.
+/// Two runs over a saved memory are one run under the periods of both, unless the first ended.
 pub fn joined_law()
     ensures { JoinedLaw }
 {}

@@ -40,7 +40,8 @@ pub fn read_input<'a, H: Shelf>(
 ) -> Result<Vec<u8>, Refusal<'a>>
     ensures { let named = option_map (λ file. file.now) file.entry in MatchResult result
         (λ input. ReadsInput named input.items (H.state shelf.old) (H.state shelf.new))
-        (λ refusal. RefusesInput named (H.state shelf.old) (H.state shelf.new) (refused_of refusal)) }
+        (λ refusal. RefusesInput named (H.state shelf.old) (H.state shelf.new)
+        (refused_of refusal)) }
 {
     match file {
         Some(name) => match read_file(alloc, shelf, name, RUN_FILE_LIMIT) {
@@ -52,7 +53,11 @@ pub fn read_input<'a, H: Shelf>(
 }
 
 /// A machine with an image and an input.
-pub fn load<'a>(alloc: Global, image: &Image, input: &[u8]) -> Result<Machine<PagedMem>, Refusal<'a>>
+pub fn load<'a>(
+    alloc: Global,
+    image: &Image,
+    input: &[u8],
+) -> Result<Machine<PagedMem>, Refusal<'a>>
     ensures { MatchResult result (λ machine. Loads image.now input.now machine)
         (λ refusal. RefusesLoad input.now (refused_of refusal)) }
 {
@@ -137,7 +142,8 @@ fn read_trace_file<'a, H: Shelf>(
 ) -> Result<Trace, Refusal<'a>>
     ensures { MatchResult result (λ periods. ReadsTrace name.now periods (H.state shelf.old)
         (H.state shelf.new))
-        (λ refusal. RefusesTrace name.now (H.state shelf.old) (H.state shelf.new) (refused_of refusal)) }
+        (λ refusal. RefusesTrace name.now (H.state shelf.old) (H.state shelf.new)
+        (refused_of refusal)) }
 {
     let text = match read_file(alloc, shelf, name, RUN_FILE_LIMIT) {
         Ok(text) => text,
@@ -158,7 +164,8 @@ fn read_periods<'a, H: Shelf>(
 ) -> Result<Trace, Refusal<'a>>
     ensures { MatchResult result (λ periods. TakesPeriods (options_meaning options.entry) periods
         (H.state shelf.old) (H.state shelf.new))
-        (λ refusal. RefusesPeriods (options_meaning options.entry).trace (H.state shelf.old) (H.state shelf.new) (refused_of refusal)) }
+        (λ refusal. RefusesPeriods (options_meaning options.entry).trace (H.state shelf.old)
+        (H.state shelf.new) (refused_of refusal)) }
 {
     match options.trace {
         Some(name) => match read_trace_file(alloc, shelf, name) {
