@@ -101,10 +101,10 @@ fn begin<'a, H: Shelf>(
     input: Option<&'a str>,
     resume: Option<&'a str>,
 ) -> Result<Machine<PagedMem>, Refusal<'a>>
-    ensures { let input = option_map (λ file. file.now) input.entry in
-        let resume = option_map (λ file. file.now) resume.entry in MatchResult result
-        (λ machine. IsBegun image.now input resume machine (H.state shelf.old) (H.state shelf.new))
-        (λ refusal. RefusesMachine image_name.now image.now input resume (H.state shelf.old)
+    ensures { let named = option_map (λ file. file.now) input.entry in
+        let saved = option_map (λ file. file.now) resume.entry in MatchResult result
+        (λ machine. IsBegun image.now named saved machine (H.state shelf.old) (H.state shelf.new))
+        (λ refusal. RefusesMachine image_name.now image.now named saved (H.state shelf.old)
         (H.state shelf.new) (refused_of refusal)) }
 {
     match resume {
@@ -221,10 +221,10 @@ fn run_machine<'a, H: Shelf>(
     options: RunOptions<'a>,
     resume: Option<&'a str>,
 ) -> Result<Machine<PagedMem>, Refusal<'a>>
-    ensures { let resume = option_map (λ file. file.now) resume.entry in MatchResult result
-        (λ machine. RanOn resume (options_meaning options.entry) image.now machine
+    ensures { let saved = option_map (λ file. file.now) resume.entry in MatchResult result
+        (λ machine. RanOn saved (options_meaning options.entry) image.now machine
         (H.state shelf.old) (H.state shelf.new))
-        (λ refusal. RefusesRun image_name.now image.now resume (options_meaning options.entry)
+        (λ refusal. RefusesRun image_name.now image.now saved (options_meaning options.entry)
         (H.state shelf.old) (H.state shelf.new) (refused_of refusal)) }
 {
     let mut machine = match begin(alloc, shelf, image_name, image, options.input, resume) {
@@ -252,11 +252,11 @@ pub fn run_image<'a, H: Shelf>(
     options: RunOptions<'a>,
     resume: Option<&'a str>,
 ) -> Result<Run, Refusal<'a>>
-    ensures { let resume = option_map (λ file. file.now) resume.entry in MatchResult result
-        (λ run. Ran resume (options_meaning options.entry) image.now run.machine.form
+    ensures { let saved = option_map (λ file. file.now) resume.entry in MatchResult result
+        (λ run. Ran saved (options_meaning options.entry) image.now run.machine.form
         (ended_of run.machine) (variables_of (λ vars. vars.items) run.variables)
         (H.state shelf.old) (H.state shelf.new))
-        (λ refusal. RefusesRun image_name.now image.now resume (options_meaning options.entry)
+        (λ refusal. RefusesRun image_name.now image.now saved (options_meaning options.entry)
         (H.state shelf.old) (H.state shelf.new) (refused_of refusal)) }
 {
     let machine = match run_machine(alloc, shelf, image_name, image, options, resume) {
