@@ -24,6 +24,7 @@ import hostile  # noqa: F401
 import made_sources  # noqa: F401
 import pages
 import power  # noqa: F401
+import saving  # noqa: F401
 import script  # noqa: F401
 import sizes  # noqa: F401
 import statuses  # noqa: F401

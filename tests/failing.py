@@ -20,11 +20,12 @@ READS = [
     ("upgrade * new.img", False),
     ("exec halt.img --input *", False),
     ("exec halt.img --trace *", False),
+    ("exec halt.img --resume *", False),
     ("eval hello.c --input *", False),
     ("run hello.c new.img --input *", True),
     ("run hello.c new.img --trace *", True),
 ]
-WRITES = ("build hello.c *", "run hello.c *", "upgrade halt.img *")
+WRITES = ("build hello.c *", "run hello.c *", "upgrade halt.img *", "exec halt.img --save *")
 # of two things that are wrong, which is told
 ORDER = [
     ("run hello.c absent/x --input in --trace t", 8, "cannot write absent/x"),

@@ -4,9 +4,10 @@ import re
 import resource
 
 from base import Failed, Skipped, holds, same, test, text_of
-from words import FAULT, HALT, image
+from words import FAULT, HALT, image, memory
 
 HELLO = "int main(void) { putchar(72); return 7; }\n"
+CODE = HALT.to_bytes(4, "little") + bytes(4092)
 DEEP = "int f(int n) { return f(n + 1) + 1; }\nint main(void) { return f(0); }\n"
 
 
@@ -53,7 +54,17 @@ ROWS = [
     ("an endless loop without fuel", "eval endless.c --fuel 100", 12, "intermit: out of fuel"),
     ("an input over its limit", "exec halt.img --input big", 13, "intermit: input of 1048577 bytes over 1048576"),
     ("a trace over its limit", "exec halt.img --trace huge", 14, "intermit: huge over 16777216 bytes"),
+    ("a run that is saved", "run hello.c x.img --save x.mem", 0, None),
+    ("a run that goes on", "exec halt.img --resume old.mem", 0, None),
+    ("an upgrade of a memory", "upgrade old.mem x.mem", 0, None),
+    ("a build that would be saved", "build hello.c x.img --save x.mem", 2, None),
+    ("a new run that would go on", "run hello.c x.img --resume old.mem", 2, None),
+    ("a memory that can't be written", "exec halt.img --save absent/x", 8, "intermit: cannot write absent/x"),
+    ("a memory over its limit", "exec halt.img --resume huge", 14, "intermit: huge over 5248016 bytes"),
+    ("bytes that are no memory", "exec halt.img --resume hello.c", 15, "intermit: hello.c: bad magic"),
+    ("a memory that is cut", "upgrade short.mem x.mem", 15, "intermit: short.mem: short memory at 100"),
     ("a torn store under form 0", "exec halt.img --trace torn.trace", 16, "intermit: torn stores need form 1"),
+    ("a memory of another form", "exec halt.img --resume new.mem", 17, "intermit: halt.img is form 0, new.mem is form 1"),
 ]
 
 FILES = {
@@ -68,6 +79,9 @@ FILES = {
     "fault.img": image(FAULT),
     "short.img": image(HALT)[:20],
     "long.img": image(HALT) + b"x",
+    "old.mem": memory([(1, CODE)], form=0),
+    "new.mem": memory([(1, CODE)], form=1),
+    "short.mem": memory([(1, CODE)])[:100],
     "bad.trace": "10 0 5\nten\n",
     "zero.trace": "10 0 0\n",
     "many.trace": "10 0 1000001\n",

@@ -11,6 +11,12 @@ def image(*words, cap=0, form=None):
     return b"IMRV" + struct.pack(f"<{len(head)}I{len(words)}I", *head, *words)
 
 
+def memory(pages, form=1, version=2, count=None):
+    """The text of a memory's file (docs/memory.md) with these pages, each a number and 4096 bytes."""
+    head = [version, *([form] if version == 2 else []), len(pages) if count is None else count]
+    return b"IMMM" + struct.pack(f"<{len(head)}I", *head) + b"".join(struct.pack("<I", number) + text for number, text in pages)
+
+
 def upper(register, value):
     """lui"""
     return value << 12 | register << 7 | 0x37

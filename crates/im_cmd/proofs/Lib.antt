@@ -9,3 +9,4 @@ pub mod Reports
 pub mod Entries
 pub mod Evaluations
 pub mod Generations
+pub mod Joining

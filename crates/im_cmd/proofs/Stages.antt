@@ -1,10 +1,11 @@
 -- An image is run: the stages put together.
-use Rattle.std.proofs.Common.{◌≡◌, ◌<◌, ℕ, suc, length, arith, true, false, Option, Some, None, List, ◌∷◌, [], Ok, Err, refl, sym, ap, ◌∙◌, subst}
+use Rattle.std.proofs.Common.{◌≡◌, ◌≢◌, ◌<◌, true≢false, ℕ, suc, length, arith, true, false, Option, Some, None, List, ◌∷◌, [], Ok, Err, refl, sym, ap, ◌∙◌, subst}
 use Rattle.im_io.specs.Shelf.{ShelfState}
 use Rattle.std.specs.Prelude.{All, slice_index}
 use Rattle.std.proofs.lemmas.List.Elements.{All-cons, All-nil}
 use Rattle.im_mem.specs.Memory.{Mem, view}
 use Rattle.im_image.specs.declared.form.Form.{Form}
+use Rattle.im_image.specs.declared.form.Form.TheVariants.{OneLength, TwoLengths}
 use Rattle.im_mem_file.specs.Faults.{memory_at}
 use Rattle.im_image.specs.Contents.{ImageValue}
 use Rattle.im_power.specs.declared.period.Period.{Period}
@@ -21,7 +22,7 @@ use Rattle.im_cmd.specs.Files.{Unchanged, ReadsFile, RefusesFile, file_starved}
 use Rattle.im_cmd.specs.Memories.{RefusesResume, memory_unread, no_memory, other_form, Saves, StoresMemory, StoresMemoryPart, memory_limit}
 use Rattle.im_cmd.specs.Runs.{Begins, ReadsInput, ReadsPeriods, ReadsTrace, TakesInput, RefusesInput, input_unread, input_too_long, RefusesTrace, trace_unread, no_trace, RunsImage, RefusesRun, unbegun, periods_unread, torn_stores, unsaved, run_starved, needs_form, run_file_limit}
 use Rattle.im_cmd.specs.Outcome.{shown}
-use Rattle.im_cmd.specs.Stages.{AreOther, are_other, IsBegun, IsTakable, IsTooLong, too_long, Loads, RefusesLoad, long_input, load_starved, RefusesMachine, not_begun, machine_starved}
+use Rattle.im_cmd.specs.Stages.{differs, IsBegun, IsTakable, IsTooLong, too_long, Loads, RefusesLoad, long_input, load_starved, RefusesMachine, not_begun, machine_starved}
 use Rattle.im_cmd.specs.Stages.{RefusesMemory, faulty_memory, memory_starved, ResumesOn, ResumesText, RefusesSave, save_failed, save_starved, RefusesStoring, storing_failed, storing_starved}
 use Rattle.im_cmd.specs.Stages.{TakesPeriods, RefusesPeriods, trace_refused, periods_starved, Ran, RanOn, ended_of}
 use Rattle.im_cmd.proofs.Bounds.{trace_is}
@@ -129,14 +130,26 @@ pub memory_unheld : (image_name : List ℕ) (image : ImageValue) (name text : Li
 memory_unheld image_name image name text a b read r (faulty_memory fault e) = no_memory text fault read e
 memory_unheld image_name image name text a b read r memory_starved = memory_unread NoMemory (file_starved (unchanged_read name text memory_limit a b read))
 
-pub resumes_on : (image : ImageValue) (name text : List ℕ) (machine : Held (List ℕ)) (a b : ShelfState) → ReadsFile name text memory_limit a b → ResumesText image text machine → machine.form ≡ image.form → ResumesOn image name machine a b
-resumes_on image name text machine a b read h e = record { text = text; reads = read; resumed = h; form = sym h.of_image.form ∙ e }
+differ_apart : (f g : Form) → differs f g ≡ true → f ≢ g
+differ_apart OneLength OneLength e same = absurd (true≢false (sym e))
+differ_apart TwoLengths TwoLengths e same = absurd (true≢false (sym e))
+differ_apart OneLength TwoLengths e same = let bad : OneLength ≡ TwoLengths = same in cc
+differ_apart TwoLengths OneLength e same = let bad : TwoLengths ≡ OneLength = same in cc
+
+differ_same : (f g : Form) → differs f g ≡ false → f ≡ g
+differ_same OneLength OneLength e = refl
+differ_same TwoLengths TwoLengths e = refl
+differ_same OneLength TwoLengths e = absurd (true≢false e)
+differ_same TwoLengths OneLength e = absurd (true≢false e)
+
+pub resumes_on : (image : ImageValue) (name text : List ℕ) (machine : Held (List ℕ)) (a b : ShelfState) → ReadsFile name text memory_limit a b → ResumesText image text machine → differs machine.form image.form ≡ false → ResumesOn image name machine a b
+resumes_on image name text machine a b read h e = record { text = text; reads = read; resumed = h; form = sym h.of_image.form ∙ differ_same machine.form image.form e }
 
 pub form_refused : (image_name : List ℕ) (image : ImageValue) (name text : List ℕ) (machine : Held (List ℕ)) (a b : ShelfState) → ReadsFile name text memory_limit a b → ResumesText image text machine
-    → (r : Refused) → AreOther image_name image.form name machine.form r → RefusesResume image_name image name a b r
-form_refused image_name image name text machine a b read h r (are_other apart) =
+    → differs machine.form image.form ≡ true → RefusesResume image_name image name a b (FormsDiffer image_name image.form name machine.form)
+form_refused image_name image name text machine a b read h e =
     subst (λ (f : Form). RefusesResume image_name image name a b (FormsDiffer image_name image.form name f)) (sym h.of_image.form)
-    (other_form text read h.right (λ e. apart (h.of_image.form ∙ e)))
+    (other_form text read h.right (λ same. differ_apart machine.form image.form e (h.of_image.form ∙ same)))
 
 -- ---- the run
 

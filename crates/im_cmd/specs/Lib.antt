@@ -8,4 +8,5 @@ pub mod Outcome
 pub mod Evaluations
 pub mod Generations
 pub mod Answers
+pub mod Laws
 pub mod Stages

@@ -1,5 +1,5 @@
 -- What the stages of a command answer, in the words of the functions' own contracts.
-use Rattle.std.specs.Prelude.{◌≡◌, ◌≢◌, ◌<◌, ◌≤◌, ◌^◌, ⊤, ℕ, List, [], ◌∷◌, length, slice_index, Option, Some, None, option_map, map, Result, Ok, Err}
+use Rattle.std.specs.Prelude.{◌≡◌, ◌==◌, ◌<◌, ◌≤◌, ◌^◌, ⊤, ℕ, Bool, not, List, [], ◌∷◌, length, slice_index, Option, Some, None, option_map, map, Result, Ok, Err}
 use Rattle.std.specs.String.{string_bytes}
 use Rattle.im_num.specs.declared.values.Var.{Var}
 use Rattle.im_mem.specs.Memory.{view}
@@ -10,6 +10,7 @@ use Rattle.im_image.specs.Contents.{ImageValue}
 use Rattle.im_power.specs.declared.period.Period.{Period}
 use Rattle.im_mem.specs.Map.{input_capacity}
 use Rattle.im_image.specs.declared.form.Form.{Form}
+use Rattle.im_image.specs.Text.{form_number}
 use Rattle.im_device.specs.Periods.{Device, fresh, power}
 use Rattle.im_device.specs.Load.{memory_of}
 use Rattle.im_power.specs.Text.{repeats}
@@ -21,7 +22,7 @@ use Rattle.im_fault.specs.declared.fault.SourceFault.{SourceFault}
 use Rattle.im_cmd_words.specs.declared.fault.WordsFault.{WordsFault}
 use Rattle.im_cmd_words.specs.declared.fault.WordsFault.TheVariants as fault
 use Rattle.im_cmd_words.specs.Named.{Options}
-use Rattle.im_cmd_lines.specs.Refusals.{Refused, CannotRead, FileTooLong, BadSource, CannotWrite, FormsDiffer, InputTooLong, NotAMemory, NotAnImage, NoMemory, refusal_line}
+use Rattle.im_cmd_lines.specs.Refusals.{Refused, CannotRead, FileTooLong, BadSource, CannotWrite, InputTooLong, NotAMemory, NotAnImage, NoMemory, refusal_line}
 use Rattle.im_cmd.specs.Files.{Unchanged, ReadsFile, StoresPart}
 use Rattle.im_mem_file.specs.Faults.{fault_of, form_at, memory_at}
 use Rattle.im_mem_file.specs.declared.fault.MemoryFault.{MemoryFault}
@@ -104,9 +105,9 @@ pub record ResumesOn (image : ImageValue) (name : List ℕ) (machine : Held (Lis
   pub resumed : ResumesText image text machine
   pub form : form_at text ≡ image.form
 
--- an image and a memory of different forms
-pub data AreOther (image : List ℕ) (form : Form) (memory : List ℕ) (other : Form) : Refused → Type 0 where
-  are_other : other ≢ form → AreOther image form memory other (FormsDiffer image form memory other)
+-- two forms by their numbers
+abbrev pub differs : Form → Form → Bool
+differs one other = not (form_number one == form_number other)
 
 -- a machine on which nothing was run, with the memory that a run begins with
 pub record IsBegun (image : ImageValue) (input resume : Option (List ℕ)) (machine : Held (List ℕ)) (old new : ShelfState) : Type 0 where

@@ -1,6 +1,8 @@
 ghost use Rattle.std.specs.Prelude.{option_map};
 ghost use Rattle.im_io.specs.Shelf.{ShelfState};
-ghost use Rattle.im_cmd_words.specs.Named.{IsInBounds, evaluation_meaning, options_meaning, builds, runs, executes, dumps, upgrades, reports, evaluates, generates};
+ghost use Rattle.im_cmd_words.specs.Named.{IsInBounds, builds, dumps, evaluates, evaluation_meaning};
+ghost use Rattle.im_cmd_words.specs.Named.{executes, generates, options_meaning, reports, runs};
+ghost use Rattle.im_cmd_words.specs.Named.{upgrades};
 ghost use Rattle.im_cmd.specs.Answers.{CarriesOut};
 
 use crate::building::{build, compile_source};

@@ -11,6 +11,7 @@ mod evaluating;
 mod files;
 mod generated;
 mod generating;
+mod laws;
 mod resuming;
 mod running;
 mod saving;
@@ -20,3 +21,4 @@ mod telling;
 mod upgrading;
 
 pub use entry::top;
+pub use laws::joined_law;

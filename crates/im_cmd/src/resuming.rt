@@ -1,7 +1,7 @@
 ghost use Rattle.std.specs.Prelude.{◌≡◌, MatchResult};
 ghost use Rattle.im_cmd_lines.specs.Refusals.{refused_of};
 ghost use Rattle.im_cmd.specs.Memories.{RefusesResume};
-ghost use Rattle.im_cmd.specs.Stages.{AreOther, RefusesMemory, ResumesOn, ResumesText};
+ghost use Rattle.im_cmd.specs.Stages.{RefusesMemory, ResumesOn, ResumesText, differs};
 
 use crate::files::read_file;
 use im_cmd_lines::Refusal;
@@ -32,22 +32,11 @@ fn resume_text<'a>(
     }
 }
 
-// An image and a memory have the same form.
-fn same_form<'a>(
-    image_name: &'a str,
-    form: Form,
-    name: &'a str,
-    other: Form,
-) -> Result<(), Refusal<'a>>
-    ensures { MatchResult result (λ same. other ≡ form)
-        (λ refusal. AreOther image_name.now form name.now other (refused_of refusal)) }
+// Whether an image and a memory have different forms.
+fn differs(one: Form, other: Form) -> bool
+    ensures { result ≡ differs one other }
 {
-    match (form, other) {
-        (Form::OneLength, Form::OneLength) => Ok(()),
-        (Form::TwoLengths, Form::TwoLengths) => Ok(()),
-        (Form::OneLength, Form::TwoLengths) => Err(Refusal::FormsDiffer(image_name, form, name, other)),
-        (Form::TwoLengths, Form::OneLength) => Err(Refusal::FormsDiffer(image_name, form, name, other)),
-    }
+    one.number() != other.number()
 }
 
 /// A machine with the memory of a file, whose form is the image's.
@@ -71,8 +60,9 @@ pub fn resume_image<'a, H: Shelf>(
         Ok(machine) => machine,
         Err(refusal) => return Err(refusal),
     };
-    match same_form(image_name, image.form, name, machine.form()) {
-        Ok(()) => Ok(machine),
-        Err(refusal) => Err(refusal),
+    let form = machine.form();
+    if differs(form, image.form) {
+        return Err(Refusal::FormsDiffer(image_name, image.form, name, form));
     }
+    Ok(machine)
 }

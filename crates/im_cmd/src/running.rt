@@ -40,7 +40,8 @@ pub fn read_input<'a, H: Shelf>(
 ) -> Result<Vec<u8>, Refusal<'a>>
     ensures { let named = option_map (λ file. file.now) file.entry in MatchResult result
         (λ input. ReadsInput named input.items (H.state shelf.old) (H.state shelf.new))
-        (λ refusal. RefusesInput named (H.state shelf.old) (H.state shelf.new) (refused_of refusal)) }
+        (λ refusal. RefusesInput named (H.state shelf.old) (H.state shelf.new)
+        (refused_of refusal)) }
 {
     match file {
         Some(name) => match read_file(alloc, shelf, name, RUN_FILE_LIMIT) {
@@ -52,7 +53,11 @@ pub fn read_input<'a, H: Shelf>(
 }
 
 /// A machine with an image and an input.
-pub fn load<'a>(alloc: Global, image: &Image, input: &[u8]) -> Result<Machine<PagedMem>, Refusal<'a>>
+pub fn load<'a>(
+    alloc: Global,
+    image: &Image,
+    input: &[u8],
+) -> Result<Machine<PagedMem>, Refusal<'a>>
     ensures { MatchResult result (λ machine. Loads image.now input.now machine)
         (λ refusal. RefusesLoad input.now (refused_of refusal)) }
 {
@@ -96,10 +101,10 @@ fn begin<'a, H: Shelf>(
     input: Option<&'a str>,
     resume: Option<&'a str>,
 ) -> Result<Machine<PagedMem>, Refusal<'a>>
-    ensures { let input = option_map (λ file. file.now) input.entry in
-        let resume = option_map (λ file. file.now) resume.entry in MatchResult result
-        (λ machine. IsBegun image.now input resume machine (H.state shelf.old) (H.state shelf.new))
-        (λ refusal. RefusesMachine image_name.now image.now input resume (H.state shelf.old)
+    ensures { let named = option_map (λ file. file.now) input.entry in
+        let saved = option_map (λ file. file.now) resume.entry in MatchResult result
+        (λ machine. IsBegun image.now named saved machine (H.state shelf.old) (H.state shelf.new))
+        (λ refusal. RefusesMachine image_name.now image.now named saved (H.state shelf.old)
         (H.state shelf.new) (refused_of refusal)) }
 {
     match resume {
@@ -137,7 +142,8 @@ fn read_trace_file<'a, H: Shelf>(
 ) -> Result<Trace, Refusal<'a>>
     ensures { MatchResult result (λ periods. ReadsTrace name.now periods (H.state shelf.old)
         (H.state shelf.new))
-        (λ refusal. RefusesTrace name.now (H.state shelf.old) (H.state shelf.new) (refused_of refusal)) }
+        (λ refusal. RefusesTrace name.now (H.state shelf.old) (H.state shelf.new)
+        (refused_of refusal)) }
 {
     let text = match read_file(alloc, shelf, name, RUN_FILE_LIMIT) {
         Ok(text) => text,
@@ -158,7 +164,8 @@ fn read_periods<'a, H: Shelf>(
 ) -> Result<Trace, Refusal<'a>>
     ensures { MatchResult result (λ periods. TakesPeriods (options_meaning options.entry) periods
         (H.state shelf.old) (H.state shelf.new))
-        (λ refusal. RefusesPeriods (options_meaning options.entry).trace (H.state shelf.old) (H.state shelf.new) (refused_of refusal)) }
+        (λ refusal. RefusesPeriods (options_meaning options.entry).trace (H.state shelf.old)
+        (H.state shelf.new) (refused_of refusal)) }
 {
     match options.trace {
         Some(name) => match read_trace_file(alloc, shelf, name) {
@@ -214,10 +221,10 @@ fn run_machine<'a, H: Shelf>(
     options: RunOptions<'a>,
     resume: Option<&'a str>,
 ) -> Result<Machine<PagedMem>, Refusal<'a>>
-    ensures { let resume = option_map (λ file. file.now) resume.entry in MatchResult result
-        (λ machine. RanOn resume (options_meaning options.entry) image.now machine
+    ensures { let saved = option_map (λ file. file.now) resume.entry in MatchResult result
+        (λ machine. RanOn saved (options_meaning options.entry) image.now machine
         (H.state shelf.old) (H.state shelf.new))
-        (λ refusal. RefusesRun image_name.now image.now resume (options_meaning options.entry)
+        (λ refusal. RefusesRun image_name.now image.now saved (options_meaning options.entry)
         (H.state shelf.old) (H.state shelf.new) (refused_of refusal)) }
 {
     let mut machine = match begin(alloc, shelf, image_name, image, options.input, resume) {
@@ -245,11 +252,11 @@ pub fn run_image<'a, H: Shelf>(
     options: RunOptions<'a>,
     resume: Option<&'a str>,
 ) -> Result<Run, Refusal<'a>>
-    ensures { let resume = option_map (λ file. file.now) resume.entry in MatchResult result
-        (λ run. Ran resume (options_meaning options.entry) image.now run.machine.form
+    ensures { let saved = option_map (λ file. file.now) resume.entry in MatchResult result
+        (λ run. Ran saved (options_meaning options.entry) image.now run.machine.form
         (ended_of run.machine) (variables_of (λ vars. vars.items) run.variables)
         (H.state shelf.old) (H.state shelf.new))
-        (λ refusal. RefusesRun image_name.now image.now resume (options_meaning options.entry)
+        (λ refusal. RefusesRun image_name.now image.now saved (options_meaning options.entry)
         (H.state shelf.old) (H.state shelf.new) (refused_of refusal)) }
 {
     let machine = match run_machine(alloc, shelf, image_name, image, options, resume) {

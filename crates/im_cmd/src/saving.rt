@@ -33,7 +33,7 @@ fn store_memory<'a, H: Shelf>(
     }
 }
 
-/// Writes a machine's memory to the file that is named for it; without a name it is written nowhere.
+/// Writes a machine's memory to the file that is named for it, and nowhere without a name.
 pub fn save_memory<'a, H: Shelf>(
     alloc: Global,
     shelf: &mut H,

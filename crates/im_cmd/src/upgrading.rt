@@ -73,8 +73,8 @@ fn upgraded<'a>(alloc: Global, name: &'a str, text: &[u8]) -> Result<Upgraded, R
     }
 }
 
-/// Reads an image or a memory and stores it in version 2 under another name. Answers the version that
-/// it had.
+/// Reads an image or a memory and stores it in version 2 under another name. Answers the version
+/// that it had.
 pub fn upgrade_file<'a, H: Shelf>(
     alloc: Global,
     shelf: &mut H,
@@ -83,7 +83,8 @@ pub fn upgrade_file<'a, H: Shelf>(
 ) -> Result<Version, Refusal<'a>>
     ensures { MatchResult result
         (λ version. Upgrades old.now new.now version (H.state shelf.old) (H.state shelf.new))
-        (λ refusal. RefusesUpgrade old.now new.now (H.state shelf.old) (H.state shelf.new) (refused_of refusal)) }
+        (λ refusal. RefusesUpgrade old.now new.now (H.state shelf.old) (H.state shelf.new)
+        (refused_of refusal)) }
 {
     let text = match read_file(alloc, shelf, old, IMAGE_LIMIT) {
         Ok(text) => text,

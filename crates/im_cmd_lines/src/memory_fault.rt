@@ -22,15 +22,11 @@ pub fn send_memory_fault<S: Sink>(
         MemoryFault::BadVersion(version) => {
             send_numbered(sink, name, b"bad version ", u64::from(*version))
         }
-        MemoryFault::BadForm(form) => {
-            send_numbered(sink, name, b"bad form ", u64::from(*form))
-        }
+        MemoryFault::BadForm(form) => { send_numbered(sink, name, b"bad form ", u64::from(*form)) }
         MemoryFault::BadPages(count) => {
             send_numbered(sink, name, b"bad pages ", u64::from(*count))
         }
-        MemoryFault::BadPage(page) => {
-            send_numbered(sink, name, b"bad page ", u64::from(*page))
-        }
+        MemoryFault::BadPage(page) => { send_numbered(sink, name, b"bad page ", u64::from(*page)) }
         MemoryFault::Trailing(place) => send_numbered(sink, name, b"trailing bytes at ", *place),
         MemoryFault::OutOfMemory => send_about(sink, name, b"no memory"),
     }

@@ -136,10 +136,10 @@ number_asked name least most rows =
 abbrev pub building_asked : List Row → Option BuildOptions
 building_asked rows = option_and_then (λ stack. option_and_then (λ out_cap.
     option_map (λ max_gap. record {
-  stack = stack;
-  out_cap = out_cap;
-  max_gap = max_gap;
-}) (optional_between 160 1000000 (first_of (codes "max-gap") rows)))
+      stack = stack;
+      out_cap = out_cap;
+      max_gap = max_gap;
+    }) (optional_between 160 1000000 (first_of (codes "max-gap") rows)))
     (number_asked (codes "out-cap") 0 1048576 rows)) (number_asked (codes "stack") 256 1048576 rows)
 
 abbrev pub build_asked : List Row → Option Asked

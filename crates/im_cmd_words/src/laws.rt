@@ -29,7 +29,8 @@ pub fn words_taken_law()
         (record default_options { vars = true; save = Some (codes "m") })) }
     ensures resume { named (codes "intermit" ∷ codes "exec" ∷ codes "--resume=m" ∷ codes "a"
         ∷ codes "--trace" ∷ codes "t" ∷ codes "--save" ∷ codes "m" ∷ [])
-        ≡ Some (executes (codes "a") (record default_options { trace = Some (codes "t"); save = Some (codes "m") })
+        ≡ Some (executes (codes "a")
+        (record default_options { trace = Some (codes "t"); save = Some (codes "m") })
         (Some (codes "m"))) }
     ensures dump { named (codes "intermit" ∷ codes "dump"
         ∷ codes "b" ∷ []) ≡ Some (dumps (codes "b")) }

@@ -40,7 +40,8 @@ fn run_options<'a>(found: &ArgMatches<'a>) -> Option<RunOptions<'a>>
 }
 
 fn eval_options<'a>(found: &ArgMatches<'a>) -> Option<EvalOptions<'a>>
-    ensures { option_map evaluation_meaning result ≡ evaluation_asked (rows_of (found_of found.now)) }
+    ensures { option_map evaluation_meaning result
+        ≡ evaluation_asked (rows_of (found_of found.now)) }
 {
     let fuel = plain_number(value_of(found, "fuel")?)?;
     let input = value_of(found, "input");

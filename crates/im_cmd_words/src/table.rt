@@ -3,9 +3,9 @@ ghost use Rattle.clap.specs.Words.{app_of, rule_of, shape_of};
 ghost use Rattle.clap.specs.declared.builder.command.Command.TheViews.{out-Command};
 ghost use Rattle.im_cmd_words.specs.Table.{build_options, build_row, check_row, command_line};
 ghost use Rattle.im_cmd_words.specs.Table.{counted, dump_row, eval_options, eval_row, exec_row};
-ghost use Rattle.im_cmd_words.specs.Table.{exec_options, file_options, flag, gen_row, limit, numbered};
-ghost use Rattle.im_cmd_words.specs.Table.{operand, report_row, run_options, run_row, step_options};
-ghost use Rattle.im_cmd_words.specs.Table.{upgrade_row, valued, with_rules};
+ghost use Rattle.im_cmd_words.specs.Table.{exec_options, file_options, flag, gen_row, limit};
+ghost use Rattle.im_cmd_words.specs.Table.{numbered, operand, report_row, run_options, run_row};
+ghost use Rattle.im_cmd_words.specs.Table.{step_options, upgrade_row, valued, with_rules};
 
 use clap::builder::ValueParser;
 use clap::{Arg, ArgAction};

@@ -1,3 +1,4 @@
+use Rattle.std.proofs.Common.{sym, ◌∙◌}
 use Rattle.im_cmd_lines.specs.Refusals.{refused_of}
 use Rattle.im_cmd.specs.Memories.{memory_unread}
 use Rattle.im_cmd.proofs.Stages.{form_refused, memory_unheld, resumes_on}
@@ -10,10 +11,12 @@ pub returns-in-Err-resume_text : goal.returns-in-Err-resume_text
 returns-in-Err-resume_text g c =
     memory_unheld _ c.args.image.now c.args.name.now c.in-Ok.text.items _ _ c.in-Ok.ensures (refused_of c.in-Err-resume_text.refusal) (rw c.deref.ensures.value at c.in-Err-resume_text.ensures)
 
-pub returns-in-Ok-same_form : goal.returns-in-Ok-same_form
-returns-in-Ok-same_form g c =
-    resumes_on _ _ _ _ _ _ c.in-Ok.ensures (rw c.deref.ensures.value at c.in-Ok-resume_text.ensures) (rw c.form.ensures at c.in-Ok-same_form.ensures)
+pub returns-then-differs : goal.returns-then-differs
+returns-then-differs g c =
+    rw c.form.ensures (form_refused _ _ _ _ _ _ _ c.in-Ok.ensures (rw c.deref.ensures.value at c.in-Ok-resume_text.ensures)
+    (sym (rw c.form.ensures at c.differs.ensures) ∙ c.if-differs.true))
 
 pub returns : goal.returns
 returns g c =
-    form_refused _ _ _ _ _ _ _ c.in-Ok.ensures (rw c.deref.ensures.value at c.in-Ok-resume_text.ensures) (refused_of c.in-Err-same_form.refusal) (rw c.form.ensures at c.in-Err-same_form.ensures)
+    resumes_on _ _ _ _ _ _ c.in-Ok.ensures (rw c.deref.ensures.value at c.in-Ok-resume_text.ensures)
+    (sym (rw c.form.ensures at c.differs.ensures) ∙ c.if-differs.false)
