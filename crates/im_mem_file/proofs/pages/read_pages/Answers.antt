@@ -1,6 +1,6 @@
 use Rattle.std.proofs.lemmas.Result.{err_from_is_err_and}
 use Rattle.im_mem.specs.Memory.{view}
-use Rattle.im_mem_file.proofs.Loops.{pages_start, pages_go_on, pages_stop, pages_laid_all, pages_end}
+use Rattle.im_mem_file.proofs.Loops.{pages_start, pages_go_on, pages_stop, pages_laid_all}
 use Rattle.im_mem_file.proofs.pages.read_pages.Goals as goal
 
 pub loop-init : goal.loop-init
