@@ -115,9 +115,14 @@ zero-pages zero first m h = refl
 zero-pages (suc n) first m h = skip-page n first m (page-zero m first (λ k low high. h k low)) ∙ zero-pages n (first + 1) m (λ k low. h k (omega arith))
 
 pub skip-pages : (d n first : ℕ) (m : Mem) → ((k : ℕ) → 4096 * first ≤ k → k < 4096 * (first + d) → m k ≡ 0) → pages_of (d + n) first m ≡ pages_of n (first + d) m
-skip-pages zero n first m h = let e : first ≡ first + 0 = omega arith in ap (λ (x : ℕ). pages_of n x m) e
+skip-pages zero n first m h =
+    let count : 0 + n ≡ n = omega arith in
+    let same : first ≡ first + 0 = omega arith in
+    ap (λ (x : ℕ). pages_of x first m) count ∙ ap (λ (x : ℕ). pages_of n x m) same
 skip-pages (suc d) n first m h =
-    let e : first + 1 + d ≡ first + suc d = omega arith in
-    skip-page (d + n) first m (page-zero m first (λ k low high. h k low (omega arith)))
+    let count : suc d + n ≡ suc (d + n) = omega arith in
+    let same : first + 1 + d ≡ first + suc d = omega arith in
+    ap (λ (x : ℕ). pages_of x first m) count
+    ∙ skip-page (d + n) first m (page-zero m first (λ k low high. h k low (omega arith)))
     ∙ skip-pages d n (first + 1) m (λ k low high. h k (omega arith) (omega arith))
-    ∙ ap (λ (x : ℕ). pages_of n x m) e
+    ∙ ap (λ (x : ℕ). pages_of n x m) same

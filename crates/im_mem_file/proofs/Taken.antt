@@ -1,6 +1,6 @@
 -- Bytes without a fault are the text of the memory that they say.
 use Rattle.std.proofs.Common.{◌≡◌, ℕ, zero, suc, ◌+◌, ◌-◌, ◌*◌, ◌<◌, ◌≤◌, Bool, true, false, cond, List, [], ◌∷◌, ◌++◌, length, drop, None, refl, sym, ap, ◌∙◌, append_assoc, eqb, ◌||◌, arith}
-use Rattle.std.specs.Prelude.{not}
+use Rattle.std.specs.Prelude.{not, nat_le, nat_lt}
 use Rattle.std.specs.List.{flat_map}
 use Rattle.std.proofs.lemmas.Bool.{leb-true, ltb-true, eqb-true}
 use Rattle.std.proofs.lemmas.List.{drop_all, length-take, length-drop}
@@ -38,8 +38,8 @@ page_taken : (text : List ℕ) (least place : ℕ) → IsBytes text → first_un
 unfolding page_requirements page_bytes
 page_taken text least place fits none =
     let met = all_met (page_requirements text least place) none in
-    let there = leb-true _ _ met.1.1.0 in
-    let number = and_true _ _ met.1.0 in
+    let there : place + 4100 ≤ length text = leb-true _ _ met.1.1.0 in
+    let number = and_true (nat_le least (word_at text place)) (nat_lt (word_at text place) 1280) met.1.0 in
     let next : place + 4 + 4096 ≡ place + 4100 = omega arith in
     let behind = word_taken text place (place + 4) fits refl (omega (arith, there)) in
     let bytes = part_taken text (place + 4) 4096 (place + 4100) (sym next) in

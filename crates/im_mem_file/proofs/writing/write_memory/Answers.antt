@@ -8,6 +8,11 @@ use Rattle.im_mem_file.proofs.PageLemmas.{pages-below, length-pages_of}
 use Rattle.im_mem_file.proofs.Written.{memory_put}
 use Rattle.im_mem_file.proofs.writing.write_memory.Goals as goal
 
+pub overflow_cast-count : goal.overflow_cast-count
+overflow_cast-count c =
+    let few = length-pages_of 1280 0 (view c.args.memory.now) in
+    omega (arith, c.len-count.ensures, ap length c.in_ok-pages.ensures.pages, few)
+
 pub put_page-requires : goal.put_page-requires
 put_page-requires c =
     let m = view c.args.memory.now in
@@ -27,7 +32,7 @@ returns c =
     let number : c.number-2.result ≡ form_number c.args.form = c.number-2.ensures in
     let header = magic ∷ c.number.result ∷ c.number-2.result ∷ c.len-count.result ∷ [] in
     memory_put m c.args.form pages c.new-text.result.items c.put_words.new.text.items c.loop-page.text.items header c.len-count.result
-    c.nonzero_pages-pages.ensures.memory c.in_ok-pages.ensures.pages count c.new-text.ensures.items
+    c.nonzero_pages.ensures.memory c.in_ok-pages.ensures.pages count c.new-text.ensures.items
     cc
     c.in_ok-put_words.ensures
     (c.loop-page.invariant ∙ ap (λ x. c.put_words.new.text.items ++ flat_map (page_text m) x) (all ∙ c.deref-page-items.ensures.value))
