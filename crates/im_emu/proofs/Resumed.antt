@@ -1,5 +1,5 @@
 -- What a memory file's text gives back.
-use Rattle.std.proofs.Common.{◌≡◌, ℕ, List, Option, Some, None, Result, Ok, Err, refl, ap, ◌∙◌}
+use Rattle.std.proofs.Common.{◌≡◌, ℕ, List, Option, None, Result, Ok, Err, refl, ap, ◌∙◌}
 use Rattle.std.specs.Prelude.{IfOk, IfErr}
 use Rattle.im_mem.specs.Memory.{Mem, view}
 use Rattle.im_image.specs.declared.version.Version.{Version}

@@ -1,6 +1,7 @@
 -- The text of a memory has no fault, and says that memory.
-use Rattle.std.proofs.Common.{◌≡◌, ℕ, zero, suc, ◌+◌, ◌*◌, ◌^◌, ◌<◌, ◌≤◌, inl, inr, Bool, true, false, List, [], ◌∷◌, ◌++◌, length, take, drop, None, refl, sym, ap, subst, ◌∙◌, append_assoc, fun_ext, arith, leb}
-use Rattle.std.specs.Prelude.{not, if◌then◌else◌}
+use Rattle.std.proofs.Common.{◌≡◌, ℕ, zero, suc, ◌+◌, ◌*◌, ◌^◌, ◌<◌, ◌≤◌, inl, inr, Bool, true, false, List, [], ◌∷◌, ◌++◌, length, take, drop, None, refl, sym, ap, subst, ◌∙◌, append_assoc, arith, leb}
+use Rattle.std.proofs.Math.Path.{fun_ext}
+use Rattle.std.specs.Prelude.{if◌then◌else◌}
 use Rattle.std.specs.List.{flat_map}
 use Rattle.std.proofs.lemmas.Bool.{le-leb, lt-ltb, eq-eqb, and_from, cases_lt}
 use Rattle.std.proofs.lemmas.List.{length-drop, length-append, take_at, drop_at, drop-drop}
@@ -17,10 +18,10 @@ use Rattle.im_image.specs.Text.{version_number, form_number, form_words, words_t
 use Rattle.im_image.specs.Faults.{word_at, is_version, version_of, version_at, form_of}
 use Rattle.im_image.proofs.WordLemmas.{word_is}
 use Rattle.im_mem_file.specs.Text.{magic, page_text, memory_text, HasForm, MemoryText}
-use Rattle.im_mem_file.specs.Faults.{page_bytes, page_laid, pages_laid, memory_at, form_in, form_at, count_place, count_at, pages_place, first_unmet, version_requirements, form_requirements, count_requirements, header_requirements, page_requirements, pages_requirements, requirements, fault_of}
+use Rattle.im_mem_file.specs.Faults.{page_bytes, page_laid, pages_laid, memory_at, form_in, count_place, count_at, pages_place, first_unmet, version_requirements, form_requirements, count_requirements, header_requirements, page_requirements, pages_requirements, requirements, fault_of}
 use Rattle.im_mem_file.specs.Laws.{Says}
 use Rattle.im_mem_file.proofs.Unmet.{none_unmet, after_none}
-use Rattle.im_mem_file.proofs.Pages.{length-page, page-written, page-is-zero, length-pages_of}
+use Rattle.im_mem_file.proofs.PageLemmas.{length-page, page-written, page-is-zero, length-pages_of}
 
 -- ---- pages
 

@@ -1,5 +1,5 @@
 pub mod Unmet
-pub mod Pages
+pub mod PageLemmas
 pub mod Again
 pub mod Taken
 pub mod Front

@@ -1,6 +1,8 @@
 -- Reading pages one after the other.
-use Rattle.std.proofs.Common.{◌≡◌, ℕ, suc, ◌+◌, ◌-◌, ◌*◌, ◌<◌, ◌≤◌, List, [], ◌∷◌, ◌++◌, length, None, refl, sym, ap, ◌∙◌, arith}
+use Rattle.std.proofs.Common.{◌≡◌, ℕ, suc, ◌+◌, ◌-◌, ◌<◌, ◌≤◌, List, [], ◌∷◌, ◌++◌, length, false, Some, None, refl, sym, ap, ◌∙◌, arith}
 use Rattle.std.specs.Prelude.{◌==◌}
+use Rattle.std.proofs.lemmas.Bool.{eq-eqb}
+use Rattle.std.proofs.lemmas.Bool.Decides.{nat_tests}
 use Rattle.im_mem.specs.Memory.{Mem}
 use Rattle.im_image.specs.Faults.{word_at}
 use Rattle.im_mem_file.specs.declared.fault.MemoryFault.{MemoryFault}
@@ -50,10 +52,20 @@ pages_laid_all text count place i least at first m le reads =
     let one : pages_laid m text (count - i) at ≡ m = rw k refl in
     sym one ∙ reads.laid
 
-pub pages_end : (text : List ℕ) (count place i least at : ℕ) (first m : Mem) → count ≤ i → PagesRead text count place i least at first m
+pages_end : (text : List ℕ) (count place i least at : ℕ) (first m : Mem) → count ≤ i → PagesRead text count place i least at first m
     → first_unmet ((at == length text, Trailing at) ∷ []) ≡ first_unmet (pages_requirements text count 0 place)
 unfolding pages_requirements
 pages_end text count place i least at first m le reads =
     let k : count - i ≡ 0 = omega arith in
     let one : first_unmet (pages_requirements text (count - i) least at) ≡ first_unmet ((at == length text, Trailing at) ∷ []) = rw k refl in
     sym one ∙ reads.right
+
+pub trailing : (text : List ℕ) (count place i least at : ℕ) (first m : Mem) → count ≤ i → at < length text → PagesRead text count place i least at first m → first_unmet (pages_requirements text count 0 place) ≡ Some (Trailing at)
+trailing text count place i least at first m le lt reads =
+    let other : (at == length text) ≡ false = grind (arith, nat_tests) in
+    sym (pages_end text count place i least at first m le reads) ∙ rw other refl
+
+pub nothing_behind : (text : List ℕ) (count place i least at : ℕ) (first m : Mem) → count ≤ i → length text ≤ at → PagesRead text count place i least at first m → first_unmet (pages_requirements text count 0 place) ≡ None
+nothing_behind text count place i least at first m le ends reads =
+    let same : at ≡ length text = omega (arith, reads.there) in
+    sym (pages_end text count place i least at first m le reads) ∙ rw (eq-eqb _ _ same) refl

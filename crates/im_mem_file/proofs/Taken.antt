@@ -1,11 +1,11 @@
 -- Bytes without a fault are the text of the memory that they say.
-use Rattle.std.proofs.Common.{◌≡◌, ℕ, zero, suc, ◌+◌, ◌-◌, ◌*◌, ◌<◌, ◌≤◌, Bool, true, false, cond, List, [], ◌∷◌, ◌++◌, length, take, drop, None, refl, sym, ap, subst, ◌∙◌, append_assoc, eqb, ◌||◌, arith}
-use Rattle.std.specs.Prelude.{not}
+use Rattle.std.proofs.Common.{◌≡◌, ℕ, zero, suc, ◌+◌, ◌-◌, ◌*◌, ◌<◌, ◌≤◌, Bool, true, false, cond, List, [], ◌∷◌, ◌++◌, length, drop, None, refl, sym, ap, ◌∙◌, append_assoc, eqb, ◌||◌, arith}
+use Rattle.std.specs.Prelude.{not, nat_le, nat_lt}
 use Rattle.std.specs.List.{flat_map}
 use Rattle.std.proofs.lemmas.Bool.{leb-true, ltb-true, eqb-true}
 use Rattle.std.proofs.lemmas.List.{drop_all, length-take, length-drop}
 use Rattle.im_num.specs.Bytes.{word_bytes}
-use Rattle.im_mem.specs.Memory.{Mem, written, zeroed}
+use Rattle.im_mem.specs.Memory.{Mem, zeroed}
 use Rattle.im_mem.proofs.Words.{written-below, written-above}
 use Rattle.im_mem_paged.specs.Pages.{IsMemory, page_of, are_zero, pages_of}
 use Rattle.im_mem_paged.proofs.Memories.{zeroed-memory, written-memory}
@@ -15,9 +15,9 @@ use Rattle.im_image.specs.Text.{version_number, form_number, words_text, form_wo
 use Rattle.im_image.specs.Faults.{word_at, is_version, version_of, version_at, form_of}
 use Rattle.im_image.proofs.WordLemmas.{IsBytes, IsBytes-part, word_taken, part_taken}
 use Rattle.im_mem_file.specs.Text.{magic, page_text, memory_text, HasForm, MemoryText}
-use Rattle.im_mem_file.specs.Faults.{page_bytes, page_laid, pages_laid, memory_at, form_in, form_at, count_place, count_at, pages_place, first_unmet, version_requirements, form_requirements, count_requirements, header_requirements, page_requirements, pages_requirements, requirements, fault_of}
+use Rattle.im_mem_file.specs.Faults.{page_bytes, page_laid, pages_laid, memory_at, form_in, form_at, count_place, count_at, first_unmet, version_requirements, form_requirements, count_requirements, header_requirements, page_requirements, pages_requirements, requirements, fault_of}
 use Rattle.im_mem_file.proofs.Unmet.{all_met, both_none}
-use Rattle.im_mem_file.proofs.Pages.{and_true, page-alike, page-of-written, take-page, skip-pages, zero-pages}
+use Rattle.im_mem_file.proofs.PageLemmas.{and_true, page-alike, page-of-written, take-page, skip-pages, zero-pages}
 
 -- ---- one page
 
@@ -38,8 +38,8 @@ page_taken : (text : List ℕ) (least place : ℕ) → IsBytes text → first_un
 unfolding page_requirements page_bytes
 page_taken text least place fits none =
     let met = all_met (page_requirements text least place) none in
-    let there = leb-true _ _ met.1.1.0 in
-    let number = and_true _ _ met.1.0 in
+    let there : place + 4100 ≤ length text = leb-true _ _ met.1.1.0 in
+    let number = and_true (nat_le least (word_at text place)) (nat_lt (word_at text place) 1280) met.1.0 in
     let next : place + 4 + 4096 ≡ place + 4100 = omega arith in
     let behind = word_taken text place (place + 4) fits refl (omega (arith, there)) in
     let bytes = part_taken text (place + 4) 4096 (place + 4100) (sym next) in

@@ -8,7 +8,6 @@ use crate::words::{check, short, word_at};
 use im_mem_paged::{PAGE_COUNT, PAGE_SIZE, PagedMem, are_zero};
 
 /// The bytes of the page whose number stands at a place, and then so many bytes.
-#[tactic(auto, unfolding(crate::specs::Faults::page_bytes))]
 fn bytes_of_page(bytes: &[u8], place: usize) -> &[u8]
     requires { place + 4100 ≤ length bytes.now }
     ensures bytes { result.now ≡ page_bytes bytes.now place }
@@ -68,6 +67,8 @@ pub fn read_pages(
         least = read_page(memory, bytes, least, at)? + 1;
         at += 4 + PAGE_SIZE as usize;
     }
-    check(at == bytes.len(), MemoryFault::Trailing(at as u64))?;
+    if at < bytes.len() {
+        return Err(MemoryFault::Trailing(at as u64));
+    }
     Ok(())
 }

@@ -1,6 +1,6 @@
 -- What stays a memory, and the pages of one.
-use Rattle.std.proofs.Common.{◌≡◌, ℕ, zero, suc, ◌+◌, ◌-◌, ◌*◌, ◌/◌, ◌%◌, ◌<◌, ◌≤◌, ◌⊎◌, inl, inr, Bool, true, false, cond, List, [], ◌∷◌, ◌++◌, length, get_or, refl, sym, ap, ◌∙◌, append_assoc, arith}
-use Rattle.std.specs.Prelude.{◌==◌, not, if◌then◌else◌}
+use Rattle.std.proofs.Common.{◌≡◌, ℕ, zero, suc, ◌+◌, ◌-◌, ◌*◌, ◌/◌, ◌<◌, ◌≤◌, Bool, true, false, cond, List, [], ◌∷◌, ◌++◌, length, get_or, refl, sym, ap, ◌∙◌, append_assoc, arith}
+use Rattle.std.specs.Prelude.{◌==◌, if◌then◌else◌}
 use Rattle.std.proofs.lemmas.Bool.{eq-eqb}
 use Rattle.std.proofs.lemmas.Bool.Decides.{nat_tests}
 use Rattle.std.proofs.lemmas.List.{append-nil}
@@ -61,6 +61,10 @@ bytes-zero m a (suc n) h =
 pub page-zero : (m : Mem) (page : ℕ) → IsZeroPage m page → are_zero (page_of m page) ≡ true
 unfolding page_of
 page-zero m page h = bytes-zero m (4096 * page) 4096 h
+
+pub page-at : (m : Mem) (page : ℕ) (bytes : List ℕ) → bytes ≡ bytes_from m (4096 * page) 4096 → bytes ≡ page_of m page
+unfolding page_of
+page-at m page bytes e = e
 
 -- the pages that aren't zero, found up to a page
 pub record PagesFound (m : Mem) (count page : ℕ) (pages : List ℕ) : Type 0 where

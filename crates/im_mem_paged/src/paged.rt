@@ -75,7 +75,6 @@ impl PagedMem {
     }
 
     /// The bytes of a page.
-    #[tactic(auto, unfolding(crate::specs::Pages::page_of))]
     pub fn page(&self, page: u32) -> &[u8]
         requires { page < 1280 }
         ensures { result.now ≡ page_of (view self.now) page }

@@ -1,4 +1,4 @@
-use Rattle.std.proofs.Common.{◌≡◌, ℕ, ◌≤◌, ◌<◌, length}
+use Rattle.std.proofs.Common.{◌≡◌, length}
 use Rattle.im_mem_paged.specs.Marks.{KeepsMarks, MarksAll}
 use Rattle.im_mem_paged.proofs.marks.mark_bytes.Given as goal
 

@@ -1,4 +1,4 @@
-use Rattle.std.proofs.Common.{◌≡◌, ◌∙◌, sym, ap, subst, arith}
+use Rattle.std.proofs.Common.{◌∙◌, sym, ap, subst, arith}
 use Rattle.im_mem.specs.Memory.{Mem, view}
 use Rattle.im_mem_paged.specs.Pages.{IsMemory}
 use Rattle.im_mem_paged.proofs.Unmarked.{written-unmarked}

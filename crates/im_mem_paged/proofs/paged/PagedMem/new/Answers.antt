@@ -1,5 +1,5 @@
-use Rattle.std.proofs.Common.{◌≡◌, ap}
-use Rattle.im_mem.specs.Memory.{Mem, view}
+use Rattle.std.proofs.Common.{ap}
+use Rattle.im_mem.specs.Memory.{Mem}
 use Rattle.im_mem_paged.proofs.Memories.{zeroed-memory}
 use Rattle.im_mem_paged.proofs.paged.PagedMem.new.Goals as goal
 

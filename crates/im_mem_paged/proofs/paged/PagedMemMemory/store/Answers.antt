@@ -1,4 +1,4 @@
-use Rattle.std.proofs.Common.{◌≡◌, ◌∙◌, sym, ap, subst}
+use Rattle.std.proofs.Common.{◌∙◌, sym, ap, subst}
 use Rattle.im_mem.specs.Memory.{Mem, view}
 use Rattle.im_mem_paged.specs.Pages.{IsMemory}
 use Rattle.im_mem_paged.proofs.Unmarked.{stored-unmarked}

@@ -1,5 +1,5 @@
 -- Pages in memory, and those that aren't zero.
-use Rattle.std.proofs.Common.{◌≡◌, ℕ, zero, suc, ◌+◌, ◌-◌, ◌*◌, ◌<◌, ◌≤◌, inl, inr, Bool, true, false, cond, List, [], ◌∷◌, ◌++◌, length, get_or, refl, sym, ap, ◌∙◌, arith}
+use Rattle.std.proofs.Common.{◌≡◌, ℕ, zero, suc, ◌+◌, ◌-◌, ◌*◌, ◌<◌, ◌≤◌, inl, inr, Bool, true, false, cond, List, [], ◌∷◌, length, get_or, refl, sym, ap, ◌∙◌, arith}
 use Rattle.std.specs.Prelude.{◌==◌, ◌&&◌, if◌then◌else◌}
 use Rattle.std.proofs.lemmas.Bool.{eq-eqb, eqb-true, cases_lt}
 use Rattle.im_mem.specs.Memory.{Mem, written, bytes_from}
@@ -115,9 +115,14 @@ zero-pages zero first m h = refl
 zero-pages (suc n) first m h = skip-page n first m (page-zero m first (λ k low high. h k low)) ∙ zero-pages n (first + 1) m (λ k low. h k (omega arith))
 
 pub skip-pages : (d n first : ℕ) (m : Mem) → ((k : ℕ) → 4096 * first ≤ k → k < 4096 * (first + d) → m k ≡ 0) → pages_of (d + n) first m ≡ pages_of n (first + d) m
-skip-pages zero n first m h = let e : first ≡ first + 0 = omega arith in ap (λ (x : ℕ). pages_of n x m) e
+skip-pages zero n first m h =
+    let count : 0 + n ≡ n = omega arith in
+    let same : first ≡ first + 0 = omega arith in
+    ap (λ (x : ℕ). pages_of x first m) count ∙ ap (λ (x : ℕ). pages_of n x m) same
 skip-pages (suc d) n first m h =
-    let e : first + 1 + d ≡ first + suc d = omega arith in
-    skip-page (d + n) first m (page-zero m first (λ k low high. h k low (omega arith)))
+    let count : suc d + n ≡ suc (d + n) = omega arith in
+    let same : first + 1 + d ≡ first + suc d = omega arith in
+    ap (λ (x : ℕ). pages_of x first m) count
+    ∙ skip-page (d + n) first m (page-zero m first (λ k low high. h k low (omega arith)))
     ∙ skip-pages d n (first + 1) m (λ k low high. h k (omega arith) (omega arith))
-    ∙ ap (λ (x : ℕ). pages_of n x m) e
+    ∙ ap (λ (x : ℕ). pages_of n x m) same
