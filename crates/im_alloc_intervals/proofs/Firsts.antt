@@ -1,5 +1,5 @@
--- The homes before the scan.
-use Rattle.std.proofs.Common.{◌≡◌, ◌≢◌, ◌⊎◌, ◌<◌, ◌≤◌, ◌+◌, ◌-◌, ℕ, zero, suc, List, Option, Some, None, length, set, replicate, inl, inr, ⊎_elim, refl, sym, ap, ◌∙◌, arith}
+-- The homes before the scan, and which registers of the machine are in use then.
+use Rattle.std.proofs.Common.{◌≡◌, ◌≢◌, ◌<◌, ◌≤◌, ◌+◌, ◌-◌, ℕ, zero, suc, List, Option, Some, None, length, set, replicate, inl, inr, ⊎_elim, refl, sym, ap, ◌∙◌, arith}
 use Rattle.std.proofs.lemmas.Bool.{cases_eq, cases_lt}
 use Rattle.std.proofs.lemmas.List.{length-set, length-replicate, get_or-set_same, get_or-set_other}
 use Rattle.std.proofs.lemmas.Option.{none-some, same_Some}
@@ -50,19 +50,24 @@ register_none (suc n) (suc r) = register_none n r
 
 -- but those of the first parameters
 
-pub waiting_begin : (table : Table) (registers : List (Option ℕ)) → registers ≡ replicate 32 None → AreWaiting 0 table registers
+pub waiting_begin : (table : Table) (registers : List (Option ℕ)) →
+    registers ≡ replicate 32 None → AreWaiting 0 table registers
 waiting_begin table registers is = record {
   long = ap length is ∙ length-replicate {A = Option ℕ} 32 None;
   each = λ v lt. absurd (omega arith);
   rest = λ r k. ap (λ (z : List (Option ℕ)). register_at z r) is ∙ register_none 32 r;
 }
 
-pub waiting_next : (q : ℕ) (table : Table) (registers new : List (Option ℕ)) (last : Option ℕ) → 10 + q < 32 → AreWaiting q table registers → last ≡ last_of (interval_at table q) → new ≡ set registers (10 + q) last → AreWaiting (q + 1) table new
+pub waiting_next : (q : ℕ) (table : Table) (registers new : List (Option ℕ)) (last : Option ℕ) →
+    10 + q < 32 → AreWaiting q table registers → last ≡ last_of (interval_at table q) →
+    new ≡ set registers (10 + q) last → AreWaiting (q + 1) table new
 waiting_next q table registers new last lt x value is = record {
   long = ap length is ∙ length-set registers (10 + q) last ∙ x.long;
   each = λ v less.
       ⊎_elim
-      (λ (e : v ≡ q). ap (λ (z : ℕ). register_at new (10 + z)) e ∙ same ∙ value ∙ ap (λ (z : ℕ). last_of (interval_at table z)) (sym e))
+      (λ (e : v ≡ q).
+      ap (λ (z : ℕ). register_at new (10 + z)) e ∙ same ∙ value
+      ∙ ap (λ (z : ℕ). last_of (interval_at table z)) (sym e))
       (λ (ne : v ≢ q). other (10 + v) (λ e. ne (omega arith)) ∙ x.each v (omega arith))
       (cases_eq v q);
   rest = λ r k.
@@ -73,10 +78,14 @@ waiting_next q table registers new last lt x value is = record {
 }
   where
     same : register_at new (10 + q) ≡ last
-    same = ap (λ (z : List (Option ℕ)). register_at z (10 + q)) is ∙ get_or-set_same registers (10 + q) last None (let long = x.long in omega arith)
+    same =
+        ap (λ (z : List (Option ℕ)). register_at z (10 + q)) is
+        ∙ get_or-set_same registers (10 + q) last None (let long = x.long in omega arith)
 
     other : (r : ℕ) → r ≢ 10 + q → register_at new r ≡ register_at registers r
-    other r ne = ap (λ (z : List (Option ℕ)). register_at z r) is ∙ get_or-set_other registers (10 + q) r last None ne
+    other r ne =
+        ap (λ (z : List (Option ℕ)). register_at z r) is
+        ∙ get_or-set_other registers (10 + q) r last None ne
 
 -- a register that is in use then is a parameter's
 pub record WaitsIn (parameters : ℕ) (table : Table) (r last : ℕ) : Type 0 where
@@ -87,7 +96,9 @@ pub record WaitsIn (parameters : ℕ) (table : Table) (r last : ℕ) : Type 0 wh
   pub is : interval.last ≡ last
   pub home : 10 + v ≡ r
 
-pub waits_in : (parameters : ℕ) (table : Table) (registers : List (Option ℕ)) → AreWaiting parameters table registers → (r last : ℕ) → register_at registers r ≡ Some last → WaitsIn parameters table r last
+pub waits_in : (parameters : ℕ) (table : Table) (registers : List (Option ℕ)) →
+    AreWaiting parameters table registers → (r last : ℕ) → register_at registers r ≡ Some last →
+    WaitsIn parameters table r last
 waits_in parameters table registers x r last used =
     ⊎_elim
     (λ (low : r < 10). absurd (none-some last (sym (x.rest r (inl low)) ∙ used)))
@@ -102,8 +113,17 @@ waits_in parameters table registers x r last used =
     found le lt =
         let is : 10 + (r - 10) ≡ r = omega arith in
         let less : r - 10 < parameters = omega arith in
-        by less is (interval_at table (r - 10)) refl (sym (x.each (r - 10) less) ∙ ap (λ (z : ℕ). register_at registers z) is ∙ used)
+        by less is (interval_at table (r - 10)) refl
+        (sym (x.each (r - 10) less) ∙ ap (λ (z : ℕ). register_at registers z) is ∙ used)
       where
-        by : r - 10 < parameters → 10 + (r - 10) ≡ r → (o : Option Interval) → interval_at table (r - 10) ≡ o → last_of o ≡ Some last → WaitsIn parameters table r last
+        by : r - 10 < parameters → 10 + (r - 10) ≡ r → (o : Option Interval) →
+            interval_at table (r - 10) ≡ o → last_of o ≡ Some last → WaitsIn parameters table r last
         by less is None at e = absurd (none-some last e)
-        by less is (Some i) at e = record { v = r - 10; interval = i; less = less; at = at; is = same_Some i.last last e; home = is }
+        by less is (Some i) at e = record {
+          v = r - 10;
+          interval = i;
+          less = less;
+          at = at;
+          is = same_Some i.last last e;
+          home = is;
+        }

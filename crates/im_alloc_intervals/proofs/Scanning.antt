@@ -92,7 +92,9 @@ module _ (p : ℕ) (t : Tables) (starts : List Start) (listed : AreStarts p t.in
 
   -- ---- the begin
 
-  pub scan_begin : (of : List HomeOf) (taken : Taken) → AreFirst p (length t.intervals.items) of → AreWaiting p t.intervals.items taken.registers → length taken.slots.items ≡ 0 → Scan p t starts 0 of taken
+  pub scan_begin : (of : List HomeOf) (taken : Taken) → AreFirst p (length t.intervals.items) of →
+      AreWaiting p t.intervals.items taken.registers → length taken.slots.items ≡ 0 →
+      Scan p t starts 0 of taken
   scan_begin of taken first waiting none = record {
     count = first.long;
     received = first.received;
@@ -121,11 +123,15 @@ module _ (p : ℕ) (t : Tables) (starts : List Start) (listed : AreStarts p t.in
 
       used : (v : ℕ) (i : Interval) → v < p → own v ≡ Some i → IsUsedAt (until taken (home_at of v)) i.last
       used v i lt e =
-          let at : until taken (home_at of v) ≡ Some i.last = ap (λ (g : Home). until taken g) (first.received v lt) ∙ waiting.each v lt ∙ ap last_of e in
+          let at : until taken (home_at of v) ≡ Some i.last =
+          ap (λ (g : Home). until taken g) (first.received v lt) ∙ waiting.each v lt ∙ ap last_of e in
           subst (λ (o : Option ℕ). IsUsedAt o i.last) (sym at) (omega arith)
 
       one : (v w : ℕ) → v < p → w < p → home_at of v ≡ home_at of w → v ≡ w
-      one v w a b same = let e : 10 + v ≡ 10 + w = same_register (10 + v) (10 + w) (sym (first.received v a) ∙ same ∙ first.received w b) in omega arith
+      one v w a b same =
+          let at = sym (first.received v a) ∙ same ∙ first.received w b in
+          let e : 10 + v ≡ 10 + w = same_register (10 + v) (10 + w) at in
+          omega arith
 
   -- ---- one register more
 

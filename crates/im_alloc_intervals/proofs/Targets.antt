@@ -1,5 +1,5 @@
 -- What a line sets, and what a call does.
-use Rattle.std.proofs.Common.{◌≡◌, ℕ, zero, suc, Bool, true, List, [], ◌∷◌, Some, refl, sym, ap, ◌∙◌, drop, eq-eqb}
+use Rattle.std.proofs.Common.{◌≡◌, ℕ, zero, suc, Bool, true, List, [], ◌∷◌, Some, sym, ap, ◌∙◌, drop, eq-eqb}
 use Rattle.std.specs.Prelude.{◌==◌, ◌&&◌, ◌||◌, ◌+◌, not, nat_le, nat_lt, slice_get}
 use Rattle.std.proofs.lemmas.Option.{same_Some}
 use Rattle.im_block.specs.declared.code.Line.{Line}
@@ -8,7 +8,7 @@ use Rattle.im_block.specs.declared.code.Exit.{Exit}
 use Rattle.im_alloc_relation.specs.Live.{uses, sets, lives}
 use Rattle.im_alloc_relation.specs.Settled.{IsCall}
 use Rattle.im_alloc_intervals.specs.Lines.{target_of, result_of, IsArgument}
-use Rattle.im_alloc_intervals.proofs.Lives.{both_are, same_of, less_is, most_is}
+use Rattle.im_alloc_intervals.proofs.Lives.{both_are, less_is, most_is}
 
 one_sets : (v to : ℕ) → Some to ≡ Some v → (v == to) ≡ true
 one_sets v to e = eq-eqb v to (sym (same_Some to v e))
