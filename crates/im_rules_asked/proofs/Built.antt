@@ -3,7 +3,7 @@ use Rattle.std.proofs.Common.{◌≡◌, ℕ, ◌+◌, List, [], ◌∷◌, refl
 use Rattle.im_rules.specs.im_ctree.Tree as t
 use Rattle.im_rules.specs.Context.{Context, in_new_scope, behind, behind_name, behind_core, behind_may, behind_parameters}
 use Rattle.im_rules.specs.Demands.{Demand, asks, Meets, call_asks, callee_of, is_function_meant}
-use Rattle.im_rules.specs.Declared.{Qualified, Declared, behind_specifiers, type_of_specifiers, with_stars, parameter, with_parameter}
+use Rattle.im_rules.specs.Declared.{Qualified, behind_specifiers, type_of_specifiers, with_stars, parameter, with_parameter}
 use Rattle.im_rules.specs.Typed.{Typed, of_identifier, of_number, of_character, of_string, of_index, of_call, of_member, of_arrow, of_post_step, of_pre_step, of_unary, of_size, of_type_size, of_cast, of_binary, of_conditional, of_assign, of_comma, AreTyped, no_argument, an_argument, Names, of_type_name, Declares, of_declarator, DeclaresIn, of_nothing, of_name, of_inner, Suffixed, no_suffix, of_array, of_open_array, of_function, AreParameters, no_parameter, a_parameter, MayDeclare, of_no_declarator, of_a_declarator}
 use Rattle.im_rules_asked.specs.Asked.{Asked, node, Parts, no_part, beside, behind as then_}
 use Rattle.im_rules_asked.specs.Expressions.{term, terms, named, declared, declared_in, suffixed, parameters, may_declare, asked, call_asked, all_asked, name_asked, declarator_asked, core_asked, suffixes_asked, parameters_asked, may_asked}

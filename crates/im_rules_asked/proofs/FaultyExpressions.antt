@@ -1,5 +1,5 @@
 -- A node of an expression, a type name or a declarator that the relations call broken has that fault.
-use Rattle.std.proofs.Common.{◌≡◌, inl, inr, ℕ, ◌+◌, List, [], ◌∷◌, refl, sym, subst, Bool, true, false}
+use Rattle.std.proofs.Common.{◌≡◌, inl, ℕ, ◌+◌, List, [], ◌∷◌, refl, sym, subst, Bool, true, false}
 use Rattle.im_rules.specs.im_ctree.Tree as t
 use Rattle.im_rules.specs.Context.{Context, behind, behind_may}
 use Rattle.im_rules.specs.Terms.{type_in, constant_in}
@@ -27,64 +27,100 @@ node_asked c (maybe_declarator q m) = may_asked c q m
 
 -- calls
 
-call_faulty : (r at : ℕ) (ds : List Demand) (f es : Asked) (m : Bool) → m ≡ true → Right es → Refuses r ds → Faulty r at (call_asked m at ds f es)
+call_faulty : (r at : ℕ) (ds : List Demand) (f es : Asked) (m : Bool) → m ≡ true → Right es
+    → Refuses r ds → Faulty r at (call_asked m at ds f es)
 call_faulty r at ds f es true p h q = here_faulty (of_one h) q
 call_faulty r at ds f es false p h q = absurd (cc)
 
-callee_faulty : (r at : ℕ) (ds : List Demand) (f es : Asked) (m : Bool) → m ≡ false → Right f → Right es → r ≡ 19 → Faulty r at (call_asked m at ds f es)
+callee_faulty : (r at : ℕ) (ds : List Demand) (f es : Asked) (m : Bool) → m ≡ false → Right f
+    → Right es → r ≡ 19 → Faulty r at (call_asked m at ds f es)
 callee_faulty r at ds f es true p g h e = absurd (cc)
 callee_faulty r at ds f es false p g h e = here_faulty (of_both g h) (inl (sym e, refl))
 
-in_callee : {r k : ℕ} (at : ℕ) (ds : List Demand) (f es : Asked) (m : Bool) → m ≡ false → Faulty r k f → Faulty r k (call_asked m at ds f es)
+in_callee : {r k : ℕ} (at : ℕ) (ds : List Demand) (f es : Asked) (m : Bool) → m ≡ false
+    → Faulty r k f → Faulty r k (call_asked m at ds f es)
 in_callee at ds f es true p h = absurd (cc)
 in_callee at ds f es false p h = in_first h
 
-in_arguments : {r k : ℕ} (at : ℕ) (ds : List Demand) (f es : Asked) (m : Bool) → Faulty r k es → Faulty r k (call_asked m at ds f es)
+in_arguments : {r k : ℕ} (at : ℕ) (ds : List Demand) (f es : Asked) (m : Bool) → Faulty r k es
+    → Faulty r k (call_asked m at ds f es)
 in_arguments at ds f es true h = in_one h
 in_arguments at ds f es false h = in_second h
 
 -- the rule refuses the node itself
-node_faulty : {c : Context} {r : ℕ} {n : Node} → Breaks c r n → Faulty r (token_of n) (node_asked c n)
+node_faulty : {c : Context} {r : ℕ} {n : Node} → Breaks c r n
+    → Faulty r (token_of n) (node_asked c n)
 node_faulty {r = r} (at_identifier q) = here_faulty of_none q
-node_faulty {c = c} {r = r} (at_index a b q) = here_faulty (of_both (rightly a) (rightly b)) (refused_2 r (λ x y. index_asks c.known x y) (term_of a) (term_of b) q)
+node_faulty {c = c} {r = r} (at_index a b q) =
+    here_faulty (of_both (rightly a) (rightly b))
+    (refused_2 r (λ x y. index_asks c.known x y) (term_of a) (term_of b) q)
 node_faulty {c = c} {r = r} (at_call {at = at} {f = f} {es = es} p xs q) =
-    call_faulty r at (call_asks (callee_of c.scopes f) (terms (behind f c) es)) (asked c f) (all_asked (behind f c) es) (is_function_meant (callee_of c.scopes f)) p (all_rightly xs)
+    call_faulty r at (call_asks (callee_of c.scopes f) (terms (behind f c) es)) (asked c f)
+    (all_asked (behind f c) es) (is_function_meant (callee_of c.scopes f)) p (all_rightly xs)
     (refused_1 r (λ ys. call_asks (callee_of c.scopes f) ys) (terms_of xs) q)
 node_faulty {c = c} {r = r} (at_callee {at = at} {f = f} {es = es} p d xs e) =
-    callee_faulty r at (call_asks (callee_of c.scopes f) (terms (behind f c) es)) (asked c f) (all_asked (behind f c) es) (is_function_meant (callee_of c.scopes f)) p (rightly d) (all_rightly xs) e
-node_faulty {c = c} {r = r} (at_member {m = m} a q) = here_faulty (of_one (rightly a)) (refused_1 r (λ x. dot_asks c.known x m) (term_of a) q)
-node_faulty {c = c} {r = r} (at_arrow {m = m} a q) = here_faulty (of_one (rightly a)) (refused_1 r (λ x. arrow_asks c.known x m) (term_of a) q)
-node_faulty {c = c} {r = r} (at_post_step a q) = here_faulty (of_one (rightly a)) (refused_1 r (λ x. step_asks c.known x) (term_of a) q)
-node_faulty {c = c} {r = r} (at_pre_step a q) = here_faulty (of_one (rightly a)) (refused_1 r (λ x. step_asks c.known x) (term_of a) q)
-node_faulty {c = c} {r = r} (at_unary {op = op} a q) = here_faulty (of_one (rightly a)) (refused_1 r (λ x. unary_asks c.known op x) (term_of a) q)
-node_faulty {c = c} {r = r} (at_size a q) = here_faulty (of_one (rightly a)) (refused_1 r (λ x. size_asks c.known (type_in x)) (term_of a) q)
-node_faulty {c = c} {r = r} (at_type_size n q) = here_faulty (of_one (name_rightly n)) (refused_1 {A = Qualified} r (λ y. size_asks c.known y.type) (named_of n) q)
-node_faulty {r = r} (at_cast n a q) = here_faulty (of_both (name_rightly n) (rightly a)) (refused_2 {A = Qualified} r (λ y x. cast_asks y.type x) (named_of n) (term_of a) q)
-node_faulty {c = c} {r = r} (at_binary {op = op} a b q) = here_faulty (of_both (rightly a) (rightly b)) (refused_2 r (λ x y. binary_asks c.known op x y) (term_of a) (term_of b) q)
+    callee_faulty r at (call_asks (callee_of c.scopes f) (terms (behind f c) es)) (asked c f)
+    (all_asked (behind f c) es) (is_function_meant (callee_of c.scopes f)) p (rightly d)
+    (all_rightly xs) e
+node_faulty {c = c} {r = r} (at_member {m = m} a q) =
+    here_faulty (of_one (rightly a)) (refused_1 r (λ x. dot_asks c.known x m) (term_of a) q)
+node_faulty {c = c} {r = r} (at_arrow {m = m} a q) =
+    here_faulty (of_one (rightly a)) (refused_1 r (λ x. arrow_asks c.known x m) (term_of a) q)
+node_faulty {c = c} {r = r} (at_post_step a q) =
+    here_faulty (of_one (rightly a)) (refused_1 r (λ x. step_asks c.known x) (term_of a) q)
+node_faulty {c = c} {r = r} (at_pre_step a q) =
+    here_faulty (of_one (rightly a)) (refused_1 r (λ x. step_asks c.known x) (term_of a) q)
+node_faulty {c = c} {r = r} (at_unary {op = op} a q) =
+    here_faulty (of_one (rightly a)) (refused_1 r (λ x. unary_asks c.known op x) (term_of a) q)
+node_faulty {c = c} {r = r} (at_size a q) =
+    here_faulty (of_one (rightly a)) (refused_1 r (λ x. size_asks c.known (type_in x))
+    (term_of a) q)
+node_faulty {c = c} {r = r} (at_type_size n q) =
+    here_faulty (of_one (name_rightly n)) (refused_1 {A = Qualified} r
+    (λ y. size_asks c.known y.type) (named_of n) q)
+node_faulty {r = r} (at_cast n a q) =
+    here_faulty (of_both (name_rightly n) (rightly a))
+    (refused_2 {A = Qualified} r (λ y x. cast_asks y.type x) (named_of n) (term_of a) q)
+node_faulty {c = c} {r = r} (at_binary {op = op} a b q) =
+    here_faulty (of_both (rightly a) (rightly b))
+    (refused_2 r (λ x y. binary_asks c.known op x y) (term_of a) (term_of b) q)
 node_faulty {r = r} (at_conditional d a b q) =
-    here_faulty (of_beside (of_both (rightly d) (rightly a)) (rightly b)) (refused_3 r (λ w x y. conditional_asks w x y) (term_of d) (term_of a) (term_of b) q)
-node_faulty {c = c} {r = r} (at_assign {op = op} a b q) = here_faulty (of_both (rightly a) (rightly b)) (refused_2 r (λ x y. assign_asks c.known op x y) (term_of a) (term_of b) q)
+    here_faulty (of_beside (of_both (rightly d) (rightly a)) (rightly b))
+    (refused_3 r (λ w x y. conditional_asks w x y) (term_of d) (term_of a) (term_of b) q)
+node_faulty {c = c} {r = r} (at_assign {op = op} a b q) =
+    here_faulty (of_both (rightly a) (rightly b))
+    (refused_2 r (λ x y. assign_asks c.known op x y) (term_of a) (term_of b) q)
 node_faulty (at_specifiers q) = here_faulty of_none q
 node_faulty {r = r} (at_type_name s d q) =
-    here_faulty (of_first (of_node of_none s) (may_rightly d)) (refused_1 {A = Declared} r (λ y. asks 6 (is_sized y.type) ∷ []) (may_of d) q)
+    here_faulty (of_first (of_node of_none s) (may_rightly d))
+    (refused_1 {A = Declared} r (λ y. asks 6 (is_sized y.type) ∷ []) (may_of d) q)
 node_faulty (at_stars q) = in_first (here_faulty of_none q)
 node_faulty {c = c} {r = r} (at_array s e q) =
-    here_faulty (of_both (suffixes_rightly s) (rightly e)) (refused_2 r (λ o x. length_asks c o (constant_in x)) (suffixed_of s) (term_of e) q)
-node_faulty {c = c} {r = r} (at_open_array s q) = here_faulty (of_one (suffixes_rightly s)) (refused_1 r (λ o. element_asks c o) (suffixed_of s) q)
+    here_faulty (of_both (suffixes_rightly s) (rightly e))
+    (refused_2 r (λ o x. length_asks c o (constant_in x)) (suffixed_of s) (term_of e) q)
+node_faulty {c = c} {r = r} (at_open_array s q) =
+    here_faulty (of_one (suffixes_rightly s))
+    (refused_1 r (λ o. element_asks c o) (suffixed_of s) q)
 node_faulty {r = r} (at_function {ps = ps} s ds q) =
-    here_faulty (of_both (suffixes_rightly s) (parameters_rightly ds)) (refused_2 r (λ o ys. function_asks o (given_parameters ps ys)) (suffixed_of s) (parameters_of ds) q)
+    here_faulty (of_both (suffixes_rightly s) (parameters_rightly ds))
+    (refused_2 r (λ o ys. function_asks o (given_parameters ps ys)) (suffixed_of s)
+    (parameters_of ds) q)
 node_faulty {c = c} {r = r} (at_parameter {n = n} {xs = xs} s d q) =
     in_parts (last_behind (of_first (of_node of_none s) (may_rightly d))
-    (in_first (here_faulty of_none (refused_1 {A = Declared} r (λ y. parameter_asks (behind_specifiers c xs) n (parameter y)) (may_of d) q))))
+    (in_first (here_faulty of_none (refused_1 {A = Declared} r
+    (λ y. parameter_asks (behind_specifiers c xs) n (parameter y)) (may_of d) q))))
 
 -- a fault of a part is one of the node
-part_faulty : {c b : Context} {n m : Node} {r k : ℕ} → Part c n b m → Faulty r k (node_asked b m) → Faulty r k (node_asked c n)
+part_faulty : {c b : Context} {n m : Node} {r k : ℕ} → Part c n b m → Faulty r k (node_asked b m)
+    → Faulty r k (node_asked c n)
 part_faulty indexed h = in_first h
 part_faulty subscript h = in_second h
 part_faulty {c = c} (callee {at = at} {f = f} {es = es} p) h =
-    in_callee at (call_asks (callee_of c.scopes f) (terms (behind f c) es)) (asked c f) (all_asked (behind f c) es) (is_function_meant (callee_of c.scopes f)) p h
+    in_callee at (call_asks (callee_of c.scopes f) (terms (behind f c) es)) (asked c f)
+    (all_asked (behind f c) es) (is_function_meant (callee_of c.scopes f)) p h
 part_faulty {c = c} (arguments {at = at} {f = f} {es = es}) h =
-    in_arguments at (call_asks (callee_of c.scopes f) (terms (behind f c) es)) (asked c f) (all_asked (behind f c) es) (is_function_meant (callee_of c.scopes f)) h
+    in_arguments at (call_asks (callee_of c.scopes f) (terms (behind f c) es)) (asked c f)
+    (all_asked (behind f c) es) (is_function_meant (callee_of c.scopes f)) h
 part_faulty whole h = in_one h
 part_faulty pointer_to_whole h = in_one h
 part_faulty post_stepped h = in_one h
@@ -109,20 +145,26 @@ part_faulty (name_specifiers {s = t.specifiers at xs}) h = in_earlier h
 part_faulty (name_declarator s) h = in_later (of_node of_none s) h
 part_faulty suffixes_part h = in_second (in_earlier h)
 part_faulty {c = c} {r = r} {k = k} (core_part {core = core} s) h =
-    in_second (in_later (suffixes_rightly s) (subst (λ z. Faulty r k (core_asked c z core)) (sym (suffixed_of s)) h))
+    in_second (in_later (suffixes_rightly s)
+    (subst (λ z. Faulty r k (core_asked c z core)) (sym (suffixed_of s)) h))
 part_faulty inner_part h = h
 part_faulty behind_length h = in_first h
 part_faulty behind_no_length h = in_one h
 part_faulty length_part h = in_second h
 part_faulty behind_function h = in_first h
 part_faulty parameters_part h = in_second h
-part_faulty (parameter_specifiers {s = t.specifiers at xs}) h = in_parts (rest_behind (rest_behind (last_beside h)))
-part_faulty (parameter_declarator s) h = in_parts (rest_behind (last_behind (of_one (of_node of_none s)) h))
+part_faulty (parameter_specifiers {s = t.specifiers at xs}) h =
+    in_parts (rest_behind (rest_behind (last_beside h)))
+part_faulty (parameter_declarator s) h =
+    in_parts (rest_behind (last_behind (of_one (of_node of_none s)) h))
 part_faulty {c = c} {r = r} {k = k} (parameters_behind {n = n} {xs = xs} {m = m} {ps = ps} s d) h =
     in_parts (last_behind (of_first (of_node of_none s) (may_rightly d))
-    (in_second (subst {A = Declared} (λ y. Faulty r k (parameters_asked (with_parameter n (parameter y) (behind_may m (behind_specifiers c xs))) (n + 1) ps)) (sym (may_of d)) h)))
+    (in_second (subst {A = Declared} (λ y. Faulty r k
+    (parameters_asked (with_parameter n (parameter y) (behind_may m (behind_specifiers c xs)))
+    (n + 1) ps)) (sym (may_of d)) h)))
 part_faulty declarator_part h = h
 
-pub expression_faulty : {c : Context} {n : Node} {r k : ℕ} → Broken c n r k → Faulty r k (node_asked c n)
+pub expression_faulty : {c : Context} {n : Node} {r k : ℕ} → Broken c n r k
+    → Faulty r k (node_asked c n)
 expression_faulty (here b) = node_faulty b
 expression_faulty (within p b) = part_faulty p (expression_faulty b)

@@ -1,12 +1,12 @@
 -- Of what is typed, all that is asked is so.
-use Rattle.std.proofs.Common.{◌≡◌, ◌∙◌, ℕ, ◌+◌, List, [], ◌∷◌, refl, ap, sym, subst, Bool, true, false}
+use Rattle.std.proofs.Common.{◌≡◌, ℕ, ◌+◌, List, [], ◌∷◌, sym, subst, Bool, true, false}
 use Rattle.im_rules.specs.im_ctree.Tree as t
-use Rattle.im_rules.specs.Context.{Context, in_new_scope, behind, behind_core, behind_may, behind_parameters}
+use Rattle.im_rules.specs.Context.{Context, behind, behind_may}
 use Rattle.im_rules.specs.Terms.{Term, type_in, constant_in}
-use Rattle.im_rules.specs.Demands.{Demand, asks, Meets, index_asks, call_asks, dot_asks, arrow_asks, step_asks, unary_asks, size_asks, cast_asks, binary_asks, conditional_asks, assign_asks, callee_of, is_function_meant}
-use Rattle.im_rules.specs.Declared.{Qualified, Declared, behind_specifiers, type_of_specifiers, with_stars, element_asks, length_asks, parameter, with_parameter, parameter_asks, function_asks, is_sized, parameters_of as given_parameters}
+use Rattle.im_rules.specs.Demands.{asks, Meets, index_asks, call_asks, dot_asks, arrow_asks, step_asks, unary_asks, size_asks, cast_asks, binary_asks, conditional_asks, assign_asks, callee_of, is_function_meant}
+use Rattle.im_rules.specs.Declared.{Qualified, Declared, behind_specifiers, element_asks, length_asks, parameter, with_parameter, parameter_asks, function_asks, is_sized, parameters_of as given_parameters}
 use Rattle.im_rules.specs.Typed.{Typed, of_identifier, of_number, of_character, of_string, of_index, of_call, of_member, of_arrow, of_post_step, of_pre_step, of_unary, of_size, of_type_size, of_cast, of_binary, of_conditional, of_assign, of_comma, AreTyped, no_argument, an_argument, Names, of_type_name, Declares, of_declarator, DeclaresIn, of_nothing, of_name, of_inner, Suffixed, no_suffix, of_array, of_open_array, of_function, AreParameters, no_parameter, a_parameter, MayDeclare, of_no_declarator, of_a_declarator}
-use Rattle.im_rules_asked.specs.Expressions.{term, terms, named, suffixed, parameters, may_declare, asked, call_asked, all_asked, name_asked, declarator_asked, core_asked, suffixes_asked, parameters_asked, may_asked}
+use Rattle.im_rules_asked.specs.Expressions.{terms, asked, call_asked, all_asked, name_asked, declarator_asked, core_asked, suffixes_asked, parameters_asked, may_asked}
 use Rattle.im_rules_asked.proofs.Right.{Right, of_node, of_none, of_one, of_both, of_first, of_beside, of_behind, met_1, met_2, met_3}
 use Rattle.im_rules_asked.proofs.Terms.{term_of, terms_of, named_of, suffixed_of, parameters_of, may_of}
 

@@ -1,11 +1,11 @@
 -- What an expression is typed to is its term.
-use Rattle.std.proofs.Common.{◌≡◌, ◌∙◌, ℕ, List, [], ◌∷◌, refl, ap}
+use Rattle.std.proofs.Common.{◌≡◌, ◌∙◌, ℕ, List, refl, ap}
 use Rattle.im_rules.specs.im_ctree.Tree as t
 use Rattle.im_rules.specs.Context.{Context}
 use Rattle.im_rules.specs.Terms.{Term}
 use Rattle.im_rules.specs.Declared.{Qualified, Declared}
 use Rattle.im_rules.specs.Typed.{Typed, of_identifier, of_number, of_character, of_string, of_index, of_call, of_member, of_arrow, of_post_step, of_pre_step, of_unary, of_size, of_type_size, of_cast, of_binary, of_conditional, of_assign, of_comma, AreTyped, no_argument, an_argument, Names, of_type_name, Declares, of_declarator, DeclaresIn, of_nothing, of_name, of_inner, Suffixed, no_suffix, of_array, of_open_array, of_function, AreParameters, no_parameter, a_parameter, MayDeclare, of_no_declarator, of_a_declarator}
-use Rattle.im_rules_asked.specs.Expressions.{term, terms, named, declared, declared_in, suffixed, parameters, may_declare, qualified}
+use Rattle.im_rules_asked.specs.Expressions.{term, terms, named, declared, declared_in, suffixed, parameters, may_declare}
 
 mutual
   pub term_of : {c : Context} {e : t.Expression} {x : Term} → Typed c e x → term c e ≡ x

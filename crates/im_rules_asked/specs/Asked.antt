@@ -1,6 +1,6 @@
 -- What the rules ask of a tree, as a tree: for each node its first token, what is asked of it, and what is asked of its parts,
 -- in source order.
-use Rattle.std.specs.Prelude.{◌≡◌, ◌⊎◌, ℕ, Bool, true, false, ◌&&◌, List, [], ◌∷◌, Option, Some, None, if◌then◌else◌}
+use Rattle.std.specs.Prelude.{◌≡◌, ◌⊎◌, ℕ, Bool, true, ◌&&◌, List, [], ◌∷◌, Option, Some, None, if◌then◌else◌}
 use Rattle.im_rules.specs.Demands.{Demand, Refuses}
 
 mutual

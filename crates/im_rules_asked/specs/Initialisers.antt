@@ -10,7 +10,7 @@ use Rattle.im_rules.specs.Demands.{asks}
 use Rattle.im_rules.specs.Initialisers.{Shape, one, bytes, elements, members, misshapen, shape, strings_given, from_term, Item, item, byte_items, shape_asks, value_asks}
 use Rattle.im_rules.specs.BodyBreaks.{initialiser_token}
 use Rattle.im_rules.specs.Breaks.{first_token}
-use Rattle.im_rules_asked.specs.Asked.{Asked, node, beside, both, one as one_part, only, leaf, nothing_asked}
+use Rattle.im_rules_asked.specs.Asked.{Asked, node, both, one as one_part, only, leaf, nothing_asked}
 use Rattle.im_rules_asked.specs.Expressions.{term, asked}
 
 -- the places of a braced list: elements of one type side by side, or members in order

@@ -11,10 +11,10 @@ use Rattle.im_rules.specs.Rules.{rule_34_break, rule_34_continue}
 use Rattle.im_rules.specs.Strings.{strings_in, strings_maybe}
 use Rattle.im_rules.specs.Outline.{is_initialised}
 use Rattle.im_rules.specs.Context.{Context}
-use Rattle.im_rules.specs.Terms.{Term, constant_in}
+use Rattle.im_rules.specs.Terms.{constant_in}
 use Rattle.im_rules.specs.Conversions.{as_type, as_integer}
 use Rattle.im_rules.specs.Demands.{asks}
-use Rattle.im_rules.specs.Declared.{Qualified, Declared, specifiers_ask, behind_specifiers, type_of_specifiers}
+use Rattle.im_rules.specs.Declared.{Qualified, specifiers_ask, behind_specifiers, type_of_specifiers}
 use Rattle.im_rules.specs.Initialisers.{completed, pieces_of}
 use Rattle.im_rules.specs.Statements.{Site, Added, nothing_added, just_strings, and_then, past, past_expression, past_maybe, in_block, in_loop, in_switch, in_context, name_of, local_asks, with_local, local_added, behind_initializer, condition_asks, switch_asks, return_asks, return_value_asks, value_in, switch_type, Labels, Cases, label_value, case_asks, default_asks, with_constant, with_default, case_at, no_cases, appended, count_stmts, with_cases, otherwise_of, empty_block, one_or_zero}
 use Rattle.im_rules.specs.BodyBreaks.{declarator_token}

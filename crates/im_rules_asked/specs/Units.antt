@@ -1,6 +1,6 @@
 -- What a unit is typed to, and what the rules ask of it (C11 6.9): external declarations one behind the other, each in what
 -- stands before it.
-use Rattle.std.specs.Prelude.{◌≡◌, ℕ, ℤ, pos, ◌+ℤ◌, false, true, List, [], ◌∷◌, ◌++◌, length, Option, Some, None}
+use Rattle.std.specs.Prelude.{◌≡◌, ℕ, ℤ, pos, ◌+ℤ◌, false, true, List, [], ◌∷◌, ◌++◌, length, Option, Some}
 use Rattle.im_rules.specs.im_word.Words.{Name}
 use Rattle.im_rules.specs.im_ctree.declared.specifier.SpecifierWord.{SpecifierWord}
 use Rattle.im_rules.specs.im_ctree.Tree as t
@@ -20,7 +20,7 @@ use Rattle.im_rules.specs.BodyBreaks.{declarator_token}
 use Rattle.im_rules.specs.StaticValues.{constant_asks, item_token}
 use Rattle.im_rules.specs.FileScope.{FilePlace, in_place, past_strings, file_start, file_asks, own_parameters, body_asks, Level, of_the_file, of_members, level_asks, with_list_begun, struct_asks, with_struct, member_asks, member_of, enum_asks, number_in, enumerator_asks, with_enumerator, with_enum_tag, main_asks, static_size}
 use Rattle.im_rules.specs.TypedUnit.{FirstValues, given_strings, values_given, past_declarator, body_site, function_made, past_head, program}
-use Rattle.im_rules_asked.specs.Asked.{Asked, IsRight, HasFault, Fault, first_fault, Parts, no_part, node, beside, behind, one, both, first_then, only, leaf, nothing_asked}
+use Rattle.im_rules_asked.specs.Asked.{Asked, IsRight, HasFault, Fault, first_fault, node, beside, behind, one, both, first_then, only, leaf, nothing_asked}
 use Rattle.im_rules_asked.specs.Expressions.{term, asked, declared, declarator_asked, parameters, parameters_asked}
 use Rattle.im_rules_asked.specs.Initialisers.{items, items_asked}
 use Rattle.im_rules_asked.specs.Statements.{Row, row, row_asked}
