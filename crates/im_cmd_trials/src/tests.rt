@@ -1,3 +1,4 @@
+mod checks;
 mod evaluations;
 mod generations;
 mod images;
