@@ -1,4 +1,4 @@
--- A node of an expression, a type name or a declarator that the relations call broken has that fault.
+-- A node of an expression, a type name or a declarator that the relations call broken has a fault.
 use Rattle.std.proofs.Common.{◌≡◌, inl, ℕ, ◌+◌, List, [], ◌∷◌, refl, sym, subst, Bool, true, false}
 use Rattle.im_rules.specs.im_ctree.Tree as t
 use Rattle.im_rules.specs.Context.{Context, behind, behind_may}

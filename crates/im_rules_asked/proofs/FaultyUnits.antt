@@ -178,9 +178,9 @@ part_faulty {f = f} {r = r} {k = k} (other_members {g = g} {h = h} {at = at} {xs
     let p = specify_right at s in
     let e = specify_once s (built_specify of_members f at xs p) in
     let a = subst {A = FilePlace} (λ j. AreFields (specify f xs).type j ds fs h) e.1
-        (subst {A = Qualified} (λ o. AreFields o g ds fs h) e.0 d) in
+    (subst {A = Qualified} (λ o. AreFields o g ds fs h) e.0 d) in
     let u = fields_once a (built_fields (specify f xs).type (specify f xs).place ds
-        (fields_right a)) in
+    (fields_right a)) in
     in_parts (last_behind (of_first p (fields_right a))
     (subst {A = FilePlace} (λ j. Faulty r k (members_asked j ms)) u.1 b))
 part_faulty other_fields h = in_second h

@@ -87,11 +87,11 @@ mutual
   members_right f (t.more_members (t.specifiers at xs) ds ms) (some_members {g = g} {h = h} {fields = fs} (of_specifiers m n) d r) =
       let w = of_node (of_first (of_node of_none m) (named_right f at xs n)) tt in
       let s = specify_once (of_specifiers {l = of_members} m n)
-          (built_specify of_members f at xs w) in
+      (built_specify of_members f at xs w) in
       let k = subst {A = FilePlace} (λ j. AreFields (specify f xs).type j ds fs h) s.1
-          (subst {A = Qualified} (λ o. AreFields o g ds fs h) s.0 d) in
+      (subst {A = Qualified} (λ o. AreFields o g ds fs h) s.0 d) in
       let b = fields_once k (built_fields (specify f xs).type (specify f xs).place ds
-          (fields_right k)) in
+      (fields_right k)) in
       of_node (of_behind (of_first w (fields_right k))
       (subst {A = FilePlace} (λ j. Right (members_asked j ms)) b.1 (members_right h ms r))) tt
 
