@@ -32,7 +32,6 @@ returns c =
     let number : c.number-2.result ≡ form_number c.args.form = c.number-2.ensures in
     let header = magic ∷ c.number.result ∷ c.number-2.result ∷ c.len-count.result ∷ [] in
     memory_put m c.args.form pages c.new-text.result.items c.put_words.new.text.items c.loop-page.text.items header c.len-count.result
-    c.nonzero_pages.ensures.memory c.in_ok-pages.ensures.pages count c.new-text.ensures.items
-    cc
+    c.nonzero_pages.ensures.memory c.in_ok-pages.ensures.pages count c.new-text.ensures.items (cc)
     c.in_ok-put_words.ensures
     (c.loop-page.invariant ∙ ap (λ x. c.put_words.new.text.items ++ flat_map (page_text m) x) (all ∙ c.deref-page-items.ensures.value))
