@@ -29,7 +29,7 @@ both_true false b e = cc
 pub itself : (n : ℕ) → (n == n) ≡ true
 itself n = eq-eqb n n refl
 
-pub not_equal : (a b : ℕ) → a ≢ b → (a == b) ≡ false
+not_equal : (a b : ℕ) → a ≢ b → (a == b) ≡ false
 not_equal a b ne = by (a == b) refl
   where
     by : (t : Bool) → (a == b) ≡ t → (a == b) ≡ false
