@@ -11,7 +11,7 @@ use Rattle.im_forward.proofs.Functions.{all_leaves}
 use Rattle.im_forward.proofs.dead.all_leave_out.Goals as goal
 
 pub leave_out_groups-requires-clause-few : goal.leave_out_groups-requires-clause-few
-leave_out_groups-requires-clause-few c = (let few = c.requires.words.few in omega arith)
+leave_out_groups-requires-clause-few c = (let few = c.requires.words.few in let small = c.ranges.registers in omega arith)
 
 pub leave_out_groups-requires-clause-there : goal.leave_out_groups-requires-clause-there
 leave_out_groups-requires-clause-there c k d lt =

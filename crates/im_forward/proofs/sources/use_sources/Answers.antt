@@ -37,9 +37,9 @@ returns c =
     let behind = behind_of l.line-index [] block.lines.items in
     let whole : length l.line-items ≡ block.lines.len = omega arith in
     let items = with_items_is block.lines l.line-items whole in
-    let exit : ForwardsExit free behind block.exit c.exit_with.result = record {
+    let exit : ForwardsExit free behind block.exit c.exit_with-block.result = record {
       instead = instead_of l.copies.items;
       may = may_use free behind l.copies.items l.invariant.known;
-      exit = c.exit_with.ensures ∙ ap (λ (z : List Known). exit_using (instead_of z) block.exit) c.deref.ensures.value;
+      exit = c.exit_with-block.ensures ∙ ap (λ (z : List Known). exit_using (instead_of z) block.exit) c.deref-2.ensures.value;
     } in
     uses_block free block _ l.line-index l.line-items items (omega arith) l.invariant.lines exit
