@@ -56,7 +56,7 @@ fn upgraded_memory<'a>(alloc: Global, name: &'a str, text: &[u8]) -> Result<Upgr
 }
 
 // The new text of a file's text.
-fn upgraded<'a>(alloc: Global, name: &'a str, text: &[u8]) -> Result<Upgraded, Refusal<'a>>
+fn upgraded_text<'a>(alloc: Global, name: &'a str, text: &[u8]) -> Result<Upgraded, Refusal<'a>>
     ensures { MatchResult result (λ new. IsUpgraded text.now new.version new.text.items)
         (λ refusal. RefusesContent name.now text.now (refused_of refusal)) }
 {
@@ -90,7 +90,7 @@ pub fn upgrade_file<'a, H: Shelf>(
         Ok(text) => text,
         Err(refusal) => return Err(refusal),
     };
-    let upgraded = match upgraded(alloc, old, &text) {
+    let upgraded = match upgraded_text(alloc, old, &text) {
         Ok(upgraded) => upgraded,
         Err(refusal) => return Err(refusal),
     };

@@ -1,7 +1,7 @@
 use im_cmd_words::{
     BuildOptions, Command, EvalOptions, RunOptions, WordsFault, building_law, evaluation_law,
-    faultless_law, files_law, generation_law, options_law, read_words, words_refused_law,
-    words_taken_law,
+    faultless_law, files_law, generation_law, memories_law, options_law, read_words,
+    words_refused_law, words_taken_law,
 };
 use std::alloc::Global;
 use std::test::Fail;
@@ -25,6 +25,7 @@ const PLAIN: RunOptions<'static> = RunOptions {
     trace: None,
     steps: 100_000_000,
     vars: false,
+    save: None,
 };
 
 const FULL: RunOptions<'static> = RunOptions {
@@ -32,10 +33,11 @@ const FULL: RunOptions<'static> = RunOptions {
     trace: Some("t"),
     steps: 4_294_967_295,
     vars: true,
+    save: Some("m"),
 };
 
 /// A command line, and the command that it names.
-const COMMANDS: [(&[&str], Command<'static>); 9] = [
+const COMMANDS: [(&[&str], Command<'static>); 10] = [
     (
         &["intermit", "build", "a.c", "a.img"],
         Command::Build {
@@ -64,10 +66,14 @@ const COMMANDS: [(&[&str], Command<'static>); 9] = [
             "--steps",
             "4294967295",
             "--vars",
+            "--save",
+            "m",
+            "--resume=old",
         ],
         Command::Exec {
             image: "a.img",
             options: FULL,
+            resume: Some("old"),
         },
     ),
     (
@@ -116,6 +122,10 @@ const COMMANDS: [(&[&str], Command<'static>); 9] = [
         },
     ),
     (&["intermit", "gen", "300"], Command::Gen { count: 300 }),
+    (
+        &["intermit", "check", "a.c"],
+        Command::Check { source: "a.c" },
+    ),
 ];
 
 #[test]
@@ -124,6 +134,7 @@ fn names_the_command(rt: HostRuntime) -> Result<(), Fail> {
     faultless_law();
     files_law();
     options_law();
+    memories_law();
     building_law();
     evaluation_law();
     generation_law();
@@ -135,7 +146,7 @@ fn names_the_command(rt: HostRuntime) -> Result<(), Fail> {
     Ok(())
 }
 
-const REFUSED: [&[&str]; 28] = [
+const REFUSED: [&[&str]; 32] = [
     &["intermit"],
     &["intermit", "run", "a.c"],
     &["intermit", "run", "a.c", "a.img", "more"],
@@ -164,6 +175,10 @@ const REFUSED: [&[&str]; 28] = [
     &["intermit", "gen", "+1"],
     &["intermit", "gen", "01"],
     &["intermit", "gen", "1", "2"],
+    &["intermit", "run", "a.c", "a.img", "--resume", "m"],
+    &["intermit", "dump", "a.img", "--save", "m"],
+    &["intermit", "check"],
+    &["intermit", "check", "a.c", "--stack", "256"],
 ];
 
 #[test]

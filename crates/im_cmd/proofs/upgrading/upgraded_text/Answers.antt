@@ -1,7 +1,7 @@
 use Rattle.std.proofs.Common.{sym, ◌∙◌}
 use Rattle.im_cmd_lines.specs.Refusals.{refused_of}
 use Rattle.im_cmd.proofs.Upgrades.{image_unheld, memory_unheld}
-use Rattle.im_cmd.proofs.upgrading.upgraded.Goals as goal
+use Rattle.im_cmd.proofs.upgrading.upgraded_text.Goals as goal
 
 pub returns-in-Err : goal.returns-in-Err
 returns-in-Err c = memory_unheld _ c.args.text.now (sym c.starts_with.ensures.value ∙ c.if-starts_with.true) (refused_of c.in-Err.refusal) c.in-Err.ensures
