@@ -37,7 +37,7 @@ joined image again options later resume name left ended old between new told is_
     let same : second.begins.text ≡ saved.text =
     told_text name saved.text second.begins.text memory_limit first.ran.told between.told second.begun.told told is_told saved.stores.files second.begins.reads.files in
     let says = memory_again saved.text Two image.form left.mem saved.is_text in
-    let began : second.first ≡ left.mem = second.begins.memory ∙ ap memory_at same ∙ says.memory in
+    let began : second.first ≡ left.mem = second.begins.memory ∙ ap memory_at same ∙ says.memory_is in
     let rest = power second.periods (fresh left.mem) in
     let ends : ended ≡ rest = second.run ∙ ap (λ (m : Mem). power second.periods (fresh m)) began in
     let whole : power (first.runs.periods ++ second.periods) (fresh first.runs.first) ≡ behind left rest =

@@ -1,5 +1,5 @@
 -- An image is run: the stages put together.
-use Rattle.std.proofs.Common.{◌≡◌, ◌≢◌, ◌<◌, true≢false, ℕ, suc, length, arith, true, false, Option, Some, None, List, ◌∷◌, [], Ok, Err, refl, sym, ap, ◌∙◌, subst}
+use Rattle.std.proofs.Common.{Bool, ◌≡◌, ◌≢◌, ◌<◌, true≢false, ℕ, suc, length, arith, true, false, Option, Some, None, List, ◌∷◌, [], Ok, Err, refl, sym, ap, ◌∙◌, subst}
 use Rattle.im_io.specs.Shelf.{ShelfState}
 use Rattle.std.specs.Prelude.{All, slice_index}
 use Rattle.std.proofs.lemmas.List.Elements.{All-cons, All-nil}
@@ -150,6 +150,24 @@ pub form_refused : (image_name : List ℕ) (image : ImageValue) (name text : Lis
 form_refused image_name image name text machine a b read h e =
     subst (λ (f : Form). RefusesResume image_name image name a b (FormsDiffer image_name image.form name f)) (sym h.of_image.form)
     (other_form text read h.right (λ same. differ_apart machine.form image.form e (h.of_image.form ∙ same)))
+
+-- the same of forms that are known to be the image's and the machine's
+
+differs_as : (own form image machine : Form) (b : Bool) → own ≡ image → form ≡ machine → differs form own ≡ b → differs machine image ≡ b
+differs_as own form image machine b mine its e =
+    subst (λ (f : Form). differs machine f ≡ b) mine (subst (λ (f : Form). differs f own ≡ b) its e)
+
+pub resumes_on_as : (image : ImageValue) (name text : List ℕ) (machine : Held (List ℕ)) (a b : ShelfState) (own form : Form) → ReadsFile name text memory_limit a b → ResumesText image text machine
+    → own ≡ image.form → form ≡ machine.form → differs form own ≡ false → ResumesOn image name machine a b
+resumes_on_as image name text machine a b own form read h mine its e =
+    resumes_on image name text machine a b read h (differs_as own form image.form machine.form false mine its e)
+
+pub form_refused_as : (image_name : List ℕ) (image : ImageValue) (name text : List ℕ) (machine : Held (List ℕ)) (a b : ShelfState) (own form : Form) → ReadsFile name text memory_limit a b → ResumesText image text machine
+    → own ≡ image.form → form ≡ machine.form → differs form own ≡ true → RefusesResume image_name image name a b (FormsDiffer image_name own name form)
+form_refused_as image_name image name text machine a b own form read h mine its e =
+    subst (λ (f : Form). RefusesResume image_name image name a b (FormsDiffer image_name f name form)) (sym mine)
+    (subst (λ (f : Form). RefusesResume image_name image name a b (FormsDiffer image_name image.form name f)) (sym its)
+    (form_refused image_name image name text machine a b read h (differs_as own form image.form machine.form true mine its e)))
 
 -- ---- the run
 

@@ -45,15 +45,15 @@ pub fn build_source<H: Shelf, O: Sink, E: Sink>(
 
 /// Builds a source, stores its image, and runs it. `out` gets the run's output, and `err` the lines of
 /// the build and of the run.
-pub fn run_source<H: Shelf, O: Sink, E: Sink>(
+pub fn run_source<'a, H: Shelf, O: Sink, E: Sink>(
     alloc: Global,
     shelf: &mut H,
     out: &mut O,
     err: &mut E,
     source: &str,
-    image_name: &str,
+    image_name: &'a str,
     building: BuildOptions,
-    options: RunOptions<'_>,
+    options: RunOptions<'a>,
 ) -> u8
     requires { IsInBounds building }
     ensures { CarriesOut (runs source.now image_name.now building (options_meaning options.entry))
@@ -72,14 +72,14 @@ pub fn run_source<H: Shelf, O: Sink, E: Sink>(
 
 /// Runs an image, from the memory of the file that is named for it where one is. `out` gets the run's
 /// output, and `err` the lines of the run.
-pub fn execute<H: Shelf, O: Sink, E: Sink>(
+pub fn execute<'a, H: Shelf, O: Sink, E: Sink>(
     alloc: Global,
     shelf: &mut H,
     out: &mut O,
     err: &mut E,
-    image_name: &str,
-    options: RunOptions<'_>,
-    resume: Option<&str>,
+    image_name: &'a str,
+    options: RunOptions<'a>,
+    resume: Option<&'a str>,
 ) -> u8
     ensures { CarriesOut (executes image_name.now (options_meaning options.entry)
         (option_map (λ file. file.now) resume.entry)) (H.state shelf.old) (H.state shelf.new)

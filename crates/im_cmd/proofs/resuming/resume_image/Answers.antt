@@ -1,7 +1,8 @@
-use Rattle.std.proofs.Common.{sym, ◌∙◌}
+use Rattle.std.proofs.Common.{ap, sym, ◌∙◌}
+use Rattle.im_image.specs.Contents.{ImageValue}
 use Rattle.im_cmd_lines.specs.Refusals.{refused_of}
 use Rattle.im_cmd.specs.Memories.{memory_unread}
-use Rattle.im_cmd.proofs.Stages.{form_refused, memory_unheld, resumes_on}
+use Rattle.im_cmd.proofs.Stages.{form_refused_as, memory_unheld, resumes_on_as}
 use Rattle.im_cmd.proofs.resuming.resume_image.Goals as goal
 
 pub returns-in-Err : goal.returns-in-Err
@@ -13,10 +14,10 @@ returns-in-Err-resume_text g c =
 
 pub returns-then-differs : goal.returns-then-differs
 returns-then-differs g c =
-    rw c.form.ensures (form_refused _ _ _ _ _ _ _ c.in-Ok.ensures (rw c.deref.ensures.value at c.in-Ok-resume_text.ensures)
-    (sym (rw c.form.ensures at c.differs.ensures) ∙ c.if-differs.true))
+    form_refused_as c.args.image_name.now c.args.image.now c.args.name.now c.in-Ok.text.items c.in-Ok-resume_text.machine _ _ c.image.inside.form c.form-form.result c.in-Ok.ensures
+    (rw c.deref.ensures.value at c.in-Ok-resume_text.ensures) (ap (λ (i : ImageValue). i.form) c.image.view_is) c.form-form.ensures (sym c.differs.ensures ∙ c.if-differs.true)
 
 pub returns : goal.returns
 returns g c =
-    resumes_on _ _ _ _ _ _ c.in-Ok.ensures (rw c.deref.ensures.value at c.in-Ok-resume_text.ensures)
-    (sym (rw c.form.ensures at c.differs.ensures) ∙ c.if-differs.false)
+    resumes_on_as c.args.image.now c.args.name.now c.in-Ok.text.items c.in-Ok-resume_text.machine _ _ c.image.inside.form c.form-form.result c.in-Ok.ensures
+    (rw c.deref.ensures.value at c.in-Ok-resume_text.ensures) (ap (λ (i : ImageValue). i.form) c.image.view_is) c.form-form.ensures (sym c.differs.ensures ∙ c.if-differs.false)

@@ -5,5 +5,5 @@ use Rattle.im_cmd.proofs.resuming.resume_text.Goals as goal
 pub returns-in-Err-OutOfMemory : goal.returns-in-Err-OutOfMemory
 returns-in-Err-OutOfMemory c = memory_starved
 
-pub returns : goal.returns
-returns c = faulty_memory c.in-Err.fault (search rules)
+pub returns-in-Err : goal.returns-in-Err
+returns-in-Err c = faulty_memory c.in-Err.fault (search rules)
