@@ -1,5 +1,8 @@
-//! From what a source is refused for to what a right source is promised, and from what is told of a source to what the typing
-//! rules that compute say of its unit. Each law is a function with an empty body, whose contract says it.
+//! From what a source is refused for to what a right source is promised. The law is a function with an empty body, whose
+//! contract says it.
+//!
+//! So are those on typing: what is told of a source is so by the rules that compute (`im_rules_asked`), to which `first_fault_of`
+//! is the answer.
 #![tactic(auto)]
 
 mod laws;
