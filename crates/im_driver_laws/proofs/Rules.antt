@@ -55,8 +55,8 @@ has_none one faultless source prog tokens tree h is_tree =
 
 -- a fault that isn't none
 one_of : (u : t.Tree) (f : Option Fault) → first_fault_of u ≡ f → (first_fault_of u ≡ None → ⊥) → HasFirstFault u
-one_of u None is no = absurd (no is)
-one_of u (Some f) is no = record { fault = f; is_first = is }
+one_of u None is not_none = absurd (not_none is)
+one_of u (Some f) is not_none = record { fault = f; is_first = is }
 
 pub has_one : OneUnitLaw → UnitBreaksNone → FaultlessIsTyped → RefusedHasFaultLaw
 has_one one breaks typed source place rule tokens tree r is_tree =
