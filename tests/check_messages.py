@@ -86,3 +86,12 @@ def check_tells_files(room):
     done = room.call("check", "none.c")
     same("no file", (done.status, done.out, done.err), (7, b"", b"intermit: cannot read none.c\n"))
     says(room, "a byte too many", " " * (4 * 1024 * 1024 + 1), ("intermit: a.c: source 4194305 over 4194304",))
+
+
+@test("check tells by status 8 that its message can't be written")
+def check_without_room(room):
+    room.file("a.c", "int a@b;\n")
+    with open("/dev/full", "wb") as full:
+        process = room.start("check", "a.c", stderr=full)
+        process.communicate()
+    same("the status", process.returncode, 8)

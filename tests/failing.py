@@ -14,6 +14,7 @@ READS = [
     ("build * new.img", False),
     ("run * new.img", False),
     ("report *", False),
+    ("check *", False),
     ("eval *", False),
     ("exec *", False),
     ("dump *", False),

@@ -82,7 +82,7 @@ def program(room):
     for turn in range(12):
         steps, mask = room.random.randrange(6 * gap), room.random.randrange(16)
         first = f"{steps} {room.random.randrange(2**32)} 1 {mask}\n" * (turn + 1)
-        second = f"{gap} {room.random.randrange(2**32)} 1000000 {mask}\n"
+        second = f"{gap} {room.random.randrange(2**32)} 900000 {mask}\n"
         room.file("first", first)
         room.file("second", second)
         room.file("both", first + second)

@@ -3,7 +3,7 @@ use Rattle.std.specs.Prelude.{ℕ, ◌+◌, ◌-◌, ◌*◌, ◌^◌, ◌==◌,
 use Rattle.std.specs.List.{list_all, slice_split}
 use Rattle.im_cmd_check.specs.declared.reading.Reading.{Reading as CodeReading}
 use Rattle.im_cmd_check.specs.declared.runs.Run.TheVariants.{Gaps, Digits, Quoted}
-use Rattle.im_cmd_check.specs.Runs.{is_digit, run, behind, part}
+use Rattle.im_cmd_check.specs.Runs.{is_digit, run, behind}
 
 -- the number that decimal digits make
 unfoldable pub value_of : List ℕ → ℕ

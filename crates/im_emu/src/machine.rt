@@ -213,11 +213,7 @@ impl Machine<PagedMem> {
         })
     }
 
-    fn resumed(
-        alloc: Global,
-        image: &Image,
-        text: &[u8],
-    ) -> Result<Machine<PagedMem>, MemoryFault>
+    fn resumed(alloc: Global, image: &Image, text: &[u8]) -> Result<Machine<PagedMem>, MemoryFault>
         ensures made { IfOk result (λ machine. device_of view machine
             ≡ fresh (memory_at text.now)) }
         ensures image { IfOk result (λ machine. IsResumed image.now text.now machine) }

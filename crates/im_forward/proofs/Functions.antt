@@ -168,3 +168,11 @@ zip_forwards (f ∷ fs) (g ∷ gs) h = (h.0, zip_forwards fs gs h.1)
 
 pub unit_forwards : (u v : Code) → v ≡ record u { functions = v.functions } → AllZip ForwardsFunction u.functions.items v.functions.items → Forwards u v
 unit_forwards u v rest h = record { functions = zip_forwards u.functions.items v.functions.items h; rest = rest }
+
+-- ---- all blocks of a function
+
+pub all_uses : (f g : Function) → g ≡ record f { blocks = g.blocks } → AllZip (UsesSources (first_free f)) f.blocks.items g.blocks.items → AllUseSources f g
+all_uses f g rest h = record { blocks = zip_uses (first_free f) f.blocks.items g.blocks.items h; rest = rest }
+
+pub all_leaves : (live : ℕ → ℕ → Bool) (f g : Function) → g ≡ record f { blocks = g.blocks } → AllZip (LeavesOut live) f.blocks.items g.blocks.items → AllLeaveOut live f g
+all_leaves live f g rest h = record { blocks = zip_leaves live f.blocks.items g.blocks.items h; rest = rest }

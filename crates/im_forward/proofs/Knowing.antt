@@ -1,5 +1,5 @@
 -- The copies that are known: what may be used in the place of what, and what is known behind one line more.
-use Rattle.std.proofs.Common.{◌≡◌, ◌≢◌, ◌≤◌, ◌⊎◌, inl, inr, ⊎_elim, ℕ, zero, suc, ◌<◌, Bool, true, false, List, [], ◌∷◌, ◌++◌, cond, refl, sym, ap, ◌∙◌, subst, arith, eq-eqb, eqb-true, length, drop, get_or}
+use Rattle.std.proofs.Common.{◌≡◌, ◌≢◌, ◌≤◌, ◌⊎◌, inl, inr, ⊎_elim, ℕ, Bool, true, false, List, [], ◌∷◌, ◌++◌, cond, refl, sym, ap, ◌∙◌, subst, eqb-true}
 use Rattle.std.specs.Prelude.{◌==◌, ◌&&◌, not, All, if◌then◌else◌}
 use Rattle.std.specs.List.{filter}
 use Rattle.std.proofs.lemmas.List.Elements.{All-nil, All-cons, All-head, All-tail, All-push}
@@ -10,7 +10,7 @@ use Rattle.im_forward.specs.declared.copies.Known.{Known}
 use Rattle.im_forward.specs.Copies.{IsCopy, Copied, Further, Since, IsSame, Itself, CopyOf}
 use Rattle.im_forward.specs.Forward.{MayUse}
 use Rattle.im_forward.specs.Known.{instead_of, is_without, IsKnown, AreKnown, Passes, PassesCopy}
-use Rattle.im_forward.proofs.Same.{both_true, not_equal}
+use Rattle.im_forward.proofs.Same.{both_true}
 
 not_true : (t : Bool) → not t ≡ true → t ≡ false
 not_true true e = cc
@@ -83,21 +83,3 @@ passes_copy free to from old k is_to is_source ne nf low before h =
       ]));
       no_parameter = subst (λ z. free ≤ z) (sym is_source) low;
     })
-
--- ---- the loop that looks a register up
-
-pub instead_here : (ks : List Known) (i v : ℕ) (d : Known) → i < length ks → v ≡ (get_or ks i d).register → instead_of (drop i ks) v ≡ (get_or ks i d).source
-instead_here [] i v d lt e = absurd (omega arith)
-instead_here (k ∷ ks) zero v d lt e = ap (λ t. if t then k.source else instead_of ks v) (eq-eqb v k.register e)
-instead_here (k ∷ ks) (suc i) v d lt e = instead_here ks i v d (omega arith) e
-
-pub instead_next : (ks : List Known) (i v : ℕ) (d : Known) → i < length ks → v ≢ (get_or ks i d).register → instead_of (drop i ks) v ≡ instead_of (drop (suc i) ks) v
-instead_next [] i v d lt ne = absurd (omega arith)
-instead_next (k ∷ ks) zero v d lt ne = ap (λ t. if t then k.source else instead_of ks v) (not_equal v k.register ne)
-instead_next (k ∷ ks) (suc i) v d lt ne = instead_next ks i v d (omega arith) ne
-
-pub instead_end : (ks : List Known) (i v : ℕ) → length ks ≤ i → instead_of (drop i ks) v ≡ v
-instead_end [] zero v le = refl
-instead_end [] (suc i) v le = refl
-instead_end (k ∷ ks) zero v le = absurd (omega arith)
-instead_end (k ∷ ks) (suc i) v le = instead_end ks i v (omega arith)

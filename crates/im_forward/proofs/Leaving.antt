@@ -1,5 +1,5 @@
 -- Copies that are left out: what lives is no more than before, and leaving out again leaves out.
-use Rattle.std.proofs.Common.{◌≡◌, ◌≢◌, ◌⊎◌, inl, inr, ⊎_elim, ℕ, zero, suc, ◌+◌, ◌<◌, ◌≤◌, Bool, true, false, List, [], ◌∷◌, ◌++◌, Option, Some, None, refl, sym, ap, ◌∙◌, subst, arith, length, drop, eqb-true}
+use Rattle.std.proofs.Common.{◌≡◌, ◌≢◌, ◌⊎◌, inl, inr, ⊎_elim, ℕ, zero, suc, ◌+◌, ◌<◌, ◌≤◌, Bool, true, false, List, [], ◌∷◌, ◌++◌, Option, Some, None, refl, sym, ap, ◌∙◌, subst, arith, length, drop, get_or, eqb-true}
 use Rattle.std.specs.Prelude.{◌==◌, ◌&&◌, ◌||◌, not, slice_get, slice_index}
 use Rattle.im_block.specs.declared.code.Line.{Line}
 use Rattle.im_block.specs.declared.code.Line.TheVariants.{Put, PutNull, Copy, Convert, Unary, Not, Compute, Compare, Move, Distance, Address, Read, Write, Reload, Spill, Cut, Call, GetChar, PutChar}
@@ -139,6 +139,19 @@ outside_idle live base starts lines exit words i r of points le o =
 pub dead_idle : (live : ℕ → ℕ → Bool) (base : ℕ) (starts : List ℕ) (lines : List Line) (exit : Exit) (words : List ℕ) (i : ℕ) (line : Line) → AreOf live base starts → ArePoints base starts lines exit words → i ≤ length lines → IsDead base (slice_index words i) line → IsIdle live exit (drop i lines) line
 dead_idle live base starts lines exit words i (Copy to from) of points le d = outside_idle live base starts lines exit words i to of points le d
 dead_idle live base starts lines exit words i line of points le d = absurd d
+
+default_free : (ws : List ℕ) (k a b : ℕ) → k < length ws → get_or ws k a ≡ get_or ws k b
+default_free [] k a b lt = absurd (omega arith)
+default_free (w ∷ ws) zero a b lt = refl
+default_free (w ∷ ws) (suc k) a b lt = default_free ws k a b (omega arith)
+
+-- by the word that was read
+pub dead_at : (live : ℕ → ℕ → Bool) (base : ℕ) (starts : List ℕ) (lines : List Line) (exit : Exit) (words : List ℕ) (i word : ℕ) (line : Line) → AreOf live base starts → ArePoints base starts lines exit words → i < length lines → word ≡ get_or words (i + 1) word → IsDead base word line → IsIdle live exit (drop (suc i) lines) line
+dead_at live base starts lines exit words i word line of points lt is d =
+    let count = points.count in
+    let next : i + 1 ≡ suc i = omega arith in
+    let read : word ≡ slice_index words (suc i) = is ∙ default_free words (i + 1) word 0 (omega arith) ∙ ap (λ n. slice_index words n) next in
+    dead_idle live base starts lines exit words (suc i) line of points (omega arith) (subst (λ w. IsDead base w line) read d)
 
 -- ---- a forwarded block of which copies are left out is a forwarded block
 

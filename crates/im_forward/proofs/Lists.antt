@@ -1,6 +1,6 @@
 -- One more element of lists that are rewritten in place.
-use Rattle.std.proofs.Common.{◌≡◌, ℕ, zero, suc, ◌<◌, ◌≤◌, List, [], ◌∷◌, subst, arith, length, take, drop, get_or, length-drop, ap}
-use Rattle.std.specs.Prelude.{slice_set, All}
+use Rattle.std.proofs.Common.{◌≡◌, ℕ, zero, suc, ◌<◌, ◌≤◌, List, [], ◌∷◌, subst, arith, length, take, drop, get_or, length-drop, Some, refl, ap}
+use Rattle.std.specs.Prelude.{slice_get, slice_set, All}
 use Rattle.std.specs.List.{AllZip}
 use Rattle.std.proofs.lemmas.List.Elements.{All-head, All-tail}
 
@@ -37,3 +37,9 @@ zip_all R zero (x ∷ xs) [] le h = absurd (let e = h.left in cc)
 zip_all R (suc i) (x ∷ xs) [] le h = absurd h.done
 zip_all R zero (x ∷ xs) (y ∷ ys) le h = absurd (omega arith)
 zip_all R (suc i) (x ∷ xs) (y ∷ ys) le h = (h.done.0, zip_all R i xs ys (omega arith) (record { done = h.done.1; left = h.left }))
+
+-- what is at a place
+pub got : {X : Type 0} (xs : List X) (i : ℕ) (d : X) → i < length xs → slice_get xs i ≡ Some (get_or xs i d)
+got [] i d lt = absurd (omega arith)
+got (x ∷ xs) zero d lt = refl
+got (x ∷ xs) (suc i) d lt = got xs i d (omega arith)

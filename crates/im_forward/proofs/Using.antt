@@ -3,7 +3,9 @@ use Rattle.std.proofs.Common.{◌≡◌, ℕ, zero, suc, ◌<◌, ◌≤◌, Boo
 use Rattle.std.specs.Prelude.{slice_set}
 use Rattle.im_block.specs.declared.code.Line.{Line}
 use Rattle.im_block.specs.declared.code.Exit.{Exit}
+use Rattle.im_block.specs.declared.code.Block.{Block}
 use Rattle.im_forward.specs.Forward.{ForwardsLine, ForwardsExit, ForwardsLines, Ends, Kept}
+use Rattle.im_forward.specs.Known.{UsesSources}
 
 -- the first lines, the last first, in front of others
 abbrev pub behind_of : ℕ → List Line → List Line → List Line
@@ -53,3 +55,9 @@ uses_all free live a b zero before (x ∷ xs) (y ∷ ys) le h e = absurd (omega 
 uses_all free live a b (suc i) before [] new le h e = absurd h
 uses_all free live a b (suc i) before (x ∷ xs) [] le h e = absurd h
 uses_all free live a b (suc i) before (x ∷ xs) (y ∷ ys) le h e = Kept before xs ys x y h.0 (uses_all free live a b i (x ∷ before) xs ys (omega arith) h.1 e)
+
+-- the whole block
+pub uses_block : (free : ℕ) (x y : Block) (i : ℕ) (items : List Line) → y.lines.items ≡ items → length items ≤ i → UsesTo free i [] x.lines.items items → ForwardsExit free (behind_of i [] x.lines.items) x.exit y.exit → UsesSources free x y
+uses_block free x y i items is le h e live = record {
+  lines = subst (ForwardsLines free live x.exit y.exit [] x.lines.items) (sym is) (uses_all free live x.exit y.exit i [] x.lines.items items le h e);
+}

@@ -96,7 +96,25 @@ module _ (before : List Line) (instead : ℕ → ℕ) (same : (v : ℕ) → IsSa
   exit_used live (Return (Some r)) e = one_used r e
 
 line_sets : (instead : ℕ → ℕ) (line : Line) (v : ℕ) → sets (line_using instead line) v ≡ sets line v
-line_sets instead line v = refl
+line_sets instead (Put to z) v = refl
+line_sets instead (PutNull to) v = refl
+line_sets instead (Copy to from) v = refl
+line_sets instead (Convert to kind from) v = refl
+line_sets instead (Unary to op kind from) v = refl
+line_sets instead (Not to from) v = refl
+line_sets instead (Compute to op kind left right) v = refl
+line_sets instead (Compare to op kind left right) v = refl
+line_sets instead (Move to size back pointer by) v = refl
+line_sets instead (Distance to size left right) v = refl
+line_sets instead (Address to place) v = refl
+line_sets instead (Read to place kind access) v = refl
+line_sets instead (Write place kind from access) v = refl
+line_sets instead (Reload to slot access) v = refl
+line_sets instead (Spill slot from access) v = refl
+line_sets instead (Cut cause) v = refl
+line_sets instead (Call to i first count) v = refl
+line_sets instead (GetChar to) v = refl
+line_sets instead (PutChar to from) v = refl
 
 -- ---- a block
 

@@ -64,10 +64,11 @@ fn leave_out_groups(alloc: Global, groups: &[Vec<u32>], block: &mut Block) -> Re
 /// Copies into registers that don't live behind them are left out.
 pub(crate) fn all_leave_out(
     alloc: Global,
+    registers: u32,
     groups: &[Vec<u32>],
     function: &mut Function,
 ) -> Result<(), NoMemory>
-    requires words { HaveWords function.old.register_count (length function.old.blocks.items) groups.now }
+    requires words { HaveWords registers (length function.old.blocks.items) groups.now }
     requires linked { AreLinked function.old.blocks.items }
     ensures { OnOk result (AllLeaveOut (groups_have groups.now) function.old function.new) }
 {

@@ -30,5 +30,6 @@ fn forward_function(alloc: Global, function: &mut Function) -> Result<(), NoMemo
 {
     all_use_sources(alloc, function)?;
     let living = live(alloc, function)?;
-    all_leave_out(alloc, &living.groups, function)
+    all_leave_out(alloc, function.register_count, &living.groups, function)?;
+    Ok(())
 }

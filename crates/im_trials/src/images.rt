@@ -49,7 +49,11 @@ pub(crate) fn image_of(
 }
 
 /// A machine with the image and this input.
-pub(crate) fn loaded(alloc: Global, image: &Image, input: &[u8]) -> Result<Machine<PagedMem>, Fail> {
+pub(crate) fn loaded(
+    alloc: Global,
+    image: &Image,
+    input: &[u8],
+) -> Result<Machine<PagedMem>, Fail> {
     Ok(Machine::load(alloc, image, input).ok().ok_or("a machine")?)
 }
 

@@ -1,6 +1,7 @@
-use Rattle.std.proofs.Common.{refl, rules}
+use Rattle.std.proofs.Common.{rules}
 use Rattle.im_io.proofs.Pieces.{sent_none}
 use Rattle.im_cmd_lines.specs.Refusals.{refused_of}
+use Rattle.im_cmd_words.specs.Named.{default_building}
 use Rattle.im_cmd.specs.Answers.{check_unread, check_starved, check_refused, checked}
 use Rattle.im_cmd.specs.Builds.{source_limit}
 use Rattle.im_cmd.specs.Outcome.{told}
@@ -17,11 +18,13 @@ returns-in-Err g c = record {
 }
 
 pub returns-in-Ok-compile : goal.returns-in-Ok-compile
-returns-in-Ok-compile g c = record {
-  outcome = _;
-  comes = checked _ c.in-Ok-compile.field-0 (compiles_of _ _ _ _ _ _ c.in-Ok.ensures.read (is_built_of _ _ _ (search rules) (rw c.deref.ensures.value at c.in-Ok-compile.ensures)));
-  tells = told _ _ 0 (sent_none _) (sent_none _);
-}
+returns-in-Ok-compile g c =
+    let built = is_built_of c.in-Ok.text.items default_building c.in-Ok-compile.field-0 (search rules) (rw c.deref.ensures.value at c.in-Ok-compile.ensures) in
+    record {
+      outcome = _;
+      comes = checked _ c.in-Ok-compile.field-0 (compiles_of _ _ _ _ _ _ c.in-Ok.ensures.read built);
+      tells = told _ _ 0 (sent_none _) (sent_none _);
+    }
 
 pub returns-in-Err-OutOfMemory : goal.returns-in-Err-OutOfMemory
 returns-in-Err-OutOfMemory g c = record {
@@ -31,8 +34,10 @@ returns-in-Err-OutOfMemory g c = record {
 }
 
 pub returns : goal.returns
-returns g c = record {
-  outcome = _;
-  comes = check_refused _ _ c.in-Err-compile.fault c.in-Ok.ensures.read (faulty _ _ (search rules) (rw c.deref.ensures.value at c.in-Err-compile.ensures));
-  tells = tells_second _ 3 _ _ _ _ c.tell_fault.ensures;
-}
+returns g c =
+    let wrong = faulty c.in-Ok.text.items c.in-Err-compile.fault (search rules) (rw c.deref.ensures.value at c.in-Err-compile.ensures) in
+    record {
+      outcome = _;
+      comes = check_refused _ _ c.in-Err-compile.fault c.in-Ok.ensures.read wrong;
+      tells = tells_second _ 3 _ _ _ _ (rw c.deref-in-Err-compile.ensures.value at c.tell_fault.ensures);
+    }

@@ -5,4 +5,4 @@ use Rattle.im_forward.proofs.dead.leave_out.Given as goal
 
 -- the lines so far are kept, or copy to what doesn't live behind them
 abbrev pub invariant-loop-i : goal.invariant-loop-i
-invariant-loop-i l = (live : ℕ → ℕ → Bool) → AreOf live l.base l.starts → LeavesTo live l.block.exit l.i l.block.lines.items l.kept.items
+invariant-loop-i l = (live : ℕ → ℕ → Bool) → AreOf live l.base l.starts → LeavesTo live l.fn.block.exit l.i l.fn.block.lines.items l.kept.items

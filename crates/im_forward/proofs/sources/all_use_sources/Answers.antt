@@ -1,9 +1,11 @@
-use Rattle.std.proofs.Common.{◌≡◌, ◌+◌, ◌<◌, suc, length, arith, subst, sym, get_or}
+use Rattle.std.proofs.Common.{◌≡◌, ◌+◌, ◌<◌, suc, length, refl, arith, subst, sym, get_or}
 use Rattle.std.specs.Prelude.{slice_set}
+use Rattle.std.specs.List.{AllZip}
+use Rattle.std.proofs.lemmas.List.{with_items_is}
 use Rattle.im_alloc_placed.specs.Placeable.{first_free}
 use Rattle.im_forward.specs.Known.{UsesSources}
 use Rattle.im_forward.proofs.Lists.{ZipTo, zip_more, zip_all}
-use Rattle.im_forward.proofs.Functions.{zip_uses}
+use Rattle.im_forward.proofs.Functions.{all_uses}
 use Rattle.im_forward.proofs.sources.all_use_sources.Goals as goal
 
 pub loop-block-preserved : goal.loop-block-preserved
@@ -20,3 +22,12 @@ loop-block-preserved c =
       free_is = l.invariant.free_is;
       blocks = subst (λ j. ZipTo (UsesSources (first_free old)) j old.blocks.items (slice_set l.block-items l.block-index c.use_sources.new.block)) next m;
     }
+
+pub returns : goal.returns
+returns c =
+    let l = c.loop-block in
+    let old = c.args.function.now in
+    let whole : length l.block-items ≡ old.blocks.len = omega arith in
+    let items = with_items_is old.blocks l.block-items whole in
+    let pairs = zip_all (UsesSources (first_free old)) l.block-index old.blocks.items l.block-items (omega arith) l.invariant.blocks in
+    all_uses old _ refl (subst (λ z. AllZip (UsesSources (first_free old)) old.blocks.items z) (sym items) pairs)

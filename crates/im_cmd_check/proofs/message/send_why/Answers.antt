@@ -1,0 +1,4 @@
+use Rattle.im_cmd_check.proofs.message.send_why.Goals as goal
+
+pub returns-in-OpenLiteral : goal.returns-in-OpenLiteral
+returns-in-OpenLiteral g c = rw c.in-OpenLiteral.is c.send_told-in-OpenLiteral.ensures
