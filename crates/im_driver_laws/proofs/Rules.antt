@@ -8,8 +8,11 @@ use Rattle.im_check.specs.im_rules.UnitBreaks.{UnitBroken}
 use Rattle.im_check.specs.im_rules.Laws.{UnitBreaksNone}
 use Rattle.im_rules_asked.specs.Asked.{Fault}
 use Rattle.im_rules_asked.specs.Units.{unit, first_fault_of}
-use Rattle.im_rules_asked.specs.Laws.{AskedIsUnit, UnitIsAsked, BrokenIsAsked, FaultlessIsTyped, TypedIsFaultless}
-use Rattle.im_driver_laws.specs.Rules.{OneUnitLaw, ProgramIsTypedLaw, TypedIsProgramLaw, RefusedIsFaultLaw, HasFirstFault, FaultlessHasProgramLaw, ProgramHasNoFaultLaw, RefusedHasFaultLaw}
+use Rattle.im_rules_asked.specs.Laws.{AskedIsUnit, UnitIsAsked, BrokenIsAsked}
+use Rattle.im_rules_asked.specs.Laws.{FaultlessIsTyped, TypedIsFaultless}
+use Rattle.im_driver_laws.specs.Rules.{OneUnitLaw, ProgramIsTypedLaw, TypedIsProgramLaw}
+use Rattle.im_driver_laws.specs.Rules.{RefusedIsFaultLaw, HasFirstFault, FaultlessHasProgramLaw}
+use Rattle.im_driver_laws.specs.Rules.{ProgramHasNoFaultLaw, RefusedHasFaultLaw}
 
 pub is_typed : UnitIsAsked → ProgramIsTypedLaw
 is_typed asked source prog h = record {
@@ -54,7 +57,9 @@ has_none one faultless source prog tokens tree h is_tree =
     faultless (tree_of tree) prog (subst (λ (z : t.Tree). TypedUnit z prog) same h.typed)
 
 -- a fault that isn't none
-one_of : (u : t.Tree) (f : Option Fault) → first_fault_of u ≡ f → (first_fault_of u ≡ None → ⊥) → HasFirstFault u
+one_of :
+    (u : t.Tree) (f : Option Fault) → first_fault_of u ≡ f → (first_fault_of u ≡ None → ⊥) →
+    HasFirstFault u
 one_of u None is not_none = absurd (not_none is)
 one_of u (Some f) is not_none = record { fault = f; is_first = is }
 

@@ -1,4 +1,4 @@
--- The tokens of a source are one list, which reads as one list of words and spells one unit at most.
+-- The tokens of a source are one list, read as one list of words, which spells at most one unit.
 use Rattle.std.proofs.Common.{◌≡◌, ℕ, List, subst}
 use Rattle.im_tok.specs.declared.token.Token.{Token}
 use Rattle.im_lex.specs.Lexing.{Lexes}
@@ -23,9 +23,13 @@ WordsLaw =
 
 pub one_list : TokensLaw → OneListLaw → WordsLaw
 one_list lexed listed source ts us vs ws a b v w =
-    listed source us vs ws (subst (λ (z : List Token). AreWords source z vs) (lexed source ts us a b) v) w
+    let read = subst (λ (z : List Token). AreWords source z vs) (lexed source ts us a b) v in
+    listed source us vs ws read w
 
 pub one_unit : TokensLaw → OneListLaw → SpeltOnceLaw → OneUnitLaw
 one_unit lexed listed spelt source ts us a b x y =
-    let same = one_list lexed listed source ts us x.parsed.0 y.parsed.0 x.lexes y.lexes x.parsed.1 y.parsed.1 in
-    spelt (tree_of a) (tree_of b) y.parsed.0 (subst (λ (z : List Word). Spells (tree_of a) z) same x.parsed.2.1) y.parsed.2.1
+    let vs = x.parsed.0 in
+    let ws = y.parsed.0 in
+    let same = one_list lexed listed source ts us vs ws x.lexes y.lexes x.parsed.1 y.parsed.1 in
+    let spelled = subst (λ (z : List Word). Spells (tree_of a) z) same x.parsed.2.1 in
+    spelt (tree_of a) (tree_of b) ws spelled y.parsed.2.1

@@ -1,5 +1,5 @@
--- What a source's answer says of its typing, in the words of the rules that compute (im_rules_asked). Within the limits is what
--- im_rules_limits says: sizes of types aren't told by these functions.
+-- What a source's answer says of its typing, in the words of the rules that compute, im_rules_asked.
+-- Within the limits is what im_rules_limits says: these functions don't tell the sizes of types.
 use Rattle.std.specs.Prelude.{◌≡◌, ℕ, List, Some, None}
 use Rattle.im_fault.specs.declared.fault.LineFault.TheVariants.{Rule}
 use Rattle.im_fault.specs.declared.fault.Place.{Place}
@@ -21,7 +21,7 @@ OneUnitLaw =
     (source : List ℕ) (ts us : List Token) (a b : Tree) → IsTreeOf source ts a → IsTreeOf source us b →
     tree_of a ≡ tree_of b
 
--- all that the rules ask of the source's unit is so, it becomes this program, and it is within the limits
+-- all that the rules ask of the source's unit is so, and it becomes this program, within the limits
 pub record IsTypedTo (source : List ℕ) (prog : Prog) : Type 0 where
   pub tokens : List Token
   pub tree : Tree
@@ -29,7 +29,7 @@ pub record IsTypedTo (source : List ℕ) (prog : Prog) : Type 0 where
   pub typed : Typed (tree_of tree) prog
   pub within : IsWithinLimits (tree_of tree)
 
--- a node of the source's unit, whose first token stands at this place, has parts that are right, and breaks the rule
+-- a node of the source's unit whose first token stands at this place breaks the rule; its parts are right
 pub record IsFaultAt (source : List ℕ) (place : Place) (rule : ℕ) : Type 0 where
   pub tokens : List Token
   pub tree : Tree
@@ -62,7 +62,8 @@ pub record HasFirstFault (u : t.Tree) : Type 0 where
 abbrev pub FaultlessHasProgramLaw : Type 0
 FaultlessHasProgramLaw =
     (source : List ℕ) (tokens : List Token) (tree : Tree) → IsTreeOf source tokens tree →
-    first_fault_of (tree_of tree) ≡ None → IsWithinLimits (tree_of tree) → IsProgramOf source (unit (tree_of tree))
+    first_fault_of (tree_of tree) ≡ None → IsWithinLimits (tree_of tree) →
+    IsProgramOf source (unit (tree_of tree))
 
 -- a source with a program has none
 abbrev pub ProgramHasNoFaultLaw : Type 0

@@ -1,8 +1,7 @@
 //! From what a source is refused for to what a right source is promised. The law is a function with an empty body, whose
 //! contract says it.
 //!
-//! So are those on typing: what is told of a source is so by the rules that compute (`im_rules_asked`), to which `first_fault_of`
-//! is the answer.
+//! So are those on typing: what is told of a source is so by the rules that compute, `im_rules_asked`.
 #![tactic(auto)]
 
 mod laws;
