@@ -1,8 +1,7 @@
 -- What the relations say of a source's unit, the functions say too.
-use Rattle.std.proofs.Common.{◌≡◌, ℕ, Option, Some, None, refl, sym, subst}
+use Rattle.std.proofs.Common.{◌≡◌, Option, Some, None, refl, subst}
 use Rattle.im_ctree.specs.Tree as t
 use Rattle.im_ctree.specs.Shape.{tree_of}
-use Rattle.im_typed.specs.Program.{Prog}
 use Rattle.im_check.specs.im_rules.TypedUnit.{TypedUnit}
 use Rattle.im_check.specs.im_rules.UnitBreaks.{UnitBroken}
 use Rattle.im_check.specs.im_rules.Laws.{UnitBreaksNone}
