@@ -14,7 +14,6 @@ use Rattle.im_ctree.specs.Tree as t
 use Rattle.im_ctree.specs.declared.unit.Tree.{Tree}
 use Rattle.im_ctree.specs.Shape.{tree_of}
 use Rattle.im_ctree.specs.Units.{Spells}
-use Rattle.im_parse.specs.Spelling.{AreWords}
 use Rattle.im_parse.specs.declared.text.ParseFault.TheVariants as unit
 use Rattle.im_front.specs.Reading.{IsNoToken, IsRefusedAt}
 use Rattle.im_front.specs.Laws.{OneListLaw}
@@ -25,43 +24,30 @@ use Rattle.im_check.specs.im_rules.Laws.{UnitOnce, UnitBreaksNone}
 use Rattle.im_check.specs.im_rules_limits.Limits as limits
 use Rattle.im_driver.specs.Compiled.{IsTreeOf, IsProgramOf, IsRuleBroken, IsExceeded, IsExceededByStatics}
 use Rattle.im_driver_laws.specs.Laws.{OneProgramLaw, RightLaw}
-
-abbrev pub TokensLaw : Type 0
-TokensLaw = (text : List ℕ) (a b : List Token) → Lexes text a → Lexes text b → a ≡ b
+use Rattle.im_driver_laws.proofs.Units.{TokensLaw, SpeltOnceLaw, one_list, one_unit}
 
 abbrev pub ApartLaw : Type 0
 ApartLaw = (text : List ℕ) (tokens : List Token) (at : ℕ) → Lexes text tokens → StuckAt text at → ⊥
 
-abbrev pub SpeltOnceLaw : Type 0
-SpeltOnceLaw = (u v : t.Tree) (words : List Word) → Spells u words → Spells v words → u ≡ v
-
 module _ (lexed : TokensLaw) (apart : ApartLaw) (listed : OneListLaw) (spelt : SpeltOnceLaw) (once : UnitOnce) (breaks : UnitBreaksNone) where
-  one_list : (source : List ℕ) (ts us : List Token) (vs ws : List Word) → Lexes source ts → Lexes source us → AreWords source ts vs → AreWords source us ws → vs ≡ ws
-  one_list source ts us vs ws a b v w = listed source us vs ws (subst (λ (z : List Token). AreWords source z vs) (lexed source ts us a b) v) w
-
-  one_tree : (source : List ℕ) (ts us : List Token) (a b : Tree) → IsTreeOf source ts a → IsTreeOf source us b → tree_of a ≡ tree_of b
-  one_tree source ts us a b x y =
-      let same = one_list source ts us x.parsed.0 y.parsed.0 x.lexes y.lexes x.parsed.1 y.parsed.1 in
-      spelt (tree_of a) (tree_of b) y.parsed.0 (subst (λ (z : List Word). Spells (tree_of a) z) same x.parsed.2.1) y.parsed.2.1
-
   pub one_program : OneProgramLaw
   one_program source p q x y =
-      let same = one_tree source x.tokens y.tokens x.tree y.tree x.is_tree y.is_tree in
+      let same = one_unit lexed listed spelt source x.tokens y.tokens x.tree y.tree x.is_tree y.is_tree in
       once (tree_of y.tree) p q (subst (λ (z : t.Tree). TypedUnit z p) same x.typed) y.typed
 
   module _ (source : List ℕ) (prog : Prog) (h : IsProgramOf source prog) where
     typed_as : (ts : List Token) (tree : Tree) → IsTreeOf source ts tree → TypedUnit (tree_of tree) prog
-    typed_as ts tree x = subst (λ (z : t.Tree). TypedUnit z prog) (one_tree source h.tokens ts h.tree tree h.is_tree x) h.typed
+    typed_as ts tree x = subst (λ (z : t.Tree). TypedUnit z prog) (one_unit lexed listed spelt source h.tokens ts h.tree tree h.is_tree x) h.typed
 
     within_as : (ts : List Token) (tree : Tree) → IsTreeOf source ts tree → limits.IsWithinLimits (tree_of tree)
-    within_as ts tree x = subst limits.IsWithinLimits (one_tree source h.tokens ts h.tree tree h.is_tree x) h.within
+    within_as ts tree x = subst limits.IsWithinLimits (one_unit lexed listed spelt source h.tokens ts h.tree tree h.is_tree x) h.within
 
     no_token : (place : Place) (why : LineFault) → IsNoToken source place why → ⊥
     no_token place why n = apart source h.tokens n.at h.is_tree.lexes n.stuck
 
     nested : (place : Place) → IsRefusedAt source place unit.Depth → ⊥
     nested place r =
-        let same = one_list source r.tokens h.tokens r.refused.0 h.is_tree.parsed.0 r.lexes h.is_tree.lexes r.refused.1 h.is_tree.parsed.1 in
+        let same = one_list lexed listed source r.tokens h.tokens r.refused.0 h.is_tree.parsed.0 r.lexes h.is_tree.lexes r.refused.1 h.is_tree.parsed.1 in
         let none = subst (λ (z : List Word). NoneOver 200 z) (sym same) h.is_tree.parsed.2.0 in
         let over = r.refused.2.over in
         let most = none r.number r.refused.2.within in
@@ -69,7 +55,7 @@ module _ (lexed : TokensLaw) (apart : ApartLaw) (listed : OneListLaw) (spelt : S
 
     unspelt : (place : Place) → IsRefusedAt source place unit.Syntax → ⊥
     unspelt place r =
-        let same = one_list source r.tokens h.tokens r.refused.0 h.is_tree.parsed.0 r.lexes h.is_tree.lexes r.refused.1 h.is_tree.parsed.1 in
+        let same = one_list lexed listed source r.tokens h.tokens r.refused.0 h.is_tree.parsed.0 r.lexes h.is_tree.lexes r.refused.1 h.is_tree.parsed.1 in
         r.refused.2.1.unspelt (tree_of h.tree) (subst (λ (z : List Word). Spells (tree_of h.tree) z) (sym same) h.is_tree.parsed.2.1)
 
     unbroken : (place : Place) (rule : ℕ) → IsRuleBroken source place rule → ⊥
