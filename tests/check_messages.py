@@ -1,5 +1,7 @@
 """What `check` says of a source: where and why, its line, and a caret under the place."""
-from base import same, test
+import re
+
+from base import holds, same, test
 
 UNKNOWN = "this name isn't declared before it, or names a function that isn't called"
 BYTE = "bad byte: no token begins with it"
@@ -34,11 +36,33 @@ ROWS = [
     ('# 5\nint a@b;\n# 9 "c.c"\n', "a.c:5:6", BYTE, "int a@b;", 5),
 ]
 
-# a source over a limit, and the one line that is said of it
+# a source of which a quantity is over its limit as a whole, and the one line that is said of it
 LIMITS = [
     ("char a[1048577]; int main(void) { return 0; }\n", "a.c: size 1048577 over 1048576"),
     ("char a[600000], b[600000]; int main(void) { return 0; }\n", "a.c: statics 1200008 over 1048576"),
-    ("void f(int a, int b, int c, int d, int e, int g, int h, int i, int j) {} int main(void) {}\n", "a.c: parameters 9 over 8"),
+]
+
+# a source with a function of too many parameters: the place of its declarator, how many, its name, the line, and how many of
+# its bytes stand in front of the caret
+MANY = "int a, int b, int c, int d, int e, int g, int h, int i"
+CROWDED = [
+    (f"void f({MANY}, int j) {{}} int main(void) {{}}\n", "a.c:1:6", 9, "f", f"void f({MANY}, int j) {{}} int main(void) {{}}", 5),
+    # within the limit, and over it; a prototype; a pointer is given
+    (f"void f({MANY}) {{}}\nint *g({MANY}, int j, int k);\nint main(void) {{}}\n", "a.c:2:5", 10, "g", f"int *g({MANY}, int j, int k);", 4),
+    # the first of two
+    (f"int x;\nint one({MANY}, int j), two({MANY}, int j, int k);\nint main(void) {{}}\n", "a.c:2:5", 9, "one", f"int one({MANY}, int j), two({MANY}, int j, int k);", 4),
+    # a line marker
+    (f'# 7 "my.c"\n\tvoid f({MANY}, int j) {{}}\nint main(void) {{}}\n', "my.c:7:7", 9, "f", f"\tvoid f({MANY}, int j) {{}}", 6),
+]
+
+# a source with a function whose frame is too large: the function's name, and the bytes of its array
+FRAMES = [
+    ("int main(void) { char page[70000]; page[0] = 1; return page[0]; }\n", "main", 70000),
+    ("int one(void) { char a[60000]; a[0] = 1; return a[0]; }\nint two(void) { char b[65537]; b[0] = 1; return b[0]; }\n"
+     "int main(void) { return one() + two(); }\n", "two", 65537),
+    # the first of two
+    ("int two(void) { int b[100000]; b[0] = 1; return b[0]; }\nint one(void) { int a[200000]; a[0] = 1; return a[0]; }\n"
+     "int main(void) { return one() + two(); }\n", "two", 400000),
 ]
 
 
@@ -75,10 +99,43 @@ def check_says_nothing(room):
         same(source, (done.status, done.out, done.err), (0, b"", b""))
 
 
-@test("check tells a limit by one line")
+@test("check tells by one line a limit of the source as a whole")
 def check_tells_limits(room):
     for source, line in LIMITS:
         says(room, source, source, (line,))
+
+
+@test("check tells the function that has too many parameters, its line, and a caret under its declarator")
+def check_tells_crowded(room):
+    for source, place, count, name, line, front in CROWDED:
+        said = f"{place}: parameters {count} over 8 in '{name}': a function has at most 8 parameters"
+        says(room, source, source, (said, line, under(line[:front])))
+
+
+@test("check tells the function whose frame is too large")
+def check_tells_frames(room):
+    why = "a function's locals and temporary values have at most 65536 bytes"
+    for source, name, least in FRAMES:
+        room.file("a.c", source)
+        done = room.call("check", "a.c")
+        same(source, (done.status, done.out), (3, b""))
+        told = re.fullmatch(rf"a\.c: frame ([0-9]+) over 65536 in '{name}': {why}\n", done.err.decode())
+        holds(f"{source}: {done.err!r}", told)
+        # no more beside the array than 64 bytes of its own
+        holds(f"{source}: {told[1]} bytes", least < int(told[1]) <= least + 64)
+
+
+@test("check tells code that is over its limit by one line")
+def check_tells_code(room):
+    body = "g = g * 3 + x; " * 400
+    calls = "".join(f"s += f{k}(s); " for k in range(150))
+    source = "int g;\n" + "".join(f"int f{k}(int x) {{ {body}return g; }}\n" for k in range(150))
+    room.file("a.c", source + f"int main(void) {{ int s = 0; {calls}return s; }}\n")
+    done = room.call("check", "a.c")
+    same("the status", (done.status, done.out), (3, b""))
+    told = re.fullmatch(r"a\.c: code ([0-9]+) over 1044480\n", done.err.decode())
+    holds(f"{done.err!r}", told)
+    holds(f"{told[1]} bytes", int(told[1]) > 1044480)
 
 
 @test("check tells a file that it can't read, and one that is too long, as other commands do")

@@ -16,7 +16,7 @@ use Rattle.im_block.specs.Tagged.{IsSound}
 use Rattle.im_block.specs.Wellformed.{IsStatic, HasBytes, Suits, objects_below, accesses_of_functions}
 use Rattle.im_block_laws.specs.PointsTo.{ConstantIn, ConstantsIn}
 use Rattle.im_alias_laws.specs.PointsAt.{PointsAt, Fit, IsClosedAt, AreTagsAt}
-use Rattle.im_alias_laws.specs.Least.{Below, IsLeastAt, AreTagsWithin, AreLeast}
+use Rattle.im_alias_laws.specs.Least.{Below, IsLeastAt, AreTagsWithin, AreLeastTags}
 use Rattle.im_alias_laws.proofs.PointsAts.{sound_at}
 use Rattle.im_alias_laws.proofs.LeastTags.{least_tags}
 use Rattle.im_alias.specs.declared.table.Table.{Table}
@@ -107,7 +107,7 @@ settled_end u a b x y none least h =
       tags = λ final k. subst (λ p. FunctionsTagged (length u.functions.items) u p final) (sym s.0) (h.tags refl final k);
     }
 
-pub alias_is : (u : Code) (t : Table) (found : Found) (tags : Tags) → IsCode u → Settled u t found → Agrees tags found → IsSound u tags × AreLeast u tags
+pub alias_is : (u : Code) (t : Table) (found : Found) (tags : Tags) → IsCode u → Settled u t found → Agrees tags found → IsSound u tags × AreLeastTags u tags
 alias_is u t found tags code h agrees =
     let p = points t in
     let closed = fits_closed u p h.closed in

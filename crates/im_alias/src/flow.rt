@@ -25,7 +25,8 @@ pub fn sweep(
 ) -> Result<bool, NoMemory>
     requires code { IsCode unit.now }
     requires part { IsPart unit.now table.old }
-    ensures { IfOk result (λ changed. FlowedUnit unit.now table.old table.new found.old found.new changed) }
+    ensures { IfOk result (λ changed.
+        FlowedUnit unit.now table.old table.new found.old found.new changed) }
 {
     let mut changed = flow_statics(alloc, unit, table)?;
     for (number, function) in unit.functions.iter().enumerate() {
@@ -37,7 +38,8 @@ pub fn sweep(
 
 fn flow_statics(alloc: Global, unit: &Unit, table: &mut Table) -> Result<bool, NoMemory>
     requires { length unit.now.statics.items ≤ length table.old.objects.items }
-    ensures { IfOk result (λ changed. Flowed (StaticsFit (length unit.now.statics.items) unit.now) table.old table.new changed) }
+    ensures { IfOk result (λ changed.
+        Flowed (StaticsFit (length unit.now.statics.items) unit.now) table.old table.new changed) }
 {
     let mut changed = false;
     for (number, each) in unit.statics.iter().enumerate() {
@@ -55,7 +57,8 @@ fn flow_values(
     values: &[Constant],
 ) -> Result<bool, NoMemory>
     requires { number < length table.old.objects.items }
-    ensures { IfOk result (λ changed. Flowed (λ p. ConstantsIn (p.object number) values.now) table.old table.new changed) }
+    ensures { IfOk result (λ changed.
+        Flowed (λ p. ConstantsIn (p.object number) values.now) table.old table.new changed) }
 {
     let mut changed = false;
     for value in values {
@@ -72,7 +75,8 @@ fn flow_value(
     value: &Constant,
 ) -> Result<bool, NoMemory>
     requires { number < length table.old.objects.items }
-    ensures { IfOk result (λ changed. Flowed (λ p. ConstantIn (p.object number) value.now) table.old table.new changed) }
+    ensures { IfOk result (λ changed.
+        Flowed (λ p. ConstantIn (p.object number) value.now) table.old table.new changed) }
 {
     match value {
         Constant::Inside { object, .. } => {
@@ -94,7 +98,10 @@ fn flow_function(
     requires code { IsCode unit.now }
     requires part { IsPart unit.now table.old }
     requires there { slice_get unit.now.functions.items number ≡ Some function.now }
-    ensures { IfOk result (λ changed. FlowedBlocks (length function.now.blocks.items) unit.now number function.now.blocks.items (accesses_of_blocks function.now.blocks.items) table.old table.new found.old found.new changed) }
+    ensures { IfOk result (λ changed.
+        FlowedBlocks (length function.now.blocks.items) unit.now number function.now.blocks.items
+        (accesses_of_blocks function.now.blocks.items) table.old table.new found.old found.new
+        changed) }
 {
     let mut changed = false;
     for block in &function.blocks {
@@ -116,7 +123,8 @@ fn flow_block(
     requires code { IsCode unit.now }
     requires part { IsPart unit.now table.old }
     requires there { IsBlockOf unit.now number function.now block.now }
-    ensures { IfOk result (λ changed. FlowedBlock unit.now number block.now table.old table.new found.old found.new changed) }
+    ensures { IfOk result (λ changed.
+        FlowedBlock unit.now number block.now table.old table.new found.old found.new changed) }
 {
     let mut spot = table.registers[number].copy(alloc)?;
     let mut changed = false;
@@ -140,7 +148,9 @@ fn flow_line(
 ) -> Result<bool, NoMemory>
     requires can { CanPass table.old spot.now line }
     requires takes { CanTake unit.now.functions.items table.old line }
-    ensures { IfOk result (λ changed. Flowed (λ p. LineFits p unit.now.functions.items (row_sets spot.now) 0 line) table.old table.new changed) }
+    ensures { IfOk result (λ changed.
+        Flowed (λ p. LineFits p unit.now.functions.items (row_sets spot.now) 0 line) table.old
+        table.new changed) }
 {
     match line {
         Line::Write { place, from, .. } => flow_write(table, spot, place, from),
@@ -167,7 +177,9 @@ fn flow_write(
     requires within { PlaceWithin (length spot.now.sets.items) place }
     requires from_within { from < length spot.now.sets.items }
     requires reached { IsReached (length table.old.objects.items) (row_sets spot.now) place }
-    ensures { IfOk result (λ changed. Flowed (λ p. (n : ℕ) → PlaceHas (sets_at p (row_sets spot.now)) 0 place n → Sub (row_sets spot.now from) (p.object n)) table.old table.new changed) }
+    ensures { IfOk result (λ changed.
+        Flowed (λ p. (n : ℕ) → PlaceHas (sets_at p (row_sets spot.now)) 0 place n → Sub (row_sets
+        spot.now from) (p.object n)) table.old table.new changed) }
 {
     let from = &spot.sets[from as usize];
     match place {
@@ -181,7 +193,9 @@ fn flow_write(
 /// A value may be written into any of some objects.
 fn flow_into(table: &mut Table, objects: &ObjectSet, from: &ObjectSet) -> Result<bool, NoMemory>
     requires { IsWithin (length table.old.objects.items) objects.now.members.items }
-    ensures { IfOk result (λ changed. Flowed (λ p. (n : ℕ) → Has objects.now.members.items n → Sub from.now.members.items (p.object n)) table.old table.new changed) }
+    ensures { IfOk result (λ changed.
+        Flowed (λ p. (n : ℕ) → Has objects.now.members.items n → Sub from.now.members.items
+        (p.object n)) table.old table.new changed) }
 {
     let mut changed = false;
     if from.members.is_empty() {
@@ -205,7 +219,9 @@ fn flow_arguments(
 ) -> Result<bool, NoMemory>
     requires given { first + count ≤ length spot.now.sets.items }
     requires taken { to + count ≤ width (slice_get table.old.registers.items callee) }
-    ensures { IfOk result (λ changed. Flowed (λ p. (k : ℕ) → k < count → Sub (row_sets spot.now (first + k)) (p.register callee (to + k))) table.old table.new changed) }
+    ensures { IfOk result (λ changed.
+        Flowed (λ p. (k : ℕ) → k < count → Sub (row_sets spot.now (first + k)) (p.register callee
+        (to + k))) table.old table.new changed) }
 {
     let mut changed = false;
     for k in 0..count {
@@ -226,9 +242,11 @@ fn flow_exit(
     exit: Exit,
 ) -> Result<bool, NoMemory>
     requires within { ExitWithin (length spot.now.sets.items) exit }
-    requires there { length spot.now.sets.items ≤ width (slice_get table.old.registers.items number) }
+    requires there { length spot.now.sets.items ≤ width (slice_get table.old.registers.items
+        number) }
     requires returned { number < length table.old.returned.items }
-    ensures { IfOk result (λ changed. Flowed (λ p. ExitFits p (row_sets spot.now) number exit) table.old table.new changed) }
+    ensures { IfOk result (λ changed.
+        Flowed (λ p. ExitFits p (row_sets spot.now) number exit) table.old table.new changed) }
 {
     match exit {
         Exit::Jump(_) | Exit::Turn(_) | Exit::Branch { .. } => flow_registers(table, spot, number),
@@ -242,7 +260,9 @@ fn flow_exit(
 /// What registers have at a block's end they may have where the next one begins.
 fn flow_registers(table: &mut Table, spot: &RegisterSets, number: usize) -> Result<bool, NoMemory>
     requires { length spot.now.sets.items ≤ width (slice_get table.old.registers.items number) }
-    ensures { IfOk result (λ changed. Flowed (λ p. (r : ℕ) → Sub (row_sets spot.now r) (p.register number r)) table.old table.new changed) }
+    ensures { IfOk result (λ changed.
+        Flowed (λ p. (r : ℕ) → Sub (row_sets spot.now r) (p.register number r)) table.old
+        table.new changed) }
 {
     let mut changed = false;
     for (register, set) in spot.sets.iter().enumerate() {

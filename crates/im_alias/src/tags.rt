@@ -1,7 +1,7 @@
 ghost use Rattle.std.specs.Prelude.{◌≡◌, ◌<◌, IfOk, OnOk, length, take, vec_len};
 ghost use Rattle.im_alias.specs.Scan.{IsScattered, Settled, numbers};
 ghost use Rattle.im_alias.specs.Sets.{IsCode, IsPart, points};
-ghost use Rattle.im_alias_laws.specs.Least.{AreLeast, IsLeastAt};
+ghost use Rattle.im_alias_laws.specs.Least.{AreLeastTags, IsLeastAt};
 ghost use Rattle.im_alloc_placed.specs.Placeable.{IsPlaceable};
 ghost use Rattle.im_block.specs.Tagged.{IsSound};
 ghost use Rattle.im_block.specs.Wellformed.{AreApart, IsWellFormed};
@@ -19,7 +19,7 @@ pub fn alias(alloc: Global, unit: &Unit) -> Result<Tags, NoMemory>
     requires well_formed { IsWellFormed unit.now }
     requires placeable { IsPlaceable unit.now }
     ensures sound { IfOk result (λ tags. IsSound unit.now tags) }
-    ensures least { IfOk result (λ tags. AreLeast unit.now tags) }
+    ensures least { IfOk result (λ tags. AreLeastTags unit.now tags) }
 {
     let mut table = make_table(alloc, unit)?;
     let found = settle(alloc, unit, &mut table)?;

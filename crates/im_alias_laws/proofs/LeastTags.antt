@@ -13,7 +13,7 @@ use Rattle.im_block.specs.Sections.{Has}
 use Rattle.im_block.specs.Tagged.{tag_of}
 use Rattle.im_block_laws.specs.PointsTo.{Points, Sub, LineClosed, LinesAre, IsClosed}
 use Rattle.im_alias_laws.specs.PointsAt.{PointsAt, with_set, union, loaded, behind, finer}
-use Rattle.im_alias_laws.specs.Least.{IsLineOf, TagIsLeast, LineIsLeast, AreLeast, Below, IsLeastAt, TagWithin, LineTagWithin, TagsWithin, AreTagsWithin}
+use Rattle.im_alias_laws.specs.Least.{IsLineOf, TagIsLeast, LineIsLeast, AreLeastTags, Below, IsLeastAt, TagWithin, LineTagWithin, TagsWithin, AreTagsWithin}
 use Rattle.im_alias_laws.proofs.Finers.{from_append, to_front, to_back, behind_within, closed_at}
 
 more_union : (f g : ℕ → List ℕ) (ns : List ℕ) → ((n : ℕ) → Sub (f n) (g n)) → Sub (union f ns) (union g ns)
@@ -86,5 +86,5 @@ module _ (u : Code) (p : PointsAt) (tags : Tags) (least : IsLeastAt p u) where
       by_line (Write place kind from access) any each = tag_is_least i place (tag_of tags access) any each
       by_line x any each = tt
 
-pub least_tags : (u : Code) (p : PointsAt) (tags : Tags) → IsLeastAt p u → AreTagsWithin p u tags → AreLeast u tags
+pub least_tags : (u : Code) (p : PointsAt) (tags : Tags) → IsLeastAt p u → AreTagsWithin p u tags → AreLeastTags u tags
 least_tags u p tags least within = record { lines = λ i line l. line_is_least u p tags least within i line l }

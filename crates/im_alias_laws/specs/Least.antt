@@ -78,7 +78,7 @@ LineIsLeast u tags i (Write place kind from access) = TagIsLeast u i place (tag_
 LineIsLeast u tags i line = Unit {0}
 
 -- beside `IsSound`: what `alias` promises of its tags
-pub record AreLeast (u : Code) (tags : Tags) : Type 0 where
+pub record AreLeastTags (u : Code) (tags : Tags) : Type 0 where
   pub lines : (i : ℕ) (line : Line) → IsLineOf u i line → LineIsLeast u tags i line
 
 -- an assignment by definitions that is below each closed one: a worklist keeps just this
@@ -115,4 +115,4 @@ pub record AreTagsWithin (p : PointsAt) (u : Code) (tags : Tags) : Type 0 where
 
 -- then a through tag names only objects that every closed assignment by registers gives the register of its address
 abbrev pub LeastTagsLaw : Type 0
-LeastTagsLaw = (u : Code) (p : PointsAt) (tags : Tags) → IsLeastAt p u → AreTagsWithin p u tags → AreLeast u tags
+LeastTagsLaw = (u : Code) (p : PointsAt) (tags : Tags) → IsLeastAt p u → AreTagsWithin p u tags → AreLeastTags u tags

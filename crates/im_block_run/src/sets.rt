@@ -34,7 +34,8 @@ pub(crate) fn computes(
 
 /// A constant, where it is one that the operators take.
 pub(crate) fn put(state: &mut State, to: u32, number: i128) -> Result<(), Stop>
-    ensures { (u : blocks.Unit) (s : meaning.State) → IsState state.old s → Follows u result state.new
+    ensures { (u : blocks.Unit) (s : meaning.State)
+        → IsState state.old s → Follows u result state.new
         (meaning.computes to (Fine (store.Number number)) s.frame.spot.rest s) }
 {
     match small(number) {
@@ -45,7 +46,8 @@ pub(crate) fn put(state: &mut State, to: u32, number: i128) -> Result<(), Stop>
 
 /// Another register.
 pub(crate) fn copy(state: &mut State, to: u32, from: u32) -> Result<(), Stop>
-    ensures { (u : blocks.Unit) (s : meaning.State) → IsState state.old s → Follows u result state.new
+    ensures { (u : blocks.Unit) (s : meaning.State)
+        → IsState state.old s → Follows u result state.new
         (meaning.computes to (Fine (s.frame.registers from)) s.frame.spot.rest s) }
 {
     let value = state.frame.register(from);
@@ -54,8 +56,10 @@ pub(crate) fn copy(state: &mut State, to: u32, from: u32) -> Result<(), Stop>
 
 /// A conversion (C11 6.3.1.3).
 pub(crate) fn convert(state: &mut State, to: u32, kind: Kind, from: u32) -> Result<(), Stop>
-    ensures { (u : blocks.Unit) (s : meaning.State) → IsState state.old s → Follows u result state.new
-        (meaning.computes to (meaning.as_number (meaning.converted kind (s.frame.registers from))) s.frame.spot.rest s) }
+    ensures { (u : blocks.Unit) (s : meaning.State)
+        → IsState state.old s → Follows u result state.new
+        (meaning.computes to (meaning.as_number (meaning.converted kind (s.frame.registers
+        from))) s.frame.spot.rest s) }
 {
     let value = state.frame.register(from);
     computes(state, to, converted(kind, value))
@@ -69,8 +73,10 @@ pub(crate) fn unary(
     kind: Kind,
     from: u32,
 ) -> Result<(), Stop>
-    ensures { (u : blocks.Unit) (s : meaning.State) → IsState state.old s → Follows u result state.new
-        (meaning.computes to (meaning.as_number (meaning.computed_one op kind (s.frame.registers from))) s.frame.spot.rest s) }
+    ensures { (u : blocks.Unit) (s : meaning.State)
+        → IsState state.old s → Follows u result state.new
+        (meaning.computes to (meaning.as_number (meaning.computed_one op kind (s.frame.registers
+        from))) s.frame.spot.rest s) }
 {
     let value = state.frame.register(from);
     computes(state, to, computed_one(op, kind, value))
@@ -78,8 +84,10 @@ pub(crate) fn unary(
 
 /// Whether a value fails as a condition (C11 6.5.3.3).
 pub(crate) fn negate(state: &mut State, to: u32, from: u32) -> Result<(), Stop>
-    ensures { (u : blocks.Unit) (s : meaning.State) → IsState state.old s → Follows u result state.new
-        (meaning.computes to (meaning.as_truth (meaning.negation s.store (s.frame.registers from))) s.frame.spot.rest s) }
+    ensures { (u : blocks.Unit) (s : meaning.State)
+        → IsState state.old s → Follows u result state.new
+        (meaning.computes to (meaning.as_truth (meaning.negation s.store (s.frame.registers
+        from))) s.frame.spot.rest s) }
 {
     let value = state.frame.register(from);
     let result = negation(&state.memory, value);
@@ -95,8 +103,10 @@ pub(crate) fn compute(
     left: u32,
     right: u32,
 ) -> Result<(), Stop>
-    ensures { (u : blocks.Unit) (s : meaning.State) → IsState state.old s → Follows u result state.new
-        (meaning.computes to (meaning.as_number (meaning.computed op kind (s.frame.registers left) (s.frame.registers right))) s.frame.spot.rest s) }
+    ensures { (u : blocks.Unit) (s : meaning.State)
+        → IsState state.old s → Follows u result state.new
+        (meaning.computes to (meaning.as_number (meaning.computed op kind (s.frame.registers
+        left) (s.frame.registers right))) s.frame.spot.rest s) }
 {
     let a = state.frame.register(left);
     let b = state.frame.register(right);
@@ -112,8 +122,10 @@ pub(crate) fn compare(
     left: u32,
     right: u32,
 ) -> Result<(), Stop>
-    ensures { (u : blocks.Unit) (s : meaning.State) → IsState state.old s → Follows u result state.new
-        (meaning.computes to (meaning.as_truth (meaning.compared s.store op kind (s.frame.registers left) (s.frame.registers right))) s.frame.spot.rest s) }
+    ensures { (u : blocks.Unit) (s : meaning.State)
+        → IsState state.old s → Follows u result state.new
+        (meaning.computes to (meaning.as_truth (meaning.compared s.store op kind
+        (s.frame.registers left) (s.frame.registers right))) s.frame.spot.rest s) }
 {
     let a = state.frame.register(left);
     let b = state.frame.register(right);
@@ -130,8 +142,10 @@ pub(crate) fn move_by(
     pointer: u32,
     by: u32,
 ) -> Result<(), Stop>
-    ensures { (u : blocks.Unit) (s : meaning.State) → IsState state.old s → Follows u result state.new
-        (meaning.computes to (meaning.moved s.store size back (s.frame.registers pointer) (s.frame.registers by)) s.frame.spot.rest s) }
+    ensures { (u : blocks.Unit) (s : meaning.State)
+        → IsState state.old s → Follows u result state.new
+        (meaning.computes to (meaning.moved s.store size back (s.frame.registers pointer)
+        (s.frame.registers by)) s.frame.spot.rest s) }
 {
     let a = state.frame.register(pointer);
     let b = state.frame.register(by);
@@ -147,8 +161,10 @@ pub(crate) fn subtract(
     left: u32,
     right: u32,
 ) -> Result<(), Stop>
-    ensures { (u : blocks.Unit) (s : meaning.State) → IsState state.old s → Follows u result state.new
-        (meaning.computes to (meaning.as_number (meaning.distance_of s.store size (s.frame.registers left) (s.frame.registers right))) s.frame.spot.rest s) }
+    ensures { (u : blocks.Unit) (s : meaning.State)
+        → IsState state.old s → Follows u result state.new
+        (meaning.computes to (meaning.as_number (meaning.distance_of s.store size
+        (s.frame.registers left) (s.frame.registers right))) s.frame.spot.rest s) }
 {
     let a = state.frame.register(left);
     let b = state.frame.register(right);
@@ -158,8 +174,10 @@ pub(crate) fn subtract(
 
 /// The address of a place (C11 6.5.3.2).
 pub(crate) fn address(state: &mut State, to: u32, place: Place) -> Result<(), Stop>
-    ensures { (u : blocks.Unit) (s : meaning.State) → IsState state.old s → Follows u result state.new
-        (meaning.computes to (meaning.place_of place s.frame.active s.frame.registers s.store) s.frame.spot.rest s) }
+    ensures { (u : blocks.Unit) (s : meaning.State)
+        → IsState state.old s → Follows u result state.new
+        (meaning.computes to (meaning.place_of place s.frame.active s.frame.registers s.store)
+        s.frame.spot.rest s) }
 {
     let result = place_of(&state.memory, &state.frame, place);
     computes(state, to, result)

@@ -1,1 +1,3 @@
 pub mod Over
+pub mod Once
+pub mod Functions

@@ -34,7 +34,8 @@ fn over(count: Option<usize>) -> Option<usize>
     }
 }
 
-fn in_declarator(d: &Declarator) -> Option<usize>
+/// The count of the function that a declarator declares, where it is over the limit.
+pub(crate) fn in_declarator(d: &Declarator) -> Option<usize>
     ensures { IsOver (m.counted_of (o.nearest (declarator_of d.now))) result }
 {
     over(count(nearest(d)))

@@ -1,6 +1,7 @@
 -- Suffixes, the last one first.
-use Rattle.std.proofs.Common.{arith, ◌≡◌, ◌<◌, ◌≤◌, ◌+◌, ◌-◌, true, pos, negsuc, unsigned_abs, get_or, ℕ, zero, suc, ℤ, List, [], ◌∷◌, map, length, drop, Option, Some, None, Result, Ok, Err, Box, Global, inr, refl, sym, ap, subst, ◌∙◌}
+use Rattle.std.proofs.Common.{arith, ◌≡◌, ◌<◌, ◌≤◌, ◌+◌, ◌-◌, true, pos, negsuc, unsigned_abs, get_or, ℕ, zero, suc, ℤ, List, [], ◌∷◌, map, length, drop, Option, Some, None, Result, Ok, Err, Box, Global, Vec, inr, refl, sym, ap, subst, ◌∙◌}
 use Rattle.std.proofs.lemmas.List.{drop_more, drop_all, length-map}
+use Rattle.im_ctree.specs.declared.declarator.Parameter.{Parameter}
 use Rattle.im_ctree.specs.declared.declarator.Suffix.{Suffix}
 use Rattle.im_ctype.specs.declared.member.Member as rust
 use Rattle.im_ctype.specs.Table.{Table, structs_of, members_in, types_of}
@@ -26,7 +27,7 @@ use Rattle.im_check_type_specifiers.specs.declared.qualified.Qualified as y
 use Rattle.im_check_type_specifiers.specs.Specified.{IsQualified, qualified_of}
 use Rattle.im_check_declarators.specs.declared.given.Given.{Given}
 use Rattle.im_check_declarators.specs.declared.given.Given.TheVariants as g
-use Rattle.im_check_declarators.specs.Suffixes.{HasLength, AreGiven, IsFault, AreSuffixed, SuffixesDone, IsArray, IsArrayFault}
+use Rattle.im_check_declarators.specs.Suffixes.{HasLength, AreGiven, IsGivenLength, IsGivenOf, IsParameters, IsFault, AreSuffixed, SuffixesDone, IsArray, IsArrayFault}
 use Rattle.im_check_declarators.proofs.Within.{none_within, array_within, open_within, function_within}
 
 pub array_tree : (at : ℕ) (written : Option (Box Expression Global)) (rest : t.Suffixes) → with_suffix at (xk.Array written) rest ≡ t.array_suffix at (maybe_from written) rest
@@ -104,6 +105,49 @@ not_given : (c : Context) (at : ℕ) (kind : xk.SuffixKind) (rest : t.Suffixes) 
 not_given c at (xk.Array' xk.SuffixKind-Array-0-None') rest a = a
 not_given c at (xk.Array' (xk.SuffixKind-Array-0-Some' p i e)) rest a = a
 not_given c at (xk.Function' m ps) rest a = a
+
+-- what is given of each suffix, and no more
+
+given_first : (c : Context) (at : ℕ) (kind : xk.SuffixKind) (rest : t.Suffixes) (x : Given) (others : List Given) → AreGiven c (with_suffix at kind rest) (x ∷ others) → IsGivenOf kind x
+given_first c at (xk.Array' xk.SuffixKind-Array-0-None') rest g.Open others a = refl
+given_first c at (xk.Array' xk.SuffixKind-Array-0-None') rest (g.Length z) others a = absurd a
+given_first c at (xk.Array' xk.SuffixKind-Array-0-None') rest (g.Parameters ds) others a = absurd a
+given_first c at (xk.Array' (xk.SuffixKind-Array-0-Some' p i e)) rest (g.Length z) others a = (z, refl)
+given_first c at (xk.Array' (xk.SuffixKind-Array-0-Some' p i e)) rest g.Open others a = absurd a
+given_first c at (xk.Array' (xk.SuffixKind-Array-0-Some' p i e)) rest (g.Parameters ds) others a = absurd a
+given_first c at (xk.Function' m ps) rest (g.Parameters ds) others a = (ds, refl)
+given_first c at (xk.Function' m ps) rest (g.Length z) others a = absurd a
+given_first c at (xk.Function' m ps) rest g.Open others a = absurd a
+
+pub given_at : (base : Qualified) (ss : List Suffix) (gs : List Given) (i : ℕ) (s : Suffix) (last : List Suffix) (x : Given) (others : List Given) (c : Context)
+    → AreGiven c (suffixes_from ss) gs → drop i ss ≡ s ∷ last → drop i gs ≡ x ∷ others → IsGivenOf s.kind x
+given_at base [] gs zero s last x others c a e f = absurd (let bad : [] ≡ s ∷ last = e in cc)
+given_at base [] gs (suc i) s last x others c a e f = absurd (let bad : [] ≡ s ∷ last = e in cc)
+given_at base (z ∷ ss) [] i s last x others c a e f = absurd (not_given c z.at z.kind (suffixes_from ss) a)
+given_at base (z ∷ ss) (w ∷ gs) zero s last x others c a e f =
+    let one : z ≡ s = cc in
+    let two : w ≡ x = cc in
+    let h : IsGivenOf z.kind w = given_first c z.at z.kind (suffixes_from ss) w gs a in
+    subst (λ (k : Suffix). IsGivenOf k.kind x) one (subst (λ (k : Given). IsGivenOf z.kind k) two h)
+given_at base (z ∷ ss) (w ∷ gs) (suc i) s last x others c a e f =
+    let b = behind_one c c.known base z.at z.kind (suffixes_from ss) w gs refl a in
+    given_at base ss gs i s last x others b.place b.given e f
+
+pub given_count : (base : Qualified) (ss : List Suffix) (gs : List Given) (c : Context) → AreGiven c (suffixes_from ss) gs → length gs ≡ length ss
+given_count base [] [] c a = refl
+given_count base [] (w ∷ gs) c a = absurd a
+given_count base (z ∷ ss) [] c a = absurd (not_given c z.at z.kind (suffixes_from ss) a)
+given_count base (z ∷ ss) (w ∷ gs) c a =
+    let b = behind_one c c.known base z.at z.kind (suffixes_from ss) w gs refl a in
+    let h = given_count base ss gs b.place b.given in
+    omega arith
+
+pub given_length : (e : Option (Box Expression Global)) (x : Given) → IsGivenOf (xk.Array e) x → IsGivenLength e x
+given_length None x h = h
+given_length (Some b) x h = h
+
+pub given_parameters : (ps : Vec Parameter Global) (x : Given) → IsGivenOf (xk.Function ps) x → IsParameters x
+given_parameters ps x h = h
 
 -- what is at fault wherever these suffixes stand
 

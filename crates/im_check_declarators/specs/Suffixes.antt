@@ -1,6 +1,9 @@
 -- What is given and answered of suffixes.
-use Rattle.std.specs.Prelude.{◌≡◌, ◌<◌, ◌≤◌, ℕ, ℤ, List, [], ◌∷◌, map, Option, MatchResult, Result}
+use Rattle.std.specs.Prelude.{◌≡◌, ◌<◌, ◌≤◌, ℕ, ℤ, List, [], ◌∷◌, map, Option, Some, None, Box, Vec, MatchResult, Result}
+use Rattle.std.specs.Global.{Global}
 use Rattle.im_ctree.specs.Tree as t
+use Rattle.im_ctree.specs.declared.declarator.SuffixKind as xk
+use Rattle.im_ctree.specs.declared.expression.Expression.{Expression}
 use Rattle.im_rules.specs.Context.{Context, in_new_scope, behind, behind_parameters}
 use Rattle.im_ctype.specs.Types.{Structs}
 use Rattle.im_rules.specs.Terms.{Term, constant_in, size_in}
@@ -14,6 +17,7 @@ use Rattle.im_check_stop.specs.declared.stop.Stop.TheVariants.{Rule, Large, Memo
 use Rattle.im_check_stop.specs.Answers.{IsRefusal}
 use Rattle.im_check_type_specifiers.specs.declared.qualified.Qualified.{Qualified}
 use Rattle.im_check_type_specifiers.specs.Specified.{qualified_of}
+use Rattle.im_check_declarators.specs.declared.declared.Declared.{Declared}
 use Rattle.im_check_declarators.specs.declared.given.Given.{Given}
 use Rattle.im_check_declarators.specs.declared.given.Given.TheVariants as g
 use Rattle.im_check_declarators.specs.Shape.{declared_of}
@@ -35,6 +39,22 @@ AreGiven c (t.array_suffix at t.no_expression ss) (g.Open ∷ gs) = AreGiven c s
 AreGiven c (t.function_suffix at ps ss) (g.Parameters ds ∷ gs) =
     AreParameters (in_new_scope c) 0 ps (map declared_of ds.items) × IsWithin (in_new_scope c) (some_parameters 0 ps) × AreGiven (behind_parameters ps c) ss gs
 AreGiven c _ _ = ⊥
+
+-- what is given of a suffix: of an array the value of its length, or that there is none, of a function its parameters
+abbrev pub IsLength : Given → Type 0
+IsLength x = (z : Option ℤ) × (x ≡ g.Length z)
+
+abbrev pub IsParameters : Given → Type 0
+IsParameters x = (ds : Vec Declared Global) × (x ≡ g.Parameters ds)
+
+abbrev pub IsGivenLength : Option (Box Expression Global) → Given → Type 0
+IsGivenLength None x = x ≡ g.Open
+IsGivenLength (Some e) x = IsLength x
+
+abbrev pub IsGivenOf : xk.SuffixKind → Given → Type 0
+IsGivenOf (xk.Array' xk.SuffixKind-Array-0-None') x = x ≡ g.Open
+IsGivenOf (xk.Array' (xk.SuffixKind-Array-0-Some' p i e)) x = IsLength x
+IsGivenOf (xk.Function' m ps) x = IsParameters x
 
 -- a node of this one breaks the rule at the token, or names a type of so many bytes, over the limit; or memory ran out
 abbrev pub IsFault : Context → Node → Stop → Type 0

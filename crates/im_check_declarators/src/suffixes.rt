@@ -11,7 +11,7 @@ ghost use Rattle.im_ctree_parts.specs.Lists.{maybe_from, parameters_from, suffix
 ghost use Rattle.im_types.specs.Shape.{type_of};
 ghost use Rattle.im_check_type_specifiers.specs.Specified.{IsQualified, qualified_of};
 ghost use Rattle.im_check_declarators.specs.declared.given.Given.{Given};
-ghost use Rattle.im_check_declarators.specs.Suffixes.{AreGiven, AreSuffixed, SuffixesDone, IsElement, IsCount, IsArray};
+ghost use Rattle.im_check_declarators.specs.Suffixes.{AreGiven, AreSuffixed, SuffixesDone, IsElement, IsCount, IsArray, IsGivenLength, IsGivenOf, IsLength, IsParameters};
 
 use crate::functions::function;
 use crate::given::Given;
@@ -117,6 +117,7 @@ fn length_suffix(
     given: &Given,
     q: Qualified,
 ) -> Result<Qualified, Stop>
+    requires { IsLength given.now }
     ensures { (c : Context) (base : d.Qualified) (e : t.Expression) (rest : t.Suffixes)
         (others : List Given) → c.known ≡ structs_of table.now
         → AreGiven c (t.array_suffix at (t.an_expression e) rest) (given.now ∷ others)
@@ -125,7 +126,7 @@ fn length_suffix(
 {
     match given {
         Given::Length(value) => array(alloc, table, at, *value, q),
-        Given::Open | Given::Parameters(_) => Err(Stop::Memory),
+        Given::Open | Given::Parameters(_) => unreachable!(),
     }
 }
 
@@ -136,6 +137,7 @@ fn open_suffix(
     given: &Given,
     q: Qualified,
 ) -> Result<Qualified, Stop>
+    requires { given.now ≡ Given.Open }
     ensures { (c : Context) (base : d.Qualified) (rest : t.Suffixes) (others : List Given)
         → c.known ≡ structs_of table.now
         → AreGiven c (t.array_suffix at t.no_expression rest) (given.now ∷ others)
@@ -144,7 +146,7 @@ fn open_suffix(
 {
     match given {
         Given::Open => open_array(alloc, table.struct_count(), at, q),
-        Given::Length(_) | Given::Parameters(_) => Err(Stop::Memory),
+        Given::Length(_) | Given::Parameters(_) => unreachable!(),
     }
 }
 
@@ -156,6 +158,7 @@ fn array_suffix(
     given: &Given,
     q: Qualified,
 ) -> Result<Qualified, Stop>
+    requires { IsGivenLength written.now given.now }
     ensures { (c : Context) (base : d.Qualified) (rest : t.Suffixes) (others : List Given)
         → c.known ≡ structs_of table.now
         → AreGiven c (t.array_suffix at (maybe_from written.now) rest) (given.now ∷ others)
@@ -176,6 +179,7 @@ fn function_suffix(
     given: &Given,
     q: Qualified,
 ) -> Result<Qualified, Stop>
+    requires { IsParameters given.now }
     ensures { (c : Context) (base : d.Qualified) (rest : t.Suffixes) (others : List Given)
         → c.known ≡ structs_of table.now
         → AreGiven c (t.function_suffix at (parameters_from parameters.now) rest)
@@ -185,7 +189,7 @@ fn function_suffix(
 {
     match given {
         Given::Parameters(declared) => function(alloc, at, parameters, declared, q),
-        Given::Length(_) | Given::Open => Err(Stop::Memory),
+        Given::Length(_) | Given::Open => unreachable!(),
     }
 }
 
@@ -196,6 +200,7 @@ fn one_suffix(
     given: &Given,
     q: Qualified,
 ) -> Result<Qualified, Stop>
+    requires { IsGivenOf suffix.now.kind given.now }
     ensures { (c : Context) (base : d.Qualified) (rest : t.Suffixes) (others : List Given)
         → c.known ≡ structs_of table.now
         → AreGiven c (with_suffix suffix.now.at suffix.now.kind rest) (given.now ∷ others)
@@ -211,8 +216,7 @@ fn one_suffix(
 }
 
 /// The type that suffixes make of another one, the last of them nearest to it. What stands in each
-/// is given; the table has the structs whose member lists have ended. A list that isn't one of these suffixes is
-/// answered by want of memory.
+/// is given; the table has the structs whose member lists have ended.
 pub fn suffixed(
     alloc: Global,
     table: &TypeTable,
@@ -220,13 +224,11 @@ pub fn suffixed(
     given: &[Given],
     q: Qualified,
 ) -> Result<Qualified, Stop>
+    requires { (c : Context) × AreGiven c (suffixes_from suffixes.now) given.now }
     ensures { (c : Context) → c.known ≡ structs_of table.now
         → AreGiven c (suffixes_from suffixes.now) given.now
         → SuffixesDone c (qualified_of q) (suffixes_from suffixes.now) result }
 {
-    if given.len() != suffixes.len() {
-        return Err(Stop::Memory);
-    }
     let mut behind = q;
     let mut i = suffixes.len();
     while i > 0 {

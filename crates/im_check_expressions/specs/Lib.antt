@@ -1,3 +1,4 @@
+pub mod Forms
 pub use Rattle.im_check_expression_parts.specs.im_word
 pub use Rattle.im_check_expression_parts.specs.im_rules
 pub use Rattle.im_check_expression_parts.specs.im_rules_limits

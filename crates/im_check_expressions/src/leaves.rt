@@ -1,5 +1,5 @@
 //! What stands in no cycle: string literals, and calls whose arguments are typed.
-ghost use Rattle.std.specs.Prelude.{◌≡◌, ◌+◌, ◌≤◌, ℕ, length, MatchResult};
+ghost use Rattle.std.specs.Prelude.{◌≡◌, ◌+◌, ◌≤◌, ℕ, length, true, MatchResult};
 ghost use Rattle.im_check_expression_parts.specs.im_ctype.Table.{structs_of};
 ghost use Rattle.im_ctree.specs.Tree as t;
 ghost use Rattle.im_check_expression_parts.specs.im_rules.Conversions as c;
@@ -25,9 +25,7 @@ fn text_fits(bytes: &[u8]) -> Result<(), Stop>
     ensures { let size = length bytes.now + 1 in
         MatchResult result (λ _. size ≤ size_limit) (IsTooLarge size) }
 {
-    let Some(size) = (bytes.len() as u64).checked_add(1) else {
-        return Err(Stop::Memory);
-    };
+    let size = bytes.len() as u64 + 1;
     if size > 1_048_576 {
         return Err(Stop::Large { bytes: size });
     }
@@ -60,6 +58,8 @@ pub(crate) fn called(
     callee: &Expression,
     arguments: Vec<Term>,
 ) -> Result<Term, Stop>
+    requires { d.is_function_meant
+        (d.callee_of (scopes_of place.now.scope) (expression_in callee.now)) ≡ true }
     ensures { let types = place.now.structs in
         let f = d.callee_of (scopes_of place.now.scope) (expression_in callee.now) in
         let xs = terms_in types arguments.items in
@@ -67,7 +67,7 @@ pub(crate) fn called(
 {
     match callee_in(&place.scope, callee) {
         Some(function) => call_term(alloc, place.structs.table(), at, function, arguments),
-        None => Err(Stop::Memory),
+        None => unreachable!(),
     }
 }
 

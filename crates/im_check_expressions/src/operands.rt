@@ -2,6 +2,7 @@
 //! that the walk takes the stack of one of them at each step down the tree, and not of all.
 ghost use Rattle.im_ctree_parts.specs.Lists.{expression_in};
 ghost use Rattle.im_check_expression_parts.specs.Walked.{IsTyped};
+ghost use Rattle.im_check_expressions.specs.Forms.{IsIndex, IsCall, IsMember, IsUnary, IsCast, IsOperation, IsComma};
 
 use crate::expressions::{expression, terms};
 use crate::leaves::{called, names_function, not_called};
@@ -22,10 +23,11 @@ use std::alloc::Global;
 #[cycle(walk)]
 #[inline(never)]
 pub(crate) fn subscript(alloc: Global, e: &Expression, place: &mut Place) -> Result<Term, Stop>
+    requires { IsIndex e.now.kind }
     ensures { IsTyped place.old (expression_in e.now) place.new result }
 {
     let ExpressionKind::Index(whole, by) = &e.kind else {
-        return Err(Stop::Memory);
+        unreachable!()
     };
     let x = expression(alloc, whole, place)?;
     let y = expression(alloc, by, place)?;
@@ -36,10 +38,11 @@ pub(crate) fn subscript(alloc: Global, e: &Expression, place: &mut Place) -> Res
 #[cycle(walk)]
 #[inline(never)]
 pub(crate) fn call(alloc: Global, e: &Expression, place: &mut Place) -> Result<Term, Stop>
+    requires { IsCall e.now.kind }
     ensures { IsTyped place.old (expression_in e.now) place.new result }
 {
     let ExpressionKind::Call(callee, arguments) = &e.kind else {
-        return Err(Stop::Memory);
+        unreachable!()
     };
     if names_function(&place.scope, callee) {
         let xs = terms(alloc, arguments, place)?;
@@ -55,6 +58,7 @@ pub(crate) fn call(alloc: Global, e: &Expression, place: &mut Place) -> Result<T
 #[cycle(walk)]
 #[inline(never)]
 pub(crate) fn member(alloc: Global, e: &Expression, place: &mut Place) -> Result<Term, Stop>
+    requires { IsMember e.now.kind }
     ensures { IsTyped place.old (expression_in e.now) place.new result }
 {
     match &e.kind {
@@ -66,7 +70,7 @@ pub(crate) fn member(alloc: Global, e: &Expression, place: &mut Place) -> Result
             let x = expression(alloc, pointer, place)?;
             arrowed(alloc, place.structs.table(), e.at, x, name)
         }
-        _ => Err(Stop::Memory),
+        _ => unreachable!(),
     }
 }
 
@@ -74,6 +78,7 @@ pub(crate) fn member(alloc: Global, e: &Expression, place: &mut Place) -> Result
 #[cycle(walk)]
 #[inline(never)]
 pub(crate) fn unary(alloc: Global, e: &Expression, place: &mut Place) -> Result<Term, Stop>
+    requires { IsUnary e.now.kind }
     ensures { IsTyped place.old (expression_in e.now) place.new result }
 {
     match &e.kind {
@@ -113,7 +118,7 @@ pub(crate) fn unary(alloc: Global, e: &Expression, place: &mut Place) -> Result<
             let q = type_name(alloc, name, place)?;
             size_term(place.structs.table(), e.at, &q.ty)
         }
-        _ => Err(Stop::Memory),
+        _ => unreachable!(),
     }
 }
 
@@ -121,10 +126,11 @@ pub(crate) fn unary(alloc: Global, e: &Expression, place: &mut Place) -> Result<
 #[cycle(walk)]
 #[inline(never)]
 pub(crate) fn cast(alloc: Global, e: &Expression, place: &mut Place) -> Result<Term, Stop>
+    requires { IsCast e.now.kind }
     ensures { IsTyped place.old (expression_in e.now) place.new result }
 {
     let ExpressionKind::Cast(name, operand) = &e.kind else {
-        return Err(Stop::Memory);
+        unreachable!()
     };
     let q = type_name(alloc, name, place)?;
     let x = expression(alloc, operand, place)?;
@@ -135,6 +141,7 @@ pub(crate) fn cast(alloc: Global, e: &Expression, place: &mut Place) -> Result<T
 #[cycle(walk)]
 #[inline(never)]
 pub(crate) fn operation(alloc: Global, e: &Expression, place: &mut Place) -> Result<Term, Stop>
+    requires { IsOperation e.now.kind }
     ensures { IsTyped place.old (expression_in e.now) place.new result }
 {
     match &e.kind {
@@ -162,7 +169,7 @@ pub(crate) fn operation(alloc: Global, e: &Expression, place: &mut Place) -> Res
                 y,
             )
         }
-        _ => Err(Stop::Memory),
+        _ => unreachable!(),
     }
 }
 
@@ -170,10 +177,11 @@ pub(crate) fn operation(alloc: Global, e: &Expression, place: &mut Place) -> Res
 #[cycle(walk)]
 #[inline(never)]
 pub(crate) fn comma(alloc: Global, e: &Expression, place: &mut Place) -> Result<Term, Stop>
+    requires { IsComma e.now.kind }
     ensures { IsTyped place.old (expression_in e.now) place.new result }
 {
     let ExpressionKind::Comma(left, right) = &e.kind else {
-        return Err(Stop::Memory);
+        unreachable!()
     };
     let x = expression(alloc, left, place)?;
     let y = expression(alloc, right, place)?;

@@ -61,7 +61,7 @@ pub(crate) fn entered(
         (λ ty. (type_of ty ≡ completed_type z.type i) × IsEntered p xs z i (file_place_of file.new))
         (IsNameFault p xs z i at) }
 {
-    let ty = completed(copy(alloc, &y.ty)?, initializer)?;
+    let ty = completed(copy(alloc, &y.ty)?, initializer);
     let whole = initializer.is_some();
     declared_in_file(alloc, specifiers, at, y, &ty, whole, file)?;
     all_fit(file.place.structs.table(), &ty)?;

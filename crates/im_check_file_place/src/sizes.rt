@@ -35,15 +35,12 @@ fn size_of_name(table: &TypeTable, scope: &Scope, name: &[u8]) -> Result<u64, No
 }
 
 /// The bytes of a string literal with its zero; 0 where there is none of that number.
-fn size_of_text(texts: &[Vec<u8>], number: usize) -> Result<u64, NoMemory>
-    ensures { IfOk result (λ n. n ≡ f.size_of_string (slice_get (bytes_of texts.now) number)) }
+fn size_of_text(texts: &[Vec<u8>], number: usize) -> u64
+    ensures { result ≡ f.size_of_string (slice_get (bytes_of texts.now) number) }
 {
     match texts.get(number) {
-        None => Ok(0),
-        Some(text) => match (text.len() as u64).checked_add(1) {
-            None => Err(NoMemory::OutOfMemory),
-            Some(bytes) => Ok(bytes),
-        },
+        None => 0,
+        Some(text) => text.len() as u64 + 1,
     }
 }
 
@@ -55,7 +52,7 @@ impl File {
         let statics = &self.place.outline.statics;
         match statics.get(number) {
             Some(name) => size_of_name(self.place.structs.table(), &self.place.scope, name),
-            None => size_of_text(&self.texts, number - statics.len()),
+            None => Ok(size_of_text(&self.texts, number - statics.len())),
         }
     }
 }

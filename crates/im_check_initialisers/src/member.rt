@@ -1,6 +1,7 @@
 //! The members of a struct, by their places in its list.
-ghost use Rattle.std.specs.Prelude.{◌≡◌, ◌+◌, IfOk};
+ghost use Rattle.std.specs.Prelude.{◌≡◌, ◌<◌, ◌+◌, length, IfOk};
 ghost use Rattle.im_ctype.specs.Table.{structs_of};
+ghost use Rattle.im_ctype.specs.Types.{members_of};
 ghost use Rattle.im_types.specs.Shape.{type_of};
 ghost use Rattle.im_check_initialisers.specs.Forms.{IsMember};
 
@@ -16,21 +17,19 @@ pub(crate) struct Placed {
     pub offset: u64,
 }
 
-/// The member at that place of its struct's list. Want of memory past the members.
+/// The member at that place of its struct's list.
 pub(crate) fn member_at(
     alloc: Global,
     table: &TypeTable,
     number: u32,
     index: usize,
 ) -> Result<Placed, NoMemory>
+    requires { index < length (members_of (structs_of table.now) number) }
     ensures { IfOk result
         (λ m. IsMember (structs_of table.now) number index (type_of m.ty) m.offset) }
 {
     let members = table.members(number);
     let places = table.places(number);
-    if index >= members.len() || index >= places.len() {
-        return Err(NoMemory::OutOfMemory);
-    }
     let ty = type_from(alloc, table, members[index].ty)?;
     Ok(Placed {
         ty,

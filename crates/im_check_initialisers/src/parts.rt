@@ -1,5 +1,5 @@
 //! The parts of an initialiser, which live as long as the tree.
-ghost use Rattle.std.specs.Prelude.{◌≡◌, ℕ, IfSome};
+ghost use Rattle.std.specs.Prelude.{◌≡◌, ℕ};
 ghost use Rattle.im_ctree.specs.Shape.{initializer_of};
 ghost use Rattle.im_ctree.specs.Tree as t;
 ghost use Rattle.im_ctype.specs.Types.{CType};
@@ -19,25 +19,28 @@ pub(crate) fn items_of(i: &Initializer) -> &[Initializer]
     }
 }
 
-/// The first of initialisers, where it is an expression.
-fn first_value(items: &[Initializer]) -> Option<&Expression>
-    ensures { IfSome result (λ e. (at : ℕ) (x : t.Expression)
+/// The expression that stands alone in braces.
+fn first_value(items: &[Initializer]) -> &Expression
+    requires { (at : ℕ) × (x : t.Expression)
+        × (n.one_shape (t.braced_initializer at (initializers_from items.now)) ≡ n.one x) }
+    ensures { (at : ℕ) (x : t.Expression)
         → n.one_shape (t.braced_initializer at (initializers_from items.now)) ≡ n.one x
-        → x ≡ expression_in e.now) }
+        → x ≡ expression_in result.now }
 {
-    match items.first() {
-        Some(Initializer::Value(e)) => Some(e),
-        _ => None,
+    match &items[0] {
+        Initializer::Value(e) => e,
+        Initializer::List(_, _) => unreachable!(),
     }
 }
 
-/// The expression that an initialiser is, also in braces.
-pub(crate) fn expression_of(i: &Initializer) -> Option<&Expression>
-    ensures { IfSome result (λ e. (a : CType) (x : t.Expression)
-        → n.shape a (initializer_of i.now) ≡ n.one x → x ≡ expression_in e.now) }
+/// The expression that an initialiser of this form is, also in braces.
+pub(crate) fn expression_of(i: &Initializer) -> &Expression
+    requires { (a : CType) × (x : t.Expression) × (n.shape a (initializer_of i.now) ≡ n.one x) }
+    ensures { (a : CType) (x : t.Expression)
+        → n.shape a (initializer_of i.now) ≡ n.one x → x ≡ expression_in result.now }
 {
     match i {
-        Initializer::Value(e) => Some(e),
+        Initializer::Value(e) => e,
         Initializer::List(_, items) => first_value(items),
     }
 }

@@ -31,6 +31,7 @@ pub(crate) fn value<'a>(
     place: &mut Place,
     items: &mut Vec<Item<'a>>,
 ) -> Result<(), Stop>
+    requires { (e : t.Expression) × (n.shape (type_of ty.now) (initializer_of i.now) ≡ n.one e) }
     ensures { let a = type_of ty.now in let given = initializer_of i.now in
         (e : t.Expression) → n.shape a given ≡ n.one e
         → Meets (n.shape_asks (structs_of place.old.structs) a given) → MatchResult result
@@ -38,9 +39,7 @@ pub(crate) fn value<'a>(
         × IsGivenWithin (context_of place.old) (an_initialiser a at given))
         (IsGivenFault (context_of place.old) (an_initialiser a at given)) }
 {
-    let Some(e) = expression_of(i) else {
-        return Err(Stop::Memory);
-    };
+    let e = expression_of(i);
     let term = expression(alloc, e, place)?;
     if !fits(ty, &term) {
         return Err(refused(17, token_of(i)));

@@ -1,5 +1,5 @@
 //! The walk over an initialiser and what stands in its braces.
-ghost use Rattle.std.specs.Prelude.{MatchResult};
+ghost use Rattle.std.specs.Prelude.{◌≤◌, length, MatchResult};
 ghost use Rattle.im_ctree.specs.Shape.{initializer_of};
 ghost use Rattle.im_ctype.specs.Members.{places};
 ghost use Rattle.im_ctype.specs.Table.{structs_of};
@@ -79,7 +79,7 @@ fn elements<'a>(
     Ok(())
 }
 
-/// Members of the struct of that number, in their order.
+/// Members of the struct of that number, in their order; it has as many at least.
 #[cycle(walk)]
 fn members<'a>(
     alloc: Global,
@@ -89,6 +89,7 @@ fn members<'a>(
     place: &mut Place,
     items: &mut Vec<Item<'a>>,
 ) -> Result<(), Stop>
+    requires { length written.now ≤ length (members_of (structs_of place.old.structs) number) }
     ensures { let c = context_of place.old in let known = structs_of place.old.structs in
         let is = initializers_from written.now in MatchResult result
         (λ _. IsPut (InMembers c (members_of known number) (places known number) at is)

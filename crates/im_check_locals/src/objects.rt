@@ -64,7 +64,7 @@ fn declared_object(
     if !has_lengths(&ty, initializer.is_some()) {
         return Err(refused(6, at));
     }
-    let ty = completed(ty, initializer)?;
+    let ty = completed(ty, initializer);
     if !is_complete(place.structs.count(), &ty) {
         return Err(refused(5, at));
     }

@@ -1,5 +1,5 @@
 //! The arguments of calls (C11 6.5.2.2): each is converted to its parameter's type.
-ghost use Rattle.std.specs.Prelude.{◌≡◌, ◌<◌, ◌≤◌, ◌+◌, ◌&&◌, length, drop, slice_index_or, IfOk, MatchOption};
+ghost use Rattle.std.specs.Prelude.{◌≡◌, ◌<◌, ◌+◌, ◌&&◌, length, drop, IfOk};
 ghost use Rattle.im_ctype.specs.Table.{Table, structs_of};
 ghost use Rattle.im_check_conversions.specs.im_rules.Conversions as c;
 ghost use Rattle.im_check_conversions.specs.im_rules.Demands as d;
@@ -53,17 +53,6 @@ fn passed(alloc: Global, table: &TypeTable, ty: &Type, argument: Term) -> Result
     Ok(converted.tree)
 }
 
-fn type_at(types: &[Type], i: usize) -> Option<&Type>
-    ensures { MatchOption result (length types.now ≤ i) (λ ty. (i < length types.now) ×
-        (ty.now ≡ slice_index_or types.now i ty.now)) }
-{
-    if i < types.len() {
-        Some(&types[i])
-    } else {
-        None
-    }
-}
-
 /// The arguments' values, each converted to its parameter's type.
 pub(crate) fn converted(
     alloc: Global,
@@ -79,10 +68,7 @@ pub(crate) fn converted(
     let mut done = Vec::new(alloc);
     let mut i = 0;
     for argument in arguments {
-        let Some(ty) = type_at(parameters, i) else {
-            return Err(NoMemory::OutOfMemory);
-        };
-        let expr = passed(alloc, table, ty, argument)?;
+        let expr = passed(alloc, table, &parameters[i], argument)?;
         done.push(expr)?;
         i += 1;
     }

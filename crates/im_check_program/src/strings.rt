@@ -54,9 +54,7 @@ fn text_static(
         (u.string_static (structs_of table.old) number text.now)) }
     ensures grown { OnOk result (IsGrown table.old table.new) }
 {
-    let Some(bytes) = (text.len() as u64).checked_add(1) else {
-        return Err(NoMemory::OutOfMemory);
-    };
+    let bytes = text.len() as u64 + 1;
     let ty = array_of(alloc, Type::Integer(Integer::Char), bytes)?;
     let cells = text_cells(alloc, text)?;
     let name = text_name(alloc, number)?;
@@ -79,10 +77,7 @@ pub(crate) fn text_statics(
     for text in texts {
         let one = text_static(alloc, table, number, text)?;
         done.push(one)?;
-        let Some(next) = number.checked_add(1) else {
-            return Err(NoMemory::OutOfMemory);
-        };
-        number = next;
+        number += 1;
     }
     Ok(done)
 }

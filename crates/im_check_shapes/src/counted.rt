@@ -1,5 +1,5 @@
 //! An array whose length its initialiser gives (C11 6.7.9p22).
-ghost use Rattle.std.specs.Prelude.{◌≡◌, ◌+◌, ℕ, length, IfOk};
+ghost use Rattle.std.specs.Prelude.{◌≡◌, ◌+◌, ℕ, length};
 ghost use Rattle.im_ctree.specs.Shape.{initializer_of, maybe_initializer_of};
 ghost use Rattle.im_ctree.specs.Tree as t;
 ghost use Rattle.im_ctype.specs.Types as y;
@@ -10,46 +10,41 @@ ghost use Rattle.im_types.specs.Shape.{type_of};
 
 use crate::parts::{only_string, text_in};
 use im_ctree::{Expression, Initializer};
-use im_num::NoMemory;
 use im_types::{Type, is_character};
 
 /// The bytes of a string with its zero.
-fn with_zero(bytes: &[u8]) -> Result<u64, NoMemory>
-    ensures { IfOk result (λ k. k ≡ length bytes.now + 1) }
+fn with_zero(bytes: &[u8]) -> u64
+    ensures { result ≡ length bytes.now + 1 }
 {
-    match (bytes.len() as u64).checked_add(1) {
-        Some(k) => Ok(k),
-        None => Err(NoMemory::OutOfMemory),
-    }
+    bytes.len() as u64 + 1
 }
 
 /// The elements that an expression gives: the bytes of a string with its zero.
-fn counted_value(e: &Expression) -> Result<u64, NoMemory>
-    ensures { (a : CType) → IfOk result
-        (λ k. k ≡ n.counted a (t.value_initializer (expression_in e.now))) }
+fn counted_value(e: &Expression) -> u64
+    ensures { (a : CType) → result ≡ n.counted a (t.value_initializer (expression_in e.now)) }
 {
     match text_in(e) {
         Some(s) => with_zero(s),
-        None => Ok(0),
+        None => 0,
     }
 }
 
 /// The elements that a list in braces gives: as many as stand in it, or the bytes of a string with
 /// its zero.
-fn counted_list(element: &Type, items: &[Initializer]) -> Result<u64, NoMemory>
-    ensures { (at : ℕ) → IfOk result (λ k. k ≡ n.counted (type_of element.now)
-        (t.braced_initializer at (initializers_from items.now))) }
+fn counted_list(element: &Type, items: &[Initializer]) -> u64
+    ensures { (at : ℕ) → result ≡ n.counted (type_of element.now)
+        (t.braced_initializer at (initializers_from items.now)) }
 {
     if is_character(element) {
         if let Some(s) = only_string(items) {
             return with_zero(s);
         }
     }
-    Ok(items.len() as u64)
+    items.len() as u64
 }
 
-fn counted(element: &Type, i: &Initializer) -> Result<u64, NoMemory>
-    ensures { IfOk result (λ k. k ≡ n.counted (type_of element.now) (initializer_of i.now)) }
+fn counted(element: &Type, i: &Initializer) -> u64
+    ensures { result ≡ n.counted (type_of element.now) (initializer_of i.now) }
 {
     match i {
         Initializer::Value(e) => counted_value(e),
@@ -57,32 +52,30 @@ fn counted(element: &Type, i: &Initializer) -> Result<u64, NoMemory>
     }
 }
 
-fn completed_by(ty: Type, i: &Initializer) -> Result<Type, NoMemory>
-    ensures { IfOk result (λ z. type_of z ≡ n.completed (type_of ty)
-        (t.an_initializer (initializer_of i.now))) }
+fn completed_by(ty: Type, i: &Initializer) -> Type
+    ensures { type_of result
+        ≡ n.completed (type_of ty) (t.an_initializer (initializer_of i.now)) }
 {
     match &ty {
         Type::Unsized(element) => {
-            let count = counted(element, i)?;
-            Ok(ty.into_array(count))
+            let count = counted(element, i);
+            ty.into_array(count)
         }
         Type::Void
         | Type::Integer(_)
         | Type::Pointer(_, _)
         | Type::Array(_, _)
         | Type::Struct(_)
-        | Type::Function(_, _) => Ok(ty),
+        | Type::Function(_, _) => ty,
     }
 }
 
 /// The type of an object: an array has the length that its initialiser gives where none is written.
-/// Want of memory where that is no number of 64 bits.
-pub fn completed(ty: Type, initializer: &Option<Initializer>) -> Result<Type, NoMemory>
-    ensures { IfOk result
-        (λ z. type_of z ≡ n.completed (type_of ty) (maybe_initializer_of initializer.now)) }
+pub fn completed(ty: Type, initializer: &Option<Initializer>) -> Type
+    ensures { type_of result ≡ n.completed (type_of ty) (maybe_initializer_of initializer.now) }
 {
     match initializer {
-        None => Ok(ty),
+        None => ty,
         Some(i) => completed_by(ty, i),
     }
 }

@@ -37,6 +37,16 @@ not_one_of xs s (z ∷ zs) ks n k h = more_named xs s z zs n
 pub not_one : (xs : t.SpecifierList) (s : t.Specifier) (zs : List t.Specifier) → named_in xs ≡ s ∷ zs → (length (named_in xs) ≡ 1 → length (keywords_in xs) ≡ 0 → ⊥) → rule_1 xs ≡ false
 not_one xs s zs n h = not_one_of xs s zs (keywords_in xs) n refl (λ a b. h (ap length n ∙ a) b)
 
+-- what stands among structs, enums and typedef names is one
+pub first_is_named : (xs : t.SpecifierList) (s : t.Specifier) (rest : List t.Specifier) → named_in xs ≡ s ∷ rest → named_in (t.more_specifiers s t.no_specifiers) ≡ s ∷ []
+first_is_named t.no_specifiers s rest n = absurd (let bad : [] ≡ s ∷ rest = n in cc)
+first_is_named (t.more_specifiers (t.word_specifier at w) xs) s rest n = first_is_named xs s rest n
+first_is_named (t.more_specifiers (t.typedef_specifier at x) xs) s rest n = let e : t.typedef_specifier at x ≡ s = cc in rw (← e) refl
+first_is_named (t.more_specifiers (t.struct_specifier at x ms) xs) s rest n = let e : t.struct_specifier at x ms ≡ s = cc in rw (← e) refl
+first_is_named (t.more_specifiers (t.struct_tag at x) xs) s rest n = let e : t.struct_tag at x ≡ s = cc in rw (← e) refl
+first_is_named (t.more_specifiers (t.enum_specifier at x es) xs) s rest n = let e : t.enum_specifier at x es ≡ s = cc in rw (← e) refl
+first_is_named (t.more_specifiers (t.enum_tag at x) xs) s rest n = let e : t.enum_tag at x ≡ s = cc in rw (← e) refl
+
 -- the words of a line
 pub made_of_words : (c : Context) (xs : t.SpecifierList) (ty : CType) → named_in xs ≡ [] → length (storage_in xs) ≤ 1 → Some (ty) ≡ line_type lines (keywords_in xs)
     → Meets (file_asks c xs) × (record { constant = false; type = ty } ≡ base_of c xs)

@@ -1,5 +1,5 @@
 -- What is answered of specifiers.
-use Rattle.std.specs.Prelude.{◌≡◌, ℕ, List, ◌∷◌, Option, MatchResult, Result}
+use Rattle.std.specs.Prelude.{◌≡◌, ℕ, List, [], ◌∷◌, Option, MatchResult, Result}
 use Rattle.im_check_scopes.specs.im_word.Words.{Name}
 use Rattle.im_ctree.specs.Tree as t
 use Rattle.im_ctree.specs.declared.specifier.Specifier.{Specifier}
@@ -37,6 +37,10 @@ IsQualified asked q at result = MatchResult result (λ y. m.Meets asked × (qual
 -- it is the first of these
 abbrev pub IsFirst : Specifier → List t.Specifier → Type 0
 IsFirst s ss = (rest : List t.Specifier) × (ss ≡ specifier_in s ∷ rest)
+
+-- it is a struct, an enum or a typedef name
+abbrev pub IsNamed : Specifier → Type 0
+IsNamed s = named_in (t.more_specifiers (specifier_in s) t.no_specifiers) ≡ specifier_in s ∷ []
 
 -- what is asked of specifiers whose storage words are asked about elsewhere, but for their number
 abbrev pub file_asks : Context → t.SpecifierList → List Demand

@@ -9,7 +9,7 @@ ghost use Rattle.im_check_scopes.specs.im_rules.Rules as u;
 ghost use Rattle.im_ctree_parts.specs.Lists.{list_from, specifier_in};
 ghost use Rattle.im_types.specs.Shape.{type_of};
 ghost use Rattle.im_check_type_specifiers.specs.Lines.{word_type_of};
-ghost use Rattle.im_check_type_specifiers.specs.Specified.{at_place, IsQualified, IsFirst, qualified_of, base_of, file_asks};
+ghost use Rattle.im_check_type_specifiers.specs.Specified.{at_place, IsQualified, IsFirst, IsNamed, qualified_of, base_of, file_asks};
 
 use crate::line::{WordType, line_of};
 use crate::qualified::Qualified;
@@ -91,8 +91,7 @@ fn struct_type(
     }
 }
 
-/// The type of a typedef name or a tag. A list of members or enumerators is refused; a word isn't
-/// asked for here.
+/// The type of a typedef name or a tag. A list of members or enumerators is refused.
 fn named_type(
     alloc: Global,
     scope: &Scope,
@@ -100,6 +99,7 @@ fn named_type(
     at: u32,
     named: &Specifier,
 ) -> Result<Qualified, Stop>
+    requires { IsNamed named.now }
     ensures { (k : Context) (ks : List SpecifierWord)
         → let c = at_place k scope.now lists.now in
         let all = specifier_in named.now ∷ [] in
@@ -111,7 +111,7 @@ fn named_type(
         SpecifierKind::StructTag(tag) => struct_type(scope, lists, at, named.at, tag),
         SpecifierKind::Enum(_, _) => Err(refused(8, at)),
         SpecifierKind::Struct(_, _) => Err(refused(7, at)),
-        SpecifierKind::Word(_) => Err(Stop::Memory),
+        SpecifierKind::Word(_) => unreachable!(),
     }
 }
 

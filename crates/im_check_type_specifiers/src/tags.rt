@@ -45,10 +45,7 @@ pub fn tag_number(scope: &Scope, lists: &TagList, first: u32, tag: &[u8]) -> Res
 {
     match listed(scope, lists, tag) {
         Some(number) => narrowed(number),
-        None => match lists.len().checked_add(first as usize) {
-            Some(number) => narrowed(number),
-            None => Err(NoMemory::OutOfMemory),
-        },
+        None => narrowed(lists.len().saturating_add(first as usize)),
     }
 }
 

@@ -4,6 +4,7 @@ use Rattle.im_io.specs.Shelf.{ShelfState}
 use Rattle.im_io.specs.Sink.{SinkState}
 use Rattle.im_image.specs.Contents.{ImageValue}
 use Rattle.im_fault.specs.declared.fault.SourceFault.{SourceFault}
+use Rattle.im_fault.specs.declared.fault.Subject.{Subject}
 use Rattle.im_device.specs.Periods.{Device}
 use Rattle.im_cmd_words.specs.declared.command.BuildOptions.{BuildOptions}
 use Rattle.im_cmd_words.specs.Named.{Asked, Evaluation, Options, builds, runs, executes, dumps, upgrades, reports, evaluates, generates, checks, default_building, named}
@@ -11,6 +12,7 @@ use Rattle.im_compile.specs.declared.built.Built.{Built}
 use Rattle.im_cmd_lines.specs.Dumps.{dump_lines}
 use Rattle.im_cmd_lines.specs.Upgrades.{upgrade_line}
 use Rattle.im_cmd_lines.specs.Refusals.{Refused, NoMemory}
+use Rattle.im_driver.specs.Refused.{IsSubject}
 use Rattle.im_cmd_check.specs.Message.{source_message}
 use Rattle.im_cmd.specs.Files.{Unchanged, ReadsFile}
 use Rattle.im_cmd.specs.Builds.{Builds, RefusesBuild, Compiles, RefusesSource, RefusesReading, IsFaulty, source_limit}
@@ -71,8 +73,9 @@ pub data Comes (old new : ShelfState) : Asked → Outcome → Type 0 where
   -- a source is read and compiled, nothing is stored, and nothing is told but why it is refused
   check_unread : (source : List ℕ) (r : Refused) → RefusesReading source old new r → Comes old new (checks source) (refused r)
   check_starved : (source : List ℕ) → Unchanged old new → Comes old new (checks source) (refused NoMemory)
-  check_refused : (source text : List ℕ) (fault : SourceFault) → ReadsFile source text source_limit old new → IsFaulty text fault
-      → Comes old new (checks source) (done [] (source_message source text fault) 3)
+  -- and where a quantity is over its limit, of which function it is counted
+  check_refused : (source text : List ℕ) (fault : SourceFault) (subject : Subject) → ReadsFile source text source_limit old new → IsFaulty text fault
+      → IsSubject text fault subject → Comes old new (checks source) (done [] (source_message source text fault subject) 3)
   checked : (source : List ℕ) (b : Built) → Compiles source default_building b old new → Comes old new (checks source) (done [] [] 0)
 
 -- what comes of it is told

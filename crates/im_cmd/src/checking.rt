@@ -9,8 +9,8 @@ use crate::status::{DONE, REFUSED_SOURCE, UNWRITABLE};
 use crate::telling::tell_refusal;
 use im_cmd_check::send_source_message;
 use im_cmd_lines::Refusal;
-use im_driver::{Options, compile};
-use im_fault::SourceFault;
+use im_driver::{Options, compile_named};
+use im_fault::{SourceFault, Subject};
 use im_io::{Failed, Shelf, Sink};
 use std::alloc::Global;
 
@@ -21,18 +21,25 @@ const DEFAULT: Options = Options {
     max_gap: None,
 };
 
-fn tell_fault<E: Sink>(err: &mut E, source: &str, text: &[u8], fault: &SourceFault) -> u8
+fn tell_fault<E: Sink>(
+    err: &mut E,
+    source: &str,
+    text: &[u8],
+    fault: &SourceFault,
+    subject: &Subject,
+) -> u8
     requires { length text.now < 2 ^ 32 }
-    ensures { TellsSecond (source_message source.now text.now fault.now) 3 (E.state err.old)
-        (E.state err.new) result }
+    ensures { TellsSecond (source_message source.now text.now fault.now subject.now) 3
+        (E.state err.old) (E.state err.new) result }
 {
-    match send_source_message(err, source, text, fault) {
+    match send_source_message(err, source, text, fault, subject) {
         Ok(()) => REFUSED_SOURCE,
         Err(Failed) => UNWRITABLE,
     }
 }
 
-/// Compiles a source, and tells `err` where and why it is refused. Nothing is stored.
+/// Compiles a source, and tells `err` where and why it is refused, and of which function a limit is
+/// exceeded. Nothing is stored.
 pub fn check_source<H: Shelf, O: Sink, E: Sink>(
     alloc: Global,
     shelf: &mut H,
@@ -47,9 +54,11 @@ pub fn check_source<H: Shelf, O: Sink, E: Sink>(
         Ok(text) => text,
         Err(refusal) => return tell_refusal(err, &refusal),
     };
-    match compile(alloc, &text, DEFAULT) {
+    match compile_named(alloc, &text, DEFAULT) {
         Ok(_) => DONE,
-        Err(SourceFault::OutOfMemory) => tell_refusal(err, &Refusal::OutOfMemory),
-        Err(fault) => tell_fault(err, source, &text, &fault),
+        Err(refused) => match refused.fault {
+            SourceFault::OutOfMemory => tell_refusal(err, &Refusal::OutOfMemory),
+            fault => tell_fault(err, source, &text, &fault, &refused.subject),
+        },
     }
 }

@@ -60,7 +60,7 @@ pub fn resume_image<'a, H: Shelf>(
         Ok(machine) => machine,
         Err(refusal) => return Err(refusal),
     };
-    let form = machine.form();
+    let form = machine.output_form();
     if differs(form, image.form) {
         return Err(Refusal::FormsDiffer(image_name, image.form, name, form));
     }

@@ -235,7 +235,7 @@ fn run_machine<'a, H: Shelf>(
         Ok(trace) => trace,
         Err(refusal) => return Err(refusal),
     };
-    if needs_form(machine.form(), &trace) {
+    if needs_form(machine.output_form(), &trace) {
         return Err(Refusal::TornStores);
     }
     machine.run(&trace);

@@ -1,7 +1,10 @@
 -- A sentence for each typing rule, and for what else is wrong in a source.
 use Rattle.std.specs.Prelude.{ℕ, ◌==◌, List, [], ◌∷◌, ◌++◌, codes, decimal, if◌then◌else◌}
+use Rattle.im_fault.specs.Texts.{limit_of, quantity_name}
 use Rattle.im_fault.specs.declared.fault.LineFault.{LineFault}
 use Rattle.im_fault.specs.declared.fault.LineFault.TheVariants.{BadByte, OpenComment, OpenLiteral, BadEscape, BadNumber, BadDirective, Syntax, Nesting, Rule}
+use Rattle.im_fault.specs.declared.fault.Quantity.{Quantity}
+use Rattle.im_fault.specs.declared.fault.Quantity.TheVariants.{Source, Parameters, Size, Statics, Frame, Code}
 
 -- what the typing rule of a number asks for
 abbrev pub rule_sentence : ℕ → List ℕ
@@ -72,3 +75,22 @@ fault_text BadDirective token = told (codes "bad directive") [] token (codes "on
 fault_text Syntax token = told (codes "syntax") [] token (syntax_sentence token)
 fault_text Nesting token = told (codes "nesting over 200") [] token (codes "more than 200 stand in one another")
 fault_text (Rule number) token = told (codes "rule ") (decimal number) token (rule_sentence number)
+
+-- what a limit asks for
+abbrev pub limit_sentence : Quantity → List ℕ
+limit_sentence Source = codes "a source has at most 4194304 bytes"
+limit_sentence Parameters = codes "a function has at most 8 parameters"
+limit_sentence Size = codes "a type has at most 1048576 bytes"
+limit_sentence Statics = codes "all statics have at most 1048576 bytes"
+limit_sentence Frame = codes "a function's locals and temporary values have at most 65536 bytes"
+limit_sentence Code = codes "all code has at most 1044480 bytes"
+
+-- so much of the quantity, over its limit, and what stands behind that
+abbrev pub over_text : Quantity → ℕ → List ℕ → List ℕ
+over_text quantity count behind =
+    quantity_name quantity ++ (codes " " ++ (decimal count ++ (codes " over " ++ (decimal (limit_of quantity) ++ behind))))
+
+-- in what has this name, and what the limit asks for
+abbrev pub named_text : Quantity → ℕ → List ℕ → List ℕ
+named_text quantity count name =
+    over_text quantity count (codes " in '" ++ (name ++ (codes "': " ++ (limit_sentence quantity ++ codes "\n"))))

@@ -1,10 +1,12 @@
 //! From why a source is refused to a message that says where and why, sent to a sink.
 #![tactic(auto)]
 
+mod limit;
 mod message;
 mod number;
 mod reading;
+mod refused;
 mod runs;
 mod sentences;
 
-pub use message::send_source_message;
+pub use refused::send_source_message;

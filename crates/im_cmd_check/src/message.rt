@@ -1,20 +1,26 @@
-ghost use Rattle.std.specs.Prelude.{◌≡◌, ◌<◌, ◌+◌, ◌++◌, ◌^◌, [], codes, decimal, length};
+ghost use Rattle.std.specs.Prelude.{◌<◌, ◌+◌, ◌++◌, ◌^◌, [], codes, decimal, length};
 ghost use Rattle.std.specs.List.{flat_map};
 ghost use Rattle.im_io.specs.Whole.{Sends};
-ghost use Rattle.im_fault.specs.Texts.{limit_of, quantity_name};
 ghost use Rattle.im_fault.specs.declared.fault.SourceFault.TheVariants.{Line};
-ghost use Rattle.im_cmd_check.specs.Message.{caret_line, limit_message, line_message, shown_line, source_message, under};
+ghost use Rattle.im_fault.specs.declared.fault.Subject.{Subject};
+ghost use Rattle.im_cmd_check.specs.Message.{caret_line, line_message, shown_line, source_message, under};
 ghost use Rattle.im_cmd_check.specs.Reading.{reading_of};
 ghost use Rattle.im_cmd_check.specs.Sentences.{fault_text, told, rule_sentence as rule_sentence_of, syntax_sentence as syntax_sentence_of};
 
 use crate::reading::{Reading, presumed};
 use crate::runs::{Run, front_run, part_of, rest_of};
 use crate::sentences::{closing, opening, rule_sentence, syntax_sentence};
-use im_fault::{LineFault, Place, Quantity, SourceFault};
+use im_fault::{LineFault, Place};
 use im_io::{Failed, Sink, send, send_pieces};
 use itoa::Buffer;
 
-fn send_place<S: Sink>(sink: &mut S, name: &[u8], line: u64, front: &[u8]) -> Result<(), Failed>
+/// Sends a place: the file, its line, and its column.
+pub(crate) fn send_place<S: Sink>(
+    sink: &mut S,
+    name: &[u8],
+    line: u64,
+    front: &[u8],
+) -> Result<(), Failed>
     ensures { Sends (name.now ++ (codes ":" ++ (decimal line ++ (codes ":"
         ++ (decimal (length front.now + 1) ++ codes ": "))))) result (S.state sink.old)
         (S.state sink.new) }
@@ -172,7 +178,12 @@ fn send_line<S: Sink>(sink: &mut S, front: &[u8], rest: &[u8]) -> Result<(), Fai
     send_pieces(sink, &[front, rest, b"\n"])
 }
 
-fn send_shown_line<S: Sink>(sink: &mut S, front: &[u8], rest: &[u8]) -> Result<(), Failed>
+/// Sends a line, and a caret below it behind the line's front.
+pub(crate) fn send_shown_line<S: Sink>(
+    sink: &mut S,
+    front: &[u8],
+    rest: &[u8],
+) -> Result<(), Failed>
     ensures { Sends (shown_line front.now rest.now) result (S.state sink.old)
         (S.state sink.new) }
 {
@@ -214,7 +225,8 @@ fn send_line_message<S: Sink>(
     }
 }
 
-fn send_at_place<S: Sink>(
+/// Sends what is wrong at a place of a source.
+pub(crate) fn send_at_place<S: Sink>(
     sink: &mut S,
     file: &str,
     source: &[u8],
@@ -222,97 +234,11 @@ fn send_at_place<S: Sink>(
     why: LineFault,
 ) -> Result<(), Failed>
     requires { length source.now < 2 ^ 32 }
-    ensures { Sends (source_message file.now source.now (Line place why)) result
-        (S.state sink.old) (S.state sink.new) }
+    ensures { (subject : Subject) → Sends (source_message file.now source.now (Line place why) subject)
+        result (S.state sink.old) (S.state sink.new) }
 {
     let head = part_of(source, 0, place.start);
     let token = part_of(source, place.start, place.end);
     let rest = rest_of(source, place.start);
     send_line_message(sink, presumed(file.as_bytes(), head), why, token, rest)
-}
-
-fn name_of(quantity: Quantity) -> &'static str
-    ensures { result.now ≡ quantity_name quantity }
-{
-    match quantity {
-        Quantity::Source => "source",
-        Quantity::Parameters => "parameters",
-        Quantity::Size => "size",
-        Quantity::Statics => "statics",
-        Quantity::Frame => "frame",
-        Quantity::Code => "code",
-    }
-}
-
-// The most that there may be: parameters of a function, bytes of the others.
-fn most_of(quantity: Quantity) -> u64
-    ensures { result ≡ limit_of quantity }
-{
-    match quantity {
-        Quantity::Source => 4194304,
-        Quantity::Parameters => 8,
-        Quantity::Size | Quantity::Statics => 1048576,
-        Quantity::Frame => 65536,
-        Quantity::Code => 1044480,
-    }
-}
-
-// A quantity of a file that is over its limit.
-fn send_over<S: Sink>(
-    sink: &mut S,
-    file: &str,
-    quantity: &str,
-    count: u64,
-    limit: u64,
-) -> Result<(), Failed>
-    ensures { Sends (file.now ++ (codes ": " ++ (quantity.now ++ (codes " " ++ (decimal count
-        ++ (codes " over " ++ (decimal limit ++ codes "\n"))))))) result (S.state sink.old)
-        (S.state sink.new) }
-{
-    let mut count_text = Buffer::new();
-    let mut limit_text = Buffer::new();
-    send_pieces(
-        sink,
-        &[
-            file.as_bytes(),
-            b": ",
-            quantity.as_bytes(),
-            b" ",
-            count_text.format(count).as_bytes(),
-            b" over ",
-            limit_text.format(limit).as_bytes(),
-            b"\n",
-        ],
-    )
-}
-
-fn send_limit<S: Sink>(
-    sink: &mut S,
-    file: &str,
-    quantity: Quantity,
-    count: u64,
-) -> Result<(), Failed>
-    ensures { Sends (limit_message file.now quantity count) result (S.state sink.old)
-        (S.state sink.new) }
-{
-    let name = name_of(quantity);
-    send_over(sink, file, name, count, most_of(quantity))
-}
-
-/// Sends the message of a source that is refused: its text, and the name of its file.
-pub fn send_source_message<S: Sink>(
-    sink: &mut S,
-    file: &str,
-    source: &[u8],
-    fault: &SourceFault,
-) -> Result<(), Failed>
-    requires { length source.now < 2 ^ 32 }
-    ensures { Sends (source_message file.now source.now fault.now) result (S.state sink.old)
-        (S.state sink.new) }
-{
-    match fault {
-        SourceFault::Line { place, why } => send_at_place(sink, file, source, *place, *why),
-        SourceFault::Limit { quantity, count } => send_limit(sink, file, *quantity, *count),
-        SourceFault::OutOfMemory => send(sink, b"intermit: no memory\n"),
-    }
 }

@@ -1,5 +1,7 @@
 ghost use Rattle.std.specs.Prelude.{◌≡◌};
-ghost use Rattle.im_cmd_check.specs.Sentences.{closing as closing_of, opening as opening_of, rule_sentence as rule_sentence_of, syntax_sentence as syntax_sentence_of};
+ghost use Rattle.im_cmd_check.specs.Sentences.{closing as closing_of, limit_sentence as limit_sentence_of, opening as opening_of, rule_sentence as rule_sentence_of, syntax_sentence as syntax_sentence_of};
+
+use im_fault::Quantity;
 
 /// What a typing rule asks for, in one sentence.
 pub fn rule_sentence(rule: u32) -> &'static [u8]
@@ -66,5 +68,19 @@ pub fn syntax_sentence(token: &[u8]) -> &'static [u8]
         b"the text ends too early"
     } else {
         b"no unit goes on with it"
+    }
+}
+
+/// What a limit asks for, in one sentence.
+pub fn limit_sentence(quantity: Quantity) -> &'static [u8]
+    ensures { result.now ≡ limit_sentence_of quantity }
+{
+    match quantity {
+        Quantity::Source => b"a source has at most 4194304 bytes",
+        Quantity::Parameters => b"a function has at most 8 parameters",
+        Quantity::Size => b"a type has at most 1048576 bytes",
+        Quantity::Statics => b"all statics have at most 1048576 bytes",
+        Quantity::Frame => b"a function's locals and temporary values have at most 65536 bytes",
+        Quantity::Code => b"all code has at most 1044480 bytes",
     }
 }

@@ -4,3 +4,4 @@ pub mod Namable
 pub mod Programs
 pub mod Frames
 pub mod Refusals
+mod Subjects

@@ -1,21 +1,26 @@
 -- For private contracts: what the driver's steps lead to.
-use Rattle.std.specs.Prelude.{ℕ, ◌<◌, ◌≤◌, List, All, length, slice_index}
+use Rattle.std.specs.Prelude.{◌≡◌, ℕ, ◌<◌, ◌≤◌, List, All, length, slice_index}
 use Rattle.im_fault.specs.declared.fault.LineFault.TheVariants.{Rule}
 use Rattle.im_fault.specs.declared.fault.Quantity.{Quantity}
 use Rattle.im_fault.specs.declared.fault.Quantity.TheVariants.{Source, Parameters, Size, Statics, Frame, Code}
 use Rattle.im_fault.specs.declared.fault.SourceFault.{SourceFault}
 use Rattle.im_fault.specs.declared.fault.SourceFault.TheVariants.{Line, Limit, OutOfMemory}
+use Rattle.im_fault.specs.declared.fault.Subject.{Subject}
+use Rattle.im_fault.specs.declared.fault.Subject.TheVariants.{Whole, Named, Declared}
 use Rattle.im_fault.specs.Texts.{limit_of}
 use Rattle.im_front.specs.Reading.{place_among}
 use Rattle.im_check.specs.declared.fault.CheckFault.{CheckFault}
 use Rattle.im_check.specs.declared.fault.CheckFault.TheVariants as check
 use Rattle.im_check.specs.declared.fault.Limit as k
 use Rattle.im_check.specs.declared.fault.Limit.TheVariants as which
+use Rattle.im_check.specs.im_rules_limits.Limits as limits
+use Rattle.im_check_counts.specs.Crowded.{IsFirstCrowded, file_declarators}
 use Rattle.im_compile.specs.declared.fault.CompileFault.{CompileFault}
 use Rattle.im_compile.specs.declared.fault.CompileFault.TheVariants as compile
 use Rattle.im_tok.specs.declared.token.Token.{Token}
 use Rattle.im_lex.specs.Tokens.{IsTokenOf}
 use Rattle.im_ctree.specs.declared.unit.Tree.{Tree}
+use Rattle.im_ctree.specs.Tree as t
 use Rattle.im_ctree.specs.Shape.{tree_of}
 use Rattle.im_typed.specs.declared.program.Prog.{Prog}
 use Rattle.im_typed.specs.ProgramOf.{program_of}
@@ -26,6 +31,7 @@ use Rattle.im_compile.specs.declared.options.Options.{Options}
 use Rattle.im_compile.specs.declared.built.Built.{Built}
 use Rattle.im_compile.specs.Passed.{IsSource}
 use Rattle.im_compile.specs.Built.{IsBuilt}
+use Rattle.im_driver.specs.declared.refused.Refused.{Refused}
 use Rattle.im_driver.specs.Compiled.{IsTreeOf, IsProgramOf, IsCompiledFrom}
 
 -- a checked program is its source's, and what compiling asks; an image can name its statics
@@ -63,7 +69,35 @@ fault_at source spans (check.Rule number token) = Line (place_among source spans
 fault_at source spans (check.Limit which count) = Limit (quantity_of which) count
 fault_at source spans check.OutOfMemory = OutOfMemory
 
+-- a fault of no one function or object
+abbrev pub as_whole : SourceFault → Refused
+as_whole fault = record { fault = fault; subject = Whole }
+
+-- parameters are counted of the function that has too many
+abbrev pub counted_of : CheckFault → Subject → Subject
+counted_of (check.Limit which.Parameters count) crowded = crowded
+counted_of fault crowded = Whole
+
+abbrev pub refused_at : List ℕ → List (ℕ × ℕ) → CheckFault → Subject → Refused
+refused_at source spans fault crowded = record { fault = fault_at source spans fault; subject = counted_of fault crowded }
+
+-- this is the function of a unit that has so many parameters, if a function has too many
+abbrev pub IsCrowdedSubject : List ℕ → List (ℕ × ℕ) → t.Tree → ℕ → Subject → Type 0
+IsCrowdedSubject source spans u count (Declared place name) =
+    (token : ℕ) × IsFirstCrowded (file_declarators u) count token name.items × (place ≡ place_among source spans token)
+IsCrowdedSubject source spans u count subject = ⊥
+
+abbrev pub HasCrowded : List ℕ → List (ℕ × ℕ) → t.Tree → Subject → Type 0
+HasCrowded source spans u subject =
+    (count : ℕ) → limits.IsFirstOver (limits.parameter_counts u) count → IsCrowdedSubject source spans u count subject
+
 abbrev pub of_compile : CompileFault → SourceFault
 of_compile (compile.Frame function bytes) = Limit Frame bytes
 of_compile (compile.Code bytes) = Limit Code bytes
 of_compile compile.OutOfMemory = OutOfMemory
+
+-- the frame of the function of this name has so many bytes
+abbrev pub IsFrameTold : List ℕ → ℕ → SourceFault → Subject → Type 0
+IsFrameTold name bytes (Limit Frame count) (Named told) = (count ≡ bytes) × (told.items ≡ name)
+IsFrameTold name bytes OutOfMemory Whole = Unit {0}
+IsFrameTold name bytes fault subject = ⊥

@@ -1,11 +1,16 @@
-ghost use Rattle.std.specs.Prelude.{◌≡◌, ◌<◌, ◌^◌, length, MatchResult};
-ghost use Rattle.im_driver.specs.Compiled.{IsRefused};
-ghost use Rattle.im_driver.specs.Steps.{IsReady, fault_at, quantity_of};
+ghost use Rattle.std.specs.Prelude.{◌≡◌, ◌<◌, ◌^◌, length, IfOk, MatchResult};
+ghost use Rattle.im_ctree.specs.Shape.{tree_of};
+ghost use Rattle.im_driver.specs.Refused.{IsRefusedFor};
+ghost use Rattle.im_driver.specs.Steps.{HasCrowded, IsReady, counted_of, fault_at, quantity_of, refused_at};
 
 use crate::laws::{program_law, written_law};
+use crate::refused::{Refused, whole};
 use im_check::{CheckFault, Limit, check};
-use im_fault::{LineFault, Quantity, SourceFault};
+use im_check_counts::first_crowded;
+use im_ctree::Tree;
+use im_fault::{LineFault, Quantity, SourceFault, Subject};
 use im_front::{Text, place_of, read_source};
+use im_num::NoMemory;
 use im_typed::Prog;
 use std::alloc::Global;
 
@@ -20,7 +25,7 @@ fn quantity(which: Limit) -> Quantity
 }
 
 // Why a source has no program, of whose tree this is told; these are the bytes of its tokens.
-fn untyped(source: &[u8], spans: &[(u32, u32)], fault: CheckFault) -> SourceFault
+fn fault_of(source: &[u8], spans: &[(u32, u32)], fault: CheckFault) -> SourceFault
     requires { length source.now < 2 ^ 31 }
     ensures { result ≡ fault_at source.now spans.now fault }
 {
@@ -37,18 +42,63 @@ fn untyped(source: &[u8], spans: &[(u32, u32)], fault: CheckFault) -> SourceFaul
     }
 }
 
+fn subject_of(fault: CheckFault, crowded: Subject) -> Subject
+    ensures { result ≡ counted_of fault crowded }
+{
+    match fault {
+        CheckFault::Limit { which, .. } => match which {
+            Limit::Parameters => crowded,
+            Limit::Size | Limit::Statics => Subject::Whole,
+        },
+        CheckFault::Rule { .. } | CheckFault::OutOfMemory => Subject::Whole,
+    }
+}
+
+fn untyped(source: &[u8], spans: &[(u32, u32)], fault: CheckFault, crowded: Subject) -> Refused
+    requires { length source.now < 2 ^ 31 }
+    ensures { result ≡ refused_at source.now spans.now fault crowded }
+{
+    Refused {
+        fault: fault_of(source, spans, fault),
+        subject: subject_of(fault, crowded),
+    }
+}
+
+// The first function with too many parameters, where there is one.
+fn crowded_of(
+    alloc: Global,
+    source: &[u8],
+    spans: &[(u32, u32)],
+    tree: &Tree,
+) -> Result<Subject, NoMemory>
+    requires { length source.now < 2 ^ 31 }
+    ensures { IfOk result (HasCrowded source.now spans.now (tree_of tree.now)) }
+{
+    match first_crowded(tree) {
+        None => Ok(Subject::Whole),
+        Some(function) => {
+            let name = Vec::from_slice(alloc, function.name)?;
+            Ok(Subject::Declared(place_of(source, spans, function.at), name))
+        }
+    }
+}
+
 /// The typed program of a source, or why it has none. Tokens and tree are given back before its end.
-pub(crate) fn typed_program(alloc: Global, source: &[u8]) -> Result<Prog, SourceFault>
-    ensures { MatchResult result (IsReady source.now) (IsRefused source.now) }
+pub(crate) fn typed_program(alloc: Global, source: &[u8]) -> Result<Prog, Refused>
+    ensures { MatchResult result (IsReady source.now) (IsRefusedFor source.now) }
 {
     written_law();
     program_law();
     let Text { spans, tree } = match read_source(alloc, source) {
         Ok(text) => text,
-        Err(fault) => return Err(fault),
+        Err(fault) => return Err(whole(fault)),
+    };
+    let crowded = match crowded_of(alloc, source, &spans, &tree) {
+        Ok(crowded) => crowded,
+        Err(_) => return Err(whole(SourceFault::OutOfMemory)),
     };
     match check(alloc, tree) {
         Ok(prog) => Ok(prog),
-        Err(fault) => Err(untyped(source, &spans, fault)),
+        Err(fault) => Err(untyped(source, &spans, fault, crowded)),
     }
 }

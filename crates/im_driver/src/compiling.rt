@@ -53,7 +53,10 @@ pub fn compile_whole(
 {
     kept_law();
     refused_law();
-    let prog = typed_program(alloc, source)?;
+    let prog = match typed_program(alloc, source) {
+        Ok(prog) => prog,
+        Err(refused) => return Err(refused.fault),
+    };
     match compile_program(alloc, &prog, options) {
         Ok(built) => Ok(Compiled { prog, built }),
         Err(fault) => Err(unmade(fault)),
@@ -71,7 +74,10 @@ pub fn compile(alloc: Global, source: &[u8], options: Options) -> Result<Built, 
 {
     kept_law();
     refused_law();
-    let prog = typed_program(alloc, source)?;
+    let prog = match typed_program(alloc, source) {
+        Ok(prog) => prog,
+        Err(refused) => return Err(refused.fault),
+    };
     match compile_owned(alloc, prog, options) {
         Ok(built) => Ok(built),
         Err(fault) => Err(unmade(fault)),

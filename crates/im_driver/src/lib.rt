@@ -4,6 +4,10 @@
 mod checking;
 mod compiling;
 mod laws;
+mod named;
+mod refused;
 
 pub use compiling::{Compiled, compile, compile_whole};
 pub use im_compile::{Built, Options};
+pub use named::compile_named;
+pub use refused::Refused;

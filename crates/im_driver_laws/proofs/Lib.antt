@@ -1,3 +1,4 @@
+mod Limits
 mod Right
 mod Rules
 mod Units

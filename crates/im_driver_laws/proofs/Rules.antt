@@ -9,26 +9,27 @@ use Rattle.im_rules_asked.specs.Asked.{Fault}
 use Rattle.im_rules_asked.specs.Units.{unit, first_fault_of}
 use Rattle.im_rules_asked.specs.Laws.{AskedIsUnit, UnitIsAsked, BrokenIsAsked}
 use Rattle.im_rules_asked.specs.Laws.{FaultlessIsTyped, TypedIsFaultless}
+use Rattle.im_rules_asked.specs.Laws.{NoExcessIsWithin, WithinHasNoExcess}
 use Rattle.im_driver_laws.specs.Rules.{OneUnitLaw, ProgramIsTypedLaw, TypedIsProgramLaw}
 use Rattle.im_driver_laws.specs.Rules.{RefusedIsFaultLaw, HasFirstFault, FaultlessHasProgramLaw}
 use Rattle.im_driver_laws.specs.Rules.{ProgramHasNoFaultLaw, RefusedHasFaultLaw}
 
-pub is_typed : UnitIsAsked → ProgramIsTypedLaw
-is_typed asked source prog h = record {
+pub is_typed : UnitIsAsked → WithinHasNoExcess → ProgramIsTypedLaw
+is_typed asked few source prog h = record {
   tokens = h.tokens;
   tree = h.tree;
   is_tree = h.is_tree;
   typed = asked (tree_of h.tree) prog h.typed;
-  within = h.within;
+  within = few (tree_of h.tree) h.within;
 }
 
-pub is_program : AskedIsUnit → TypedIsProgramLaw
-is_program built source prog h = record {
+pub is_program : AskedIsUnit → NoExcessIsWithin → TypedIsProgramLaw
+is_program built few source prog h = record {
   tokens = h.tokens;
   tree = h.tree;
   is_tree = h.is_tree;
   typed = built (tree_of h.tree) prog h.typed;
-  within = h.within;
+  within = few (tree_of h.tree) h.within;
 }
 
 pub is_fault : BrokenIsAsked → RefusedIsFaultLaw
@@ -41,13 +42,13 @@ is_fault breaks source place rule r = record {
   is_place = r.is_place;
 }
 
-pub has_program : FaultlessIsTyped → FaultlessHasProgramLaw
-has_program typed source tokens tree is_tree none within = record {
+pub has_program : FaultlessIsTyped → NoExcessIsWithin → FaultlessHasProgramLaw
+has_program typed few source tokens tree is_tree none within = record {
   tokens = tokens;
   tree = tree;
   is_tree = is_tree;
   typed = typed (tree_of tree) none;
-  within = within;
+  within = few (tree_of tree) within;
 }
 
 pub has_none : OneUnitLaw → TypedIsFaultless → ProgramHasNoFaultLaw

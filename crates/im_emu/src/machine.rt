@@ -62,6 +62,7 @@ impl<M: Memory> Machine<M> {
     ghost use Rattle.im_rv.specs.declared.step.Went.TheVariants.{On};
     ghost use Rattle.im_device.specs.Periods.{power, powered};
     ghost use Rattle.im_device.specs.Shows.{status_of, reason_of};
+    ghost use Rattle.im_image.specs.Text.{form_number};
     ghost use Rattle.im_device.specs.Variables.{vars_of};
     ghost use Rattle.im_emu.specs.State.{counted, device_of, SameImage};
     ghost use Rattle.im_num.specs.Variables.{variable_of};
@@ -144,11 +145,20 @@ impl<M: Memory> Machine<M> {
         self.version
     }
 
-    /// How memory tells the length of the output: the image's form, or the memory file's.
-    pub fn form(&self) -> Form
+    /// How memory tells the length of the output: after `load` the image's form, after `resume` the
+    /// memory file's.
+    pub fn output_form(&self) -> Form
         ensures { result ≡ self.now.form }
     {
         self.form
+    }
+
+    /// The number of that form, as the texts of images and memories have it: 0 or 1.
+    pub fn form(&self) -> u32
+        ensures number { result ≡ form_number self.now.form }
+        ensures below { result < 2 }
+    {
+        self.form.number()
     }
 
     /// The word STATUS, read as a signed number.

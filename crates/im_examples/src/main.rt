@@ -1,7 +1,8 @@
-//! Evaluates each example and runs its image, and tells whether its output is as its file says.
+//! Evaluates the examples and runs their images; carries out commands while each outside call fails.
 #![tactic(auto)]
 
 mod example;
+mod failing;
 mod meaning;
 mod power;
 
@@ -28,5 +29,5 @@ fn main(rt: HostRuntime) -> io::Result<()> {
             verdict(run.in_periods),
         )?;
     }
-    Ok(())
+    failing::carry_out_commands(&rt)
 }

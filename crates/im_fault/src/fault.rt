@@ -60,3 +60,14 @@ pub enum SourceFault {
     /// Memory ran out.
     OutOfMemory,
 }
+
+/// What a quantity over its limit is counted of.
+#[derive(Debug, Drop)]
+pub enum Subject {
+    /// The source, its statics or its code as a whole.
+    Whole,
+    /// The function or object of this name.
+    Named(Vec<u8>),
+    /// The function or object of this name, which is declared at the place.
+    Declared(Place, Vec<u8>),
+}

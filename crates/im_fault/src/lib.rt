@@ -3,4 +3,4 @@
 
 mod fault;
 
-pub use fault::{LineFault, Place, Quantity, SourceFault};
+pub use fault::{LineFault, Place, Quantity, SourceFault, Subject};

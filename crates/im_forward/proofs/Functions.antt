@@ -1,24 +1,24 @@
 -- A function whose copies are forwarded, and left out where nothing uses them; and a unit of such functions.
-use Rattle.std.proofs.Common.{◌≡◌, ◌⊎◌, inl, inr, ℕ, zero, suc, ◌+◌, ◌*◌, ◌/◌, ◌%◌, ◌<◌, ◌≤◌, Bool, true, false, List, [], ◌∷◌, Option, Some, None, refl, sym, ap, ◌∙◌, subst, arith, length}
+use Rattle.std.proofs.Common.{◌≡◌, ℕ, zero, suc, ◌+◌, ◌*◌, ◌/◌, ◌%◌, Bool, true, false, List, [], ◌∷◌, Option, Some, refl, sym, ap, ◌∙◌, subst, arith, length}
 use Rattle.std.specs.Prelude.{Vec, slice_get, slice_index, All}
 use Rattle.std.specs.declared.alloc.Global.{Global}
 use Rattle.std.specs.List.{AllZip}
 use Rattle.std.proofs.lemmas.List.Elements.{All-nil, All-cons, All-head, All-tail}
-use Rattle.im_block.specs.declared.code.Line.{Line}
 use Rattle.im_block.specs.declared.code.Exit.{Exit}
 use Rattle.im_block.specs.declared.code.Block.{Block}
 use Rattle.im_block.specs.declared.unit.Function.{Function}
 use Rattle.im_block.specs.declared.unit.Unit.{Unit as Code}
-use Rattle.im_block.specs.Wellformed.{LineWithin, ExitWithin, ExitThere, IsBlock, IsFunction, IsWellFormed}
+use Rattle.im_block.specs.Wellformed.{LineWithin, ExitThere, IsBlock, IsFunction, IsWellFormed}
 use Rattle.im_alloc_placed.specs.Placeable.{first_free, IsPlaceableFunction, IsPlaceable}
 use Rattle.im_alloc_relation.specs.Live.{lives}
 use Rattle.im_alloc_relation.specs.Reads.{lives_in, reads_first}
 use Rattle.im_block_live.specs.Reads.{IsLive}
-use Rattle.im_block_live.specs.Words.{has, group_has, groups_have, IsWithin, AreWithin, HaveWords}
+use Rattle.im_block_live.specs.Words.{has, group_has, groups_have, IsWithin, AreWithin}
 use Rattle.im_block_live.proofs.Paths.{lives_found}
-use Rattle.im_forward.specs.Forward.{ForwardsExit, ForwardsLines, ForwardsBlock, ForwardsBlocks, ForwardsFunction, ForwardsFunctions, Forwards, exit_using}
-use Rattle.im_forward.specs.Known.{UsesSources, AllUseSources, LeavesOutLines, LeavesOut, AreOf, LeavesOutGroup, LeaveOut, AllLeaveOut, IsReady}
-use Rattle.im_forward.proofs.Shapes.{Leaving, leaving, exit_there, lines_within, blocks_length}
+use Rattle.im_forward.specs.Forward.{ForwardsLines, ForwardsBlock, ForwardsBlocks, ForwardsOnce, ForwardsFunction, ForwardsFunctions, Forwards}
+use Rattle.im_forward.specs.Known.{UsesSources, AllUseSources, LeavesOutLines, LeavesOut, AreOf, LeaveOut, AllLeaveOut, IsReady}
+use Rattle.im_forward.proofs.Shapes.{leaving, exit_there, lines_within, blocks_length}
+use Rattle.im_forward.proofs.Straightening.{IsClosed}
 use Rattle.im_forward.proofs.Leaving.{lives_less, leaves_none, leaves_again, left_out}
 
 -- ---- blocks
@@ -74,6 +74,9 @@ lives_there blocks live is b block v at e =
     let k = lives_found blocks live v (λ c. is.some c v) block.lines.items block.exit e in
     is.all b v (suc k.0) (subst (λ o. lives_in (reads_first blocks k.0) o v ≡ true) (sym at) k.1)
 
+pub closed_first : (f : Function) (live : ℕ → ℕ → Bool) → IsLive f.blocks.items live → IsClosed live f.blocks.items
+closed_first f live is = lives_there f.blocks.items live is
+
 record LeftFrom (live : ℕ → ℕ → Bool) (ys : List Block) (b : ℕ) (z : Block) : Type 0 where
   block : Block
   at : slice_get ys b ≡ Some block
@@ -126,7 +129,7 @@ within f g h w =
 
 -- ---- the function
 
-pub forwards : (f g h : Function) (live : ℕ → ℕ → Bool) → IsReady f → AllUseSources f g → IsLive g.blocks.items live → AllLeaveOut live g h → ForwardsFunction f h
+pub forwards : (f g h : Function) (live : ℕ → ℕ → Bool) → IsReady f → AllUseSources f g → IsLive g.blocks.items live → AllLeaveOut live g h → ForwardsOnce f h
 forwards f g h live ready uses is leaves = record {
   live = live;
   closed = λ b z v at e. closed_left live g.blocks.items h.blocks.items is leaves.blocks b z v at e;

@@ -1,17 +1,18 @@
 -- Copies that are left out: what lives is no more than before, and leaving out again leaves out.
-use Rattle.std.proofs.Common.{◌≡◌, ◌≢◌, ◌⊎◌, inl, inr, ⊎_elim, ℕ, zero, suc, ◌+◌, ◌<◌, ◌≤◌, Bool, true, false, List, [], ◌∷◌, ◌++◌, Option, Some, None, refl, sym, ap, ◌∙◌, subst, arith, length, drop, get_or, eqb-true}
+use Rattle.std.proofs.Common.{◌≡◌, ◌⊎◌, inl, inr, ℕ, zero, suc, ◌+◌, ◌<◌, ◌≤◌, Bool, true, false, List, [], ◌∷◌, ◌++◌, Some, refl, sym, ap, ◌∙◌, subst, arith, length, drop, get_or, eqb-true}
 use Rattle.std.specs.Prelude.{◌==◌, ◌&&◌, ◌||◌, not, slice_get, slice_index}
 use Rattle.im_block.specs.declared.code.Line.{Line}
-use Rattle.im_block.specs.declared.code.Line.TheVariants.{Put, PutNull, Copy, Convert, Unary, Not, Compute, Compare, Move, Distance, Address, Read, Write, Reload, Spill, Cut, Call, GetChar, PutChar}
+use Rattle.im_block.specs.declared.code.Line.TheVariants.{Copy}
 use Rattle.im_block.specs.declared.code.Exit.{Exit}
 use Rattle.im_block.specs.declared.code.Exit.TheVariants.{Jump, Turn, Branch, Return}
-use Rattle.im_block.specs.declared.code.Block.{Block}
 use Rattle.im_alloc_relation.specs.Live.{uses, sets, exit_lives, lives}
-use Rattle.im_block_live.specs.Words.{has, starts_have, ArePoints}
+use Rattle.im_block_live.specs.Words.{starts_have, ArePoints}
 use Rattle.im_block_live.proofs.Paths.{either, or_left, or_right}
-use Rattle.im_forward.specs.Forward.{line_using, ForwardsLines, Ends, Kept, LeftOut}
-use Rattle.im_forward.specs.Known.{IsOutside, IsDead, IsIdle, LeavesOutLines, LeavesOut, AreOf}
+use Rattle.im_forward.specs.Straight.{setting, IsPair}
+use Rattle.im_forward.specs.Forward.{line_using, ForwardsLines, Ends, Kept, LeftOut, Straight}
+use Rattle.im_forward.specs.Known.{IsOutside, IsDead, IsIdle, LeavesOutLines, AreOf}
 use Rattle.im_forward.proofs.Same.{both_true, both_are, kept_lives}
+use Rattle.im_forward.proofs.Setting.{no_copy_set}
 
 -- ---- what lives
 
@@ -140,7 +141,7 @@ pub dead_idle : (live : ℕ → ℕ → Bool) (base : ℕ) (starts : List ℕ) (
 dead_idle live base starts lines exit words i (Copy to from) of points le d = outside_idle live base starts lines exit words i to of points le d
 dead_idle live base starts lines exit words i line of points le d = absurd d
 
-default_free : (ws : List ℕ) (k a b : ℕ) → k < length ws → get_or ws k a ≡ get_or ws k b
+pub default_free : (ws : List ℕ) (k a b : ℕ) → k < length ws → get_or ws k a ≡ get_or ws k b
 default_free [] k a b lt = absurd (omega arith)
 default_free (w ∷ ws) zero a b lt = refl
 default_free (w ∷ ws) (suc k) a b lt = default_free ws k a b (omega arith)
@@ -159,6 +160,13 @@ idle_using : (live : ℕ → ℕ → Bool) (exit : Exit) (behind : List Line) (i
 idle_using live exit behind instead (Copy to from) h = h
 idle_using live exit behind instead line h = absurd h
 
+pair_still : (live : ℕ → ℕ → Bool) (exit : Exit) (old new : List Line) (x y : Line) (t v : ℕ) → LeavesOutLines live exit old new → IsPair live exit old x y t v → IsPair live exit new x y t v
+pair_still live exit old new x y t v h p = record {
+  sets = p.sets;
+  passes = p.passes;
+  dies = elim p.dies [ inl same ↦ inl same | inr dead ↦ inr (dead_still live exit old new h t dead) ];
+}
+
 pub left_out : (free : ℕ) (live : ℕ → ℕ → Bool) (a b : Exit) (before old middle : List Line) → ForwardsLines free live a b before old middle → (new : List Line) → LeavesOutLines live b middle new → ForwardsLines free live a b before old new
 left_out free live a b before old middle (Ends gone e) new h = subst (ForwardsLines free live a b gone []) (sym h) (Ends gone e)
 left_out free live a b before old middle (Kept gone rest rest' x y k left) new h = elim h [
@@ -172,3 +180,8 @@ left_out free live a b before old middle (Kept gone rest rest' x y k left) new h
 ]
 left_out free live a b before old middle (LeftOut gone rest rest' to from dead left) new h =
     LeftOut gone rest new to from (dead_still live b rest' new h to dead) (left_out free live a b (Copy to from ∷ gone) rest rest' left new h)
+left_out free live a b before old middle (Straight gone rest rest' x y t v p left) new h = elim h [
+  | inl kept ↦ subst (ForwardsLines free live a b gone (x ∷ y ∷ rest)) (sym kept.1)
+      (Straight gone rest kept.0 x y t v (pair_still live b rest' kept.0 x y t v kept.2 p) (left_out free live a b (y ∷ x ∷ gone) rest rest' left kept.0 kept.2))
+  | inr gone' ↦ absurd (let i = idle live b new (setting v x) gone'.0 in no_copy_set t v x p.sets i.to i.from i.is)
+]

@@ -1,4 +1,7 @@
 mod Same
+mod Setting
+mod Numbers
+mod Once
 mod Sims
 mod Shapes
 mod Lists
@@ -9,3 +12,6 @@ mod Functions
 mod Placeables
 mod Writtens
 mod Rest
+mod Straightening
+mod Deaths
+mod Chained

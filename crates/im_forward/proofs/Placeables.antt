@@ -1,11 +1,11 @@
 -- Forwarded code is placeable: what comes in the place of a register is no parameter.
-use Rattle.std.proofs.Common.{◌≡◌, ◌⊎◌, inl, inr, ⊎_elim, ℕ, ◌+◌, ◌≤◌, Bool, List, [], ◌∷◌, Option, Some, None, refl, sym, ap, ◌∙◌, subst, arith, length}
+use Rattle.std.proofs.Common.{◌≡◌, ◌⊎◌, inl, inr, ℕ, ◌≤◌, Bool, List, [], ◌∷◌, Option, Some, None, refl, sym, ap, ◌∙◌, subst, arith, length}
 use Rattle.std.specs.Prelude.{slice_get, All}
 use Rattle.std.proofs.lemmas.List.Elements.{All-nil, All-cons, All-head, All-tail}
 use Rattle.im_block.specs.declared.code.Place.{Place}
 use Rattle.im_block.specs.declared.code.Place.TheVariants.{Static, Local, Through}
 use Rattle.im_block.specs.declared.code.Line.{Line}
-use Rattle.im_block.specs.declared.code.Line.TheVariants.{Put, PutNull, Copy, Convert, Unary, Not, Compute, Compare, Move, Distance, Address, Read, Write, Reload, Spill, Cut, Call, GetChar, PutChar}
+use Rattle.im_block.specs.declared.code.Line.TheVariants.{Copy, Convert, Unary, Not, Compute, Compare, Move, Distance, Address, Read, Write, Spill, Cut, PutChar}
 use Rattle.im_block.specs.declared.code.Exit.{Exit}
 use Rattle.im_block.specs.declared.code.Exit.TheVariants.{Jump, Turn, Branch, Return}
 use Rattle.im_block.specs.declared.code.Block.{Block}
@@ -14,8 +14,11 @@ use Rattle.im_block.specs.declared.unit.Unit.{Unit as Code}
 use Rattle.im_block.specs.Paths.{IsEdge}
 use Rattle.im_alloc_placed.specs.Operands.{PlaceExists, PlaceFrom}
 use Rattle.im_alloc_placed.specs.Placeable.{IsPlaceableLine, LineFrom, ExitFrom, first_free, Receives, HasRoom, IsPlaceableFunction, IsPlaceable}
-use Rattle.im_forward.specs.Forward.{place_using, line_using, exit_using, ForwardsLines, Ends, Kept, LeftOut, ForwardsBlock, ForwardsFunction, ForwardsFunctions, Forwards}
-use Rattle.im_forward.proofs.Shapes.{Leaving, leaving}
+use Rattle.im_forward.specs.Straight.{target, setting, PassesOn, Copies, Converts}
+use Rattle.im_forward.specs.Forward.{place_using, line_using, exit_using, ForwardsLines, Ends, Kept, LeftOut, Straight, ForwardsBlock, ForwardsOnce}
+use Rattle.im_forward.proofs.Once.{OnceFunctions, OnceUnit}
+use Rattle.im_forward.proofs.Setting.{from_setting, from_passing}
+use Rattle.im_forward.proofs.Shapes.{leaving}
 use Rattle.im_forward.proofs.Sims.{BothBlocks, both_blocks}
 
 -- lines that use no parameter are an entry's
@@ -80,6 +83,26 @@ lines_from n live a b before old new (Kept gone rest rest' x y k left) h =
     (lines_from n live a b (x ∷ gone) rest rest' left (All-tail (LineFrom n) x rest h))
 lines_from n live a b before old new (LeftOut gone rest rest' to from dead left) h =
     lines_from n live a b (Copy to from ∷ gone) rest rest' left (All-tail (LineFrom n) (Copy to from) rest h)
+lines_from n live a b before old new (Straight gone rest rest' x y t v p left) h =
+    let behind = All-tail (LineFrom n) x (y ∷ rest) h in
+    let le : n ≤ v = from_passing x t v n y p.passes (All-head (LineFrom n) y rest behind) in
+    All-cons (LineFrom n) (setting v x) rest' (from_setting n v le x (All-head (LineFrom n) x (y ∷ rest) h))
+    (lines_from n live a b (y ∷ x ∷ gone) rest rest' left (All-tail (LineFrom n) y rest behind))
+
+-- what comes in the place of a line and of that which passes its value on
+receives_passing : (n t v : ℕ) (x y : Line) → PassesOn x t v y → (rest rest' : List Line) → Receives n (y ∷ rest) → (Receives n rest → Receives n rest') → (n ≤ v) × Receives n rest'
+receives_passing n t v x y Copies rest rest' h on = (h.0, on h.1)
+receives_passing n t v x y (Converts kind g) rest rest' h on = (h.0, on h.1)
+
+receives_pair : (n t v : ℕ) (x y : Line) → target x ≡ Some t → PassesOn x t v y → (rest rest' : List Line) → Receives n (x ∷ y ∷ rest) → (Receives n rest → Receives n rest') → (All (LineFrom n) rest → All (LineFrom n) rest') → Receives n (setting v x ∷ rest')
+receives_pair n t v (Write place kind from access) y sets p rest rest' h on all = absurd cc
+receives_pair n t v (Cut cause) y sets p rest rest' h on all = absurd cc
+receives_pair n t v (Copy to from) y sets p rest rest' h on all = absurd cc
+receives_pair n t v (Convert to kind from) y sets p rest rest' h on all = receives_passing n t v (Convert to kind from) y p rest rest' h.1 on
+receives_pair n t v x y sets p rest rest' h on all =
+    let behind = All-tail (LineFrom n) x (y ∷ rest) h in
+    let le : n ≤ v = from_passing x t v n y p (All-head (LineFrom n) y rest behind) in
+    All-cons (LineFrom n) (setting v x) rest' (from_setting n v le x (All-head (LineFrom n) x (y ∷ rest) h)) (all (All-tail (LineFrom n) y rest behind))
 
 lines_receive : (n : ℕ) (live : ℕ → ℕ → Bool) (a b : Exit) (before old new : List Line) → ForwardsLines n live a b before old new → Receives n old → Receives n new
 lines_receive n live a b before old new (Ends gone e) h = tt
@@ -88,6 +111,8 @@ lines_receive n live a b before old new (Kept gone rest rest' x y k left) h =
     (receives_line n k.instead k.may.no_parameter x rest rest' h (lines_receive n live a b (x ∷ gone) rest rest' left) (lines_from n live a b (x ∷ gone) rest rest' left))
 lines_receive n live a b before old new (LeftOut gone rest rest' to from dead left) h =
     lines_receive n live a b (Copy to from ∷ gone) rest rest' left h.1
+lines_receive n live a b before old new (Straight gone rest rest' x y t v p left) h =
+    receives_pair n t v x y p.sets p.passes rest rest' h (lines_receive n live a b (y ∷ x ∷ gone) rest rest' left) (lines_from n live a b (y ∷ x ∷ gone) rest rest' left)
 
 -- ---- operators, objects and calls are as they were
 
@@ -106,6 +131,20 @@ module _ (statics : ℕ) (f g : Function) (first : g.first_object ≡ f.first_ob
   line_able instead (Write place kind from access) h = place_exists instead place h
   line_able instead line h = h
 
+  exists_still : (place : Place) → PlaceExists statics f place → PlaceExists statics g place
+  exists_still (Static object offset) h = h
+  exists_still (Local object offset) h =
+      let low = h.0.0 in
+      let high = h.0.1 in
+      ((omega (arith, first, low), omega (arith, first, count, high)), h.1)
+  exists_still (Through pointer offset) h = h
+
+  able_setting : (v : ℕ) (line : Line) → IsPlaceableLine statics f line → IsPlaceableLine statics g (setting v line)
+  able_setting v (Address to place) h = exists_still place h
+  able_setting v (Read to place kind access) h = exists_still place h
+  able_setting v (Write place kind from access) h = exists_still place h
+  able_setting v line h = h
+
   lines_able : (n : ℕ) (live : ℕ → ℕ → Bool) (a b : Exit) (before old new : List Line) → ForwardsLines n live a b before old new → All (IsPlaceableLine statics f) old → All (IsPlaceableLine statics g) new
   lines_able n live a b before old new (Ends gone e) h = All-nil (IsPlaceableLine statics g)
   lines_able n live a b before old new (Kept gone rest rest' x y k left) h =
@@ -113,6 +152,9 @@ module _ (statics : ℕ) (f g : Function) (first : g.first_object ≡ f.first_ob
       (lines_able n live a b (x ∷ gone) rest rest' left (All-tail (IsPlaceableLine statics f) x rest h))
   lines_able n live a b before old new (LeftOut gone rest rest' to from dead left) h =
       lines_able n live a b (Copy to from ∷ gone) rest rest' left (All-tail (IsPlaceableLine statics f) (Copy to from) rest h)
+  lines_able n live a b before old new (Straight gone rest rest' x y t v p left) h =
+      All-cons (IsPlaceableLine statics g) (setting v x) rest' (able_setting v x (All-head (IsPlaceableLine statics f) x (y ∷ rest) h))
+      (lines_able n live a b (y ∷ x ∷ gone) rest rest' left (All-tail (IsPlaceableLine statics f) y rest (All-tail (IsPlaceableLine statics f) x (y ∷ rest) h)))
 
 edge_kept : (instead : ℕ → ℕ) (exit : Exit) (b : ℕ) → IsEdge (exit_using instead exit) b → IsEdge exit b
 edge_kept instead (Jump c) b h = h
@@ -128,7 +170,7 @@ record Old (f : Function) (live : ℕ → ℕ → Bool) (b : ℕ) (y : Block) : 
   at : slice_get f.blocks.items b ≡ Some block
   same : ForwardsBlock (first_free f) live block y
 
-old_of : (f g : Function) (p : ForwardsFunction f g) (b : ℕ) (y : Block) → slice_get g.blocks.items b ≡ Some y → Old f p.live b y
+old_of : (f g : Function) (p : ForwardsOnce f g) (b : ℕ) (y : Block) → slice_get g.blocks.items b ≡ Some y → Old f p.live b y
 old_of f g p b y at = one (slice_get f.blocks.items b) (slice_get g.blocks.items b) refl at (both_blocks (first_free f) p.live f.blocks.items g.blocks.items b p.blocks)
   where
     one : (x z : Option Block) → slice_get f.blocks.items b ≡ x → z ≡ Some y → BothBlocks (first_free f) p.live x z → Old f p.live b y
@@ -137,7 +179,7 @@ old_of f g p b y at = one (slice_get f.blocks.items b) (slice_get g.blocks.items
     one (Some x) None e e' h = cc
     one (Some x) (Some z) e e' h = let same : z ≡ y = cc in record { block = x; at = e; same = subst (ForwardsBlock (first_free f) p.live x) same h }
 
-placeable : (statics : ℕ) (f g : Function) → ForwardsFunction f g → IsPlaceableFunction statics f → IsPlaceableFunction statics g
+placeable : (statics : ℕ) (f g : Function) → ForwardsOnce f g → IsPlaceableFunction statics f → IsPlaceableFunction statics g
 placeable statics f g p h =
     let entry : g.entry ≡ f.entry = ap (λ (k : Function). k.entry) p.rest in
     let parameters : g.parameters ≡ f.parameters = ap (λ (k : Function). k.parameters) p.rest in
@@ -172,7 +214,7 @@ placeable statics f g p h =
           parameters ∙ h.no_return b o.block o.at (subst (IsEdge o.block.exit) entry (edge_kept e.instead o.block.exit g.entry (subst (λ x. IsEdge x g.entry) e.exit edge)));
     }
 
-all_placeable : (statics : ℕ) (fs gs : List Function) → ForwardsFunctions fs gs → All (IsPlaceableFunction statics) fs → All (IsPlaceableFunction statics) gs
+all_placeable : (statics : ℕ) (fs gs : List Function) → OnceFunctions fs gs → All (IsPlaceableFunction statics) fs → All (IsPlaceableFunction statics) gs
 all_placeable statics [] [] h k = All-nil (IsPlaceableFunction statics)
 all_placeable statics [] (g ∷ gs) h k = absurd h
 all_placeable statics (f ∷ fs) [] h k = absurd h
@@ -180,7 +222,7 @@ all_placeable statics (f ∷ fs) (g ∷ gs) h k =
     All-cons (IsPlaceableFunction statics) g gs (placeable statics f g h.0 (All-head (IsPlaceableFunction statics) f fs k))
     (all_placeable statics fs gs h.1 (All-tail (IsPlaceableFunction statics) f fs k))
 
-pub unit_placeable : (old new : Code) → Forwards old new → IsPlaceable old → IsPlaceable new
+pub unit_placeable : (old new : Code) → OnceUnit old new → IsPlaceable old → IsPlaceable new
 unit_placeable old new p h = subst IsPlaceable (sym p.rest) (record {
   functions = all_placeable (length old.statics.items) old.functions.items new.functions.items p.functions h.functions;
 })

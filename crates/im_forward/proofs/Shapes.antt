@@ -1,5 +1,5 @@
 -- What forwarding leaves of code: its order, what it costs, that no cut stands in it, and what its lines name.
-use Rattle.std.proofs.Common.{◌≡◌, ◌⊎◌, inl, inr, ⊎_elim, ℕ, zero, suc, ◌+◌, ◌*◌, ◌<◌, ◌≤◌, List, [], ◌∷◌, ◌++◌, length, take, Option, Some, None, refl, sym, ap, ◌∙◌, subst, arith}
+use Rattle.std.proofs.Common.{◌≡◌, ℕ, zero, suc, ◌<◌, ◌≤◌, List, [], ◌∷◌, ◌++◌, length, take, Option, Some, None, refl, sym, ap, ◌∙◌, subst, arith}
 use Rattle.std.specs.Prelude.{slice_get, All, Bool}
 use Rattle.std.proofs.lemmas.List.Elements.{All-nil, All-cons, All-head, All-tail}
 use Rattle.im_block.specs.declared.code.Place.{Place}
@@ -16,7 +16,10 @@ use Rattle.im_block.specs.Wellformed.{HasCells, PlaceWithin, LineWithin, ExitWit
 use Rattle.im_alloc_placed.specs.Apart.{IsNoCut, AllUncut}
 use Rattle.im_alloc_placed.specs.Placeable.{first_free}
 use Rattle.im_forward.specs.Copies.{IsCopy, Copied, Further, Since, IsSame, Itself, CopyOf}
-use Rattle.im_forward.specs.Forward.{place_using, line_using, exit_using, MayUse, ForwardsLine, ForwardsExit, ForwardsLines, Ends, Kept, LeftOut, ForwardsBlock, ForwardsBlocks, ForwardsFunction, ForwardsFunctions, Forwards}
+use Rattle.im_forward.specs.Straight.{setting}
+use Rattle.im_forward.specs.Forward.{place_using, line_using, exit_using, ForwardsExit, ForwardsLines, Ends, Kept, LeftOut, Straight, ForwardsBlock, ForwardsBlocks, ForwardsOnce}
+use Rattle.im_forward.proofs.Once.{OnceFunctions, OnceUnit}
+use Rattle.im_forward.proofs.Setting.{cost_setting, uncut_setting, within_setting, there_setting, accesses_setting, within_passing, accesses_passing}
 use Rattle.im_forward.proofs.Sims.{BothBlocks, both_blocks, BothFunctions, both_functions}
 
 -- the exit, by the lines before it
@@ -28,6 +31,7 @@ pub leaving : (free : ℕ) (live : ℕ → ℕ → Bool) (a b : Exit) (before ol
 leaving free live a b before old new (Ends gone e) = record { behind = gone; exit = e }
 leaving free live a b before old new (Kept gone rest rest' x y k left) = leaving free live a b (x ∷ gone) rest rest' left
 leaving free live a b before old new (LeftOut gone rest rest' to from dead left) = leaving free live a b (Copy to from ∷ gone) rest rest' left
+leaving free live a b before old new (Straight gone rest rest' x y t v p left) = leaving free live a b (y ∷ x ∷ gone) rest rest' left
 
 -- ---- costs
 
@@ -73,6 +77,10 @@ lines_cost free live a b before old new (Kept gone rest rest' x y k left) =
 lines_cost free live a b before old new (LeftOut gone rest rest' to from dead left) =
     let less = lines_cost free live a b (Copy to from ∷ gone) rest rest' left in
     omega (arith, less)
+lines_cost free live a b before old new (Straight gone rest rest' x y t v p left) =
+    let less = lines_cost free live a b (y ∷ x ∷ gone) rest rest' left in
+    let same : cost (setting v x) ≡ cost x = cost_setting v x in
+    omega (arith, less, same)
 
 blocks_cost : (free : ℕ) (live : ℕ → ℕ → Bool) (xs ys : List Block) → ForwardsBlocks free live xs ys → sum_of block_cost ys ≤ sum_of block_cost xs
 blocks_cost free live [] [] h = omega arith
@@ -85,8 +93,8 @@ blocks_cost free live (x ∷ xs) (y ∷ ys) h =
     let rest = blocks_cost free live xs ys h.1 in
     omega (arith, lines, exit, rest)
 
-pub costs : (old new : Function) → ForwardsFunction old new → function_cost new ≤ function_cost old
-costs old new p = let a = blocks_cost (first_free old) p.live old.blocks.items new.blocks.items p.blocks in omega (arith, a)
+pub costs_once : (old new : Function) → ForwardsOnce old new → function_cost new ≤ function_cost old
+costs_once old new p = let a = blocks_cost (first_free old) p.live old.blocks.items new.blocks.items p.blocks in omega (arith, a)
 
 -- ---- order
 
@@ -109,7 +117,7 @@ blocks_ordered free live xs ys h ordered = record { each = λ b block at. one b 
         let e = (leaving free live x.exit y.exit [] x.lines.items y.lines.items both.lines).exit in
         subst (λ (z : Block). Descends z.exit b) same (subst (λ z. Descends z b) (sym e.exit) (descends e.instead x.exit b (ordered.each b x (sym at))))
 
-pub ordered_kept : (old new : Code) → Forwards old new → AllOrdered old → AllOrdered new
+pub ordered_kept : (old new : Code) → OnceUnit old new → AllOrdered old → AllOrdered new
 ordered_kept old new all ordered = record { each = λ i h at. one i h (slice_get old.functions.items i) (slice_get new.functions.items i) (both_functions old.functions.items new.functions.items i all.functions) refl at }
   where
     one : (i : ℕ) (h : Function) (p q : Option Function) → BothFunctions p q → p ≡ slice_get old.functions.items i → q ≡ Some h → IsOrdered h.blocks.items
@@ -150,8 +158,11 @@ lines_uncut free live a b before old new (Kept gone rest rest' x y k left) h =
     (lines_uncut free live a b (x ∷ gone) rest rest' left (All-tail IsNoCut x rest h))
 lines_uncut free live a b before old new (LeftOut gone rest rest' to from dead left) h =
     lines_uncut free live a b (Copy to from ∷ gone) rest rest' left (All-tail IsNoCut (Copy to from) rest h)
+lines_uncut free live a b before old new (Straight gone rest rest' x y t v p left) h =
+    All-cons IsNoCut (setting v x) rest' (uncut_setting v x (All-head IsNoCut x (y ∷ rest) h))
+    (lines_uncut free live a b (y ∷ x ∷ gone) rest rest' left (All-tail IsNoCut y rest (All-tail IsNoCut x (y ∷ rest) h)))
 
-pub uncut_kept : (old new : Code) → Forwards old new → AllUncut old → AllUncut new
+pub uncut_kept : (old new : Code) → OnceUnit old new → AllUncut old → AllUncut new
 uncut_kept old new p h = record {
   each = λ i g b y at there. in_function i g b y (slice_get old.functions.items i) (slice_get new.functions.items i) (both_functions old.functions.items new.functions.items i p.functions) refl at there;
 }
@@ -284,6 +295,12 @@ lines_within n free live a b before old new (Kept gone rest rest' x y k left) h 
     )
 lines_within n free live a b before old new (LeftOut gone rest rest' to from dead left) h w e =
     lines_within n free live a b (Copy to from ∷ gone) rest rest' left (All-cons (LineWithin n) (Copy to from) gone (All-head (LineWithin n) (Copy to from) rest w) h) (All-tail (LineWithin n) (Copy to from) rest w) e
+lines_within n free live a b before old new (Straight gone rest rest' x y t v p left) h w e =
+    let here = All-head (LineWithin n) x (y ∷ rest) w in
+    let behind = All-tail (LineWithin n) x (y ∷ rest) w in
+    let next = All-head (LineWithin n) y rest behind in
+    let more = lines_within n free live a b (y ∷ x ∷ gone) rest rest' left (All-cons (LineWithin n) y (x ∷ gone) next (All-cons (LineWithin n) x gone here h)) (All-tail (LineWithin n) y rest behind) e in
+    (All-cons (LineWithin n) (setting v x) rest' (within_setting n v (within_passing x t v n y p.passes next) x here) more.0, more.1)
 
 lines_there : (fs : List Function) (free : ℕ) (live : ℕ → ℕ → Bool) (a b : Exit) (before old new : List Line) → ForwardsLines free live a b before old new → All (LineThere fs) old → All (LineThere fs) new
 lines_there fs free live a b before old new (Ends gone e) h = All-nil (LineThere fs)
@@ -292,6 +309,9 @@ lines_there fs free live a b before old new (Kept gone rest rest' x y k left) h 
     (lines_there fs free live a b (x ∷ gone) rest rest' left (All-tail (LineThere fs) x rest h))
 lines_there fs free live a b before old new (LeftOut gone rest rest' to from dead left) h =
     lines_there fs free live a b (Copy to from ∷ gone) rest rest' left (All-tail (LineThere fs) (Copy to from) rest h)
+lines_there fs free live a b before old new (Straight gone rest rest' x y t v p left) h =
+    All-cons (LineThere fs) (setting v x) rest' (there_setting fs v x (All-head (LineThere fs) x (y ∷ rest) h))
+    (lines_there fs free live a b (y ∷ x ∷ gone) rest rest' left (All-tail (LineThere fs) y rest (All-tail (LineThere fs) x (y ∷ rest) h)))
 
 lines_accesses : (free : ℕ) (live : ℕ → ℕ → Bool) (a b : Exit) (before old new : List Line) → ForwardsLines free live a b before old new → accesses_of_lines new ≡ accesses_of_lines old
 lines_accesses free live a b before old new (Ends gone e) = refl
@@ -299,6 +319,10 @@ lines_accesses free live a b before old new (Kept gone rest rest' x y k left) =
     ap (λ (l : List ℕ). l ++ accesses_of_lines rest') (ap accesses_of_line k.line ∙ line_accesses k.instead x)
     ∙ ap (λ (l : List ℕ). accesses_of_line x ++ l) (lines_accesses free live a b (x ∷ gone) rest rest' left)
 lines_accesses free live a b before old new (LeftOut gone rest rest' to from dead left) = lines_accesses free live a b (Copy to from ∷ gone) rest rest' left
+lines_accesses free live a b before old new (Straight gone rest rest' x y t v p left) =
+    ap (λ (l : List ℕ). l ++ accesses_of_lines rest') (accesses_setting v x)
+    ∙ ap (λ (l : List ℕ). accesses_of_line x ++ l) (lines_accesses free live a b (y ∷ x ∷ gone) rest rest' left
+    ∙ ap (λ (l : List ℕ). l ++ accesses_of_lines rest) (sym (accesses_passing x t v y p.passes)))
 
 blocks_accesses : (free : ℕ) (live : ℕ → ℕ → Bool) (xs ys : List Block) → ForwardsBlocks free live xs ys → accesses_of_blocks ys ≡ accesses_of_blocks xs
 blocks_accesses free live [] [] h = refl
@@ -308,7 +332,7 @@ blocks_accesses free live (x ∷ xs) (y ∷ ys) h =
     ap (λ (l : List ℕ). l ++ accesses_of_blocks ys) (lines_accesses free live x.exit y.exit [] x.lines.items y.lines.items h.0.lines)
     ∙ ap (λ (l : List ℕ). accesses_of_lines x.lines.items ++ l) (blocks_accesses free live xs ys h.1)
 
-functions_accesses : (fs gs : List Function) → ForwardsFunctions fs gs → accesses_of_functions gs ≡ accesses_of_functions fs
+functions_accesses : (fs gs : List Function) → OnceFunctions fs gs → accesses_of_functions gs ≡ accesses_of_functions fs
 functions_accesses [] [] h = refl
 functions_accesses [] (g ∷ gs) h = absurd h
 functions_accesses (f ∷ fs) [] h = absurd h
@@ -330,7 +354,7 @@ takes_kept None (Some g) count both h = absurd both
 takes_kept (Some f) None count both h = absurd both
 takes_kept (Some f) (Some g) count both h = ap (λ (k : Function). k.parameters) both.rest ∙ h
 
-objects_sum : (fs gs : List Function) (i : ℕ) → ForwardsFunctions fs gs → sum_of (λ (f : Function). length f.objects.items) (take i gs) ≡ sum_of (λ (f : Function). length f.objects.items) (take i fs)
+objects_sum : (fs gs : List Function) (i : ℕ) → OnceFunctions fs gs → sum_of (λ (f : Function). length f.objects.items) (take i gs) ≡ sum_of (λ (f : Function). length f.objects.items) (take i fs)
 objects_sum fs gs zero h = refl
 objects_sum [] [] (suc i) h = refl
 objects_sum [] (g ∷ gs) (suc i) h = absurd h
@@ -340,7 +364,7 @@ objects_sum (f ∷ fs) (g ∷ gs) (suc i) h =
     let b = objects_sum fs gs i h.1 in
     omega (arith, a, b)
 
-module _ (fs gs : List Function) (all : ForwardsFunctions fs gs) where
+module _ (fs gs : List Function) (all : OnceFunctions fs gs) where
   called : (line : Line) → LineThere fs line → LineThere gs line
   called (Put to z) h = h
   called (PutNull to) h = h
@@ -366,7 +390,7 @@ module _ (fs gs : List Function) (all : ForwardsFunctions fs gs) where
   all_called [] h = All-nil (LineThere gs)
   all_called (line ∷ lines) h = All-cons (LineThere gs) line lines (called line (All-head (LineThere fs) line lines h)) (all_called lines (All-tail (LineThere fs) line lines h))
 
-  module _ (f g : Function) (p : ForwardsFunction f g) where
+  module _ (f g : Function) (p : ForwardsOnce f g) where
     count : length g.blocks.items ≡ length f.blocks.items
     count = blocks_length (first_free f) p.live f.blocks.items g.blocks.items p.blocks
 
@@ -408,13 +432,13 @@ module _ (fs gs : List Function) (all : ForwardsFunctions fs gs) where
           blocks = blocks_formed f.blocks.items g.blocks.items p.blocks k.blocks;
         }
 
-  functions_formed : (xs ys : List Function) → ForwardsFunctions xs ys → All (IsFunction fs) xs → All (IsFunction gs) ys
+  functions_formed : (xs ys : List Function) → OnceFunctions xs ys → All (IsFunction fs) xs → All (IsFunction gs) ys
   functions_formed [] [] h k = All-nil (IsFunction gs)
   functions_formed [] (y ∷ ys) h k = absurd h
   functions_formed (x ∷ xs) [] h k = absurd h
   functions_formed (x ∷ xs) (y ∷ ys) h k = All-cons (IsFunction gs) y ys (function_formed x y h.0 (All-head (IsFunction fs) x xs k)) (functions_formed xs ys h.1 (All-tail (IsFunction fs) x xs k))
 
-pub formed : (old new : Code) → Forwards old new → IsWellFormed old → IsWellFormed new
+pub formed : (old new : Code) → OnceUnit old new → IsWellFormed old → IsWellFormed new
 formed old new p h = subst IsWellFormed (sym p.rest) (record {
   statics = h.statics;
   functions = functions_formed old.functions.items new.functions.items p.functions old.functions.items new.functions.items p.functions h.functions;

@@ -1,12 +1,12 @@
 -- Forwarded code does what the code did, line by line but for copies that are left out.
-use Rattle.std.proofs.Common.{◌≡◌, ◌⊎◌, inl, inr, ℕ, zero, suc, ◌+◌, ◌<◌, List, [], ◌∷◌, ◌++◌, length, Bool, true, false, Option, Some, None, refl, sym, ap, ◌∙◌, subst, append-nil}
-use Rattle.std.specs.Prelude.{slice_get, nat_abs, pos, negsuc, nat_le, nat_lt, ◌==◌, ◌&&◌, ◌||◌, not, if◌then◌else◌}
+use Rattle.std.proofs.Common.{◌≡◌, ◌⊎◌, inl, inr, ℕ, zero, suc, ◌+◌, ◌<◌, List, [], ◌∷◌, ◌++◌, length, Bool, true, false, Option, Some, None, refl, sym, ap, ◌∙◌, subst, append-nil, ◌≤◌, arith}
+use Rattle.std.specs.Prelude.{slice_get, nat_abs, pos, negsuc, nat_le, nat_lt, ◌==◌, ◌||◌, if◌then◌else◌}
 use Rattle.std.proofs.lemmas.Bool.{eqb-true}
 use Rattle.im_num.specs.declared.kind.Kind.{Kind}
-use Rattle.im_num.specs.declared.kind.Kind.TheVariants.{U8, I32}
+use Rattle.im_num.specs.declared.kind.Kind.TheVariants.{U8}
 use Rattle.im_num.specs.Kinds.{wrap}
 use Rattle.im_store.specs.Checks.{Checked, Fine, Bad, then_}
-use Rattle.im_store.specs.Objects.{Value, Number, Null, Unset, Store, ends}
+use Rattle.im_store.specs.Objects.{Value, Number, Null, Unset}
 use Rattle.im_store.specs.Access.{read_cell, write_cell}
 use Rattle.im_store.specs.Outcomes.{Outcome}
 use Rattle.im_block.specs.declared.code.Place.{Place}
@@ -18,15 +18,22 @@ use Rattle.im_block.specs.declared.code.Exit.TheVariants.{Jump, Turn, Branch, Re
 use Rattle.im_block.specs.declared.code.Block.{Block}
 use Rattle.im_block.specs.declared.unit.Function.{Function}
 use Rattle.im_block.specs.declared.unit.Unit.{Unit as Code}
-use Rattle.im_block.specs.Meaning.{Setting, Site, site_of, slot_site, Event, Reads, Writes, Tests, Serves, Cuts, Active, Frame, State, Next, Goes, Stops, Found, Left, Location, on_checked, takes, found, found_in, left_in, stored, kept, kept_by, with_rest, with_register, sets as sets_register, computes, reads, writes, activates, waiting, passed, enters, served, gets, puts, does, goes_to, back, leaves, step_at, step, number_of, as_number, as_truth, converted, computed, computed_one, condition, negation, compared, moved, distance_of, place_of, further, location_of, located, read_place, write_place, read_slot, write_slot, slot_of, returned, next_active, ended}
+use Rattle.im_block.specs.Meaning.{Setting, Site, site_of, slot_site, Event, Reads, Tests, Serves, Frame, State, Next, Goes, Stops, Found, Left, Location, on_checked, takes, found, found_in, left_in, stored, kept, kept_by, with_rest, with_register, sets as sets_register, computes, reads, writes, activates, waiting, passed, enters, served, gets, does, goes_to, back, leaves, step_at, step, number_of, as_number, as_truth, converted, computed, computed_one, condition, negation, compared, moved, distance_of, place_of, further, location_of, write_place, write_slot, slot_of, next_active, ended}
 use Rattle.im_block.specs.Runs.{start, before, Over, goes_on, exec, Runs}
 use Rattle.im_alloc_placed.specs.Placeable.{first_free}
 use Rattle.im_alloc_relation.specs.Live.{place_uses, uses, sets, exit_lives, lives}
 use Rattle.im_forward.specs.Copies.{IsCopy}
-use Rattle.im_forward.specs.Forward.{place_using, line_using, exit_using, MayUse, ForwardsLine, ForwardsExit, ForwardsLines, Ends, Kept, LeftOut, ForwardsBlock, ForwardsBlocks, ForwardsFunction, ForwardsFunctions, Forwards}
-use Rattle.im_forward.proofs.Same.{or_left, or_right, both_are, itself, HaveCopies, Stays, same_value, no_copies, copies_next, unset_copy, set_stays, set_alike, copy_set, used_lives, kept_lives, argument, passed_alike}
+use Rattle.im_forward.specs.Straight.{target, setting, Gives, PassesOn, Copies, Converts, IsPair as IsStraightPair}
+use Rattle.im_forward.specs.Forward.{place_using, line_using, exit_using, MayUse, ForwardsLines, Ends, Kept, LeftOut, Straight, ForwardsBlock, ForwardsBlocks, ForwardsOnce}
+use Rattle.im_forward.proofs.Once.{OnceFunctions, OnceUnit}
+use Rattle.im_forward.proofs.Setting.{sets_target, sets_setting, uses_setting, sets_passing, no_copy}
+use Rattle.im_forward.proofs.Numbers.{IsNumber, fine_same, number_is, converts_to, unary_to, computes_to, truth_to}
+use Rattle.im_forward.proofs.Same.{or_left, or_right, itself, HaveCopies, same_value, no_copies, copies_next, unset_copy, set_stays, set_here, set_alike, copy_set, used_lives, kept_lives, argument, passed_alike}
 
 -- blocks and functions, one by one
+
+some_same : (a b : ℕ) → Some a ≡ Some b → a ≡ b
+some_same a b e = cc
 
 abbrev pub BothBlocks : ℕ → (ℕ → ℕ → Bool) → Option Block → Option Block → Type 0
 BothBlocks free live None None = Unit {0}
@@ -43,11 +50,11 @@ both_blocks free live (x ∷ xs) (y ∷ ys) (suc i) h = both_blocks free live xs
 
 abbrev pub BothFunctions : Option Function → Option Function → Type 0
 BothFunctions None None = Unit {0}
-BothFunctions (Some f) (Some h) = ForwardsFunction f h
+BothFunctions (Some f) (Some h) = ForwardsOnce f h
 BothFunctions None (Some h) = ⊥
 BothFunctions (Some f) None = ⊥
 
-pub both_functions : (fs hs : List Function) (i : ℕ) → ForwardsFunctions fs hs → BothFunctions (slice_get fs i) (slice_get hs i)
+pub both_functions : (fs hs : List Function) (i : ℕ) → OnceFunctions fs hs → BothFunctions (slice_get fs i) (slice_get hs i)
 both_functions [] [] i h = tt
 both_functions [] (y ∷ ys) i h = absurd h
 both_functions (x ∷ xs) [] i h = absurd h
@@ -58,7 +65,7 @@ both_functions (x ∷ xs) (y ∷ ys) (suc i) h = both_functions xs ys i h.1
 abbrev with_new : Frame → List Line → Exit → (ℕ → Value) → Frame
 with_new x rest leaves registers = record x { spot = record x.spot { rest = rest; exit = leaves }; registers = registers }
 
-module _ (u w : Code) (g : Setting) (all : ForwardsFunctions u.functions.items w.functions.items) where
+module _ (u w : Code) (g : Setting) (all : OnceFunctions u.functions.items w.functions.items) where
   abbrev v : Code
   v = record u { functions = w.functions }
 
@@ -71,7 +78,7 @@ module _ (u w : Code) (g : Setting) (all : ForwardsFunctions u.functions.items w
     other : Function
     at : slice_get u.functions.items x.function ≡ Some function
     at_other : slice_get w.functions.items x.function ≡ Some other
-    same : ForwardsFunction function other
+    same : ForwardsOnce function other
     behind : List Line
     lines : ForwardsLines (first_free function) same.live x.spot.exit leaves behind x.spot.rest rest
     copies : HaveCopies behind x.registers
@@ -87,7 +94,7 @@ module _ (u w : Code) (g : Setting) (all : ForwardsFunctions u.functions.items w
     other : Function
     at : slice_get u.functions.items x.function ≡ Some function
     at_other : slice_get w.functions.items x.function ≡ Some other
-    same : ForwardsFunction function other
+    same : ForwardsOnce function other
     behind : List Line
     lines : ForwardsLines (first_free function) same.live x.spot.exit leaving behind x.spot.rest rest
     copies : HaveCopies behind x.registers
@@ -118,6 +125,20 @@ module _ (u w : Code) (g : Setting) (all : ForwardsFunctions u.functions.items w
   NextSim (Goes s m) (Goes t n) = Twin s t × (n ≡ m)
   NextSim (Goes s m) (Stops p n) = ⊥
 
+  -- two steps of the old code, of which the second does nothing that is seen, and one of the new code
+  record IsTwo (x y : Next) : Type 0 where
+    middle : State
+    events : List Event
+    goes : x ≡ Goes middle events
+    then_is : State
+    goes_on : step u g middle ≡ Goes then_is []
+    after : State
+    after_goes : y ≡ Goes after events
+    same : Twin then_is after
+
+  abbrev Follows : Next → Next → Type 0
+  Follows x y = NextSim x y ⊎ IsTwo x y
+
   on_sim : {A : Type 0} (c : Checked A) (f h : A → Next) → ((a : A) → NextSim (f a) (h a)) → NextSim (on_checked c f) (on_checked c h)
   on_sim (Fine a) f h k = k a
   on_sim (Bad why) f h k = (refl, refl)
@@ -139,7 +160,7 @@ module _ (u w : Code) (g : Setting) (all : ForwardsFunctions u.functions.items w
   block_sim free live (Some x) None p q b h = absurd b
   block_sim free live (Some x) (Some y) p q b h = h x y refl refl b
 
-  function_sim : (x y : Option Function) (p q : Function → Next) → BothFunctions x y → ((a b : Function) → x ≡ Some a → y ≡ Some b → ForwardsFunction a b → NextSim (p a) (q b)) → NextSim (on_checked (found x) p) (on_checked (found y) q)
+  function_sim : (x y : Option Function) (p q : Function → Next) → BothFunctions x y → ((a b : Function) → x ≡ Some a → y ≡ Some b → ForwardsOnce a b → NextSim (p a) (q b)) → NextSim (on_checked (found x) p) (on_checked (found y) q)
   function_sim None None p q b h = (refl, refl)
   function_sim None (Some y) p q b h = absurd b
   function_sim (Some x) None p q b h = absurd b
@@ -161,7 +182,7 @@ module _ (u w : Code) (g : Setting) (all : ForwardsFunctions u.functions.items w
         (λ block. activates i f (next_active u g i s) (passed f.first_parameter first count y) others fuel block (twin s here leaving registers others))
         else Stops (ended v 1 (pos 0) (twin s here leaving registers others)) (Tests ∷ [])
 
-    begun_sim : (i : ℕ) (f h : Function) (first count fuel : ℕ) (a b : Block) → slice_get u.functions.items i ≡ Some f → slice_get w.functions.items i ≡ Some h → (same : ForwardsFunction f h) → ((j : ℕ) → j < count → y (first + j) ≡ x (first + j)) → AllWait callers others → ForwardsBlock (first_free f) same.live a b → NextSim (activates i f (next_active u g i s) (passed f.first_parameter first count x) callers fuel a s) (activates i (record f { blocks = h.blocks }) (next_active u g i s) (passed f.first_parameter first count y) others fuel b (twin s here leaving registers others))
+    begun_sim : (i : ℕ) (f h : Function) (first count fuel : ℕ) (a b : Block) → slice_get u.functions.items i ≡ Some f → slice_get w.functions.items i ≡ Some h → (same : ForwardsOnce f h) → ((j : ℕ) → j < count → y (first + j) ≡ x (first + j)) → AllWait callers others → ForwardsBlock (first_free f) same.live a b → NextSim (activates i f (next_active u g i s) (passed f.first_parameter first count x) callers fuel a s) (activates i (record f { blocks = h.blocks }) (next_active u g i s) (passed f.first_parameter first count y) others fuel b (twin s here leaving registers others))
     begun_sim i f h first count fuel a b at at' same args waits p = (
       record {
         rest = b.lines.items;
@@ -194,7 +215,7 @@ module _ (u w : Code) (g : Setting) (all : ForwardsFunctions u.functions.items w
         (λ a b there there' p. begun_sim i f h first count fuel a b at at' same args waits p))
         (refl, refl)))
 
-  module _ (s : State) (here : List Line) (leaving : Exit) (registers : ℕ → Value) (callers : List Frame) (function other : Function) (at : slice_get u.functions.items s.frame.function ≡ Some function) (at_other : slice_get w.functions.items s.frame.function ≡ Some other) (same : ForwardsFunction function other) (behind : List Line) (copies : HaveCopies behind s.frame.registers) (waits : AllWait s.callers callers) where
+  module _ (s : State) (here : List Line) (leaving : Exit) (registers : ℕ → Value) (callers : List Frame) (function other : Function) (at : slice_get u.functions.items s.frame.function ≡ Some function) (at_other : slice_get w.functions.items s.frame.function ≡ Some other) (same : ForwardsOnce function other) (behind : List Line) (copies : HaveCopies behind s.frame.registers) (waits : AllWait s.callers callers) where
     abbrev t : State
     t = twin s here leaving registers callers
 
@@ -435,6 +456,160 @@ module _ (u w : Code) (g : Setting) (all : ForwardsFunctions u.functions.items w
           (served_sim (PutChar to from) y old new left alike to (Number (pos (nat_abs (wrap U8 z)))) s.input (s.output ++ nat_abs (wrap U8 z) ∷ []) fuel (λ q. refl) (λ q. refl) (λ a b is. cc))
           (served_sim (PutChar to from) y old new left alike to (Number (negsuc 0)) s.input s.output fuel (λ q. refl) (λ q. refl) (λ a b is. cc))))
 
+    -- ---- a line, and the next, which passes on what it set
+
+    module _ (y : Line) (to v' : ℕ) (old new : List Line) (x : Line) (pair : IsStraightPair same.live leaving new x y to v') (left : Remains (y ∷ x ∷ behind) old new) (alike : Alike (setting v' x ∷ new)) where
+      -- between the two, and behind them
+      abbrev between : Value → State
+      between value = record s { frame = record (with_rest s.frame (y ∷ old)) { registers = with_register regs to value } }
+
+      abbrev after : Value → State
+      after value = record s { frame = record (with_rest s.frame old) { registers = with_register (with_register regs to value) v' value } }
+
+      set_both : (value : Value) → with_register (with_register regs to value) v' value to ≡ value
+      set_both value = by (to == v') refl
+        where
+          by : (c : Bool) → (to == v') ≡ c → (if c then value else with_register regs to value to) ≡ value
+          by true e = refl
+          by false e = set_here regs to value
+
+      passes_on : (z : Line) → PassesOn x to v' z → (value : Value) → ((kind : Kind) → Gives kind x → IsNumber kind value) → does u g z old (between value) ≡ Goes (after value) []
+      passes_on z Copies value h =
+          ap (λ (k : Value). Goes (record s { frame = record (with_rest s.frame old) { registers = with_register (with_register regs to value) v' k } }) []) (set_here regs to value)
+      passes_on z (Converts kind gives) value h =
+          ap (λ (c : Checked Value). computes v' c old (between value)) (number_is kind (with_register regs to value to) value (set_here regs to value) (h kind gives))
+
+      -- the register that is passed on lives no more
+      unpassed : (q : ℕ) → lives same.live new leaving q ≡ true → (q == v') ≡ false → (c : Bool) → (q == to) ≡ c → (q == to) ≡ false
+      unpassed q l unset false e = e
+      unpassed q l unset true e = absurd (
+          let is : q ≡ to = eqb-true q to e in
+          elim pair.dies [
+            | inl here ↦ (let at_v : (q == v') ≡ true = ap (λ z. z == v') (is ∙ here) ∙ itself v' in cc)
+            | inr dead ↦ (let no : lives same.live new leaving q ≡ false = subst (λ z. lives same.live new leaving z ≡ false) (sym is) dead in cc)
+          ]
+          )
+
+      both_alike : (value : Value) (q : ℕ) → lives same.live new leaving q ≡ true → with_register registers v' value q ≡ with_register (with_register regs to value) v' value q
+      both_alike value q l = set_alike registers (with_register regs to value) v' value q (λ unset.
+          alike q (kept_lives same.live (setting v' x) new leaving q (sets_setting to v' x pair.sets q ∙ unset) l)
+          ∙ sym (set_stays regs to value q (unpassed q l unset (q == to) refl)))
+
+      passing_copies : (z : Line) → PassesOn x to v' z → (value : Value) (a b : ℕ) → z ≡ Copy a b → with_register (with_register regs to value) v' value a ≡ with_register (with_register regs to value) v' value b
+      passing_copies z Copies value a b is =
+          let first : v' ≡ a = cc in
+          let second : to ≡ b = cc in
+          let r : ℕ → Value = with_register (with_register regs to value) v' value in
+          ap r (sym first) ∙ set_here (with_register regs to value) v' value ∙ sym (set_both value) ∙ ap r second
+      passing_copies z (Converts kind gives) value a b is = absurd cc
+
+      both_ok : (value : Value) → FrameOk (after value).frame new leaving (with_register registers v' value)
+      both_ok value = record {
+        function = function;
+        other = other;
+        at = at;
+        at_other = at_other;
+        same = same;
+        behind = y ∷ x ∷ behind;
+        lines = left;
+        copies = copies_next y (x ∷ behind) (with_register regs to value) (with_register (with_register regs to value) v' value)
+            (copies_next x behind regs (with_register regs to value) copies (λ q e. set_stays regs to value q (sym (sets_target to x pair.sets q) ∙ e)) (λ a b is ne. absurd (no_copy to x pair.sets a b is)))
+            (λ q e. set_stays (with_register regs to value) v' value q (sym (sets_passing x to v' y pair.passes q) ∙ e))
+            (λ a b is ne. passing_copies y pair.passes value a b is);
+        alike = λ q l. both_alike value q l;
+      }
+
+      two : (value : Value) (m : List Event) → ((kind : Kind) → Gives kind x → IsNumber kind value) → Follows (sets_register to value (y ∷ old) s m) (sets_register v' value new t m)
+      two value m h = inr (record {
+        middle = between value;
+        events = m;
+        goes = refl;
+        then_is = after value;
+        goes_on = passes_on y pair.passes value h;
+        after = record t { frame = record (with_rest t.frame new) { registers = with_register registers v' value } };
+        after_goes = refl;
+        same = record {
+          rest = new;
+          leaving = leaving;
+          registers = with_register registers v' value;
+          callers = callers;
+          is = refl;
+          ok = both_ok value;
+          waits = waits;
+        };
+      })
+
+      target_is : (r : ℕ) → target x ≡ Some r → to ≡ r
+      target_is r e = some_same to r (sym pair.sets ∙ e)
+
+      computes_two : (r : ℕ) → target x ≡ Some r → (c d : Checked Value) → d ≡ c → ((kind : Kind) (value : Value) → Gives kind x → c ≡ Fine value → IsNumber kind value) → Follows (computes r c (y ∷ old) s) (computes v' d new t)
+      computes_two r here c d e h =
+          subst (λ k. Follows (computes k c (y ∷ old) s) (computes v' d new t)) (target_is r here)
+          (subst (λ z. Follows (computes to c (y ∷ old) s) (computes v' z new t)) (sym e) (one c h))
+        where
+          one : (c : Checked Value) → ((kind : Kind) (value : Value) → Gives kind x → c ≡ Fine value → IsNumber kind value) → Follows (computes to c (y ∷ old) s) (computes v' c new t)
+          one (Fine value) h = two value [] (λ kind gives. h kind value gives refl)
+          one (Bad why) h = inl (refl, refl)
+
+      reads_two : (r : ℕ) → target x ≡ Some r → (site : Site) (c d : Checked Found) → d ≡ c → ((kind : Kind) → Gives kind x → ⊥) → Follows (reads r site c (y ∷ old) s) (reads v' site d new t)
+      reads_two r here site c d e none =
+          subst (λ k. Follows (reads k site c (y ∷ old) s) (reads v' site d new t)) (target_is r here)
+          (subst (λ z. Follows (reads to site c (y ∷ old) s) (reads v' site z new t)) (sym e) (one c))
+        where
+          one : (c : Checked Found) → Follows (reads to site c (y ∷ old) s) (reads v' site c new t)
+          one (Fine f) = two f.value (Reads site s.frame.active f.at.object f.at.offset ∷ []) (λ kind gives. absurd (none kind gives))
+          one (Bad why) = inl (refl, refl)
+
+      here_used : (q : ℕ) → uses x q ≡ true → registers q ≡ regs q
+      here_used q e = alike q (used_lives same.live (setting v' x) new leaving q (uses_setting v' x q ∙ e))
+
+      place_alike : (place : Place) → ((q : ℕ) → place_uses place q ≡ true → registers q ≡ regs q) → place_of place s.frame.active registers s.store ≡ place_of place s.frame.active regs s.store
+      place_alike (Static object offset) h = refl
+      place_alike (Local object offset) h = refl
+      place_alike (Through pointer offset) h = ap (λ z. further s.store offset z) (h pointer (itself pointer))
+
+    -- the lines whose value goes straight on
+    straight_sim : (x y : Line) (to v' : ℕ) (old new : List Line) → IsStraightPair same.live leaving new x y to v' → Remains (y ∷ x ∷ behind) old new → Alike (setting v' x ∷ new) → Follows (does u g x (y ∷ old) s) (does v g (setting v' x) new t)
+    straight_sim (Put r z) y to v' old new pair left alike =
+        computes_two y to v' old new (Put r z) pair left alike r refl (Fine (Number z)) (Fine (Number z)) (refl) (λ kind value gives e. record { number = z; is = sym (fine_same (Number z) value e); of = gives })
+    straight_sim (PutNull r) y to v' old new pair left alike =
+        computes_two y to v' old new (PutNull r) pair left alike r refl (Fine Null) (Fine Null) (refl) (λ kind value gives e. absurd gives)
+    straight_sim (Convert r kind from) y to v' old new pair left alike =
+        let used : (q : ℕ) → uses (Convert r kind from) q ≡ true → registers q ≡ regs q = here_used y to v' old new (Convert r kind from) pair left alike in
+        computes_two y to v' old new (Convert r kind from) pair left alike r refl _ _ (ap (λ z. as_number (converted kind z)) (used from (itself from))) (λ k value gives e. converts_to k kind (regs from) value gives e)
+    straight_sim (Unary r op kind from) y to v' old new pair left alike =
+        let used : (q : ℕ) → uses (Unary r op kind from) q ≡ true → registers q ≡ regs q = here_used y to v' old new (Unary r op kind from) pair left alike in
+        computes_two y to v' old new (Unary r op kind from) pair left alike r refl _ _ (ap (λ z. as_number (computed_one op kind z)) (used from (itself from))) (λ k value gives e. unary_to k op kind (regs from) value gives e)
+    straight_sim (Not r from) y to v' old new pair left alike =
+        let used : (q : ℕ) → uses (Not r from) q ≡ true → registers q ≡ regs q = here_used y to v' old new (Not r from) pair left alike in
+        computes_two y to v' old new (Not r from) pair left alike r refl _ _ (ap (λ z. as_truth (negation s.store z)) (used from (itself from))) (λ k value gives e. truth_to k (negation s.store (regs from)) value e)
+    straight_sim (Compute r op kind left_ right_) y to v' old new pair left alike =
+        let used : (q : ℕ) → uses (Compute r op kind left_ right_) q ≡ true → registers q ≡ regs q = here_used y to v' old new (Compute r op kind left_ right_) pair left alike in
+        computes_two y to v' old new (Compute r op kind left_ right_) pair left alike r refl _ _ (ap (λ z. as_number (computed op kind z (registers right_))) (used left_ (or_left (left_ == left_) (left_ == right_) (itself left_))) ∙ ap (λ z. as_number (computed op kind (regs left_) z)) (used right_ (or_right (right_ == left_) (right_ == right_) (itself right_)))) (λ k value gives e. computes_to k op kind (regs left_) (regs right_) value gives e)
+    straight_sim (Compare r op kind left_ right_) y to v' old new pair left alike =
+        let used : (q : ℕ) → uses (Compare r op kind left_ right_) q ≡ true → registers q ≡ regs q = here_used y to v' old new (Compare r op kind left_ right_) pair left alike in
+        computes_two y to v' old new (Compare r op kind left_ right_) pair left alike r refl _ _ (ap (λ z. as_truth (compared s.store op kind z (registers right_))) (used left_ (or_left (left_ == left_) (left_ == right_) (itself left_))) ∙ ap (λ z. as_truth (compared s.store op kind (regs left_) z)) (used right_ (or_right (right_ == left_) (right_ == right_) (itself right_)))) (λ k value gives e. truth_to k (compared s.store op kind (regs left_) (regs right_)) value e)
+    straight_sim (Move r size back pointer by_) y to v' old new pair left alike =
+        let used : (q : ℕ) → uses (Move r size back pointer by_) q ≡ true → registers q ≡ regs q = here_used y to v' old new (Move r size back pointer by_) pair left alike in
+        computes_two y to v' old new (Move r size back pointer by_) pair left alike r refl _ _ (ap (λ z. moved s.store size back z (registers by_)) (used pointer (or_left (pointer == pointer) (pointer == by_) (itself pointer))) ∙ ap (λ z. moved s.store size back (regs pointer) z) (used by_ (or_right (by_ == pointer) (by_ == by_) (itself by_)))) (λ kind value gives e. absurd gives)
+    straight_sim (Distance r size left_ right_) y to v' old new pair left alike =
+        let used : (q : ℕ) → uses (Distance r size left_ right_) q ≡ true → registers q ≡ regs q = here_used y to v' old new (Distance r size left_ right_) pair left alike in
+        computes_two y to v' old new (Distance r size left_ right_) pair left alike r refl _ _ (ap (λ z. as_number (distance_of s.store size z (registers right_))) (used left_ (or_left (left_ == left_) (left_ == right_) (itself left_))) ∙ ap (λ z. as_number (distance_of s.store size (regs left_) z)) (used right_ (or_right (right_ == left_) (right_ == right_) (itself right_)))) (λ kind value gives e. absurd gives)
+    straight_sim (Address r place) y to v' old new pair left alike =
+        let used : (q : ℕ) → uses (Address r place) q ≡ true → registers q ≡ regs q = here_used y to v' old new (Address r place) pair left alike in
+        computes_two y to v' old new (Address r place) pair left alike r refl _ _ (place_alike y to v' old new (Address r place) pair left alike place used) (λ kind value gives e. absurd gives)
+    straight_sim (Read r place kind access) y to v' old new pair left alike =
+        let used : (q : ℕ) → uses (Read r place kind access) q ≡ true → registers q ≡ regs q = here_used y to v' old new (Read r place kind access) pair left alike in
+        reads_two y to v' old new (Read r place kind access) pair left alike r refl (site_of access kind) _ _ (ap (λ z. then_ (then_ z location_of) (λ (l : Location). found_in l (read_cell s.store l.object l.offset kind))) (place_alike y to v' old new (Read r place kind access) pair left alike place used)) (λ k gives. absurd gives)
+    straight_sim (Copy r from) y to v' old new pair left alike = absurd (let none = pair.sets in cc)
+    straight_sim (Write place kind from access) y to v' old new pair left alike = absurd (let none = pair.sets in cc)
+    straight_sim (Reload r slot access) y to v' old new pair left alike = absurd (let none = pair.sets in cc)
+    straight_sim (Spill slot from access) y to v' old new pair left alike = absurd (let none = pair.sets in cc)
+    straight_sim (Cut cause) y to v' old new pair left alike = absurd (let none = pair.sets in cc)
+    straight_sim (Call r i first count) y to v' old new pair left alike = absurd (let none = pair.sets in cc)
+    straight_sim (GetChar r) y to v' old new pair left alike = absurd (let none = pair.sets in cc)
+    straight_sim (PutChar r from) y to v' old new pair left alike = absurd (let none = pair.sets in cc)
+
     -- ---- the exit
 
     to_sim : (b fuel : ℕ) → ((q : ℕ) → same.live b q ≡ true → registers q ≡ regs q) → NextSim (goes_to u g b fuel s) (goes_to v g b fuel t)
@@ -532,23 +707,36 @@ module _ (u w : Code) (g : Setting) (all : ForwardsFunctions u.functions.items w
     goes : step u g s ≡ Goes then_is []
     same : Twin then_is t
 
+  -- the new code's step; or none yet; or one for two
+  abbrev Steps : State → State → Type 0
+  Steps s t = Follows (step u g s) (step v g t) ⊎ IsIdle s t
+
   step_on : (f : Function) (live : ℕ → ℕ → Bool) (from to : Exit) (behind old new : List Line) → ForwardsLines (first_free f) live from to behind old new
-      → (s : State) (registers : ℕ → Value) (callers : List Frame) (other : Function) → slice_get u.functions.items s.frame.function ≡ Some f → slice_get w.functions.items s.frame.function ≡ Some other → (same : ForwardsFunction f other) → live ≡ same.live → from ≡ s.frame.spot.exit → old ≡ s.frame.spot.rest → HaveCopies behind s.frame.registers → AllWait s.callers callers → ((q : ℕ) → lives live new to q ≡ true → registers q ≡ s.frame.registers q)
-      → NextSim (step u g s) (step v g (twin s new to registers callers)) ⊎ IsIdle s (twin s new to registers callers)
+      → (s : State) (registers : ℕ → Value) (callers : List Frame) (other : Function) → slice_get u.functions.items s.frame.function ≡ Some f → slice_get w.functions.items s.frame.function ≡ Some other → (same : ForwardsOnce f other) → live ≡ same.live → from ≡ s.frame.spot.exit → old ≡ s.frame.spot.rest → HaveCopies behind s.frame.registers → AllWait s.callers callers → ((q : ℕ) → lives live new to q ≡ true → registers q ≡ s.frame.registers q)
+      → Steps s (twin s new to registers callers)
   step_on f live from to behind old new (Ends gone e) s registers callers other at at' same is_live is_exit is_rest copies waits alike =
       let one : (q : ℕ) → exit_lives same.live (exit_using e.instead from) q ≡ true → registers q ≡ s.frame.registers q = λ q l. alike q (subst (λ (z : ℕ → ℕ → Bool). exit_lives z to q ≡ true) (sym is_live) (subst (λ x. exit_lives same.live x q ≡ true) (sym e.exit) l)) in
       let sim : NextSim (leaves u g from s) (leaves v g (exit_using e.instead from) (twin s [] to registers callers)) = leaves_sim s [] to registers callers f other at at' same gone copies waits e.instead e.may from one in
-      inl (subst (λ lines. NextSim (step_at u g lines s) (leaves v g to (twin s [] to registers callers))) is_rest
+      inl (inl (subst (λ lines. NextSim (step_at u g lines s) (leaves v g to (twin s [] to registers callers))) is_rest
       (subst (λ x. NextSim (leaves u g x s) (leaves v g to (twin s [] to registers callers))) is_exit
-      (subst (λ x. NextSim (leaves u g from s) (leaves v g x (twin s [] to registers callers))) (sym e.exit) sim)))
+      (subst (λ x. NextSim (leaves u g from s) (leaves v g x (twin s [] to registers callers))) (sym e.exit) sim))))
   step_on f live from to behind old new (Kept gone rest rest' x y k left) s registers callers other at at' same is_live is_exit is_rest copies waits alike =
       let left' : ForwardsLines (first_free f) same.live s.frame.spot.exit to (x ∷ gone) rest rest' =
       subst (λ (z : ℕ → ℕ → Bool). ForwardsLines (first_free f) z s.frame.spot.exit to (x ∷ gone) rest rest') is_live (subst (λ z. ForwardsLines (first_free f) live z to (x ∷ gone) rest rest') is_exit left) in
       let alike' : (q : ℕ) → lives same.live (line_using k.instead x ∷ rest') to q ≡ true → registers q ≡ s.frame.registers q =
       λ q l. alike q (subst (λ (z : ℕ → ℕ → Bool). lives z (y ∷ rest') to q ≡ true) (sym is_live) (subst (λ z. lives same.live (z ∷ rest') to q ≡ true) (sym k.line) l)) in
       let sim : NextSim (does u g x rest s) (does v g (line_using k.instead x) rest' (twin s (y ∷ rest') to registers callers)) = does_sim s (y ∷ rest') to registers callers f other at at' same gone copies waits k.instead k.may x rest rest' left' alike' in
-      inl (subst (λ lines. NextSim (step_at u g lines s) (does v g y rest' (twin s (y ∷ rest') to registers callers))) is_rest
-      (subst (λ z. NextSim (does u g x rest s) (does v g z rest' (twin s (y ∷ rest') to registers callers))) (sym k.line) sim))
+      inl (inl (subst (λ lines. NextSim (step_at u g lines s) (does v g y rest' (twin s (y ∷ rest') to registers callers))) is_rest
+      (subst (λ z. NextSim (does u g x rest s) (does v g z rest' (twin s (y ∷ rest') to registers callers))) (sym k.line) sim)))
+  step_on f live from to behind old new (Straight gone rest rest' x y r v' pair left) s registers callers other at at' same is_live is_exit is_rest copies waits alike =
+      let left' : ForwardsLines (first_free f) same.live s.frame.spot.exit to (y ∷ x ∷ gone) rest rest' =
+      subst (λ (z : ℕ → ℕ → Bool). ForwardsLines (first_free f) z s.frame.spot.exit to (y ∷ x ∷ gone) rest rest') is_live (subst (λ z. ForwardsLines (first_free f) live z to (y ∷ x ∷ gone) rest rest') is_exit left) in
+      let pair' : IsStraightPair same.live to rest' x y r v' = subst (λ (z : ℕ → ℕ → Bool). IsStraightPair z to rest' x y r v') is_live pair in
+      let alike' : (q : ℕ) → lives same.live (setting v' x ∷ rest') to q ≡ true → registers q ≡ s.frame.registers q =
+      λ q l. alike q (subst (λ (z : ℕ → ℕ → Bool). lives z (setting v' x ∷ rest') to q ≡ true) (sym is_live) l) in
+      let here : State = twin s (setting v' x ∷ rest') to registers callers in
+      inl (subst (λ lines. Follows (step_at u g lines s) (does v g (setting v' x) rest' here)) is_rest
+      (straight_sim s (setting v' x ∷ rest') to registers callers f other at at' same gone copies waits x y r v' rest rest' pair' left' alike'))
   step_on f live from to behind old new (LeftOut gone rest rest' a b dead left) s registers callers other at at' same is_live is_exit is_rest copies waits alike =
       let left' : ForwardsLines (first_free f) same.live s.frame.spot.exit to (Copy a b ∷ gone) rest rest' =
       subst (λ (z : ℕ → ℕ → Bool). ForwardsLines (first_free f) z s.frame.spot.exit to (Copy a b ∷ gone) rest rest') is_live (subst (λ z. ForwardsLines (first_free f) live z to (Copy a b ∷ gone) rest rest') is_exit left) in
@@ -592,9 +780,9 @@ module _ (u w : Code) (g : Setting) (all : ForwardsFunctions u.functions.items w
       dead_other q false e l = e
       dead_other q true e l = absurd (let is : q ≡ a = eqb-true q a e in let no : lives live rest' to q ≡ false = subst (λ z. lives live rest' to z ≡ false) (sym is) dead in cc)
 
-  step_sim : (s t : State) → Twin s t → NextSim (step u g s) (step v g t) ⊎ IsIdle s t
+  step_sim : (s t : State) → Twin s t → Steps s t
   step_sim s t h =
-      subst (λ (z : State). NextSim (step u g s) (step v g z) ⊎ IsIdle s z) (sym h.is)
+      subst (λ (z : State). Steps s z) (sym h.is)
       (step_on h.ok.function h.ok.same.live s.frame.spot.exit h.leaving h.ok.behind s.frame.spot.rest h.rest h.ok.lines s h.registers h.callers h.ok.other h.ok.at h.ok.at_other h.ok.same refl refl refl h.ok.copies h.waits h.ok.alike)
 
   -- ---- runs
@@ -614,18 +802,29 @@ module _ (u w : Code) (g : Setting) (all : ForwardsFunctions u.functions.items w
         let again = go s t (events ++ m) h.0 r in
         (again.0, ap (λ (z : List Event). exec v g again.0 t (events ++ z)) h.1 ∙ again.1)
 
-    ends_same : (k : ℕ) (s t : State) (events : List Event) → Twin s t → exec u g k s events ≡ Over o run → (k' : ℕ) × Ended k' t events
-    ends_same zero s t events h r = cc
-    ends_same (suc k) s t events h r = elim (step_sim s t h) [
-      | inl sim ↦ (let e = next_ends k (step u g s) (step v g t) events (ends_same k) sim r in (suc e.0, e.1))
+    ends_same : (k n : ℕ) → n ≤ k → (s t : State) (events : List Event) → Twin s t → exec u g n s events ≡ Over o run → (k' : ℕ) × Ended k' t events
+    ends_same k zero le s t events h r = cc
+    ends_same zero (suc n) le s t events h r = absurd (omega arith)
+    ends_same (suc k) (suc n) le s t events h r = elim (step_sim s t h) [
+      | inl follows ↦ elim follows [
+        | inl sim ↦ (let e = next_ends n (step u g s) (step v g t) events (ends_same k n (omega arith)) sim r in (suc e.0, e.1))
+        | inr two ↦ after_two (λ m small. ends_same k m small) n (omega arith) two (ap (λ (z : Next). goes_on z (exec u g n) events) (sym two.goes) ∙ r)
+      ]
       | inr idle ↦ (
-          let on : exec u g k idle.then_is (events ++ []) ≡ Over o run = ap (λ (z : Next). goes_on z (exec u g k) events) (sym idle.goes) ∙ r in
-          let e = ends_same k idle.then_is t events idle.same (ap (λ (z : List Event). exec u g k idle.then_is z) (sym (append-nil events)) ∙ on) in
-          e
+          let on : exec u g n idle.then_is (events ++ []) ≡ Over o run = ap (λ (z : Next). goes_on z (exec u g n) events) (sym idle.goes) ∙ r in
+          ends_same k n (omega arith) idle.then_is t events idle.same (ap (λ (z : List Event). exec u g n idle.then_is z) (sym (append-nil events)) ∙ on)
           )
     ]
+      where
+        after_two : ((m : ℕ) → m ≤ k → (s t : State) (events : List Event) → Twin s t → exec u g m s events ≡ Over o run → (k' : ℕ) × Ended k' t events) → (m : ℕ) → m ≤ k → (two : IsTwo (step u g s) (step v g t)) → exec u g m two.middle (events ++ two.events) ≡ Over o run → (k' : ℕ) × Ended k' t events
+        after_two again zero small two r = cc
+        after_two again (suc m) small two r =
+            let more = events ++ two.events in
+            let on : exec u g m two.then_is (more ++ []) ≡ Over o run = ap (λ (z : Next). goes_on z (exec u g m) more) (sym two.goes_on) ∙ r in
+            let e = again m (omega arith) two.then_is two.after more two.same (ap (λ (z : List Event). exec u g m two.then_is z) (sym (append-nil more)) ∙ on) in
+            (suc e.0, ap (λ (z : Next). goes_on z (exec v g e.0) events) two.after_goes ∙ e.1)
 
-pub whole : (old new : Code) → Forwards old new → (g : Setting) (n : ℕ) (o : Outcome) (run : List Event) → Runs old g n o run → Runs new g n o run
+pub whole : (old new : Code) → OnceUnit old new → (g : Setting) (n : ℕ) (o : Outcome) (run : List Event) → Runs old g n o run → Runs new g n o run
 whole old new p g n o run r =
-    let e = next_ends old new g p.functions o run r.steps (start old g n) (start (record old { functions = new.functions }) g n) [] (ends_same old new g p.functions o run r.steps) (start_sim old new g p.functions n) r.over in
+    let e = next_ends old new g p.functions o run r.steps (start old g n) (start (record old { functions = new.functions }) g n) [] (ends_same old new g p.functions o run r.steps r.steps (omega arith)) (start_sim old new g p.functions n) r.over in
     subst (λ (z : Code). Runs z g n o run) (sym p.rest) (record { steps = e.0; over = e.1 })

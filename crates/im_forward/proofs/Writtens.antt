@@ -1,5 +1,5 @@
 -- No register is read first but those that were: what comes in the place of a register was copied before, so it was read.
-use Rattle.std.proofs.Common.{◌≡◌, ◌⊎◌, inl, inr, ⊎_elim, ℕ, zero, suc, ◌+◌, ◌≤◌, ◌<◌, Bool, true, false, List, [], ◌∷◌, Option, Some, None, refl, sym, ap, ◌∙◌, subst, arith, eqb-true}
+use Rattle.std.proofs.Common.{◌≡◌, ◌⊎◌, inl, inr, ℕ, zero, suc, ◌<◌, Bool, true, false, List, [], ◌∷◌, Option, Some, None, refl, sym, ap, ◌∙◌, subst, arith, eqb-true}
 use Rattle.std.specs.Prelude.{◌==◌, ◌&&◌, ◌||◌, not, slice_get}
 use Rattle.im_block.specs.declared.code.Place.{Place}
 use Rattle.im_block.specs.declared.code.Place.TheVariants.{Static, Local, Through}
@@ -14,8 +14,10 @@ use Rattle.im_alloc_relation.specs.Live.{place_uses, uses, sets, exit_lives, liv
 use Rattle.im_alloc_relation.specs.Reads.{lives_in, reads_first, WritesFirst}
 use Rattle.im_block_live.proofs.Paths.{either, or_left, or_right, lives_more}
 use Rattle.im_forward.specs.Copies.{IsCopy, Copied, Further, Since, IsSame, Itself, CopyOf}
-use Rattle.im_forward.specs.Forward.{place_using, line_using, exit_using, ForwardsLines, Ends, Kept, LeftOut, ForwardsBlocks, ForwardsFunction}
+use Rattle.im_forward.specs.Straight.{setting}
+use Rattle.im_forward.specs.Forward.{place_using, line_using, exit_using, ForwardsLines, Ends, Kept, LeftOut, Straight, ForwardsOnce}
 use Rattle.im_forward.proofs.Same.{both_true, both_are, itself, used_lives, kept_lives}
+use Rattle.im_forward.proofs.Setting.{sets_target, sets_setting, uses_setting, sets_passing, uses_passing}
 use Rattle.im_forward.proofs.Sims.{BothBlocks, both_blocks}
 
 -- it was copied before these lines, in its block
@@ -95,6 +97,10 @@ module _ (before : List Line) (instead : ℕ → ℕ) (same : (v : ℕ) → IsSa
   exit_used live (Return None) e = inl e
   exit_used live (Return (Some r)) e = one_used r e
 
+not_is : (b : Bool) → not b ≡ true → b ≡ false
+not_is false e = refl
+not_is true e = cc
+
 line_sets : (instead : ℕ → ℕ) (line : Line) (v : ℕ) → sets (line_using instead line) v ≡ sets line v
 line_sets instead (Put to z) v = refl
 line_sets instead (PutNull to) v = refl
@@ -161,6 +167,38 @@ module _ (f g : ℕ → ℕ → Bool) (live : ℕ → ℕ → Bool) (v : ℕ) (l
           let no : lives live rest' b v ≡ false = subst (λ z. lives live rest' b z ≡ false) (sym is) dead in
           cc
           )
+  lines_read n a b before old new (Straight gone rest rest' x y t w p left) h = elim (either (uses (setting w x) v) (not (sets (setting w x) v) && lives g rest' b v) h) [
+    | inl used ↦ inl (used_lives f x (y ∷ rest) a v (sym (uses_setting w x v) ∙ used))
+    | inr on ↦ (
+        let both = both_true (not (sets (setting w x) v)) (lives g rest' b v) on in
+        let unset : (v == w) ≡ false = sym (sets_setting t w x p.sets v) ∙ not_is (sets (setting w x) v) both.0 in
+        let other : (v == t) ≡ false = apart both.1 unset (v == t) refl in
+        elim (lines_read n a b (y ∷ x ∷ gone) rest rest' left both.1) [
+          | inl l ↦ inl (kept_lives f x (y ∷ rest) a v (sets_target t x p.sets v ∙ other) (kept_lives f y rest a v (sets_passing x t w y p.passes v ∙ unset) l))
+          | inr s ↦ elim (source_behind (y ∷ x ∷ gone) s.copy v s.is y (x ∷ gone) refl) [
+            | inl u ↦ absurd (let no : uses y v ≡ false = uses_passing x t w y p.passes v ∙ other in cc)
+            | inr s' ↦ elim (source_behind (x ∷ gone) s'.copy v s'.is x gone refl) [
+              | inl u ↦ inl (used_lives f x (y ∷ rest) a v u)
+              | inr s'' ↦ inr s''
+            ]
+          ]
+        ]
+        )
+  ]
+    where
+      apart : lives g rest' b v ≡ true → (v == w) ≡ false → (c : Bool) → (v == t) ≡ c → (v == t) ≡ false
+      apart l unset false e = e
+      apart l unset true e = absurd (
+          let is : v ≡ t = eqb-true v t e in
+          elim p.dies [
+            | inl same ↦ (let here : (v == w) ≡ true = ap (λ z. z == w) (is ∙ same) ∙ itself w in cc)
+            | inr dead ↦ (
+                let yes : lives live rest' b v ≡ true = lives_more g live v there rest' b l in
+                let no : lives live rest' b v ≡ false = subst (λ z. lives live rest' b z ≡ false) (sym is) dead in
+                cc
+                )
+          ]
+          )
 
   block_read : (n : ℕ) (o q : Option Block) → BothBlocks n live o q → lives_in g q v ≡ true → lives_in f o v ≡ true
   block_read n None None both h = absurd cc
@@ -178,7 +216,7 @@ module _ (f g : ℕ → ℕ → Bool) (live : ℕ → ℕ → Bool) (v : ℕ) (l
 
 -- ---- a function
 
-module _ (old new : Function) (p : ForwardsFunction old new) where
+module _ (old new : Function) (p : ForwardsOnce old new) where
   closed_reads : (n b v : ℕ) → reads_first new.blocks.items n b v ≡ true → p.live b v ≡ true
   closed_reads zero b v e = absurd cc
   closed_reads (suc n) b v e = by (λ c h. closed_reads n c v h) (slice_get new.blocks.items b) refl e
@@ -193,8 +231,8 @@ module _ (old new : Function) (p : ForwardsFunction old new) where
       block_read (reads_first old.blocks.items n) (reads_first new.blocks.items n) p.live v (λ c h. reads_less n c v h) (λ c h. closed_reads n c v h) (first_free old) (slice_get old.blocks.items b) (slice_get new.blocks.items b)
       (both_blocks (first_free old) p.live old.blocks.items new.blocks.items b p.blocks) e
 
-pub written : (old new : Function) → ForwardsFunction old new → WritesFirst old → WritesFirst new
-written old new p h = record { each = λ n v e. one n v e }
+pub written_once : (old new : Function) → ForwardsOnce old new → WritesFirst old → WritesFirst new
+written_once old new p h = record { each = λ n v e. one n v e }
   where
     one : (n v : ℕ) → reads_first new.blocks.items n new.entry v ≡ true → v < new.parameters
     one n v e =

@@ -1,10 +1,11 @@
 -- Copies are forwarded to those that use them: what used a copy uses what was copied, and a copy that nothing uses any more is
--- left out. Arguments of calls stay where they are, since they stand side by side.
-use Rattle.std.specs.Prelude.{◌≡◌, ◌≤◌, ◌⊎◌, ℕ, Bool, true, false, List, [], ◌∷◌, Option, Some, None, slice_get}
+-- left out. Arguments of calls stay where they are, since they stand side by side. What a line computes goes straight to where
+-- it is kept.
+use Rattle.std.specs.Prelude.{◌≡◌, ◌≤◌, ◌⊎◌, ℕ, Bool, true, false, List, [], ◌∷◌, Some, None, slice_get}
 use Rattle.im_block.specs.declared.code.Place.{Place}
 use Rattle.im_block.specs.declared.code.Place.TheVariants.{Static, Local, Through}
 use Rattle.im_block.specs.declared.code.Line.{Line}
-use Rattle.im_block.specs.declared.code.Line.TheVariants.{Put, PutNull, Copy, Convert, Unary, Not, Compute, Compare, Move, Distance, Address, Read, Write, Reload, Spill, Cut, Call, GetChar, PutChar}
+use Rattle.im_block.specs.declared.code.Line.TheVariants.{Copy, Convert, Unary, Not, Compute, Compare, Move, Distance, Address, Read, Write, Spill, PutChar}
 use Rattle.im_block.specs.declared.code.Exit.{Exit}
 use Rattle.im_block.specs.declared.code.Exit.TheVariants.{Jump, Turn, Branch, Return}
 use Rattle.im_block.specs.declared.code.Block.{Block}
@@ -14,6 +15,7 @@ use Rattle.im_block.specs.declared.unit.Unit.{Unit as Code}
 use Rattle.im_alloc_placed.specs.Placeable.{first_free}
 use Rattle.im_alloc_relation.specs.Live.{lives}
 use Rattle.im_forward.specs.Copies.{IsSame}
+use Rattle.im_forward.specs.Straight.{setting, IsPair}
 
 -- a line and an exit with other registers in the place of those that they use; what they set stays
 
@@ -62,11 +64,12 @@ pub record ForwardsExit (free : ℕ) (before : List Line) (old new : Exit) : Typ
   pub exit : new ≡ exit_using instead old
 
 -- what is left of a block and of the new one, behind lines of the old block, the last first. A copy is left out where its register
--- doesn't live in the new code
+-- doesn't live in the new code. What a line sets goes straight to where the next one keeps it
 pub data ForwardsLines (free : ℕ) (live : ℕ → ℕ → Bool) (leaves leaves' : Exit) : List Line → List Line → List Line → Type 0 where
   Ends : (before : List Line) → ForwardsExit free before leaves leaves' → ForwardsLines free live leaves leaves' before [] []
   Kept : (before old new : List Line) (x y : Line) → ForwardsLine free before x y → ForwardsLines free live leaves leaves' (x ∷ before) old new → ForwardsLines free live leaves leaves' before (x ∷ old) (y ∷ new)
   LeftOut : (before old new : List Line) (to from : ℕ) → lives live new leaves' to ≡ false → ForwardsLines free live leaves leaves' (Copy to from ∷ before) old new → ForwardsLines free live leaves leaves' before (Copy to from ∷ old) new
+  Straight : (before old new : List Line) (x y : Line) (t v : ℕ) → IsPair live leaves' new x y t v → ForwardsLines free live leaves leaves' (y ∷ x ∷ before) old new → ForwardsLines free live leaves leaves' before (x ∷ y ∷ old) (setting v x ∷ new)
 
 pub record ForwardsBlock (free : ℕ) (live : ℕ → ℕ → Bool) (old new : Block) : Type 0 where
   pub lines : ForwardsLines free live old.exit new.exit [] old.lines.items new.lines.items
@@ -77,13 +80,18 @@ ForwardsBlocks free live (x ∷ xs) (y ∷ ys) = ForwardsBlock free live x y × 
 ForwardsBlocks free live [] (y ∷ ys) = ⊥
 ForwardsBlocks free live (x ∷ xs) [] = ⊥
 
--- live b: what lives at the start of block b of the new code
-pub record ForwardsFunction (old new : Function) : Type 0 where
+-- one step. live b: what lives at the start of block b of the new code
+pub record ForwardsOnce (old new : Function) : Type 0 where
   pub live : ℕ → ℕ → Bool
   pub closed : (b : ℕ) (block : Block) (v : ℕ) → slice_get new.blocks.items b ≡ Some block → lives live block.lines.items block.exit v ≡ true → live b v ≡ true
   pub blocks : ForwardsBlocks (first_free old) live old.blocks.items new.blocks.items
   pub virtual : old.registers ≡ Virtual
   pub rest : new ≡ record old { blocks = new.blocks }
+
+-- one step after the other
+pub data ForwardsFunction : Function → Function → Type 0 where
+  Once : (old new : Function) → ForwardsOnce old new → ForwardsFunction old new
+  Then : (old middle new : Function) → ForwardsOnce old middle → ForwardsFunction middle new → ForwardsFunction old new
 
 abbrev pub ForwardsFunctions : List Function → List Function → Type 0
 ForwardsFunctions [] [] = Unit {0}

@@ -2,3 +2,4 @@ pub mod Copies
 pub mod Forward
 pub mod Known
 pub mod Laws
+pub mod Straight

@@ -30,7 +30,7 @@ pub(crate) fn instead(copies: &[Known], register: u32) -> u32
 }
 
 /// The register that a line sets.
-fn set_by(line: Line) -> Option<u32>
+pub(crate) fn set_by(line: Line) -> Option<u32>
     ensures { (v : ℕ) → sets line v ≡ is_one result v }
 {
     match line {

@@ -3,9 +3,12 @@
 
 mod copies;
 mod dead;
+mod dying;
 mod forwarding;
 mod laws;
 mod sources;
+mod straight;
+mod values;
 
 pub use forwarding::forward;
 pub use laws::{

@@ -3,14 +3,15 @@
 -- The number of a line bounds the words behind it on a way to a flip or a halt. Within a function it is block_base and cost_on left:
 -- with_cut of each line that is left before the next cut, and leave_cost of each exit on the way. left b is no less than what is left
 -- at the start of block b; any such numbers do. It falls at each step:
---   on to the next line or another block: a line has at most with_cut words, an exit at most leave_cost of them;
+--   on to the next line or another block: a line has at most with_cut words, an exit at most leave_cost of them. A block that stands
+--     next is fallen into, and its label has no less than its first line;
 --   into the checkpoint: a cut has cut_rank = 37, an entry of the checkpoint at most 36, and one less with each word to the flip, 0;
---   into a function: its entry has cut_rank + 8, since 8 words at most lead to the cut at its start; into a routine: cut_rank + 11,
+--   into a function: its entry has cut_rank + 7, since 7 words at most lead to the cut at its start; into a routine: cut_rank + 11,
 --     since 11 words of putchar lead to its first cut. A call has one more, so block_base = cut_rank + 9 and its with_cut, 3, suffice;
 --   back: what stands behind a call is a cut, or the end of the run; a return has cut_rank + 1, and 5 words at most stand before it.
 -- So where a section begins, with at most n left, a word has at most 46 + n, and 49 where the run begins: K is at most 33 + 1 + 49 + n.
-use Rattle.std.proofs.Common.{◌≡◌, ◌≢◌, ℕ, suc, ◌+◌, ◌-◌, ◌^◌, ◌<◌, ◌≤◌, max, inl, Bool, true, false, List, [], ◌∷◌, ◌++◌, Some, None, length, refl, sym, ap, ◌∙◌, subst, length-append, arith}
-use Rattle.std.specs.Prelude.{◌==◌, slice_get, All}
+use Rattle.std.proofs.Common.{◌≡◌, ◌≢◌, ℕ, suc, ◌+◌, ◌-◌, ◌^◌, ◌<◌, ◌≤◌, max, inl, inr, Bool, true, false, List, [], ◌∷◌, ◌++◌, Option, Some, None, length, refl, sym, ap, ◌∙◌, subst, length-append, arith}
+use Rattle.std.specs.Prelude.{◌==◌, ◌&&◌, not, if◌then◌else◌, slice_get, All}
 use Rattle.std.proofs.lemmas.List.Elements.{All-head, All-tail}
 use Rattle.im_num.specs.declared.values.Cause.{Cause}
 use Rattle.im_rv.specs.declared.instr.Op.TheVariants.{Jalr, Lw, Sw, Addi, Add as AddOp}
@@ -29,13 +30,18 @@ use Rattle.im_block.specs.Paths.{IsCut}
 use Rattle.im_block.specs.Forced.{StartsWithCut, CutAfterCalls}
 use Rattle.im_block.specs.Wellformed.{ExitThere}
 use Rattle.im_cut_gap.specs.Remaining.{cost_on}
-use Rattle.im_select.specs.Emitted.{high_of, low_of, constant_by, constant_code, adds_by, adds_code, entry_label, labelled, call_code, cut_code, line_code, lines_code, leave_code, result_code, exit_code, block_code, blocks_code, enter_code, prologue_code, function_code}
+use Rattle.im_select.specs.declared.distance.Distance.{Distance as Reach}
+use Rattle.im_select.specs.declared.distance.Distance.TheVariants.{Near, Far}
+use Rattle.im_select.specs.Emitted.{high_of, low_of, constant_by, constant_code, adds_by, adds_code, entry_label, labelled, call_code, cut_code, line_code, lines_code, leave_code, result_code, onward_code, test_code, is_next, branch_code, exit_code, is_empty, ended_code, block_code, laid_order, Laying, next_label, found_code, laid_block, laid_code, blocks_code, enter_code, prologue_code, function_code}
 use Rattle.im_select.specs.Places.{CallsBelow}
 use Rattle.im_select.proofs.Counting.{paid}
-use Rattle.im_saved_lines.proofs.Scanning.{same_of, same_is, IsPlain}
+use Rattle.im_saved_lines.specs.Laws.{laid}
+use Rattle.im_saved_lines.proofs.Scanning.{both, same_of, same_is, IsPlain}
 use Rattle.im_saved_lines.proofs.Plain.{adds_plain}
 use Rattle.im_saved_lines.proofs.Working.{IsWork, work_plain}
-use Rattle.im_gap_ranked.proofs.Ranks.{greater_within, After, cut_rank, scan, IsRankedLine, AreRanked, AreWithin, scan_append, ranked_append, ranked_labelled, within_append, within_labelled, plain_ranked, plain_rank, plain_within}
+use Rattle.im_saved_lines.proofs.Order.{some_there, AreBelow, order_below}
+use Rattle.im_saved_lines.proofs.Selected.{next_is}
+use Rattle.im_gap_ranked.proofs.Ranks.{greater, greater_within, After, cut_rank, scan, IsRankedLine, AreRanked, AreWithin, scan_append, scan_labelled, ranked_append, ranked_labelled, within_append, within_labelled, plain_ranked, plain_rank, plain_within}
 use Rattle.im_gap_ranked.proofs.Routines.{entry_rank}
 
 -- ---- the stack pointer plus a word
@@ -59,6 +65,10 @@ adds_few rd n = by (high_of n == 0)
         omega arith
 
 -- ---- ranks of labels
+
+-- what stands behind has no more than the label that stands next
+abbrev Meets : (ℕ → ℕ) → Option ℕ → After → Type 0
+Meets at next behind = (l : ℕ) → next ≡ Some l → behind.next ≤ at l
 
 -- of a call, but for its own cost
 abbrev pub block_base : ℕ
@@ -101,7 +111,7 @@ line_few places m line uncut =
 abbrev return_code : List CodeLine
 return_code = plain_line (with_immediate Jalr 0 1 0) ∷ []
 
-module _ (at : ℕ → ℕ) (places : Name → ℕ) (m : ℕ → ℕ → ℕ) (okay : (b j : ℕ) → (4 ≤ m b j) × (m b j ≤ 31)) (functions first frame : ℕ) (left : ℕ → ℕ) (f : Function) (above : 64 ≤ first) (callees : HasCallees functions at) (blocks : (b : ℕ) → b < length f.blocks.items → at (first + b) ≡ block_rank left f b) where
+module _ (at : ℕ → ℕ) (places : Name → ℕ) (m : ℕ → ℕ → ℕ) (okay : (b j : ℕ) → (4 ≤ m b j) × (m b j ≤ 31)) (distance : Reach) (functions first frame : ℕ) (left : ℕ → ℕ) (f : Function) (above : 64 ≤ first) (callees : HasCallees functions at) (blocks : (b : ℕ) → b < length f.blocks.items → at (first + b) ≡ block_rank left f b) where
   block_most : (b : ℕ) → b < length f.blocks.items → at (first + b) ≤ block_base + left b
   block_most b h = subst (λ z. z ≤ block_base + left b) (sym (blocks b h)) (by (b == f.entry))
     where
@@ -147,30 +157,81 @@ module _ (at : ℕ → ℕ) (places : Name → ℕ) (m : ℕ → ℕ → ℕ) (o
     ranked_append at (adds_code 2 frame) return_code behind (plain_ranked at (adds_code 2 frame) (scan at return_code behind) (adds_plain 2 frame)) (record { label = λ l e. absurd cc; goes = tt }, tt),
   )
 
-  exit_most : (exit : Exit) (behind : After) → ExitThere (length f.blocks.items) exit → (scan at (exit_code first frame exit) behind).next ≤ block_base + cost_on left [] exit
-  exit_most (Jump c) behind there = let most = block_most c there in omega arith
-  exit_most (Turn c) behind there = let most = block_most c there in omega arith
-  exit_most (Branch on x y) behind there =
+  -- on to a label, which may stand next
+  onward_most : (next : Option ℕ) (label : ℕ) (falls : Bool) (behind : After) → (falls ≡ true → is_next next label ≡ true) → Meets at next behind → (scan at (onward_code falls label) behind).next ≤ suc (at label)
+  onward_most next label true behind is meets = let most = meets label (next_is next label (is refl)) in omega arith
+  onward_most next label false behind is meets = omega arith
+
+  onward_ranked : (falls : Bool) (label : ℕ) (behind : After) → 32 ≤ label → AreRanked at (onward_code falls label) behind
+  onward_ranked true label behind far = tt
+  onward_ranked false label behind far = jump_ranked 0 label behind (λ e. absurd (omega arith)) far (λ e. absurd (omega arith))
+
+  near_most : (bound label : ℕ) (behind : After) → at label ≤ bound → behind.next ≤ suc bound → suc (greater behind.next (at label)) ≤ suc (suc bound)
+  near_most bound label behind a b = let within = greater_within behind.next (at label) (suc bound) b (omega arith) in omega arith
+
+  far_most : (bound label : ℕ) (behind : After) → at label ≤ bound → behind.next ≤ suc bound → suc (greater (suc (at label)) behind.next) ≤ suc (suc bound)
+  far_most bound label behind a b = let within = greater_within (suc (at label)) behind.next (suc bound) (omega arith) b in omega arith
+
+  test_most : (bound : ℕ) (by : Reach) (other : Bool) (on label : ℕ) (behind : After) → at label ≤ bound → behind.next ≤ suc bound → (scan at (test_code by other on label) behind).next ≤ suc (suc bound)
+  test_most bound Near true on label behind a b = near_most bound label behind a b
+  test_most bound Near false on label behind a b = near_most bound label behind a b
+  test_most bound Far true on label behind a b = far_most bound label behind a b
+  test_most bound Far false on label behind a b = far_most bound label behind a b
+
+  test_ranked : (by : Reach) (other : Bool) (on label : ℕ) (behind : After) → 32 ≤ label → AreRanked at (test_code by other on label) behind
+  test_ranked Near true on label behind far = (record { label = λ l e. absurd cc; goes = inr (label, refl, far) }, tt)
+  test_ranked Near false on label behind far = (record { label = λ l e. absurd cc; goes = inr (label, refl, far) }, tt)
+  test_ranked Far true on label behind far = (record { label = λ l e. absurd cc; goes = inl (refl, refl) }, onward_ranked false label behind far)
+  test_ranked Far false on label behind far = (record { label = λ l e. absurd cc; goes = inl (refl, refl) }, onward_ranked false label behind far)
+
+  branch_most : (bound : ℕ) (next : Option ℕ) (on there other : ℕ) (behind : After) → Meets at next behind → at there ≤ bound → at other ≤ bound → (scan at (branch_code distance next on there other) behind).next ≤ suc (suc bound)
+  branch_most bound next on there other behind meets a b = by (is_next next there) refl
+    where
+      rest : List CodeLine
+      rest = onward_code (is_next next other) other
+
+      by : (t : Bool) → is_next next there ≡ t → (scan at (if t then test_code distance false on other else test_code distance true on there ++ rest) behind).next ≤ suc (suc bound)
+      by true e = let falls = meets there (next_is next there e) in test_most bound distance false on other behind b (omega arith)
+      by false e =
+          let onward = onward_most next other (is_next next other) behind (λ q. q) meets in
+          let is = ap (λ (z : After). z.next) (scan_append at (test_code distance true on there) rest behind) in
+          let most = test_most bound distance true on there (scan at rest behind) a (omega arith) in
+          subst (λ z. z ≤ suc (suc bound)) (sym is) most
+
+  branch_ranked : (next : Option ℕ) (on there other : ℕ) (behind : After) → 32 ≤ there → 32 ≤ other → AreRanked at (branch_code distance next on there other) behind
+  branch_ranked next on there other behind a b = by (is_next next there)
+    where
+      rest : List CodeLine
+      rest = onward_code (is_next next other) other
+
+      by : (t : Bool) → AreRanked at (if t then test_code distance false on other else test_code distance true on there ++ rest) behind
+      by true = test_ranked distance false on other behind b
+      by false = ranked_append at (test_code distance true on there) rest behind (test_ranked distance true on there (scan at rest behind) a) (onward_ranked (is_next next other) other behind b)
+
+  exit_most : (next : Option ℕ) (bare : Bool) (exit : Exit) (behind : After) → Meets at next behind → ExitThere (length f.blocks.items) exit → (scan at (exit_code distance next bare first frame exit) behind).next ≤ block_base + cost_on left [] exit
+  exit_most next bare (Jump c) behind meets there =
+      let most = block_most c there in
+      let onward = onward_most next (first + c) (not bare && is_next next (first + c)) behind (λ e. (both (not bare) (is_next next (first + c)) e).1) meets in
+      omega arith
+  exit_most next bare (Turn c) behind meets there = let most = block_most c there in omega arith
+  exit_most next bare (Branch on x y) behind meets there =
       let most = block_most x there.0 in
       let other = block_most y there.1 in
       let bound : ℕ = block_base + max (left x) (left y) in
-      let within = greater_within (suc (at (first + x))) (suc (at (first + y))) (suc bound) (omega arith) (omega arith) in
+      let within = branch_most bound next on (first + x) (first + y) behind meets (omega arith) (omega arith) in
       omega arith
-  exit_most (Return None) behind there =
+  exit_most next bare (Return None) behind meets there =
       let most = leave_most behind in
       let set = plain_rank at (result_code None) (scan at (leave_code frame) behind) ((refl, refl), tt) in
       omega arith
-  exit_most (Return (Some r)) behind there = let most = leave_most behind in omega arith
+  exit_most next bare (Return (Some r)) behind meets there = let most = leave_most behind in omega arith
 
-  exit_ranked : (exit : Exit) (behind : After) → AreRanked at (exit_code first frame exit) behind
-  exit_ranked (Jump b) behind = jump_ranked 0 (first + b) behind (λ e. absurd (omega arith)) (omega arith) (λ e. absurd (omega arith))
-  exit_ranked (Turn b) behind = jump_ranked 0 (first + b) behind (λ e. absurd (omega arith)) (omega arith) (λ e. absurd (omega arith))
-  exit_ranked (Branch on x y) behind =
-      let second = jump_ranked 0 (first + y) behind (λ e. absurd (omega arith)) (omega arith) (λ e. absurd (omega arith)) in
-      let one = jump_ranked 0 (first + x) (scan at (call_code 0 (first + y)) behind) (λ e. absurd (omega arith)) (omega arith) (λ e. absurd (omega arith)) in
-      (record { label = λ l e. absurd cc; goes = inl (refl, refl) }, (one.0, second))
-  exit_ranked (Return None) behind = ranked_append at (result_code None) (leave_code frame) behind (plain_ranked at (result_code None) (scan at (leave_code frame) behind) ((refl, refl), tt)) (leave_ranked behind)
-  exit_ranked (Return (Some r)) behind = leave_ranked behind
+  exit_ranked : (next : Option ℕ) (bare : Bool) (exit : Exit) (behind : After) → AreRanked at (exit_code distance next bare first frame exit) behind
+  exit_ranked next bare (Jump b) behind = onward_ranked (not bare && is_next next (first + b)) (first + b) behind (omega arith)
+  exit_ranked next bare (Turn b) behind = onward_ranked false (first + b) behind (omega arith)
+  exit_ranked next bare (Branch on x y) behind = branch_ranked next on (first + x) (first + y) behind (omega arith) (omega arith)
+  exit_ranked next bare (Return None) behind = ranked_append at (result_code None) (leave_code frame) behind (plain_ranked at (result_code None) (scan at (leave_code frame) behind) ((refl, refl), tt)) (leave_ranked behind)
+  exit_ranked next bare (Return (Some r)) behind = leave_ranked behind
 
   -- ---- lines
 
@@ -216,73 +277,129 @@ module _ (at : ℕ → ℕ) (places : Name → ℕ) (m : ℕ → ℕ → ℕ) (o
 
   -- ---- blocks
 
-  abbrev body : ℕ → Block → List CodeLine
-  body b block = lines_code places (m b) 0 block.lines.items ++ exit_code first frame block.exit
+  abbrev laying : Laying
+  laying = laid f places m distance first frame
 
-  body_most : (b : ℕ) (block : Block) (behind : After) → BlockFacts functions left f b block → (scan at (body b block) behind).next ≤ at (first + b)
-  body_most b block behind facts =
-      subst (λ z. (scan at (body b block) behind).next ≤ z) (sym (blocks b facts.inside)) (by (b == f.entry) refl)
+  abbrev count : ℕ
+  count = length f.blocks.items
+
+  abbrev lines_of : ℕ → Block → List CodeLine
+  lines_of b block = lines_code places (m b) 0 block.lines.items
+
+  abbrev ends : Option ℕ → ℕ → Block → List CodeLine
+  ends next b block = exit_code distance next (is_empty (lines_of b block)) first frame block.exit
+
+  abbrev body : Option ℕ → ℕ → Block → List CodeLine
+  body next b block = ended_code distance next first frame (lines_of b block) block.exit
+
+  abbrev code_of : Option ℕ → ℕ → Block → List CodeLine
+  code_of next b block = block_code places (m b) distance next first frame b block
+
+  ends_most : (next : Option ℕ) (b : ℕ) (block : Block) (behind : After) → Meets at next behind → ExitThere count block.exit → (scan at (ends next b block) behind).next ≤ block_base + cost_on left [] block.exit
+  ends_most next b block behind meets there = exit_most next (is_empty (lines_of b block)) block.exit behind meets there
+
+  body_most : (next : Option ℕ) (b : ℕ) (block : Block) (behind : After) → BlockFacts functions left f b block → Meets at next behind → (scan at (body next b block) behind).next ≤ at (first + b)
+  body_most next b block behind facts meets =
+      subst (λ z. (scan at (body next b block) behind).next ≤ z) (sym (blocks b facts.inside)) (by (b == f.entry) refl)
     where
       exits : After
-      exits = scan at (exit_code first frame block.exit) behind
+      exits = scan at (ends next b block) behind
 
-      is : (scan at (body b block) behind).next ≡ (scan at (lines_code places (m b) 0 block.lines.items) exits).next
-      is = ap (λ (z : After). z.next) (scan_append at (lines_code places (m b) 0 block.lines.items) (exit_code first frame block.exit) behind)
+      is : (scan at (body next b block) behind).next ≡ (scan at (lines_of b block) exits).next
+      is = ap (λ (z : After). z.next) (scan_append at (lines_of b block) (ends next b block) behind)
 
-      by : (t : Bool) → (b == f.entry) ≡ t → (scan at (body b block) behind).next ≤ rank_by_entry t (block_base + left b)
+      by : (t : Bool) → (b == f.entry) ≡ t → (scan at (body next b block) behind).next ≤ rank_by_entry t (block_base + left b)
       by true e = let s = starts (m b) 0 block.lines.items exits (facts.entry (same_of b f.entry e)) in let q = is in omega arith
       by false e =
-          let whole = lines_most (m b) 0 block.lines.items block.exit exits (exit_most block.exit behind facts.there) facts.calls in
+          let whole = lines_most (m b) 0 block.lines.items block.exit exits (ends_most next b block behind meets facts.there) facts.calls in
           let most = facts.most in
           let q = is in
           omega arith
 
-  block_ranked : (b : ℕ) (block : Block) (behind : After) → BlockFacts functions left f b block → AreRanked at (block_code places (m b) first frame b block) behind
-  block_ranked b block behind facts =
-      ranked_labelled at (first + b) (body b block) behind (body_most b block behind facts)
-      (ranked_append at (lines_code places (m b) 0 block.lines.items) (exit_code first frame block.exit) behind (lines_ranked (m b) 0 block.lines.items (scan at (exit_code first frame block.exit) behind) (okay b) facts.cuts) (exit_ranked block.exit behind))
+  block_within_label : (next : Option ℕ) (b : ℕ) (block : Block) (behind : After) → BlockFacts functions left f b block → Meets at next behind → (scan at (code_of next b block) behind).next ≤ at (first + b)
+  block_within_label next b block behind facts meets =
+      subst (λ (z : After). z.next ≤ at (first + b)) (sym (scan_labelled at (first + b) (body next b block) behind)) (body_most next b block behind facts meets)
 
-  blocks_ranked : (b : ℕ) (xs : List Block) (behind : After) → ((j : ℕ) (block : Block) → slice_get xs j ≡ Some block → BlockFacts functions left f (b + j) block) → AreRanked at (blocks_code places m first frame b xs) behind
-  blocks_ranked b [] behind k = tt
-  blocks_ranked b (x ∷ xs) behind k =
-      let here : b + 0 ≡ b = omega arith in
-      ranked_append at (block_code places (m b) first frame b x) (blocks_code places m first frame (suc b) xs) behind
-      (block_ranked b x (scan at (blocks_code places m first frame (suc b) xs) behind) (subst (λ z. BlockFacts functions left f z x) here (k 0 x refl)))
-      (blocks_ranked (suc b) xs behind (λ j block e. (let q : b + suc j ≡ suc b + j = omega arith in subst (λ z. BlockFacts functions left f z block) q (k (suc j) block e))))
+  block_ranked : (next : Option ℕ) (b : ℕ) (block : Block) (behind : After) → BlockFacts functions left f b block → Meets at next behind → AreRanked at (code_of next b block) behind
+  block_ranked next b block behind facts meets =
+      ranked_labelled at (first + b) (body next b block) behind (body_most next b block behind facts meets)
+      (ranked_append at (lines_of b block) (ends next b block) behind (lines_ranked (m b) 0 block.lines.items (scan at (ends next b block) behind) (okay b) facts.cuts) (exit_ranked next (is_empty (lines_of b block)) block.exit behind))
+
+  -- ---- as they are laid
+
+  module _ (facts : (b : ℕ) (block : Block) → slice_get f.blocks.items b ≡ Some block → BlockFacts functions left f b block) where
+    laid_most : (b : ℕ) (order : List ℕ) (behind : After) → b < count → Meets at (next_label first order) behind → (scan at (laid_block laying b order) behind).next ≤ at (first + b)
+    laid_most b order behind there meets = by (slice_get f.blocks.items b) refl
+      where
+        next : Option ℕ
+        next = next_label first order
+
+        by : (o : Option Block) → slice_get f.blocks.items b ≡ o → (scan at (found_code laying b next o) behind).next ≤ at (first + b)
+        by None e = absurd (some_there f.blocks.items b there e)
+        by (Some block) e = block_within_label next b block behind (facts b block e) meets
+
+    laid_ranked : (b : ℕ) (order : List ℕ) (behind : After) → Meets at (next_label first order) behind → AreRanked at (laid_block laying b order) behind
+    laid_ranked b order behind meets = by (slice_get f.blocks.items b) refl
+      where
+        next : Option ℕ
+        next = next_label first order
+
+        by : (o : Option Block) → slice_get f.blocks.items b ≡ o → AreRanked at (found_code laying b next o) behind
+        by None e = tt
+        by (Some block) e = block_ranked next b block behind (facts b block e) meets
+
+    code_meets : (order : List ℕ) (behind : After) → AreBelow count order → Meets at (next_label first order) (scan at (laid_code laying order) behind)
+    code_meets [] behind h l e = absurd cc
+    code_meets (b ∷ order) behind h l e =
+        let rest : After = scan at (laid_code laying order) behind in
+        let is = ap (λ (z : After). z.next) (scan_append at (laid_block laying b order) (laid_code laying order) behind) in
+        let same : first + b ≡ l = cc in
+        let most = laid_most b order rest h.0 (code_meets order behind h.1) in
+        subst (λ z. (scan at (laid_code laying (b ∷ order)) behind).next ≤ at z) same (subst (λ z. z ≤ at (first + b)) (sym is) most)
+
+    code_ranked : (order : List ℕ) (behind : After) → AreBelow count order → AreRanked at (laid_code laying order) behind
+    code_ranked [] behind h = tt
+    code_ranked (b ∷ order) behind h =
+        ranked_append at (laid_block laying b order) (laid_code laying order) behind (laid_ranked b order (scan at (laid_code laying order) behind) (code_meets order behind h.1)) (code_ranked order behind h.1)
+
+    -- the prologue goes on to the entry
+    entered_most : (behind : After) → f.entry < count → (scan at (blocks_code laying) behind).next ≤ cut_rank
+    entered_most behind there =
+        let most = code_meets (laid_order f.entry count) behind (order_below f.entry count there) (first + f.entry) refl in
+        let is = entry_is there in
+        omega arith
 
   -- ---- the prologue
 
-  enter_most : (target : ℕ) (behind : After) → at target ≡ cut_rank → (scan at (enter_code target) behind).next ≤ cut_rank + 5
-  enter_most target behind e =
+  enter_most : (behind : After) → behind.next ≤ cut_rank → (scan at enter_code behind).next ≤ cut_rank + 4
+  enter_most behind e =
       let stops = callees.stops in
-      let within = greater_within (suc (at stack_label)) (suc (suc (suc (at target)))) (cut_rank + 3) (omega arith) (omega arith) in
+      let within = greater_within (suc (at stack_label)) (suc (suc behind.next)) (cut_rank + 2) (omega arith) (omega arith) in
       omega arith
 
-  enter_ranked : (target : ℕ) (behind : After) → 32 ≤ target → AreRanked at (enter_code target) behind
-  enter_ranked target behind far =
-      let last = jump_ranked 0 target behind (λ e. absurd (omega arith)) far (λ e. absurd (omega arith)) in
+  enter_ranked : (behind : After) → AreRanked at enter_code behind
+  enter_ranked behind =
       let moved : List CodeLine = plain_line (with_immediate Addi 2 6 0) ∷ plain_line (storing Sw 2 1 0) ∷ [] in
-      let taken = ranked_append at moved (call_code 0 target) behind (plain_ranked at moved (scan at (call_code 0 target) behind) ((refl, refl), ((refl, refl), tt))) last in
-      let full = jump_ranked 0 stack_label (scan at (moved ++ call_code 0 target) behind) (λ e. absurd (omega arith)) (omega arith) (λ e. absurd (omega arith)) in (
+      let taken = plain_ranked at moved behind ((refl, refl), ((refl, refl), tt)) in
+      let full = jump_ranked 0 stack_label (scan at moved behind) (λ e. absurd (omega arith)) (omega arith) (λ e. absurd (omega arith)) in (
         plain_one at (plain_line (with_immediate Lw 5 0 28)) _ (refl, refl),
         (record { label = λ l e. absurd cc; goes = inl (refl, refl) }, (full.0, taken)),
       )
 
-  pub function_ranked : (i : ℕ) (behind : After) → i < functions → f.entry < length f.blocks.items → ((b : ℕ) (block : Block) → slice_get f.blocks.items b ≡ Some block → BlockFacts functions left f b block) → AreRanked at (function_code places m i first frame f.entry f.blocks.items) behind
+  pub function_ranked : (i : ℕ) (behind : After) → i < functions → f.entry < count → ((b : ℕ) (block : Block) → slice_get f.blocks.items b ≡ Some block → BlockFacts functions left f b block) → AreRanked at (function_code i laying) behind
   function_ranked i behind here there facts =
-      let target : ℕ = first + f.entry in
       let by : ℕ = 2 ^ 32 - frame in
-      let rest : List CodeLine = blocks_code places m first frame 0 f.blocks.items in
+      let rest : List CodeLine = blocks_code laying in
       let onward : After = scan at rest behind in
-      let e = ap (λ (z : After). z.next) (scan_append at (adds_code 6 by) (enter_code target) onward) in
-      let p = plain_rank at (adds_code 6 by) (scan at (enter_code target) onward) (adds_plain 6 by) in
+      let e = ap (λ (z : After). z.next) (scan_append at (adds_code 6 by) enter_code onward) in
+      let p = plain_rank at (adds_code 6 by) (scan at enter_code onward) (adds_plain 6 by) in
       let few = adds_few 6 by in
-      let most = enter_most target onward (entry_is there) in
+      let most = enter_most onward (entered_most facts behind there) in
       let called = callees.entries i here in
-      ranked_append at (labelled (entry_label i) (prologue_code frame target)) rest behind
-      (ranked_labelled at (entry_label i) (prologue_code frame target) onward (omega arith)
-      (ranked_append at (adds_code 6 by) (enter_code target) onward (plain_ranked at (adds_code 6 by) (scan at (enter_code target) onward) (adds_plain 6 by)) (enter_ranked target onward (omega arith))))
-      (blocks_ranked 0 f.blocks.items behind (λ j block e. (let q : 0 + j ≡ j = omega arith in subst (λ z. BlockFacts functions left f z block) (sym q) (facts j block e))))
+      ranked_append at (labelled (entry_label i) (prologue_code frame)) rest behind
+      (ranked_labelled at (entry_label i) (prologue_code frame) onward (omega arith)
+      (ranked_append at (adds_code 6 by) enter_code onward (plain_ranked at (adds_code 6 by) (scan at enter_code onward) (adds_plain 6 by)) (enter_ranked onward)))
+      (code_ranked facts (laid_order f.entry count) behind (order_below f.entry count there))
 
   -- ---- what stands behind cuts
 
@@ -297,12 +414,32 @@ module _ (at : ℕ → ℕ) (places : Name → ℕ) (m : ℕ → ℕ → ℕ) (o
   leave_within : (top : ℕ) (behind : After) → AreWithin at top (leave_code frame) behind
   leave_within top behind = ((λ jumps cut. absurd cc), within_append at top (adds_code 2 frame) return_code behind (plain_within at top (adds_code 2 frame) (scan at return_code behind) (adds_plain 2 frame)) ((λ jumps cut. absurd cc), tt))
 
-  exit_within : (top : ℕ) (exit : Exit) (behind : After) → AreWithin at top (exit_code first frame exit) behind
-  exit_within top (Jump b) behind = jump_within top 0 (first + b) behind (λ e. absurd (omega arith))
-  exit_within top (Turn b) behind = jump_within top 0 (first + b) behind (λ e. absurd (omega arith))
-  exit_within top (Branch on x y) behind = ((λ jumps cut. absurd cc), ((λ jumps cut. absurd cc), ((λ jumps cut. absurd cc), tt)))
-  exit_within top (Return None) behind = ((λ jumps cut. absurd cc), leave_within top behind)
-  exit_within top (Return (Some r)) behind = leave_within top behind
+  onward_within : (top : ℕ) (falls : Bool) (label : ℕ) (behind : After) → AreWithin at top (onward_code falls label) behind
+  onward_within top true label behind = tt
+  onward_within top false label behind = jump_within top 0 label behind (λ e. absurd (omega arith))
+
+  test_within : (top : ℕ) (by : Reach) (other : Bool) (on label : ℕ) (behind : After) → AreWithin at top (test_code by other on label) behind
+  test_within top Near true on label behind = ((λ jumps cut. absurd cc), tt)
+  test_within top Near false on label behind = ((λ jumps cut. absurd cc), tt)
+  test_within top Far true on label behind = ((λ jumps cut. absurd cc), onward_within top false label behind)
+  test_within top Far false on label behind = ((λ jumps cut. absurd cc), onward_within top false label behind)
+
+  branch_within : (top : ℕ) (next : Option ℕ) (on there other : ℕ) (behind : After) → AreWithin at top (branch_code distance next on there other) behind
+  branch_within top next on there other behind = by (is_next next there)
+    where
+      rest : List CodeLine
+      rest = onward_code (is_next next other) other
+
+      by : (t : Bool) → AreWithin at top (if t then test_code distance false on other else test_code distance true on there ++ rest) behind
+      by true = test_within top distance false on other behind
+      by false = within_append at top (test_code distance true on there) rest behind (test_within top distance true on there (scan at rest behind)) (onward_within top (is_next next other) other behind)
+
+  exit_within : (top : ℕ) (next : Option ℕ) (bare : Bool) (exit : Exit) (behind : After) → AreWithin at top (exit_code distance next bare first frame exit) behind
+  exit_within top next bare (Jump b) behind = onward_within top (not bare && is_next next (first + b)) (first + b) behind
+  exit_within top next bare (Turn b) behind = onward_within top false (first + b) behind
+  exit_within top next bare (Branch on x y) behind = branch_within top next on (first + x) (first + y) behind
+  exit_within top next bare (Return None) behind = ((λ jumps cut. absurd cc), leave_within top behind)
+  exit_within top next bare (Return (Some r)) behind = leave_within top behind
 
   lines_within : (top : ℕ) (n : ℕ → ℕ) (j : ℕ) (lines : List Line) (exit : Exit) (behind : After) → behind.next ≤ block_base + cost_on left [] exit → All (CallsBelow functions) lines → HasLittleLeft top lines exit → AreWithin at top (lines_code places n j lines) behind
   lines_within top n j [] exit behind h c little = tt
@@ -323,34 +460,43 @@ module _ (at : ℕ → ℕ) (places : Name → ℕ) (m : ℕ → ℕ → ℕ) (o
       one (PutChar to from) k = jump_within top 1 putchar_label onward (λ e. absurd (omega arith))
       one x k = plain_within at top (line_code places (n j) x) onward (work_plain places (n j) x tt)
 
-  block_within : (top b : ℕ) (block : Block) (behind : After) → BlockFacts functions left f b block → HasLittleLeft top block.lines.items block.exit → AreWithin at top (block_code places (m b) first frame b block) behind
-  block_within top b block behind facts little =
-      within_labelled at top (first + b) (body b block) behind
-      (within_append at top (lines_code places (m b) 0 block.lines.items) (exit_code first frame block.exit) behind
-      (lines_within top (m b) 0 block.lines.items block.exit (scan at (exit_code first frame block.exit) behind) (exit_most block.exit behind facts.there) facts.calls little)
-      (exit_within top block.exit behind))
+  block_within : (top : ℕ) (next : Option ℕ) (b : ℕ) (block : Block) (behind : After) → BlockFacts functions left f b block → HasLittleLeft top block.lines.items block.exit → Meets at next behind → AreWithin at top (code_of next b block) behind
+  block_within top next b block behind facts little meets =
+      within_labelled at top (first + b) (body next b block) behind
+      (within_append at top (lines_of b block) (ends next b block) behind
+      (lines_within top (m b) 0 block.lines.items block.exit (scan at (ends next b block) behind) (ends_most next b block behind meets facts.there) facts.calls little)
+      (exit_within top next (is_empty (lines_of b block)) block.exit behind))
 
   -- a block's facts, and little left behind its cuts
   abbrev Facts : ℕ → ℕ → Block → Type 0
   Facts top b block = BlockFacts functions left f b block × HasLittleLeft top block.lines.items block.exit
 
-  blocks_within : (top b : ℕ) (xs : List Block) (behind : After) → ((j : ℕ) (block : Block) → slice_get xs j ≡ Some block → Facts top (b + j) block) → AreWithin at top (blocks_code places m first frame b xs) behind
-  blocks_within top b [] behind k = tt
-  blocks_within top b (x ∷ xs) behind k =
-      let here : b + 0 ≡ b = omega arith in
-      let facts = subst (λ z. Facts top z x) here (k 0 x refl) in
-      within_append at top (block_code places (m b) first frame b x) (blocks_code places m first frame (suc b) xs) behind
-      (block_within top b x (scan at (blocks_code places m first frame (suc b) xs) behind) facts.0 facts.1)
-      (blocks_within top (suc b) xs behind (λ j block e. (let q : b + suc j ≡ suc b + j = omega arith in subst (λ z. Facts top z block) q (k (suc j) block e))))
+  module _ (top : ℕ) (facts : (b : ℕ) (block : Block) → slice_get f.blocks.items b ≡ Some block → Facts top b block) where
+    laid_within : (b : ℕ) (order : List ℕ) (behind : After) → Meets at (next_label first order) behind → AreWithin at top (laid_block laying b order) behind
+    laid_within b order behind meets = by (slice_get f.blocks.items b) refl
+      where
+        next : Option ℕ
+        next = next_label first order
 
-  prologue_within : (top target : ℕ) (behind : After) → AreWithin at top (prologue_code frame target) behind
-  prologue_within top target behind =
-      within_append at top (adds_code 6 (2 ^ 32 - frame)) (enter_code target) behind (plain_within at top (adds_code 6 (2 ^ 32 - frame)) (scan at (enter_code target) behind) (adds_plain 6 (2 ^ 32 - frame)))
-      ((λ jumps cut. absurd cc), ((λ jumps cut. absurd cc), ((λ jumps cut. absurd cc), ((λ jumps cut. absurd cc), ((λ jumps cut. absurd cc), ((λ jumps cut. absurd cc), tt))))))
+        by : (o : Option Block) → slice_get f.blocks.items b ≡ o → AreWithin at top (found_code laying b next o) behind
+        by None e = tt
+        by (Some block) e = (let k = facts b block e in block_within top next b block behind k.0 k.1 meets)
 
-  pub function_within : (top i : ℕ) (behind : After) → ((b : ℕ) (block : Block) → slice_get f.blocks.items b ≡ Some block → Facts top b block) → AreWithin at top (function_code places m i first frame f.entry f.blocks.items) behind
-  function_within top i behind facts =
-      let rest : List CodeLine = blocks_code places m first frame 0 f.blocks.items in
-      within_append at top (labelled (entry_label i) (prologue_code frame (first + f.entry))) rest behind
-      (within_labelled at top (entry_label i) (prologue_code frame (first + f.entry)) (scan at rest behind) (prologue_within top (first + f.entry) (scan at rest behind)))
-      (blocks_within top 0 f.blocks.items behind (λ j block e. (let q : 0 + j ≡ j = omega arith in subst (λ z. Facts top z block) (sym q) (facts j block e))))
+    code_within : (order : List ℕ) (behind : After) → AreBelow count order → AreWithin at top (laid_code laying order) behind
+    code_within [] behind h = tt
+    code_within (b ∷ order) behind h =
+        within_append at top (laid_block laying b order) (laid_code laying order) behind
+        (laid_within b order (scan at (laid_code laying order) behind) (code_meets (λ c block e. (facts c block e).0) order behind h.1))
+        (code_within order behind h.1)
+
+  prologue_within : (top : ℕ) (behind : After) → AreWithin at top (prologue_code frame) behind
+  prologue_within top behind =
+      within_append at top (adds_code 6 (2 ^ 32 - frame)) enter_code behind (plain_within at top (adds_code 6 (2 ^ 32 - frame)) (scan at enter_code behind) (adds_plain 6 (2 ^ 32 - frame)))
+      ((λ jumps cut. absurd cc), ((λ jumps cut. absurd cc), ((λ jumps cut. absurd cc), ((λ jumps cut. absurd cc), ((λ jumps cut. absurd cc), tt)))))
+
+  pub function_within : (top i : ℕ) (behind : After) → f.entry < count → ((b : ℕ) (block : Block) → slice_get f.blocks.items b ≡ Some block → Facts top b block) → AreWithin at top (function_code i laying) behind
+  function_within top i behind there facts =
+      let rest : List CodeLine = blocks_code laying in
+      within_append at top (labelled (entry_label i) (prologue_code frame)) rest behind
+      (within_labelled at top (entry_label i) (prologue_code frame) (scan at rest behind) (prologue_within top (scan at rest behind)))
+      (code_within top facts (laid_order f.entry count) behind (order_below f.entry count there))

@@ -118,6 +118,10 @@ pub scan_append : (at : ℕ → ℕ) (xs ys : List CodeLine) (behind : After) �
 scan_append at [] ys behind = refl
 scan_append at (x ∷ xs) ys behind = ap (before at x) (scan_append at xs ys behind)
 
+pub scan_labelled : (at : ℕ → ℕ) (l : ℕ) (xs : List CodeLine) (behind : After) → scan at (labelled l xs) behind ≡ scan at xs behind
+scan_labelled at l [] behind = refl
+scan_labelled at l (x ∷ xs) behind = refl
+
 pub ranked_append : (at : ℕ → ℕ) (xs ys : List CodeLine) (behind : After) → AreRanked at xs (scan at ys behind) → AreRanked at ys behind → AreRanked at (xs ++ ys) behind
 ranked_append at [] ys behind a b = b
 ranked_append at (x ∷ xs) ys behind a b = (subst (IsRankedLine at x) (sym (scan_append at xs ys behind)) a.0, ranked_append at xs ys behind a.1 b)

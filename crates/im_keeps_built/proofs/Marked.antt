@@ -1,6 +1,6 @@
 -- A line of a program links x3 just where it has a cause.
 use Rattle.std.proofs.Common.{◌≡◌, ℕ, zero, suc, ◌+◌, ◌-◌, ◌^◌, inl, inr, Bool, true, false, List, [], ◌∷◌, ◌++◌, Option, Some, None, length, map, refl, sym, ap, ◌∙◌, subst, arith}
-use Rattle.std.specs.Prelude.{not, ◌&&◌, ◌==◌, slice_get}
+use Rattle.std.specs.Prelude.{not, ◌&&◌, ◌==◌, if◌then◌else◌, slice_get}
 use Rattle.std.proofs.lemmas.Option.{slice_get_cases, slice_get_within}
 use Rattle.im_num.specs.declared.kind.Kind.TheVariants.{I8, U8, I16, U16, I32, U32, Ptr}
 use Rattle.im_num.specs.Kinds.{word}
@@ -9,6 +9,7 @@ use Rattle.im_rv.specs.declared.instr.Op.TheVariants.{Jal}
 use Rattle.im_rv.specs.declared.code.Line.{Line as RustLine}
 use Rattle.im_rv.specs.declared.code.Part.{Part}
 use Rattle.im_rv.specs.Lines.{CodeLine, plain_line, code_line, code_lines}
+use Rattle.im_rv_reach.specs.Instructions.{upper}
 use Rattle.im_gap.specs.declared.flow.Turn.TheVariants.{Passes, Jumps}
 use Rattle.im_gap.specs.Flow.{links_by}
 use Rattle.im_link.specs.Parts.{IsPart, lines_of}
@@ -30,10 +31,11 @@ use Rattle.im_block.specs.declared.code.Block.{Block}
 use Rattle.im_block.specs.declared.unit.Function.{Function}
 use Rattle.im_block.specs.declared.unit.Unit.{Unit as Code}
 use Rattle.im_frame.specs.declared.layout.Layout.{Layout}
-use Rattle.im_select.specs.Emitted.{high_of, low_of, constant_by, constant_code, displaced_by, displaced_code, adds_by, adds_code, place_number, place_code, step_op, line_code, lines_code, exit_code, result_code, leave_code, block_code, blocks_code, prologue_code, function_code, labelled, entry_label}
-use Rattle.im_select.specs.Places.{at_of}
-use Rattle.im_live.specs.Entries.{entries}
-use Rattle.im_link_laws.specs.Program.{HasCode, part_of, first_label, given_at, start_code, IsProgram}
+use Rattle.im_select.specs.declared.distance.Distance.{Distance as Reach}
+use Rattle.im_select.specs.declared.distance.Distance.TheVariants.{Near, Far}
+use Rattle.im_select.specs.Emitted.{high_of, low_of, constant_by, constant_code, displaced_by, displaced_code, adds_by, adds_code, place_number, place_code, moved_code, copied_code, step_op, shift_of, shifts_code, scaled_code, based_code, address_code, line_code, lines_code, onward_code, test_code, is_next, branch_code, exit_code, is_empty, result_code, leave_code, block_code, laid_order, Laying, next_label, found_code, laid_block, laid_code, blocks_code, prologue_code, function_code, labelled, entry_label}
+use Rattle.im_select.specs.Selects.{laying_of}
+use Rattle.im_link_laws.specs.Program.{HasCode, part_of, given_at, start_code, IsProgram}
 use Rattle.im_saved_lines.specs.Scan.{way}
 use Rattle.im_saved_lines.proofs.Scanning.{both}
 use Rattle.im_saved_lines.proofs.Plain.{operation_way, less_way, load_way, store_way, step_way}
@@ -120,17 +122,47 @@ place_marked (Static object offset) n = (refl, tt)
 place_marked (Local object offset) n = displaced_marked 2 n
 place_marked (Through r offset) n = displaced_marked r n
 
+copied_marked : (to from : ℕ) → AreMarked (copied_code to from)
+copied_marked to from = by (to == from)
+  where
+    by : (b : Bool) → AreMarked (if b then [] else moved_code to from)
+    by true = tt
+    by false = (refl, tt)
+
+shifts_marked : (bits : Option ℕ) (size by : ℕ) → AreMarked (shifts_code bits size by)
+shifts_marked None size by = marked_append (constant_code 5 size) _ (constant_marked 5 size) (refl, tt)
+shifts_marked (Some bits) size by = (refl, tt)
+
+scaled_marked : (size by : ℕ) → AreMarked (scaled_code size by)
+scaled_marked size by = one (size == 1)
+  where
+    one : (b : Bool) → AreMarked (if b then [] else shifts_code (shift_of size) size by)
+    one true = tt
+    one false = shifts_marked (shift_of size) size by
+
+based_marked : (to : ℕ) (place : Place) (n : ℕ) → AreMarked (based_code to place n)
+based_marked to place n = marked_append (place_code place n) _ (place_marked place n) (refl, tt)
+
+address_marked : (to : ℕ) (place : Place) (n : ℕ) → AreMarked (address_code to place n)
+address_marked to (Static object offset) n = by (low_of n == 0)
+  where
+    by : (b : Bool) → AreMarked (if b then plain_line (upper to (high_of n)) ∷ [] else based_code to (Static object offset) n)
+    by true = (refl, tt)
+    by false = based_marked to (Static object offset) n
+address_marked to (Local object offset) n = based_marked to (Local object offset) n
+address_marked to (Through r offset) n = based_marked to (Through r offset) n
+
 line_marked : (at : Name → ℕ) (m : ℕ) (line : Line) → AreMarked (line_code at m line)
 line_marked at m (Put to z) = constant_marked to (word z)
 line_marked at m (PutNull to) = (refl, tt)
-line_marked at m (Copy to from) = (refl, tt)
+line_marked at m (Copy to from) = copied_marked to from
 line_marked at m (Convert to I8 from) = (refl, (refl, tt))
-line_marked at m (Convert to U8 from) = (refl, (refl, tt))
+line_marked at m (Convert to U8 from) = (refl, tt)
 line_marked at m (Convert to I16 from) = (refl, (refl, tt))
 line_marked at m (Convert to U16 from) = (refl, (refl, tt))
-line_marked at m (Convert to I32 from) = (refl, tt)
-line_marked at m (Convert to U32 from) = (refl, tt)
-line_marked at m (Convert to Ptr from) = (refl, tt)
+line_marked at m (Convert to I32 from) = copied_marked to from
+line_marked at m (Convert to U32 from) = copied_marked to from
+line_marked at m (Convert to Ptr from) = copied_marked to from
 line_marked at m (Unary to Negate kind from) = (refl, tt)
 line_marked at m (Unary to Complement kind from) = (refl, tt)
 line_marked at m (Not to from) = (refl, tt)
@@ -141,9 +173,9 @@ line_marked at m (Compare to LessOrEqual kind left right) = (unlinked (less_op k
 line_marked at m (Compare to GreaterOrEqual kind left right) = (unlinked (less_op kind) to (less_way kind), (refl, tt))
 line_marked at m (Compare to Equal kind left right) = (refl, (refl, tt))
 line_marked at m (Compare to NotEqual kind left right) = (refl, (refl, tt))
-line_marked at m (Move to size back pointer by) = marked_append (constant_code 5 size) _ (constant_marked 5 size) (refl, (unlinked (step_op back) to (step_way back), tt))
+line_marked at m (Move to size back pointer by) = marked_append (scaled_code size by) _ (scaled_marked size by) (unlinked (step_op back) to (step_way back), tt)
 line_marked at m (Distance to size left right) = (refl, marked_append (constant_code 6 size) _ (constant_marked 6 size) (refl, tt))
-line_marked at m (Address to place) = marked_append (place_code place (place_number at place)) _ (place_marked place (place_number at place)) (refl, tt)
+line_marked at m (Address to place) = address_marked to place (place_number at place)
 line_marked at m (Read to place kind access) = marked_append (place_code place (place_number at place)) _ (place_marked place (place_number at place)) (unlinked (load_op kind) to (load_way kind), tt)
 line_marked at m (Write place kind from access) = marked_append (place_code place (place_number at place)) _ (place_marked place (place_number at place)) (unlinked (store_op kind) 0 (store_way kind), tt)
 line_marked at m (Reload to slot access) = marked_append (displaced_code 2 (at (Slot slot))) _ (displaced_marked 2 (at (Slot slot))) (refl, tt)
@@ -164,33 +196,61 @@ result_marked (Some r) = tt
 leave_marked : (frame : ℕ) → AreMarked (leave_code frame)
 leave_marked frame = (refl, marked_append (adds_code 2 frame) _ (adds_marked 2 frame) (refl, tt))
 
-exit_marked : (first frame : ℕ) (exit : Exit) → AreMarked (exit_code first frame exit)
-exit_marked first frame (Jump b) = (refl, tt)
-exit_marked first frame (Turn b) = (refl, tt)
-exit_marked first frame (Branch on x y) = (refl, (refl, (refl, tt)))
-exit_marked first frame (Return from) = marked_append (result_code from) (leave_code frame) (result_marked from) (leave_marked frame)
+onward_marked : (falls : Bool) (label : ℕ) → AreMarked (onward_code falls label)
+onward_marked true label = tt
+onward_marked false label = (refl, tt)
+
+test_marked : (distance : Reach) (other : Bool) (on label : ℕ) → AreMarked (test_code distance other on label)
+test_marked Near true on label = (refl, tt)
+test_marked Near false on label = (refl, tt)
+test_marked Far true on label = (refl, (refl, tt))
+test_marked Far false on label = (refl, (refl, tt))
+
+branch_marked : (distance : Reach) (next : Option ℕ) (on there other : ℕ) → AreMarked (branch_code distance next on there other)
+branch_marked distance next on there other = by (is_next next there)
+  where
+    rest : List CodeLine
+    rest = onward_code (is_next next other) other
+
+    by : (t : Bool) → AreMarked (if t then test_code distance false on other else test_code distance true on there ++ rest)
+    by true = test_marked distance false on other
+    by false = marked_append (test_code distance true on there) rest (test_marked distance true on there) (onward_marked (is_next next other) other)
+
+exit_marked : (distance : Reach) (next : Option ℕ) (bare : Bool) (first frame : ℕ) (exit : Exit) → AreMarked (exit_code distance next bare first frame exit)
+exit_marked distance next bare first frame (Jump b) = onward_marked (not bare && is_next next (first + b)) (first + b)
+exit_marked distance next bare first frame (Turn b) = (refl, tt)
+exit_marked distance next bare first frame (Branch on x y) = branch_marked distance next on (first + x) (first + y)
+exit_marked distance next bare first frame (Return from) = marked_append (result_code from) (leave_code frame) (result_marked from) (leave_marked frame)
 
 labelled_marked : (label : ℕ) (lines : List CodeLine) → AreMarked lines → AreMarked (labelled label lines)
 labelled_marked label [] a = tt
 labelled_marked label (x ∷ xs) a = (a.0, a.1)
 
-blocks_marked : (at : Name → ℕ) (m : ℕ → ℕ → ℕ) (first frame n : ℕ) (blocks : List Block) → AreMarked (blocks_code at m first frame n blocks)
-blocks_marked at m first frame n [] = tt
-blocks_marked at m first frame n (block ∷ blocks) =
-    marked_append (block_code at (m n) first frame n block) (blocks_code at m first frame (suc n) blocks)
-    (labelled_marked (first + n) (lines_code at (m n) 0 block.lines.items ++ exit_code first frame block.exit)
-    (marked_append (lines_code at (m n) 0 block.lines.items) (exit_code first frame block.exit) (lines_marked at (m n) 0 block.lines.items) (exit_marked first frame block.exit)))
-    (blocks_marked at m first frame (suc n) blocks)
+block_marked : (at : Name → ℕ) (m : ℕ → ℕ) (distance : Reach) (next : Option ℕ) (first frame b : ℕ) (block : Block) → AreMarked (block_code at m distance next first frame b block)
+block_marked at m distance next first frame b block =
+    let lines : List CodeLine = lines_code at m 0 block.lines.items in
+    let ends : List CodeLine = exit_code distance next (is_empty lines) first frame block.exit in
+    labelled_marked (first + b) (lines ++ ends)
+    (marked_append lines ends (lines_marked at m 0 block.lines.items) (exit_marked distance next (is_empty lines) first frame block.exit))
 
-prologue_marked : (frame target : ℕ) → AreMarked (prologue_code frame target)
-prologue_marked frame target =
-    marked_append (adds_code 6 (2 ^ 32 - frame)) _ (adds_marked 6 (2 ^ 32 - frame)) (refl, (refl, (refl, (refl, (refl, (refl, tt))))))
+found_marked : (laying : Laying) (b : ℕ) (next : Option ℕ) (o : Option Block) → AreMarked (found_code laying b next o)
+found_marked laying b next None = tt
+found_marked laying b next (Some block) = block_marked laying.at (laying.cut b) laying.distance next laying.first laying.frame b block
 
-function_marked : (at : Name → ℕ) (m : ℕ → ℕ → ℕ) (i first frame entry : ℕ) (blocks : List Block) → AreMarked (function_code at m i first frame entry blocks)
-function_marked at m i first frame entry blocks =
-    marked_append (labelled (entry_label i) (prologue_code frame (first + entry))) (blocks_code at m first frame 0 blocks)
-    (labelled_marked (entry_label i) (prologue_code frame (first + entry)) (prologue_marked frame (first + entry)))
-    (blocks_marked at m first frame 0 blocks)
+laid_marked : (laying : Laying) (order : List ℕ) → AreMarked (laid_code laying order)
+laid_marked laying [] = tt
+laid_marked laying (b ∷ order) =
+    marked_append (laid_block laying b order) (laid_code laying order) (found_marked laying b (next_label laying.first order) (slice_get laying.blocks b)) (laid_marked laying order)
+
+prologue_marked : (frame : ℕ) → AreMarked (prologue_code frame)
+prologue_marked frame =
+    marked_append (adds_code 6 (2 ^ 32 - frame)) _ (adds_marked 6 (2 ^ 32 - frame)) (refl, (refl, (refl, (refl, (refl, tt)))))
+
+function_marked : (i : ℕ) (laying : Laying) → AreMarked (function_code i laying)
+function_marked i laying =
+    marked_append (labelled (entry_label i) (prologue_code laying.frame)) (blocks_code laying)
+    (labelled_marked (entry_label i) (prologue_code laying.frame) (prologue_marked laying.frame))
+    (laid_marked laying (laid_order laying.entry (length laying.blocks)))
 
 -- ---- the lines of all parts
 
@@ -229,7 +289,7 @@ module _ (u : Code) (statics : List ℕ) (layouts : List Layout) (parts : List P
       let exact = own.selection.exact in
       by_code (part_of i) part own.code is_part own.there
       (subst AreMarked (sym exact.lines_are)
-      (function_marked (at_of (given_at u.functions.items statics i f own.layout)) (entries exact.live f.blocks.items) i (first_label u.functions.items i) own.layout.frame f.entry f.blocks.items))
+      (function_marked i (laying_of (given_at u.functions.items statics i f own.layout) exact.live exact.distance)))
 
   part_marked : (p : ℕ) (part : Part) → IsPart parts p part → AllMarked part.lines.items
   part_marked zero part e = by_code 0 part _ e program.recovers recovery_marked

@@ -16,10 +16,11 @@ use Rattle.im_rv_reach.specs.Instructions.{jumping}
 use Rattle.im_block.specs.declared.unit.Function.{Function}
 use Rattle.im_block.specs.declared.unit.Unit.{Unit as Code}
 use Rattle.im_select.specs.Emitted.{entry_label}
-use Rattle.im_select.specs.Selects.{accesses_in, causes_in, HasLabel, IsTarget}
+use Rattle.im_select.specs.Selects.{accesses_in, causes_in, HasLabel, IsTarget, IsNear}
 use Rattle.im_frame.specs.declared.layout.Layout.{Layout}
 use Rattle.im_link_laws.specs.Program.{HasCode, IsProgram, part_of, start_code, given_at}
 use Rattle.im_link_laws.specs.Laws.{Within, NamesOwn, NamesAccesses}
+use Rattle.im_link_laws.proofs.Gathering.{laid_names}
 use Rattle.im_link_laws.proofs.Runtimes.{saved_there}
 use Rattle.im_link_laws.proofs.Owning.{part_for, Owner, Low, Entry, Own, label_check, known, target_check, Aim, ToCheckpoint, Within as Close, aims}
 
@@ -121,6 +122,17 @@ module _ (u : Code) (statics : List ℕ) (layouts : List Layout) (parts : List P
       let own = program.functions i f e in
       Elsewhere (part_of i) (own.selection.starts b.0) own.code own.there (subst (HasLabel own.code (own.selection.starts b.0)) (sym b.2) (own.selection.blocks b.0 b.1)) far
 
+  -- a branch leads to a block of its own function, which has few lines
+  near_target : (i : ℕ) (f : Function) (e : slice_get u.functions.items i ≡ Some f) (k l : ℕ) (x : CodeLine) → slice_get (program.functions i f e).code k ≡ Some x → IsNear (given_at u.functions.items statics i f (program.functions i f e).layout) (program.functions i f e).code x l → Goal parts (program.functions i f e).code k l x.line.op
+  near_target i f e k l x there near =
+      let own = program.functions i f e in
+      let b = near.block in
+      let label = own.selection.blocks b.0 b.1 in
+      let few = near.few in
+      let from = slice_get_within own.code k x there in
+      let to = slice_get_within own.code (own.selection.starts b.0) label.line label.there in
+      Near (own.selection.starts b.0) (subst (HasLabel own.code (own.selection.starts b.0)) (sym b.2) label) (inr (elim near.tests [ inl q ↦ ap format_of q | inr q ↦ ap format_of q ])) (omega arith) (omega arith)
+
   pub of_function : NamesAccesses u → (i : ℕ) (f : Function) → slice_get u.functions.items i ≡ Some f → Facts u.functions.items parts (part_of i)
   of_function names i f e =
       let own = program.functions i f e in
@@ -140,9 +152,9 @@ module _ (u : Code) (statics : List ℕ) (layouts : List Layout) (parts : List P
             | inr b ↦ (let x = a.3 in let y = b.3 in let same : a.0 ≡ b.0 = omega arith in a.2 ∙ ap sel.starts same ∙ sym b.2)
           ]
         ];
-        leads = λ k l x g t. let r = sel.targets k l x g t in target i f e own.code k l x.line.op r.far r.to;
+        leads = λ k l x g t. let r = sel.targets k l x g t in elim r.far [ inl far ↦ target i f e own.code k l x.line.op far r.to | inr near ↦ near_target i f e k l x g near ];
         named = λ k read write g.
-            let n = names.each i f e k read write (ap (λ z. slice_get z k) (sym sel.causes) ∙ g) in
+            let n = laid_names f.entry f.blocks.items (names.each i f e) k read write (ap (λ z. slice_get z k) (sym sel.causes) ∙ g) in
             let a = n.0 in
             let b = n.1 in
             ((a.0, ap (λ z. slice_get z a.0) sel.accesses ∙ a.1), (b.0, ap (λ z. slice_get z b.0) sel.accesses ∙ b.1));

@@ -1,5 +1,5 @@
 -- A function's part is what the law of selection asks of a function.
-use Rattle.std.proofs.Common.{◌≡◌, ◌<◌, ℕ, zero, suc, ◌+◌, ◌-◌, ◌*◌, Bool, true, false, List, Option, Some, None, inl, inr, length, refl, sym, ap, ◌∙◌, subst, arith}
+use Rattle.std.proofs.Common.{◌≡◌, ◌<◌, ℕ, zero, suc, ◌+◌, ◌-◌, ◌*◌, Bool, true, false, List, [], ◌∷◌, Option, Some, None, inl, inr, length, refl, sym, ap, ◌∙◌, subst, arith}
 use Rattle.std.specs.Prelude.{nat_lt, nat_le, if◌then◌else◌, slice_get, slice_index}
 use Rattle.std.proofs.lemmas.Bool.Decides.{nat_tests}
 use Rattle.std.proofs.lemmas.Option.{slice_get_cases, slice_get_within}
@@ -15,16 +15,22 @@ use Rattle.im_link.specs.Code.{IsLinkable, IsLinked as IsLinkedCode}
 use Rattle.im_rtlib.specs.Routines.{getchar_label, putchar_label, stack_label}
 use Rattle.im_rtlib_laws.specs.Standing.{aimed_at}
 use Rattle.im_store.specs.Objects.{Name, Named, Slot, Shape, shape_of}
+use Rattle.im_block.specs.declared.code.Line.{Line}
+use Rattle.im_block.specs.declared.code.Exit.{Exit}
+use Rattle.im_block.specs.declared.code.Exit.TheVariants.{Jump, Turn, Branch, Return}
+use Rattle.im_block.specs.declared.code.Block.{Block}
 use Rattle.im_block.specs.declared.unit.Function.{Function}
 use Rattle.im_block.specs.declared.unit.Unit.{Unit as Code}
+use Rattle.im_block.specs.Wellformed.{ExitThere}
 use Rattle.im_block.specs.Meaning.{Setting, shapes_of, shape_at, slot_shape}
 use Rattle.im_alloc_placed.specs.Operands.{HasObject}
 use Rattle.im_select_relation.specs.Linking.{Linking, frame_of}
 use Rattle.im_select_relation.specs.Linked.{FunctionAt}
-use Rattle.im_select_relation.specs.Symbolic.{Lines, StandsIn, IsSelected, IsLaid, spot_of, at_place}
+use Rattle.im_select_relation.specs.Symbolic.{Lines, ContinuesIn, Falls, Leaps, TestedIn, Reached, Missed, Hopped, Skipped, ExitIn, StandsIn, PrologueIn, IsSelected, IsLaid, spot_of, at_place}
 use Rattle.im_select_relation.proofs.Lift.{lines, frame}
 use Rattle.im_select.specs.Emitted.{entry_label}
-use Rattle.im_select.specs.Selects.{Agrees}
+use Rattle.im_select.specs.Selects.{Agrees, IsClosedBlock}
+use Rattle.im_select.proofs.Machine.{all_at}
 use Rattle.im_frame.specs.declared.layout.Layout.{Layout}
 use Rattle.im_link_laws.specs.Program.{IsProgram, part_of, first_label, given_at}
 use Rattle.im_link_laws.specs.Linking.{ArePlaces, entry_of, blocks_in, block_of, save_of, linking_of}
@@ -88,6 +94,39 @@ agrees u statics layouts parts program p g objects i f e =
       gets = refl;
     }
 
+-- ---- the lines that blocks begin with matter for blocks that are there alone
+
+continues_same : (w : Lines) (s t : ℕ → ℕ) (count k b : ℕ) → ((b : ℕ) → b < count → s b ≡ t b) → b < count → ContinuesIn w s k b → ContinuesIn w t k b
+continues_same w s t count k b same h (Falls e) = Falls (e ∙ same b h)
+continues_same w s t count k b same h (Leaps j) = Leaps j
+
+tested_same : (w : Lines) (s t : ℕ → ℕ) (count k on x y : ℕ) → ((b : ℕ) → b < count → s b ≡ t b) → x < count → y < count → TestedIn w s k on x y → TestedIn w t k on x y
+tested_same w s t count k on x y same h g (Reached a c) = Reached a (continues_same w s t count (suc k) y same g c)
+tested_same w s t count k on x y same h g (Missed a c) = Missed a (continues_same w s t count (suc k) x same h c)
+tested_same w s t count k on x y same h g (Hopped a j c) = Hopped a j (continues_same w s t count (suc (suc k)) y same g c)
+tested_same w s t count k on x y same h g (Skipped a j c) = Skipped a j (continues_same w s t count (suc (suc k)) x same h c)
+
+exit_same : (w : Lines) (s t : ℕ → ℕ) (count room k : ℕ) (exit : Exit) → ((b : ℕ) → b < count → s b ≡ t b) → ExitThere count exit → ExitIn w s room k exit → ExitIn w t room k exit
+exit_same w s t count room k (Jump b) same h a = continues_same w s t count k b same h a
+exit_same w s t count room k (Turn b) same h a = a
+exit_same w s t count room k (Branch on x y) same h a = (a.0, tested_same w s t count k on x y same h.0 h.1 a.1)
+exit_same w s t count room k (Return from) same h a = a
+
+stands_same : (w : Lines) (s t : ℕ → ℕ) (count room k : ℕ) (lines : List Line) (exit : Exit) → ((b : ℕ) → b < count → s b ≡ t b) → ExitThere count exit → StandsIn w s room k lines exit → StandsIn w t room k lines exit
+stands_same w s t count room k [] exit same h a = exit_same w s t count room k exit same h a
+stands_same w s t count room k (line ∷ lines) exit same h a = (a.0, a.1, stands_same w s t count room a.0 lines exit same h a.2)
+
+prologue_same : (w : Lines) (s t : ℕ → ℕ) (count k room b : ℕ) → ((b : ℕ) → b < count → s b ≡ t b) → b < count → PrologueIn w s k room b → PrologueIn w t k room b
+prologue_same w s t count k room b same h p = record { a = p.a; b = p.b; lowered = p.lowered; bound = p.bound; checked = p.checked; taken = p.taken; saved = p.saved; continues = continues_same w s t count (suc (suc p.b)) b same h p.continues }
+
+selected_same : (w : Lines) (room : ℕ) (f : Function) (s t : ℕ → ℕ) → ((b : ℕ) → b < length f.blocks.items → s b ≡ t b) → f.entry < length f.blocks.items → ((b : ℕ) (block : Block) → slice_get f.blocks.items b ≡ Some block → ExitThere (length f.blocks.items) block.exit) → IsSelected w room f s → IsSelected w room f t
+selected_same w room f s t same entry edges was = record {
+  prologue = prologue_same w s t (length f.blocks.items) 0 room f.entry same entry was.prologue;
+  blocks = λ b block e.
+      subst (λ (z : ℕ). StandsIn w t room z block.lines.items block.exit) (same b (slice_get_within f.blocks.items b block e))
+      (stands_same w s t (length f.blocks.items) room (s b) block.lines.items block.exit same (edges b block e) (was.blocks b block e));
+}
+
 pub function_at : (u : Code) (statics : List ℕ) (layouts : List Layout) (parts : List Part) (program : IsProgram u statics layouts parts) (linked : Linked) (place : ℕ → ℕ) (image : Mem) (g : Setting) (at size : Name → ℕ) → IsLinkable parts → IsLinkedCode parts linked → ArePlaces parts place → Stands image 4096 linked.words.items → HasObjects u statics layouts (linking_of u.functions.items place linked image at size) g → (i : ℕ) (f : Function) → slice_get u.functions.items i ≡ Some f → FunctionAt (linking_of u.functions.items place linked image at size) g i f
 function_at u statics layouts parts program linked place image g at size linkable is_linked places s objects i f e =
     let fs : List Function = u.functions.items in
@@ -103,10 +142,10 @@ function_at u statics layouts parts program linked place image g at size linkabl
     let base : place (entry_of fs i) ≡ address first = ap place (entry_in fs i within) ∙ label_place parts place (part_of i) 0 (entry_label i) part.code places part.there sel.entry ∙ (omega arith) in
     let framed = frame p g i f part.layout part.selectable.places.layout (objects.frames i f part.layout e part.is_layout) (objects.sizes i part.layout part.is_layout) part.selectable.placed.registers part.selectable.placed.received in
     let was : IsSelected w part.layout.frame f sel.starts = sel.selected w refl (agrees u statics layouts parts program p g objects i f e) in
+    let edges : (b : ℕ) (block : Block) → slice_get f.blocks.items b ≡ Some block → ExitThere (length f.blocks.items) block.exit = (λ b block t. (all_at (IsClosedBlock (given_at fs statics i f part.layout)) f.blocks.items b block part.selectable.closed t).edges) in
     let start_is : (b : ℕ) → b < length f.blocks.items → sel.starts b ≡ starts b = (λ b h. sym (ap (λ t. if t then sel.starts b else 0) (below b count (omega arith)))) in
     let selected : IsSelected w (frame_of g i) f starts =
-    subst (λ (z : ℕ). IsSelected w z f starts) (sym (objects.sizes i part.layout part.is_layout))
-    (record { prologue = was.prologue; blocks = λ b block t. subst (λ (z : ℕ). StandsIn w part.layout.frame z block.lines.items block.exit) (start_is b (slice_get_within f.blocks.items b block t)) (was.blocks b block t) }) in
+    subst (λ (z : ℕ). IsSelected w z f starts) (sym (objects.sizes i part.layout part.is_layout)) (selected_same w part.layout.frame f sel.starts starts start_is part.selectable.entry edges was) in
     let there = code_stands image parts linked place linkable is_linked places s (part_of i) part.code part.there in
     let laid : IsLaid p i w place starts = record {
       each = λ k l target access cause h.

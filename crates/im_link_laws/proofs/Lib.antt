@@ -3,6 +3,7 @@ pub mod Runtimes
 pub mod Functions
 pub mod Whole
 pub mod Owning
+pub mod Gathering
 pub mod Facts
 pub mod Linkable
 pub mod Counting

@@ -1,5 +1,5 @@
 -- Marks that a write leaves.
-use Rattle.std.proofs.Common.{◌≡◌, ℕ, ◌+◌, ◌/◌, ◌<◌, ◌≤◌, ◌⊎◌, inl, inr, List, Bool, true, false, length, get_or, set, cond, sym, ◌∙◌, arith}
+use Rattle.std.proofs.Common.{◌≡◌, ℕ, ◌+◌, ◌/◌, ◌%◌, ◌<◌, ◌≤◌, ◌⊎◌, inl, inr, List, Bool, true, false, length, get_or, set, cond, refl, sym, ◌∙◌, arith}
 use Rattle.std.specs.Prelude.{nat_lt, if◌then◌else◌}
 use Rattle.std.proofs.lemmas.Bool.{cases_lt}
 use Rattle.std.proofs.lemmas.Bool.Decides.{nat_tests}
@@ -7,7 +7,7 @@ use Rattle.std.proofs.lemmas.List.{get_or-set_same, get_or-set_other, get_or_pas
 use Rattle.im_num.specs.Bytes.{bytes_of}
 use Rattle.im_mem.specs.Memory.{Mem, is_place, written, stored}
 use Rattle.im_mem.proofs.Words.{written-below, written-above, length-bytes_of}
-use Rattle.im_mem_paged.specs.Marks.{UnmarkedAreZero, KeepsMarks, MarksAll, MarksBytes}
+use Rattle.im_mem_paged.specs.Marks.{UnmarkedAreZero, KeepsMarks, MarksAll, MarksBytes, MarksPageOf}
 
 true-false : {X : Type 0} (b : Bool) → b ≡ true → b ≡ false → X
 true-false true t f = absurd (grind (arith, f))
@@ -61,13 +61,30 @@ end-reached behind len end e =
       | inr high ↦ inl high
     ]
 
--- a store, and the pages of its bytes are marked
-store-cases : (b : Bool) (m n : Mem) (marks : List Bool) → UnmarkedAreZero n marks → UnmarkedAreZero m marks → UnmarkedAreZero (cond b n m) marks
-store-cases true m n marks p q = p
+-- an access that is made lies in one page
+place-sizes : (a n : ℕ) → is_place a n ≡ true → (n ≡ 1) ⊎ ((n ≡ 2) ⊎ (n ≡ 4))
+place-sizes a n place = grind (arith, nat_tests)
+
+one-page : (a n k : ℕ) → is_place a n ≡ true → a ≤ k → k < a + n → k / 4096 ≡ a / 4096
+one-page a n k place from below =
+    elim (place-sizes a n place) [
+      | inl one ↦ omega arith
+      | inr more ↦ elim more [
+        | inl two ↦ let even : a % 2 ≡ 0 = grind (arith, nat_tests) in omega arith
+        | inr four ↦ let whole : a % 4 ≡ 0 = grind (arith, nat_tests) in omega arith
+      ]
+    ]
+
+place-marks : (marks : List Bool) (a n : ℕ) → is_place a n ≡ true → MarksPageOf a marks → MarksBytes a n marks
+place-marks marks a n place marked k from below = rw (one-page a n k place from below) marked
+
+-- a store, and the page of its bytes is marked
+store-cases : (b : Bool) (m n : Mem) (marks : List Bool) → (b ≡ true → UnmarkedAreZero n marks) → UnmarkedAreZero m marks → UnmarkedAreZero (cond b n m) marks
+store-cases true m n marks p q = p refl
 store-cases false m n marks p q = q
 
-pub stored-unmarked : (m : Mem) (old new : List Bool) (a n w : ℕ) → UnmarkedAreZero m old → KeepsMarks old new → MarksBytes a n new → UnmarkedAreZero (stored m a n w) new
-stored-unmarked m old new a n w zero keeps all =
+pub stored-unmarked : (m : Mem) (old new : List Bool) (a n w : ℕ) → UnmarkedAreZero m old → KeepsMarks old new → MarksPageOf a new → UnmarkedAreZero (stored m a n w) new
+stored-unmarked m old new a n w zero keeps page =
     store-cases (is_place a n) m (written m a (bytes_of n w)) new
-    (written-unmarked m old new a (bytes_of n w) zero keeps (λ k from below. all k from (omega (arith, length-bytes_of n w))))
+    (λ place. written-unmarked m old new a (bytes_of n w) zero keeps (λ k from below. place-marks new a n place page k from (omega (arith, length-bytes_of n w))))
     (λ k inside unmarked. zero k inside (keeps (k / 4096) unmarked))

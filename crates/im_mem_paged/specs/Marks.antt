@@ -18,3 +18,7 @@ MarksAll first end marks = (page : ℕ) → first ≤ page → page < end → sl
 -- the pages of so many bytes from a place on are marked
 abbrev pub MarksBytes : (at count : ℕ) → List Bool → Type 0
 MarksBytes at count marks = (k : ℕ) → at ≤ k → k < at + count → slice_index_or marks (k / 4096) true ≡ true
+
+-- the page of an address is marked, where there is such a page
+abbrev pub MarksPageOf : (at : ℕ) → List Bool → Type 0
+MarksPageOf at marks = slice_index_or marks (at / 4096) true ≡ true

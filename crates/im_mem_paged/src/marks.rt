@@ -1,5 +1,5 @@
 ghost use Rattle.std.specs.Prelude.{◌≡◌, ◌≤◌, ◌<◌, ◌+◌, ◌^◌, length};
-ghost use Rattle.im_mem_paged.specs.Marks.{KeepsMarks, MarksBytes};
+ghost use Rattle.im_mem_paged.specs.Marks.{KeepsMarks, MarksBytes, MarksPageOf};
 
 /// Marks the pages of so many bytes from a place on, those behind the last mark left out.
 pub fn mark_bytes(marks: &mut Vec<bool>, at: usize, count: usize)
@@ -13,6 +13,18 @@ pub fn mark_bytes(marks: &mut Vec<bool>, at: usize, count: usize)
     let len = marks.len();
     let end = if behind < len { behind } else { len };
     for page in first..end {
+        marks[page] = true;
+    }
+}
+
+/// Marks the page of an address, where there is such a page.
+pub fn mark_page(marks: &mut Vec<bool>, at: u32)
+    ensures length { length marks.new.items ≡ length marks.old.items }
+    ensures keeps { KeepsMarks marks.old.items marks.new.items }
+    ensures page { MarksPageOf at marks.new.items }
+{
+    let page = (at / 4096) as usize;
+    if page < marks.len() {
         marks[page] = true;
     }
 }

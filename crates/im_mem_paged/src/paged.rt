@@ -1,7 +1,7 @@
 ghost use Rattle.std.specs.Prelude.{◌≡◌, IfOk, length};
 ghost use Rattle.im_mem_paged.specs.Pages as pages;
 
-use crate::marks::mark_bytes;
+use crate::marks::{mark_bytes, mark_page};
 use im_mem::{FlatMem, Memory};
 use im_num::NoMemory;
 use std::alloc::{AllocError, Global};
@@ -137,7 +137,7 @@ impl Memory for PagedMem {
     }
 
     fn store(&mut self, addr: u32, size: u32, word: u32) -> bool {
-        mark_bytes(&mut self.marks, addr as usize, size as usize);
+        mark_page(&mut self.marks, addr);
         self.flat.store(addr, size, word)
     }
 }

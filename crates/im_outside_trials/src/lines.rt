@@ -4,8 +4,9 @@ use im_cmd_lines::{
     send_report_lines, send_run_lines, send_variable_lines,
 };
 use im_fault::{LineFault, Place, Quantity, SourceFault};
-use im_image::{ImageFault, read_image};
+use im_image::{Form, ImageFault, read_image};
 use im_io::{Failed, MemSink};
+use im_mem_file::MemoryFault;
 use im_num::{Cause, CellValue, Var};
 use im_power::TraceFault;
 use im_rv::{Cut, Went};
@@ -335,15 +336,65 @@ const REFUSALS: [(Refusal, &str); 22] = [
     (Refusal::OutOfMemory, "no memory"),
 ];
 
-#[test]
-fn refusals(rt: HostRuntime) -> Result<(), Fail> {
-    for (refusal, text) in &REFUSALS {
-        let mut sink = sink(rt.alloc())?;
+/// Of memories.
+const MEMORIES: [(Refusal, &str); 9] = [
+    (
+        Refusal::NotAMemory("m", MemoryFault::ShortMemory(100)),
+        "m: short memory at 100",
+    ),
+    (
+        Refusal::NotAMemory("m", MemoryFault::BadMagic),
+        "m: bad magic",
+    ),
+    (
+        Refusal::NotAMemory("m", MemoryFault::BadVersion(3)),
+        "m: bad version 3",
+    ),
+    (
+        Refusal::NotAMemory("m", MemoryFault::BadForm(2)),
+        "m: bad form 2",
+    ),
+    (
+        Refusal::NotAMemory("m", MemoryFault::BadPages(1281)),
+        "m: bad pages 1281",
+    ),
+    (
+        Refusal::NotAMemory("m", MemoryFault::BadPage(1280)),
+        "m: bad page 1280",
+    ),
+    (
+        Refusal::NotAMemory("m", MemoryFault::Trailing(4116)),
+        "m: trailing bytes at 4116",
+    ),
+    (
+        Refusal::FormsDiffer("i", Form::OneLength, "m", Form::TwoLengths),
+        "i is form 0, m is form 1",
+    ),
+    (
+        Refusal::FormsDiffer("i", Form::TwoLengths, "m", Form::OneLength),
+        "i is form 1, m is form 0",
+    ),
+];
+
+/// Sees that each refusal has its line.
+fn are_told(
+    rt: &impl Abort,
+    alloc: Global,
+    rows: &[(Refusal<'static>, &'static str)],
+) -> Result<(), Fail> {
+    for (refusal, text) in rows {
+        let mut sink = sink(alloc)?;
         let sent = send_refusal_line(&mut sink, refusal);
-        let line = format!(in rt.alloc(); "intermit: {text}\n")?;
-        wrote(&rt, &sink, sent, &line);
+        let line = format!(in alloc; "intermit: {text}\n")?;
+        wrote(rt, &sink, sent, &line);
     }
     Ok(())
+}
+
+#[test]
+fn refusals(rt: HostRuntime) -> Result<(), Fail> {
+    are_told(&rt, rt.alloc(), &REFUSALS)?;
+    are_told(&rt, rt.alloc(), &MEMORIES)
 }
 
 fn variable(alloc: Global, name: &[u8], cells: &[CellValue]) -> Result<Var, Fail> {

@@ -1,18 +1,22 @@
--- Each line and exit has a word, and each function's entry.
-use Rattle.std.proofs.Common.{◌≡◌, ◌<◌, ◌≤◌, inl, inr, ℕ, zero, suc, ◌+◌, ◌-◌, ◌^◌, Bool, true, false, List, [], ◌∷◌, ◌++◌, Some, None, length, take, refl, ap, arith, length-append}
-use Rattle.std.specs.Prelude.{◌==◌, slice_get}
+-- Each line but a copy to itself has a word, and so have each block and each function's entry.
+use Rattle.std.proofs.Common.{◌≡◌, ◌<◌, ◌≤◌, inl, inr, ℕ, zero, suc, ◌+◌, ◌-◌, ◌^◌, Bool, true, false, List, [], ◌∷◌, ◌++◌, Option, Some, None, length, take, refl, ap, arith, length-append}
+use Rattle.std.specs.Prelude.{◌==◌, ◌&&◌, if◌then◌else◌, slice_get}
+use Rattle.std.proofs.lemmas.Bool.Decides.{nat_tests}
 use Rattle.std.proofs.lemmas.List.{take_all}
 use Rattle.std.proofs.lemmas.Option.{slice_get_cases}
 use Rattle.im_num.specs.declared.kind.Kind.{Kind}
 use Rattle.im_num.specs.declared.kind.Kind.TheVariants.{I8, U8, I16, U16, I32, U32, Ptr}
-use Rattle.im_num.specs.Kinds.{word}
+use Rattle.im_num.specs.Kinds.{kind_size, word}
 use Rattle.im_rv.specs.declared.code.Part.{Part}
-use Rattle.im_rv.specs.Lines.{CodeLine}
+use Rattle.im_rv.specs.Lines.{CodeLine, plain_line}
+use Rattle.im_rv_reach.specs.Instructions.{upper}
 use Rattle.im_store.specs.declared.operators.UnaryOp.{UnaryOp}
 use Rattle.im_store.specs.declared.operators.UnaryOp.TheVariants.{Negate, Complement}
 use Rattle.im_store.specs.declared.operators.Comparison.{Comparison}
 use Rattle.im_store.specs.declared.operators.Comparison.TheVariants.{Less, Greater, LessOrEqual, GreaterOrEqual, Equal, NotEqual}
 use Rattle.im_store.specs.Objects.{Name, Slot}
+use Rattle.im_block.specs.declared.code.Place.{Place}
+use Rattle.im_block.specs.declared.code.Place.TheVariants.{Static, Local, Through}
 use Rattle.im_block.specs.declared.code.Line.{Line}
 use Rattle.im_block.specs.declared.code.Line.TheVariants.{Put, PutNull, Copy, Convert, Unary, Not, Compute, Compare, Move, Distance, Address, Read, Write, Reload, Spill, Cut, Call, GetChar, PutChar}
 use Rattle.im_block.specs.declared.code.Exit.{Exit}
@@ -21,16 +25,17 @@ use Rattle.im_block.specs.declared.code.Block.{Block}
 use Rattle.im_block.specs.declared.unit.Unit.{Unit as Code}
 use Rattle.im_block.specs.Shape.{sum_of}
 use Rattle.im_frame.specs.declared.layout.Layout.{Layout}
-use Rattle.im_live.specs.Entries.{entries}
-use Rattle.im_select.specs.Emitted.{constant_by, high_of, low_of, constant_code, converted_code, unary_code, compared_code, place_code, displaced_code, place_number, line_code, lines_code, adds_code, enter_code, exit_code, labelled, block_code, blocks_code, prologue_code, function_code, entry_label}
-use Rattle.im_select.specs.Places.{at_of}
+use Rattle.im_select.specs.declared.distance.Distance.{Distance as Reach}
+use Rattle.im_select.specs.declared.distance.Distance.TheVariants.{Near, Far}
+use Rattle.im_select.specs.Emitted.{constant_by, high_of, low_of, moved_code, copied_code, converted_code, unary_code, compared_code, scaled_code, place_code, displaced_code, place_number, based_code, address_code, line_code, lines_code, adds_code, enter_code, onward_code, test_code, is_next, exit_code, is_empty, ended_code, labelled, block_code, others_below, laid_order, Laying, next_label, found_code, laid_block, laid_code, blocks_code, prologue_code, function_code, entry_label}
+use Rattle.im_select.specs.Selects.{laying_of}
 use Rattle.im_rv.specs.declared.instr.Op.{Op}
 use Rattle.im_select_operators.specs.Tables.{less_op}
 use Rattle.im_link.specs.Parts.{first_of, word_count}
 use Rattle.im_link.proofs.Joining.{first_whole}
 use Rattle.im_link_laws.specs.Program.{IsProgram, part_of, start_code, given_at}
 use Rattle.im_link_laws.proofs.Runtimes.{size_of}
-use Rattle.im_select_executes.specs.Executing.{block_words, function_words}
+use Rattle.im_select_executes.specs.Executing.{line_words, block_words, function_words}
 
 append_some : (xs : List CodeLine) (y : CodeLine) (ys : List CodeLine) → 0 < length (xs ++ y ∷ ys)
 append_some [] y ys = omega arith
@@ -40,14 +45,25 @@ constant_some : (b : Bool) (rd hi lo : ℕ) → 0 < length (constant_by b rd hi 
 constant_some true rd hi lo = omega arith
 constant_some false rd hi lo = omega arith
 
-convert_some : (to : ℕ) (kind : Kind) (from : ℕ) → 0 < length (converted_code to kind from)
+-- no line where a test says so, else one at least
+abbrev unless : Bool → ℕ
+unless nothing = if nothing then 0 else 1
+
+copy_some : (to from : ℕ) → unless (to == from) ≤ length (copied_code to from)
+copy_some to from = by (to == from)
+  where
+    by : (b : Bool) → unless b ≤ length (if b then [] else moved_code to from)
+    by true = omega arith
+    by false = omega arith
+
+convert_some : (to : ℕ) (kind : Kind) (from : ℕ) → unless (kind_size kind == 4 && to == from) ≤ length (converted_code to kind from)
 convert_some to I8 from = omega arith
 convert_some to U8 from = omega arith
 convert_some to I16 from = omega arith
 convert_some to U16 from = omega arith
-convert_some to I32 from = omega arith
-convert_some to U32 from = omega arith
-convert_some to Ptr from = omega arith
+convert_some to I32 from = copy_some to from
+convert_some to U32 from = copy_some to from
+convert_some to Ptr from = copy_some to from
 
 unary_some : (to : ℕ) (op : UnaryOp) (from : ℕ) → 0 < length (unary_code to op from)
 unary_some to Negate from = omega arith
@@ -61,18 +77,30 @@ compare_some to less left right GreaterOrEqual = omega arith
 compare_some to less left right Equal = omega arith
 compare_some to less left right NotEqual = omega arith
 
-line_some : (at : Name → ℕ) (m : ℕ) (line : Line) → 0 < length (line_code at m line)
+based_some : (to : ℕ) (place : Place) (n : ℕ) → 0 < length (based_code to place n)
+based_some to place n = append_some (place_code place n) _ _
+
+address_some : (to : ℕ) (place : Place) (n : ℕ) → 0 < length (address_code to place n)
+address_some to (Static object offset) n = by (low_of n == 0)
+  where
+    by : (b : Bool) → 0 < length (if b then plain_line (upper to (high_of n)) ∷ [] else based_code to (Static object offset) n)
+    by true = omega arith
+    by false = based_some to (Static object offset) n
+address_some to (Local object offset) n = based_some to (Local object offset) n
+address_some to (Through r offset) n = based_some to (Through r offset) n
+
+line_some : (at : Name → ℕ) (m : ℕ) (line : Line) → line_words line ≤ length (line_code at m line)
 line_some at m (Put to number) = constant_some (high_of (word number) == 0) to (high_of (word number)) (low_of (word number))
 line_some at m (PutNull to) = omega arith
-line_some at m (Copy to from) = omega arith
+line_some at m (Copy to from) = copy_some to from
 line_some at m (Convert to kind from) = convert_some to kind from
 line_some at m (Unary to op kind from) = unary_some to op from
 line_some at m (Not to from) = omega arith
 line_some at m (Compute to op kind left right) = omega arith
 line_some at m (Compare to op kind left right) = compare_some to (less_op kind) left right op
-line_some at m (Move to size back pointer by) = append_some (constant_code 5 size) _ _
+line_some at m (Move to size back pointer by) = append_some (scaled_code size by) _ _
 line_some at m (Distance to size left right) = omega arith
-line_some at m (Address to place) = append_some (place_code place (place_number at place)) _ _
+line_some at m (Address to place) = address_some to place (place_number at place)
 line_some at m (Read to place kind access) = append_some (place_code place (place_number at place)) _ _
 line_some at m (Write place kind from access) = append_some (place_code place (place_number at place)) _ _
 line_some at m (Reload to slot access) = append_some (displaced_code 2 (at (Slot slot))) _ _
@@ -82,7 +110,7 @@ line_some at m (Call to function first count) = omega arith
 line_some at m (GetChar to) = omega arith
 line_some at m (PutChar to from) = omega arith
 
-lines_some : (at : Name → ℕ) (m : ℕ → ℕ) (j : ℕ) (lines : List Line) → length lines ≤ length (lines_code at m j lines)
+lines_some : (at : Name → ℕ) (m : ℕ → ℕ) (j : ℕ) (lines : List Line) → sum_of line_words lines ≤ length (lines_code at m j lines)
 lines_some at m j [] = omega arith
 lines_some at m j (line ∷ lines) =
     let a = line_some at (m j) line in
@@ -90,40 +118,122 @@ lines_some at m j (line ∷ lines) =
     let l = length-append (line_code at (m j) line) (lines_code at m (suc j) lines) in
     omega arith
 
-exit_some : (first frame : ℕ) (exit : Exit) → 0 < length (exit_code first frame exit)
-exit_some first frame (Jump b) = omega arith
-exit_some first frame (Turn b) = omega arith
-exit_some first frame (Branch on x y) = omega arith
-exit_some first frame (Return None) = omega arith
-exit_some first frame (Return (Some r)) = omega arith
+-- a block without lines has a jump
+ended_some : (distance : Reach) (next : Option ℕ) (first frame : ℕ) (lines : List CodeLine) (exit : Exit) → 0 < length (ended_code distance next first frame lines exit)
+ended_some distance next first frame (x ∷ xs) exit = let l = length-append (x ∷ xs) (exit_code distance next false first frame exit) in omega arith
+ended_some distance next first frame [] (Jump b) = omega arith
+ended_some distance next first frame [] (Turn b) = omega arith
+ended_some distance next first frame [] (Branch on x y) = by (is_next next (first + x))
+  where
+    rest : List CodeLine
+    rest = onward_code (is_next next (first + y)) (first + y)
+
+    tested : (distance : Reach) (other : Bool) (label : ℕ) → 0 < length (test_code distance other on label)
+    tested Near true label = omega arith
+    tested Near false label = omega arith
+    tested Far true label = omega arith
+    tested Far false label = omega arith
+
+    by : (t : Bool) → 0 < length (if t then test_code distance false on (first + y) else test_code distance true on (first + x) ++ rest)
+    by true = tested distance false (first + y)
+    by false =
+        let a = tested distance true (first + x) in
+        let l = length-append (test_code distance true on (first + x)) rest in
+        omega arith
+ended_some distance next first frame [] (Return None) = omega arith
+ended_some distance next first frame [] (Return (Some r)) = omega arith
 
 same_count : (l : ℕ) (xs : List CodeLine) → length (labelled l xs) ≡ length xs
 same_count l [] = refl
 same_count l (x ∷ xs) = refl
 
-block_some : (at : Name → ℕ) (m : ℕ → ℕ) (first frame b : ℕ) (block : Block) → block_words block ≤ length (block_code at m first frame b block)
-block_some at m first frame b block =
+block_some : (at : Name → ℕ) (m : ℕ → ℕ) (distance : Reach) (next : Option ℕ) (first frame b : ℕ) (block : Block) → block_words block ≤ length (block_code at m distance next first frame b block)
+block_some at m distance next first frame b block =
+    let lines : List CodeLine = lines_code at m 0 block.lines.items in
+    let ends : List CodeLine = exit_code distance next (is_empty lines) first frame block.exit in
     let a = lines_some at m 0 block.lines.items in
-    let e = exit_some first frame block.exit in
-    let l = length-append (lines_code at m 0 block.lines.items) (exit_code first frame block.exit) in
-    let s = same_count (first + b) (lines_code at m 0 block.lines.items ++ exit_code first frame block.exit) in
+    let e = ended_some distance next first frame lines block.exit in
+    let l = length-append lines ends in
+    let s = same_count (first + b) (lines ++ ends) in
     omega arith
 
-blocks_some : (at : Name → ℕ) (m : ℕ → ℕ → ℕ) (first frame b : ℕ) (blocks : List Block) → sum_of block_words blocks ≤ length (blocks_code at m first frame b blocks)
-blocks_some at m first frame b [] = omega arith
-blocks_some at m first frame b (block ∷ blocks) =
-    let a = block_some at (m b) first frame b block in
-    let r = blocks_some at m first frame (suc b) blocks in
-    let l = length-append (block_code at (m b) first frame b block) (blocks_code at m first frame (suc b) blocks) in
+-- ---- as they are laid
+
+abbrev words_in : Option Block → ℕ
+words_in None = 0
+words_in (Some block) = block_words block
+
+-- of block b, if it is there
+abbrev words_at : List Block → ℕ → ℕ
+words_at blocks b = words_in (slice_get blocks b)
+
+laid_some : (laying : Laying) (order : List ℕ) → sum_of (words_at laying.blocks) order ≤ length (laid_code laying order)
+laid_some laying [] = omega arith
+laid_some laying (b ∷ order) =
+    let a = by (slice_get laying.blocks b) in
+    let r = laid_some laying order in
+    let l = length-append (laid_block laying b order) (laid_code laying order) in
+    omega arith
+  where
+    by : (o : Option Block) → words_in o ≤ length (found_code laying b (next_label laying.first order) o)
+    by None = omega arith
+    by (Some block) = block_some laying.at (laying.cut b) laying.distance (next_label laying.first order) laying.first laying.frame b block
+
+module _ (blocks : List Block) (entry : ℕ) where
+  abbrev upto : ℕ → ℕ
+  upto zero = 0
+  upto (suc n) = words_at blocks n + upto n
+
+  abbrev others : ℕ → ℕ
+  others n = sum_of (words_at blocks) (others_below entry n)
+
+  before_entry : (n : ℕ) → n ≤ entry → upto n ≤ others n
+  before_entry zero h = omega arith
+  before_entry (suc n) h = by (n == entry) refl (before_entry n (omega arith))
+    where
+      by : (t : Bool) → (n == entry) ≡ t → upto n ≤ others n → upto (suc n) ≤ sum_of (words_at blocks) (if t then others_below entry n else n ∷ others_below entry n)
+      by true e k = let same : n ≡ entry = grind (arith, nat_tests) in absurd (omega arith)
+      by false e k = omega arith
+
+  -- each but the entry is among the others
+  with_entry : (n : ℕ) → upto n ≤ words_at blocks entry + others n
+  with_entry zero = omega arith
+  with_entry (suc n) = by (n == entry) refl (with_entry n)
+    where
+      by : (t : Bool) → (n == entry) ≡ t → upto n ≤ words_at blocks entry + others n → upto (suc n) ≤ words_at blocks entry + sum_of (words_at blocks) (if t then others_below entry n else n ∷ others_below entry n)
+      by true e rest =
+          let same : n ≡ entry = grind (arith, nat_tests) in
+          let k = before_entry n (omega arith) in
+          let here : words_at blocks n ≡ words_at blocks entry = ap (words_at blocks) same in
+          omega arith
+      by false e rest = omega arith
+
+upto_more : (block : Block) (blocks : List Block) (entry n : ℕ) → upto (block ∷ blocks) entry (suc n) ≡ block_words block + upto blocks entry n
+upto_more block blocks entry zero = omega arith
+upto_more block blocks entry (suc n) = let k = upto_more block blocks entry n in omega arith
+
+all_upto : (blocks : List Block) (entry : ℕ) → sum_of block_words blocks ≡ upto blocks entry (length blocks)
+all_upto [] entry = refl
+all_upto (block ∷ blocks) entry =
+    let k = all_upto blocks entry in
+    let more = upto_more block blocks entry (length blocks) in
     omega arith
 
-function_some : (at : Name → ℕ) (m : ℕ → ℕ → ℕ) (i first frame entry : ℕ) (blocks : List Block) → 1 + sum_of block_words blocks ≤ length (function_code at m i first frame entry blocks)
-function_some at m i first frame entry blocks =
-    let b = blocks_some at m first frame 0 blocks in
-    let l = length-append (labelled (entry_label i) (prologue_code frame (first + entry))) (blocks_code at m first frame 0 blocks) in
-    let s = same_count (entry_label i) (prologue_code frame (first + entry)) in
-    let p = length-append (adds_code 6 (2 ^ 32 - frame)) (enter_code (first + entry)) in
-    let six : length (enter_code (first + entry)) ≡ 6 = refl in
+blocks_some : (laying : Laying) → sum_of block_words laying.blocks ≤ length (blocks_code laying)
+blocks_some laying =
+    let n : ℕ = length laying.blocks in
+    let a = laid_some laying (laid_order laying.entry n) in
+    let b = with_entry laying.blocks laying.entry n in
+    let c = all_upto laying.blocks laying.entry in
+    omega arith
+
+function_some : (i : ℕ) (laying : Laying) → 1 + sum_of block_words laying.blocks ≤ length (function_code i laying)
+function_some i laying =
+    let b = blocks_some laying in
+    let l = length-append (labelled (entry_label i) (prologue_code laying.frame)) (blocks_code laying) in
+    let s = same_count (entry_label i) (prologue_code laying.frame) in
+    let p = length-append (adds_code 6 (2 ^ 32 - laying.frame)) enter_code in
+    let five : length enter_code ≡ 5 = refl in
     omega arith
 
 take_one : {X : Type 0} (w : X → ℕ) (xs : List X) (i : ℕ) (x : X) → slice_get xs i ≡ Some x → sum_of w (take (suc i) xs) ≡ sum_of w (take i xs) + w x
@@ -139,10 +249,9 @@ module _ (u : Code) (statics : List ℕ) (layouts : List Layout) (parts : List P
         (let f = program.functions i c.0 c.2 in
         let before = functions i (omega arith) in
         let size = size_of parts (part_of i) f.code f.there in
-        let m = entries f.selection.exact.live c.0.blocks.items in
-        let exact = ap (length {A = CodeLine}) f.selection.exact.lines_are in
-        let g = given_at u.functions.items statics i c.0 f.layout in
-        let some = function_some (at_of g) m i g.first_block f.layout.frame c.0.entry c.0.blocks.items in
+        let exact = f.selection.exact in
+        let lines = ap (length {A = CodeLine}) exact.lines_are in
+        let some = function_some i (laying_of (given_at u.functions.items statics i c.0 f.layout) exact.live exact.distance) in
         let sum = take_one function_words u.functions.items i c.0 c.2 in
         let q : first_of parts (part_of (suc i)) ≡ first_of parts (part_of i + 1) = ap (first_of parts) (omega arith) in
         omega arith)

@@ -56,6 +56,7 @@ saves r place has few flips e low high m x call =
       },
       refl,
       λ i three four. s.regs i four,
+      omega arith,
     )
 
 pub serves_law : ServesLaw

@@ -79,7 +79,8 @@ mutual
 
   pub built_suffixes : (c : Context) (q : Qualified) (ss : t.Suffixes) → Right (suffixes_asked c q ss) → Suffixed c q ss (suffixed c q ss)
   built_suffixes c q t.no_suffixes h = no_suffix
-  built_suffixes c q (t.array_suffix at (t.an_expression e) ss) h = of_array (built_suffixes (behind e c) q ss (first_part h)) (built c e (second_part h)) (own h)
+  built_suffixes c q (t.array_suffix at (t.an_expression e) ss) h =
+      of_array (built_suffixes (behind e c) q ss (first_part (first_of h))) (built c e (second_part (first_of h))) (own (first_of h))
   built_suffixes c q (t.array_suffix at t.no_expression ss) h = of_open_array (built_suffixes c q ss (part h)) (own h)
   built_suffixes c q (t.function_suffix at ps ss) h =
       of_function (built_suffixes (behind_parameters ps c) q ss (first_part h)) (built_parameters (in_new_scope c) 0 ps (second_part h)) (own h)

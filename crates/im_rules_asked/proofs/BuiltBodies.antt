@@ -136,11 +136,11 @@ pub built_locals : (q : Qualified) (s : Site) (ds : t.InitDeclarators) → Right
 built_locals q s t.no_init_declarators h = no_local
 built_locals q s (t.more_init_declarators d i ds) h =
     a_local (built_declarator s.context q d (first_of h))
-    (own (beside_last (beside_rest (beside_rest (within (then_of h))))))
+    (own (beside_last (beside_rest (beside_rest (within (second_part (then_of h)))))))
     (built_initial (past_local q s d i).context s.locals (local_type q s d i) i
-    (beside_last (beside_rest (within (then_of h)))))
+    (beside_last (beside_rest (within (second_part (then_of h))))))
     (built_locals q (behind_initializer (local_type q s d i) i (past_local q s d i)) ds
-    (beside_last (within (then_of h))))
+    (beside_last (within (second_part (then_of h)))))
 
 pub built_declaration : (s : Site) (d : t.Declaration) → Right (declaration_asked s d)
     → TypedDeclaration s d (declaration s d).statements (declaration s d).added

@@ -14,7 +14,7 @@ use Rattle.im_rules.specs.TypedUnit.{IsNumber, counted_on, written, AreEnumerato
 use Rattle.im_rules_asked.specs.Expressions.{declared}
 use Rattle.im_rules_asked.specs.Initialisers.{items}
 use Rattle.im_rules_asked.specs.Units.{number_of, number_asked, past_enumerator, enumerators, enumerators_asked, fields, fields_asked, fields_of, named_type, members, specify, named_asked, members_asked, specifiers_asked, first_values, static_type, past_static, past_given, declarations, constants_asked, first_values_asked, declarations_asked, own as own_of, start_of_body, external, external_asked, externals, externals_asked, unit, unit_asked}
-use Rattle.im_rules_asked.proofs.Right.{Right, own, within, beside_last, beside_rest, behind_last, behind_rest}
+use Rattle.im_rules_asked.proofs.Right.{Right, own, within, beside_last, beside_rest, behind_last, behind_rest, to_same}
 use Rattle.im_rules_asked.proofs.Built.{part, first_part, second_part, first_of, then_of, built, built_declarator, built_parameters}
 use Rattle.im_rules_asked.proofs.BuiltBodies.{built_items, built_row}
 
@@ -49,7 +49,7 @@ mutual
   built_named f first ks (t.more_specifiers (t.struct_tag at x) xs) h = no_list (own h)
   built_named f first ks (t.more_specifiers (t.enum_tag at x) xs) h = no_list (own h)
   built_named f first ks (t.more_specifiers (t.struct_specifier at x ms) xs) h =
-      a_struct (built_members (with_list_begun at x f) ms (part h)) (own h)
+      a_struct (built_members (with_list_begun at x f) ms (first_of h)) (own h)
   built_named f first ks (t.more_specifiers (t.enum_specifier at x es) xs) h =
       an_enum (own (first_part h)) (built_enumerators f (pos 0) es (second_part h))
 
@@ -90,10 +90,11 @@ built_declarations : (xs : t.SpecifierList) (q : Qualified) (f : FilePlace) (ds 
 built_declarations xs q f t.no_init_declarators h = none_declared
 built_declarations xs q f (t.more_init_declarators d i ds) h =
     one_declared (built_declarator f.context q d (first_of h))
-    (own (beside_last (beside_rest (beside_rest (within (then_of h))))))
+    (own (beside_last (beside_rest (beside_rest (within (second_part (then_of h)))))))
     (built_given (past_static xs q f d i) _ (static_type q f d i) i
-    (beside_last (beside_rest (within (then_of h)))))
-    (built_declarations xs q (past_given xs q f d i) ds (beside_last (within (then_of h))))
+    (beside_last (beside_rest (within (second_part (then_of h))))))
+    (built_declarations xs q (past_given xs q f d i) ds
+    (beside_last (within (second_part (then_of h)))))
 
 pub built_external : (f : FilePlace) (x : t.External) → Right (external_asked f x)
     → TypedExternal f x (external f x).values (external f x).functions (external f x).place
@@ -106,7 +107,7 @@ built_external f (t.function_definition (t.specifiers at xs) d (t.block at' is))
     (own (beside_last (beside_rest (beside_rest (within (then_of (then_of h)))))))
     (own (beside_last (beside_rest (within (then_of (then_of h))))))
     (built_parameters (in_new_scope (specify f xs).place.context) 0 (own_of d)
-    (first_of (beside_last (within (then_of (then_of h))))))
+    (to_same (first_of (beside_last (within (then_of (then_of h)))))))
     (built_row (start_of_body xs (specify f xs).place d
     (declared (specify f xs).place.context (specify f xs).type d)) is
     (then_of (beside_last (within (then_of (then_of h))))))

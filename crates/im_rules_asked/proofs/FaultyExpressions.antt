@@ -11,7 +11,7 @@ use Rattle.im_rules_asked.specs.Expressions.{terms, asked, call_asked, all_asked
 use Rattle.im_rules_asked.proofs.Right.{Right, of_node, of_none, of_one, of_both, of_first, of_beside}
 use Rattle.im_rules_asked.proofs.Terms.{term_of, terms_of, named_of, suffixed_of, parameters_of, may_of}
 use Rattle.im_rules_asked.proofs.Rightness.{rightly, all_rightly, name_rightly, suffixes_rightly, parameters_rightly, may_rightly}
-use Rattle.im_rules_asked.proofs.Faults.{Faulty, here_faulty, in_parts, last_beside, rest_behind, last_behind, in_one, in_first, in_second, in_first_of_three, in_second_of_three, in_earlier, in_later, refused_1, refused_2, refused_3}
+use Rattle.im_rules_asked.proofs.Faults.{Finding, a_fault, Found, here_faulty, in_parts, last_beside, rest_behind, last_behind, in_one, in_first, in_second, in_first_of_three, in_second_of_three, in_earlier, in_later, refused_1, refused_2, refused_3}
 
 -- what is asked of a node
 abbrev pub node_asked : Context → Node → Asked
@@ -28,28 +28,28 @@ node_asked c (maybe_declarator q m) = may_asked c q m
 -- calls
 
 call_faulty : (r at : ℕ) (ds : List Demand) (f es : Asked) (m : Bool) → m ≡ true → Right es
-    → Refuses r ds → Faulty r at (call_asked m at ds f es)
+    → Refuses r ds → Found (a_fault r at) (call_asked m at ds f es)
 call_faulty r at ds f es true p h q = here_faulty (of_one h) q
 call_faulty r at ds f es false p h q = absurd (cc)
 
 callee_faulty : (r at : ℕ) (ds : List Demand) (f es : Asked) (m : Bool) → m ≡ false → Right f
-    → Right es → r ≡ 19 → Faulty r at (call_asked m at ds f es)
+    → Right es → r ≡ 19 → Found (a_fault r at) (call_asked m at ds f es)
 callee_faulty r at ds f es true p g h e = absurd (cc)
 callee_faulty r at ds f es false p g h e = here_faulty (of_both g h) (inl (sym e, refl))
 
-in_callee : {r k : ℕ} (at : ℕ) (ds : List Demand) (f es : Asked) (m : Bool) → m ≡ false
-    → Faulty r k f → Faulty r k (call_asked m at ds f es)
+in_callee : {w : Finding} (at : ℕ) (ds : List Demand) (f es : Asked) (m : Bool) → m ≡ false
+    → Found w f → Found w (call_asked m at ds f es)
 in_callee at ds f es true p h = absurd (cc)
 in_callee at ds f es false p h = in_first h
 
-in_arguments : {r k : ℕ} (at : ℕ) (ds : List Demand) (f es : Asked) (m : Bool) → Faulty r k es
-    → Faulty r k (call_asked m at ds f es)
+in_arguments : {w : Finding} (at : ℕ) (ds : List Demand) (f es : Asked) (m : Bool) → Found w es
+    → Found w (call_asked m at ds f es)
 in_arguments at ds f es true h = in_one h
 in_arguments at ds f es false h = in_second h
 
 -- the rule refuses the node itself
 node_faulty : {c : Context} {r : ℕ} {n : Node} → Breaks c r n
-    → Faulty r (token_of n) (node_asked c n)
+    → Found (a_fault r (token_of n)) (node_asked c n)
 node_faulty {r = r} (at_identifier q) = here_faulty of_none q
 node_faulty {c = c} {r = r} (at_index a b q) =
     here_faulty (of_both (rightly a) (rightly b))
@@ -96,8 +96,8 @@ node_faulty {r = r} (at_type_name s d q) =
     (refused_1 {A = Declared} r (λ y. asks 6 (is_sized y.type) ∷ []) (may_of d) q)
 node_faulty (at_stars q) = in_first (here_faulty of_none q)
 node_faulty {c = c} {r = r} (at_array s e q) =
-    here_faulty (of_both (suffixes_rightly s) (rightly e))
-    (refused_2 r (λ o x. length_asks c o (constant_in x)) (suffixed_of s) (term_of e) q)
+    in_earlier (here_faulty (of_both (suffixes_rightly s) (rightly e))
+    (refused_2 r (λ o x. length_asks c o (constant_in x)) (suffixed_of s) (term_of e) q))
 node_faulty {c = c} {r = r} (at_open_array s q) =
     here_faulty (of_one (suffixes_rightly s))
     (refused_1 r (λ o. element_asks c o) (suffixed_of s) q)
@@ -110,61 +110,61 @@ node_faulty {c = c} {r = r} (at_parameter {n = n} {xs = xs} s d q) =
     (in_first (here_faulty of_none (refused_1 {A = Declared} r
     (λ y. parameter_asks (behind_specifiers c xs) n (parameter y)) (may_of d) q))))
 
--- a fault of a part is one of the node
-part_faulty : {c b : Context} {n m : Node} {r k : ℕ} → Part c n b m → Faulty r k (node_asked b m)
-    → Faulty r k (node_asked c n)
-part_faulty indexed h = in_first h
-part_faulty subscript h = in_second h
-part_faulty {c = c} (callee {at = at} {f = f} {es = es} p) h =
+-- what is found in a part is found in the node
+pub part_found : {c b : Context} {n m : Node} {w : Finding} → Part c n b m → Found w (node_asked b m)
+    → Found w (node_asked c n)
+part_found indexed h = in_first h
+part_found subscript h = in_second h
+part_found {c = c} (callee {at = at} {f = f} {es = es} p) h =
     in_callee at (call_asks (callee_of c.scopes f) (terms (behind f c) es)) (asked c f)
     (all_asked (behind f c) es) (is_function_meant (callee_of c.scopes f)) p h
-part_faulty {c = c} (arguments {at = at} {f = f} {es = es}) h =
+part_found {c = c} (arguments {at = at} {f = f} {es = es}) h =
     in_arguments at (call_asks (callee_of c.scopes f) (terms (behind f c) es)) (asked c f)
     (all_asked (behind f c) es) (is_function_meant (callee_of c.scopes f)) h
-part_faulty whole h = in_one h
-part_faulty pointer_to_whole h = in_one h
-part_faulty post_stepped h = in_one h
-part_faulty pre_stepped h = in_one h
-part_faulty operand h = in_one h
-part_faulty measured_expression h = in_one h
-part_faulty measured_type h = in_one h
-part_faulty cast_type h = in_first h
-part_faulty cast_operand h = in_second h
-part_faulty left_operand h = in_first h
-part_faulty right_operand h = in_second h
-part_faulty condition h = in_first_of_three h
-part_faulty first_arm h = in_second_of_three h
-part_faulty second_arm h = in_second h
-part_faulty left_side h = in_first h
-part_faulty right_side h = in_second h
-part_faulty before_comma h = in_first h
-part_faulty behind_comma h = in_second h
-part_faulty first_argument h = in_first h
-part_faulty other_arguments h = in_second h
-part_faulty (name_specifiers {s = t.specifiers at xs}) h = in_earlier h
-part_faulty (name_declarator s) h = in_later (of_node of_none s) h
-part_faulty suffixes_part h = in_second (in_earlier h)
-part_faulty {c = c} {r = r} {k = k} (core_part {core = core} s) h =
+part_found whole h = in_one h
+part_found pointer_to_whole h = in_one h
+part_found post_stepped h = in_one h
+part_found pre_stepped h = in_one h
+part_found operand h = in_one h
+part_found measured_expression h = in_one h
+part_found measured_type h = in_one h
+part_found cast_type h = in_first h
+part_found cast_operand h = in_second h
+part_found left_operand h = in_first h
+part_found right_operand h = in_second h
+part_found condition h = in_first_of_three h
+part_found first_arm h = in_second_of_three h
+part_found second_arm h = in_second h
+part_found left_side h = in_first h
+part_found right_side h = in_second h
+part_found before_comma h = in_first h
+part_found behind_comma h = in_second h
+part_found first_argument h = in_first h
+part_found other_arguments h = in_second h
+part_found (name_specifiers {s = t.specifiers at xs}) h = in_earlier h
+part_found (name_declarator s) h = in_later (of_node of_none s) h
+part_found suffixes_part h = in_second (in_earlier h)
+part_found {c = c} {w = w} (core_part {core = core} s) h =
     in_second (in_later (suffixes_rightly s)
-    (subst (λ z. Faulty r k (core_asked c z core)) (sym (suffixed_of s)) h))
-part_faulty inner_part h = h
-part_faulty behind_length h = in_first h
-part_faulty behind_no_length h = in_one h
-part_faulty length_part h = in_second h
-part_faulty behind_function h = in_first h
-part_faulty parameters_part h = in_second h
-part_faulty (parameter_specifiers {s = t.specifiers at xs}) h =
+    (subst (λ z. Found w (core_asked c z core)) (sym (suffixed_of s)) h))
+part_found inner_part h = h
+part_found behind_length h = in_earlier (in_first h)
+part_found behind_no_length h = in_one h
+part_found length_part h = in_earlier (in_second h)
+part_found behind_function h = in_first h
+part_found parameters_part h = in_second h
+part_found (parameter_specifiers {s = t.specifiers at xs}) h =
     in_parts (rest_behind (rest_behind (last_beside h)))
-part_faulty (parameter_declarator s) h =
+part_found (parameter_declarator s) h =
     in_parts (rest_behind (last_behind (of_one (of_node of_none s)) h))
-part_faulty {c = c} {r = r} {k = k} (parameters_behind {n = n} {xs = xs} {m = m} {ps = ps} s d) h =
+part_found {c = c} {w = w} (parameters_behind {n = n} {xs = xs} {m = m} {ps = ps} s d) h =
     in_parts (last_behind (of_first (of_node of_none s) (may_rightly d))
-    (in_second (subst {A = Declared} (λ y. Faulty r k
+    (in_second (subst {A = Declared} (λ y. Found w
     (parameters_asked (with_parameter n (parameter y) (behind_may m (behind_specifiers c xs)))
     (n + 1) ps)) (sym (may_of d)) h)))
-part_faulty declarator_part h = h
+part_found declarator_part h = h
 
 pub expression_faulty : {c : Context} {n : Node} {r k : ℕ} → Broken c n r k
-    → Faulty r k (node_asked c n)
+    → Found (a_fault r k) (node_asked c n)
 expression_faulty (here b) = node_faulty b
-expression_faulty (within p b) = part_faulty p (expression_faulty b)
+expression_faulty (within p b) = part_found p (expression_faulty b)

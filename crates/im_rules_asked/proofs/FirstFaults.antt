@@ -2,7 +2,7 @@
 use Rattle.std.proofs.Common.{◌≡◌, inl, inr, ℕ, List, [], ◌∷◌, Option, Some, None, refl, ap, Bool, true, false, ◌&&◌}
 use Rattle.std.specs.Prelude.{◌⊎◌, if◌then◌else◌}
 use Rattle.im_rules.specs.Demands.{Demand, Refuses}
-use Rattle.im_rules_asked.specs.Asked.{Asked, node, Parts, no_part, beside, behind, all_hold, is_right, are_right, HasFault, HasFaultIn, Fault, fault, first_refused, or_else, first_fault, first_in}
+use Rattle.im_rules_asked.specs.Asked.{Asked, node, sized, Parts, no_part, beside, behind, all_hold, is_right, are_right, HasFault, HasFaultIn, Fault, fault, first_refused, or_else, first_fault, first_in}
 use Rattle.im_rules_asked.proofs.Right.{joined, right_has_no_fault}
 
 -- one of two or the other
@@ -26,7 +26,7 @@ met_if : (h : Bool) (k r : ℕ) (ds : List Demand) → (first_refused k ds ≡ N
 met_if true k r ds f p = f p
 met_if false k r ds f p = absurd (cc)
 
-none_refused : (k : ℕ) (ds : List Demand) → first_refused k ds ≡ None → all_hold ds ≡ true
+pub none_refused : (k : ℕ) (ds : List Demand) → first_refused k ds ≡ None → all_hold ds ≡ true
 none_refused k [] p = refl
 none_refused k (d ∷ ds) p = met_if d.holds k d.rule ds (λ q. none_refused k ds q) p
 
@@ -45,7 +45,7 @@ refused_if : (h : Bool) (k r : ℕ) (ds : List Demand) (f : Fault)
 refused_if true k r ds f g p = ((g p).0, inr (g p).1)
 refused_if false k r ds f g p = (ap token_in p, inl (ap rule_in p, refl))
 
-some_refused : (k : ℕ) (ds : List Demand) (f : Fault) → first_refused k ds ≡ Some f
+pub some_refused : (k : ℕ) (ds : List Demand) (f : Fault) → first_refused k ds ≡ Some f
     → (k ≡ f.token) × Refuses f.rule ds
 some_refused k [] f p = absurd (cc)
 some_refused k (d ∷ ds) f p = refused_if d.holds k d.rule ds f (λ q. some_refused k ds f q) p
@@ -58,6 +58,7 @@ mutual
       joined (are_right ps) (all_hold ds) (without_faults ps
       (none_left (first_in ps) (first_refused k ds) p))
       (none_refused k ds (none_right (first_in ps) (first_refused k ds) p))
+  without_fault (sized ns) p = refl
 
   pub without_faults : (ps : Parts) → first_in ps ≡ None → are_right ps ≡ true
   without_faults no_part p = refl
@@ -99,6 +100,7 @@ mutual
   first_is_one (node k ds ps) f p =
       node_fault k ds ps f (λ q. first_part_is_one ps f q)
       (either_of (first_in ps) (first_refused k ds) f p)
+  first_is_one (sized ns) f p = absurd (cc)
 
   pub first_part_is_one : (ps : Parts) (f : Fault) → first_in ps ≡ Some f
       → HasFaultIn f.rule f.token ps

@@ -1,7 +1,7 @@
 -- What is right has no fault; and rightness as a fact that is taken apart and made by its parts.
-use Rattle.std.proofs.Common.{◌≡◌, inl, inr, ℕ, [], ◌∷◌, List, subst, sym, refl, Bool, true, false, ◌&&◌}
+use Rattle.std.proofs.Common.{◌≡◌, ◌∙◌, inl, inr, ℕ, [], ◌∷◌, List, subst, sym, ap, refl, Bool, true, false, ◌&&◌}
 use Rattle.im_rules.specs.Demands.{Demand, Meets, Refuses}
-use Rattle.im_rules_asked.specs.Asked.{Asked, node, Parts, no_part, beside, behind, all_hold, is_right, are_right, HasFault, HasFaultIn}
+use Rattle.im_rules_asked.specs.Asked.{Asked, node, sized, Parts, no_part, beside, behind, all_hold, is_right, are_right, HasFault, HasFaultIn, without_sizes, parts_without_sizes}
 
 pub left : (a b : Bool) → (a && b) ≡ true → a ≡ true
 left true b p = refl
@@ -24,6 +24,7 @@ mutual
   pub right_has_no_fault : (a : Asked) (r k : ℕ) → is_right a ≡ true → HasFault r k a → ⊥
   right_has_no_fault (node t ds ps) r k h (inl q) = not_refused r ds (right (are_right ps) (all_hold ds) h) q.2
   right_has_no_fault (node t ds ps) r k h (inr q) = right_parts ps r k (left (are_right ps) (all_hold ds) h) q
+  right_has_no_fault (sized ns) r k h q = q
 
   pub right_parts : (ps : Parts) (r k : ℕ) → are_right ps ≡ true → HasFaultIn r k ps → ⊥
   right_parts no_part r k h q = q
@@ -91,6 +92,27 @@ of_both h p = of_beside (of_one h) p
 
 pub of_first : {a b : Asked} → Right a → Right b → RightParts (behind (beside no_part a) b)
 of_first h p = of_behind (of_one h) p
+
+pub of_sizes : {ns : List ℕ} → Right (sized ns)
+of_sizes = so refl
+
+-- without the sizes the same is asked
+
+mutual
+  same_right : (a : Asked) → is_right (without_sizes a) ≡ is_right a
+  same_right (node k ds ps) = ap (λ h. h && all_hold ds) (same_parts_right ps)
+  same_right (sized ns) = refl
+
+  same_parts_right : (ps : Parts) → are_right (parts_without_sizes ps) ≡ are_right ps
+  same_parts_right no_part = refl
+  same_parts_right (beside ps a) = cc (same_parts_right ps, same_right a)
+  same_parts_right (behind ps a) = cc (same_parts_right ps, same_right a)
+
+pub of_same : {a : Asked} → Right a → Right (without_sizes a)
+of_same {a = a} (so h) = so (same_right a ∙ h)
+
+pub to_same : {a : Asked} → Right (without_sizes a) → Right a
+to_same {a = a} (so h) = so (sym (same_right a) ∙ h)
 
 -- what is asked of some things is asked of their equals
 pub met_1 : {A : Type 0} {x y : A} (P : A → List Demand) → y ≡ x → Meets (P x) → Meets (P y)

@@ -18,7 +18,7 @@ use Rattle.im_rules.proofs.BodiesOnce.{declaration_once, begins_once, statement_
 use Rattle.im_rules_asked.specs.Asked.{both, only, beside}
 use Rattle.im_rules_asked.specs.Initialisers.{side_by_side, in_order, places_in, misplaced, shaped_asked, items_asked, among_asked}
 use Rattle.im_rules_asked.specs.Statements.{initial_asked, locals_asked, declaration, declaration_asked, condition_asked, test_asked, step_asked, beginning, beginning_asked, no_labels, statement, labels_behind, Standing, elsewhere, in_switch_of, statement_asked, else_asked, row_asked, cases_asked}
-use Rattle.im_rules_asked.proofs.Right.{Right, of_node, of_none, of_one, of_both, of_first, of_beside, met_1}
+use Rattle.im_rules_asked.proofs.Right.{Right, of_node, of_none, of_one, of_both, of_first, of_beside, of_sizes, met_1}
 use Rattle.im_rules_asked.proofs.Terms.{term_of, declared_of}
 use Rattle.im_rules_asked.proofs.Rightness.{rightly, declarator_rightly}
 use Rattle.im_rules_asked.proofs.BuiltBodies.{list_of, shape_list, built_declaration, built_beginning, built_statement, typed_of, labelled_of}
@@ -102,7 +102,7 @@ pub locals_right : {q : Qualified} {s e : Site} {ds : t.InitDeclarators} {us : S
     → AreLocals q s ds us m e → Right (locals_asked q s ds)
 locals_right no_local = of_node of_none tt
 locals_right {q = q} {s = s} (a_local {d = d} {i = i} {ds = ds} dd m k r) =
-    of_node (of_first (declarator_rightly dd)
+    of_node (of_first (declarator_rightly dd) (of_node (of_both of_sizes
     (of_node (of_beside (of_both (of_node of_none
     (met_1 {A = Declared} (λ y. local_asks s y (completed y.type i) (is_initialised i))
     (declared_of dd) m))
@@ -110,7 +110,7 @@ locals_right {q = q} {s = s} (a_local {d = d} {i = i} {ds = ds} dd m k r) =
     (completed y.type i) i)) (sym (declared_of dd)) (initial_right k)))
     (subst {A = Declared} (λ y. Right (locals_asked q
     (behind_initializer (completed y.type i) i (with_local d y (completed y.type i) s)) ds))
-    (sym (declared_of dd)) (locals_right r))) tt)) tt
+    (sym (declared_of dd)) (locals_right r))) tt)) tt)) tt
 
 pub declaration_right : {s e : Site} {d : t.Declaration} {us : Stmts} {m : Added}
     → TypedDeclaration s d us m e → Right (declaration_asked s d)

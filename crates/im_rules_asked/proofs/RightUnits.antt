@@ -22,7 +22,7 @@ use Rattle.im_rules.proofs.UnitOnce.{number_once, specify_once, members_once, fi
 use Rattle.im_rules_asked.specs.Expressions.{parameters}
 use Rattle.im_rules_asked.specs.Statements.{row_asked}
 use Rattle.im_rules_asked.specs.Units.{number_of, number_asked, enumerators_asked, fields_asked, specify, named_asked, members_asked, specifiers_asked, constants_asked, first_values_asked, declarations_asked, own as own_of, definition_asked, external_asked, externals_asked, unit, unit_asked}
-use Rattle.im_rules_asked.proofs.Right.{Right, of_node, of_none, of_one, of_both, of_first, of_beside, of_behind, met_1}
+use Rattle.im_rules_asked.proofs.Right.{Right, of_node, of_none, of_one, of_both, of_first, of_beside, of_behind, of_sizes, of_same, met_1}
 use Rattle.im_rules_asked.proofs.Terms.{declared_of, parameters_of}
 use Rattle.im_rules_asked.proofs.Rightness.{rightly, declarator_rightly, parameters_rightly}
 use Rattle.im_rules_asked.proofs.Built.{not_so}
@@ -74,7 +74,7 @@ mutual
       absurd (not_so (asks 7 false) refl m)
   named_right f first (t.more_specifiers (t.struct_specifier at x ms) xs) (a_struct b m) =
       let h = members_right (with_list_begun at x f) ms b in
-      of_node (of_one h) (met_1 {A = List Member} (λ ys. struct_asks f x ys)
+      of_node (of_first h of_sizes) (met_1 {A = List Member} (λ ys. struct_asks f x ys)
       (sym (members_once b (built_members (with_list_begun at x f) ms h)).0) m)
   named_right f first (t.more_specifiers (t.enum_specifier at x es) xs) (no_list m) =
       absurd (not_so (asks 8 false) refl m)
@@ -122,7 +122,7 @@ declarations_right : {xs : t.SpecifierList} {q : Qualified} {f e : FilePlace}
     → Right (declarations_asked xs q f ds)
 declarations_right none_declared = of_node of_none tt
 declarations_right {xs = xs} {q = q} {f = f} (one_declared {d = d} {i = i} {ds = ds} dd m k r) =
-    of_node (of_first (declarator_rightly dd)
+    of_node (of_first (declarator_rightly dd) (of_node (of_both of_sizes
     (of_node (of_beside (of_both (of_node of_none
     (met_1 {A = Declared} (λ y. file_asks f xs y (completed y.type i) (is_initialised i))
     (declared_of dd) m))
@@ -130,7 +130,7 @@ declarations_right {xs = xs} {q = q} {f = f} (one_declared {d = d} {i = i} {ds =
     (completed y.type i) i)) (sym (declared_of dd)) (given_right k)))
     (subst {A = Declared} (λ y. Right (declarations_asked xs q
     (past_strings (given_strings f (completed y.type i) i) (past_declarator xs d y i f)) ds))
-    (sym (declared_of dd)) (declarations_right r))) tt)) tt
+    (sym (declared_of dd)) (declarations_right r))) tt)) tt)) tt
 
 -- external declarations
 
@@ -148,7 +148,7 @@ definition_right xs g d y {is = is} dd b k a r =
     (of_node (of_beside (of_both (of_node of_none
     (met_1 {A = Declared} (λ z. body_asks d z) (declared_of dd) b))
     (of_node of_none (met_1 {A = Declared} (λ z. file_asks g xs z z.type true) (declared_of dd) k)))
-    (of_node (of_first (parameters_rightly a)
+    (of_node (of_first (of_same (parameters_rightly a))
     (subst {A = Declared} (λ z. Right (row_asked
     (body_site (past_head xs d z g) (result_of z.type) (own_of d)
     (given_parameters (own_of d) (parameters (in_new_scope g.context) 0 (own_of d)))) is))

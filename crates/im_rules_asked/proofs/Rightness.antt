@@ -7,7 +7,7 @@ use Rattle.im_rules.specs.Demands.{asks, Meets, index_asks, call_asks, dot_asks,
 use Rattle.im_rules.specs.Declared.{Qualified, Declared, behind_specifiers, element_asks, length_asks, parameter, with_parameter, parameter_asks, function_asks, is_sized, parameters_of as given_parameters}
 use Rattle.im_rules.specs.Typed.{Typed, of_identifier, of_number, of_character, of_string, of_index, of_call, of_member, of_arrow, of_post_step, of_pre_step, of_unary, of_size, of_type_size, of_cast, of_binary, of_conditional, of_assign, of_comma, AreTyped, no_argument, an_argument, Names, of_type_name, Declares, of_declarator, DeclaresIn, of_nothing, of_name, of_inner, Suffixed, no_suffix, of_array, of_open_array, of_function, AreParameters, no_parameter, a_parameter, MayDeclare, of_no_declarator, of_a_declarator}
 use Rattle.im_rules_asked.specs.Expressions.{terms, asked, call_asked, all_asked, name_asked, declarator_asked, core_asked, suffixes_asked, parameters_asked, may_asked}
-use Rattle.im_rules_asked.proofs.Right.{Right, of_node, of_none, of_one, of_both, of_first, of_beside, of_behind, met_1, met_2, met_3}
+use Rattle.im_rules_asked.proofs.Right.{Right, of_node, of_none, of_one, of_both, of_first, of_beside, of_behind, of_sizes, met_1, met_2, met_3}
 use Rattle.im_rules_asked.proofs.Terms.{term_of, terms_of, named_of, suffixed_of, parameters_of, may_of}
 
 -- a function's name is called
@@ -23,7 +23,7 @@ mutual
   rightly (of_identifier m) = of_node of_none m
   rightly of_number = of_node of_none tt
   rightly of_character = of_node of_none tt
-  rightly of_string = of_node of_none tt
+  rightly of_string = of_sizes
   rightly {c = c} (of_index a b m) = of_node (of_both (rightly a) (rightly b)) (met_2 (λ x y. index_asks c.known x y) (term_of a) (term_of b) m)
   rightly {c = c} (of_call {at = at} {f = f} {es = es} p xs m) =
       call_right c at f es (is_function_meant (callee_of c.scopes f)) p (all_rightly xs) (met_1 (λ ys. call_asks (callee_of c.scopes f) ys) (terms_of xs) m)
@@ -62,7 +62,8 @@ mutual
   pub suffixes_rightly : {c : Context} {q : Qualified} {ss : t.Suffixes} {r : Qualified} → Suffixed c q ss r → Right (suffixes_asked c q ss)
   suffixes_rightly no_suffix = of_node of_none tt
   suffixes_rightly {c = c} (of_array s e m) =
-      of_node (of_both (suffixes_rightly s) (rightly e)) (met_2 (λ r x. length_asks c r (constant_in x)) (suffixed_of s) (term_of e) m)
+      of_node (of_first (of_node (of_both (suffixes_rightly s) (rightly e))
+      (met_2 (λ r x. length_asks c r (constant_in x)) (suffixed_of s) (term_of e) m)) of_sizes) tt
   suffixes_rightly {c = c} (of_open_array s m) = of_node (of_one (suffixes_rightly s)) (met_1 (λ r. element_asks c r) (suffixed_of s) m)
   suffixes_rightly (of_function {ps = ps} s ds m) =
       of_node (of_both (suffixes_rightly s) (parameters_rightly ds)) (met_2 (λ r ys. function_asks r (given_parameters ps ys)) (suffixed_of s) (parameters_of ds) m)

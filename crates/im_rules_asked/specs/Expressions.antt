@@ -1,16 +1,17 @@
 -- What expressions, type names and declarators are, and what the rules ask of them (C11 6.5, 6.7.6, 6.7.7). A term is given
 -- to every tree; what one becomes that breaks a rule doesn't matter.
-use Rattle.std.specs.Prelude.{ℕ, ◌+◌, pos, Bool, true, false, List, [], ◌∷◌}
+use Rattle.std.specs.Prelude.{ℕ, ◌+◌, pos, Bool, true, false, List, [], ◌∷◌, length}
 use Rattle.im_rules.specs.im_ctree.Tree as t
 use Rattle.im_rules.specs.im_ctype.declared.integer.Integer.TheVariants.{Int}
 use Rattle.im_rules.specs.Scopes.{meaning}
 use Rattle.im_rules.specs.Context.{Context, in_new_scope, behind, behind_name, behind_core, behind_may, behind_parameters}
-use Rattle.im_rules.specs.Terms.{Term, value, value_of, type_in, constant_in}
+use Rattle.im_rules.specs.Terms.{Term, value, value_of, type_in, constant_in, size_in}
 use Rattle.im_rules.specs.Conversions.{literal, number_type, measured, called, string_term, operation, sum, pointed, unary_term, dotted, arrowed, assigned, stepped, casted, chosen, joined, call_of}
 use Rattle.im_rules.specs.Demands.{Demand, asks, name_asks, index_asks, call_asks, dot_asks, arrow_asks, step_asks, unary_asks, size_asks, cast_asks, binary_asks, conditional_asks, assign_asks, callee_of, is_function_meant}
 use Rattle.im_rules.specs.Declared.{Qualified, Declared, specifiers_ask, behind_specifiers, type_of_specifiers, with_stars, stars_ask, array_of, open_array_of, element_asks, length_asks, parameter, with_parameter, parameter_asks, parameters_of, function_of, function_asks, is_sized, unnamed, called as named_with}
 use Rattle.im_rules.specs.Breaks.{parameter_token}
-use Rattle.im_rules_asked.specs.Asked.{Asked, node, beside, behind as then_, one, both, first_then, only, leaf, nothing_asked}
+use Rattle.im_rules_asked.specs.Asked.{Asked, node, sized, beside, behind as then_, one, both, first_then, only, leaf, nothing_asked}
+use Rattle.im_rules_asked.specs.Sizes.{is_within, where_within}
 
 abbrev pub qualified : Declared → Qualified
 qualified d = record { constant = d.constant; type = d.type }
@@ -78,7 +79,7 @@ abbrev mutual
   asked c (t.identifier at x) = leaf at (name_asks c x)
   asked c (t.integer_constant at n) = leaf at []
   asked c (t.character_constant at n) = leaf at []
-  asked c (t.string_literal at s) = leaf at []
+  asked c (t.string_literal at s) = sized ((length s + 1) ∷ [])
   asked c (t.index at a b) = node at (index_asks c.known (term c a) (term (behind a c) b)) (both (asked c a) (asked (behind a c) b))
   asked c (t.call at f es) =
       call_asked (is_function_meant (callee_of c.scopes f)) at (call_asks (callee_of c.scopes f) (terms (behind f c) es)) (asked c f) (all_asked (behind f c) es)
@@ -120,7 +121,9 @@ abbrev mutual
   pub suffixes_asked : Context → Qualified → t.Suffixes → Asked
   suffixes_asked c q t.no_suffixes = nothing_asked
   suffixes_asked c q (t.array_suffix at (t.an_expression e) ss) =
-      node at (length_asks c (suffixed (behind e c) q ss) (constant_in (term c e))) (both (suffixes_asked (behind e c) q ss) (asked c e))
+      only (first_then (node at (length_asks c (suffixed (behind e c) q ss) (constant_in (term c e))) (both (suffixes_asked (behind e c) q ss) (asked c e)))
+      (sized (where_within (is_within (size_in c.known (suffixed (behind e c) q ss).type))
+      (size_in c.known (array_of (suffixed (behind e c) q ss) (constant_in (term c e))).type))))
   suffixes_asked c q (t.array_suffix at t.no_expression ss) = node at (element_asks c (suffixed c q ss)) (one (suffixes_asked c q ss))
   suffixes_asked c q (t.function_suffix at ps ss) =
       node at (function_asks (suffixed (behind_parameters ps c) q ss) (parameters_of ps (parameters (in_new_scope c) 0 ps)))

@@ -18,9 +18,10 @@ use Rattle.im_rules.specs.Declared.{Qualified, specifiers_ask, behind_specifiers
 use Rattle.im_rules.specs.Initialisers.{completed, pieces_of}
 use Rattle.im_rules.specs.Statements.{Site, Added, nothing_added, just_strings, and_then, past, past_expression, past_maybe, in_block, in_loop, in_switch, in_context, name_of, local_asks, with_local, local_added, behind_initializer, condition_asks, switch_asks, return_asks, return_value_asks, value_in, switch_type, Labels, Cases, label_value, case_asks, default_asks, with_constant, with_default, case_at, no_cases, appended, count_stmts, with_cases, otherwise_of, empty_block, one_or_zero}
 use Rattle.im_rules.specs.BodyBreaks.{declarator_token}
-use Rattle.im_rules_asked.specs.Asked.{Asked, node, beside, one, both, first_then, only, leaf, nothing_asked}
+use Rattle.im_rules_asked.specs.Asked.{Asked, node, sized, beside, one, both, first_then, only, leaf, nothing_asked}
 use Rattle.im_rules_asked.specs.Expressions.{term, asked, declared, declarator_asked}
 use Rattle.im_rules_asked.specs.Initialisers.{items, items_asked}
+use Rattle.im_rules_asked.specs.Sizes.{counted}
 
 -- a statement, and the objects and string literals that it adds
 pub record Made : Type 0 where
@@ -87,9 +88,10 @@ abbrev pub locals_asked : Qualified → Site → t.InitDeclarators → Asked
 locals_asked q s t.no_init_declarators = nothing_asked
 locals_asked q s (t.more_init_declarators d i ds) =
     only (first_then (declarator_asked s.context q d)
+    (only (both (sized (counted s.context.known (local_type q s d i)))
     (only (beside (both (leaf (declarator_token d) (local_asks s (declared s.context q d) (local_type q s d i) (is_initialised i)))
     (initial_asked (past_local q s d i).context (local_type q s d i) i))
-    (locals_asked q (behind_initializer (local_type q s d i) i (past_local q s d i)) ds))))
+    (locals_asked q (behind_initializer (local_type q s d i) i (past_local q s d i)) ds))))))
 
 abbrev pub declaration_asked : Site → t.Declaration → Asked
 declaration_asked s (t.declaration (t.specifiers at xs) ds) =

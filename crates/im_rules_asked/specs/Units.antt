@@ -20,10 +20,11 @@ use Rattle.im_rules.specs.BodyBreaks.{declarator_token}
 use Rattle.im_rules.specs.StaticValues.{constant_asks, item_token}
 use Rattle.im_rules.specs.FileScope.{FilePlace, in_place, past_strings, file_start, file_asks, own_parameters, body_asks, Level, of_the_file, of_members, level_asks, with_list_begun, struct_asks, with_struct, member_asks, member_of, enum_asks, number_in, enumerator_asks, with_enumerator, with_enum_tag, main_asks, static_size}
 use Rattle.im_rules.specs.TypedUnit.{FirstValues, given_strings, values_given, past_declarator, body_site, function_made, past_head, program}
-use Rattle.im_rules_asked.specs.Asked.{Asked, IsRight, HasFault, Fault, first_fault, node, beside, behind, one, both, first_then, only, leaf, nothing_asked}
+use Rattle.im_rules_asked.specs.Asked.{Asked, IsRight, HasFault, Fault, first_fault, node, sized, beside, behind, one, both, first_then, only, leaf, nothing_asked, without_sizes}
 use Rattle.im_rules_asked.specs.Expressions.{term, asked, declared, declarator_asked, parameters, parameters_asked}
 use Rattle.im_rules_asked.specs.Initialisers.{items, items_asked}
 use Rattle.im_rules_asked.specs.Statements.{Row, row, row_asked}
+use Rattle.im_rules_asked.specs.Sizes.{counted, struct_counted}
 
 -- enumeration constants
 
@@ -94,6 +95,10 @@ abbrev pub with_members : Fields → Specified
 with_members k =
     record { type = record { constant = false; type = struct (length k.place.context.known) }; place = with_struct k.members k.place }
 
+-- the sizes of a struct that its members complete
+abbrev pub fields_counted : Fields → List ℕ
+fields_counted k = struct_counted (with_struct k.members k.place).context.known k.members (length k.place.context.known)
+
 abbrev pub with_enumerators : Option Name → FilePlace → Specified
 with_enumerators x g = record { type = record { constant = false; type = integer Int }; place = with_enum_tag x g }
 
@@ -139,7 +144,8 @@ abbrev mutual
   named_asked f first (t.more_specifiers (t.struct_tag at x) xs) = leaf first (specified_asks f.context (t.struct_tag at x ∷ []))
   named_asked f first (t.more_specifiers (t.enum_tag at x) xs) = leaf first (specified_asks f.context (t.enum_tag at x ∷ []))
   named_asked f first (t.more_specifiers (t.struct_specifier at x ms) xs) =
-      node at (struct_asks f x (members (with_list_begun at x f) ms).members) (one (members_asked (with_list_begun at x f) ms))
+      node at (struct_asks f x (members (with_list_begun at x f) ms).members)
+      (first_then (members_asked (with_list_begun at x f) ms) (sized (fields_counted (members (with_list_begun at x f) ms))))
   named_asked f first (t.more_specifiers (t.enum_specifier at x es) xs) =
       only (both (leaf at (enum_asks f.context.scopes x)) (enumerators_asked f (pos 0) es))
 
@@ -197,9 +203,10 @@ abbrev pub declarations_asked : t.SpecifierList → Qualified → FilePlace → 
 declarations_asked xs q f t.no_init_declarators = nothing_asked
 declarations_asked xs q f (t.more_init_declarators d i ds) =
     only (first_then (declarator_asked f.context q d)
+    (only (both (sized (counted f.context.known (static_type q f d i)))
     (only (beside (both (leaf (declarator_token d) (file_asks f xs (declared f.context q d) (static_type q f d i) (is_initialised i)))
     (first_values_asked (past_static xs q f d i) (static_type q f d i) i))
-    (declarations_asked xs q (past_given xs q f d i) ds))))
+    (declarations_asked xs q (past_given xs q f d i) ds))))))
 
 -- functions (C11 6.9.1)
 
@@ -234,13 +241,13 @@ abbrev pub definition : t.SpecifierList → Specified → t.Declarator → t.Blo
 definition xs s d is =
     function_of_row xs s.place d (declared s.place.context s.type d) (row (start_of_body xs s.place d (declared s.place.context s.type d)) is)
 
--- all else is asked once the declarator is right
+-- all else is asked once the declarator is right; sizes in parameters are told with it
 abbrev pub definition_asked : t.SpecifierList → Specified → t.Declarator → t.BlockItems → Asked
 definition_asked xs s d is =
     only (first_then (declarator_asked s.place.context s.type d)
     (only (beside (both (leaf (declarator_token d) (body_asks d (declared s.place.context s.type d)))
     (leaf (declarator_token d) (file_asks s.place xs (declared s.place.context s.type d) (declared s.place.context s.type d).type true)))
-    (only (first_then (parameters_asked (in_new_scope s.place.context) 0 (own d))
+    (only (first_then (without_sizes (parameters_asked (in_new_scope s.place.context) 0 (own d)))
     (row_asked (start_of_body xs s.place d (declared s.place.context s.type d)) is))))))
 
 -- external declarations

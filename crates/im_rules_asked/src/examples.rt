@@ -1,7 +1,7 @@
 //! What the rules ask of small units. Each example is a function with an empty body, whose contract
 //! says that a unit keeps all rules, or which node of another breaks which rule first: the node is
 //! told by the number of its first token.
-ghost use Rattle.std.specs.Prelude.{◌≡◌, Some, None};
+ghost use Rattle.std.specs.Prelude.{◌≡◌, [], ◌∷◌, Some, None};
 ghost use Rattle.im_rules.specs.Samples.{char_in_scope, char_sum, char_sum_term, in_a_function, small_switch, small_switch_typed, small_unit, small_program};
 ghost use Rattle.im_rules_asked.specs.Asked.{fault};
 ghost use Rattle.im_rules_asked.specs.Expressions.{term};
@@ -10,6 +10,9 @@ ghost use Rattle.im_rules_asked.specs.Units.{Typed, first_fault_of};
 ghost use Rattle.im_rules_asked.specs.DeclarationsSamples.{kept_1, broken_1, kept_2, broken_2, kept_3, broken_3, kept_4, broken_4, kept_5, broken_5, kept_6, broken_6, kept_7, broken_7, kept_8, broken_8};
 ghost use Rattle.im_rules_asked.specs.UnitsSamples.{kept_9, broken_9, kept_10, broken_10, kept_11, broken_11, kept_12, broken_12, kept_13, broken_13, kept_14, broken_14, kept_15, broken_15, kept_16, broken_16};
 ghost use Rattle.im_rules_asked.specs.OperandsSamples.{kept_17, broken_17, kept_18, broken_18, kept_19, broken_19, kept_20, broken_20, kept_21, broken_21, kept_22, broken_22, kept_23, broken_23, kept_24, broken_24, kept_25, broken_25};
+ghost use Rattle.im_rules_limits.specs.Limits.{of_parameters, of_size, of_statics};
+ghost use Rattle.im_rules_asked.specs.Limits.{sizes_of, excess, first_excess_of, broken, large, first_stop_of};
+ghost use Rattle.im_rules_asked.specs.LimitsSamples.{with_parameters, with_array, with_rows, with_string, with_local, with_struct, measuring_string, large_then_broken, broken_then_large};
 ghost use Rattle.im_rules_asked.specs.OperatorsSamples.{kept_26, broken_26, kept_27, broken_27, kept_28, broken_28, kept_29, broken_29, kept_30, broken_30, kept_31, broken_31, kept_32, broken_32, kept_33, broken_33, kept_34, broken_34};
 
 /// The rules on declarations (C11 6.7.1 to 6.7.3, 6.7.8).
@@ -94,6 +97,26 @@ pub fn operators_examples()
     ensures breaks_33 { first_fault_of broken_33 ≡ Some (fault 33 7) }
     ensures keeps_34 { first_fault_of kept_34 ≡ None }
     ensures breaks_34 { first_fault_of broken_34 ≡ Some (fault 34 6) }
+{}
+
+/// The limits (parameters; bytes of a type; bytes of all statics, each with a byte behind it and in
+/// whole words). Sizes count in source order: an array's where its length stands, and that of its
+/// elements and its own at the object; a struct's behind those of its members.
+pub fn limits_examples()
+    ensures sizes { sizes_of (with_array 12) ≡ 12 ∷ 1 ∷ 12 ∷ [] }
+    ensures members { sizes_of with_struct ≡ 1 ∷ 4 ∷ 8 ∷ [] }
+    ensures completed { sizes_of with_string ≡ 1 ∷ 3 ∷ [] }
+    ensures measured { sizes_of measuring_string ≡ 3 ∷ [] }
+    ensures innermost { sizes_of (with_rows 2 1048577) ≡ 1048577 ∷ 1 ∷ 1048577 ∷ [] }
+    ensures few { first_excess_of (with_parameters 8) ≡ None }
+    ensures many { first_excess_of (with_parameters 9) ≡ Some (excess of_parameters 9) }
+    ensures within { first_excess_of (with_array 1048575) ≡ None }
+    ensures over_statics { first_excess_of (with_array 1048576) ≡ Some (excess of_statics 1048580) }
+    ensures over_size { first_excess_of (with_array 1048577) ≡ Some (excess of_size 1048577) }
+    ensures within_local { first_excess_of (with_local 1048576) ≡ None }
+    ensures over_local { first_excess_of (with_local 1048577) ≡ Some (excess of_size 1048577) }
+    ensures large_first { first_stop_of large_then_broken ≡ Some (large 1048577) }
+    ensures broken_first { first_stop_of broken_then_large ≡ Some (broken (fault 10 1)) }
 {}
 
 /// With `char x;` in scope, `x + 1` is an int, and x is converted to it; `switch (x) { case 1: case 2: break; default: ; }` has two

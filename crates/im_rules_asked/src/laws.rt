@@ -4,6 +4,11 @@ ghost use Rattle.im_rules_asked.specs.Laws.{ExpressionIsAsked, NameIsAsked, Decl
 ghost use Rattle.im_rules_asked.specs.Laws.{AskedIsExpression, AskedIsName, AskedIsDeclarator};
 ghost use Rattle.im_rules_asked.specs.Laws.{UnitIsAsked, AskedIsUnit, BrokenIsAsked};
 ghost use Rattle.im_rules_asked.specs.Laws.{FaultlessIsTyped, TypedIsFaultless, FirstFaultIsOne};
+ghost use Rattle.im_rules_asked.specs.Laws.{SizedHasSize, HasSizeIsSized};
+ghost use Rattle.im_rules_asked.specs.Laws.{ExceedsIsExcess, ExcessExceeds, NoExcessIsWithin};
+ghost use Rattle.im_rules_asked.specs.Laws.{WithinHasNoExcess, FirstExcessIsOne, SmallHasNoLarge};
+ghost use Rattle.im_rules_asked.specs.Laws.{NoStopIsRight, RightHasNoStop};
+ghost use Rattle.im_rules_asked.specs.Laws.{FirstBrokenIsOne, FirstLargeIsOne};
 
 /// What is right has no fault, so a typed unit breaks no rule.
 pub fn right_has_no_fault_law()
@@ -41,4 +46,31 @@ pub fn first_fault_law()
     ensures none { FaultlessIsTyped }
     ensures typed { TypedIsFaultless }
     ensures some { FirstFaultIsOne }
+{}
+
+/// The sizes of types, in bytes, that `im_rules_limits` counts in a unit are exactly those that
+/// these functions give.
+pub fn sizes_agree_law()
+    ensures sized { SizedHasSize }
+    ensures given { HasSizeIsSized }
+{}
+
+/// `first_excess_of` decides whether a unit is within the limits of `im_rules_limits`: it is `None`
+/// exactly where it is, and else a count that is over its limit.
+pub fn first_excess_law()
+    ensures exceeds { ExceedsIsExcess }
+    ensures excess { ExcessExceeds }
+    ensures none { NoExcessIsWithin }
+    ensures within { WithinHasNoExcess }
+    ensures some { FirstExcessIsOne }
+    ensures small { SmallHasNoLarge }
+{}
+
+/// `first_stop_of` tells which comes first in source order, a broken rule or a size over its limit:
+/// it is `None` exactly where `im_rules` types the unit and no size in it is over the limit.
+pub fn first_stop_law()
+    ensures none { NoStopIsRight }
+    ensures right { RightHasNoStop }
+    ensures broken { FirstBrokenIsOne }
+    ensures large { FirstLargeIsOne }
 {}

@@ -89,7 +89,8 @@ abbrev pub GetsAt : Runtime → ℕ → Type 0
 GetsAt r pc =
     (m : Mem) (x : ℕ → ℕ) → Called r m x 1 → (d : Done r m pc x (x 1) (shown m) (got (left m))) × (d.y 10 ≡ got_answer (left m))
 
--- a checkpoint: the return address is in x3, and every register but x3 and x4 stays; its one flip is the cut
+-- a checkpoint: the return address is in x3, and every register but x3 and x4 stays; its one flip is the cut, and it makes at most
+-- 38 steps
 abbrev pub SavesAt : Runtime → ℕ → Type 0
 SavesAt r pc =
-    (m : Mem) (x : ℕ → ℕ) → Called r m x 3 → (d : Done r m pc x (x 3) (shown m) (left m)) × (d.flips ≡ 1) × ((i : ℕ) → i ≢ 3 → i ≢ 4 → d.y i ≡ x i)
+    (m : Mem) (x : ℕ → ℕ) → Called r m x 3 → (d : Done r m pc x (x 3) (shown m) (left m)) × (d.flips ≡ 1) × ((i : ℕ) → i ≢ 3 → i ≢ 4 → d.y i ≡ x i) × (d.n ≤ 38)

@@ -18,11 +18,12 @@ use Rattle.im_alloc_placed.specs.Placed.{IsPlacedFunction}
 use Rattle.im_alloc_relation.specs.Settled.{IsSettled}
 use Rattle.im_live.specs.Entries.{entries}
 use Rattle.im_frame.specs.declared.layout.Layout.{Layout}
+use Rattle.im_select.specs.declared.distance.Distance.{Distance}
 use Rattle.im_select.specs.Emitted.{entry_label, call_code, function_code}
 use Rattle.im_select.specs.Places.{at_of}
 use Rattle.im_link_laws.specs.Program.{HasCode, part_of, first_label, given_at, start_code, IsProgram}
 use Rattle.im_saved_lines.specs.Scan.{is_base, is_returned, After, scan, AreSound}
-use Rattle.im_saved_lines.specs.Laws.{IsLow, IsHeld, SavesFrom}
+use Rattle.im_saved_lines.specs.Laws.{IsLow, IsHeld, SavesFrom, laid}
 use Rattle.im_saved_lines.proofs.Scanning.{both, or_left, or_right, same_is, IsUnsaved, unsaved_true, sound_append}
 use Rattle.im_saved_lines.proofs.Selected.{jump_before, jump_sound}
 use Rattle.im_saved_lines.proofs.Blocks.{function_lines}
@@ -40,7 +41,8 @@ module _ (u : Code) (statics : List ℕ) (layouts : List Layout) (parts : List P
   pub record OwnPart (i : ℕ) (f : Function) (live : ℕ → ℕ → Bool) : Type 0 where
     pub layout : Layout
     pub m : ℕ → ℕ → ℕ
-    pub there : HasCode parts (part_of i) (function_code (at_of (given_at u.functions.items statics i f layout)) m i (first_label u.functions.items i) layout.frame f.entry f.blocks.items)
+    pub distance : Distance
+    pub there : HasCode parts (part_of i) (function_code i (laid f (at_of (given_at u.functions.items statics i f layout)) m distance (first_label u.functions.items i) layout.frame))
     pub placed : IsPlacedFunction (length statics) f
     pub is_held : IsHeld live f
     pub saves : (b : ℕ) (block : Block) → slice_get f.blocks.items b ≡ Some block → SavesFrom live (m b) 0 block.lines.items block.exit
@@ -57,6 +59,7 @@ module _ (u : Code) (statics : List ℕ) (layouts : List Layout) (parts : List P
       let part : OwnPart i f (held exact.live) = record {
         layout = own.layout;
         m = entries exact.live f.blocks.items;
+        distance = exact.distance;
         there = subst (HasCode parts (part_of i)) exact.lines_are own.there;
         placed = placed;
         is_held = is_held (length statics) f (settled.wanted i) exact.live placed (settled.each i f e) exact.is_live;
@@ -105,9 +108,9 @@ module _ (u : Code) (statics : List ℕ) (layouts : List Layout) (parts : List P
   function_sound i f e part behind is_part =
       let p = (own i).part f e in
       let first : ℕ = first_label u.functions.items i in
-      let code : List CodeLine = function_code (at_of (given_at u.functions.items statics i f p.layout)) p.m i first p.layout.frame f.entry f.blocks.items in
+      let code : List CodeLine = function_code i (laid f (at_of (given_at u.functions.items statics i f p.layout)) p.m p.distance first p.layout.frame) in
       subst (λ z. AreSound at z behind) (sym (code_is parts (part_of i) part code is_part p.there))
-      (function_lines u.functions.items (length statics) i first p.layout.frame f (at_of (given_at u.functions.items statics i f p.layout)) p.m (live_in i) at e (omega arith) low
+      (function_lines u.functions.items (length statics) i first p.layout.frame f (at_of (given_at u.functions.items statics i f p.layout)) p.m p.distance (live_in i) at e (omega arith) low
       (labels_entries live_in u.functions.items) (labels_blocks live_in u.functions.items i f e) (all_at (IsFunction u.functions.items) u.functions.items i f well.functions e) p.placed p.is_held p.saves behind)
 
   routine_sound : (p : ℕ) (part : Part) (behind : After) (code : List CodeLine) → IsPart parts p part → HasCode parts p code → AreSound at code behind → AreSound at (code_lines part.lines.items) behind

@@ -1,5 +1,5 @@
 -- The runtime's lines are sound: a test of known lines, register by register.
-use Rattle.std.proofs.Common.{◌≡◌, ◌≢◌, ℕ, zero, suc, ◌+◌, ◌<◌, ◌≤◌, ◌⊎◌, inl, inr, Bool, true, false, cond, List, [], ◌∷◌, Option, Some, None, refl, sym, ap, ◌∙◌, subst, arith}
+use Rattle.std.proofs.Common.{◌≡◌, ◌≢◌, ℕ, zero, suc, ◌<◌, ◌≤◌, ◌⊎◌, inl, inr, Bool, true, false, cond, List, [], ◌∷◌, Option, Some, None, refl, sym, ap, ◌∙◌, subst, arith}
 use Rattle.std.specs.Prelude.{◌==◌, ◌&&◌, ◌||◌, not, nat_lt, nat_le}
 use Rattle.std.proofs.lemmas.Bool.Decides.{nat_tests}
 use Rattle.im_rv.specs.declared.instr.Op.{Op}
@@ -12,7 +12,7 @@ use Rattle.im_rtlib.specs.Laws.{is_saved}
 use Rattle.im_rtlib.specs.Routines.{getchar, putchar, exit, stack}
 use Rattle.im_saved_lines.specs.Scan.{is_base, is_returned, way, After, at_target, onward, lives_at, scan, Goes, GoesTo, IsSoundLine, AreSound}
 use Rattle.im_saved_lines.specs.Laws.{lives_inside, IsLow, AreLeast, RoutineLinesLaw}
-use Rattle.im_saved_lines.proofs.Scanning.{both, either, or_left, or_right, not_true, same_of, same_is, other_is}
+use Rattle.im_saved_lines.proofs.Scanning.{both, either, not_true, same_of, same_is, other_is}
 
 -- a label of the runtime, which the checkpoint has not
 abbrev label_test : Option ℕ → Bool

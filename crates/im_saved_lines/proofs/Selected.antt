@@ -1,12 +1,14 @@
 -- The lines of a block, selected: what lives before them, and that they are sound.
-use Rattle.std.proofs.Common.{◌≡◌, ◌≢◌, ℕ, suc, ◌+◌, ◌<◌, ◌≤◌, ◌⊎◌, inl, inr, Bool, true, false, cond, List, [], ◌∷◌, ◌++◌, Option, Some, None, refl, sym, ap, ◌∙◌, arith}
-use Rattle.std.specs.Prelude.{◌==◌, ◌&&◌, ◌||◌, not, nat_lt, nat_le, slice_get, All}
+use Rattle.std.proofs.Common.{◌≡◌, ◌≢◌, ℕ, suc, ◌+◌, ◌<◌, ◌≤◌, ◌⊎◌, inl, inr, Bool, true, false, cond, List, [], ◌∷◌, ◌++◌, Option, Some, None, refl, sym, ap, ◌∙◌, subst, arith}
+use Rattle.std.specs.Prelude.{◌==◌, ◌&&◌, ◌||◌, not, nat_lt, nat_le, if◌then◌else◌, slice_get, All}
 use Rattle.std.proofs.lemmas.Bool.Decides.{nat_tests}
 use Rattle.std.proofs.lemmas.List.Elements.{All-head, All-tail}
 use Rattle.im_num.specs.declared.values.Cause.{Cause}
-use Rattle.im_rv.specs.declared.instr.Op.TheVariants.{Jalr, Beq, Lw}
+use Rattle.im_rv.specs.declared.instr.Op.{Op}
+use Rattle.im_rv.specs.declared.instr.Op.TheVariants.{Jalr, Beq, Bne, Lw}
 use Rattle.im_rv.specs.Lines.{CodeLine, plain_line}
 use Rattle.im_rv_reach.specs.Instructions.{with_immediate, branching, jumping}
+use Rattle.im_gap.specs.declared.flow.Turn.TheVariants.{Branches}
 use Rattle.im_rtlib.specs.Routines.{aimed}
 use Rattle.im_store.specs.Objects.{Name}
 use Rattle.im_block.specs.declared.code.Place.{Place}
@@ -21,10 +23,12 @@ use Rattle.im_alloc_placed.specs.Operands.{IsHome, PlaceAtHome}
 use Rattle.im_alloc_placed.specs.Placed.{IsPlacedLine, IsPlacedExit}
 use Rattle.im_alloc_relation.specs.Live.{place_uses, uses, sets}
 use Rattle.im_live.specs.Reads.{reads, reads_stack, writes, exit_live, lives_before}
-use Rattle.im_select.specs.Emitted.{entry_label, cut_code, result_code, call_code, line_code, lines_code, adds_code, leave_code, branch_code, exit_code}
-use Rattle.im_saved_lines.specs.Scan.{is_base, is_returned, After, scan, AreSound}
+use Rattle.im_select.specs.declared.distance.Distance.{Distance as Reach}
+use Rattle.im_select.specs.declared.distance.Distance.TheVariants.{Near, Far}
+use Rattle.im_select.specs.Emitted.{entry_label, cut_code, result_code, call_code, line_code, lines_code, adds_code, leave_code, onward_code, test_code, is_next, branch_code, exit_code, is_empty, ended_code}
+use Rattle.im_saved_lines.specs.Scan.{way, is_base, is_returned, After, onward, scan, AreSound}
 use Rattle.im_saved_lines.specs.Laws.{lives_inside, IsLow, HasEntries, HasBlocks, HoldsCalls, SavesFrom}
-use Rattle.im_saved_lines.proofs.Scanning.{both, both_are, either, or_left, or_right, not_true, same_of, same_is, IsUnsaved, unsaved_not, unsaved_true, or_unsaved, scan_append, sound_append, Lives, First, Second, Later, line_lives, plain_sound, Wants, plain_wants}
+use Rattle.im_saved_lines.proofs.Scanning.{both, both_are, either, or_left, or_right, same_of, same_is, IsUnsaved, unsaved_not, unsaved_true, or_unsaved, scan_append, sound_append, Lives, First, Second, Later, line_lives, plain_sound, Wants, plain_wants}
 use Rattle.im_saved_lines.proofs.Plain.{adds_plain, adds_wants}
 use Rattle.im_saved_lines.proofs.Working.{work_plain, work_wants}
 
@@ -122,6 +126,14 @@ return_code = plain_line (with_immediate Jalr 0 1 0) ∷ []
 abbrev raised_code : ℕ → List CodeLine
 raised_code frame = plain_line (with_immediate Lw 1 2 0) ∷ adds_code 2 frame
 
+pub next_is : (next : Option ℕ) (label : ℕ) → is_next next label ≡ true → next ≡ Some label
+next_is None label e = absurd cc
+next_is (Some n) label e = ap Some (same_of n label e)
+
+-- what lives behind lives at the label that stands next
+abbrev pub Meets : (ℕ → ℕ → Bool) → Option ℕ → After → Type 0
+Meets at next behind = (l r : ℕ) → next ≡ Some l → IsUnsaved r → behind.next r ≡ true → at l r ≡ true
+
 module _ (at : ℕ → ℕ → Bool) where
   -- a jump to a label
   pub jump_before : (rd label : ℕ) (behind : After) (r : ℕ) → (rd == 3) ≡ false → IsUnsaved r → (scan at (call_code rd label) behind).next r ≡ true → at label r ≡ true
@@ -191,45 +203,105 @@ module _ (at : ℕ → ℕ → Bool) where
   leave_sound frame behind =
       sound_append at (raised_code frame) return_code behind (plain_sound at (raised_code frame) (scan at return_code behind) ((refl, refl), adds_plain 2 frame)) (record { labelled = λ l r e w. absurd cc; goes = tt }, tt)
 
-  branch_before : (on there other : ℕ) (behind : After) (r : ℕ) → IsUnsaved r → (scan at (branch_code on there other) behind).next r ≡ true → (r ≡ on) ⊎ (at there r ≡ true) ⊎ (at other r ≡ true)
-  branch_before on there other behind r u w = by (line_lives at (plain_line (branching Beq on 0 8)) (scan at (call_code 0 there ++ call_code 0 other) behind) r u w)
+  -- ---- on to the label that stands next
+
+  onward_before : (next : Option ℕ) (label : ℕ) (falls : Bool) (behind : After) (r : ℕ) → (falls ≡ true → is_next next label ≡ true) → Meets at next behind → IsUnsaved r → (scan at (onward_code falls label) behind).next r ≡ true → at label r ≡ true
+  onward_before next label true behind r is meets u w = meets label r (next_is next label (is refl)) u w
+  onward_before next label false behind r is meets u w = jump_before 0 label behind r refl u w
+
+  onward_sound : (falls : Bool) (label : ℕ) (behind : After) → 32 ≤ label → AreSound at (onward_code falls label) behind
+  onward_sound true label behind far = tt
+  onward_sound false label behind far = jump_sound 0 label behind (λ e. absurd (omega arith)) far (λ e. absurd (omega arith))
+
+  -- ---- a test of a register, near, or over a jump
+
+  near_before : (op : Op) (on label : ℕ) (behind : After) (r : ℕ) → way op ≡ Branches → IsUnsaved r → (scan at (aimed label (branching op on 0 0) ∷ []) behind).next r ≡ true → (r ≡ on) ⊎ (at label r ≡ true) ⊎ (behind.next r ≡ true)
+  near_before op on label behind r branches u w = by (line_lives at (aimed label (branching op on 0 0)) behind r u w)
     where
-      by : Lives at (plain_line (branching Beq on 0 8)) (scan at (call_code 0 there ++ call_code 0 other) behind) r → (r ≡ on) ⊎ (at there r ≡ true) ⊎ (at other r ≡ true)
+      by : Lives at (aimed label (branching op on 0 0)) behind r → (r ≡ on) ⊎ (at label r ≡ true) ⊎ (behind.next r ≡ true)
       by (First e) = inl e
       by (Second e) = absurd (unsaved_not r 0 u refl e)
-      by (Later ne o) = elim (either ((scan at (call_code 0 there ++ call_code 0 other) behind).next r) ((scan at (call_code 0 other) behind).next r) o) [
-        | inl a ↦ inr (inl (jump_before 0 there (scan at (call_code 0 other) behind) r refl u a))
-        | inr b ↦ inr (inr (jump_before 0 other behind r refl u b))
+      by (Later ne o) = elim (either (behind.next r) (at label r) (subst (λ t. onward at t (branching op on 0 0).rd (Some label) behind r ≡ true) branches o)) [
+        | inl a ↦ inr (inr a)
+        | inr b ↦ inr (inl b)
       ]
 
-  branch_sound : (on there other : ℕ) (behind : After) → 32 ≤ there → 32 ≤ other → AreSound at (branch_code on there other) behind
-  branch_sound on there other behind a b =
-      let second = jump_sound 0 other behind (λ e. absurd (omega arith)) b (λ e. absurd (omega arith)) in
-      let first = jump_sound 0 there (scan at (call_code 0 other) behind) (λ e. absurd (omega arith)) a (λ e. absurd (omega arith)) in
-      (record { labelled = λ l r e w. absurd cc; goes = inl (refl, refl) }, (first.0, second))
+  far_before : (op : Op) (on label : ℕ) (behind : After) (r : ℕ) → way op ≡ Branches → IsUnsaved r → (scan at (plain_line (branching op on 0 8) ∷ call_code 0 label) behind).next r ≡ true → (r ≡ on) ⊎ (at label r ≡ true) ⊎ (behind.next r ≡ true)
+  far_before op on label behind r branches u w = by (line_lives at (plain_line (branching op on 0 8)) (scan at (call_code 0 label) behind) r u w)
+    where
+      by : Lives at (plain_line (branching op on 0 8)) (scan at (call_code 0 label) behind) r → (r ≡ on) ⊎ (at label r ≡ true) ⊎ (behind.next r ≡ true)
+      by (First e) = inl e
+      by (Second e) = absurd (unsaved_not r 0 u refl e)
+      by (Later ne o) = elim (either ((scan at (call_code 0 label) behind).next r) (behind.next r) (subst (λ t. onward at t (branching op on 0 8).rd None (scan at (call_code 0 label) behind) r ≡ true) branches o)) [
+        | inl a ↦ inr (inl (jump_before 0 label behind r refl u a))
+        | inr b ↦ inr (inr b)
+      ]
 
-module _ (functions : List Function) (statics first count frame : ℕ) (f : Function) (places : Name → ℕ) (m : ℕ → ℕ) (live at : ℕ → ℕ → Bool) (above : 64 ≤ first) (low : IsLow at) (entries : HasEntries functions at) (blocks : HasBlocks live first count at) (homes : (b r : ℕ) → live b r ≡ true → (is_base r ≡ true) ⊎ IsHome r) where
+  test_before : (distance : Reach) (other : Bool) (on label : ℕ) (behind : After) (r : ℕ) → IsUnsaved r → (scan at (test_code distance other on label) behind).next r ≡ true → (r ≡ on) ⊎ (at label r ≡ true) ⊎ (behind.next r ≡ true)
+  test_before Near true on label behind r u w = near_before Bne on label behind r refl u w
+  test_before Near false on label behind r u w = near_before Beq on label behind r refl u w
+  test_before Far true on label behind r u w = far_before Beq on label behind r refl u w
+  test_before Far false on label behind r u w = far_before Bne on label behind r refl u w
+
+  test_sound : (distance : Reach) (other : Bool) (on label : ℕ) (behind : After) → 32 ≤ label → AreSound at (test_code distance other on label) behind
+  test_sound Near true on label behind far = (record { labelled = λ l r e w. absurd cc; goes = inr (label, refl, far) }, tt)
+  test_sound Near false on label behind far = (record { labelled = λ l r e w. absurd cc; goes = inr (label, refl, far) }, tt)
+  test_sound Far true on label behind far = (record { labelled = λ l r e w. absurd cc; goes = inl (refl, refl) }, onward_sound false label behind far)
+  test_sound Far false on label behind far = (record { labelled = λ l r e w. absurd cc; goes = inl (refl, refl) }, onward_sound false label behind far)
+
+  -- where one of the two stands next, only the other is led to
+  branch_before : (distance : Reach) (next : Option ℕ) (on there other : ℕ) (behind : After) (r : ℕ) → Meets at next behind → IsUnsaved r → (scan at (branch_code distance next on there other) behind).next r ≡ true → (r ≡ on) ⊎ (at there r ≡ true) ⊎ (at other r ≡ true)
+  branch_before distance next on there other behind r meets u w = by (is_next next there) refl w
+    where
+      rest : List CodeLine
+      rest = onward_code (is_next next other) other
+
+      both_led : (r ≡ on) ⊎ (at there r ≡ true) ⊎ ((scan at rest behind).next r ≡ true) → (r ≡ on) ⊎ (at there r ≡ true) ⊎ (at other r ≡ true)
+      both_led (inl e) = inl e
+      both_led (inr (inl a)) = inr (inl a)
+      both_led (inr (inr b)) = inr (inr (onward_before next other (is_next next other) behind r (λ e. e) meets u b))
+
+      one_led : is_next next there ≡ true → (r ≡ on) ⊎ (at other r ≡ true) ⊎ (behind.next r ≡ true) → (r ≡ on) ⊎ (at there r ≡ true) ⊎ (at other r ≡ true)
+      one_led e (inl a) = inl a
+      one_led e (inr (inl a)) = inr (inr a)
+      one_led e (inr (inr b)) = inr (inl (meets there r (next_is next there e) u b))
+
+      by : (t : Bool) → is_next next there ≡ t → (scan at (if t then test_code distance false on other else test_code distance true on there ++ rest) behind).next r ≡ true → (r ≡ on) ⊎ (at there r ≡ true) ⊎ (at other r ≡ true)
+      by true e v = one_led e (test_before distance false on other behind r u v)
+      by false e v = both_led (test_before distance true on there (scan at rest behind) r u (sym (ap (λ (z : After). z.next r) (scan_append at (test_code distance true on there) rest behind)) ∙ v))
+
+  branch_sound : (distance : Reach) (next : Option ℕ) (on there other : ℕ) (behind : After) → 32 ≤ there → 32 ≤ other → AreSound at (branch_code distance next on there other) behind
+  branch_sound distance next on there other behind a b = by (is_next next there)
+    where
+      rest : List CodeLine
+      rest = onward_code (is_next next other) other
+
+      by : (t : Bool) → AreSound at (if t then test_code distance false on other else test_code distance true on there ++ rest) behind
+      by true = test_sound distance false on other behind b
+      by false = sound_append at (test_code distance true on there) rest behind (test_sound distance true on there (scan at rest behind) a) (onward_sound (is_next next other) other behind b)
+
+module _ (functions : List Function) (statics first count frame : ℕ) (f : Function) (places : Name → ℕ) (m : ℕ → ℕ) (distance : Reach) (live at : ℕ → ℕ → Bool) (above : 64 ≤ first) (low : IsLow at) (entries : HasEntries functions at) (blocks : HasBlocks live first count at) (homes : (b r : ℕ) → live b r ≡ true → (is_base r ≡ true) ⊎ IsHome r) where
   block_live : (b r : ℕ) → b < count → IsUnsaved r → at (first + b) r ≡ true → live b r ≡ true
   block_live b r there u e = elim (blocks.only b r there e) [ inl s ↦ absurd (unsaved_true r u s) | inr w ↦ w ]
 
-  exit_before : (exit : Exit) (behind : After) (r : ℕ) → IsPlacedExit exit → ExitThere count exit → IsUnsaved r → (scan at (exit_code first frame exit) behind).next r ≡ true → exit_live live exit r ≡ true
-  exit_before (Jump b) behind r h there u w = block_live b r there u (jump_before at 0 (first + b) behind r refl u w)
-  exit_before (Turn b) behind r h there u w = block_live b r there u (jump_before at 0 (first + b) behind r refl u w)
-  exit_before (Branch on x y) behind r h there u w = by (branch_before at on (first + x) (first + y) behind r u w)
+  exit_before : (next : Option ℕ) (bare : Bool) (exit : Exit) (behind : After) (r : ℕ) → Meets at next behind → IsPlacedExit exit → ExitThere count exit → IsUnsaved r → (scan at (exit_code distance next bare first frame exit) behind).next r ≡ true → exit_live live exit r ≡ true
+  exit_before next bare (Jump b) behind r meets h there u w = block_live b r there u (onward_before at next (first + b) (not bare && is_next next (first + b)) behind r (λ e. (both (not bare) (is_next next (first + b)) e).1) meets u w)
+  exit_before next bare (Turn b) behind r meets h there u w = block_live b r there u (jump_before at 0 (first + b) behind r refl u w)
+  exit_before next bare (Branch on x y) behind r meets h there u w = by (branch_before at distance next on (first + x) (first + y) behind r meets u w)
     where
       by : (r ≡ on) ⊎ (at (first + x) r ≡ true) ⊎ (at (first + y) r ≡ true) → exit_live live (Branch on x y) r ≡ true
       by (inl e) = or_left (r == on) (live x r || live y r) (same_is r on e)
       by (inr (inl e)) = or_right (r == on) (live x r || live y r) (or_left (live x r) (live y r) (block_live x r there.0 u e))
       by (inr (inr e)) = or_right (r == on) (live x r || live y r) (or_right (live x r) (live y r) (block_live y r there.1 u e))
-  exit_before (Return None) behind r h there u w = absurd (none_before at frame behind r u w)
-  exit_before (Return (Some x)) behind r h there u w = or_left (r == x) (r == 1 || r == 2) (same_is r x (leave_before at frame behind r u w ∙ sym h))
+  exit_before next bare (Return None) behind r meets h there u w = absurd (none_before at frame behind r u w)
+  exit_before next bare (Return (Some x)) behind r meets h there u w = or_left (r == x) (r == 1 || r == 2) (same_is r x (leave_before at frame behind r u w ∙ sym h))
 
-  exit_sound : (exit : Exit) (behind : After) → AreSound at (exit_code first frame exit) behind
-  exit_sound (Jump b) behind = jump_sound at 0 (first + b) behind (λ e. absurd (omega arith)) (omega arith) (λ e. absurd (omega arith))
-  exit_sound (Turn b) behind = jump_sound at 0 (first + b) behind (λ e. absurd (omega arith)) (omega arith) (λ e. absurd (omega arith))
-  exit_sound (Branch on x y) behind = branch_sound at on (first + x) (first + y) behind (omega arith) (omega arith)
-  exit_sound (Return None) behind = sound_append at (result_code None) (leave_code frame) behind (plain_sound at (result_code None) (scan at (leave_code frame) behind) ((refl, refl), tt)) (leave_sound at frame behind)
-  exit_sound (Return (Some x)) behind = leave_sound at frame behind
+  exit_sound : (next : Option ℕ) (bare : Bool) (exit : Exit) (behind : After) → AreSound at (exit_code distance next bare first frame exit) behind
+  exit_sound next bare (Jump b) behind = onward_sound at (not bare && is_next next (first + b)) (first + b) behind (omega arith)
+  exit_sound next bare (Turn b) behind = onward_sound at false (first + b) behind (omega arith)
+  exit_sound next bare (Branch on x y) behind = branch_sound at distance next on (first + x) (first + y) behind (omega arith) (omega arith)
+  exit_sound next bare (Return None) behind = sound_append at (result_code None) (leave_code frame) behind (plain_sound at (result_code None) (scan at (leave_code frame) behind) ((refl, refl), tt)) (leave_sound at frame behind)
+  exit_sound next bare (Return (Some x)) behind = leave_sound at frame behind
 
   -- ---- before a line
 
@@ -315,16 +387,22 @@ module _ (functions : List Function) (statics first count frame : ℕ) (f : Func
       (lines_sound (suc j) lines exit behind k h' e t' s.1 v.1)
 
   -- a block
-  abbrev pub body : List Line → Exit → List CodeLine
-  body lines exit = lines_code places m 0 lines ++ exit_code first frame exit
+  abbrev pub body : Option ℕ → List Line → Exit → List CodeLine
+  body next lines exit = ended_code distance next first frame (lines_code places m 0 lines) exit
 
-  pub body_before : (lines : List Line) (exit : Exit) (behind : After) (r : ℕ) → All (IsPlacedLine statics f) lines → IsPlacedExit exit → All (LineThere functions) lines → ExitThere count exit → IsUnsaved r → (scan at (body lines exit) behind).next r ≡ true → lives_before live lines exit r ≡ true
-  body_before lines exit behind r h e t there u w =
-      lines_before 0 lines exit (scan at (exit_code first frame exit) behind) r (λ s v z. exit_before exit behind s e there v z) h t u
-      (sym (ap (λ (z : After). z.next r) (scan_append at (lines_code places m 0 lines) (exit_code first frame exit) behind)) ∙ w)
+  abbrev ends : Option ℕ → List Line → Exit → List CodeLine
+  ends next lines exit = exit_code distance next (is_empty (lines_code places m 0 lines)) first frame exit
 
-  pub body_sound : (lines : List Line) (exit : Exit) (behind : After) → All (IsPlacedLine statics f) lines → IsPlacedExit exit → All (LineThere functions) lines → ExitThere count exit → HoldsCalls live lines exit → SavesFrom live m 0 lines exit → AreSound at (body lines exit) behind
-  body_sound lines exit behind h e t there s saves =
-      sound_append at (lines_code places m 0 lines) (exit_code first frame exit) behind
-      (lines_sound 0 lines exit (scan at (exit_code first frame exit) behind) (λ v u z. exit_before exit behind v e there u z) h e t s saves)
-      (exit_sound exit behind)
+  exit_meets : (next : Option ℕ) (lines : List Line) (exit : Exit) (behind : After) → Meets at next behind → IsPlacedExit exit → ExitThere count exit → (r : ℕ) → IsUnsaved r → (scan at (ends next lines exit) behind).next r ≡ true → exit_live live exit r ≡ true
+  exit_meets next lines exit behind meets e there r u w = exit_before next (is_empty (lines_code places m 0 lines)) exit behind r meets e there u w
+
+  pub body_before : (next : Option ℕ) (lines : List Line) (exit : Exit) (behind : After) (r : ℕ) → Meets at next behind → All (IsPlacedLine statics f) lines → IsPlacedExit exit → All (LineThere functions) lines → ExitThere count exit → IsUnsaved r → (scan at (body next lines exit) behind).next r ≡ true → lives_before live lines exit r ≡ true
+  body_before next lines exit behind r meets h e t there u w =
+      lines_before 0 lines exit (scan at (ends next lines exit) behind) r (exit_meets next lines exit behind meets e there) h t u
+      (sym (ap (λ (z : After). z.next r) (scan_append at (lines_code places m 0 lines) (ends next lines exit) behind)) ∙ w)
+
+  pub body_sound : (next : Option ℕ) (lines : List Line) (exit : Exit) (behind : After) → Meets at next behind → All (IsPlacedLine statics f) lines → IsPlacedExit exit → All (LineThere functions) lines → ExitThere count exit → HoldsCalls live lines exit → SavesFrom live m 0 lines exit → AreSound at (body next lines exit) behind
+  body_sound next lines exit behind meets h e t there s saves =
+      sound_append at (lines_code places m 0 lines) (ends next lines exit) behind
+      (lines_sound 0 lines exit (scan at (ends next lines exit) behind) (exit_meets next lines exit behind meets e there) h e t s saves)
+      (exit_sound next (is_empty (lines_code places m 0 lines)) exit behind)

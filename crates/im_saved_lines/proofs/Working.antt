@@ -1,10 +1,12 @@
 -- A line that is neither a cut nor a call: selected, it uses and sets what it does in placed code, beside registers that each cut saves.
-use Rattle.std.proofs.Common.{◌≡◌, ◌≢◌, ℕ, ◌⊎◌, inl, inr, Bool, true, false, refl}
+use Rattle.std.proofs.Common.{◌≡◌, ◌≢◌, ℕ, ◌⊎◌, inl, inr, Bool, true, false, [], ◌∷◌, ◌++◌, Option, Some, None, refl, ap, ◌∙◌}
 use Rattle.std.specs.Prelude.{◌==◌, ◌||◌, if◌then◌else◌}
 use Rattle.im_num.specs.declared.kind.Kind.{Kind}
 use Rattle.im_num.specs.declared.kind.Kind.TheVariants.{I8, U8, I16, U16, I32, U32, Ptr}
 use Rattle.im_num.specs.Kinds.{word}
 use Rattle.im_rv.specs.declared.instr.Op.TheVariants.{Srli, Srai}
+use Rattle.im_rv.specs.Lines.{plain_line}
+use Rattle.im_rv_reach.specs.Instructions.{on_registers, upper}
 use Rattle.im_gap.specs.declared.flow.Turn.TheVariants.{Passes}
 use Rattle.im_select_operators.specs.Tables.{less_op}
 use Rattle.im_store.specs.declared.operators.UnaryOp.TheVariants.{Negate, Complement}
@@ -12,12 +14,13 @@ use Rattle.im_store.specs.declared.operators.Comparison.{Comparison}
 use Rattle.im_store.specs.declared.operators.Comparison.TheVariants.{Less, Greater, LessOrEqual, GreaterOrEqual, Equal, NotEqual}
 use Rattle.im_store.specs.Objects.{Name, Slot}
 use Rattle.im_block.specs.declared.code.Place.{Place}
+use Rattle.im_block.specs.declared.code.Place.TheVariants.{Static, Local, Through}
 use Rattle.im_block.specs.declared.code.Line.{Line}
 use Rattle.im_block.specs.declared.code.Line.TheVariants.{Put, PutNull, Copy, Convert, Unary, Not, Compute, Compare, Move, Distance, Address, Read, Write, Reload, Spill, Cut, Call, GetChar, PutChar}
 use Rattle.im_alloc_relation.specs.Live.{uses, sets, place_uses}
-use Rattle.im_select.specs.Emitted.{constant_code, displaced_code, displaced_base, place_number, place_code, place_base, compared_code, shifted_code, line_code}
+use Rattle.im_select.specs.Emitted.{high_of, low_of, constant_code, displaced_code, displaced_base, place_number, place_code, place_base, moved_code, copied_code, compared_code, shifted_code, step_op, shift_of, multiplied_code, shifts_code, scaled_code, pointer_code, based_code, address_code, line_code}
 use Rattle.im_saved_lines.specs.Scan.{way}
-use Rattle.im_saved_lines.proofs.Scanning.{IsUnsaved, unsaved_not, other_is, or_left, or_right, same_is, ArePlain, plain_append, Wants, wants_append}
+use Rattle.im_saved_lines.proofs.Scanning.{IsUnsaved, unsaved_not, other_is, or_left, or_right, same_of, same_is, ArePlain, plain_append, Wants, wants_append}
 use Rattle.im_saved_lines.proofs.Plain.{operation_way, less_way, load_way, store_way, step_way, constant_plain, constant_wants, displaced_plain, displaced_wants, place_plain, place_wants}
 
 -- no cut and no call
@@ -35,6 +38,36 @@ srl_way false = refl
 shifted_plain : (to bits : ℕ) (signed : Bool) (from : ℕ) → ArePlain (shifted_code to bits signed from)
 shifted_plain to bits signed from = ((refl, refl), ((srl_way signed, refl), tt))
 
+copied_plain : (to from : ℕ) → ArePlain (copied_code to from)
+copied_plain to from = by (to == from)
+  where
+    by : (b : Bool) → ArePlain (if b then [] else moved_code to from)
+    by true = tt
+    by false = ((refl, refl), tt)
+
+shifts_plain : (bits : Option ℕ) (size by : ℕ) → ArePlain (shifts_code bits size by)
+shifts_plain None size by = plain_append (constant_code 5 size) _ (constant_plain 5 size) ((refl, refl), tt)
+shifts_plain (Some bits) size by = ((refl, refl), tt)
+
+scaled_plain : (size by : ℕ) → ArePlain (scaled_code size by)
+scaled_plain size by = one (size == 1)
+  where
+    one : (b : Bool) → ArePlain (if b then [] else shifts_code (shift_of size) size by)
+    one true = tt
+    one false = shifts_plain (shift_of size) size by
+
+based_plain : (to : ℕ) (place : Place) (n : ℕ) → ArePlain (based_code to place n)
+based_plain to place n = plain_append (place_code place n) _ (place_plain place n) ((refl, refl), tt)
+
+address_plain : (to : ℕ) (place : Place) (n : ℕ) → ArePlain (address_code to place n)
+address_plain to (Static object offset) n = by (low_of n == 0)
+  where
+    by : (b : Bool) → ArePlain (if b then plain_line (upper to (high_of n)) ∷ [] else based_code to (Static object offset) n)
+    by true = ((refl, refl), tt)
+    by false = based_plain to (Static object offset) n
+address_plain to (Local object offset) n = based_plain to (Local object offset) n
+address_plain to (Through r offset) n = based_plain to (Through r offset) n
+
 compared_plain : (to : ℕ) (kind : Kind) (left right : ℕ) (op : Comparison) → ArePlain (compared_code to (less_op kind) left right op)
 compared_plain to kind left right Less = ((less_way kind, refl), tt)
 compared_plain to kind left right Greater = ((less_way kind, refl), tt)
@@ -46,22 +79,22 @@ compared_plain to kind left right NotEqual = ((refl, refl), ((refl, refl), tt))
 pub work_plain : (at : Name → ℕ) (m : ℕ) (line : Line) → IsWork line → ArePlain (line_code at m line)
 work_plain at m (Put to z) work = constant_plain to (word z)
 work_plain at m (PutNull to) work = ((refl, refl), tt)
-work_plain at m (Copy to from) work = ((refl, refl), tt)
+work_plain at m (Copy to from) work = copied_plain to from
 work_plain at m (Convert to I8 from) work = shifted_plain to 24 true from
-work_plain at m (Convert to U8 from) work = shifted_plain to 24 false from
+work_plain at m (Convert to U8 from) work = ((refl, refl), tt)
 work_plain at m (Convert to I16 from) work = shifted_plain to 16 true from
 work_plain at m (Convert to U16 from) work = shifted_plain to 16 false from
-work_plain at m (Convert to I32 from) work = ((refl, refl), tt)
-work_plain at m (Convert to U32 from) work = ((refl, refl), tt)
-work_plain at m (Convert to Ptr from) work = ((refl, refl), tt)
+work_plain at m (Convert to I32 from) work = copied_plain to from
+work_plain at m (Convert to U32 from) work = copied_plain to from
+work_plain at m (Convert to Ptr from) work = copied_plain to from
 work_plain at m (Unary to Negate kind from) work = ((refl, refl), tt)
 work_plain at m (Unary to Complement kind from) work = ((refl, refl), tt)
 work_plain at m (Not to from) work = ((refl, refl), tt)
 work_plain at m (Compute to op kind left right) work = ((operation_way op kind, refl), tt)
 work_plain at m (Compare to op kind left right) work = compared_plain to kind left right op
-work_plain at m (Move to size back pointer by) work = plain_append (constant_code 5 size) _ (constant_plain 5 size) ((refl, refl), ((step_way back, refl), tt))
+work_plain at m (Move to size back pointer by) work = plain_append (scaled_code size by) _ (scaled_plain size by) ((step_way back, refl), tt)
 work_plain at m (Distance to size left right) work = ((refl, refl), plain_append (constant_code 6 size) _ (constant_plain 6 size) ((refl, refl), tt))
-work_plain at m (Address to place) work = plain_append (place_code place (place_number at place)) _ (place_plain place (place_number at place)) ((refl, refl), tt)
+work_plain at m (Address to place) work = address_plain to place (place_number at place)
 work_plain at m (Read to place kind access) work = plain_append (place_code place (place_number at place)) _ (place_plain place (place_number at place)) ((load_way kind, refl), tt)
 work_plain at m (Write place kind from access) work = plain_append (place_code place (place_number at place)) _ (place_plain place (place_number at place)) ((store_way kind, refl), tt)
 work_plain at m (Reload to slot access) work = plain_append (displaced_code 2 (at (Slot slot))) _ (displaced_plain 2 (at (Slot slot))) ((refl, refl), tt)
@@ -91,6 +124,18 @@ module _ (X : Type 0) (r : ℕ) (u : IsUnsaved r) where
   one_of from to (inl e) = inl (same_is r from e)
   one_of from to (inr (inl e)) = absurd (unsaved_not r 0 u refl e)
   one_of from to (inr (inr c)) = inr (other_is r to c.0, c.1)
+
+  -- a copy, which to itself is no line
+  copied_of : (from to : ℕ) → Wants (copied_code to from) X r → Wanted (r == from) to
+  copied_of from to w = by (to == from) refl w
+    where
+      own : to ≡ from → X → (t : Bool) → (r == from) ≡ t → Wanted (r == from) to
+      own e x true t = inl t
+      own e x false t = inr (ap (λ z. r == z) e ∙ t, x)
+
+      by : (b : Bool) → (to == from) ≡ b → Wants (if b then [] else moved_code to from) X r → Wanted (r == from) to
+      by true e x = own (same_of to from e) x (r == from) refl
+      by false e v = one_of from to v
 
   zero_one_of : (from to : ℕ) → One 0 from to X → Wanted (r == from) to
   zero_one_of from to (inl e) = absurd (unsaved_not r 0 u refl e)
@@ -153,6 +198,28 @@ module _ (X : Type 0) (r : ℕ) (u : IsUnsaved r) where
   moved_of pointer by to away (inr (inr (ne, inr (inl e)))) = absurd (ne e)
   moved_of pointer by to away (inr (inr (ne, inr (inr c)))) = inr (other_is r to c.0, c.1)
 
+  -- scaled by a shift
+  lifted_of : (pointer by to : ℕ) → One by 0 5 (One pointer 5 to X) → Wanted (r == pointer || r == by) to
+  lifted_of pointer by to (inl e) = inl (or_right (r == pointer) (r == by) (same_is r by e))
+  lifted_of pointer by to (inr (inl e)) = absurd (zero_not e)
+  lifted_of pointer by to (inr (inr (ne, inl e))) = inl (or_left (r == pointer) (r == by) (same_is r pointer e))
+  lifted_of pointer by to (inr (inr (ne, inr (inl e)))) = absurd (ne e)
+  lifted_of pointer by to (inr (inr (ne, inr (inr c)))) = inr (other_is r to c.0, c.1)
+
+  shifts_of : (bits : Option ℕ) (size by pointer to : ℕ) (back : Bool) → Wants (shifts_code bits size by ++ plain_line (on_registers (step_op back) to pointer 5) ∷ []) X r → Wanted (r == pointer || r == by) to
+  shifts_of None size by pointer to back w =
+      let v = wants_append (multiplied_code size by) (plain_line (on_registers (step_op back) to pointer 5) ∷ []) X r w in
+      let c = constant_wants 5 size _ r u (wants_append (constant_code 5 size) _ _ r v) in
+      moved_of pointer by to c.0 c.1
+  shifts_of (Some bits) size by pointer to back w = lifted_of pointer by to w
+
+  scaled_of : (size by pointer to : ℕ) (back : Bool) → Wants (pointer_code to size back pointer by) X r → Wanted (r == pointer || r == by) to
+  scaled_of size by pointer to back w = one (size == 1) w
+    where
+      one : (b : Bool) → Wants ((if b then [] else shifts_code (shift_of size) size by) ++ plain_line (on_registers (step_op back) to pointer (if b then by else 5)) ∷ []) X r → Wanted (r == pointer || r == by) to
+      one true v = two_of pointer by to v
+      one false v = shifts_of (shift_of size) size by pointer to back v
+
   divided_of : (to : ℕ) → r ≢ 5 → r ≢ 6 → One 5 6 to X → Wanted false to
   divided_of to away apart (inl e) = absurd (away e)
   divided_of to away apart (inr (inl e)) = absurd (apart e)
@@ -172,6 +239,18 @@ module _ (X : Type 0) (r : ℕ) (u : IsUnsaved r) where
   address_of : (place : Place) (n to : ℕ) → (place_uses place r ≡ true) ⊎ ((r ≡ place_base place n → place_uses place r ≡ true) × One (place_base place n) 0 to X) → Wanted (place_uses place r) to
   address_of place n to (inl e) = inl e
   address_of place n to (inr w) = placed_of place n to w.0 w.1
+
+  based_of : (place : Place) (n to : ℕ) → Wants (based_code to place n) X r → Wanted (place_uses place r) to
+  based_of place n to w = address_of place n to (place_wants place n _ r u (wants_append (place_code place n) _ X r w))
+
+  addressed_of : (place : Place) (n to : ℕ) → Wants (address_code to place n) X r → Wanted (place_uses place r) to
+  addressed_of (Static object offset) n to w = by (low_of n == 0) w
+    where
+      by : (b : Bool) → Wants (if b then plain_line (upper to (high_of n)) ∷ [] else based_code to (Static object offset) n) X r → Wanted false to
+      by true v = none_of to v
+      by false v = based_of (Static object offset) n to v
+  addressed_of (Local object offset) n to w = based_of (Local object offset) n to w
+  addressed_of (Through pointer offset) n to w = based_of (Through pointer offset) n to w
 
   stored_of : (place : Place) (n from : ℕ) → (place_uses place r ≡ true) ⊎ ((r ≡ place_base place n → place_uses place r ≡ true) × One (place_base place n) from 0 X) → ((place_uses place r || r == from) ≡ true) ⊎ X
   stored_of place n from (inl e) = inl (or_left (place_uses place r) (r == from) e)
@@ -202,14 +281,14 @@ module _ (X : Type 0) (r : ℕ) (u : IsUnsaved r) where
 pub work_wants : (at : Name → ℕ) (m : ℕ) (line : Line) → IsWork line → (X : Type 0) (r : ℕ) → IsUnsaved r → Wants (line_code at m line) X r → (uses line r ≡ true) ⊎ ((sets line r ≡ false) × X)
 work_wants at m (Put to z) work X r u w = let c = constant_wants to (word z) X r u w in inr (other_is r to c.0, c.1)
 work_wants at m (PutNull to) work X r u w = none_of X r u to w
-work_wants at m (Copy to from) work X r u w = one_of X r u from to w
+work_wants at m (Copy to from) work X r u w = copied_of X r u from to w
 work_wants at m (Convert to I8 from) work X r u w = one_twice X r u from to w
-work_wants at m (Convert to U8 from) work X r u w = one_twice X r u from to w
+work_wants at m (Convert to U8 from) work X r u w = one_of X r u from to w
 work_wants at m (Convert to I16 from) work X r u w = one_twice X r u from to w
 work_wants at m (Convert to U16 from) work X r u w = one_twice X r u from to w
-work_wants at m (Convert to I32 from) work X r u w = one_of X r u from to w
-work_wants at m (Convert to U32 from) work X r u w = one_of X r u from to w
-work_wants at m (Convert to Ptr from) work X r u w = one_of X r u from to w
+work_wants at m (Convert to I32 from) work X r u w = copied_of X r u from to w
+work_wants at m (Convert to U32 from) work X r u w = copied_of X r u from to w
+work_wants at m (Convert to Ptr from) work X r u w = copied_of X r u from to w
 work_wants at m (Unary to Negate kind from) work X r u w = zero_one_of X r u from to w
 work_wants at m (Unary to Complement kind from) work X r u w = one_of X r u from to w
 work_wants at m (Not to from) work X r u w = one_of X r u from to w
@@ -220,11 +299,9 @@ work_wants at m (Compare to LessOrEqual kind left right) work X r u w = turned_t
 work_wants at m (Compare to GreaterOrEqual kind left right) work X r u w = two_twice X r u left right to w
 work_wants at m (Compare to Equal kind left right) work X r u w = by_five X r u left right to w
 work_wants at m (Compare to NotEqual kind left right) work X r u w = not_five X r u left right to w
-work_wants at m (Move to size back pointer by) work X r u w = (let c = constant_wants 5 size _ r u (wants_append (constant_code 5 size) _ X r w) in moved_of X r u pointer by to c.0 c.1)
+work_wants at m (Move to size back pointer by) work X r u w = scaled_of X r u size by pointer to back w
 work_wants at m (Distance to size left right) work X r u w = measured_of X r u left right to _ (λ y. (let c = constant_wants 6 size _ r u (wants_append (constant_code 6 size) _ X r y) in (c.0, c.1))) w
-work_wants at m (Address to place) work X r u w =
-    let n : ℕ = place_number at place in
-    address_of X r u place n to (place_wants place n _ r u (wants_append (place_code place n) _ X r w))
+work_wants at m (Address to place) work X r u w = addressed_of X r u place (place_number at place) to w
 work_wants at m (Read to place kind access) work X r u w =
     let n : ℕ = place_number at place in
     address_of X r u place n to (place_wants place n _ r u (wants_append (place_code place n) _ X r w))

@@ -1,5 +1,5 @@
 -- That lines are sound: those of a function whose cuts save what lives behind them, and the runtime's routines.
-use Rattle.std.specs.Prelude.{◌≡◌, ◌≢◌, ◌<◌, ◌≤◌, ◌⊎◌, ℕ, suc, ◌+◌, ◌==◌, ◌&&◌, ◌||◌, nat_le, not, Bool, true, List, [], ◌∷◌, Some, drop, length, slice_get}
+use Rattle.std.specs.Prelude.{◌≡◌, ◌<◌, ◌≤◌, ◌⊎◌, ℕ, suc, ◌+◌, ◌==◌, ◌&&◌, ◌||◌, nat_le, not, Bool, true, List, [], ◌∷◌, Some, length, slice_get}
 use Rattle.im_rtlib.specs.Routines.{getchar, putchar, exit, stack}
 use Rattle.im_store.specs.Objects.{Name}
 use Rattle.im_block.specs.declared.code.Line.{Line}
@@ -11,7 +11,8 @@ use Rattle.im_alloc_placed.specs.Operands.{IsHome}
 use Rattle.im_alloc_placed.specs.Placed.{IsPlacedFunction}
 use Rattle.im_alloc_relation.specs.Settled.{IsCall}
 use Rattle.im_live.specs.Reads.{lives_before}
-use Rattle.im_select.specs.Emitted.{entry_label, function_code}
+use Rattle.im_select.specs.declared.distance.Distance.{Distance}
+use Rattle.im_select.specs.Emitted.{entry_label, Laying, function_code}
 use Rattle.im_rv.specs.Lines.{CodeLine}
 use Rattle.im_saved_lines.specs.Scan.{is_base, After, scan, AreSound}
 
@@ -53,12 +54,16 @@ abbrev pub SavesFrom : (ℕ → ℕ → Bool) → (ℕ → ℕ) → ℕ → List
 SavesFrom live m j [] leaves = Unit {0}
 SavesFrom live m j (line ∷ rest) leaves = ((4 ≤ m j) × (m j ≤ 31) × ((r : ℕ) → lives_before live rest leaves r ≡ true → r ≤ m j)) × SavesFrom live m (suc j) rest leaves
 
+-- what a function's blocks are laid by
+abbrev pub laid : Function → (Name → ℕ) → (ℕ → ℕ → ℕ) → Distance → ℕ → ℕ → Laying
+laid f places m distance first frame = record { at = places; cut = m; distance = distance; first = first; frame = frame; blocks = f.blocks.items; entry = f.entry }
+
 abbrev pub FunctionLinesLaw : Type 0
 FunctionLinesLaw =
-    (functions : List Function) (statics i first frame : ℕ) (f : Function) (places : Name → ℕ) (m : ℕ → ℕ → ℕ) (live at : ℕ → ℕ → Bool) → slice_get functions i ≡ Some f → 64 ≤ first →
+    (functions : List Function) (statics i first frame : ℕ) (f : Function) (places : Name → ℕ) (m : ℕ → ℕ → ℕ) (distance : Distance) (live at : ℕ → ℕ → Bool) → slice_get functions i ≡ Some f → 64 ≤ first →
     IsLow at → HasEntries functions at → HasBlocks live first (length f.blocks.items) at → IsFunction functions f → IsPlacedFunction statics f → IsHeld live f →
     ((b : ℕ) (block : Block) → slice_get f.blocks.items b ≡ Some block → SavesFrom live (m b) 0 block.lines.items block.exit) →
-    (behind : After) → AreSound at (function_code places m i first frame f.entry f.blocks.items) behind
+    (behind : After) → AreSound at (function_code i (laid f places m distance first frame)) behind
 
 -- each cut enters at a register that lives behind it: as all that lives there is saved, at the greatest
 abbrev pub AreLeast : (ℕ → ℕ → Bool) → List CodeLine → After → Type 0

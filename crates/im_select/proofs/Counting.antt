@@ -1,11 +1,11 @@
 -- How many lines stand for a line, an exit, a function: at most what these cost.
-use Rattle.std.proofs.Common.{◌≡◌, ◌<◌, ◌≤◌, ℕ, suc, ◌+◌, ◌-◌, ◌^◌, Bool, true, false, List, [], ◌∷◌, ◌++◌, Some, None, length, refl, length-append, arith}
-use Rattle.std.specs.Prelude.{◌==◌, slice_get}
+use Rattle.std.proofs.Common.{◌≡◌, ◌<◌, ◌≤◌, ℕ, suc, ◌+◌, ◌-◌, ◌^◌, Bool, true, false, List, [], ◌∷◌, ◌++◌, Option, Some, None, length, refl, ap, length-append, arith}
+use Rattle.std.specs.Prelude.{◌==◌, ◌&&◌, not, if◌then◌else◌, slice_get}
 use Rattle.im_num.specs.declared.kind.Kind.TheVariants.{I8, U8, I16, U16, I32, U32, Ptr}
 use Rattle.im_num.specs.Kinds.{word}
 use Rattle.im_rv.specs.declared.instr.Op.TheVariants.{Jalr, Lw, Sw, Addi, Add as AddOp, Mul, Div}
 use Rattle.im_rv.specs.Lines.{CodeLine, plain_line}
-use Rattle.im_rv_reach.specs.Instructions.{with_immediate, on_registers, storing}
+use Rattle.im_rv_reach.specs.Instructions.{with_immediate, on_registers, storing, upper}
 use Rattle.im_select_operators.specs.Tables.{load_op, store_op}
 use Rattle.im_rtlib.specs.Routines.{numbered}
 use Rattle.im_store.specs.declared.operators.UnaryOp.TheVariants.{Negate, Complement}
@@ -14,7 +14,7 @@ use Rattle.im_store.specs.Objects.{Name, Slot}
 use Rattle.im_block.specs.declared.code.Place.{Place}
 use Rattle.im_block.specs.declared.code.Place.TheVariants.{Static, Local, Through}
 use Rattle.im_block.specs.declared.code.Line.{Line}
-use Rattle.im_block.specs.declared.code.Line.TheVariants.{Put, PutNull, Copy, Convert, Unary, Not, Compute, Compare, Move, Distance, Address, Read, Write, Reload, Spill, Cut, Call, GetChar, PutChar}
+use Rattle.im_block.specs.declared.code.Line.TheVariants.{Put, PutNull, Copy, Convert, Unary, Not, Compute, Compare, Move, Distance as Measure, Address, Read, Write, Reload, Spill, Cut, Call, GetChar, PutChar}
 use Rattle.im_block.specs.declared.code.Exit.{Exit}
 use Rattle.im_block.specs.declared.code.Exit.TheVariants.{Jump, Turn, Branch, Return}
 use Rattle.im_block.specs.declared.code.Block.{Block}
@@ -22,7 +22,10 @@ use Rattle.im_block.specs.declared.unit.Function.{Function}
 use Rattle.im_block.specs.Forced.{StartsWithCut}
 use Rattle.im_block.specs.Shape.{sum_of, with_cut, exit_words, placed_block_cost, placed_cost}
 use Rattle.im_alloc_placed.specs.Apart.{CutsApart}
-use Rattle.im_select.specs.Emitted.{high_of, low_of, constant_by, constant_code, displaced_by, displaced_code, displaced_base, step_op, adds_by, adds_code, place_number, place_code, place_base, line_code, lines_code, exit_code, block_code, blocks_code, enter_code, prologue_code, function_code, labelled, entry_label}
+use Rattle.im_select.specs.declared.distance.Distance.{Distance}
+use Rattle.im_select.specs.declared.distance.Distance.TheVariants.{Near, Far}
+use Rattle.im_select.specs.Emitted.{high_of, low_of, constant_by, constant_code, displaced_by, displaced_code, displaced_base, step_op, adds_by, adds_code, place_number, place_code, place_base, moved_code, copied_code, shift_of, shifts_code, scaled_code, scaled_register, based_code, address_code, line_code, lines_code, onward_code, test_code, is_next, branch_code, exit_code, is_empty, ended_code, block_code, Laying, next_label, found_code, laid_block, laid_code, laid_order, blocks_code, enter_code, prologue_code, function_code, labelled, entry_label}
+use Rattle.im_select.proofs.Ordering.{cost_found, cost_in, order_cost}
 use Rattle.im_select.proofs.Plain.{length_labelled}
 
 constant_few : (rd n : ℕ) → length (constant_code rd n) ≤ 2
@@ -54,18 +57,48 @@ place_few (Static object offset) n = omega arith
 place_few (Local object offset) n = displaced_few 2 n
 place_few (Through r offset) n = displaced_few r n
 
+copied_few : (to from : ℕ) → length (copied_code to from) ≤ 1
+copied_few to from = by (to == from)
+  where
+    by : (b : Bool) → length (if b then [] else moved_code to from) ≤ 1
+    by true = omega arith
+    by false = omega arith
+
+shifts_few : (shift : Option ℕ) (size by : ℕ) → length (shifts_code shift size by) ≤ 3
+shifts_few None size by = let ys : List CodeLine = plain_line (on_registers Mul 5 5 by) ∷ [] in then_few (constant_code 5 size) ys 2 1 (constant_few 5 size) (omega arith)
+shifts_few (Some bits) size by = omega arith
+
+scaled_few : (size by : ℕ) → length (scaled_code size by) ≤ 3
+scaled_few size by = cases (size == 1)
+  where
+    cases : (b : Bool) → length (if b then [] else shifts_code (shift_of size) size by) ≤ 3
+    cases true = omega arith
+    cases false = shifts_few (shift_of size) size by
+
+based_few : (to : ℕ) (place : Place) (n : ℕ) → length (based_code to place n) ≤ 3
+based_few to place n = let ys : List CodeLine = plain_line (with_immediate Addi to (place_base place n) (low_of n)) ∷ [] in then_few (place_code place n) ys 2 1 (place_few place n) (omega arith)
+
+address_few : (to : ℕ) (place : Place) (n : ℕ) → length (address_code to place n) ≤ 3
+address_few to (Static object offset) n = by (low_of n == 0)
+  where
+    by : (b : Bool) → length (if b then plain_line (upper to (high_of n)) ∷ [] else based_code to (Static object offset) n) ≤ 3
+    by true = omega arith
+    by false = based_few to (Static object offset) n
+address_few to (Local object offset) n = based_few to (Local object offset) n
+address_few to (Through r offset) n = based_few to (Through r offset) n
+
 -- each line but a cut has at most its words
 few : (at : Name → ℕ) (m : ℕ) (line : Line) → (StartsWithCut (line ∷ []) → ⊥) → length (line_code at m line) + 1 ≤ with_cut line
 few at m (Put to z) h = let q = constant_few to (word z) in omega arith
 few at m (PutNull to) h = omega arith
-few at m (Copy to from) h = omega arith
+few at m (Copy to from) h = let q = copied_few to from in omega arith
 few at m (Convert to I8 from) h = omega arith
 few at m (Convert to U8 from) h = omega arith
 few at m (Convert to I16 from) h = omega arith
 few at m (Convert to U16 from) h = omega arith
-few at m (Convert to I32 from) h = omega arith
-few at m (Convert to U32 from) h = omega arith
-few at m (Convert to Ptr from) h = omega arith
+few at m (Convert to I32 from) h = let q = copied_few to from in omega arith
+few at m (Convert to U32 from) h = let q = copied_few to from in omega arith
+few at m (Convert to Ptr from) h = let q = copied_few to from in omega arith
 few at m (Unary to Negate kind from) h = omega arith
 few at m (Unary to Complement kind from) h = omega arith
 few at m (Not to from) h = omega arith
@@ -76,9 +109,9 @@ few at m (Compare to LessOrEqual kind left right) h = omega arith
 few at m (Compare to GreaterOrEqual kind left right) h = omega arith
 few at m (Compare to Equal kind left right) h = omega arith
 few at m (Compare to NotEqual kind left right) h = omega arith
-few at m (Move to size back pointer by) h = let ys : List CodeLine = plain_line (on_registers Mul 5 5 by) ∷ plain_line (on_registers (step_op back) to pointer 5) ∷ [] in let q = then_few (constant_code 5 size) ys 2 2 (constant_few 5 size) (omega arith) in omega arith
-few at m (Distance to size left right) h = let ys : List CodeLine = plain_line (on_registers Div to 5 6) ∷ [] in let q = then_few (constant_code 6 size) ys 2 1 (constant_few 6 size) (omega arith) in omega arith
-few at m (Address to place) h = let ys : List CodeLine = plain_line (with_immediate Addi to (place_base place (place_number at place)) (low_of (place_number at place))) ∷ [] in let q = then_few (place_code place (place_number at place)) ys 2 1 (place_few place (place_number at place)) (omega arith) in omega arith
+few at m (Move to size back pointer by) h = let ys : List CodeLine = plain_line (on_registers (step_op back) to pointer (scaled_register size by)) ∷ [] in let q = then_few (scaled_code size by) ys 3 1 (scaled_few size by) (omega arith) in omega arith
+few at m (Measure to size left right) h = let ys : List CodeLine = plain_line (on_registers Div to 5 6) ∷ [] in let q = then_few (constant_code 6 size) ys 2 1 (constant_few 6 size) (omega arith) in omega arith
+few at m (Address to place) h = let q = address_few to place (place_number at place) in omega arith
 few at m (Read to place kind access) h = let ys : List CodeLine = numbered access (with_immediate (load_op kind) to (place_base place (place_number at place)) (low_of (place_number at place))) ∷ [] in let q = then_few (place_code place (place_number at place)) ys 2 1 (place_few place (place_number at place)) (omega arith) in omega arith
 few at m (Write place kind from access) h = let ys : List CodeLine = numbered access (storing (store_op kind) (place_base place (place_number at place)) from (low_of (place_number at place))) ∷ [] in let q = then_few (place_code place (place_number at place)) ys 2 1 (place_few place (place_number at place)) (omega arith) in omega arith
 few at m (Reload to slot access) h = let ys : List CodeLine = numbered access (with_immediate Lw to (displaced_base 2 (at (Slot slot))) (low_of (at (Slot slot)))) ∷ [] in let q = then_few (displaced_code 2 (at (Slot slot))) ys 2 1 (displaced_few 2 (at (Slot slot))) (omega arith) in omega arith
@@ -109,46 +142,88 @@ paid at m j (Cut cause ∷ rest) h =
     record { most = omega arith; own = λ n. absurd (n tt) }
 paid at m j (line ∷ rest) h = behind at m j line rest (λ n. n) (paid at m (suc j) rest h)
 
-exit_few : (first frame : ℕ) (exit : Exit) → length (exit_code first frame exit) ≤ exit_words exit
-exit_few first frame (Jump b) = omega arith
-exit_few first frame (Turn b) = omega arith
-exit_few first frame (Branch on x y) = omega arith
-exit_few first frame (Return None) = let q = then_few (adds_code 2 frame) (plain_line (with_immediate Jalr 0 1 0) ∷ []) 3 1 (adds_few 2 frame) (omega arith) in omega arith
-exit_few first frame (Return (Some r)) = let q = then_few (adds_code 2 frame) (plain_line (with_immediate Jalr 0 1 0) ∷ []) 3 1 (adds_few 2 frame) (omega arith) in omega arith
+onward_few : (falls : Bool) (label : ℕ) → length (onward_code falls label) ≤ 1
+onward_few true label = omega arith
+onward_few false label = omega arith
 
-pub exit_some : (first frame : ℕ) (exit : Exit) → 0 < length (exit_code first frame exit)
-exit_some first frame (Jump b) = omega arith
-exit_some first frame (Turn b) = omega arith
-exit_some first frame (Branch on x y) = omega arith
-exit_some first frame (Return None) = omega arith
-exit_some first frame (Return (Some r)) = omega arith
+test_few : (distance : Distance) (holds : Bool) (on label : ℕ) → (0 < length (test_code distance holds on label)) × (length (test_code distance holds on label) ≤ 2)
+test_few Near holds on label = (omega arith, omega arith)
+test_few Far holds on label = (omega arith, omega arith)
 
-block_few : (at : Name → ℕ) (m : ℕ → ℕ) (first frame n : ℕ) (block : Block) → CutsApart block.lines.items → length (block_code at m first frame n block) ≤ placed_block_cost block
-block_few at m first frame n block h =
+abbrev branch_by : Bool → Distance → Option ℕ → ℕ → ℕ → ℕ → List CodeLine
+branch_by b distance next on there other = if b then test_code distance false on other else test_code distance true on there ++ onward_code (is_next next other) other
+
+branch_few : (distance : Distance) (next : Option ℕ) (on there other : ℕ) → (0 < length (branch_code distance next on there other)) × (length (branch_code distance next on there other) ≤ 3)
+branch_few distance next on there other = by (is_next next there)
+  where
+    by : (b : Bool) → (0 < length (branch_by b distance next on there other)) × (length (branch_by b distance next on there other) ≤ 3)
+    by true = let t = test_few distance false on other in let a = t.0 in let b = t.1 in (omega arith, omega arith)
+    by false =
+        let t = test_few distance true on there in
+        let a = t.0 in
+        let b = t.1 in
+        let o = onward_few (is_next next other) other in
+        let e = length-append (test_code distance true on there) (onward_code (is_next next other) other) in
+        (omega arith, omega arith)
+
+exit_few : (distance : Distance) (next : Option ℕ) (bare : Bool) (first frame : ℕ) (exit : Exit) → length (exit_code distance next bare first frame exit) ≤ exit_words exit
+exit_few distance next bare first frame (Jump b) = onward_few (not bare && is_next next (first + b)) (first + b)
+exit_few distance next bare first frame (Turn b) = omega arith
+exit_few distance next bare first frame (Branch on x y) = (branch_few distance next on (first + x) (first + y)).1
+exit_few distance next bare first frame (Return None) = let q = then_few (adds_code 2 frame) (plain_line (with_immediate Jalr 0 1 0) ∷ []) 3 1 (adds_few 2 frame) (omega arith) in omega arith
+exit_few distance next bare first frame (Return (Some r)) = let q = then_few (adds_code 2 frame) (plain_line (with_immediate Jalr 0 1 0) ∷ []) 3 1 (adds_few 2 frame) (omega arith) in omega arith
+
+-- a block without other lines keeps its jump
+bare_some : (distance : Distance) (next : Option ℕ) (first frame : ℕ) (exit : Exit) → 0 < length (exit_code distance next true first frame exit)
+bare_some distance next first frame (Jump b) = omega arith
+bare_some distance next first frame (Turn b) = omega arith
+bare_some distance next first frame (Branch on x y) = (branch_few distance next on (first + x) (first + y)).0
+bare_some distance next first frame (Return None) = omega arith
+bare_some distance next first frame (Return (Some r)) = omega arith
+
+-- so each block has a line for its label
+pub ended_some : (distance : Distance) (next : Option ℕ) (first frame : ℕ) (lines : List CodeLine) (exit : Exit) → 0 < length (ended_code distance next first frame lines exit)
+ended_some distance next first frame [] exit = bare_some distance next first frame exit
+ended_some distance next first frame (line ∷ lines) exit = omega arith
+
+block_few : (at : Name → ℕ) (m : ℕ → ℕ) (distance : Distance) (next : Option ℕ) (first frame b : ℕ) (block : Block) → CutsApart block.lines.items → length (block_code at m distance next first frame b block) ≤ placed_block_cost block
+block_few at m distance next first frame b block h =
     let p = paid at m 0 block.lines.items h in
     let o = p.most in
-    let q = exit_few first frame block.exit in
-    let e = length-append (lines_code at m 0 block.lines.items) (exit_code first frame block.exit) in
-    let l = length_labelled (first + n) (lines_code at m 0 block.lines.items ++ exit_code first frame block.exit) in
+    let lines : List CodeLine = lines_code at m 0 block.lines.items in
+    let exit : List CodeLine = exit_code distance next (is_empty lines) first frame block.exit in
+    let q = exit_few distance next (is_empty lines) first frame block.exit in
+    let e = length-append lines exit in
+    let l = length_labelled (first + b) (lines ++ exit) in
     omega arith
 
-blocks_few : (at : Name → ℕ) (m : ℕ → ℕ → ℕ) (first frame n : ℕ) (blocks : List Block) → ((b : ℕ) (block : Block) → slice_get blocks b ≡ Some block → CutsApart block.lines.items) → length (blocks_code at m first frame n blocks) ≤ sum_of placed_block_cost blocks
-blocks_few at m first frame n [] h = omega arith
-blocks_few at m first frame n (block ∷ blocks) h =
-    let a = block_few at (m n) first frame n block (h 0 block refl) in
-    let b = blocks_few at m first frame (suc n) blocks (λ k x e. h (suc k) x e) in
-    let e = length-append (block_code at (m n) first frame n block) (blocks_code at m first frame (suc n) blocks) in
+-- in no block two cuts stand side by side
+abbrev pub Apart : List Block → Type 0
+Apart blocks = (b : ℕ) (block : Block) → slice_get blocks b ≡ Some block → CutsApart block.lines.items
+
+found_few : (laying : Laying) (b : ℕ) (next : Option ℕ) (block : Option Block) → ((x : Block) → block ≡ Some x → CutsApart x.lines.items) → length (found_code laying b next block) ≤ cost_found block
+found_few laying b next None h = omega arith
+found_few laying b next (Some block) h = block_few laying.at (laying.cut b) laying.distance next laying.first laying.frame b block (h block refl)
+
+laid_few : (laying : Laying) (order : List ℕ) → Apart laying.blocks → length (laid_code laying order) ≤ cost_in laying.blocks order
+laid_few laying [] h = omega arith
+laid_few laying (b ∷ rest) h =
+    let own = found_few laying b (next_label laying.first rest) (slice_get laying.blocks b) (λ x e. h b x e) in
+    let later = laid_few laying rest h in
+    let e = length-append (laid_block laying b rest) (laid_code laying rest) in
     omega arith
 
-prologue_few : (frame target : ℕ) → length (prologue_code frame target) ≤ 9
-prologue_few frame target = then_few (adds_code 6 (2 ^ 32 - frame)) (enter_code target) 3 6 (adds_few 6 (2 ^ 32 - frame)) (omega arith)
+prologue_few : (frame : ℕ) → length (prologue_code frame) ≤ 8
+prologue_few frame = then_few (adds_code 6 (2 ^ 32 - frame)) enter_code 3 5 (adds_few 6 (2 ^ 32 - frame)) (omega arith)
 
-pub function_few : (at : Name → ℕ) (m : ℕ → ℕ → ℕ) (i first frame : ℕ) (f : Function) → ((b : ℕ) (block : Block) → slice_get f.blocks.items b ≡ Some block → CutsApart block.lines.items) → length (function_code at m i first frame f.entry f.blocks.items) ≤ placed_cost f
-function_few at m i first frame f h =
-    let head : List CodeLine = prologue_code frame (first + f.entry) in
-    let rest : List CodeLine = blocks_code at m first frame 0 f.blocks.items in
-    let a = prologue_few frame (first + f.entry) in
+pub function_few : (i : ℕ) (laying : Laying) (f : Function) → laying.blocks ≡ f.blocks.items → laying.entry < length laying.blocks → Apart laying.blocks → length (function_code i laying) ≤ placed_cost f
+function_few i laying f same within h =
+    let head : List CodeLine = prologue_code laying.frame in
+    let rest : List CodeLine = blocks_code laying in
+    let a = prologue_few laying.frame in
     let l = length_labelled (entry_label i) head in
-    let b = blocks_few at m first frame 0 f.blocks.items h in
+    let b = laid_few laying (laid_order laying.entry (length laying.blocks)) h in
+    let c = order_cost laying.blocks laying.entry within in
+    let s = ap (sum_of placed_block_cost) same in
     let e = length-append (labelled (entry_label i) head) rest in
     omega arith

@@ -1,214 +1,264 @@
 -- Labels of a function's lines, and where its lines lead to.
-use Rattle.std.proofs.Common.{◌≡◌, ◌<◌, ◌⊎◌, inl, inr, ℕ, zero, suc, ◌+◌, ◌-◌, ◌^◌, List, [], ◌∷◌, ◌++◌, Some, None, length, refl, sym, ◌∙◌, subst, length-append, arith}
-use Rattle.std.specs.Prelude.{All}
+use Rattle.std.proofs.Common.{◌≡◌, ◌<◌, ◌≤◌, ◌⊎◌, inl, inr, ℕ, suc, ◌+◌, ◌-◌, ◌^◌, Bool, true, false, List, [], ◌∷◌, ◌++◌, Option, Some, None, length, refl, sym, ap, ◌∙◌, subst, length-append, arith}
+use Rattle.std.specs.Prelude.{◌&&◌, not, if◌then◌else◌, slice_get, All}
 use Rattle.std.proofs.lemmas.List.Elements.{All-head, All-tail}
 use Rattle.im_num.specs.declared.kind.Kind.TheVariants.{I8, U8, I16, U16, I32, U32, Ptr}
 use Rattle.im_num.specs.Kinds.{word}
-use Rattle.im_rv.specs.declared.instr.Op.TheVariants.{Jal}
+use Rattle.im_rv.specs.declared.instr.Op.TheVariants.{Jal, Beq, Bne}
 use Rattle.im_rv.specs.Lines.{CodeLine}
 use Rattle.im_store.specs.declared.operators.UnaryOp.TheVariants.{Negate, Complement}
 use Rattle.im_store.specs.declared.operators.Comparison.TheVariants.{Less, Greater, LessOrEqual, GreaterOrEqual, Equal, NotEqual}
 use Rattle.im_store.specs.Objects.{Name, Slot}
 use Rattle.im_block.specs.declared.code.Line.{Line}
-use Rattle.im_block.specs.declared.code.Line.TheVariants.{Put, PutNull, Copy, Convert, Unary, Not, Compute, Compare, Move, Distance, Address, Read, Write, Reload, Spill, Cut, Call, GetChar, PutChar}
+use Rattle.im_block.specs.declared.code.Line.TheVariants.{Put, PutNull, Copy, Convert, Unary, Not, Compute, Compare, Move, Distance as Measure, Address, Read, Write, Reload, Spill, Cut, Call, GetChar, PutChar}
 use Rattle.im_block.specs.declared.code.Exit.{Exit}
 use Rattle.im_block.specs.declared.code.Exit.TheVariants.{Jump, Turn, Branch, Return}
 use Rattle.im_block.specs.declared.code.Block.{Block}
 use Rattle.im_block.specs.Wellformed.{ExitThere}
 use Rattle.im_select.specs.Given.{Given}
-use Rattle.im_select.specs.Emitted.{constant_code, displaced_code, adds_code, place_number, place_code, line_code, lines_code, leave_code, result_code, exit_code, block_code, blocks_code, enter_code, prologue_code, function_code, labelled, entry_label}
+use Rattle.im_select.specs.declared.distance.Distance.{Distance}
+use Rattle.im_select.specs.declared.distance.Distance.TheVariants.{Near, Far}
+use Rattle.im_select.specs.Emitted.{constant_code, displaced_code, adds_code, place_number, place_code, copied_code, scaled_code, address_code, call_code, line_code, lines_code, leave_code, result_code, onward_code, test_op, test_code, is_next, branch_code, exit_code, is_empty, ended_code, Laying, next_label, found_code, laid_block, laid_code, laid_order, blocks_code, enter_code, prologue_code, function_code, labelled, entry_label}
 use Rattle.im_select_relation.specs.Selected.{IsEntry}
 use Rattle.im_select.specs.Places.{CallsBelow}
-use Rattle.im_select.specs.Selects.{HasLabel, IsTarget, LeadsTo, IsClosedBlock}
+use Rattle.im_select.specs.Selects.{HasLabel, IsTarget, IsNear, LeadsTo, IsClosedBlock, laying_of}
+use Rattle.im_select.proofs.Low.{there}
+use Rattle.im_select.proofs.Ordering.{Among, Distinct, order_distinct, order_below, order_all}
 use Rattle.im_select.proofs.Standing.{after, after_length}
-use Rattle.im_select.proofs.Plain.{Bare, constant_bare, displaced_bare, adds_bare, place_bare, bare_append, Lead, lead_append, bare_lead, lead_labelled, Unlabelled, unlabelled_append, bare_unlabelled, only_first, first_has, label_left, label_right, label_split, length_labelled}
-use Rattle.im_select.proofs.Counting.{exit_some}
-use Rattle.im_select.proofs.Parts.{starts_from, starts_of}
+use Rattle.im_select.proofs.Plain.{Bare, constant_bare, displaced_bare, adds_bare, place_bare, copied_bare, scaled_bare, address_bare, bare_append, Lead, lead_append, bare_lead, lead_labelled, Unlabelled, unlabelled_append, bare_unlabelled, only_first, first_has, label_left, label_right, label_split, length_labelled}
+use Rattle.im_select.proofs.Counting.{ended_some}
+use Rattle.im_select.proofs.Laid.{starts_in, starts_of, first_start, later_start}
 
 -- no label, and it leads to where it may
-abbrev pub Sound : Given → List CodeLine → Type 0
-Sound names xs = Unlabelled xs × Lead names xs
+abbrev pub Sound : Given → List CodeLine → List CodeLine → Type 0
+Sound names whole xs = Unlabelled xs × Lead names whole xs
 
-bare : (names : Given) (xs : List CodeLine) → Bare xs → Sound names xs
-bare names xs h = (bare_unlabelled xs h, bare_lead names xs h)
+bare : (names : Given) (whole xs : List CodeLine) → Bare xs → Sound names whole xs
+bare names whole xs h = (bare_unlabelled xs h, bare_lead names whole xs h)
 
-both : (names : Given) (xs ys : List CodeLine) → Sound names xs → Sound names ys → Sound names (xs ++ ys)
-both names xs ys a b = (unlabelled_append xs ys a.0 b.0, lead_append names xs ys a.1 b.1)
+both : (names : Given) (whole xs ys : List CodeLine) → Sound names whole xs → Sound names whole ys → Sound names whole (xs ++ ys)
+both names whole xs ys a b = (unlabelled_append xs ys a.0 b.0, lead_append names whole xs ys a.1 b.1)
 
 -- a jump or a cut
-leads : (names : Given) (label : ℕ) (line : CodeLine) → line.line.op ≡ Jal → IsTarget names label → (l : ℕ) → Some label ≡ Some l → LeadsTo names line l
-leads names label line far t l e = let same : label ≡ l = cc in record { far = far; to = subst (IsTarget names) same t }
+leads : (names : Given) (whole : List CodeLine) (label : ℕ) (line : CodeLine) → line.line.op ≡ Jal → IsTarget names label → (l : ℕ) → Some label ≡ Some l → LeadsTo names whole line l
+leads names whole label line far t l e = let same : label ≡ l = cc in record { far = inl far; to = subst (IsTarget names) same t }
 
 -- a line with an access
-silent : (names : Given) (x : CodeLine) → x.label ≡ None → x.target ≡ None → Sound names (x ∷ [])
-silent names x a b = ((a, tt), ((λ l e. absurd cc), tt))
+silent : (names : Given) (whole : List CodeLine) (x : CodeLine) → x.label ≡ None → x.target ≡ None → Sound names whole (x ∷ [])
+silent names whole x a b = ((a, tt), ((λ l e. absurd cc), tt))
 
-line_sound : (names : Given) (at : Name → ℕ) (m : ℕ) (line : Line) → IsEntry m → CallsBelow names.functions line → Sound names (line_code at m line)
-line_sound names at m (Put to z) o h = bare names (constant_code to (word z)) (constant_bare to (word z))
-line_sound names at m (PutNull to) o h = bare names (line_code at m (PutNull to)) (refl, tt)
-line_sound names at m (Copy to from) o h = bare names (line_code at m (Copy to from)) (refl, tt)
-line_sound names at m (Convert to I8 from) o h = bare names (line_code at m (Convert to I8 from)) (refl, (refl, tt))
-line_sound names at m (Convert to U8 from) o h = bare names (line_code at m (Convert to U8 from)) (refl, (refl, tt))
-line_sound names at m (Convert to I16 from) o h = bare names (line_code at m (Convert to I16 from)) (refl, (refl, tt))
-line_sound names at m (Convert to U16 from) o h = bare names (line_code at m (Convert to U16 from)) (refl, (refl, tt))
-line_sound names at m (Convert to I32 from) o h = bare names (line_code at m (Convert to I32 from)) (refl, tt)
-line_sound names at m (Convert to U32 from) o h = bare names (line_code at m (Convert to U32 from)) (refl, tt)
-line_sound names at m (Convert to Ptr from) o h = bare names (line_code at m (Convert to Ptr from)) (refl, tt)
-line_sound names at m (Unary to Negate kind from) o h = bare names (line_code at m (Unary to Negate kind from)) (refl, tt)
-line_sound names at m (Unary to Complement kind from) o h = bare names (line_code at m (Unary to Complement kind from)) (refl, tt)
-line_sound names at m (Not to from) o h = bare names (line_code at m (Not to from)) (refl, tt)
-line_sound names at m (Compute to op kind left right) o h = bare names (line_code at m (Compute to op kind left right)) (refl, tt)
-line_sound names at m (Compare to Less kind left right) o h = bare names (line_code at m (Compare to Less kind left right)) (refl, tt)
-line_sound names at m (Compare to Greater kind left right) o h = bare names (line_code at m (Compare to Greater kind left right)) (refl, tt)
-line_sound names at m (Compare to LessOrEqual kind left right) o h = bare names (line_code at m (Compare to LessOrEqual kind left right)) (refl, (refl, tt))
-line_sound names at m (Compare to GreaterOrEqual kind left right) o h = bare names (line_code at m (Compare to GreaterOrEqual kind left right)) (refl, (refl, tt))
-line_sound names at m (Compare to Equal kind left right) o h = bare names (line_code at m (Compare to Equal kind left right)) (refl, (refl, tt))
-line_sound names at m (Compare to NotEqual kind left right) o h = bare names (line_code at m (Compare to NotEqual kind left right)) (refl, (refl, tt))
-line_sound names at m (Move to size back pointer by) o h = bare names (line_code at m (Move to size back pointer by)) (bare_append (constant_code 5 size) _ (constant_bare 5 size) (refl, (refl, tt)))
-line_sound names at m (Distance to size left right) o h = bare names (line_code at m (Distance to size left right)) (refl, bare_append (constant_code 6 size) _ (constant_bare 6 size) (refl, tt))
-line_sound names at m (Address to place) o h = bare names (line_code at m (Address to place)) (bare_append (place_code place (place_number at place)) _ (place_bare place (place_number at place)) (refl, tt))
-line_sound names at m (Read to place kind access) o h = both names (place_code place (place_number at place)) _ (bare names (place_code place (place_number at place)) (place_bare place (place_number at place))) (silent names _ refl refl)
-line_sound names at m (Write place kind from access) o h = both names (place_code place (place_number at place)) _ (bare names (place_code place (place_number at place)) (place_bare place (place_number at place))) (silent names _ refl refl)
-line_sound names at m (Reload to slot access) o h = both names (displaced_code 2 (at (Slot slot))) _ (bare names (displaced_code 2 (at (Slot slot))) (displaced_bare 2 (at (Slot slot)))) (silent names _ refl refl)
-line_sound names at m (Spill slot from access) o h = both names (displaced_code 2 (at (Slot slot))) _ (bare names (displaced_code 2 (at (Slot slot))) (displaced_bare 2 (at (Slot slot)))) (silent names _ refl refl)
-line_sound names at m (Cut cause) o h = ((refl, tt), ((λ l e. leads names m _ refl (inl o) l e), tt))
-line_sound names at m (Call to i first count) o h = ((refl, tt), ((λ l e. leads names (entry_label i) _ refl (inr (inr (inr (inr (inl (i, h, refl)))))) l e), tt))
-line_sound names at m (GetChar to) o h = ((refl, tt), ((λ l e. leads names 32 _ refl (inr (inl refl)) l e), tt))
-line_sound names at m (PutChar to from) o h = ((refl, tt), ((λ l e. leads names 33 _ refl (inr (inr (inl refl))) l e), tt))
+line_sound : (names : Given) (whole : List CodeLine) (at : Name → ℕ) (m : ℕ) (line : Line) → IsEntry m → CallsBelow names.functions line → Sound names whole (line_code at m line)
+line_sound names whole at m (Put to z) o h = bare names whole (constant_code to (word z)) (constant_bare to (word z))
+line_sound names whole at m (PutNull to) o h = bare names whole (line_code at m (PutNull to)) (refl, tt)
+line_sound names whole at m (Copy to from) o h = bare names whole (copied_code to from) (copied_bare to from)
+line_sound names whole at m (Convert to I8 from) o h = bare names whole (line_code at m (Convert to I8 from)) (refl, (refl, tt))
+line_sound names whole at m (Convert to U8 from) o h = bare names whole (line_code at m (Convert to U8 from)) (refl, tt)
+line_sound names whole at m (Convert to I16 from) o h = bare names whole (line_code at m (Convert to I16 from)) (refl, (refl, tt))
+line_sound names whole at m (Convert to U16 from) o h = bare names whole (line_code at m (Convert to U16 from)) (refl, (refl, tt))
+line_sound names whole at m (Convert to I32 from) o h = bare names whole (copied_code to from) (copied_bare to from)
+line_sound names whole at m (Convert to U32 from) o h = bare names whole (copied_code to from) (copied_bare to from)
+line_sound names whole at m (Convert to Ptr from) o h = bare names whole (copied_code to from) (copied_bare to from)
+line_sound names whole at m (Unary to Negate kind from) o h = bare names whole (line_code at m (Unary to Negate kind from)) (refl, tt)
+line_sound names whole at m (Unary to Complement kind from) o h = bare names whole (line_code at m (Unary to Complement kind from)) (refl, tt)
+line_sound names whole at m (Not to from) o h = bare names whole (line_code at m (Not to from)) (refl, tt)
+line_sound names whole at m (Compute to op kind left right) o h = bare names whole (line_code at m (Compute to op kind left right)) (refl, tt)
+line_sound names whole at m (Compare to Less kind left right) o h = bare names whole (line_code at m (Compare to Less kind left right)) (refl, tt)
+line_sound names whole at m (Compare to Greater kind left right) o h = bare names whole (line_code at m (Compare to Greater kind left right)) (refl, tt)
+line_sound names whole at m (Compare to LessOrEqual kind left right) o h = bare names whole (line_code at m (Compare to LessOrEqual kind left right)) (refl, (refl, tt))
+line_sound names whole at m (Compare to GreaterOrEqual kind left right) o h = bare names whole (line_code at m (Compare to GreaterOrEqual kind left right)) (refl, (refl, tt))
+line_sound names whole at m (Compare to Equal kind left right) o h = bare names whole (line_code at m (Compare to Equal kind left right)) (refl, (refl, tt))
+line_sound names whole at m (Compare to NotEqual kind left right) o h = bare names whole (line_code at m (Compare to NotEqual kind left right)) (refl, (refl, tt))
+line_sound names whole at m (Move to size back pointer by) o h = bare names whole (line_code at m (Move to size back pointer by)) (bare_append (scaled_code size by) _ (scaled_bare size by) (refl, tt))
+line_sound names whole at m (Measure to size left right) o h = bare names whole (line_code at m (Measure to size left right)) (refl, bare_append (constant_code 6 size) _ (constant_bare 6 size) (refl, tt))
+line_sound names whole at m (Address to place) o h = bare names whole (address_code to place (place_number at place)) (address_bare to place (place_number at place))
+line_sound names whole at m (Read to place kind access) o h = both names whole (place_code place (place_number at place)) _ (bare names whole (place_code place (place_number at place)) (place_bare place (place_number at place))) (silent names whole _ refl refl)
+line_sound names whole at m (Write place kind from access) o h = both names whole (place_code place (place_number at place)) _ (bare names whole (place_code place (place_number at place)) (place_bare place (place_number at place))) (silent names whole _ refl refl)
+line_sound names whole at m (Reload to slot access) o h = both names whole (displaced_code 2 (at (Slot slot))) _ (bare names whole (displaced_code 2 (at (Slot slot))) (displaced_bare 2 (at (Slot slot)))) (silent names whole _ refl refl)
+line_sound names whole at m (Spill slot from access) o h = both names whole (displaced_code 2 (at (Slot slot))) _ (bare names whole (displaced_code 2 (at (Slot slot))) (displaced_bare 2 (at (Slot slot)))) (silent names whole _ refl refl)
+line_sound names whole at m (Cut cause) o h = ((refl, tt), ((λ l e. leads names whole m _ refl (inl o) l e), tt))
+line_sound names whole at m (Call to i first count) o h = ((refl, tt), ((λ l e. leads names whole (entry_label i) _ refl (inr (inr (inr (inr (inl (i, h, refl)))))) l e), tt))
+line_sound names whole at m (GetChar to) o h = ((refl, tt), ((λ l e. leads names whole 32 _ refl (inr (inl refl)) l e), tt))
+line_sound names whole at m (PutChar to from) o h = ((refl, tt), ((λ l e. leads names whole 33 _ refl (inr (inr (inl refl))) l e), tt))
 
-lines_sound : (names : Given) (at : Name → ℕ) (m : ℕ → ℕ) (j : ℕ) (lines : List Line) → ((j : ℕ) → IsEntry (m j)) → All (CallsBelow names.functions) lines → Sound names (lines_code at m j lines)
-lines_sound names at m j [] o h = (tt, tt)
-lines_sound names at m j (line ∷ lines) o h = both names (line_code at (m j) line) (lines_code at m (suc j) lines) (line_sound names at (m j) line (o j) (All-head (CallsBelow names.functions) line lines h)) (lines_sound names at m (suc j) lines o (All-tail (CallsBelow names.functions) line lines h))
+lines_sound : (names : Given) (whole : List CodeLine) (at : Name → ℕ) (m : ℕ → ℕ) (j : ℕ) (lines : List Line) → ((j : ℕ) → IsEntry (m j)) → All (CallsBelow names.functions) lines → Sound names whole (lines_code at m j lines)
+lines_sound names whole at m j [] o h = (tt, tt)
+lines_sound names whole at m j (line ∷ lines) o h = both names whole (line_code at (m j) line) (lines_code at m (suc j) lines) (line_sound names whole at (m j) line (o j) (All-head (CallsBelow names.functions) line lines h)) (lines_sound names whole at m (suc j) lines o (All-tail (CallsBelow names.functions) line lines h))
 
 block_target : (names : Given) (b : ℕ) → b < length names.function.blocks.items → IsTarget names (names.first_block + b)
 block_target names b h = inr (inr (inr (inr (inr (b, h, refl)))))
 
-exit_sound : (names : Given) (frame : ℕ) (exit : Exit) → ExitThere (length names.function.blocks.items) exit → Sound names (exit_code names.first_block frame exit)
-exit_sound names frame (Jump b) h = ((refl, tt), ((λ l e. leads names (names.first_block + b) _ refl (block_target names b h) l e), tt))
-exit_sound names frame (Turn b) h = ((refl, tt), ((λ l e. leads names (names.first_block + b) _ refl (block_target names b h) l e), tt))
-exit_sound names frame (Branch on x y) h = ((refl, (refl, (refl, tt))), ((λ l e. absurd cc), ((λ l e. leads names (names.first_block + x) _ refl (block_target names x h.0) l e), ((λ l e. leads names (names.first_block + y) _ refl (block_target names y h.1) l e), tt))))
-exit_sound names frame (Return None) h = bare names (result_code None ++ leave_code frame) (refl, (refl, bare_append (adds_code 2 frame) _ (adds_bare 2 frame) (refl, tt)))
-exit_sound names frame (Return (Some r)) h = bare names (leave_code frame) (refl, bare_append (adds_code 2 frame) _ (adds_bare 2 frame) (refl, tt))
+jump_sound : (names : Given) (whole : List CodeLine) (b : ℕ) → b < length names.function.blocks.items → Sound names whole (call_code 0 (names.first_block + b))
+jump_sound names whole b h = ((refl, tt), ((λ l e. leads names whole (names.first_block + b) _ refl (block_target names b h) l e), tt))
+
+onward_sound : (names : Given) (whole : List CodeLine) (falls : Bool) (b : ℕ) → b < length names.function.blocks.items → Sound names whole (onward_code falls (names.first_block + b))
+onward_sound names whole true b h = (tt, tt)
+onward_sound names whole false b h = jump_sound names whole b h
+
+-- near labels are those of few lines
+abbrev pub IsFewWhere : Distance → List CodeLine → Type 0
+IsFewWhere distance whole = distance ≡ Near → length whole ≤ 1023
+
+tests : (holds : Bool) → (test_op holds ≡ Beq) ⊎ (test_op holds ≡ Bne)
+tests true = inr refl
+tests false = inl refl
+
+near_leads : (names : Given) (whole : List CodeLine) (holds : Bool) (b : ℕ) (line : CodeLine) → line.line.op ≡ test_op holds → length whole ≤ 1023 → b < length names.function.blocks.items → (l : ℕ) → Some (names.first_block + b) ≡ Some l → LeadsTo names whole line l
+near_leads names whole holds b line op few h l e =
+    let same : names.first_block + b ≡ l = cc in
+    let near : IsNear names whole line l = record { tests = subst (λ z. (z ≡ Beq) ⊎ (z ≡ Bne)) (sym op) (tests holds); few = few; block = (b, h, sym same) } in
+    record { far = inr near; to = subst (IsTarget names) same (block_target names b h) }
+
+test_sound : (names : Given) (whole : List CodeLine) (distance : Distance) (holds : Bool) (on b : ℕ) → IsFewWhere distance whole → b < length names.function.blocks.items → Sound names whole (test_code distance holds on (names.first_block + b))
+test_sound names whole Near holds on b few h = ((refl, tt), ((λ l e. near_leads names whole holds b _ refl (few refl) h l e), tt))
+test_sound names whole Far holds on b few h = let j = jump_sound names whole b h in ((refl, j.0), ((λ l e. absurd cc), j.1))
+
+branch_sound : (names : Given) (whole : List CodeLine) (distance : Distance) (next : Option ℕ) (on x y : ℕ) → IsFewWhere distance whole → x < length names.function.blocks.items → y < length names.function.blocks.items → Sound names whole (branch_code distance next on (names.first_block + x) (names.first_block + y))
+branch_sound names whole distance next on x y few h t = by (is_next next (names.first_block + x))
+  where
+    by : (b : Bool) → Sound names whole (if b then test_code distance false on (names.first_block + y) else test_code distance true on (names.first_block + x) ++ onward_code (is_next next (names.first_block + y)) (names.first_block + y))
+    by true = test_sound names whole distance false on y few t
+    by false = both names whole (test_code distance true on (names.first_block + x)) (onward_code (is_next next (names.first_block + y)) (names.first_block + y)) (test_sound names whole distance true on x few h) (onward_sound names whole (is_next next (names.first_block + y)) y t)
+
+exit_sound : (names : Given) (whole : List CodeLine) (distance : Distance) (next : Option ℕ) (bare_ : Bool) (frame : ℕ) (exit : Exit) → IsFewWhere distance whole → ExitThere (length names.function.blocks.items) exit → Sound names whole (exit_code distance next bare_ names.first_block frame exit)
+exit_sound names whole distance next bare_ frame (Jump b) few h = onward_sound names whole (not bare_ && is_next next (names.first_block + b)) b h
+exit_sound names whole distance next bare_ frame (Turn b) few h = jump_sound names whole b h
+exit_sound names whole distance next bare_ frame (Branch on x y) few h = branch_sound names whole distance next on x y few h.0 h.1
+exit_sound names whole distance next bare_ frame (Return None) few h = bare names whole (result_code None ++ leave_code frame) (refl, (refl, bare_append (adds_code 2 frame) _ (adds_bare 2 frame) (refl, tt)))
+exit_sound names whole distance next bare_ frame (Return (Some r)) few h = bare names whole (leave_code frame) (refl, bare_append (adds_code 2 frame) _ (adds_bare 2 frame) (refl, tt))
+
+-- what is known of a function
+pub record IsKnown (names : Given) (live : ℕ → ℕ → Bool) (distance : Distance) (whole : List CodeLine) : Type 0 where
+  pub entries : (b j : ℕ) → IsEntry ((laying_of names live distance).cut b j)
+  pub few : IsFewWhere distance whole
+  pub closed : (b : ℕ) (block : Block) → slice_get names.function.blocks.items b ≡ Some block → IsClosedBlock names block
 
 -- the body of a block, before it has its label
-abbrev pub body : (Name → ℕ) → (ℕ → ℕ) → ℕ → ℕ → Block → List CodeLine
-body at m first frame block = lines_code at m 0 block.lines.items ++ exit_code first frame block.exit
+abbrev pub body : Laying → ℕ → Option ℕ → Block → List CodeLine
+body laying b next block = ended_code laying.distance next laying.first laying.frame (lines_code laying.at (laying.cut b) 0 block.lines.items) block.exit
 
-body_sound : (names : Given) (at : Name → ℕ) (m : ℕ → ℕ) (frame : ℕ) (block : Block) → ((j : ℕ) → IsEntry (m j)) → IsClosedBlock names block → Sound names (body at m names.first_block frame block)
-body_sound names at m frame block o h = both names (lines_code at m 0 block.lines.items) (exit_code names.first_block frame block.exit) (lines_sound names at m 0 block.lines.items o h.calls) (exit_sound names frame block.exit h.edges)
+body_sound : (names : Given) (live : ℕ → ℕ → Bool) (distance : Distance) (whole : List CodeLine) (b : ℕ) (next : Option ℕ) (block : Block) → IsKnown names live distance whole → IsClosedBlock names block → Sound names whole (body (laying_of names live distance) b next block)
+body_sound names live distance whole b next block k h =
+    let laying : Laying = laying_of names live distance in
+    let lines : List CodeLine = lines_code laying.at (laying.cut b) 0 block.lines.items in
+    both names whole lines (exit_code distance next (is_empty lines) names.first_block names.layout.frame block.exit) (lines_sound names whole laying.at (laying.cut b) 0 block.lines.items (k.entries b) h.calls) (exit_sound names whole distance next (is_empty lines) names.layout.frame block.exit k.few h.edges)
 
-body_some : (at : Name → ℕ) (m : ℕ → ℕ) (first frame : ℕ) (block : Block) → 0 < length (body at m first frame block)
-body_some at m first frame block =
-    let e = length-append (lines_code at m 0 block.lines.items) (exit_code first frame block.exit) in
-    let q = exit_some first frame block.exit in
-    omega arith
+found_lead : (names : Given) (live : ℕ → ℕ → Bool) (distance : Distance) (whole : List CodeLine) (b : ℕ) (next : Option ℕ) (block : Option Block) → IsKnown names live distance whole → ((x : Block) → block ≡ Some x → IsClosedBlock names x) → Lead names whole (found_code (laying_of names live distance) b next block)
+found_lead names live distance whole b next None k h = tt
+found_lead names live distance whole b next (Some block) k h = lead_labelled names whole (names.first_block + b) (body (laying_of names live distance) b next block) (body_sound names live distance whole b next block k (h block refl)).1
 
-blocks_lead : (names : Given) (at : Name → ℕ) (m : ℕ → ℕ → ℕ) (frame n : ℕ) (blocks : List Block) → ((b j : ℕ) → IsEntry (m b j)) → All (IsClosedBlock names) blocks → Lead names (blocks_code at m names.first_block frame n blocks)
-blocks_lead names at m frame n [] o h = tt
-blocks_lead names at m frame n (block ∷ blocks) o h =
-    lead_append names (block_code at (m n) names.first_block frame n block) (blocks_code at m names.first_block frame (suc n) blocks)
-    (lead_labelled names (names.first_block + n) (body at (m n) names.first_block frame block) (body_sound names at (m n) frame block (o n) (All-head (IsClosedBlock names) block blocks h)).1)
-    (blocks_lead names at m frame (suc n) blocks o (All-tail (IsClosedBlock names) block blocks h))
+laid_lead : (names : Given) (live : ℕ → ℕ → Bool) (distance : Distance) (whole : List CodeLine) (order : List ℕ) → IsKnown names live distance whole → Lead names whole (laid_code (laying_of names live distance) order)
+laid_lead names live distance whole [] k = tt
+laid_lead names live distance whole (b ∷ rest) k =
+    let laying : Laying = laying_of names live distance in
+    lead_append names whole (laid_block laying b rest) (laid_code laying rest)
+    (found_lead names live distance whole b (next_label names.first_block rest) (slice_get names.function.blocks.items b) k (λ x e. k.closed b x e))
+    (laid_lead names live distance whole rest k)
 
-enter_sound : (names : Given) (entry : ℕ) → entry < length names.function.blocks.items → Sound names (enter_code (names.first_block + entry))
-enter_sound names entry h = (
-  (refl, (refl, (refl, (refl, (refl, (refl, tt)))))),
-  ((λ l e. absurd cc), ((λ l e. absurd cc), ((λ l e. leads names 35 _ refl (inr (inr (inr (inl refl)))) l e), ((λ l e. absurd cc), ((λ l e. absurd cc), ((λ l e. leads names (names.first_block + entry) _ refl (block_target names entry h) l e), tt)))))),
+enter_sound : (names : Given) (whole : List CodeLine) → Sound names whole enter_code
+enter_sound names whole = (
+  (refl, (refl, (refl, (refl, (refl, tt))))),
+  ((λ l e. absurd cc), ((λ l e. absurd cc), ((λ l e. leads names whole 35 _ refl (inr (inr (inr (inl refl)))) l e), ((λ l e. absurd cc), ((λ l e. absurd cc), tt))))),
 )
 
-prologue_sound : (names : Given) (frame entry : ℕ) → entry < length names.function.blocks.items → Sound names (prologue_code frame (names.first_block + entry))
-prologue_sound names frame entry h =
-    both names (adds_code 6 (2 ^ 32 - frame)) (enter_code (names.first_block + entry)) (bare names (adds_code 6 (2 ^ 32 - frame)) (adds_bare 6 (2 ^ 32 - frame))) (enter_sound names entry h)
+prologue_sound : (names : Given) (whole : List CodeLine) (frame : ℕ) → Sound names whole (prologue_code frame)
+prologue_sound names whole frame = both names whole (adds_code 6 (2 ^ 32 - frame)) enter_code (bare names whole (adds_code 6 (2 ^ 32 - frame)) (adds_bare 6 (2 ^ 32 - frame))) (enter_sound names whole)
 
-pub function_lead : (names : Given) (at : Name → ℕ) (m : ℕ → ℕ → ℕ) (i frame entry : ℕ) (blocks : List Block) → ((b j : ℕ) → IsEntry (m b j)) → entry < length names.function.blocks.items → All (IsClosedBlock names) blocks → Lead names (function_code at m i names.first_block frame entry blocks)
-function_lead names at m i frame entry blocks o h c =
-    lead_append names (labelled (entry_label i) (prologue_code frame (names.first_block + entry))) (blocks_code at m names.first_block frame 0 blocks)
-    (lead_labelled names (entry_label i) (prologue_code frame (names.first_block + entry)) (prologue_sound names frame entry h).1)
-    (blocks_lead names at m frame 0 blocks o c)
+pub function_lead : (names : Given) (live : ℕ → ℕ → Bool) (distance : Distance) (whole : List CodeLine) (i : ℕ) → IsKnown names live distance whole → Lead names whole (function_code i (laying_of names live distance))
+function_lead names live distance whole i k =
+    let head : List CodeLine = prologue_code names.layout.frame in
+    lead_append names whole (labelled (entry_label i) head) (blocks_code (laying_of names live distance))
+    (lead_labelled names whole (entry_label i) head (prologue_sound names whole names.layout.frame).1)
+    (laid_lead names live distance whole (laid_order names.function.entry (length names.function.blocks.items)) k)
 
 -- ---- labels
 
-pub record LabelIn (at : Name → ℕ) (m : ℕ → ℕ → ℕ) (first frame k n : ℕ) (blocks : List Block) (j l : ℕ) : Type 0 where
+pub record LabelIn (laying : Laying) (k : ℕ) (order : List ℕ) (j l : ℕ) : Type 0 where
   pub b : ℕ
-  pub there : b < length blocks
-  pub line : k + j ≡ starts_from at m first frame k n blocks b
-  pub label : l ≡ first + (b + n)
+  pub among : Among order b
+  pub line : k + j ≡ starts_in laying k order b
+  pub label : l ≡ laying.first + b
 
-blocks_only : (names : Given) (at : Name → ℕ) (m : ℕ → ℕ → ℕ) (frame k n : ℕ) (blocks : List Block) (j l : ℕ) → ((b j : ℕ) → IsEntry (m b j)) → All (IsClosedBlock names) blocks → HasLabel (blocks_code at m names.first_block frame n blocks) j l → LabelIn at m names.first_block frame k n blocks j l
-blocks_only names at m frame k n [] j l o c h = let e = h.there in absurd cc
-blocks_only names at m frame k n (block ∷ blocks) j l o c h =
-    let first : ℕ = names.first_block in
-    let own : List CodeLine = block_code at (m n) first frame n block in
-    elim (label_split own (blocks_code at m first frame (suc n) blocks) j l h) [
+found_only : (names : Given) (live : ℕ → ℕ → Bool) (distance : Distance) (whole : List CodeLine) (b : ℕ) (next : Option ℕ) (block : Option Block) (j l : ℕ) → IsKnown names live distance whole → ((x : Block) → block ≡ Some x → IsClosedBlock names x) → HasLabel (found_code (laying_of names live distance) b next block) j l → (j ≡ 0) × (l ≡ names.first_block + b)
+found_only names live distance whole b next None j l k h a = let e = a.there in absurd cc
+found_only names live distance whole b next (Some block) j l k h a = only_first (body (laying_of names live distance) b next block) (names.first_block + b) j l (body_sound names live distance whole b next block k (h block refl)).0 a
+
+laid_only : (names : Given) (live : ℕ → ℕ → Bool) (distance : Distance) (whole : List CodeLine) (k : ℕ) (order : List ℕ) (j l : ℕ) → IsKnown names live distance whole → Distinct order → HasLabel (laid_code (laying_of names live distance) order) j l → LabelIn (laying_of names live distance) k order j l
+laid_only names live distance whole k [] j l known d h = let e = h.there in absurd cc
+laid_only names live distance whole k (b ∷ rest) j l known d h =
+    let laying : Laying = laying_of names live distance in
+    let own : List CodeLine = laid_block laying b rest in
+    elim (label_split own (laid_code laying rest) j l h) [
       | inl a ↦
-          (let only = only_first (body at (m n) first frame block) (first + n) j l (body_sound names at (m n) frame block (o n) (All-head (IsClosedBlock names) block blocks c)).0 a in
+          (let only = found_only names live distance whole b (next_label names.first_block rest) (slice_get names.function.blocks.items b) j l known (λ x e. known.closed b x e) a in
           let o0 = only.0 in
-          let o1 = only.1 in
-          record { b = 0; there = omega arith; line = omega arith; label = omega arith })
+          record { b = b; among = inl refl; line = (let z : k + j ≡ k = omega arith in z ∙ sym (first_start laying k b rest)); label = only.1 })
       | inr a ↦
-          (let r = blocks_only names at m frame (after k own) (suc n) blocks a.0 l o (All-tail (IsClosedBlock names) block blocks c) a.1 in
+          (let r = laid_only names live distance whole (after k own) rest a.0 l known d.1 a.1 in
           let e = a.2 in
           let q = after_length k own in
-          let t = r.there in
-          let g = r.label in
-          record { b = suc r.b; there = omega arith; line = (let z : k + j ≡ after k own + a.0 = omega arith in z ∙ r.line); label = omega arith })
+          record { b = r.b; among = inr r.among; line = (let z : k + j ≡ after k own + a.0 = omega arith in z ∙ r.line ∙ sym (later_start laying k b rest r.b (d.0 r.b r.among))); label = r.label })
     ]
 
 -- the label of block b stands at its start
-pub record LabelThere (at : Name → ℕ) (m : ℕ → ℕ → ℕ) (first frame k n : ℕ) (blocks : List Block) (b : ℕ) : Type 0 where
+pub record LabelThere (laying : Laying) (k : ℕ) (order : List ℕ) (b : ℕ) : Type 0 where
   pub j : ℕ
-  pub has : HasLabel (blocks_code at m first frame n blocks) j (first + (b + n))
-  pub line : k + j ≡ starts_from at m first frame k n blocks b
+  pub has : HasLabel (laid_code laying order) j (laying.first + b)
+  pub line : k + j ≡ starts_in laying k order b
 
-blocks_there : (at : Name → ℕ) (m : ℕ → ℕ → ℕ) (first frame k n : ℕ) (blocks : List Block) (b : ℕ) → b < length blocks → LabelThere at m first frame k n blocks b
-blocks_there at m first frame k n [] b h = absurd (omega arith)
-blocks_there at m first frame k n (block ∷ blocks) zero h =
-    let q : first + n ≡ first + (0 + n) = omega arith in
-    record {
-      j = 0;
-      has = label_left (block_code at (m n) first frame n block) (blocks_code at m first frame (suc n) blocks) 0 (first + (0 + n)) (subst (λ z. HasLabel (block_code at (m n) first frame n block) 0 z) q (first_has (body at (m n) first frame block) (first + n) (body_some at (m n) first frame block)));
-      line = omega arith;
-    }
-blocks_there at m first frame k n (block ∷ blocks) (suc b) h =
-    let own : List CodeLine = block_code at (m n) first frame n block in
-    let r = blocks_there at m first frame (after k own) (suc n) blocks b (omega arith) in
-    let q : first + (b + suc n) ≡ first + (suc b + n) = omega arith in
-    let e = after_length k own in
-    record {
-      j = length own + r.j;
-      has = subst (λ z. HasLabel (blocks_code at m first frame n (block ∷ blocks)) (length own + r.j) z) q (label_right own (blocks_code at m first frame (suc n) blocks) r.j (length own + r.j) (first + (b + suc n)) refl r.has);
-      line = (let z : k + (length own + r.j) ≡ after k own + r.j = omega arith in z ∙ r.line);
-    }
+found_has : (laying : Laying) (b : ℕ) (next : Option ℕ) (block : Option Block) (x : Block) → block ≡ Some x → HasLabel (found_code laying b next block) 0 (laying.first + b)
+found_has laying b next None x e = absurd cc
+found_has laying b next (Some block) x e = first_has (body laying b next block) (laying.first + b) (ended_some laying.distance next laying.first laying.frame (lines_code laying.at (laying.cut b) 0 block.lines.items) block.exit)
 
-pub function_only : (names : Given) (at : Name → ℕ) (m : ℕ → ℕ → ℕ) (i frame entry : ℕ) (blocks : List Block) → ((b j : ℕ) → IsEntry (m b j)) → entry < length names.function.blocks.items → All (IsClosedBlock names) blocks → (k l : ℕ) → HasLabel (function_code at m i names.first_block frame entry blocks) k l → ((k ≡ 0) × (l ≡ entry_label i)) ⊎ ((b : ℕ) × (b < length blocks) × (k ≡ starts_of at m names.first_block frame entry blocks b) × (l ≡ names.first_block + b))
-function_only names at m i frame entry blocks o h c k l a =
-    let head : List CodeLine = prologue_code frame (names.first_block + entry) in
-    let rest : List CodeLine = blocks_code at m names.first_block frame 0 blocks in
-    elim (label_split (labelled (entry_label i) head) rest k l a) [
-      | inl x ↦ inl (only_first head (entry_label i) k l (prologue_sound names frame entry h).0 x)
+laid_there : (laying : Laying) (k : ℕ) (order : List ℕ) (b : ℕ) (block : Block) → Distinct order → Among order b → slice_get laying.blocks b ≡ Some block → LabelThere laying k order b
+laid_there laying k [] b block d a e = absurd a
+laid_there laying k (x ∷ rest) b block d a e =
+    let own : List CodeLine = laid_block laying x rest in
+    elim a [
+      | inl s ↦
+          subst (LabelThere laying k (x ∷ rest)) s
+          (record {
+            j = 0;
+            has = label_left own (laid_code laying rest) 0 (laying.first + x) (found_has laying x (next_label laying.first rest) (slice_get laying.blocks x) block (ap (slice_get laying.blocks) s ∙ e));
+            line = (let z : k + 0 ≡ k = omega arith in z ∙ sym (first_start laying k x rest));
+          })
+      | inr r ↦
+          (let t = laid_there laying (after k own) rest b block d.1 r e in
+          let q = after_length k own in
+          record {
+            j = length own + t.j;
+            has = label_right own (laid_code laying rest) t.j (length own + t.j) (laying.first + b) refl t.has;
+            line = (let z : k + (length own + t.j) ≡ after k own + t.j = omega arith in z ∙ t.line ∙ sym (later_start laying k x rest b (d.0 b r)));
+          })
+    ]
+
+pub function_only : (names : Given) (live : ℕ → ℕ → Bool) (distance : Distance) (whole : List CodeLine) (i : ℕ) → IsKnown names live distance whole → names.function.entry < length names.function.blocks.items → (k l : ℕ) → HasLabel (function_code i (laying_of names live distance)) k l → ((k ≡ 0) × (l ≡ entry_label i)) ⊎ ((b : ℕ) × (b < length names.function.blocks.items) × (k ≡ starts_of (laying_of names live distance) b) × (l ≡ names.first_block + b))
+function_only names live distance whole i known h k l a =
+    let head : List CodeLine = prologue_code names.layout.frame in
+    let entry : ℕ = names.function.entry in
+    let count : ℕ = length names.function.blocks.items in
+    elim (label_split (labelled (entry_label i) head) (blocks_code (laying_of names live distance)) k l a) [
+      | inl x ↦ inl (only_first head (entry_label i) k l (prologue_sound names whole names.layout.frame).0 x)
       | inr x ↦
-          (let r = blocks_only names at m frame (after 0 head) 0 blocks x.0 l o c x.1 in
+          (let r = laid_only names live distance whole (after 0 head) (laid_order entry count) x.0 l known (order_distinct entry count) x.1 in
           let e = x.2 in
           let q = after_length 0 head in
           let s = length_labelled (entry_label i) head in
-          let g = r.label in
-          inr (r.b, r.there, (let z : k ≡ after 0 head + x.0 = omega arith in z ∙ r.line), omega arith))
+          inr (r.b, order_below entry count h r.b r.among, (let z : k ≡ after 0 head + x.0 = omega arith in z ∙ r.line), r.label))
     ]
 
-pub function_entry : (at : Name → ℕ) (m : ℕ → ℕ → ℕ) (i first frame entry : ℕ) (blocks : List Block) → HasLabel (function_code at m i first frame entry blocks) 0 (entry_label i)
-function_entry at m i first frame entry blocks =
-    let head : List CodeLine = prologue_code frame (first + entry) in
-    label_left (labelled (entry_label i) head) (blocks_code at m first frame 0 blocks) 0 (entry_label i)
-    (first_has head (entry_label i) (let e = length-append (adds_code 6 (2 ^ 32 - frame)) (enter_code (first + entry)) in omega arith))
+pub function_entry : (i : ℕ) (laying : Laying) → HasLabel (function_code i laying) 0 (entry_label i)
+function_entry i laying =
+    let head : List CodeLine = prologue_code laying.frame in
+    label_left (labelled (entry_label i) head) (blocks_code laying) 0 (entry_label i)
+    (first_has head (entry_label i) (let e = length-append (adds_code 6 (2 ^ 32 - laying.frame)) enter_code in omega arith))
 
-pub function_blocks : (at : Name → ℕ) (m : ℕ → ℕ → ℕ) (i first frame entry : ℕ) (blocks : List Block) (b : ℕ) → b < length blocks → HasLabel (function_code at m i first frame entry blocks) (starts_of at m first frame entry blocks b) (first + b)
-function_blocks at m i first frame entry blocks b h =
-    let head : List CodeLine = prologue_code frame (first + entry) in
-    let rest : List CodeLine = blocks_code at m first frame 0 blocks in
-    let r = blocks_there at m first frame (after 0 head) 0 blocks b h in
+pub function_blocks : (i : ℕ) (laying : Laying) (b : ℕ) → b < length laying.blocks → HasLabel (function_code i laying) (starts_of laying b) (laying.first + b)
+function_blocks i laying b h =
+    let head : List CodeLine = prologue_code laying.frame in
+    let rest : List CodeLine = blocks_code laying in
+    let count : ℕ = length laying.blocks in
+    let block = there laying.blocks b h in
+    let r = laid_there laying (after 0 head) (laid_order laying.entry count) b block.0 (order_distinct laying.entry count) (order_all laying.entry count b h) block.1 in
     let q = after_length 0 head in
     let s = length_labelled (entry_label i) head in
-    let z : starts_of at m first frame entry blocks b ≡ length (labelled (entry_label i) head) + r.j = sym r.line ∙ omega arith in
-    let t : first + (b + 0) ≡ first + b = omega arith in
-    subst (λ w. HasLabel (function_code at m i first frame entry blocks) (starts_of at m first frame entry blocks b) w) t
-    (label_right (labelled (entry_label i) head) rest r.j (starts_of at m first frame entry blocks b) (first + (b + 0)) z r.has)
+    label_right (labelled (entry_label i) head) rest r.j (starts_of laying b) (laying.first + b) (sym r.line ∙ omega arith) r.has

@@ -1,9 +1,13 @@
 pub mod Lists
 pub mod Standing
 pub mod Splitting
+pub mod Addressing
+pub mod Shifting
+pub mod Ordering
 pub mod Selecting
 pub mod Low
 pub mod Parts
+pub mod Laid
 pub mod Plain
 pub mod Counting
 pub mod Naming

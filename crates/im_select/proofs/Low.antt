@@ -10,7 +10,7 @@ use Rattle.im_frame.specs.declared.layout.Layout.{Layout}
 use Rattle.im_frame.specs.Layout.{IsLayout}
 use Rattle.im_alloc_placed.specs.Operands.{HasObject}
 
-there : {X : Type 0} (xs : List X) (k : ℕ) → k < length xs → (x : X) × (slice_get xs k ≡ Some x)
+pub there : {X : Type 0} (xs : List X) (k : ℕ) → k < length xs → (x : X) × (slice_get xs k ≡ Some x)
 there xs k l = elim (slice_get_cases xs k).1 [ inl c ↦ (c.0, c.2) | inr c ↦ (let le = c.0 in absurd (omega arith)) ]
 
 -- whatever stands for what isn't there

@@ -2,7 +2,6 @@
 use Rattle.std.proofs.Common.{◌≡◌, ℕ, suc, ◌+◌, ◌<◌, ◌≤◌, Bool, List, [], ◌∷◌, ◌++◌, Some, None, length, get_or, drop, refl, sym, ap, ◌∙◌, subst, arith}
 use Rattle.std.specs.Prelude.{slice_get, slice_index, All}
 use Rattle.std.proofs.lemmas.Option.{slice_get_within, get_or_from_slice_get}
-use Rattle.im_rv.specs.Lines.{CodeLine}
 use Rattle.im_store.specs.Objects.{Name}
 use Rattle.im_block.specs.declared.code.Place.{Place}
 use Rattle.im_block.specs.declared.code.Place.TheVariants.{Static, Local, Through}
@@ -17,7 +16,7 @@ use Rattle.im_alloc_placed.specs.Operands.{PlaceAtHome}
 use Rattle.im_alloc_placed.specs.Placed.{IsPlacedLine, IsPlacedExit, IsPlacedBlock}
 use Rattle.im_live.specs.Reads.{lives_before}
 use Rattle.im_live.specs.Words.{has, PlaceBelow, IsMachineLine, IsMachineExit, IsMachineBlock, ArePoints, entry_at}
-use Rattle.im_live.specs.Entries.{entry_of, entry_in, entries}
+use Rattle.im_live.specs.Entries.{entry_in, entries}
 use Rattle.im_live.proofs.Least.{greatest_same}
 use Rattle.im_select.specs.Given.{Given}
 use Rattle.im_select.specs.Emitted.{line_code, lines_code}
@@ -55,6 +54,9 @@ exit_machine count (Turn b) h t = t
 exit_machine count (Branch on a b) h t = (h.1, t.0, t.1)
 exit_machine count (Return None) h t = tt
 exit_machine count (Return (Some r)) h t = let a : r ≡ 10 = h in omega arith
+
+pub all_at : {X : Type 0} (P : X → Type 0) (xs : List X) (k : ℕ) (x : X) → All P xs → slice_get xs k ≡ Some x → P x
+all_at P xs k x h e = subst P (get_or_from_slice_get xs k x x e) (h k x (slice_get_within xs k x e))
 
 all_to : {X : Type 0} (P Q : X → Type 0) (xs : List X) → ((x : X) → P x → Q x) → All P xs → All Q xs
 all_to P Q xs k a = λ i d lt. k (get_or xs i d) (a i d lt)

@@ -1,5 +1,6 @@
 -- Accesses and causes of lines are those of the placed code, in order.
-use Rattle.std.proofs.Common.{◌≡◌, ℕ, Some, None, suc, ◌+◌, ◌-◌, ◌^◌, List, [], ◌∷◌, ◌++◌, refl, ap, ◌∙◌}
+use Rattle.std.proofs.Common.{◌≡◌, ℕ, Bool, true, false, Option, Some, None, suc, ◌+◌, ◌-◌, ◌^◌, List, [], ◌∷◌, ◌++◌, length, refl, ap, ◌∙◌}
+use Rattle.std.specs.Prelude.{◌&&◌, not, if◌then◌else◌, slice_get}
 use Rattle.std.proofs.lemmas.List.{append-nil}
 use Rattle.im_num.specs.declared.kind.Kind.TheVariants.{I8, U8, I16, U16, I32, U32, Ptr}
 use Rattle.im_num.specs.Kinds.{word}
@@ -8,26 +9,28 @@ use Rattle.im_store.specs.declared.operators.UnaryOp.TheVariants.{Negate, Comple
 use Rattle.im_store.specs.declared.operators.Comparison.TheVariants.{Less, Greater, LessOrEqual, GreaterOrEqual, Equal, NotEqual}
 use Rattle.im_store.specs.Objects.{Name, Slot}
 use Rattle.im_block.specs.declared.code.Line.{Line}
-use Rattle.im_block.specs.declared.code.Line.TheVariants.{Put, PutNull, Copy, Convert, Unary, Not, Compute, Compare, Move, Distance, Address, Read, Write, Reload, Spill, Cut, Call, GetChar, PutChar}
+use Rattle.im_block.specs.declared.code.Line.TheVariants.{Put, PutNull, Copy, Convert, Unary, Not, Compute, Compare, Move, Distance as Measure, Address, Read, Write, Reload, Spill, Cut, Call, GetChar, PutChar}
 use Rattle.im_block.specs.declared.code.Exit.{Exit}
 use Rattle.im_block.specs.declared.code.Exit.TheVariants.{Jump, Turn, Branch, Return}
 use Rattle.im_block.specs.declared.code.Block.{Block}
 use Rattle.im_block.specs.Wellformed.{accesses_of_line, accesses_of_lines, accesses_of_blocks}
-use Rattle.im_select.specs.Emitted.{constant_code, displaced_code, adds_code, place_number, place_code, line_code, lines_code, exit_code, block_code, blocks_code, enter_code, prologue_code, function_code, labelled, entry_label}
-use Rattle.im_select.specs.Selects.{accesses_in, causes_in, causes_of_line, causes_of_lines, causes_of_blocks}
-use Rattle.im_select.proofs.Plain.{constant_bare, displaced_bare, adds_bare, place_bare, accesses_append, causes_append, bare_accesses, bare_causes, accesses_behind, causes_behind, accesses_labelled, causes_labelled}
+use Rattle.im_select.specs.declared.distance.Distance.{Distance}
+use Rattle.im_select.specs.declared.distance.Distance.TheVariants.{Near, Far}
+use Rattle.im_select.specs.Emitted.{constant_code, displaced_code, adds_code, place_number, place_code, copied_code, scaled_code, address_code, line_code, lines_code, onward_code, test_code, is_next, branch_code, exit_code, is_empty, block_code, Laying, next_label, found_code, laid_block, laid_code, laid_order, blocks_code, enter_code, prologue_code, function_code, labelled, entry_label}
+use Rattle.im_select.specs.Selects.{accesses_in, causes_in, causes_of_line, causes_of_lines, causes_of_blocks, if_found, blocks_at, laid_blocks}
+use Rattle.im_select.proofs.Plain.{constant_bare, displaced_bare, adds_bare, place_bare, copied_bare, scaled_bare, address_bare, accesses_append, causes_append, bare_accesses, bare_causes, accesses_behind, causes_behind, accesses_labelled, causes_labelled}
 
 line_accesses : (at : Name → ℕ) (m : ℕ) (line : Line) → accesses_in (line_code at m line) ≡ accesses_of_line line
 line_accesses at m (Put to z) = bare_accesses (constant_code to (word z)) (constant_bare to (word z))
 line_accesses at m (PutNull to) = refl
-line_accesses at m (Copy to from) = refl
+line_accesses at m (Copy to from) = bare_accesses (copied_code to from) (copied_bare to from)
 line_accesses at m (Convert to I8 from) = refl
 line_accesses at m (Convert to U8 from) = refl
 line_accesses at m (Convert to I16 from) = refl
 line_accesses at m (Convert to U16 from) = refl
-line_accesses at m (Convert to I32 from) = refl
-line_accesses at m (Convert to U32 from) = refl
-line_accesses at m (Convert to Ptr from) = refl
+line_accesses at m (Convert to I32 from) = bare_accesses (copied_code to from) (copied_bare to from)
+line_accesses at m (Convert to U32 from) = bare_accesses (copied_code to from) (copied_bare to from)
+line_accesses at m (Convert to Ptr from) = bare_accesses (copied_code to from) (copied_bare to from)
 line_accesses at m (Unary to Negate kind from) = refl
 line_accesses at m (Unary to Complement kind from) = refl
 line_accesses at m (Not to from) = refl
@@ -38,9 +41,9 @@ line_accesses at m (Compare to LessOrEqual kind left right) = refl
 line_accesses at m (Compare to GreaterOrEqual kind left right) = refl
 line_accesses at m (Compare to Equal kind left right) = refl
 line_accesses at m (Compare to NotEqual kind left right) = refl
-line_accesses at m (Move to size back pointer by) = accesses_behind (constant_code 5 size) _ (constant_bare 5 size)
-line_accesses at m (Distance to size left right) = accesses_behind (constant_code 6 size) _ (constant_bare 6 size)
-line_accesses at m (Address to place) = accesses_behind (place_code place (place_number at place)) _ (place_bare place (place_number at place))
+line_accesses at m (Move to size back pointer by) = accesses_behind (scaled_code size by) _ (scaled_bare size by)
+line_accesses at m (Measure to size left right) = accesses_behind (constant_code 6 size) _ (constant_bare 6 size)
+line_accesses at m (Address to place) = bare_accesses (address_code to place (place_number at place)) (address_bare to place (place_number at place))
 line_accesses at m (Read to place kind access) = accesses_behind (place_code place (place_number at place)) _ (place_bare place (place_number at place))
 line_accesses at m (Write place kind from access) = accesses_behind (place_code place (place_number at place)) _ (place_bare place (place_number at place))
 line_accesses at m (Reload to slot access) = accesses_behind (displaced_code 2 (at (Slot slot))) _ (displaced_bare 2 (at (Slot slot)))
@@ -53,14 +56,14 @@ line_accesses at m (PutChar to from) = refl
 line_causes : (at : Name → ℕ) (m : ℕ) (line : Line) → causes_in (line_code at m line) ≡ causes_of_line line
 line_causes at m (Put to z) = bare_causes (constant_code to (word z)) (constant_bare to (word z))
 line_causes at m (PutNull to) = refl
-line_causes at m (Copy to from) = refl
+line_causes at m (Copy to from) = bare_causes (copied_code to from) (copied_bare to from)
 line_causes at m (Convert to I8 from) = refl
 line_causes at m (Convert to U8 from) = refl
 line_causes at m (Convert to I16 from) = refl
 line_causes at m (Convert to U16 from) = refl
-line_causes at m (Convert to I32 from) = refl
-line_causes at m (Convert to U32 from) = refl
-line_causes at m (Convert to Ptr from) = refl
+line_causes at m (Convert to I32 from) = bare_causes (copied_code to from) (copied_bare to from)
+line_causes at m (Convert to U32 from) = bare_causes (copied_code to from) (copied_bare to from)
+line_causes at m (Convert to Ptr from) = bare_causes (copied_code to from) (copied_bare to from)
 line_causes at m (Unary to Negate kind from) = refl
 line_causes at m (Unary to Complement kind from) = refl
 line_causes at m (Not to from) = refl
@@ -71,9 +74,9 @@ line_causes at m (Compare to LessOrEqual kind left right) = refl
 line_causes at m (Compare to GreaterOrEqual kind left right) = refl
 line_causes at m (Compare to Equal kind left right) = refl
 line_causes at m (Compare to NotEqual kind left right) = refl
-line_causes at m (Move to size back pointer by) = causes_behind (constant_code 5 size) _ (constant_bare 5 size)
-line_causes at m (Distance to size left right) = causes_behind (constant_code 6 size) _ (constant_bare 6 size)
-line_causes at m (Address to place) = causes_behind (place_code place (place_number at place)) _ (place_bare place (place_number at place))
+line_causes at m (Move to size back pointer by) = causes_behind (scaled_code size by) _ (scaled_bare size by)
+line_causes at m (Measure to size left right) = causes_behind (constant_code 6 size) _ (constant_bare 6 size)
+line_causes at m (Address to place) = bare_causes (address_code to place (place_number at place)) (address_bare to place (place_number at place))
 line_causes at m (Read to place kind access) = causes_behind (place_code place (place_number at place)) _ (place_bare place (place_number at place))
 line_causes at m (Write place kind from access) = causes_behind (place_code place (place_number at place)) _ (place_bare place (place_number at place))
 line_causes at m (Reload to slot access) = causes_behind (displaced_code 2 (at (Slot slot))) _ (displaced_bare 2 (at (Slot slot)))
@@ -95,60 +98,102 @@ lines_causes at m j (line ∷ lines) =
     causes_append (line_code at (m j) line) (lines_code at m (suc j) lines) ∙ ap (λ z. z ++ causes_in (lines_code at m (suc j) lines)) (line_causes at (m j) line)
     ∙ ap (λ z. causes_of_line line ++ z) (lines_causes at m (suc j) lines)
 
-exit_accesses : (first frame : ℕ) (exit : Exit) → accesses_in (exit_code first frame exit) ≡ []
-exit_accesses first frame (Jump b) = refl
-exit_accesses first frame (Turn b) = refl
-exit_accesses first frame (Branch on x y) = refl
-exit_accesses first frame (Return None) = accesses_behind (adds_code 2 frame) _ (adds_bare 2 frame)
-exit_accesses first frame (Return (Some r)) = accesses_behind (adds_code 2 frame) _ (adds_bare 2 frame)
+onward_accesses : (falls : Bool) (label : ℕ) → accesses_in (onward_code falls label) ≡ []
+onward_accesses true label = refl
+onward_accesses false label = refl
 
-exit_causes : (first frame : ℕ) (exit : Exit) → causes_in (exit_code first frame exit) ≡ []
-exit_causes first frame (Jump b) = refl
-exit_causes first frame (Turn b) = refl
-exit_causes first frame (Branch on x y) = refl
-exit_causes first frame (Return None) = causes_behind (adds_code 2 frame) _ (adds_bare 2 frame)
-exit_causes first frame (Return (Some r)) = causes_behind (adds_code 2 frame) _ (adds_bare 2 frame)
+test_accesses : (distance : Distance) (holds : Bool) (on label : ℕ) → accesses_in (test_code distance holds on label) ≡ []
+test_accesses Near holds on label = refl
+test_accesses Far holds on label = refl
 
-block_accesses : (at : Name → ℕ) (m : ℕ → ℕ) (first frame n : ℕ) (block : Block) → accesses_in (block_code at m first frame n block) ≡ accesses_of_lines block.lines.items
-block_accesses at m first frame n block =
-    accesses_labelled (first + n) (lines_code at m 0 block.lines.items ++ exit_code first frame block.exit)
-    ∙ accesses_append (lines_code at m 0 block.lines.items) (exit_code first frame block.exit)
-    ∙ ap (λ z. accesses_in (lines_code at m 0 block.lines.items) ++ z) (exit_accesses first frame block.exit)
-    ∙ append-nil (accesses_in (lines_code at m 0 block.lines.items)) ∙ lines_accesses at m 0 block.lines.items
+branch_accesses : (distance : Distance) (next : Option ℕ) (on there other : ℕ) → accesses_in (branch_code distance next on there other) ≡ []
+branch_accesses distance next on there other = by (is_next next there)
+  where
+    by : (b : Bool) → accesses_in (if b then test_code distance false on other else test_code distance true on there ++ onward_code (is_next next other) other) ≡ []
+    by true = test_accesses distance false on other
+    by false =
+        accesses_append (test_code distance true on there) (onward_code (is_next next other) other)
+        ∙ ap (λ z. z ++ accesses_in (onward_code (is_next next other) other)) (test_accesses distance true on there)
+        ∙ onward_accesses (is_next next other) other
 
-block_causes : (at : Name → ℕ) (m : ℕ → ℕ) (first frame n : ℕ) (block : Block) → causes_in (block_code at m first frame n block) ≡ causes_of_lines block.lines.items
-block_causes at m first frame n block =
-    causes_labelled (first + n) (lines_code at m 0 block.lines.items ++ exit_code first frame block.exit)
-    ∙ causes_append (lines_code at m 0 block.lines.items) (exit_code first frame block.exit)
-    ∙ ap (λ z. causes_in (lines_code at m 0 block.lines.items) ++ z) (exit_causes first frame block.exit)
-    ∙ append-nil (causes_in (lines_code at m 0 block.lines.items)) ∙ lines_causes at m 0 block.lines.items
+exit_accesses : (distance : Distance) (next : Option ℕ) (bare : Bool) (first frame : ℕ) (exit : Exit) → accesses_in (exit_code distance next bare first frame exit) ≡ []
+exit_accesses distance next bare first frame (Jump b) = onward_accesses (not bare && is_next next (first + b)) (first + b)
+exit_accesses distance next bare first frame (Turn b) = refl
+exit_accesses distance next bare first frame (Branch on x y) = branch_accesses distance next on (first + x) (first + y)
+exit_accesses distance next bare first frame (Return None) = accesses_behind (adds_code 2 frame) _ (adds_bare 2 frame)
+exit_accesses distance next bare first frame (Return (Some r)) = accesses_behind (adds_code 2 frame) _ (adds_bare 2 frame)
 
-blocks_accesses : (at : Name → ℕ) (m : ℕ → ℕ → ℕ) (first frame n : ℕ) (blocks : List Block) → accesses_in (blocks_code at m first frame n blocks) ≡ accesses_of_blocks blocks
-blocks_accesses at m first frame n [] = refl
-blocks_accesses at m first frame n (block ∷ blocks) =
-    accesses_append (block_code at (m n) first frame n block) (blocks_code at m first frame (suc n) blocks)
-    ∙ ap (λ z. z ++ accesses_in (blocks_code at m first frame (suc n) blocks)) (block_accesses at (m n) first frame n block)
-    ∙ ap (λ z. accesses_of_lines block.lines.items ++ z) (blocks_accesses at m first frame (suc n) blocks)
+block_accesses : (at : Name → ℕ) (m : ℕ → ℕ) (distance : Distance) (next : Option ℕ) (first frame b : ℕ) (block : Block) → accesses_in (block_code at m distance next first frame b block) ≡ accesses_of_lines block.lines.items
+block_accesses at m distance next first frame b block =
+    let lines : List CodeLine = lines_code at m 0 block.lines.items in
+    let exit : List CodeLine = exit_code distance next (is_empty lines) first frame block.exit in
+    accesses_labelled (first + b) (lines ++ exit) ∙ accesses_append lines exit ∙ ap (λ z. accesses_in lines ++ z) (exit_accesses distance next (is_empty lines) first frame block.exit) ∙ append-nil (accesses_in lines) ∙ lines_accesses at m 0 block.lines.items
 
-blocks_causes : (at : Name → ℕ) (m : ℕ → ℕ → ℕ) (first frame n : ℕ) (blocks : List Block) → causes_in (blocks_code at m first frame n blocks) ≡ causes_of_blocks blocks
-blocks_causes at m first frame n [] = refl
-blocks_causes at m first frame n (block ∷ blocks) =
-    causes_append (block_code at (m n) first frame n block) (blocks_code at m first frame (suc n) blocks)
-    ∙ ap (λ z. z ++ causes_in (blocks_code at m first frame (suc n) blocks)) (block_causes at (m n) first frame n block)
-    ∙ ap (λ z. causes_of_lines block.lines.items ++ z) (blocks_causes at m first frame (suc n) blocks)
+found_accesses : (laying : Laying) (b : ℕ) (next : Option ℕ) (block : Option Block) (rest : List Block) → accesses_in (found_code laying b next block) ++ accesses_of_blocks rest ≡ accesses_of_blocks (if_found block rest)
+found_accesses laying b next None rest = refl
+found_accesses laying b next (Some block) rest = ap (λ z. z ++ accesses_of_blocks rest) (block_accesses laying.at (laying.cut b) laying.distance next laying.first laying.frame b block)
 
-pub function_accesses : (at : Name → ℕ) (m : ℕ → ℕ → ℕ) (i first frame entry : ℕ) (blocks : List Block) → accesses_in (function_code at m i first frame entry blocks) ≡ accesses_of_blocks blocks
-function_accesses at m i first frame entry blocks =
-    let head : List CodeLine = prologue_code frame (first + entry) in
-    let rest : List CodeLine = blocks_code at m first frame 0 blocks in
+laid_accesses : (laying : Laying) (order : List ℕ) → accesses_in (laid_code laying order) ≡ accesses_of_blocks (blocks_at laying.blocks order)
+laid_accesses laying [] = refl
+laid_accesses laying (b ∷ rest) =
+    accesses_append (laid_block laying b rest) (laid_code laying rest)
+    ∙ ap (λ z. accesses_in (laid_block laying b rest) ++ z) (laid_accesses laying rest)
+    ∙ found_accesses laying b (next_label laying.first rest) (slice_get laying.blocks b) (blocks_at laying.blocks rest)
+
+pub function_accesses : (i : ℕ) (laying : Laying) → accesses_in (function_code i laying) ≡ accesses_of_blocks (laid_blocks laying.entry laying.blocks)
+function_accesses i laying =
+    let head : List CodeLine = prologue_code laying.frame in
+    let rest : List CodeLine = blocks_code laying in
     accesses_append (labelled (entry_label i) head) rest
-    ∙ ap (λ z. z ++ accesses_in rest) (accesses_labelled (entry_label i) head ∙ accesses_behind (adds_code 6 (2 ^ 32 - frame)) (enter_code (first + entry)) (adds_bare 6 (2 ^ 32 - frame)))
-    ∙ blocks_accesses at m first frame 0 blocks
+    ∙ ap (λ z. z ++ accesses_in rest) (accesses_labelled (entry_label i) head ∙ accesses_behind (adds_code 6 (2 ^ 32 - laying.frame)) enter_code (adds_bare 6 (2 ^ 32 - laying.frame)))
+    ∙ laid_accesses laying (laid_order laying.entry (length laying.blocks))
 
-pub function_causes : (at : Name → ℕ) (m : ℕ → ℕ → ℕ) (i first frame entry : ℕ) (blocks : List Block) → causes_in (function_code at m i first frame entry blocks) ≡ causes_of_blocks blocks
-function_causes at m i first frame entry blocks =
-    let head : List CodeLine = prologue_code frame (first + entry) in
-    let rest : List CodeLine = blocks_code at m first frame 0 blocks in
+onward_causes : (falls : Bool) (label : ℕ) → causes_in (onward_code falls label) ≡ []
+onward_causes true label = refl
+onward_causes false label = refl
+
+test_causes : (distance : Distance) (holds : Bool) (on label : ℕ) → causes_in (test_code distance holds on label) ≡ []
+test_causes Near holds on label = refl
+test_causes Far holds on label = refl
+
+branch_causes : (distance : Distance) (next : Option ℕ) (on there other : ℕ) → causes_in (branch_code distance next on there other) ≡ []
+branch_causes distance next on there other = by (is_next next there)
+  where
+    by : (b : Bool) → causes_in (if b then test_code distance false on other else test_code distance true on there ++ onward_code (is_next next other) other) ≡ []
+    by true = test_causes distance false on other
+    by false =
+        causes_append (test_code distance true on there) (onward_code (is_next next other) other)
+        ∙ ap (λ z. z ++ causes_in (onward_code (is_next next other) other)) (test_causes distance true on there)
+        ∙ onward_causes (is_next next other) other
+
+exit_causes : (distance : Distance) (next : Option ℕ) (bare : Bool) (first frame : ℕ) (exit : Exit) → causes_in (exit_code distance next bare first frame exit) ≡ []
+exit_causes distance next bare first frame (Jump b) = onward_causes (not bare && is_next next (first + b)) (first + b)
+exit_causes distance next bare first frame (Turn b) = refl
+exit_causes distance next bare first frame (Branch on x y) = branch_causes distance next on (first + x) (first + y)
+exit_causes distance next bare first frame (Return None) = causes_behind (adds_code 2 frame) _ (adds_bare 2 frame)
+exit_causes distance next bare first frame (Return (Some r)) = causes_behind (adds_code 2 frame) _ (adds_bare 2 frame)
+
+block_causes : (at : Name → ℕ) (m : ℕ → ℕ) (distance : Distance) (next : Option ℕ) (first frame b : ℕ) (block : Block) → causes_in (block_code at m distance next first frame b block) ≡ causes_of_lines block.lines.items
+block_causes at m distance next first frame b block =
+    let lines : List CodeLine = lines_code at m 0 block.lines.items in
+    let exit : List CodeLine = exit_code distance next (is_empty lines) first frame block.exit in
+    causes_labelled (first + b) (lines ++ exit) ∙ causes_append lines exit ∙ ap (λ z. causes_in lines ++ z) (exit_causes distance next (is_empty lines) first frame block.exit) ∙ append-nil (causes_in lines) ∙ lines_causes at m 0 block.lines.items
+
+found_causes : (laying : Laying) (b : ℕ) (next : Option ℕ) (block : Option Block) (rest : List Block) → causes_in (found_code laying b next block) ++ causes_of_blocks rest ≡ causes_of_blocks (if_found block rest)
+found_causes laying b next None rest = refl
+found_causes laying b next (Some block) rest = ap (λ z. z ++ causes_of_blocks rest) (block_causes laying.at (laying.cut b) laying.distance next laying.first laying.frame b block)
+
+laid_causes : (laying : Laying) (order : List ℕ) → causes_in (laid_code laying order) ≡ causes_of_blocks (blocks_at laying.blocks order)
+laid_causes laying [] = refl
+laid_causes laying (b ∷ rest) =
+    causes_append (laid_block laying b rest) (laid_code laying rest)
+    ∙ ap (λ z. causes_in (laid_block laying b rest) ++ z) (laid_causes laying rest)
+    ∙ found_causes laying b (next_label laying.first rest) (slice_get laying.blocks b) (blocks_at laying.blocks rest)
+
+pub function_causes : (i : ℕ) (laying : Laying) → causes_in (function_code i laying) ≡ causes_of_blocks (laid_blocks laying.entry laying.blocks)
+function_causes i laying =
+    let head : List CodeLine = prologue_code laying.frame in
+    let rest : List CodeLine = blocks_code laying in
     causes_append (labelled (entry_label i) head) rest
-    ∙ ap (λ z. z ++ causes_in rest) (causes_labelled (entry_label i) head ∙ causes_behind (adds_code 6 (2 ^ 32 - frame)) (enter_code (first + entry)) (adds_bare 6 (2 ^ 32 - frame)))
-    ∙ blocks_causes at m first frame 0 blocks
+    ∙ ap (λ z. z ++ causes_in rest) (causes_labelled (entry_label i) head ∙ causes_behind (adds_code 6 (2 ^ 32 - laying.frame)) enter_code (adds_bare 6 (2 ^ 32 - laying.frame)))
+    ∙ laid_causes laying (laid_order laying.entry (length laying.blocks))

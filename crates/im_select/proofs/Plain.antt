@@ -1,11 +1,12 @@
 -- What lists of lines have beside their instructions: labels, targets, accesses, causes.
 use Rattle.std.proofs.Common.{◌≡◌, ◌<◌, ◌⊎◌, inl, inr, ℕ, zero, suc, ◌+◌, Bool, true, false, List, [], ◌∷◌, ◌++◌, Option, Some, None, length, refl, ap, ◌∙◌, subst, arith}
-use Rattle.std.specs.Prelude.{◌==◌, slice_get}
+use Rattle.std.specs.Prelude.{◌==◌, if◌then◌else◌, slice_get}
 use Rattle.im_rv.specs.Lines.{CodeLine, plain_line}
+use Rattle.im_rv_reach.specs.Instructions.{upper}
 use Rattle.im_block.specs.declared.code.Place.{Place}
 use Rattle.im_block.specs.declared.code.Place.TheVariants.{Static, Local, Through}
 use Rattle.im_select.specs.Given.{Given}
-use Rattle.im_select.specs.Emitted.{high_of, low_of, constant_by, constant_code, displaced_by, displaced_code, adds_by, adds_code, place_code, labelled}
+use Rattle.im_select.specs.Emitted.{high_of, low_of, constant_by, constant_code, displaced_by, displaced_code, adds_by, adds_code, place_code, moved_code, copied_code, shift_of, shifts_code, scaled_code, based_code, address_code, labelled}
 use Rattle.im_select.specs.Selects.{if_any, accesses_in, causes_in, HasLabel, LeadsTo}
 
 -- instructions and nothing else
@@ -42,6 +43,36 @@ pub place_bare : (place : Place) (n : ℕ) → Bare (place_code place n)
 place_bare (Static object offset) n = (refl, tt)
 place_bare (Local object offset) n = displaced_bare 2 n
 place_bare (Through r offset) n = displaced_bare r n
+
+pub copied_bare : (to from : ℕ) → Bare (copied_code to from)
+copied_bare to from = by (to == from)
+  where
+    by : (b : Bool) → Bare (if b then [] else moved_code to from)
+    by true = tt
+    by false = (refl, tt)
+
+shifts_bare : (shift : Option ℕ) (size by : ℕ) → Bare (shifts_code shift size by)
+shifts_bare None size by = bare_append (constant_code 5 size) _ (constant_bare 5 size) (refl, tt)
+shifts_bare (Some bits) size by = (refl, tt)
+
+pub scaled_bare : (size by : ℕ) → Bare (scaled_code size by)
+scaled_bare size by = cases (size == 1)
+  where
+    cases : (b : Bool) → Bare (if b then [] else shifts_code (shift_of size) size by)
+    cases true = tt
+    cases false = shifts_bare (shift_of size) size by
+
+based_bare : (to : ℕ) (place : Place) (n : ℕ) → Bare (based_code to place n)
+based_bare to place n = bare_append (place_code place n) _ (place_bare place n) (refl, tt)
+
+pub address_bare : (to : ℕ) (place : Place) (n : ℕ) → Bare (address_code to place n)
+address_bare to (Static object offset) n = by (low_of n == 0)
+  where
+    by : (b : Bool) → Bare (if b then plain_line (upper to (high_of n)) ∷ [] else based_code to (Static object offset) n)
+    by true = (refl, tt)
+    by false = based_bare to (Static object offset) n
+address_bare to (Local object offset) n = based_bare to (Local object offset) n
+address_bare to (Through r offset) n = based_bare to (Through r offset) n
 
 -- ---- accesses and causes
 
@@ -82,26 +113,31 @@ causes_labelled l (x ∷ xs) = refl
 
 -- ---- targets
 
-abbrev pub Lead : Given → List CodeLine → Type 0
-Lead names [] = Unit {0}
-Lead names (x ∷ xs) = ((l : ℕ) → x.target ≡ Some l → LeadsTo names x l) × Lead names xs
+-- where they lead to, as lines of the whole list
+abbrev pub Lead : Given → List CodeLine → List CodeLine → Type 0
+Lead names whole [] = Unit {0}
+Lead names whole (x ∷ xs) = ((l : ℕ) → x.target ≡ Some l → LeadsTo names whole x l) × Lead names whole xs
 
-pub lead_append : (names : Given) (xs ys : List CodeLine) → Lead names xs → Lead names ys → Lead names (xs ++ ys)
-lead_append names [] ys a b = b
-lead_append names (x ∷ xs) ys a b = (a.0, lead_append names xs ys a.1 b)
+pub lead_append : (names : Given) (whole xs ys : List CodeLine) → Lead names whole xs → Lead names whole ys → Lead names whole (xs ++ ys)
+lead_append names whole [] ys a b = b
+lead_append names whole (x ∷ xs) ys a b = (a.0, lead_append names whole xs ys a.1 b)
 
-pub bare_lead : (names : Given) (xs : List CodeLine) → Bare xs → Lead names xs
-bare_lead names [] h = tt
-bare_lead names (x ∷ xs) h = ((λ l e. let n : x.target ≡ None = ap (λ (z : CodeLine). z.target) h.0 in absurd cc), bare_lead names xs h.1)
+pub bare_lead : (names : Given) (whole xs : List CodeLine) → Bare xs → Lead names whole xs
+bare_lead names whole [] h = tt
+bare_lead names whole (x ∷ xs) h = ((λ l e. let n : x.target ≡ None = ap (λ (z : CodeLine). z.target) h.0 in absurd cc), bare_lead names whole xs h.1)
 
-pub lead_labelled : (names : Given) (l : ℕ) (xs : List CodeLine) → Lead names xs → Lead names (labelled l xs)
-lead_labelled names l [] h = tt
-lead_labelled names l (x ∷ xs) h = ((λ t e. let q = h.0 t e in record { far = q.far; to = q.to }), h.1)
+-- its label is nothing to where it leads
+relabelled : (names : Given) (whole : List CodeLine) (l t : ℕ) (x : CodeLine) → LeadsTo names whole x t → LeadsTo names whole (record x { label = Some l }) t
+relabelled names whole l t x h = record { far = elim h.far [ inl j ↦ inl j | inr n ↦ inr (record { tests = n.tests; few = n.few; block = n.block }) ]; to = h.to }
 
-pub lead_at : (names : Given) (xs : List CodeLine) → Lead names xs → (k l : ℕ) (line : CodeLine) → slice_get xs k ≡ Some line → line.target ≡ Some l → LeadsTo names line l
-lead_at names [] h k l line e t = absurd cc
-lead_at names (x ∷ xs) h zero l line e t = let same : x ≡ line = cc in subst (λ z. LeadsTo names z l) same (h.0 l (ap (λ (z : CodeLine). z.target) same ∙ t))
-lead_at names (x ∷ xs) h (suc k) l line e t = lead_at names xs h.1 k l line e t
+pub lead_labelled : (names : Given) (whole : List CodeLine) (l : ℕ) (xs : List CodeLine) → Lead names whole xs → Lead names whole (labelled l xs)
+lead_labelled names whole l [] h = tt
+lead_labelled names whole l (x ∷ xs) h = ((λ t e. relabelled names whole l t x (h.0 t e)), h.1)
+
+pub lead_at : (names : Given) (whole xs : List CodeLine) → Lead names whole xs → (k l : ℕ) (line : CodeLine) → slice_get xs k ≡ Some line → line.target ≡ Some l → LeadsTo names whole line l
+lead_at names whole [] h k l line e t = absurd cc
+lead_at names whole (x ∷ xs) h zero l line e t = let same : x ≡ line = cc in subst (λ z. LeadsTo names whole z l) same (h.0 l (ap (λ (z : CodeLine). z.target) same ∙ t))
+lead_at names whole (x ∷ xs) h (suc k) l line e t = lead_at names whole xs h.1 k l line e t
 
 -- ---- labels
 

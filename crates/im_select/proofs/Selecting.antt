@@ -1,12 +1,11 @@
 -- What is put for a line is what may stand for it.
-use Rattle.std.proofs.Common.{◌≡◌, ◌<◌, ℕ, suc, ◌+◌, ◌^◌, Bool, true, false, [], ◌∷◌, Some, None, length, inl, inr, refl, sym, subst, arith}
+use Rattle.std.proofs.Common.{◌≡◌, ◌<◌, ◌≤◌, ℕ, zero, suc, ◌+◌, ◌^◌, Bool, true, false, List, [], ◌∷◌, Option, Some, None, length, inl, inr, refl, sym, ap, ◌∙◌, subst, eq-eqb, arith}
 use Rattle.std.specs.Prelude.{◌==◌, if◌then◌else◌}
-use Rattle.std.proofs.lemmas.Bool.Decides.{nat_tests}
 use Rattle.im_num.specs.declared.kind.Kind.TheVariants.{I8, U8, I16, U16, I32, U32, Ptr}
 use Rattle.im_num.specs.Kinds.{word}
-use Rattle.im_rv.specs.declared.instr.Op.TheVariants.{Addi, Add as AddOp}
+use Rattle.im_rv.specs.declared.instr.Op.TheVariants.{Addi, Add as AddOp, Mul}
 use Rattle.im_rv.specs.Lines.{CodeLine, plain_line}
-use Rattle.im_rv_reach.specs.Instructions.{with_immediate, on_registers, jumping}
+use Rattle.im_rv_reach.specs.Instructions.{Splits, with_immediate, on_registers, upper, jumping}
 use Rattle.im_select_operators.proofs.Words.{word_small}
 use Rattle.im_store.specs.declared.operators.UnaryOp.TheVariants.{Negate, Complement}
 use Rattle.im_store.specs.declared.operators.Comparison.TheVariants.{Less as LessThan, Greater, LessOrEqual, GreaterOrEqual, Equal, NotEqual}
@@ -17,37 +16,35 @@ use Rattle.im_block.specs.declared.code.Line.{Line}
 use Rattle.im_block.specs.declared.code.Line.TheVariants.{Put, PutNull, Copy, Convert, Unary, Not, Compute, Compare, Move, Distance, Address, Read, Write, Reload, Spill, Cut, Call, GetChar, PutChar}
 use Rattle.im_alloc_placed.specs.Operands.{PlaceAtHome}
 use Rattle.im_alloc_placed.specs.Placed.{IsPlacedLine}
-use Rattle.im_select_relation.specs.Symbolic.{Lines, HasLine, Plain, Aimed, ConstantIn, Small, Large, DisplacedIn, Near, Far, BasedIn, InFrame, InStatic, Behind, AddsIn, Short, Long, Lesser, Larger, NotLarger, NotLesser, Same, Other, Whole, Narrowed, SelectedIn, Numbers, Nulls, Copies, Converts, Negates, Complements, Nots, Computes, Compares, Moves, Measures, Addresses, Fetches, StoresValue, Reloads, Spills, Cuts_, Calls, Gets, Puts_}
-use Rattle.im_select_relation.specs.Selected.{IsEntry}
-use Rattle.im_select.specs.Emitted.{high_of, low_of, constant_by, constant_code, displaced_by, displaced_code, displaced_base, adds_by, adds_code, place_number, place_code, place_base, line_code}
+use Rattle.im_select_relation.specs.Symbolic.{Lines, HasLine, Plain, Aimed, ConstantIn, Small, Large, DisplacedIn, Near, Far, BasedIn, InFrame, InStatic, Behind, AddsIn, Short, Long, Lesser, Larger, NotLarger, NotLesser, Same, Other, Whole, Already, Moved, CopiedIn, Narrowed, Masked, Bytes, Shifted, Multiplied, ScaledIn, SelectedIn, Numbers, Nulls, Copies, Converts, Negates, Complements, Nots, Computes, Compares, Moves, Measures, Addresses, AddressesPage, Fetches, StoresValue, Reloads, Spills, Cuts_, Calls, Gets, Puts_}
+use Rattle.im_select_relation.specs.Selected.{IsHome, IsEntry}
+use Rattle.im_select.specs.Emitted.{high_of, low_of, constant_by, constant_code, displaced_by, displaced_code, displaced_base, adds_by, adds_code, place_number, place_code, place_base, moved_code, copied_code, step_op, shift_below, shift_of, shifts_code, scaled_code, scaled_register, based_code, address_code, line_code}
 use Rattle.im_select.specs.Given.{Given}
 use Rattle.im_select.specs.Places.{CallsBelow}
 use Rattle.im_select.specs.Selects.{Agrees}
+use Rattle.im_select.proofs.Ordering.{same_number}
 use Rattle.im_select.proofs.Standing.{At, after, after_append, at_left, at_right}
 use Rattle.im_select.proofs.Splitting.{splits, low_whole}
-
-is_zero : (a : ℕ) → (a == 0) ≡ true → a ≡ 0
-is_zero a h = grind (arith, nat_tests)
 
 pub constant_in : (w : Lines) (k rd n : ℕ) → n < 2 ^ 32 → At w k (constant_code rd n) → ConstantIn w k rd n (after k (constant_code rd n))
 constant_in w k rd n small = by (high_of n == 0) refl
   where
     by : (b : Bool) → (high_of n == 0) ≡ b → At w k (constant_by b rd (high_of n) (low_of n)) → ConstantIn w k rd n (after k (constant_by b rd (high_of n) (low_of n)))
-    by true e a = Small n small (subst (λ z. Plain w k (with_immediate Addi rd 0 z)) (low_whole n small (is_zero (high_of n) e)) a.0)
+    by true e a = Small n small (subst (λ z. Plain w k (with_immediate Addi rd 0 z)) (low_whole n small (same_number (high_of n) 0 e)) a.0)
     by false e a = Large n (high_of n) (low_of n) (splits n small) a.0 a.1.0
 
 pub displaced_in : (w : Lines) (k r n : ℕ) → n < 2 ^ 32 → At w k (displaced_code r n) → DisplacedIn w k r n (displaced_base r n) (low_of n) (after k (displaced_code r n))
 displaced_in w k r n small = by (high_of n == 0) refl
   where
     by : (b : Bool) → (high_of n == 0) ≡ b → At w k (displaced_by b r (high_of n)) → DisplacedIn w k r n (if b then r else 5) (low_of n) (after k (displaced_by b r (high_of n)))
-    by true e a = subst (λ z. DisplacedIn w k r n r z k) (sym (low_whole n small (is_zero (high_of n) e))) (Near n)
+    by true e a = subst (λ z. DisplacedIn w k r n r z k) (sym (low_whole n small (same_number (high_of n) 0 e))) (Near n)
     by false e a = Far n (high_of n) (low_of n) (splits n small) a.0 a.1.0
 
 pub adds_in : (w : Lines) (k rd n : ℕ) → n < 2 ^ 32 → At w k (adds_code rd n) → AddsIn w k rd n (after k (adds_code rd n))
 adds_in w k rd n small = by (high_of n == 0) refl
   where
     by : (b : Bool) → (high_of n == 0) ≡ b → At w k (adds_by b rd n) → AddsIn w k rd n (after k (adds_by b rd n))
-    by true e a = Short (subst (λ z. Plain w k (with_immediate Addi rd 2 z)) (low_whole n small (is_zero (high_of n) e)) a.0)
+    by true e a = Short (subst (λ z. Plain w k (with_immediate Addi rd 2 z)) (low_whole n small (same_number (high_of n) 0 e)) a.0)
     by false e a =
         let last : CodeLine = plain_line (on_registers AddOp rd 2 5) in
         let r = at_right w k (constant_code 5 n) (last ∷ []) a in
@@ -58,6 +55,58 @@ pub based_in : (w : Lines) (k : ℕ) (place : Place) → place_number w.at place
 based_in w k (Static object offset) small home a = InStatic object offset (high_of (w.at (Named object) + offset)) (low_of (w.at (Named object) + offset)) (splits (w.at (Named object) + offset) small) a.0
 based_in w k (Local object offset) small home a = InFrame object offset _ _ _ (displaced_in w k 2 (w.at (Named object) + offset) small a)
 based_in w k (Through r offset) small home a = Behind r offset _ _ _ home (displaced_in w k r offset small a)
+
+addressed_in : (w : Lines) (k to : ℕ) (place : Place) → IsHome to → PlaceAtHome place → place_number w.at place < 2 ^ 32 → At w k (based_code to place (place_number w.at place)) → SelectedIn w k (Address to place) (after k (based_code to place (place_number w.at place)))
+addressed_in w k to place h home small a =
+    let n : ℕ = place_number w.at place in
+    let code : List CodeLine = place_code place n in
+    let last : List CodeLine = plain_line (with_immediate Addi to (place_base place n) (low_of n)) ∷ [] in
+    let r = at_right w k code last a in
+    subst (SelectedIn w k (Address to place)) (sym (after_append k code last))
+    (Addresses to place _ _ (after k code) h (based_in w k place small home (at_left w k code last a)) r.0)
+
+abbrev page_code : ℕ → ℕ → List CodeLine
+page_code to n = plain_line (upper to (high_of n)) ∷ []
+
+static_in : (w : Lines) (k to object offset : ℕ) → IsHome to → w.at (Named object) + offset < 2 ^ 32 → At w k (address_code to (Static object offset) (w.at (Named object) + offset)) → SelectedIn w k (Address to (Static object offset)) (after k (address_code to (Static object offset) (w.at (Named object) + offset)))
+static_in w k to object offset h small = by (w.at (Named object) + offset) refl (low_of (w.at (Named object) + offset) == 0) refl
+  where
+    by : (n : ℕ) → w.at (Named object) + offset ≡ n → (t : Bool) → (low_of n == 0) ≡ t → At w k (if t then page_code to n else based_code to (Static object offset) n) → SelectedIn w k (Address to (Static object offset)) (after k (if t then page_code to n else based_code to (Static object offset) n))
+    by n q true e a = AddressesPage to object offset (high_of n) h (subst (λ z. Splits (high_of n) 0 z) (sym q) (subst (λ z. Splits (high_of n) z n) (same_number (low_of n) 0 e) (splits n (subst (λ z. z < 2 ^ 32) q small)))) a.0
+    by n q false e a = subst (λ z. At w k (based_code to (Static object offset) z) → SelectedIn w k (Address to (Static object offset)) (after k (based_code to (Static object offset) z))) q (addressed_in w k to (Static object offset) h tt small) a
+
+-- ---- copies and multiples
+
+copied_in : (w : Lines) (k to from : ℕ) → At w k (copied_code to from) → CopiedIn w k to from (after k (copied_code to from))
+copied_in w k to from = by (to == from) refl
+  where
+    by : (t : Bool) → (to == from) ≡ t → At w k (if t then [] else moved_code to from) → CopiedIn w k to from (after k (if t then [] else moved_code to from))
+    by true e a = Already (same_number to from e)
+    by false e a = Moved (λ s. let t = eq-eqb to from s in cc) a.0
+
+shift_is : (size n bits : ℕ) → shift_below size n ≡ Some bits → (bits ≤ n) × (size ≡ 2 ^ bits)
+shift_is size zero bits e = absurd cc
+shift_is size (suc n) bits e = by (shift_is size n bits) (size == 2 ^ suc n) refl e
+  where
+    by : (shift_below size n ≡ Some bits → (bits ≤ n) × (size ≡ 2 ^ bits)) → (t : Bool) → (size == 2 ^ suc n) ≡ t → (if t then Some (suc n) else shift_below size n) ≡ Some bits → (bits ≤ suc n) × (size ≡ 2 ^ bits)
+    by h true f e = let same : suc n ≡ bits = cc in (omega arith, same_number size (2 ^ suc n) f ∙ ap (λ z. 2 ^ z) same)
+    by h false f e = let r = h e in (let l = r.0 in omega arith, r.1)
+
+shifts_in : (w : Lines) (k size by : ℕ) (shift : Option ℕ) → shift_below size 20 ≡ shift → size < 2 ^ 32 → At w k (shifts_code shift size by) → ScaledIn w k size by 5 (after k (shifts_code shift size by))
+shifts_in w k size by None e small a =
+    let code : List CodeLine = constant_code 5 size in
+    let last : List CodeLine = plain_line (on_registers Mul 5 5 by) ∷ [] in
+    let r = at_right w k code last a in
+    subst (ScaledIn w k size by 5) (sym (after_append k code last)) (Multiplied (after k code) (constant_in w k 5 size small (at_left w k code last a)) r.0)
+shifts_in w k size by (Some bits) e small a = let h = shift_is size 20 bits e in Shifted bits (let l = h.0 in omega arith) h.1 a.0
+
+scaled_in : (w : Lines) (k size by : ℕ) → size < 2 ^ 32 → At w k (scaled_code size by) → ScaledIn w k size by (scaled_register size by) (after k (scaled_code size by))
+unfolding shift_of
+scaled_in w k size by small = cases (size == 1) refl
+  where
+    cases : (t : Bool) → (size == 1) ≡ t → At w k (if t then [] else shifts_code (shift_of size) size by) → ScaledIn w k size by (if t then by else 5) (after k (if t then [] else shifts_code (shift_of size) size by))
+    cases true e a = Bytes (same_number size 1 e)
+    cases false e a = shifts_in w k size by (shift_of size) refl small a
 
 -- numbers of places that a line names are words
 abbrev pub Words : (Name → ℕ) → Line → Type 0
@@ -71,13 +120,13 @@ Words at line = Unit {0}
 pub selected_in : (w : Lines) (given : Given) (k m : ℕ) → IsEntry m → Agrees w given → (line : Line) → IsPlacedLine (length given.statics) given.function line → CallsBelow given.functions line → Words w.at line → At w k (line_code w.at m line) → SelectedIn w k line (after k (line_code w.at m line))
 selected_in w given k m o g (Put to z) h c s a = Numbers to z _ h (constant_in w k to (word z) (word_small z) a)
 selected_in w given k m o g (PutNull to) h c s a = Nulls to h a.0
-selected_in w given k m o g (Copy to from) h c s a = Copies to from h.0 h.1 a.0
+selected_in w given k m o g (Copy to from) h c s a = Copies to from _ h.0 h.1 (copied_in w k to from a)
 selected_in w given k m o g (Convert to I8 from) h c s a = Converts to I8 from _ h.0 h.1 (Narrowed (λ e. cc) (λ e. cc) (λ e. cc) a.0 a.1.0)
-selected_in w given k m o g (Convert to U8 from) h c s a = Converts to U8 from _ h.0 h.1 (Narrowed (λ e. cc) (λ e. cc) (λ e. cc) a.0 a.1.0)
+selected_in w given k m o g (Convert to U8 from) h c s a = Converts to U8 from _ h.0 h.1 (Masked refl a.0)
 selected_in w given k m o g (Convert to I16 from) h c s a = Converts to I16 from _ h.0 h.1 (Narrowed (λ e. cc) (λ e. cc) (λ e. cc) a.0 a.1.0)
 selected_in w given k m o g (Convert to U16 from) h c s a = Converts to U16 from _ h.0 h.1 (Narrowed (λ e. cc) (λ e. cc) (λ e. cc) a.0 a.1.0)
-selected_in w given k m o g (Convert to I32 from) h c s a = Converts to I32 from _ h.0 h.1 (Whole (inl refl) a.0)
-selected_in w given k m o g (Convert to U32 from) h c s a = Converts to U32 from _ h.0 h.1 (Whole (inr refl) a.0)
+selected_in w given k m o g (Convert to I32 from) h c s a = Converts to I32 from _ h.0 h.1 (Whole _ (inl refl) (copied_in w k to from a))
+selected_in w given k m o g (Convert to U32 from) h c s a = Converts to U32 from _ h.0 h.1 (Whole _ (inr refl) (copied_in w k to from a))
 selected_in w given k m o g (Convert to Ptr from) h c s a = absurd (h.2 refl)
 selected_in w given k m o g (Unary to Negate kind from) h c s a = Negates to kind from h.0 h.1 h.2 a.0
 selected_in w given k m o g (Unary to Complement kind from) h c s a = Complements to kind from h.0 h.1 h.2 a.0
@@ -90,18 +139,19 @@ selected_in w given k m o g (Compare to GreaterOrEqual kind left right) h c s a 
 selected_in w given k m o g (Compare to Equal kind left right) h c s a = Compares to Equal kind left right _ h.0 h.1 h.2 h.3 (Same a.0 a.1.0)
 selected_in w given k m o g (Compare to NotEqual kind left right) h c s a = Compares to NotEqual kind left right _ h.0 h.1 h.2 h.3 (Other a.0 a.1.0)
 selected_in w given k m o g (Move to size back pointer by) h c s a =
-    let r = at_right w k (constant_code 5 size) _ a in
-    subst (SelectedIn w k (Move to size back pointer by)) (sym (after_append k (constant_code 5 size) _))
-    (Moves to size back pointer by (after k (constant_code 5 size)) h.0 h.1 h.2 h.3 (constant_in w k 5 size h.3 (at_left w k (constant_code 5 size) _ a)) r.0 r.1.0)
+    let code : List CodeLine = scaled_code size by in
+    let last : List CodeLine = plain_line (on_registers (step_op back) to pointer (scaled_register size by)) ∷ [] in
+    let r = at_right w k code last a in
+    subst (SelectedIn w k (Move to size back pointer by)) (sym (after_append k code last))
+    (Moves to size back pointer by (scaled_register size by) (after k code) h.0 h.1 h.2 h.3 (scaled_in w k size by h.3 (at_left w k code last a)) r.0)
 selected_in w given k m o g (Distance to size left right) h c s a =
     let r = at_right w (suc k) (constant_code 6 size) _ a.1 in
     let small : size < 2 ^ 32 = (let q = h.4 in omega arith) in
     subst (SelectedIn w k (Distance to size left right)) (sym (after_append (suc k) (constant_code 6 size) _))
     (Measures to size left right (after (suc k) (constant_code 6 size)) h.0 h.1 h.2 h.3 h.4 a.0 (constant_in w (suc k) 6 size small (at_left w (suc k) (constant_code 6 size) _ a.1)) r.0)
-selected_in w given k m o g (Address to place) h c s a =
-    let r = at_right w k (place_code place (place_number w.at place)) _ a in
-    subst (SelectedIn w k (Address to place)) (sym (after_append k (place_code place (place_number w.at place)) _))
-    (Addresses to place _ _ (after k (place_code place (place_number w.at place))) h.0 (based_in w k place s h.1 (at_left w k (place_code place (place_number w.at place)) _ a)) r.0)
+selected_in w given k m o g (Address to (Static object offset)) h c s a = static_in w k to object offset h.0 s a
+selected_in w given k m o g (Address to (Local object offset)) h c s a = addressed_in w k to (Local object offset) h.0 h.1 s a
+selected_in w given k m o g (Address to (Through r offset)) h c s a = addressed_in w k to (Through r offset) h.0 h.1 s a
 selected_in w given k m o g (Read to place kind access) h c s a =
     let r = at_right w k (place_code place (place_number w.at place)) _ a in
     subst (SelectedIn w k (Read to place kind access)) (sym (after_append k (place_code place (place_number w.at place)) _))

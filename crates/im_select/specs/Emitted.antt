@@ -1,11 +1,11 @@
 -- The very lines that are put for each line of placed code.
-use Rattle.std.specs.Prelude.{ℕ, suc, ◌+◌, ◌-◌, ◌/◌, ◌%◌, ◌^◌, ◌==◌, nat_lt, Bool, true, false, if◌then◌else◌, List, [], ◌∷◌, ◌++◌, Option, Some, None}
+use Rattle.std.specs.Prelude.{ℕ, zero, suc, ◌+◌, ◌-◌, ◌/◌, ◌%◌, ◌^◌, ◌==◌, ◌&&◌, nat_lt, Bool, true, false, not, if◌then◌else◌, List, [], ◌∷◌, ◌++◌, Option, Some, None, length, slice_get}
 use Rattle.im_num.specs.declared.kind.Kind.{Kind}
 use Rattle.im_num.specs.declared.kind.Kind.TheVariants.{I8, U8, I16, U16, I32, U32, Ptr}
 use Rattle.im_num.specs.declared.values.Cause.{Cause}
 use Rattle.im_num.specs.Kinds.{word}
 use Rattle.im_rv.specs.declared.instr.Op.{Op}
-use Rattle.im_rv.specs.declared.instr.Op.TheVariants.{Jalr, Beq, Bgeu, Lw, Sw, Addi, Sltiu, Xori, Slli, Srli, Srai, Add as AddOp, Sub, Sltu, Mul, Div}
+use Rattle.im_rv.specs.declared.instr.Op.TheVariants.{Jalr, Beq, Bne, Bgeu, Lw, Sw, Addi, Sltiu, Xori, Andi, Slli, Srli, Srai, Add as AddOp, Sub, Sltu, Mul, Div}
 use Rattle.im_rv.specs.Lines.{CodeLine, plain_line}
 use Rattle.im_rv_reach.specs.Instructions.{with_immediate, on_registers, storing, branching, upper, jumping}
 use Rattle.im_select_operators.specs.Tables.{load_op, store_op, operation, less_op}
@@ -18,11 +18,13 @@ use Rattle.im_store.specs.Objects.{Name, Named, Slot}
 use Rattle.im_block.specs.declared.code.Place.{Place}
 use Rattle.im_block.specs.declared.code.Place.TheVariants.{Static, Local, Through}
 use Rattle.im_block.specs.declared.code.Line.{Line}
-use Rattle.im_block.specs.declared.code.Line.TheVariants.{Put, PutNull, Copy, Convert, Unary, Not, Compute, Compare, Move, Distance, Address, Read, Write, Reload, Spill, Cut, Call, GetChar, PutChar}
+use Rattle.im_block.specs.declared.code.Line.TheVariants.{Put, PutNull, Copy, Convert, Unary, Not, Compute, Compare, Move, Distance as Measure, Address, Read, Write, Reload, Spill, Cut, Call, GetChar, PutChar}
 use Rattle.im_block.specs.declared.code.Exit.{Exit}
 use Rattle.im_block.specs.declared.code.Exit.TheVariants.{Jump, Turn, Branch, Return}
 use Rattle.im_block.specs.declared.code.Block.{Block}
 use Rattle.im_select_relation.specs.Selected.{ones}
+use Rattle.im_select.specs.declared.distance.Distance.{Distance}
+use Rattle.im_select.specs.declared.distance.Distance.TheVariants.{Near, Far}
 use Rattle.im_rtlib.specs.Routines.{getchar_label, putchar_label, stack_label, aimed, numbered}
 
 -- the labels of functions; those below 64 are the runtime's
@@ -88,18 +90,25 @@ place_base (Through r offset) n = displaced_base r n
 abbrev pub moved_code : ℕ → ℕ → List CodeLine
 moved_code to from = plain_line (with_immediate Addi to from 0) ∷ []
 
+-- a copy; to itself no line
+abbrev pub copied_code : ℕ → ℕ → List CodeLine
+copied_code to from = if to == from then [] else moved_code to from
+
+abbrev pub masked_code : ℕ → ℕ → List CodeLine
+masked_code to from = plain_line (with_immediate Andi to from 255) ∷ []
+
 -- shifted up, and down again
 abbrev pub shifted_code : ℕ → ℕ → Bool → ℕ → List CodeLine
 shifted_code to bits signed from = plain_line (with_immediate Slli to from bits) ∷ plain_line (with_immediate (if signed then Srai else Srli) to to bits) ∷ []
 
 abbrev pub converted_code : ℕ → Kind → ℕ → List CodeLine
 converted_code to I8 from = shifted_code to 24 true from
-converted_code to U8 from = shifted_code to 24 false from
+converted_code to U8 from = masked_code to from
 converted_code to I16 from = shifted_code to 16 true from
 converted_code to U16 from = shifted_code to 16 false from
-converted_code to I32 from = moved_code to from
-converted_code to U32 from = moved_code to from
-converted_code to Ptr from = moved_code to from
+converted_code to I32 from = copied_code to from
+converted_code to U32 from = copied_code to from
+converted_code to Ptr from = copied_code to from
 
 abbrev pub unary_code : ℕ → UnaryOp → ℕ → List CodeLine
 unary_code to Negate from = plain_line (on_registers Sub to 0 from) ∷ []
@@ -128,8 +137,30 @@ compared_code to less left right NotEqual = plain_line (on_registers Sub 5 left 
 abbrev pub step_op : Bool → Op
 step_op back = if back then Sub else AddOp
 
+-- the n for which a size is 2 ^ n, if that is from 1 to 20
+abbrev pub shift_below : ℕ → ℕ → Option ℕ
+shift_below size zero = None
+shift_below size (suc n) = if size == 2 ^ suc n then Some (suc n) else shift_below size n
+
+unfoldable pub shift_of : ℕ → Option ℕ
+shift_of size = shift_below size 20
+
+abbrev pub multiplied_code : ℕ → ℕ → List CodeLine
+multiplied_code size by = constant_code 5 size ++ plain_line (on_registers Mul 5 5 by) ∷ []
+
+abbrev pub shifts_code : Option ℕ → ℕ → ℕ → List CodeLine
+shifts_code None size by = multiplied_code size by
+shifts_code (Some bits) size by = plain_line (with_immediate Slli 5 by bits) ∷ []
+
+-- so many times a register: of 1 the register itself, else in x5
+abbrev pub scaled_code : ℕ → ℕ → List CodeLine
+scaled_code size by = if size == 1 then [] else shifts_code (shift_of size) size by
+
+abbrev pub scaled_register : ℕ → ℕ → ℕ
+scaled_register size by = if size == 1 then by else 5
+
 abbrev pub pointer_code : ℕ → ℕ → Bool → ℕ → ℕ → List CodeLine
-pointer_code to size back pointer by = constant_code 5 size ++ plain_line (on_registers Mul 5 5 by) ∷ plain_line (on_registers (step_op back) to pointer 5) ∷ []
+pointer_code to size back pointer by = scaled_code size by ++ plain_line (on_registers (step_op back) to pointer (scaled_register size by)) ∷ []
 
 abbrev pub distance_code : ℕ → ℕ → ℕ → ℕ → List CodeLine
 distance_code to size left right = plain_line (on_registers Sub 5 left right) ∷ (constant_code 6 size ++ plain_line (on_registers Div to 5 6) ∷ [])
@@ -144,8 +175,13 @@ call_code rd label = aimed label (jumping rd 0) ∷ []
 abbrev pub cut_code : ℕ → Cause → List CodeLine
 cut_code m cause = record (plain_line (jumping 3 0)) { target = Some m; cause = Some cause } ∷ []
 
+abbrev pub based_code : ℕ → Place → ℕ → List CodeLine
+based_code to place n = place_code place n ++ plain_line (with_immediate Addi to (place_base place n) (low_of n)) ∷ []
+
+-- a static whose address has no lower part takes one line
 abbrev pub address_code : ℕ → Place → ℕ → List CodeLine
-address_code to place n = place_code place n ++ plain_line (with_immediate Addi to (place_base place n) (low_of n)) ∷ []
+address_code to (Static object offset) n = if low_of n == 0 then plain_line (upper to (high_of n)) ∷ [] else based_code to (Static object offset) n
+address_code to place n = based_code to place n
 
 abbrev pub fetch_code : ℕ → Place → Kind → ℕ → ℕ → List CodeLine
 fetch_code to place kind access n = place_code place n ++ numbered access (with_immediate (load_op kind) to (place_base place n) (low_of n)) ∷ []
@@ -163,14 +199,14 @@ spill_code place from access = displaced_code 2 place ++ numbered access (storin
 abbrev pub line_code : (Name → ℕ) → ℕ → Line → List CodeLine
 line_code at m (Put to number) = constant_code to (word number)
 line_code at m (PutNull to) = moved_code to 0
-line_code at m (Copy to from) = moved_code to from
+line_code at m (Copy to from) = copied_code to from
 line_code at m (Convert to kind from) = converted_code to kind from
 line_code at m (Unary to op kind from) = unary_code to op from
 line_code at m (Not to from) = not_code to from
 line_code at m (Compute to op kind left right) = computed_code to op kind left right
 line_code at m (Compare to op kind left right) = compared_code to (less_op kind) left right op
 line_code at m (Move to size back pointer by) = pointer_code to size back pointer by
-line_code at m (Distance to size left right) = distance_code to size left right
+line_code at m (Measure to size left right) = distance_code to size left right
 line_code at m (Address to place) = address_code to place (place_number at place)
 line_code at m (Read to place kind access) = fetch_code to place kind access (place_number at place)
 line_code at m (Write place kind from access) = keep_code place kind from access (place_number at place)
@@ -196,44 +232,108 @@ abbrev pub result_code : Option ℕ → List CodeLine
 result_code None = plain_line (with_immediate Addi 10 0 0) ∷ []
 result_code (Some r) = []
 
--- by a register, over a jump
-abbrev pub branch_code : ℕ → ℕ → ℕ → List CodeLine
-branch_code on there other = plain_line (branching Beq on 0 8) ∷ aimed there (jumping 0 0) ∷ aimed other (jumping 0 0) ∷ []
+-- on to a label: no line where it stands next
+abbrev pub onward_code : Bool → ℕ → List CodeLine
+onward_code true label = []
+onward_code false label = call_code 0 label
 
-abbrev pub exit_code : ℕ → ℕ → Exit → List CodeLine
-exit_code first frame (Jump b) = call_code 0 (first + b)
-exit_code first frame (Turn b) = call_code 0 (first + b)
-exit_code first frame (Branch on x y) = branch_code on (first + x) (first + y)
-exit_code first frame (Return from) = result_code from ++ leave_code frame
+-- the branch by a register that is other than 0, or that is 0
+abbrev pub test_op : Bool → Op
+test_op holds = if holds then Bne else Beq
+
+-- to a label, where a register is other than 0, or where it is 0: near, or over a jump
+abbrev pub test_code : Distance → Bool → ℕ → ℕ → List CodeLine
+test_code Near holds on label = aimed label (branching (test_op holds) on 0 0) ∷ []
+test_code Far holds on label = plain_line (branching (test_op (not holds)) on 0 8) ∷ call_code 0 label
+
+-- the label that stands next, if any
+abbrev pub is_next : Option ℕ → ℕ → Bool
+is_next None label = false
+is_next (Some next) label = next == label
+
+-- by a register to one of two labels
+abbrev pub branch_code : Distance → Option ℕ → ℕ → ℕ → ℕ → List CodeLine
+branch_code distance next on there other = if is_next next there then test_code distance false on other else test_code distance true on there ++ onward_code (is_next next other) other
+
+-- bare: no line stands before it in its block
+abbrev pub exit_code : Distance → Option ℕ → Bool → ℕ → ℕ → Exit → List CodeLine
+exit_code distance next bare first frame (Jump b) = onward_code (not bare && is_next next (first + b)) (first + b)
+exit_code distance next bare first frame (Turn b) = call_code 0 (first + b)
+exit_code distance next bare first frame (Branch on x y) = branch_code distance next on (first + x) (first + y)
+exit_code distance next bare first frame (Return from) = result_code from ++ leave_code frame
 
 -- the first line has a label
 abbrev pub labelled : ℕ → List CodeLine → List CodeLine
 labelled label [] = []
 labelled label (line ∷ lines) = record line { label = Some label } ∷ lines
 
--- m: the entries of its lines
-abbrev pub block_code : (Name → ℕ) → (ℕ → ℕ) → ℕ → ℕ → ℕ → Block → List CodeLine
-block_code at m first frame b block = labelled (first + b) (lines_code at m 0 block.lines.items ++ exit_code first frame block.exit)
+abbrev pub is_empty : List CodeLine → Bool
+is_empty [] = true
+is_empty (line ∷ lines) = false
 
--- blocks from number b on; m: the entries, by block and line
-abbrev pub blocks_code : (Name → ℕ) → (ℕ → ℕ → ℕ) → ℕ → ℕ → ℕ → List Block → List CodeLine
-blocks_code at m first frame b [] = []
-blocks_code at m first frame b (block ∷ blocks) = block_code at (m b) first frame b block ++ blocks_code at m first frame (suc b) blocks
+-- its lines, and behind them its exit
+abbrev pub ended_code : Distance → Option ℕ → ℕ → ℕ → List CodeLine → Exit → List CodeLine
+ended_code distance next first frame lines exit = lines ++ exit_code distance next (is_empty lines) first frame exit
 
--- the test of the stack, and the entry into the first block
-abbrev pub enter_code : ℕ → List CodeLine
-enter_code target =
+-- m: the entries of its lines; next: the label that stands behind it
+abbrev pub block_code : (Name → ℕ) → (ℕ → ℕ) → Distance → Option ℕ → ℕ → ℕ → ℕ → Block → List CodeLine
+block_code at m distance next first frame b block = labelled (first + b) (ended_code distance next first frame (lines_code at m 0 block.lines.items) block.exit)
+
+-- ---- the order of blocks: the entry first, then the others, from the last to the first
+
+-- the first n blocks, the entry left out, from the last to the first
+abbrev pub others_below : ℕ → ℕ → List ℕ
+others_below entry zero = []
+others_below entry (suc n) = if n == entry then others_below entry n else n ∷ others_below entry n
+
+abbrev pub laid_order : ℕ → ℕ → List ℕ
+laid_order entry count = entry ∷ others_below entry count
+
+-- what a function's blocks are laid by: places of objects, entries of its cuts by block and line, how far its labels are, the label
+-- of its block 0, its frame, its blocks and the number of the entry
+pub record Laying : Type 0 where
+  pub at : Name → ℕ
+  pub cut : ℕ → ℕ → ℕ
+  pub distance : Distance
+  pub first : ℕ
+  pub frame : ℕ
+  pub blocks : List Block
+  pub entry : ℕ
+
+-- the label of the first of these blocks
+abbrev pub next_label : ℕ → List ℕ → Option ℕ
+next_label first [] = None
+next_label first (b ∷ behind) = Some (first + b)
+
+abbrev pub found_code : Laying → ℕ → Option ℕ → Option Block → List CodeLine
+found_code laying b next None = []
+found_code laying b next (Some block) = block_code laying.at (laying.cut b) laying.distance next laying.first laying.frame b block
+
+-- block b, behind which these stand
+abbrev pub laid_block : Laying → ℕ → List ℕ → List CodeLine
+laid_block laying b behind = found_code laying b (next_label laying.first behind) (slice_get laying.blocks b)
+
+-- blocks in this order
+abbrev pub laid_code : Laying → List ℕ → List CodeLine
+laid_code laying [] = []
+laid_code laying (b ∷ behind) = laid_block laying b behind ++ laid_code laying behind
+
+abbrev pub blocks_code : Laying → List CodeLine
+blocks_code laying = laid_code laying (laid_order laying.entry (length laying.blocks))
+
+-- the test of the stack; the first block stands behind it
+abbrev pub enter_code : List CodeLine
+enter_code =
     plain_line (with_immediate Lw 5 0 28)
     ∷ plain_line (branching Bgeu 6 5 8)
     ∷ aimed stack_label (jumping 0 0)
     ∷ plain_line (with_immediate Addi 2 6 0)
     ∷ plain_line (storing Sw 2 1 0)
-    ∷ aimed target (jumping 0 0)
     ∷ []
 
-abbrev pub prologue_code : ℕ → ℕ → List CodeLine
-prologue_code frame target = adds_code 6 (2 ^ 32 - frame) ++ enter_code target
+abbrev pub prologue_code : ℕ → List CodeLine
+prologue_code frame = adds_code 6 (2 ^ 32 - frame) ++ enter_code
 
 -- the lines of function i
-abbrev pub function_code : (Name → ℕ) → (ℕ → ℕ → ℕ) → ℕ → ℕ → ℕ → ℕ → List Block → List CodeLine
-function_code at m i first frame entry blocks = labelled (entry_label i) (prologue_code frame (first + entry)) ++ blocks_code at m first frame 0 blocks
+abbrev pub function_code : ℕ → Laying → List CodeLine
+function_code i laying = labelled (entry_label i) (prologue_code laying.frame) ++ blocks_code laying

@@ -1,7 +1,7 @@
 -- What selection gives: lines that may stand for the function, what linking asks of them, and how many they are.
 use Rattle.std.specs.Prelude.{◌≡◌, ◌⊎◌, ◌<◌, ◌≤◌, ℕ, ◌+◌, Bool, List, [], ◌∷◌, ◌++◌, Option, Some, None, length, slice_get, All}
 use Rattle.im_num.specs.declared.values.Cause.{Cause}
-use Rattle.im_rv.specs.declared.instr.Op.TheVariants.{Jal}
+use Rattle.im_rv.specs.declared.instr.Op.TheVariants.{Jal, Beq, Bne}
 use Rattle.im_rv.specs.Lines.{CodeLine}
 use Rattle.im_store.specs.Objects.{Named, Slot}
 use Rattle.im_block.specs.declared.code.Line.{Line}
@@ -18,7 +18,9 @@ use Rattle.im_live.specs.Reads.{IsLive}
 use Rattle.im_live.specs.Entries.{entries}
 use Rattle.im_rtlib.specs.Routines.{getchar_label, putchar_label, stack_label}
 use Rattle.im_select.specs.Given.{Given}
-use Rattle.im_select.specs.Emitted.{entry_label, function_code}
+use Rattle.im_select.specs.declared.distance.Distance.{Distance}
+use Rattle.im_select.specs.declared.distance.Distance.TheVariants.{Near, Far}
+use Rattle.im_select.specs.Emitted.{entry_label, Laying, laid_order, function_code}
 use Rattle.im_select.specs.Places.{at_of, HasPlaces, CallsBelow}
 
 -- places and labels are read so: where this function's objects and blocks are and what it calls, the rest may be anything
@@ -86,26 +88,60 @@ IsTarget given l =
     ⊎ ((i : ℕ) × (i < given.functions) × (l ≡ entry_label i))
     ⊎ ((b : ℕ) × (b < length given.function.blocks.items) × (l ≡ given.first_block + b))
 
--- so the distance fits whatever it is
-pub record LeadsTo (given : Given) (line : CodeLine) (l : ℕ) : Type 0 where
-  pub far : line.line.op ≡ Jal
+-- a test of a register for 0 that leads to a block of a function of at most 1023 lines, so that a branch reaches it
+pub record IsNear (given : Given) (lines : List CodeLine) (line : CodeLine) (l : ℕ) : Type 0 where
+  pub tests : (line.line.op ≡ Beq) ⊎ (line.line.op ≡ Bne)
+  pub few : length lines ≤ 1023
+  pub block : (b : ℕ) × (b < length given.function.blocks.items) × (l ≡ given.first_block + b)
+
+-- a branch leads to a block of the function; a jump reaches all of the code
+pub record LeadsTo (given : Given) (lines : List CodeLine) (line : CodeLine) (l : ℕ) : Type 0 where
+  pub far : (line.line.op ≡ Jal) ⊎ IsNear given lines line l
   pub to : IsTarget given l
 
--- the lines of function i: these very ones, each cut with the least entry that saves what lives behind it
+-- blocks in an order, and in the order in which they are laid
+abbrev pub if_found : Option Block → List Block → List Block
+if_found None rest = rest
+if_found (Some block) rest = block ∷ rest
+
+abbrev pub blocks_at : List Block → List ℕ → List Block
+blocks_at blocks [] = []
+blocks_at blocks (b ∷ order) = if_found (slice_get blocks b) (blocks_at blocks order)
+
+abbrev pub laid_blocks : ℕ → List Block → List Block
+laid_blocks entry blocks = blocks_at blocks (laid_order entry (length blocks))
+
+-- what the function's blocks are laid by, where these registers live at its points and each cut has the least entry that saves them
+abbrev pub laying_of : Given → (ℕ → ℕ → Bool) → Distance → Laying
+laying_of given live distance = record {
+  at = at_of given;
+  cut = entries live given.function.blocks.items;
+  distance = distance;
+  first = given.first_block;
+  frame = given.layout.frame;
+  blocks = given.function.blocks.items;
+  entry = given.function.entry;
+}
+
+-- the lines of function i: these very ones, each cut with the least entry that saves what lives behind it. Labels are near where the
+-- function has at most 1023 lines by near branches
 pub record IsFunctionCode (given : Given) (i : ℕ) (lines : List CodeLine) : Type 0 where
   pub live : ℕ → ℕ → Bool
   pub is_live : IsLive given.function.blocks.items live
-  pub lines_are : lines ≡ function_code (at_of given) (entries live given.function.blocks.items) i given.first_block given.layout.frame given.function.entry given.function.blocks.items
+  pub distance : Distance
+  pub lines_are : lines ≡ function_code i (laying_of given live distance)
+  pub near : distance ≡ Near → length lines ≤ 1023
+  pub far : distance ≡ Far → 1023 < length (function_code i (laying_of given live Near))
 
 -- and what follows from it
 pub record IsSelection (given : Given) (i : ℕ) (lines : List CodeLine) : Type 0 where
   pub exact : IsFunctionCode given i lines
   pub starts : ℕ → ℕ
   pub selected : (w : Lines) → w.lines ≡ lines → Agrees w given → IsSelected w given.layout.frame given.function starts
-  pub accesses : accesses_in lines ≡ accesses_of_blocks given.function.blocks.items
-  pub causes : causes_in lines ≡ causes_of_blocks given.function.blocks.items
+  pub accesses : accesses_in lines ≡ accesses_of_blocks (laid_blocks given.function.entry given.function.blocks.items)
+  pub causes : causes_in lines ≡ causes_of_blocks (laid_blocks given.function.entry given.function.blocks.items)
   pub entry : HasLabel lines 0 (entry_label i)
   pub blocks : (b : ℕ) → b < length given.function.blocks.items → HasLabel lines (starts b) (given.first_block + b)
   pub only : (k l : ℕ) → HasLabel lines k l → ((k ≡ 0) × (l ≡ entry_label i)) ⊎ ((b : ℕ) × (b < length given.function.blocks.items) × (k ≡ starts b) × (l ≡ given.first_block + b))
-  pub targets : (k l : ℕ) (line : CodeLine) → slice_get lines k ≡ Some line → line.target ≡ Some l → LeadsTo given line l
+  pub targets : (k l : ℕ) (line : CodeLine) → slice_get lines k ≡ Some line → line.target ≡ Some l → LeadsTo given lines line l
   pub words : ((b : ℕ) (block : Block) → slice_get given.function.blocks.items b ≡ Some block → CutsApart block.lines.items) → length lines ≤ placed_cost given.function

@@ -1,26 +1,29 @@
-ghost use Rattle.std.specs.Prelude.{◌≡◌, ◌<◌, ◌++◌, OnOk};
+ghost use Rattle.std.specs.Prelude.{◌≡◌, ◌<◌, ◌++◌, OnOk, IfOk, IfSome};
 ghost use Rattle.im_num.specs.Kinds as kinds;
 ghost use Rattle.im_rv.specs.declared.format.Format.TheVariants.{Register};
 ghost use Rattle.im_rv.specs.Formats.{format_of};
 ghost use Rattle.im_rv.specs.Lines.{code_lines};
 ghost use Rattle.im_select_operators.specs.Tables as tables;
 ghost use Rattle.im_select_operators.specs.Tables.{operation, less_op};
-ghost use Rattle.im_select.specs.Emitted.{moved_code, converted_code, shifted_code, unary_code, not_code, computed_code, less_code, not_less_code, compared_code, pointer_code, distance_code};
+ghost use Rattle.im_select.specs.Emitted.{copied_code, converted_code, shifted_code, shift_of, shifts_code, scaled_code, scaled_register, unary_code, not_code, computed_code, less_code, not_less_code, compared_code, pointer_code, distance_code};
 
 use crate::push::{on_registers, push, with_immediate};
 use crate::words::{push_constant, register};
 use im_num::{Kind, NoMemory};
-use im_rv::assembler::{addi, div, mul, slli, sltiu, sltu, srai, srli, sub, xori};
+use im_rv::assembler::{addi, andi, div, mul, slli, sltiu, sltu, srai, srli, sub, xori};
 use im_rv::{Line, Op};
 use im_store::{BinaryOp, Comparison, UnaryOp};
 
-/// Copies a register.
+/// Copies a register; to itself by no line.
 pub(crate) fn push_copy(lines: &mut Vec<Line>, to: u32, from: u32) -> Result<(), NoMemory>
     requires to { to < 32 }
     requires from { from < 32 }
     ensures { OnOk result (code_lines lines.new.items
-        ≡ code_lines lines.old.items ++ moved_code to from) }
+        ≡ code_lines lines.old.items ++ copied_code to from) }
 {
+    if to == from {
+        return Ok(());
+    }
     push(lines, addi(register(to), register(from), 0))
 }
 
@@ -61,7 +64,7 @@ pub(crate) fn push_converted(
 {
     match kind {
         Kind::I8 => push_narrowed(lines, to, 24, true, from),
-        Kind::U8 => push_narrowed(lines, to, 24, false, from),
+        Kind::U8 => push(lines, andi(register(to), register(from), 255)),
         Kind::I16 => push_narrowed(lines, to, 16, true, from),
         Kind::U16 => push_narrowed(lines, to, 16, false, from),
         Kind::I32 | Kind::U32 | Kind::Ptr => push_copy(lines, to, from),
@@ -229,6 +232,49 @@ pub(crate) fn push_compared(
     }
 }
 
+/// The bits by which a shift multiplies by `size`, if that is a power of two from 2 to 2^20.
+fn shift_of(size: u32) -> Option<u32>
+    ensures value { result ≡ shift_of size }
+    ensures few { IfSome result (λ bits. bits < 32) }
+{
+    for bits in (1..21).rev() {
+        if size == 1 << bits {
+            return Some(bits);
+        }
+    }
+    None
+}
+
+/// A number of elements of `size` bytes, more than one, comes into x5 as a number of bytes.
+fn push_multiplied(lines: &mut Vec<Line>, size: u32, by: u8) -> Result<(), NoMemory>
+    requires { by < 32 }
+    ensures { OnOk result (code_lines lines.new.items
+        ≡ code_lines lines.old.items ++ shifts_code (shift_of size) size by) }
+{
+    match shift_of(size) {
+        Some(bits) => push(lines, slli(5, by, bits as i32)),
+        None => {
+            push_constant(lines, 5, size)?;
+            push(lines, mul(5, 5, by))
+        }
+    }
+}
+
+/// A number of elements of `size` bytes as a number of bytes: the register that has it, `by` itself
+/// or x5.
+fn push_scaled(lines: &mut Vec<Line>, size: u32, by: u8) -> Result<u8, NoMemory>
+    requires { by < 32 }
+    ensures grows { OnOk result (code_lines lines.new.items
+        ≡ code_lines lines.old.items ++ scaled_code size by) }
+    ensures gives { IfOk result (λ register. register ≡ scaled_register size by) }
+{
+    if size == 1 {
+        return Ok(by);
+    }
+    push_multiplied(lines, size, by)?;
+    Ok(5)
+}
+
 /// A pointer moved by elements of `size` bytes (C11 6.5.6); x5 is used.
 pub(crate) fn push_moved(
     lines: &mut Vec<Line>,
@@ -245,11 +291,10 @@ pub(crate) fn push_moved(
         ≡ code_lines lines.old.items ++ pointer_code to size back pointer by) }
 {
     let step = if back { Op::Sub } else { Op::Add };
-    push_constant(lines, 5, size)?;
-    push(lines, mul(5, 5, register(by)))?;
+    let scaled = push_scaled(lines, size, register(by))?;
     push(
         lines,
-        on_registers(step, register(to), register(pointer), 5),
+        on_registers(step, register(to), register(pointer), scaled),
     )
 }
 

@@ -3,14 +3,17 @@
 
 mod blocks;
 mod computing;
+mod distance;
 mod lines;
 mod memory;
 mod names;
+mod order;
 mod push;
 mod selection;
 #[cfg(test)]
 mod tests;
 mod words;
 
+pub use distance::Distance;
 pub use names::Names;
 pub use selection::select;

@@ -5,7 +5,7 @@ ghost use Rattle.im_select_operators.specs.Tables.{load_op, store_op};
 ghost use Rattle.im_rv.specs.Lines.{code_lines};
 ghost use Rattle.im_store.specs.Objects.{Slot};
 ghost use Rattle.im_alloc_placed.specs.Operands.{IsHome, PlaceAtHome, PlaceExists};
-ghost use Rattle.im_select.specs.Emitted.{static_code, place_code, place_base, place_number, address_code, fetch_code, keep_code, reload_code, spill_code};
+ghost use Rattle.im_select.specs.Emitted.{static_code, place_code, place_base, place_number, based_code, address_code, fetch_code, keep_code, reload_code, spill_code};
 ghost use Rattle.im_select.specs.Given.{given};
 ghost use Rattle.im_select.specs.Places.{at_of, HasPlaces, IsDisplaced};
 
@@ -51,7 +51,22 @@ fn push_place(lines: &mut Vec<Line>, names: &Names, place: Place) -> Result<Disp
     }
 }
 
-/// The address of a place comes into a register.
+/// The address of a place comes into a register, as that of a load or store and its offset.
+fn push_based(lines: &mut Vec<Line>, names: &Names, to: u32, place: Place) -> Result<(), NoMemory>
+    requires to { IsHome to }
+    requires places { HasPlaces (given names.now) }
+    requires there { PlaceExists (length names.now.statics.now) names.now.function.now place }
+    requires home { PlaceAtHome place }
+    ensures { OnOk result (code_lines lines.new.items
+        ≡ code_lines lines.old.items
+        ++ based_code to place (place_number (at_of (given names.now)) place)) }
+{
+    let at = push_place(lines, names, place)?;
+    push(lines, addi(register(to), at.base, at.low))
+}
+
+/// The address of a place comes into a register: by one line, where it is a static's and a multiple
+/// of 4096.
 pub(crate) fn push_address(
     lines: &mut Vec<Line>,
     names: &Names,
@@ -66,8 +81,13 @@ pub(crate) fn push_address(
         ≡ code_lines lines.old.items
         ++ address_code to place (place_number (at_of (given names.now)) place)) }
 {
-    let at = push_place(lines, names, place)?;
-    push(lines, addi(register(to), at.base, at.low))
+    if let Place::Static { object, offset } = place {
+        let address = static_place(names, object) + offset;
+        if address % 4096 == 0 {
+            return push(lines, lui(register(to), high_part(address)));
+        }
+    }
+    push_based(lines, names, to, place)
 }
 
 /// The load of a cell.

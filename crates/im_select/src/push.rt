@@ -46,6 +46,17 @@ pub(crate) fn push_jump(lines: &mut Vec<Line>, rd: u8, label: u32) -> Result<(),
     Ok(())
 }
 
+/// Adds a branch to a label.
+pub(crate) fn push_aimed(lines: &mut Vec<Line>, instr: Instr, label: u32) -> Result<(), NoMemory>
+    ensures { OnOk result (code_lines lines.new.items
+        ≡ code_lines lines.old.items ++ aimed label (line_of instr) ∷ []) }
+{
+    let mut line = plain(instr);
+    line.target = Some(label);
+    lines.push(line)?;
+    Ok(())
+}
+
 /// Adds a cut, by the entry of the checkpoint, which is the last register that it saves.
 pub(crate) fn push_cut(lines: &mut Vec<Line>, cause: Cause, entry: u32) -> Result<(), NoMemory>
     ensures { OnOk result (code_lines lines.new.items

@@ -1,86 +1,90 @@
-ghost use Rattle.std.specs.Prelude.{◌≡◌, ◌<◌, ◌+◌, ◌++◌, length, OnOk, IfOk, All};
+ghost use Rattle.std.specs.Prelude.{◌≡◌, ◌<◌, ◌++◌, length, OnOk, IfOk, All};
 ghost use Rattle.im_rv.specs.Lines.{code_lines};
 ghost use Rattle.im_live.specs.Words.{starts_have};
-ghost use Rattle.im_live.specs.Entries.{entries};
-ghost use Rattle.im_select.specs.Emitted.{prologue_code, blocks_code, function_code};
-ghost use Rattle.im_select.specs.Given.{given};
-ghost use Rattle.im_select.specs.Places.{at_of, HasPlaces};
-ghost use Rattle.im_select.specs.Selects.{IsClosedBlock, IsSelectable, IsFunctionCode, IsSelection};
 ghost use Rattle.im_alloc_placed.specs.Placed.{IsPlacedBlock};
+ghost use Rattle.im_select.specs.Emitted.{laid_order, laid_code, function_code};
+ghost use Rattle.im_select.specs.Given.{given};
+ghost use Rattle.im_select.specs.Places.{HasPlaces};
+ghost use Rattle.im_select.specs.Selects.{laying_of, IsClosedBlock, IsSelectable, IsFunctionCode, IsSelection};
 
 use crate::blocks::{block_lines, label_first, push_prologue};
+use crate::distance::Distance;
 use crate::names::Names;
+use crate::order::{label_behind, laid_order};
 use im_live::starts;
 use im_num::NoMemory;
 use im_rtlib::FIRST_FREE;
 use im_rv::Line;
 use std::alloc::Global;
 
-/// The lines of a function up to its first block.
-fn push_entry(lines: &mut Vec<Line>, names: &Names) -> Result<(), NoMemory>
-    requires places { HasPlaces (given names.now) }
-    requires entry { names.now.function.now.entry < length names.now.function.now.blocks.items }
-    ensures { OnOk result (code_lines lines.new.items ≡ code_lines lines.old.items
-        ++ prologue_code names.now.layout.now.frame
-        (names.now.first_block + names.now.function.now.entry)) }
-{
-    push_prologue(
-        lines,
-        names.layout.frame,
-        names.first_block + names.function.entry,
-    )
-}
+/// The most lines of a function in which a branch reaches every label: 4092 bytes of the 4094 that
+/// its offset allows (RISC-V Unprivileged ISA, 2.5).
+const NEAR_LINES: usize = 1023;
 
-/// The lines of all blocks, by the registers that live at their starts.
+/// The lines of blocks in an order, by the registers that live at their starts.
 fn push_blocks(
     alloc: Global,
     lines: &mut Vec<Line>,
     names: &Names,
     live: &[u32],
+    order: &[u32],
+    distance: Distance,
 ) -> Result<(), NoMemory>
     requires enough { length live.now ≡ length names.now.function.now.blocks.items }
+    requires there { All (λ b. b < length names.now.function.now.blocks.items) order.now }
     requires places { HasPlaces (given names.now) }
     requires placed { All (IsPlacedBlock (length names.now.statics.now) names.now.function.now)
         names.now.function.now.blocks.items }
     requires closed { All (IsClosedBlock (given names.now)) names.now.function.now.blocks.items }
     ensures { OnOk result (code_lines lines.new.items ≡ code_lines lines.old.items
-        ++ blocks_code (at_of (given names.now))
-        (entries (starts_have live.now) names.now.function.now.blocks.items)
-        names.now.first_block names.now.layout.now.frame 0
-        names.now.function.now.blocks.items) }
+        ++ laid_code (laying_of (given names.now) (starts_have live.now) distance) order.now) }
 {
-    for b in 0..names.function.blocks.len() {
-        let block = block_lines(alloc, names, live, b as u32, &names.function.blocks[b])?;
+    for place in 0..order.len() {
+        let next = label_behind(names.first_block, order, place);
+        let block = block_lines(alloc, names, live, distance, next, order[place])?;
         lines.extend_from_slice(&block)?;
     }
     Ok(())
 }
 
 /// All lines of a function, by the registers that live at the starts of its blocks.
-fn lines_by(alloc: Global, names: &Names, number: u32, live: &[u32]) -> Result<Vec<Line>, NoMemory>
+fn lines_by(
+    alloc: Global,
+    names: &Names,
+    number: u32,
+    live: &[u32],
+    order: &[u32],
+    distance: Distance,
+) -> Result<Vec<Line>, NoMemory>
     requires selectable { IsSelectable (given names.now) number }
     requires enough { length live.now ≡ length names.now.function.now.blocks.items }
-    ensures { IfOk result (λ lines. code_lines lines.items
-        ≡ function_code (at_of (given names.now))
-        (entries (starts_have live.now) names.now.function.now.blocks.items)
-        number names.now.first_block
-        names.now.layout.now.frame
-        names.now.function.now.entry names.now.function.now.blocks.items) }
+    requires order { order.now ≡ laid_order names.now.function.now.entry
+        (length names.now.function.now.blocks.items) }
+    ensures { IfOk result (λ lines. code_lines lines.items ≡ function_code number
+        (laying_of (given names.now) (starts_have live.now) distance)) }
 {
     let mut lines = Vec::new(alloc);
-    push_entry(&mut lines, names)?;
+    push_prologue(&mut lines, names.layout.frame)?;
     label_first(&mut lines, FIRST_FREE + number);
-    push_blocks(alloc, &mut lines, names, live)?;
+    push_blocks(alloc, &mut lines, names, live, order, distance)?;
     Ok(lines)
 }
 
-/// All lines of a function.
+/// All lines of a function: with near branches, unless it has too many lines so.
 fn function_lines(alloc: Global, names: &Names, number: u32) -> Result<Vec<Line>, NoMemory>
     requires { IsSelectable (given names.now) number }
-    ensures { IfOk result (λ lines. IsFunctionCode (given names.now) number (code_lines lines.items)) }
+    ensures { IfOk result
+        (λ lines. IsFunctionCode (given names.now) number (code_lines lines.items)) }
 {
-    let live = starts(alloc, names.function)?;
-    let lines = lines_by(alloc, names, number, &live)?;
+    let function = names.function;
+    let live = starts(alloc, function)?;
+    let order = laid_order(alloc, function.entry, function.blocks.len() as u32)?;
+    let lines = lines_by(alloc, names, number, &live, &order, Distance::Near)?;
+    if lines.len() <= NEAR_LINES {
+        return Ok(lines);
+    }
+    drop(lines);
+    let lines = lines_by(alloc, names, number, &live, &order, Distance::Far)?;
     Ok(lines)
 }
 

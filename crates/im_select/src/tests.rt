@@ -184,3 +184,56 @@ fn lines_are_those_of_the_assembler(rt: HostRuntime) -> Result<(), Fail> {
     }
     Ok(())
 }
+
+// By the manual's formats: `andi`, `slli` and `add`, `sub`, `lui`; a copy to itself is no line.
+const SHORT_WORDS: [u32; 5] = [0x0ff57693, 0x00261293, 0x005587b3, 0x40c587b3, 0x001008b7];
+
+#[test]
+fn short_lines_are_those_of_the_manual(rt: HostRuntime) -> Result<(), Fail> {
+    let function = sample(rt.alloc())?;
+    let layout = lay_out(rt.alloc(), &function)?;
+    let names = Names {
+        statics: &[0x100000],
+        functions: 1,
+        function: &function,
+        layout: &layout,
+        first_block: 65,
+    };
+    let (a, b) = (10, 11);
+    let placed = [
+        Line::Copy { to: a, from: a },
+        Line::Convert {
+            to: 13,
+            kind: Kind::U8,
+            from: a,
+        },
+        Line::Move {
+            to: 15,
+            size: 4,
+            back: false,
+            pointer: b,
+            by: 12,
+        },
+        Line::Move {
+            to: 15,
+            size: 1,
+            back: true,
+            pointer: b,
+            by: 12,
+        },
+        Line::Address {
+            to: 17,
+            place: Place::Static {
+                object: 0,
+                offset: 0,
+            },
+        },
+    ];
+    let mut lines = Vec::new(rt.alloc());
+    push_lines(&mut lines, &names, &[0, 0, 0, 0, 0, 0], &placed)?;
+    assert_eq!(rt; lines.len(), SHORT_WORDS.len());
+    for (line, word) in lines.iter().zip(&SHORT_WORDS) {
+        assert_eq!(rt; encode(line.instr), *word);
+    }
+    Ok(())
+}

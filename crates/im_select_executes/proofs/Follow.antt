@@ -234,7 +234,7 @@ module _ (keeps : SelectKeeps) (written : WrittenLaw) (survives : SurvivesLaw) (
     steps = steps p;
     cuts = cuts p;
     around = 15;
-    few_steps = few_steps p within.longest u (length image.words) code.apart within.words;
+    few_steps = few_steps p within.longest u (length image.words) within.words;
     few_cuts = few_cuts p u (length image.words) within.flips within.words;
     follows = follows;
   }

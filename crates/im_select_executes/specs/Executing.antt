@@ -1,5 +1,5 @@
 -- What an image owes beside the law of selection, for the device's run to follow its placed code.
-use Rattle.std.specs.Prelude.{◌≡◌, ℕ, ◌+◌, ◌≤◌, Bool, List, length, ℤ}
+use Rattle.std.specs.Prelude.{◌≡◌, ℕ, ◌+◌, ◌≤◌, Bool, if◌then◌else◌, List, length, max, ℤ}
 use Rattle.im_num.specs.Variables.{Variable}
 use Rattle.im_rv.specs.Steps.{Cpu}
 use Rattle.im_image.specs.Contents.{ImageValue}
@@ -16,7 +16,7 @@ use Rattle.im_block.specs.Meaning.{Setting, statics_of}
 use Rattle.im_block.specs.Shape.{Weights, sum_of}
 use Rattle.im_select_relation.specs.Linking.{Linking}
 use Rattle.im_select_relation.specs.Linked.{IsLinked}
-use Rattle.im_select_relation.specs.Law.{ShowsStatics}
+use Rattle.im_select_relation.specs.Law.{is_nothing, ShowsStatics}
 use Rattle.im_keeps_run.specs.Laws.{run_of}
 use Rattle.im_keeps_written.specs.Written.{IsWritten}
 use Rattle.im_saved.specs.Liveness.{IsLiveness, EntersByCuts}
@@ -25,9 +25,12 @@ use Rattle.im_saved.specs.Liveness.{IsLiveness, EntersByCuts}
 abbrev pub first_cpu : ImageValue → List ℕ → Cpu
 first_cpu image input = (run_of image input 0).cpu
 
--- each line and exit has a word at least, and each entry
+-- each line has a word at least, unless it is nothing, and so have each block and each entry
+abbrev pub line_words : Line → ℕ
+line_words line = if is_nothing line then 0 else 1
+
 abbrev pub block_words : Block → ℕ
-block_words b = 1 + length b.lines.items
+block_words b = max 1 (sum_of line_words b.lines.items)
 
 abbrev pub function_words : Function → ℕ
 function_words f = 1 + sum_of block_words f.blocks.items

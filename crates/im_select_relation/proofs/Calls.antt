@@ -41,17 +41,17 @@ use Rattle.im_select_relation.proofs.Checks.{found_fine, fine_is}
 use Rattle.im_select_relation.proofs.Cells.{Memory, write_fixed, write_words, heard_load, heard_store}
 use Rattle.im_select_relation.proofs.Shapes.{Premises, StaticsLive, shows_statics}
 use Rattle.im_select_relation.proofs.Relation.{SlotsShaped, Ordered, link_of, AllLinked, Back, Chain, Rel, Advanced, Finished, After, checked_after, takes_after, SameLinks, chain_kept, link_place}
-use Rattle.im_select_relation.proofs.Ends.{ends, told, Added, adds, regs_still, Jumped, jumps, Passed, has_room, no_room}
+use Rattle.im_select_relation.proofs.Ends.{ends, told, Added, adds, regs_still, Continued, continues, Passed, has_room, no_room}
 
-cond_after : (p : Linking) (u : Code) (g : Setting) (words : ℕ) (c : Cpu) (m : Mem) (b : Bool) (one other : Next) → (b ≡ true → After p u g words c m one) → (b ≡ false → After p u g words c m other) → After p u g words c m (cond b one other)
-cond_after p u g words c m true one other h k = h refl
-cond_after p u g words c m false one other h k = k refl
+cond_after : (p : Linking) (u : Code) (g : Setting) (fuel words : ℕ) (c : Cpu) (m : Mem) (b : Bool) (one other : Next) → (b ≡ true → After p u g fuel words c m one) → (b ≡ false → After p u g fuel words c m other) → After p u g fuel words c m (cond b one other)
+cond_after p u g fuel words c m true one other h k = h refl
+cond_after p u g fuel words c m false one other h k = k refl
 
--- a step before, that touches nothing
-pub first_after : (p : Linking) (u : Code) (g : Setting) (words : ℕ) (c d : Cpu) (m : Mem) (next : Next) → Reach 1 [] c m d m → After p u g words d m next → After p u g (words + 1) c m next
-first_after p u g words c d m (Goes s events) reach a = record {
+-- a step before, that touches nothing, for which a unit of fuel may have gone
+pub first_after : (p : Linking) (u : Code) (g : Setting) (fuel more words : ℕ) (c d : Cpu) (m : Mem) (next : Next) → more ≤ fuel + 1 → Reach 1 [] c m d m → After p u g fuel words d m next → After p u g more (words + 1) c m next
+first_after p u g fuel more words c d m (Goes s events) le reach a = record {
   n = plus 1 a.n;
-  some = omega arith;
+  worth = (let z = a.worth in omega arith);
   few = (let z = a.few in omega arith);
   d = a.d;
   k = a.k;
@@ -61,7 +61,7 @@ first_after p u g words c d m (Goes s events) reach a = record {
   reach = join 1 a.n [] a.ts c d a.d m m a.k reach a.reach;
   rel = a.rel;
 }
-first_after p u g words c d m (Stops (End reason status output shows) events) reach a = record {
+first_after p u g fuel more words c d m (Stops (End reason status output shows) events) le reach a = record {
   n = plus 1 a.n;
   some = omega arith;
   few = (let z = a.few in omega arith);
@@ -75,8 +75,8 @@ first_after p u g words c d m (Stops (End reason status output shows) events) re
   output_is = a.output_is;
   statics = a.statics;
 }
-first_after p u g words c d m (Stops (More output) events) reach a = a
-first_after p u g words c d m (Stops (Undef why) events) reach a = tt
+first_after p u g fuel more words c d m (Stops (More output) events) le reach a = a
+first_after p u g fuel more words c d m (Stops (Undef why) events) le reach a = tt
 
 pub word_even : (pc : ℕ) → is_place pc 4 ≡ true → pc % 4 ≡ 0
 word_even pc h = grind (arith, nat_tests)
@@ -271,7 +271,7 @@ entered i active fuel registers ws s f block = record {
 frame_place : (depth : ℕ) → depth % 4 ≡ 0 → is_place (pointer_at depth) 4 ≡ true
 frame_place depth a = let e : pointer_at depth % 4 ≡ 0 = omega arith in let f : pointer_at depth + 4 ≤ 5242880 = omega arith in grind (arith, nat_tests)
 
-enter_begun : (p : Linking) (u : Code) (g : Setting) → Premises p u g → (s : State) (i depth fuel ra first count : ℕ) (registers : ℕ → Value) (ws : List Frame) (m : Mem) (x : ℕ → ℕ) (f : Function) (block : Block) (pro : Prologue p (p.entry i) (frame_of g i) (p.place i f.entry)) → (first ≡ 10) ⊎ (count ≡ 0) → Fixed p.image m → Words (limit_of g) g.capacity m → shown m ≡ s.output → left m ≡ s.input → RegsMean p registers (pointer_at depth) x → x 1 ≡ ra → Memory p s.store.shape s.store.values m → Outer p u g s.store.shape m ws depth (s.begun + 1) ra → slice_get u.functions.items i ≡ Some f → FunctionAt p g i f → slice_get f.blocks.items f.entry ≡ Some block → (w : Lowered p g m (p.entry i) (pro.a + 4) x depth (frame_of g i)) → depth + frame_of g i ≤ g.stack → Reach 1 [] (record { pc = pro.a + 4; x = w.z }) m (record { pc = pro.b; x = w.z }) m → Advanced p u g 9 (record { pc = p.entry i; x = x }) m (entered i (record { number = s.begun + 1; depth = depth + frame_of g i }) fuel (passed f.first_parameter first count registers) ws s f block) (Tests ∷ Saves (record { number = s.begun + 1; depth = depth + frame_of g i }) ∷ [])
+enter_begun : (p : Linking) (u : Code) (g : Setting) → Premises p u g → (s : State) (i depth fuel ra first count : ℕ) (registers : ℕ → Value) (ws : List Frame) (m : Mem) (x : ℕ → ℕ) (f : Function) (block : Block) (pro : Prologue p (p.entry i) (frame_of g i) (p.place i f.entry)) → (first ≡ 10) ⊎ (count ≡ 0) → Fixed p.image m → Words (limit_of g) g.capacity m → shown m ≡ s.output → left m ≡ s.input → RegsMean p registers (pointer_at depth) x → x 1 ≡ ra → Memory p s.store.shape s.store.values m → Outer p u g s.store.shape m ws depth (s.begun + 1) ra → slice_get u.functions.items i ≡ Some f → FunctionAt p g i f → slice_get f.blocks.items f.entry ≡ Some block → (w : Lowered p g m (p.entry i) (pro.a + 4) x depth (frame_of g i)) → depth + frame_of g i ≤ g.stack → Reach 1 [] (record { pc = pro.a + 4; x = w.z }) m (record { pc = pro.b; x = w.z }) m → Advanced p u g fuel 9 (record { pc = p.entry i; x = x }) m (entered i (record { number = s.begun + 1; depth = depth + frame_of g i }) fuel (passed f.first_parameter first count registers) ws s f block) (Tests ∷ Saves (record { number = s.begun + 1; depth = depth + frame_of g i }) ∷ [])
 enter_begun p u g l s i depth fuel ra first count registers ws m x f block pro alike fixed words seen unread regs x1 mem outer is at found w room_ check =
     let a : ℕ = s.begun + 1 in
     let size : ℕ = frame_of g i in
@@ -287,7 +287,7 @@ enter_begun p u g l s i depth fuel ra first count registers ws m x f block pro a
     let e0 : sum_of (z2 2) 0 ≡ sp = omega arith in
     let k : Mem = written m sp (bytes_of 4 ra) in
     let fixed' : Fixed p.image k = write_fixed p.image m sp 4 ra (omega arith) fixed in
-    let j : Jumped k (pro.b + 4 + 4) z2 (p.place i f.entry) = jumps p k (pro.b + 4 + 4) z2 (p.place i f.entry) fixed' pro.jumps in
+    let j : Continued k (pro.b + 4 + 4) z2 (p.place i f.entry) = continues p k (pro.b + 4 + 4) z2 (p.place i f.entry) fixed' pro.continues in
     let o : Object = object_of active Link in
     let ea : address p o ≡ sp = link_place p (record { activation = a; depth = depth + size }) l.at.first (omega arith) in
     let even : (depth + size) % 4 ≡ 0 = (let q = outer.even in let h = at.even in omega arith) in
@@ -295,19 +295,19 @@ enter_begun p u g l s i depth fuel ra first count registers ws m x f block pro a
     let save = stores p.image m (pro.b + 4) z2 (storing Sw 2 1 0) sp 4 ra fixed pro.saved (ap (λ b. Stores b 4 (z2 1)) e0 ∙ ap (λ b. Stores sp 4 b) e1) (frame_place (depth + size) even) (output_written m sp 4 ra (omega arith) (omega arith)) (data_store (in_runtime (pro.b + 4)) sp 4 (omega arith)) in
     let save' : Reach 1 (Stored (address p o) 4 ∷ []) (record { pc = pro.b + 4; x = z2 }) m (record { pc = pro.b + 4 + 4; x = z2 }) k = subst (λ q. Reach 1 (Stored q 4 ∷ []) (record { pc = pro.b + 4; x = z2 }) m (record { pc = pro.b + 4 + 4; x = z2 }) k) (sym ea) save in
     record {
-      n = plus w.n 4;
-      some = (let q = plus_is w.n 4 in omega arith);
-      few = (let q = plus_is w.n 4 in let h = w.few in omega arith);
+      n = plus w.n (suc (suc (suc j.n)));
+      worth = omega arith;
+      few = (let q = plus_is w.n (suc (suc (suc j.n))) in let h = w.few in let e = j.few in omega arith);
       d = record { pc = p.place i f.entry; x = j.y };
       k = k;
       ts = Loaded 28 4 ∷ Stored (address p o) 4 ∷ [];
       touches = subst (λ z. Touches p (Tests ∷ Saves active ∷ []) z) (sym (heard_store (address p o) 4 (omega arith) (omega arith))) (Testing (Saves active ∷ []) _ (Saving active [] [] Nothing));
       orderly = joined (Loaded 28 4 ∷ []) (Stored (address p o) 4 ∷ []) refl (store_orderly (address p o) 4 (omega arith) (omega arith));
       reach =
-          join w.n 4 (Loaded 28 4 ∷ []) (Stored (address p o) 4 ∷ []) _ _ _ m m k w.reach
-          (join 1 3 [] (Stored (address p o) 4 ∷ []) _ _ _ m m k check
-          (join 1 2 [] (Stored (address p o) 4 ∷ []) _ _ _ m m k take_
-          (join 1 1 (Stored (address p o) 4 ∷ []) [] _ _ _ m k k save' j.reach)));
+          join w.n (suc (suc (suc j.n))) (Loaded 28 4 ∷ []) (Stored (address p o) 4 ∷ []) _ _ _ m m k w.reach
+          (join 1 (suc (suc j.n)) [] (Stored (address p o) 4 ∷ []) _ _ _ m m k check
+          (join 1 (suc j.n) [] (Stored (address p o) 4 ∷ []) _ _ _ m m k take_
+          (join 1 j.n (Stored (address p o) 4 ∷ []) [] _ _ _ m k k save' j.reach)));
       rel = record {
         fixed = fixed';
         regs = subst (λ z. RegsMean p (passed z first count registers) sp j.y) (sym at.received) (only_arguments p 10 first count registers sp j.y alike
@@ -331,9 +331,9 @@ enter_begun p u g l s i depth fuel ra first count registers ws m x f block pro a
     }
 
 -- a whole prologue
-pub enter_after : (p : Linking) (u : Code) (g : Setting) → Premises p u g → (s : State) (i fuel ra first count : ℕ) (registers : ℕ → Value) (ws : List Frame) (m : Mem) (x : ℕ → ℕ) → (first ≡ 10) ⊎ (count ≡ 0) → Fixed p.image m → Words (limit_of g) g.capacity m → shown m ≡ s.output → left m ≡ s.input → RegsMean p registers (pointer_at s.frame.active.depth) x → x 1 ≡ ra → Memory p s.store.shape s.store.values m → Outer p u g s.store.shape m ws s.frame.active.depth (s.begun + 1) ra → After p u g 9 (record { pc = p.entry i; x = x }) m (enters u g i first count registers ws fuel s)
+pub enter_after : (p : Linking) (u : Code) (g : Setting) → Premises p u g → (s : State) (i fuel ra first count : ℕ) (registers : ℕ → Value) (ws : List Frame) (m : Mem) (x : ℕ → ℕ) → (first ≡ 10) ⊎ (count ≡ 0) → Fixed p.image m → Words (limit_of g) g.capacity m → shown m ≡ s.output → left m ≡ s.input → RegsMean p registers (pointer_at s.frame.active.depth) x → x 1 ≡ ra → Memory p s.store.shape s.store.values m → Outer p u g s.store.shape m ws s.frame.active.depth (s.begun + 1) ra → After p u g fuel 9 (record { pc = p.entry i; x = x }) m (enters u g i first count registers ws fuel s)
 enter_after p u g l s i fuel ra first count registers ws m x alike fixed words seen unread regs x1 mem outer =
-    checked_after p u g 9 _ m _ _ (λ f is0.
+    checked_after p u g fuel 9 _ m _ _ (λ f is0.
     let is : slice_get u.functions.items i ≡ Some f = found_fine _ f is0 in
     let at = l.at.functions i f is in
     let pro = at.prologue in
@@ -343,9 +343,9 @@ enter_after p u g l s i fuel ra first count registers ws m x alike fixed words s
     let top = outer.top in
     let w : Lowered p g m (p.entry i) (pro.a + 4) x depth size = lower p g m (p.entry i) (p.place i f.entry) x depth size pro fixed words regs.zero_reg regs.stack at.small (omega arith) in
     let test : nat_lt (w.z 6) (w.z 5) ≡ nat_lt (pointer_at (depth + size)) (pointer_at g.stack) = ap (λ q. nat_lt q (w.z 5)) w.z6 ∙ ap (λ q. nat_lt (pointer_at (depth + size)) q) w.z5 in
-    cond_after p u g 9 _ m (nat_le (depth + size) g.stack) _ _
+    cond_after p u g fuel 9 _ m (nat_le (depth + size) g.stack) _ _
     (λ t.
-    checked_after p u g 9 _ m _ _ (λ block found0.
+    checked_after p u g fuel 9 _ m _ _ (λ block found0.
     enter_begun p u g l s i depth fuel ra first count registers ws m x f block pro alike fixed words seen unread regs x1 mem outer is at (found_fine _ block found0) w (has_room_for (depth + size) g.stack t) (has_room p m (pro.a + 4) w.z pro.b fixed (test ∙ room_yes depth size g.stack at.small top stack t) pro.checked)))
     (λ t. enter_full p u g l s m (p.entry i) (pro.a + 4) pro.b x depth size (marks ws) fixed words seen outer.live outer.mapped mem w (test ∙ room_no depth size g.stack at.small top stack t) pro.checked))
 
@@ -354,13 +354,13 @@ pub lost_by : (p : Linking) (u : Code) (g : Setting) → Premises p u g → (i :
 lost_by p u g l i f registers is = ap (λ z. kept_by z registers) is ∙ ap (λ z. kept z registers) (l.at.functions i f is).registers
 
 -- a call
-pub call_after : (p : Linking) (u : Code) (g : Setting) → Premises p u g → (s : State) (c : Cpu) (m : Mem) (r : Rel p u g s c m) (i count imm : ℕ) (rest : List Line) → sum_of c.pc imm ≡ p.entry i → Holds p.image c.pc (jumping 1 imm) → Stands p s.frame.function (frame_of g s.frame.function) (c.pc + 4) rest s.frame.spot.exit → After p u g 10 c m (does u g (Call 10 i 10 count) rest s)
+pub call_after : (p : Linking) (u : Code) (g : Setting) → Premises p u g → (s : State) (c : Cpu) (m : Mem) (r : Rel p u g s c m) (i count imm : ℕ) (rest : List Line) → sum_of c.pc imm ≡ p.entry i → Holds p.image c.pc (jumping 1 imm) → Stands p s.frame.function (frame_of g s.frame.function) (c.pc + 4) rest s.frame.spot.exit → After p u g s.fuel 10 c m (does u g (Call 10 i 10 count) rest s)
 call_after p u g l s c m r i count imm rest lands h code =
     let x : ℕ → ℕ = with_reg c.x 1 (sum_of c.pc 4) in
     let pc_low = h.low in
     let pc_even : c.pc % 4 ≡ 0 = word_even c.pc h.here in
-    takes_after p u g 10 c m s.fuel s.output _ r.output (λ less.
-    first_after p u g 9 c (record { pc = p.entry i; x = x }) m _
+    takes_after p u g s.fuel 10 c m s.output _ r.output (λ less.
+    first_after p u g less (suc less) 9 c (record { pc = p.entry i; x = x }) m _ (omega arith)
     (leaps p.image m c.pc c.x (jumping 1 imm) (sum_of c.pc 4) (p.entry i) r.fixed h (ap (Puts (sum_of c.pc 4)) lands) (no_back c.pc (jumping 1 imm) m (p.entry i) refl))
     (enter_after p u g l s i less (c.pc + 4) 10 count s.frame.registers (waiting u g s.frame 10 rest ∷ s.callers) m x (inl refl) r.fixed r.words r.output r.input
     (set_scratch p s.frame.registers (pointer_at s.frame.active.depth) c.x 1 (sum_of c.pc 4) (omega arith) (omega arith) (omega arith) r.regs)
@@ -488,7 +488,7 @@ clears p m pc x size h leaves o sp at fixed x0 x2 even top low ra_even ra_low be
     }
 
 -- back to a caller, or to the lines that end
-pub back_after : (p : Linking) (u : Code) (g : Setting) → Premises p u g → (s : State) (c : Cpu) (m : Mem) (r : Rel p u g s c m) (callers : List Frame) (v : Value) → Leaver p m c.pc c.x (frame_of g s.frame.function) v → Mapped p s.store.shape (mark s.frame ∷ marks callers) → Ordered g.stack (mark s.frame ∷ marks callers) → AllLinked s.store.shape (mark s.frame ∷ marks callers) → Chain p u g m s.frame.active.depth (frame_of g s.frame.function) callers → After p u g 7 c m (back u g callers v s)
+pub back_after : (p : Linking) (u : Code) (g : Setting) → Premises p u g → (s : State) (c : Cpu) (m : Mem) (r : Rel p u g s c m) (callers : List Frame) (v : Value) → Leaver p m c.pc c.x (frame_of g s.frame.function) v → Mapped p s.store.shape (mark s.frame ∷ marks callers) → Ordered g.stack (mark s.frame ∷ marks callers) → AllLinked s.store.shape (mark s.frame ∷ marks callers) → Chain p u g m s.frame.active.depth (frame_of g s.frame.function) callers → After p u g s.fuel 7 c m (back u g callers v s)
 back_after p u g l s c m r [] v leave mapped ordered linked chain =
     let t = l.at.told in
     let depth : ℕ = s.frame.active.depth in
@@ -498,7 +498,7 @@ back_after p u g l s c m r [] v leave mapped ordered linked chain =
     let at : address p o ≡ pointer_at depth = link_place p (mark s.frame) l.at.first linked.0 in
     let four = (l.at.functions s.frame.function r.f r.is).layout.inside Link link_shape refl in
     let b : Left p m c.pc c.x o (pointer_at depth) size v = leave o (pointer_at depth) at r.fixed r.regs.zero_reg r.regs.stack (let q = ordered.1 in let k = ordered.0 in omega arith) (let q = chain.1 in let k = ordered.0 in omega arith) (let k = ordered.0 in omega arith) (chain_even p.begin (little m (pointer_at depth) 4) chain.0 (word_even (p.begin + 4) t.here)) (let q = chain.0 in let k = t.low in omega arith) (subst (λ z. IsBehindCall p.image z) (sym chain.0) (record { at = p.begin; behind = refl; imm = l.at.call; call = l.at.begins })) in
-    checked_after p u g 7 c m _ _ (λ z f.
+    checked_after p u g s.fuel 7 c m _ _ (λ z f.
     let k : Mem = written m 4 (bytes_of 4 (b.y 10)) in
     let y10 : b.y 10 ≡ word z = number_word p v (b.y 10) z f b.result in
     let zlow : word z < 2 ^ 32 = word_small z in
@@ -534,7 +534,7 @@ back_after p u g l s c m r (w ∷ ws) v leave mapped ordered linked chain =
     let b : Left p m c.pc c.x o (pointer_at depth) size v = leave o (pointer_at depth) at r.fixed r.regs.zero_reg r.regs.stack (let q = ordered.1 in omega arith) (omega arith) (omega arith) bk.even bk.low bk.behind in
     record {
       n = b.n;
-      some = b.some;
+      worth = omega arith;
       few = (let q = b.few in omega arith);
       d = record { pc = little m (pointer_at depth) 4; x = b.y };
       k = m;

@@ -1,5 +1,5 @@
 -- The ends of runs, and lines that change the stack pointer.
-use Rattle.std.proofs.Common.{◌≡◌, ◌≢◌, ℕ, ◌+◌, ◌*◌, ◌%◌, ◌^◌, ◌<◌, ◌≤◌, inr, true, false, cond, [], ◌∷◌, ap, ◌∙◌, refl, arith}
+use Rattle.std.proofs.Common.{◌≡◌, ◌≢◌, ℕ, zero, ◌+◌, ◌*◌, ◌%◌, ◌^◌, ◌<◌, ◌≤◌, inr, Bool, true, false, cond, [], ◌∷◌, ap, ◌∙◌, subst, refl, arith}
 use Rattle.std.specs.Prelude.{◌==◌, nat_lt}
 use Rattle.std.proofs.lemmas.Bool.Decides.{nat_tests}
 use Rattle.im_num.specs.Bytes.{bytes_of}
@@ -8,16 +8,17 @@ use Rattle.im_mem.proofs.Words.{written-above, length-bytes_of}
 use Rattle.im_rv.specs.declared.instr.Op.TheVariants.{Add, Beq, Bne, Bltu, Bgeu, Sw, Addi, Ebreak}
 use Rattle.im_rv.specs.declared.effect.Effect.TheVariants.{Puts, Goes as Passes, Stores}
 use Rattle.im_rv.specs.Steps.{sum_of, with_reg}
+use Rattle.im_rv.specs.Decode.{Line as Instruction}
 use Rattle.im_rv.proofs.Straight.{same_reg, other_reg}
 use Rattle.im_store.specs.Objects.{Value}
 use Rattle.im_rv_reach.specs.Touches.{Stored}
 use Rattle.im_rv_reach.specs.Plain.{in_runtime}
 use Rattle.im_rv_reach.specs.Reach.{Reach, Stopped}
 use Rattle.im_rv_reach.specs.Instructions.{Holds, Fixed, with_immediate, on_registers, storing, upper, jumping, branching}
-use Rattle.im_rv_reach.proofs.Reach.{plus_is, join, next_pc, no_back, puts, leaps, passes, stores, halts, then_stops, output_told, low_store}
+use Rattle.im_rv_reach.proofs.Reach.{plus_is, nothing, join, next_pc, no_back, puts, leaps, passes, stores, halts, then_stops, output_told, low_store}
 use Rattle.im_rv_reach.specs.Reach.{plus}
 use Rattle.im_select_relation.specs.Linking.{Linking}
-use Rattle.im_select_relation.specs.Selected.{Constant, Small, Large, Adds, Short, Long, Jumps, Checked, Direct, Around, Tested, Reached, Hopped}
+use Rattle.im_select_relation.specs.Selected.{Constant, Small, Large, Adds, Short, Long, Jumps, Continues, Falls, Leaps, Checked, Direct, Around, Tested, Reached, Missed, Hopped, Skipped}
 use Rattle.im_select_relation.proofs.Registers.{RegsMean, means_at}
 use Rattle.im_select_relation.proofs.Cells.{little_back}
 
@@ -132,6 +133,26 @@ jumps p m pc x target fixed j = record {
   kept = none_set x (sum_of pc 4);
 }
 
+-- on to a place, by a jump or by no step
+pub record Continued (m : Mem) (pc : ℕ) (x : ℕ → ℕ) (target : ℕ) : Type 0 where
+  pub n : ℕ
+  pub few : n ≤ 1
+  pub y : ℕ → ℕ
+  pub reach : Reach n [] (record { pc = pc; x = x }) m (record { pc = target; x = y }) m
+  pub kept : (i : ℕ) → y i ≡ x i
+
+pub continues : (p : Linking) (m : Mem) (pc : ℕ) (x : ℕ → ℕ) (target : ℕ) → Fixed p.image m → Continues p pc target → Continued m pc x target
+continues p m pc x target fixed (Falls e) = record {
+  n = zero;
+  few = omega arith;
+  y = x;
+  reach = subst (λ q. Reach zero [] (record { pc = pc; x = x }) m (record { pc = q; x = x }) m) e (nothing (record { pc = pc; x = x }) m);
+  kept = λ i. refl;
+}
+continues p m pc x target fixed (Leaps j) =
+    let k = jumps p m pc x target fixed j in
+    record { n = 1; few = omega arith; y = k.y; reach = k.reach; kept = k.kept }
+
 -- the test of the stack passes
 pub record Passed (m : Mem) (pc : ℕ) (x : ℕ → ℕ) (target : ℕ) : Type 0 where
   pub n : ℕ
@@ -167,50 +188,55 @@ no_room p m pc x next fixed t (Around h j) =
       kept = k.kept;
     }
 
--- a test of a register against zero
-pub tested_yes : (p : Linking) (m : Mem) (pc : ℕ) (x : ℕ → ℕ) (on there no_ : ℕ) → Fixed p.image m → x 0 ≡ 0 → x on ≢ 0 → Tested p pc on there no_ → Passed m pc x there
-tested_yes p m pc x on there no_ fixed x0 ne (Reached imm lands h j) =
-    let t : (x on == x 0) ≡ false = grind (arith, nat_tests) in
+-- one step that passes on, and from there to the place
+onward : (p : Linking) (m : Mem) (pc mid : ℕ) (x : ℕ → ℕ) (target : ℕ) → Fixed p.image m → Reach 1 [] (record { pc = pc; x = x }) m (record { pc = mid; x = x }) m → Continues p mid target → Passed m pc x target
+onward p m pc mid x target fixed reach c =
+    let k = continues p m mid x target fixed c in
     record {
-      n = 1;
+      n = plus 1 k.n;
       some = omega arith;
-      few = omega arith;
-      y = x;
-      reach = passes p.image m pc x (branching Bne on 0 imm) there fixed h (ap (λ b. Passes (cond b (sum_of pc 4) (sum_of pc imm))) t ∙ ap Passes lands);
-      kept = λ i. refl;
-    }
-tested_yes p m pc x on there no_ fixed x0 ne (Hopped h j k) =
-    let t : (x on == x 0) ≡ false = grind (arith, nat_tests) in
-    let q = jumps p m (pc + 4) x there fixed j in
-    record {
-      n = 2;
-      some = omega arith;
-      few = omega arith;
-      y = q.y;
-      reach = join 1 1 [] [] _ _ _ m m m (passes p.image m pc x (branching Beq on 0 8) (pc + 4) fixed h (ap (λ b. Passes (cond b (sum_of pc 8) (sum_of pc 4))) t ∙ ap Passes (next_pc p.image pc (branching Beq on 0 8) h))) q.reach;
-      kept = q.kept;
+      few = (let z = k.few in omega arith);
+      y = k.y;
+      reach = join 1 k.n [] [] _ _ _ m m m reach k.reach;
+      kept = k.kept;
     }
 
-pub tested_no : (p : Linking) (m : Mem) (pc : ℕ) (x : ℕ → ℕ) (on there no_ : ℕ) → Fixed p.image m → x 0 ≡ 0 → x on ≡ 0 → Tested p pc on there no_ → Passed m pc x no_
-tested_no p m pc x on there no_ fixed x0 e (Reached imm lands h j) =
-    let t : (x on == x 0) ≡ true = grind (arith, nat_tests) in
-    let q = jumps p m (pc + 4) x no_ fixed j in
-    record {
-      n = 2;
-      some = omega arith;
-      few = omega arith;
-      y = q.y;
-      reach = join 1 1 [] [] _ _ _ m m m (passes p.image m pc x (branching Bne on 0 imm) (pc + 4) fixed h (ap (λ b. Passes (cond b (sum_of pc 4) (sum_of pc imm))) t ∙ ap Passes (next_pc p.image pc (branching Bne on 0 imm) h))) q.reach;
-      kept = q.kept;
-    }
-tested_no p m pc x on there no_ fixed x0 e (Hopped h j k) =
-    let t : (x on == x 0) ≡ true = grind (arith, nat_tests) in
-    let q = jumps p m (pc + 8) x no_ fixed k in
-    record {
-      n = 2;
-      some = omega arith;
-      few = omega arith;
-      y = q.y;
-      reach = join 1 1 [] [] _ _ _ m m m (passes p.image m pc x (branching Beq on 0 8) (pc + 8) fixed h (ap (λ b. Passes (cond b (sum_of pc 8) (sum_of pc 4))) t ∙ ap Passes (let l = h.low in omega arith))) q.reach;
-      kept = q.kept;
-    }
+-- a branch that is taken, and one that isn't
+taken : (m : Mem) (pc : ℕ) (x : ℕ → ℕ) (target : ℕ) → Reach 1 [] (record { pc = pc; x = x }) m (record { pc = target; x = x }) m → Passed m pc x target
+taken m pc x target reach = record { n = 1; some = omega arith; few = omega arith; y = x; reach = reach; kept = λ i. refl }
+
+-- whether a register is other than 0 decides a branch by it
+unequal_to : (p : Linking) (m : Mem) (pc : ℕ) (x : ℕ → ℕ) (on imm to : ℕ) (t : Bool) → Fixed p.image m → (x on == x 0) ≡ t → Holds p.image pc (branching Bne on 0 imm) → cond t (sum_of pc 4) (sum_of pc imm) ≡ to → Reach 1 [] (record { pc = pc; x = x }) m (record { pc = to; x = x }) m
+unequal_to p m pc x on imm to t fixed e h lands = passes p.image m pc x (branching Bne on 0 imm) to fixed h (ap (λ b. Passes (cond b (sum_of pc 4) (sum_of pc imm))) e ∙ ap Passes lands)
+
+equal_to : (p : Linking) (m : Mem) (pc : ℕ) (x : ℕ → ℕ) (on imm to : ℕ) (t : Bool) → Fixed p.image m → (x on == x 0) ≡ t → Holds p.image pc (branching Beq on 0 imm) → cond t (sum_of pc imm) (sum_of pc 4) ≡ to → Reach 1 [] (record { pc = pc; x = x }) m (record { pc = to; x = x }) m
+equal_to p m pc x on imm to t fixed e h lands = passes p.image m pc x (branching Beq on 0 imm) to fixed h (ap (λ b. Passes (cond b (sum_of pc imm) (sum_of pc 4))) e ∙ ap Passes lands)
+
+-- over one instruction
+over_one : (image : Mem) (pc : ℕ) (l : Instruction) → Holds image pc l → sum_of pc 8 ≡ pc + 8
+over_one image pc l h = let z = h.low in omega arith
+
+-- a test of a register against zero
+pub tested_yes : (p : Linking) (m : Mem) (pc : ℕ) (x : ℕ → ℕ) (on there other : ℕ) → Fixed p.image m → x 0 ≡ 0 → x on ≢ 0 → Tested p pc on there other → Passed m pc x there
+tested_yes p m pc x on there other fixed x0 ne t = by t
+  where
+    e : (x on == x 0) ≡ false
+    e = grind (arith, nat_tests)
+
+    by : Tested p pc on there other → Passed m pc x there
+    by (Reached imm lands h k) = taken m pc x there (unequal_to p m pc x on imm there false fixed e h lands)
+    by (Missed imm lands h k) = onward p m pc (pc + 4) x there fixed (equal_to p m pc x on imm (pc + 4) false fixed e h (next_pc p.image pc (branching Beq on 0 imm) h)) k
+    by (Hopped h j k) = onward p m pc (pc + 4) x there fixed (equal_to p m pc x on 8 (pc + 4) false fixed e h (next_pc p.image pc (branching Beq on 0 8) h)) (Leaps j)
+    by (Skipped h j k) = onward p m pc (pc + 8) x there fixed (unequal_to p m pc x on 8 (pc + 8) false fixed e h (over_one p.image pc (branching Bne on 0 8) h)) k
+
+pub tested_no : (p : Linking) (m : Mem) (pc : ℕ) (x : ℕ → ℕ) (on there other : ℕ) → Fixed p.image m → x 0 ≡ 0 → x on ≡ 0 → Tested p pc on there other → Passed m pc x other
+tested_no p m pc x on there other fixed x0 zero_ t = by t
+  where
+    e : (x on == x 0) ≡ true
+    e = grind (arith, nat_tests)
+
+    by : Tested p pc on there other → Passed m pc x other
+    by (Reached imm lands h k) = onward p m pc (pc + 4) x other fixed (unequal_to p m pc x on imm (pc + 4) true fixed e h (next_pc p.image pc (branching Bne on 0 imm) h)) k
+    by (Missed imm lands h k) = taken m pc x other (equal_to p m pc x on imm other true fixed e h lands)
+    by (Hopped h j k) = onward p m pc (pc + 8) x other fixed (equal_to p m pc x on 8 (pc + 8) true fixed e h (over_one p.image pc (branching Beq on 0 8) h)) k
+    by (Skipped h j k) = onward p m pc (pc + 4) x other fixed (unequal_to p m pc x on 8 (pc + 4) true fixed e h (next_pc p.image pc (branching Bne on 0 8) h)) (Leaps j)

@@ -1,5 +1,5 @@
--- A step takes one unit of fuel at most, and more is wanted only where none is left.
-use Rattle.std.proofs.Common.{◌≡◌, ℕ, zero, suc, ◌+◌, ◌≤◌, Bool, true, false, cond, List, [], ◌∷◌, refl, arith}
+-- More fuel is wanted only where none is left.
+use Rattle.std.proofs.Common.{◌≡◌, ℕ, zero, suc, Bool, true, false, cond, List, [], ◌∷◌, refl}
 use Rattle.std.specs.Prelude.{slice_get, nat_le, nat_lt, length}
 use Rattle.im_store.specs.Checks.{Checked, Fine, Bad}
 use Rattle.im_store.specs.Objects.{Value, Unset}
@@ -15,7 +15,7 @@ use Rattle.im_block.specs.Meaning.{Setting, Site, Found, Left, Frame, State, Nex
 use Rattle.im_block.specs.Runs.{before, start}
 
 abbrev pub Paid : ℕ → Next → Type 0
-Paid fuel (Goes s events) = fuel ≤ s.fuel + 1
+Paid fuel (Goes s events) = Unit {0}
 Paid fuel (Stops (End reason status output shows) events) = Unit {0}
 Paid fuel (Stops (More output) events) = fuel ≡ 0
 Paid fuel (Stops (Undef why) events) = Unit {0}
@@ -24,39 +24,39 @@ checked_paid : {A : Type 0} (n : ℕ) (o : Checked A) (go : A → Next) → ((a 
 checked_paid n (Fine a) go h = h a
 checked_paid n (Bad why) go h = tt
 
-takes_paid : (n : ℕ) (output : List ℕ) (go : ℕ → Next) → ((less : ℕ) → n ≡ suc less → Paid n (go less)) → Paid n (takes n output go)
+takes_paid : (n : ℕ) (output : List ℕ) (go : ℕ → Next) → ((less : ℕ) → Paid n (go less)) → Paid n (takes n output go)
 takes_paid zero output go h = refl
-takes_paid (suc less) output go h = h less refl
+takes_paid (suc less) output go h = h less
 
 cond_paid : (n : ℕ) (b : Bool) (x y : Next) → Paid n x → Paid n y → Paid n (cond b x y)
 cond_paid n true x y h k = h
 cond_paid n false x y h k = k
 
 computes_paid : (to : ℕ) (o : Checked Value) (rest : List Line) (s : State) → Paid s.fuel (computes to o rest s)
-computes_paid to o rest s = checked_paid s.fuel o _ (λ v. omega arith)
+computes_paid to o rest s = checked_paid s.fuel o _ (λ v. tt)
 
 reads_paid : (to : ℕ) (site : Site) (o : Checked Found) (rest : List Line) (s : State) → Paid s.fuel (reads to site o rest s)
-reads_paid to site o rest s = checked_paid s.fuel o _ (λ v. omega arith)
+reads_paid to site o rest s = checked_paid s.fuel o _ (λ v. tt)
 
 writes_paid : (site : Site) (o : Checked Left) (rest : List Line) (s : State) → Paid s.fuel (writes site o rest s)
-writes_paid site o rest s = checked_paid s.fuel o _ (λ v. omega arith)
+writes_paid site o rest s = checked_paid s.fuel o _ (λ v. tt)
 
-enters_paid : (u : Code) (g : Setting) (i first count fuel n : ℕ) (registers : ℕ → Value) (callers : List Frame) (s : State) → n ≤ fuel + 1 → Paid n (enters u g i first count registers callers fuel s)
-enters_paid u g i first count fuel n registers callers s h =
+enters_paid : (u : Code) (g : Setting) (i first count fuel n : ℕ) (registers : ℕ → Value) (callers : List Frame) (s : State) → Paid n (enters u g i first count registers callers fuel s)
+enters_paid u g i first count fuel n registers callers s =
     checked_paid {A = Function} n (found (slice_get u.functions.items i)) _ (λ f.
-    cond_paid n (nat_le (next_active u g i s).depth g.stack) _ _ (checked_paid {A = Block} n (found (slice_get f.blocks.items f.entry)) _ (λ b. h)) tt)
+    cond_paid n (nat_le (next_active u g i s).depth g.stack) _ _ (checked_paid {A = Block} n (found (slice_get f.blocks.items f.entry)) _ (λ b. tt)) tt)
 
-to_paid : (u : Code) (g : Setting) (b fuel n : ℕ) (s : State) → n ≤ fuel + 1 → Paid n (goes_to u g b fuel s)
-to_paid u g b fuel n s h = checked_paid {A = Function} n (found (slice_get u.functions.items s.frame.function)) _ (λ f. checked_paid {A = Block} n (found (slice_get f.blocks.items b)) _ (λ block. h))
+to_paid : (u : Code) (g : Setting) (b fuel n : ℕ) (s : State) → Paid n (goes_to u g b fuel s)
+to_paid u g b fuel n s = checked_paid {A = Function} n (found (slice_get u.functions.items s.frame.function)) _ (λ f. checked_paid {A = Block} n (found (slice_get f.blocks.items b)) _ (λ block. tt))
 
-gets_paid : (u : Code) (g : Setting) (to : ℕ) (rest : List Line) (input : List ℕ) (fuel n : ℕ) (s : State) → n ≤ fuel + 1 → Paid n (gets u g to rest input fuel s)
-gets_paid u g to rest [] fuel n s h = h
-gets_paid u g to rest (byte ∷ input) fuel n s h = h
+gets_paid : (u : Code) (g : Setting) (to : ℕ) (rest : List Line) (input : List ℕ) (fuel n : ℕ) (s : State) → Paid n (gets u g to rest input fuel s)
+gets_paid u g to rest [] fuel n s = tt
+gets_paid u g to rest (byte ∷ input) fuel n s = tt
 
 does_paid : (u : Code) (g : Setting) (line : Line) (rest : List Line) (s : State) → Paid s.fuel (does u g line rest s)
-does_paid u g (Put to z) rest s = omega arith
-does_paid u g (PutNull to) rest s = omega arith
-does_paid u g (Copy to from) rest s = omega arith
+does_paid u g (Put to z) rest s = tt
+does_paid u g (PutNull to) rest s = tt
+does_paid u g (Copy to from) rest s = tt
 does_paid u g (Convert to kind from) rest s = computes_paid to _ rest s
 does_paid u g (Unary to op kind from) rest s = computes_paid to _ rest s
 does_paid u g (Not to from) rest s = computes_paid to _ rest s
@@ -69,19 +69,19 @@ does_paid u g (Read to place kind access) rest s = reads_paid to _ _ rest s
 does_paid u g (Write place kind from access) rest s = writes_paid _ _ rest s
 does_paid u g (Reload to slot access) rest s = reads_paid to _ _ rest s
 does_paid u g (Spill slot from access) rest s = writes_paid _ _ rest s
-does_paid u g (Cut cause) rest s = omega arith
-does_paid u g (Call to i first count) rest s = takes_paid s.fuel s.output _ (λ less e. enters_paid u g i first count less s.fuel s.frame.registers _ s (omega arith))
-does_paid u g (GetChar to) rest s = takes_paid s.fuel s.output _ (λ less e. gets_paid u g to rest s.input less s.fuel s (omega arith))
-does_paid u g (PutChar to from) rest s = takes_paid s.fuel s.output _ (λ less e. checked_paid s.fuel (number_of (s.frame.registers from)) _ (λ z. cond_paid s.fuel (nat_lt (length s.output) g.capacity) _ _ (omega arith) (omega arith)))
+does_paid u g (Cut cause) rest s = tt
+does_paid u g (Call to i first count) rest s = takes_paid s.fuel s.output _ (λ less. enters_paid u g i first count less s.fuel s.frame.registers _ s)
+does_paid u g (GetChar to) rest s = takes_paid s.fuel s.output _ (λ less. gets_paid u g to rest s.input less s.fuel s)
+does_paid u g (PutChar to from) rest s = takes_paid s.fuel s.output _ (λ less. checked_paid s.fuel (number_of (s.frame.registers from)) _ (λ z. cond_paid s.fuel (nat_lt (length s.output) g.capacity) _ _ tt tt))
 
 back_paid : (u : Code) (g : Setting) (callers : List Frame) (v : Value) (s : State) → Paid s.fuel (back u g callers v s)
 back_paid u g [] v s = checked_paid s.fuel (number_of v) _ (λ n. tt)
-back_paid u g (w ∷ ws) v s = omega arith
+back_paid u g (w ∷ ws) v s = tt
 
 leaves_paid : (u : Code) (g : Setting) (exit : Exit) (s : State) → Paid s.fuel (leaves u g exit s)
-leaves_paid u g (Jump b) s = to_paid u g b s.fuel s.fuel s (omega arith)
-leaves_paid u g (Turn b) s = takes_paid s.fuel s.output _ (λ less e. to_paid u g b less s.fuel s (omega arith))
-leaves_paid u g (Branch on a b) s = checked_paid s.fuel (condition s.store (s.frame.registers on)) _ (λ t. to_paid u g (cond t a b) s.fuel s.fuel s (omega arith))
+leaves_paid u g (Jump b) s = to_paid u g b s.fuel s.fuel s
+leaves_paid u g (Turn b) s = takes_paid s.fuel s.output _ (λ less. to_paid u g b less s.fuel s)
+leaves_paid u g (Branch on a b) s = checked_paid s.fuel (condition s.store (s.frame.registers on)) _ (λ t. to_paid u g (cond t a b) s.fuel s.fuel s)
 leaves_paid u g (Return from) s = back_paid u g s.callers _ s
 
 at_paid : (u : Code) (g : Setting) (lines : List Line) (s : State) → Paid s.fuel (step_at u g lines s)
@@ -92,4 +92,4 @@ pub step_paid : (u : Code) (g : Setting) (s : State) → Paid s.fuel (step u g s
 step_paid u g s = at_paid u g s.frame.spot.rest s
 
 pub start_paid : (u : Code) (g : Setting) (n : ℕ) → Paid n (start u g n)
-start_paid u g n = enters_paid u g u.main 0 0 n n (λ r. Unset) [] (before u g n) (omega arith)
+start_paid u g n = enters_paid u g u.main 0 0 n n (λ r. Unset) [] (before u g n)

@@ -34,7 +34,6 @@ use Rattle.im_select_relation.proofs.Relation.{Rel, Advanced, After, checked_aft
 -- steps that put a word into a register; they may use x5 and x6
 pub record Gave (m : Mem) (pc : ℕ) (x : ℕ → ℕ) (to w next words : ℕ) : Type 0 where
   pub n : ℕ
-  pub some : 0 < n
   pub few : n ≤ words
   pub y : ℕ → ℕ
   pub reach : Reach n [] (record { pc = pc; x = x }) m (record { pc = next; x = y }) m
@@ -56,7 +55,6 @@ regs_to p registers sp x y to v six m kept mean = record {
 pub gave_one : (image m : Mem) (pc : ℕ) (x : ℕ → ℕ) (l : Instruction) (v : ℕ) → 0 < l.rd → Fixed image m → Holds image pc l → row l.op pc (x l.rs1) (x l.rs2) l.imm ≡ Puts v (sum_of pc 4) → returns_by l.op ≡ false → Gave m pc x l.rd v (pc + 4) 1
 gave_one image m pc x l v some fixed h e on = record {
   n = 1;
-  some = omega arith;
   few = omega arith;
   y = with_reg x l.rd v;
   reach = puts image m pc x l v fixed h e on;
@@ -68,7 +66,6 @@ gave_one image m pc x l v some fixed h e on = record {
 pub gave_more : (image m : Mem) (pc mid : ℕ) (x y : ℕ → ℕ) (n words : ℕ) (l : Instruction) (v : ℕ) → n ≤ words → 0 < l.rd → Fixed image m → Reach n [] (record { pc = pc; x = x }) m (record { pc = mid; x = y }) m → ((i : ℕ) → i ≢ l.rd → i ≢ 5 → i ≢ 6 → y i ≡ x i) → Holds image mid l → row l.op mid (y l.rs1) (y l.rs2) l.imm ≡ Puts v (sum_of mid 4) → returns_by l.op ≡ false → Gave m pc x l.rd v (mid + 4) (words + 1)
 gave_more image m pc mid x y n words l v few some fixed reach kept h e on = record {
   n = plus n 1;
-  some = (let q = plus_is n 1 in omega arith);
   few = (let q = plus_is n 1 in omega arith);
   y = with_reg y l.rd v;
   reach = join n 1 [] [] _ _ _ m m m reach (puts image m mid y l v fixed h e on);
@@ -77,11 +74,11 @@ gave_more image m pc mid x y n words l v few some fixed reach kept h e on = reco
 }
 
 -- a line that computes
-pub computes_after : (p : Linking) (u : Code) (g : Setting) (s : State) (c : Cpu) (m : Mem) (r : Rel p u g s c m) (words to w next : ℕ) (o : Checked Value) (rest : List Line) → 6 < to → Gave m c.pc c.x to w next words → Stands p s.frame.function (frame_of g s.frame.function) next rest s.frame.spot.exit → ((v : Value) → o ≡ Fine v → Means p v w) → After p u g words c m (computes to o rest s)
+pub computes_after : (p : Linking) (u : Code) (g : Setting) (s : State) (c : Cpu) (m : Mem) (r : Rel p u g s c m) (words to w next : ℕ) (o : Checked Value) (rest : List Line) → 6 < to → Gave m c.pc c.x to w next words → Stands p s.frame.function (frame_of g s.frame.function) next rest s.frame.spot.exit → ((v : Value) → o ≡ Fine v → Means p v w) → After p u g s.fuel words c m (computes to o rest s)
 computes_after p u g s c m r words to w next o rest six q code mean =
-    checked_after p u g words c m o _ (λ v e. record {
+    checked_after p u g s.fuel words c m o _ (λ v e. record {
       n = q.n;
-      some = q.some;
+      worth = omega arith;
       few = q.few;
       d = record { pc = next; x = q.y };
       k = m;
@@ -125,9 +122,9 @@ pub record Finds (p : Linking) (store : Store) (w : ℕ) (k : Kind) (f : Found) 
   pub read : ReadOf p store f.at.object f.at.offset k f.value
 
 -- a line that reads
-pub reads_after : (p : Linking) (u : Code) (g : Setting) (s : State) (c : Cpu) (m : Mem) (r : Rel p u g s c m) (to w base imm next : ℕ) (k : Kind) (site : Site) (o : Checked Found) (rest : List Line) → 6 < to → site.size ≡ kind_size k → Ready p s.frame.registers (pointer_at s.frame.active.depth) m c.pc c.x w base imm next → Holds p.image next (with_immediate (load_op k) to base imm) → Stands p s.frame.function (frame_of g s.frame.function) (next + 4) rest s.frame.spot.exit → ((f : Found) → o ≡ Fine f → Finds p s.store w k f) → After p u g 3 c m (reads to site o rest s)
+pub reads_after : (p : Linking) (u : Code) (g : Setting) (s : State) (c : Cpu) (m : Mem) (r : Rel p u g s c m) (to w base imm next : ℕ) (k : Kind) (site : Site) (o : Checked Found) (rest : List Line) → 6 < to → site.size ≡ kind_size k → Ready p s.frame.registers (pointer_at s.frame.active.depth) m c.pc c.x w base imm next → Holds p.image next (with_immediate (load_op k) to base imm) → Stands p s.frame.function (frame_of g s.frame.function) (next + 4) rest s.frame.spot.exit → ((f : Found) → o ≡ Fine f → Finds p s.store w k f) → After p u g s.fuel 3 c m (reads to site o rest s)
 reads_after p u g s c m r to w base imm next k site o rest six size b h code finds =
-    checked_after p u g 3 c m o _ (λ f e.
+    checked_after p u g s.fuel 3 c m o _ (λ f e.
     let q = finds f e in
     let ob : Object = f.at.object in
     let i : ℕ = f.at.offset in
@@ -139,7 +136,7 @@ reads_after p u g s c m r to w base imm next k site o rest six size b h code fin
     let t : Touches p (Reads site s.frame.active ob i ∷ []) (Loaded (address p ob + i) (kind_size k) ∷ []) = subst (λ z. Touches p (Reads site s.frame.active ob i ∷ []) (Loaded (address p ob + i) z ∷ [])) size (Reading site s.frame.active ob i [] [] Nothing) in
     record {
       n = plus b.n 1;
-      some = (let q = plus_is b.n 1 in omega arith);
+      worth = omega arith;
       few = (let q = plus_is b.n 1 in let z = b.few in omega arith);
       d = record { pc = next + 4; x = with_reg b.y to word };
       k = m;
@@ -159,9 +156,9 @@ pub record Leaves_ (p : Linking) (store : Store) (w x : ℕ) (k : Kind) (l : Lef
   pub write : WriteOf p store l.at.object l.at.offset k taken l.store
 
 -- a line that writes
-pub writes_after : (p : Linking) (u : Code) (g : Setting) → p.at Link ≡ 0 → (s : State) (c : Cpu) (m : Mem) (r : Rel p u g s c m) (from w base imm next : ℕ) (k : Kind) (site : Site) (o : Checked Left) (rest : List Line) → from ≢ 5 → site.size ≡ kind_size k → Ready p s.frame.registers (pointer_at s.frame.active.depth) m c.pc c.x w base imm next → Holds p.image next (storing (store_op k) base from imm) → Stands p s.frame.function (frame_of g s.frame.function) (next + 4) rest s.frame.spot.exit → ((l : Left) → o ≡ Fine l → Leaves_ p s.store w (c.x from) k l) → After p u g 3 c m (writes site o rest s)
+pub writes_after : (p : Linking) (u : Code) (g : Setting) → p.at Link ≡ 0 → (s : State) (c : Cpu) (m : Mem) (r : Rel p u g s c m) (from w base imm next : ℕ) (k : Kind) (site : Site) (o : Checked Left) (rest : List Line) → from ≢ 5 → site.size ≡ kind_size k → Ready p s.frame.registers (pointer_at s.frame.active.depth) m c.pc c.x w base imm next → Holds p.image next (storing (store_op k) base from imm) → Stands p s.frame.function (frame_of g s.frame.function) (next + 4) rest s.frame.spot.exit → ((l : Left) → o ≡ Fine l → Leaves_ p s.store w (c.x from) k l) → After p u g s.fuel 3 c m (writes site o rest s)
 writes_after p u g at0 s c m r from w base imm next k site o rest no5 size b h code leaves =
-    checked_after p u g 3 c m o _ (λ l e.
+    checked_after p u g s.fuel 3 c m o _ (λ l e.
     let q = leaves l e in
     let ob : Object = l.at.object in
     let i : ℕ = l.at.offset in
@@ -173,10 +170,10 @@ writes_after p u g at0 s c m r from w base imm next k site o rest no5 size b h c
     let step = stores p.image m next b.y (storing (store_op k) base from imm) (address p ob + i) (kind_size k) (b.y from) r.fixed h (store_row k next (b.y base) (b.y from) imm ∙ ap (λ a. Stores a (kind_size k) (b.y from)) at) rm.place (output_written m (address p ob + i) (kind_size k) (b.y from) rm.low top) (data_store (in_runtime next) (address p ob + i) (kind_size k) rm.low) in
     let t : Touches p (Writes site s.frame.active ob i ∷ []) (Stored (address p ob + i) (kind_size k) ∷ []) = subst (λ z. Touches p (Writes site s.frame.active ob i ∷ []) (Stored (address p ob + i) z ∷ [])) size (Writing site s.frame.active ob i [] [] Nothing) in
     let value : Means p q.taken (back_word k (b.y from)) = means_at p q.taken q.taken (back_word k (c.x from)) _ refl (ap (back_word k) (b.kept from no5)) q.value in
-    subst (λ (z : Store). Advanced p u g 3 c m (record s { frame = with_rest s.frame rest; store = z }) (Writes site s.frame.active ob i ∷ [])) (sym q.write.is)
+    subst (λ (z : Store). Advanced p u g s.fuel 3 c m (record s { frame = with_rest s.frame rest; store = z }) (Writes site s.frame.active ob i ∷ [])) (sym q.write.is)
     (record {
       n = plus b.n 1;
-      some = (let q = plus_is b.n 1 in omega arith);
+      worth = omega arith;
       few = (let q = plus_is b.n 1 in let z = b.few in omega arith);
       d = record { pc = next + 4; x = b.y };
       k = k';

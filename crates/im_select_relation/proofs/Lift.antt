@@ -3,7 +3,7 @@ use Rattle.std.proofs.Common.{◌≡◌, ℕ, suc, ◌+◌, ◌-◌, ◌%◌, �
 use Rattle.im_num.specs.declared.kind.Kind.{Kind}
 use Rattle.im_num.specs.declared.values.Cause.{Cause}
 use Rattle.im_rv.specs.declared.instr.Op.{Op}
-use Rattle.im_rv.specs.declared.instr.Op.TheVariants.{Bne, Bltu}
+use Rattle.im_rv.specs.declared.instr.Op.TheVariants.{Beq, Bne, Bltu}
 use Rattle.im_rv.specs.Steps.{sum_of}
 use Rattle.im_rv.specs.Decode.{Line as Instruction}
 use Rattle.im_rv_reach.specs.Instructions.{Holds, Splits, jumping, branching}
@@ -14,9 +14,9 @@ use Rattle.im_block.specs.declared.code.Line.{Line}
 use Rattle.im_block.specs.declared.code.Exit.{Exit}
 use Rattle.im_block.specs.declared.code.Exit.TheVariants.{Jump, Turn, Branch, Return}
 use Rattle.im_select_relation.specs.Linking.{Linking, frame_of}
-use Rattle.im_select_relation.specs.Selected.{Constant, Displaced, Based, Adds, Compared, Converted, Selected, Jumps, Tested, Leaves, ExitAt, Stands, Checked, Prologue}
+use Rattle.im_select_relation.specs.Selected.{Constant, Displaced, Based, Adds, Compared, Copied, Converted, Scaled, Selected, Jumps, Continues, Tested, Leaves, ExitAt, Stands, Checked, Prologue}
 use Rattle.im_select_relation.specs.Selected as linked
-use Rattle.im_select_relation.specs.Symbolic.{Lines, HasLine, ConstantIn, Small, Large, DisplacedIn, Near, Far, BasedIn, InFrame, InStatic, Behind, AddsIn, Short, Long, ComparedIn, Lesser, Larger, NotLarger, NotLesser, Same, Other, ConvertedIn, Whole, Narrowed, SelectedIn, Numbers, Nulls, Copies, Converts, Negates, Complements, Nots, Computes, Compares, Moves, Measures, Addresses, Fetches, StoresValue, Reloads, Spills, Cuts_, Calls, Gets, Puts_, JumpsIn, TestedIn, Reached, Hopped, LeavesIn, ExitIn, StandsIn, CheckedIn, Direct, Around, PrologueIn, spot_of, distance, IsLaid, LinesLaw, FrameLaw}
+use Rattle.im_select_relation.specs.Symbolic.{Lines, HasLine, ConstantIn, Small, Large, DisplacedIn, Near, Far, BasedIn, InFrame, InStatic, Behind, AddsIn, Short, Long, ComparedIn, Lesser, Larger, NotLarger, NotLesser, Same, Other, CopiedIn, Already, Moved, ConvertedIn, Whole, Masked, Narrowed, ScaledIn, Bytes, Shifted, Multiplied, SelectedIn, Numbers, Nulls, Copies, Converts, Negates, Complements, Nots, Computes, Compares, Moves, Measures, Addresses, AddressesPage, Fetches, StoresValue, Reloads, Spills, Cuts_, Calls, Gets, Puts_, JumpsIn, ContinuesIn, Falls, Leaps, TestedIn, Reached, Missed, Hopped, Skipped, LeavesIn, ExitIn, StandsIn, CheckedIn, Direct, Around, PrologueIn, spot_of, distance, IsLaid, LinesLaw, FrameLaw}
 
 lands : (pc target : ℕ) → pc + 4 ≤ 1048576 → target < 2 ^ 32 → sum_of pc (distance pc target) ≡ target
 lands pc target a b = omega arith
@@ -62,23 +62,34 @@ compared p i w place starts l k to less left right op next (NotLesser a b) = lin
 compared p i w place starts l k to less left right op next (Same a b) = linked.Same (plain p i w place starts l k _ None None a) (plain p i w place starts l (suc k) _ None None b)
 compared p i w place starts l k to less left right op next (Other a b) = linked.Other (plain p i w place starts l k _ None None a) (plain p i w place starts l (suc k) _ None None b)
 
+copied : (p : Linking) (i : ℕ) (w : Lines) (place starts : ℕ → ℕ) → IsLaid p i w place starts → (k to from next : ℕ) → CopiedIn w k to from next → Copied p (spot_of (p.entry i) k) to from (spot_of (p.entry i) next)
+copied p i w place starts l k to from next (Already e) = linked.Already e
+copied p i w place starts l k to from next (Moved ne a) = linked.Moved ne (plain p i w place starts l k _ None None a)
+
 converted : (p : Linking) (i : ℕ) (w : Lines) (place starts : ℕ → ℕ) → IsLaid p i w place starts → (k to : ℕ) (kind : Kind) (from next : ℕ) → ConvertedIn w k to kind from next → Converted p (spot_of (p.entry i) k) to kind from (spot_of (p.entry i) next)
-converted p i w place starts l k to kind from next (Whole h a) = linked.Whole h (plain p i w place starts l k _ None None a)
+converted p i w place starts l k to kind from next (Whole next' h c) = linked.Whole (spot_of (p.entry i) next') h (copied p i w place starts l k to from next' c)
+converted p i w place starts l k to kind from next (Masked h a) = linked.Masked h (plain p i w place starts l k _ None None a)
 converted p i w place starts l k to kind from next (Narrowed x y z a b) = linked.Narrowed x y z (plain p i w place starts l k _ None None a) (plain p i w place starts l (suc k) _ None None b)
+
+scaled : (p : Linking) (i : ℕ) (w : Lines) (place starts : ℕ → ℕ) → IsLaid p i w place starts → (k size by register next : ℕ) → ScaledIn w k size by register next → Scaled p (spot_of (p.entry i) k) size by register (spot_of (p.entry i) next)
+scaled p i w place starts l k size by register next (Bytes e) = linked.Bytes e
+scaled p i w place starts l k size by register next (Shifted bits few e a) = linked.Shifted bits few e (plain p i w place starts l k _ None None a)
+scaled p i w place starts l k size by register next (Multiplied mid c a) = linked.Multiplied (spot_of (p.entry i) mid) (constant p i w place starts l k 5 size mid c) (plain p i w place starts l mid _ None None a)
 
 selected : (p : Linking) (i : ℕ) (w : Lines) (place starts : ℕ → ℕ) → IsLaid p i w place starts → (k : ℕ) (line : Line) (next : ℕ) → SelectedIn w k line next → Selected p (spot_of (p.entry i) k) line (spot_of (p.entry i) next)
 selected p i w place starts l k line next (Numbers to z mid home c) = linked.Numbers to z (spot_of (p.entry i) mid) home (constant p i w place starts l k to _ mid c)
 selected p i w place starts l k line next (Nulls to home a) = linked.Nulls to home (plain p i w place starts l k _ None None a)
-selected p i w place starts l k line next (Copies to from home x a) = linked.Copies to from home x (plain p i w place starts l k _ None None a)
+selected p i w place starts l k line next (Copies to from mid home x c) = linked.Copies to from (spot_of (p.entry i) mid) home x (copied p i w place starts l k to from mid c)
 selected p i w place starts l k line next (Converts to kind from mid home x c) = linked.Converts to kind from (spot_of (p.entry i) mid) home x (converted p i w place starts l k to kind from mid c)
 selected p i w place starts l k line next (Negates to kind from home x h a) = linked.Negates to kind from home x h (plain p i w place starts l k _ None None a)
 selected p i w place starts l k line next (Complements to kind from home x h a) = linked.Complements to kind from home x h (plain p i w place starts l k _ None None a)
 selected p i w place starts l k line next (Nots to from home x a) = linked.Nots to from home x (plain p i w place starts l k _ None None a)
 selected p i w place starts l k line next (Computes to op kind left right home x y h a) = linked.Computes to op kind left right home x y h (plain p i w place starts l k _ None None a)
 selected p i w place starts l k line next (Compares to op kind left right mid home x y h c) = linked.Compares to op kind left right (spot_of (p.entry i) mid) home x y h (compared p i w place starts l k to _ left right op mid c)
-selected p i w place starts l k line next (Moves to size back pointer by mid home x y s c a b) = linked.Moves to size back pointer by (spot_of (p.entry i) mid) home x y s (constant p i w place starts l k 5 size mid c) (plain p i w place starts l mid _ None None a) (plain p i w place starts l (suc mid) _ None None b)
+selected p i w place starts l k line next (Moves to size back pointer by register mid home x y s c a) = linked.Moves to size back pointer by register (spot_of (p.entry i) mid) home x y s (scaled p i w place starts l k size by register mid c) (plain p i w place starts l mid _ None None a)
 selected p i w place starts l k line next (Measures to size left right mid home x y s t a c b) = linked.Measures to size left right (spot_of (p.entry i) mid) home x y s t (plain p i w place starts l k _ None None a) (constant p i w place starts l (suc k) 6 size mid c) (plain p i w place starts l mid _ None None b)
 selected p i w place starts l k line next (Addresses to q base imm mid home b a) = linked.Addresses to q base imm (spot_of (p.entry i) mid) home (based p i w place starts l k q base imm mid b) (plain p i w place starts l mid _ None None a)
+selected p i w place starts l k line next (AddressesPage to object offset hi home s a) = linked.AddressesPage to object offset hi home (subst (λ (z : Name → ℕ). Splits hi 0 (z (Named object) + offset)) l.at s) (plain p i w place starts l k _ None None a)
 selected p i w place starts l k line next (Fetches to q kind access base imm mid home b a) = linked.Fetches to q kind access base imm (spot_of (p.entry i) mid) home (based p i w place starts l k q base imm mid b) (plain p i w place starts l mid _ (Some access) None a)
 selected p i w place starts l k line next (StoresValue q kind from access base imm mid home b a) = linked.StoresValue q kind from access base imm (spot_of (p.entry i) mid) home (based p i w place starts l k q base imm mid b) (plain p i w place starts l mid _ (Some access) None a)
 selected p i w place starts l k line next (Reloads to n access base imm mid home d a) = linked.Reloads to n access base imm (spot_of (p.entry i) mid) home (slot p i w place starts l k n base imm mid d) (plain p i w place starts l mid _ (Some access) None a)
@@ -101,26 +112,41 @@ jumps p i w place starts l k label target e a =
     let h = aimed p i w place starts l k (jumping 0 0) label target None e a in
     record { imm = distance (spot_of (p.entry i) k) target; lands = lands (spot_of (p.entry i) k) target h.low (small_place p i w place starts l _ _ e); jumps = h }
 
-tested : (p : Linking) (i : ℕ) (w : Lines) (place starts : ℕ → ℕ) → IsLaid p i w place starts → (k on a b : ℕ) → TestedIn w k on (w.block a) (w.block b) → Tested p (spot_of (p.entry i) k) on (p.place i a) (p.place i b)
+continues : (p : Linking) (i : ℕ) (w : Lines) (place starts : ℕ → ℕ) → IsLaid p i w place starts → (k b : ℕ) → ContinuesIn w starts k b → Continues p (spot_of (p.entry i) k) (p.place i b)
+continues p i w place starts l k b (Falls e) = linked.Falls (ap (spot_of (p.entry i)) e ∙ sym (l.starts_at b))
+continues p i w place starts l k b (Leaps a) = linked.Leaps (jumps p i w place starts l k (w.block b) (p.place i b) (l.block b) a)
+
+-- two lines on
+eight : (p : Linking) (pc target : ℕ) → Continues p (pc + 4 + 4) target → Continues p (pc + 8) target
+eight p pc target c = let e : pc + 4 + 4 ≡ pc + 8 = omega arith in subst (λ q. Continues p q target) e c
+
+-- where a branch that is aimed at a block lands
+branch_lands : (p : Linking) (i : ℕ) (w : Lines) (place starts : ℕ → ℕ) → IsLaid p i w place starts → (k b : ℕ) (m : Instruction) → Holds p.image (spot_of (p.entry i) k) m → sum_of (spot_of (p.entry i) k) (distance (spot_of (p.entry i) k) (p.place i b)) ≡ p.place i b
+branch_lands p i w place starts l k b m h = lands (spot_of (p.entry i) k) (p.place i b) h.low (small_place p i w place starts l _ _ (l.block b))
+
+tested : (p : Linking) (i : ℕ) (w : Lines) (place starts : ℕ → ℕ) → IsLaid p i w place starts → (k on a b : ℕ) → TestedIn w starts k on a b → Tested p (spot_of (p.entry i) k) on (p.place i a) (p.place i b)
 tested p i w place starts l k on a b (Reached x y) =
     let h = aimed p i w place starts l k (branching Bne on 0 0) (w.block a) (p.place i a) None (l.block a) x in
-    linked.Reached (distance (spot_of (p.entry i) k) (p.place i a)) (lands (spot_of (p.entry i) k) (p.place i a) h.low (small_place p i w place starts l _ _ (l.block a))) h (jumps p i w place starts l (suc k) (w.block b) (p.place i b) (l.block b) y)
-tested p i w place starts l k on a b (Hopped x y z) = linked.Hopped (plain p i w place starts l k _ None None x) (jumps p i w place starts l (suc k) (w.block a) (p.place i a) (l.block a) y) (eight (jumps p i w place starts l (suc (suc k)) (w.block b) (p.place i b) (l.block b) z))
-  where
-    eight : Jumps p ((spot_of (p.entry i) k) + 4 + 4) (p.place i b) → Jumps p ((spot_of (p.entry i) k) + 8) (p.place i b)
-    eight j = let e : (spot_of (p.entry i) k) + 4 + 4 ≡ (spot_of (p.entry i) k) + 8 = omega arith in subst (λ q. Jumps p q (p.place i b)) e j
+    linked.Reached (distance (spot_of (p.entry i) k) (p.place i a)) (branch_lands p i w place starts l k a _ h) h (continues p i w place starts l (suc k) b y)
+tested p i w place starts l k on a b (Missed x y) =
+    let h = aimed p i w place starts l k (branching Beq on 0 0) (w.block b) (p.place i b) None (l.block b) x in
+    linked.Missed (distance (spot_of (p.entry i) k) (p.place i b)) (branch_lands p i w place starts l k b _ h) h (continues p i w place starts l (suc k) a y)
+tested p i w place starts l k on a b (Hopped x y z) =
+    linked.Hopped (plain p i w place starts l k _ None None x) (jumps p i w place starts l (suc k) (w.block a) (p.place i a) (l.block a) y) (eight p (spot_of (p.entry i) k) (p.place i b) (continues p i w place starts l (suc (suc k)) b z))
+tested p i w place starts l k on a b (Skipped x y z) =
+    linked.Skipped (plain p i w place starts l k _ None None x) (jumps p i w place starts l (suc k) (w.block b) (p.place i b) (l.block b) y) (eight p (spot_of (p.entry i) k) (p.place i a) (continues p i w place starts l (suc (suc k)) a z))
 
 leaves : (p : Linking) (i : ℕ) (w : Lines) (place starts : ℕ → ℕ) → IsLaid p i w place starts → (k frame : ℕ) → LeavesIn w k frame → Leaves p (spot_of (p.entry i) k) frame
 leaves p i w place starts l k frame a = record { link = plain p i w place starts l k _ None None a.link; next = spot_of (p.entry i) a.next; raised = adds p i w place starts l (suc k) 2 frame a.next a.raised; returns = plain p i w place starts l a.next _ None None a.returns }
 
-exits : (p : Linking) (i : ℕ) (w : Lines) (place starts : ℕ → ℕ) → IsLaid p i w place starts → (frame k : ℕ) (exit : Exit) → ExitIn w frame k exit → ExitAt p i frame (spot_of (p.entry i) k) exit
-exits p i w place starts l frame k (Jump b) h = jumps p i w place starts l k (w.block b) (p.place i b) (l.block b) h
+exits : (p : Linking) (i : ℕ) (w : Lines) (place starts : ℕ → ℕ) → IsLaid p i w place starts → (frame k : ℕ) (exit : Exit) → ExitIn w starts frame k exit → ExitAt p i frame (spot_of (p.entry i) k) exit
+exits p i w place starts l frame k (Jump b) h = continues p i w place starts l k b h
 exits p i w place starts l frame k (Turn b) h = jumps p i w place starts l k (w.block b) (p.place i b) (l.block b) h
 exits p i w place starts l frame k (Branch on a b) h = (h.0, tested p i w place starts l k on a b h.1)
 exits p i w place starts l frame k (Return None) h = (plain p i w place starts l k _ None None h.0, leaves p i w place starts l (suc k) frame h.1)
 exits p i w place starts l frame k (Return (Some r)) h = (h.0, leaves p i w place starts l k frame h.1)
 
-stands : (p : Linking) (i : ℕ) (w : Lines) (place starts : ℕ → ℕ) → IsLaid p i w place starts → (frame k : ℕ) (lines : List Line) (exit : Exit) → StandsIn w frame k lines exit → Stands p i frame (spot_of (p.entry i) k) lines exit
+stands : (p : Linking) (i : ℕ) (w : Lines) (place starts : ℕ → ℕ) → IsLaid p i w place starts → (frame k : ℕ) (lines : List Line) (exit : Exit) → StandsIn w starts frame k lines exit → Stands p i frame (spot_of (p.entry i) k) lines exit
 stands p i w place starts l frame k [] exit h = exits p i w place starts l frame k exit h
 stands p i w place starts l frame k (line ∷ rest) exit h = (spot_of (p.entry i) h.0, selected p i w place starts l k line h.0 h.1, stands p i w place starts l frame h.0 rest exit h.2)
 
@@ -130,7 +156,7 @@ checked p i w place starts l k next (Direct a) =
     linked.Direct (distance (spot_of (p.entry i) k) p.full) (lands (spot_of (p.entry i) k) p.full h.low (small_place p i w place starts l _ _ l.full)) h
 checked p i w place starts l k next (Around a b) = linked.Around (plain p i w place starts l k _ None None a) (jumps p i w place starts l (suc k) w.full p.full l.full b)
 
-prologue : (p : Linking) (i : ℕ) (w : Lines) (place starts : ℕ → ℕ) → IsLaid p i w place starts → (frame entry : ℕ) → PrologueIn w 0 frame (w.block entry) → Prologue p (p.entry i) frame (p.place i entry)
+prologue : (p : Linking) (i : ℕ) (w : Lines) (place starts : ℕ → ℕ) → IsLaid p i w place starts → (frame entry : ℕ) → PrologueIn w starts 0 frame entry → Prologue p (p.entry i) frame (p.place i entry)
 prologue p i w place starts l frame entry h = record {
   a = spot_of (p.entry i) h.a;
   b = spot_of (p.entry i) h.b;
@@ -139,7 +165,7 @@ prologue p i w place starts l frame entry h = record {
   checked = checked p i w place starts l (suc h.a) h.b h.checked;
   taken = plain p i w place starts l h.b _ None None h.taken;
   saved = plain p i w place starts l (suc h.b) _ None None h.saved;
-  jumps = jumps p i w place starts l (suc (suc h.b)) (w.block entry) (p.place i entry) (l.block entry) h.jumps;
+  continues = continues p i w place starts l (suc (suc h.b)) entry h.continues;
 }
 
 pub lines : LinesLaw

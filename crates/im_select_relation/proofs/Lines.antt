@@ -1,11 +1,11 @@
 -- Each line that passes on to the next, on the machine.
 use Rattle.std.proofs.Common.{◌≡◌, ℕ, zero, suc, ◌+◌, ◌*◌, ◌%◌, ◌^◌, ◌<◌, ◌≤◌, ◌⊎◌, inl, inr, ℤ, pos, negsuc, ◌≤ℤ◌, ◌<ℤ◌, Bool, true, false, cond, List, [], ◌∷◌, ◌++◌, length, Some, sym, ap, ◌∙◌, subst, refl, arith}
-use Rattle.std.specs.Prelude.{neg_ℤ, ◌-ℤ◌, nat_lt, nat_abs, not, slice_get, replicate, bit_xor}
+use Rattle.std.specs.Prelude.{◌==◌, ◌&&◌, neg_ℤ, ◌-ℤ◌, nat_lt, nat_abs, not, slice_get, replicate, bit_xor}
 use Rattle.std.proofs.lemmas.List.{append-nil}
 use Rattle.std.proofs.lemmas.Int.{ints}
 use Rattle.im_num.specs.declared.kind.Kind.{Kind}
 use Rattle.im_num.specs.declared.kind.Kind.TheVariants.{I8, U8, I16, U16, I32, U32, Ptr}
-use Rattle.im_num.specs.Kinds.{wrap, word}
+use Rattle.im_num.specs.Kinds.{kind_size, wrap, word}
 use Rattle.im_num.specs.declared.values.Cause.{Cause}
 use Rattle.im_num.proofs.Wrapping.{wrap-of_kind}
 use Rattle.im_mem.specs.Memory.{Mem, is_place, bytes_from}
@@ -18,7 +18,7 @@ use Rattle.im_rv_reach.specs.Touches.{Flipped, Touch, heard}
 use Rattle.im_rv_reach.specs.Shown.{shown, left}
 use Rattle.im_rv_reach.specs.Plain.{returns_by}
 use Rattle.im_rv_reach.specs.Reach.{plus}
-use Rattle.im_rv_reach.specs.Instructions.{Holds, with_immediate, on_registers, jumping}
+use Rattle.im_rv_reach.specs.Instructions.{Holds, with_immediate, on_registers, upper, jumping}
 use Rattle.im_rv_reach.specs.Routines.{Done, Called, put, put_answer, got, got_answer}
 use Rattle.im_rv_reach.proofs.Reach.{join, next_pc, no_back, leaps}
 use Rattle.im_select_operators.specs.Tables.{IsPromoted, by_sign, operation}
@@ -35,12 +35,13 @@ use Rattle.im_store.specs.Outcomes.{Undef, More, End}
 use Rattle.im_store.specs.Pointers.{compare_places}
 use Rattle.im_store.specs.Numbers.{apply_one, compares}
 use Rattle.im_store.specs.Objects.{Slot, Link, Value, Number, Null, Pointer, Shape, Store, same_kind}
+use Rattle.im_block.specs.declared.code.Place.TheVariants.{Static}
 use Rattle.im_block.specs.declared.code.Line.{Line}
 use Rattle.im_block.specs.declared.code.Line.TheVariants.{Cut, GetChar, PutChar}
 use Rattle.im_block.specs.declared.unit.Unit.{Unit as Code}
 use Rattle.im_block.specs.Meaning.{Setting, State, Next, Goes, Stops, Serves, Cuts, Active, object_of, with_register, with_rest, kept_by, does, place_of, computed, computed_one, moved, distance_of, negation, condition, compared, converted, pointer_of, slot_of, slot_shape, read_place, write_place, read_slot, write_slot, site_of, slot_site, number_of, Location, as_number, as_truth, served, gets}
 use Rattle.im_select_relation.specs.Linking.{Linking, pointer_at, frame_of, runtime, Means}
-use Rattle.im_select_relation.specs.Selected.{IsEntry, ones, Selected, Numbers, Nulls, Copies, Converts, Negates, Complements, Nots, Computes, Compares, Moves, Measures, Addresses, Fetches, StoresValue, Reloads, Spills, Cuts_, Calls, Gets, Puts_, Stands, Displaced}
+use Rattle.im_select_relation.specs.Selected.{IsEntry, ones, Already, Moved, Selected, Numbers, Nulls, Copies, Converts, Negates, Complements, Nots, Computes, Compares, Moves, Measures, Addresses, AddressesPage, Fetches, StoresValue, Reloads, Spills, Cuts_, Calls, Gets, Puts_, Stands, Displaced}
 use Rattle.im_block.specs.Shape.{narrowing, line_weight}
 use Rattle.im_select_relation.specs.Law.{Touches, Nothing, Serving, Cutting, steps}
 use Rattle.im_select_relation.proofs.Registers.{RegsMean, means_at, only_result}
@@ -50,17 +51,17 @@ use Rattle.im_select_relation.proofs.Cells.{memory_same, stored_means, means_wor
 use Rattle.im_select_relation.proofs.Shapes.{Premises}
 use Rattle.im_select_relation.proofs.Relation.{Rel, Advanced, After, checked_after, takes_after, chain_kept, links_same}
 use Rattle.im_select_relation.proofs.Calls.{number_word, lost_by, word_even, call_after}
-use Rattle.im_select_relation.proofs.Places.{Ready, means_mod, displaced, based}
+use Rattle.im_select_relation.proofs.Places.{Ready, means_mod, displaced, static_means, based}
 use Rattle.im_select_relation.proofs.Operators.{Converts as Converted_, numbers_mean, truths_mean, converted_word, computed_row, condition_word, zero_test}
 use Rattle.im_select_relation.proofs.Pointers.{in_use, places_word, moved_means, moved_word, distance_means}
-use Rattle.im_select_relation.proofs.Computing.{gave_weak, gave_constant, gave_compared, gave_converted, gave_moved, gave_distance}
+use Rattle.im_select_relation.proofs.Computing.{gave_weak, gave_none, some_steps, gave_constant, gave_compared, gave_converted, gave_moved, gave_distance}
 use Rattle.im_select_relation.proofs.Gives.{Lands, gave_one, gave_more, computes_after, reads_after, writes_after}
 
-pub after_more : (p : Linking) (u : Code) (g : Setting) (words more : ℕ) (c : Cpu) (m : Mem) (next : Next) → words ≤ more → After p u g words c m next → After p u g more c m next
-after_more p u g words more c m (Goes s events) le a = record { n = a.n; some = a.some; few = (let z = a.few in omega arith); d = a.d; k = a.k; ts = a.ts; touches = a.touches; orderly = a.orderly; reach = a.reach; rel = a.rel }
-after_more p u g words more c m (Stops (End reason status output shows) events) le a = record { n = a.n; some = a.some; few = (let z = a.few in omega arith); ts = a.ts; touches = a.touches; orderly = a.orderly; k = a.k; stopped = a.stopped; reason_is = a.reason_is; status_is = a.status_is; output_is = a.output_is; statics = a.statics }
-after_more p u g words more c m (Stops (More output) events) le a = a
-after_more p u g words more c m (Stops (Undef why) events) le a = tt
+pub after_more : (p : Linking) (u : Code) (g : Setting) (fuel words more : ℕ) (c : Cpu) (m : Mem) (next : Next) → words ≤ more → After p u g fuel words c m next → After p u g fuel more c m next
+after_more p u g fuel words more c m (Goes s events) le a = record { n = a.n; worth = a.worth; few = (let z = a.few in omega arith); d = a.d; k = a.k; ts = a.ts; touches = a.touches; orderly = a.orderly; reach = a.reach; rel = a.rel }
+after_more p u g fuel words more c m (Stops (End reason status output shows) events) le a = record { n = a.n; some = a.some; few = (let z = a.few in omega arith); ts = a.ts; touches = a.touches; orderly = a.orderly; k = a.k; stopped = a.stopped; reason_is = a.reason_is; status_is = a.status_is; output_is = a.output_is; statics = a.statics }
+after_more p u g fuel words more c m (Stops (More output) events) le a = a
+after_more p u g fuel words more c m (Stops (Undef why) events) le a = tt
 
 -- comparisons
 compared_word : (p : Linking) (store : Store) (frames : List Mark) (op : Comparison) (k : Kind) (v w : Value) (x y : ℕ) (b : Bool) → IsPromoted k ⊎ (k ≡ Ptr) → Mapped p store.shape frames → compared store op k v w ≡ Fine b → Means p v x → Means p w y → number_as b ≡ number_as (outcome (word_less k) op x y)
@@ -132,7 +133,7 @@ called p u g s c m r link imm some h =
     }
 
 -- a built-in call, whose routine has run
-served_after : (p : Linking) (u : Code) (g : Setting) → Premises p u g → (s : State) (c : Cpu) (m : Mem) (r : Rel p u g s c m) (rest : List Line) (target imm fuel : ℕ) (output input output' input' : List ℕ) (v : Value) → sum_of c.pc imm ≡ target → (h : Holds p.image c.pc (jumping 1 imm)) → Stands p s.frame.function (frame_of g s.frame.function) (c.pc + 4) rest s.frame.spot.exit → (d : Done (runtime p g) m target (with_reg c.x 1 (sum_of c.pc 4)) (with_reg c.x 1 (sum_of c.pc 4) 1) output input) → output ≡ output' → input ≡ input' → Means p v (d.y 10) → Advanced p u g (p.longest + 1) c m (record s { frame = record (with_rest s.frame rest) { registers = with_register (kept_by (slice_get u.functions.items s.frame.function) s.frame.registers) 10 v }; fuel = fuel; output = output'; input = input' }) (Serves ∷ [])
+served_after : (p : Linking) (u : Code) (g : Setting) → Premises p u g → (s : State) (c : Cpu) (m : Mem) (r : Rel p u g s c m) (rest : List Line) (target imm fuel : ℕ) (output input output' input' : List ℕ) (v : Value) → sum_of c.pc imm ≡ target → (h : Holds p.image c.pc (jumping 1 imm)) → Stands p s.frame.function (frame_of g s.frame.function) (c.pc + 4) rest s.frame.spot.exit → (d : Done (runtime p g) m target (with_reg c.x 1 (sum_of c.pc 4)) (with_reg c.x 1 (sum_of c.pc 4) 1) output input) → output ≡ output' → input ≡ input' → Means p v (d.y 10) → Advanced p u g (suc fuel) (p.longest + 1) c m (record s { frame = record (with_rest s.frame rest) { registers = with_register (kept_by (slice_get u.functions.items s.frame.function) s.frame.registers) 10 v }; fuel = fuel; output = output'; input = input' }) (Serves ∷ [])
 served_after p u g l s c m r rest target imm fuel output input output' input' v lands h code d eo ei mean =
     let a : ℕ = sum_of c.pc 4 in
     let x : ℕ → ℕ = with_reg c.x 1 a in
@@ -140,7 +141,7 @@ served_after p u g l s c m r rest target imm fuel output input output' input' v 
     let go = leaps p.image m c.pc c.x (jumping 1 imm) a target r.fixed h (ap (Puts a) lands) (no_back c.pc (jumping 1 imm) m target refl) in
     record {
       n = plus 1 d.n;
-      some = omega arith;
+      worth = omega arith;
       few = (let k = d.few in omega arith);
       d = record { pc = x 1; x = d.y };
       k = d.k;
@@ -162,10 +163,10 @@ byte_of z = loaded_wrap U8 z ∙ small (wrap U8 z) (wrap-of_kind U8 z).low (wrap
     small (pos n) low high = word_of n (omega (arith, ints))
     small (negsuc n) low high = absurd (omega (arith, ints))
 
-put_line : (p : Linking) (u : Code) (g : Setting) → Premises p u g → (s : State) (c : Cpu) (m : Mem) (r : Rel p u g s c m) (rest : List Line) (imm : ℕ) → sum_of c.pc imm ≡ p.puts → Holds p.image c.pc (jumping 1 imm) → Stands p s.frame.function (frame_of g s.frame.function) (c.pc + 4) rest s.frame.spot.exit → After p u g (p.longest + 1) c m (does u g (PutChar 10 10) rest s)
+put_line : (p : Linking) (u : Code) (g : Setting) → Premises p u g → (s : State) (c : Cpu) (m : Mem) (r : Rel p u g s c m) (rest : List Line) (imm : ℕ) → sum_of c.pc imm ≡ p.puts → Holds p.image c.pc (jumping 1 imm) → Stands p s.frame.function (frame_of g s.frame.function) (c.pc + 4) rest s.frame.spot.exit → After p u g s.fuel (p.longest + 1) c m (does u g (PutChar 10 10) rest s)
 put_line p u g l s c m r rest imm lands h code =
-    takes_after p u g (p.longest + 1) c m s.fuel s.output _ r.output (λ less.
-    checked_after p u g (p.longest + 1) c m (number_of (s.frame.registers 10)) _ (λ z e.
+    takes_after p u g s.fuel (p.longest + 1) c m s.output _ r.output (λ less.
+    checked_after p u g (suc less) (p.longest + 1) c m (number_of (s.frame.registers 10)) _ (λ z e.
     let x : ℕ → ℕ = with_reg c.x 1 (sum_of c.pc 4) in
     let x10 : x 10 ≡ word z = other_reg c.x 1 (sum_of c.pc 4) 10 (omega arith) ∙ number_word p (s.frame.registers 10) (c.x 10) z e (r.regs.homes 10 (omega arith)) in
     let q = l.at.puts m x (called p u g s c m r 1 imm (omega arith) h) (let b = word_small z in omega arith) in
@@ -176,7 +177,7 @@ put_line p u g l s c m r rest imm lands h code =
     x : ℕ → ℕ
     x = with_reg c.x 1 (sum_of c.pc 4)
 
-    by : (less : ℕ) (z : ℤ) (d : Done (runtime p g) m p.puts (with_reg c.x 1 (sum_of c.pc 4)) (with_reg c.x 1 (sum_of c.pc 4) 1) (put g.capacity (shown m) (with_reg c.x 1 (sum_of c.pc 4) 10)) (left m)) → d.y 10 ≡ put_answer g.capacity (shown m) (with_reg c.x 1 (sum_of c.pc 4) 10) → with_reg c.x 1 (sum_of c.pc 4) 10 % 256 ≡ nat_abs (wrap U8 z) → (b : Bool) → nat_lt (length s.output) g.capacity ≡ b → After p u g (p.longest + 1) c m (cond b (served u g 10 (Number (pos (nat_abs (wrap U8 z)))) rest s.input (s.output ++ nat_abs (wrap U8 z) ∷ []) less s) (served u g 10 (Number (negsuc 0)) rest s.input s.output less s))
+    by : (less : ℕ) (z : ℤ) (d : Done (runtime p g) m p.puts (with_reg c.x 1 (sum_of c.pc 4)) (with_reg c.x 1 (sum_of c.pc 4) 1) (put g.capacity (shown m) (with_reg c.x 1 (sum_of c.pc 4) 10)) (left m)) → d.y 10 ≡ put_answer g.capacity (shown m) (with_reg c.x 1 (sum_of c.pc 4) 10) → with_reg c.x 1 (sum_of c.pc 4) 10 % 256 ≡ nat_abs (wrap U8 z) → (b : Bool) → nat_lt (length s.output) g.capacity ≡ b → After p u g (suc less) (p.longest + 1) c m (cond b (served u g 10 (Number (pos (nat_abs (wrap U8 z)))) rest s.input (s.output ++ nat_abs (wrap U8 z) ∷ []) less s) (served u g 10 (Number (negsuc 0)) rest s.input s.output less s))
     by less z d a byte true t =
         let room : nat_lt (length (shown m)) g.capacity ≡ true = ap (λ (q : List ℕ). nat_lt (length q) g.capacity) r.output ∙ t in
         let eo : put g.capacity (shown m) (x 10) ≡ s.output ++ nat_abs (wrap U8 z) ∷ [] = ap (λ b. cond b (shown m ++ x 10 % 256 ∷ []) (shown m)) room ∙ ap (λ q. q ++ x 10 % 256 ∷ []) r.output ∙ ap (λ q. s.output ++ q ∷ []) byte in
@@ -194,21 +195,21 @@ first_byte : (m : Mem) (a n byte : ℕ) (more : List ℕ) → ((i : ℕ) → m i
 first_byte m a zero byte more h e = absurd cc
 first_byte m a (suc n) byte more h e = let f : m a ≡ byte = cc in let k = h a in omega arith
 
-get_line : (p : Linking) (u : Code) (g : Setting) → Premises p u g → (s : State) (c : Cpu) (m : Mem) (r : Rel p u g s c m) (rest : List Line) (imm : ℕ) → sum_of c.pc imm ≡ p.gets → Holds p.image c.pc (jumping 1 imm) → Stands p s.frame.function (frame_of g s.frame.function) (c.pc + 4) rest s.frame.spot.exit → After p u g (p.longest + 1) c m (does u g (GetChar 10) rest s)
+get_line : (p : Linking) (u : Code) (g : Setting) → Premises p u g → (s : State) (c : Cpu) (m : Mem) (r : Rel p u g s c m) (rest : List Line) (imm : ℕ) → sum_of c.pc imm ≡ p.gets → Holds p.image c.pc (jumping 1 imm) → Stands p s.frame.function (frame_of g s.frame.function) (c.pc + 4) rest s.frame.spot.exit → After p u g s.fuel (p.longest + 1) c m (does u g (GetChar 10) rest s)
 get_line p u g l s c m r rest imm lands h code =
-    takes_after p u g (p.longest + 1) c m s.fuel s.output _ r.output (λ less.
+    takes_after p u g s.fuel (p.longest + 1) c m s.output _ r.output (λ less.
     let x : ℕ → ℕ = with_reg c.x 1 (sum_of c.pc 4) in
     let q = l.at.gets m x (called p u g s c m r 1 imm (omega arith) h) in
     by less q.0 q.1 s.input r.input)
   where
-    by : (less : ℕ) (d : Done (runtime p g) m p.gets (with_reg c.x 1 (sum_of c.pc 4)) (with_reg c.x 1 (sum_of c.pc 4) 1) (shown m) (got (left m))) → d.y 10 ≡ got_answer (left m) → (input : List ℕ) → left m ≡ input → After p u g (p.longest + 1) c m (gets u g 10 rest input less s)
+    by : (less : ℕ) (d : Done (runtime p g) m p.gets (with_reg c.x 1 (sum_of c.pc 4)) (with_reg c.x 1 (sum_of c.pc 4) 1) (shown m) (got (left m))) → d.y 10 ≡ got_answer (left m) → (input : List ℕ) → left m ≡ input → After p u g (suc less) (p.longest + 1) c m (gets u g 10 rest input less s)
     by less d a [] e =
         served_after p u g l s c m r rest p.gets imm less _ _ s.output [] (Number (negsuc 0)) lands h code d r.output (ap got e) (a ∙ ap got_answer e ∙ sym minus_one)
     by less d a (byte ∷ input) e =
         let small = first_byte m _ _ byte input r.words.bytes e in
         served_after p u g l s c m r rest p.gets imm less _ _ s.output input (Number (pos byte)) lands h code d r.output (ap got e) (a ∙ ap got_answer e ∙ sym (word_of byte (omega arith)))
 
-cut_line : (p : Linking) (u : Code) (g : Setting) → Premises p u g → (s : State) (c : Cpu) (m : Mem) (r : Rel p u g s c m) (cause : Cause) (rest : List Line) (e imm : ℕ) → IsEntry e → sum_of c.pc imm ≡ p.checkpoint e → Holds p.image c.pc (jumping 3 imm) → Stands p s.frame.function (frame_of g s.frame.function) (c.pc + 4) rest s.frame.spot.exit → After p u g (p.longest + 1) c m (does u g (Cut cause) rest s)
+cut_line : (p : Linking) (u : Code) (g : Setting) → Premises p u g → (s : State) (c : Cpu) (m : Mem) (r : Rel p u g s c m) (cause : Cause) (rest : List Line) (e imm : ℕ) → IsEntry e → sum_of c.pc imm ≡ p.checkpoint e → Holds p.image c.pc (jumping 3 imm) → Stands p s.frame.function (frame_of g s.frame.function) (c.pc + 4) rest s.frame.spot.exit → After p u g s.fuel 39 c m (does u g (Cut cause) rest s)
 cut_line p u g l s c m r cause rest en imm entry lands h code =
     let a : ℕ = sum_of c.pc 4 in
     let x : ℕ → ℕ = with_reg c.x 3 a in
@@ -218,8 +219,8 @@ cut_line p u g l s c m r cause rest en imm entry lands h code =
     let d = q.0 in
     record {
       n = plus 1 d.n;
-      some = omega arith;
-      few = (let k = d.few in omega arith);
+      worth = omega arith;
+      few = (let k = q.3 in omega arith);
       d = record { pc = x 3; x = d.y };
       k = d.k;
       ts = d.ts;
@@ -278,24 +279,30 @@ operation_on BitXor kind = refl
 operation_on ShiftLeft kind = refl
 operation_on ShiftRight kind = signed_on kind Sra Srl refl refl
 
+page : (hi : ℕ) → sum_of (hi * 4096 % 2 ^ 32) 0 ≡ hi * 4096 % 2 ^ 32
+page hi = omega arith
+
 -- every line
-pub line_after : (p : Linking) (u : Code) (g : Setting) → Premises p u g → (s : State) (c : Cpu) (m : Mem) (r : Rel p u g s c m) (line : Line) (rest : List Line) (next : ℕ) → Selected p c.pc line next → Stands p s.frame.function (frame_of g s.frame.function) next rest s.frame.spot.exit → After p u g (line_weight (steps p) line) c m (does u g line rest s)
+pub line_after : (p : Linking) (u : Code) (g : Setting) → Premises p u g → (s : State) (c : Cpu) (m : Mem) (r : Rel p u g s c m) (line : Line) (rest : List Line) (next : ℕ) → Selected p c.pc line next → Stands p s.frame.function (frame_of g s.frame.function) next rest s.frame.spot.exit → After p u g s.fuel (line_weight (steps p) line) c m (does u g line rest s)
 line_after p u g l s c m r line rest next (Numbers to z next' home h) code =
     computes_after p u g s c m r 2 to (word z) next' (Fine (Number z)) rest home.0 (gave_constant p m c.pc c.x to (word z) next' (let q = home.0 in omega arith) r.regs.zero_reg r.fixed h) code
     (λ v e. subst (λ q. Means p q (word z)) (fine_is (Number z) v e) refl)
 line_after p u g l s c m r line rest next (Nulls to home h) code =
     computes_after p u g s c m r 1 to 0 (c.pc + 4) (Fine Null) rest home.0 (gave_one p.image m c.pc c.x (with_immediate Addi to 0 0) 0 (let q = home.0 in omega arith) r.fixed h (ap (λ z. Puts (sum_of z 0) (sum_of c.pc 4)) r.regs.zero_reg) refl) code
     (λ v e. subst (λ q. Means p q 0) (fine_is Null v e) refl)
-line_after p u g l s c m r line rest next (Copies to from home a h) code =
-    computes_after p u g s c m r 1 to (sum_of (c.x from) 0) (c.pc + 4) (Fine (s.frame.registers from)) rest home.0 (gave_one p.image m c.pc c.x (with_immediate Addi to from 0) (sum_of (c.x from) 0) (let q = home.0 in omega arith) r.fixed h refl refl) code
+line_after p u g l s c m r line rest next (Copies to from next' home a (Already same)) code =
+    computes_after p u g s c m r (cond (to == from) 0 1) to (c.x from) c.pc (Fine (s.frame.registers from)) rest home.0 (gave_none m c.pc c.x to (c.x from) _ (ap c.x same)) code
+    (λ v e. subst (λ q. Means p q (c.x from)) (fine_is (s.frame.registers from) v e) (r.regs.homes from a.0))
+line_after p u g l s c m r line rest next (Copies to from next' home a (Moved ne h)) code =
+    computes_after p u g s c m r (cond (to == from) 0 1) to (sum_of (c.x from) 0) (c.pc + 4) (Fine (s.frame.registers from)) rest home.0
+    (gave_weak m c.pc c.x to (sum_of (c.x from) 0) (c.pc + 4) 1 _ (some_steps true to from 1 ne) (gave_one p.image m c.pc c.x (with_immediate Addi to from 0) (sum_of (c.x from) 0) (let q = home.0 in omega arith) r.fixed h refl refl)) code
     (λ v e. subst (λ q. Means p q (sum_of (c.x from) 0)) (fine_is (s.frame.registers from) v e) (means_mod p (s.frame.registers from) (c.x from) (r.regs.homes from a.0)))
 line_after p u g l s c m r line rest next (Converts to kind from next' home a h) code =
-    checked_after p u g 2 c m (as_number (converted kind (s.frame.registers from))) _ (λ v e.
+    checked_after p u g s.fuel (cond (kind_size kind == 4 && to == from) 0 2) c m (as_number (converted kind (s.frame.registers from))) _ (λ v e.
     let t = then_fine (converted kind (s.frame.registers from)) _ v e in
     let q : Converted_ kind (c.x from) t.a = converted_word p kind (s.frame.registers from) (c.x from) t.a t.first (r.regs.homes from a.0) in
-    let b = computes_after p u g s c m r 2 to (word (wrap kind q.z)) next' (Fine v) rest home.0 (gave_converted p m c.pc c.x to kind from next' q.z (let z = home.0 in omega arith) q.word_is (word_small q.z) r.fixed h) code
-    (λ v' e'. subst (λ z. Means p z (word (wrap kind q.z))) (fine_is (Number t.a) v t.second ∙ fine_is v v' e') (ap word (sym q.is))) in
-    b)
+    computes_after p u g s c m r (cond (kind_size kind == 4 && to == from) 0 2) to (word (wrap kind q.z)) next' (Fine v) rest home.0 (gave_converted p m c.pc c.x to kind from next' q.z (let z = home.0 in omega arith) q.word_is (word_small q.z) r.fixed h) code
+    (λ v' e'. subst (λ z. Means p z (word (wrap kind q.z))) (fine_is (Number t.a) v t.second ∙ fine_is v v' e') (ap word (sym q.is))))
 line_after p u g l s c m r line rest next (Negates to kind from home a k h) code =
     computes_after p u g s c m r (1 + narrowing kind) to (difference_of 0 (c.x from)) (c.pc + 4) (as_number (computed_one Negate kind (s.frame.registers from))) rest home.0
     (gave_weak m c.pc c.x to (difference_of 0 (c.x from)) (c.pc + 4) 1 (1 + narrowing kind) (omega arith) (gave_one p.image m c.pc c.x (on_registers Sub to 0 from) (difference_of 0 (c.x from)) (let q = home.0 in omega arith) r.fixed h (ap (λ z. Puts (difference_of z (c.x from)) (sum_of c.pc 4)) r.regs.zero_reg) refl)) code
@@ -318,7 +325,7 @@ line_after p u g l s c m r line rest next (Nots to from home a h) code =
     let q = condition_word p s.store _ (s.frame.registers from) (c.x from) t.a r.mapped t.first (r.regs.homes from a.0) in
     ap number_as (zero_test (c.x from) ∙ ap not (sym q) ∙ fine_is (not t.a) b t.second)))
 line_after p u g l s c m r line rest next (Computes to op kind left right home a b k h) code =
-    checked_after p u g (1 + narrowing kind) c m (as_number (computed op kind (s.frame.registers left) (s.frame.registers right))) _ (λ v e.
+    checked_after p u g s.fuel (1 + narrowing kind) c m (as_number (computed op kind (s.frame.registers left) (s.frame.registers right))) _ (λ v e.
     let t = then_fine (computed op kind (s.frame.registers left) (s.frame.registers right)) _ v e in
     computes_after p u g s c m r (1 + narrowing kind) to (word t.a) (c.pc + 4) (Fine v) rest home.0
     (gave_weak m c.pc c.x to (word t.a) (c.pc + 4) 1 (1 + narrowing kind) (omega arith) (gave_one p.image m c.pc c.x (on_registers (operation op kind) to left right) (word t.a) (let q = home.0 in omega arith) r.fixed h
@@ -329,10 +336,13 @@ line_after p u g l s c m r line rest next (Compares to op kind left right next' 
     (gave_compared p m c.pc c.x to kind left right op next' (let q = home.0 in omega arith) (let q = a.0 in omega arith) (let q = b.0 in omega arith) r.regs.zero_reg r.fixed h) code
     (λ v e. truths_mean p (compared s.store op kind (s.frame.registers left) (s.frame.registers right)) v _ e (λ t f.
     sym (compared_word p s.store _ op kind (s.frame.registers left) (s.frame.registers right) (c.x left) (c.x right) t k r.mapped f (r.regs.homes left a.0) (r.regs.homes right b.0))))
-line_after p u g l s c m r line rest next (Moves to size back pointer by mid home a b small h k t) code =
-    computes_after p u g s c m r 4 to (moved_word back (c.x pointer) (size * c.x by % 2 ^ 32)) (mid + 4 + 4) (moved s.store size back (s.frame.registers pointer) (s.frame.registers by)) rest home.0
-    (gave_moved p m c.pc c.x to size back pointer by mid (let q = home.0 in omega arith) (let q = a.0 in omega arith) (let q = b.0 in omega arith) r.regs.zero_reg r.fixed h k t) code
-    (λ v e. moved_means p s.store _ size back (s.frame.registers pointer) (s.frame.registers by) v (c.x pointer) (c.x by) small r.mapped e (r.regs.homes pointer a.0) (r.regs.homes by b.0))
+line_after p u g l s c m r line rest next (Moves to size back pointer by register mid home a b small h t) code =
+    checked_after p u g s.fuel 4 c m (moved s.store size back (s.frame.registers pointer) (s.frame.registers by)) _ (λ v e.
+    let n = then_fine (number_of (s.frame.registers by)) _ v e in
+    let w : c.x by ≡ word n.a = number_word p (s.frame.registers by) (c.x by) n.a n.first (r.regs.homes by b.0) in
+    computes_after p u g s c m r 4 to (moved_word back (c.x pointer) (size * c.x by % 2 ^ 32)) (mid + 4) (Fine v) rest home.0
+    (gave_moved p m c.pc c.x to size back pointer by register mid (let q = home.0 in omega arith) (let q = a.0 in omega arith) (let q = b.0 in omega arith) r.regs.zero_reg (let q = word_small n.a in omega arith) r.fixed h t) code
+    (λ v' e'. subst (λ z. Means p z (moved_word back (c.x pointer) (size * c.x by % 2 ^ 32))) (fine_is v v' e') (moved_means p s.store _ size back (s.frame.registers pointer) (s.frame.registers by) v (c.x pointer) (c.x by) small r.mapped e (r.regs.homes pointer a.0) (r.regs.homes by b.0))))
 line_after p u g l s c m r line rest next (Measures to size left right mid home a b some small h k t) code =
     computes_after p u g s c m r 4 to (quotient (difference_of (c.x left) (c.x right)) size) (mid + 4) (as_number (distance_of s.store size (s.frame.registers left) (s.frame.registers right))) rest home.0
     (gave_distance p m c.pc c.x to size left right mid (let q = home.0 in omega arith) r.regs.zero_reg r.fixed h k t) code
@@ -344,6 +354,10 @@ line_after p u g l s c m r line rest next (Addresses to place base imm mid home 
     computes_after p u g s c m r 3 to b.w (mid + 4) (place_of place s.frame.active s.frame.registers s.store) rest home.0
     (gave_more p.image m c.pc mid c.x y.y y.n 2 (with_immediate Addi to base imm) b.w y.few (let q = home.0 in omega arith) r.fixed y.reach (λ i ne n5 n6. y.kept i n5) h (ap (λ z. Puts z (sum_of mid 4)) y.sum) refl) code
     b.means
+line_after p u g l s c m r line rest next (AddressesPage to object offset hi home split h) code =
+    computes_after p u g s c m r 3 to (hi * 4096 % 2 ^ 32) (c.pc + 4) (place_of (Static object offset) s.frame.active s.frame.registers s.store) rest home.0
+    (gave_weak m c.pc c.x to (hi * 4096 % 2 ^ 32) (c.pc + 4) 1 3 (omega arith) (gave_one p.image m c.pc c.x (upper to hi) (hi * 4096 % 2 ^ 32) (let q = home.0 in omega arith) r.fixed h refl refl)) code
+    (λ v e. subst (λ z. Means p v z) (page hi) (static_means p s.frame.active s.frame.registers s.store _ object offset hi 0 v r.mapped split e))
 line_after p u g l s c m r line rest next (Fetches to place kind access base imm mid home based_ h) code =
     let b = based p s.frame.registers s.frame.active s.store _ m c.pc c.x place base imm mid (let d = r.ordered.0 in let q = l.at.stack in omega arith) l.at.near r.linked.0 r.fixed r.mapped r.regs based_ in
     reads_after p u g s c m r to b.w base imm mid kind (site_of access kind) (read_place place kind s.frame.active s.frame.registers s.store) rest home.0 refl b.ready h code
@@ -364,6 +378,6 @@ line_after p u g l s c m r line rest next (Spills slot from access base imm mid 
     (λ f e. let q = write_slot_fine p (slot_of slot s.frame.active) (s.frame.registers from) s.store f b.shaped refl e in
     record { lands = subst (λ (z : Location). Lands p z b.w) (sym q.0) b.lands; taken = s.frame.registers from; value = means_word p (s.frame.registers from) (c.x from) (r.regs.homes from home.0); write = q.1 })
 line_after p u g l s c m r line rest next (Cuts_ cause e imm entry lands h) code = cut_line p u g l s c m r cause rest e imm entry lands h code
-line_after p u g l s c m r line rest next (Calls i count imm lands h) code = after_more p u g 10 12 c m _ (omega arith) (call_after p u g l s c m r i count imm rest lands h code)
-line_after p u g l s c m r line rest next (Gets imm lands h) code = after_more p u g (p.longest + 1) (2 + p.longest) c m _ (omega arith) (get_line p u g l s c m r rest imm lands h code)
-line_after p u g l s c m r line rest next (Puts_ imm lands h) code = after_more p u g (p.longest + 1) (2 + p.longest) c m _ (omega arith) (put_line p u g l s c m r rest imm lands h code)
+line_after p u g l s c m r line rest next (Calls i count imm lands h) code = after_more p u g s.fuel 10 12 c m _ (omega arith) (call_after p u g l s c m r i count imm rest lands h code)
+line_after p u g l s c m r line rest next (Gets imm lands h) code = after_more p u g s.fuel (p.longest + 1) (2 + p.longest) c m _ (omega arith) (get_line p u g l s c m r rest imm lands h code)
+line_after p u g l s c m r line rest next (Puts_ imm lands h) code = after_more p u g s.fuel (p.longest + 1) (2 + p.longest) c m _ (omega arith) (put_line p u g l s c m r rest imm lands h code)

@@ -1,16 +1,17 @@
 -- Places in a register and an immediate.
-use Rattle.std.proofs.Common.{◌≡◌, ◌≢◌, ℕ, zero, suc, ◌+◌, ◌*◌, ◌%◌, ◌^◌, ◌<◌, ◌≤◌, inl, inr, List, [], pos, ◌∙◌, subst, refl, arith}
+use Rattle.std.proofs.Common.{◌≡◌, ◌≢◌, ℕ, zero, suc, ◌+◌, ◌*◌, ◌%◌, ◌^◌, ◌<◌, ◌≤◌, inl, inr, List, [], pos, ap, ◌∙◌, subst, refl, arith}
 use Rattle.im_mem.specs.Memory.{Mem}
 use Rattle.im_rv.specs.declared.instr.Op.TheVariants.{Add}
 use Rattle.im_rv.specs.Steps.{sum_of, with_reg}
 use Rattle.im_rv.proofs.Straight.{same_reg, other_reg}
 use Rattle.im_rv_reach.specs.Reach.{Reach}
-use Rattle.im_rv_reach.specs.Instructions.{Fixed, on_registers, upper}
+use Rattle.im_rv_reach.specs.Instructions.{Fixed, Splits, on_registers, upper}
 use Rattle.im_rv_reach.proofs.Reach.{nothing, join, puts}
 use Rattle.im_select_operators.proofs.Words.{word_small}
 use Rattle.im_store.specs.Checks.{Fine}
 use Rattle.im_store.specs.Objects.{Named, static, Value, Number, Null, Pointer, Unset, Store}
 use Rattle.im_block.specs.declared.code.Place.{Place}
+use Rattle.im_block.specs.declared.code.Place.TheVariants.{Static}
 use Rattle.im_block.specs.Meaning.{Active, object_of, further, place_of}
 use Rattle.im_select_relation.specs.Linking.{Linking, pointer_at, address, Means}
 use Rattle.im_select_relation.specs.Selected.{Displaced, Near, Far, Based, InFrame, InStatic, Behind}
@@ -78,6 +79,14 @@ pub record ReadyAt (p : Linking) (registers : ℕ → Value) (by : Active) (stor
   pub ready : Ready p registers (pointer_at by.depth) m pc x w base imm next
   pub means : (v : Value) → place_of place by registers store ≡ Fine v → Means p v w
 
+-- the address of a static's bytes, in two parts
+pub static_means : (p : Linking) (by : Active) (registers : ℕ → Value) (store : Store) (frames : List Mark) (object offset hi lo : ℕ) (v : Value) → Mapped p store.shape frames → Splits hi lo (p.at (Named object) + offset) → place_of (Static object offset) by registers store ≡ Fine v → Means p v (sum_of (hi * 4096 % 2 ^ 32) lo)
+static_means p by registers store frames object offset hi lo v mapped split f =
+    let o = static object in
+    let b = base_static o refl in
+    let e : sum_of (sum_of (address p o) 0) offset ≡ sum_of (hi * 4096 % 2 ^ 32) lo = omega arith in
+    subst (λ z. Means p v z) e (further_means p store frames offset (Pointer o 0) v (sum_of (address p o) 0) mapped f (refl, omega arith, inl (object, refl)))
+
 pub based : (p : Linking) (registers : ℕ → Value) (by : Active) (store : Store) (frames : List Mark) (m : Mem) (pc : ℕ) (x : ℕ → ℕ) (place : Place) (base imm next : ℕ) → by.depth ≤ 1048576 → ((n : ℕ) → p.at (Named n) + p.size (Named n) < 2 ^ 31) → 0 < by.number → Fixed p.image m → Mapped p store.shape frames → RegsMean p registers (pointer_at by.depth) x → Based p pc place base imm next → ReadyAt p registers by store m pc x place base imm next
 based p registers by store frames m pc x place base imm next deep near some fixed mapped regs (InFrame object offset base' imm' next' d) =
     let o = object_of by (Named object) in
@@ -90,24 +99,19 @@ based p registers by store frames m pc x place base imm next deep near some fixe
       means = λ v f. subst (λ z. Means p v z) e (further_means p store frames offset (Pointer o 0) v (sum_of (address p o) 0) mapped f (refl, omega arith, inr (some, omega arith, (let n = near object in omega arith))));
     }
 based p registers by store frames m pc x place base imm next deep near some fixed mapped regs (InStatic object offset hi lo split h) =
-    let o = static object in
-    let b = base_static o refl in
     let a : ℕ = hi * 4096 % 2 ^ 32 in
-    let y : ℕ → ℕ = with_reg x 5 a in
-    let f : y 5 ≡ a = same_reg x 5 a (omega arith) in
-    let e : sum_of (sum_of (address p o) 0) offset ≡ sum_of (y 5) lo = omega arith in
     record {
-      w = sum_of (y 5) lo;
+      w = sum_of a lo;
       ready = record {
         n = 1;
         few = omega arith;
-        y = y;
+        y = with_reg x 5 a;
         reach = puts p.image m pc x (upper 5 hi) a fixed h refl refl;
         regs = set_scratch p registers (pointer_at by.depth) x 5 a (omega arith) (omega arith) (omega arith) regs;
         kept = λ i ne. other_reg x 5 a i ne;
-        sum = refl;
+        sum = ap (λ z. sum_of z lo) (same_reg x 5 a (omega arith));
       };
-      means = λ v q. subst (λ z. Means p v z) e (further_means p store frames offset (Pointer o 0) v (sum_of (address p o) 0) mapped q (refl, omega arith, inl (object, refl)));
+      means = λ v q. static_means p by registers store frames object offset hi lo v mapped split q;
     }
 based p registers by store frames m pc x place base imm next deep near some fixed mapped regs (Behind r offset base' imm' next' home d) = record {
   w = sum_of (x r) offset;

@@ -81,10 +81,10 @@ pub record Rel (p : Linking) (u : Code) (g : Setting) (s : State) (c : Cpu) (m :
   pub slots : SlotsShaped s.store.shape
   pub statics : (o : Object) → o.activation ≡ 0 → s.store.shape o ≡ (with_statics (statics_of u)).shape o
 
--- what a step of placed code is on the machine: some steps, at most so many
-pub record Advanced (p : Linking) (u : Code) (g : Setting) (words : ℕ) (c : Cpu) (m : Mem) (s : State) (events : List Event) : Type 0 where
+-- what a step of placed code is on the machine: steps, at most so many, and one at least for a unit of fuel that it takes
+pub record Advanced (p : Linking) (u : Code) (g : Setting) (fuel words : ℕ) (c : Cpu) (m : Mem) (s : State) (events : List Event) : Type 0 where
   pub n : ℕ
-  pub some : 0 < n
+  pub worth : fuel ≤ s.fuel + n
   pub few : n ≤ words
   pub d : Cpu
   pub k : Mem
@@ -108,19 +108,19 @@ pub record Finished (p : Linking) (u : Code) (words : ℕ) (c : Cpu) (m : Mem) (
   pub output_is : shown k ≡ output
   pub statics : ShowsStatics p u shows k
 
-abbrev pub After : Linking → Code → Setting → ℕ → Cpu → Mem → Next → Type 0
-After p u g words c m (Goes s events) = Advanced p u g words c m s events
-After p u g words c m (Stops (End reason status output shows) events) = Finished p u words c m reason status output shows events
-After p u g words c m (Stops (More output) events) = (events ≡ []) × (shown m ≡ output)
-After p u g words c m (Stops (Undef why) events) = Unit {0}
+abbrev pub After : Linking → Code → Setting → ℕ → ℕ → Cpu → Mem → Next → Type 0
+After p u g fuel words c m (Goes s events) = Advanced p u g fuel words c m s events
+After p u g fuel words c m (Stops (End reason status output shows) events) = Finished p u words c m reason status output shows events
+After p u g fuel words c m (Stops (More output) events) = (events ≡ []) × (shown m ≡ output)
+After p u g fuel words c m (Stops (Undef why) events) = Unit {0}
 
-pub checked_after : {A : Type 0} (p : Linking) (u : Code) (g : Setting) (words : ℕ) (c : Cpu) (m : Mem) (o : Checked A) (go : A → Next) → ((a : A) → o ≡ Fine a → After p u g words c m (go a)) → After p u g words c m (on_checked o go)
-checked_after p u g words c m (Fine a) go h = h a refl
-checked_after p u g words c m (Bad why) go h = tt
+pub checked_after : {A : Type 0} (p : Linking) (u : Code) (g : Setting) (fuel words : ℕ) (c : Cpu) (m : Mem) (o : Checked A) (go : A → Next) → ((a : A) → o ≡ Fine a → After p u g fuel words c m (go a)) → After p u g fuel words c m (on_checked o go)
+checked_after p u g fuel words c m (Fine a) go h = h a refl
+checked_after p u g fuel words c m (Bad why) go h = tt
 
-pub takes_after : (p : Linking) (u : Code) (g : Setting) (words : ℕ) (c : Cpu) (m : Mem) (fuel : ℕ) (output : List ℕ) (go : ℕ → Next) → shown m ≡ output → ((less : ℕ) → After p u g words c m (go less)) → After p u g words c m (takes fuel output go)
-takes_after p u g words c m zero output go same h = (refl, same)
-takes_after p u g words c m (suc less) output go same h = h less
+pub takes_after : (p : Linking) (u : Code) (g : Setting) (fuel words : ℕ) (c : Cpu) (m : Mem) (output : List ℕ) (go : ℕ → Next) → shown m ≡ output → ((less : ℕ) → After p u g (suc less) words c m (go less)) → After p u g fuel words c m (takes fuel output go)
+takes_after p u g zero words c m output go same h = (refl, same)
+takes_after p u g (suc less) words c m output go same h = h less
 
 -- to other lines of the function, with other registers
 pub moved_rel : (p : Linking) (u : Code) (g : Setting) (s : State) (c : Cpu) (m : Mem) (r : Rel p u g s c m) (pc : ℕ) (x : ℕ → ℕ) (spot : Spot) (registers : ℕ → Value) (fuel : ℕ) → Stands p s.frame.function (frame_of g s.frame.function) pc spot.rest spot.exit → RegsMean p registers (pointer_at s.frame.active.depth) x → Rel p u g (record s { frame = record s.frame { spot = spot; registers = registers }; fuel = fuel }) (record { pc = pc; x = x }) m

@@ -213,11 +213,11 @@ abbrev pub Sound : Linking → Next → Type 0
 Sound p (Goes s ev) = Mapped p s.store.shape (marks (s.frame ∷ s.callers)) × AllLinked s.store.shape (marks (s.frame ∷ s.callers))
 Sound p (Stops o ev) = Unit {0}
 
-pub sound_after : (p : Linking) (u : Code) (g : Setting) (words : ℕ) (c : Cpu) (m : Mem) (next : Next) → After p u g words c m next → Sound p next
-sound_after p u g words c m (Goes s ev) a = let r = a.rel in (r.mapped, r.linked)
-sound_after p u g words c m (Stops (End reason status output shows) ev) a = tt
-sound_after p u g words c m (Stops (More output) ev) a = tt
-sound_after p u g words c m (Stops (Undef why) ev) a = tt
+pub sound_after : (p : Linking) (u : Code) (g : Setting) (fuel words : ℕ) (c : Cpu) (m : Mem) (next : Next) → After p u g fuel words c m next → Sound p next
+sound_after p u g fuel words c m (Goes s ev) a = let r = a.rel in (r.mapped, r.linked)
+sound_after p u g fuel words c m (Stops (End reason status output shows) ev) a = tt
+sound_after p u g fuel words c m (Stops (More output) ev) a = tt
+sound_after p u g fuel words c m (Stops (Undef why) ev) a = tt
 
 -- a step whose events begin with a cut
 abbrev pub CutFirst : Next → Type 0

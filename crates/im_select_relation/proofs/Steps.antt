@@ -38,7 +38,7 @@ use Rattle.im_select_relation.proofs.Checks.{found_fine}
 use Rattle.im_select_relation.proofs.Cells.{Memory}
 use Rattle.im_select_relation.proofs.Shapes.{Premises}
 use Rattle.im_select_relation.proofs.Relation.{Rel, SlotsShaped, Advanced, Finished, After, checked_after, takes_after, moved_rel}
-use Rattle.im_select_relation.proofs.Ends.{jumps, tested_yes, tested_no}
+use Rattle.im_select_relation.proofs.Ends.{jumps, continues, tested_yes, tested_no}
 use Rattle.im_select_relation.proofs.Operators.{condition_word}
 use Rattle.im_select_relation.proofs.Calls.{first_after, enter_after, back_after, clears, gives}
 use Rattle.im_select_relation.proofs.Lines.{line_after}
@@ -52,15 +52,15 @@ same_regs p registers sp x y m same = record {
 }
 
 -- to a block of the function
-to_block : (p : Linking) (u : Code) (g : Setting) → Premises p u g → (s : State) (c : Cpu) (m : Mem) (r : Rel p u g s c m) (words n b fuel : ℕ) (y : ℕ → ℕ) → 0 < n → n ≤ words → Reach n [] c m (record { pc = p.place s.frame.function b; x = y }) m → ((i : ℕ) → y i ≡ c.x i) → After p u g words c m (goes_to u g b fuel s)
-to_block p u g l s c m r words n b fuel y some few reach kept =
-    checked_after p u g words c m _ _ (λ f is0.
-    checked_after p u g words c m _ _ (λ block found0.
+to_block : (p : Linking) (u : Code) (g : Setting) → Premises p u g → (s : State) (c : Cpu) (m : Mem) (r : Rel p u g s c m) (words n b more fuel : ℕ) (y : ℕ → ℕ) → more ≤ fuel + n → n ≤ words → Reach n [] c m (record { pc = p.place s.frame.function b; x = y }) m → ((i : ℕ) → y i ≡ c.x i) → After p u g more words c m (goes_to u g b fuel s)
+to_block p u g l s c m r words n b more fuel y worth few reach kept =
+    checked_after p u g more words c m _ _ (λ f is0.
+    checked_after p u g more words c m _ _ (λ block found0.
     let is : slice_get u.functions.items s.frame.function ≡ Some f = found_fine _ f is0 in
     let found : slice_get f.blocks.items b ≡ Some block = found_fine _ block found0 in
     record {
       n = n;
-      some = some;
+      worth = worth;
       few = few;
       d = record { pc = p.place s.frame.function b; x = y };
       k = m;
@@ -71,31 +71,31 @@ to_block p u g l s c m r words n b fuel y some few reach kept =
       rel = moved_rel p u g s c m r (p.place s.frame.function b) y (at_block b block) s.frame.registers fuel ((l.at.functions s.frame.function f is).blocks b block found) (same_regs p s.frame.registers (pointer_at s.frame.active.depth) c.x y r.regs kept);
     }))
 
-branch_after : (p : Linking) (u : Code) (g : Setting) → Premises p u g → (s : State) (c : Cpu) (m : Mem) (r : Rel p u g s c m) (on a b : ℕ) (t : Bool) → t ≡ not (c.x on == 0) → Tested p c.pc on (p.place s.frame.function a) (p.place s.frame.function b) → After p u g 3 c m (goes_to u g (cond t a b) s.fuel s)
-branch_after p u g l s c m r on a b false e t = let q = tested_no p m c.pc c.x on _ _ r.fixed r.regs.zero_reg (is_zero (c.x on) e) t in to_block p u g l s c m r 3 q.n b s.fuel q.y q.some (let z = q.few in omega arith) q.reach q.kept
+branch_after : (p : Linking) (u : Code) (g : Setting) → Premises p u g → (s : State) (c : Cpu) (m : Mem) (r : Rel p u g s c m) (on a b : ℕ) (t : Bool) → t ≡ not (c.x on == 0) → Tested p c.pc on (p.place s.frame.function a) (p.place s.frame.function b) → After p u g s.fuel 3 c m (goes_to u g (cond t a b) s.fuel s)
+branch_after p u g l s c m r on a b false e t = let q = tested_no p m c.pc c.x on _ _ r.fixed r.regs.zero_reg (is_zero (c.x on) e) t in to_block p u g l s c m r 3 q.n b s.fuel s.fuel q.y (omega arith) (let z = q.few in omega arith) q.reach q.kept
   where
     is_zero : (w : ℕ) → false ≡ not (w == 0) → w ≡ 0
     is_zero zero h = refl
     is_zero (suc w) h = absurd (let t : (suc w == 0) ≡ false = grind (arith, nat_tests) in let d = ap not t in cc (h, d))
-branch_after p u g l s c m r on a b true e t = let q = tested_yes p m c.pc c.x on _ _ r.fixed r.regs.zero_reg (not_zero (c.x on) e) t in to_block p u g l s c m r 3 q.n a s.fuel q.y q.some (let z = q.few in omega arith) q.reach q.kept
+branch_after p u g l s c m r on a b true e t = let q = tested_yes p m c.pc c.x on _ _ r.fixed r.regs.zero_reg (not_zero (c.x on) e) t in to_block p u g l s c m r 3 q.n a s.fuel s.fuel q.y (omega arith) (let z = q.few in omega arith) q.reach q.kept
   where
     not_zero : (w : ℕ) → true ≡ not (w == 0) → w ≢ 0
     not_zero w h f = let t : (w == 0) ≡ true = grind (arith, nat_tests) in let d = ap not t in absurd (cc (h, d))
 
-exit_after : (p : Linking) (u : Code) (g : Setting) → Premises p u g → (s : State) (c : Cpu) (m : Mem) (r : Rel p u g s c m) (exit : Exit) → ExitAt p s.frame.function (frame_of g s.frame.function) c.pc exit → After p u g (exit_words exit) c m (leaves u g exit s)
-exit_after p u g l s c m r (Jump b) h = let j = jumps p m c.pc c.x _ r.fixed h in to_block p u g l s c m r 1 1 b s.fuel j.y (omega arith) (omega arith) j.reach j.kept
-exit_after p u g l s c m r (Turn b) h = let j = jumps p m c.pc c.x _ r.fixed h in takes_after p u g 1 c m s.fuel s.output _ r.output (λ less. to_block p u g l s c m r 1 1 b less j.y (omega arith) (omega arith) j.reach j.kept)
+exit_after : (p : Linking) (u : Code) (g : Setting) → Premises p u g → (s : State) (c : Cpu) (m : Mem) (r : Rel p u g s c m) (exit : Exit) → ExitAt p s.frame.function (frame_of g s.frame.function) c.pc exit → After p u g s.fuel (exit_words exit) c m (leaves u g exit s)
+exit_after p u g l s c m r (Jump b) h = let j = continues p m c.pc c.x _ r.fixed h in to_block p u g l s c m r 1 j.n b s.fuel s.fuel j.y (omega arith) j.few j.reach j.kept
+exit_after p u g l s c m r (Turn b) h = let j = jumps p m c.pc c.x _ r.fixed h in takes_after p u g s.fuel 1 c m s.output _ r.output (λ less. to_block p u g l s c m r 1 1 b (suc less) less j.y (omega arith) (omega arith) j.reach j.kept)
 exit_after p u g l s c m r (Branch on a b) h =
-    checked_after p u g 3 c m (condition s.store (s.frame.registers on)) _ (λ t e.
+    checked_after p u g s.fuel 3 c m (condition s.store (s.frame.registers on)) _ (λ t e.
     branch_after p u g l s c m r on a b t (condition_word p s.store _ (s.frame.registers on) (c.x on) t r.mapped e (r.regs.homes on h.0.0)) h.1)
 exit_after p u g l s c m r (Return None) h = back_after p u g l s c m r s.callers Unset (clears p m c.pc c.x (frame_of g s.frame.function) h.0 h.1) r.mapped r.ordered r.linked r.chain
 exit_after p u g l s c m r (Return (Some k)) h = back_after p u g l s c m r s.callers (s.frame.registers k) (gives p m c.pc c.x (frame_of g s.frame.function) (s.frame.registers k) (subst (λ z. Means p (s.frame.registers z) (c.x 10)) (sym h.0) (r.regs.homes 10 (omega arith))) h.1) r.mapped r.ordered r.linked r.chain
 
-step_by : (p : Linking) (u : Code) (g : Setting) → Premises p u g → (s : State) (c : Cpu) (m : Mem) (r : Rel p u g s c m) (lines : List Line) → Stands p s.frame.function (frame_of g s.frame.function) c.pc lines s.frame.spot.exit → After p u g (next_weight (steps p) lines s.frame.spot.exit) c m (step_at u g lines s)
+step_by : (p : Linking) (u : Code) (g : Setting) → Premises p u g → (s : State) (c : Cpu) (m : Mem) (r : Rel p u g s c m) (lines : List Line) → Stands p s.frame.function (frame_of g s.frame.function) c.pc lines s.frame.spot.exit → After p u g s.fuel (next_weight (steps p) lines s.frame.spot.exit) c m (step_at u g lines s)
 step_by p u g l s c m r [] code = exit_after p u g l s c m r s.frame.spot.exit code
 step_by p u g l s c m r (line ∷ rest) code = line_after p u g l s c m r line rest code.0 code.1 code.2
 
-pub step_after : (p : Linking) (u : Code) (g : Setting) → Premises p u g → (s : State) (c : Cpu) (m : Mem) → Rel p u g s c m → After p u g (spot_weight (steps p) s.frame.spot) c m (step u g s)
+pub step_after : (p : Linking) (u : Code) (g : Setting) → Premises p u g → (s : State) (c : Cpu) (m : Mem) → Rel p u g s c m → After p u g s.fuel (spot_weight (steps p) s.frame.spot) c m (step u g s)
 step_after p u g l s c m r = step_by p u g l s c m r s.frame.spot.rest r.code
 
 pub touches_append : (p : Linking) (a b : List Event) (ts us : List Touch) → Touches p a ts → Touches p b us → Touches p (a ++ b) (ts ++ us)
@@ -180,10 +180,10 @@ shows_more p u (More output) n n' j j' r r' e le h = (ap (λ (s : Stepped). s.we
 shows_more p u (Undef why) n n' j j' r r' e le h = absurd h
 
 -- a step, and what follows it
-before_it : (p : Linking) (u : Code) (g : Setting) (s : State) (c : Cpu) (m : Mem) (fuel words : ℕ) (o : Outcome) (events more run : List Event) (most : ℕ) (a : Advanced p u g words c m s more) → fuel ≤ s.fuel + 1 → Followed p u a.d a.k s.fuel o (events ++ more) run most → Followed p u c m fuel o events run (words + most)
-before_it p u g s c m fuel words o events more run most a paid f = record {
+before_it : (p : Linking) (u : Code) (g : Setting) (s : State) (c : Cpu) (m : Mem) (fuel words : ℕ) (o : Outcome) (events more run : List Event) (most : ℕ) (a : Advanced p u g fuel words c m s more) → Followed p u a.d a.k s.fuel o (events ++ more) run most → Followed p u c m fuel o events run (words + most)
+before_it p u g s c m fuel words o events more run most a f = record {
   j = plus a.n f.j;
-  shows = shows_more p u o s.fuel fuel f.j (plus a.n f.j) (runs f.j a.d a.k) _ (a.reach.ran f.j) (λ k. let q = plus_is a.n f.j in let z = a.some in omega arith) f.shows;
+  shows = shows_more p u o s.fuel fuel f.j (plus a.n f.j) (runs f.j a.d a.k) _ (a.reach.ran f.j) (λ k. let q = plus_is a.n f.j in let z = a.worth in omega arith) f.shows;
   soon = (let q = plus_is a.n f.j in let z = a.few in let y = f.soon in omega arith);
   more = more ++ f.more;
   split = f.split ∙ append_assoc events more f.more;
@@ -215,8 +215,8 @@ followed_at p u c m fuel o q events a b most e f =
     let k = over_is o q a b e in
     subst (λ z. Followed p u c m fuel q events z most) k.1 (subst (λ z. Followed p u c m fuel z events a most) k.0 f)
 
-pub follow_next : (p : Linking) (u : Code) (g : Setting) (k : ℕ) (o : Outcome) (run : List Event) → ((s : State) (c : Cpu) (m : Mem) (events : List Event) → Rel p u g s c m → exec u g k s events ≡ Over o run → Followed p u c m s.fuel o events run (spent u g (steps p) k s)) → (next : Next) (c : Cpu) (m : Mem) (fuel words : ℕ) (events : List Event) → IsDefined o → Paid fuel next → After p u g words c m next → goes_on next (exec u g k) events ≡ Over o run → Followed p u c m fuel o events run (words + after next (spent u g (steps p) k))
-follow_next p u g k o run rec (Goes s more) c m fuel words events right paid a e = before_it p u g s c m fuel words o events more run (spent u g (steps p) k s) a paid (rec s a.d a.k (events ++ more) a.rel e)
+pub follow_next : (p : Linking) (u : Code) (g : Setting) (k : ℕ) (o : Outcome) (run : List Event) → ((s : State) (c : Cpu) (m : Mem) (events : List Event) → Rel p u g s c m → exec u g k s events ≡ Over o run → Followed p u c m s.fuel o events run (spent u g (steps p) k s)) → (next : Next) (c : Cpu) (m : Mem) (fuel words : ℕ) (events : List Event) → IsDefined o → Paid fuel next → After p u g fuel words c m next → goes_on next (exec u g k) events ≡ Over o run → Followed p u c m fuel o events run (words + after next (spent u g (steps p) k))
+follow_next p u g k o run rec (Goes s more) c m fuel words events right paid a e = before_it p u g s c m fuel words o events more run (spent u g (steps p) k s) a (rec s a.d a.k (events ++ more) a.rel e)
 follow_next p u g k o run rec (Stops (End reason status output shows) more) c m fuel words events right paid a e = followed_at p u c m fuel (End reason status output shows) o events (events ++ more) run (words + 0) e (ended p u c m fuel reason status words 0 output shows events more a)
 follow_next p u g k o run rec (Stops (More output) more) c m fuel words events right paid a e = followed_at p u c m fuel (More output) o events (events ++ more) run (words + 0) e (starved p u c m fuel words 0 output events more a paid)
 follow_next p u g k o run rec (Stops (Undef why) more) c m fuel words events right paid a e = absurd (subst IsDefined (sym (over_is (Undef why) o (events ++ more) run e).0) right)
@@ -296,8 +296,8 @@ slots_first u o n sh e h = let k = static_lies u o sh h in absurd (none (ap (sta
     none : None ≡ Some sh → ⊥
     none k = cc
 
-pub begin_after : (p : Linking) (u : Code) (g : Setting) → Premises p u g → (x : ℕ → ℕ) (n : ℕ) → x 0 ≡ 0 → x 2 ≡ 3145728 → After p u g 10 (record { pc = p.begin; x = x }) p.image (start u g n)
-begin_after p u g l x n x0 x2 = first_after p u g 9 (record { pc = p.begin; x = x }) (record { pc = p.entry u.main; x = with_reg x 1 (sum_of p.begin 4) }) p.image _
+pub begin_after : (p : Linking) (u : Code) (g : Setting) → Premises p u g → (x : ℕ → ℕ) (n : ℕ) → x 0 ≡ 0 → x 2 ≡ 3145728 → After p u g n 10 (record { pc = p.begin; x = x }) p.image (start u g n)
+begin_after p u g l x n x0 x2 = first_after p u g n n 9 (record { pc = p.begin; x = x }) (record { pc = p.entry u.main; x = with_reg x 1 (sum_of p.begin 4) }) p.image _ (omega arith)
     (leaps p.image p.image p.begin x (jumping 1 l.at.call) (sum_of p.begin 4) (p.entry u.main) (λ a above less. refl) l.at.begins (ap (Puts (sum_of p.begin 4)) l.at.lands) (no_back p.begin (jumping 1 l.at.call) p.image (p.entry u.main) refl))
     (let h = l.at.begins in
     let low = h.low in

@@ -1,7 +1,7 @@
 -- What the machine does where a unit of placed code is selected and linked.
-use Rattle.std.specs.Prelude.{◌≡◌, ◌≢◌, ◌<◌, ◌≤◌, ℕ, zero, suc, ◌+◌, List, [], ◌∷◌, ◌++◌, replicate, Some, slice_get}
+use Rattle.std.specs.Prelude.{◌≡◌, ◌≢◌, ◌<◌, ◌≤◌, ℕ, zero, suc, ◌+◌, ◌==◌, ◌&&◌, Bool, false, if◌then◌else◌, List, [], ◌∷◌, ◌++◌, replicate, Some, slice_get}
 use Rattle.im_num.specs.declared.kind.Kind.{Kind}
-use Rattle.im_num.specs.Kinds.{word}
+use Rattle.im_num.specs.Kinds.{kind_size, word}
 use Rattle.im_num.specs.Variables.{Variable}
 use Rattle.im_mem.specs.Map.{status_at, reason_at, stack_end}
 use Rattle.im_mem.specs.Memory.{Mem, little}
@@ -16,7 +16,7 @@ use Rattle.im_store.specs.Objects.{Link, Object, static, Store, kind_at}
 use Rattle.im_store.specs.Statics.{StaticObject}
 use Rattle.im_store.specs.Outcomes.{Outcome, Undef, More, End, IsDefined, variables}
 use Rattle.im_block.specs.declared.code.Line.{Line}
-use Rattle.im_block.specs.declared.code.Line.TheVariants.{Cut}
+use Rattle.im_block.specs.declared.code.Line.TheVariants.{Copy, Convert, Cut}
 use Rattle.im_block.specs.declared.unit.Unit.{Unit as Code}
 use Rattle.im_block.specs.Meaning.{Setting, Active, Site, object_of, statics_of, Event, Reads, Writes, Tests, Saves, Restores, Serves, Cuts}
 use Rattle.im_block.specs.Runs.{start, Runs}
@@ -40,10 +40,16 @@ pub data Touches (p : Linking) : List Event → List Touch → Type 0 where
   Serving : (flips : ℕ) (run : List Event) (ts : List Touch) → flips ≤ p.flips → Touches p run ts → Touches p (Serves ∷ run) (replicate flips Flipped ++ ts)
   Cutting : (run : List Event) (ts : List Touch) → Touches p run ts → Touches p (Cuts ∷ run) (Flipped ∷ ts)
 
--- steps that a line makes, at most: its words, and for a cut those of the routine
+-- a register is copied to itself, which is no instruction
+abbrev pub is_nothing : Line → Bool
+is_nothing (Copy to from) = to == from
+is_nothing (Convert to kind from) = kind_size kind == 4 && to == from
+is_nothing line = false
+
+-- steps that a line makes, at most: its words, and for a cut its jump and the checkpoint
 abbrev pub steps_of : Linking → Line → ℕ
-steps_of p (Cut cause) = p.longest + 1
-steps_of p line = words_of line
+steps_of p (Cut cause) = 39
+steps_of p line = if is_nothing line then 0 else words_of line
 
 abbrev pub steps : Linking → Weights
 steps p = record { line = steps_of p; exit = exit_words; entry = 10; routine = p.longest }

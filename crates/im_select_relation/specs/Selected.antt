@@ -1,12 +1,12 @@
 -- What stands in memory for lines, exits and entries, as instructions.
 use Rattle.std.specs.Prelude.{◌≡◌, ◌≢◌, ◌<◌, ◌⊎◌, ℕ, ◌+◌, ◌-◌, ◌*◌, ◌^◌, Bool, true, false, if◌then◌else◌, List, [], ◌∷◌, Option, Some, None}
 use Rattle.im_num.specs.declared.kind.Kind.{Kind}
-use Rattle.im_num.specs.declared.kind.Kind.TheVariants.{I32, U32, Ptr}
+use Rattle.im_num.specs.declared.kind.Kind.TheVariants.{U8, I32, U32, Ptr}
 use Rattle.im_num.specs.declared.values.Cause.{Cause}
 use Rattle.im_num.specs.Kinds.{kind_size, word}
 use Rattle.im_mem.specs.Map.{stack_lim_at}
 use Rattle.im_rv.specs.declared.instr.Op.{Op}
-use Rattle.im_rv.specs.declared.instr.Op.TheVariants.{Jalr, Beq, Bne, Bltu, Bgeu, Lw, Sw, Addi, Sltiu, Xori, Slli, Srli, Srai, Add as AddOp, Sub, Sltu, Mul, Div}
+use Rattle.im_rv.specs.declared.instr.Op.TheVariants.{Jalr, Beq, Bne, Bltu, Bgeu, Lw, Sw, Addi, Sltiu, Xori, Andi, Slli, Srli, Srai, Add as AddOp, Sub, Sltu, Mul, Div}
 use Rattle.im_rv.specs.Steps.{sum_of}
 use Rattle.im_rv_reach.specs.Instructions.{Holds, Splits, with_immediate, on_registers, storing, branching, upper, jumping}
 use Rattle.im_store.specs.declared.operators.BinaryOp.{BinaryOp}
@@ -65,10 +65,22 @@ pub data Compared (p : Linking) (pc to : ℕ) (less : Op) (left right : ℕ) : C
 abbrev pub unused_bits : Kind → ℕ
 unused_bits kind = 32 - 8 * kind_size kind
 
+-- from pc to next, a register copied to another, or to itself by no instruction
+pub data Copied (p : Linking) (pc to from : ℕ) : ℕ → Type 0 where
+  Already : to ≡ from → Copied p pc to from pc
+  Moved : to ≢ from → Holds p.image pc (with_immediate Addi to from 0) → Copied p pc to from (pc + 4)
+
 -- from pc to next, a value brought into a kind
 pub data Converted (p : Linking) (pc to : ℕ) (kind : Kind) (from : ℕ) : ℕ → Type 0 where
-  Whole : IsPromoted kind → Holds p.image pc (with_immediate Addi to from 0) → Converted p pc to kind from (pc + 4)
+  Whole : (next : ℕ) → IsPromoted kind → Copied p pc to from next → Converted p pc to kind from next
+  Masked : kind ≡ U8 → Holds p.image pc (with_immediate Andi to from 255) → Converted p pc to kind from (pc + 4)
   Narrowed : kind ≢ I32 → kind ≢ U32 → kind ≢ Ptr → Holds p.image pc (with_immediate Slli to from (unused_bits kind)) → Holds p.image (pc + 4) (with_immediate (by_sign kind Srai Srli) to to (unused_bits kind)) → Converted p pc to kind from (pc + 4 + 4)
+
+-- from pc to next, lines after which a register has so many times `by`: that itself, or x5
+pub data Scaled (p : Linking) (pc size by : ℕ) : ℕ → ℕ → Type 0 where  -- register, next
+  Bytes : size ≡ 1 → Scaled p pc size by by pc
+  Shifted : (bits : ℕ) → bits < 32 → size ≡ 2 ^ bits → Holds p.image pc (with_immediate Slli 5 by bits) → Scaled p pc size by 5 (pc + 4)
+  Multiplied : (mid : ℕ) → Constant p pc 5 size mid → Holds p.image mid (on_registers Mul 5 5 by) → Scaled p pc size by 5 (mid + 4)
 
 -- the entries of the checkpoint routine, by the last register that they save
 abbrev pub IsEntry : ℕ → Type 0
@@ -78,16 +90,17 @@ IsEntry m = (3 < m) × (m < 32)
 pub data Selected (p : Linking) (pc : ℕ) : Line → ℕ → Type 0 where
   Numbers : (to : ℕ) (z : Rattle.std.specs.Prelude.ℤ) (next : ℕ) → IsHome to → Constant p pc to (word z) next → Selected p pc (Put to z) next
   Nulls : (to : ℕ) → IsHome to → Holds p.image pc (with_immediate Addi to 0 0) → Selected p pc (PutNull to) (pc + 4)
-  Copies : (to from : ℕ) → IsHome to → IsHome from → Holds p.image pc (with_immediate Addi to from 0) → Selected p pc (Copy to from) (pc + 4)
+  Copies : (to from next : ℕ) → IsHome to → IsHome from → Copied p pc to from next → Selected p pc (Copy to from) next
   Converts : (to : ℕ) (kind : Kind) (from next : ℕ) → IsHome to → IsHome from → Converted p pc to kind from next → Selected p pc (Convert to kind from) next
   Negates : (to : ℕ) (kind : Kind) (from : ℕ) → IsHome to → IsHome from → IsPromoted kind → Holds p.image pc (on_registers Sub to 0 from) → Selected p pc (Unary to Negate kind from) (pc + 4)
   Complements : (to : ℕ) (kind : Kind) (from : ℕ) → IsHome to → IsHome from → IsPromoted kind → Holds p.image pc (with_immediate Xori to from ones) → Selected p pc (Unary to Complement kind from) (pc + 4)
   Nots : (to from : ℕ) → IsHome to → IsHome from → Holds p.image pc (with_immediate Sltiu to from 1) → Selected p pc (Not to from) (pc + 4)
   Computes : (to : ℕ) (op : BinaryOp) (kind : Kind) (left right : ℕ) → IsHome to → IsHome left → IsHome right → IsPromoted kind → Holds p.image pc (on_registers (operation op kind) to left right) → Selected p pc (Compute to op kind left right) (pc + 4)
   Compares : (to : ℕ) (op : Comparison) (kind : Kind) (left right next : ℕ) → IsHome to → IsHome left → IsHome right → IsPromoted kind ⊎ (kind ≡ Ptr) → Compared p pc to (less_op kind) left right op next → Selected p pc (Compare to op kind left right) next
-  Moves : (to size : ℕ) (back : Bool) (pointer by mid : ℕ) → IsHome to → IsHome pointer → IsHome by → size < 2 ^ 32 → Constant p pc 5 size mid → Holds p.image mid (on_registers Mul 5 5 by) → Holds p.image (mid + 4) (on_registers (if back then Sub else AddOp) to pointer 5) → Selected p pc (Move to size back pointer by) (mid + 4 + 4)
+  Moves : (to size : ℕ) (back : Bool) (pointer by scaled mid : ℕ) → IsHome to → IsHome pointer → IsHome by → size < 2 ^ 32 → Scaled p pc size by scaled mid → Holds p.image mid (on_registers (if back then Sub else AddOp) to pointer scaled) → Selected p pc (Move to size back pointer by) (mid + 4)
   Measures : (to size left right mid : ℕ) → IsHome to → IsHome left → IsHome right → 0 < size → size < 2 ^ 31 → Holds p.image pc (on_registers Sub 5 left right) → Constant p (pc + 4) 6 size mid → Holds p.image mid (on_registers Div to 5 6) → Selected p pc (Distance to size left right) (mid + 4)
   Addresses : (to : ℕ) (place : Place) (base imm next : ℕ) → IsHome to → Based p pc place base imm next → Holds p.image next (with_immediate Addi to base imm) → Selected p pc (Address to place) (next + 4)
+  AddressesPage : (to object offset hi : ℕ) → IsHome to → Splits hi 0 (p.at (Named object) + offset) → Holds p.image pc (upper to hi) → Selected p pc (Address to (Static object offset)) (pc + 4)
   Fetches : (to : ℕ) (place : Place) (kind : Kind) (access base imm next : ℕ) → IsHome to → Based p pc place base imm next → Holds p.image next (with_immediate (load_op kind) to base imm) → Selected p pc (Read to place kind access) (next + 4)
   StoresValue : (place : Place) (kind : Kind) (from access base imm next : ℕ) → IsHome from → Based p pc place base imm next → Holds p.image next (storing (store_op kind) base from imm) → Selected p pc (Write place kind from access) (next + 4)
   Reloads : (to slot access base imm next : ℕ) → IsHome to → Displaced p pc 2 (p.at (Slot slot)) base imm next → Holds p.image next (with_immediate Lw to base imm) → Selected p pc (Reload to slot access) (next + 4)
@@ -103,10 +116,17 @@ pub record Jumps (p : Linking) (pc target : ℕ) : Type 0 where
   pub lands : sum_of pc imm ≡ target
   pub jumps : Holds p.image pc (jumping 0 imm)
 
--- a test of a register, near or over a jump
+-- on from pc to a block: it stands there, or a jump leads to it
+pub data Continues (p : Linking) (pc target : ℕ) : Type 0 where
+  Falls : pc ≡ target → Continues p pc target
+  Leaps : Jumps p pc target → Continues p pc target
+
+-- a test of a register: a branch to one of the two, near or over a jump, and on to the other
 pub data Tested (p : Linking) (pc on there other : ℕ) : Type 0 where
-  Reached : (imm : ℕ) → sum_of pc imm ≡ there → Holds p.image pc (branching Bne on 0 imm) → Jumps p (pc + 4) other → Tested p pc on there other
-  Hopped : Holds p.image pc (branching Beq on 0 8) → Jumps p (pc + 4) there → Jumps p (pc + 8) other → Tested p pc on there other
+  Reached : (imm : ℕ) → sum_of pc imm ≡ there → Holds p.image pc (branching Bne on 0 imm) → Continues p (pc + 4) other → Tested p pc on there other
+  Missed : (imm : ℕ) → sum_of pc imm ≡ other → Holds p.image pc (branching Beq on 0 imm) → Continues p (pc + 4) there → Tested p pc on there other
+  Hopped : Holds p.image pc (branching Beq on 0 8) → Jumps p (pc + 4) there → Continues p (pc + 8) other → Tested p pc on there other
+  Skipped : Holds p.image pc (branching Bne on 0 8) → Jumps p (pc + 4) other → Continues p (pc + 8) there → Tested p pc on there other
 
 -- the return address is taken, the stack pointer goes up by the frame, and back to the caller
 pub record Leaves (p : Linking) (pc frame : ℕ) : Type 0 where
@@ -121,7 +141,7 @@ ReturnAt p frame pc None = Holds p.image pc (with_immediate Addi 10 0 0) × Leav
 ReturnAt p frame pc (Some r) = (r ≡ 10) × Leaves p pc frame
 
 abbrev pub ExitAt : Linking → ℕ → ℕ → ℕ → Exit → Type 0
-ExitAt p i frame pc (Jump b) = Jumps p pc (p.place i b)
+ExitAt p i frame pc (Jump b) = Continues p pc (p.place i b)
 ExitAt p i frame pc (Turn b) = Jumps p pc (p.place i b)
 ExitAt p i frame pc (Branch on a b) = IsHome on × Tested p pc on (p.place i a) (p.place i b)
 ExitAt p i frame pc (Return from) = ReturnAt p frame pc from
@@ -145,4 +165,4 @@ pub record Prologue (p : Linking) (pc frame target : ℕ) : Type 0 where
   pub checked : Checked p (a + 4) b
   pub taken : Holds p.image b (with_immediate Addi 2 6 0)
   pub saved : Holds p.image (b + 4) (storing Sw 2 1 0)
-  pub jumps : Jumps p (b + 4 + 4) target
+  pub continues : Continues p (b + 4 + 4) target

@@ -1,12 +1,12 @@
 -- What selection gives: the same lines as instructions with labels, by their numbers in the list and with no address.
 use Rattle.std.specs.Prelude.{◌≡◌, ◌≢◌, ◌<◌, ◌≤◌, ◌⊎◌, ℕ, zero, suc, ◌+◌, ◌-◌, ◌%◌, ◌^◌, ℤ, Bool, if◌then◌else◌, List, [], ◌∷◌, Option, Some, None, slice_get}
 use Rattle.im_num.specs.declared.kind.Kind.{Kind}
-use Rattle.im_num.specs.declared.kind.Kind.TheVariants.{I32, U32, Ptr}
+use Rattle.im_num.specs.declared.kind.Kind.TheVariants.{U8, I32, U32, Ptr}
 use Rattle.im_num.specs.declared.values.Cause.{Cause}
 use Rattle.im_num.specs.Kinds.{word}
 use Rattle.im_mem.specs.Map.{stack_lim_at}
 use Rattle.im_rv.specs.declared.instr.Op.{Op}
-use Rattle.im_rv.specs.declared.instr.Op.TheVariants.{Jalr, Beq, Bne, Bltu, Bgeu, Lw, Sw, Addi, Sltiu, Xori, Slli, Srli, Srai, Add as AddOp, Sub, Sltu, Mul, Div}
+use Rattle.im_rv.specs.declared.instr.Op.TheVariants.{Jalr, Beq, Bne, Bltu, Bgeu, Lw, Sw, Addi, Sltiu, Xori, Andi, Slli, Srli, Srai, Add as AddOp, Sub, Sltu, Mul, Div}
 use Rattle.im_rv.specs.Decode.{Line as Instruction}
 use Rattle.im_rv.specs.Lines.{CodeLine}
 use Rattle.im_rv_reach.specs.Instructions.{Holds, Splits, with_immediate, on_registers, storing, branching, upper, jumping}
@@ -90,25 +90,38 @@ pub data ComparedIn (w : Lines) (k to : ℕ) (less : Op) (left right : ℕ) : Co
   Same : Plain w k (on_registers Sub 5 left right) → Plain w (suc k) (with_immediate Sltiu to 5 1) → ComparedIn w k to less left right Equal (suc (suc k))
   Other : Plain w k (on_registers Sub 5 left right) → Plain w (suc k) (on_registers Sltu to 0 5) → ComparedIn w k to less left right NotEqual (suc (suc k))
 
+-- from k to next, a register copied to another, or to itself by no line
+pub data CopiedIn (w : Lines) (k to from : ℕ) : ℕ → Type 0 where
+  Already : to ≡ from → CopiedIn w k to from k
+  Moved : to ≢ from → Plain w k (with_immediate Addi to from 0) → CopiedIn w k to from (suc k)
+
 -- from k to next, a value brought into a kind
 pub data ConvertedIn (w : Lines) (k to : ℕ) (kind : Kind) (from : ℕ) : ℕ → Type 0 where
-  Whole : IsPromoted kind → Plain w k (with_immediate Addi to from 0) → ConvertedIn w k to kind from (suc k)
+  Whole : (next : ℕ) → IsPromoted kind → CopiedIn w k to from next → ConvertedIn w k to kind from next
+  Masked : kind ≡ U8 → Plain w k (with_immediate Andi to from 255) → ConvertedIn w k to kind from (suc k)
   Narrowed : kind ≢ I32 → kind ≢ U32 → kind ≢ Ptr → Plain w k (with_immediate Slli to from (unused_bits kind)) → Plain w (suc k) (with_immediate (by_sign kind Srai Srli) to to (unused_bits kind)) → ConvertedIn w k to kind from (suc (suc k))
+
+-- from k to next, lines after which a register has so many times `by`: that itself, or x5
+pub data ScaledIn (w : Lines) (k size by : ℕ) : ℕ → ℕ → Type 0 where  -- register, next
+  Bytes : size ≡ 1 → ScaledIn w k size by by k
+  Shifted : (bits : ℕ) → bits < 32 → size ≡ 2 ^ bits → Plain w k (with_immediate Slli 5 by bits) → ScaledIn w k size by 5 (suc k)
+  Multiplied : (mid : ℕ) → ConstantIn w k 5 size mid → Plain w mid (on_registers Mul 5 5 by) → ScaledIn w k size by 5 (suc mid)
 
 -- what stands from k to next for a line
 pub data SelectedIn (w : Lines) (k : ℕ) : Line → ℕ → Type 0 where
   Numbers : (to : ℕ) (z : ℤ) (next : ℕ) → IsHome to → ConstantIn w k to (word z) next → SelectedIn w k (Put to z) next
   Nulls : (to : ℕ) → IsHome to → Plain w k (with_immediate Addi to 0 0) → SelectedIn w k (PutNull to) (suc k)
-  Copies : (to from : ℕ) → IsHome to → IsHome from → Plain w k (with_immediate Addi to from 0) → SelectedIn w k (Copy to from) (suc k)
+  Copies : (to from next : ℕ) → IsHome to → IsHome from → CopiedIn w k to from next → SelectedIn w k (Copy to from) next
   Converts : (to : ℕ) (kind : Kind) (from next : ℕ) → IsHome to → IsHome from → ConvertedIn w k to kind from next → SelectedIn w k (Convert to kind from) next
   Negates : (to : ℕ) (kind : Kind) (from : ℕ) → IsHome to → IsHome from → IsPromoted kind → Plain w k (on_registers Sub to 0 from) → SelectedIn w k (Unary to Negate kind from) (suc k)
   Complements : (to : ℕ) (kind : Kind) (from : ℕ) → IsHome to → IsHome from → IsPromoted kind → Plain w k (with_immediate Xori to from ones) → SelectedIn w k (Unary to Complement kind from) (suc k)
   Nots : (to from : ℕ) → IsHome to → IsHome from → Plain w k (with_immediate Sltiu to from 1) → SelectedIn w k (Not to from) (suc k)
   Computes : (to : ℕ) (op : BinaryOp) (kind : Kind) (left right : ℕ) → IsHome to → IsHome left → IsHome right → IsPromoted kind → Plain w k (on_registers (operation op kind) to left right) → SelectedIn w k (Compute to op kind left right) (suc k)
   Compares : (to : ℕ) (op : Comparison) (kind : Kind) (left right next : ℕ) → IsHome to → IsHome left → IsHome right → IsPromoted kind ⊎ (kind ≡ Ptr) → ComparedIn w k to (less_op kind) left right op next → SelectedIn w k (Compare to op kind left right) next
-  Moves : (to size : ℕ) (back : Bool) (pointer by mid : ℕ) → IsHome to → IsHome pointer → IsHome by → size < 2 ^ 32 → ConstantIn w k 5 size mid → Plain w mid (on_registers Mul 5 5 by) → Plain w (suc mid) (on_registers (if back then Sub else AddOp) to pointer 5) → SelectedIn w k (Move to size back pointer by) (suc (suc mid))
+  Moves : (to size : ℕ) (back : Bool) (pointer by scaled mid : ℕ) → IsHome to → IsHome pointer → IsHome by → size < 2 ^ 32 → ScaledIn w k size by scaled mid → Plain w mid (on_registers (if back then Sub else AddOp) to pointer scaled) → SelectedIn w k (Move to size back pointer by) (suc mid)
   Measures : (to size left right mid : ℕ) → IsHome to → IsHome left → IsHome right → 0 < size → size < 2 ^ 31 → Plain w k (on_registers Sub 5 left right) → ConstantIn w (suc k) 6 size mid → Plain w mid (on_registers Div to 5 6) → SelectedIn w k (Distance to size left right) (suc mid)
   Addresses : (to : ℕ) (place : Place) (base imm next : ℕ) → IsHome to → BasedIn w k place base imm next → Plain w next (with_immediate Addi to base imm) → SelectedIn w k (Address to place) (suc next)
+  AddressesPage : (to object offset hi : ℕ) → IsHome to → Splits hi 0 (w.at (Named object) + offset) → Plain w k (upper to hi) → SelectedIn w k (Address to (Static object offset)) (suc k)
   Fetches : (to : ℕ) (place : Place) (kind : Kind) (access base imm next : ℕ) → IsHome to → BasedIn w k place base imm next → Accessing w next (with_immediate (load_op kind) to base imm) access → SelectedIn w k (Read to place kind access) (suc next)
   StoresValue : (place : Place) (kind : Kind) (from access base imm next : ℕ) → IsHome from → BasedIn w k place base imm next → Accessing w next (storing (store_op kind) base from imm) access → SelectedIn w k (Write place kind from access) (suc next)
   Reloads : (to slot access base imm next : ℕ) → IsHome to → DisplacedIn w k 2 (w.at (Slot slot)) base imm next → Accessing w next (with_immediate Lw to base imm) access → SelectedIn w k (Reload to slot access) (suc next)
@@ -122,10 +135,17 @@ pub data SelectedIn (w : Lines) (k : ℕ) : Line → ℕ → Type 0 where
 abbrev pub JumpsIn : Lines → ℕ → ℕ → Type 0
 JumpsIn w k label = Aimed w k (jumping 0 0) label
 
--- a test of a register, near or over a jump
-pub data TestedIn (w : Lines) (k on there other : ℕ) : Type 0 where
-  Reached : Aimed w k (branching Bne on 0 0) there → JumpsIn w (suc k) other → TestedIn w k on there other
-  Hopped : Plain w k (branching Beq on 0 8) → JumpsIn w (suc k) there → JumpsIn w (suc (suc k)) other → TestedIn w k on there other
+-- on from k to block b: it begins there, or a jump leads to its label. starts: the line that each block begins with
+pub data ContinuesIn (w : Lines) (starts : ℕ → ℕ) (k b : ℕ) : Type 0 where
+  Falls : k ≡ starts b → ContinuesIn w starts k b
+  Leaps : JumpsIn w k (w.block b) → ContinuesIn w starts k b
+
+-- a test of a register: a branch to one of two blocks, near or over a jump, and on to the other
+pub data TestedIn (w : Lines) (starts : ℕ → ℕ) (k on there other : ℕ) : Type 0 where
+  Reached : Aimed w k (branching Bne on 0 0) (w.block there) → ContinuesIn w starts (suc k) other → TestedIn w starts k on there other
+  Missed : Aimed w k (branching Beq on 0 0) (w.block other) → ContinuesIn w starts (suc k) there → TestedIn w starts k on there other
+  Hopped : Plain w k (branching Beq on 0 8) → JumpsIn w (suc k) (w.block there) → ContinuesIn w starts (suc (suc k)) other → TestedIn w starts k on there other
+  Skipped : Plain w k (branching Bne on 0 8) → JumpsIn w (suc k) (w.block other) → ContinuesIn w starts (suc (suc k)) there → TestedIn w starts k on there other
 
 -- the return address is taken, the stack pointer goes up by the frame, and back to the caller
 pub record LeavesIn (w : Lines) (k frame : ℕ) : Type 0 where
@@ -138,16 +158,16 @@ abbrev pub ReturnIn : Lines → ℕ → ℕ → Option ℕ → Type 0
 ReturnIn w frame k None = Plain w k (with_immediate Addi 10 0 0) × LeavesIn w (suc k) frame
 ReturnIn w frame k (Some r) = (r ≡ 10) × LeavesIn w k frame
 
-abbrev pub ExitIn : Lines → ℕ → ℕ → Exit → Type 0
-ExitIn w frame k (Jump b) = JumpsIn w k (w.block b)
-ExitIn w frame k (Turn b) = JumpsIn w k (w.block b)
-ExitIn w frame k (Branch on a b) = IsHome on × TestedIn w k on (w.block a) (w.block b)
-ExitIn w frame k (Return from) = ReturnIn w frame k from
+abbrev pub ExitIn : Lines → (ℕ → ℕ) → ℕ → ℕ → Exit → Type 0
+ExitIn w starts frame k (Jump b) = ContinuesIn w starts k b
+ExitIn w starts frame k (Turn b) = JumpsIn w k (w.block b)
+ExitIn w starts frame k (Branch on a b) = IsHome on × TestedIn w starts k on a b
+ExitIn w starts frame k (Return from) = ReturnIn w frame k from
 
 -- the lines of a function that has this frame, from k on
-abbrev pub StandsIn : Lines → ℕ → ℕ → List Line → Exit → Type 0
-StandsIn w frame k [] exit = ExitIn w frame k exit
-StandsIn w frame k (line ∷ rest) exit = (next : ℕ) × SelectedIn w k line next × StandsIn w frame next rest exit
+abbrev pub StandsIn : Lines → (ℕ → ℕ) → ℕ → ℕ → List Line → Exit → Type 0
+StandsIn w starts frame k [] exit = ExitIn w starts frame k exit
+StandsIn w starts frame k (line ∷ rest) exit = (next : ℕ) × SelectedIn w k line next × StandsIn w starts frame next rest exit
 
 -- the test of the stack, near or over a jump
 pub data CheckedIn (w : Lines) (k : ℕ) : ℕ → Type 0 where
@@ -155,7 +175,7 @@ pub data CheckedIn (w : Lines) (k : ℕ) : ℕ → Type 0 where
   Around : Plain w k (branching Bgeu 6 5 8) → JumpsIn w (suc k) w.full → CheckedIn w k (suc (suc k))
 
 -- room is tested before the stack pointer goes down, and the return address is saved
-pub record PrologueIn (w : Lines) (k frame target : ℕ) : Type 0 where
+pub record PrologueIn (w : Lines) (starts : ℕ → ℕ) (k frame block : ℕ) : Type 0 where
   pub a : ℕ
   pub b : ℕ
   pub lowered : AddsIn w k 6 (2 ^ 32 - frame) a
@@ -163,12 +183,12 @@ pub record PrologueIn (w : Lines) (k frame target : ℕ) : Type 0 where
   pub checked : CheckedIn w (suc a) b
   pub taken : Plain w b (with_immediate Addi 2 6 0)
   pub saved : Plain w (suc b) (storing Sw 2 1 0)
-  pub jumps : JumpsIn w (suc (suc b)) target
+  pub continues : ContinuesIn w starts (suc (suc b)) block
 
 -- what `select` ensures of a function's lines. starts: the line that each block begins with
 pub record IsSelected (w : Lines) (frame : ℕ) (f : Function) (starts : ℕ → ℕ) : Type 0 where
-  pub prologue : PrologueIn w 0 frame (w.block f.entry)
-  pub blocks : (b : ℕ) (block : Block) → slice_get f.blocks.items b ≡ Some block → StandsIn w frame (starts b) block.lines.items block.exit
+  pub prologue : PrologueIn w starts 0 frame f.entry
+  pub blocks : (b : ℕ) (block : Block) → slice_get f.blocks.items b ≡ Some block → StandsIn w starts frame (starts b) block.lines.items block.exit
 
 -- what a layout ensures of a function's frame
 pub record IsFramed (p : Linking) (g : Setting) (i : ℕ) (f : Function) : Type 0 where

@@ -20,6 +20,8 @@ mod numbers;
 #[cfg(test)]
 mod routines;
 #[cfg(test)]
+mod saved;
+#[cfg(test)]
 mod seen;
 #[cfg(test)]
 mod tokens;

@@ -15,23 +15,23 @@ const NO_WORD: &[u8] = &[
     0, 0, 0, 0, 0, 0x73, 0, 0, 0,
 ];
 
-fn loaded(alloc: Global, image: &Image) -> Result<Machine<PagedMem>, Fail> {
+pub(crate) fn loaded(alloc: Global, image: &Image) -> Result<Machine<PagedMem>, Fail> {
     Ok(Machine::load(alloc, image, &[]).ok().ok_or("a machine")?)
 }
 
-fn trace_of(alloc: Global, lines: &[u8]) -> Result<Trace, Fail> {
+pub(crate) fn trace_of(alloc: Global, lines: &[u8]) -> Result<Trace, Fail> {
     Ok(read_trace(alloc, lines).ok().ok_or("a trace")?)
 }
 
 /// How a run went, its commits, its instructions.
-type Run = (Went, u64, u64);
+pub(crate) type Run = (Went, u64, u64);
 
 /// What a machine has done, which has gone so.
-fn run_of(machine: &Machine<PagedMem>, went: Went) -> Run {
+pub(crate) fn run_of(machine: &Machine<PagedMem>, went: Went) -> Run {
     (went, machine.commits(), machine.instructions())
 }
 
-fn period(n: u32, junk: u32, count: u32) -> Period {
+pub(crate) fn period(n: u32, junk: u32, count: u32) -> Period {
     Period {
         n,
         junk,
@@ -106,7 +106,7 @@ fn a_trace_runs_to_its_end_or_a_stop(rt: HostRuntime) -> Result<(), Fail> {
     Ok(())
 }
 
-fn put_words(text: &mut Vec<u8>, words: &[u32]) -> Result<(), Fail> {
+pub(crate) fn put_words(text: &mut Vec<u8>, words: &[u32]) -> Result<(), Fail> {
     for word in words {
         text.extend_from_slice(&word.to_le_bytes())?;
     }
@@ -184,7 +184,7 @@ fn output_is_as_long_as_the_form_says(rt: HostRuntime) -> Result<(), Fail> {
         let mut machine = machine_of(rt.alloc(), *form, words)?;
         machine.power(period(5, 9, 1));
         same(&rt, form, &machine.output().len(), length);
-        same(&rt, form, &machine.form().number(), form);
+        same(&rt, form, &machine.form(), form);
         holds(&rt, form, machine.version() == Version::Two);
     }
     Ok(())

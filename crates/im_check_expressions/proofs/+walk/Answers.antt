@@ -1,4 +1,4 @@
-use Rattle.std.proofs.Common.{◌+◌, refl, sym, ap, ◌∙◌}
+use Rattle.std.proofs.Common.{◌≡◌, ◌+◌, true, refl, sym, ap, subst, ◌∙◌}
 use Rattle.std.proofs.lemmas.Result.{err_from_is_err_and}
 use Rattle.im_ctree.specs.declared.declarator.Declarator.{out-Declarator}
 use Rattle.im_ctree.specs.declared.declarator.SuffixKind as xk
@@ -10,6 +10,9 @@ use Rattle.im_ctree_parts.specs.Lists.{expression_in, stars_in, with_suffix}
 use Rattle.im_check_type_specifiers.specs.Specified.{qualified_of}
 use Rattle.im_ctree_parts.proofs.Shapes.{call_tree, type_name_shape, declarator_shape, parameter_shape, function_suffix}
 use Rattle.im_check_declarators.proofs.Steps.{array_tree}
+use Rattle.im_check_expression_parts.specs.im_rules.Demands.{callee_of, is_function_meant}
+use Rattle.im_check_scopes.specs.Shape.{scopes_of}
+use Rattle.im_check_place.specs.declared.place.Place.{Place}
 use Rattle.im_check_place.specs.Contexts.{context_of}
 use Rattle.im_check_expression_parts.proofs.Places.{at_string}
 use Rattle.im_check_expression_parts.proofs.Made.{fault_of}
@@ -54,6 +57,12 @@ pub operands::call-returns-in_err-xs : goal.operands::call-returns-in_err-xs
 operands::call-returns-in_err-xs t c =
     let p = err_from_is_err_and c.from_residual.result c.from_residual.ensures.1 in
     rw (p.1, p.2, (ap (expression_of c.args.e.now.at) c.in-Call.is ∙ call_tree c.args.e.now.at c.in-Call.callee c.in-Call.arguments)) (call_fault c.args.place.now _ _ _ _ (rw c.deref.ensures at (sym c.names_function.ensures ∙ c.if-names_function.true)) (rw c.deref-then-names_function.ensures.value at c.in_err-xs.ensures))
+
+pub operands::call-called-requires : goal.operands::call-called-requires
+operands::call-called-requires t c =
+    let f = expression_in c.in-Call.callee.value in
+    let named = rw c.deref.ensures at (sym c.names_function.ensures ∙ c.if-names_function.true) in
+    rw c.deref-then-names_function-2.ensures (subst (λ (p : Place). is_function_meant (callee_of (scopes_of p.scope) f) ≡ true) (sym c.in_ok-xs.ensures.1) named)
 
 pub operands::call-returns-in_ok-xs : goal.operands::call-returns-in_ok-xs
 operands::call-returns-in_ok-xs t c =
@@ -273,6 +282,10 @@ pub declarators::declarator-returns-in_err-parts : goal.declarators::declarator-
 declarators::declarator-returns-in_err-parts t c =
     let p = err_from_is_err_and c.from_residual-in_err-parts.result c.from_residual-in_err-parts.ensures.1 in
     rw (p.1, p.2, declarator_shape c.args.d.now) (suffixes_fault c.args.place.now _ _ _ _ _ _ _ c.in_ok-place.ensures (rw c.deref-2.ensures.value at (c.in_err-parts.ensures (with_stars (qualified_of c.args.q) (stars_in (out-Declarator c.args.d.now).stars.items)))))
+
+pub declarators::declarator-suffixed-requires : goal.declarators::declarator-suffixed-requires
+declarators::declarator-suffixed-requires t c =
+    rw (c.deref-3.ensures.value, c.deref-4.ensures.value) (context_of (at_string _ c.args.place.now), (rw c.deref-2.ensures.value at c.in_ok-parts.ensures).0)
 
 pub declarators::declarator-returns-in_err-ty : goal.declarators::declarator-returns-in_err-ty
 declarators::declarator-returns-in_err-ty t c =

@@ -4,8 +4,14 @@ use Rattle.im_ctree.specs.declared.declarator.SuffixKind as xk
 use Rattle.im_ctree.specs.Tree as t
 use Rattle.im_ctree_parts.specs.Lists.{parameters_from, with_suffix}
 use Rattle.im_ctree_parts.proofs.Shapes.{function_suffix}
-use Rattle.im_check_declarators.proofs.Steps.{array_tree}
+use Rattle.im_check_declarators.proofs.Steps.{array_tree, given_length, given_parameters}
 use Rattle.im_check_declarators.proofs.suffixes.one_suffix.Goals as goal
+
+pub array_suffix-requires : goal.array_suffix-requires
+array_suffix-requires c = given_length c.in-Array.written c.args.given.now (rw c.in-Array.is at c.requires)
+
+pub function_suffix-requires : goal.function_suffix-requires
+function_suffix-requires c = given_parameters c.in-Function.parameters c.args.given.now (rw c.in-Function.is at c.requires)
 
 pub returns-in-Array : goal.returns-in-Array
 returns-in-Array c = λ k base rest others.

@@ -1,16 +1,20 @@
-use Rattle.std.proofs.Common.{◌≡◌, ◌+◌, refl, sym, ap, ◌∙◌, arith}
+use Rattle.std.proofs.Common.{◌≡◌, ◌≤◌, ◌+◌, length, refl, sym, ap, ◌∙◌, arith}
 use Rattle.std.proofs.lemmas.Result.{err_from_is_err_and}
 use Rattle.im_ctree.specs.Shape.{initializer_of}
-use Rattle.im_ctree_parts.specs.Lists.{initializers_from}
+use Rattle.im_ctree_parts.specs.Lists.{expression_in, initializers_from}
+use Rattle.im_ctype.specs.Table.{structs_of}
+use Rattle.im_ctype.specs.Types.{members_of}
 use Rattle.im_types.specs.Shape.{type_of}
+use Rattle.im_check_expressions.specs.im_rules.Rules.{initializer_count}
+use Rattle.im_check_shapes.proofs.Alone.{count}
 use Rattle.im_check_shapes.proofs.Falls.{size_of, sizes_of}
 use Rattle.im_check_shapes.specs.Shape.{shape_in}
 use Rattle.im_check_given_strings.proofs.Places.{fits_in}
 use Rattle.im_check_expression_parts.proofs.Arguments.{next, last}
 use Rattle.im_check_initialisers.specs.Forms.{listed}
-use Rattle.im_check_initialisers.proofs.Forms.{listed_below}
+use Rattle.im_check_initialisers.proofs.Forms.{listed_below, few_of}
 use Rattle.im_check_initialisers.proofs.Put.{misshapen_fault, bytes_put, elements_done, members_done}
-use Rattle.im_check_initialisers.proofs.Reached.{none_put, element_more, element_fault, elements_all, member_more, member_fault, members_all}
+use Rattle.im_check_initialisers.proofs.Reached.{structs_kept, none_put, element_more, element_fault, elements_all, member_more, member_fault, members_all}
 use Rattle.im_check_initialisers.proofs.walk.+walk.Goals as goal
 
 pub elements-loop-i-init : goal.elements-loop-i-init
@@ -41,6 +45,9 @@ initialised-returns-in_err-shaped t c =
     let p = err_from_is_err_and c.from_residual.result c.from_residual.ensures.1 in
     rw (p.1, p.2) (misshapen_fault c.args.place.now (type_of c.args.ty.now) c.args.at (initializer_of c.args.i.now) c.table.result.now _ c.table.ensures c.in_err-shaped.ensures)
 
+pub initialised-value-requires : goal.initialised-value-requires
+initialised-value-requires t c = (expression_in c.in-One.field-0.now, sym c.in_ok-shaped.ensures.1 ∙ ap shape_in c.in-One.is)
+
 pub initialised-elements-requires : goal.initialised-elements-requires
 initialised-elements-requires t c =
     let h = listed_below (initializer_of c.args.i.now) in
@@ -50,8 +57,13 @@ initialised-elements-requires t c =
 pub initialised-members-requires : goal.initialised-members-requires
 initialised-members-requires t c =
     let h = listed_below (initializer_of c.args.i.now) in
-    let e : sizes_of (initializers_from c.items_of-in-Members.result.now) ≡ sizes_of (listed (initializer_of c.args.i.now)) = ap sizes_of c.items_of-in-Members.ensures in
-    omega (arith, h, e)
+    let xs = c.items_of-in-Members.result.now in
+    let i = initializer_of c.args.i.now in
+    let e : sizes_of (initializers_from xs) ≡ sizes_of (listed i) = ap sizes_of c.items_of-in-Members.ensures in
+    let many : initializer_count (initializers_from xs) ≡ initializer_count (listed i) = ap initializer_count c.items_of-in-Members.ensures in
+    let few = few_of (structs_of c.table.result.now) (type_of c.args.ty.now) i _ c.in_ok-shaped.ensures.0 (sym (ap shape_in c.in-Members.is) ∙ c.in_ok-shaped.ensures.1) in
+    let all : length xs ≤ length (members_of (structs_of c.table.result.now) c.in-Members.number) = omega (arith, count xs, many, few) in
+    (omega (arith, h, e), rw c.table.ensures at all)
 
 pub initialised-returns-in_ok-push_bytes-in-Bytes : goal.initialised-returns-in_ok-push_bytes-in-Bytes
 initialised-returns-in_ok-push_bytes-in-Bytes t c =
@@ -67,6 +79,11 @@ initialised-returns-in-Members t c =
 
 pub members-loop-i-init : goal.members-loop-i-init
 members-loop-i-init t c = (refl, none_put c.args.place.now c.args.items.now.items)
+
+pub members-member_at-requires : goal.members-member_at-requires
+members-member_at-requires t c =
+    let same : c.table.result.now ≡ c.args.place.now.structs = c.table.ensures ∙ structs_kept c.loop-i.invariant.1 in
+    rw same (omega (arith, c.loop-i.invariant.0, c.loop-i-test.true, c.requires))
 
 pub members-initialised-requires : goal.members-initialised-requires
 members-initialised-requires t c =

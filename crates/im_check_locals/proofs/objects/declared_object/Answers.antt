@@ -21,7 +21,7 @@ returns c = λ n.
     let y = declared_of c.args.written in
     let i = maybe_initializer_of c.args.initializer.now in
     let six = ap (λ z. rule_6_absent y.type z) (sym (c.is_some.ensures ∙ initialised_so c.args.initializer.now)) ∙ sym c.has_lengths.ensures ∙ c.if-not-has_lengths.false in
-    let five = ap (λ z. is_complete z (completed y.type i)) (sym c.count.ensures) ∙ ap (λ z. is_complete c.count.result z) (sym c.in_ok-ty.ensures) ∙ sym c.is_complete.ensures ∙ c.if-not-is_complete.false in (
+    let five = ap (λ z. is_complete z (completed y.type i)) (sym c.count.ensures) ∙ ap (λ z. is_complete c.count.result z) (sym c.completed-ty.ensures) ∙ sym c.is_complete.ensures ∙ c.if-not-is_complete.false in (
       object_met c.args.place.now n y (completed y.type i) (is_initialised i) c.deref.result.now (c.deref.ensures.value ∙ c.named-name.ensures) (c.in_ok-name_asked.ensures n y.constant (completed y.type i) (is_initialised i)) six five,
-      record { name = c.named-name.ensures; constant = refl; type = c.in_ok-ty.ensures },
+      record { name = c.named-name.ensures; constant = refl; type = c.completed-ty.ensures },
     )

@@ -14,7 +14,7 @@ loop-text-preserved c =
           (next_string c.args.table.now c.loop-text.table c.text_static.new.table c.args.texts.now c.loop-text.text-index c.loop-text.number c.text-item.result c.loop-text.done.items c.in_ok-one.one c.loop-text-test.true c.text-item.is i.2 i.1 i.0 e.grown
           (rw c.deref.ensures.value at e.same)),
       grown-twice c.args.table.now c.loop-text.table c.text_static.new.table i.1 e.grown,
-      omega (arith, i.2, c.in-Some.is),
+      omega (arith, i.2),
     )
 
 pub returns-clause-same : goal.returns-clause-same

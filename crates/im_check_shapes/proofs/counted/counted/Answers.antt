@@ -1,4 +1,4 @@
-use Rattle.std.proofs.Common.{◌≡◌, IfOk, ap, sym, subst, ◌∙◌}
+use Rattle.std.proofs.Common.{◌≡◌, ap, sym, subst, ◌∙◌}
 use Rattle.im_ctree.specs.Tree as t
 use Rattle.im_ctree.specs.Shape.{initializer_of}
 use Rattle.im_check_stop.specs.im_rules.Initialisers as n
@@ -11,7 +11,7 @@ pub returns-in-Value : goal.returns-in-Value
 returns-in-Value c =
     let a = type_of c.args.element.now in
     let e : initializer_of c.args.i.now ≡ t.value_initializer (expression_in c.in-Value.e) = ap initializer_of c.in-Value.is in
-    subst (λ (z : t.Initializer). IfOk c.counted_value.result (λ k. k ≡ n.counted a z)) (sym e) (c.counted_value.ensures a)
+    subst (λ (z : t.Initializer). c.counted_value.result ≡ n.counted a z) (sym e) (c.counted_value.ensures a)
 
 pub returns-in-List : goal.returns-in-List
 returns-in-List c =

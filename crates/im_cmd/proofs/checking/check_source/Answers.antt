@@ -17,27 +17,29 @@ returns-in-Err g c = record {
   tells = tells_refusal _ _ _ _ _ c.tell_refusal.ensures.status c.tell_refusal.ensures.err;
 }
 
-pub returns-in-Ok-compile : goal.returns-in-Ok-compile
-returns-in-Ok-compile g c =
-    let built = is_built_of c.in-Ok.text.items default_building c.in-Ok-compile.field-0 (search rules) (rw c.deref.ensures.value at c.in-Ok-compile.ensures) in
+pub returns-in-Ok-compile_named : goal.returns-in-Ok-compile_named
+returns-in-Ok-compile_named g c =
+    let built = is_built_of c.in-Ok.text.items default_building c.in-Ok-compile_named.field-0 (search rules) (rw c.deref.ensures.value at c.in-Ok-compile_named.ensures) in
     record {
       outcome = _;
-      comes = checked _ c.in-Ok-compile.field-0 (compiles_of _ _ _ _ _ _ c.in-Ok.ensures.read built);
+      comes = checked _ c.in-Ok-compile_named.field-0 (compiles_of _ _ _ _ _ _ c.in-Ok.ensures.read built);
       tells = told _ _ 0 (sent_none _) (sent_none _);
     }
 
-pub returns-in-Err-OutOfMemory : goal.returns-in-Err-OutOfMemory
-returns-in-Err-OutOfMemory g c = record {
+pub returns-in-OutOfMemory : goal.returns-in-OutOfMemory
+returns-in-OutOfMemory g c = record {
   outcome = _;
   comes = check_starved _ (unchanged_read _ _ source_limit _ _ c.in-Ok.ensures.read);
-  tells = tells_refusal _ _ _ _ _ c.tell_refusal-in-Err-OutOfMemory.ensures.status c.tell_refusal-in-Err-OutOfMemory.ensures.err;
+  tells = tells_refusal _ _ _ _ _ c.tell_refusal-in-OutOfMemory.ensures.status c.tell_refusal-in-OutOfMemory.ensures.err;
 }
 
 pub returns : goal.returns
 returns g c =
-    let wrong = faulty c.in-Ok.text.items c.in-Err-compile.fault (search rules) (rw c.deref.ensures.value at c.in-Err-compile.ensures) in
+    let refused = c.in-Err-compile_named.refused in
+    let told = rw c.deref.ensures.value at c.in-Err-compile_named.ensures in
+    let wrong = faulty c.in-Ok.text.items refused.fault (search rules) told.is_fault in
     record {
       outcome = _;
-      comes = check_refused _ _ c.in-Err-compile.fault c.in-Ok.ensures.read wrong;
-      tells = tells_second _ 3 _ _ _ _ (rw c.deref-in-Err-compile.ensures.value at c.tell_fault.ensures);
+      comes = check_refused _ _ refused.fault refused.subject c.in-Ok.ensures.read wrong told.is_subject;
+      tells = tells_second _ 3 _ _ _ _ (rw c.deref-in_default.ensures.value at c.tell_fault.ensures);
     }

@@ -14,10 +14,10 @@ returns-in-Err-resume_text g c =
 
 pub returns-then-differs : goal.returns-then-differs
 returns-then-differs g c =
-    form_refused_as c.args.image_name.now c.args.image.now c.args.name.now c.in-Ok.text.items c.in-Ok-resume_text.machine _ _ c.image.inside.form c.form-form.result c.in-Ok.ensures
-    (rw c.deref.ensures.value at c.in-Ok-resume_text.ensures) (ap (λ (i : ImageValue). i.form) c.image.view_is) c.form-form.ensures (sym c.differs.ensures ∙ c.if-differs.true)
+    form_refused_as c.args.image_name.now c.args.image.now c.args.name.now c.in-Ok.text.items c.in-Ok-resume_text.machine _ _ c.image.inside.form c.output_form-form.result c.in-Ok.ensures
+    (rw c.deref.ensures.value at c.in-Ok-resume_text.ensures) (ap (λ (i : ImageValue). i.form) c.image.view_is) c.output_form-form.ensures (sym c.differs.ensures ∙ c.if-differs.true)
 
 pub returns : goal.returns
 returns g c =
-    resumes_on_as c.args.image.now c.args.name.now c.in-Ok.text.items c.in-Ok-resume_text.machine _ _ c.image.inside.form c.form-form.result c.in-Ok.ensures
-    (rw c.deref.ensures.value at c.in-Ok-resume_text.ensures) (ap (λ (i : ImageValue). i.form) c.image.view_is) c.form-form.ensures (sym c.differs.ensures ∙ c.if-differs.false)
+    resumes_on_as c.args.image.now c.args.name.now c.in-Ok.text.items c.in-Ok-resume_text.machine _ _ c.image.inside.form c.output_form-form.result c.in-Ok.ensures
+    (rw c.deref.ensures.value at c.in-Ok-resume_text.ensures) (ap (λ (i : ImageValue). i.form) c.image.view_is) c.output_form-form.ensures (sym c.differs.ensures ∙ c.if-differs.false)

@@ -7,12 +7,12 @@ use Rattle.im_cmd.proofs.running.run_machine.Goals as goal
 pub returns : goal.returns
 returns g c =
     ran_on _ _ (options_meaning c.args.options) _ _ _ _ _ _ c.in-Ok.ensures c.in-Ok-read_periods.ensures
-    (sym (rw c.form.ensures at c.needs_form.ensures) ∙ c.if-needs_form.false) c.run.ensures.device c.run.ensures.image
+    (sym (rw c.output_form.ensures at c.needs_form.ensures) ∙ c.if-needs_form.false) c.run.ensures.device c.run.ensures.image
 
 pub returns-then-needs_form : goal.returns-then-needs_form
 returns-then-needs_form g c =
     run_torn _ _ _ (options_meaning c.args.options) _ _ _ _ _ c.in-Ok.ensures c.in-Ok-read_periods.ensures
-    (sym (rw c.form.ensures at c.needs_form.ensures) ∙ c.if-needs_form.true)
+    (sym (rw c.output_form.ensures at c.needs_form.ensures) ∙ c.if-needs_form.true)
 
 pub returns-in-Err-read_periods : goal.returns-in-Err-read_periods
 returns-in-Err-read_periods g c =

@@ -6,7 +6,7 @@ use Rattle.im_cmd_check.specs.Runs.{part}
 use Rattle.im_cmd_check.proofs.message.send_at_place.Goals as goal
 
 pub returns : goal.returns
-returns g c =
+returns g c subject =
     let source = c.args.source.now in
     let place = c.args.place in
     let is : reading_of c.presumed.result ≡ presumed c.args.file.now (part source 0 place.start) = rw (c.as_bytes.ensures.value, c.part_of-head.ensures) at c.presumed.ensures in

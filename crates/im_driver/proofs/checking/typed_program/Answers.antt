@@ -1,11 +1,15 @@
 use Rattle.std.proofs.Common.{List, ℕ, sym, subst, arith}
-use Rattle.im_driver.specs.Compiled.{IsRefused}
-use Rattle.im_driver.specs.Steps.{fault_at}
-use Rattle.im_driver.proofs.Refusals.{read_refused, check_refused}
+use Rattle.im_ctree.specs.Shape.{tree_of}
+use Rattle.im_driver.specs.Refused.{IsRefusedFor}
+use Rattle.im_driver.specs.Steps.{HasCrowded, refused_at}
+use Rattle.im_driver.proofs.Subjects.{read_refused_for, check_refused_for, starved}
 use Rattle.im_driver.proofs.checking.typed_program.Goals as goal
 
 pub returns-in-Err : goal.returns-in-Err
-returns-in-Err c = read_refused c.args.source.now c.in-Err.fault c.in-Err.ensures
+returns-in-Err c = rw c.whole.ensures (read_refused_for c.args.source.now c.in-Err.fault c.in-Err.ensures)
+
+pub returns-in-Err-crowded_of : goal.returns-in-Err-crowded_of
+returns-in-Err-crowded_of c = rw c.whole-in-Err-crowded_of.ensures (starved c.args.source.now)
 
 pub check-requires : goal.check-requires
 check-requires c =
@@ -20,7 +24,10 @@ returns-in-Ok-check c =
 pub returns : goal.returns
 returns c =
     let text = c.in-Ok.ensures.1 in
+    let source = c.args.source.now in
     let fault = c.in-Err-check.fault in
-    rw (c.untyped.ensures, c.deref.ensures.value)
-    (subst (λ (z : List (ℕ × ℕ)). IsRefused c.args.source.now (fault_at c.args.source.now z fault)) (sym text.spans)
-    (check_refused c.args.source.now text.tokens c.in-Ok.text.tree fault (record { lexes = text.lexes; parsed = text.parsed }) c.in-Err-check.ensures))
+    let crowded = c.in-Ok-crowded_of.crowded in
+    let has = rw c.deref.ensures.value at c.in-Ok-crowded_of.ensures in
+    rw (c.untyped.ensures, c.deref-in-Err-check.ensures.value)
+    (subst (λ (z : List (ℕ × ℕ)). HasCrowded source z (tree_of c.in-Ok.text.tree) crowded → IsRefusedFor source (refused_at source z fault crowded)) (sym text.spans)
+    (check_refused_for source text.tokens c.in-Ok.text.tree (record { lexes = text.lexes; parsed = text.parsed }) fault crowded c.in-Err-check.ensures) has)

@@ -7,7 +7,7 @@ returns c =
     let typed = c.first_fault_law.ensures.none in
     let breaks = c.typed_breaks_none_law.ensures.unit in
     record {
-      faultless = has_program typed;
+      faultless = has_program typed c.first_excess_law.ensures.none;
       none = has_none one c.first_fault_law.ensures.typed;
       some = has_one one breaks typed;
     }

@@ -8,7 +8,7 @@ returns c =
     let listed = c.one_word_law.ensures.words in
     record {
       unit = one_unit lexed listed c.unique_unit_law.ensures.spelled;
-      typed = is_typed c.units_agree_law.ensures.typed;
-      program = is_program c.units_agree_law.ensures.asked;
+      typed = is_typed c.units_agree_law.ensures.typed c.first_excess_law.ensures.within;
+      program = is_program c.units_agree_law.ensures.asked c.first_excess_law.ensures.none;
       fault = is_fault c.units_agree_law.ensures.broken;
     }

@@ -1,4 +1,4 @@
-use Rattle.im_forward.proofs.Shapes.{costs}
+use Rattle.im_forward.proofs.Chained.{costs}
 use Rattle.im_forward.proofs.laws.cost_law.Goals as goal
 
 pub returns : goal.returns

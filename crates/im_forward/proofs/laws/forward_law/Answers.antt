@@ -1,5 +1,5 @@
-use Rattle.im_forward.proofs.Sims.{whole}
+use Rattle.im_forward.proofs.Chained.{forward_holds}
 use Rattle.im_forward.proofs.laws.forward_law.Goals as goal
 
 pub returns : goal.returns
-returns c = whole
+returns c = forward_holds

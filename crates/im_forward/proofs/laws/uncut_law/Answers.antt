@@ -1,5 +1,5 @@
-use Rattle.im_forward.proofs.Shapes.{uncut_kept}
+use Rattle.im_forward.proofs.Chained.{uncut_holds}
 use Rattle.im_forward.proofs.laws.uncut_law.Goals as goal
 
 pub returns : goal.returns
-returns c = uncut_kept
+returns c = uncut_holds

@@ -1,4 +1,4 @@
-use Rattle.im_forward.proofs.Writtens.{written}
+use Rattle.im_forward.proofs.Chained.{written}
 use Rattle.im_forward.proofs.laws.written_law.Goals as goal
 
 pub returns : goal.returns

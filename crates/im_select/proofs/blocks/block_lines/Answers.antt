@@ -1,26 +1,44 @@
-use Rattle.std.proofs.Common.{◌≡◌, ◌+◌, ◌++◌, subst, ap, sym, ◌∙◌, length, arith}
+use Rattle.std.proofs.Common.{◌≡◌, ◌+◌, Some, refl, subst, ap, sym, ◌∙◌, length, arith}
+use Rattle.std.specs.Prelude.{slice_get}
+use Rattle.std.proofs.lemmas.Option.{slice_get_read}
 use Rattle.im_live.specs.Words.{starts_have, entry_at, IsMachineBlock}
 use Rattle.im_live.specs.Entries.{entries}
-use Rattle.im_select.specs.Emitted.{block_code, exit_code, labelled}
+use Rattle.im_alloc_placed.specs.Placed.{IsPlacedBlock}
+use Rattle.im_select.specs.Emitted.{block_code, ended_code, found_code, labelled}
 use Rattle.im_select.specs.Given.{given}
 use Rattle.im_select.specs.Places.{at_of}
-use Rattle.im_select.proofs.Machine.{block_machine, entry_is, lines_alike}
+use Rattle.im_select.specs.Selects.{IsClosedBlock, laying_of}
+use Rattle.im_select.proofs.Machine.{all_at, block_machine, entry_is, lines_alike}
 use Rattle.im_select.proofs.blocks.block_lines.Goals as goal
 
 pub points-requires : goal.points-requires
 points-requires c =
     let names = c.args.names.now in
-    subst (λ z. IsMachineBlock z c.args.block.now) (sym c.requires.enough) (block_machine (length names.statics.now) (length names.function.now.blocks.items) names.function.now c.args.block.now c.requires.placed c.requires.closed.edges)
+    let function = names.function.now in
+    let blocks = function.blocks.items in
+    let number = c.args.number in
+    let block = c.index-block.result.now in
+    let is : slice_get blocks number ≡ Some block = slice_get_read blocks (length blocks) number block refl c.requires.number c.index-block.ensures in
+    let placed = all_at (IsPlacedBlock (length names.statics.now) function) blocks number block c.requires.placed is in
+    let closed = all_at (IsClosedBlock (given names)) blocks number block c.requires.closed is in
+    subst (λ z. IsMachineBlock z block) (sym c.requires.enough) (block_machine (length names.statics.now) (length blocks) function block placed closed.edges)
 
 pub returns : goal.returns
 returns c =
     let names = c.args.names.now in
     let at = at_of (given names) in
-    let block = c.args.block.now in
+    let first = names.first_block in
+    let frame = names.layout.now.frame in
+    let number = c.args.number in
+    let distance = c.args.distance in
+    let next = c.args.next in
+    let block = c.index-block.result.now in
     let blocks = names.function.now.blocks.items in
     let words = c.in_ok-words.words.items in
     let live = starts_have c.args.live.now in
+    let is : slice_get blocks number ≡ Some block = slice_get_read blocks (length blocks) number block refl c.requires.number c.index-block.ensures in
     c.in_ok-lines.ensures
-    ∙ ap (λ z. block_code at (entry_at z) names.first_block names.layout.now.frame c.args.number block) c.deref.ensures.value
-    ∙ ap (λ z. labelled (names.first_block + c.args.number) (z ++ exit_code names.first_block names.layout.now.frame block.exit))
-    (lines_alike at (entry_at words) (entries live blocks c.args.number) 0 block.lines.items (λ k a b. entry_is live blocks c.args.number block words k c.requires.this c.in_ok-words.ensures (omega arith)))
+    ∙ ap (λ z. block_code at (entry_at z) distance next first frame number block) c.deref.ensures.value
+    ∙ ap (λ z. labelled (first + number) (ended_code distance next first frame z block.exit))
+    (lines_alike at (entry_at words) (entries live blocks number) 0 block.lines.items (λ k a b. entry_is live blocks number block words k is c.in_ok-words.ensures (omega arith)))
+    ∙ ap (λ o. found_code (laying_of (given names) live distance) number next o) (sym is)

@@ -1,4 +1,4 @@
-use Rattle.std.proofs.Common.{◌≡◌, ◌++◌, pos, ap, ◌∙◌, get_or}
+use Rattle.std.proofs.Common.{◌++◌, pos, ap, ◌∙◌, get_or}
 use Rattle.im_rv.specs.Lines.{code_lines}
 use Rattle.im_block.specs.declared.code.Line.TheVariants.{Put}
 use Rattle.im_live.specs.Words.{entry_at}

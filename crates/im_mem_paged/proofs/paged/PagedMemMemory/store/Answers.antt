@@ -7,7 +7,7 @@ use Rattle.im_mem_paged.proofs.paged.PagedMemMemory.store.Goals as goal
 
 pub invariant_of-self : goal.invariant_of-self
 invariant_of-self c = record {
-  count = c.mark_bytes.ensures.length ∙ c.self.invariant.count;
-  zero = λ k inside unmarked. ap (λ (m : Mem). m k) c.store.ensures.bytes ∙ stored-unmarked (view c.self.inside.flat) c.self.inside.marks.items c.mark_bytes.new.marks.items c.args.addr c.args.size c.args.word c.self.invariant.zero c.mark_bytes.ensures.keeps c.mark_bytes.ensures.all k inside unmarked;
+  count = c.mark_page.ensures.length ∙ c.self.invariant.count;
+  zero = λ k inside unmarked. ap (λ (m : Mem). m k) c.store.ensures.bytes ∙ stored-unmarked (view c.self.inside.flat) c.self.inside.marks.items c.mark_page.new.marks.items c.args.addr c.args.size c.args.word c.self.invariant.zero c.mark_page.ensures.keeps c.mark_page.ensures.page k inside unmarked;
   memory = subst IsMemory (sym c.store.ensures.bytes) (stored-memory (view c.self.inside.flat) c.args.addr c.args.size c.args.word c.self.invariant.memory);
 }

@@ -1,0 +1,41 @@
+use Rattle.std.proofs.Common.{◌≡◌, ◌+◌, ◌<◌, suc, length, refl, arith, subst, sym, get_or}
+use Rattle.std.specs.Prelude.{slice_set}
+use Rattle.std.specs.List.{AllZip}
+use Rattle.std.proofs.lemmas.List.{with_items_is}
+use Rattle.im_block.specs.declared.code.Block.{Block}
+use Rattle.im_block.specs.Wellformed.{ExitThere}
+use Rattle.im_block_live.specs.Words.{groups_have}
+use Rattle.im_forward.specs.Straight.{Straightens}
+use Rattle.im_forward.proofs.Lists.{ZipTo, item_all, zip_more, zip_all, got}
+use Rattle.im_forward.proofs.Straightening.{all_straight}
+use Rattle.im_forward.proofs.straight.straighten.Goals as goal
+
+pub straighten_block-requires : goal.straighten_block-requires
+straighten_block-requires c k d lt =
+    let l = c.loop-block in
+    let old = c.args.function.now.blocks.items in
+    let groups = c.args.groups.now in
+    let exit = (get_or l.block-items l.block-index c.block-item.result).exit in
+    let one : ExitThere (length old) exit = item_all (λ (b : Block). ExitThere (length old) b.exit) old l.block-items l.block-index c.block-item.result (omega arith) l.invariant.left c.requires.linked in
+    subst (λ n. ExitThere n exit) (sym (c.requires.words.each k (get_or groups k d) (got groups k d lt))) one
+
+pub loop-block-preserved : goal.loop-block-preserved
+loop-block-preserved c =
+    let l = c.loop-block in
+    let t = c.loop-block-test.true in
+    let old = c.args.function.now in
+    let live = groups_have c.args.groups.now in
+    let within : l.block-index < length l.block-items = omega arith in
+    let m = zip_more (Straightens live) l.block-index old.blocks.items l.block-items c.block-item.result c.straighten_block.new.block within l.invariant c.in_ok-straighten_block.ensures in
+    let next : suc l.block-index ≡ l.block-index + 1 = omega arith in
+    subst (λ j. ZipTo (Straightens live) j old.blocks.items (slice_set l.block-items l.block-index c.straighten_block.new.block)) next m
+
+pub returns : goal.returns
+returns c =
+    let l = c.loop-block in
+    let old = c.args.function.now in
+    let live = groups_have c.args.groups.now in
+    let whole : length l.block-items ≡ old.blocks.len = omega arith in
+    let items = with_items_is old.blocks l.block-items whole in
+    let pairs = zip_all (Straightens live) l.block-index old.blocks.items l.block-items (omega arith) l.invariant in
+    all_straight live old _ refl (subst (λ z. AllZip (Straightens live) old.blocks.items z) (sym items) pairs)

@@ -1,0 +1,106 @@
+-- Blocks as they are laid: where each begins, and that what is put for a function is what may stand for it.
+use Rattle.std.proofs.Common.{◌≡◌, ◌<◌, inl, inr, ℕ, ◌+◌, ◌^◌, Bool, false, List, [], ◌∷◌, Option, Some, length, refl, sym, ap, ◌∙◌, subst, arith}
+use Rattle.std.specs.Prelude.{◌==◌, if◌then◌else◌, slice_get}
+use Rattle.std.proofs.lemmas.Option.{slice_get_within}
+use Rattle.im_rv.specs.Lines.{CodeLine}
+use Rattle.im_block.specs.declared.code.Block.{Block}
+use Rattle.im_alloc_placed.specs.Placed.{IsPlacedBlock}
+use Rattle.im_select_relation.specs.Selected.{IsEntry}
+use Rattle.im_select_relation.specs.Symbolic.{Lines, StandsIn, IsSelected}
+use Rattle.im_select.specs.declared.distance.Distance.{Distance}
+use Rattle.im_select.specs.Emitted.{labelled, is_empty, lines_code, ended_code, Laying, next_label, found_code, laid_block, laid_code, laid_order, others_below, prologue_code, function_code, entry_label}
+use Rattle.im_select.specs.Given.{Given}
+use Rattle.im_select.specs.Selects.{Agrees, IsClosedBlock, laying_of}
+use Rattle.im_select.proofs.Ordering.{Among, Distinct, itself, order_distinct, order_all}
+use Rattle.im_select.proofs.Standing.{At, after, after_labelled, at_left, at_right, at_labelled}
+use Rattle.im_select.proofs.Parts.{Follows, Alike, IsBlockOf, stands_in, prologue_in}
+
+-- where each block begins, the first of these at line k
+abbrev pub starts_in : Laying → ℕ → List ℕ → ℕ → ℕ
+starts_in laying k [] b = k
+starts_in laying k (x ∷ rest) b = if x == b then k else starts_in laying (after k (laid_block laying x rest)) rest b
+
+-- where each block of a function begins
+abbrev pub starts_of : Laying → ℕ → ℕ
+starts_of laying = starts_in laying (after 0 (prologue_code laying.frame)) (laid_order laying.entry (length laying.blocks))
+
+-- blocks begin where they do in this order
+abbrev pub Begins : (ℕ → ℕ) → Laying → ℕ → List ℕ → Type 0
+Begins starts laying k order = (b : ℕ) → Among order b → starts b ≡ starts_in laying k order b
+
+pub first_start : (laying : Laying) (k x : ℕ) (rest : List ℕ) → starts_in laying k (x ∷ rest) x ≡ k
+first_start laying k x rest = ap (λ t. if t then k else starts_in laying (after k (laid_block laying x rest)) rest x) (itself x)
+
+pub later_start : (laying : Laying) (k x : ℕ) (rest : List ℕ) (b : ℕ) → (x == b) ≡ false → starts_in laying k (x ∷ rest) b ≡ starts_in laying (after k (laid_block laying x rest)) rest b
+later_start laying k x rest b e = ap (λ t. if t then k else starts_in laying (after k (laid_block laying x rest)) rest b) e
+
+begins_later : (starts : ℕ → ℕ) (laying : Laying) (k x : ℕ) (rest : List ℕ) → Distinct (x ∷ rest) → Begins starts laying k (x ∷ rest) → Begins starts laying (after k (laid_block laying x rest)) rest
+begins_later starts laying k x rest d h = λ b a. h b (inr a) ∙ later_start laying k x rest b (d.0 b a)
+
+-- the block whose label stands next begins there
+next_begins : (given : Given) (live : ℕ → ℕ → Bool) (distance : Distance) (starts : ℕ → ℕ) (k : ℕ) (rest : List ℕ) → Begins starts (laying_of given live distance) k rest → Follows given starts (next_label given.first_block rest) k
+next_begins given live distance starts k [] h = λ b e. absurd cc
+next_begins given live distance starts k (y ∷ rest) h = λ b e.
+    let sum : given.first_block + y ≡ given.first_block + b = cc in
+    let same : y ≡ b = omega arith in
+    sym (h y (inl refl) ∙ first_start (laying_of given live distance) k y rest) ∙ ap starts same
+
+-- what is known of each block
+abbrev pub AreBlocks : Given → Type 0
+AreBlocks given = (b : ℕ) (block : Block) → slice_get given.function.blocks.items b ≡ Some block → IsPlacedBlock (length given.statics) given.function block × IsClosedBlock given block
+
+block_of : (given : Given) (block : Block) → IsPlacedBlock (length given.statics) given.function block → IsClosedBlock given block → IsBlockOf given block.lines.items block.exit
+block_of given block p c = record { placed = p.lines; calls = c.calls; leaves = p.exit; edges = c.edges }
+
+-- a block at line k
+laid_in : (w : Lines) (given : Given) (live : ℕ → ℕ → Bool) (distance : Distance) (starts : ℕ → ℕ) (k x : ℕ) (rest : List ℕ) (block : Block) →
+    ((b j : ℕ) → IsEntry ((laying_of given live distance).cut b j)) → Agrees w given → given.layout.frame < 2 ^ 32 → Alike (laying_of given live distance).at w.at (length given.statics) given.function → IsBlockOf given block.lines.items block.exit → slice_get given.function.blocks.items x ≡ Some block →
+    Begins starts (laying_of given live distance) (after k (laid_block (laying_of given live distance) x rest)) rest → At w k (laid_block (laying_of given live distance) x rest) → StandsIn w starts given.layout.frame k block.lines.items block.exit
+laid_in w given live distance starts k x rest block o g small alike h e begins a =
+    let laying : Laying = laying_of given live distance in
+    let next : Option ℕ = next_label given.first_block rest in
+    let lines : List CodeLine = lines_code laying.at (laying.cut x) 0 block.lines.items in
+    let body : List CodeLine = ended_code distance next given.first_block given.layout.frame lines block.exit in
+    let own : laid_block laying x rest ≡ labelled (given.first_block + x) body = ap (found_code laying x next) e in
+    let there : At w k body = at_labelled w k (given.first_block + x) body (subst (At w k) own a) in
+    let follows : Follows given starts next (after k body) =
+    subst (Follows given starts next) (ap (after k) own ∙ after_labelled k (given.first_block + x) body) (next_begins given live distance starts (after k (laid_block laying x rest)) rest begins) in
+    stands_in w given starts laying.at (laying.cut x) distance next (is_empty lines) 0 k given.layout.frame block.lines.items block.exit (o x) g small alike h follows there
+
+blocks_in : (w : Lines) (given : Given) (live : ℕ → ℕ → Bool) (distance : Distance) (starts : ℕ → ℕ) (k : ℕ) (order : List ℕ) →
+    ((b j : ℕ) → IsEntry ((laying_of given live distance).cut b j)) → Agrees w given → given.layout.frame < 2 ^ 32 → Alike (laying_of given live distance).at w.at (length given.statics) given.function → AreBlocks given →
+    Distinct order → Begins starts (laying_of given live distance) k order → At w k (laid_code (laying_of given live distance) order) →
+    (b : ℕ) (block : Block) → Among order b → slice_get given.function.blocks.items b ≡ Some block → StandsIn w starts given.layout.frame (starts b) block.lines.items block.exit
+blocks_in w given live distance starts k [] o g small alike are d begins a = λ b block m e. absurd m
+blocks_in w given live distance starts k (x ∷ rest) o g small alike are d begins a =
+    let laying : Laying = laying_of given live distance in
+    let own : List CodeLine = laid_block laying x rest in
+    let behind : List CodeLine = laid_code laying rest in
+    let later = begins_later starts laying k x rest d begins in
+    let right : At w (after k own) behind = at_right w k own behind a in
+    λ b block m e. elim m [
+      | inl s ↦
+          (let here : slice_get given.function.blocks.items x ≡ Some block = ap (slice_get given.function.blocks.items) s ∙ e in
+          let p = are x block here in
+          let at_k : starts b ≡ k = ap starts (sym s) ∙ begins x (inl refl) ∙ first_start laying k x rest in
+          subst (λ z. StandsIn w starts given.layout.frame z block.lines.items block.exit) (sym at_k)
+          (laid_in w given live distance starts k x rest block o g small alike (block_of given block p.0 p.1) here later (at_left w k own behind a)))
+      | inr r ↦ blocks_in w given live distance starts (after k own) rest o g small alike are d.1 later right b block r e
+    ]
+
+pub function_in : (w : Lines) (given : Given) (live : ℕ → ℕ → Bool) (distance : Distance) (i : ℕ) →
+    ((b j : ℕ) → IsEntry ((laying_of given live distance).cut b j)) → Agrees w given → 0 < given.layout.frame → given.layout.frame < 2 ^ 32 → given.function.entry < length given.function.blocks.items → AreBlocks given → Alike (laying_of given live distance).at w.at (length given.statics) given.function →
+    At w 0 (function_code i (laying_of given live distance)) → IsSelected w given.layout.frame given.function (starts_of (laying_of given live distance))
+function_in w given live distance i o g some small t are alike a =
+    let laying : Laying = laying_of given live distance in
+    let count : ℕ = length given.function.blocks.items in
+    let entry : ℕ = given.function.entry in
+    let order : List ℕ = laid_order entry count in
+    let head : List CodeLine = prologue_code given.layout.frame in
+    let rest : List CodeLine = laid_code laying order in
+    let starts : ℕ → ℕ = starts_of laying in
+    let r : At w (after 0 head) rest = subst (λ z. At w z rest) (after_labelled 0 (entry_label i) head) (at_right w 0 (labelled (entry_label i) head) rest a) in
+    record {
+      prologue = prologue_in w given starts given.layout.frame entry g some (sym (first_start laying (after 0 head) entry (others_below entry count))) (at_labelled w 0 (entry_label i) head (at_left w 0 (labelled (entry_label i) head) rest a));
+      blocks = λ b block e. blocks_in w given live distance starts (after 0 head) order o g small alike are (order_distinct entry count) (λ b m. refl) r b block (order_all entry count b (slice_get_within given.function.blocks.items b block e)) e;
+    }
