@@ -2,5 +2,9 @@
 #![tactic(auto)]
 
 mod laws;
+mod output;
+mod gap;
 
 pub use laws::{counter_law, counter_replays_law, counter_shows_law, loop_law};
+pub use output::{writer_byte_law, writer_law, writer_output_law, writer_shows_law};
+pub use gap::{loop_gap_law, loop_placed_law, loop_progresses_law};

@@ -28,7 +28,7 @@ use Rattle.im_ckpt.proofs.Phases.{Entering, Climbing, Returning, none_kept, mem_
 use Rattle.im_replay.specs.Needed.{uses, Needed}
 use Rattle.im_replay.specs.Sections.{IsLive}
 use Rattle.im_replay.specs.Owed.{IsOwed}
-use Rattle.im_replay_witness_output.specs.Writer.{own}
+use Rattle.im_replay_witness.specs.Writer.{own}
 
 -- a memory that holds the program, loaded
 pub record WriterImage (m : Mem) : Type 0 where

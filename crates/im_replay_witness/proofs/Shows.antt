@@ -19,8 +19,8 @@ use Rattle.im_replay.specs.Owed.{IsOwed}
 use Rattle.im_replay.specs.Output.{output_size, Extends, ShowsSafely}
 use Rattle.im_replay.proofs.Owing.{doing, Plain, Reads_index, Moves, Saves_reg, Flips, flip_is}
 use Rattle.im_replay.proofs.Shows.{size_by}
-use Rattle.im_replay_witness_output.specs.Writer.{own}
-use Rattle.im_replay_witness_output.proofs.Writer.{WriterImage, time_of, stored_apart, at, outside, effect_now}
+use Rattle.im_replay_witness.specs.Writer.{own}
+use Rattle.im_replay_witness.proofs.Writer.{WriterImage, time_of, stored_apart, at, outside, effect_now}
 
 sides : (a : ℕ) → is_buffer a ≡ false → (a < 128) ⊎ (384 ≤ a)
 sides a h = grind (arith, nat_tests)

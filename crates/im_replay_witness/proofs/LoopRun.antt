@@ -19,7 +19,7 @@ use Rattle.im_replay_witness.proofs.Loop.{LoopImage, cut_is}
 use Rattle.im_replay_witness.proofs.Laws_of.{loop_law}
 use Rattle.im_gap.specs.declared.flow.Turn.TheVariants.{Jumps, Returns}
 use Rattle.im_gap.specs.Flow.{turn_of, links}
-use Rattle.im_replay_witness_gap.specs.Loop.{loop_words, LoopPlacedLaw}
+use Rattle.im_replay_witness.specs.GapLoop.{loop_words, LoopPlacedLaw}
 
 stands_append : (m : Mem) (a b : ℕ) (xs ys : List ℕ) → Stands m a xs → b ≡ a + 4 * length xs → Stands m b ys → Stands m a (xs ++ ys)
 stands_append m a b [] ys h e g = subst (λ (z : ℕ). Stands m z ys) (let z : b ≡ a = omega arith in z) g

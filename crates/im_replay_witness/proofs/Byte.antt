@@ -12,9 +12,9 @@ use Rattle.im_ckpt.specs.Laws.{IsIntact}
 use Rattle.im_ckpt.proofs.Phases.{mem_next}
 use Rattle.im_ckpt.proofs.Checkpoints.{checkpoint_law}
 use Rattle.im_replay.specs.Owed.{IsOwed}
-use Rattle.im_replay_witness_output.specs.Writer.{own}
-use Rattle.im_replay_witness_output.proofs.Writer.{WriterImage, time_of, based, at, own_at, effect_now, puts_next, store_cpu, cut_here, Call, Spot, Own, Entry, Rung, Exit, Over}
-use Rattle.im_replay_witness_output.proofs.Shows.{high_out, low_out, where_at, kept_at, Nowhere, Byte, Length, Selector}
+use Rattle.im_replay_witness.specs.Writer.{own}
+use Rattle.im_replay_witness.proofs.Writer.{WriterImage, time_of, based, at, own_at, effect_now, puts_next, store_cpu, cut_here, Call, Spot, Own, Entry, Rung, Exit, Over}
+use Rattle.im_replay_witness.proofs.Shows.{high_out, low_out, where_at, kept_at, Nowhere, Byte, Length, Selector}
 
 one_word : (a b c d : ℕ) → a ≡ 1 → b ≡ 0 → c ≡ 0 → d ≡ 0 → a + 256 * (b + 256 * (c + 256 * (d + 256 * 0))) ≡ 1
 one_word a b c d p q r s = omega arith

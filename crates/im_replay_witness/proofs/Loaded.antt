@@ -14,10 +14,10 @@ use Rattle.im_replay.proofs.Endless.{is_run, first_state}
 use Rattle.im_replay.proofs.Images.{first_live, first_mem, first_place, zeros, words, owed_of}
 use Rattle.im_replay.proofs.Device.{output_law}
 use Rattle.im_replay_witness.proofs.Loading.{recovery_there, checkpoint_there, own_there, bytes_there, index_there, start_there}
-use Rattle.im_replay_witness_output.specs.Writer.{own, writer_memory, WriterLaw, WriterShowsLaw, WriterOutputLaw, WriterByteLaw}
-use Rattle.im_replay_witness_output.proofs.Writer.{WriterImage, owed, first_needs}
-use Rattle.im_replay_witness_output.proofs.Shows.{shows}
-use Rattle.im_replay_witness_output.proofs.Byte.{shows_byte}
+use Rattle.im_replay_witness.specs.Writer.{own, writer_memory, WriterLaw, WriterShowsLaw, WriterOutputLaw, WriterByteLaw}
+use Rattle.im_replay_witness.proofs.Writer.{WriterImage, owed, first_needs}
+use Rattle.im_replay_witness.proofs.Shows.{shows}
+use Rattle.im_replay_witness.proofs.Byte.{shows_byte}
 
 lines : List Line
 lines = own 0 ∷ own 1 ∷ own 2 ∷ own 3 ∷ own 4 ∷ own 5 ∷ own 6 ∷ own 7 ∷ []

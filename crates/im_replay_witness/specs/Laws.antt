@@ -3,7 +3,7 @@ use Rattle.im_gap.specs.Gap.{IsGap}
 use Rattle.im_replay.specs.Uninterrupted.{uninterrupted}
 use Rattle.im_replay.specs.Replays.{Progresses}
 use Rattle.im_replay_witness.specs.Loop.{loop_memory}
-use Rattle.im_replay_witness_gap.specs.Loop.{loop_words}
+use Rattle.im_replay_witness.specs.GapLoop.{loop_words}
 
 -- it begins at 0x13B4
 abbrev pub LoopGapLaw : Type 0

@@ -1,5 +1,5 @@
-ghost use Rattle.im_replay_witness_gap.specs.Loop.{LoopPlacedLaw};
-ghost use Rattle.im_replay_witness_gap.specs.Laws.{LoopGapLaw, LoopProgressesLaw};
+ghost use Rattle.im_replay_witness.specs.GapLoop.{LoopPlacedLaw};
+ghost use Rattle.im_replay_witness.specs.Laws.{LoopGapLaw, LoopProgressesLaw};
 
 /// The loop's longest gap is 45 instructions: recovery, and both of its own, the checkpoint up to
 /// the flip.

@@ -3,12 +3,12 @@ use Rattle.std.proofs.Common.{◌≡◌, ℕ, List, [], ◌∷◌, true, inr, re
 use Rattle.im_gap.specs.Flow.{IsStaticWalk, IsResumeWord}
 use Rattle.im_gap.specs.Gap.{IsBounded}
 use Rattle.im_gap.specs.Table.{resume_words}
-use Rattle.im_replay_witness_gap.proofs.Ranks.{are_below, is_ranked, bounded_by}
+use Rattle.im_replay_witness.proofs.Ranks.{are_below, is_ranked, bounded_by}
 use Rattle.im_replay_witness.specs.Loop.{loop_memory}
 use Rattle.im_replay_witness.proofs.Laws_of.{loop_law}
-use Rattle.im_replay_witness_gap.specs.Loop.{loop_words}
-use Rattle.im_replay_witness_gap.specs.Laws.{LoopGapLaw, LoopProgressesLaw}
-use Rattle.im_replay_witness_gap.proofs.LoopRun.{loop_placed_law}
+use Rattle.im_replay_witness.specs.GapLoop.{loop_words}
+use Rattle.im_replay_witness.specs.Laws.{LoopGapLaw, LoopProgressesLaw}
+use Rattle.im_replay_witness.proofs.LoopRun.{loop_placed_law}
 use Rattle.im_gap_flow.proofs.Progress.{long_periods_law}
 
 abbrev ranks : List ℕ
