@@ -1,4 +1,4 @@
-//! Two images that meet the premises of the replay theorem: a loop of one cut, and a counter in memory.
+//! Three images that meet the premises of the replay theorem: a loop of one cut, whose longest gap is known, a counter in memory, and one that writes output.
 #![tactic(auto)]
 
 mod laws;
