@@ -1,30 +1,27 @@
 -- What is built writes no other memory.
-use Rattle.std.proofs.Common.{◌≡◌, ℕ, suc, ◌+◌, ◌-◌, List, [], ◌∷◌, Option, length, map, Some, None, refl, sym, ap, ◌∙◌, subst, arith}
+use Rattle.std.proofs.Common.{◌≡◌, ℕ, suc, ◌+◌, ◌-◌, List, [], ◌∷◌, length, Some, None, refl, subst, arith}
 use Rattle.std.specs.Prelude.{◌<◌, ◌^◌, min, All, slice_get}
 use Rattle.std.proofs.lemmas.List.Elements.{All-head, All-tail}
-use Rattle.im_image.specs.Contents.{ImageValue}
 use Rattle.im_ckpt.specs.Runs.{writes}
 use Rattle.im_replay.specs.Compiled.{RunsSafely}
 use Rattle.im_store.specs.Outcomes.{Outcome, IsDefined}
-use Rattle.im_typed.specs.declared.frames.Frame.{Frame}
 use Rattle.im_typed.specs.declared.program.Prog.{Prog}
 use Rattle.im_typed.specs.ProgramOf.{program_of}
 use Rattle.im_typed.specs.Program as p
 use Rattle.im_typed.specs.Counts.{func_need}
 use Rattle.im_typed.specs.Typing.{Each}
 use Rattle.im_block.specs.declared.unit.Function.{Function}
-use Rattle.im_block.specs.declared.unit.Unit.{Unit as Code}
-use Rattle.im_block.specs.Meaning.{Setting, Event, statics_of}
+use Rattle.im_block.specs.Meaning.{Setting, Event}
 use Rattle.im_block.specs.Runs.{Runs}
 use Rattle.im_block.specs.Laws.{AddedCutsLaw}
 use Rattle.im_block_laws.specs.Laws.{CutsKeepCodeLaw}
 use Rattle.im_force.specs.Laws.{ForceKeepsLaw}
 use Rattle.im_link.specs.Code.{IsLinkable}
 use Rattle.im_link_laws.specs.Laws.{LinkableLaw}
-use Rattle.im_lower_passes_laws.specs.Laws.{LowersLaw, NeedsFit}
+use Rattle.im_keeps_source.specs.LoweringLaws.{LowersLaw, NeedsFit}
 use Rattle.im_pack_laws.specs.Laws.{NamedLaw}
 use Rattle.im_pack_laws.specs.Places.{linking_in}
-use Rattle.im_pack_image_laws.specs.Laws.{IsImageOf, InImageLaw}
+use Rattle.im_pack_laws.specs.ImageLaws.{IsImageOf, InImageLaw}
 use Rattle.im_select_relation.specs.Linking.{Linking}
 use Rattle.im_select_relation.specs.Law.{SelectKeeps}
 use Rattle.im_select_executes.specs.Executing.{IsInImage}
@@ -33,7 +30,7 @@ use Rattle.im_keeps_run.specs.Laws.{run_of}
 use Rattle.im_keeps_written.specs.Written.{code_end}
 use Rattle.im_keeps_written.specs.Laws.{WrittenLaw}
 use Rattle.im_keeps_passes.specs.Passes.{setting, Lowers}
-use Rattle.im_keeps_middle.specs.Laws.{MiddleLaw}
+use Rattle.im_keeps_source.specs.MiddleLaws.{MiddleLaw}
 use Rattle.im_keeps_source.specs.Source.{source_of}
 use Rattle.im_keeps_source.specs.Laws.{meaning_of}
 use Rattle.im_compile.specs.declared.options.Options.{Options}

@@ -1,5 +1,5 @@
 -- What placed code writes lies in a static or in the stack.
-use Rattle.std.proofs.Common.{◌≡◌, ℕ, zero, suc, ◌+◌, ◌≤◌, ◌⊎◌, inl, inr, Bool, true, false, cond, List, [], ◌∷◌, ◌++◌, length, Option, Some, None, sym, ap, ◌∙◌, subst, refl, arith}
+use Rattle.std.proofs.Common.{◌≡◌, ℕ, zero, suc, ◌+◌, ◌≤◌, ◌⊎◌, inl, inr, Bool, true, false, cond, List, [], ◌∷◌, ◌++◌, length, Some, sym, ap, ◌∙◌, subst, refl, arith}
 use Rattle.std.specs.Prelude.{nat_lt, nat_le, slice_get}
 use Rattle.im_num.specs.declared.kind.Kind.{Kind}
 use Rattle.im_num.specs.declared.kind.Kind.TheVariants.{U32}
@@ -8,7 +8,7 @@ use Rattle.im_mem.specs.Memory.{Mem}
 use Rattle.im_rv.specs.Steps.{Cpu}
 use Rattle.im_store.specs.Checks.{Checked, Fine, Bad}
 use Rattle.im_store.specs.Objects.{Name, Named, Slot, Link, Object, Value, Number, Null, Shape}
-use Rattle.im_store.specs.Outcomes.{Outcome, Undef, More, End}
+use Rattle.im_store.specs.Outcomes.{Outcome}
 use Rattle.im_store.specs.Statics.{static_shapes, with_statics}
 use Rattle.im_block.specs.declared.code.Line.{Line}
 use Rattle.im_block.specs.declared.code.Line.TheVariants.{Put, PutNull, Copy, Convert, Unary, Not, Compute, Compare, Move, Distance, Address, Read, Write, Reload, Spill, Cut, Call, GetChar, PutChar}
@@ -17,7 +17,7 @@ use Rattle.im_block.specs.declared.code.Exit.TheVariants.{Jump, Turn, Branch, Re
 use Rattle.im_block.specs.declared.code.Block.{Block}
 use Rattle.im_block.specs.declared.unit.Function.{Function}
 use Rattle.im_block.specs.declared.unit.Unit.{Unit as Code}
-use Rattle.im_block.specs.Meaning.{Setting, Active, Site, site_of, slot_site, object_of, Found, Left, link_shape, slot_of, statics_of, Frame, State, Next, Goes, Stops, Event, Reads, Writes, Tests, Saves, Restores, Serves, Cuts, on_checked, takes, found, computes, reads, writes, read_place, write_place, read_slot, write_slot, number_of, condition, returned, next_active, enters, gets, puts, does, back, goes_to, leaves, step_at, step}
+use Rattle.im_block.specs.Meaning.{Setting, Site, site_of, slot_site, object_of, Found, Left, link_shape, slot_of, statics_of, Frame, State, Next, Goes, Stops, Event, Reads, Writes, Tests, Saves, Restores, Serves, Cuts, on_checked, takes, found, computes, reads, writes, read_place, write_place, read_slot, write_slot, number_of, condition, returned, next_active, enters, gets, puts, does, back, goes_to, leaves, step_at, step}
 use Rattle.im_block.specs.Runs.{Over, At, goes_on, exec, Runs, start}
 use Rattle.im_block.specs.Shape.{spot_weight}
 use Rattle.im_block.specs.Wellformed.{IsWellFormed}

@@ -1,5 +1,5 @@
 -- What the run that never loses power doesn't write is at each moment of the others as it was loaded.
-use Rattle.std.proofs.Common.{◌≡◌, ◌≢◌, ℕ, zero, suc, ◌+◌, ◌<◌, ◌≤◌, inl, inr, Bool, true, false, List, [], ◌∷◌, Some, None, refl, sym, ap, ◌∙◌, subst, arith}
+use Rattle.std.proofs.Common.{◌≡◌, ℕ, zero, suc, ◌+◌, ◌<◌, ◌≤◌, inl, inr, Bool, true, false, List, [], ◌∷◌, Some, None, refl, sym, ap, ◌∙◌, arith}
 use Rattle.std.specs.Prelude.{◌-◌, ◌&&◌, ◌||◌, nat_le, nat_lt, unwrap_or}
 use Rattle.std.proofs.lemmas.Bool.{leb-true, and_parts}
 use Rattle.std.proofs.lemmas.Bool.Decides.{nat_tests}
@@ -10,7 +10,6 @@ use Rattle.im_power.specs.declared.period.Period.{Period}
 use Rattle.im_device.specs.Load.{memory_of}
 use Rattle.im_ckpt.specs.Runs.{State, writes}
 use Rattle.im_ckpt.specs.Buffers.{is_buffer}
-use Rattle.im_replay_path.proofs.Times.{or_none}
 use Rattle.im_replay.specs.Compiled.{RunsSafely, IsReplayable}
 use Rattle.im_replay.specs.Replays.{after}
 use Rattle.im_replay.proofs.Device.{replay_law}

@@ -1,18 +1,19 @@
 -- A store in order, of which statics and stack hold what lies there, changes bytes that may change.
-use Rattle.std.proofs.Common.{◌≡◌, ◌≢◌, ℕ, zero, suc, ◌+◌, ◌%◌, ◌<◌, ◌≤◌, inl, inr, Bool, true, false, cond, List, [], ◌∷◌, Option, Some, None, refl, sym, ap, ◌∙◌, subst, arith}
+use Rattle.std.proofs.Common.{◌≡◌, ◌≢◌, ℕ, zero, suc, ◌+◌, ◌<◌, ◌≤◌, inl, inr, Bool, true, false, cond, List, [], ◌∷◌, Option, Some, None, refl, sym, ap, ◌∙◌, subst, arith}
 use Rattle.std.specs.Prelude.{◌-◌, ◌==◌, ◌&&◌, ◌||◌, nat_le, nat_lt, slice_get}
 use Rattle.std.specs.Option.{option_map}
+use Rattle.std.proofs.lemmas.Bool.{or_right}
 use Rattle.std.proofs.lemmas.Bool.Decides.{nat_tests}
 use Rattle.im_mem.specs.Memory.{is_place}
 use Rattle.im_rv_reach.specs.Touches.{Stored, is_system}
 use Rattle.im_rv_reach.specs.Seen.{in_buffer}
-use Rattle.im_rv_reach.specs.Orderly.{Place, Free, Low, Select, Wrong, is_free, is_low, place_of}
-use Rattle.im_rtlib_sections_laws.proofs.Sections.{place_sizes}
-use Rattle.im_replay_path.proofs.Times.{order, or_right}
+use Rattle.im_rv_reach.specs.Orderly.{Free, Low, Select, Wrong, is_free, is_low, place_of}
+use Rattle.im_rtlib_laws.proofs.Sections.{place_sizes}
+use Rattle.im_replay_path.proofs.Times.{order}
 use Rattle.im_image.specs.Contents.{ImageValue, ObjectValue}
 use Rattle.im_ckpt.specs.Buffers.{is_buffer}
 use Rattle.im_store.specs.Objects.{Named, Shape, shape_of}
-use Rattle.im_store.specs.Statics.{StaticObject, static_shapes}
+use Rattle.im_store.specs.Statics.{StaticObject}
 use Rattle.im_block.specs.declared.unit.Unit.{Unit as Code}
 use Rattle.im_block.specs.Meaning.{Setting, statics_of}
 use Rattle.im_select_relation.specs.Linking.{Linking}

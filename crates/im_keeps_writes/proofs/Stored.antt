@@ -1,14 +1,14 @@
 -- What each step of a run stores, from what all of its steps touch.
-use Rattle.std.proofs.Common.{◌≡◌, ◌≢◌, ℕ, zero, suc, ◌+◌, ◌<◌, ◌≤◌, ◌⊎◌, inl, inr, true, false, cond, List, [], ◌∷◌, ◌++◌, refl, sym, ap, ◌∙◌, subst, arith}
+use Rattle.std.proofs.Common.{◌≡◌, ◌≢◌, ℕ, zero, suc, ◌+◌, ◌<◌, ◌≤◌, ◌⊎◌, inl, inr, true, false, cond, List, [], ◌∷◌, ◌++◌, sym, ap, ◌∙◌, subst, arith}
 use Rattle.std.specs.Prelude.{◌==◌, replicate}
 use Rattle.std.proofs.lemmas.Bool.{eqb-true}
 use Rattle.im_replay_path.proofs.Times.{truth, order}
 use Rattle.im_rv_reach.specs.Touches.{Touch, Loaded, Stored, Flipped, touches, is_system, heard}
 use Rattle.im_rv_reach.specs.Seen.{in_buffer, is_checkpoints, seen}
-use Rattle.im_rv_reach.specs.Orderly.{Since, Place, Wrong, place_of, storing, flipping, moved, after, is_closed}
+use Rattle.im_rv_reach.specs.Orderly.{Since, Wrong, place_of, storing, flipping, moved, after, is_closed}
 use Rattle.im_rv_reach.proofs.Orderly.{after_refused}
 use Rattle.im_ckpt.specs.Runs.{State}
-use Rattle.im_rtlib_sections_laws.specs.Orderly.{touched_from}
+use Rattle.im_rtlib_laws.specs.Orderly.{touched_from}
 use Rattle.im_block.specs.declared.unit.Unit.{Unit as Code}
 use Rattle.im_block.specs.Meaning.{Setting, Event}
 use Rattle.im_select_relation.specs.Linking.{Linking}

@@ -1,10 +1,10 @@
 -- The run that never loses power writes no byte that may not change.
-use Rattle.std.proofs.Common.{◌≡◌, ◌≢◌, ℕ, zero, suc, ◌+◌, ◌<◌, ◌≤◌, ◌⊎◌, inl, inr, true, false, List, [], ◌∷◌, Option, Some, None, refl, sym, ap, ◌∙◌, subst, arith}
+use Rattle.std.proofs.Common.{◌≡◌, ◌≢◌, ℕ, zero, suc, ◌+◌, ◌<◌, ◌⊎◌, inl, inr, true, false, List, [], ◌∷◌, Option, Some, None, refl, sym, ap, ◌∙◌, subst, arith}
 use Rattle.im_mem.specs.Memory.{Mem}
 use Rattle.im_rv.specs.declared.step.Went.{Went}
 use Rattle.im_rv.specs.declared.step.Went.TheVariants.{On, Halted, Faulted}
 use Rattle.im_rv.specs.Runs.{step_of, go_on, runs}
-use Rattle.im_rv_reach.specs.Touches.{Touch, Stored, touch_of, touches, touched}
+use Rattle.im_rv_reach.specs.Touches.{Stored, touch_of, touches, touched}
 use Rattle.im_rv_reach.specs.Orderly.{Anything}
 use Rattle.im_image.specs.Contents.{ImageValue}
 use Rattle.im_device.specs.Load.{memory_of}
@@ -13,7 +13,7 @@ use Rattle.im_replay.specs.Compiled.{RunsSafely}
 use Rattle.im_replay.proofs.Bridge.{over_of}
 use Rattle.im_replay.proofs.Endless.{is_run}
 use Rattle.im_replay_path.proofs.Times.{order}
-use Rattle.im_rtlib_sections_laws.specs.Orderly.{touched_from}
+use Rattle.im_rtlib_laws.specs.Orderly.{touched_from}
 use Rattle.im_store.specs.Outcomes.{Outcome, Undef, More, End, IsDefined}
 use Rattle.im_block.specs.declared.unit.Unit.{Unit as Code}
 use Rattle.im_block.specs.Meaning.{Setting, Event, statics_of}
@@ -22,9 +22,9 @@ use Rattle.im_block.specs.Wellformed.{IsWellFormed}
 use Rattle.im_select_relation.specs.Linking.{Linking}
 use Rattle.im_select_relation.specs.Law.{Begun, Shows, Follows, SelectKeeps}
 use Rattle.im_select_statics.specs.Named.{AreNamed}
-use Rattle.im_select_survives.proofs.Effects.{touches_same}
-use Rattle.im_select_survives.proofs.Accesses.{stores_at}
-use Rattle.im_select_survives.proofs.Going.{from_touched}
+use Rattle.im_select_executes.proofs.Effects.{touches_same}
+use Rattle.im_select_executes.proofs.Accesses.{stores_at}
+use Rattle.im_select_executes.proofs.Going.{from_touched}
 use Rattle.im_keeps.specs.Keeps.{IsInput}
 use Rattle.im_keeps_run.specs.Laws.{run_of}
 use Rattle.im_keeps_until.proofs.Still.{still}

@@ -4,12 +4,10 @@ use im_block::added_cuts_law;
 use im_block_laws::cuts_keep_code_law;
 use im_compile::ready_law;
 use im_force::force_keeps_law;
-use im_keeps_middle::middle_law;
+use im_keeps_source::{lowers_law, middle_law};
 use im_keeps_written::written_law;
 use im_link_laws::linkable_law;
-use im_lower_passes_laws::lowers_law;
-use im_pack_image_laws::in_image_law;
-use im_pack_laws::named_law;
+use im_pack_laws::{in_image_law, named_law};
 use im_select_relation::select_keeps_law;
 
 /// Whatever power does, an image that is built changes no byte of memory beside the runtime's
