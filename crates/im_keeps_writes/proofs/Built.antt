@@ -145,4 +145,4 @@ module _ (laws : Laws) (prog : Prog) (options : Options) (built : Built) (s : Is
 
 pub writes_law : Laws → BuiltWritesLaw
 writes_law laws prog options built s b input fits right safe =
-    writes_all laws prog options built s b input fits (subst (λ l. IsRightFor (meaning_of (program_of prog) l built.image) input) b.frames.sizes right) safe
+    writes_all laws prog options built s b input fits (subst (λ (l : List ℕ). IsRightFor (meaning_of (program_of prog) l built.image) input) b.frames.sizes right) safe

@@ -7,7 +7,7 @@ use Rattle.im_num.specs.Kinds.{kind_size}
 use Rattle.im_mem.specs.Memory.{Mem}
 use Rattle.im_rv.specs.Steps.{Cpu}
 use Rattle.im_store.specs.Checks.{Checked, Fine, Bad}
-use Rattle.im_store.specs.Objects.{Name, Named, Slot, Link, Object, Value, Number, Null, Shape}
+use Rattle.im_store.specs.Objects.{Name, Named, Slot, Link, Object, Value, Number, Null, Unset, Shape}
 use Rattle.im_store.specs.Outcomes.{Outcome}
 use Rattle.im_store.specs.Statics.{static_shapes, with_statics}
 use Rattle.im_block.specs.declared.code.Line.{Line}
@@ -17,8 +17,8 @@ use Rattle.im_block.specs.declared.code.Exit.TheVariants.{Jump, Turn, Branch, Re
 use Rattle.im_block.specs.declared.code.Block.{Block}
 use Rattle.im_block.specs.declared.unit.Function.{Function}
 use Rattle.im_block.specs.declared.unit.Unit.{Unit as Code}
-use Rattle.im_block.specs.Meaning.{Setting, Site, site_of, slot_site, object_of, Found, Left, link_shape, slot_of, statics_of, Frame, State, Next, Goes, Stops, Event, Reads, Writes, Tests, Saves, Restores, Serves, Cuts, on_checked, takes, found, computes, reads, writes, read_place, write_place, read_slot, write_slot, number_of, condition, returned, next_active, enters, gets, puts, does, back, goes_to, leaves, step_at, step}
-use Rattle.im_block.specs.Runs.{Over, At, goes_on, exec, Runs, start}
+use Rattle.im_block.specs.Meaning.{Setting, Site, site_of, slot_site, object_of, Found, Left, link_shape, slot_of, statics_of, Frame, State, Next, Goes, Stops, Event, Reads, Writes, Tests, Saves, Restores, Serves, Cuts, on_checked, takes, found, computes, reads, writes, read_place, write_place, read_slot, write_slot, number_of, condition, returned, next_active, enters, gets, does, back, goes_to, leaves, step_at, step}
+use Rattle.im_block.specs.Runs.{Over, At, goes_on, exec, Runs, before, start}
 use Rattle.im_block.specs.Shape.{spot_weight}
 use Rattle.im_block.specs.Wellformed.{IsWellFormed}
 use Rattle.im_select_relation.specs.Linking.{Linking, pointer_at, base_of, address}
@@ -146,13 +146,6 @@ module _ (p : Linking) (u : Code) (g : Setting) where
   gets_held s to rest [] fuel = tt
   gets_held s to rest (byte ∷ input) fuel = tt
 
-  puts_held : (s : State) (to : ℕ) (rest : List Line) (byte fuel : ℕ) → HeldNext (puts u g to rest byte fuel s)
-  puts_held s to rest byte fuel = by (nat_lt (length s.output) g.capacity)
-    where
-      by : (b : Bool) → HeldNext (cond b _ _)
-      by true = tt
-      by false = tt
-
   does_held : (s : State) (line : Line) (rest : List Line) → Here p u g s → Known (does u g line rest s) → HeldNext (does u g line rest s)
   does_held s (Put to z) rest h k = computes_held s to (Fine (Number z)) rest k
   does_held s (PutNull to) rest h k = computes_held s to (Fine Null) rest k
@@ -176,7 +169,9 @@ module _ (p : Linking) (u : Code) (g : Setting) where
   does_held s (Cut cause) rest h k = tt
   does_held s (Call to i first count) rest h k = takes_held s.fuel s.output _ k (λ less k1. enters_held s i first count less s.frame.registers _ k1)
   does_held s (GetChar to) rest h k = takes_held s.fuel s.output _ k (λ less k1. gets_held s to rest s.input less)
-  does_held s (PutChar to from) rest h k = takes_held s.fuel s.output _ k (λ less k1. checked_held (number_of (s.frame.registers from)) _ k1 (λ z e k2. puts_held s to rest _ less))
+  does_held s (PutChar to from) rest h k = takes_held s.fuel s.output _ k (λ less k1.
+      checked_held (number_of (s.frame.registers from)) _ k1 (λ z e k2.
+      cond_held (nat_lt (length s.output) g.capacity) _ _ k2 (λ k3. tt) (λ k3. tt)))
 
   to_held : (s : State) (b fuel : ℕ) → Known (goes_to u g b fuel s) → HeldNext (goes_to u g b fuel s)
   to_held s b fuel k =
@@ -204,16 +199,16 @@ module _ (p : Linking) (u : Code) (g : Setting) where
   held_next : (k fuel words : ℕ) (o : Outcome) (run : List Event) (c : Cpu) (m : Mem)
       → ((s : State) (d : Cpu) (n : Mem) (events : List Event) → Rel p u g s d n → AllHeld p u g events → exec u g k s events ≡ Over o run → AllHeld p u g run)
       → (next : Next) (events : List Event) → After p u g fuel words c m next → HeldNext next → AllHeld p u g events → goes_on next (exec u g k) events ≡ Over o run → AllHeld p u g run
-  held_next k fuel words o run c m rec (Goes s more) events a h before e = rec s a.d a.k (events ++ more) a.rel (held_append p u g events more before h) e
-  held_next k fuel words o run c m rec (Stops q more) events a h before e = subst (AllHeld p u g) (over_is q o (events ++ more) run e).1 (held_append p u g events more before h)
+  held_next k fuel words o run c m rec (Goes s more) events a h so_far e = rec s a.d a.k (events ++ more) a.rel (held_append p u g events more so_far h) e
+  held_next k fuel words o run c m rec (Stops q more) events a h so_far e = subst (AllHeld p u g) (over_is q o (events ++ more) run e).1 (held_append p u g events more so_far h)
 
   module _ (l : Premises p u g) where
     held_run : (k : ℕ) (o : Outcome) (run : List Event) (s : State) (c : Cpu) (m : Mem) (events : List Event) → Rel p u g s c m → AllHeld p u g events → exec u g k s events ≡ Over o run → AllHeld p u g run
-    held_run zero o run s c m events r before e = let bad : At s events ≡ Over o run = e in absurd cc
-    held_run (suc k) o run s c m events r before e =
+    held_run zero o run s c m events r so_far e = let bad : At s events ≡ Over o run = e in absurd cc
+    held_run (suc k) o run s c m events r so_far e =
         let a = step_after p u g l s c m r in
         held_next k s.fuel (spot_weight (steps p) s.frame.spot) o run c m (λ s' d n more r' h e'. held_run k o run s' d n more r' h e') (step u g s) events a
-        (step_held s s.frame.spot.rest (here_of p u g s c m r) (known_after s.fuel (spot_weight (steps p) s.frame.spot) c m (step u g s) a)) before e
+        (step_held s s.frame.spot.rest (here_of p u g s c m r) (known_after s.fuel (spot_weight (steps p) s.frame.spot) c m (step u g s) a)) so_far e
 
 -- from the first activation on
 pub held : (p : Linking) (u : Code) (g : Setting) → IsWellFormed u → IsLinked p u g → (x : ℕ → ℕ) → x 0 ≡ 0 → x 2 ≡ 3145728 → (n : ℕ) (o : Outcome) (run : List Event) → Runs u g n o run → AllHeld p u g run
@@ -222,4 +217,4 @@ held p u g w linked x x0 x2 n o run r =
     let c : Cpu = record { pc = p.begin; x = x } in
     let a = begin_after p u g l x n x0 x2 in
     held_next p u g r.steps n 10 o run c p.image (λ s d k more rel h e. held_run p u g l r.steps o run s d k more rel h e) (start u g n) [] a
-    (enters_held p u g _ u.main 0 0 n _ [] (known_after p u g n 10 c p.image (start u g n) a)) tt r.over
+    (enters_held p u g (before u g n) u.main 0 0 n (λ q. Unset) [] (known_after p u g n 10 c p.image (start u g n) a)) tt r.over

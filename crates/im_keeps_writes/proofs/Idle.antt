@@ -91,6 +91,9 @@ module _ (run : ℕ → State) (code : ℕ) (u : IsSound run code) where
   place_keeps s n x (In_section t age r) on a l = section_keeps t x r a l
   place_keeps s n x (At_end e) on a l = absurd (let bad : true ≡ false = sym e.over ∙ on in cc)
 
+  moment_keeps : (s n : ℕ) (x y : PathMoment Cpu) → There s n x → x ≡ y → y.over ≡ false → (a : ℕ) → IsLiveByte y.mem a → (step_of y.regs y.mem).mem a ≡ y.mem a
+  moment_keeps s n x y place same = place_keeps s n y (subst (λ z. There s n z) same place)
+
 module _ (m : Mem) (code : ℕ) (c : IsReplayable m code) where
   abbrev run : ℕ → State
   run = uninterrupted m
@@ -114,5 +117,5 @@ module _ (m : Mem) (code : ℕ) (c : IsReplayable m code) where
       let begins : IsLive run 0 m = subst (IsLive run 0) first u.begins in
       let before : (powered (written_out ps) m).over ≡ false = (after_same ps m).over ∙ going_of (after ps m).went (was_on ps n junk on) in
       let place = replay_within next_of torn_of boot index_of (memory run) (writes run) (reads run) (flip run) (ends run) is_buffer (is_fixed code) (IsLike run) (IsLive run) resume 33 waking (followed run code u)
-          (written_out ps) n junk (switched_on m) (sym first) refl begins refl before in
-      place_keeps run code u _ n (path_of y) (subst (λ z. There run code u _ n z) (within_same ps n junk m) place) (going_of y.went on) a l
+      (written_out ps) n junk (switched_on m) (sym first) refl begins refl before in
+      moment_keeps run code u _ n _ (path_of y) place (within_same ps n junk m) (going_of y.went on) a l

@@ -8,10 +8,11 @@ use Rattle.im_rv.proofs.Effecting.{step_mem}
 use Rattle.im_image.specs.Contents.{ImageValue, ObjectValue, AreObjects, IsImage}
 use Rattle.im_power.specs.declared.period.Period.{Period}
 use Rattle.im_device.specs.Load.{memory_of}
+use Rattle.im_device.specs.Run.{Moment}
 use Rattle.im_ckpt.specs.Runs.{State, writes}
 use Rattle.im_ckpt.specs.Buffers.{is_buffer}
 use Rattle.im_replay.specs.Compiled.{RunsSafely, IsReplayable}
-use Rattle.im_replay.specs.Replays.{after}
+use Rattle.im_replay.specs.Replays.{after, within}
 use Rattle.im_replay.proofs.Device.{replay_law}
 use Rattle.im_replay.proofs.Endless.{is_run}
 use Rattle.im_keeps.specs.Keeps.{IsInput}
@@ -22,10 +23,10 @@ use Rattle.im_keeps_writes.specs.Writes.{is_word, is_in, is_stack, is_output, ma
 use Rattle.im_keeps_writes.proofs.Idle.{live_stays, torn_keeps}
 
 -- what may not change is no byte of a buffer
-no_buffer : (v w x : Bool) → (v || w || x) ≡ false → w ≡ false
-no_buffer true w x h = absurd (let bad : true ≡ false = h in cc)
-no_buffer false true x h = absurd (let bad : true ≡ false = h in cc)
-no_buffer false false x h = refl
+no_buffer : (v w x y z : Bool) → (v || w || x || y || z) ≡ false → w ≡ false
+no_buffer true w x y z h = absurd (let bad : true ≡ false = h in cc)
+no_buffer false true x y z h = absurd (let bad : true ≡ false = h in cc)
+no_buffer false false x y z h = refl
 
 -- the code, and what lies between it and the statics
 
@@ -93,9 +94,9 @@ module _ (law : WrittenLaw) (image : ImageValue) (input : List ℕ) (written : I
   same : (periods : List Period) (a : ℕ) → may_change image a ≡ false → (after periods (memory_of image input)).mem a ≡ memory_of image input a
   same periods a out =
       let s = (replay_law (memory_of image input) (code_end image) replayable).after_periods periods in
-      elim (s.bytes a (no_buffer (is_word a) (is_buffer a) (is_in image.objects a || is_stack image a || is_output a) out)) [
+      elim (s.bytes a (no_buffer (is_word a) (is_buffer a) (is_in image.objects a) (is_stack image a) (is_output a) out)) [
         | inl e ↦ e ∙ stays s.s a out
-        | inr w ↦ absurd (let n = none w.time a out in let bad : Some _ ≡ None = sym w.value ∙ n in cc)
+        | inr w ↦ absurd (let n = none w.time a out in let bad : Some ((after periods (memory_of image input)).mem a) ≡ None = sym w.value ∙ n in cc)
       ]
 
   pub all : Writes image input
@@ -103,6 +104,7 @@ module _ (law : WrittenLaw) (image : ImageValue) (input : List ℕ) (written : I
     same = same;
     code = λ periods a low high. same periods a (code_stays image written.is_image a low high);
     live = λ periods n junk on mask a l.
+        let x : Moment = within periods n junk (memory_of image input) in
         let e = live_stays (memory_of image input) (code_end image) replayable periods n junk a on l in
-        (e, torn_keeps mask _ _ a e);
+        (e, torn_keeps mask x.cpu x.mem a e);
   }

@@ -2,7 +2,7 @@
 use Rattle.std.proofs.Common.{◌≡◌, ◌≢◌, ℕ, zero, suc, ◌+◌, ◌<◌, ◌≤◌, inl, inr, Bool, true, false, cond, List, [], ◌∷◌, Option, Some, None, refl, sym, ap, ◌∙◌, subst, arith}
 use Rattle.std.specs.Prelude.{◌-◌, ◌==◌, ◌&&◌, ◌||◌, nat_le, nat_lt, slice_get}
 use Rattle.std.specs.Option.{option_map}
-use Rattle.std.proofs.lemmas.Bool.{or_right}
+use Rattle.std.proofs.lemmas.Bool.{leb-true, and_parts, or_right}
 use Rattle.std.proofs.lemmas.Bool.Decides.{nat_tests}
 use Rattle.im_mem.specs.Memory.{is_place}
 use Rattle.im_rv_reach.specs.Touches.{Stored, is_system}
@@ -130,7 +130,7 @@ small_place b n place = elim (place_sizes b n place) [
 ]
 
 place_end : (b n : ℕ) → is_place b n ≡ true → b + n ≤ 5242880
-place_end b n place = grind (arith, nat_tests)
+place_end b n place = leb-true _ _ (and_parts _ _ place).1
 
 output_byte : (a : ℕ) → 4194304 ≤ a → a < 5242880 → is_output a ≡ true
 output_byte a low high = grind (arith, nat_tests)

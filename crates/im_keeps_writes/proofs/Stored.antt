@@ -74,7 +74,7 @@ in_order s (Flipped ∷ ts) h = (tt, in_order (flipping s) ts h)
 -- ---- what lies in statics and stack
 
 module _ (p : Linking) (u : Code) (g : Setting) where
-  abbrev IsHeard : Touch → Type 0
+  abbrev pub IsHeard : Touch → Type 0
   IsHeard (Loaded a n) = Unit {0}
   IsHeard (Stored a n) = IsHeld p u g a n
   IsHeard Flipped = Unit {0}

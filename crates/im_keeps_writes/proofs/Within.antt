@@ -3,6 +3,7 @@ use Rattle.std.proofs.Common.{◌≡◌, ◌≢◌, ℕ, zero, suc, ◌+◌, ◌
 use Rattle.im_mem.specs.Memory.{Mem}
 use Rattle.im_rv.specs.declared.step.Went.{Went}
 use Rattle.im_rv.specs.declared.step.Went.TheVariants.{On, Halted, Faulted}
+use Rattle.im_rv.specs.Steps.{Stepped}
 use Rattle.im_rv.specs.Runs.{step_of, go_on, runs}
 use Rattle.im_rv_reach.specs.Touches.{Stored, touch_of, touches, touched}
 use Rattle.im_rv_reach.specs.Orderly.{Anything}
@@ -43,7 +44,7 @@ some_or_none (Some w) = inr (w, refl)
 -- a run of so many steps that doesn't go on has ended by one of them
 record EndsWithin (run : ℕ → State) (t j : ℕ) : Type 0 where
   e : ℕ
-  within : e < t + j
+  early : e < t + j
   over : ends run e ≡ true
 
 ends_within : (run : ℕ → State) → IsRun run → (j t : ℕ) → (runs j (run t).cpu (run t).mem).went ≢ On → EndsWithin run t j
@@ -53,11 +54,11 @@ ends_within run steps (suc j) t h = by (step_of (run t).cpu (run t).mem).went re
     by : (w : Went) → (step_of (run t).cpu (run t).mem).went ≡ w → (go_on (runs j) (step_of (run t).cpu (run t).mem).cpu (step_of (run t).cpu (run t).mem).mem w).went ≢ On → EndsWithin run t (suc j)
     by On e k =
         let next : runs j (run (suc t)).cpu (run (suc t)).mem ≡ runs j (step_of (run t).cpu (run t).mem).cpu (step_of (run t).cpu (run t).mem).mem = ap (λ (s : State). runs j s.cpu s.mem) (steps t) in
-        let q = ends_within run steps j (suc t) (λ on. k (ap (λ s. s.went) (sym next) ∙ on)) in
-        let before = q.within in
-        record { e = q.e; within = omega arith; over = q.over }
-    by Halted e k = record { e = t; within = omega arith; over = over_of (step_of (run t).cpu (run t).mem).went (λ on. let bad : Halted ≡ On = sym e ∙ on in cc) }
-    by (Faulted at) e k = record { e = t; within = omega arith; over = over_of (step_of (run t).cpu (run t).mem).went (λ on. let bad : Faulted at ≡ On = sym e ∙ on in cc) }
+        let q = ends_within run steps j (suc t) (λ on. k (ap (λ (s : Stepped). s.went) (sym next) ∙ on)) in
+        let before = q.early in
+        record { e = q.e; early = omega arith; over = q.over }
+    by Halted e k = record { e = t; early = omega arith; over = over_of (step_of (run t).cpu (run t).mem).went (λ on. let bad : Halted ≡ On = sym e ∙ on in cc) }
+    by (Faulted at) e k = record { e = t; early = omega arith; over = over_of (step_of (run t).cpu (run t).mem).went (λ on. let bad : Faulted at ≡ On = sym e ∙ on in cc) }
 
 module _ (keeps : SelectKeeps) (written : WrittenLaw) (image : ImageValue) (input : List ℕ) (u : Code) (g : Setting) (p : Linking) (fits : IsInput input) (well : IsWellFormed u) (within : IsInImage image input u g p) (named : AreNamed p 0 (statics_of u) image.objects) (stack : g.stack ≡ image.stack) (safe : RunsSafely (run_of image input) (code_end image)) where
   abbrev r : ℕ → State
@@ -105,22 +106,22 @@ module _ (keeps : SelectKeeps) (written : WrittenLaw) (image : ImageValue) (inpu
           absurd cc)
     ]
 
-    over : (runs j (first_cpu image input) p.image).went ≡ Halted → EndsWithin r 0 j
-    over h =
+    halted : (runs j (first_cpu image input) p.image).went ≡ Halted → EndsWithin r 0 j
+    halted h =
         let same : runs j (first_cpu image input) p.image ≡ runs j (r 0).cpu (r 0).mem = ap (λ (m : Mem). runs j (first_cpu image input) m) memory in
-        ends_within r (is_run (memory_of image input)) j 0 (λ on. let bad : Halted ≡ On = sym h ∙ ap (λ s. s.went) same ∙ on in cc)
+        ends_within r (is_run (memory_of image input)) j 0 (λ on. let bad : Halted ≡ On = sym h ∙ ap (λ (s : Stepped). s.went) same ∙ on in cc)
 
     -- behind the end all stays
     none_over : EndsWithin r 0 j → (t a : ℕ) → may_change image a ≡ false → writes r t a ≡ None
     none_over e t a out =
-        let before = e.within in
+        let before = e.early in
         elim (order t e.e) [
           | inl lt ↦ none_before t a (omega arith) out
           | inr le ↦ ap (λ (s : State). writes (λ q. s) t a) (still r (is_run (memory_of image input)) e.e e.over t le) ∙ none_before e.e a (omega arith) out
         ]
 
     none_shown : (t a : ℕ) → t < n → may_change image a ≡ false → (q : Outcome) → Shows p u q n j (runs j (first_cpu image input) p.image) → writes r t a ≡ None
-    none_shown t a lt out (End reason status output variables) s = none_over (over s.0) t a out
+    none_shown t a lt out (End reason status output variables) s = none_over (halted s.0) t a out
     none_shown t a lt out (More output) s = none_before t a (let few = s.2 in omega arith) out
     none_shown t a lt out (Undef why) s = absurd s
 
