@@ -148,8 +148,7 @@ near_aims lines words aims found kept apart near few = λ k aim g.
     let place = kept.known aim.label target.0 target.1 in
     let stands = kept.stands aim.label place.0 place.1 in
     let there = slice_get_within lines place.0 stands.line stands.is_line in
-    let same : target.0 ≡ place.0 = apart aim.label target.0 place.0 target.1 stands in
-    (
+    let same : target.0 ≡ place.0 = apart aim.label target.0 place.0 target.1 stands in (
       (let c = kept.count in omega arith),
       record {
         place = place.0;
@@ -157,7 +156,8 @@ near_aims lines words aims found kept apart near few = λ k aim g.
         from = omega arith;
         to = omega arith;
         reach = subst (λ (z : Instr). Reaches z aim.at place.0) (sym a.instr) (subst (λ (z : ℕ). Reaches a.line.instr aim.at z) same target.2);
-      })
+      },
+    )
 
 pub near_at : (found : ℕ → Option ℕ) (count n : ℕ) (aims : List Aim) (aim : Aim) → n < length aims → aim ≡ get_or aims n aim → AreAimsNear found count aims → (aim.at < count) × IsNearAim found aim
 near_at found count n aims aim below is near = near n aim (slice_get-get_or aims n aim below ∙ ap (λ (z : Aim). Some z) (sym is))

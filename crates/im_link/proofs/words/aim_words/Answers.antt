@@ -18,9 +18,10 @@ put-requires c =
 
 pub loop-aim-preserved : goal.loop-aim-preserved
 loop-aim-preserved c = (
-    c.put.ensures.count ∙ c.loop-aim.invariant.0,
-    λ lines kept. aim_next lines c.args.words.now.items c.args.aims.now (hash.get nat_eq c.args.places.now) c.loop-aim.aim-index c.aim-item.result c.loop-aim-test.true c.aim-item.is _ _ _ kept
-        c.aimed_word.ensures c.put.ensures (c.loop-aim.invariant.1 lines kept))
+  c.put.ensures.count ∙ c.loop-aim.invariant.0,
+  λ lines kept. aim_next lines c.args.words.now.items c.args.aims.now (hash.get nat_eq c.args.places.now) c.loop-aim.aim-index c.aim-item.result c.loop-aim-test.true c.aim-item.is _ _ _ kept
+      c.aimed_word.ensures c.put.ensures (c.loop-aim.invariant.1 lines kept),
+)
 
 pub returns : goal.returns
 returns c lines kept = all_aimed lines _ c.args.aims.now _ c.loop-aim.aim-index c.loop-aim-test.false _ kept (c.loop-aim.invariant.1 lines kept)

@@ -14,8 +14,9 @@ push_line-requires c =
 
 pub loop-line-preserved : goal.loop-line-preserved
 loop-line-preserved c = (
-    (let count = c.loop-line.invariant.0 in let more = c.in_ok-push_line.ensures.count in omega arith),
-    λ before kept. lines_on before c.args.lines.now c.loop-line.line-index c.line-item.result c.loop-line-test.true c.line-item.is _ _ _ (c.in_ok-push_line.ensures.kept _ (c.loop-line.invariant.1 before kept)))
+  (let count = c.loop-line.invariant.0 in let more = c.in_ok-push_line.ensures.count in omega arith),
+  λ before kept. lines_on before c.args.lines.now c.loop-line.line-index c.line-item.result c.loop-line-test.true c.line-item.is _ _ _ (c.in_ok-push_line.ensures.kept _ (c.loop-line.invariant.1 before kept)),
+)
 
 pub returns : goal.returns
 returns c before kept = lines_end before c.args.lines.now c.loop-line.line-index c.loop-line-test.false _ _ _ (c.loop-line.invariant.1 before kept)
