@@ -51,6 +51,16 @@ not_wrong s a n ts h wrong =
     let bad : false ≡ true = sym (ap is_closed (refused ∙ after_refused ts)) ∙ h in
     cc
 
+-- a store beside INDEX; the rest is in order, whether it is seen or not
+beside : (s : Since) (a n : ℕ) (ts : List Touch) → (is_closed (after s (seen ts)) ≡ true → AllTouched IsInOrder ts) → (is_closed (after (moved s (Stored a n)) (seen ts)) ≡ true → AllTouched IsInOrder ts)
+    → is_closed (after s (cond (in_buffer a) (seen ts) (Stored a n ∷ seen ts))) ≡ true → AllTouched IsInOrder (Stored a n ∷ ts)
+beside s a n ts unseen known k = elim (truth (in_buffer a)) [
+  | inl q ↦ (inr (inl q), unseen (subst (λ b. is_closed (after s (cond b (seen ts) (Stored a n ∷ seen ts))) ≡ true) q k))
+  | inr q ↦ (
+      let l : is_closed (after (moved s (Stored a n)) (seen ts)) ≡ true = subst (λ b. is_closed (after s (cond b (seen ts) (Stored a n ∷ seen ts))) ≡ true) q k in
+      (inr (inr (not_wrong s a n (seen ts) l)), known l))
+]
+
 pub in_order : (s : Since) (ts : List Touch) → is_closed (after s (seen ts)) ≡ true → AllTouched IsInOrder ts
 in_order s [] h = tt
 in_order s (Loaded a n ∷ ts) h = elim (truth (is_checkpoints a)) [
@@ -59,16 +69,9 @@ in_order s (Loaded a n ∷ ts) h = elim (truth (is_checkpoints a)) [
 ]
 in_order s (Stored a n ∷ ts) h = elim (truth (a == 0)) [
   | inl q ↦ (inl (eqb-true a 0 q), in_order (flipping s) ts (subst (λ b. is_closed (after s (cond b (Flipped ∷ seen ts) (cond (in_buffer a) (seen ts) (Stored a n ∷ seen ts)))) ≡ true) q h))
-  | inr q ↦ beside (subst (λ b. is_closed (after s (cond b (Flipped ∷ seen ts) (cond (in_buffer a) (seen ts) (Stored a n ∷ seen ts)))) ≡ true) q h)
+  | inr q ↦ beside s a n ts (λ k. in_order s ts k) (λ k. in_order (moved s (Stored a n)) ts k)
+      (subst (λ b. is_closed (after s (cond b (Flipped ∷ seen ts) (cond (in_buffer a) (seen ts) (Stored a n ∷ seen ts)))) ≡ true) q h)
 ]
-  where
-    beside : is_closed (after s (cond (in_buffer a) (seen ts) (Stored a n ∷ seen ts))) ≡ true → AllTouched IsInOrder (Stored a n ∷ ts)
-    beside k = elim (truth (in_buffer a)) [
-      | inl q ↦ (inr (inl q), in_order s ts (subst (λ b. is_closed (after s (cond b (seen ts) (Stored a n ∷ seen ts))) ≡ true) q k))
-      | inr q ↦ (
-          let l : is_closed (after (moved s (Stored a n)) (seen ts)) ≡ true = subst (λ b. is_closed (after s (cond b (seen ts) (Stored a n ∷ seen ts))) ≡ true) q k in
-          (inr (inr (not_wrong s a n (seen ts) l)), in_order (moved s (Stored a n)) ts l))
-    ]
 in_order s (Flipped ∷ ts) h = (tt, in_order (flipping s) ts h)
 
 -- ---- what lies in statics and stack
@@ -99,6 +102,13 @@ module _ (p : Linking) (u : Code) (g : Setting) where
   IsOwn (Stored a n) = is_system a ≡ false → IsHeld p u g a n
   IsOwn Flipped = Unit {0}
 
+  -- behind a store of the low page, the input or the output
+  system : (a : ℕ) (ts : List Touch) → (AllTouched IsHeard (heard ts) → AllTouched IsOwn ts) → AllTouched IsHeard (cond (a == 0) (Flipped ∷ heard ts) (heard ts)) → AllTouched IsOwn ts
+  system a ts others k = elim (truth (a == 0)) [
+    | inl q ↦ others (subst (λ b. AllTouched IsHeard (cond b (Flipped ∷ heard ts) (heard ts))) q k).1
+    | inr q ↦ others (subst (λ b. AllTouched IsHeard (cond b (Flipped ∷ heard ts) (heard ts))) q k)
+  ]
+
   pub all_own : (ts : List Touch) → AllTouched IsHeard (heard ts) → AllTouched IsOwn ts
   all_own [] h = tt
   all_own (Loaded a n ∷ ts) h = elim (truth (is_system a)) [
@@ -106,15 +116,12 @@ module _ (p : Linking) (u : Code) (g : Setting) where
     | inr q ↦ (tt, all_own ts (subst (λ b. AllTouched IsHeard (cond b (heard ts) (Loaded a n ∷ heard ts))) q h).1)
   ]
   all_own (Stored a n ∷ ts) h = elim (truth (is_system a)) [
-    | inl q ↦ ((λ e. let bad : true ≡ false = sym q ∙ e in absurd cc), system (subst (λ b. AllTouched IsHeard (cond b (cond (a == 0) (Flipped ∷ heard ts) (heard ts)) (Stored a n ∷ heard ts))) q h))
+    | inl q ↦ (
+      (λ e. let bad : true ≡ false = sym q ∙ e in absurd cc),
+      system a ts (λ k. all_own ts k) (subst (λ b. AllTouched IsHeard (cond b (cond (a == 0) (Flipped ∷ heard ts) (heard ts)) (Stored a n ∷ heard ts))) q h),
+    )
     | inr q ↦ (
         let k = subst (λ b. AllTouched IsHeard (cond b (cond (a == 0) (Flipped ∷ heard ts) (heard ts)) (Stored a n ∷ heard ts))) q h in
         ((λ e. k.0), all_own ts k.1))
   ]
-    where
-      system : AllTouched IsHeard (cond (a == 0) (Flipped ∷ heard ts) (heard ts)) → AllTouched IsOwn ts
-      system k = elim (truth (a == 0)) [
-        | inl q ↦ all_own ts (subst (λ b. AllTouched IsHeard (cond b (Flipped ∷ heard ts) (heard ts))) q k).1
-        | inr q ↦ all_own ts (subst (λ b. AllTouched IsHeard (cond b (Flipped ∷ heard ts) (heard ts))) q k)
-      ]
   all_own (Flipped ∷ ts) h = (tt, all_own ts h.1)

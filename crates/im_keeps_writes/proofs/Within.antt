@@ -47,18 +47,19 @@ record EndsWithin (run : ℕ → State) (t j : ℕ) : Type 0 where
   early : e < t + j
   over : ends run e ≡ true
 
+ends_by : (run : ℕ → State) → IsRun run → (j t : ℕ) (w : Went) → (step_of (run t).cpu (run t).mem).went ≡ w → ((runs j (run (suc t)).cpu (run (suc t)).mem).went ≢ On → EndsWithin run (suc t) j)
+    → (go_on (runs j) (step_of (run t).cpu (run t).mem).cpu (step_of (run t).cpu (run t).mem).mem w).went ≢ On → EndsWithin run t (suc j)
+ends_by run steps j t On e later k =
+    let next : runs j (run (suc t)).cpu (run (suc t)).mem ≡ runs j (step_of (run t).cpu (run t).mem).cpu (step_of (run t).cpu (run t).mem).mem = ap (λ (s : State). runs j s.cpu s.mem) (steps t) in
+    let q = later (λ on. k (ap (λ (s : Stepped). s.went) (sym next) ∙ on)) in
+    let before = q.early in
+    record { e = q.e; early = omega arith; over = q.over }
+ends_by run steps j t Halted e later k = record { e = t; early = omega arith; over = over_of (step_of (run t).cpu (run t).mem).went (λ on. let bad : Halted ≡ On = sym e ∙ on in cc) }
+ends_by run steps j t (Faulted at) e later k = record { e = t; early = omega arith; over = over_of (step_of (run t).cpu (run t).mem).went (λ on. let bad : Faulted at ≡ On = sym e ∙ on in cc) }
+
 ends_within : (run : ℕ → State) → IsRun run → (j t : ℕ) → (runs j (run t).cpu (run t).mem).went ≢ On → EndsWithin run t j
 ends_within run steps zero t h = absurd (h refl)
-ends_within run steps (suc j) t h = by (step_of (run t).cpu (run t).mem).went refl h
-  where
-    by : (w : Went) → (step_of (run t).cpu (run t).mem).went ≡ w → (go_on (runs j) (step_of (run t).cpu (run t).mem).cpu (step_of (run t).cpu (run t).mem).mem w).went ≢ On → EndsWithin run t (suc j)
-    by On e k =
-        let next : runs j (run (suc t)).cpu (run (suc t)).mem ≡ runs j (step_of (run t).cpu (run t).mem).cpu (step_of (run t).cpu (run t).mem).mem = ap (λ (s : State). runs j s.cpu s.mem) (steps t) in
-        let q = ends_within run steps j (suc t) (λ on. k (ap (λ (s : Stepped). s.went) (sym next) ∙ on)) in
-        let before = q.early in
-        record { e = q.e; early = omega arith; over = q.over }
-    by Halted e k = record { e = t; early = omega arith; over = over_of (step_of (run t).cpu (run t).mem).went (λ on. let bad : Halted ≡ On = sym e ∙ on in cc) }
-    by (Faulted at) e k = record { e = t; early = omega arith; over = over_of (step_of (run t).cpu (run t).mem).went (λ on. let bad : Faulted at ≡ On = sym e ∙ on in cc) }
+ends_within run steps (suc j) t h = ends_by run steps j t (step_of (run t).cpu (run t).mem).went refl (λ k. ends_within run steps j (suc t) k) h
 
 module _ (keeps : SelectKeeps) (written : WrittenLaw) (image : ImageValue) (input : List ℕ) (u : Code) (g : Setting) (p : Linking) (fits : IsInput input) (well : IsWellFormed u) (within : IsInImage image input u g p) (named : AreNamed p 0 (statics_of u) image.objects) (stack : g.stack ≡ image.stack) (safe : RunsSafely (run_of image input) (code_end image)) where
   abbrev r : ℕ → State
