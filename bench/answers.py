@@ -19,6 +19,7 @@ TRIALS = re.compile(r"_trials$|^im_(vectors|examples)$")
 
 # Each call that fails there can fail for want of memory alone, and the fault's type has no conversion from that of the call.
 HANDED_ON = {
+    ("im_check_externals/src/fault.rt", "large"),
     ("im_cmd/src/building.rt", "store_image"),
     ("im_cmd_words/src/words.rt", "refusal"),
     ("im_driver/src/checking.rt", "typed_program"),

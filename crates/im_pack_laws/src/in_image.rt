@@ -1,7 +1,7 @@
 ghost use Rattle.im_pack_laws.specs.ImageLaws.{InImageLaw, SelectsLaw};
 
-use im_link_laws::{linked_law, words_law};
 use crate::{holds_objects_law, loads_law, named_law, packed_law, places_law};
+use im_link_laws::{linked_law, words_law};
 use im_select_executes::objects_law;
 
 /// A packed program, loaded with any input, is in its image as the law of selection asks.
