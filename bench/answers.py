@@ -15,7 +15,7 @@ import re
 TOP = os.path.join(os.path.dirname(os.path.abspath(__file__)), "..", "crates")
 VARIANT = re.compile(r"\b(\w+)::(OutOfMemory|NoMemory|Memory)\b")
 FUNCTION = re.compile(r"^\s*(?:pub(?:\([^)]*\))? )?(?:const )?fn (\w+)")
-TRIALS = re.compile(r"_trials$|^im_(vectors|examples)$")
+TRIALS = re.compile(r"_trials$|^im_trial(_|$)|^im_(vectors|examples)$")
 
 # Each call that fails there can fail for want of memory alone, and the fault's type has no conversion from that of the call.
 HANDED_ON = {
