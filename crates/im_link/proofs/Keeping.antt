@@ -74,18 +74,17 @@ module _ (lines : List Line) (line : Line) (aims new : List Aim) (at : ℕ) (her
   ]
 
   known_on : (before after : ℕ → Option ℕ) (o : Option ℕ) → line.label ≡ o → IfSome o (λ l. after l ≡ Some at) → ((q : ℕ) → o ≢ Some q → after q ≡ before q) →
-      ((l j : ℕ) (other : Line) → slice_get lines j ≡ Some other → other.label ≡ Some l → (i : ℕ) × (before l ≡ Some i)) →
-      (l j : ℕ) (other : Line) → slice_get (lines ++ line ∷ []) j ≡ Some other → other.label ≡ Some l → (i : ℕ) × (after l ≡ Some i)
-  known_on before after None e is others old l j other g t = elim (old_or_last lines line other j g) [
-    | inl o ↦ (let r = old l j other o t in (r.0, others l (λ h. cc) ∙ r.1))
-    | inr q ↦ absurd (let bad : None ≡ Some l = sym e ∙ ap (λ (z : Line). z.label) (sym q.1) ∙ t in cc)
+      ((l j : ℕ) → StandsAt lines l j → (i : ℕ) × (before l ≡ Some i)) → (l j : ℕ) → StandsAt (lines ++ line ∷ []) l j → (i : ℕ) × (after l ≡ Some i)
+  known_on before after None e is others old l j s = elim (old_or_last lines line s.line j s.is_line) [
+    | inl o ↦ (let r = old l j (record { line = s.line; is_line = o; label = s.label }) in (r.0, others l (λ h. cc) ∙ r.1))
+    | inr q ↦ absurd (let bad : None ≡ Some l = sym e ∙ ap (λ (z : Line). z.label) (sym q.1) ∙ s.label in cc)
   ]
-  known_on before after (Some m) e is others old l j other g t = elim (same_or l m) [
+  known_on before after (Some m) e is others old l j s = elim (same_or l m) [
     | inl q ↦ (at, ap after q ∙ is)
-    | inr ne ↦ elim (old_or_last lines line other j g) [
-      | inl o ↦ (let r = old l j other o t in (r.0, others l (λ h. ne (let r : l ≡ m = cc in r)) ∙ r.1))
+    | inr ne ↦ elim (old_or_last lines line s.line j s.is_line) [
+      | inl o ↦ (let r = old l j (record { line = s.line; is_line = o; label = s.label }) in (r.0, others l (λ h. ne (let r : l ≡ m = cc in r)) ∙ r.1))
       | inr q ↦ absurd (
-          let label : Some m ≡ Some l = sym e ∙ ap (λ (z : Line). z.label) (sym q.1) ∙ t in
+          let label : Some m ≡ Some l = sym e ∙ ap (λ (z : Line). z.label) (sym q.1) ∙ s.label in
           let same : m ≡ l = cc in
           ne (sym same))
     ]
@@ -146,7 +145,7 @@ near_aims lines words aims found kept apart near few = λ k aim g.
     let a = kept.aims_are k aim g in
     let inside = slice_get_within lines aim.at a.line a.is_line in
     let target = near aim.at a.line aim.label a.is_line a.target in
-    let place = kept.known aim.label target.0 target.1.line target.1.is_line target.1.label in
+    let place = kept.known aim.label target.0 target.1 in
     let stands = kept.stands aim.label place.0 place.1 in
     let there = slice_get_within lines place.0 stands.line stands.is_line in
     let same : target.0 ≡ place.0 = apart aim.label target.0 place.0 target.1 stands in (

@@ -32,7 +32,7 @@ pub record AreLinesKept (lines : List Line) (words : List ℕ) (aims : List Aim)
   pub aims_are : (k : ℕ) (aim : Aim) → slice_get aims k ≡ Some aim → IsAimOf lines aim
   pub aimed : (i l : ℕ) (line : Line) → slice_get lines i ≡ Some line → line.target ≡ Some l → HasAim aims i
   pub stands : (l j : ℕ) → found l ≡ Some j → StandsAt lines l j
-  pub known : (l j : ℕ) (line : Line) → slice_get lines j ≡ Some line → line.label ≡ Some l → (i : ℕ) × (found l ≡ Some i)
+  pub known : (l j : ℕ) → StandsAt lines l j → (i : ℕ) × (found l ≡ Some i)
 
 -- the aim of an instruction that is word `at` is added, if it has a target
 abbrev pub AddsAim : ℕ → Instr → Option ℕ → List Aim → List Aim → Type 0

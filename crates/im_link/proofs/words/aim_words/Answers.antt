@@ -1,4 +1,4 @@
-use Rattle.std.proofs.Common.{length, ◌∙◌, arith, refl}
+use Rattle.std.proofs.Common.{◌≡◌, ◌∙◌, arith, refl}
 use Rattle.std.specs.Prelude.{nat_eq}
 use Rattle.std.specs.HashMap as hash
 use Rattle.im_link.proofs.Keeping.{none_aimed, near_at, aim_next, all_aimed}
@@ -8,11 +8,11 @@ pub loop-aim-init : goal.loop-aim-init
 loop-aim-init c = (refl, λ lines kept. none_aimed lines _ _ _ kept)
 
 pub aimed_word-requires : goal.aimed_word-requires
-aimed_word-requires c = (near_at (hash.get nat_eq c.args.places.now) (length c.args.words.now.items) c.loop-aim.aim-index c.args.aims.now c.aim-item.result c.loop-aim-test.true c.aim-item.is c.requires).1
+aimed_word-requires c = (near_at (hash.get nat_eq c.args.places.now) _ c.loop-aim.aim-index c.args.aims.now c.aim-item.result c.loop-aim-test.true c.aim-item.is c.requires).1
 
 pub put-requires : goal.put-requires
 put-requires c =
-    let inside = (near_at (hash.get nat_eq c.args.places.now) (length c.args.words.now.items) c.loop-aim.aim-index c.args.aims.now c.aim-item.result c.loop-aim-test.true c.aim-item.is c.requires).0 in
+    let inside = (near_at (hash.get nat_eq c.args.places.now) _ c.loop-aim.aim-index c.args.aims.now c.aim-item.result c.loop-aim-test.true c.aim-item.is c.requires).0 in
     let count = c.loop-aim.invariant.0 in
     omega arith
 
