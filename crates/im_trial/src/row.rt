@@ -1,4 +1,3 @@
-use crate::escapes::unescaped;
 use crate::fields::word_of;
 use crate::stop::Stop;
 use crate::texts::Texts;
@@ -48,9 +47,10 @@ impl<'a> Row<'a> {
         self.field(1)
     }
 
-    /// What the case should find: the last field.
-    pub fn wanted(&self) -> &'a str {
+    /// What the case should find: the last field, or the lines below where that is `|`.
+    pub fn wanted(&self) -> &str {
         match self.fields.last() {
+            Some(field) if *field == "|" => self.below.as_str(),
             Some(field) => *field,
             None => "",
         }
@@ -70,10 +70,7 @@ impl<'a> Row<'a> {
         if *field == "|" {
             return Ok(Vec::from_slice(alloc, self.below.as_bytes())?);
         }
-        match field.strip_prefix('@') {
-            Some(name) => Ok(Vec::from_slice(alloc, texts.find(name)?)?),
-            None => unescaped(alloc, field),
-        }
+        texts.written(alloc, field)
     }
 
     /// The words of a field, of hexadecimal digits, with a blank between two.

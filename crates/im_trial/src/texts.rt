@@ -1,3 +1,4 @@
+use crate::escapes::unescaped;
 use crate::fields::small_of;
 use crate::row::Row;
 use crate::stop::Stop;
@@ -33,6 +34,14 @@ impl Texts {
             }
         }
         Err(Stop::Row)
+    }
+
+    /// What is written in a word: the text of that name for `@NAME`, and else its bytes, without escapes.
+    pub fn written(&self, alloc: Global, word: &str) -> Result<Vec<u8>, Stop> {
+        match word.strip_prefix('@') {
+            Some(name) => Ok(Vec::from_slice(alloc, self.find(name)?)?),
+            None => unescaped(alloc, word),
+        }
     }
 
     fn push(&mut self, alloc: Global, name: &str, bytes: Vec<u8>) -> Result<(), Stop> {
