@@ -12,7 +12,5 @@ mod starts;
 mod table;
 
 pub use bound::gap_bound_law;
-pub use graph::{Graph, Node};
 pub use laws::{calls_law, rank_law};
 pub use longest::{gap, longest_gap};
-pub use starts::longest;

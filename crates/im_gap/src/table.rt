@@ -3,8 +3,8 @@ ghost use Rattle.im_rv.specs.Decode.{decode as decoded};
 ghost use Rattle.im_gap.specs.Flow.{links};
 ghost use Rattle.im_gap.specs.Table.{following, successors_by, behind, Drawn};
 
-use crate::Node;
 use crate::flow::{Turn, Way, index_at, links_register, way_of};
+use crate::graph::Node;
 use im_num::NoMemory;
 
 // the next word, if there is one

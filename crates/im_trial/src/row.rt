@@ -47,7 +47,7 @@ impl<'a> Row<'a> {
         self.field(1)
     }
 
-    /// What the case should find: the last field, as it is written, or the lines below for `|`.
+    /// What the case should find: the last field, or the lines below where that is `|`.
     pub fn wanted(&self) -> &str {
         match self.fields.last() {
             Some(field) if *field == "|" => self.below.as_str(),

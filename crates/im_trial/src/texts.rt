@@ -36,7 +36,7 @@ impl Texts {
         Err(Stop::Row)
     }
 
-    /// The bytes that a word writes: a text of the tables for `@NAME`, or its own, without escapes.
+    /// What is written in a word: the text of that name for `@NAME`, and else its bytes, without escapes.
     pub fn written(&self, alloc: Global, word: &str) -> Result<Vec<u8>, Stop> {
         match word.strip_prefix('@') {
             Some(name) => Ok(Vec::from_slice(alloc, self.find(name)?)?),
