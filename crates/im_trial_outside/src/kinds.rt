@@ -41,9 +41,7 @@ fn run_words(rt: &HostRuntime, row: &Row<'_>, case: &mut Case) -> bool {
 
 /// Runs the case of a row by its kind.
 pub(crate) fn run(rt: &HostRuntime, texts: &Texts, row: &Row<'_>, case: &mut Case) {
-    let is_known = run_words(rt, row, case)
-        || run_source(row, case)
-        || run_image(texts, row, case);
+    let is_known = run_words(rt, row, case) || run_source(row, case) || run_image(texts, row, case);
     if !is_known {
         case.end(Stop::Row);
     }

@@ -90,7 +90,12 @@ fn add_blocks(alloc: Global) -> Result<Vec<Block>, Stop> {
         fails: 0,
     };
     push(alloc, &mut blocks, &[read(1, THE_N, Kind::I32)], test)?;
-    push(alloc, &mut blocks, &[write(THE_N, Kind::I32, 0)], Exit::Jump(2))?;
+    push(
+        alloc,
+        &mut blocks,
+        &[write(THE_N, Kind::I32, 0)],
+        Exit::Jump(2),
+    )?;
     push_turn(alloc, &mut blocks)?;
     Ok(blocks)
 }
