@@ -13,8 +13,12 @@ fn words_of(alloc: Global, text: &str) -> Result<Vec<String>, Stop> {
 fn tell_words(words: &[String], case: &mut Case) {
     match read_words(case.alloc, words) {
         Ok(command) => case.debug(&command),
-        Err(WordsFault::Usage(text)) if !text.is_empty() => case.say(" a usage text"),
-        Err(_) => case.say(" no usage text"),
+        Err(WordsFault::Usage(text)) => case.say(if text.is_empty() {
+            " no usage text"
+        } else {
+            " a usage text"
+        }),
+        Err(WordsFault::OutOfMemory) => case.say(" no memory"),
     }
 }
 
