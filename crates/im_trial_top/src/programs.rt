@@ -33,7 +33,10 @@ fn period(n: u32, count: u32, mask: u32) -> Period {
 
 // A static that is one number.
 fn tell_static(var: &Var, case: &mut Case) {
-    if let (1, Some(CellValue::Number(number))) = (var.cells.len(), var.cells.first()) {
+    if var.cells.len() != 1 {
+        return;
+    }
+    if let Some(CellValue::Number(number)) = var.cells.first() {
         case.say(" ");
         case.say(str::from_utf8(&var.name).unwrap_or("no name"));
         case.show(*number);

@@ -41,7 +41,8 @@ fn typedef_chain(alloc: Global, links: u32) -> Result<String, Stop> {
         let next = link + 1;
         text.push_str(&format!(in alloc; "typedef t{link}*t{next};")?)?;
     }
-    text.push_str(&format!(in alloc; "t{links} last;int main(void){{return 0;}}")?)?;
+    text.push_str(&format!(in alloc; "t{links} last;")?)?;
+    text.push_str("int main(void){return 0;}")?;
     Ok(text)
 }
 
