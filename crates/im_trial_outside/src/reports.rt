@@ -101,13 +101,7 @@ fn evaluated_of(text: &str, case: &mut Case) -> Evaluated {
         "StackExhausted" => Evaluated::StackExhausted,
         "ZeroDivisor" => Evaluated::Undefined(Undefined::ZeroDivisor),
         "OutOfFuel" => Evaluated::OutOfFuel,
-        _ => match i32::try_from(case.number(text)) {
-            Ok(status) => Evaluated::Returned(status),
-            Err(_) => {
-                case.end(Stop::Row);
-                Evaluated::OutOfFuel
-            }
-        },
+        _ => Evaluated::Returned(case.number(text)),
     }
 }
 
