@@ -7,10 +7,7 @@ fn run_source(texts: &Texts, row: &Row<'_>, case: &mut Case) -> bool {
         "program" => programs::program(texts, row, case),
         "source" => sources::source(texts, row, case),
         "typedefs" => sources::typedefs(row, case),
-        "functions" => typed::functions(texts, row, case),
-        "statics" => typed::statics(texts, row, case),
-        "nodes" => typed::counts(texts, row, case),
-        "frames" => typed::frames(texts, row, case),
+        "functions" | "statics" | "nodes" | "frames" => typed::typed(texts, row, case),
         _ => return false,
     }
     true

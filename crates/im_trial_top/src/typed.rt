@@ -1,5 +1,5 @@
 use crate::faults::tell_fault;
-use im_driver::{Compiled, Options, compile_whole};
+use im_driver::{Options, compile_whole};
 use im_trial::{Case, Row, Stop, Texts};
 use im_typed::{Frame, Frames, Prog, need, nodes};
 use std::alloc::Global;
@@ -11,41 +11,25 @@ const OPTIONS: Options = Options {
     max_gap: None,
 };
 
-// What a source of a row is compiled to.
-fn compiled(texts: &Texts, row: &Row<'_>, case: &mut Case) -> Option<Compiled> {
-    let source = case.bytes_of(texts, row, 2);
-    match compile_whole(case.alloc, &source, OPTIONS) {
-        Ok(whole) => Some(whole),
-        Err(fault) => {
-            tell_fault(fault, case);
-            None
-        }
-    }
-}
-
 fn say_name(name: &[u8], case: &mut Case) {
     case.say(str::from_utf8(name).unwrap_or("no name"));
 }
 
-/// `functions`, a name, a source: each function's body, one a line.
-pub(crate) fn functions(texts: &Texts, row: &Row<'_>, case: &mut Case) {
-    if let Some(whole) = compiled(texts, row, case) {
-        for func in &whole.prog.funcs {
-            say_name(&func.name, case);
-            case.debug(&func.body);
-            case.say("\n");
-        }
+// Each function's body, one a line.
+fn tell_functions(prog: &Prog, case: &mut Case) {
+    for func in &prog.funcs {
+        say_name(&func.name, case);
+        case.debug(&func.body);
+        case.say("\n");
     }
 }
 
-/// `statics`, a name, a source: each static's cells, one a line.
-pub(crate) fn statics(texts: &Texts, row: &Row<'_>, case: &mut Case) {
-    if let Some(whole) = compiled(texts, row, case) {
-        for object in &whole.prog.statics {
-            say_name(&object.object.name, case);
-            case.debug(&object.cells);
-            case.say("\n");
-        }
+// Each static's cells, one a line.
+fn tell_statics(prog: &Prog, case: &mut Case) {
+    for object in &prog.statics {
+        say_name(&object.object.name, case);
+        case.debug(&object.cells);
+        case.say("\n");
     }
 }
 
@@ -56,13 +40,6 @@ fn tell_counts(prog: &Prog, name: &str, case: &mut Case) {
             case.show(nodes(func));
             case.show(need(func));
         }
-    }
-}
-
-/// `nodes`, a function, a source: the function's nodes and its need.
-pub(crate) fn counts(texts: &Texts, row: &Row<'_>, case: &mut Case) {
-    if let Some(whole) = compiled(texts, row, case) {
-        tell_counts(&whole.prog, row.name(), case);
     }
 }
 
@@ -94,13 +71,30 @@ fn tell_sizes(prog: &Prog, table: &Frames, names: &str, case: &mut Case) {
     }
 }
 
-/// `frames`, a name, a source, a table of frames, and names.
-pub(crate) fn frames(texts: &Texts, row: &Row<'_>, case: &mut Case) {
+// By a table of frames and names.
+fn tell_frames(prog: &Prog, row: &Row<'_>, case: &mut Case) {
     let made = frames_of(case.alloc, row.field(3));
-    let Some(table) = case.take(made) else {
-        return;
-    };
-    if let Some(whole) = compiled(texts, row, case) {
-        tell_sizes(&whole.prog, &table, row.field(4), case);
+    if let Some(table) = case.take(made) {
+        tell_sizes(prog, &table, row.field(4), case);
+    }
+}
+
+// What the kind of a row asks of a typed program.
+fn tell_prog(prog: &Prog, row: &Row<'_>, case: &mut Case) {
+    match row.kind() {
+        "functions" => tell_functions(prog, case),
+        "statics" => tell_statics(prog, case),
+        "nodes" => tell_counts(prog, row.name(), case),
+        _ => tell_frames(prog, row, case),
+    }
+}
+
+/// `functions` and `statics`, a name, a source: what each is typed to; `nodes`, a function, a source: the function's nodes and
+/// its need; `frames`, a name, a source, a table of frames, names: the sizes of the functions' frames, and those of the names.
+pub(crate) fn typed(texts: &Texts, row: &Row<'_>, case: &mut Case) {
+    let source = case.bytes_of(texts, row, 2);
+    match compile_whole(case.alloc, &source, OPTIONS) {
+        Ok(whole) => tell_prog(&whole.prog, row, case),
+        Err(fault) => tell_fault(fault, case),
     }
 }
