@@ -7,7 +7,10 @@ fn run_source(texts: &Texts, row: &Row<'_>, case: &mut Case) -> bool {
         "program" => programs::program(texts, row, case),
         "source" => sources::source(texts, row, case),
         "typedefs" => sources::typedefs(row, case),
-        "functions" | "statics" | "nodes" | "frames" => typed::typed(texts, row, case),
+        "functions" => typed::typed(texts, row, case),
+        "statics" => typed::typed(texts, row, case),
+        "nodes" => typed::typed(texts, row, case),
+        "frames" => typed::typed(texts, row, case),
         _ => return false,
     }
     true
