@@ -74,7 +74,8 @@ fn linked(alloc: Global) -> Result<Code, Fault> {
     Ok(assembled.linker.finish()?)
 }
 
-/// The number of words of a program that is linked, those of `main` and of the lines that begin, and the entry.
+/// The number of words of a program that is linked, those of `main` and of the lines that begin,
+/// and the entry.
 pub(crate) fn a_program_is_linked(case: &mut Case) {
     let alloc = case.alloc;
     if let Some(code) = taken(linked(alloc), case) {
