@@ -1,7 +1,0 @@
-use Rattle.im_lower_trials.proofs.tests.evaluated.Goals as goal
-
-pub eval_framed-requires-clause-typed : goal.eval_framed-requires-clause-typed
-eval_framed-requires-clause-typed c = c.requires.typed
-
-pub eval_framed-requires-clause-known : goal.eval_framed-requires-clause-known
-eval_framed-requires-clause-known c = record { statics = c.requires.known.statics; objects = c.requires.known.objects }

@@ -1,3 +1,0 @@
-pub mod Two
-pub mod Laid
-pub mod Single
