@@ -1,14 +1,18 @@
 ghost use Rattle.std.specs.Prelude.{IfOk};
 ghost use Rattle.im_block.specs.Forced.{AllForced};
 ghost use Rattle.im_block.specs.Shape.{AllOrdered};
+ghost use Rattle.im_recut.specs.Recut.{IsGapLimit};
 
 use crate::fault::{Fault, taken};
 use crate::forcing::tell_cuts;
 use im_block::{Block, Exit, Function, Line, Place, Registers, Tag, Tags, Unit};
 use im_num::{Cause, Kind};
 use im_recut::recut;
-use im_trial::{Case, Row};
+use im_trial::{Case, Row, Stop};
 use std::alloc::Global;
+
+/// Instructions: no smaller limit of the gap is taken by `recut`.
+const LEAST_GAP_LIMIT: u32 = 160;
 
 /// The static.
 const S: Place = Place::Static {
@@ -140,19 +144,32 @@ fn tags(alloc: Global) -> Result<Tags, Fault> {
     })
 }
 
-fn cut_again(alloc: Global, max_gap: Option<u32>) -> Result<Unit, Fault> {
+fn cut_again(alloc: Global, max_gap: Option<u32>) -> Result<Unit, Fault>
+    requires { IsGapLimit max_gap }
+{
     Ok(recut(alloc, sample(alloc)?, &tags(alloc)?, max_gap)?)
 }
 
-/// `recut`, a name, the longest gap that is allowed, or `-`: the lines that are cuts in code that
-/// is cut again, each with its number and its cause.
-pub(crate) fn recut_code(row: &Row<'_>, case: &mut Case) {
-    let alloc = case.alloc;
-    let max_gap = match row.field(2) {
-        "-" => None,
-        number => Some(case.small(number)),
-    };
-    if let Some(unit) = taken(cut_again(alloc, max_gap), case) {
+fn tell_cut_again(max_gap: Option<u32>, case: &mut Case)
+    requires { IsGapLimit max_gap }
+{
+    if let Some(unit) = taken(cut_again(case.alloc, max_gap), case) {
         tell_cuts(&unit.functions, case);
+    }
+}
+
+/// `recut`, a name, the longest gap that is allowed, at least 160 instructions, or `-`: the lines
+/// that are cuts in code that is cut again, each with its number and its cause.
+pub(crate) fn recut_code(row: &Row<'_>, case: &mut Case) {
+    let limit = row.field(2);
+    if limit == "-" {
+        tell_cut_again(None, case);
+        return;
+    }
+    let gap = case.small(limit);
+    if gap < LEAST_GAP_LIMIT {
+        case.end(Stop::Row);
+    } else {
+        tell_cut_again(Some(gap), case);
     }
 }
