@@ -142,10 +142,12 @@ fn tell_commands(
     asked: &[u8],
     case: &mut Case,
 ) {
-    let mut between = "";
+    let mut is_first = true;
     for command in row.field(4).split(';') {
-        case.say(between);
-        between = ";";
+        if !is_first {
+            case.say(";");
+        }
+        is_first = false;
         let carried = carry_out(shelf, command, limits, asked, case);
         case.take(carried);
     }
