@@ -116,14 +116,5 @@ pub fn common(left: &Type, right: &Type) -> Integer
 pub fn same_kind(left: Kind, right: Kind) -> bool
     ensures { result ≡ o.same_kind left right }
 {
-    match (left, right) {
-        (Kind::I8, Kind::I8) => true,
-        (Kind::U8, Kind::U8) => true,
-        (Kind::I16, Kind::I16) => true,
-        (Kind::U16, Kind::U16) => true,
-        (Kind::I32, Kind::I32) => true,
-        (Kind::U32, Kind::U32) => true,
-        (Kind::Ptr, Kind::Ptr) => true,
-        _ => false,
-    }
+    kind_number(left) == kind_number(right)
 }

@@ -100,24 +100,28 @@ is_complete known (struct n) = nat_lt n known
 is_complete known (function r ps) = false
 
 abbrev pub same_integer : Integer → Integer → Bool
-same_integer Char Char = true
-same_integer SignedChar SignedChar = true
-same_integer UnsignedChar UnsignedChar = true
-same_integer Short Short = true
-same_integer UnsignedShort UnsignedShort = true
-same_integer Int Int = true
-same_integer UnsignedInt UnsignedInt = true
-same_integer Long Long = true
-same_integer UnsignedLong UnsignedLong = true
-same_integer _ _ = false
+same_integer i j = nat_eq (integer_number i) (integer_number j)
 
 abbrev pub same_bool : Bool → Bool → Bool
 same_bool true b = b
 same_bool false b = not b
 
 abbrev mutual
-  -- two types are the same where they are equal in structure (C11 6.2.7)
+  -- two types are the same where they are equal in structure (C11 6.2.7). That a type is the same as itself and as no
+  -- other is said by the law `same_type_law`
   pub same_type : CType → CType → Bool
+-- the integer types by number: by it they are told apart
+abbrev pub integer_number : Integer → ℕ
+integer_number Char = 0
+integer_number SignedChar = 1
+integer_number UnsignedChar = 2
+integer_number Short = 3
+integer_number UnsignedShort = 4
+integer_number Int = 5
+integer_number UnsignedInt = 6
+integer_number Long = 7
+integer_number UnsignedLong = 8
+
   same_type void void = true
   same_type (integer i) (integer j) = same_integer i j
   same_type (pointer c a) (pointer d b) = same_bool c d && same_type a b

@@ -44,9 +44,20 @@ as_pointer v = if is_pointer v.type then v.expr else NullPointer
 abbrev pub as_type : CType → Value → Expr
 as_type (integer i) v = as_integer i v
 as_type (pointer k t) v = as_pointer v
-as_type t v = v.expr
+as_type void v = v.expr
+as_type (array e n) v = v.expr
+as_type (unsized e) v = v.expr
+as_type (struct n) v = v.expr
+as_type (function r ps) v = v.expr
 
--- integer promotions (C11 6.3.1.1p2): int has all values of the smaller types
+-- whether a type has all values of another
+abbrev pub has_all_of : Traits → Traits → Bool
+has_all_of t u =
+    if u.is_signed then t.is_signed && nat_le u.bits t.bits
+    else (if t.is_signed then nat_lt u.bits t.bits else nat_le u.bits t.bits)
+
+-- integer promotions (C11 6.3.1.1p2): a type of no greater rank than int becomes int where int has all of its values,
+-- and else unsigned int; the other types stay
 abbrev pub promoted : Integer → Integer
 promoted UnsignedInt = UnsignedInt
 promoted Long = Long
@@ -77,7 +88,12 @@ greater i j = of_rank (is_long i || is_long j) (is_unsigned i || is_unsigned j)
 -- the integer type of a value
 abbrev pub integer_of : CType → Integer
 integer_of (integer i) = i
-integer_of _ = Int
+integer_of void = Int
+integer_of (pointer k t) = Int
+integer_of (array e n) = Int
+integer_of (unsized e) = Int
+integer_of (struct n) = Int
+integer_of (function r ps) = Int
 
 abbrev pub common : CType → CType → Integer
 common x y = greater (promoted (integer_of x)) (promoted (integer_of y))
@@ -285,7 +301,12 @@ changed_by op x v = as_integer (if is_shift op then promoted (integer_of v.type)
 abbrev pub updated : Structs → BinaryOp → CType → Place → Value → Expr
 updated known op (integer i) p v =
     Update p (NumberBy (kind_of i) (store_operator op) (kind_of (computed_in op (integer i) v.type))) (changed_by op (integer i) v)
-updated known op t p v = Update p (PointerBy (element_size known t) (is_subtraction op)) v.expr
+updated known op void p v = Update p (PointerBy (element_size known void) (is_subtraction op)) v.expr
+updated known op (pointer k t) p v = Update p (PointerBy (element_size known (pointer k t)) (is_subtraction op)) v.expr
+updated known op (array e n) p v = Update p (PointerBy (element_size known (array e n)) (is_subtraction op)) v.expr
+updated known op (unsized e) p v = Update p (PointerBy (element_size known (unsized e)) (is_subtraction op)) v.expr
+updated known op (struct n) p v = Update p (PointerBy (element_size known (struct n)) (is_subtraction op)) v.expr
+updated known op (function r ps) p v = Update p (PointerBy (element_size known (function r ps)) (is_subtraction op)) v.expr
 
 abbrev pub assigned_by : Structs → Option BinaryOp → CType → Place → Value → Expr
 assigned_by known None t p v = Assign (access_of known t) p (as_type t v)
@@ -304,7 +325,12 @@ is_decrement step.Decrement = true
 
 abbrev pub step_of : Structs → StepOp → CType → Change
 step_of known op (integer i) = NumberBy (kind_of i) (if is_decrement op then s.Subtract else s.Add) (kind_of (promoted i))
-step_of known op t = PointerBy (element_size known t) (is_decrement op)
+step_of known op void = PointerBy (element_size known void) (is_decrement op)
+step_of known op (pointer k t) = PointerBy (element_size known (pointer k t)) (is_decrement op)
+step_of known op (array e n) = PointerBy (element_size known (array e n)) (is_decrement op)
+step_of known op (unsized e) = PointerBy (element_size known (unsized e)) (is_decrement op)
+step_of known op (struct n) = PointerBy (element_size known (struct n)) (is_decrement op)
+step_of known op (function r ps) = PointerBy (element_size known (function r ps)) (is_decrement op)
 
 -- with `old` the value is the one before
 abbrev pub stepped : Structs → StepOp → Bool → Term → Value
@@ -314,7 +340,12 @@ stepped known op old (value v) = v
 -- casts (C11 6.5.4)
 abbrev pub casted : CType → Value → Value
 casted (integer i) v = of_integer i (as_integer i v)
-casted t v = record { type = t; expr = Discard v.expr }
+casted void v = record { type = void; expr = Discard v.expr }
+casted (pointer k t) v = record { type = pointer k t; expr = Discard v.expr }
+casted (array e n) v = record { type = array e n; expr = Discard v.expr }
+casted (unsized e) v = record { type = unsized e; expr = Discard v.expr }
+casted (struct n) v = record { type = struct n; expr = Discard v.expr }
+casted (function r ps) v = record { type = function r ps; expr = Discard v.expr }
 
 -- `?:` (C11 6.5.15p5, p6)
 abbrev pub chosen : Structs → Value → Value → Value → Value

@@ -174,7 +174,9 @@ has_unsized (unsized e) = true
 has_unsized (array e n) = has_unsized e
 has_unsized (pointer c e) = has_unsized e
 has_unsized (function r ps) = has_unsized r
-has_unsized _ = false
+has_unsized void = false
+has_unsized (integer i) = false
+has_unsized (struct n) = false
 
 -- of a declared type; whether it is a parameter's or stands before an initialiser
 abbrev pub rule_6_absent : CType → Bool → Bool
@@ -307,7 +309,8 @@ rule_16 known (array e n) i = is_string_for (array e n) i || is_list_for (Some n
 rule_16 known (unsized e) i = is_string_for (unsized e) i || is_list_for None i
 rule_16 known (struct n) (t.value_initializer e) = true
 rule_16 known (struct n) i = is_list_for (Some (length (members_of known n))) i
-rule_16 known _ i = false
+rule_16 known void i = false
+rule_16 known (function r ps) i = false
 
 -- 17 (C11 6.5.16.1, 6.5.2.2p2, 6.7.9p11, 6.8.6.4p3). An initialising expression, the right side of `=`, an argument and
 -- a returned value fit their target.
@@ -371,7 +374,10 @@ abbrev pub free_in : List Bool → CType → Bool
 free_in done (array e n) = free_in done e
 free_in done (unsized e) = free_in done e
 free_in done (struct n) = slice_index_or done n true
-free_in done a = true
+free_in done void = true
+free_in done (integer i) = true
+free_in done (pointer k t) = true
+free_in done (function r ps) = true
 
 abbrev pub members_free : List Bool → List Member → Bool
 members_free done [] = true

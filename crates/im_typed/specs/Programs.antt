@@ -61,8 +61,11 @@ call_result false _ = []
 
 -- main of a well-typed program gives a number
 abbrev pub status_of : Values → ℤ
+status_of [] = pos 0
 status_of (Number z ∷ vs) = z
-status_of _ = pos 0
+status_of (Null ∷ vs) = pos 0
+status_of (Pointer o i ∷ vs) = pos 0
+status_of (Unset ∷ vs) = pos 0
 
 module _ (g : Setting) where
   abbrev pub frame_of : ℕ → ℕ
