@@ -1,6 +1,6 @@
 -- What a node becomes where its rules hold: each conversion is written out (C11 6.3, 6.5). These are functions of its
 -- parts' terms; what an ill-typed node would become doesn't matter.
-use Rattle.std.specs.Prelude.{ℕ, ◌+◌, ℤ, pos, Bool, true, false, ◌||◌, ◌&&◌, List, [], ◌∷◌, length, Option, Some, None, if◌then◌else◌}
+use Rattle.std.specs.Prelude.{ℕ, ◌+◌, ℤ, pos, Bool, true, false, ◌||◌, ◌&&◌, nat_le, nat_lt, List, [], ◌∷◌, length, Option, Some, None, if◌then◌else◌}
 use Rattle.im_ctree.specs.im_word.Words.{Name}
 use Rattle.im_ctree.specs.im_num.declared.kind.Kind.TheVariants.{Ptr}
 use Rattle.im_ctree.specs.im_tok.declared.number.NumberType.{NumberType}
@@ -21,9 +21,10 @@ use Rattle.im_typed.specs.im_store.declared.operators.UnaryOp as store_unary
 use Rattle.im_typed.specs.im_store.declared.operators.UnaryOp.TheVariants as u
 use Rattle.im_typed.specs.im_store.Objects.{same_kind}
 use Rattle.im_typed.specs.im_ctype.declared.integer.Integer.{Integer}
-use Rattle.im_typed.specs.im_ctype.declared.integer.Integer.TheVariants.{Char, Int, UnsignedInt, Long, UnsignedLong}
+use Rattle.im_typed.specs.im_ctype.declared.integer.Integer.TheVariants.{Char, SignedChar, UnsignedChar, Short, UnsignedShort, Int, UnsignedInt, Long, UnsignedLong}
+use Rattle.im_typed.specs.im_ctype.declared.integer.Traits.{Traits}
 use Rattle.im_typed.specs.im_ctype.declared.member.MemberPlace.{MemberPlace}
-use Rattle.im_typed.specs.im_ctype.Types.{CType, void, integer, pointer, array, struct, CTypes, no_types, more_types, Member, Structs, is_integer, is_pointer, kind_of, members_of}
+use Rattle.im_typed.specs.im_ctype.Types.{CType, void, integer, pointer, array, unsized, struct, function, CTypes, no_types, more_types, Member, Structs, is_integer, is_pointer, same_bool, kind_of, traits, members_of}
 use Rattle.im_typed.specs.im_ctype.Members.{places}
 use Rattle.im_typed.specs.declared.expression.Change.{Change}
 use Rattle.im_typed.specs.declared.expression.Change.TheVariants.{Number as NumberBy, Move as PointerBy}
@@ -59,31 +60,34 @@ has_all_of t u =
 -- integer promotions (C11 6.3.1.1p2): a type of no greater rank than int becomes int where int has all of its values,
 -- and else unsigned int; the other types stay
 abbrev pub promoted : Integer → Integer
-promoted UnsignedInt = UnsignedInt
-promoted Long = Long
-promoted UnsignedLong = UnsignedLong
-promoted _ = Int
+promoted i =
+    if nat_lt (traits Int).rank (traits i).rank then i
+    else (if has_all_of (traits Int) (traits i) then Int else UnsignedInt)
 
-abbrev pub is_unsigned : Integer → Bool
-is_unsigned UnsignedInt = true
-is_unsigned UnsignedLong = true
-is_unsigned _ = false
+-- the unsigned type that corresponds to a type (C11 6.2.5p6)
+abbrev pub to_unsigned : Integer → Integer
+to_unsigned Char = UnsignedChar
+to_unsigned SignedChar = UnsignedChar
+to_unsigned UnsignedChar = UnsignedChar
+to_unsigned Short = UnsignedShort
+to_unsigned UnsignedShort = UnsignedShort
+to_unsigned Int = UnsignedInt
+to_unsigned UnsignedInt = UnsignedInt
+to_unsigned Long = UnsignedLong
+to_unsigned UnsignedLong = UnsignedLong
 
-abbrev pub is_long : Integer → Bool
-is_long Long = true
-is_long UnsignedLong = true
-is_long _ = false
+-- the common type of a signed and an unsigned one (C11 6.3.1.8p1): the unsigned one, unless the signed one has the
+-- greater rank; then this one, where it has all values of the other, and else the unsigned type that corresponds to it
+abbrev pub mixed : (signed unsigned : Integer) → Integer
+mixed signed unsigned =
+    if nat_le (traits signed).rank (traits unsigned).rank then unsigned
+    else (if has_all_of (traits signed) (traits unsigned) then signed else to_unsigned signed)
 
-abbrev pub of_rank : Bool → Bool → Integer
-of_rank true true = UnsignedLong
-of_rank true false = Long
-of_rank false true = UnsignedInt
-of_rank false false = Int
-
--- the common type of two promoted ones (C11 6.3.1.8): of the greater rank, unsigned where one of them is, since int and
--- long are equally wide
-abbrev pub greater : Integer → Integer → Integer
-greater i j = of_rank (is_long i || is_long j) (is_unsigned i || is_unsigned j)
+-- the common type of two promoted ones (C11 6.3.1.8p1): of two signed or two unsigned ones that of the greater rank
+abbrev pub usual : Integer → Integer → Integer
+usual i j =
+    if same_bool (traits i).is_signed (traits j).is_signed then (if nat_lt (traits i).rank (traits j).rank then j else i)
+    else (if (traits i).is_signed then mixed i j else mixed j i)
 
 -- the integer type of a value
 abbrev pub integer_of : CType → Integer
@@ -96,7 +100,7 @@ integer_of (struct n) = Int
 integer_of (function r ps) = Int
 
 abbrev pub common : CType → CType → Integer
-common x y = greater (promoted (integer_of x)) (promoted (integer_of y))
+common x y = usual (promoted (integer_of x)) (promoted (integer_of y))
 
 abbrev pub of_integer : Integer → Expr → Value
 of_integer i e = record { type = integer i; expr = e }

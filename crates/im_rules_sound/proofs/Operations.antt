@@ -19,7 +19,7 @@ use Rattle.im_typed.specs.Typing.{IsInteger, IsPromoted, IsCompared, IsIntegerSh
 use Rattle.im_rules.specs.TypeTests.{decayed, points_to_complete}
 use Rattle.im_rules.specs.Terms.{Value, Term, lvalue, value, kind_in, operand_of, value_of}
 use Rattle.im_rules.specs.Rules.{value_type, allows}
-use Rattle.im_rules.specs.Conversions.{as_integer, as_pointer, promoted, of_rank, is_long, is_unsigned, integer_of, common, arithmetic, shifted, element_size, moved, sum, difference, comparison, operation, int_value}
+use Rattle.im_rules.specs.Conversions.{as_integer, as_pointer, has_all_of, promoted, to_unsigned, mixed, usual, integer_of, common, arithmetic, shifted, element_size, moved, sum, difference, comparison, operation, int_value}
 use Rattle.im_rules_sound.specs.Sound.{gives, IsSoundValue, MovesWell}
 
 -- tests
@@ -125,15 +125,35 @@ promoted-kind UnsignedInt = (tt, omega arith)
 promoted-kind Long = (tt, omega arith)
 promoted-kind UnsignedLong = (tt, omega arith)
 
-rank-kind : (l u : Bool) → IsPromoted (kind_of (of_rank l u))
-rank-kind true true = (tt, omega arith)
-rank-kind true false = (tt, omega arith)
-rank-kind false true = (tt, omega arith)
-rank-kind false false = (tt, omega arith)
+unsigned-kind : (i : Integer) → IsPromoted (kind_of i) → IsPromoted (kind_of (to_unsigned i))
+unsigned-kind Char h = h
+unsigned-kind SignedChar h = h
+unsigned-kind UnsignedChar h = h
+unsigned-kind Short h = h
+unsigned-kind UnsignedShort h = h
+unsigned-kind Int h = h
+unsigned-kind UnsignedInt h = h
+unsigned-kind Long h = h
+unsigned-kind UnsignedLong h = h
+
+either-kind : (b : Bool) (i j : Integer) → IsPromoted (kind_of i) → IsPromoted (kind_of j) → IsPromoted (kind_of (if b then i else j))
+either-kind true i j h k = h
+either-kind false i j h k = k
+
+mixed-kind : (i j : Integer) → IsPromoted (kind_of i) → IsPromoted (kind_of j) → IsPromoted (kind_of (mixed i j))
+mixed-kind i j h k =
+    either-kind (nat_le (traits i).rank (traits j).rank) j _ k
+    (either-kind (has_all_of (traits i) (traits j)) i (to_unsigned i) h (unsigned-kind i h))
+
+usual-kind : (i j : Integer) → IsPromoted (kind_of i) → IsPromoted (kind_of j) → IsPromoted (kind_of (usual i j))
+usual-kind i j h k =
+    either-kind (same_bool (traits i).is_signed (traits j).is_signed) _ _
+    (either-kind (nat_lt (traits i).rank (traits j).rank) j i k h)
+    (either-kind (traits i).is_signed (mixed i j) (mixed j i) (mixed-kind i j h k) (mixed-kind j i k h))
 
 pub common-kind : (t u : CType) → IsPromoted (kind_of (common t u))
 common-kind t u =
-    rank-kind (is_long (promoted (integer_of t)) || is_long (promoted (integer_of u))) (is_unsigned (promoted (integer_of t)) || is_unsigned (promoted (integer_of u)))
+    usual-kind (promoted (integer_of t)) (promoted (integer_of u)) (promoted-kind (integer_of t)) (promoted-kind (integer_of u))
 
 compared-kind : (kind : Kind) → IsPromoted kind → IsCompared kind
 compared-kind Ptr h = tt
