@@ -16,7 +16,6 @@ use Rattle.im_ctree.specs.declared.operator.AssignOp.TheVariants as a
 use Rattle.im_typed.specs.im_store.declared.operators.BinaryOp as store_op
 use Rattle.im_typed.specs.im_store.declared.operators.BinaryOp.TheVariants as s
 use Rattle.im_typed.specs.im_store.declared.operators.Comparison.{Comparison}
-use Rattle.im_typed.specs.im_store.declared.operators.Comparison.TheVariants as c
 use Rattle.im_typed.specs.im_store.declared.operators.UnaryOp as store_unary
 use Rattle.im_typed.specs.im_store.declared.operators.UnaryOp.TheVariants as u
 use Rattle.im_typed.specs.im_store.Objects.{same_kind}
@@ -29,6 +28,7 @@ use Rattle.im_typed.specs.im_ctype.Members.{places}
 use Rattle.im_typed.specs.declared.expression.Change.{Change}
 use Rattle.im_typed.specs.declared.expression.Change.TheVariants.{Number as NumberBy, Move as PointerBy}
 use Rattle.im_typed.specs.Program.{Place, Static, Local, Target, Member as MemberAt, Expr, Constant, NullPointer, Address, Convert, Unary, Binary, Move, MoveBy, Distance, Compare, Not, And, Or, Choose, Comma, Discard, Assign, Update, Increment, Part, Call, Getchar, Putchar, Exprs, no_exprs, more_exprs}
+use Rattle.im_rules.specs.Rules.{Work, either_holds, both_hold, of_numbers, by_count, sum_of, difference_of, comparison_of, operator}
 use Rattle.im_rules.specs.TypeTests.{same_name, target_of, target_constant, result_of, parameters_of}
 use Rattle.im_rules.specs.Scopes.{Entity, an_object, a_function, an_enumerator, Storage, static_object, local_object, Callee, a_body, no_body, get_character, put_character}
 use Rattle.im_rules.specs.Terms.{Value, Term, lvalue, value, kind_in, access_of, size_in, value_of}
@@ -175,25 +175,17 @@ comparison op x y =
     if is_pointer x.type || is_pointer y.type then int_value (Compare op Ptr (as_pointer x) (as_pointer y))
     else (let i = common x.type y.type in int_value (Compare op (kind_of i) (as_integer i x) (as_integer i y)))
 
+abbrev pub worked : Structs → Work → Value → Value → Value
+worked known either_holds x y = int_value (Or x.expr y.expr)
+worked known both_hold x y = int_value (And x.expr y.expr)
+worked known (of_numbers op) x y = arithmetic op x y
+worked known (by_count op) x y = shifted op x y
+worked known sum_of x y = sum known x y
+worked known difference_of x y = difference known x y
+worked known (comparison_of op) x y = comparison op x y
+
 abbrev pub operation : Structs → BinaryOp → Value → Value → Value
-operation known b.Or x y = int_value (Or x.expr y.expr)
-operation known b.And x y = int_value (And x.expr y.expr)
-operation known b.BitOr x y = arithmetic s.BitOr x y
-operation known b.BitXor x y = arithmetic s.BitXor x y
-operation known b.BitAnd x y = arithmetic s.BitAnd x y
-operation known b.Equal x y = comparison c.Equal x y
-operation known b.NotEqual x y = comparison c.NotEqual x y
-operation known b.Less x y = comparison c.Less x y
-operation known b.Greater x y = comparison c.Greater x y
-operation known b.LessEqual x y = comparison c.LessOrEqual x y
-operation known b.GreaterEqual x y = comparison c.GreaterOrEqual x y
-operation known b.ShiftLeft x y = shifted s.ShiftLeft x y
-operation known b.ShiftRight x y = shifted s.ShiftRight x y
-operation known b.Add x y = sum known x y
-operation known b.Subtract x y = difference known x y
-operation known b.Multiply x y = arithmetic s.Multiply x y
-operation known b.Divide x y = arithmetic s.Divide x y
-operation known b.Remainder x y = arithmetic s.Remainder x y
+operation known op x y = worked known (operator op).work x y
 
 -- what a pointer points to (C11 6.5.3.2p4)
 abbrev pub pointed : Value → Term
@@ -273,26 +265,32 @@ operator_of a.BitAnd = Some b.BitAnd
 operator_of a.BitXor = Some b.BitXor
 operator_of a.BitOr = Some b.BitOr
 
+-- the operator on numbers; a connective and a comparison have none, and stand in no compound assignment
+abbrev pub number_operator : Work → store_op.BinaryOp
+number_operator (of_numbers op) = op
+number_operator (by_count op) = op
+number_operator sum_of = s.Add
+number_operator difference_of = s.Subtract
+number_operator either_holds = s.Add
+number_operator both_hold = s.Add
+number_operator (comparison_of op) = s.Add
+
 abbrev pub store_operator : BinaryOp → store_op.BinaryOp
-store_operator b.Multiply = s.Multiply
-store_operator b.Divide = s.Divide
-store_operator b.Remainder = s.Remainder
-store_operator b.Subtract = s.Subtract
-store_operator b.ShiftLeft = s.ShiftLeft
-store_operator b.ShiftRight = s.ShiftRight
-store_operator b.BitAnd = s.BitAnd
-store_operator b.BitXor = s.BitXor
-store_operator b.BitOr = s.BitOr
-store_operator _ = s.Add
+store_operator op = number_operator (operator op).work
+
+abbrev pub has_count : Work → Bool
+has_count (by_count op) = true
+has_count _ = false
 
 abbrev pub is_shift : BinaryOp → Bool
-is_shift b.ShiftLeft = true
-is_shift b.ShiftRight = true
-is_shift _ = false
+is_shift op = has_count (operator op).work
+
+abbrev pub is_difference : Work → Bool
+is_difference difference_of = true
+is_difference _ = false
 
 abbrev pub is_subtraction : BinaryOp → Bool
-is_subtraction b.Subtract = true
-is_subtraction _ = false
+is_subtraction op = is_difference (operator op).work
 
 -- the type in which `a op= b` is computed: of a shift the left operand's
 abbrev pub computed_in : BinaryOp → CType → CType → Integer
