@@ -82,9 +82,6 @@ is_storage w.Extern = true
 is_storage w.Static = true
 is_storage _ = false
 
-abbrev pub is_type_word : SpecifierWord → Bool
-is_type_word x = nat_lt 0 (word_code x)
-
 abbrev pub count_word : ℕ → List SpecifierWord → ℕ
 count_word k [] = 0
 count_word k (x ∷ xs) = (if nat_eq (word_code x) k then 1 else 0) + count_word k xs
