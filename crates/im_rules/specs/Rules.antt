@@ -307,7 +307,7 @@ is_list_for (Some n) (t.braced_initializer at is) = nat_le (initializer_count is
 abbrev pub rule_16 : Structs → CType → t.Initializer → Bool
 rule_16 known (integer k) i = is_one_expression i
 rule_16 known (pointer c a) i = is_one_expression i
-rule_16 known (array e n) i = is_string_for (array e n) i || is_list_for (Some n) i
+rule_16 known (array e n) i = if is_string_for (unsized e) i then is_string_for (array e n) i else is_list_for (Some n) i
 rule_16 known (unsized e) i = is_string_for (unsized e) i || is_list_for None i
 rule_16 known (struct n) (t.value_initializer e) = true
 rule_16 known (struct n) i = is_list_for (Some (length (members_of known n))) i
