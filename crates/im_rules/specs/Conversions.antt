@@ -39,7 +39,7 @@ as_integer i v = if same_kind (kind_of i) (kind_in v.type) then v.expr else Conv
 
 -- where a pointer is wanted an integer is null (C11 6.3.2.3p3)
 abbrev pub as_pointer : Value → Expr
-as_pointer v = if is_pointer v.type then v.expr else NullPointer
+as_pointer v = if is_pointer v.type then v.expr else NullPointer Ptr
 
 -- a value that fits a type, as that type
 abbrev pub as_type : CType → Value → Expr
@@ -132,7 +132,7 @@ stored (local_object n) = Local n
 abbrev pub called : Option Entity → Term
 called (Some (an_object k t s)) = lvalue k t (stored s)
 called (Some (an_enumerator z)) = value (literal Int z)
-called _ = value (int_value NullPointer)
+called _ = value (int_value (NullPointer Ptr))
 
 -- the static that a string literal is: its bytes and a zero
 abbrev pub string_term : ℕ → Name → Term
@@ -368,15 +368,15 @@ converted known (more_types p ps) [] = no_exprs
 converted known (more_types p ps) (x ∷ xs) = more_exprs (as_type p (value_of known x)) (converted known ps xs)
 
 abbrev pub first_of : Exprs → Expr
-first_of no_exprs = NullPointer
+first_of no_exprs = NullPointer Ptr
 first_of (more_exprs e es) = e
 
 abbrev pub call_by : Callee → Exprs → Expr
 call_by (a_body n) es = Call n es
-call_by no_body es = NullPointer
+call_by no_body es = NullPointer Ptr
 call_by get_character es = Getchar
 call_by put_character es = Putchar (first_of es)
 
 abbrev pub call_of : Structs → Option Entity → List Term → Value
 call_of known (Some (a_function f c t)) xs = record { type = result_of t; expr = call_by f (converted known (parameters_of t) xs) }
-call_of known e xs = int_value NullPointer
+call_of known e xs = int_value (NullPointer Ptr)

@@ -73,7 +73,7 @@ number_or (Some z) v = Some (Number z)
 -- the value of an expression as a constant; none where it is neither a constant expression nor an address constant.
 -- `size` has the bytes of each static
 abbrev pub static_value : (ℕ → ℕ) → Expr → Option Value
-static_value size NullPointer = Some Null
+static_value size (NullPointer kind) = Some Null
 static_value size e = number_or (constant_value e) (pointer_to (address_of size e))
 
 abbrev pub is_source_reached : Source → Bool

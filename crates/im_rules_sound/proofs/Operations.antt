@@ -195,9 +195,9 @@ module _ (g : Prog) (f : Func) (known : Structs) where
   pub as-pointer-sound : (v : Value) → Sound v → IsOf Ptr (as_pointer v)
   as-pointer-sound v h = by-kind (is_pointer v.type) refl
     where
-      by-kind : (x : Bool) → is_pointer v.type ≡ x → IsOf Ptr (if x then v.expr else NullPointer)
+      by-kind : (x : Bool) → is_pointer v.type ≡ x → IsOf Ptr (if x then v.expr else NullPointer Ptr)
       by-kind true e = record { typed = h.typed; shape = pointer-shape v h e }
-      by-kind false e = record { typed = tt; shape = refl }
+      by-kind false e = record { typed = refl; shape = refl }
 
   arithmetic-sound : (op : store_op.BinaryOp) (x y : Value) → ((kind : Kind) (shape : Option Access) → shape ≡ Some (Scalar kind) → IsRightShape op kind shape) → Sound x → Sound y → is_integer x.type ≡ true → is_integer y.type ≡ true → Sound (arithmetic op x y)
   arithmetic-sound op x y right hx hy ix iy =

@@ -57,7 +57,7 @@ module _ (c : Around) where
 
     pub value_of : Expr → Run Values
     value_of (Constant kind z) = number z
-    value_of NullPointer = scalar Null
+    value_of (NullPointer kind) = scalar Null
     value_of (Read x a) = do
       at ← place_of a
       read_at x at

@@ -179,7 +179,7 @@ module _ (g : Prog) where
   -- what an expression gives
   abbrev pub shape_of : Expr → Option Access
   shape_of (Constant kind z) = Some (Scalar kind)
-  shape_of NullPointer = Some (Scalar Ptr)
+  shape_of (NullPointer kind) = Some (Scalar kind)
   shape_of (Read x a) = Some x
   shape_of (Address a) = Some (Scalar Ptr)
   shape_of (Convert kind e) = Some (Scalar kind)
@@ -213,7 +213,7 @@ module _ (g : Prog) where
 
       pub IsTyped : Expr → Type 0
       IsTyped (Constant kind z) = IsInteger kind × IsOfKind kind z
-      IsTyped NullPointer = Unit {0}
+      IsTyped (NullPointer kind) = kind ≡ Ptr
       IsTyped (Read x a) = IsAccess x × IsTypedPlace a
       IsTyped (Address a) = IsTypedPlace a
       IsTyped (Convert kind e) = IsInteger kind × IsTyped e × IsIntegerShape (shape_of e)
