@@ -3,6 +3,7 @@
 
 mod flow;
 mod found;
+mod laws;
 mod made;
 mod place;
 mod set;
@@ -10,4 +11,5 @@ mod spot;
 mod table;
 mod tags;
 
+pub use laws::{finer_law, least_law, least_tags_law, points_at_law};
 pub use tags::alias;
