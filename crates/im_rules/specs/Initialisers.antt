@@ -5,7 +5,7 @@ use Rattle.im_ctree.specs.im_word.Words.{Name}
 use Rattle.im_ctree.specs.im_num.Kinds.{wrap}
 use Rattle.im_ctree.specs.Tree as t
 use Rattle.im_typed.specs.im_ctype.declared.member.MemberPlace.{MemberPlace}
-use Rattle.im_typed.specs.im_ctype.Types.{CType, void, integer, pointer, array, unsized, struct, Member, Structs, members_of}
+use Rattle.im_typed.specs.im_ctype.Types.{CType, void, integer, pointer, array, unsized, struct, function, Member, Structs, members_of}
 use Rattle.im_typed.specs.im_ctype.Members.{places}
 use Rattle.im_typed.specs.Program.{Constant, Piece}
 use Rattle.im_rules.specs.Rules.{is_string_for, initializer_count, rule_16, rule_17}

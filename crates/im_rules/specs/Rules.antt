@@ -440,37 +440,37 @@ pub data Work : Type 0 where
 
 pub record Operator : Type 0 where
   pub rule : ℕ
-  pub allows : Structs → Operand → Operand → Bool
+  pub says : Structs → Operand → Operand → Bool
   pub work : Work
 
 abbrev pub both_conditions : Operand → Operand → Bool
 both_conditions x y = rule_25_condition x && rule_25_condition y
 
 abbrev pub operator : BinaryOp → Operator
-operator b.Or = record { rule = 25; allows = λ known. both_conditions; work = either_holds }
-operator b.And = record { rule = 25; allows = λ known. both_conditions; work = both_hold }
-operator b.BitOr = record { rule = 26; allows = λ known. rule_26; work = of_numbers s.BitOr }
-operator b.BitXor = record { rule = 26; allows = λ known. rule_26; work = of_numbers s.BitXor }
-operator b.BitAnd = record { rule = 26; allows = λ known. rule_26; work = of_numbers s.BitAnd }
-operator b.Equal = record { rule = 29; allows = λ known. rule_29; work = comparison_of c.Equal }
-operator b.NotEqual = record { rule = 29; allows = λ known. rule_29; work = comparison_of c.NotEqual }
-operator b.Less = record { rule = 28; allows = λ known. rule_28; work = comparison_of c.Less }
-operator b.Greater = record { rule = 28; allows = λ known. rule_28; work = comparison_of c.Greater }
-operator b.LessEqual = record { rule = 28; allows = λ known. rule_28; work = comparison_of c.LessOrEqual }
-operator b.GreaterEqual = record { rule = 28; allows = λ known. rule_28; work = comparison_of c.GreaterOrEqual }
-operator b.ShiftLeft = record { rule = 26; allows = λ known. rule_26; work = by_count s.ShiftLeft }
-operator b.ShiftRight = record { rule = 26; allows = λ known. rule_26; work = by_count s.ShiftRight }
-operator b.Add = record { rule = 27; allows = rule_27_add; work = sum_of }
-operator b.Subtract = record { rule = 27; allows = rule_27_subtract; work = difference_of }
-operator b.Multiply = record { rule = 26; allows = λ known. rule_26; work = of_numbers s.Multiply }
-operator b.Divide = record { rule = 26; allows = λ known. rule_26; work = of_numbers s.Divide }
-operator b.Remainder = record { rule = 26; allows = λ known. rule_26; work = of_numbers s.Remainder }
+operator b.Or = record { rule = 25; says = λ known. both_conditions; work = either_holds }
+operator b.And = record { rule = 25; says = λ known. both_conditions; work = both_hold }
+operator b.BitOr = record { rule = 26; says = λ known. rule_26; work = of_numbers s.BitOr }
+operator b.BitXor = record { rule = 26; says = λ known. rule_26; work = of_numbers s.BitXor }
+operator b.BitAnd = record { rule = 26; says = λ known. rule_26; work = of_numbers s.BitAnd }
+operator b.Equal = record { rule = 29; says = λ known. rule_29; work = comparison_of c.Equal }
+operator b.NotEqual = record { rule = 29; says = λ known. rule_29; work = comparison_of c.NotEqual }
+operator b.Less = record { rule = 28; says = λ known. rule_28; work = comparison_of c.Less }
+operator b.Greater = record { rule = 28; says = λ known. rule_28; work = comparison_of c.Greater }
+operator b.LessEqual = record { rule = 28; says = λ known. rule_28; work = comparison_of c.LessOrEqual }
+operator b.GreaterEqual = record { rule = 28; says = λ known. rule_28; work = comparison_of c.GreaterOrEqual }
+operator b.ShiftLeft = record { rule = 26; says = λ known. rule_26; work = by_count s.ShiftLeft }
+operator b.ShiftRight = record { rule = 26; says = λ known. rule_26; work = by_count s.ShiftRight }
+operator b.Add = record { rule = 27; says = rule_27_add; work = sum_of }
+operator b.Subtract = record { rule = 27; says = rule_27_subtract; work = difference_of }
+operator b.Multiply = record { rule = 26; says = λ known. rule_26; work = of_numbers s.Multiply }
+operator b.Divide = record { rule = 26; says = λ known. rule_26; work = of_numbers s.Divide }
+operator b.Remainder = record { rule = 26; says = λ known. rule_26; work = of_numbers s.Remainder }
 
 abbrev pub rule_of : BinaryOp → ℕ
 rule_of op = (operator op).rule
 
 abbrev pub allows : Structs → BinaryOp → Operand → Operand → Bool
-allows known op x y = (operator op).allows known x y
+allows known op x y = (operator op).says known x y
 
 -- 30 (C11 6.5.16.2, 6.5.2.4p1, 6.5.3.1p1). `a op= b` is right as `a op b` and its value fits a; `++` and `--` have an
 -- integer or a pointer to a complete type. A pointer stands only on the left.

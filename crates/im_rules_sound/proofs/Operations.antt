@@ -1,6 +1,6 @@
 -- Operators on well-typed values.
 use Rattle.std.proofs.Common.{◌≡◌, ◌&&◌, ◌||◌, ◌⊎◌, inl, inr, ⊎_elim, Bool, true, false, refl, sym, ap, ◌∙◌, subst, arith}
-use Rattle.std.specs.Prelude.{Option, Some, if◌then◌else◌}
+use Rattle.std.specs.Prelude.{Option, Some, nat_le, nat_lt, if◌then◌else◌}
 use Rattle.im_num.specs.declared.kind.Kind.{Kind}
 use Rattle.im_num.specs.declared.kind.Kind.TheVariants.{Ptr}
 use Rattle.im_ctree.specs.declared.operator.BinaryOp.{BinaryOp}
@@ -13,7 +13,7 @@ use Rattle.im_store.specs.Objects.{same_kind}
 use Rattle.im_store.proofs.Same.{same_kind-is, both-true}
 use Rattle.im_ctype.specs.declared.integer.Integer.{Integer}
 use Rattle.im_ctype.specs.declared.integer.Integer.TheVariants.{Char, SignedChar, UnsignedChar, Short, UnsignedShort, Int, UnsignedInt, Long, UnsignedLong}
-use Rattle.im_ctype.specs.Types.{CType, void, integer, pointer, array, unsized, struct, function, Structs, kind_of, is_integer, is_pointer, is_array, is_scalar, are_like_pointers}
+use Rattle.im_ctype.specs.Types.{CType, void, integer, pointer, array, unsized, struct, function, Structs, kind_of, traits, same_bool, is_integer, is_pointer, is_array, is_scalar, are_like_pointers}
 use Rattle.im_typed.specs.Program.{Access, Scalar, Func, Prog, Expr, Convert, NullPointer, Move, MoveBy, Distance, Compare}
 use Rattle.im_typed.specs.Typing.{IsInteger, IsPromoted, IsCompared, IsIntegerShape, IsPromotedShape, IsScalarShape, IsRightShape, shape_of, IsTyped}
 use Rattle.im_rules.specs.TypeTests.{decayed, points_to_complete}
