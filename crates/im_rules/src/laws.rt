@@ -35,6 +35,6 @@ pub fn typed_breaks_none_law()
 /// The typedef names that the grammar begins with are those of the rules, and a declaration gives
 /// names to types by the grammar where it does so by the rules.
 pub fn typedef_names_law()
-    ensures predeclared { map {A = TypeName} (λ t. t.name) predeclared_types ≡ predeclared_names }
-    ensures declared { (xs : SpecifierList) → has_typedef xs ≡ is_typedef xs }
+    ensures names { map {A = TypeName} (λ t. t.name) predeclared_types ≡ predeclared_names }
+    ensures typedefs { (xs : SpecifierList) → has_typedef xs ≡ is_typedef xs }
 {}

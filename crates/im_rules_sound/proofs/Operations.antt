@@ -142,12 +142,13 @@ either-kind false i j h k = k
 
 mixed-kind : (i j : Integer) → IsPromoted (kind_of i) → IsPromoted (kind_of j) → IsPromoted (kind_of (mixed i j))
 mixed-kind i j h k =
-    either-kind (nat_le (traits i).rank (traits j).rank) j _ k
+    either-kind (nat_le (traits i).rank (traits j).rank) j (if has_all_of (traits i) (traits j) then i else to_unsigned i) k
     (either-kind (has_all_of (traits i) (traits j)) i (to_unsigned i) h (unsigned-kind i h))
 
 usual-kind : (i j : Integer) → IsPromoted (kind_of i) → IsPromoted (kind_of j) → IsPromoted (kind_of (usual i j))
 usual-kind i j h k =
-    either-kind (same_bool (traits i).is_signed (traits j).is_signed) _ _
+    either-kind (same_bool (traits i).is_signed (traits j).is_signed)
+    (if nat_lt (traits i).rank (traits j).rank then j else i) (if (traits i).is_signed then mixed i j else mixed j i)
     (either-kind (nat_lt (traits i).rank (traits j).rank) j i k h)
     (either-kind (traits i).is_signed (mixed i j) (mixed j i) (mixed-kind i j h k) (mixed-kind j i k h))
 

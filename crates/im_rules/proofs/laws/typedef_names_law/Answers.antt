@@ -24,8 +24,8 @@ same-by (t.more_specifiers (t.enum_tag p n) xs) = same-by xs
 same-by (t.more_specifiers (t.struct_specifier p n ms) xs) = same-by xs
 same-by (t.more_specifiers (t.enum_specifier p n es) xs) = same-by xs
 
-pub returns-clause-predeclared : goal.returns-clause-predeclared
-returns-clause-predeclared c = refl
+pub returns-clause-names : goal.returns-clause-names
+returns-clause-names c = refl
 
-pub returns-clause-declared : goal.returns-clause-declared
-returns-clause-declared c = same-by
+pub returns-clause-typedefs : goal.returns-clause-typedefs
+returns-clause-typedefs c = same-by
