@@ -2,7 +2,7 @@
 use Rattle.std.proofs.Common.{◌≡◌, ◌&&◌, ◌||◌, ◌⊎◌, inl, inr, ⊎_elim, Bool, true, false, refl, sym, ap, ◌∙◌, subst, arith}
 use Rattle.std.specs.Prelude.{Option, Some, nat_le, nat_lt, if◌then◌else◌}
 use Rattle.im_num.specs.declared.kind.Kind.{Kind}
-use Rattle.im_num.specs.declared.kind.Kind.TheVariants.{Ptr}
+use Rattle.im_num.specs.declared.kind.Kind.TheVariants.{I8, U8, I16, U16, I32, U32, Ptr}
 use Rattle.im_ctree.specs.declared.operator.BinaryOp.{BinaryOp}
 use Rattle.im_ctree.specs.declared.operator.BinaryOp.TheVariants as b
 use Rattle.im_store.specs.declared.operators.BinaryOp as store_op
@@ -114,16 +114,22 @@ integer-kind UnsignedInt = tt
 integer-kind Long = tt
 integer-kind UnsignedLong = tt
 
+int-promoted : IsPromoted I32
+int-promoted = (tt, omega arith)
+
+unsigned-promoted : IsPromoted U32
+unsigned-promoted = (tt, omega arith)
+
 pub promoted-kind : (i : Integer) → IsPromoted (kind_of (promoted i))
-promoted-kind Char = (tt, omega arith)
-promoted-kind SignedChar = (tt, omega arith)
-promoted-kind UnsignedChar = (tt, omega arith)
-promoted-kind Short = (tt, omega arith)
-promoted-kind UnsignedShort = (tt, omega arith)
-promoted-kind Int = (tt, omega arith)
-promoted-kind UnsignedInt = (tt, omega arith)
-promoted-kind Long = (tt, omega arith)
-promoted-kind UnsignedLong = (tt, omega arith)
+promoted-kind Char = int-promoted
+promoted-kind SignedChar = int-promoted
+promoted-kind UnsignedChar = int-promoted
+promoted-kind Short = int-promoted
+promoted-kind UnsignedShort = int-promoted
+promoted-kind Int = int-promoted
+promoted-kind UnsignedInt = unsigned-promoted
+promoted-kind Long = int-promoted
+promoted-kind UnsignedLong = unsigned-promoted
 
 unsigned-kind : (i : Integer) → IsPromoted (kind_of i) → IsPromoted (kind_of (to_unsigned i))
 unsigned-kind Char h = h
@@ -157,8 +163,13 @@ common-kind t u =
     usual-kind (promoted (integer_of t)) (promoted (integer_of u)) (promoted-kind (integer_of t)) (promoted-kind (integer_of u))
 
 compared-kind : (kind : Kind) → IsPromoted kind → IsCompared kind
+compared-kind I8 h = h
+compared-kind U8 h = h
+compared-kind I16 h = h
+compared-kind U16 h = h
+compared-kind I32 h = h
+compared-kind U32 h = h
 compared-kind Ptr h = tt
-compared-kind kind h = h
 
 module _ (g : Prog) (f : Func) (known : Structs) where
   abbrev Sound : Value → Type 0
