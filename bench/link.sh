@@ -8,7 +8,7 @@ top=$(pwd)
 work=$(mktemp -d)
 trap 'rm -rf "$work"' EXIT
 mkdir "$work/crates"
-for crate in im_num im_mem im_rv im_gap_walk im_gap im_link; do
+for crate in im_num im_mem im_rv im_gap im_link; do
     mkdir "$work/crates/$crate"
     for part in src specs proofs; do
         if [ -d "crates/$crate/$part" ]; then cp -r "crates/$crate/$part" "$work/crates/$crate"; fi

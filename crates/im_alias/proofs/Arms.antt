@@ -16,7 +16,7 @@ use Rattle.im_block.specs.declared.unit.Function.{Function}
 use Rattle.im_block.specs.Sections.{Has}
 use Rattle.im_block.specs.Tagged.{tag_of, tag_in}
 use Rattle.im_block_laws.specs.PointsTo.{Sub, ConstantIn}
-use Rattle.im_alias_laws.specs.PointsAt.{LineFits, CallFits}
+use Rattle.im_alias.specs.PointsAt.{LineFits, CallFits}
 use Rattle.im_alias.specs.declared.set.ObjectSet.{ObjectSet}
 use Rattle.im_alias.specs.declared.table.RegisterSets.{RegisterSets}
 use Rattle.im_alias.specs.declared.table.Owner.TheVariants.{Object, Register}

@@ -9,8 +9,8 @@ use Rattle.im_block.specs.declared.unit.Unit.{Unit as Code}
 use Rattle.im_block.specs.Wellformed.{accesses_of_line, accesses_of_lines}
 use Rattle.im_block.specs.Sections.{Has}
 use Rattle.im_alloc_placed.specs.Placeable.{IsPlaceableLine}
-use Rattle.im_alias_laws.specs.PointsAt.{PointsAt, behind, LineFits, ExitFits, Fit}
-use Rattle.im_alias_laws.specs.Least.{Below}
+use Rattle.im_alias.specs.PointsAt.{PointsAt, behind, LineFits, ExitFits, Fit}
+use Rattle.im_alias.specs.Least.{Below}
 use Rattle.im_alias.specs.declared.table.RegisterSets.{RegisterSets}
 use Rattle.im_alias.specs.declared.table.Table.{Table}
 use Rattle.im_alias.specs.declared.found.Found.{Found}

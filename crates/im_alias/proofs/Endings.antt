@@ -6,7 +6,7 @@ use Rattle.im_block.specs.declared.code.Exit.{Exit}
 use Rattle.im_block.specs.declared.code.Exit.TheVariants.{Return}
 use Rattle.im_block.specs.Wellformed.{ExitWithin}
 use Rattle.im_block_laws.specs.PointsTo.{Sub, PlaceHas}
-use Rattle.im_alias_laws.specs.PointsAt.{sets_at, ExitFits}
+use Rattle.im_alias.specs.PointsAt.{sets_at, ExitFits}
 use Rattle.im_alias.specs.declared.table.Owner.TheVariants.{Object, Returned}
 use Rattle.im_alias.specs.declared.table.Table.{Table}
 use Rattle.im_alias.specs.Sets.{Flowed, Grows}

@@ -2,8 +2,8 @@
 use Rattle.std.proofs.Common.{◌≡◌, ℕ, zero, suc, ◌<◌, List, [], ◌∷◌, Bool, true, false, refl, ◌∙◌, subst, inl, inr, ⊎_elim, ◌⊎◌, arith}
 use Rattle.std.specs.Prelude.{◌||◌}
 use Rattle.im_block.specs.Sections.{Has}
-use Rattle.im_alias_laws.specs.PointsAt.{PointsAt}
-use Rattle.im_alias_laws.specs.Least.{Below}
+use Rattle.im_alias.specs.PointsAt.{PointsAt}
+use Rattle.im_alias.specs.Least.{Below}
 use Rattle.im_alias.specs.declared.table.Table.{Table}
 use Rattle.im_alias.specs.Ascending.{IsWithin}
 use Rattle.im_alias.specs.Sets.{points, room, SameShape, IsBounded, Flowed}

@@ -5,7 +5,7 @@ use Rattle.im_block.specs.declared.code.Place.{Place}
 use Rattle.im_block.specs.declared.code.Place.TheVariants.{Static, Local}
 use Rattle.im_block.specs.declared.code.Line.{Line}
 use Rattle.im_block.specs.declared.code.Line.TheVariants.{Copy, Move, Address, Read, Call}
-use Rattle.im_alias_laws.specs.PointsAt.{PointsAt, addressed, loaded}
+use Rattle.im_alias.specs.PointsAt.{PointsAt, addressed, loaded}
 use Rattle.im_alias.specs.Scan.{IsReached, given_of}
 
 pub given_nothing : (p : PointsAt) (sets : ℕ → List ℕ) (line : Line) →

@@ -7,7 +7,7 @@ use Rattle.std.proofs.lemmas.List.{length-set}
 use Rattle.std.proofs.lemmas.List.Sums.{sum_by-set}
 use Rattle.im_block.specs.Sections.{Has}
 use Rattle.im_block_laws.specs.PointsTo.{Sub}
-use Rattle.im_alias_laws.specs.PointsAt.{PointsAt}
+use Rattle.im_alias.specs.PointsAt.{PointsAt}
 use Rattle.im_alias.specs.declared.set.ObjectSet.{ObjectSet}
 use Rattle.im_alias.specs.declared.table.RegisterSets.{RegisterSets}
 use Rattle.im_alias.specs.declared.table.Owner.TheVariants.{Object, Returned, Register}

@@ -16,3 +16,7 @@ mod Turns
 mod Endings
 mod Giving
 mod Finding
+pub mod Leasts
+pub mod PointsAts
+pub mod Finers
+pub mod LeastTags

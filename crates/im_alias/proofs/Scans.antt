@@ -16,8 +16,8 @@ use Rattle.im_block.specs.Tagged.{tag_of}
 use Rattle.im_block_laws.specs.PointsTo.{Sub, PlaceHas, TagFits}
 use Rattle.im_alloc_placed.specs.Operands.{PlaceExists}
 use Rattle.im_alloc_placed.specs.Placeable.{IsPlaceableLine}
-use Rattle.im_alias_laws.specs.PointsAt.{PointsAt, sets_at, with_set, union, addressed, loaded, behind, CallFits, LineFits, LineHasTag, ExitFits, Fit, HaveTags}
-use Rattle.im_alias_laws.specs.Least.{Below, TagWithin, LineTagWithin, TagsWithin}
+use Rattle.im_alias.specs.PointsAt.{PointsAt, sets_at, with_set, union, addressed, loaded, behind, CallFits, LineFits, LineHasTag, ExitFits, Fit, HaveTags}
+use Rattle.im_alias.specs.Least.{Below, TagWithin, LineTagWithin, TagsWithin}
 use Rattle.im_alias.specs.Ascending.{IsWithin}
 use Rattle.im_alias.specs.Sets.{IsBounded}
 use Rattle.im_alias.specs.Scan.{AlikeSets, target_of, given_of, IsReached, Reaches, TagAlike, LineTagAlike, TagsAlike}

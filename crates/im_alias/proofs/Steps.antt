@@ -11,7 +11,7 @@ use Rattle.im_block.specs.declared.code.Line.TheVariants.{Put, PutNull, Copy, Co
 use Rattle.im_block.specs.Sections.{Has}
 use Rattle.im_block.specs.Wellformed.{LineWithin, AreApart}
 use Rattle.im_block_laws.specs.PointsTo.{Sub}
-use Rattle.im_alias_laws.specs.PointsAt.{PointsAt, union}
+use Rattle.im_alias.specs.PointsAt.{PointsAt, union}
 use Rattle.im_alias.specs.declared.set.ObjectSet.{ObjectSet}
 use Rattle.im_alias.specs.declared.table.RegisterSets.{RegisterSets}
 use Rattle.im_alias.specs.declared.table.Owner.TheVariants.{Object, Register}

@@ -8,7 +8,7 @@ use Rattle.im_block.specs.declared.code.Block.{Block}
 use Rattle.im_block.specs.declared.unit.Function.{Function}
 use Rattle.im_block.specs.declared.unit.Unit.{Unit as Code}
 use Rattle.im_block.specs.Wellformed.{ExitWithin, accesses_of_blocks, accesses_of_functions}
-use Rattle.im_alias_laws.specs.PointsAt.{LineFits, ExitFits}
+use Rattle.im_alias.specs.PointsAt.{LineFits, ExitFits}
 use Rattle.im_alias.specs.declared.table.RegisterSets.{RegisterSets}
 use Rattle.im_alias.specs.declared.table.Table.{Table}
 use Rattle.im_alias.specs.declared.found.Found.{Found}

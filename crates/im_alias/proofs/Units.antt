@@ -15,10 +15,10 @@ use Rattle.im_block.specs.Sections.{Has}
 use Rattle.im_block.specs.Tagged.{IsSound}
 use Rattle.im_block.specs.Wellformed.{IsStatic, HasBytes, Suits, objects_below, accesses_of_functions}
 use Rattle.im_block_laws.specs.PointsTo.{ConstantIn, ConstantsIn}
-use Rattle.im_alias_laws.specs.PointsAt.{PointsAt, Fit, IsClosedAt, AreTagsAt}
-use Rattle.im_alias_laws.specs.Least.{Below, IsLeastAt, AreTagsWithin, AreLeastTags}
-use Rattle.im_alias_laws.proofs.PointsAts.{sound_at}
-use Rattle.im_alias_laws.proofs.LeastTags.{least_tags}
+use Rattle.im_alias.specs.PointsAt.{PointsAt, Fit, IsClosedAt, AreTagsAt}
+use Rattle.im_alias.specs.Least.{Below, IsLeastAt, AreTagsWithin, AreLeastTags}
+use Rattle.im_alias.proofs.PointsAts.{sound_at}
+use Rattle.im_alias.proofs.LeastTags.{least_tags}
 use Rattle.im_alias.specs.declared.table.Table.{Table}
 use Rattle.im_alias.specs.declared.found.Found.{Found}
 use Rattle.im_alias.specs.Sets.{points, HasShape, IsEmptyTable, IsCode, IsPart, IsBounded, IsBlockOf, Flowed, StaticsFit}

@@ -11,7 +11,7 @@ use Rattle.im_block.specs.declared.unit.Unit.{Unit as Code}
 use Rattle.im_block.specs.declared.unit.Constant.{Constant}
 use Rattle.im_block.specs.Wellformed.{accesses_of_lines, accesses_of_blocks, accesses_of_functions}
 use Rattle.im_block_laws.specs.PointsTo.{ConstantIn, ConstantsIn}
-use Rattle.im_alias_laws.specs.PointsAt.{PointsAt, Fit}
+use Rattle.im_alias.specs.PointsAt.{PointsAt, Fit}
 use Rattle.im_alias.specs.declared.table.Table.{Table}
 use Rattle.im_alias.specs.declared.found.Found.{Found}
 use Rattle.im_alias.specs.Sets.{points, Flowed, StaticsFit}

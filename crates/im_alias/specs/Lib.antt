@@ -1,3 +1,6 @@
 pub mod Ascending
 pub mod Sets
 pub mod Scan
+pub mod PointsAt
+pub mod Least
+pub mod Laws

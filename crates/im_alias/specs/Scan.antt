@@ -13,8 +13,8 @@ use Rattle.im_block.specs.declared.unit.Unit.{Unit as Code}
 use Rattle.im_block.specs.Tagged.{tag_of}
 use Rattle.im_block.specs.Wellformed.{LineWithin, accesses_of_line, accesses_of_lines, accesses_of_functions}
 use Rattle.im_block_laws.specs.PointsTo.{Sub}
-use Rattle.im_alias_laws.specs.PointsAt.{PointsAt, addressed, loaded, behind, Fit}
-use Rattle.im_alias_laws.specs.Least.{IsLeastAt}
+use Rattle.im_alias.specs.PointsAt.{PointsAt, addressed, loaded, behind, Fit}
+use Rattle.im_alias.specs.Least.{IsLeastAt}
 use Rattle.im_alias.specs.declared.table.RegisterSets.{RegisterSets}
 use Rattle.im_alias.specs.declared.table.Table.{Table}
 use Rattle.im_alias.specs.declared.found.Tagged.{Tagged}

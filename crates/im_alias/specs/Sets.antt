@@ -7,8 +7,8 @@ use Rattle.im_block.specs.declared.unit.Unit.{Unit as Code}
 use Rattle.im_block.specs.Wellformed.{IsWellFormed, objects_below}
 use Rattle.im_alloc_placed.specs.Placeable.{IsPlaceable}
 use Rattle.im_block_laws.specs.PointsTo.{Sub, ConstantsIn}
-use Rattle.im_alias_laws.specs.PointsAt.{PointsAt}
-use Rattle.im_alias_laws.specs.Least.{Below}
+use Rattle.im_alias.specs.PointsAt.{PointsAt}
+use Rattle.im_alias.specs.Least.{Below}
 use Rattle.im_alias.specs.declared.set.ObjectSet.{ObjectSet}
 use Rattle.im_alias.specs.declared.table.RegisterSets.{RegisterSets}
 use Rattle.im_alias.specs.declared.table.Owner.{Owner}

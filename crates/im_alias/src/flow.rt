@@ -2,7 +2,7 @@ ghost use Rattle.std.specs.Prelude.{◌≡◌, ◌+◌, ◌<◌, ◌≤◌, ℕ,
 ghost use Rattle.im_alias.specs.Ascending.{IsWithin};
 ghost use Rattle.im_alias.specs.Scan.{CanPass, CanTake, IsReached, FlowedBlock, FlowedBlocks, FlowedUnit};
 ghost use Rattle.im_alias.specs.Sets.{Flowed, IsBlockOf, IsCode, IsPart, StaticsFit, row_sets, width};
-ghost use Rattle.im_alias_laws.specs.PointsAt.{ExitFits, LineFits, sets_at};
+ghost use Rattle.im_alias.specs.PointsAt.{ExitFits, LineFits, sets_at};
 ghost use Rattle.im_block.specs.Sections.{Has};
 ghost use Rattle.im_block.specs.Wellformed.{ExitWithin, PlaceWithin, accesses_of_blocks};
 ghost use Rattle.im_block_laws.specs.PointsTo.{ConstantIn, ConstantsIn, PlaceHas, Sub};

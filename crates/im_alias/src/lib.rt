@@ -9,5 +9,7 @@ mod set;
 mod spot;
 mod table;
 mod tags;
+mod laws;
 
 pub use tags::alias;
+pub use laws::{finer_law, least_law, least_tags_law, points_at_law};

@@ -2,7 +2,7 @@ ghost use Rattle.std.specs.Prelude.{◌≡◌, IfOk, length};
 ghost use Rattle.im_alias.specs.Ascending.{IsWithin};
 ghost use Rattle.im_alias.specs.Scan.{Alike, IsReached};
 ghost use Rattle.im_alias.specs.Sets.{points, row_sets};
-ghost use Rattle.im_alias_laws.specs.PointsAt.{addressed, loaded, union};
+ghost use Rattle.im_alias.specs.PointsAt.{addressed, loaded, union};
 ghost use Rattle.im_block.specs.Wellformed.{PlaceWithin};
 
 use crate::set::ObjectSet;

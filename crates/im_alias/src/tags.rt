@@ -1,7 +1,7 @@
 ghost use Rattle.std.specs.Prelude.{◌≡◌, ◌<◌, IfOk, OnOk, length, take, vec_len};
 ghost use Rattle.im_alias.specs.Scan.{IsScattered, Settled, numbers};
 ghost use Rattle.im_alias.specs.Sets.{IsCode, IsPart, points};
-ghost use Rattle.im_alias_laws.specs.Least.{AreLeastTags, IsLeastAt};
+ghost use Rattle.im_alias.specs.Least.{AreLeastTags, IsLeastAt};
 ghost use Rattle.im_alloc_placed.specs.Placeable.{IsPlaceable};
 ghost use Rattle.im_block.specs.Tagged.{IsSound};
 ghost use Rattle.im_block.specs.Wellformed.{AreApart, IsWellFormed};

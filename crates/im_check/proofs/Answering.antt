@@ -15,7 +15,7 @@ use Rattle.im_rules.specs.TypedUnit.{TypedUnit}
 use Rattle.im_rules.specs.UnitBreaks.{some_externals}
 use Rattle.im_rules_limits.specs.Limits as l
 use Rattle.im_lower_plain.specs.MakeUnit.{HasTypes, KnowsTypes}
-use Rattle.im_typed_laws.specs.Laws.{StatementsLaw, ObjectsLaw}
+use Rattle.im_typed.specs.StructsLaws.{StatementsLaw, ObjectsLaw}
 use Rattle.im_rules_sound_unit.specs.Laws.{UnitsLaw}
 use Rattle.im_rules_sound_unit.specs.im_rules_sound_places.Units.{IsWrittenUnit}
 use Rattle.im_check_stop.specs.declared.stop.Stop.{Stop}

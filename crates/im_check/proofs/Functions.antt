@@ -11,7 +11,7 @@ use Rattle.im_typed.specs.Program.{LocalObject, Func, Prog, Stmt}
 use Rattle.im_typed.specs.ProgramOf.{object_of, stmt_of, func_of}
 use Rattle.im_typed.specs.Typing.{Each, IsTypedFunc, IsTypedStmt}
 use Rattle.im_check_externals.specs.im_types.Shape.{type_of}
-use Rattle.im_typed_laws.specs.Laws.{IsLonger, StatementsLaw, ObjectsLaw}
+use Rattle.im_typed.specs.StructsLaws.{IsLonger, StatementsLaw, ObjectsLaw}
 use Rattle.im_rules.specs.Statements as s
 use Rattle.im_check_sites.specs.declared.body.Local.{Local}
 use Rattle.im_check_sites.specs.Sites.{object_in, objects_in}

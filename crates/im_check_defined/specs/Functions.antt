@@ -5,7 +5,7 @@ use Rattle.im_check_sites.specs.im_ctype.Types.{is_complete}
 use Rattle.im_typed.specs.Program.{Func}
 use Rattle.im_typed.specs.ProgramOf.{stmt_of}
 use Rattle.im_types.specs.Shape.{type_of}
-use Rattle.im_typed_laws.specs.Laws.{IsLonger}
+use Rattle.im_typed.specs.StructsLaws.{IsLonger}
 use Rattle.im_check_sites.specs.declared.body.Local.{Local}
 use Rattle.im_check_sites.specs.Sites.{objects_in}
 use Rattle.im_check_defined.specs.declared.function.Defined.{Defined}

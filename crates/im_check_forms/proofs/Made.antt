@@ -2,8 +2,8 @@
 use Rattle.std.proofs.Common.{◌≡◌, Option, None, Some, refl}
 use Rattle.im_ctree.specs.declared.operator.BinaryOp.{BinaryOp}
 use Rattle.im_ctype.specs.Types.{Structs}
-use Rattle.im_check_assignments.specs.im_rules.Demands.{assigned_asks}
-use Rattle.im_check_assignments.specs.im_rules.Terms.{Term, Value}
+use Rattle.im_check_operations.specs.im_rules.Demands.{assigned_asks}
+use Rattle.im_check_operations.specs.im_rules.Terms.{Term, Value}
 use Rattle.im_check_operands.specs.Answers.{assigned_rule}
 
 pub of_two : {A : Type 0} (f : Value → Value → A) {x z y w : Value} → x ≡ z → y ≡ w → f x y ≡ f z w

@@ -1,14 +1,14 @@
 //! The terms of assignments, `++` and `--`.
 ghost use Rattle.std.specs.Prelude.{◌≡◌, [], IfOk};
 ghost use Rattle.im_ctype.specs.Table.{structs_of};
-ghost use Rattle.im_check_assignments.specs.im_rules.Conversions as c;
-ghost use Rattle.im_check_assignments.specs.im_rules.Demands as d;
-ghost use Rattle.im_check_assignments.specs.im_rules.Rules as u;
-ghost use Rattle.im_check_assignments.specs.im_rules.Terms as r;
+ghost use Rattle.im_check_operations.specs.im_rules.Conversions as c;
+ghost use Rattle.im_check_operations.specs.im_rules.Demands as d;
+ghost use Rattle.im_check_operations.specs.im_rules.Rules as u;
+ghost use Rattle.im_check_operations.specs.im_rules.Terms as r;
 ghost use Rattle.im_check_operands.specs.Shape.{term_in, value_in};
 ghost use Rattle.im_check_operands.specs.Answers.{IsMade, assigned_rule};
 
-use im_check_assignments::{assigned, operator_of, stepped};
+use im_check_operations::{assigned, operator_of, stepped};
 use im_check_conversions::{type_in, value_of};
 use im_check_operands::{Term, Value, fits, is_changeable, is_lvalue, may_step, may_update};
 use im_check_stop::{Stop, refused};

@@ -1,10 +1,10 @@
 //! The terms of expressions: the rules are asked of the terms of the parts, of which the term is made.
 ghost use Rattle.std.specs.Prelude.{◌≡◌, [], ◌∷◌, IfOk};
 ghost use Rattle.im_ctype.specs.Table.{Table, structs_of};
-ghost use Rattle.im_check_assignments.specs.im_rules.Conversions as c;
-ghost use Rattle.im_check_assignments.specs.im_rules.Demands as d;
-ghost use Rattle.im_check_assignments.specs.im_rules.Rules as u;
-ghost use Rattle.im_check_assignments.specs.im_rules.Terms as r;
+ghost use Rattle.im_check_operations.specs.im_rules.Conversions as c;
+ghost use Rattle.im_check_operations.specs.im_rules.Demands as d;
+ghost use Rattle.im_check_operations.specs.im_rules.Rules as u;
+ghost use Rattle.im_check_operations.specs.im_rules.Terms as r;
 ghost use Rattle.im_types.specs.Shape.{type_of};
 ghost use Rattle.im_check_operands.specs.Shape.{term_in};
 ghost use Rattle.im_check_operands.specs.Answers.{IsMade};
@@ -17,7 +17,7 @@ use im_check_operands::{
 use im_check_operations::{
     casted, chosen, joined, negated, operation, promoted_value, sum, unary_operation,
 };
-use im_check_pointers::{addressed, bytes_of, pointed};
+use im_check_operations::{addressed, bytes_of, pointed};
 use im_check_stop::{Stop, refused};
 use im_ctree::{BinaryOp, UnaryOp};
 use im_ctype::{Integer, TypeTable};

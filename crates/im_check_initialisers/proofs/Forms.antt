@@ -14,7 +14,7 @@ use Rattle.im_check_expressions.specs.im_rules.Rules.{is_string_for, initializer
 use Rattle.im_check_expressions.specs.im_rules.Strings.{strings_in}
 use Rattle.im_ctree_parts.specs.Lists.{expression_in, initializers_from}
 use Rattle.im_check_shapes.proofs.Falls.{size_of, sizes_of}
-use Rattle.im_check_given_strings.proofs.Places.{of_string, of_list}
+use Rattle.im_check_texts.proofs.Places.{of_string, of_list}
 use Rattle.im_check_initialisers.specs.Forms.{listed}
 
 -- what a form tells of its initialiser

@@ -1,1 +1,2 @@
 pub mod NoIntegers
+pub mod AssignmentsNoIntegers

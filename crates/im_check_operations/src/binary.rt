@@ -3,14 +3,14 @@ ghost use Rattle.std.specs.Prelude.{◌≡◌, IfOk};
 ghost use Rattle.im_ctype.specs.Table.{Table, structs_of};
 ghost use Rattle.im_typed.specs.Program as p;
 ghost use Rattle.im_typed.specs.ProgramOf.{expr_of};
-ghost use Rattle.im_check_pointers.specs.im_rules.Conversions as c;
+ghost use Rattle.im_check_operations.specs.im_rules.Conversions as c;
 ghost use Rattle.im_check_operands.specs.Shape.{value_in};
 
 use crate::compare::comparison;
+use crate::{distance, moved_before, moved_behind};
 use im_check_constancy as constancy;
 use im_check_conversions::{as_integer, common, integer_of, of_integer, promoted};
 use im_check_operands::Value;
-use im_check_pointers::{distance, moved_before, moved_behind};
 use im_ctree::BinaryOp;
 use im_ctype::{Integer, TypeTable};
 use im_num::NoMemory;

@@ -4,7 +4,7 @@ ghost use Rattle.im_ctype.specs.Table.{Table};
 ghost use Rattle.im_ctype.specs.Types.{is_pointer, kind_of};
 ghost use Rattle.im_num.specs.declared.kind.Kind.TheVariants.{Ptr};
 ghost use Rattle.im_typed.specs.Program as p;
-ghost use Rattle.im_check_pointers.specs.im_rules.Conversions as c;
+ghost use Rattle.im_check_operations.specs.im_rules.Conversions as c;
 ghost use Rattle.im_types.specs.Shape.{type_of};
 ghost use Rattle.im_check_operands.specs.Shape.{value_in};
 

@@ -3,7 +3,7 @@ ghost use Rattle.std.specs.Prelude.{◌≡◌, IfOk};
 ghost use Rattle.im_ctype.specs.Table.{Table};
 ghost use Rattle.im_typed.specs.Program as p;
 ghost use Rattle.im_typed.specs.ProgramOf.{expr_of};
-ghost use Rattle.im_check_pointers.specs.im_rules.Conversions as c;
+ghost use Rattle.im_check_operations.specs.im_rules.Conversions as c;
 ghost use Rattle.im_types.specs.Shape.{type_of};
 ghost use Rattle.im_check_operands.specs.Shape.{value_in};
 

@@ -1,13 +1,13 @@
 -- One part more, by the string literals that stand in it.
 use Rattle.std.proofs.Common.{◌≡◌, ℕ, ◌+◌, ◌<◌, List, [], ◌++◌, length, drop, get_or, Result, Ok, Err, OnOk, refl, sym, ap, ◌∙◌, append_assoc}
 use Rattle.std.proofs.lemmas.List.{append-nil}
-use Rattle.im_check_given_strings.specs.im_word.Words.{Name}
+use Rattle.im_check_texts.specs.im_word.Words.{Name}
 use Rattle.im_ctree.specs.declared.declaration.Initializer as ini
 use Rattle.im_ctree.specs.Shape.{initializer_of}
 use Rattle.im_ctype.specs.Types.{CType, Member, Structs}
-use Rattle.im_check_given_strings.specs.im_rules.Initialisers.{Slots, in_order, first_slot, other_slots, strings_given, strings_among}
+use Rattle.im_check_texts.specs.im_rules.Initialisers.{Slots, in_order, first_slot, other_slots, strings_given, strings_among}
 use Rattle.im_ctree_parts.specs.Lists.{initializers_from}
-use Rattle.im_check_given_strings.proofs.Places.{items_from, others_on}
+use Rattle.im_check_texts.proofs.Places.{items_from, others_on}
 
 -- behind the string literals of two parts
 pub joined : (before inner xs ys zs : List Name) → zs ≡ xs ++ ys → inner ≡ before ++ xs → inner ++ ys ≡ before ++ zs

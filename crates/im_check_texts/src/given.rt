@@ -4,14 +4,14 @@ ghost use Rattle.std.specs.Prelude.{◌≡◌, ◌++◌, OnOk};
 ghost use Rattle.im_ctree.specs.Shape.{initializer_of, maybe_initializer_of};
 ghost use Rattle.im_ctype.specs.Table.{structs_of};
 ghost use Rattle.im_ctype.specs.Types.{members_of};
-ghost use Rattle.im_check_given_strings.specs.im_rules.Initialisers.{strings_given, strings_among, side_by_side, in_order, slots_of};
-ghost use Rattle.im_check_given_strings.specs.im_rules.Statements.{initialised_strings};
+ghost use Rattle.im_check_texts.specs.im_rules.Initialisers.{strings_given, strings_among, side_by_side, in_order, slots_of};
+ghost use Rattle.im_check_texts.specs.im_rules.Statements.{initialised_strings};
 ghost use Rattle.im_ctree_parts.specs.Lists.{initializers_from};
 ghost use Rattle.im_types.specs.Shape.{type_of};
 ghost use Rattle.im_check_texts.specs.Texts.{texts_in};
 
 use crate::expression::append_expression;
-use im_check_given_strings::member_type;
+use crate::member_type;
 use im_check_shapes::is_string_for;
 use im_ctree::Initializer;
 use im_ctype::TypeTable;

@@ -1,4 +1,4 @@
-//! From the parts of a tree to the bytes of the string literals that stand in them.
+//! From the parts of a tree to the bytes and the numbers of the string literals that stand in them (C11 6.4.5, 6.7.9).
 #![tactic(auto)]
 
 mod declarator;
@@ -6,6 +6,8 @@ mod expression;
 mod given;
 mod specifier;
 mod step;
+mod string_given;
+mod slots;
 
 pub use declarator::{
     append_core, append_declarator, append_declarator_if_any, append_parameters, append_suffixes,
@@ -15,3 +17,5 @@ pub use expression::{
 };
 pub use given::{append_given, append_given_if_any};
 pub use specifier::append_specifiers;
+pub use string_given::behind_given;
+pub use slots::member_type;

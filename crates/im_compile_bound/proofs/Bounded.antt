@@ -12,7 +12,7 @@ use Rattle.im_typed.specs.declared.program.Prog.{Prog}
 use Rattle.im_typed.specs.ProgramOf.{func_of, program_of}
 use Rattle.im_typed.specs.Program.{Func}
 use Rattle.im_typed.specs.Counts.{func_nodes}
-use Rattle.im_compile_function_bound.specs.Bound.{IsMadeOf, FunctionBoundLaw}
+use Rattle.im_compile_bound.specs.FunctionBound.{IsMadeOf, FunctionBoundLaw}
 use Rattle.im_link_laws.specs.Program.{part_of, given_at, HasCode}
 use Rattle.im_compile.specs.declared.options.Options.{Options}
 use Rattle.im_compile.specs.declared.built.Built.{Built}

@@ -6,7 +6,7 @@ use Rattle.std.proofs.lemmas.Bool.{ltb-true, and_parts}
 use Rattle.im_image.specs.Contents.{is_name_byte}
 use Rattle.im_store.specs.Statics.{StaticObject}
 use Rattle.im_typed.specs.Typing.{Each}
-use Rattle.im_rules_sound_statics.specs.Namable as front
+use Rattle.im_rules_sound_spelt.specs.Namable as front
 use Rattle.im_pack.specs.Packed.{IsNamable, AreNamable}
 
 is_namable : (o : StaticObject) → front.IsNamable o → IsNamable o

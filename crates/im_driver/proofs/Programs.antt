@@ -9,7 +9,7 @@ use Rattle.im_ctree.specs.Shape.{tree_of}
 use Rattle.im_typed.specs.declared.program.Prog.{Prog}
 use Rattle.im_typed.specs.ProgramOf.{program_of}
 use Rattle.im_rules_sound_spelt.specs.Laws.{WordsLaw, SourcesLaw}
-use Rattle.im_rules_sound_statics.specs.Laws.{WordNamesLaw, NamableLaw}
+use Rattle.im_rules_sound_spelt.specs.StaticsLaws.{WordNamesLaw, NamableLaw}
 use Rattle.im_check.specs.Checked.{IsChecked}
 use Rattle.im_driver.specs.Compiled.{IsTreeOf}
 use Rattle.im_driver.specs.Steps.{IsReady}

@@ -17,8 +17,8 @@ use Rattle.im_check.specs.im_rules_sound_places.Units.{IsWrittenUnit}
 use Rattle.im_check.specs.im_rules_sound_expressions.Written.{AreBytes}
 use Rattle.im_rules_sound_spelt.specs.Words.{IsLexical, AreLexical, AreNamedBy}
 use Rattle.im_rules_sound_spelt.specs.Laws.{WordsLaw, SpeltLaw, SourcesLaw}
-use Rattle.im_rules_sound_statics.specs.Namable.{is_name, IsNamable}
-use Rattle.im_rules_sound_statics.specs.Laws.{WordNamesLaw, NamableLaw}
+use Rattle.im_rules_sound_spelt.specs.Namable.{is_name, IsNamable}
+use Rattle.im_rules_sound_spelt.specs.StaticsLaws.{WordNamesLaw, NamableLaw}
 use Rattle.im_driver.proofs.Lexical.{token_some}
 
 -- bytes of a text

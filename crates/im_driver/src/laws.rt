@@ -2,7 +2,7 @@ ghost use Rattle.im_driver.specs.Steps.{KeptLaw, ProgramLaw, WrittenLaw};
 
 use im_keeps_built::built_keeps_law;
 use im_rules_sound_spelt::{spelt_law, words_law};
-use im_rules_sound_statics::{statics_law, word_names_law};
+use im_rules_sound_spelt::{statics_law, word_names_law};
 
 /// The tree of a source is as the checker wants it.
 pub(crate) fn written_law()

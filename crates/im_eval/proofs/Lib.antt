@@ -4,3 +4,6 @@ pub mod Mains
 pub mod Pending
 pub mod Telling
 pub mod Turns
+pub mod Showing
+pub mod EndingTelling
+pub mod Living

@@ -5,7 +5,7 @@ use Rattle.im_typed.specs.Programs.{Setting, meaning, outcome_of, run_of_main}
 use Rattle.im_typed.specs.Typing.{Each, IsWellTyped}
 use Rattle.im_eval_machine.specs.declared.outcome.Outcome.{Outcome}
 use Rattle.im_eval_machine.specs.Endings.{EndLive, told}
-use Rattle.im_eval_end.proofs.Living.{statics_live}
+use Rattle.im_eval.proofs.Living.{statics_live}
 use Rattle.im_eval_tasks.proofs.SmallNumbers.{same_prog}
 use Rattle.im_eval.specs.Settings.{small_setting}
 

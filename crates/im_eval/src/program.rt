@@ -13,7 +13,7 @@ ghost use Rattle.im_eval.specs.Settings.{small_setting};
 
 use crate::run::Run;
 use crate::step::{push_next, step};
-use im_eval_end::{bytes_law, conclude};
+use crate::{bytes_law, conclude};
 use im_eval_machine::{Code, Found, Here, Outcome, Stopped, layouts_of, machine_of};
 use im_eval_steps::enter_function;
 use im_eval_tasks::Now;

@@ -8,3 +8,4 @@ pub mod Paying
 pub mod Pieces
 pub mod Putting
 pub mod Using
+pub mod Seeing

@@ -4,9 +4,9 @@ use Rattle.std.specs.Prelude.{slice_get, slice_range}
 use Rattle.std.specs.List.{Contains}
 use Rattle.std.proofs.lemmas.List.{length_push, length-append}
 use Rattle.std.proofs.lemmas.Option.{slice_get_past}
-use Rattle.im_gap_walk.specs.declared.graph.Node.{Node}
-use Rattle.im_gap_walk.specs.declared.graph.Graph.{Graph}
-use Rattle.im_gap_walk.specs.Graph.{successors_of, targets_of, weight_of, node_weight, size_of, HasRange, IsGraph}
+use Rattle.im_gap.specs.declared.graph.Node.{Node}
+use Rattle.im_gap.specs.declared.graph.Graph.{Graph}
+use Rattle.im_gap.specs.Graph.{successors_of, targets_of, weight_of, node_weight, size_of, HasRange, IsGraph}
 use Rattle.im_rv.specs.Code.{instruction_at}
 use Rattle.im_gap.specs.declared.flow.Turn.{Turn}
 use Rattle.im_gap.specs.declared.flow.Turn.TheVariants.{Returns}

@@ -4,9 +4,9 @@ use Rattle.std.specs.Prelude.{slice_index}
 use Rattle.std.specs.List.{Contains}
 use Rattle.std.specs.Option.{option_to_list}
 use Rattle.std.proofs.lemmas.List.Elements.{Contains-append_left, Contains-append_right, Contains-append_cases, Contains-get_or}
-use Rattle.im_gap_walk.specs.declared.graph.Graph.{Graph}
-use Rattle.im_gap_walk.specs.Graph.{successors_of, weight_of}
-use Rattle.im_gap_walk.specs.Walks.{IsGreatest, IsEndless}
+use Rattle.im_gap.specs.declared.graph.Graph.{Graph}
+use Rattle.im_gap.specs.Graph.{successors_of, weight_of}
+use Rattle.im_gap.specs.Walks.{IsGreatest, IsEndless}
 use Rattle.im_gap.specs.Flow.{IsResumeWord}
 use Rattle.im_gap.specs.Gap.{recovery_steps, IsGap, HasGap}
 use Rattle.im_gap.specs.Table.{index_of, behind, resume_words, Whole}

@@ -4,7 +4,7 @@ use Rattle.std.specs.Prelude.{slice_get, slice_range, slice_index}
 use Rattle.std.proofs.lemmas.List.{drop-append-le, take-append-le, drop_at, take_all, length_push, length-drop, length-append}
 use Rattle.std.proofs.lemmas.Option.{slice_get-get_or}
 use Rattle.im_rv.specs.Decode.{decode}
-use Rattle.im_gap_walk.specs.declared.graph.Node.{Node}
+use Rattle.im_gap.specs.declared.graph.Node.{Node}
 use Rattle.im_gap.specs.declared.flow.Turn.{Turn}
 use Rattle.im_rv.specs.Code.{instruction_at}
 use Rattle.im_rv.specs.Effects.{decoded_word}

@@ -1,7 +1,7 @@
 -- Walks of the flow and walks of its graph.
 use Rattle.std.proofs.Common.{◌≡◌, ◌≢◌, ℕ, suc, ◌+◌, ◌*◌, ◌<◌, ◌≤◌, ◌⊎◌, inl, inr, true, List, [], ◌∷◌, length, refl, sym, ap, subst, arith}
 use Rattle.std.specs.List.{Contains}
-use Rattle.im_gap_walk.specs.Walks.{IsWalk, cost, IsShort, IsGreatest}
+use Rattle.im_gap.specs.Walks.{IsWalk, cost, IsShort, IsGreatest}
 use Rattle.im_gap.specs.declared.flow.Turn.{Turn}
 use Rattle.im_gap.specs.declared.flow.Turn.TheVariants.{Passes, Jumps, Branches, Returns, Stops}
 use Rattle.im_rv.specs.Code.{instruction_at}

@@ -2,9 +2,9 @@
 use Rattle.std.specs.Prelude.{◌≡◌, ◌≢◌, ℕ, suc, zero, ◌+◌, ◌-◌, ◌/◌, ◌%◌, ◌<◌, ◌≤◌, true, cond, ◌&&◌, ◌==◌, nat_le, nat_lt, List, [], ◌∷◌, ◌++◌, Option, Some, None, length, slice_get, slice_range}
 use Rattle.std.specs.List.{Contains}
 use Rattle.std.specs.Option.{option_to_list}
-use Rattle.im_gap_walk.specs.declared.graph.Node.{Node}
-use Rattle.im_gap_walk.specs.declared.graph.Graph.{Graph}
-use Rattle.im_gap_walk.specs.Graph.{successors_of, weight_of, HasRange}
+use Rattle.im_gap.specs.declared.graph.Node.{Node}
+use Rattle.im_gap.specs.declared.graph.Graph.{Graph}
+use Rattle.im_gap.specs.Graph.{successors_of, weight_of, HasRange}
 use Rattle.im_rv.specs.Steps.{sum_of}
 use Rattle.im_rv.specs.Code.{address, instruction_at}
 use Rattle.im_gap.specs.declared.flow.Turn.{Turn}

@@ -4,7 +4,7 @@ ghost use Rattle.im_gap.specs.Table.{resume_words, Whole};
 
 use crate::flow::index_at;
 use crate::table::{push_behind, push_words, small};
-use im_gap_walk::{Graph, Node, longest};
+use crate::{Graph, Node, longest};
 use im_num::NoMemory;
 use im_rv::Code;
 use std::alloc::Global;

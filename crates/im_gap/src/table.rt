@@ -4,7 +4,7 @@ ghost use Rattle.im_gap.specs.Flow.{links};
 ghost use Rattle.im_gap.specs.Table.{following, successors_by, behind, Drawn};
 
 use crate::flow::{Turn, Way, index_at, links_register, way_of};
-use im_gap_walk::Node;
+use crate::Node;
 use im_num::NoMemory;
 
 // the next word, if there is one

@@ -14,7 +14,7 @@ use Rattle.im_rtlib.specs.Routines.{aimed, getchar, putchar, stack}
 use Rattle.im_gap.specs.Flow.{Flow, IsResumeWord}
 use Rattle.im_gap.specs.Gap.{IsBounded, HasGap}
 use Rattle.im_gap.proofs.Walking.{rank_law}
-use Rattle.im_gap_bound.proofs.Bounded.{bounded}
+use Rattle.im_gap.proofs.Bounded.{bounded}
 use Rattle.im_link.specs.Parts.{IsPart, lines_of, first_of, last_of}
 use Rattle.im_link.specs.Links.{StandsAt}
 use Rattle.im_link.specs.Code.{IsLinkable, IsLinked}

@@ -10,11 +10,11 @@ use Rattle.im_typed.specs.Counts.{func_need}
 use Rattle.im_typed.specs.Typing.{Each}
 use Rattle.im_block.specs.declared.unit.Function.{Function}
 use Rattle.im_block.specs.declared.unit.Unit.{Unit as Code}
-use Rattle.im_lower_passes_laws.specs.Laws.{LowersLaw, NeedsFit}
+use Rattle.im_keeps_source.specs.LoweringLaws.{LowersLaw, NeedsFit}
 use Rattle.im_keeps_source.specs.Source.{source_of}
-use Rattle.im_pack_image_laws.specs.im_keeps_passes.Passes.{Lowers, Selects}
-use Rattle.im_keeps_middle.specs.Middle.{Chain}
-use Rattle.im_keeps_middle.specs.Laws.{MiddleLaw}
+use Rattle.im_pack_laws.specs.im_keeps_passes.Passes.{Lowers, Selects}
+use Rattle.im_keeps_source.specs.Middle.{Chain}
+use Rattle.im_keeps_source.specs.MiddleLaws.{MiddleLaw}
 use Rattle.im_compile.specs.declared.options.Options.{Options}
 use Rattle.im_compile.specs.declared.built.Built.{Built}
 use Rattle.im_compile.specs.Passed.{IsSource, IsPassed}

@@ -1,9 +1,9 @@
 -- What is built keeps its program.
 use Rattle.std.proofs.Common.{ℕ, List, sym, subst}
-use Rattle.im_gap_bound.specs.Bound.{GapBoundLaw}
+use Rattle.im_gap.specs.Bound.{GapBoundLaw}
 use Rattle.im_typed.specs.ProgramOf.{program_of}
-use Rattle.im_lower_passes_laws.specs.Laws.{LowersLaw}
-use Rattle.im_keeps_middle.specs.Laws.{MiddleLaw}
+use Rattle.im_keeps_source.specs.LoweringLaws.{LowersLaw}
+use Rattle.im_keeps_source.specs.MiddleLaws.{MiddleLaw}
 use Rattle.im_keeps_source.specs.Source.{source_of}
 use Rattle.im_keeps_source.specs.Laws.{ProgramKeeps, ProgramKeepsLaw}
 use Rattle.im_compile.specs.Built.{bytes_of}

@@ -10,9 +10,9 @@ use Rattle.im_typed.specs.Counts.{func_need}
 use Rattle.im_block.specs.declared.unit.Function.{Function}
 use Rattle.im_block.specs.declared.unit.Unit.{Unit as Code}
 use Rattle.im_link_laws.specs.Laws.{WordsLaw}
-use Rattle.im_lower_passes_laws.specs.Laws.{LowersLaw}
+use Rattle.im_keeps_source.specs.LoweringLaws.{LowersLaw}
 use Rattle.im_keeps_passes.specs.Laws.{CodeBounds}
-use Rattle.im_keeps_middle.specs.Laws.{MiddleLaw}
+use Rattle.im_keeps_source.specs.MiddleLaws.{MiddleLaw}
 use Rattle.im_keeps_source.specs.Source.{source_of}
 use Rattle.im_compile.specs.Passed.{IsSource, IsPassed}
 use Rattle.im_compile.specs.Faults.{HasLargeFrame, HasLargeCode}

@@ -15,9 +15,9 @@ use Rattle.im_compile.specs.im_saved.Liveness.{IsLiveness, EntersByCuts}
 use Rattle.im_saved_code.specs.Laws.{LiveCodeLaw}
 use Rattle.im_select_executes.specs.Executing.{HasLiveness}
 use Rattle.im_select_executes.specs.Laws.{ExecutesLaw}
-use Rattle.im_pack_image_laws.specs.im_pack_laws.Places.{linking_in}
-use Rattle.im_pack_image_laws.specs.Laws.{IsImageOf, AllExecute, SelectsLaw}
-use Rattle.im_pack_image_laws.specs.im_keeps_passes.Passes.{setting}
+use Rattle.im_pack_laws.specs.Places.{linking_in}
+use Rattle.im_pack_laws.specs.ImageLaws.{IsImageOf, AllExecute, SelectsLaw}
+use Rattle.im_pack_laws.specs.im_keeps_passes.Passes.{setting}
 use Rattle.im_compile.specs.declared.options.Options.{Options}
 use Rattle.im_compile.specs.declared.built.Built.{Built}
 use Rattle.im_compile.specs.Passed.{IsPassed, IsReady, ReadyLaw}

@@ -6,7 +6,7 @@ use Rattle.im_typed.specs.declared.program.Prog.{Prog}
 use Rattle.im_typed.specs.ProgramOf.{program_of}
 use Rattle.im_typed.specs.Program.{Func, Prog as Program}
 use Rattle.im_typed.specs.Counts.{func_need, prog_nodes}
-use Rattle.im_pack_image_laws.specs.im_keeps_passes.Passes.{Selects}
+use Rattle.im_pack_laws.specs.im_keeps_passes.Passes.{Selects}
 use Rattle.im_keeps_source.specs.Laws.{ProgramKeeps}
 use Rattle.im_compile.specs.declared.options.Options.{Options}
 use Rattle.im_compile.specs.declared.built.Built.{Built}

@@ -1,1 +1,3 @@
 mod Right
+mod Promises
+mod Lines

@@ -3,3 +3,5 @@ pub mod Labels
 pub mod Memory
 pub mod Near
 pub mod Objects
+pub mod Counting
+pub mod Image

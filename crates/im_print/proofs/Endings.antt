@@ -4,7 +4,7 @@ use Rattle.std.proofs.lemmas.List.{length-append}
 use Rattle.std.proofs.Math.Seq.{take-append_seam}
 use Rattle.im_word.specs.Words.{Word}
 use Rattle.im_print_relation.specs.Text.{word_text, text_of}
-use Rattle.im_print_words.specs.Output.{spaced}
+use Rattle.im_print_parts.specs.Output.{spaced}
 
 abbrev unended : List Word → List ℕ
 unended [] = []

@@ -10,9 +10,9 @@ use Rattle.im_ctree.specs.Tree as t
 use Rattle.im_ctree.specs.Shape.{expression_of, statement_of, block_items_of, externals_of, external_of}
 use Rattle.im_ctree.specs.Typedefs.{names_behind_items, names_behind_external}
 use Rattle.im_print_relation.specs.Printed as printed
-use Rattle.im_print_words.specs.Output.{spaced, Writes}
+use Rattle.im_print_parts.specs.Output.{spaced, Writes}
 use Rattle.im_print_parts.specs.Parts as parts
-use Rattle.im_print_words.proofs.Writing.{written, next}
+use Rattle.im_print_parts.proofs.Writing.{written, next}
 use Rattle.im_print_parts.proofs.Rows.{items_more, items_known}
 use Rattle.im_ctree_parts.specs.Lists.{statement_in}
 

@@ -3,14 +3,14 @@ ghost use Rattle.im_ctree.specs.Shape.{declaration_of, init_declarators_of, init
 ghost use Rattle.im_ctree.specs.Tree as t;
 ghost use Rattle.im_ctree.specs.Typedefs.{typedef_names};
 ghost use Rattle.im_print_relation.specs.Printed as printed;
-ghost use Rattle.im_print_words.specs.Output.{Writes, each, known};
+ghost use Rattle.im_print_parts.specs.Output.{Writes, each, known};
 ghost use Rattle.im_print_parts.specs.Parts as parts;
 ghost use Rattle.im_ctree_parts.specs.Lists.{initializers_from};
 
 use im_ctree::{Declaration, InitDeclarator, Initializer};
 use im_num::NoMemory;
 use im_print_parts::{put_at, put_behind_specifiers, put_comma_if, put_declarator, put_specifiers};
-use im_print_words::{has_type, put_mark, remember};
+use im_print_parts::{has_type, put_mark, remember};
 use im_tok::Punctuator;
 
 /// Writes an initialiser (C11 6.7.9).

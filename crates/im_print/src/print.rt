@@ -6,7 +6,7 @@ ghost use Rattle.im_print_relation.specs.Printed as printed;
 ghost use Rattle.im_print_relation.specs.Printed.{words_of};
 ghost use Rattle.im_print_relation.specs.Text.{text_of};
 ghost use Rattle.im_print.specs.Again.{IsSpelled, IsReadBack};
-ghost use Rattle.im_print_words.specs.Output.{Writes, known};
+ghost use Rattle.im_print_parts.specs.Output.{Writes, known};
 ghost use Rattle.im_print_parts.specs.Parts.{signature_words};
 
 use crate::declarations::put_declaration;
@@ -15,7 +15,7 @@ use im_ctree::{External, Function, Tree};
 use im_num::NoMemory;
 use im_print_parts::{put_behind_specifiers, put_specifiers};
 use im_print_relation::printed_text_law;
-use im_print_words::has_type;
+use im_print_parts::has_type;
 use std::alloc::Global;
 
 /// The typedef names that stand in for headers, the first one last.

@@ -6,7 +6,7 @@ ghost use Rattle.im_ctree.specs.Tree as t;
 ghost use Rattle.im_ctree.specs.Shape.{block_items_of, for_init_of, optional_expression_of};
 ghost use Rattle.im_ctree.specs.Typedefs.{names_behind, names_behind_else, names_behind_init, names_behind_items};
 ghost use Rattle.im_print_relation.specs.Printed as printed;
-ghost use Rattle.im_print_words.specs.Output.{Writes, known};
+ghost use Rattle.im_print_parts.specs.Output.{Writes, known};
 ghost use Rattle.im_print_parts.specs.Parts.{item_words, names_behind_item, other_from};
 ghost use Rattle.im_ctree_parts.specs.Lists.{expression_in, statement_in};
 
@@ -14,7 +14,7 @@ use crate::declarations::put_declaration;
 use im_ctree::{BlockItem, Expression, ForInit, Statement, StatementKind};
 use im_num::NoMemory;
 use im_print_parts::{put_at, put_expression};
-use im_print_words::{put_keyword, put_mark};
+use im_print_parts::{put_keyword, put_mark};
 use im_tok::{Keyword, Punctuator};
 
 /// Writes a statement (C11 6.8).

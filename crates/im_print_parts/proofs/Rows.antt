@@ -26,8 +26,8 @@ use Rattle.im_ctree.specs.Tree as t
 use Rattle.im_ctree.specs.Shape.{expression_of, specifier_of, declaration_of, external_of, declarator_of, maybe_expression_of, parameters_of, initializer_of, maybe_initializer_of, init_declarators_of, block_items_of}
 use Rattle.im_ctree.specs.Typedefs.{has_type_from, names_behind_items}
 use Rattle.im_print_relation.specs.Printed as printed
-use Rattle.im_print_words.specs.Output.{each, spaced, Writes}
-use Rattle.im_print_words.proofs.Writing.{writes_append, writes_same, written, next}
+use Rattle.im_print_parts.specs.Output.{each, spaced, Writes}
+use Rattle.im_print_parts.proofs.Writing.{writes_append, writes_same, written, next}
 use Rattle.im_print_parts.specs.Parts as parts
 use Rattle.im_ctree_parts.specs.Lists.{expression_in, expressions_from, list_from, maybe_from, members_from, enumerators_from, declarators_from, declarator_from, stars_in, with_suffix, suffixes_from, parameters_from, initializers_from}
 use Rattle.im_ctree_parts.proofs.Shapes.{call_tree, struct_tree, enum_tree, function_suffix, list_tree, member_shape, enumerator_shape, parameter_shape, specifiers_shape}

@@ -1,9 +1,9 @@
 ghost use Rattle.std.specs.Prelude.{◌≡◌, OnOk};
-ghost use Rattle.im_print_words.specs.Output.{Writes};
+ghost use Rattle.im_print_parts.specs.Output.{Writes};
 ghost use Rattle.im_print_parts.specs.Parts as parts;
 
 use im_num::NoMemory;
-use im_print_words::put_mark;
+use crate::put_mark;
 use im_tok::Punctuator;
 
 /// Writes the comma before an item of a list, where one stands before it.

@@ -3,7 +3,7 @@ ghost use Rattle.im_tok.specs.declared.punctuator.Punctuator.TheVariants as punc
 ghost use Rattle.im_word.specs.Words.{mark};
 ghost use Rattle.im_ctree.specs.Shape.{core_of, declarator_of, type_name_of};
 ghost use Rattle.im_print_relation.specs.Printed as printed;
-ghost use Rattle.im_print_words.specs.Output.{Writes, each, known};
+ghost use Rattle.im_print_parts.specs.Output.{Writes, each, known};
 ghost use Rattle.im_print_parts.specs.Parts as parts;
 ghost use Rattle.im_ctree_parts.specs.Lists.{declarator_from, declarators_from, maybe_from, parameters_from, stars_in, suffixes_from};
 
@@ -12,7 +12,7 @@ use crate::expressions::put_at;
 use crate::specifiers::put_specifiers;
 use im_ctree::{Core, Declarator, Expression, Parameter, Star, Suffix, SuffixKind, TypeName};
 use im_num::NoMemory;
-use im_print_words::{put_keyword, put_mark, put_name};
+use crate::{put_keyword, put_mark, put_name};
 use im_tok::{Keyword, Punctuator};
 
 /// Writes a `*` and the `const` behind it (C11 6.7.6.1).

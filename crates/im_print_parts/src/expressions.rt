@@ -4,7 +4,7 @@ ghost use Rattle.im_word.specs.Words.{name, keyword, mark};
 ghost use Rattle.im_print_relation.specs.Printed as printed;
 ghost use Rattle.im_ctree.specs.Shape.{type_name_of};
 ghost use Rattle.im_ctree.specs.Tree as t;
-ghost use Rattle.im_print_words.specs.Output.{Writes, known};
+ghost use Rattle.im_print_parts.specs.Output.{Writes, known};
 ghost use Rattle.im_print_parts.specs.Parts as parts;
 ghost use Rattle.im_ctree_parts.specs.Lists.{expression_in, expressions_from};
 
@@ -12,7 +12,7 @@ use crate::commas::put_comma_if;
 use crate::declarators::put_type_name;
 use im_ctree::{BinaryOp, Expression, ExpressionKind, TypeName};
 use im_num::NoMemory;
-use im_print_words::{
+use crate::{
     assign_mark, binding, operator_level, operator_mark, prefix_mark, put_character, put_keyword,
     put_mark, put_name, put_number, put_text, step_mark,
 };

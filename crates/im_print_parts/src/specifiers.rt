@@ -4,7 +4,7 @@ ghost use Rattle.im_tok.specs.declared.punctuator.Punctuator.TheVariants as punc
 ghost use Rattle.im_word.specs.Words.{name, keyword, mark};
 ghost use Rattle.im_ctree.specs.Shape.{declarator_of};
 ghost use Rattle.im_print_relation.specs.Printed as printed;
-ghost use Rattle.im_print_words.specs.Output.{Writes, each, known};
+ghost use Rattle.im_print_parts.specs.Output.{Writes, each, known};
 ghost use Rattle.im_print_parts.specs.Parts as parts;
 ghost use Rattle.im_ctree_parts.specs.Lists.{declarators_from, enumerators_from, list_from, maybe_from, members_from};
 
@@ -13,7 +13,7 @@ use crate::declarators::{put_declarator, put_in_parentheses};
 use crate::expressions::put_at;
 use im_ctree::{Declarator, Enumerator, Expression, Member, Name, Specifier, SpecifierKind};
 use im_num::NoMemory;
-use im_print_words::{
+use crate::{
     begins_with_typedef, has_type, put_keyword, put_mark, put_name, specifier_keyword,
 };
 use im_tok::{Keyword, Punctuator};

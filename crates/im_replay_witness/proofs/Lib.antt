@@ -3,3 +3,10 @@ pub mod Laws_of
 pub mod Loading
 pub mod Loop
 pub mod Silence
+pub mod Byte
+pub mod Loaded
+pub mod Shows
+pub mod Writer
+pub mod Ranks
+pub mod LoopRun
+pub mod LoopGap

@@ -10,3 +10,6 @@ pub mod Reading
 pub mod Saving
 pub mod Serving
 pub mod Showing
+pub mod Joining
+pub mod Sections
+pub mod Tracing

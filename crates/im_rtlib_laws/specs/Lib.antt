@@ -1,3 +1,5 @@
 pub mod Standing
 pub mod Seen
 pub mod Laws
+pub mod Orderly
+pub mod SectionsLaws

@@ -1,2 +1,4 @@
 pub mod Words
 pub mod Laws
+pub mod Namable
+pub mod StaticsLaws

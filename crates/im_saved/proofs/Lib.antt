@@ -1,3 +1,4 @@
 mod Rows
 mod Places
 mod Backward
+mod Beginning

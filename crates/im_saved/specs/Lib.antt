@@ -1,2 +1,3 @@
 pub mod Liveness
 pub mod Laws
+pub mod ImageLaws

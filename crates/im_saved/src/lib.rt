@@ -1,6 +1,8 @@
-//! From the liveness of registers at words to the registers that a run uses behind its cuts.
+//! From the liveness of registers at words to the registers that a run of the image uses behind its cuts.
 #![tactic(auto)]
 
 mod laws;
+mod image;
 
 pub use laws::live_law;
+pub use image::image_law;

@@ -33,7 +33,7 @@ use Rattle.im_block.specs.declared.unit.Unit.{Unit as Code}
 use Rattle.im_block.specs.Meaning.{Setting, Event, statics_of}
 use Rattle.im_block.specs.Runs.{Runs}
 use Rattle.im_block.specs.Sections.{NoWar, items}
-use Rattle.im_select_survives.specs.Survives.{GoesPlainly, IsSectioned, HasCode, SurvivesLaw}
+use Rattle.im_select_executes.specs.Survives.{GoesPlainly, IsSectioned, HasCode, SurvivesLaw}
 use Rattle.im_select_relation.specs.Linking.{Linking}
 use Rattle.im_select_relation.specs.Law.{Touches, Begun, ShowsStatics, machine_items, steps, Shows as Selected_shows, Follows as Selected_follows, SelectKeeps}
 use Rattle.im_keeps.specs.Keeps.{IsInput}
@@ -45,15 +45,15 @@ use Rattle.im_keeps_passes.specs.Machine.{EndsBefore, ShowsAfter, Follows, Execu
 use Rattle.im_keeps_passes.specs.Passes.{IsSelectable}
 use Rattle.im_select_executes.specs.Executing.{first_cpu, cuts, IsInImage, ShowsObjects, HasLiveness}
 use Rattle.im_saved.specs.Laws.{KeepsToCode, LivesUntil}
-use Rattle.im_saved_image.specs.Laws.{ImageLaw}
+use Rattle.im_saved.specs.ImageLaws.{ImageLaw}
 use Rattle.im_gap_flow.specs.Flows.{IsAt}
-use Rattle.im_select_survives.proofs.Returning.{place_of_word}
+use Rattle.im_select_executes.proofs.Returning.{place_of_word}
 use Rattle.im_select_executes.specs.Laws.{ExecutesLaw, ObjectsLaw}
 use Rattle.im_select_executes.proofs.Mirror.{Mirrors, mirrors, stands}
 use Rattle.im_select_executes.proofs.Cuts.{run_few}
 use Rattle.im_select_executes.proofs.Stores.{stores_few}
-use Rattle.im_select_survives.proofs.Effects.{touches_same, writes_none, reads_apart, extends_shown, halt_is}
-use Rattle.im_select_survives.proofs.Fetches.{fetches, even_at}
+use Rattle.im_select_executes.proofs.Effects.{touches_same, writes_none, reads_apart, extends_shown, halt_is}
+use Rattle.im_select_executes.proofs.Fetches.{fetches, even_at}
 use Rattle.im_select_executes.proofs.Steps.{few_steps, few_cuts}
 
 halted_one : (w : Went) → w ≢ On → ((at : ℕ) → w ≢ Faulted at) → w ≡ Halted

@@ -1,2 +1,3 @@
 pub mod Executing
 pub mod Laws
+pub mod Survives

@@ -10,3 +10,5 @@ pub mod SoundExprs
 pub mod SoundStmts
 pub mod SoundCalls
 pub mod SoundRuns
+pub mod Layouts
+pub mod Same

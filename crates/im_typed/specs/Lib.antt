@@ -13,3 +13,4 @@ pub mod Laws
 pub mod Samples
 pub use Rattle.im_store.specs.im_ctype
 pub use Rattle.im_store.specs as im_store
+pub mod StructsLaws

@@ -8,6 +8,7 @@ mod frames;
 mod laws;
 mod program;
 mod statement;
+mod structs;
 
 pub use counts::{need, nodes};
 pub use examples::{
@@ -23,3 +24,4 @@ pub use laws::{
 };
 pub use program::{Constant, Func, Object, Prog, Static};
 pub use statement::{Case, Piece, Stmt};
+pub use structs::more_structs_law;

@@ -1,12 +1,12 @@
 use Rattle.std.proofs.Common.{◌≡◌, ◌++◌, List, OnOk, ap, subst, sym, ◌∙◌}
-use Rattle.im_check_given_strings.specs.im_word.Words.{Name}
+use Rattle.im_check_texts.specs.im_word.Words.{Name}
 use Rattle.im_ctree.specs.Tree as tree
 use Rattle.im_ctree.specs.Shape.{declarator_of, core_of, type_name_of, expression_of, specifier_of}
 use Rattle.im_ctree.specs.declared.declarator.Declarator.{out-Declarator}
 use Rattle.im_ctree.specs.declared.declarator.Parameter.{out-Parameter}
 use Rattle.im_ctree.specs.declared.declarator.TypeName.{out-TypeName}
 use Rattle.im_ctree.specs.declared.specifier.Member.{out-Member}
-use Rattle.im_check_given_strings.specs.im_rules.Strings as s
+use Rattle.im_check_texts.specs.im_rules.Strings as s
 use Rattle.im_ctree_parts.specs.Lists.{expression_in, expressions_from, specifiers_in, with_member, declarators_from, declarator_from, suffixes_from, with_suffix, parameters_from, with_parameter}
 use Rattle.im_ctree_parts.proofs.Shapes.{call_tree, struct_tree, enum_tree, function_suffix}
 use Rattle.im_check_string_numbers.proofs.Counted.{in_member, in_declarator, in_parameter, in_type_name}

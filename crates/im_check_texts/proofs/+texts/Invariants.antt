@@ -1,5 +1,5 @@
 use Rattle.std.proofs.Common.{◌≡◌, ◌++◌, drop}
-use Rattle.im_check_given_strings.specs.im_rules.Strings as s
+use Rattle.im_check_texts.specs.im_rules.Strings as s
 use Rattle.im_ctree_parts.specs.Lists.{expressions_from, list_from, members_from, declarators_from, enumerators_from, suffixes_from, parameters_from}
 use Rattle.im_check_texts.specs.Texts.{texts_in}
 use Rattle.im_check_texts.proofs.+texts.Given as goal

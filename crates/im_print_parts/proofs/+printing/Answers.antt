@@ -7,9 +7,9 @@ use Rattle.im_ctree.specs.declared.declarator.Declarator.{out-Declarator}
 use Rattle.im_ctree_parts.specs.Lists.{expression_in, list_from, maybe_from, with_suffix, declarators_from}
 use Rattle.im_ctree_parts.proofs.Shapes.{declarator_shape, type_name_shape}
 use Rattle.im_print_relation.specs.Printed as printed
-use Rattle.im_print_words.specs.Output.{known}
+use Rattle.im_print_parts.specs.Output.{known}
 use Rattle.im_print_parts.specs.Parts as parts
-use Rattle.im_print_words.proofs.Writing.{writes_append, writes_first, writes_same, writes_behind, each_step, row_step}
+use Rattle.im_print_parts.proofs.Writing.{writes_append, writes_first, writes_same, writes_behind, each_step, row_step}
 use Rattle.im_print_parts.proofs.Rows.{writes_items, parenthesized, separated_step, arguments_separated, parameters_separated, enumerators_separated, struct_words, enum_words, call_words, array_words, function_words, declarators_first, suffixes_each, stars_each}
 use Rattle.im_print_parts.proofs.+printing.Goals as goal
 

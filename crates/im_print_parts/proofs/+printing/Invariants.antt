@@ -1,5 +1,5 @@
 use Rattle.std.proofs.Common.{◌≡◌, ◌++◌, drop, false}
-use Rattle.im_print_words.specs.Output.{spaced, each, known}
+use Rattle.im_print_parts.specs.Output.{spaced, each, known}
 use Rattle.im_print_parts.specs.Parts as parts
 use Rattle.im_print_relation.specs.Printed as printed
 use Rattle.im_ctree_parts.specs.Lists.{list_from}

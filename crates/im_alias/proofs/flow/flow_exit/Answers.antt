@@ -1,7 +1,7 @@
 use Rattle.std.proofs.Common.{◌≡◌, ℕ, Option, Some, length, ap, ◌∙◌, ◌<◌}
 use Rattle.std.proofs.lemmas.Result.{IfOk-weaker}
 use Rattle.im_block.specs.declared.code.Exit.TheVariants.{Return}
-use Rattle.im_alias_laws.specs.PointsAt.{ExitFits}
+use Rattle.im_alias.specs.PointsAt.{ExitFits}
 use Rattle.im_alias.specs.declared.table.Owner.TheVariants.{Returned}
 use Rattle.im_alias.specs.Sets.{Flowed, Grows, row_sets}
 use Rattle.im_alias.proofs.Endings.{exit_returns, returned_within}

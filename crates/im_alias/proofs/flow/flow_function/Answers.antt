@@ -1,7 +1,7 @@
 use Rattle.std.proofs.Common.{◌≡◌, ◌+◌, ◌<◌, length, take, Some, sym, ap, subst, arith}
 use Rattle.std.specs.Prelude.{slice_get}
 use Rattle.im_block.specs.Wellformed.{accesses_of_blocks}
-use Rattle.im_alias_laws.specs.PointsAt.{PointsAt, Fit}
+use Rattle.im_alias.specs.PointsAt.{PointsAt, Fit}
 use Rattle.im_alias.specs.Scan.{FlowedBlocks}
 use Rattle.im_alias.proofs.Lists.{got}
 use Rattle.im_alias.proofs.Turns.{blocks_end}

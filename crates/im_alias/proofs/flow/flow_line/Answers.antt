@@ -3,7 +3,7 @@ use Rattle.std.specs.Prelude.{slice_get}
 use Rattle.std.proofs.lemmas.Option.{slice_get_read}
 use Rattle.std.proofs.lemmas.Result.{IfOk-weaker}
 use Rattle.im_block_laws.specs.PointsTo.{Sub}
-use Rattle.im_alias_laws.specs.PointsAt.{CallFits}
+use Rattle.im_alias.specs.PointsAt.{CallFits}
 use Rattle.im_alias.specs.Sets.{Flowed, row_sets, width}
 use Rattle.im_alias.specs.Scan.{CanTake, TakesAll}
 use Rattle.im_alias.proofs.Arms.{line_nothing, callee_in, call_flows}

@@ -3,7 +3,7 @@ use Rattle.std.proofs.lemmas.Result.{IfOk-weaker}
 use Rattle.im_block.specs.Sections.{Has}
 use Rattle.im_block.specs.Wellformed.{PlaceWithin}
 use Rattle.im_block_laws.specs.PointsTo.{Sub, PlaceHas}
-use Rattle.im_alias_laws.specs.PointsAt.{sets_at}
+use Rattle.im_alias.specs.PointsAt.{sets_at}
 use Rattle.im_alias.specs.declared.table.Owner.TheVariants.{Object}
 use Rattle.im_alias.specs.Sets.{Flowed, Grows, row_sets}
 use Rattle.im_alias.proofs.Arms.{write_into}

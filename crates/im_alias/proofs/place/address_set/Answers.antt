@@ -1,7 +1,7 @@
 use Rattle.std.proofs.Common.{◌≡◌, ◌∷◌, [], length, sym, ◌∙◌, subst}
 use Rattle.std.proofs.lemmas.Result.{IfOk-weaker}
 use Rattle.im_block.specs.Wellformed.{PlaceWithin}
-use Rattle.im_alias_laws.specs.PointsAt.{addressed}
+use Rattle.im_alias.specs.PointsAt.{addressed}
 use Rattle.im_alias.specs.Sets.{row_sets}
 use Rattle.im_alias.specs.Scan.{Alike}
 use Rattle.im_alias.proofs.Giving.{addressed_directly}

@@ -1,5 +1,5 @@
 use Rattle.std.proofs.Common.{take}
-use Rattle.im_alias_laws.specs.PointsAt.{union}
+use Rattle.im_alias.specs.PointsAt.{union}
 use Rattle.im_alias.specs.Scan.{Alike}
 use Rattle.im_alias.specs.Sets.{points}
 use Rattle.im_alias.proofs.place.loaded_from.Given as goal

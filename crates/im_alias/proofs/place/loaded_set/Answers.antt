@@ -1,7 +1,7 @@
 use Rattle.std.proofs.Common.{◌≡◌, IfOk, length, sym, ◌∙◌, subst}
 use Rattle.std.proofs.lemmas.Result.{IfOk-weaker}
 use Rattle.im_block.specs.Wellformed.{PlaceWithin}
-use Rattle.im_alias_laws.specs.PointsAt.{loaded, union}
+use Rattle.im_alias.specs.PointsAt.{loaded, union}
 use Rattle.im_alias.specs.Sets.{points, row_sets}
 use Rattle.im_alias.specs.Scan.{Alike}
 use Rattle.im_alias.proofs.Giving.{loaded_directly, reached_directly}

@@ -1,5 +1,5 @@
 use Rattle.std.proofs.Common.{length}
-use Rattle.im_alias_laws.specs.Least.{IsLeastAt}
+use Rattle.im_alias.specs.Least.{IsLeastAt}
 use Rattle.im_alias.specs.Sets.{IsPart, points, room}
 use Rattle.im_alias.proofs.tags.settle.Given as goal
 

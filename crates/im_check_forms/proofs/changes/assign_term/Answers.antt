@@ -1,8 +1,8 @@
 use Rattle.std.proofs.Common.{refl, sym, ap, inl, inr, ◌∙◌}
 use Rattle.im_ctype.specs.Table.{structs_of}
 use Rattle.im_check_operands.specs.Shape.{term_in}
-use Rattle.im_check_assignments.specs.im_rules.Conversions as cv
-use Rattle.im_check_assignments.specs.im_rules.Terms as r
+use Rattle.im_check_operations.specs.im_rules.Conversions as cv
+use Rattle.im_check_operations.specs.im_rules.Terms as r
 use Rattle.im_check_forms.proofs.Made.{rule_asked}
 use Rattle.im_check_forms.proofs.changes.assign_term.Goals as goal
 

@@ -1,5 +1,5 @@
 use Rattle.std.proofs.Common.{refl, sym, ap, inl, ◌∙◌}
-use Rattle.im_check_assignments.specs.im_rules.Terms as r
+use Rattle.im_check_operations.specs.im_rules.Terms as r
 use Rattle.im_check_forms.proofs.terms.address_term.Goals as goal
 
 pub returns-then-not-is_lvalue : goal.returns-then-not-is_lvalue

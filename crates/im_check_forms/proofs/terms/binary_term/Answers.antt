@@ -1,7 +1,7 @@
 use Rattle.std.proofs.Common.{refl, sym, ap, inl, ◌∙◌}
 use Rattle.im_ctype.specs.Table.{structs_of}
-use Rattle.im_check_assignments.specs.im_rules.Conversions as cv
-use Rattle.im_check_assignments.specs.im_rules.Terms as r
+use Rattle.im_check_operations.specs.im_rules.Conversions as cv
+use Rattle.im_check_operations.specs.im_rules.Terms as r
 use Rattle.im_check_forms.proofs.Made.{of_two}
 use Rattle.im_check_forms.proofs.terms.binary_term.Goals as goal
 

@@ -1,7 +1,7 @@
 use Rattle.std.proofs.Common.{refl, sym, ap, inl, ◌∙◌}
 use Rattle.im_types.specs.Shape.{type_of}
-use Rattle.im_check_assignments.specs.im_rules.Conversions as cv
-use Rattle.im_check_assignments.specs.im_rules.Terms as r
+use Rattle.im_check_operations.specs.im_rules.Conversions as cv
+use Rattle.im_check_operations.specs.im_rules.Terms as r
 use Rattle.im_check_forms.proofs.terms.cast_term.Goals as goal
 
 pub returns-then-not-casts : goal.returns-then-not-casts

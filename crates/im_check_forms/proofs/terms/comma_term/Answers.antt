@@ -1,6 +1,6 @@
 use Rattle.std.proofs.Common.{ap, ◌∙◌}
-use Rattle.im_check_assignments.specs.im_rules.Conversions as cv
-use Rattle.im_check_assignments.specs.im_rules.Terms as r
+use Rattle.im_check_operations.specs.im_rules.Conversions as cv
+use Rattle.im_check_operations.specs.im_rules.Terms as r
 use Rattle.im_check_forms.proofs.Made.{of_two}
 use Rattle.im_check_forms.proofs.terms.comma_term.Goals as goal
 

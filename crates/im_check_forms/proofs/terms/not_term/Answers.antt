@@ -1,7 +1,7 @@
 use Rattle.std.proofs.Common.{refl, sym, ap, inl, ◌∙◌}
-use Rattle.im_check_assignments.specs.im_typed.Program.{Not}
-use Rattle.im_check_assignments.specs.im_rules.Conversions as cv
-use Rattle.im_check_assignments.specs.im_rules.Terms as r
+use Rattle.im_check_operations.specs.im_typed.Program.{Not}
+use Rattle.im_check_operations.specs.im_rules.Conversions as cv
+use Rattle.im_check_operations.specs.im_rules.Terms as r
 use Rattle.im_check_forms.proofs.terms.not_term.Goals as goal
 
 pub returns-then-not-is_scalar_term : goal.returns-then-not-is_scalar_term

@@ -1,6 +1,6 @@
 use Rattle.std.proofs.Common.{refl, sym, ap, inl, ◌∙◌}
-use Rattle.im_check_assignments.specs.im_rules.Conversions as cv
-use Rattle.im_check_assignments.specs.im_rules.Terms as r
+use Rattle.im_check_operations.specs.im_rules.Conversions as cv
+use Rattle.im_check_operations.specs.im_rules.Terms as r
 use Rattle.im_check_forms.proofs.terms.operated_term.Goals as goal
 
 pub returns-then-not-is_integer_term : goal.returns-then-not-is_integer_term

@@ -1,5 +1,5 @@
 use Rattle.std.proofs.Common.{refl, sym, ap, inl, ◌∙◌}
-use Rattle.im_check_assignments.specs.im_rules.Conversions as cv
+use Rattle.im_check_operations.specs.im_rules.Conversions as cv
 use Rattle.im_check_forms.proofs.terms.target_term.Goals as goal
 
 pub returns-then-not-is_pointer_to_complete : goal.returns-then-not-is_pointer_to_complete

@@ -9,7 +9,7 @@ use Rattle.im_check_expressions.specs.im_rules.Rules.{initializer_count}
 use Rattle.im_check_shapes.proofs.Alone.{count}
 use Rattle.im_check_shapes.proofs.Falls.{size_of, sizes_of}
 use Rattle.im_check_shapes.specs.Shape.{shape_in}
-use Rattle.im_check_given_strings.proofs.Places.{fits_in}
+use Rattle.im_check_texts.proofs.Places.{fits_in}
 use Rattle.im_check_expression_parts.proofs.Arguments.{next, last}
 use Rattle.im_check_initialisers.specs.Forms.{listed}
 use Rattle.im_check_initialisers.proofs.Forms.{listed_below, few_of}

@@ -1,7 +1,7 @@
 use Rattle.std.proofs.Common.{◌≡◌, IfOk, sym, subst}
 use Rattle.im_ctype.specs.Types.{CType}
-use Rattle.im_check_pointers.specs.im_rules.Conversions.{casted}
-use Rattle.im_check_pointers.specs.im_rules.Terms.{Value}
+use Rattle.im_check_operations.specs.im_rules.Conversions.{casted}
+use Rattle.im_check_operations.specs.im_rules.Terms.{Value}
 use Rattle.im_types.specs.Shape.{type_of}
 use Rattle.im_check_operands.specs.Shape.{value_in}
 use Rattle.im_check_operations.proofs.NoIntegers.{casted-else}

@@ -1,17 +1,17 @@
 use Rattle.std.proofs.Common.{◌≡◌, ◌+◌, ◌++◌, false, List, OnOk, ap, sym, subst, ◌∙◌, arith}
-use Rattle.im_check_given_strings.specs.im_word.Words.{Name}
+use Rattle.im_check_texts.specs.im_word.Words.{Name}
 use Rattle.im_ctree.specs.Tree as tree
 use Rattle.im_ctree.specs.declared.declaration.Initializer as ini
 use Rattle.im_ctree.specs.Shape.{initializer_of}
 use Rattle.im_ctype.specs.Table.{structs_of}
 use Rattle.im_ctype.specs.Types.{members_of}
-use Rattle.im_check_given_strings.specs.im_rules.Initialisers.{in_order, strings_given, strings_among}
-use Rattle.im_check_given_strings.specs.im_rules.Rules.{is_string_for}
+use Rattle.im_check_texts.specs.im_rules.Initialisers.{in_order, strings_given, strings_among}
+use Rattle.im_check_texts.specs.im_rules.Rules.{is_string_for}
 use Rattle.im_ctree_parts.specs.Lists.{expression_in, initializers_from}
 use Rattle.im_ctree_parts.proofs.Shapes.{list_tree}
 use Rattle.im_types.specs.Shape.{type_of}
 use Rattle.im_check_shapes.proofs.Falls.{size_of, sizes_of}
-use Rattle.im_check_given_strings.proofs.Places.{of_string, of_value, of_list, fits_in}
+use Rattle.im_check_texts.proofs.Places.{of_string, of_value, of_list, fits_in}
 use Rattle.im_check_texts.specs.Texts.{texts_in}
 use Rattle.im_check_texts.proofs.Appended.{none_more, member_more}
 use Rattle.im_check_texts.proofs.given.+given.Goals as goal

@@ -2,7 +2,7 @@ use Rattle.std.proofs.Common.{◌≡◌, ◌+◌, ◌*◌, ◌++◌, drop}
 use Rattle.im_ctree.specs.Shape.{initializer_of}
 use Rattle.im_ctype.specs.Table.{structs_of}
 use Rattle.im_ctype.specs.Types.{members_of}
-use Rattle.im_check_given_strings.specs.im_rules.Initialisers.{side_by_side, in_order, strings_among}
+use Rattle.im_check_texts.specs.im_rules.Initialisers.{side_by_side, in_order, strings_among}
 use Rattle.im_ctree_parts.specs.Lists.{initializers_from}
 use Rattle.im_types.specs.Shape.{type_of}
 use Rattle.im_check_shapes.proofs.Falls.{size_of, sizes_of}

@@ -5,7 +5,7 @@ use Rattle.im_eval_store.specs.Shown.{shown}
 use Rattle.im_eval_machine.specs.Settings.{setting_of}
 use Rattle.im_eval_tasks.specs.Stack.{Placed, in_activation}
 use Rattle.im_eval_tasks.specs.Tasks.{place_in}
-use Rattle.im_eval_looks.specs.Seen.{Sees}
+use Rattle.im_eval_steps.specs.Seen.{Sees}
 use Rattle.im_eval_steps.specs.Going.{follows, types_of}
 use Rattle.im_eval.proofs.at_once.place_ahead.Goals as goal
 

@@ -1,6 +1,6 @@
 use Rattle.std.proofs.Common.{rules, arith, ◌≡◌, ◌≤◌, ◌<◌, ◌+◌, ℕ, List, length, sym, subst, ◌∙◌}
-use Rattle.im_gap_walk.specs.Walks.{IsGreatest}
-use Rattle.im_gap_walk.specs.Graph.{successors_of, weight_of}
+use Rattle.im_gap.specs.Walks.{IsGreatest}
+use Rattle.im_gap.specs.Graph.{successors_of, weight_of}
 use Rattle.im_gap.specs.Gap.{recovery_steps, IsGap, HasGap}
 use Rattle.im_gap.proofs.Assembling.{is_graph}
 use Rattle.im_gap.proofs.Starts.{starts_inside, none, gap_of, no_gap}

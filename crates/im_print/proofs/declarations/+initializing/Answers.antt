@@ -1,9 +1,9 @@
 use Rattle.std.proofs.Common.{rules, ap, sym, ◌∙◌}
 use Rattle.im_ctree.specs.Shape.{initializer_of}
 use Rattle.im_print_relation.specs.Printed as printed
-use Rattle.im_print_words.specs.Output.{known}
+use Rattle.im_print_parts.specs.Output.{known}
 use Rattle.im_print_parts.specs.Parts as parts
-use Rattle.im_print_words.proofs.Writing.{writes_append, writes_first, writes_same}
+use Rattle.im_print_parts.proofs.Writing.{writes_append, writes_first, writes_same}
 use Rattle.im_print_parts.proofs.Rows.{list_words, separated_step, initializers_separated}
 use Rattle.im_print.proofs.declarations.+initializing.Goals as goal
 

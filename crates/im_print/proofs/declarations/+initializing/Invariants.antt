@@ -1,5 +1,5 @@
 use Rattle.std.proofs.Common.{◌≡◌, ◌++◌, drop, false}
-use Rattle.im_print_words.specs.Output.{spaced, known}
+use Rattle.im_print_parts.specs.Output.{spaced, known}
 use Rattle.im_print_parts.specs.Parts as parts
 use Rattle.im_print.proofs.declarations.+initializing.Given as goal
 

@@ -1,8 +1,8 @@
 use Rattle.std.proofs.Common.{◌∙◌, ap, sym}
 use Rattle.im_ctree.specs.Shape.{init_declarators_of}
 use Rattle.im_print_relation.specs.Printed as printed
-use Rattle.im_print_words.specs.Output.{known}
-use Rattle.im_print_words.proofs.Writing.{writes_append, writes_same}
+use Rattle.im_print_parts.specs.Output.{known}
+use Rattle.im_print_parts.proofs.Writing.{writes_append, writes_same}
 use Rattle.im_print_parts.proofs.Rows.{split_first, init_declarators_first}
 use Rattle.im_print.proofs.declarations.put_declarators.Goals as goal
 

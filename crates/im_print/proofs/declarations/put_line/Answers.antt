@@ -1,5 +1,5 @@
-use Rattle.im_print_words.specs.Output.{known}
-use Rattle.im_print_words.proofs.Writing.{writes_append, writes_same}
+use Rattle.im_print_parts.specs.Output.{known}
+use Rattle.im_print_parts.proofs.Writing.{writes_append, writes_same}
 use Rattle.im_print_parts.proofs.Rows.{declaration_words}
 use Rattle.im_print.proofs.declarations.put_line.Goals as goal
 

@@ -1,8 +1,8 @@
 use Rattle.std.proofs.Common.{ap, sym}
 use Rattle.im_ctree.specs.Shape.{maybe_initializer_of}
 use Rattle.im_print_relation.specs.Printed as printed
-use Rattle.im_print_words.specs.Output.{known}
-use Rattle.im_print_words.proofs.Writing.{writes_first, writes_same}
+use Rattle.im_print_parts.specs.Output.{known}
+use Rattle.im_print_parts.proofs.Writing.{writes_first, writes_same}
 use Rattle.im_print.proofs.declarations.put_maybe_initializer.Goals as goal
 
 pub returns-in_ok-put_initializer-in-Some : goal.returns-in_ok-put_initializer-in-Some

@@ -1,7 +1,7 @@
 use Rattle.std.proofs.Common.{◌∙◌}
-use Rattle.im_print_words.specs.Output.{known}
+use Rattle.im_print_parts.specs.Output.{known}
 use Rattle.im_print_parts.specs.Parts as parts
-use Rattle.im_print_words.proofs.Writing.{writes_append, writes_first, each_step}
+use Rattle.im_print_parts.proofs.Writing.{writes_append, writes_first, each_step}
 use Rattle.im_print.proofs.declarations.put_next_declarators.Goals as goal
 
 pub loop-one-preserved : goal.loop-one-preserved

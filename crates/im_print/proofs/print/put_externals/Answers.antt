@@ -1,5 +1,5 @@
 use Rattle.std.proofs.Common.{◌∙◌}
-use Rattle.im_print_words.specs.Output.{known}
+use Rattle.im_print_parts.specs.Output.{known}
 use Rattle.im_print.proofs.Steps.{externals_step}
 use Rattle.im_print.proofs.print.put_externals.Goals as goal
 

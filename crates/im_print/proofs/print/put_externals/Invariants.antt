@@ -2,7 +2,7 @@ use Rattle.std.proofs.Common.{◌≡◌, ◌++◌, drop}
 use Rattle.im_ctree.specs.Shape.{externals_of}
 use Rattle.im_ctree.specs.Units.{predeclared_names}
 use Rattle.im_print_relation.specs.Printed as printed
-use Rattle.im_print_words.specs.Output.{spaced, known}
+use Rattle.im_print_parts.specs.Output.{spaced, known}
 use Rattle.im_print.proofs.print.put_externals.Given as goal
 
 abbrev pub invariant-loop-external : goal.invariant-loop-external

@@ -1,4 +1,4 @@
-use Rattle.im_print_words.proofs.Writing.{writes_append}
+use Rattle.im_print_parts.proofs.Writing.{writes_append}
 use Rattle.im_print.proofs.print.put_signature.Goals as goal
 
 pub returns : goal.returns

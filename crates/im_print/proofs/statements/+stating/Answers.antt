@@ -4,9 +4,9 @@ use Rattle.im_ctree.specs.Typedefs.{names_behind}
 use Rattle.im_ctree_parts.specs.Lists.{statement_in}
 use Rattle.im_ctree_parts.proofs.Shapes.{block_tree, switch_tree}
 use Rattle.im_print_relation.specs.Printed as printed
-use Rattle.im_print_words.specs.Output.{known}
+use Rattle.im_print_parts.specs.Output.{known}
 use Rattle.im_print_parts.specs.Parts as parts
-use Rattle.im_print_words.proofs.Writing.{writes_append, writes_first, writes_same, writes_behind, writes_headed}
+use Rattle.im_print_parts.proofs.Writing.{writes_append, writes_first, writes_same, writes_behind, writes_headed}
 use Rattle.im_print.proofs.Steps.{items_step, items_known_step, if_tree}
 use Rattle.im_print.proofs.statements.+stating.Goals as goal
 

@@ -1,4 +1,4 @@
-use Rattle.im_print_words.proofs.Writing.{writes_append, writes_first}
+use Rattle.im_print_parts.proofs.Writing.{writes_append, writes_first}
 use Rattle.im_print.proofs.statements.put_head.Goals as goal
 
 pub returns : goal.returns

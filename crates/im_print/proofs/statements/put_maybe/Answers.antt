@@ -1,8 +1,8 @@
 use Rattle.std.proofs.Common.{rules, ap}
 use Rattle.im_ctree.specs.Shape.{optional_expression_of}
 use Rattle.im_print_relation.specs.Printed as printed
-use Rattle.im_print_words.specs.Output.{known}
-use Rattle.im_print_words.proofs.Writing.{writes_none}
+use Rattle.im_print_parts.specs.Output.{known}
+use Rattle.im_print_parts.proofs.Writing.{writes_none}
 use Rattle.im_print.proofs.statements.put_maybe.Goals as goal
 
 pub returns-in-None : goal.returns-in-None

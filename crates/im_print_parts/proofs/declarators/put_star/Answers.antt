@@ -1,7 +1,7 @@
 use Rattle.std.proofs.Common.{◌-◌, ◌++◌, ap, ◌∙◌}
 use Rattle.im_print_relation.specs.Printed.{consts}
-use Rattle.im_print_words.specs.Output.{spaced}
-use Rattle.im_print_words.proofs.Writing.{written}
+use Rattle.im_print_parts.specs.Output.{spaced}
+use Rattle.im_print_parts.proofs.Writing.{written}
 use Rattle.im_print_parts.proofs.Rows.{consts_more}
 use Rattle.im_print_parts.proofs.declarators.put_star.Goals as goal
 

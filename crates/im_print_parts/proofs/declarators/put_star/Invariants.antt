@@ -1,6 +1,6 @@
 use Rattle.std.proofs.Common.{◌≡◌, ◌++◌}
 use Rattle.im_print_relation.specs.Printed.{consts}
-use Rattle.im_print_words.specs.Output.{spaced}
+use Rattle.im_print_parts.specs.Output.{spaced}
 use Rattle.im_print_parts.proofs.declarators.put_star.Given as goal
 
 abbrev pub invariant-loop-left : goal.invariant-loop-left

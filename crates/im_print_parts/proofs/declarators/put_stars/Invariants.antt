@@ -1,5 +1,5 @@
 use Rattle.std.proofs.Common.{◌≡◌, ◌++◌, drop}
-use Rattle.im_print_words.specs.Output.{spaced, each}
+use Rattle.im_print_parts.specs.Output.{spaced, each}
 use Rattle.im_print_parts.specs.Parts as parts
 use Rattle.im_print_parts.proofs.declarators.put_stars.Given as goal
 

@@ -1,4 +1,4 @@
-use Rattle.im_print_words.proofs.Writing.{writes_first}
+use Rattle.im_print_parts.proofs.Writing.{writes_first}
 use Rattle.im_print_parts.proofs.specifiers.put_named.Goals as goal
 
 pub returns : goal.returns

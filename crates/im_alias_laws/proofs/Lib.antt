@@ -1,4 +1,0 @@
-pub mod Leasts
-pub mod PointsAts
-pub mod Finers
-pub mod LeastTags

@@ -1,3 +1,0 @@
-pub mod PointsAt
-pub mod Least
-pub mod Laws

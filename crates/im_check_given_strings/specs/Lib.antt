@@ -1,2 +1,0 @@
-pub use Rattle.im_check_shapes.specs.im_word
-pub use Rattle.im_check_shapes.specs.im_rules

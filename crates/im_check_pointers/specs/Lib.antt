@@ -1,1 +1,0 @@
-pub use Rattle.im_check_conversions.specs.im_rules

@@ -1,0 +1,45 @@
+-- The bytes of one function.
+use Rattle.std.proofs.Common.{◌≡◌, ◌≤◌, ℕ, ◌+◌, ◌*◌, Some, ap, subst, arith}
+use Rattle.std.specs.Prelude.{slice_get}
+use Rattle.im_typed.specs.Program.{Prog, Func}
+use Rattle.im_typed.specs.Counts.{func_nodes}
+use Rattle.im_block.specs.declared.unit.Function.{Function}
+use Rattle.im_block.specs.declared.unit.Unit.{Unit as Code}
+use Rattle.im_block.specs.Shape.{placed_cost}
+use Rattle.im_block_laws.specs.Laws.{CutsKeepCodeLaw}
+use Rattle.im_alloc_placed.specs.Apart.{AllApart}
+use Rattle.im_registers.specs.Laws.{RegistersLaw}
+use Rattle.im_force.specs.Laws.{ForceKeepsLaw}
+use Rattle.im_alloc_laws.specs.Laws.{PlacedCodeLaw}
+use Rattle.im_recut.specs.Laws.{RecutKeepsLaw}
+use Rattle.im_compile_bound.specs.FunctionBound.{IsMadeOf, FunctionBoundLaw}
+use Rattle.im_compile_bound.proofs.Rows.{same_at, placed_at, placed_cost_at}
+
+module _ (registers : RegistersLaw) (force : ForceKeepsLaw) (cuts : CutsKeepCodeLaw) (placing : PlacedCodeLaw) (recut : RecutKeepsLaw) (g : Prog) (code : Code) (m : IsMadeOf g code) where
+  apart : AllApart code
+  apart =
+      recut.apart m.tags m.max_gap m.placed code m.recut
+      (placing.apart m.forced m.placed m.place (force.apart m.forwarded m.forced m.force (registers.uncut m.lowered m.forwarded m.registers m.uncut)))
+
+  cost_at : (k : ℕ) (f : Func) (c : Function) → slice_get g.funcs k ≡ Some f → slice_get code.functions.items k ≡ Some c → placed_cost c ≤ 64 * (func_nodes f + 1)
+  cost_at k f c e there =
+      let r = same_at m.placed.functions.items code.functions.items (recut.same m.tags m.max_gap m.placed code m.recut).functions k c there in
+      let p = placed_at m.forced.functions.items m.placed.functions.items m.place.functions k r.old r.there in
+      let s = same_at m.forwarded.functions.items m.forced.functions.items (force.same m.forwarded m.forced m.force).functions k p.old p.there in
+      let q = registers.each m.lowered m.forwarded m.registers k s.old s.there in
+      let size = (m.sized.functions k f q.f e q.there).small in
+      let less = q.cost in
+      let first = (cuts.costs s.old p.old s.same).cost in
+      let second = placed_cost_at placing m.forced p.old r.old p.placed in
+      let third = (cuts.costs r.old c r.same).placed in
+      omega (arith, size, less, first, second, third)
+
+pub bounded : RegistersLaw → ForceKeepsLaw → CutsKeepCodeLaw → PlacedCodeLaw → RecutKeepsLaw → FunctionBoundLaw
+bounded registers force cuts placing recut g code m k f c e there given lines is selection =
+    let few =
+    selection.words (λ b block at.
+    (apart registers force cuts placing recut g code m).each k c b block there
+    (subst (λ (z : Function). slice_get z.blocks.items b ≡ Some block) is at)) in
+    let same : placed_cost given.function ≡ placed_cost c = ap placed_cost is in
+    let cost = cost_at registers force cuts placing recut g code m k f c e there in
+    omega (arith, few, same, cost)

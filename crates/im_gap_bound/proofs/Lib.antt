@@ -1,2 +1,0 @@
-pub mod Pigeonhole
-pub mod Bounded

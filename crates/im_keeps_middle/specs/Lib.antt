@@ -1,2 +1,0 @@
-pub mod Middle
-pub mod Laws

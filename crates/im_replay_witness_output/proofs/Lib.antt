@@ -1,4 +1,0 @@
-pub mod Byte
-pub mod Loaded
-pub mod Shows
-pub mod Writer

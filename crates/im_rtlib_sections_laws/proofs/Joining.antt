@@ -1,6 +1,0 @@
--- Pieces in order join.
-use Rattle.im_rv_reach.proofs.Orderly.{joined}
-use Rattle.im_rtlib_sections_laws.specs.Laws.{JoinsLaw}
-
-pub joins_law : JoinsLaw
-joins_law ts us a b = joined ts us a b

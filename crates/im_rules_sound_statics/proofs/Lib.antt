@@ -1,4 +1,0 @@
-pub mod Functions
-pub mod Objects
-pub mod Cells
-pub mod Names

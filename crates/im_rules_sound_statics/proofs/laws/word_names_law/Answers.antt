@@ -1,5 +1,0 @@
-use Rattle.im_rules_sound_statics.proofs.Names.{word-named}
-use Rattle.im_rules_sound_statics.proofs.laws.word_names_law.Goals as goal
-
-pub returns : goal.returns
-returns c = λ k bytes w p h short. word-named k bytes w p h short

@@ -1,2 +1,0 @@
-pub mod Namable
-pub mod Laws

@@ -1,8 +1,0 @@
-pub mod Accesses
-pub mod Effects
-pub mod Fetches
-pub mod Flips
-pub mod Going
-pub mod Returning
-pub mod Sectioned
-pub mod Wars

@@ -1,5 +1,0 @@
-use Rattle.im_select_survives.proofs.Sectioned.{survives}
-use Rattle.im_select_survives.proofs.laws.survives_law.Goals as goal
-
-pub returns : goal.returns
-returns c = survives c.touched_law.ensures c.sections_law.ensures
