@@ -1,6 +1,7 @@
 ghost use Rattle.std.specs.Prelude.{◌≡◌, ◌≤◌, [], length, IfOk};
 ghost use Rattle.im_frame.specs.Layout.{bytes_of};
 
+use crate::branching::{Test, branch_by};
 use crate::lines::push_lines;
 use crate::names::Names;
 use im_block::{Function, Line, Object, Place, Registers};
@@ -234,6 +235,39 @@ fn short_lines_are_those_of_the_manual(rt: HostRuntime) -> Result<(), Fail> {
     assert_eq!(rt; lines.len(), SHORT_WORDS.len());
     for (line, word) in lines.iter().zip(&SHORT_WORDS) {
         assert_eq!(rt; encode(line.instr), *word);
+    }
+    Ok(())
+}
+
+// By llvm-mc: each test where it holds, and where it doesn't, over one line.
+const BRANCH_WORDS: [u32; 14] = [
+    0x00051463, 0x00050463, 0x00b54463, 0x00b55463, 0x00a5e463, 0x00a5f463, 0x00a5d463, 0x00a5c463,
+    0x00b57463, 0x00b56463, 0x00b50463, 0x00b51463, 0x00b51463, 0x00b50463,
+];
+
+fn compares(op: Comparison, kind: Kind) -> Test {
+    Test::Compares {
+        op,
+        kind,
+        left: 10,
+        right: 11,
+    }
+}
+
+#[test]
+fn branches_are_those_of_the_assembler(rt: HostRuntime) -> Result<(), Fail> {
+    let tests = [
+        Test::Nonzero(10),
+        compares(Comparison::Less, Kind::I32),
+        compares(Comparison::Greater, Kind::U32),
+        compares(Comparison::LessOrEqual, Kind::I32),
+        compares(Comparison::GreaterOrEqual, Kind::Ptr),
+        compares(Comparison::Equal, Kind::I32),
+        compares(Comparison::NotEqual, Kind::U32),
+    ];
+    for (number, test) in tests.iter().enumerate() {
+        assert_eq!(rt; encode(branch_by(*test, true, 8)), BRANCH_WORDS[2 * number]);
+        assert_eq!(rt; encode(branch_by(*test, false, 8)), BRANCH_WORDS[2 * number + 1]);
     }
     Ok(())
 }
