@@ -44,7 +44,7 @@ pub data Both (u : Code) : Next → Next → Type 0 where
   Going : (s : State) (registers : ℕ → Value) (events : List Event) → Alike u s registers → Both u (Goes s events) (Goes (shaded s registers) events)
   Ending : (o : Outcome) (events : List Event) → Both u (Stops o events) (Stops o events)
 
-same_function : (i : ℕ) (u : Code) (f h : Function) → slice_get u.functions.items i ≡ Some f → slice_get u.functions.items i ≡ Some h → f ≡ h
+pub same_function : (i : ℕ) (u : Code) (f h : Function) → slice_get u.functions.items i ≡ Some f → slice_get u.functions.items i ≡ Some h → f ≡ h
 same_function i u f h a b = let e = sym a ∙ b in cc
 
 -- of a state in a function that is there
@@ -78,7 +78,7 @@ used_lives live line rest exit r e = by (uses line r) _ _ e
     by true b c e = refl
     by false b c e = absurd cc
 
-behind_lives : (live : ℕ → ℕ → Bool) (line : Line) (rest : List Line) (exit : Exit) (r : ℕ) → writes_of line r ≡ false → lives_before live rest exit r ≡ true → lives_before live (line ∷ rest) exit r ≡ true
+pub behind_lives : (live : ℕ → ℕ → Bool) (line : Line) (rest : List Line) (exit : Exit) (r : ℕ) → writes_of line r ≡ false → lives_before live rest exit r ≡ true → lives_before live (line ∷ rest) exit r ≡ true
 behind_lives live line rest exit r e h = by (reads_of line r) (writes_of line r) (lives_before live rest exit r) e h
   where
     by : (a b c : Bool) → b ≡ false → c ≡ true → (a || (not b && c)) ≡ true
@@ -86,13 +86,13 @@ behind_lives live line rest exit r e h = by (reads_of line r) (writes_of line r)
     by false true c e h = absurd cc
     by false false c e h = h
 
-left_is : (a b : ℕ) → (a == a || a == b) ≡ true
+pub left_is : (a b : ℕ) → (a == a || a == b) ≡ true
 left_is a b = ap (λ t. t || a == b) (same_is a)
 
-right_is : (a b : ℕ) → (b == a || b == b) ≡ true
+pub right_is : (a b : ℕ) → (b == a || b == b) ≡ true
 right_is a b = or_right (b == a) (b == b) (same_is b)
 
-other_is : (r to : ℕ) → r ≢ to → (r == to) ≡ false
+pub other_is : (r to : ℕ) → r ≢ to → (r == to) ≡ false
 other_is r to ne = grind (arith, nat_tests)
 
 -- an operand
@@ -186,7 +186,7 @@ module _ (u : Code) (g : Setting) (s : State) (registers : ℕ → Value) (f : F
     left_at kind v c = then_ (then_ c location_of) (λ at. then_ (stored kind v) (λ taken. left_in at (write_cell s.store at.object at.offset kind taken)))
 
     -- one line
-    line_both : (line : Line) (rest : List Line) → Before (line ∷ rest) → Both u (does u g line rest s) (does u g line rest (shaded s registers))
+    pub line_both : (line : Line) (rest : List Line) → Before (line ∷ rest) → Both u (does u g line rest s) (does u g line rest (shaded s registers))
     line_both (Put to z) rest h = computes_both (Put to z) rest to _ _ (λ r ne. other_is r to ne) h refl
     line_both (PutNull to) rest h = computes_both (PutNull to) rest to _ _ (λ r ne. other_is r to ne) h refl
     line_both (Copy to from) rest h = computes_both (Copy to from) rest to _ _ (λ r ne. other_is r to ne) h (ap Fine (one (Copy to from) rest from h (same_is from)))
@@ -223,7 +223,7 @@ module _ (u : Code) (g : Setting) (s : State) (registers : ℕ → Value) (f : F
     back_both [] v v' e = checked_both u _ _ _ _ (ap number_of e) (λ z k. Ending _ _)
     back_both (frame ∷ callers) v v' e = subst (λ z. Both u (back u g (frame ∷ callers) v s) (back u g (frame ∷ callers) z (shaded s registers))) (sym e) (Going _ (with_register frame.registers frame.to v) _ (λ h is' r n k. refl))
 
-    exit_both : (exit : Exit) → AlikeAt f.blocks.items [] exit s.frame.registers registers → Both u (leaves u g exit s) (leaves u g exit (shaded s registers))
+    pub exit_both : (exit : Exit) → AlikeAt f.blocks.items [] exit s.frame.registers registers → Both u (leaves u g exit s) (leaves u g exit (shaded s registers))
     exit_both (Jump b) h = to_both b s.fuel (λ r n e. h r (suc n) e)
     exit_both (Turn b) h = takes_both u s.fuel s.output _ _ (λ less. to_both b less (λ r n e. h r (suc n) e))
     exit_both (Branch on a b) h = checked_both u _ _ _ _ (ap (condition s.store) (h on 0 (ap (λ t. t || (reads_first f.blocks.items 0 a on || reads_first f.blocks.items 0 b on)) (same_is on)))) (λ t k. way t)

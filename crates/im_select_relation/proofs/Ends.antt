@@ -218,8 +218,8 @@ over_one image pc l h = let z = h.low in omega arith
 
 -- a test of two registers holds, or fails, by its branches
 pub record Decided (t : Test) (x : ℕ → ℕ) (holds : Bool) : Type 0 where
-  pub taken : (pc imm : ℕ) → row t.holds pc (x t.left) (x t.right) imm ≡ Passes (cond holds (sum_of pc imm) (sum_of pc 4))
-  pub missed : (pc imm : ℕ) → row t.fails pc (x t.left) (x t.right) imm ≡ Passes (cond holds (sum_of pc 4) (sum_of pc imm))
+  pub goes : (pc imm : ℕ) → row t.holds pc (x t.left) (x t.right) imm ≡ Passes (cond holds (sum_of pc imm) (sum_of pc 4))
+  pub stays : (pc imm : ℕ) → row t.fails pc (x t.left) (x t.right) imm ≡ Passes (cond holds (sum_of pc 4) (sum_of pc imm))
 
 turned_way : (b : Bool) (f : ℕ → Effect) (v w : ℕ) → f (cond b v w) ≡ f (cond (not b) w v)
 turned_way true f v w = refl
@@ -228,8 +228,8 @@ turned_way false f v w = refl
 -- a register that is other than 0
 pub nonzero_decided : (x : ℕ → ℕ) (on : ℕ) → x 0 ≡ 0 → Decided (nonzero on) x (not (x on == 0))
 nonzero_decided x on x0 = record {
-  taken = λ pc imm. ap (λ q. Passes (cond (x on == q) (sum_of pc 4) (sum_of pc imm))) x0 ∙ turned_way (x on == 0) Passes (sum_of pc 4) (sum_of pc imm);
-  missed = λ pc imm. ap (λ q. Passes (cond (x on == q) (sum_of pc imm) (sum_of pc 4))) x0 ∙ turned_way (x on == 0) Passes (sum_of pc imm) (sum_of pc 4);
+  goes = λ pc imm. ap (λ q. Passes (cond (x on == q) (sum_of pc 4) (sum_of pc imm))) x0 ∙ turned_way (x on == 0) Passes (sum_of pc 4) (sum_of pc imm);
+  stays = λ pc imm. ap (λ q. Passes (cond (x on == q) (sum_of pc imm) (sum_of pc 4))) x0 ∙ turned_way (x on == 0) Passes (sum_of pc imm) (sum_of pc 4);
 }
 
 below_row : (k : Kind) (pc a b imm : ℕ) → row (by_sign k Blt Bltu) pc a b imm ≡ Passes (cond (word_less k a b) (sum_of pc imm) (sum_of pc 4))
@@ -247,12 +247,12 @@ above_row k pc a b imm = by (is_signed k)
     by false = refl
 
 below_decided : (x : ℕ → ℕ) (k : Kind) (left right : ℕ) → Decided (below k left right) x (word_less k (x left) (x right))
-below_decided x k left right = record { taken = λ pc imm. below_row k pc (x left) (x right) imm; missed = λ pc imm. above_row k pc (x left) (x right) imm }
+below_decided x k left right = record { goes = λ pc imm. below_row k pc (x left) (x right) imm; stays = λ pc imm. above_row k pc (x left) (x right) imm }
 
 not_below_decided : (x : ℕ → ℕ) (k : Kind) (left right : ℕ) → Decided (not_below k left right) x (not (word_less k (x left) (x right)))
 not_below_decided x k left right = record {
-  taken = λ pc imm. above_row k pc (x left) (x right) imm ∙ turned_way (word_less k (x left) (x right)) Passes (sum_of pc 4) (sum_of pc imm);
-  missed = λ pc imm. below_row k pc (x left) (x right) imm ∙ turned_way (word_less k (x left) (x right)) Passes (sum_of pc imm) (sum_of pc 4);
+  goes = λ pc imm. above_row k pc (x left) (x right) imm ∙ turned_way (word_less k (x left) (x right)) Passes (sum_of pc 4) (sum_of pc imm);
+  stays = λ pc imm. below_row k pc (x left) (x right) imm ∙ turned_way (word_less k (x left) (x right)) Passes (sum_of pc imm) (sum_of pc 4);
 }
 
 -- two registers that compare so
@@ -263,21 +263,21 @@ comparing_decided x k left right LessOrEqual a b = not_below_decided x k right l
 comparing_decided x k left right GreaterOrEqual a b = not_below_decided x k left right
 comparing_decided x k left right Equal a b =
     let e = no_difference (x left) (x right) a b in
-    record { taken = λ pc imm. ap (λ q. Passes (cond q (sum_of pc imm) (sum_of pc 4))) (sym e); missed = λ pc imm. ap (λ q. Passes (cond q (sum_of pc 4) (sum_of pc imm))) (sym e) }
+    record { goes = λ pc imm. ap (λ q. Passes (cond q (sum_of pc imm) (sum_of pc 4))) (sym e); stays = λ pc imm. ap (λ q. Passes (cond q (sum_of pc 4) (sum_of pc imm))) (sym e) }
 comparing_decided x k left right NotEqual a b =
     let e = some_difference (x left) (x right) a b in
     record {
-      taken = λ pc imm. turned_way (x left == x right) Passes (sum_of pc 4) (sum_of pc imm) ∙ ap (λ q. Passes (cond q (sum_of pc imm) (sum_of pc 4))) (sym e);
-      missed = λ pc imm. turned_way (x left == x right) Passes (sum_of pc imm) (sum_of pc 4) ∙ ap (λ q. Passes (cond q (sum_of pc 4) (sum_of pc imm))) (sym e);
+      goes = λ pc imm. turned_way (x left == x right) Passes (sum_of pc 4) (sum_of pc imm) ∙ ap (λ q. Passes (cond q (sum_of pc imm) (sum_of pc 4))) (sym e);
+      stays = λ pc imm. turned_way (x left == x right) Passes (sum_of pc imm) (sum_of pc 4) ∙ ap (λ q. Passes (cond q (sum_of pc 4) (sum_of pc imm))) (sym e);
     }
 
 -- a branch by a test
 pub tested : (p : Linking) (m : Mem) (pc : ℕ) (x : ℕ → ℕ) (t : Test) (there other : ℕ) (holds : Bool) → Fixed p.image m → Decided t x holds → Tested p pc t there other → Passed m pc x (cond holds there other)
-tested p m pc x t there other true fixed d (Reached imm lands h k) = taken m pc x there (passes p.image m pc x (branching t.holds t.left t.right imm) there fixed h (d.taken pc imm ∙ ap Passes lands))
-tested p m pc x t there other true fixed d (Missed imm lands h k) = onward p m pc (pc + 4) x there fixed (passes p.image m pc x (branching t.fails t.left t.right imm) (pc + 4) fixed h (d.missed pc imm ∙ ap Passes (next_pc p.image pc (branching t.fails t.left t.right imm) h))) k
-tested p m pc x t there other true fixed d (Hopped h j k) = onward p m pc (pc + 4) x there fixed (passes p.image m pc x (branching t.fails t.left t.right 8) (pc + 4) fixed h (d.missed pc 8 ∙ ap Passes (next_pc p.image pc (branching t.fails t.left t.right 8) h))) (Leaps j)
-tested p m pc x t there other true fixed d (Skipped h j k) = onward p m pc (pc + 8) x there fixed (passes p.image m pc x (branching t.holds t.left t.right 8) (pc + 8) fixed h (d.taken pc 8 ∙ ap Passes (over_one p.image pc (branching t.holds t.left t.right 8) h))) k
-tested p m pc x t there other false fixed d (Reached imm lands h k) = onward p m pc (pc + 4) x other fixed (passes p.image m pc x (branching t.holds t.left t.right imm) (pc + 4) fixed h (d.taken pc imm ∙ ap Passes (next_pc p.image pc (branching t.holds t.left t.right imm) h))) k
-tested p m pc x t there other false fixed d (Missed imm lands h k) = taken m pc x other (passes p.image m pc x (branching t.fails t.left t.right imm) other fixed h (d.missed pc imm ∙ ap Passes lands))
-tested p m pc x t there other false fixed d (Hopped h j k) = onward p m pc (pc + 8) x other fixed (passes p.image m pc x (branching t.fails t.left t.right 8) (pc + 8) fixed h (d.missed pc 8 ∙ ap Passes (over_one p.image pc (branching t.fails t.left t.right 8) h))) k
-tested p m pc x t there other false fixed d (Skipped h j k) = onward p m pc (pc + 4) x other fixed (passes p.image m pc x (branching t.holds t.left t.right 8) (pc + 4) fixed h (d.taken pc 8 ∙ ap Passes (next_pc p.image pc (branching t.holds t.left t.right 8) h))) (Leaps j)
+tested p m pc x t there other true fixed d (Reached imm lands h k) = taken m pc x there (passes p.image m pc x (branching t.holds t.left t.right imm) there fixed h (d.goes pc imm ∙ ap Passes lands))
+tested p m pc x t there other true fixed d (Missed imm lands h k) = onward p m pc (pc + 4) x there fixed (passes p.image m pc x (branching t.fails t.left t.right imm) (pc + 4) fixed h (d.stays pc imm ∙ ap Passes (next_pc p.image pc (branching t.fails t.left t.right imm) h))) k
+tested p m pc x t there other true fixed d (Hopped h j k) = onward p m pc (pc + 4) x there fixed (passes p.image m pc x (branching t.fails t.left t.right 8) (pc + 4) fixed h (d.stays pc 8 ∙ ap Passes (next_pc p.image pc (branching t.fails t.left t.right 8) h))) (Leaps j)
+tested p m pc x t there other true fixed d (Skipped h j k) = onward p m pc (pc + 8) x there fixed (passes p.image m pc x (branching t.holds t.left t.right 8) (pc + 8) fixed h (d.goes pc 8 ∙ ap Passes (over_one p.image pc (branching t.holds t.left t.right 8) h))) k
+tested p m pc x t there other false fixed d (Reached imm lands h k) = onward p m pc (pc + 4) x other fixed (passes p.image m pc x (branching t.holds t.left t.right imm) (pc + 4) fixed h (d.goes pc imm ∙ ap Passes (next_pc p.image pc (branching t.holds t.left t.right imm) h))) k
+tested p m pc x t there other false fixed d (Missed imm lands h k) = taken m pc x other (passes p.image m pc x (branching t.fails t.left t.right imm) other fixed h (d.stays pc imm ∙ ap Passes lands))
+tested p m pc x t there other false fixed d (Hopped h j k) = onward p m pc (pc + 8) x other fixed (passes p.image m pc x (branching t.fails t.left t.right 8) (pc + 8) fixed h (d.stays pc 8 ∙ ap Passes (over_one p.image pc (branching t.fails t.left t.right 8) h))) k
+tested p m pc x t there other false fixed d (Skipped h j k) = onward p m pc (pc + 4) x other fixed (passes p.image m pc x (branching t.holds t.left t.right 8) (pc + 4) fixed h (d.goes pc 8 ∙ ap Passes (next_pc p.image pc (branching t.holds t.left t.right 8) h))) (Leaps j)
