@@ -3,13 +3,13 @@
 
 mod flow;
 mod found;
+mod laws;
 mod made;
 mod place;
 mod set;
 mod spot;
 mod table;
 mod tags;
-mod laws;
 
-pub use tags::alias;
 pub use laws::{finer_law, least_law, least_tags_law, points_at_law};
+pub use tags::alias;

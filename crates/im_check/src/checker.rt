@@ -15,8 +15,7 @@ use im_check_counts::too_many_parameters;
 use im_check_program::{Parts, program};
 use im_ctree::Tree;
 use im_rules_sound_unit::units_law;
-use im_typed::Prog;
-use im_typed::more_structs_law;
+use im_typed::{Prog, more_structs_law};
 use std::alloc::Global;
 
 /// The program of a unit whose external declarations are typed, if it is within the limits; `over`

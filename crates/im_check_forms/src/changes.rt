@@ -8,9 +8,9 @@ ghost use Rattle.im_check_operations.specs.im_rules.Terms as r;
 ghost use Rattle.im_check_operands.specs.Shape.{term_in, value_in};
 ghost use Rattle.im_check_operands.specs.Answers.{IsMade, assigned_rule};
 
-use im_check_operations::{assigned, operator_of, stepped};
 use im_check_conversions::{type_in, value_of};
 use im_check_operands::{Term, Value, fits, is_changeable, is_lvalue, may_step, may_update};
+use im_check_operations::{assigned, operator_of, stepped};
 use im_check_stop::{Stop, refused};
 use im_ctree::{AssignOp, StepOp};
 use im_ctype::TypeTable;

@@ -15,9 +15,9 @@ use im_check_operands::{
     is_pointer_to_complete, is_scalar_term, rule_of,
 };
 use im_check_operations::{
-    casted, chosen, joined, negated, operation, promoted_value, sum, unary_operation,
+    addressed, bytes_of, casted, chosen, joined, negated, operation, pointed, promoted_value, sum,
+    unary_operation,
 };
-use im_check_operations::{addressed, bytes_of, pointed};
 use im_check_stop::{Stop, refused};
 use im_ctree::{BinaryOp, UnaryOp};
 use im_ctype::{Integer, TypeTable};

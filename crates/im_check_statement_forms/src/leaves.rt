@@ -5,7 +5,7 @@ ghost use Rattle.im_ctree.specs.Tree as t;
 ghost use Rattle.im_check_locals.specs.im_rules.Conversions as c;
 ghost use Rattle.im_check_locals.specs.im_rules.Statements as st;
 ghost use Rattle.im_check_locals.specs.im_rules.Terms as r;
-ghost use Rattle.im_check_locals.specs.im_ctree_parts.Lists.{expression_in, statement_in};
+ghost use Rattle.im_check_locals.specs.im_ctree_parts.Lists.{expression_in};
 ghost use Rattle.im_types.specs.Shape.{type_of};
 ghost use Rattle.im_check_statement_forms.specs.Asked.{IsAsked};
 ghost use Rattle.im_check_statement_forms.specs.Done.{IsLeaf};
@@ -16,13 +16,13 @@ use im_check_conversions::{as_type, value_of};
 use im_check_operands::fits;
 use im_check_sites::{Body, Position};
 use im_check_stop::{Stop, refused};
-use im_ctree::{Expression, Statement, StatementKind};
+use im_ctree::Expression;
 use im_typed::{Expr, Stmt};
 use im_types::is_void;
 use std::alloc::Global;
 
 /// An expression statement (C11 6.8.3).
-fn expression_statement(
+pub fn expression_statement(
     alloc: Global,
     at: u32,
     e: &Option<Expression>,
@@ -59,7 +59,8 @@ fn returned(alloc: Global, at: u32, e: &Expression, body: &mut Body) -> Result<E
     Ok(given.tree)
 }
 
-fn return_statement(
+/// A `return`, with what it gives (C11 6.8.6.4).
+pub fn return_statement(
     alloc: Global,
     at: u32,
     e: &Option<Expression>,
@@ -96,7 +97,8 @@ fn may_continue(position: Position) -> bool
     position.in_loop
 }
 
-fn break_statement(at: u32, position: Position, body: &Body) -> Result<Stmt, Stop>
+/// A `break`, in a loop or a switch (C11 6.8.6.3).
+pub fn break_statement(at: u32, position: Position, body: &Body) -> Result<Stmt, Stop>
     ensures { IsLeaf position body.now (t.break_statement at) body.now result }
 {
     if may_break(position) {
@@ -106,7 +108,8 @@ fn break_statement(at: u32, position: Position, body: &Body) -> Result<Stmt, Sto
     }
 }
 
-fn continue_statement(at: u32, position: Position, body: &Body) -> Result<Stmt, Stop>
+/// A `continue`, in a loop (C11 6.8.6.2).
+pub fn continue_statement(at: u32, position: Position, body: &Body) -> Result<Stmt, Stop>
     ensures { IsLeaf position body.now (t.continue_statement at) body.now result }
 {
     if may_continue(position) {
@@ -117,23 +120,8 @@ fn continue_statement(at: u32, position: Position, body: &Body) -> Result<Stmt, 
 }
 
 /// A label that stands in no switch's block.
-fn stray(at: u32) -> Stop
+pub fn stray_label(at: u32) -> Stop
     ensures { result ≡ Stop.Rule 34 at }
 {
     refused(34, at)
-}
-
-/// A statement that has none in it, or a label that stands in no switch's block. All others are answered by want of memory.
-pub fn leaf(alloc: Global, s: &Statement, position: Position, body: &mut Body) -> Result<Stmt, Stop>
-    ensures { IsLeaf position body.old (statement_in s.now) body.new result }
-{
-    match &s.kind {
-        StatementKind::Expression(e) => expression_statement(alloc, s.at, e, position, body),
-        StatementKind::Return(e) => return_statement(alloc, s.at, e, position, body),
-        StatementKind::Break => break_statement(s.at, position, body),
-        StatementKind::Continue => continue_statement(s.at, position, body),
-        StatementKind::Case(_, _) => Err(stray(s.at)),
-        StatementKind::Default(_) => Err(stray(s.at)),
-        _ => Err(Stop::Memory),
-    }
 }

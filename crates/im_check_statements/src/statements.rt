@@ -8,11 +8,13 @@ ghost use Rattle.im_check_sites.specs.Sites.{IsBodyFault};
 ghost use Rattle.im_check_statement_forms.specs.Done.{IsLeaf};
 ghost use Rattle.im_check_statement_forms.specs.Labelling.{no_labels as none, Tells};
 ghost use Rattle.im_check_statements.specs.Checked.{looped_in, switched_in, ItemsDone, ItemDone, IsItemFault, CasesDone, CaseItemDone, IsCaseItemFault, LabelledDone, IsLabelledFault};
+ghost use Rattle.im_check_statements.specs.Forms.{IsBlock, IsIf, IsWhile, IsDoWhile, IsFor, IsSwitch};
 
 use im_check_sites::{Body, Position};
 use im_check_statement_forms::{
-    Labels, block_made, case_label, closed, declaration, default_label, do_made, for_made, head,
-    if_made, leaf, no_labels, opened, selected_by, switch_made, tested, while_made,
+    Labels, block_made, break_statement, case_label, closed, continue_statement, declaration,
+    default_label, do_made, expression_statement, for_made, head, if_made, no_labels, opened,
+    return_statement, selected_by, stray_label, switch_made, tested, while_made,
 };
 use im_check_stop::Stop;
 use im_ctree::{BlockItem, Statement, StatementKind};
@@ -55,7 +57,12 @@ fn statement(
         StatementKind::DoWhile(_, _) => do_statement(alloc, s, position, body),
         StatementKind::For(_, _, _, _) => for_statement(alloc, s, position, body),
         StatementKind::Switch(_, _) => switch_statement(alloc, s, position, body),
-        _ => leaf(alloc, s, position, body),
+        StatementKind::Expression(e) => expression_statement(alloc, s.at, e, position, body),
+        StatementKind::Return(e) => return_statement(alloc, s.at, e, position, body),
+        StatementKind::Break => break_statement(s.at, position, body),
+        StatementKind::Continue => continue_statement(s.at, position, body),
+        StatementKind::Case(_, _) => Err(stray_label(s.at)),
+        StatementKind::Default(_) => Err(stray_label(s.at)),
     }
 }
 
@@ -66,10 +73,11 @@ fn block_statement(
     position: Position,
     body: &mut Body,
 ) -> Result<Stmt, Stop>
+    requires { IsBlock s.now.kind }
     ensures { IsLeaf position body.old (statement_in s.now) body.new result }
 {
     let StatementKind::Block(list) = &s.kind else {
-        return Err(Stop::Memory);
+        unreachable!()
     };
     let mark = opened(body)?;
     let done = items(alloc, &list.items, position, body)?;
@@ -84,10 +92,11 @@ fn if_statement(
     position: Position,
     body: &mut Body,
 ) -> Result<Stmt, Stop>
+    requires { IsIf s.now.kind }
     ensures { IsLeaf position body.old (statement_in s.now) body.new result }
 {
     let StatementKind::If(e, first, second) = &s.kind else {
-        return Err(Stop::Memory);
+        unreachable!()
     };
     let test = tested(alloc, s.at, e, body)?;
     let u = statement(alloc, first, position, body)?;
@@ -107,10 +116,11 @@ fn while_statement(
     position: Position,
     body: &mut Body,
 ) -> Result<Stmt, Stop>
+    requires { IsWhile s.now.kind }
     ensures { IsLeaf position body.old (statement_in s.now) body.new result }
 {
     let StatementKind::While(e, turn) = &s.kind else {
-        return Err(Stop::Memory);
+        unreachable!()
     };
     let test = tested(alloc, s.at, e, body)?;
     let u = statement(alloc, turn, looped(position), body)?;
@@ -124,10 +134,11 @@ fn do_statement(
     position: Position,
     body: &mut Body,
 ) -> Result<Stmt, Stop>
+    requires { IsDoWhile s.now.kind }
     ensures { IsLeaf position body.old (statement_in s.now) body.new result }
 {
     let StatementKind::DoWhile(turn, e) = &s.kind else {
-        return Err(Stop::Memory);
+        unreachable!()
     };
     let u = statement(alloc, turn, looped(position), body)?;
     let test = tested(alloc, s.at, e, body)?;
@@ -141,10 +152,11 @@ fn for_statement(
     position: Position,
     body: &mut Body,
 ) -> Result<Stmt, Stop>
+    requires { IsFor s.now.kind }
     ensures { IsLeaf position body.old (statement_in s.now) body.new result }
 {
     let StatementKind::For(i, c, n, turn) = &s.kind else {
-        return Err(Stop::Memory);
+        unreachable!()
     };
     let mark = body.place.scope.mark();
     let h = head(alloc, s.at, i, c, n, body)?;
@@ -160,10 +172,11 @@ fn switch_statement(
     position: Position,
     body: &mut Body,
 ) -> Result<Stmt, Stop>
+    requires { IsSwitch s.now.kind }
     ensures { IsLeaf position body.old (statement_in s.now) body.new result }
 {
     let StatementKind::Switch(e, list) = &s.kind else {
-        return Err(Stop::Memory);
+        unreachable!()
     };
     let chosen = selected_by(alloc, s.at, e, body)?;
     let mark = opened(body)?;
@@ -309,6 +322,6 @@ fn labelled(
             default_label(s.at, n, labels)?;
             labelled(alloc, inner, ty, n, position, body, labels)
         }
-        _ => Err(Stop::Memory),
+        _ => unreachable!(),
     }
 }

@@ -4,10 +4,10 @@
 mod declarator;
 mod expression;
 mod given;
+mod slots;
 mod specifier;
 mod step;
 mod string_given;
-mod slots;
 
 pub use declarator::{
     append_core, append_declarator, append_declarator_if_any, append_parameters, append_suffixes,
@@ -16,6 +16,6 @@ pub use expression::{
     append_expression, append_expression_if_any, append_expressions, append_type_name,
 };
 pub use given::{append_given, append_given_if_any};
+pub use slots::member_type;
 pub use specifier::append_specifiers;
 pub use string_given::behind_given;
-pub use slots::member_type;

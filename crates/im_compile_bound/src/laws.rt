@@ -1,7 +1,7 @@
 ghost use Rattle.im_compile_bound.specs.Bound.{BuiltBoundLaw};
 
-use im_compile::ready_law;
 use crate::function_bound_law;
+use im_compile::ready_law;
 
 /// In what is built of a program each function has at most 256 bytes for each of its nodes, and 256
 /// more.

@@ -13,9 +13,8 @@ ghost use Rattle.im_eval.specs.Ahead.{LooksAhead, placed, valued};
 
 use crate::resume::resume_value;
 use crate::run::Run;
-use im_eval_steps::{Unseen, look, look_place};
 use im_eval_machine::{Code, Found, Here, Machine, Stopped};
-use im_eval_steps::resume_at;
+use im_eval_steps::{Unseen, look, look_place, resume_at};
 use im_eval_store::Value;
 use im_eval_tasks::{At, Next, Now, Task, begin};
 use im_typed::{Expr, Place};

@@ -2,15 +2,15 @@
 #![tactic(auto)]
 
 mod at_once;
+mod ended;
+mod ending;
 mod program;
 mod resume;
 mod run;
 mod step;
-mod ended;
-mod ending;
 mod variables;
 
-pub use im_eval_machine::{Outcome, Reason};
-pub use program::{eval, eval_framed};
 pub use ended::conclude;
 pub use ending::{bytes_law, statics_live_law};
+pub use im_eval_machine::{Outcome, Reason};
+pub use program::{eval, eval_framed};

@@ -3,8 +3,9 @@ ghost use Rattle.im_gap.specs.Gap.{IsGap, HasGap};
 ghost use Rattle.im_gap.specs.Table.{resume_words, Whole};
 
 use crate::flow::index_at;
+use crate::graph::{Graph, Node};
+use crate::starts::longest;
 use crate::table::{push_behind, push_words, small};
-use crate::{Graph, Node, longest};
 use im_num::NoMemory;
 use im_rv::Code;
 use std::alloc::Global;

@@ -4,7 +4,7 @@ ghost use Rattle.im_gap.specs.Flow.{links};
 ghost use Rattle.im_gap.specs.Table.{following, successors_by, behind, Drawn};
 
 use crate::flow::{Turn, Way, index_at, links_register, way_of};
-use crate::Node;
+use crate::graph::Node;
 use im_num::NoMemory;
 
 // the next word, if there is one

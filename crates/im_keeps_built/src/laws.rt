@@ -3,10 +3,8 @@ ghost use Rattle.im_keeps_built.specs.Laws.{BuiltKeepsLaw, BuiltSelectsLaw, Refu
 use im_alloc_laws::placed_code_law;
 use im_compile::ready_law;
 use im_gap::gap_bound_law;
-use im_keeps_source::middle_law;
-use im_keeps_source::program_keeps_law;
+use im_keeps_source::{lowers_law, middle_law, program_keeps_law};
 use im_link_laws::{linkable_law, words_law};
-use im_keeps_source::lowers_law;
 use im_pack_laws::selects_law;
 use im_recut::recut_keeps_law;
 use im_saved_code::live_code_law;

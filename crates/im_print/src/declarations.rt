@@ -9,8 +9,10 @@ ghost use Rattle.im_ctree_parts.specs.Lists.{initializers_from};
 
 use im_ctree::{Declaration, InitDeclarator, Initializer};
 use im_num::NoMemory;
-use im_print_parts::{put_at, put_behind_specifiers, put_comma_if, put_declarator, put_specifiers};
-use im_print_parts::{has_type, put_mark, remember};
+use im_print_parts::{
+    has_type, put_at, put_behind_specifiers, put_comma_if, put_declarator, put_mark,
+    put_specifiers, remember,
+};
 use im_tok::Punctuator;
 
 /// Writes an initialiser (C11 6.7.9).

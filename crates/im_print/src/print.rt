@@ -13,9 +13,8 @@ use crate::declarations::put_declaration;
 use crate::statements::put_block;
 use im_ctree::{External, Function, Tree};
 use im_num::NoMemory;
-use im_print_parts::{put_behind_specifiers, put_specifiers};
+use im_print_parts::{has_type, put_behind_specifiers, put_specifiers};
 use im_print_relation::printed_text_law;
-use im_print_parts::has_type;
 use std::alloc::Global;
 
 /// The typedef names that stand in for headers, the first one last.

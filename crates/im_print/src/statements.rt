@@ -13,8 +13,7 @@ ghost use Rattle.im_ctree_parts.specs.Lists.{expression_in, statement_in};
 use crate::declarations::put_declaration;
 use im_ctree::{BlockItem, Expression, ForInit, Statement, StatementKind};
 use im_num::NoMemory;
-use im_print_parts::{put_at, put_expression};
-use im_print_parts::{put_keyword, put_mark};
+use im_print_parts::{put_at, put_expression, put_keyword, put_mark};
 use im_tok::{Keyword, Punctuator};
 
 /// Writes a statement (C11 6.8).

@@ -2,8 +2,8 @@ ghost use Rattle.std.specs.Prelude.{◌≡◌, OnOk};
 ghost use Rattle.im_print_parts.specs.Output.{Writes};
 ghost use Rattle.im_print_parts.specs.Parts as parts;
 
-use im_num::NoMemory;
 use crate::put_mark;
+use im_num::NoMemory;
 use im_tok::Punctuator;
 
 /// Writes the comma before an item of a list, where one stands before it.

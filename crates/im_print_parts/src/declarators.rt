@@ -10,9 +10,9 @@ ghost use Rattle.im_ctree_parts.specs.Lists.{declarator_from, declarators_from, 
 use crate::commas::put_comma_if;
 use crate::expressions::put_at;
 use crate::specifiers::put_specifiers;
+use crate::{put_keyword, put_mark, put_name};
 use im_ctree::{Core, Declarator, Expression, Parameter, Star, Suffix, SuffixKind, TypeName};
 use im_num::NoMemory;
-use crate::{put_keyword, put_mark, put_name};
 use im_tok::{Keyword, Punctuator};
 
 /// Writes a `*` and the `const` behind it (C11 6.7.6.1).

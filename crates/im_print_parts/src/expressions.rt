@@ -10,12 +10,12 @@ ghost use Rattle.im_ctree_parts.specs.Lists.{expression_in, expressions_from};
 
 use crate::commas::put_comma_if;
 use crate::declarators::put_type_name;
-use im_ctree::{BinaryOp, Expression, ExpressionKind, TypeName};
-use im_num::NoMemory;
 use crate::{
     assign_mark, binding, operator_level, operator_mark, prefix_mark, put_character, put_keyword,
     put_mark, put_name, put_number, put_text, step_mark,
 };
+use im_ctree::{BinaryOp, Expression, ExpressionKind, TypeName};
+use im_num::NoMemory;
 use im_tok::{Keyword, Punctuator};
 
 /// Writes an expression where one stands that binds as tightly as `level` says.

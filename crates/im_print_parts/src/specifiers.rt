@@ -11,11 +11,9 @@ ghost use Rattle.im_ctree_parts.specs.Lists.{declarators_from, enumerators_from,
 use crate::commas::put_comma_if;
 use crate::declarators::{put_declarator, put_in_parentheses};
 use crate::expressions::put_at;
+use crate::{begins_with_typedef, has_type, put_keyword, put_mark, put_name, specifier_keyword};
 use im_ctree::{Declarator, Enumerator, Expression, Member, Name, Specifier, SpecifierKind};
 use im_num::NoMemory;
-use crate::{
-    begins_with_typedef, has_type, put_keyword, put_mark, put_name, specifier_keyword,
-};
 use im_tok::{Keyword, Punctuator};
 
 /// Writes declaration specifiers (C11 6.7).

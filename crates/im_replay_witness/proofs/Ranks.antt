@@ -12,7 +12,7 @@ use Rattle.im_gap.specs.Flow.{turn_of, imm_of, Leads, Flow, IsBehind}
 use Rattle.im_gap.specs.Gap.{IsBounded}
 use Rattle.im_gap.specs.Table.{successors_at, behind, resume_words}
 use Rattle.im_gap.proofs.Members.{successors_have, return_has, behind_have}
-use Rattle.im_gap.proofs.Starts.{every}
+use Rattle.im_gap.proofs.ManyStarts.{every}
 use Rattle.im_gap.proofs.Walking.{rank_law}
 
 -- the numbers of these nodes are below r

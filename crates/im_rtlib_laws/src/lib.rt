@@ -2,7 +2,7 @@
 #![tactic(auto)]
 
 mod laws;
-mod sections;
+mod touches;
 
 pub use laws::{exit_law, getchar_law, putchar_law, serves_law, stack_law};
-pub use sections::{joins_law, sections_law, touched_law};
+pub use touches::{joins_law, sections_law, touched_law};

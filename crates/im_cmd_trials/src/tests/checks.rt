@@ -15,7 +15,11 @@ const CHECKS: [(&[u8], u8, &[u8]); 3] = [
         3,
         b"b.c:6:2: rule 34 at 'break': this statement can't stand here\n\tbreak;\n\t^\n",
     ),
-    (LARGE, 3, b"a.c: size 1048577 over 1048576\n"),
+    (
+        LARGE,
+        3,
+        b"a.c:1:6: size 1048577 over 1048576 in 'a': a type has at most 1048576 bytes\nchar a[1048577]; int main(void) { return 0; }\n     ^\n",
+    ),
 ];
 
 #[test]

@@ -4,6 +4,7 @@ use Rattle.im_ctree.specs.Shape.{block_items_of}
 use Rattle.im_ctree_parts.specs.Lists.{expression_in, statement_in}
 use Rattle.im_ctree_parts.proofs.Shapes.{block_tree, switch_tree}
 use Rattle.im_check_statement_forms.specs.Opening.{with_scope}
+use Rattle.im_check_statement_forms.proofs.Alone.{stray_case, stray_default}
 use Rattle.im_check_statements.proofs.Cases as k
 use Rattle.im_check_statements.proofs.Composed as s
 use Rattle.im_check_statements.proofs.Items as i
@@ -11,6 +12,12 @@ use Rattle.im_check_statements.proofs.Items.{next, last}
 use Rattle.im_check_statements.proofs.Loops as o
 use Rattle.im_check_statements.proofs.Trees.{if_tree, held_tree}
 use Rattle.im_check_statements.proofs.statements.+statements.Goals as goal
+
+pub statement-returns-in-Case : goal.statement-returns-in-Case
+statement-returns-in-Case t c = rw (c.stray_label.ensures, c.in-Case.is) (stray_case c.args.position c.args.body.now c.args.s.now.at _ _)
+
+pub statement-returns-in-Default : goal.statement-returns-in-Default
+statement-returns-in-Default t c = rw (c.stray_label-in-Default.ensures, c.in-Default.is) (stray_default c.args.position c.args.body.now c.args.s.now.at _)
 
 pub block_statement-returns-in_err-done : goal.block_statement-returns-in_err-done
 block_statement-returns-in_err-done t c =

@@ -3,7 +3,7 @@ use Rattle.im_gap.specs.Walks.{IsGreatest}
 use Rattle.im_gap.specs.Graph.{successors_of, weight_of}
 use Rattle.im_gap.specs.Gap.{recovery_steps, IsGap, HasGap}
 use Rattle.im_gap.proofs.Assembling.{is_graph}
-use Rattle.im_gap.proofs.Starts.{starts_inside, none, gap_of, no_gap}
+use Rattle.im_gap.proofs.ManyStarts.{starts_inside, none, gap_of, no_gap}
 use Rattle.im_gap.proofs.longest.longest_gap.Goals as goal
 
 pub longest-requires-clause-graph : goal.longest-requires-clause-graph

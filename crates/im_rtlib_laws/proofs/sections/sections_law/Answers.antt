@@ -1,5 +1,0 @@
-use Rattle.im_rtlib_laws.proofs.Sections.{sections_law}
-use Rattle.im_rtlib_laws.proofs.sections.sections_law.Goals as goal
-
-pub returns : goal.returns
-returns c = sections_law
