@@ -29,7 +29,7 @@ use Rattle.im_saved_lines.proofs.Selected.{jump_before, jump_sound}
 use Rattle.im_saved_lines.proofs.Blocks.{function_lines}
 use Rattle.im_saved_lines.proofs.Routines.{routine_lines}
 use Rattle.im_saved_code.proofs.Lists.{all_at}
-use Rattle.im_saved_code.proofs.Held.{held, is_held, saves}
+use Rattle.im_saved_code.proofs.Held.{held, held_lives, is_held, saves}
 use Rattle.im_saved_code.proofs.Labels.{at_labels, labels_low, labels_entries, labels_blocks}
 
 -- the lines of a part are its code

@@ -33,7 +33,7 @@ use Rattle.im_select.specs.declared.branching.Test.TheVariants.{Nonzero, Compare
 use Rattle.im_select.specs.declared.distance.Distance.{Distance as Reach}
 use Rattle.im_select.specs.declared.distance.Distance.TheVariants.{Near, Far}
 use Rattle.im_select.specs.Emitted.{entry_label, cut_code, result_code, call_code, line_code, lines_code, adds_code, leave_code, onward_code, both_ways, test_op, test_code, test_or, taken_test, own_lines, is_next, branch_code, exit_code, is_empty, taking_code}
-use Rattle.im_select.proofs.Taking.{IsTaken, Nothing, Comparing, takes, test_branches}
+use Rattle.im_select.proofs.Taking.{IsTaken, Nothing, Comparing, takes as parted, test_branches}
 use Rattle.im_saved_lines.specs.Scan.{Goes, IsSoundLine, way, is_base, is_returned, After, onward, scan, AreSound}
 use Rattle.im_saved_lines.specs.Laws.{lives_inside, IsLow, HasEntries, HasBlocks, HoldsCalls, SavesFrom}
 use Rattle.im_saved_lines.proofs.Scanning.{both, both_are, either, or_left, or_right, same_of, same_is, IsUnsaved, unsaved_not, unsaved_true, or_unsaved, scan_append, sound_append, Lives, First, Second, Later, line_lives, plain_sound, Wants, plain_wants}
@@ -471,19 +471,19 @@ module _ (functions : List Function) (statics first count frame : ℕ) (f : Func
   abbrev ends : Option ℕ → List Line → Exit → List CodeLine
   ends next lines exit = exit_code distance next (is_empty (own_code lines exit)) first frame (taken_test by lines exit) exit
 
-  exit_meets : (next : Option ℕ) (lines : List Line) (exit : Exit) (behind : After) → Meets at next behind → IsPlacedExit exit → ExitThere count exit → (r : ℕ) → IsUnsaved r → (scan at (ends next lines exit) behind).next r ≡ true → lives_before live (takes by lines exit).tail exit r ≡ true
-  exit_meets next lines exit behind meets e there r u w = tail_before next (is_empty (own_code lines exit)) (takes by lines exit).tail exit (taken_test by lines exit) behind r (takes by lines exit).is meets e there u w
+  exit_meets : (next : Option ℕ) (lines : List Line) (exit : Exit) (behind : After) → Meets at next behind → IsPlacedExit exit → ExitThere count exit → (r : ℕ) → IsUnsaved r → (scan at (ends next lines exit) behind).next r ≡ true → lives_before live (parted by lines exit).tail exit r ≡ true
+  exit_meets next lines exit behind meets e there r u w = tail_before next (is_empty (own_code lines exit)) (parted by lines exit).tail exit (taken_test by lines exit) behind r (parted by lines exit).is meets e there u w
 
   pub body_before : (next : Option ℕ) (lines : List Line) (exit : Exit) (behind : After) (r : ℕ) → Meets at next behind → All (IsPlacedLine statics f) lines → IsPlacedExit exit → All (LineThere functions) lines → ExitThere count exit → IsUnsaved r → (scan at (body next lines exit) behind).next r ≡ true → lives_before live lines exit r ≡ true
   body_before next lines exit behind r meets h e t there u w =
-      let k = takes by lines exit in
+      let k = parted by lines exit in
       subst (λ (z : List Line). lives_before live z exit r ≡ true) k.whole
       (lines_before 0 (own_lines (taken_test by lines exit) lines) k.tail exit (scan at (ends next lines exit) behind) r (exit_meets next lines exit behind meets e there) (subst (All (IsPlacedLine statics f)) (sym k.whole) h) (subst (All (LineThere functions)) (sym k.whole) t) u
       (sym (ap (λ (z : After). z.next r) (scan_append at (own_code lines exit) (ends next lines exit) behind)) ∙ w))
 
   pub body_sound : (next : Option ℕ) (lines : List Line) (exit : Exit) (behind : After) → Meets at next behind → All (IsPlacedLine statics f) lines → IsPlacedExit exit → All (LineThere functions) lines → ExitThere count exit → HoldsCalls live lines exit → SavesFrom live m 0 lines exit → AreSound at (body next lines exit) behind
   body_sound next lines exit behind meets h e t there s saves =
-      let k = takes by lines exit in
+      let k = parted by lines exit in
       sound_append at (own_code lines exit) (ends next lines exit) behind
       (lines_sound 0 (own_lines (taken_test by lines exit) lines) k.tail exit (scan at (ends next lines exit) behind) (exit_meets next lines exit behind meets e there)
       (subst (All (IsPlacedLine statics f)) (sym k.whole) h) e (subst (All (LineThere functions)) (sym k.whole) t)

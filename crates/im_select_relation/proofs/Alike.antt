@@ -1,5 +1,5 @@
 -- A step of placed code reads registers that live alone: where those have the same values, two states step alike.
-use Rattle.std.proofs.Common.{◌≡◌, ◌≢◌, ℕ, zero, suc, ◌+◌, ◌-◌, ◌<◌, inl, inr, Bool, true, false, cond, List, [], ◌∷◌, Option, Some, None, sym, ap, ◌∙◌, subst, refl, arith}
+use Rattle.std.proofs.Common.{◌≡◌, ◌≢◌, ℕ, zero, suc, ◌+◌, ◌-◌, ◌<◌, inl, inr, Bool, true, false, cond, List, [], ◌∷◌, Some, None, sym, ap, ◌∙◌, subst, refl, arith}
 use Rattle.std.specs.Prelude.{◌==◌, ◌&&◌, ◌||◌, not, nat_le, nat_lt, nat_abs, length, slice_get}
 use Rattle.std.proofs.lemmas.Bool.{or_right}
 use Rattle.std.proofs.lemmas.Bool.Decides.{nat_tests}
@@ -8,7 +8,7 @@ use Rattle.im_num.specs.declared.kind.Kind.TheVariants.{U8}
 use Rattle.im_num.specs.Kinds.{wrap}
 use Rattle.im_store.specs.Checks.{Checked, Fine, Bad, then_}
 use Rattle.im_store.specs.Access.{read_cell, write_cell}
-use Rattle.im_store.specs.Objects.{Value, Number, Null, Unset}
+use Rattle.im_store.specs.Objects.{Value, Unset}
 use Rattle.im_store.specs.Outcomes.{Outcome, Undef}
 use Rattle.im_block.specs.declared.code.Place.{Place}
 use Rattle.im_block.specs.declared.code.Place.TheVariants.{Static, Local, Through}
@@ -19,9 +19,9 @@ use Rattle.im_block.specs.declared.code.Exit.TheVariants.{Jump, Turn, Branch, Re
 use Rattle.im_block.specs.declared.code.Block.{Block}
 use Rattle.im_block.specs.declared.unit.Function.{Function}
 use Rattle.im_block.specs.declared.unit.Unit.{Unit as Code}
-use Rattle.im_block.specs.Meaning.{Setting, Active, Site, site_of, slot_site, slot_of, Found, Left, Frame, State, Next, Goes, Stops, Event, on_checked, takes, found, with_register, with_rest, kept_by, passed, computes, reads, writes, as_number, as_truth, converted, computed_one, computed, compared, negation, condition, moved, distance_of, place_of, read_place, write_place, read_slot, write_slot, number_of, waiting, enters, gets, puts, further, location_of, found_in, left_in, stored, served, returned, does, goes_to, back, leaves, step_at, step, next_active}
-use Rattle.im_alloc_relation.specs.Live.{uses, sets, place_uses, result_uses}
-use Rattle.im_live.specs.Reads.{reads as reads_of, writes as writes_of, called, exit_live, lives_before, lives_in, reads_first}
+use Rattle.im_block.specs.Meaning.{Setting, Site, site_of, slot_site, slot_of, Found, Left, Frame, State, Next, Goes, Stops, Event, on_checked, takes, found, with_register, with_rest, kept_by, passed, computes, reads, writes, as_number, as_truth, converted, computed_one, computed, compared, negation, condition, moved, distance_of, place_of, write_place, write_slot, number_of, waiting, enters, gets, puts, further, location_of, found_in, left_in, stored, served, does, goes_to, back, leaves, next_active}
+use Rattle.im_alloc_relation.specs.Live.{uses, place_uses}
+use Rattle.im_live.specs.Reads.{reads as reads_of, writes as writes_of, lives_before, lives_in, reads_first}
 use Rattle.im_select_relation.specs.Linking.{Linking}
 use Rattle.im_select_relation.proofs.Registers.{two_ways, register_same, register_other}
 use Rattle.im_select_relation.proofs.Checks.{found_fine}
