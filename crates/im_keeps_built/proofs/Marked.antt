@@ -36,9 +36,6 @@ use Rattle.im_select.specs.declared.distance.Distance.{Distance as Reach}
 use Rattle.im_select.specs.declared.distance.Distance.TheVariants.{Near, Far}
 use Rattle.im_select.specs.Emitted.{high_of, low_of, constant_by, constant_code, displaced_by, displaced_code, adds_by, adds_code, place_number, place_code, moved_code, copied_code, step_op, shift_of, shifts_code, scaled_code, based_code, address_code, line_code, lines_code, onward_code, test_op, test_code, test_or, taken_test, own_lines, is_next, branch_code, exit_code, is_empty, result_code, leave_code, block_code, laid_order, Laying, next_label, found_code, laid_block, laid_code, blocks_code, prologue_code, function_code, labelled, entry_label}
 use Rattle.im_select.specs.Selects.{laying_of}
-use Rattle.im_select.proofs.Taking.{test_branches}
-use Rattle.im_rv.specs.declared.format.Format.TheVariants.{Branch as OfBranches}
-use Rattle.im_rv.specs.Formats.{format_of}
 use Rattle.im_link_laws.specs.Program.{HasCode, part_of, given_at, start_code, IsProgram}
 use Rattle.im_saved_lines.specs.Scan.{way}
 use Rattle.im_saved_lines.proofs.Scanning.{both}
@@ -204,14 +201,14 @@ onward_marked : (falls : Bool) (label : ℕ) → AreMarked (onward_code falls la
 onward_marked true label = tt
 onward_marked false label = (refl, tt)
 
--- a branch links nothing
-branch_unlinked : (op : Op) → format_of op ≡ OfBranches → links_by op 3 0 ≡ false
-branch_unlinked Jal e = cc
-branch_unlinked op e = refl
+-- what writes no register links nothing
+zero_unlinked : (op : Op) → links_by op 3 0 ≡ false
+zero_unlinked Jal = refl
+zero_unlinked op = refl
 
 test_marked : (distance : Reach) (holds : Bool) (t : Test) (label : ℕ) → AreMarked (test_code distance holds t label)
-test_marked Near holds t label = (branch_unlinked (test_op holds t) (test_branches holds t), tt)
-test_marked Far holds t label = (branch_unlinked (test_op (not holds) t) (test_branches (not holds) t), (refl, tt))
+test_marked Near holds t label = (zero_unlinked (test_op holds t), tt)
+test_marked Far holds t label = (zero_unlinked (test_op (not holds) t), (refl, tt))
 
 branch_marked : (distance : Reach) (next : Option ℕ) (t : Test) (there other : ℕ) → AreMarked (branch_code distance next t there other)
 branch_marked distance next t there other = by (is_next next there)

@@ -333,12 +333,12 @@ module _ (functions : List Function) (statics first count frame : ℕ) (f : Func
   exit_before : (next : Option ℕ) (bare : Bool) (exit : Exit) (behind : After) (r : ℕ) → Meets at next behind → IsPlacedExit exit → ExitThere count exit → IsUnsaved r → (scan at (exit_code distance next bare first frame None exit) behind).next r ≡ true → exit_live live exit r ≡ true
   exit_before next bare (Jump b) behind r meets h there u w = block_live b r there u (onward_before at next (first + b) (not bare && is_next next (first + b)) behind r (λ e. (both (not bare) (is_next next (first + b)) e).1) meets u w)
   exit_before next bare (Turn b) behind r meets h there u w = block_live b r there u (jump_before at 0 (first + b) behind r refl u w)
-  exit_before next bare (Branch on x y) behind r meets h there u w = case (branch_before at distance next (Nonzero on) (first + x) (first + y) behind r meets u w)
+  exit_before next bare (Branch on x y) behind r meets h there u w = cases (branch_before at distance next (Nonzero on) (first + x) (first + y) behind r meets u w)
     where
-      case : ((r ≡ on) ⊎ (r ≡ 0)) ⊎ (at (first + x) r ≡ true) ⊎ (at (first + y) r ≡ true) → exit_live live (Branch on x y) r ≡ true
-      case (inl (inl e)) = or_left (r == on) (live x r || live y r) (same_is r on e)
-      case (inl (inr e)) = absurd (unsaved_not r 0 u refl e)
-      case (inr e) = or_right (r == on) (live x r || live y r) (led_to x y r there.0 there.1 u e)
+      cases : ((r ≡ on) ⊎ (r ≡ 0)) ⊎ (at (first + x) r ≡ true) ⊎ (at (first + y) r ≡ true) → exit_live live (Branch on x y) r ≡ true
+      cases (inl (inl e)) = or_left (r == on) (live x r || live y r) (same_is r on e)
+      cases (inl (inr e)) = absurd (unsaved_not r 0 u refl e)
+      cases (inr e) = or_right (r == on) (live x r || live y r) (led_to x y r there.0 there.1 u e)
   exit_before next bare (Return None) behind r meets h there u w = absurd (none_before at frame behind r u w)
   exit_before next bare (Return (Some x)) behind r meets h there u w = or_left (r == x) (r == 1 || r == 2) (same_is r x (leave_before at frame behind r u w ∙ sym h))
 
@@ -351,7 +351,7 @@ module _ (functions : List Function) (statics first count frame : ℕ) (f : Func
 
   -- a register that no block reads isn't that of what lives there
   apart : (to x y r : ℕ) → by x to ≡ false → by y to ≡ false → (live x r || live y r) ≡ true → (r == to) ≡ false
-  apart to x y r a b e = case (r == to) refl
+  apart to x y r a b e = cases (r == to) refl
     where
       read : r ≡ to → ⊥
       read q = elim (either (live x to) (live y to) (sym (ap (λ z. live x z || live y z) q) ∙ e)) [
@@ -359,21 +359,21 @@ module _ (functions : List Function) (statics first count frame : ℕ) (f : Func
         | inr l ↦ (let bad : true ≡ false = sym (kept y to l) ∙ b in cc)
       ]
 
-      case : (t : Bool) → (r == to) ≡ t → t ≡ false
-      case true q = absurd (read (same_of r to q))
-      case false q = refl
+      cases : (t : Bool) → (r == to) ≡ t → t ≡ false
+      cases true q = absurd (read (same_of r to q))
+      cases false q = refl
 
   -- with the comparison that the exit takes
   tail_before : (next : Option ℕ) (bare : Bool) (tail : List Line) (exit : Exit) (taken : Option Test) (behind : After) (r : ℕ) → IsTaken by tail exit taken → Meets at next behind → IsPlacedExit exit → ExitThere count exit → IsUnsaved r → (scan at (exit_code distance next bare first frame taken exit) behind).next r ≡ true → lives_before live tail exit r ≡ true
   tail_before next bare tail exit taken behind r (Nothing exit') meets h there u w = exit_before next bare exit behind r meets h there u w
-  tail_before next bare tail exit taken behind r (Comparing to op kind left right x y a b) meets h there u w = case (branch_before at distance next (Compares op kind left right) (first + x) (first + y) behind r meets u w)
+  tail_before next bare tail exit taken behind r (Comparing to op kind left right x y a b) meets h there u w = cases (branch_before at distance next (Compares op kind left right) (first + x) (first + y) behind r meets u w)
     where
       line : Line
       line = Compare to op kind left right
 
-      case : ((r ≡ (both_ways (Compares op kind left right)).left) ⊎ (r ≡ (both_ways (Compares op kind left right)).right)) ⊎ (at (first + x) r ≡ true) ⊎ (at (first + y) r ≡ true) → lives_before live (line ∷ []) (Branch to x y) r ≡ true
-      case (inl e) = or_left (reads line r) (not (r == to) && exit_live live (Branch to x y) r) (or_left (r == left || r == right) false (operand_is op kind left right r e))
-      case (inr e) =
+      cases : ((r ≡ (both_ways (Compares op kind left right)).left) ⊎ (r ≡ (both_ways (Compares op kind left right)).right)) ⊎ (at (first + x) r ≡ true) ⊎ (at (first + y) r ≡ true) → lives_before live (line ∷ []) (Branch to x y) r ≡ true
+      cases (inl e) = or_left (reads line r) (not (r == to) && exit_live live (Branch to x y) r) (or_left (r == left || r == right) false (operand_is op kind left right r e))
+      cases (inr e) =
           let lives = led_to x y r there.0 there.1 u e in
           or_right (reads line r) (not (r == to) && exit_live live (Branch to x y) r)
           (both_are (not (r == to)) (exit_live live (Branch to x y) r) (ap not (apart to x y r a b lives)) (or_right (r == to) (live x r || live y r) lives))

@@ -45,7 +45,7 @@ use Rattle.im_select_relation.proofs.Cells.{Memory}
 use Rattle.im_select_relation.proofs.Shapes.{Premises}
 use Rattle.im_select_relation.proofs.Relation.{Rel, SlotsShaped, Finished, After, checked_after, takes_after, moved_rel}
 use Rattle.im_select_relation.proofs.Ends.{jumps, continues, Passed, Decided, nonzero_decided, comparing_decided, tested}
-use Rattle.im_select_relation.proofs.Operators.{condition_word}
+use Rattle.im_select_relation.proofs.Operators.{truth_word, condition_word}
 use Rattle.im_select_relation.proofs.Calls.{first_after, enter_after, back_after, clears, gives}
 use Rattle.im_select_relation.proofs.Lines.{compared_word, line_after}
 use Rattle.im_select_relation.proofs.Alike.{shaded, AlikeAt, same_function, alike_in, operand, left_is, right_is, other_is, behind_lives, line_both, exit_both}
@@ -183,8 +183,8 @@ waited_brings p u g l s c m w =
     passed_to false q = q
 
     truth_holds : (t : Bool) → not (word (cond t (pos 1) (pos 0)) == 0) ≡ t
-    truth_holds true = refl
-    truth_holds false = refl
+    truth_holds true = ap (λ z. not (z == 0)) (sym (truth_word true))
+    truth_holds false = ap (λ z. not (z == 0)) (sym (truth_word false))
 
 -- ---- a step
 
