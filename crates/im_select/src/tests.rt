@@ -1,5 +1,6 @@
 ghost use Rattle.std.specs.Prelude.{◌≡◌, ◌≤◌, [], length, IfOk};
 ghost use Rattle.im_frame.specs.Layout.{bytes_of};
+ghost use Rattle.im_select.specs.Places.{IsTest};
 
 use crate::branching::{Test, branch_by};
 use crate::lines::push_lines;
@@ -239,13 +240,9 @@ fn short_lines_are_those_of_the_manual(rt: HostRuntime) -> Result<(), Fail> {
     Ok(())
 }
 
-// By llvm-mc: each test where it holds, and where it doesn't, over one line.
-const BRANCH_WORDS: [u32; 14] = [
-    0x00051463, 0x00050463, 0x00b54463, 0x00b55463, 0x00a5e463, 0x00a5f463, 0x00a5d463, 0x00a5c463,
-    0x00b57463, 0x00b56463, 0x00b50463, 0x00b51463, 0x00b51463, 0x00b50463,
-];
-
-fn compares(op: Comparison, kind: Kind) -> Test {
+fn compares(op: Comparison, kind: Kind) -> Test
+    ensures { IsTest result }
+{
     Test::Compares {
         op,
         kind,
@@ -254,20 +251,23 @@ fn compares(op: Comparison, kind: Kind) -> Test {
     }
 }
 
+// Whether a test is these branches over one line: where it holds, and where it doesn't.
+fn are_branches(test: Test, holds: u32, fails: u32) -> bool
+    requires { IsTest test }
+{
+    encode(branch_by(test, true, 8)) == holds && encode(branch_by(test, false, 8)) == fails
+}
+
+// By llvm-mc.
 #[test]
 fn branches_are_those_of_the_assembler(rt: HostRuntime) -> Result<(), Fail> {
-    let tests = [
-        Test::Nonzero(10),
-        compares(Comparison::Less, Kind::I32),
-        compares(Comparison::Greater, Kind::U32),
-        compares(Comparison::LessOrEqual, Kind::I32),
-        compares(Comparison::GreaterOrEqual, Kind::Ptr),
-        compares(Comparison::Equal, Kind::I32),
-        compares(Comparison::NotEqual, Kind::U32),
-    ];
-    for (number, test) in tests.iter().enumerate() {
-        assert_eq!(rt; encode(branch_by(*test, true, 8)), BRANCH_WORDS[2 * number]);
-        assert_eq!(rt; encode(branch_by(*test, false, 8)), BRANCH_WORDS[2 * number + 1]);
-    }
+    let signed = are_branches(compares(Comparison::Less, Kind::I32), 0x00b54463, 0x00b55463)
+        && are_branches(compares(Comparison::LessOrEqual, Kind::I32), 0x00a5d463, 0x00a5c463);
+    let unsigned = are_branches(compares(Comparison::Greater, Kind::U32), 0x00a5e463, 0x00a5f463)
+        && are_branches(compares(Comparison::GreaterOrEqual, Kind::Ptr), 0x00b57463, 0x00b56463);
+    let equal = are_branches(compares(Comparison::Equal, Kind::I32), 0x00b50463, 0x00b51463)
+        && are_branches(compares(Comparison::NotEqual, Kind::U32), 0x00b51463, 0x00b50463);
+    let nonzero = are_branches(Test::Nonzero(10), 0x00051463, 0x00050463);
+    assert_eq!(rt; (signed, unsigned, equal, nonzero), (true, true, true, true));
     Ok(())
 }
