@@ -19,7 +19,7 @@ use Rattle.im_block.specs.declared.code.Exit.TheVariants.{Jump, Turn, Branch, Re
 use Rattle.im_block.specs.declared.code.Block.{Block}
 use Rattle.im_block.specs.declared.unit.Function.{Function}
 use Rattle.im_block.specs.declared.unit.Unit.{Unit as Code}
-use Rattle.im_block.specs.Meaning.{Setting, Site, site_of, slot_site, slot_of, Found, Left, Frame, State, Next, Goes, Stops, Event, on_checked, takes, found, with_register, with_rest, kept_by, passed, computes, reads, writes, as_number, as_truth, converted, computed_one, computed, compared, negation, condition, moved, distance_of, place_of, write_place, write_slot, number_of, waiting, enters, gets, puts, further, location_of, found_in, left_in, stored, served, does, goes_to, back, leaves, next_active}
+use Rattle.im_block.specs.Meaning.{Setting, Site, site_of, slot_site, slot_of, Found, Left, Frame, State, Next, Goes, Stops, Event, on_checked, takes, found, with_register, with_rest, kept_by, passed, computes, reads, writes, as_number, as_truth, converted, computed_one, computed, compared, negation, condition, moved, distance_of, place_of, write_place, write_slot, number_of, at_block, waiting, enters, gets, puts, further, location_of, found_in, left_in, stored, served, does, goes_to, back, leaves, next_active}
 use Rattle.im_alloc_relation.specs.Live.{uses, place_uses}
 use Rattle.im_live.specs.Reads.{reads as reads_of, writes as writes_of, lives_before, lives_in, reads_first}
 use Rattle.im_select_relation.specs.Linking.{Linking}
@@ -117,15 +117,18 @@ module _ (u : Code) (g : Setting) (s : State) (registers : ℕ → Value) (f : F
 
   computes_both : (line : Line) (rest : List Line) (to : ℕ) (c c' : Checked Value) → ((r : ℕ) → r ≢ to → writes_of line r ≡ false) → Before (line ∷ rest) → c' ≡ c → Both u (computes to c rest s) (computes to c' rest (shaded s registers))
   computes_both line rest to c c' w h e = checked_both u c c' _ _ e (λ v k.
-      Going (record s { frame = record (with_rest s.frame rest) { registers = with_register s.frame.registers to v } }) (with_register registers to v) [] (alike_in u _ _ f is (written_to f.blocks.items line rest s.frame.spot.exit s.frame.registers registers to v w h)))
+      let next : State = record s { frame = record (with_rest s.frame rest) { registers = with_register s.frame.registers to v } } in
+      Going next (with_register registers to v) [] (alike_in u next (with_register registers to v) f is (written_to f.blocks.items line rest s.frame.spot.exit s.frame.registers registers to v w h)))
 
   reads_both : (line : Line) (rest : List Line) (to : ℕ) (site : Site) (c c' : Checked Found) → ((r : ℕ) → r ≢ to → writes_of line r ≡ false) → Before (line ∷ rest) → c' ≡ c → Both u (reads to site c rest s) (reads to site c' rest (shaded s registers))
   reads_both line rest to site c c' w h e = checked_both u c c' _ _ e (λ v k.
-      Going (record s { frame = record (with_rest s.frame rest) { registers = with_register s.frame.registers to v.value } }) (with_register registers to v.value) _ (alike_in u _ _ f is (written_to f.blocks.items line rest s.frame.spot.exit s.frame.registers registers to v.value w h)))
+      let next : State = record s { frame = record (with_rest s.frame rest) { registers = with_register s.frame.registers to v.value } } in
+      Going next (with_register registers to v.value) _ (alike_in u next (with_register registers to v.value) f is (written_to f.blocks.items line rest s.frame.spot.exit s.frame.registers registers to v.value w h)))
 
   writes_both : (line : Line) (rest : List Line) (site : Site) (c c' : Checked Left) → ((r : ℕ) → writes_of line r ≡ false) → Before (line ∷ rest) → c' ≡ c → Both u (writes site c rest s) (writes site c' rest (shaded s registers))
   writes_both line rest site c c' w h e = checked_both u c c' _ _ e (λ l k.
-      Going (record s { frame = with_rest s.frame rest; store = l.store }) registers _ (alike_in u _ _ f is (passed_by f.blocks.items line rest s.frame.spot.exit s.frame.registers registers w h)))
+      let next : State = record s { frame = with_rest s.frame rest; store = l.store } in
+      Going next registers _ (alike_in u next registers f is (passed_by f.blocks.items line rest s.frame.spot.exit s.frame.registers registers w h)))
 
   -- what is left of registers at a call is nothing
   module _ (p : Linking) (l : Premises p u g) where
@@ -205,7 +208,9 @@ module _ (u : Code) (g : Setting) (s : State) (registers : ℕ → Value) (f : F
         ∙ ap (λ c. left_at kind (s.frame.registers from) c) (place_same place (λ r e. one (Write place kind from access) rest r h (ap (λ t. t || r == from) e))))
     line_both (Reload to slot access) rest h = reads_both (Reload to slot access) rest to (slot_site access slot) _ _ (λ r ne. other_is r to ne) h refl
     line_both (Spill slot from access) rest h = writes_both (Spill slot from access) rest (slot_site access slot) _ _ (λ r. refl) h (ap (λ v. write_slot (slot_of slot s.frame.active) v s.store) (one (Spill slot from access) rest from h (same_is from)))
-    line_both (Cut cause) rest h = Going (record s { frame = with_rest s.frame rest }) registers _ (alike_in u _ _ f is (passed_by f.blocks.items (Cut cause) rest s.frame.spot.exit s.frame.registers registers (λ r. refl) h))
+    line_both (Cut cause) rest h =
+        let next : State = record s { frame = with_rest s.frame rest } in
+        Going next registers _ (alike_in u next registers f is (passed_by f.blocks.items (Cut cause) rest s.frame.spot.exit s.frame.registers registers (λ r. refl) h))
     line_both (Call to i first count) rest h = takes_both u s.fuel s.output _ _ (λ less. calls_both to i first count rest less h)
     line_both (GetChar to) rest h = takes_both u s.fuel s.output _ _ (λ less. gets_both rest to s.input less)
     line_both (PutChar to from) rest h = takes_both u s.fuel s.output _ _ (λ less. bytes_both to from rest less (one (PutChar to from) rest from h (same_is from)))
@@ -217,7 +222,8 @@ module _ (u : Code) (g : Setting) (s : State) (registers : ℕ → Value) (f : F
         checked_both {A = Block} u (found (slice_get q.blocks.items b)) (found (slice_get q.blocks.items b)) _ _ refl (λ block there.
         let e : q ≡ f = same_function s.frame.function u q f (found_fine _ q is0) is in
         let at : slice_get f.blocks.items b ≡ Some block = ap (λ (z : Function). slice_get z.blocks.items b) (sym e) ∙ found_fine _ block there in
-        Going _ registers _ (alike_in u _ _ f is (λ r n k. h r n (ap (λ z. lives_in (reads_first f.blocks.items n) z r) at ∙ k)))))
+        let next : State = record s { frame = record s.frame { spot = at_block b block }; fuel = fuel } in
+        Going next registers _ (alike_in u next registers f is (λ r n k. h r n (ap (λ z. lives_in (reads_first f.blocks.items n) z r) at ∙ k)))))
 
     back_both : (callers : List Frame) (v v' : Value) → v' ≡ v → Both u (back u g callers v s) (back u g callers v' (shaded s registers))
     back_both [] v v' e = checked_both u _ _ _ _ (ap number_of e) (λ z k. Ending _ _)

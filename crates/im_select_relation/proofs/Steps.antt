@@ -163,6 +163,7 @@ waited_brings p u g l s c m w =
     (checked_brings {A = Function} p u g s.fuel 3 c m (found (slice_get u.functions.items s.frame.function)) _ (λ f is0.
     checked_brings {A = Block} p u g s.fuel 3 c m (found (slice_get f.blocks.items b)) _ (λ block found0.
     let same : f ≡ r.f = same_function s.frame.function u f r.f (found_fine _ f is0) r.is in
+    let next : State = record (decided s w.to w.holds) { frame = record (decided s w.to w.holds).frame { spot = at_block b block }; fuel = s.fuel } in
     let there : slice_get r.f.blocks.items b ≡ Some block = ap (λ (z : Function). slice_get z.blocks.items b) (sym same) ∙ found_fine _ block found0 in
     record {
       n = q.n;
@@ -174,7 +175,7 @@ waited_brings p u g l s c m w =
       touches = Nothing;
       orderly = refl;
       reach = q.reach;
-      stood = Shaded _ _ m w.registers (alike_in u _ w.registers r.f r.is (λ x n h. w.alike x n (ap (λ z. lives_in (reads_first r.f.blocks.items n) z x) there ∙ h)))
+      stood = Shaded next _ m w.registers (alike_in u next w.registers r.f r.is (λ x n h. w.alike x n (ap (λ z. lives_in (reads_first r.f.blocks.items n) z x) there ∙ h)))
           (moved_rel p u g (shaded s w.registers) c m r (p.place s.frame.function b) q.y (at_block b block) w.registers s.fuel ((l.at.functions s.frame.function r.f r.is).blocks b block there) (same_regs p w.registers (pointer_at s.frame.active.depth) c.x q.y r.regs q.kept));
     }))))
   where
