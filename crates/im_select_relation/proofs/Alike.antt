@@ -8,7 +8,7 @@ use Rattle.im_num.specs.declared.kind.Kind.TheVariants.{U8}
 use Rattle.im_num.specs.Kinds.{wrap}
 use Rattle.im_store.specs.Checks.{Checked, Fine, Bad, then_}
 use Rattle.im_store.specs.Access.{read_cell, write_cell}
-use Rattle.im_store.specs.Objects.{Value, Unset}
+use Rattle.im_store.specs.Objects.{Value, Number, Null, Unset}
 use Rattle.im_store.specs.Outcomes.{Outcome, Undef}
 use Rattle.im_block.specs.declared.code.Place.{Place}
 use Rattle.im_block.specs.declared.code.Place.TheVariants.{Static, Local, Through}
@@ -190,8 +190,8 @@ module _ (u : Code) (g : Setting) (s : State) (registers : ℕ → Value) (f : F
 
     -- one line
     pub line_both : (line : Line) (rest : List Line) → Before (line ∷ rest) → Both u (does u g line rest s) (does u g line rest (shaded s registers))
-    line_both (Put to z) rest h = computes_both (Put to z) rest to _ _ (λ r ne. other_is r to ne) h refl
-    line_both (PutNull to) rest h = computes_both (PutNull to) rest to _ _ (λ r ne. other_is r to ne) h refl
+    line_both (Put to z) rest h = computes_both (Put to z) rest to (Fine (Number z)) (Fine (Number z)) (λ r ne. other_is r to ne) h refl
+    line_both (PutNull to) rest h = computes_both (PutNull to) rest to (Fine Null) (Fine Null) (λ r ne. other_is r to ne) h refl
     line_both (Copy to from) rest h = computes_both (Copy to from) rest to _ _ (λ r ne. other_is r to ne) h (ap Fine (one (Copy to from) rest from h (same_is from)))
     line_both (Convert to kind from) rest h = computes_both (Convert to kind from) rest to _ _ (λ r ne. other_is r to ne) h (ap (λ v. as_number (converted kind v)) (one (Convert to kind from) rest from h (same_is from)))
     line_both (Unary to op kind from) rest h = computes_both (Unary to op kind from) rest to _ _ (λ r ne. other_is r to ne) h (ap (λ v. as_number (computed_one op kind v)) (one (Unary to op kind from) rest from h (same_is from)))
