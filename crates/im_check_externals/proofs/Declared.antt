@@ -91,17 +91,21 @@ passed_more {xs = xs} {q = q} {now = now} {after = after} {ds = ds} {i = i} {x =
           p.larges bytes token name (subst (λ (zs : List InitDeclarator). LargeDeclared xs q now (init_declarators_of zs) bytes token name) (sym at) here);
     }
 
-pub passed_fault : {xs : t.SpecifierList} {q : Qualified} {before now : FilePlace} {ds : List InitDeclarator} {i : ℕ} {x : InitDeclarator} (old new : List rf.FirstValues) (stop : Stop) (fault : UnitFault)
+-- a fault in one is one in front of any others
+pub one_fault : {xs : t.SpecifierList} {q : Qualified} {f : FilePlace} (x : InitDeclarator) (rest : t.InitDeclarators) (stop : Stop) (fault : UnitFault)
+    → IsFileFault f (some_declared xs q (of_one x)) stop
+    → IsMetIn (declarator_token (declarator_of x.declarator)) (name_of (declarator_of x.declarator)) stop fault
+    → IsDeclaredFault xs q f (with_declarator x rest) fault
+one_fault x rest stop fault h is = of_stop stop fault (λ rule token b. more_broken rest b) (λ bytes s. this_declarator s) h is
+
+pub passed_fault : {xs : t.SpecifierList} {q : Qualified} {before now : FilePlace} {ds : List InitDeclarator} {i : ℕ} {x : InitDeclarator} (old new : List rf.FirstValues) (fault : UnitFault)
     → drop i ds ≡ x ∷ drop (i + 1) ds
     → Passed xs q before ds i old new now
-    → IsFileFault now (some_declared xs q (of_one x)) stop
-    → IsMetIn (declarator_token (declarator_of x.declarator)) (name_of (declarator_of x.declarator)) stop fault
+    → ((rest : t.InitDeclarators) → IsDeclaredFault xs q now (with_declarator x rest) fault)
     → IsDeclaredFault xs q before (init_declarators_of ds) fault
-passed_fault {xs = xs} {q = q} {now = now} {ds = ds} {i = i} {x = x} old new stop fault at p h is =
-    let rest = init_declarators_of (drop (i + 1) ds) in
-    let here : IsDeclaredFault xs q now (with_declarator x rest) fault = of_stop stop fault (λ rule token b. more_broken rest b) (λ bytes s. this_declarator s) h is in
-    let here' : IsDeclaredFault xs q now (init_declarators_of (drop i ds)) fault = subst (λ (zs : List InitDeclarator). IsDeclaredFault xs q now (init_declarators_of zs) fault) (sym at) here in
-    of_whole fault (λ rule token b. p.reached.behind.breaks rule token b) p.larges here'
+passed_fault {xs = xs} {q = q} {now = now} {ds = ds} {i = i} old new fault at p broken =
+    let here : IsDeclaredFault xs q now (init_declarators_of (drop i ds)) fault = rw at (broken (init_declarators_of (drop (i + 1) ds))) in
+    of_whole fault (λ rule token b. p.reached.behind.breaks rule token b) p.larges here
 
 pub passed_all : {xs : t.SpecifierList} {q : Qualified} {before now : FilePlace} {ds : List InitDeclarator} {i : ℕ} (old new : List rf.FirstValues)
     → drop i ds ≡ []

@@ -1,5 +1,5 @@
 -- External declarations, one behind the other.
-use Rattle.std.proofs.Common.{◌≡◌, ◌<◌, ◌≤◌, ℕ, ◌+◌, List, [], ◌∷◌, ◌++◌, length, drop, get_or, Vec, Global, Result, Ok, Err, MatchResult, sym, ap, ◌∙◌, subst, append_assoc}
+use Rattle.std.proofs.Common.{◌≡◌, ◌<◌, ◌≤◌, ℕ, ◌+◌, List, [], ◌∷◌, ◌++◌, length, drop, get_or, Vec, Global, sym, ap, ◌∙◌, subst, append_assoc}
 use Rattle.std.proofs.lemmas.List.{append-nil, drop_more, drop_all, length_push}
 use Rattle.im_ctree.specs.Tree as t
 use Rattle.im_ctree.specs.Shape.{external_of, externals_of}
@@ -42,7 +42,7 @@ last xs i all = drop_all i xs all
 
 -- one of either kind
 
-of_declared : {before after : File} {x : t.External} (firsts : Vec FirstValues Global) (done : UnitDefined)
+pub of_declared : {before after : File} {x : t.External} (firsts : Vec FirstValues Global) (done : UnitDefined)
     → DeclarationDone (file_place_of before) x done.firsts.items firsts.items (file_place_of after)
     → ExternalDone before done x after (record { firsts = firsts; functions = done.functions })
 of_declared firsts done d =
@@ -56,12 +56,6 @@ of_declared firsts done d =
       functions = sym (append-nil done.functions.items);
       same = tt;
     }
-
-pub declared : {before after : File} {x : t.External} (firsts : Vec FirstValues Global) (done : UnitDefined) (result : Result Unit UnitFault)
-    → MatchResult result (λ u. DeclarationDone (file_place_of before) x done.firsts.items firsts.items (file_place_of after)) (IsExternalFault (file_place_of before) x)
-    → MatchResult result (λ u. ExternalDone before done x after (record { firsts = firsts; functions = done.functions })) (IsExternalFault (file_place_of before) x)
-declared firsts done (Ok u) d = of_declared firsts done d
-declared firsts done (Err fault) h = h
 
 pub of_defined : {before after : File} {x : t.External} {f : Defined} (functions : Vec Defined Global) (done : UnitDefined)
     → functions.items ≡ done.functions.items ++ f ∷ []
