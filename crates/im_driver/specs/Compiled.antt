@@ -34,6 +34,7 @@ use Rattle.im_keeps_passes.specs.Laws.{Survives, KeepsUninterrupted, ReachesUnin
 use Rattle.im_keeps_source.specs.Laws.{meaning_of}
 use Rattle.im_keeps_built.specs.Cuts.{AreCuts}
 use Rattle.im_keeps_built.specs.Laws.{frames_of, IsLargeFrame, IsLargeCode}
+use Rattle.im_keeps_writes.specs.Writes.{Writes}
 
 -- the tree that a source's tokens spell
 pub record IsTreeOf (source : List ℕ) (tokens : List Token) (tree : Tree) : Type 0 where
@@ -70,6 +71,8 @@ pub record IsCompiled (source : List ℕ) (options : Options) (built : Built) : 
   pub keeps : Keeps (meaning_of prog (frames_of built) built.image) built.image built.gap
   -- each moment under losses of power is one of the run without losses, wherever the source is right, also if it never ends
   pub survives : (input : List ℕ) → IsInput input → IsRightFor (meaning_of prog (frames_of built) built.image) input → Survives built.image built.gap input
+  -- and no memory beside that of the runtime, of the image's objects, its stack and the output is ever changed
+  pub writes : (input : List ℕ) → IsInput input → IsRightFor (meaning_of prog (frames_of built) built.image) input → Writes built.image input
   -- with power that never fails, whichever word the registers hold when it comes
   pub ending : (input : List ℕ) (fuel reason : ℕ) (status : ℤ) (output : List ℕ) (variables : List Variable) → IsInput input →
       meaning_of prog (frames_of built) built.image input fuel ≡ End reason status output variables → KeepsUninterrupted built.image built.gap input fuel reason status output variables

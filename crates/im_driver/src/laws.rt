@@ -1,6 +1,7 @@
 ghost use Rattle.im_driver.specs.Steps.{KeptLaw, ProgramLaw, WrittenLaw};
 
 use im_keeps_built::built_keeps_law;
+use im_keeps_writes::built_writes_law;
 use im_rules_sound_spelt::{spelt_law, statics_law, word_names_law, words_law};
 
 /// The tree of a source is as the checker wants it.
@@ -26,4 +27,5 @@ pub(crate) fn kept_law()
     ensures { KeptLaw }
 {
     built_keeps_law();
+    built_writes_law();
 }

@@ -1,5 +1,5 @@
-//! Links that the nesting doesn't count: casts, calls, indices, commas and array suffixes. Each may
-//! go a step down the tree.
+//! Links that the nesting doesn't count: casts, calls, indices, comma operators and array suffixes.
+//! Each may go a step down the tree.
 ghost use Rattle.std.specs.List.{All};
 ghost use Rattle.im_parse.specs.Spelling.{IsWithin};
 
@@ -25,15 +25,52 @@ enum Inside {
     Part,
 }
 
+/// What a statement or a declaration has begun with.
+#[derive(Clone, Copy, PartialEq, Eq)]
+enum Start {
+    Nothing,
+    /// One name, which may be a typedef name.
+    Name,
+    /// A specifier that is a keyword, or two names: a declaration, since no statement begins so.
+    Declaration,
+    Other,
+}
+
+/// Whether a keyword is one of a declaration's specifiers (C11 6.7).
+fn is_specifier(text: &[u8]) -> bool {
+    match text {
+        b"typedef" | b"extern" | b"static" | b"const" | b"struct" | b"enum" => true,
+        b"void" | b"char" | b"short" | b"int" | b"long" | b"signed" | b"unsigned" => true,
+        _ => false,
+    }
+}
+
+/// What a pair of brackets, or the whole text, holds so far.
+#[derive(Clone, Copy)]
+struct Level {
+    inside: Inside,
+    /// The `?` whose `:` is to come. Up to there a comma is an operator (C11 6.5.15).
+    choices: usize,
+}
+
+impl Level {
+    fn new(inside: Inside) -> Level {
+        Level { inside, choices: 0 }
+    }
+}
+
 /// What is known before a token.
 #[derive(Drop)]
 struct Run {
+    /// What the statement or declaration has begun with.
+    start: Start,
     /// Links since the run began.
     links: usize,
     /// Parentheses and brackets that are open.
     open: usize,
-    /// What stands in the brackets that are open, the innermost last.
-    inside: Vec<Inside>,
+    /// The brackets around the innermost ones, the outermost first.
+    outer: Vec<Level>,
+    innermost: Level,
     /// What stands in a brace that opens next.
     next: Inside,
     /// Whether the token before is a name.
@@ -43,18 +80,13 @@ struct Run {
 impl Run {
     fn new(alloc: Global) -> Run {
         Run {
+            start: Start::Nothing,
             links: 0,
             open: 0,
-            inside: Vec::new(alloc),
+            outer: Vec::new(alloc),
+            innermost: Level::new(Inside::Block),
             next: Inside::Block,
             behind_name: false,
-        }
-    }
-
-    fn innermost(&self) -> Inside {
-        match self.inside.last() {
-            Some(inside) => *inside,
-            None => Inside::Block,
         }
     }
 
@@ -65,7 +97,41 @@ impl Run {
     /// A statement, a declaration or an initialiser ends, unless it stands in parentheses.
     fn end(&mut self) {
         if self.open == 0 {
+            self.start = Start::Nothing;
             self.links = 0;
+        }
+    }
+
+    /// Takes the first tokens of a statement or a declaration.
+    fn begin(&mut self, kind: TokenKind, text: &[u8]) {
+        self.start = match (self.start, kind) {
+            (Start::Nothing, TokenKind::Name) => Start::Name,
+            (Start::Name, TokenKind::Name) => Start::Declaration,
+            (Start::Nothing, TokenKind::Keyword) if is_specifier(text) => Start::Declaration,
+            (Start::Declaration, _) => Start::Declaration,
+            _ => Start::Other,
+        };
+    }
+
+    fn question(&mut self) {
+        self.innermost.choices = self.innermost.choices.saturating_add(1);
+        self.next = Inside::Block;
+    }
+
+    fn colon(&mut self) {
+        self.innermost.choices = self.innermost.choices.saturating_sub(1);
+        self.next = Inside::Block;
+    }
+
+    fn enter(&mut self, inside: Inside) -> Result<(), NoMemory> {
+        self.outer.push(self.innermost)?;
+        self.innermost = Level::new(inside);
+        Ok(())
+    }
+
+    fn leave(&mut self) {
+        if let Some(level) = self.outer.pop() {
+            self.innermost = level;
         }
     }
 
@@ -73,14 +139,13 @@ impl Run {
         self.link();
         self.open = self.open.saturating_add(1);
         self.next = Inside::Block;
-        self.inside.push(inside)?;
-        Ok(())
+        self.enter(inside)
     }
 
     fn close(&mut self) {
         self.open = self.open.saturating_sub(1);
         self.next = Inside::Block;
-        let _ = self.inside.pop();
+        self.leave();
     }
 
     fn open_parenthesis(&mut self) -> Result<(), NoMemory> {
@@ -93,21 +158,35 @@ impl Run {
 
     fn open_brace(&mut self) -> Result<(), NoMemory> {
         self.end();
-        self.inside.push(self.next)?;
-        Ok(())
+        self.enter(self.next)
     }
 
     fn close_brace(&mut self) {
         self.end();
-        let _ = self.inside.pop();
+        self.leave();
         self.next = Inside::Block;
     }
 
-    fn comma(&mut self) {
-        match self.innermost() {
+    /// Whether a comma outside of `?:` stands between declarators.
+    fn is_declaration(&self) -> bool {
+        self.start == Start::Declaration && self.open == 0
+    }
+
+    /// A comma behind no `?` whose `:` is to come.
+    fn separate(&mut self) {
+        match self.innermost.inside {
             Inside::List => self.end(),
             Inside::Arguments => {}
+            Inside::Block if self.is_declaration() => self.links = 0,
             Inside::Block | Inside::Part => self.link(),
+        }
+    }
+
+    fn comma(&mut self) {
+        if self.innermost.choices > 0 {
+            self.link();
+        } else {
+            self.separate();
         }
         self.next = Inside::List;
     }
@@ -126,6 +205,8 @@ impl Run {
             b"}" => self.close_brace(),
             b"," => self.comma(),
             b";" => self.semicolon(),
+            b"?" => self.question(),
+            b":" => self.colon(),
             b"=" => self.next = Inside::List,
             _ => self.next = Inside::Block,
         }
@@ -145,6 +226,7 @@ impl Run {
         let Some(text) = source.get(token.span.0 as usize..token.span.1 as usize) else {
             return Ok(());
         };
+        self.begin(token.kind, text);
         match token.kind {
             TokenKind::Punctuator => self.punctuator(text)?,
             TokenKind::Keyword => self.keyword(text),

@@ -17,7 +17,7 @@ struct Chain {
 
 const MAIN: &[u8] = b"int main(void){return f";
 
-const CHAINS: [Chain; 8] = [
+const CHAINS: [Chain; 17] = [
     Chain {
         front: b"int main(void){return ",
         link: b"(int)",
@@ -74,6 +74,71 @@ const CHAINS: [Chain; 8] = [
         end: b"};",
         links: 5000,
         is_read: true,
+    },
+    // nor are the declarators of a declaration
+    Chain {
+        front: b"int a",
+        link: b",a",
+        end: b";",
+        links: 5000,
+        is_read: true,
+    },
+    Chain {
+        front: b"typedef int t;int main(void){const t a",
+        link: b",*b,c[2],d=a?1:2,e",
+        end: b";}",
+        links: 150,
+        is_read: true,
+    },
+    Chain {
+        front: b"typedef int t;struct s{t a",
+        link: b",a",
+        end: b";};",
+        links: 5000,
+        is_read: true,
+    },
+    Chain {
+        front: b"typedef int t;int main(void){t a",
+        link: b",a=(1,2)",
+        end: b";}",
+        links: 5000,
+        is_read: true,
+    },
+    // between `?` and `:` a comma is an operator, wherever it stands
+    Chain {
+        front: b"enum e{a=1?0",
+        link: b",1",
+        end: b":2};",
+        links: 100000,
+        is_read: false,
+    },
+    Chain {
+        front: b"int a[]={1?0",
+        link: b",1",
+        end: b":2};",
+        links: 100000,
+        is_read: false,
+    },
+    Chain {
+        front: b"int main(void){return f(1?0",
+        link: b",1",
+        end: b":2);}",
+        links: 100000,
+        is_read: false,
+    },
+    Chain {
+        front: b"int a=b?0",
+        link: b",1",
+        end: b":2;",
+        links: 100000,
+        is_read: false,
+    },
+    Chain {
+        front: b"int main(void){t(a)",
+        link: b",a",
+        end: b";}",
+        links: 100000,
+        is_read: false,
     },
 ];
 

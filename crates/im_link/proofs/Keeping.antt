@@ -8,8 +8,8 @@ use Rattle.im_rv.specs.declared.code.Line.{Line}
 use Rattle.im_rv.specs.Decode.{Line as Instruction, decode}
 use Rattle.im_rv.specs.Lines.{line_of}
 use Rattle.im_link.specs.declared.aim.Aim.{Aim}
-use Rattle.im_link.specs.Links.{StandsAt, IsAimed, Does, IsWordOf, AreWordsOf}
-use Rattle.im_link.specs.State.{IsAimOf, HasAim, AreLinesKept, AddsAim, IsAimedWord, IsPut}
+use Rattle.im_link.specs.Links.{StandsAt, Reaches, IsAimed, Does, IsWordOf, AreWordsOf, AreLabelsApart, AreTargetsNear}
+use Rattle.im_link.specs.State.{IsAimOf, HasAim, AreLinesKept, AddsAim, AreAimsNear, IsNearAim, IsAimedWord, IsPut}
 use Rattle.im_link.proofs.Joining.{get_kept, same_at, old_or_last, last_one}
 
 same_or : (a b : ℕ) → (a ≡ b) ⊎ (a ≢ b)
@@ -73,6 +73,23 @@ module _ (lines : List Line) (line : Line) (aims new : List Aim) (at : ℕ) (her
     | inr ne ↦ stands_more lines (line ∷ []) l j (old l j (sym (others l (λ h. ne (let r : l ≡ m = cc in r))) ∙ f))
   ]
 
+  known_on : (before after : ℕ → Option ℕ) (o : Option ℕ) → line.label ≡ o → IfSome o (λ l. after l ≡ Some at) → ((q : ℕ) → o ≢ Some q → after q ≡ before q) →
+      ((l j : ℕ) → StandsAt lines l j → (i : ℕ) × (before l ≡ Some i)) → (l j : ℕ) → StandsAt (lines ++ line ∷ []) l j → (i : ℕ) × (after l ≡ Some i)
+  known_on before after None e is others old l j s = elim (old_or_last lines line s.line j s.is_line) [
+    | inl o ↦ (let r = old l j (record { line = s.line; is_line = o; label = s.label }) in (r.0, others l (λ h. cc) ∙ r.1))
+    | inr q ↦ absurd (let bad : None ≡ Some l = sym e ∙ ap (λ (z : Line). z.label) (sym q.1) ∙ s.label in cc)
+  ]
+  known_on before after (Some m) e is others old l j s = elim (same_or l m) [
+    | inl q ↦ (at, ap after q ∙ is)
+    | inr ne ↦ elim (old_or_last lines line s.line j s.is_line) [
+      | inl o ↦ (let r = old l j (record { line = s.line; is_line = o; label = s.label }) in (r.0, others l (λ h. ne (let r : l ≡ m = cc in r)) ∙ r.1))
+      | inr q ↦ absurd (
+          let label : Some m ≡ Some l = sym e ∙ ap (λ (z : Line). z.label) (sym q.1) ∙ s.label in
+          let same : m ≡ l = cc in
+          ne (sym same))
+    ]
+  ]
+
 plain_on : (lines : List Line) (line : Line) (words : List ℕ) (w : ℕ) → length words ≡ length lines → decode w ≡ Some (line_of line.instr) →
     ((i : ℕ) (other : Line) → slice_get lines i ≡ Some other → other.target ≡ None → decode (slice_index words i) ≡ Some (line_of other.instr)) →
     (i : ℕ) (other : Line) → slice_get (lines ++ line ∷ []) i ≡ Some other → other.target ≡ None → decode (slice_index (words ++ w ∷ []) i) ≡ Some (line_of other.instr)
@@ -92,6 +109,7 @@ kept_on lines line words w aims new before after d adds is others k = record {
   aims_are = aims_are_on lines line aims new (length words) k.count line.target refl adds k.aims_are;
   aimed = aimed_on lines line aims new (length words) k.count adds k.aimed;
   stands = stands_on lines line aims new (length words) k.count before after line.label refl is others k.stands;
+  known = known_on lines line aims new (length words) k.count before after line.label refl is others k.known;
 }
 
 -- the same, by the number of the line
@@ -120,6 +138,29 @@ pub lines_end : (before lines : List Line) (i : ℕ) → length lines ≤ i → 
 lines_end before lines i all words aims found k = subst (λ (z : List Line). AreLinesKept (before ++ z) words aims found) (take_all i lines all) k
 
 -- ---- the words of aims
+
+-- in lines that may be linked, each aim's label is near
+pub near_aims : (lines : List Line) (words : List ℕ) (aims : List Aim) (found : ℕ → Option ℕ) → AreLinesKept lines words aims found → AreLabelsApart lines → AreTargetsNear lines → length lines ≤ 261120 → AreAimsNear found (length words) aims
+near_aims lines words aims found kept apart near few = λ k aim g.
+    let a = kept.aims_are k aim g in
+    let inside = slice_get_within lines aim.at a.line a.is_line in
+    let target = near aim.at a.line aim.label a.is_line a.target in
+    let place = kept.known aim.label target.0 target.1 in
+    let stands = kept.stands aim.label place.0 place.1 in
+    let there = slice_get_within lines place.0 stands.line stands.is_line in
+    let same : target.0 ≡ place.0 = apart aim.label target.0 place.0 target.1 stands in (
+      (let c = kept.count in omega arith),
+      record {
+        place = place.0;
+        is_place = place.1;
+        from = omega arith;
+        to = omega arith;
+        reach = subst (λ (z : Instr). Reaches z aim.at place.0) (sym a.instr) (subst (λ (z : ℕ). Reaches a.line.instr aim.at z) same target.2);
+      },
+    )
+
+pub near_at : (found : ℕ → Option ℕ) (count n : ℕ) (aims : List Aim) (aim : Aim) → n < length aims → aim ≡ get_or aims n aim → AreAimsNear found count aims → (aim.at < count) × IsNearAim found aim
+near_at found count n aims aim below is near = near n aim (slice_get-get_or aims n aim below ∙ ap (λ (z : Aim). Some z) (sym is))
 
 -- the words of the first n aims are made
 pub record Aiming (lines : List Line) (aims : List Aim) (n : ℕ) (words : List ℕ) : Type 0 where

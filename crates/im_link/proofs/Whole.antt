@@ -12,10 +12,11 @@ use Rattle.im_link.specs.declared.fault.LinkFault.{LinkFault}
 use Rattle.im_link.specs.declared.fault.LinkFault.TheVariants.{Limit}
 use Rattle.im_link.specs.Parts.{word_count, byte_count, lines_of, first_of, last_of}
 use Rattle.im_link.specs.Links.{AreWordsOf}
-use Rattle.im_link.specs.State.{AreLinesKept, AreFirstCuts}
+use Rattle.im_link.specs.State.{AreLinesKept, AreAimsNear, AreFirstCuts}
 use Rattle.im_link.specs.Linking.{AreKept, Holds}
 use Rattle.im_link.specs.Code.{AreDependencesNamed, IsLinkable, IsLinked, IsFaultOf, byte_limit, told_count}
 use Rattle.im_link.proofs.Joining.{lines_count, lines_snoc, count_snoc, first_inside, first_behind, part_kept}
+use Rattle.im_link.proofs.Keeping.{near_aims}
 use Rattle.im_link.proofs.Cutting.{all_cuts}
 
 named_before : (parts : List Part) (part : Part) → AreDependencesNamed (parts ++ part ∷ []) → AreDependencesNamed parts
@@ -41,11 +42,18 @@ kept_more old new parts part first at entry lines cuts k =
 count_more : (parts : List Part) (part : Part) (old new : ℕ) → old ≡ min (word_count parts) (2 ^ 64 - 1) → new ≡ min (old + length part.lines.items) (2 ^ 64 - 1) → new ≡ min (word_count (parts ++ part ∷ [])) (2 ^ 64 - 1)
 count_more parts part old new e f = (let s = count_snoc parts part in omega arith)
 
--- a part more, of too many words
-pub large_more : (old new : Linker) (parts : List Part) (part : Part) → new.count ≡ min (old.count + length part.lines.items) (2 ^ 64 - 1) → 261120 < new.count → Holds old parts → Holds new (parts ++ part ∷ [])
-large_more old new parts part count large h =
+-- a part more, for which a code has no room
+pub skipped_more : (old new : Linker) (parts : List Part) (part : Part) → new.count ≡ min (old.count + length part.lines.items) (2 ^ 64 - 1) → 261120 < length old.words.items + length part.lines.items → Holds old parts → Holds new (parts ++ part ∷ [])
+skipped_more old new parts part count large h =
     let counted = count_more parts part old.count new.count h.count count in
-    record { count = counted; kept = λ few. absurd (omega arith) }
+    record {
+      count = counted;
+      kept = λ few. absurd (
+          let s = count_snoc parts part in
+          let k = h.kept (omega arith) in
+          let c = k.lines.count ∙ lines_count parts in
+          omega arith);
+    }
 
 pub held_more : (old new : Linker) (parts : List Part) (part : Part) → new.count ≡ min (old.count + length part.lines.items) (2 ^ 64 - 1) → (AreKept old parts → AreKept new (parts ++ part ∷ [])) → Holds old parts → Holds new (parts ++ part ∷ [])
 held_more old new parts part count kept h =
@@ -61,6 +69,12 @@ module _ (linker : Linker) (parts : List Part) (h : Holds linker parts) where
 
   pub few_is : linker.count ≤ 261120 → word_count parts ≤ 261120
   few_is few = (let c = h.count in omega arith)
+
+  pub near_of : IsLinkable parts → linker.count ≤ 261120 → AreAimsNear (hash.get nat_eq linker.places) (length linker.words.items) linker.aims.items
+  near_of l small =
+      let few = few_is small in
+      let k = h.kept few in
+      near_aims (lines_of parts) linker.words.items linker.aims.items (hash.get nat_eq linker.places) k.lines l.labels l.targets (let c = lines_count parts in omega arith)
 
   pub not_large : linker.count ≤ 261120 → byte_limit < byte_count parts → ⊥
   not_large few large = (let c = h.count in omega arith)

@@ -6,7 +6,7 @@ use Rattle.im_rv.specs.Code.{address}
 use Rattle.im_link.specs.declared.linker.Linker.{Linker}
 use Rattle.im_link.specs.Parts.{word_count, lines_of, first_of, last_of}
 use Rattle.im_link.specs.State.{AreLinesKept, AreFirstCuts}
-use Rattle.im_link.specs.Code.{AreDependencesNamed}
+use Rattle.im_link.specs.Code.{AreDependencesNamed, IsLinkable}
 
 -- their words, aims, labels and cuts, and where the last of them begins
 pub record AreKept (linker : Linker) (parts : List Part) : Type 0 where
@@ -18,6 +18,12 @@ pub record AreKept (linker : Linker) (parts : List Part) : Type 0 where
 pub record Holds (linker : Linker) (parts : List Part) : Type 0 where
   pub count : linker.count ≡ min (word_count parts) (2 ^ 64 - 1)
   pub kept : word_count parts ≤ 261120 → AreKept linker parts
+
+-- the linker has parts that may be linked
+pub record HoldsLinkable (linker : Linker) : Type 0 where
+  pub parts : List Part
+  pub holds : Holds linker parts
+  pub linkable : IsLinkable parts
 
 -- the linker has more parts than before, as R says of the lists of both
 abbrev pub Grows : Linker → Linker → (List Part → List Part → Type 0) → Type 0

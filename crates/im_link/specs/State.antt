@@ -11,7 +11,7 @@ use Rattle.im_rv.specs.Lines.{line_of}
 use Rattle.im_rv.specs.Code.{address}
 use Rattle.im_link.specs.Parts.{lines_of}
 use Rattle.im_link.specs.declared.aim.Aim.{Aim}
-use Rattle.im_link.specs.Links.{StandsAt, IsAimed}
+use Rattle.im_link.specs.Links.{StandsAt, IsAimed, Reaches}
 use Rattle.im_link.specs.Cuts.{IsAccessAt, HasAccesses, IsCutOf, IsCutIn}
 
 -- the line of an aim: word aim.at, with its target and instruction
@@ -25,18 +25,31 @@ pub record IsAimOf (lines : List Line) (aim : Aim) : Type 0 where
 abbrev pub HasAim : List Aim → ℕ → Type 0
 HasAim aims i = (k : ℕ) × (aim : Aim) × (slice_get aims k ≡ Some aim) × (aim.at ≡ i)
 
--- The words of lines, those with a target left open; an aim for each of these; and places where labels stand.
+-- The words of lines, those with a target left open; an aim for each of these; and a place of each label, where it stands.
 pub record AreLinesKept (lines : List Line) (words : List ℕ) (aims : List Aim) (found : ℕ → Option ℕ) : Type 0 where
   pub count : length words ≡ length lines
   pub plain : (i : ℕ) (line : Line) → slice_get lines i ≡ Some line → line.target ≡ None → decode (slice_index words i) ≡ Some (line_of line.instr)
   pub aims_are : (k : ℕ) (aim : Aim) → slice_get aims k ≡ Some aim → IsAimOf lines aim
   pub aimed : (i l : ℕ) (line : Line) → slice_get lines i ≡ Some line → line.target ≡ Some l → HasAim aims i
   pub stands : (l j : ℕ) → found l ≡ Some j → StandsAt lines l j
+  pub known : (l j : ℕ) → StandsAt lines l j → (i : ℕ) × (found l ≡ Some i)
 
 -- the aim of an instruction that is word `at` is added, if it has a target
 abbrev pub AddsAim : ℕ → Instr → Option ℕ → List Aim → List Aim → Type 0
 AddsAim at instr None old new = new ≡ old
 AddsAim at instr (Some l) old new = (aim : Aim) × (new ≡ old ++ aim ∷ []) × (aim.at ≡ at) × (aim.label ≡ l) × (aim.instr ≡ instr)
+
+-- the label of an aim has a place within reach, both in a code
+pub record IsNearAim (found : ℕ → Option ℕ) (aim : Aim) : Type 0 where
+  pub place : ℕ
+  pub is_place : found aim.label ≡ Some place
+  pub from : aim.at < 261120
+  pub to : place < 261120
+  pub reach : Reaches aim.instr aim.at place
+
+-- each aim is of one of the words, and near
+abbrev pub AreAimsNear : (ℕ → Option ℕ) → ℕ → List Aim → Type 0
+AreAimsNear found count aims = (k : ℕ) (aim : Aim) → slice_get aims k ≡ Some aim → (aim.at < count) × IsNearAim found aim
 
 -- the word of an aim leads to the place of its label
 pub record IsAimedWord (found : ℕ → Option ℕ) (aim : Aim) (w : ℕ) : Type 0 where

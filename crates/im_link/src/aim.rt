@@ -1,13 +1,10 @@
-ghost use Rattle.std.specs.Prelude.{◌≡◌, ◌<◌, ◌^◌, true};
+ghost use Rattle.std.specs.Prelude.{◌≡◌, ◌<◌, ◌^◌};
 ghost use Rattle.im_rv.specs.Steps.{sum_of, word};
 ghost use Rattle.im_rv.specs.Lines.{line_of};
 ghost use Rattle.im_rv.specs.Code.{address};
 ghost use Rattle.im_link.specs.Links.{IsAimed, Reaches};
 
-use im_rv::{Format, Instr};
-
-/// The most words that a code may have.
-const MOST_WORDS: usize = 261120;
+use im_rv::Instr;
 
 /// A line with a target: the number of its word, the label that it leads to, and its instruction.
 #[derive(Clone, Copy)]
@@ -28,22 +25,6 @@ fn distance(from: usize, to: usize) -> i32
         -(4 * ((from - to) as i32))
     } else {
         4 * ((to - from) as i32)
-    }
-}
-
-/// Whether an instruction at word `from` can lead to word `to`.
-pub fn reaches(instr: &Instr, from: usize, to: usize) -> bool
-    ensures from { result ≡ true → from < 261120 }
-    ensures to { result ≡ true → to < 261120 }
-    ensures reach { result ≡ true → Reaches instr.now from to }
-{
-    if from >= MOST_WORDS || to >= MOST_WORDS {
-        return false;
-    }
-    match instr.op.format() {
-        Format::Jump => true,
-        Format::Branch => to <= from + 1023 && from <= to + 1024,
-        _ => false,
     }
 }
 

@@ -1,8 +1,8 @@
-ghost use Rattle.std.specs.Prelude.{◌≡◌, ◌+◌, ◌-◌, ◌<◌, ◌≤◌, ◌^◌, ◌++◌, ◌∷◌, [], List, length, MatchResult, OnOk, Err};
+ghost use Rattle.std.specs.Prelude.{◌≡◌, ◌≢◌, ◌+◌, ◌<◌, ◌≤◌, ◌++◌, ◌∷◌, [], true, false, List, length, IfErr, MatchResult, OnOk, Err};
 ghost use Rattle.im_rv.specs.declared.code.Part.{Part as CodePart};
 ghost use Rattle.im_link.specs.Parts.{byte_count};
 ghost use Rattle.im_link.specs.Code.{IsLinkable, IsLinked, IsFaultOf, byte_limit, told_count};
-ghost use Rattle.im_link.specs.Linking.{Holds, AreKept};
+ghost use Rattle.im_link.specs.Linking.{Holds, HoldsLinkable, AreKept};
 
 use crate::aim::Aim;
 use crate::cuts::push_cuts;
@@ -31,7 +31,7 @@ pub struct Linker {
     /// The address of the last part's first word.
     pub entry: u32,
     /// How many lines the parts have together; 2^64 - 1 where it is more. Where a code may not have
-    /// so many, the other fields aren't kept.
+    /// so many, the other fields have not all of them.
     pub count: u64,
 }
 
@@ -55,20 +55,24 @@ impl Linker {
         ensures { OnOk result ((parts : List CodePart) → Holds self.old parts
             → Holds self.new (parts ++ part.now ∷ [])) }
     {
-        self.count = self.count.saturating_add(part.lines.len() as u64);
-        if self.count > MOST_WORDS {
+        let first = self.words.len();
+        let lines = part.lines.len();
+        self.count = self.count.saturating_add(lines as u64);
+        if is_over(first, lines) {
             return Ok(());
         }
-        keep(alloc, self, part)?;
+        keep(alloc, self, part, first)?;
         Ok(())
     }
 
     /// The code of all parts.
     pub fn finish(self) -> Result<Code, LinkFault>
+        requires { HoldsLinkable self }
         ensures code { (parts : List CodePart) → Holds self parts → IsLinkable parts
             → MatchResult result (IsLinked parts) (IsFaultOf parts) }
         ensures limit { (parts : List CodePart) → Holds self parts → byte_limit < byte_count parts
             → result ≡ Err (LinkFault.Limit (told_count parts)) }
+        ensures fault { IfErr result (λ fault. fault ≢ LinkFault.OutOfMemory) }
     {
         if self.count > MOST_WORDS {
             return Err(LinkFault::Limit(self.count.saturating_mul(4)));
@@ -81,23 +85,29 @@ impl Linker {
             entry,
             ..
         } = self;
-        aim_words(&mut words, &aims, &places)?;
+        aim_words(&mut words, &aims, &places);
         words.shrink_to_fit();
         cuts.shrink_to_fit();
         Ok(Code { words, entry, cuts })
     }
 }
 
-// Adds a part, where all that were before have their places.
-fn keep(alloc: Global, linker: &mut Linker, part: &Part) -> Result<(), NoMemory>
+// Whether a code has no room for so many lines behind its words.
+fn is_over(words: usize, lines: usize) -> bool
+    ensures over { result ≡ true → 261120 < words + lines }
+    ensures room { result ≡ false → words + lines ≤ 261120 }
+{
+    (words as u64).saturating_add(lines as u64) > MOST_WORDS
+}
+
+// Adds a part, where all that were before have their places, and it has room.
+fn keep(alloc: Global, linker: &mut Linker, part: &Part, first: usize) -> Result<(), NoMemory>
+    requires first { first ≡ length linker.old.words.items }
+    requires room { first + length part.now.lines.items ≤ 261120 }
     ensures kept { OnOk result ((parts : List CodePart) → AreKept linker.old parts
         → AreKept linker.new (parts ++ part.now ∷ [])) }
     ensures count { linker.new.count ≡ linker.old.count }
 {
-    let first = linker.words.len();
-    if (first as u64).saturating_add(part.lines.len() as u64) > MOST_WORDS {
-        return Err(NoMemory::OutOfMemory);
-    }
     linker.entry = 4096 + 4 * (first as u32);
     push_lines(
         &mut linker.words,

@@ -1,10 +1,10 @@
-ghost use Rattle.std.specs.Prelude.{◌≡◌, ◌++◌, ◌∷◌, [], List, nat_eq, IfOk, OnOk};
+ghost use Rattle.std.specs.Prelude.{◌≡◌, ◌+◌, ◌<◌, ◌≤◌, ◌++◌, ◌∷◌, [], List, length, nat_eq, OnOk};
 ghost use Rattle.std.specs.HashMap as hash;
 ghost use Rattle.im_rv.specs.declared.code.Line.{Line as CodeLine};
 ghost use Rattle.im_link.specs.Links.{AreWordsOf};
-ghost use Rattle.im_link.specs.State.{AddsAim, AreLinesKept, IsAimedWord, IsPut};
+ghost use Rattle.im_link.specs.State.{AddsAim, AreAimsNear, AreLinesKept, IsAimedWord, IsNearAim, IsPut};
 
-use crate::aim::{Aim, aimed, reaches};
+use crate::aim::{Aim, aimed};
 use crate::places::{Places, find, note};
 use im_num::NoMemory;
 use im_rv::encode::encode;
@@ -17,15 +17,14 @@ fn push_aim(
     instr: Instr,
     at: usize,
 ) -> Result<(), NoMemory>
+    requires { at < 261120 }
     ensures { OnOk result (AddsAim at instr target aims.old.items aims.new.items) }
 {
     let Some(label) = target else {
         return Ok(());
     };
-    match u32::try_from(at) {
-        Ok(at) => aims.push(Aim { at, label, instr })?,
-        Err(_) => return Err(NoMemory::OutOfMemory),
-    }
+    let at = at as u32;
+    aims.push(Aim { at, label, instr })?;
     Ok(())
 }
 
@@ -36,7 +35,9 @@ fn push_line(
     places: &mut Places,
     line: &Line,
 ) -> Result<(), NoMemory>
-    ensures { OnOk result ((lines : List CodeLine)
+    requires { length words.old.items < 261120 }
+    ensures count { OnOk result (length words.new.items ≡ length words.old.items + 1) }
+    ensures kept { OnOk result ((lines : List CodeLine)
         → AreLinesKept lines words.old.items aims.old.items (hash.get nat_eq places.old)
         → AreLinesKept (lines ++ line.now ∷ []) words.new.items aims.new.items
         (hash.get nat_eq places.new)) }
@@ -55,6 +56,7 @@ pub fn push_lines(
     places: &mut Places,
     lines: &[Line],
 ) -> Result<(), NoMemory>
+    requires { length words.old.items + length lines.now ≤ 261120 }
     ensures { OnOk result ((before : List CodeLine)
         → AreLinesKept before words.old.items aims.old.items (hash.get nat_eq places.old)
         → AreLinesKept (before ++ lines.now) words.new.items aims.new.items
@@ -66,41 +68,32 @@ pub fn push_lines(
     Ok(())
 }
 
-// The word of a line with a target. Want of memory where the label has no place in its reach, which
-// it has in parts that can be linked.
-fn aimed_word(aim: &Aim, places: &Places) -> Result<u32, NoMemory>
-    ensures { IfOk result (IsAimedWord (hash.get nat_eq places.now) aim.now) }
+// The word of a line with a target, whose label has a place.
+fn aimed_word(aim: &Aim, places: &Places) -> u32
+    requires { IsNearAim (hash.get nat_eq places.now) aim.now }
+    ensures { IsAimedWord (hash.get nat_eq places.now) aim.now result }
 {
-    let at = aim.at as usize;
-    let Some(to) = find(places, aim.label) else {
-        return Err(NoMemory::OutOfMemory);
-    };
-    if !reaches(&aim.instr, at, to) {
-        return Err(NoMemory::OutOfMemory);
+    match find(places, aim.label) {
+        Some(to) => encode(aimed(&aim.instr, aim.at as usize, to)),
+        None => unreachable!(),
     }
-    Ok(encode(aimed(&aim.instr, at, to)))
 }
 
-// Puts a word at a place. Want of memory where there is no such place, which an aim's always is.
-fn put(words: &mut Vec<u32>, at: usize, word: u32) -> Result<(), NoMemory>
-    ensures { OnOk result (IsPut at word words.old.items words.new.items) }
+fn put(words: &mut Vec<u32>, at: usize, word: u32)
+    requires { at < length words.old.items }
+    ensures { IsPut at word words.old.items words.new.items }
 {
-    if at >= words.len() {
-        return Err(NoMemory::OutOfMemory);
-    }
     words[at] = word;
-    Ok(())
 }
 
 /// Makes the words of the lines with a target.
-pub fn aim_words(words: &mut Vec<u32>, aims: &[Aim], places: &Places) -> Result<(), NoMemory>
-    ensures { OnOk result ((lines : List CodeLine)
+pub fn aim_words(words: &mut Vec<u32>, aims: &[Aim], places: &Places)
+    requires { AreAimsNear (hash.get nat_eq places.now) (length words.old.items) aims.now }
+    ensures { (lines : List CodeLine)
         → AreLinesKept lines words.old.items aims.now (hash.get nat_eq places.now)
-        → AreWordsOf lines words.new.items) }
+        → AreWordsOf lines words.new.items }
 {
     for aim in aims {
-        let word = aimed_word(aim, places)?;
-        put(words, aim.at as usize, word)?;
+        put(words, aim.at as usize, aimed_word(aim, places));
     }
-    Ok(())
 }

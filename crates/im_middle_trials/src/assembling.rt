@@ -8,6 +8,7 @@ ghost use Rattle.im_link_laws.specs.Laws.{NamesAccesses};
 use crate::seen::same;
 use im_block::{Block, Exit, Function, Line, Registers, Unit};
 use im_frame::lay_out;
+use im_link_laws::linkable_law;
 use im_select_assemble::{Program, assemble};
 use std::alloc::Global;
 use std::test::Fail;
@@ -55,6 +56,7 @@ const WORDS: [u32; 13] = [
 
 #[test]
 fn a_program_is_linked(rt: HostRuntime) -> Result<(), Fail> {
+    linkable_law();
     let unit = seven(rt.alloc())?;
     let layout = lay_out(rt.alloc(), &unit.functions[0])?;
     let layouts = vec![in rt.alloc(); layout]?;

@@ -2,6 +2,12 @@ use Rattle.std.proofs.lemmas.Result.{err_from_is_err_and}
 use Rattle.im_compile.proofs.Faulty.{of_link_fault}
 use Rattle.im_compile.proofs.linking.linked_code.Goals as goal
 
+pub finish-requires : goal.finish-requires
+finish-requires c =
+    let a = c.in_ok-assembled.ensures.parts in
+    let linkable = c.linkable_law.ensures c.args.unit c.args.program.now.statics.now c.args.program.now.layouts.now a.parts a.is_program c.requires.named in
+    record { parts = a.parts; holds = a.holds; linkable = linkable }
+
 pub returns-in_err-code : goal.returns-in_err-code
 returns-in_err-code c =
     let p = err_from_is_err_and c.from_residual-in_err-code.result c.from_residual-in_err-code.ensures.1 in

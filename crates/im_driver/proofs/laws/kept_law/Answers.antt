@@ -13,6 +13,7 @@ returns c source prog options built ready is_built =
         program = ready.program;
         keeps = kept.keeps.keeps;
         survives = passes.survives;
+        writes = λ input fits right. c.built_writes_law.ensures prog options built ready.is_source is_built input fits right (passes.safe input fits right);
         ending = passes.ending;
         reaching = passes.reaching;
         measure = kept.measure;

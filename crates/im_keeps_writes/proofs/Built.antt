@@ -1,0 +1,148 @@
+-- What is built writes no other memory.
+use Rattle.std.proofs.Common.{◌≡◌, ℕ, suc, ◌+◌, ◌-◌, List, [], ◌∷◌, length, Some, None, refl, subst, arith}
+use Rattle.std.specs.Prelude.{◌<◌, ◌^◌, min, All, slice_get}
+use Rattle.std.proofs.lemmas.List.Elements.{All-head, All-tail}
+use Rattle.im_ckpt.specs.Runs.{writes}
+use Rattle.im_replay.specs.Compiled.{RunsSafely}
+use Rattle.im_store.specs.Outcomes.{Outcome, IsDefined}
+use Rattle.im_typed.specs.declared.program.Prog.{Prog}
+use Rattle.im_typed.specs.ProgramOf.{program_of}
+use Rattle.im_typed.specs.Program as p
+use Rattle.im_typed.specs.Counts.{func_need}
+use Rattle.im_typed.specs.Typing.{Each}
+use Rattle.im_block.specs.declared.unit.Function.{Function}
+use Rattle.im_block.specs.Meaning.{Setting, Event}
+use Rattle.im_block.specs.Runs.{Runs}
+use Rattle.im_block.specs.Laws.{AddedCutsLaw}
+use Rattle.im_block_laws.specs.Laws.{CutsKeepCodeLaw}
+use Rattle.im_force.specs.Laws.{ForceKeepsLaw}
+use Rattle.im_link.specs.Code.{IsLinkable}
+use Rattle.im_link_laws.specs.Laws.{LinkableLaw}
+use Rattle.im_keeps_source.specs.LoweringLaws.{LowersLaw, NeedsFit}
+use Rattle.im_pack_laws.specs.Laws.{NamedLaw}
+use Rattle.im_pack_laws.specs.Places.{linking_in}
+use Rattle.im_pack_laws.specs.ImageLaws.{IsImageOf, InImageLaw}
+use Rattle.im_select_relation.specs.Linking.{Linking}
+use Rattle.im_select_relation.specs.Law.{SelectKeeps}
+use Rattle.im_select_executes.specs.Executing.{IsInImage}
+use Rattle.im_keeps.specs.Keeps.{IsInput, IsRightFor}
+use Rattle.im_keeps_run.specs.Laws.{run_of}
+use Rattle.im_keeps_written.specs.Written.{code_end}
+use Rattle.im_keeps_written.specs.Laws.{WrittenLaw}
+use Rattle.im_keeps_passes.specs.Passes.{setting, Lowers}
+use Rattle.im_keeps_source.specs.MiddleLaws.{MiddleLaw}
+use Rattle.im_keeps_source.specs.Source.{source_of}
+use Rattle.im_keeps_source.specs.Laws.{meaning_of}
+use Rattle.im_compile.specs.declared.options.Options.{Options}
+use Rattle.im_compile.specs.declared.built.Built.{Built}
+use Rattle.im_compile.specs.Passed.{IsSource, IsPassed, IsReady, ReadyLaw}
+use Rattle.im_compile.specs.Built.{IsBuilt, bytes_of}
+use Rattle.im_keeps_writes.specs.Writes.{may_change, Writes}
+use Rattle.im_keeps_writes.specs.Laws.{BuiltWritesLaw}
+use Rattle.im_keeps_writes.proofs.Within.{none_at}
+use Rattle.im_keeps_writes.proofs.Moments.{all}
+
+-- what frames may need has 64 bits
+
+abbrev AreTold : List p.Func → List Function → Type 0
+AreTold fs cs = (k : ℕ) (f : p.Func) (c : Function) → slice_get fs k ≡ Some f → slice_get cs k ≡ Some c → c.need ≡ min (func_need f) (2 ^ 64 - 1)
+
+abbrev IsTold : Function → Type 0
+IsTold c = c.need < 2 ^ 64 - 1
+
+needs_fit : (fs : List p.Func) (cs : List Function) → length cs ≡ length fs → AreTold fs cs → All IsTold cs → Each {A = p.Func} (λ f. func_need f < 2 ^ 64) fs
+needs_fit [] cs count are told = tt
+needs_fit (f ∷ fs) [] count are told = absurd (cc)
+needs_fit (f ∷ fs) (c ∷ cs) count are told =
+    let rest : length cs ≡ length fs = cc in
+    let need = are 0 f c refl refl in
+    let small : c.need < 2 ^ 64 - 1 = All-head IsTold c cs told in
+    (omega (arith, need, small), needs_fit fs cs rest (λ k x y a b. are (suc k) x y a b) (All-tail IsTold c cs told))
+
+pub record Laws : Type 0 where
+  pub ready : ReadyLaw
+  pub linkable : LinkableLaw
+  pub in_image : InImageLaw
+  pub named : NamedLaw
+  pub lowers : LowersLaw
+  pub middle : MiddleLaw
+  pub force : ForceKeepsLaw
+  pub added : AddedCutsLaw
+  pub code : CutsKeepCodeLaw
+  pub keeps : SelectKeeps
+  pub written : WrittenLaw
+
+module _ (laws : Laws) (prog : Prog) (options : Options) (built : Built) (s : IsSource prog) (b : IsBuilt prog options built) where
+  abbrev passed : IsPassed prog options.max_gap b.code
+  passed = b.passed
+
+  able : IsReady prog options.max_gap b.code
+  able = laws.ready prog options.max_gap b.code s b.passed
+
+  linkable : IsLinkable b.parts
+  linkable = laws.linkable b.code b.addresses b.layouts b.parts b.assemble able.named
+
+  image_of : IsImageOf b.code b.addresses b.layouts b.parts b.linked options.stack options.out_cap built.image
+  image_of = record {
+    well_formed = able.well_formed;
+    statics_are = record { room = able.room; places = b.place_statics };
+    layouts_are = b.lay_out;
+    program = b.assemble;
+    linkable = linkable;
+    linked = b.link;
+    packed = b.pack;
+    is_image = b.is_image;
+  }
+
+  fit : NeedsFit (program_of prog)
+  fit = record {
+    functions = needs_fit (program_of prog).funcs passed.lowered.functions.items passed.lower.count
+        (λ k f c x y. (passed.lower.functions k f c x y).need) passed.told;
+  }
+
+  lower : Lowers (source_of (program_of prog)) passed.forwarded
+  lower = laws.middle.registers (source_of (program_of prog)) passed.lowered passed.forwarded
+      (laws.lowers (program_of prog) passed.lowered s.typed s.within fit passed.lower passed.sized passed.placeable passed.uncut) passed.registers
+
+  module _ (input : List ℕ) (fits : IsInput input) where
+    abbrev g : Setting
+    g = setting (bytes_of b.layouts) built.image input
+
+    abbrev linking : Linking
+    linking = linking_in b.code b.addresses b.layouts b.parts b.linked built.image input
+
+    -- what the last code does with so much fuel
+    record Reaches (n : ℕ) : Type 0 where
+      outcome : Outcome
+      defined : IsDefined outcome
+      run : List Event
+      runs : Runs b.code g n outcome run
+
+    reaches : (n : ℕ) → IsDefined ((source_of (program_of prog)).means g n) → Reaches n
+    reaches n right =
+        let o = (source_of (program_of prog)).means g n in
+        let forced_same = laws.force.same passed.forwarded passed.forced passed.force in
+        let well = laws.code.well_formed passed.forwarded passed.forced forced_same lower.well_formed in
+        let x = lower.runs g n fits right in
+        let y = (laws.added.kept passed.forwarded passed.forced forced_same).runs g n o x.0 x.1 in
+        let z = (laws.middle.place passed.forced passed.placed passed.place).runs well g n o y.0 right y.1 in
+        let w = (laws.added.kept passed.placed b.code (laws.middle.recut passed.placed b.code passed.tags options.max_gap passed.recut).same).runs g n o z.0 z.1 in
+        record { outcome = o; defined = right; run = w.0; runs = w.1 }
+
+    module _ (right : IsRightFor (meaning_of (program_of prog) (bytes_of b.layouts) built.image) input) (safe : RunsSafely (run_of built.image input) (code_end built.image)) where
+      in_image : IsInImage built.image input b.code g linking
+      in_image = laws.in_image b.code b.addresses b.layouts b.parts b.linked options.stack options.out_cap built.image input image_of fits
+
+      none : (t a : ℕ) → may_change built.image a ≡ false → writes (run_of built.image input) t a ≡ None
+      none t a out =
+          let r = reaches (t + 1) (right (t + 1)) in
+          none_at laws.keeps laws.written built.image input b.code g linking fits able.well_formed in_image
+          (laws.named b.code b.addresses b.linked options.stack options.out_cap built.image b.layouts b.parts input image_of.statics_are b.pack) refl safe
+          (t + 1) r.outcome r.run r.defined r.runs t a (omega arith) out
+
+      writes_all : Writes built.image input
+      writes_all = all laws.written built.image input in_image.written fits safe none
+
+pub writes_law : Laws → BuiltWritesLaw
+writes_law laws prog options built s b input fits right safe =
+    writes_all laws prog options built s b input fits (subst (λ (l : List ℕ). IsRightFor (meaning_of (program_of prog) l built.image) input) b.frames.sizes right) safe

@@ -1,0 +1,110 @@
+-- What the run that never loses power doesn't write is at each moment of the others as it was loaded.
+use Rattle.std.proofs.Common.{◌≡◌, ℕ, zero, suc, ◌+◌, ◌<◌, ◌≤◌, inl, inr, Bool, true, false, List, [], ◌∷◌, Some, None, refl, sym, ap, ◌∙◌, arith}
+use Rattle.std.specs.Prelude.{◌-◌, ◌&&◌, ◌||◌, nat_le, nat_lt, unwrap_or}
+use Rattle.std.proofs.lemmas.Bool.{leb-true, and_parts}
+use Rattle.std.proofs.lemmas.Bool.Decides.{nat_tests}
+use Rattle.im_mem.specs.Memory.{Mem}
+use Rattle.im_rv.proofs.Effecting.{step_mem}
+use Rattle.im_image.specs.Contents.{ImageValue, ObjectValue, AreObjects, IsImage}
+use Rattle.im_power.specs.declared.period.Period.{Period}
+use Rattle.im_device.specs.Load.{memory_of}
+use Rattle.im_device.specs.Run.{Moment}
+use Rattle.im_ckpt.specs.Runs.{State, writes}
+use Rattle.im_ckpt.specs.Buffers.{is_buffer}
+use Rattle.im_replay.specs.Compiled.{RunsSafely, IsReplayable}
+use Rattle.im_replay.specs.Replays.{after, within}
+use Rattle.im_replay.proofs.Device.{replay_law}
+use Rattle.im_replay.proofs.Endless.{is_run}
+use Rattle.im_keeps.specs.Keeps.{IsInput}
+use Rattle.im_keeps_run.specs.Laws.{run_of}
+use Rattle.im_keeps_written.specs.Written.{IsWritten, code_end, IsLoaded, IsBegun}
+use Rattle.im_keeps_written.specs.Laws.{WrittenLaw}
+use Rattle.im_keeps_writes.specs.Writes.{is_word, is_in, is_stack, is_output, may_change, Writes}
+use Rattle.im_keeps_writes.proofs.Idle.{live_stays, torn_keeps}
+
+-- what may not change is no byte of a buffer
+no_buffer : (v w x y z : Bool) → (v || w || x || y || z) ≡ false → w ≡ false
+no_buffer true w x y z h = absurd (let bad : true ≡ false = h in cc)
+no_buffer false true x y z h = absurd (let bad : true ≡ false = h in cc)
+no_buffer false false x y z h = refl
+
+-- the code, and what lies between it and the statics
+
+below_objects : (statics least : ℕ) (os : List ObjectValue) (a : ℕ) → AreObjects statics least os → a < least → is_in os a ≡ false
+below_objects statics least [] a h low = refl
+below_objects statics least (o ∷ os) a h low =
+    let at : least ≤ o.at = leb-true _ _ (and_parts _ _ (and_parts _ _ (and_parts _ _ (and_parts _ _ h.0.place).0).0).0).1 in
+    let here : (nat_le o.at a && nat_lt a (o.at + o.size)) ≡ false = before o.at (o.at + o.size) (omega arith) in
+    ap (λ z. z || is_in os a) here ∙ below_objects statics (o.at + o.size + 1) os a h.1 (omega arith)
+  where
+    before : (from to : ℕ) → a < from → (nat_le from a && nat_lt a to) ≡ false
+    before from to less = grind (arith, nat_tests)
+
+no_word : (a : ℕ) → 4096 ≤ a → is_word a ≡ false
+no_word a low = grind (arith, nat_tests)
+
+not_in_buffer : (a : ℕ) → 4096 ≤ a → is_buffer a ≡ false
+not_in_buffer a low = grind (arith, nat_tests)
+
+no_output : (a : ℕ) → a < 1048576 → is_output a ≡ false
+no_output a high = grind (arith, nat_tests)
+
+no_stack : (image : ImageValue) (a : ℕ) → image.stack ≤ 1048576 → a < 1048576 → is_stack image a ≡ false
+no_stack image a few high = by (3145728 - image.stack) (omega arith)
+  where
+    by : (from : ℕ) → a < from → (nat_le from a && nat_lt a 3145728) ≡ false
+    by from less = grind (arith, nat_tests)
+
+none_of : (v w x y z : Bool) → v ≡ false → w ≡ false → x ≡ false → y ≡ false → z ≡ false → (v || w || x || y || z) ≡ false
+none_of v w x y z a b c d e = ap (λ t. t || w || x || y || z) a ∙ ap (λ t. t || x || y || z) b ∙ ap (λ t. t || y || z) c ∙ ap (λ t. t || z) d ∙ e
+
+code_stays : (image : ImageValue) → IsImage image → (a : ℕ) → 4096 ≤ a → a < 1048576 → may_change image a ≡ false
+code_stays image is a low high =
+    none_of (is_word a) (is_buffer a) (is_in image.objects a) (is_stack image a) (is_output a) (no_word a low) (not_in_buffer a low)
+    (below_objects _ 1048576 image.objects a is.objects high) (no_stack image a (leb-true _ _ (and_parts _ _ is.stack).1) high) (no_output a high)
+
+module _ (law : WrittenLaw) (image : ImageValue) (input : List ℕ) (written : IsWritten image) (fits : IsInput input) (safe : RunsSafely (run_of image input) (code_end image)) (none : (t a : ℕ) → may_change image a ≡ false → writes (run_of image input) t a ≡ None) where
+  abbrev r : ℕ → State
+  r = run_of image input
+
+  loaded : IsLoaded image input
+  loaded = law.loaded image input written fits
+
+  begun : IsBegun image input
+  begun = law.begun image input loaded written
+
+  replayable : IsReplayable (memory_of image input) (code_end image)
+  replayable = record {
+    small = loaded.small;
+    index = loaded.index;
+    start_even = loaded.start_even;
+    start_outside = loaded.start_outside;
+    long = law.long image written;
+    recovery = loaded.recovery;
+    checkpoint = loaded.checkpoint;
+    runs = safe;
+  }
+
+  stays : (t a : ℕ) → may_change image a ≡ false → (r t).mem a ≡ memory_of image input a
+  stays zero a out = ap (λ (m : Mem). m a) begun.mem
+  stays (suc t) a out =
+      ap (λ (s : State). s.mem a) (is_run (memory_of image input) t) ∙ step_mem (r t).cpu (r t).mem a
+      ∙ ap (λ z. unwrap_or z ((r t).mem a)) (none t a out) ∙ stays t a out
+
+  same : (periods : List Period) (a : ℕ) → may_change image a ≡ false → (after periods (memory_of image input)).mem a ≡ memory_of image input a
+  same periods a out =
+      let s = (replay_law (memory_of image input) (code_end image) replayable).after_periods periods in
+      elim (s.bytes a (no_buffer (is_word a) (is_buffer a) (is_in image.objects a) (is_stack image a) (is_output a) out)) [
+        | inl e ↦ e ∙ stays s.s a out
+        | inr w ↦ absurd (let n = none w.time a out in let bad : Some ((after periods (memory_of image input)).mem a) ≡ None = sym w.value ∙ n in cc)
+      ]
+
+  pub all : Writes image input
+  all = record {
+    same = same;
+    code = λ periods a low high. same periods a (code_stays image written.is_image a low high);
+    live = λ periods n junk on mask a l.
+        let x : Moment = within periods n junk (memory_of image input) in
+        let e = live_stays (memory_of image input) (code_end image) replayable periods n junk a on l in
+        (e, torn_keeps mask x.cpu x.mem a e);
+  }

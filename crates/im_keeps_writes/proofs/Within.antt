@@ -1,0 +1,129 @@
+-- The run that never loses power writes no byte that may not change.
+use Rattle.std.proofs.Common.{◌≡◌, ◌≢◌, ℕ, zero, suc, ◌+◌, ◌<◌, ◌⊎◌, inl, inr, true, false, List, [], ◌∷◌, Option, Some, None, refl, sym, ap, ◌∙◌, subst, arith}
+use Rattle.im_mem.specs.Memory.{Mem}
+use Rattle.im_rv.specs.declared.step.Went.{Went}
+use Rattle.im_rv.specs.declared.step.Went.TheVariants.{On, Halted, Faulted}
+use Rattle.im_rv.specs.Steps.{Stepped}
+use Rattle.im_rv.specs.Runs.{step_of, go_on, runs}
+use Rattle.im_rv_reach.specs.Touches.{Stored, touch_of, touches, touched}
+use Rattle.im_rv_reach.specs.Orderly.{Anything}
+use Rattle.im_image.specs.Contents.{ImageValue}
+use Rattle.im_device.specs.Load.{memory_of}
+use Rattle.im_ckpt.specs.Runs.{State, effect_at, IsRun, ends, writes}
+use Rattle.im_replay.specs.Compiled.{RunsSafely}
+use Rattle.im_replay.proofs.Bridge.{over_of}
+use Rattle.im_replay.proofs.Endless.{is_run}
+use Rattle.im_replay_path.proofs.Times.{order}
+use Rattle.im_rtlib_laws.specs.Orderly.{touched_from}
+use Rattle.im_store.specs.Outcomes.{Outcome, Undef, More, End, IsDefined}
+use Rattle.im_block.specs.declared.unit.Unit.{Unit as Code}
+use Rattle.im_block.specs.Meaning.{Setting, Event, statics_of}
+use Rattle.im_block.specs.Runs.{Runs}
+use Rattle.im_block.specs.Wellformed.{IsWellFormed}
+use Rattle.im_select_relation.specs.Linking.{Linking}
+use Rattle.im_select_relation.specs.Law.{Begun, Shows, Follows, SelectKeeps}
+use Rattle.im_select_statics.specs.Named.{AreNamed}
+use Rattle.im_select_executes.proofs.Effects.{touches_same}
+use Rattle.im_select_executes.proofs.Accesses.{stores_at}
+use Rattle.im_select_executes.proofs.Going.{from_touched}
+use Rattle.im_keeps.specs.Keeps.{IsInput}
+use Rattle.im_keeps_run.specs.Laws.{run_of}
+use Rattle.im_keeps_until.proofs.Still.{still}
+use Rattle.im_keeps_written.specs.Written.{code_end, IsLoaded, IsBegun}
+use Rattle.im_keeps_written.specs.Laws.{WrittenLaw}
+use Rattle.im_select_executes.specs.Executing.{first_cpu, IsInImage}
+use Rattle.im_keeps_writes.specs.Writes.{may_change}
+use Rattle.im_keeps_writes.proofs.Held.{held}
+use Rattle.im_keeps_writes.proofs.Stored.{AllTouched, at_time, IsInOrder, in_order, IsOwn, all_heard, all_own}
+use Rattle.im_keeps_writes.proofs.Places.{may}
+
+some_or_none : (z : Option ℕ) → (z ≡ None) ⊎ ((w : ℕ) × (z ≡ Some w))
+some_or_none None = inl refl
+some_or_none (Some w) = inr (w, refl)
+
+-- a run of so many steps that doesn't go on has ended by one of them
+record EndsWithin (run : ℕ → State) (t j : ℕ) : Type 0 where
+  e : ℕ
+  early : e < t + j
+  over : ends run e ≡ true
+
+ends_within : (run : ℕ → State) → IsRun run → (j t : ℕ) → (runs j (run t).cpu (run t).mem).went ≢ On → EndsWithin run t j
+ends_within run steps zero t h = absurd (h refl)
+ends_within run steps (suc j) t h = by (step_of (run t).cpu (run t).mem).went refl h
+  where
+    by : (w : Went) → (step_of (run t).cpu (run t).mem).went ≡ w → (go_on (runs j) (step_of (run t).cpu (run t).mem).cpu (step_of (run t).cpu (run t).mem).mem w).went ≢ On → EndsWithin run t (suc j)
+    by On e k =
+        let next : runs j (run (suc t)).cpu (run (suc t)).mem ≡ runs j (step_of (run t).cpu (run t).mem).cpu (step_of (run t).cpu (run t).mem).mem = ap (λ (s : State). runs j s.cpu s.mem) (steps t) in
+        let q = ends_within run steps j (suc t) (λ on. k (ap (λ (s : Stepped). s.went) (sym next) ∙ on)) in
+        let before = q.early in
+        record { e = q.e; early = omega arith; over = q.over }
+    by Halted e k = record { e = t; early = omega arith; over = over_of (step_of (run t).cpu (run t).mem).went (λ on. let bad : Halted ≡ On = sym e ∙ on in cc) }
+    by (Faulted at) e k = record { e = t; early = omega arith; over = over_of (step_of (run t).cpu (run t).mem).went (λ on. let bad : Faulted at ≡ On = sym e ∙ on in cc) }
+
+module _ (keeps : SelectKeeps) (written : WrittenLaw) (image : ImageValue) (input : List ℕ) (u : Code) (g : Setting) (p : Linking) (fits : IsInput input) (well : IsWellFormed u) (within : IsInImage image input u g p) (named : AreNamed p 0 (statics_of u) image.objects) (stack : g.stack ≡ image.stack) (safe : RunsSafely (run_of image input) (code_end image)) where
+  abbrev r : ℕ → State
+  r = run_of image input
+
+  loaded : IsLoaded image input
+  loaded = written.loaded image input within.written fits
+
+  first : IsBegun image input
+  first = written.begun image input loaded within.written
+
+  memory : p.image ≡ (r 0).mem
+  memory = within.memory ∙ sym first.mem
+
+  begun : Begun p (first_cpu image input)
+  begun = record { pc = first.pc ∙ sym within.entry; zero_reg = first.zero_reg; sp = first.sp }
+
+  module _ (n : ℕ) (o : Outcome) (run : List Event) (defined : IsDefined o) (k : Runs u g n o run) where
+    follows : Follows p u g (first_cpu image input) n o run k.steps
+    follows = keeps p u g (first_cpu image input) well within.linked begun n o run defined k
+
+    abbrev j : ℕ
+    j = follows.j
+
+    in_turn : touched j (first_cpu image input) p.image ≡ touched_from r 0 j
+    in_turn = ap (λ (m : Mem). touched j (first_cpu image input) m) memory ∙ from_touched r (is_run (memory_of image input)) j 0 (λ t at low high. safe.no_fault t at)
+
+    ordered : AllTouched IsInOrder (touched_from r 0 j)
+    ordered = subst (AllTouched IsInOrder) in_turn (in_order Anything (touched j (first_cpu image input) p.image) follows.orderly)
+
+    own : AllTouched (IsOwn p u g) (touched_from r 0 j)
+    own = subst (AllTouched (IsOwn p u g)) in_turn (all_own p u g (touched j (first_cpu image input) p.image)
+        (all_heard p u g run _ follows.touches (held p u g well within.linked (first_cpu image input).x begun.zero_reg begun.sp n o run k)))
+
+    none_before : (t a : ℕ) → t < j → may_change image a ≡ false → writes r t a ≡ None
+    none_before t a lt out = elim (some_or_none (writes r t a)) [
+      | inl none ↦ none
+      | inr x ↦ (
+          let s = stores_at (effect_at (r t)) a x.0 x.1 in
+          let same : touches (r t).cpu (r t).mem ≡ Stored s.b s.n ∷ [] = touches_same (r t).cpu (r t).mem ∙ ap touch_of s.is in
+          let in_its_place = (subst (AllTouched IsInOrder) same (at_time IsInOrder r j 0 ordered t (omega arith) (omega arith))).0 in
+          let its_own = (subst (AllTouched (IsOwn p u g)) same (at_time (IsOwn p u g) r j 0 own t (omega arith) (omega arith))).0 in
+          let yes : may_change image a ≡ true = may image p u g named stack s.b s.n a s.ok s.low s.high in_its_place its_own in
+          let bad : true ≡ false = sym yes ∙ out in
+          absurd cc)
+    ]
+
+    halted : (runs j (first_cpu image input) p.image).went ≡ Halted → EndsWithin r 0 j
+    halted h =
+        let same : runs j (first_cpu image input) p.image ≡ runs j (r 0).cpu (r 0).mem = ap (λ (m : Mem). runs j (first_cpu image input) m) memory in
+        ends_within r (is_run (memory_of image input)) j 0 (λ on. let bad : Halted ≡ On = sym h ∙ ap (λ (s : Stepped). s.went) same ∙ on in cc)
+
+    -- behind the end all stays
+    none_over : EndsWithin r 0 j → (t a : ℕ) → may_change image a ≡ false → writes r t a ≡ None
+    none_over e t a out =
+        let before = e.early in
+        elim (order t e.e) [
+          | inl lt ↦ none_before t a (omega arith) out
+          | inr le ↦ ap (λ (s : State). writes (λ q. s) t a) (still r (is_run (memory_of image input)) e.e e.over t le) ∙ none_before e.e a (omega arith) out
+        ]
+
+    none_shown : (t a : ℕ) → t < n → may_change image a ≡ false → (q : Outcome) → Shows p u q n j (runs j (first_cpu image input) p.image) → writes r t a ≡ None
+    none_shown t a lt out (End reason status output variables) s = none_over (halted s.0) t a out
+    none_shown t a lt out (More output) s = none_before t a (let few = s.2 in omega arith) out
+    none_shown t a lt out (Undef why) s = absurd s
+
+    pub none_at : (t a : ℕ) → t < n → may_change image a ≡ false → writes r t a ≡ None
+    none_at t a lt out = none_shown t a lt out o follows.shows

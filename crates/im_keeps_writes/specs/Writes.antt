@@ -1,0 +1,51 @@
+-- Which memory a run of an image may change: no other byte is ever changed, wherever power fails.
+use Rattle.std.specs.Prelude.{◌≡◌, ◌<◌, ◌≤◌, ℕ, ◌+◌, ◌-◌, Bool, false, ◌&&◌, ◌||◌, nat_le, nat_lt, List, [], ◌∷◌}
+use Rattle.im_mem.specs.Map.{memory_size, out_sel_at, code_start, statics_start, stack_end, output_start}
+use Rattle.im_mem.specs.Memory.{Mem}
+use Rattle.im_rv.specs.declared.step.Went.TheVariants.{On}
+use Rattle.im_rv.specs.Runs.{step_of}
+use Rattle.im_rv.specs.Torn.{torn_of}
+use Rattle.im_image.specs.Contents.{ImageValue, ObjectValue}
+use Rattle.im_power.specs.declared.period.Period.{Period}
+use Rattle.im_device.specs.Load.{memory_of}
+use Rattle.im_device.specs.Run.{Moment, index_of}
+use Rattle.im_ckpt.specs.Buffers.{buffer, is_buffer}
+use Rattle.im_replay.specs.Replays.{within}
+use Rattle.im_keeps.specs.Keeps.{device_after}
+
+-- a byte of the runtime's words in the low page, which are those from INDEX to the byte OUT_SEL
+abbrev pub is_word : ℕ → Bool
+is_word a = nat_le a out_sel_at
+
+-- a byte of one of these objects
+abbrev pub is_in : List ObjectValue → ℕ → Bool
+is_in [] a = false
+is_in (object ∷ others) a = (nat_le object.at a && nat_lt a (object.at + object.size)) || is_in others a
+
+-- a byte of the image's stack, which are so many below the stack's end
+abbrev pub is_stack : ImageValue → ℕ → Bool
+is_stack image a = nat_le (stack_end - image.stack) a && nat_lt a stack_end
+
+-- a byte of the output's area
+abbrev pub is_output : ℕ → Bool
+is_output a = nat_le output_start a && nat_lt a memory_size
+
+-- a byte that a run may change: of the runtime's words, of the register buffers, of an object, of the stack or of the output
+abbrev pub may_change : ImageValue → ℕ → Bool
+may_change image a = is_word a || is_buffer a || is_in image.objects a || is_stack image a || is_output a
+
+-- a byte of the live register buffer, which INDEX names
+abbrev pub IsLiveByte : Mem → ℕ → Type 0
+IsLiveByte m a = (buffer (index_of m) ≤ a) × (a < buffer (index_of m) + 128)
+
+-- the step that comes next, whole or torn, leaves the live register buffer as it is
+abbrev pub LeavesLive : Moment → Type 0
+LeavesLive x = (mask a : ℕ) → IsLiveByte x.mem a → ((step_of x.cpu x.mem).mem a ≡ x.mem a) × (torn_of mask x.cpu x.mem a ≡ x.mem a)
+
+pub record Writes (image : ImageValue) (input : List ℕ) : Type 0 where
+  -- after every list of periods, and so at every moment, the one within a store among them: each other byte is as it was loaded
+  pub same : (periods : List Period) (a : ℕ) → may_change image a ≡ false → (device_after image input periods).mem a ≡ memory_of image input a
+  -- so are the code and all that lies between it and the statics
+  pub code : (periods : List Period) (a : ℕ) → code_start ≤ a → a < statics_start → (device_after image input periods).mem a ≡ memory_of image input a
+  -- of the register buffers the idle one alone is changed, at every moment with power on
+  pub live : (periods : List Period) (n junk : ℕ) → (within periods n junk (memory_of image input)).went ≡ On → LeavesLive (within periods n junk (memory_of image input))

@@ -1,0 +1,183 @@
+use crate::fields::{number_of, small_of, word_of};
+use crate::row::Row;
+use crate::stop::Stop;
+use crate::texts::Texts;
+use std::alloc::{AllocError, Global};
+use std::fmt::{Debug, Display};
+
+/// A case: what it finds, as a text, and why it ends early. What has ended goes on to its last line all the same.
+#[derive(Drop)]
+pub struct Case {
+    pub alloc: Global,
+    text: String,
+    stop: Option<Stop>,
+}
+
+impl Case {
+    /// A case that has found nothing yet.
+    pub fn new(alloc: Global) -> Case {
+        Case {
+            alloc,
+            text: String::new(alloc),
+            stop: None,
+        }
+    }
+
+    /// Ends the case early. What ended it first is why.
+    pub fn end(&mut self, stop: Stop) {
+        if self.stop.is_none() {
+            self.stop = Some(stop);
+        }
+    }
+
+    /// What the case finds in all, without the blank before it. One that ended early finds why.
+    pub fn found(&self) -> &str {
+        match self.stop {
+            Some(Stop::Row) => "no case",
+            Some(Stop::Memory) => "no memory",
+            Some(Stop::Files) => "no file",
+            None => {
+                let text = self.text.as_str();
+                match text.strip_prefix(' ') {
+                    Some(rest) => rest,
+                    None => text,
+                }
+            }
+        }
+    }
+
+    /// What was made, and none where the case ends for want of it.
+    pub fn take<T: Drop>(&mut self, made: Result<T, Stop>) -> Option<T> {
+        match made {
+            Ok(value) => Some(value),
+            Err(stop) => {
+                self.end(stop);
+                None
+            }
+        }
+    }
+}
+
+// What is found.
+impl Case {
+    /// Finds a text.
+    pub fn say(&mut self, text: &str) {
+        if self.text.push_str(text).is_err() {
+            self.end(Stop::Memory);
+        }
+    }
+
+    /// Finds a text, if there was memory for it.
+    pub fn tell(&mut self, text: Result<String, AllocError>) {
+        match text {
+            Ok(text) => self.say(&text),
+            Err(_) => self.end(Stop::Memory),
+        }
+    }
+
+    /// Finds a value, behind a blank.
+    pub fn show<T: Display + Drop>(&mut self, value: T) {
+        let text = format!(in self.alloc; " {value}");
+        self.tell(text);
+    }
+
+    /// Finds a value as it is written in code, behind a blank.
+    pub fn debug<T: Debug>(&mut self, value: &T) {
+        let text = format!(in self.alloc; " {value:?}");
+        self.tell(text);
+    }
+
+    /// Finds a word of 32 bits in hexadecimal digits, behind a blank.
+    pub fn word(&mut self, word: u32) {
+        let text = format!(in self.alloc; " {word:08x}");
+        self.tell(text);
+    }
+
+    fn byte(&mut self, byte: u8) {
+        match byte {
+            b'\n' => self.say("\\n"),
+            b'\t' => self.say("\\t"),
+            b'\\' => self.say("\\\\"),
+            b'"' => self.say("\\\""),
+            b' '..=b'~' => {
+                if self.text.push(char::from(byte)).is_err() {
+                    self.end(Stop::Memory);
+                }
+            }
+            _ => {
+                let text = format!(in self.alloc; "\\x{byte:02x}");
+                self.tell(text);
+            }
+        }
+    }
+
+    /// Finds bytes, behind a blank and between quotes, with the escapes of a field.
+    pub fn bytes(&mut self, bytes: &[u8]) {
+        self.say(" \"");
+        for byte in bytes {
+            self.byte(*byte);
+        }
+        self.say("\"");
+    }
+}
+
+// What is read. Where a text is out of form the case ends, and goes on with nothing.
+impl Case {
+    fn or<T: Copy>(&mut self, read: Result<T, Stop>, nothing: T) -> T {
+        match read {
+            Ok(value) => value,
+            Err(stop) => {
+                self.end(stop);
+                nothing
+            }
+        }
+    }
+
+    /// A number of 32 bits, of decimal digits.
+    pub fn small(&mut self, text: &str) -> u32 {
+        self.or(small_of(text), 0)
+    }
+
+    /// A number of decimal digits, maybe with a sign.
+    pub fn number(&mut self, text: &str) -> i64 {
+        self.or(number_of(text), 0)
+    }
+
+    /// A word of 32 bits, of hexadecimal digits.
+    pub fn hex(&mut self, text: &str) -> u32 {
+        self.or(word_of(text), 0)
+    }
+
+    /// The texts before and behind the first such mark.
+    pub fn parted<'a>(&mut self, text: &'a str, mark: char) -> (&'a str, &'a str) {
+        match text.split_once(mark) {
+            Some(parts) => parts,
+            None => {
+                self.end(Stop::Row);
+                ("", "")
+            }
+        }
+    }
+
+    /// The bytes of a field.
+    pub fn bytes_of(&mut self, texts: &Texts, row: &Row<'_>, number: usize) -> Vec<u8> {
+        match row.bytes(self.alloc, texts, number) {
+            Ok(bytes) => bytes,
+            Err(stop) => {
+                self.end(stop);
+                Vec::new(self.alloc)
+            }
+        }
+    }
+
+    /// The words of a field.
+    pub fn words_of(&mut self, row: &Row<'_>, number: usize) -> Vec<u32> {
+        match row.words(self.alloc, number) {
+            Ok(words) => words,
+            Err(stop) => {
+                self.end(stop);
+                Vec::new(self.alloc)
+            }
+        }
+    }
+}

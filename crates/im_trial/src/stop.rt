@@ -1,0 +1,38 @@
+use im_num::NoMemory;
+use std::alloc::{AllocError, AllocFailed};
+use std::io;
+
+/// Why a case ends early, or all of them do.
+#[derive(Clone, Copy, Debug, PartialEq)]
+pub enum Stop {
+    /// The row lacks a field, or has one out of form.
+    Row,
+    /// Memory ran out.
+    Memory,
+    /// A file can't be read, or what is found can't be written.
+    Files,
+}
+
+impl From<AllocError> for Stop {
+    fn from(_fault: AllocError) -> Stop {
+        Stop::Memory
+    }
+}
+
+impl<T: Drop> From<AllocFailed<T>> for Stop {
+    fn from(_fault: AllocFailed<T>) -> Stop {
+        Stop::Memory
+    }
+}
+
+impl From<NoMemory> for Stop {
+    fn from(_fault: NoMemory) -> Stop {
+        Stop::Memory
+    }
+}
+
+impl From<io::Error> for Stop {
+    fn from(_fault: io::Error) -> Stop {
+        Stop::Files
+    }
+}

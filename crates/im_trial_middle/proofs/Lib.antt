@@ -1,0 +1,3 @@
+pub mod Two
+pub mod Laid
+pub mod Single

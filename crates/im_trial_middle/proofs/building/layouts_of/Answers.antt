@@ -1,0 +1,23 @@
+use Rattle.std.proofs.Common.{◌≡◌, ◌+◌, [], ◌∷◌, length, sym, ap, ◌∙◌, subst, arith}
+use Rattle.std.proofs.lemmas.List.{length-append}
+use Rattle.im_trial_middle.proofs.Laid.{Laid, next_at, laid_more, all_laid}
+use Rattle.im_trial_middle.proofs.building.layouts_of.Goals as goal
+
+pub loop-number-preserved : goal.loop-number-preserved
+loop-number-preserved c =
+    let fs = c.args.functions.now in
+    let ls = c.loop-number.layouts.items in
+    let f = c.index-functions-number.result in
+    let l = c.in_ok-layout.layout in
+    let e = c.in_ok-push.ensures.items in
+    let count = c.loop-number.invariant.count in
+    let at = next_at fs c.loop-number.number (length ls) f count c.loop-number-test.true c.index-functions-number.is in
+    record {
+      count = rw e (length-append ls (l ∷ []) ∙ ap (λ n. n + 1) count);
+      laid = subst (Laid fs) (sym e) (laid_more fs ls f l c.loop-number.invariant.laid at c.in_ok-layout.ensures.gives);
+    }
+
+pub returns : goal.returns
+returns c =
+    let count : length c.loop-number.layouts.items ≡ length c.args.functions.now = (let n = c.loop-number.invariant.count in let t = c.loop-number-test.false in let e = c.loop-number.auto.number-end in omega arith) in
+    all_laid c.args.functions.now c.loop-number.layouts.items c.loop-number.invariant.laid count

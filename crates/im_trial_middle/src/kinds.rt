@@ -1,0 +1,15 @@
+use crate::{assembling, forcing, frames, losses, recutting, statics};
+use im_trial::{Case, Row, Stop};
+
+/// Runs the case of a row by its kind.
+pub(crate) fn run(row: &Row<'_>, case: &mut Case) {
+    match row.kind() {
+        "force" => forcing::a_loop_with_calls_and_writes(case),
+        "recut" => recutting::recut_code(row, case),
+        "frame" => frames::objects_lie_behind_slots(case),
+        "statics" => statics::statics_lie_apart(case),
+        "assemble" => assembling::a_program_is_linked(case),
+        "losses" => losses::power_fails(case),
+        _ => case.end(Stop::Row),
+    }
+}
