@@ -20,9 +20,9 @@ pub enum CheckFault {
     Rule { number: u32, token: u32 },
     /// A count is over its limit.
     Limit { which: Limit, count: u64 },
-    /// A type has that many bytes, which is over the limit of 1048576. It was met in the declarator of
-    /// this name, or in a function with it, or in specifiers, which have no name; the token is their
-    /// first.
+    /// A type has that many bytes, which is over the limit of 1048576. It was met in the declarator
+    /// of this name, or in a function with it, or in specifiers, which have no name; the token is
+    /// their first.
     Large { bytes: u64, token: u32, name: Name },
     OutOfMemory,
 }

@@ -18,7 +18,8 @@ const CHECKS: [(&[u8], u8, &[u8]); 3] = [
     (
         LARGE,
         3,
-        b"a.c:1:6: size 1048577 over 1048576 in 'a': a type has at most 1048576 bytes\nchar a[1048577]; int main(void) { return 0; }\n     ^\n",
+        b"a.c:1:6: size 1048577 over 1048576 in 'a': a type has at most 1048576 bytes\n\
+char a[1048577]; int main(void) { return 0; }\n     ^\n",
     ),
 ];
 
