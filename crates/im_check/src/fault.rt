@@ -36,7 +36,7 @@ impl From<NoMemory> for CheckFault {
 }
 
 impl From<UnitFault> for CheckFault {
-    ghost from_gives = { λ fault result. result ≡ fault_of fault };
+    ghost from_gives = { λ of_unit fault. fault ≡ fault_of of_unit };
 
     fn from(fault: UnitFault) -> CheckFault {
         match fault {
