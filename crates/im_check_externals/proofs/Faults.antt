@@ -26,17 +26,17 @@ of_whole (Large bytes token name) broken large h = (large bytes token name.items
 of_whole Memory broken large h = tt
 
 -- a stop at a node that has no other parts
-pub of_stop : {f : FilePlace} {n : FileNode} {C : ℕ → ℕ → Type 0} {M : ℕ → ℕ → Name → Type 0} {at : ℕ} {called : Name} (stop : Stop) (fault : UnitFault)
+pub of_stop : {f : FilePlace} {n : FileNode} {C : ℕ → ℕ → Type 0} (M : ℕ → ℕ → Name → Type 0) (at : ℕ) (called : Name) (stop : Stop) (fault : UnitFault)
     → ((rule token : ℕ) → FileBroken f n rule token → C rule token)
     → ((bytes : ℕ) → FileSized f n bytes → M bytes at called)
     → IsFileFault f n stop
     → IsMetIn at called stop fault
     → IsFaultBy C M fault
-of_stop {f = f} {n = n} stop (Rule rule token) broken large h is = broken rule token (subst (λ z. IsFileFault f n z) is h)
-of_stop {f = f} {n = n} {M = M} {at = at} {called = called} stop (Large bytes token name) broken large h (is, is_token, is_name) =
+of_stop {f = f} {n = n} M at called stop (Rule rule token) broken large h is = broken rule token (subst (λ z. IsFileFault f n z) is h)
+of_stop {f = f} {n = n} M at called stop (Large bytes token name) broken large h (is, is_token, is_name) =
     let k : IsFileFault f n (s.Large bytes) = subst (λ z. IsFileFault f n z) is h in
     (subst (λ z. M bytes z name.items) (sym is_token) (subst (λ z. M bytes at z) (sym is_name) (large bytes k.0)), k.1)
-of_stop stop Memory broken large h is = tt
+of_stop M at called stop Memory broken large h is = tt
 
 -- a declarator begins with its first token
 pub met_in_declarator : (d : dc.Declarator) (called : Name) (stop : Stop) (fault : UnitFault) → called ≡ name_of (declarator_of d)

@@ -28,7 +28,7 @@ use Rattle.im_check_externals.specs.declared.fault.UnitFault.{UnitFault}
 use Rattle.im_check_externals.specs.declared.unit.UnitDefined.{UnitDefined}
 use Rattle.im_check_externals.specs.Externals.{ExternalDone, ExternalsDone}
 use Rattle.im_check_externals.specs.Faults.{IsExternalFault, IsExternalsFault, IsMetIn}
-use Rattle.im_check_externals.specs.Large.{LargeAmong, in_function, this_external, other_external}
+use Rattle.im_check_externals.specs.Large.{LargeExternal, LargeAmong, in_function, this_external, other_external}
 use Rattle.im_check_externals.proofs.Faults.{of_whole, of_stop}
 use Rattle.im_check_externals.proofs.Longer.{external_more}
 use Rattle.im_check_externals.proofs.Defined.{defined_longer, defined_two, defined_one}
@@ -146,7 +146,7 @@ pub function_fault : (f : FilePlace) (s : t.Specifiers) (d : t.Declarator) (body
     → IsFileFault f (b.an_external (t.function_definition s d body)) stop
     → IsMetIn (declarator_token d) (name_of d) stop fault
     → IsExternalFault f (t.function_definition s d body) fault
-function_fault f s d body stop fault h is = of_stop stop fault (λ rule token z. z) (λ bytes z. in_function z) h is
+function_fault f s d body stop fault h is = of_stop (LargeExternal f (t.function_definition s d body)) (declarator_token d) (name_of d) stop fault (λ rule token z. z) (λ bytes z. in_function z) h is
 
 pub reached_all : {before now : File} {done : UnitDefined} {xs : List External} {i : ℕ} → drop i xs ≡ [] → Reached before now done xs i → ExternalsDone before (externals_of xs) now done
 reached_all {before = before} {now = now} {done = done} {xs = xs} ends reached =
