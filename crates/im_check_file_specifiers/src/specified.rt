@@ -1,5 +1,5 @@
 //! Specifiers at file scope and of members (C11 6.7.2), with the lists that they declare.
-ghost use Rattle.std.specs.Prelude.{◌≡◌, ◌∷◌, [], true, ℕ, List, MatchResult};
+ghost use Rattle.std.specs.Prelude.{◌∷◌, ℕ, List, MatchResult};
 ghost use Rattle.im_ctree.specs.Tree as t;
 ghost use Rattle.im_ctree.specs.declared.specifier.SpecifierWord.{SpecifierWord};
 ghost use Rattle.im_rules.specs.TypedUnit.{Specify, NamesType, AreMembers};
@@ -62,7 +62,6 @@ pub fn specify(
 /// The type of a struct or an enum with its list.
 #[cycle(lists)]
 fn listed(alloc: Global, specifier: &Specifier, file: &mut File) -> Result<Type, Stop>
-    requires { b.begins_with_list (specifier_in specifier.now ∷ []) ≡ true }
     ensures { (first : ℕ) (ss : List t.Specifier) (ks : List SpecifierWord)
         → let all = specifier_in specifier.now ∷ ss in MatchResult result
         (λ ty. NamesType (file_place_of file.old) all ks (plain (type_of ty))
@@ -79,7 +78,7 @@ fn listed(alloc: Global, specifier: &Specifier, file: &mut File) -> Result<Type,
             enumeration(alloc, specifier.at, tag, written, file)?;
             Ok(Type::Integer(Integer::Int))
         }
-        _ => unreachable!(),
+        _ => Err(Stop::Memory),
     }
 }
 

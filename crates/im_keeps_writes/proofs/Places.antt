@@ -147,10 +147,10 @@ module _ (image : ImageValue) (p : Linking) (u : Code) (g : Setting) (named : Ar
       fourth (is_word a) (is_buffer a) (is_in image.objects a) (is_stack image a) (is_output a) (stack_byte image a (omega (arith, from, stack, low)) (omega arith))
 
   data_may : (b n a : ℕ) → is_place b n ≡ true → b ≤ a → a < b + n → 1048576 ≤ b → place_of b n ≢ Wrong → (is_system b ≡ false → IsHeld p u g b n) → may_change image a ≡ true
-  data_may b n a place low high data fine own = elim (order 3145728 (b + n)) [
-    | inr less ↦ held_may b n a low high (own (data_own b data (omega arith)))
+  data_may b n a place low high beyond fine own = elim (order 3145728 (b + n)) [
+    | inr less ↦ held_may b n a low high (own (data_own b beyond (omega arith)))
     | inl over ↦ elim (order b 4194304) [
-      | inl less ↦ absurd (fine (wrong_between b n data over less))
+      | inl less ↦ absurd (fine (wrong_between b n beyond over less))
       | inr out ↦ (
           let end = place_end b n place in
           fifth (is_word a) (is_buffer a) (is_in image.objects a) (is_stack image a) (is_output a) (output_byte a (omega arith) (omega arith)))
@@ -162,7 +162,7 @@ module _ (image : ImageValue) (p : Linking) (u : Code) (g : Setting) (named : Ar
   high_may b n a place low high more (inr (inl q)) own = second (is_word a) (is_buffer a) (is_in image.objects a) (is_stack image a) (is_output a) (in_buffers b n a place q low high)
   high_may b n a place low high more (inr (inr fine)) own = elim (order b 1048576) [
     | inl less ↦ absurd (fine (wrong_low b n a low high more less))
-    | inr data ↦ data_may b n a place low high data fine own
+    | inr beyond ↦ data_may b n a place low high beyond fine own
   ]
 
   pub may : (b n a : ℕ) → is_place b n ≡ true → b ≤ a → a < b + n → IsInOrder (Stored b n) → (is_system b ≡ false → IsHeld p u g b n) → may_change image a ≡ true

@@ -67,8 +67,8 @@ fn tell_string_numbers(alloc: Global, case: &mut Case) -> Result<(), Stop> {
     Ok(())
 }
 
-/// The numbers of string literals behind `f("", "")`, the declarator `a[""]` and its name, from 7 on; and a literal more
-/// than there are numbers for.
+/// The numbers of string literals behind `f("", "")`, the declarator `a[""]` and its name, from 7
+/// on; and a literal more than there are numbers for.
 pub(crate) fn string_numbers(case: &mut Case) {
     if let Err(stop) = tell_string_numbers(case.alloc, case) {
         case.end(stop);

@@ -105,7 +105,8 @@ fn tell_end(end: Result<u32, ParseStop>, case: &mut Case) {
     }
 }
 
-/// `declaration`, letters: the place behind the declaration that they begin with, or of the first word that none goes on with.
+/// `declaration`, letters: the place behind the declaration that they begin with, or of the first
+/// word that none goes on with.
 pub(crate) fn declared(row: &Row<'_>, case: &mut Case) {
     tell_end(declaration_end(case.alloc, row.field(1)), case);
 }

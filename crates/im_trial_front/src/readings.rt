@@ -62,7 +62,8 @@ pub(crate) fn read(texts: &Texts, row: &Row<'_>, case: &mut Case) {
     }
 }
 
-// Tells the line and the external declarations of a front that is read. Gives whether it is refused at its last line.
+// Tells the line and the external declarations of a front that is read. Gives whether it is refused
+// at its last line.
 fn tell_front(front: &[u8], line: u32, case: &mut Case) -> bool {
     match count(case.alloc, front) {
         Ok(externals) => {
@@ -75,8 +76,9 @@ fn tell_front(front: &[u8], line: u32, case: &mut Case) -> bool {
     }
 }
 
-/// `fronts`, a name, a text: each front that ends with a line is read or refused at the line behind its last one. Told
-/// are those that are read, with how many external declarations they have, and how many are refused there.
+/// `fronts`, a name, a text: each front that ends with a line is read or refused at the line behind
+/// its last one. Told are those that are read, with how many external declarations they have, and
+/// how many are refused there.
 pub(crate) fn fronts(texts: &Texts, row: &Row<'_>, case: &mut Case) {
     let text = case.bytes_of(texts, row, 2);
     let mut line: u32 = 1;

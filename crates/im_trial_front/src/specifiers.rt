@@ -117,7 +117,8 @@ fn tell_specifiers(alloc: Global, case: &mut Case) -> Result<(), Stop> {
     Ok(())
 }
 
-/// The types of `unsigned const long`, of `text`, of `const struct list` and of the words `static int`.
+/// The types of `unsigned const long`, of `text`, of `const struct list` and of the words `static
+/// int`.
 pub(crate) fn specifiers(case: &mut Case) {
     if let Err(stop) = tell_specifiers(case.alloc, case) {
         case.end(stop);

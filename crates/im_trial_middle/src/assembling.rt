@@ -8,6 +8,7 @@ ghost use Rattle.im_link_laws.specs.Laws.{NamesAccesses};
 use crate::fault::{Fault, taken};
 use im_block::{Block, Exit, Function, Line, Registers, Unit};
 use im_frame::lay_out;
+use im_link_laws::linkable_law;
 use im_rv::Code;
 use im_select_assemble::{Program, assemble};
 use im_trial::Case;
@@ -59,6 +60,7 @@ fn tell_code(code: &Code, case: &mut Case) {
 }
 
 fn linked(alloc: Global) -> Result<Code, Fault> {
+    linkable_law();
     let unit = seven(alloc)?;
     let layout = lay_out(alloc, &unit.functions[0])?;
     let layouts = vec![in alloc; layout]?;
@@ -72,7 +74,8 @@ fn linked(alloc: Global) -> Result<Code, Fault> {
     Ok(assembled.linker.finish()?)
 }
 
-/// The number of words of a program that is linked, those of `main` and of the lines that begin, and the entry.
+/// The number of words of a program that is linked, those of `main` and of the lines that begin,
+/// and the entry.
 pub(crate) fn a_program_is_linked(case: &mut Case) {
     let alloc = case.alloc;
     if let Some(code) = taken(linked(alloc), case) {

@@ -38,7 +38,8 @@ fn owned(alloc: Global, names: &[&str]) -> Result<Vec<String>, Fault>
     Ok(strings)
 }
 
-/// The image of placed code, whose functions have these names: laid out, selected, linked and packed.
+/// The image of placed code, whose functions have these names: laid out, selected, linked and
+/// packed.
 pub(crate) fn image_of(alloc: Global, unit: Unit, names: &[&str]) -> Result<Image, Fault>
     requires buildable { IsBuildable unit }
     requires named { length names.now ≡ length unit.functions.items }

@@ -92,7 +92,8 @@ fn tell_cuts_of(block: &Block, case: &mut Case) {
     }
 }
 
-/// Tells of each block how many lines it has, and those that are cuts, each with its number and its cause.
+/// Tells of each block how many lines it has, and those that are cuts, each with its number and its
+/// cause.
 pub(crate) fn tell_cuts(functions: &[Function], case: &mut Case) {
     for function in functions {
         for block in &function.blocks {
@@ -107,7 +108,8 @@ fn forced(alloc: Global) -> Result<Unit, Fault> {
     Ok(force(alloc, counter(alloc)?)?)
 }
 
-/// The cuts of a loop with calls and writes, `int main(void) { while (getchar() >= 0) s = s + 1; return 0; }`.
+/// The cuts of a loop with calls and writes, `int main(void) { while (getchar() >= 0) s = s + 1;
+/// return 0; }`.
 pub(crate) fn a_loop_with_calls_and_writes(case: &mut Case) {
     let alloc = case.alloc;
     if let Some(unit) = taken(forced(alloc), case) {

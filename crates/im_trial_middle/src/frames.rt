@@ -43,7 +43,8 @@ fn laid_out(alloc: Global) -> Result<(u64, Layout), Fault> {
     Ok((bytes, lay_out(alloc, &function)?))
 }
 
-/// The frame of a function with two slots and objects of 1, 4 and 5 bytes, twice, and the places of the objects.
+/// The frame of a function with two slots and objects of 1, 4 and 5 bytes, twice, and the places of
+/// the objects.
 pub(crate) fn objects_lie_behind_slots(case: &mut Case) {
     let alloc = case.alloc;
     if let Some((bytes, layout)) = taken(laid_out(alloc), case) {

@@ -75,7 +75,8 @@ fn tell_whole(image: &Image, case: &mut Case) -> u64 {
     machine.commits()
 }
 
-// Power fails after each instruction of each section: whether there are as many commits, and how the run ends.
+// Power fails after each instruction of each section: whether there are as many commits, and how
+// the run ends.
 fn tell_losses(image: &Image, case: &mut Case) {
     let commits = tell_whole(image, case);
     let Some(mut machine) = loaded(image, case) else {
@@ -112,8 +113,8 @@ fn built(alloc: Global) -> Result<Image, Fault> {
     image_of(alloc, unit(alloc)?, &["add", "main"])
 }
 
-/// A function that calls itself and writes through a pointer, from block code to its run under losses of power: with power
-/// all the time, after each instruction, and again and again.
+/// A function that calls itself and writes through a pointer, from block code to its run under
+/// losses of power: with power all the time, after each instruction, and again and again.
 pub(crate) fn power_fails(case: &mut Case) {
     let alloc = case.alloc;
     if let Some(image) = taken(built(alloc), case) {

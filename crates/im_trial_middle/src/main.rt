@@ -1,4 +1,5 @@
-//! Block code and placed code made by hand, by a table: what each pass makes of it, and its runs under losses of power.
+//! Block code and placed code made by hand, by a table: what each pass makes of it, and its runs
+//! under losses of power.
 #![tactic(auto)]
 
 mod assembling;

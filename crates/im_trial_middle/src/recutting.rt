@@ -16,8 +16,8 @@ const S: Place = Place::Static {
     offset: 0,
 };
 
-/// Slot 0 and the static are written first in their section; slot 1 is read, then written. Each access costs at most four words, a
-/// return eight: 60 behind the call.
+/// Slot 0 and the static are written first in their section; slot 1 is read, then written. Each
+/// access costs at most four words, a return eight: 60 behind the call.
 fn sample(alloc: Global) -> Result<Unit, Fault>
     ensures ordered { IfOk result AllOrdered }
     ensures forced { IfOk result AllForced }
@@ -144,8 +144,8 @@ fn cut_again(alloc: Global, max_gap: Option<u32>) -> Result<Unit, Fault> {
     Ok(recut(alloc, sample(alloc)?, &tags(alloc)?, max_gap)?)
 }
 
-/// `recut`, a name, the longest gap that is allowed, or `-`: the lines that are cuts in code that is cut again, each with
-/// its number and its cause.
+/// `recut`, a name, the longest gap that is allowed, or `-`: the lines that are cuts in code that
+/// is cut again, each with its number and its cause.
 pub(crate) fn recut_code(row: &Row<'_>, case: &mut Case) {
     let alloc = case.alloc;
     let max_gap = match row.field(2) {

@@ -37,9 +37,6 @@ specify-loop-specifier-preserved t c =
     let may = rw c.deref.ensures.value at c.in_ok-may_stand.ensures in
     (passed_by (list_of c.args.specifiers.now) (specifier_in s) (list_from (drop (i + 1) items)) (c.is_list.ensures [] ∙ c.if-is_list.false) may.1 (rw at at c.loop-specifier.invariant.0), c.loop-specifier.invariant.1)
 
-pub specify-listed-requires : goal.specify-listed-requires
-specify-listed-requires t c = c.is_list.ensures [] ∙ c.if-is_list.true
-
 pub specify-returns-in_err-ty : goal.specify-returns-in_err-ty
 specify-returns-in_err-ty t c =
     let p = err_from_is_err_and c.from_residual-in_err-ty.result c.from_residual-in_err-ty.ensures.1 in

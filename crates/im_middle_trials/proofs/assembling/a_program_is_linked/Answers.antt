@@ -21,5 +21,5 @@ assemble-requires g c =
 pub finish-requires : goal.finish-requires
 finish-requires g c =
     let a = c.in_ok-assembled.ensures.parts in
-    let linkable = c.linkable_law.ensures c.in_ok-unit.unit c.program.statics.now c.program.layouts.now a.parts a.is_program c.in_ok-unit.ensures.named in
+    let linkable = c.linkable_law.ensures c.in_ok-unit.unit _ _ a.parts a.is_program c.in_ok-unit.ensures.named in
     record { parts = a.parts; holds = a.holds; linkable = linkable }

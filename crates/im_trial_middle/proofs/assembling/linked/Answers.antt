@@ -17,3 +17,9 @@ assemble-requires c =
       statics = (let a = ap (λ z. length z) c.in_ok-unit.ensures.none in sym a);
       low = λ n h. absurd (omega arith);
     }
+
+pub finish-requires : goal.finish-requires
+finish-requires c =
+    let a = c.in_ok-assembled.ensures.parts in
+    let linkable = c.linkable_law.ensures c.in_ok-unit.unit c.program.statics.now c.program.layouts.now a.parts a.is_program c.in_ok-unit.ensures.named in
+    record { parts = a.parts; holds = a.holds; linkable = linkable }

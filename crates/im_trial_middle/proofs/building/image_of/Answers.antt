@@ -19,6 +19,12 @@ assemble-requires c =
     let statics = c.deref-4.ensures.value ∙ c.in_ok-statics.ensures ∙ ap (λ (k : List StaticOf). places_from statics_start (objects_of k)) c.deref-2.ensures.value in
     assemblable unit _ c.requires.buildable laid statics (ap (λ l. length l) c.deref-5.ensures.value ∙ c.in_ok-names.ensures ∙ c.requires.named)
 
+pub finish-requires : goal.finish-requires
+finish-requires c =
+    let a = c.in_ok-assembled.ensures.parts in
+    let linkable = c.linkable_law.ensures c.args.unit c.deref-4.result.now c.deref-3.result.now a.parts a.is_program c.requires.buildable.named in
+    record { parts = a.parts; holds = a.holds; linkable = linkable }
+
 pub pack-requires-clause-well_formed : goal.pack-requires-clause-well_formed
 pack-requires-clause-well_formed c =
     let same : c.deref-6.result.now ≡ c.args.unit.statics.items = c.deref-6.ensures.value ∙ ap (λ z. z.items) c.in_ok-assembled.ensures.statics in
