@@ -101,11 +101,11 @@ passed_more {xs = xs} {q = q} {now = now} {after = after} {ds = ds} {i = i} {x =
     }
 
 -- a fault in one is one in front of any others
-pub one_fault : {xs : t.SpecifierList} {q : Qualified} {f : FilePlace} (x : InitDeclarator) (rest : t.InitDeclarators) (stop : Stop) (fault : UnitFault)
+pub one_fault : (xs : t.SpecifierList) (q : Qualified) (f : FilePlace) (x : InitDeclarator) (rest : t.InitDeclarators) (stop : Stop) (fault : UnitFault)
     → IsFileFault f (some_declared xs q (of_one x)) stop
     → IsMetIn (declarator_token (declarator_of x.declarator)) (name_of (declarator_of x.declarator)) stop fault
     → IsDeclaredFault xs q f (with_declarator x rest) fault
-one_fault {xs = xs} {q = q} {f = f} x rest stop fault h is =
+one_fault xs q f x rest stop fault h is =
     of_stop (LargeDeclared xs q f (with_declarator x rest)) (declarator_token (declarator_of x.declarator)) (name_of (declarator_of x.declarator)) stop fault (λ rule token b. more_broken rest b) (λ bytes s. this_declarator s) h is
 
 pub passed_fault : {xs : t.SpecifierList} {q : Qualified} {before now : FilePlace} {ds : List InitDeclarator} {i : ℕ} {x : InitDeclarator} (old new : List rf.FirstValues) (fault : UnitFault)
