@@ -12,7 +12,7 @@ use Rattle.im_rules.specs.Initialisers.{completed}
 use Rattle.im_rules.specs.Outline.{name_of}
 use Rattle.im_rules.specs.Typed.{Declares}
 use Rattle.im_rules.specs.TypedUnit.{FirstValues, AreDeclared, one_declared, given_strings, past_declarator}
-use Rattle.im_rules.specs.UnitBreaks.{FileBroken, some_declared, within_file, other_declared, file_declarator}
+use Rattle.im_rules.specs.UnitBreaks.{some_declared, within_file, other_declared, file_declarator}
 use Rattle.im_rules.proofs.Once.{declares_once}
 use Rattle.im_check_file_functions.specs.im_rules_limits.Limits.{size_limit, FileSized, of_static, size_in_file_part, size_in_file_inner, size_in_static_initialiser, IsFileWithin}
 use Rattle.im_check_stop.specs.declared.stop.Stop.{Stop}

@@ -1,5 +1,5 @@
 -- A declaration at file scope, put together.
-use Rattle.std.proofs.Common.{ℕ, List, Result, Ok, Err, MatchResult, [], sym, subst}
+use Rattle.std.proofs.Common.{List, Result, Ok, Err, MatchResult, [], sym, subst}
 use Rattle.im_ctree.specs.Tree as t
 use Rattle.im_ctree.specs.Shape.{specifiers_of}
 use Rattle.im_ctree.specs.declared.specifier.Specifiers as ss

@@ -1,5 +1,5 @@
 -- Faults as faults of what is round them.
-use Rattle.std.proofs.Common.{◌≡◌, ℕ, ◌<◌, ◌∙◌, sym, ap, subst}
+use Rattle.std.proofs.Common.{◌≡◌, ℕ, sym, ap, subst}
 use Rattle.im_check_file_functions.specs.im_word.Words.{Name}
 use Rattle.im_ctree.specs.Shape.{declarator_of}
 use Rattle.im_ctree.specs.declared.declarator.Declarator as dc
@@ -8,7 +8,7 @@ use Rattle.im_rules.specs.BodyBreaks.{declarator_token}
 use Rattle.im_rules.specs.Outline.{name_of}
 use Rattle.im_rules.specs.FileScope.{FilePlace}
 use Rattle.im_rules.specs.UnitBreaks.{FileNode, FileBroken}
-use Rattle.im_check_file_functions.specs.im_rules_limits.Limits.{FileSized, size_limit}
+use Rattle.im_check_file_functions.specs.im_rules_limits.Limits.{FileSized}
 use Rattle.im_check_stop.specs.declared.stop.Stop.{Stop}
 use Rattle.im_check_stop.specs.declared.stop.Stop.TheVariants as s
 use Rattle.im_check_file_specifiers.specs.Answers.{IsFileFault}
