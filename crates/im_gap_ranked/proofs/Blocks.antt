@@ -30,18 +30,20 @@ use Rattle.im_block.specs.Paths.{IsCut}
 use Rattle.im_block.specs.Forced.{StartsWithCut, CutAfterCalls}
 use Rattle.im_block.specs.Wellformed.{ExitThere}
 use Rattle.im_cut_gap.specs.Remaining.{cost_on}
+use Rattle.im_select.specs.declared.branching.Test.{Test}
 use Rattle.im_select.specs.declared.distance.Distance.{Distance as Reach}
 use Rattle.im_select.specs.declared.distance.Distance.TheVariants.{Near, Far}
-use Rattle.im_select.specs.Emitted.{high_of, low_of, constant_by, constant_code, adds_by, adds_code, entry_label, labelled, call_code, cut_code, line_code, lines_code, leave_code, result_code, onward_code, test_code, is_next, branch_code, exit_code, is_empty, ended_code, block_code, laid_order, Laying, next_label, found_code, laid_block, laid_code, blocks_code, enter_code, prologue_code, function_code}
+use Rattle.im_select.specs.Emitted.{high_of, low_of, constant_by, constant_code, adds_by, adds_code, entry_label, labelled, call_code, cut_code, line_code, lines_code, leave_code, result_code, onward_code, test_line, test_code, test_or, taken_test, own_lines, is_next, branch_code, exit_code, is_empty, taking_code, block_code, laid_order, Laying, next_label, found_code, laid_block, laid_code, blocks_code, enter_code, prologue_code, function_code}
 use Rattle.im_select.specs.Places.{CallsBelow}
 use Rattle.im_select.proofs.Counting.{paid}
+use Rattle.im_select.proofs.Taking.{IsTaken, Nothing, Comparing, takes, all_left}
 use Rattle.im_saved_lines.specs.Laws.{laid}
 use Rattle.im_saved_lines.proofs.Scanning.{both, same_of, same_is, IsPlain}
 use Rattle.im_saved_lines.proofs.Plain.{adds_plain}
 use Rattle.im_saved_lines.proofs.Working.{IsWork, work_plain}
 use Rattle.im_saved_lines.proofs.Order.{some_there, AreBelow, order_below}
-use Rattle.im_saved_lines.proofs.Selected.{next_is}
-use Rattle.im_gap_ranked.proofs.Ranks.{greater, greater_within, After, cut_rank, scan, IsRankedLine, AreRanked, AreWithin, scan_append, scan_labelled, ranked_append, ranked_labelled, within_append, within_labelled, plain_ranked, plain_rank, plain_within}
+use Rattle.im_saved_lines.proofs.Selected.{next_is, test_way}
+use Rattle.im_gap_ranked.proofs.Ranks.{greater, greater_within, After, cut_rank, rank_by, Goes, scan, IsRankedLine, AreRanked, AreWithin, scan_append, scan_labelled, ranked_append, ranked_labelled, within_append, within_labelled, plain_ranked, plain_rank, plain_within}
 use Rattle.im_gap_ranked.proofs.Routines.{entry_rank}
 
 -- ---- the stack pointer plus a word
@@ -108,10 +110,28 @@ line_few places m line uncut =
     let e = length-append (line_code places m line) [] in
     omega arith
 
+-- ---- what an exit takes of its block is neither a cut nor a call
+
+tail_cost : (left : ℕ → ℕ) (live : ℕ → ℕ → Bool) (tail : List Line) (exit : Exit) (taken : Option Test) → IsTaken live tail exit taken → cost_on left [] exit ≤ cost_on left tail exit
+tail_cost left live tail exit taken (Nothing exit') = omega arith
+tail_cost left live tail exit taken (Comparing to op kind a b x y p q) = omega arith
+
+starts_left : (live : ℕ → ℕ → Bool) (lines tail : List Line) (exit : Exit) (taken : Option Test) → IsTaken live tail exit taken → StartsWithCut (lines ++ tail) → StartsWithCut lines
+starts_left live [] tail exit taken (Nothing exit') s = s
+starts_left live [] tail exit taken (Comparing to op kind a b x y p q) s = absurd s
+starts_left live (line ∷ lines) tail exit taken t s = s
+
+calls_left : (live : ℕ → ℕ → Bool) (lines tail : List Line) (exit : Exit) (taken : Option Test) → IsTaken live tail exit taken → CutAfterCalls (lines ++ tail) → CutAfterCalls lines
+calls_left live [] tail exit taken t c = tt
+calls_left live (Call to i start given ∷ lines) tail exit taken t c = (starts_left live lines tail exit taken t c.0, calls_left live lines tail exit taken t c.1)
+calls_left live (GetChar to ∷ lines) tail exit taken t c = (starts_left live lines tail exit taken t c.0, calls_left live lines tail exit taken t c.1)
+calls_left live (PutChar to from ∷ lines) tail exit taken t c = (starts_left live lines tail exit taken t c.0, calls_left live lines tail exit taken t c.1)
+calls_left live (line ∷ lines) tail exit taken t c = calls_left live lines tail exit taken t c
+
 abbrev return_code : List CodeLine
 return_code = plain_line (with_immediate Jalr 0 1 0) ∷ []
 
-module _ (at : ℕ → ℕ) (places : Name → ℕ) (m : ℕ → ℕ → ℕ) (okay : (b j : ℕ) → (4 ≤ m b j) × (m b j ≤ 31)) (distance : Reach) (functions first frame : ℕ) (left : ℕ → ℕ) (f : Function) (above : 64 ≤ first) (callees : HasCallees functions at) (blocks : (b : ℕ) → b < length f.blocks.items → at (first + b) ≡ block_rank left f b) where
+module _ (at : ℕ → ℕ) (places : Name → ℕ) (m : ℕ → ℕ → ℕ) (okay : (b j : ℕ) → (4 ≤ m b j) × (m b j ≤ 31)) (live : ℕ → ℕ → Bool) (distance : Reach) (functions first frame : ℕ) (left : ℕ → ℕ) (f : Function) (above : 64 ≤ first) (callees : HasCallees functions at) (blocks : (b : ℕ) → b < length f.blocks.items → at (first + b) ≡ block_rank left f b) where
   block_most : (b : ℕ) → b < length f.blocks.items → at (first + b) ≤ block_base + left b
   block_most b h = subst (λ z. z ≤ block_base + left b) (sym (blocks b h)) (by (b == f.entry))
     where
@@ -172,66 +192,62 @@ module _ (at : ℕ → ℕ) (places : Name → ℕ) (m : ℕ → ℕ → ℕ) (o
   far_most : (bound label : ℕ) (behind : After) → at label ≤ bound → behind.next ≤ suc bound → suc (greater (suc (at label)) behind.next) ≤ suc (suc bound)
   far_most bound label behind a b = let within = greater_within (suc (at label)) behind.next (suc bound) (omega arith) b in omega arith
 
-  test_most : (bound : ℕ) (by : Reach) (other : Bool) (on label : ℕ) (behind : After) → at label ≤ bound → behind.next ≤ suc bound → (scan at (test_code by other on label) behind).next ≤ suc (suc bound)
-  test_most bound Near true on label behind a b = near_most bound label behind a b
-  test_most bound Near false on label behind a b = near_most bound label behind a b
-  test_most bound Far true on label behind a b = far_most bound label behind a b
-  test_most bound Far false on label behind a b = far_most bound label behind a b
+  test_most : (bound : ℕ) (by : Reach) (holds : Bool) (t : Test) (label : ℕ) (behind : After) → at label ≤ bound → behind.next ≤ suc bound → (scan at (test_code by holds t label) behind).next ≤ suc (suc bound)
+  test_most bound Near holds t label behind a b = subst (λ w. rank_by at w 0 (Some label) behind ≤ suc (suc bound)) (sym (test_way holds t)) (near_most bound label behind a b)
+  test_most bound Far holds t label behind a b = subst (λ w. rank_by at w 0 None (scan at (call_code 0 label) behind) ≤ suc (suc bound)) (sym (test_way (not holds) t)) (far_most bound label behind a b)
 
-  test_ranked : (by : Reach) (other : Bool) (on label : ℕ) (behind : After) → 32 ≤ label → AreRanked at (test_code by other on label) behind
-  test_ranked Near true on label behind far = (record { label = λ l e. absurd cc; goes = inr (label, refl, far) }, tt)
-  test_ranked Near false on label behind far = (record { label = λ l e. absurd cc; goes = inr (label, refl, far) }, tt)
-  test_ranked Far true on label behind far = (record { label = λ l e. absurd cc; goes = inl (refl, refl) }, onward_ranked false label behind far)
-  test_ranked Far false on label behind far = (record { label = λ l e. absurd cc; goes = inl (refl, refl) }, onward_ranked false label behind far)
+  test_ranked : (by : Reach) (holds : Bool) (t : Test) (label : ℕ) (behind : After) → 32 ≤ label → AreRanked at (test_code by holds t label) behind
+  test_ranked Near holds t label behind far = (record { label = λ l e. absurd cc; goes = subst (λ w. Goes w (test_line holds t 0) (Some label) behind) (sym (test_way holds t)) (inr (label, refl, far)) }, tt)
+  test_ranked Far holds t label behind far = (record { label = λ l e. absurd cc; goes = subst (λ w. Goes w (test_line (not holds) t 8) None (scan at (call_code 0 label) behind)) (sym (test_way (not holds) t)) (inl (refl, refl)) }, onward_ranked false label behind far)
 
-  branch_most : (bound : ℕ) (next : Option ℕ) (on there other : ℕ) (behind : After) → Meets at next behind → at there ≤ bound → at other ≤ bound → (scan at (branch_code distance next on there other) behind).next ≤ suc (suc bound)
-  branch_most bound next on there other behind meets a b = by (is_next next there) refl
+  branch_most : (bound : ℕ) (next : Option ℕ) (t : Test) (there other : ℕ) (behind : After) → Meets at next behind → at there ≤ bound → at other ≤ bound → (scan at (branch_code distance next t there other) behind).next ≤ suc (suc bound)
+  branch_most bound next t there other behind meets a b = by (is_next next there) refl
     where
       rest : List CodeLine
       rest = onward_code (is_next next other) other
 
-      by : (t : Bool) → is_next next there ≡ t → (scan at (if t then test_code distance false on other else test_code distance true on there ++ rest) behind).next ≤ suc (suc bound)
-      by true e = let falls = meets there (next_is next there e) in test_most bound distance false on other behind b (omega arith)
+      by : (q : Bool) → is_next next there ≡ q → (scan at (if q then test_code distance false t other else test_code distance true t there ++ rest) behind).next ≤ suc (suc bound)
+      by true e = let falls = meets there (next_is next there e) in test_most bound distance false t other behind b (omega arith)
       by false e =
           let onward = onward_most next other (is_next next other) behind (λ q. q) meets in
-          let is = ap (λ (z : After). z.next) (scan_append at (test_code distance true on there) rest behind) in
-          let most = test_most bound distance true on there (scan at rest behind) a (omega arith) in
+          let is = ap (λ (z : After). z.next) (scan_append at (test_code distance true t there) rest behind) in
+          let most = test_most bound distance true t there (scan at rest behind) a (omega arith) in
           subst (λ z. z ≤ suc (suc bound)) (sym is) most
 
-  branch_ranked : (next : Option ℕ) (on there other : ℕ) (behind : After) → 32 ≤ there → 32 ≤ other → AreRanked at (branch_code distance next on there other) behind
-  branch_ranked next on there other behind a b = by (is_next next there)
+  branch_ranked : (next : Option ℕ) (t : Test) (there other : ℕ) (behind : After) → 32 ≤ there → 32 ≤ other → AreRanked at (branch_code distance next t there other) behind
+  branch_ranked next t there other behind a b = by (is_next next there)
     where
       rest : List CodeLine
       rest = onward_code (is_next next other) other
 
-      by : (t : Bool) → AreRanked at (if t then test_code distance false on other else test_code distance true on there ++ rest) behind
-      by true = test_ranked distance false on other behind b
-      by false = ranked_append at (test_code distance true on there) rest behind (test_ranked distance true on there (scan at rest behind) a) (onward_ranked (is_next next other) other behind b)
+      by : (q : Bool) → AreRanked at (if q then test_code distance false t other else test_code distance true t there ++ rest) behind
+      by true = test_ranked distance false t other behind b
+      by false = ranked_append at (test_code distance true t there) rest behind (test_ranked distance true t there (scan at rest behind) a) (onward_ranked (is_next next other) other behind b)
 
-  exit_most : (next : Option ℕ) (bare : Bool) (exit : Exit) (behind : After) → Meets at next behind → ExitThere (length f.blocks.items) exit → (scan at (exit_code distance next bare first frame exit) behind).next ≤ block_base + cost_on left [] exit
-  exit_most next bare (Jump c) behind meets there =
+  exit_most : (next : Option ℕ) (bare : Bool) (taken : Option Test) (exit : Exit) (behind : After) → Meets at next behind → ExitThere (length f.blocks.items) exit → (scan at (exit_code distance next bare first frame taken exit) behind).next ≤ block_base + cost_on left [] exit
+  exit_most next bare taken (Jump c) behind meets there =
       let most = block_most c there in
       let onward = onward_most next (first + c) (not bare && is_next next (first + c)) behind (λ e. (both (not bare) (is_next next (first + c)) e).1) meets in
       omega arith
-  exit_most next bare (Turn c) behind meets there = let most = block_most c there in omega arith
-  exit_most next bare (Branch on x y) behind meets there =
+  exit_most next bare taken (Turn c) behind meets there = let most = block_most c there in omega arith
+  exit_most next bare taken (Branch on x y) behind meets there =
       let most = block_most x there.0 in
       let other = block_most y there.1 in
       let bound : ℕ = block_base + max (left x) (left y) in
-      let within = branch_most bound next on (first + x) (first + y) behind meets (omega arith) (omega arith) in
+      let within = branch_most bound next (test_or taken on) (first + x) (first + y) behind meets (omega arith) (omega arith) in
       omega arith
-  exit_most next bare (Return None) behind meets there =
+  exit_most next bare taken (Return None) behind meets there =
       let most = leave_most behind in
       let set = plain_rank at (result_code None) (scan at (leave_code frame) behind) ((refl, refl), tt) in
       omega arith
-  exit_most next bare (Return (Some r)) behind meets there = let most = leave_most behind in omega arith
+  exit_most next bare taken (Return (Some r)) behind meets there = let most = leave_most behind in omega arith
 
-  exit_ranked : (next : Option ℕ) (bare : Bool) (exit : Exit) (behind : After) → AreRanked at (exit_code distance next bare first frame exit) behind
-  exit_ranked next bare (Jump b) behind = onward_ranked (not bare && is_next next (first + b)) (first + b) behind (omega arith)
-  exit_ranked next bare (Turn b) behind = onward_ranked false (first + b) behind (omega arith)
-  exit_ranked next bare (Branch on x y) behind = branch_ranked next on (first + x) (first + y) behind (omega arith) (omega arith)
-  exit_ranked next bare (Return None) behind = ranked_append at (result_code None) (leave_code frame) behind (plain_ranked at (result_code None) (scan at (leave_code frame) behind) ((refl, refl), tt)) (leave_ranked behind)
-  exit_ranked next bare (Return (Some r)) behind = leave_ranked behind
+  exit_ranked : (next : Option ℕ) (bare : Bool) (taken : Option Test) (exit : Exit) (behind : After) → AreRanked at (exit_code distance next bare first frame taken exit) behind
+  exit_ranked next bare taken (Jump b) behind = onward_ranked (not bare && is_next next (first + b)) (first + b) behind (omega arith)
+  exit_ranked next bare taken (Turn b) behind = onward_ranked false (first + b) behind (omega arith)
+  exit_ranked next bare taken (Branch on x y) behind = branch_ranked next (test_or taken on) (first + x) (first + y) behind (omega arith) (omega arith)
+  exit_ranked next bare taken (Return None) behind = ranked_append at (result_code None) (leave_code frame) behind (plain_ranked at (result_code None) (scan at (leave_code frame) behind) ((refl, refl), tt)) (leave_ranked behind)
+  exit_ranked next bare taken (Return (Some r)) behind = leave_ranked behind
 
   -- ---- lines
 
@@ -247,15 +263,15 @@ module _ (at : ℕ → ℕ) (places : Name → ℕ) (m : ℕ → ℕ → ℕ) (o
       let few = line_few places (n j) line uncut in
       omega arith
 
-  lines_most : (n : ℕ → ℕ) (j : ℕ) (lines : List Line) (exit : Exit) (behind : After) → behind.next ≤ block_base + cost_on left [] exit → All (CallsBelow functions) lines → (scan at (lines_code places n j lines) behind).next ≤ block_base + cost_on left lines exit
-  lines_most n j [] exit behind h c = h
-  lines_most n j (Cut cause ∷ lines) exit behind h c = omega arith
-  lines_most n j (Call to i start given ∷ lines) exit behind h c = let e = callees.entries i (All-head (CallsBelow functions) (Call to i start given) lines c) in omega arith
-  lines_most n j (GetChar to ∷ lines) exit behind h c = let e = callees.gets in omega arith
-  lines_most n j (PutChar to from ∷ lines) exit behind h c = let e = callees.puts in omega arith
-  lines_most n j (line ∷ lines) exit behind h c =
-      work_most n j line lines (cost_on left lines exit) behind tt (λ z. z)
-      (lines_most n (suc j) lines exit behind h (All-tail (CallsBelow functions) line lines c))
+  lines_most : (n : ℕ → ℕ) (j : ℕ) (lines tail : List Line) (exit : Exit) (behind : After) → behind.next ≤ block_base + cost_on left tail exit → All (CallsBelow functions) lines → (scan at (lines_code places n j lines) behind).next ≤ block_base + cost_on left (lines ++ tail) exit
+  lines_most n j [] tail exit behind h c = h
+  lines_most n j (Cut cause ∷ lines) tail exit behind h c = omega arith
+  lines_most n j (Call to i start given ∷ lines) tail exit behind h c = let e = callees.entries i (All-head (CallsBelow functions) (Call to i start given) lines c) in omega arith
+  lines_most n j (GetChar to ∷ lines) tail exit behind h c = let e = callees.gets in omega arith
+  lines_most n j (PutChar to from ∷ lines) tail exit behind h c = let e = callees.puts in omega arith
+  lines_most n j (line ∷ lines) tail exit behind h c =
+      work_most n j line lines (cost_on left (lines ++ tail) exit) behind tt (λ z. z)
+      (lines_most n (suc j) lines tail exit behind h (All-tail (CallsBelow functions) line lines c))
 
   lines_ranked : (n : ℕ → ℕ) (j : ℕ) (lines : List Line) (behind : After) → ((j : ℕ) → (4 ≤ n j) × (n j ≤ 31)) → CutAfterCalls lines → AreRanked at (lines_code places n j lines) behind
   lines_ranked n j [] behind o k = tt
@@ -278,25 +294,43 @@ module _ (at : ℕ → ℕ) (places : Name → ℕ) (m : ℕ → ℕ → ℕ) (o
   -- ---- blocks
 
   abbrev laying : Laying
-  laying = laid f places m distance first frame
+  laying = laid f places m live distance first frame
 
   abbrev count : ℕ
   count = length f.blocks.items
 
+  abbrev taken_of : Block → Option Test
+  taken_of block = taken_test live block.lines.items block.exit
+
+  abbrev own_of : Block → List Line
+  own_of block = own_lines (taken_of block) block.lines.items
+
+  abbrev tail_of : Block → List Line
+  tail_of block = (takes live block.lines.items block.exit).tail
+
+  whole_of : (block : Block) → own_of block ++ tail_of block ≡ block.lines.items
+  whole_of block = (takes live block.lines.items block.exit).whole
+
+  own_calls : (block : Block) → All (CallsBelow functions) block.lines.items → All (CallsBelow functions) (own_of block)
+  own_calls block c = all_left (CallsBelow functions) (own_of block) (tail_of block) (subst (All (CallsBelow functions)) (sym (whole_of block)) c)
+
   abbrev lines_of : ℕ → Block → List CodeLine
-  lines_of b block = lines_code places (m b) 0 block.lines.items
+  lines_of b block = lines_code places (m b) 0 (own_of block)
 
   abbrev ends : Option ℕ → ℕ → Block → List CodeLine
-  ends next b block = exit_code distance next (is_empty (lines_of b block)) first frame block.exit
+  ends next b block = exit_code distance next (is_empty (lines_of b block)) first frame (taken_of block) block.exit
 
   abbrev body : Option ℕ → ℕ → Block → List CodeLine
-  body next b block = ended_code distance next first frame (lines_of b block) block.exit
+  body next b block = taking_code places (m b) distance next first frame (taken_of block) block.lines.items block.exit
 
   abbrev code_of : Option ℕ → ℕ → Block → List CodeLine
-  code_of next b block = block_code places (m b) distance next first frame b block
+  code_of next b block = block_code places (m b) live distance next first frame b block
 
-  ends_most : (next : Option ℕ) (b : ℕ) (block : Block) (behind : After) → Meets at next behind → ExitThere count block.exit → (scan at (ends next b block) behind).next ≤ block_base + cost_on left [] block.exit
-  ends_most next b block behind meets there = exit_most next (is_empty (lines_of b block)) block.exit behind meets there
+  ends_most : (next : Option ℕ) (b : ℕ) (block : Block) (behind : After) → Meets at next behind → ExitThere count block.exit → (scan at (ends next b block) behind).next ≤ block_base + cost_on left (tail_of block) block.exit
+  ends_most next b block behind meets there =
+      let most = exit_most next (is_empty (lines_of b block)) (taken_of block) block.exit behind meets there in
+      let less = tail_cost left live (tail_of block) block.exit (taken_of block) (takes live block.lines.items block.exit).is in
+      omega arith
 
   body_most : (next : Option ℕ) (b : ℕ) (block : Block) (behind : After) → BlockFacts functions left f b block → Meets at next behind → (scan at (body next b block) behind).next ≤ at (first + b)
   body_most next b block behind facts meets =
@@ -309,9 +343,13 @@ module _ (at : ℕ → ℕ) (places : Name → ℕ) (m : ℕ → ℕ → ℕ) (o
       is = ap (λ (z : After). z.next) (scan_append at (lines_of b block) (ends next b block) behind)
 
       by : (t : Bool) → (b == f.entry) ≡ t → (scan at (body next b block) behind).next ≤ rank_by_entry t (block_base + left b)
-      by true e = let s = starts (m b) 0 block.lines.items exits (facts.entry (same_of b f.entry e)) in let q = is in omega arith
+      by true e =
+          let s = starts (m b) 0 (own_of block) exits (starts_left live (own_of block) (tail_of block) block.exit (taken_of block) (takes live block.lines.items block.exit).is (subst StartsWithCut (sym (whole_of block)) (facts.entry (same_of b f.entry e)))) in
+          let q = is in
+          omega arith
       by false e =
-          let whole = lines_most (m b) 0 block.lines.items block.exit exits (ends_most next b block behind meets facts.there) facts.calls in
+          let whole = lines_most (m b) 0 (own_of block) (tail_of block) block.exit exits (ends_most next b block behind meets facts.there) (own_calls block facts.calls) in
+          let all = ap (λ (z : List Line). cost_on left z block.exit) (whole_of block) in
           let most = facts.most in
           let q = is in
           omega arith
@@ -323,7 +361,7 @@ module _ (at : ℕ → ℕ) (places : Name → ℕ) (m : ℕ → ℕ → ℕ) (o
   block_ranked : (next : Option ℕ) (b : ℕ) (block : Block) (behind : After) → BlockFacts functions left f b block → Meets at next behind → AreRanked at (code_of next b block) behind
   block_ranked next b block behind facts meets =
       ranked_labelled at (first + b) (body next b block) behind (body_most next b block behind facts meets)
-      (ranked_append at (lines_of b block) (ends next b block) behind (lines_ranked (m b) 0 block.lines.items (scan at (ends next b block) behind) (okay b) facts.cuts) (exit_ranked next (is_empty (lines_of b block)) block.exit behind))
+      (ranked_append at (lines_of b block) (ends next b block) behind (lines_ranked (m b) 0 (own_of block) (scan at (ends next b block) behind) (okay b) (calls_left live (own_of block) (tail_of block) block.exit (taken_of block) (takes live block.lines.items block.exit).is (subst CutAfterCalls (sym (whole_of block)) facts.cuts))) (exit_ranked next (is_empty (lines_of b block)) (taken_of block) block.exit behind))
 
   -- ---- as they are laid
 
@@ -418,43 +456,41 @@ module _ (at : ℕ → ℕ) (places : Name → ℕ) (m : ℕ → ℕ → ℕ) (o
   onward_within top true label behind = tt
   onward_within top false label behind = jump_within top 0 label behind (λ e. absurd (omega arith))
 
-  test_within : (top : ℕ) (by : Reach) (other : Bool) (on label : ℕ) (behind : After) → AreWithin at top (test_code by other on label) behind
-  test_within top Near true on label behind = ((λ jumps cut. absurd cc), tt)
-  test_within top Near false on label behind = ((λ jumps cut. absurd cc), tt)
-  test_within top Far true on label behind = ((λ jumps cut. absurd cc), onward_within top false label behind)
-  test_within top Far false on label behind = ((λ jumps cut. absurd cc), onward_within top false label behind)
+  test_within : (top : ℕ) (by : Reach) (holds : Bool) (t : Test) (label : ℕ) (behind : After) → AreWithin at top (test_code by holds t label) behind
+  test_within top Near holds t label behind = ((λ jumps cut. (let none : 0 ≡ 3 = cut in absurd (omega arith))), tt)
+  test_within top Far holds t label behind = ((λ jumps cut. (let none : 0 ≡ 3 = cut in absurd (omega arith))), onward_within top false label behind)
 
-  branch_within : (top : ℕ) (next : Option ℕ) (on there other : ℕ) (behind : After) → AreWithin at top (branch_code distance next on there other) behind
-  branch_within top next on there other behind = by (is_next next there)
+  branch_within : (top : ℕ) (next : Option ℕ) (t : Test) (there other : ℕ) (behind : After) → AreWithin at top (branch_code distance next t there other) behind
+  branch_within top next t there other behind = by (is_next next there)
     where
       rest : List CodeLine
       rest = onward_code (is_next next other) other
 
-      by : (t : Bool) → AreWithin at top (if t then test_code distance false on other else test_code distance true on there ++ rest) behind
-      by true = test_within top distance false on other behind
-      by false = within_append at top (test_code distance true on there) rest behind (test_within top distance true on there (scan at rest behind)) (onward_within top (is_next next other) other behind)
+      by : (q : Bool) → AreWithin at top (if q then test_code distance false t other else test_code distance true t there ++ rest) behind
+      by true = test_within top distance false t other behind
+      by false = within_append at top (test_code distance true t there) rest behind (test_within top distance true t there (scan at rest behind)) (onward_within top (is_next next other) other behind)
 
-  exit_within : (top : ℕ) (next : Option ℕ) (bare : Bool) (exit : Exit) (behind : After) → AreWithin at top (exit_code distance next bare first frame exit) behind
-  exit_within top next bare (Jump b) behind = onward_within top (not bare && is_next next (first + b)) (first + b) behind
-  exit_within top next bare (Turn b) behind = onward_within top false (first + b) behind
-  exit_within top next bare (Branch on x y) behind = branch_within top next on (first + x) (first + y) behind
-  exit_within top next bare (Return None) behind = ((λ jumps cut. absurd cc), leave_within top behind)
-  exit_within top next bare (Return (Some r)) behind = leave_within top behind
+  exit_within : (top : ℕ) (next : Option ℕ) (bare : Bool) (taken : Option Test) (exit : Exit) (behind : After) → AreWithin at top (exit_code distance next bare first frame taken exit) behind
+  exit_within top next bare taken (Jump b) behind = onward_within top (not bare && is_next next (first + b)) (first + b) behind
+  exit_within top next bare taken (Turn b) behind = onward_within top false (first + b) behind
+  exit_within top next bare taken (Branch on x y) behind = branch_within top next (test_or taken on) (first + x) (first + y) behind
+  exit_within top next bare taken (Return None) behind = ((λ jumps cut. absurd cc), leave_within top behind)
+  exit_within top next bare taken (Return (Some r)) behind = leave_within top behind
 
-  lines_within : (top : ℕ) (n : ℕ → ℕ) (j : ℕ) (lines : List Line) (exit : Exit) (behind : After) → behind.next ≤ block_base + cost_on left [] exit → All (CallsBelow functions) lines → HasLittleLeft top lines exit → AreWithin at top (lines_code places n j lines) behind
-  lines_within top n j [] exit behind h c little = tt
-  lines_within top n j (line ∷ lines) exit behind h c little =
+  lines_within : (top : ℕ) (n : ℕ → ℕ) (j : ℕ) (lines tail : List Line) (exit : Exit) (behind : After) → behind.next ≤ block_base + cost_on left tail exit → All (CallsBelow functions) lines → HasLittleLeft top (lines ++ tail) exit → AreWithin at top (lines_code places n j lines) behind
+  lines_within top n j [] tail exit behind h c little = tt
+  lines_within top n j (line ∷ lines) tail exit behind h c little =
       within_append at top (line_code places (n j) line) (lines_code places n (suc j) lines) behind (one line little)
-      (lines_within top n (suc j) lines exit behind h tail (λ before cause rest e. little (line ∷ before) cause rest (ap (λ z. line ∷ z) e)))
+      (lines_within top n (suc j) lines tail exit behind h later (λ before cause rest e. little (line ∷ before) cause rest (ap (λ z. line ∷ z) e)))
     where
-      tail : All (CallsBelow functions) lines
-      tail = All-tail (CallsBelow functions) line lines c
+      later : All (CallsBelow functions) lines
+      later = All-tail (CallsBelow functions) line lines c
 
       onward : After
       onward = scan at (lines_code places n (suc j) lines) behind
 
-      one : (x : Line) → HasLittleLeft top (x ∷ lines) exit → AreWithin at top (line_code places (n j) x) onward
-      one (Cut cause) k = ((λ jumps cut. (let most = lines_most n (suc j) lines exit behind h tail in let little = k [] cause lines refl in omega arith)), tt)
+      one : (x : Line) → HasLittleLeft top (x ∷ (lines ++ tail)) exit → AreWithin at top (line_code places (n j) x) onward
+      one (Cut cause) k = ((λ jumps cut. (let most = lines_most n (suc j) lines tail exit behind h later in let less = k [] cause (lines ++ tail) refl in omega arith)), tt)
       one (Call to i start given) k = jump_within top 1 (entry_label i) onward (λ e. absurd (omega arith))
       one (GetChar to) k = jump_within top 1 getchar_label onward (λ e. absurd (omega arith))
       one (PutChar to from) k = jump_within top 1 putchar_label onward (λ e. absurd (omega arith))
@@ -464,8 +500,8 @@ module _ (at : ℕ → ℕ) (places : Name → ℕ) (m : ℕ → ℕ → ℕ) (o
   block_within top next b block behind facts little meets =
       within_labelled at top (first + b) (body next b block) behind
       (within_append at top (lines_of b block) (ends next b block) behind
-      (lines_within top (m b) 0 block.lines.items block.exit (scan at (ends next b block) behind) (ends_most next b block behind meets facts.there) facts.calls little)
-      (exit_within top next (is_empty (lines_of b block)) block.exit behind))
+      (lines_within top (m b) 0 (own_of block) (tail_of block) block.exit (scan at (ends next b block) behind) (ends_most next b block behind meets facts.there) (own_calls block facts.calls) (subst (λ (z : List Line). HasLittleLeft top z block.exit) (sym (whole_of block)) little))
+      (exit_within top next (is_empty (lines_of b block)) (taken_of block) block.exit behind))
 
   -- a block's facts, and little left behind its cuts
   abbrev Facts : ℕ → ℕ → Block → Type 0

@@ -109,7 +109,7 @@ module _ (u : Code) (statics : List ℕ) (layouts : List Layout) (parts : List P
       let own = program.functions i f e in
       let objects = at_of (given_at functions statics i f own.layout) in
       subst (λ z. AreRanked labelled z after) (sym own.selection.exact.lines_are)
-      (function_ranked labelled objects (least_entries own.selection.exact.live f.blocks.items) (λ b j. entry_okay own.selection.exact.live (slice_get f.blocks.items b) j) own.selection.exact.distance (length functions) (first_label functions i) own.layout.frame (lefts i) f (omega arith) (callees functions lefts) (λ b h. at_block functions lefts i b f e h)
+      (function_ranked labelled objects (least_entries own.selection.exact.live f.blocks.items) (λ b j. entry_okay own.selection.exact.live (slice_get f.blocks.items b) j) own.selection.exact.live own.selection.exact.distance (length functions) (first_label functions i) own.layout.frame (lefts i) f (omega arith) (callees functions lefts) (λ b h. at_block functions lefts i b f e h)
       i after (slice_get_within functions i f e) own.selectable.entry (block_facts i f e))
 
   -- behind each cut so little is left
@@ -121,7 +121,7 @@ module _ (u : Code) (statics : List ℕ) (layouts : List Layout) (parts : List P
       let own = program.functions i f e in
       let objects = at_of (given_at functions statics i f own.layout) in
       subst (λ z. AreWithin labelled top z after) (sym own.selection.exact.lines_are)
-      (function_within labelled objects (least_entries own.selection.exact.live f.blocks.items) (λ b j. entry_okay own.selection.exact.live (slice_get f.blocks.items b) j) own.selection.exact.distance (length functions) (first_label functions i) own.layout.frame (lefts i) f (omega arith) (callees functions lefts) (λ b h. at_block functions lefts i b f e h)
+      (function_within labelled objects (least_entries own.selection.exact.live f.blocks.items) (λ b j. entry_okay own.selection.exact.live (slice_get f.blocks.items b) j) own.selection.exact.live own.selection.exact.distance (length functions) (first_label functions i) own.layout.frame (lefts i) f (omega arith) (callees functions lefts) (λ b h. at_block functions lefts i b f e h)
       top i after own.selectable.entry (λ b block g. (block_facts i f e b block g, little i f e b block g)))
 
   -- what holds of the lines of each of these parts

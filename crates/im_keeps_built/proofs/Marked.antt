@@ -31,9 +31,10 @@ use Rattle.im_block.specs.declared.code.Block.{Block}
 use Rattle.im_block.specs.declared.unit.Function.{Function}
 use Rattle.im_block.specs.declared.unit.Unit.{Unit as Code}
 use Rattle.im_frame.specs.declared.layout.Layout.{Layout}
+use Rattle.im_select.specs.declared.branching.Test.{Test}
 use Rattle.im_select.specs.declared.distance.Distance.{Distance as Reach}
 use Rattle.im_select.specs.declared.distance.Distance.TheVariants.{Near, Far}
-use Rattle.im_select.specs.Emitted.{high_of, low_of, constant_by, constant_code, displaced_by, displaced_code, adds_by, adds_code, place_number, place_code, moved_code, copied_code, step_op, shift_of, shifts_code, scaled_code, based_code, address_code, line_code, lines_code, onward_code, test_code, is_next, branch_code, exit_code, is_empty, result_code, leave_code, block_code, laid_order, Laying, next_label, found_code, laid_block, laid_code, blocks_code, prologue_code, function_code, labelled, entry_label}
+use Rattle.im_select.specs.Emitted.{high_of, low_of, constant_by, constant_code, displaced_by, displaced_code, adds_by, adds_code, place_number, place_code, moved_code, copied_code, step_op, shift_of, shifts_code, scaled_code, based_code, address_code, line_code, lines_code, onward_code, test_op, test_code, test_or, taken_test, own_lines, is_next, branch_code, exit_code, is_empty, result_code, leave_code, block_code, laid_order, Laying, next_label, found_code, laid_block, laid_code, blocks_code, prologue_code, function_code, labelled, entry_label}
 use Rattle.im_select.specs.Selects.{laying_of}
 use Rattle.im_link_laws.specs.Program.{HasCode, part_of, given_at, start_code, IsProgram}
 use Rattle.im_saved_lines.specs.Scan.{way}
@@ -200,42 +201,47 @@ onward_marked : (falls : Bool) (label : ℕ) → AreMarked (onward_code falls la
 onward_marked true label = tt
 onward_marked false label = (refl, tt)
 
-test_marked : (distance : Reach) (other : Bool) (on label : ℕ) → AreMarked (test_code distance other on label)
-test_marked Near true on label = (refl, tt)
-test_marked Near false on label = (refl, tt)
-test_marked Far true on label = (refl, (refl, tt))
-test_marked Far false on label = (refl, (refl, tt))
+-- what writes no register links nothing
+zero_unlinked : (op : Op) → links_by op 3 0 ≡ false
+zero_unlinked Jal = refl
+zero_unlinked op = refl
 
-branch_marked : (distance : Reach) (next : Option ℕ) (on there other : ℕ) → AreMarked (branch_code distance next on there other)
-branch_marked distance next on there other = by (is_next next there)
+test_marked : (distance : Reach) (holds : Bool) (t : Test) (label : ℕ) → AreMarked (test_code distance holds t label)
+test_marked Near holds t label = (zero_unlinked (test_op holds t), tt)
+test_marked Far holds t label = (zero_unlinked (test_op (not holds) t), (refl, tt))
+
+branch_marked : (distance : Reach) (next : Option ℕ) (t : Test) (there other : ℕ) → AreMarked (branch_code distance next t there other)
+branch_marked distance next t there other = by (is_next next there)
   where
     rest : List CodeLine
     rest = onward_code (is_next next other) other
 
-    by : (t : Bool) → AreMarked (if t then test_code distance false on other else test_code distance true on there ++ rest)
-    by true = test_marked distance false on other
-    by false = marked_append (test_code distance true on there) rest (test_marked distance true on there) (onward_marked (is_next next other) other)
+    by : (q : Bool) → AreMarked (if q then test_code distance false t other else test_code distance true t there ++ rest)
+    by true = test_marked distance false t other
+    by false = marked_append (test_code distance true t there) rest (test_marked distance true t there) (onward_marked (is_next next other) other)
 
-exit_marked : (distance : Reach) (next : Option ℕ) (bare : Bool) (first frame : ℕ) (exit : Exit) → AreMarked (exit_code distance next bare first frame exit)
-exit_marked distance next bare first frame (Jump b) = onward_marked (not bare && is_next next (first + b)) (first + b)
-exit_marked distance next bare first frame (Turn b) = (refl, tt)
-exit_marked distance next bare first frame (Branch on x y) = branch_marked distance next on (first + x) (first + y)
-exit_marked distance next bare first frame (Return from) = marked_append (result_code from) (leave_code frame) (result_marked from) (leave_marked frame)
+exit_marked : (distance : Reach) (next : Option ℕ) (bare : Bool) (first frame : ℕ) (taken : Option Test) (exit : Exit) → AreMarked (exit_code distance next bare first frame taken exit)
+exit_marked distance next bare first frame taken (Jump b) = onward_marked (not bare && is_next next (first + b)) (first + b)
+exit_marked distance next bare first frame taken (Turn b) = (refl, tt)
+exit_marked distance next bare first frame taken (Branch on x y) = branch_marked distance next (test_or taken on) (first + x) (first + y)
+exit_marked distance next bare first frame taken (Return from) = marked_append (result_code from) (leave_code frame) (result_marked from) (leave_marked frame)
 
 labelled_marked : (label : ℕ) (lines : List CodeLine) → AreMarked lines → AreMarked (labelled label lines)
 labelled_marked label [] a = tt
 labelled_marked label (x ∷ xs) a = (a.0, a.1)
 
-block_marked : (at : Name → ℕ) (m : ℕ → ℕ) (distance : Reach) (next : Option ℕ) (first frame b : ℕ) (block : Block) → AreMarked (block_code at m distance next first frame b block)
-block_marked at m distance next first frame b block =
-    let lines : List CodeLine = lines_code at m 0 block.lines.items in
-    let ends : List CodeLine = exit_code distance next (is_empty lines) first frame block.exit in
+block_marked : (at : Name → ℕ) (m : ℕ → ℕ) (live : ℕ → ℕ → Bool) (distance : Reach) (next : Option ℕ) (first frame b : ℕ) (block : Block) → AreMarked (block_code at m live distance next first frame b block)
+block_marked at m live distance next first frame b block =
+    let taken : Option Test = taken_test live block.lines.items block.exit in
+    let own : List Line = own_lines taken block.lines.items in
+    let lines : List CodeLine = lines_code at m 0 own in
+    let ends : List CodeLine = exit_code distance next (is_empty lines) first frame taken block.exit in
     labelled_marked (first + b) (lines ++ ends)
-    (marked_append lines ends (lines_marked at m 0 block.lines.items) (exit_marked distance next (is_empty lines) first frame block.exit))
+    (marked_append lines ends (lines_marked at m 0 own) (exit_marked distance next (is_empty lines) first frame taken block.exit))
 
 found_marked : (laying : Laying) (b : ℕ) (next : Option ℕ) (o : Option Block) → AreMarked (found_code laying b next o)
 found_marked laying b next None = tt
-found_marked laying b next (Some block) = block_marked laying.at (laying.cut b) laying.distance next laying.first laying.frame b block
+found_marked laying b next (Some block) = block_marked laying.at (laying.cut b) laying.live laying.distance next laying.first laying.frame b block
 
 laid_marked : (laying : Laying) (order : List ℕ) → AreMarked (laid_code laying order)
 laid_marked laying [] = tt

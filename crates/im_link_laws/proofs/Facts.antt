@@ -131,7 +131,7 @@ module _ (u : Code) (statics : List ℕ) (layouts : List Layout) (parts : List P
       let few = near.few in
       let from = slice_get_within own.code k x there in
       let to = slice_get_within own.code (own.selection.starts b.0) label.line label.there in
-      Near (own.selection.starts b.0) (subst (HasLabel own.code (own.selection.starts b.0)) (sym b.2) label) (inr (elim near.tests [ inl q ↦ ap format_of q | inr q ↦ ap format_of q ])) (omega arith) (omega arith)
+      Near (own.selection.starts b.0) (subst (HasLabel own.code (own.selection.starts b.0)) (sym b.2) label) (inr near.branches) (omega arith) (omega arith)
 
   pub of_function : NamesAccesses u → (i : ℕ) (f : Function) → slice_get u.functions.items i ≡ Some f → Facts u.functions.items parts (part_of i)
   of_function names i f e =

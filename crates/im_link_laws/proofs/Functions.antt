@@ -25,8 +25,9 @@ use Rattle.im_block.specs.Wellformed.{ExitThere}
 use Rattle.im_block.specs.Meaning.{Setting, shapes_of, shape_at, slot_shape}
 use Rattle.im_alloc_placed.specs.Operands.{HasObject}
 use Rattle.im_select_relation.specs.Linking.{Linking, frame_of}
+use Rattle.im_select_relation.specs.Selected.{Test, nonzero, comparing}
 use Rattle.im_select_relation.specs.Linked.{FunctionAt}
-use Rattle.im_select_relation.specs.Symbolic.{Lines, ContinuesIn, Falls, Leaps, TestedIn, Reached, Missed, Hopped, Skipped, ExitIn, StandsIn, PrologueIn, IsSelected, IsLaid, spot_of, at_place}
+use Rattle.im_select_relation.specs.Symbolic.{Lines, ContinuesIn, Falls, Leaps, TestedIn, Reached, Missed, Hopped, Skipped, ExitIn, JoinedIn, Decides, StandsIn, PrologueIn, IsSelected, IsLaid, spot_of, at_place}
 use Rattle.im_select_relation.proofs.Lift.{lines, frame}
 use Rattle.im_select.specs.Emitted.{entry_label}
 use Rattle.im_select.specs.Selects.{Agrees, IsClosedBlock}
@@ -100,21 +101,25 @@ continues_same : (w : Lines) (s t : ℕ → ℕ) (count k b : ℕ) → ((b : ℕ
 continues_same w s t count k b same h (Falls e) = Falls (e ∙ same b h)
 continues_same w s t count k b same h (Leaps j) = Leaps j
 
-tested_same : (w : Lines) (s t : ℕ → ℕ) (count k on x y : ℕ) → ((b : ℕ) → b < count → s b ≡ t b) → x < count → y < count → TestedIn w s k on x y → TestedIn w t k on x y
-tested_same w s t count k on x y same h g (Reached a c) = Reached a (continues_same w s t count (suc k) y same g c)
-tested_same w s t count k on x y same h g (Missed a c) = Missed a (continues_same w s t count (suc k) x same h c)
-tested_same w s t count k on x y same h g (Hopped a j c) = Hopped a j (continues_same w s t count (suc (suc k)) y same g c)
-tested_same w s t count k on x y same h g (Skipped a j c) = Skipped a j (continues_same w s t count (suc (suc k)) x same h c)
+tested_same : (w : Lines) (s t : ℕ → ℕ) (count k : ℕ) (test : Test) (x y : ℕ) → ((b : ℕ) → b < count → s b ≡ t b) → x < count → y < count → TestedIn w s k test x y → TestedIn w t k test x y
+tested_same w s t count k test x y same h g (Reached a c) = Reached a (continues_same w s t count (suc k) y same g c)
+tested_same w s t count k test x y same h g (Missed a c) = Missed a (continues_same w s t count (suc k) x same h c)
+tested_same w s t count k test x y same h g (Hopped a j c) = Hopped a j (continues_same w s t count (suc (suc k)) y same g c)
+tested_same w s t count k test x y same h g (Skipped a j c) = Skipped a j (continues_same w s t count (suc (suc k)) x same h c)
 
 exit_same : (w : Lines) (s t : ℕ → ℕ) (count room k : ℕ) (exit : Exit) → ((b : ℕ) → b < count → s b ≡ t b) → ExitThere count exit → ExitIn w s room k exit → ExitIn w t room k exit
 exit_same w s t count room k (Jump b) same h a = continues_same w s t count k b same h a
 exit_same w s t count room k (Turn b) same h a = a
-exit_same w s t count room k (Branch on x y) same h a = (a.0, tested_same w s t count k on x y same h.0 h.1 a.1)
+exit_same w s t count room k (Branch on x y) same h a = (a.0, tested_same w s t count k (nonzero on) x y same h.0 h.1 a.1)
 exit_same w s t count room k (Return from) same h a = a
 
-stands_same : (w : Lines) (s t : ℕ → ℕ) (count room k : ℕ) (lines : List Line) (exit : Exit) → ((b : ℕ) → b < count → s b ≡ t b) → ExitThere count exit → StandsIn w s room k lines exit → StandsIn w t room k lines exit
-stands_same w s t count room k [] exit same h a = exit_same w s t count room k exit same h a
-stands_same w s t count room k (line ∷ lines) exit same h a = (a.0, a.1, stands_same w s t count room a.0 lines exit same h a.2)
+joined_same : (w : Lines) (blocks : List Block) (s t : ℕ → ℕ) (count k : ℕ) (line : Line) (lines : List Line) (exit : Exit) → ((b : ℕ) → b < count → s b ≡ t b) → ExitThere count exit → JoinedIn w blocks s k line lines exit → JoinedIn w blocks t k line lines exit
+joined_same w blocks s t count k line lines exit same h (Decides to op kind left right x y a b c d e f) = Decides to op kind left right x y a b c d e (tested_same w s t count k (comparing kind left right op) x y same h.0 h.1 f)
+
+stands_same : (w : Lines) (blocks : List Block) (s t : ℕ → ℕ) (count room k : ℕ) (lines : List Line) (exit : Exit) → ((b : ℕ) → b < count → s b ≡ t b) → ExitThere count exit → StandsIn w blocks s room k lines exit → StandsIn w blocks t room k lines exit
+stands_same w blocks s t count room k [] exit same h a = exit_same w s t count room k exit same h a
+stands_same w blocks s t count room k (line ∷ lines) exit same h (inl a) = inl (a.0, a.1, stands_same w blocks s t count room a.0 lines exit same h a.2)
+stands_same w blocks s t count room k (line ∷ lines) exit same h (inr a) = inr (joined_same w blocks s t count k line lines exit same h a)
 
 prologue_same : (w : Lines) (s t : ℕ → ℕ) (count k room b : ℕ) → ((b : ℕ) → b < count → s b ≡ t b) → b < count → PrologueIn w s k room b → PrologueIn w t k room b
 prologue_same w s t count k room b same h p = record { a = p.a; b = p.b; lowered = p.lowered; bound = p.bound; checked = p.checked; taken = p.taken; saved = p.saved; continues = continues_same w s t count (suc (suc p.b)) b same h p.continues }
@@ -123,8 +128,8 @@ selected_same : (w : Lines) (room : ℕ) (f : Function) (s t : ℕ → ℕ) → 
 selected_same w room f s t same entry edges was = record {
   prologue = prologue_same w s t (length f.blocks.items) 0 room f.entry same entry was.prologue;
   blocks = λ b block e.
-      subst (λ (z : ℕ). StandsIn w t room z block.lines.items block.exit) (same b (slice_get_within f.blocks.items b block e))
-      (stands_same w s t (length f.blocks.items) room (s b) block.lines.items block.exit same (edges b block e) (was.blocks b block e));
+      subst (λ (z : ℕ). StandsIn w f.blocks.items t room z block.lines.items block.exit) (same b (slice_get_within f.blocks.items b block e))
+      (stands_same w f.blocks.items s t (length f.blocks.items) room (s b) block.lines.items block.exit same (edges b block e) (was.blocks b block e));
 }
 
 pub function_at : (u : Code) (statics : List ℕ) (layouts : List Layout) (parts : List Part) (program : IsProgram u statics layouts parts) (linked : Linked) (place : ℕ → ℕ) (image : Mem) (g : Setting) (at size : Name → ℕ) → IsLinkable parts → IsLinkedCode parts linked → ArePlaces parts place → Stands image 4096 linked.words.items → HasObjects u statics layouts (linking_of u.functions.items place linked image at size) g → (i : ℕ) (f : Function) → slice_get u.functions.items i ≡ Some f → FunctionAt (linking_of u.functions.items place linked image at size) g i f

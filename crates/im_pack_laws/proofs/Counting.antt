@@ -25,10 +25,13 @@ use Rattle.im_block.specs.declared.code.Block.{Block}
 use Rattle.im_block.specs.declared.unit.Unit.{Unit as Code}
 use Rattle.im_block.specs.Shape.{sum_of}
 use Rattle.im_frame.specs.declared.layout.Layout.{Layout}
+use Rattle.im_select.specs.declared.branching.Test.{Test}
+use Rattle.im_select.specs.declared.branching.Test.TheVariants.{Compares}
 use Rattle.im_select.specs.declared.distance.Distance.{Distance as Reach}
 use Rattle.im_select.specs.declared.distance.Distance.TheVariants.{Near, Far}
-use Rattle.im_select.specs.Emitted.{constant_by, high_of, low_of, moved_code, copied_code, converted_code, unary_code, compared_code, scaled_code, place_code, displaced_code, place_number, based_code, address_code, line_code, lines_code, adds_code, enter_code, onward_code, test_code, is_next, exit_code, is_empty, ended_code, labelled, block_code, others_below, laid_order, Laying, next_label, found_code, laid_block, laid_code, blocks_code, prologue_code, function_code, entry_label}
+use Rattle.im_select.specs.Emitted.{constant_by, high_of, low_of, moved_code, copied_code, converted_code, unary_code, compared_code, scaled_code, place_code, displaced_code, place_number, based_code, address_code, line_code, lines_code, adds_code, enter_code, onward_code, test_code, test_or, taken_test, own_lines, is_next, branch_code, exit_code, is_empty, ended_code, labelled, block_code, others_below, laid_order, Laying, next_label, found_code, laid_block, laid_code, blocks_code, prologue_code, function_code, entry_label}
 use Rattle.im_select.specs.Selects.{laying_of}
+use Rattle.im_select.proofs.Taking.{IsTaken, Nothing, Comparing, takes}
 use Rattle.im_rv.specs.declared.instr.Op.{Op}
 use Rattle.im_select_operators.specs.Tables.{less_op}
 use Rattle.im_link.specs.Parts.{first_of, word_count}
@@ -118,41 +121,57 @@ lines_some at m j (line ∷ lines) =
     let l = length-append (line_code at (m j) line) (lines_code at m (suc j) lines) in
     omega arith
 
--- a block without lines has a jump
-ended_some : (distance : Reach) (next : Option ℕ) (first frame : ℕ) (lines : List CodeLine) (exit : Exit) → 0 < length (ended_code distance next first frame lines exit)
-ended_some distance next first frame (x ∷ xs) exit = let l = length-append (x ∷ xs) (exit_code distance next false first frame exit) in omega arith
-ended_some distance next first frame [] (Jump b) = omega arith
-ended_some distance next first frame [] (Turn b) = omega arith
-ended_some distance next first frame [] (Branch on x y) = by (is_next next (first + x))
+branch_some : (distance : Reach) (next : Option ℕ) (t : Test) (there other : ℕ) → 0 < length (branch_code distance next t there other)
+branch_some distance next t there other = by (is_next next there)
   where
     rest : List CodeLine
-    rest = onward_code (is_next next (first + y)) (first + y)
+    rest = onward_code (is_next next other) other
 
-    tested : (distance : Reach) (other : Bool) (label : ℕ) → 0 < length (test_code distance other on label)
-    tested Near true label = omega arith
-    tested Near false label = omega arith
-    tested Far true label = omega arith
-    tested Far false label = omega arith
+    tested : (distance : Reach) (holds : Bool) (label : ℕ) → 0 < length (test_code distance holds t label)
+    tested Near holds label = omega arith
+    tested Far holds label = omega arith
 
-    by : (t : Bool) → 0 < length (if t then test_code distance false on (first + y) else test_code distance true on (first + x) ++ rest)
-    by true = tested distance false (first + y)
+    by : (q : Bool) → 0 < length (if q then test_code distance false t other else test_code distance true t there ++ rest)
+    by true = tested distance false other
     by false =
-        let a = tested distance true (first + x) in
-        let l = length-append (test_code distance true on (first + x)) rest in
+        let a = tested distance true there in
+        let l = length-append (test_code distance true t there) rest in
         omega arith
-ended_some distance next first frame [] (Return None) = omega arith
-ended_some distance next first frame [] (Return (Some r)) = omega arith
+
+-- a block without lines has a jump
+ended_some : (distance : Reach) (next : Option ℕ) (first frame : ℕ) (taken : Option Test) (lines : List CodeLine) (exit : Exit) → 0 < length (ended_code distance next first frame taken lines exit)
+ended_some distance next first frame taken (x ∷ xs) exit = let l = length-append (x ∷ xs) (exit_code distance next false first frame taken exit) in omega arith
+ended_some distance next first frame taken [] (Jump b) = omega arith
+ended_some distance next first frame taken [] (Turn b) = omega arith
+ended_some distance next first frame taken [] (Branch on x y) = branch_some distance next (test_or taken on) (first + x) (first + y)
+ended_some distance next first frame taken [] (Return None) = omega arith
+ended_some distance next first frame taken [] (Return (Some r)) = omega arith
 
 same_count : (l : ℕ) (xs : List CodeLine) → length (labelled l xs) ≡ length xs
 same_count l [] = refl
 same_count l (x ∷ xs) = refl
 
-block_some : (at : Name → ℕ) (m : ℕ → ℕ) (distance : Reach) (next : Option ℕ) (first frame b : ℕ) (block : Block) → block_words block ≤ length (block_code at m distance next first frame b block)
-block_some at m distance next first frame b block =
-    let lines : List CodeLine = lines_code at m 0 block.lines.items in
-    let ends : List CodeLine = exit_code distance next (is_empty lines) first frame block.exit in
-    let a = lines_some at m 0 block.lines.items in
-    let e = ended_some distance next first frame lines block.exit in
+sum_append : (w : Line → ℕ) (xs ys : List Line) → sum_of w (xs ++ ys) ≡ sum_of w xs + sum_of w ys
+sum_append w [] ys = omega arith
+sum_append w (x ∷ xs) ys = let h = sum_append w xs ys in omega arith
+
+-- a comparison that the exit takes is paid by its branch
+tail_some : (live : ℕ → ℕ → Bool) (distance : Reach) (next : Option ℕ) (bare : Bool) (first frame : ℕ) (tail : List Line) (exit : Exit) (taken : Option Test) → IsTaken live tail exit taken → sum_of line_words tail ≤ length (exit_code distance next bare first frame taken exit)
+tail_some live distance next bare first frame tail exit taken (Nothing exit') = omega arith
+tail_some live distance next bare first frame tail exit taken (Comparing to op kind left right x y p q) = let some = branch_some distance next (Compares op kind left right) (first + x) (first + y) in omega arith
+
+block_some : (at : Name → ℕ) (m : ℕ → ℕ) (live : ℕ → ℕ → Bool) (distance : Reach) (next : Option ℕ) (first frame b : ℕ) (block : Block) → block_words block ≤ length (block_code at m live distance next first frame b block)
+block_some at m live distance next first frame b block =
+    let taken : Option Test = taken_test live block.lines.items block.exit in
+    let own : List Line = own_lines taken block.lines.items in
+    let t = takes live block.lines.items block.exit in
+    let lines : List CodeLine = lines_code at m 0 own in
+    let ends : List CodeLine = exit_code distance next (is_empty lines) first frame taken block.exit in
+    let a = lines_some at m 0 own in
+    let rest = tail_some live distance next (is_empty lines) first frame t.tail block.exit taken t.is in
+    let sum = sum_append line_words own t.tail in
+    let all = ap (sum_of line_words) t.whole in
+    let e = ended_some distance next first frame taken lines block.exit in
     let l = length-append lines ends in
     let s = same_count (first + b) (lines ++ ends) in
     omega arith
@@ -177,7 +196,7 @@ laid_some laying (b ∷ order) =
   where
     by : (o : Option Block) → words_in o ≤ length (found_code laying b (next_label laying.first order) o)
     by None = omega arith
-    by (Some block) = block_some laying.at (laying.cut b) laying.distance (next_label laying.first order) laying.first laying.frame b block
+    by (Some block) = block_some laying.at (laying.cut b) laying.live laying.distance (next_label laying.first order) laying.first laying.frame b block
 
 module _ (blocks : List Block) (entry : ℕ) where
   abbrev upto : ℕ → ℕ

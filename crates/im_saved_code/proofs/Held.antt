@@ -146,6 +146,9 @@ entry_step n e X is low high k = (omega arith, omega arith, (λ r x. (let s = k 
 abbrev pub held : (ℕ → ℕ → Bool) → ℕ → ℕ → Bool
 held live b r = nat_lt r 32 && live b r
 
+pub held_lives : (live : ℕ → ℕ → Bool) (b r : ℕ) → held live b r ≡ true → live b r ≡ true
+held_lives live b r e = (both (nat_lt r 32) (live b r) e).1
+
 module _ (statics : ℕ) (f : Function) (wanted live : ℕ → ℕ → Bool) (placed : IsPlacedFunction statics f) (settled : IsSettledFunction wanted f) (is_live : IsLive f.blocks.items live) where
   block_at : (b : ℕ) (block : Block) → slice_get f.blocks.items b ≡ Some block → IsPlacedBlock statics f block
   block_at b block e = all_at (IsPlacedBlock statics f) f.blocks.items b block placed.blocks e

@@ -29,7 +29,7 @@ use Rattle.im_saved_lines.proofs.Selected.{jump_before, jump_sound}
 use Rattle.im_saved_lines.proofs.Blocks.{function_lines}
 use Rattle.im_saved_lines.proofs.Routines.{routine_lines}
 use Rattle.im_saved_code.proofs.Lists.{all_at}
-use Rattle.im_saved_code.proofs.Held.{held, is_held, saves}
+use Rattle.im_saved_code.proofs.Held.{held, held_lives, is_held, saves}
 use Rattle.im_saved_code.proofs.Labels.{at_labels, labels_low, labels_entries, labels_blocks}
 
 -- the lines of a part are its code
@@ -41,8 +41,10 @@ module _ (u : Code) (statics : List ℕ) (layouts : List Layout) (parts : List P
   pub record OwnPart (i : ℕ) (f : Function) (live : ℕ → ℕ → Bool) : Type 0 where
     pub layout : Layout
     pub m : ℕ → ℕ → ℕ
+    pub by : ℕ → ℕ → Bool
+    pub kept : (b r : ℕ) → live b r ≡ true → by b r ≡ true
     pub distance : Distance
-    pub there : HasCode parts (part_of i) (function_code i (laid f (at_of (given_at u.functions.items statics i f layout)) m distance (first_label u.functions.items i) layout.frame))
+    pub there : HasCode parts (part_of i) (function_code i (laid f (at_of (given_at u.functions.items statics i f layout)) m by distance (first_label u.functions.items i) layout.frame))
     pub placed : IsPlacedFunction (length statics) f
     pub is_held : IsHeld live f
     pub saves : (b : ℕ) (block : Block) → slice_get f.blocks.items b ≡ Some block → SavesFrom live (m b) 0 block.lines.items block.exit
@@ -59,6 +61,8 @@ module _ (u : Code) (statics : List ℕ) (layouts : List Layout) (parts : List P
       let part : OwnPart i f (held exact.live) = record {
         layout = own.layout;
         m = entries exact.live f.blocks.items;
+        by = exact.live;
+        kept = λ b r h. held_lives exact.live b r h;
         distance = exact.distance;
         there = subst (HasCode parts (part_of i)) exact.lines_are own.there;
         placed = placed;
@@ -108,9 +112,9 @@ module _ (u : Code) (statics : List ℕ) (layouts : List Layout) (parts : List P
   function_sound i f e part behind is_part =
       let p = (own i).part f e in
       let first : ℕ = first_label u.functions.items i in
-      let code : List CodeLine = function_code i (laid f (at_of (given_at u.functions.items statics i f p.layout)) p.m p.distance first p.layout.frame) in
+      let code : List CodeLine = function_code i (laid f (at_of (given_at u.functions.items statics i f p.layout)) p.m p.by p.distance first p.layout.frame) in
       subst (λ z. AreSound at z behind) (sym (code_is parts (part_of i) part code is_part p.there))
-      (function_lines u.functions.items (length statics) i first p.layout.frame f (at_of (given_at u.functions.items statics i f p.layout)) p.m p.distance (live_in i) at e (omega arith) low
+      (function_lines u.functions.items (length statics) i first p.layout.frame f (at_of (given_at u.functions.items statics i f p.layout)) p.m p.by p.distance (live_in i) at e (omega arith) p.kept low
       (labels_entries live_in u.functions.items) (labels_blocks live_in u.functions.items i f e) (all_at (IsFunction u.functions.items) u.functions.items i f well.functions e) p.placed p.is_held p.saves behind)
 
   routine_sound : (p : ℕ) (part : Part) (behind : After) (code : List CodeLine) → IsPart parts p part → HasCode parts p code → AreSound at code behind → AreSound at (code_lines part.lines.items) behind

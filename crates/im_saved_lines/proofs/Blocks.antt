@@ -101,15 +101,15 @@ pub record BlockFacts (functions : List Function) (statics count : ℕ) (f : Fun
   pub saves : SavesFrom live (m b) 0 block.lines.items block.exit
   pub closed : (r : ℕ) → lives_before live block.lines.items block.exit r ≡ true → live b r ≡ true
 
-module _ (functions : List Function) (statics : ℕ) (f : Function) (laying : Laying) (live at : ℕ → ℕ → Bool) (above : 64 ≤ laying.first) (low : IsLow at) (entries : HasEntries functions at) (blocks : HasBlocks live laying.first (length laying.blocks) at) (homes : (b r : ℕ) → live b r ≡ true → (is_base r ≡ true) ⊎ IsHome r) (facts : (b : ℕ) (block : Block) → slice_get laying.blocks b ≡ Some block → BlockFacts functions statics (length laying.blocks) f laying.cut live b block) where
+module _ (functions : List Function) (statics : ℕ) (f : Function) (laying : Laying) (live at : ℕ → ℕ → Bool) (above : 64 ≤ laying.first) (kept : (b r : ℕ) → live b r ≡ true → laying.live b r ≡ true) (low : IsLow at) (entries : HasEntries functions at) (blocks : HasBlocks live laying.first (length laying.blocks) at) (homes : (b r : ℕ) → live b r ≡ true → (is_base r ≡ true) ⊎ IsHome r) (facts : (b : ℕ) (block : Block) → slice_get laying.blocks b ≡ Some block → BlockFacts functions statics (length laying.blocks) f laying.cut live b block) where
   abbrev Facts : ℕ → Block → Type 0
   Facts b block = BlockFacts functions statics (length laying.blocks) f laying.cut live b block
 
   abbrev code_of : Option ℕ → ℕ → Block → List CodeLine
-  code_of next b block = block_code laying.at (laying.cut b) laying.distance next laying.first laying.frame b block
+  code_of next b block = block_code laying.at (laying.cut b) laying.live laying.distance next laying.first laying.frame b block
 
   abbrev lines_of : Option ℕ → ℕ → Block → List CodeLine
-  lines_of next b block = body functions statics laying.first (length laying.blocks) laying.frame f laying.at (laying.cut b) laying.distance live at above low entries blocks homes next block.lines.items block.exit
+  lines_of next b block = body functions statics laying.first (length laying.blocks) laying.frame f laying.at (laying.cut b) laying.live laying.distance live at above kept low entries blocks homes next block.lines.items block.exit
 
   -- what lives before a block lives at its label
   lines_before : (next : Option ℕ) (b : ℕ) (block : Block) (behind : After) (r : ℕ) → Facts b block → Meets at next behind → (scan at (lines_of next b block) behind).next r ≡ true → at (laying.first + b) r ≡ true
@@ -122,7 +122,7 @@ module _ (functions : List Function) (statics : ℕ) (f : Function) (laying : La
       unsaved u =
           blocks.all b r k.inside
           (k.closed r
-          (body_before functions statics laying.first (length laying.blocks) laying.frame f laying.at (laying.cut b) laying.distance live at above low entries blocks homes next block.lines.items block.exit behind r meets k.placed.lines k.placed.exit k.there k.exits u w))
+          (body_before functions statics laying.first (length laying.blocks) laying.frame f laying.at (laying.cut b) laying.live laying.distance live at above kept low entries blocks homes next block.lines.items block.exit behind r meets k.placed.lines k.placed.exit k.there k.exits u w))
 
   block_before : (next : Option ℕ) (b : ℕ) (block : Block) (behind : After) (r : ℕ) → Facts b block → Meets at next behind → (scan at (code_of next b block) behind).next r ≡ true → at (laying.first + b) r ≡ true
   block_before next b block behind r k meets w =
@@ -131,7 +131,7 @@ module _ (functions : List Function) (statics : ℕ) (f : Function) (laying : La
   block_sound : (next : Option ℕ) (b : ℕ) (block : Block) (behind : After) → Facts b block → Meets at next behind → AreSound at (code_of next b block) behind
   block_sound next b block behind k meets =
       sound_labelled at (laying.first + b) (lines_of next b block) behind (λ r w. lines_before next b block behind r k meets w)
-      (body_sound functions statics laying.first (length laying.blocks) laying.frame f laying.at (laying.cut b) laying.distance live at above low entries blocks homes next block.lines.items block.exit behind meets k.placed.lines k.placed.exit k.there k.exits k.calls k.saves)
+      (body_sound functions statics laying.first (length laying.blocks) laying.frame f laying.at (laying.cut b) laying.live laying.distance live at above kept low entries blocks homes next block.lines.items block.exit behind meets k.placed.lines k.placed.exit k.there k.exits k.calls k.saves)
 
   -- ---- as they are laid
 
@@ -178,20 +178,20 @@ all_at : {X : Type 0} (P : X → Type 0) (xs : List X) (i : ℕ) (x : X) → All
 all_at P xs i x a e = subst P (get_or_from_slice_get xs i x x e) (a i x (slice_get_within xs i x e))
 
 pub function_lines : FunctionLinesLaw
-function_lines functions statics i first frame f places m distance live at there above low entries blocks whole placed held saves behind =
+function_lines functions statics i first frame f places m by distance live at there above kept low entries blocks whole placed held saves behind =
     sound_append at (labelled (entry_label i) (prologue_code frame)) rest behind
     (sound_labelled at (entry_label i) (prologue_code frame) onward
     (λ r w.
     elim (or_unsaved (at (entry_label i) r ≡ true) r (λ u.
-    argument r u (held.entered r (entry_live r u (blocks_meet functions statics f laying live at above low entries blocks held.homes facts behind whole.entry (first + f.entry) r refl u (prologue_before at low frame onward r u w)))))) [
+    argument r u (held.entered r (entry_live r u (blocks_meet functions statics f laying live at above kept low entries blocks held.homes facts behind whole.entry (first + f.entry) r refl u (prologue_before at low frame onward r u w)))))) [
       | inl s ↦ low.base (entry_label i) r s
       | inr e ↦ e
     ])
     (prologue_sound at low frame onward))
-    (blocks_sound functions statics f laying live at above low entries blocks held.homes facts behind whole.entry)
+    (blocks_sound functions statics f laying live at above kept low entries blocks held.homes facts behind whole.entry)
   where
     laying : Laying
-    laying = laid f places m distance first frame
+    laying = laid f places m by distance first frame
 
     rest : List CodeLine
     rest = blocks_code laying

@@ -3,13 +3,18 @@ use Rattle.std.proofs.Common.{◌≡◌, ◌≢◌, ℕ, suc, ◌+◌, ◌<◌, 
 use Rattle.std.specs.Prelude.{◌==◌, ◌&&◌, ◌||◌, not, nat_lt, nat_le, if◌then◌else◌, slice_get, All}
 use Rattle.std.proofs.lemmas.Bool.Decides.{nat_tests}
 use Rattle.std.proofs.lemmas.List.Elements.{All-head, All-tail}
+use Rattle.im_num.specs.declared.kind.Kind.{Kind}
 use Rattle.im_num.specs.declared.values.Cause.{Cause}
 use Rattle.im_rv.specs.declared.instr.Op.{Op}
-use Rattle.im_rv.specs.declared.instr.Op.TheVariants.{Jalr, Beq, Bne, Lw}
+use Rattle.im_rv.specs.declared.instr.Op.TheVariants.{Jalr, Beq, Bne, Blt, Bge, Bltu, Bgeu, Lw}
+use Rattle.im_rv.specs.declared.format.Format.TheVariants.{Branch as OfBranches}
+use Rattle.im_rv.specs.Formats.{format_of}
 use Rattle.im_rv.specs.Lines.{CodeLine, plain_line}
 use Rattle.im_rv_reach.specs.Instructions.{with_immediate, branching, jumping}
 use Rattle.im_gap.specs.declared.flow.Turn.TheVariants.{Branches}
 use Rattle.im_rtlib.specs.Routines.{aimed}
+use Rattle.im_store.specs.declared.operators.Comparison.{Comparison}
+use Rattle.im_store.specs.declared.operators.Comparison.TheVariants.{Less, Greater, LessOrEqual, GreaterOrEqual, Equal, NotEqual}
 use Rattle.im_store.specs.Objects.{Name}
 use Rattle.im_block.specs.declared.code.Place.{Place}
 use Rattle.im_block.specs.declared.code.Place.TheVariants.{Static, Local, Through}
@@ -23,10 +28,13 @@ use Rattle.im_alloc_placed.specs.Operands.{IsHome, PlaceAtHome}
 use Rattle.im_alloc_placed.specs.Placed.{IsPlacedLine, IsPlacedExit}
 use Rattle.im_alloc_relation.specs.Live.{place_uses, uses, sets}
 use Rattle.im_live.specs.Reads.{reads, reads_stack, writes, exit_live, lives_before}
+use Rattle.im_select.specs.declared.branching.Test.{Test}
+use Rattle.im_select.specs.declared.branching.Test.TheVariants.{Nonzero, Compares}
 use Rattle.im_select.specs.declared.distance.Distance.{Distance as Reach}
 use Rattle.im_select.specs.declared.distance.Distance.TheVariants.{Near, Far}
-use Rattle.im_select.specs.Emitted.{entry_label, cut_code, result_code, call_code, line_code, lines_code, adds_code, leave_code, onward_code, test_code, is_next, branch_code, exit_code, is_empty, ended_code}
-use Rattle.im_saved_lines.specs.Scan.{way, is_base, is_returned, After, onward, scan, AreSound}
+use Rattle.im_select.specs.Emitted.{entry_label, cut_code, result_code, call_code, line_code, lines_code, adds_code, leave_code, onward_code, both_ways, test_op, test_code, test_or, taken_test, own_lines, is_next, branch_code, exit_code, is_empty, taking_code}
+use Rattle.im_select.proofs.Taking.{IsTaken, Nothing, Comparing, takes as parted, test_branches}
+use Rattle.im_saved_lines.specs.Scan.{Goes, IsSoundLine, way, is_base, is_returned, After, onward, scan, AreSound}
 use Rattle.im_saved_lines.specs.Laws.{lives_inside, IsLow, HasEntries, HasBlocks, HoldsCalls, SavesFrom}
 use Rattle.im_saved_lines.proofs.Scanning.{both, both_are, either, or_left, or_right, same_of, same_is, IsUnsaved, unsaved_not, unsaved_true, or_unsaved, scan_append, sound_append, Lives, First, Second, Later, line_lives, plain_sound, Wants, plain_wants}
 use Rattle.im_saved_lines.proofs.Plain.{adds_plain, adds_wants}
@@ -134,6 +142,36 @@ next_is (Some n) label e = ap Some (same_of n label e)
 abbrev pub Meets : (ℕ → ℕ → Bool) → Option ℕ → After → Type 0
 Meets at next behind = (l r : ℕ) → next ≡ Some l → IsUnsaved r → behind.next r ≡ true → at l r ≡ true
 
+either_is : (r a b : ℕ) → (r ≡ a) ⊎ (r ≡ b) → (r == a || r == b) ≡ true
+either_is r a b (inl e) = or_left (r == a) (r == b) (same_is r a e)
+either_is r a b (inr e) = or_right (r == a) (r == b) (same_is r b e)
+
+turned_is : (r a b : ℕ) → (r ≡ b) ⊎ (r ≡ a) → (r == a || r == b) ≡ true
+turned_is r a b (inl e) = or_right (r == a) (r == b) (same_is r b e)
+turned_is r a b (inr e) = or_left (r == a) (r == b) (same_is r a e)
+
+-- an operation of branches
+pub branch_way : (op : Op) → format_of op ≡ OfBranches → way op ≡ Branches
+branch_way Beq e = refl
+branch_way Bne e = refl
+branch_way Blt e = refl
+branch_way Bge e = refl
+branch_way Bltu e = refl
+branch_way Bgeu e = refl
+branch_way op e = absurd cc
+
+pub test_way : (holds : Bool) (t : Test) → way (test_op holds t) ≡ Branches
+test_way holds t = branch_way (test_op holds t) (test_branches holds t)
+
+-- a register of a comparison's test is one of its operands
+operand_is : (op : Comparison) (kind : Kind) (left right r : ℕ) → (r ≡ (both_ways (Compares op kind left right)).left) ⊎ (r ≡ (both_ways (Compares op kind left right)).right) → (r == left || r == right) ≡ true
+operand_is Less kind left right r e = either_is r left right e
+operand_is Greater kind left right r e = turned_is r left right e
+operand_is LessOrEqual kind left right r e = turned_is r left right e
+operand_is GreaterOrEqual kind left right r e = either_is r left right e
+operand_is Equal kind left right r e = either_is r left right e
+operand_is NotEqual kind left right r e = either_is r left right e
+
 module _ (at : ℕ → ℕ → Bool) where
   -- a jump to a label
   pub jump_before : (rd label : ℕ) (behind : After) (r : ℕ) → (rd == 3) ≡ false → IsUnsaved r → (scan at (call_code rd label) behind).next r ≡ true → at label r ≡ true
@@ -215,93 +253,130 @@ module _ (at : ℕ → ℕ → Bool) where
 
   -- ---- a test of a register, near, or over a jump
 
-  near_before : (op : Op) (on label : ℕ) (behind : After) (r : ℕ) → way op ≡ Branches → IsUnsaved r → (scan at (aimed label (branching op on 0 0) ∷ []) behind).next r ≡ true → (r ≡ on) ⊎ (at label r ≡ true) ⊎ (behind.next r ≡ true)
-  near_before op on label behind r branches u w = by (line_lives at (aimed label (branching op on 0 0)) behind r u w)
+  near_before : (op : Op) (left right label : ℕ) (behind : After) (r : ℕ) → way op ≡ Branches → IsUnsaved r → (scan at (aimed label (branching op left right 0) ∷ []) behind).next r ≡ true → ((r ≡ left) ⊎ (r ≡ right)) ⊎ (at label r ≡ true) ⊎ (behind.next r ≡ true)
+  near_before op left right label behind r branches u w = by (line_lives at (aimed label (branching op left right 0)) behind r u w)
     where
-      by : Lives at (aimed label (branching op on 0 0)) behind r → (r ≡ on) ⊎ (at label r ≡ true) ⊎ (behind.next r ≡ true)
-      by (First e) = inl e
-      by (Second e) = absurd (unsaved_not r 0 u refl e)
-      by (Later ne o) = elim (either (behind.next r) (at label r) (subst (λ t. onward at t (branching op on 0 0).rd (Some label) behind r ≡ true) branches o)) [
+      by : Lives at (aimed label (branching op left right 0)) behind r → ((r ≡ left) ⊎ (r ≡ right)) ⊎ (at label r ≡ true) ⊎ (behind.next r ≡ true)
+      by (First e) = inl (inl e)
+      by (Second e) = inl (inr e)
+      by (Later ne o) = elim (either (behind.next r) (at label r) (subst (λ t. onward at t (branching op left right 0).rd (Some label) behind r ≡ true) branches o)) [
         | inl a ↦ inr (inr a)
         | inr b ↦ inr (inl b)
       ]
 
-  far_before : (op : Op) (on label : ℕ) (behind : After) (r : ℕ) → way op ≡ Branches → IsUnsaved r → (scan at (plain_line (branching op on 0 8) ∷ call_code 0 label) behind).next r ≡ true → (r ≡ on) ⊎ (at label r ≡ true) ⊎ (behind.next r ≡ true)
-  far_before op on label behind r branches u w = by (line_lives at (plain_line (branching op on 0 8)) (scan at (call_code 0 label) behind) r u w)
+  far_before : (op : Op) (left right label : ℕ) (behind : After) (r : ℕ) → way op ≡ Branches → IsUnsaved r → (scan at (plain_line (branching op left right 8) ∷ call_code 0 label) behind).next r ≡ true → ((r ≡ left) ⊎ (r ≡ right)) ⊎ (at label r ≡ true) ⊎ (behind.next r ≡ true)
+  far_before op left right label behind r branches u w = by (line_lives at (plain_line (branching op left right 8)) (scan at (call_code 0 label) behind) r u w)
     where
-      by : Lives at (plain_line (branching op on 0 8)) (scan at (call_code 0 label) behind) r → (r ≡ on) ⊎ (at label r ≡ true) ⊎ (behind.next r ≡ true)
-      by (First e) = inl e
-      by (Second e) = absurd (unsaved_not r 0 u refl e)
-      by (Later ne o) = elim (either ((scan at (call_code 0 label) behind).next r) (behind.next r) (subst (λ t. onward at t (branching op on 0 8).rd None (scan at (call_code 0 label) behind) r ≡ true) branches o)) [
+      by : Lives at (plain_line (branching op left right 8)) (scan at (call_code 0 label) behind) r → ((r ≡ left) ⊎ (r ≡ right)) ⊎ (at label r ≡ true) ⊎ (behind.next r ≡ true)
+      by (First e) = inl (inl e)
+      by (Second e) = inl (inr e)
+      by (Later ne o) = elim (either ((scan at (call_code 0 label) behind).next r) (behind.next r) (subst (λ t. onward at t (branching op left right 8).rd None (scan at (call_code 0 label) behind) r ≡ true) branches o)) [
         | inl a ↦ inr (inl (jump_before 0 label behind r refl u a))
         | inr b ↦ inr (inr b)
       ]
 
-  test_before : (distance : Reach) (other : Bool) (on label : ℕ) (behind : After) (r : ℕ) → IsUnsaved r → (scan at (test_code distance other on label) behind).next r ≡ true → (r ≡ on) ⊎ (at label r ≡ true) ⊎ (behind.next r ≡ true)
-  test_before Near true on label behind r u w = near_before Bne on label behind r refl u w
-  test_before Near false on label behind r u w = near_before Beq on label behind r refl u w
-  test_before Far true on label behind r u w = far_before Beq on label behind r refl u w
-  test_before Far false on label behind r u w = far_before Bne on label behind r refl u w
+  -- a register of a test
+  abbrev Tests : Test → ℕ → Type 0
+  Tests t r = (r ≡ (both_ways t).left) ⊎ (r ≡ (both_ways t).right)
 
-  test_sound : (distance : Reach) (other : Bool) (on label : ℕ) (behind : After) → 32 ≤ label → AreSound at (test_code distance other on label) behind
-  test_sound Near true on label behind far = (record { labelled = λ l r e w. absurd cc; goes = inr (label, refl, far) }, tt)
-  test_sound Near false on label behind far = (record { labelled = λ l r e w. absurd cc; goes = inr (label, refl, far) }, tt)
-  test_sound Far true on label behind far = (record { labelled = λ l r e w. absurd cc; goes = inl (refl, refl) }, onward_sound false label behind far)
-  test_sound Far false on label behind far = (record { labelled = λ l r e w. absurd cc; goes = inl (refl, refl) }, onward_sound false label behind far)
+  test_before : (distance : Reach) (holds : Bool) (t : Test) (label : ℕ) (behind : After) (r : ℕ) → IsUnsaved r → (scan at (test_code distance holds t label) behind).next r ≡ true → Tests t r ⊎ (at label r ≡ true) ⊎ (behind.next r ≡ true)
+  test_before Near holds t label behind r u w = near_before (test_op holds t) (both_ways t).left (both_ways t).right label behind r (test_way holds t) u w
+  test_before Far holds t label behind r u w = far_before (test_op (not holds) t) (both_ways t).left (both_ways t).right label behind r (test_way (not holds) t) u w
+
+  branches_sound : (op : Op) (left right imm : ℕ) (target : Option ℕ) (behind : After) → way op ≡ Branches → ((target ≡ None) × (imm ≡ 8)) ⊎ ((l : ℕ) × (target ≡ Some l) × (32 ≤ l)) → IsSoundLine at (record (plain_line (branching op left right imm)) { target = target }) behind
+  branches_sound op left right imm target behind branches goes = record { labelled = λ l r e w. absurd cc; goes = subst (λ z. Goes z (branching op left right imm) target behind) (sym branches) goes }
+
+  test_sound : (distance : Reach) (holds : Bool) (t : Test) (label : ℕ) (behind : After) → 32 ≤ label → AreSound at (test_code distance holds t label) behind
+  test_sound Near holds t label behind far = (branches_sound (test_op holds t) (both_ways t).left (both_ways t).right 0 (Some label) behind (test_way holds t) (inr (label, refl, far)), tt)
+  test_sound Far holds t label behind far = (branches_sound (test_op (not holds) t) (both_ways t).left (both_ways t).right 8 None (scan at (call_code 0 label) behind) (test_way (not holds) t) (inl (refl, refl)), onward_sound false label behind far)
 
   -- where one of the two stands next, only the other is led to
-  branch_before : (distance : Reach) (next : Option ℕ) (on there other : ℕ) (behind : After) (r : ℕ) → Meets at next behind → IsUnsaved r → (scan at (branch_code distance next on there other) behind).next r ≡ true → (r ≡ on) ⊎ (at there r ≡ true) ⊎ (at other r ≡ true)
-  branch_before distance next on there other behind r meets u w = by (is_next next there) refl w
+  branch_before : (distance : Reach) (next : Option ℕ) (t : Test) (there other : ℕ) (behind : After) (r : ℕ) → Meets at next behind → IsUnsaved r → (scan at (branch_code distance next t there other) behind).next r ≡ true → Tests t r ⊎ (at there r ≡ true) ⊎ (at other r ≡ true)
+  branch_before distance next t there other behind r meets u w = by (is_next next there) refl w
     where
       rest : List CodeLine
       rest = onward_code (is_next next other) other
 
-      both_led : (r ≡ on) ⊎ (at there r ≡ true) ⊎ ((scan at rest behind).next r ≡ true) → (r ≡ on) ⊎ (at there r ≡ true) ⊎ (at other r ≡ true)
+      both_led : Tests t r ⊎ (at there r ≡ true) ⊎ ((scan at rest behind).next r ≡ true) → Tests t r ⊎ (at there r ≡ true) ⊎ (at other r ≡ true)
       both_led (inl e) = inl e
       both_led (inr (inl a)) = inr (inl a)
       both_led (inr (inr b)) = inr (inr (onward_before next other (is_next next other) behind r (λ e. e) meets u b))
 
-      one_led : is_next next there ≡ true → (r ≡ on) ⊎ (at other r ≡ true) ⊎ (behind.next r ≡ true) → (r ≡ on) ⊎ (at there r ≡ true) ⊎ (at other r ≡ true)
+      one_led : is_next next there ≡ true → Tests t r ⊎ (at other r ≡ true) ⊎ (behind.next r ≡ true) → Tests t r ⊎ (at there r ≡ true) ⊎ (at other r ≡ true)
       one_led e (inl a) = inl a
       one_led e (inr (inl a)) = inr (inr a)
       one_led e (inr (inr b)) = inr (inl (meets there r (next_is next there e) u b))
 
-      by : (t : Bool) → is_next next there ≡ t → (scan at (if t then test_code distance false on other else test_code distance true on there ++ rest) behind).next r ≡ true → (r ≡ on) ⊎ (at there r ≡ true) ⊎ (at other r ≡ true)
-      by true e v = one_led e (test_before distance false on other behind r u v)
-      by false e v = both_led (test_before distance true on there (scan at rest behind) r u (sym (ap (λ (z : After). z.next r) (scan_append at (test_code distance true on there) rest behind)) ∙ v))
+      by : (b : Bool) → is_next next there ≡ b → (scan at (if b then test_code distance false t other else test_code distance true t there ++ rest) behind).next r ≡ true → Tests t r ⊎ (at there r ≡ true) ⊎ (at other r ≡ true)
+      by true e v = one_led e (test_before distance false t other behind r u v)
+      by false e v = both_led (test_before distance true t there (scan at rest behind) r u (sym (ap (λ (z : After). z.next r) (scan_append at (test_code distance true t there) rest behind)) ∙ v))
 
-  branch_sound : (distance : Reach) (next : Option ℕ) (on there other : ℕ) (behind : After) → 32 ≤ there → 32 ≤ other → AreSound at (branch_code distance next on there other) behind
-  branch_sound distance next on there other behind a b = by (is_next next there)
+  branch_sound : (distance : Reach) (next : Option ℕ) (t : Test) (there other : ℕ) (behind : After) → 32 ≤ there → 32 ≤ other → AreSound at (branch_code distance next t there other) behind
+  branch_sound distance next t there other behind a b = by (is_next next there)
     where
       rest : List CodeLine
       rest = onward_code (is_next next other) other
 
-      by : (t : Bool) → AreSound at (if t then test_code distance false on other else test_code distance true on there ++ rest) behind
-      by true = test_sound distance false on other behind b
-      by false = sound_append at (test_code distance true on there) rest behind (test_sound distance true on there (scan at rest behind) a) (onward_sound (is_next next other) other behind b)
+      by : (q : Bool) → AreSound at (if q then test_code distance false t other else test_code distance true t there ++ rest) behind
+      by true = test_sound distance false t other behind b
+      by false = sound_append at (test_code distance true t there) rest behind (test_sound distance true t there (scan at rest behind) a) (onward_sound (is_next next other) other behind b)
 
-module _ (functions : List Function) (statics first count frame : ℕ) (f : Function) (places : Name → ℕ) (m : ℕ → ℕ) (distance : Reach) (live at : ℕ → ℕ → Bool) (above : 64 ≤ first) (low : IsLow at) (entries : HasEntries functions at) (blocks : HasBlocks live first count at) (homes : (b r : ℕ) → live b r ≡ true → (is_base r ≡ true) ⊎ IsHome r) where
+module _ (functions : List Function) (statics first count frame : ℕ) (f : Function) (places : Name → ℕ) (m : ℕ → ℕ) (by : ℕ → ℕ → Bool) (distance : Reach) (live at : ℕ → ℕ → Bool) (above : 64 ≤ first) (kept : (b r : ℕ) → live b r ≡ true → by b r ≡ true) (low : IsLow at) (entries : HasEntries functions at) (blocks : HasBlocks live first count at) (homes : (b r : ℕ) → live b r ≡ true → (is_base r ≡ true) ⊎ IsHome r) where
   block_live : (b r : ℕ) → b < count → IsUnsaved r → at (first + b) r ≡ true → live b r ≡ true
   block_live b r there u e = elim (blocks.only b r there e) [ inl s ↦ absurd (unsaved_true r u s) | inr w ↦ w ]
 
-  exit_before : (next : Option ℕ) (bare : Bool) (exit : Exit) (behind : After) (r : ℕ) → Meets at next behind → IsPlacedExit exit → ExitThere count exit → IsUnsaved r → (scan at (exit_code distance next bare first frame exit) behind).next r ≡ true → exit_live live exit r ≡ true
+  -- by the register of a branch, or by the test that it takes
+  led_to : (x y r : ℕ) → x < count → y < count → IsUnsaved r → (at (first + x) r ≡ true) ⊎ (at (first + y) r ≡ true) → (live x r || live y r) ≡ true
+  led_to x y r a b u (inl e) = or_left (live x r) (live y r) (block_live x r a u e)
+  led_to x y r a b u (inr e) = or_right (live x r) (live y r) (block_live y r b u e)
+
+  exit_before : (next : Option ℕ) (bare : Bool) (exit : Exit) (behind : After) (r : ℕ) → Meets at next behind → IsPlacedExit exit → ExitThere count exit → IsUnsaved r → (scan at (exit_code distance next bare first frame None exit) behind).next r ≡ true → exit_live live exit r ≡ true
   exit_before next bare (Jump b) behind r meets h there u w = block_live b r there u (onward_before at next (first + b) (not bare && is_next next (first + b)) behind r (λ e. (both (not bare) (is_next next (first + b)) e).1) meets u w)
   exit_before next bare (Turn b) behind r meets h there u w = block_live b r there u (jump_before at 0 (first + b) behind r refl u w)
-  exit_before next bare (Branch on x y) behind r meets h there u w = by (branch_before at distance next on (first + x) (first + y) behind r meets u w)
+  exit_before next bare (Branch on x y) behind r meets h there u w = cases (branch_before at distance next (Nonzero on) (first + x) (first + y) behind r meets u w)
     where
-      by : (r ≡ on) ⊎ (at (first + x) r ≡ true) ⊎ (at (first + y) r ≡ true) → exit_live live (Branch on x y) r ≡ true
-      by (inl e) = or_left (r == on) (live x r || live y r) (same_is r on e)
-      by (inr (inl e)) = or_right (r == on) (live x r || live y r) (or_left (live x r) (live y r) (block_live x r there.0 u e))
-      by (inr (inr e)) = or_right (r == on) (live x r || live y r) (or_right (live x r) (live y r) (block_live y r there.1 u e))
+      cases : ((r ≡ on) ⊎ (r ≡ 0)) ⊎ (at (first + x) r ≡ true) ⊎ (at (first + y) r ≡ true) → exit_live live (Branch on x y) r ≡ true
+      cases (inl (inl e)) = or_left (r == on) (live x r || live y r) (same_is r on e)
+      cases (inl (inr e)) = absurd (unsaved_not r 0 u refl e)
+      cases (inr e) = or_right (r == on) (live x r || live y r) (led_to x y r there.0 there.1 u e)
   exit_before next bare (Return None) behind r meets h there u w = absurd (none_before at frame behind r u w)
   exit_before next bare (Return (Some x)) behind r meets h there u w = or_left (r == x) (r == 1 || r == 2) (same_is r x (leave_before at frame behind r u w ∙ sym h))
 
-  exit_sound : (next : Option ℕ) (bare : Bool) (exit : Exit) (behind : After) → AreSound at (exit_code distance next bare first frame exit) behind
-  exit_sound next bare (Jump b) behind = onward_sound at (not bare && is_next next (first + b)) (first + b) behind (omega arith)
-  exit_sound next bare (Turn b) behind = onward_sound at false (first + b) behind (omega arith)
-  exit_sound next bare (Branch on x y) behind = branch_sound at distance next on (first + x) (first + y) behind (omega arith) (omega arith)
-  exit_sound next bare (Return None) behind = sound_append at (result_code None) (leave_code frame) behind (plain_sound at (result_code None) (scan at (leave_code frame) behind) ((refl, refl), tt)) (leave_sound at frame behind)
-  exit_sound next bare (Return (Some x)) behind = leave_sound at frame behind
+  exit_sound : (next : Option ℕ) (bare : Bool) (taken : Option Test) (exit : Exit) (behind : After) → AreSound at (exit_code distance next bare first frame taken exit) behind
+  exit_sound next bare taken (Jump b) behind = onward_sound at (not bare && is_next next (first + b)) (first + b) behind (omega arith)
+  exit_sound next bare taken (Turn b) behind = onward_sound at false (first + b) behind (omega arith)
+  exit_sound next bare taken (Branch on x y) behind = branch_sound at distance next (test_or taken on) (first + x) (first + y) behind (omega arith) (omega arith)
+  exit_sound next bare taken (Return None) behind = sound_append at (result_code None) (leave_code frame) behind (plain_sound at (result_code None) (scan at (leave_code frame) behind) ((refl, refl), tt)) (leave_sound at frame behind)
+  exit_sound next bare taken (Return (Some x)) behind = leave_sound at frame behind
+
+  -- a register that no block reads isn't that of what lives there
+  apart : (to x y r : ℕ) → by x to ≡ false → by y to ≡ false → (live x r || live y r) ≡ true → (r == to) ≡ false
+  apart to x y r a b e = cases (r == to) refl
+    where
+      read : r ≡ to → ⊥
+      read q = elim (either (live x to) (live y to) (sym (ap (λ z. live x z || live y z) q) ∙ e)) [
+        | inl l ↦ (let bad : true ≡ false = sym (kept x to l) ∙ a in cc)
+        | inr l ↦ (let bad : true ≡ false = sym (kept y to l) ∙ b in cc)
+      ]
+
+      cases : (t : Bool) → (r == to) ≡ t → t ≡ false
+      cases true q = absurd (read (same_of r to q))
+      cases false q = refl
+
+  -- with the comparison that the exit takes
+  tail_before : (next : Option ℕ) (bare : Bool) (tail : List Line) (exit : Exit) (taken : Option Test) (behind : After) (r : ℕ) → IsTaken by tail exit taken → Meets at next behind → IsPlacedExit exit → ExitThere count exit → IsUnsaved r → (scan at (exit_code distance next bare first frame taken exit) behind).next r ≡ true → lives_before live tail exit r ≡ true
+  tail_before next bare tail exit taken behind r (Nothing exit') meets h there u w = exit_before next bare exit behind r meets h there u w
+  tail_before next bare tail exit taken behind r (Comparing to op kind left right x y a b) meets h there u w = cases (branch_before at distance next (Compares op kind left right) (first + x) (first + y) behind r meets u w)
+    where
+      line : Line
+      line = Compare to op kind left right
+
+      cases : ((r ≡ (both_ways (Compares op kind left right)).left) ⊎ (r ≡ (both_ways (Compares op kind left right)).right)) ⊎ (at (first + x) r ≡ true) ⊎ (at (first + y) r ≡ true) → lives_before live (line ∷ []) (Branch to x y) r ≡ true
+      cases (inl e) = or_left (reads line r) (not (r == to) && exit_live live (Branch to x y) r) (or_left (r == left || r == right) false (operand_is op kind left right r e))
+      cases (inr e) =
+          let lives = led_to x y r there.0 there.1 u e in
+          or_right (reads line r) (not (r == to) && exit_live live (Branch to x y) r)
+          (both_are (not (r == to)) (exit_live live (Branch to x y) r) (ap not (apart to x y r a b lives)) (or_right (r == to) (live x r || live y r) lives))
 
   -- ---- before a line
 
@@ -343,14 +418,14 @@ module _ (functions : List Function) (statics first count frame : ℕ) (f : Func
       ten e = elim (either (r == 10) false e) [ inl a ↦ same_of r 10 a | inr b ↦ absurd cc ]
   line_before k line behind r h t u w = work_before line behind r (λ q. refl) (work_wants places k line tt (behind.next r ≡ true) r u (plain_wants at (line_code places k line) behind r (work_plain places k line tt) u w))
 
-  pub lines_before : (j : ℕ) (lines : List Line) (exit : Exit) (behind : After) (r : ℕ) → ((s : ℕ) → IsUnsaved s → behind.next s ≡ true → exit_live live exit s ≡ true) → All (IsPlacedLine statics f) lines → All (LineThere functions) lines → IsUnsaved r → (scan at (lines_code places m j lines) behind).next r ≡ true → lives_before live lines exit r ≡ true
-  lines_before j [] exit behind r k h t u w = k r u w
-  lines_before j (line ∷ lines) exit behind r k h t u w =
+  pub lines_before : (j : ℕ) (lines tail : List Line) (exit : Exit) (behind : After) (r : ℕ) → ((s : ℕ) → IsUnsaved s → behind.next s ≡ true → lives_before live tail exit s ≡ true) → All (IsPlacedLine statics f) (lines ++ tail) → All (LineThere functions) (lines ++ tail) → IsUnsaved r → (scan at (lines_code places m j lines) behind).next r ≡ true → lives_before live (lines ++ tail) exit r ≡ true
+  lines_before j [] tail exit behind r k h t u w = k r u w
+  lines_before j (line ∷ lines) tail exit behind r k h t u w =
       let rest : After = scan at (lines_code places m (suc j) lines) behind in
-      elim (line_before (m j) line rest r (All-head (IsPlacedLine statics f) line lines h) (All-head (LineThere functions) line lines t) u (sym (ap (λ (z : After). z.next r) (scan_append at (line_code places (m j) line) (lines_code places m (suc j) lines) behind)) ∙ w)) [
-        | inl e ↦ or_left (reads line r) (not (writes line r) && lives_before live lines exit r) e
-        | inr c ↦ or_right (reads line r) (not (writes line r) && lives_before live lines exit r)
-            (both_are (not (writes line r)) (lives_before live lines exit r) (ap not c.0) (lines_before (suc j) lines exit behind r k (All-tail (IsPlacedLine statics f) line lines h) (All-tail (LineThere functions) line lines t) u c.1))
+      elim (line_before (m j) line rest r (All-head (IsPlacedLine statics f) line (lines ++ tail) h) (All-head (LineThere functions) line (lines ++ tail) t) u (sym (ap (λ (z : After). z.next r) (scan_append at (line_code places (m j) line) (lines_code places m (suc j) lines) behind)) ∙ w)) [
+        | inl e ↦ or_left (reads line r) (not (writes line r) && lives_before live (lines ++ tail) exit r) e
+        | inr c ↦ or_right (reads line r) (not (writes line r) && lives_before live (lines ++ tail) exit r)
+            (both_are (not (writes line r)) (lives_before live (lines ++ tail) exit r) (ap not c.0) (lines_before (suc j) lines tail exit behind r k (All-tail (IsPlacedLine statics f) line (lines ++ tail) h) (All-tail (LineThere functions) line (lines ++ tail) t) u c.1))
       ]
 
   abbrev Saves : ℕ → List Line → Exit → Type 0
@@ -377,32 +452,40 @@ module _ (functions : List Function) (statics first count frame : ℕ) (f : Func
       (λ e r w. returned_of r (elim (or_unsaved ((is_base r ≡ true) ⊎ (r ≡ 10)) r (λ u. s.0 tt r (k r u w))) [ inl a ↦ inl a | inr b ↦ b ]))
   line_sound n line rest exit behind k home s v = plain_sound at (line_code places n line) behind (work_plain places n line tt)
 
-  pub lines_sound : (j : ℕ) (lines : List Line) (exit : Exit) (behind : After) → ((s : ℕ) → IsUnsaved s → behind.next s ≡ true → exit_live live exit s ≡ true) → All (IsPlacedLine statics f) lines → IsPlacedExit exit → All (LineThere functions) lines → HoldsCalls live lines exit → SavesFrom live m j lines exit → AreSound at (lines_code places m j lines) behind
-  lines_sound j [] exit behind k h e t s v = tt
-  lines_sound j (line ∷ lines) exit behind k h e t s v =
-      let h' = All-tail (IsPlacedLine statics f) line lines h in
-      let t' = All-tail (LineThere functions) line lines t in
+  pub lines_sound : (j : ℕ) (lines tail : List Line) (exit : Exit) (behind : After) → ((s : ℕ) → IsUnsaved s → behind.next s ≡ true → lives_before live tail exit s ≡ true) → All (IsPlacedLine statics f) (lines ++ tail) → IsPlacedExit exit → All (LineThere functions) (lines ++ tail) → HoldsCalls live (lines ++ tail) exit → SavesFrom live m j (lines ++ tail) exit → AreSound at (lines_code places m j lines) behind
+  lines_sound j [] tail exit behind k h e t s v = tt
+  lines_sound j (line ∷ lines) tail exit behind k h e t s v =
+      let h' = All-tail (IsPlacedLine statics f) line (lines ++ tail) h in
+      let t' = All-tail (LineThere functions) line (lines ++ tail) t in
       sound_append at (line_code places (m j) line) (lines_code places m (suc j) lines) behind
-      (line_sound (m j) line lines exit (scan at (lines_code places m (suc j) lines) behind) (λ r u w. lines_before (suc j) lines exit behind r k h' t' u w) (λ r w. lives_home statics f live lines exit r homes h' e w) s v.0)
-      (lines_sound (suc j) lines exit behind k h' e t' s.1 v.1)
+      (line_sound (m j) line (lines ++ tail) exit (scan at (lines_code places m (suc j) lines) behind) (λ r u w. lines_before (suc j) lines tail exit behind r k h' t' u w) (λ r w. lives_home statics f live (lines ++ tail) exit r homes h' e w) s v.0)
+      (lines_sound (suc j) lines tail exit behind k h' e t' s.1 v.1)
 
   -- a block
   abbrev pub body : Option ℕ → List Line → Exit → List CodeLine
-  body next lines exit = ended_code distance next first frame (lines_code places m 0 lines) exit
+  body next lines exit = taking_code places m distance next first frame (taken_test by lines exit) lines exit
+
+  abbrev own_code : List Line → Exit → List CodeLine
+  own_code lines exit = lines_code places m 0 (own_lines (taken_test by lines exit) lines)
 
   abbrev ends : Option ℕ → List Line → Exit → List CodeLine
-  ends next lines exit = exit_code distance next (is_empty (lines_code places m 0 lines)) first frame exit
+  ends next lines exit = exit_code distance next (is_empty (own_code lines exit)) first frame (taken_test by lines exit) exit
 
-  exit_meets : (next : Option ℕ) (lines : List Line) (exit : Exit) (behind : After) → Meets at next behind → IsPlacedExit exit → ExitThere count exit → (r : ℕ) → IsUnsaved r → (scan at (ends next lines exit) behind).next r ≡ true → exit_live live exit r ≡ true
-  exit_meets next lines exit behind meets e there r u w = exit_before next (is_empty (lines_code places m 0 lines)) exit behind r meets e there u w
+  exit_meets : (next : Option ℕ) (lines : List Line) (exit : Exit) (behind : After) → Meets at next behind → IsPlacedExit exit → ExitThere count exit → (r : ℕ) → IsUnsaved r → (scan at (ends next lines exit) behind).next r ≡ true → lives_before live (parted by lines exit).tail exit r ≡ true
+  exit_meets next lines exit behind meets e there r u w = tail_before next (is_empty (own_code lines exit)) (parted by lines exit).tail exit (taken_test by lines exit) behind r (parted by lines exit).is meets e there u w
 
   pub body_before : (next : Option ℕ) (lines : List Line) (exit : Exit) (behind : After) (r : ℕ) → Meets at next behind → All (IsPlacedLine statics f) lines → IsPlacedExit exit → All (LineThere functions) lines → ExitThere count exit → IsUnsaved r → (scan at (body next lines exit) behind).next r ≡ true → lives_before live lines exit r ≡ true
   body_before next lines exit behind r meets h e t there u w =
-      lines_before 0 lines exit (scan at (ends next lines exit) behind) r (exit_meets next lines exit behind meets e there) h t u
-      (sym (ap (λ (z : After). z.next r) (scan_append at (lines_code places m 0 lines) (ends next lines exit) behind)) ∙ w)
+      let k = parted by lines exit in
+      subst (λ (z : List Line). lives_before live z exit r ≡ true) k.whole
+      (lines_before 0 (own_lines (taken_test by lines exit) lines) k.tail exit (scan at (ends next lines exit) behind) r (exit_meets next lines exit behind meets e there) (subst (All (IsPlacedLine statics f)) (sym k.whole) h) (subst (All (LineThere functions)) (sym k.whole) t) u
+      (sym (ap (λ (z : After). z.next r) (scan_append at (own_code lines exit) (ends next lines exit) behind)) ∙ w))
 
   pub body_sound : (next : Option ℕ) (lines : List Line) (exit : Exit) (behind : After) → Meets at next behind → All (IsPlacedLine statics f) lines → IsPlacedExit exit → All (LineThere functions) lines → ExitThere count exit → HoldsCalls live lines exit → SavesFrom live m 0 lines exit → AreSound at (body next lines exit) behind
   body_sound next lines exit behind meets h e t there s saves =
-      sound_append at (lines_code places m 0 lines) (ends next lines exit) behind
-      (lines_sound 0 lines exit (scan at (ends next lines exit) behind) (exit_meets next lines exit behind meets e there) h e t s saves)
-      (exit_sound next (is_empty (lines_code places m 0 lines)) exit behind)
+      let k = parted by lines exit in
+      sound_append at (own_code lines exit) (ends next lines exit) behind
+      (lines_sound 0 (own_lines (taken_test by lines exit) lines) k.tail exit (scan at (ends next lines exit) behind) (exit_meets next lines exit behind meets e there)
+      (subst (All (IsPlacedLine statics f)) (sym k.whole) h) e (subst (All (LineThere functions)) (sym k.whole) t)
+      (subst (λ (z : List Line). HoldsCalls live z exit) (sym k.whole) s) (subst (λ (z : List Line). SavesFrom live m 0 z exit) (sym k.whole) saves))
+      (exit_sound next (is_empty (own_code lines exit)) (taken_test by lines exit) exit behind)

@@ -54,16 +54,16 @@ abbrev pub SavesFrom : (ℕ → ℕ → Bool) → (ℕ → ℕ) → ℕ → List
 SavesFrom live m j [] leaves = Unit {0}
 SavesFrom live m j (line ∷ rest) leaves = ((4 ≤ m j) × (m j ≤ 31) × ((r : ℕ) → lives_before live rest leaves r ≡ true → r ≤ m j)) × SavesFrom live m (suc j) rest leaves
 
--- what a function's blocks are laid by
-abbrev pub laid : Function → (Name → ℕ) → (ℕ → ℕ → ℕ) → Distance → ℕ → ℕ → Laying
-laid f places m distance first frame = record { at = places; cut = m; distance = distance; first = first; frame = frame; blocks = f.blocks.items; entry = f.entry }
+-- what a function's blocks are laid by; by: the registers by which exits take comparisons
+abbrev pub laid : Function → (Name → ℕ) → (ℕ → ℕ → ℕ) → (ℕ → ℕ → Bool) → Distance → ℕ → ℕ → Laying
+laid f places m by distance first frame = record { at = places; cut = m; live = by; distance = distance; first = first; frame = frame; blocks = f.blocks.items; entry = f.entry }
 
 abbrev pub FunctionLinesLaw : Type 0
 FunctionLinesLaw =
-    (functions : List Function) (statics i first frame : ℕ) (f : Function) (places : Name → ℕ) (m : ℕ → ℕ → ℕ) (distance : Distance) (live at : ℕ → ℕ → Bool) → slice_get functions i ≡ Some f → 64 ≤ first →
-    IsLow at → HasEntries functions at → HasBlocks live first (length f.blocks.items) at → IsFunction functions f → IsPlacedFunction statics f → IsHeld live f →
+    (functions : List Function) (statics i first frame : ℕ) (f : Function) (places : Name → ℕ) (m : ℕ → ℕ → ℕ) (by : ℕ → ℕ → Bool) (distance : Distance) (live at : ℕ → ℕ → Bool) → slice_get functions i ≡ Some f → 64 ≤ first →
+    ((b r : ℕ) → live b r ≡ true → by b r ≡ true) → IsLow at → HasEntries functions at → HasBlocks live first (length f.blocks.items) at → IsFunction functions f → IsPlacedFunction statics f → IsHeld live f →
     ((b : ℕ) (block : Block) → slice_get f.blocks.items b ≡ Some block → SavesFrom live (m b) 0 block.lines.items block.exit) →
-    (behind : After) → AreSound at (function_code i (laid f places m distance first frame)) behind
+    (behind : After) → AreSound at (function_code i (laid f places m by distance first frame)) behind
 
 -- each cut enters at a register that lives behind it: as all that lives there is saved, at the greatest
 abbrev pub AreLeast : (ℕ → ℕ → Bool) → List CodeLine → After → Type 0

@@ -22,9 +22,11 @@ use Rattle.im_block.specs.declared.unit.Function.{Function}
 use Rattle.im_block.specs.Forced.{StartsWithCut}
 use Rattle.im_block.specs.Shape.{sum_of, with_cut, exit_words, placed_block_cost, placed_cost}
 use Rattle.im_alloc_placed.specs.Apart.{CutsApart}
+use Rattle.im_select.specs.declared.branching.Test.{Test}
 use Rattle.im_select.specs.declared.distance.Distance.{Distance}
 use Rattle.im_select.specs.declared.distance.Distance.TheVariants.{Near, Far}
-use Rattle.im_select.specs.Emitted.{high_of, low_of, constant_by, constant_code, displaced_by, displaced_code, displaced_base, step_op, adds_by, adds_code, place_number, place_code, place_base, moved_code, copied_code, shift_of, shifts_code, scaled_code, scaled_register, based_code, address_code, line_code, lines_code, onward_code, test_code, is_next, branch_code, exit_code, is_empty, ended_code, block_code, Laying, next_label, found_code, laid_block, laid_code, laid_order, blocks_code, enter_code, prologue_code, function_code, labelled, entry_label}
+use Rattle.im_select.specs.Emitted.{high_of, low_of, constant_by, constant_code, displaced_by, displaced_code, displaced_base, step_op, adds_by, adds_code, place_number, place_code, place_base, moved_code, copied_code, shift_of, shifts_code, scaled_code, scaled_register, based_code, address_code, line_code, lines_code, onward_code, test_code, test_or, taken_test, own_lines, is_next, branch_code, exit_code, is_empty, ended_code, block_code, Laying, next_label, found_code, laid_block, laid_code, laid_order, blocks_code, enter_code, prologue_code, function_code, labelled, entry_label}
+use Rattle.im_select.proofs.Taking.{takes}
 use Rattle.im_select.proofs.Ordering.{cost_found, cost_in, order_cost}
 use Rattle.im_select.proofs.Plain.{length_labelled}
 
@@ -146,53 +148,73 @@ onward_few : (falls : Bool) (label : ℕ) → length (onward_code falls label) �
 onward_few true label = omega arith
 onward_few false label = omega arith
 
-test_few : (distance : Distance) (holds : Bool) (on label : ℕ) → (0 < length (test_code distance holds on label)) × (length (test_code distance holds on label) ≤ 2)
-test_few Near holds on label = (omega arith, omega arith)
-test_few Far holds on label = (omega arith, omega arith)
+test_few : (distance : Distance) (holds : Bool) (t : Test) (label : ℕ) → (0 < length (test_code distance holds t label)) × (length (test_code distance holds t label) ≤ 2)
+test_few Near holds t label = (omega arith, omega arith)
+test_few Far holds t label = (omega arith, omega arith)
 
-abbrev branch_by : Bool → Distance → Option ℕ → ℕ → ℕ → ℕ → List CodeLine
-branch_by b distance next on there other = if b then test_code distance false on other else test_code distance true on there ++ onward_code (is_next next other) other
+abbrev branch_by : Bool → Distance → Option ℕ → Test → ℕ → ℕ → List CodeLine
+branch_by b distance next t there other = if b then test_code distance false t other else test_code distance true t there ++ onward_code (is_next next other) other
 
-branch_few : (distance : Distance) (next : Option ℕ) (on there other : ℕ) → (0 < length (branch_code distance next on there other)) × (length (branch_code distance next on there other) ≤ 3)
-branch_few distance next on there other = by (is_next next there)
+branch_few : (distance : Distance) (next : Option ℕ) (t : Test) (there other : ℕ) → (0 < length (branch_code distance next t there other)) × (length (branch_code distance next t there other) ≤ 3)
+branch_few distance next t there other = by (is_next next there)
   where
-    by : (b : Bool) → (0 < length (branch_by b distance next on there other)) × (length (branch_by b distance next on there other) ≤ 3)
-    by true = let t = test_few distance false on other in let a = t.0 in let b = t.1 in (omega arith, omega arith)
+    by : (b : Bool) → (0 < length (branch_by b distance next t there other)) × (length (branch_by b distance next t there other) ≤ 3)
+    by true = let q = test_few distance false t other in let a = q.0 in let b = q.1 in (omega arith, omega arith)
     by false =
-        let t = test_few distance true on there in
-        let a = t.0 in
-        let b = t.1 in
+        let q = test_few distance true t there in
+        let a = q.0 in
+        let b = q.1 in
         let o = onward_few (is_next next other) other in
-        let e = length-append (test_code distance true on there) (onward_code (is_next next other) other) in
+        let e = length-append (test_code distance true t there) (onward_code (is_next next other) other) in
         (omega arith, omega arith)
 
-exit_few : (distance : Distance) (next : Option ℕ) (bare : Bool) (first frame : ℕ) (exit : Exit) → length (exit_code distance next bare first frame exit) ≤ exit_words exit
-exit_few distance next bare first frame (Jump b) = onward_few (not bare && is_next next (first + b)) (first + b)
-exit_few distance next bare first frame (Turn b) = omega arith
-exit_few distance next bare first frame (Branch on x y) = (branch_few distance next on (first + x) (first + y)).1
-exit_few distance next bare first frame (Return None) = let q = then_few (adds_code 2 frame) (plain_line (with_immediate Jalr 0 1 0) ∷ []) 3 1 (adds_few 2 frame) (omega arith) in omega arith
-exit_few distance next bare first frame (Return (Some r)) = let q = then_few (adds_code 2 frame) (plain_line (with_immediate Jalr 0 1 0) ∷ []) 3 1 (adds_few 2 frame) (omega arith) in omega arith
+exit_few : (distance : Distance) (next : Option ℕ) (bare : Bool) (first frame : ℕ) (taken : Option Test) (exit : Exit) → length (exit_code distance next bare first frame taken exit) ≤ exit_words exit
+exit_few distance next bare first frame taken (Jump b) = onward_few (not bare && is_next next (first + b)) (first + b)
+exit_few distance next bare first frame taken (Turn b) = omega arith
+exit_few distance next bare first frame taken (Branch on x y) = (branch_few distance next (test_or taken on) (first + x) (first + y)).1
+exit_few distance next bare first frame taken (Return None) = let q = then_few (adds_code 2 frame) (plain_line (with_immediate Jalr 0 1 0) ∷ []) 3 1 (adds_few 2 frame) (omega arith) in omega arith
+exit_few distance next bare first frame taken (Return (Some r)) = let q = then_few (adds_code 2 frame) (plain_line (with_immediate Jalr 0 1 0) ∷ []) 3 1 (adds_few 2 frame) (omega arith) in omega arith
 
 -- a block without other lines keeps its jump
-bare_some : (distance : Distance) (next : Option ℕ) (first frame : ℕ) (exit : Exit) → 0 < length (exit_code distance next true first frame exit)
-bare_some distance next first frame (Jump b) = omega arith
-bare_some distance next first frame (Turn b) = omega arith
-bare_some distance next first frame (Branch on x y) = (branch_few distance next on (first + x) (first + y)).0
-bare_some distance next first frame (Return None) = omega arith
-bare_some distance next first frame (Return (Some r)) = omega arith
+bare_some : (distance : Distance) (next : Option ℕ) (first frame : ℕ) (taken : Option Test) (exit : Exit) → 0 < length (exit_code distance next true first frame taken exit)
+bare_some distance next first frame taken (Jump b) = omega arith
+bare_some distance next first frame taken (Turn b) = omega arith
+bare_some distance next first frame taken (Branch on x y) = (branch_few distance next (test_or taken on) (first + x) (first + y)).0
+bare_some distance next first frame taken (Return None) = omega arith
+bare_some distance next first frame taken (Return (Some r)) = omega arith
 
 -- so each block has a line for its label
-pub ended_some : (distance : Distance) (next : Option ℕ) (first frame : ℕ) (lines : List CodeLine) (exit : Exit) → 0 < length (ended_code distance next first frame lines exit)
-ended_some distance next first frame [] exit = bare_some distance next first frame exit
-ended_some distance next first frame (line ∷ lines) exit = omega arith
+pub ended_some : (distance : Distance) (next : Option ℕ) (first frame : ℕ) (taken : Option Test) (lines : List CodeLine) (exit : Exit) → 0 < length (ended_code distance next first frame taken lines exit)
+ended_some distance next first frame taken [] exit = bare_some distance next first frame taken exit
+ended_some distance next first frame taken (line ∷ lines) exit = omega arith
 
-block_few : (at : Name → ℕ) (m : ℕ → ℕ) (distance : Distance) (next : Option ℕ) (first frame b : ℕ) (block : Block) → CutsApart block.lines.items → length (block_code at m distance next first frame b block) ≤ placed_block_cost block
-block_few at m distance next first frame b block h =
-    let p = paid at m 0 block.lines.items h in
+-- a block's own lines cost no more than all of its lines
+sum_left : (f : Line → ℕ) (xs ys : List Line) → sum_of f xs ≤ sum_of f (xs ++ ys)
+sum_left f [] ys = omega arith
+sum_left f (x ∷ xs) ys = let h = sum_left f xs ys in omega arith
+
+starts_left : (xs ys : List Line) → StartsWithCut xs → StartsWithCut (xs ++ ys)
+starts_left [] ys h = absurd h
+starts_left (Cut cause ∷ xs) ys h = tt
+starts_left (x ∷ xs) ys h = absurd h
+
+apart_left : (xs ys : List Line) → CutsApart (xs ++ ys) → CutsApart xs
+apart_left [] ys h = tt
+apart_left (Cut cause ∷ xs) ys h = ((λ s. h.0 (starts_left xs ys s)), apart_left xs ys h.1)
+apart_left (x ∷ xs) ys h = apart_left xs ys h
+
+block_few : (at : Name → ℕ) (m : ℕ → ℕ) (live : ℕ → ℕ → Bool) (distance : Distance) (next : Option ℕ) (first frame b : ℕ) (block : Block) → CutsApart block.lines.items → length (block_code at m live distance next first frame b block) ≤ placed_block_cost block
+block_few at m live distance next first frame b block h =
+    let taken : Option Test = taken_test live block.lines.items block.exit in
+    let own : List Line = own_lines taken block.lines.items in
+    let t = takes live block.lines.items block.exit in
+    let p = paid at m 0 own (apart_left own t.tail (subst CutsApart (sym t.whole) h)) in
     let o = p.most in
-    let lines : List CodeLine = lines_code at m 0 block.lines.items in
-    let exit : List CodeLine = exit_code distance next (is_empty lines) first frame block.exit in
-    let q = exit_few distance next (is_empty lines) first frame block.exit in
+    let s = sum_left with_cut own t.tail in
+    let w = ap (sum_of with_cut) t.whole in
+    let lines : List CodeLine = lines_code at m 0 own in
+    let exit : List CodeLine = exit_code distance next (is_empty lines) first frame taken block.exit in
+    let q = exit_few distance next (is_empty lines) first frame taken block.exit in
     let e = length-append lines exit in
     let l = length_labelled (first + b) (lines ++ exit) in
     omega arith
@@ -203,7 +225,7 @@ Apart blocks = (b : ℕ) (block : Block) → slice_get blocks b ≡ Some block �
 
 found_few : (laying : Laying) (b : ℕ) (next : Option ℕ) (block : Option Block) → ((x : Block) → block ≡ Some x → CutsApart x.lines.items) → length (found_code laying b next block) ≤ cost_found block
 found_few laying b next None h = omega arith
-found_few laying b next (Some block) h = block_few laying.at (laying.cut b) laying.distance next laying.first laying.frame b block (h block refl)
+found_few laying b next (Some block) h = block_few laying.at (laying.cut b) laying.live laying.distance next laying.first laying.frame b block (h block refl)
 
 laid_few : (laying : Laying) (order : List ℕ) → Apart laying.blocks → length (laid_code laying order) ≤ cost_in laying.blocks order
 laid_few laying [] h = omega arith

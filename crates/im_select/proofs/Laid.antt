@@ -3,16 +3,20 @@ use Rattle.std.proofs.Common.{◌≡◌, ◌<◌, inl, inr, ℕ, ◌+◌, ◌^�
 use Rattle.std.specs.Prelude.{◌==◌, if◌then◌else◌, slice_get}
 use Rattle.std.proofs.lemmas.Option.{slice_get_within}
 use Rattle.im_rv.specs.Lines.{CodeLine}
+use Rattle.im_block.specs.declared.code.Line.{Line}
 use Rattle.im_block.specs.declared.code.Block.{Block}
 use Rattle.im_alloc_placed.specs.Placed.{IsPlacedBlock}
 use Rattle.im_select_relation.specs.Selected.{IsEntry}
 use Rattle.im_select_relation.specs.Symbolic.{Lines, StandsIn, IsSelected}
+use Rattle.im_live.specs.Reads.{IsLive}
+use Rattle.im_select.specs.declared.branching.Test.{Test}
 use Rattle.im_select.specs.declared.distance.Distance.{Distance}
-use Rattle.im_select.specs.Emitted.{labelled, is_empty, lines_code, ended_code, Laying, next_label, found_code, laid_block, laid_code, laid_order, others_below, prologue_code, function_code, entry_label}
+use Rattle.im_select.specs.Emitted.{labelled, is_empty, lines_code, taken_test, own_lines, ended_code, Laying, next_label, found_code, laid_block, laid_code, laid_order, others_below, prologue_code, function_code, entry_label}
 use Rattle.im_select.specs.Given.{Given}
 use Rattle.im_select.specs.Selects.{Agrees, IsClosedBlock, laying_of}
 use Rattle.im_select.proofs.Ordering.{Among, Distinct, itself, order_distinct, order_all}
 use Rattle.im_select.proofs.Standing.{At, after, after_labelled, at_left, at_right, at_labelled}
+use Rattle.im_select.proofs.Taking.{takes}
 use Rattle.im_select.proofs.Parts.{Follows, Alike, IsBlockOf, stands_in, prologue_in}
 
 -- where each block begins, the first of these at line k
@@ -54,25 +58,29 @@ block_of given block p c = record { placed = p.lines; calls = c.calls; leaves = 
 
 -- a block at line k
 laid_in : (w : Lines) (given : Given) (live : ℕ → ℕ → Bool) (distance : Distance) (starts : ℕ → ℕ) (k x : ℕ) (rest : List ℕ) (block : Block) →
-    ((b j : ℕ) → IsEntry ((laying_of given live distance).cut b j)) → Agrees w given → given.layout.frame < 2 ^ 32 → Alike (laying_of given live distance).at w.at (length given.statics) given.function → IsBlockOf given block.lines.items block.exit → slice_get given.function.blocks.items x ≡ Some block →
-    Begins starts (laying_of given live distance) (after k (laid_block (laying_of given live distance) x rest)) rest → At w k (laid_block (laying_of given live distance) x rest) → StandsIn w starts given.layout.frame k block.lines.items block.exit
-laid_in w given live distance starts k x rest block o g small alike h e begins a =
+    ((b j : ℕ) → IsEntry ((laying_of given live distance).cut b j)) → IsLive given.function.blocks.items live → Agrees w given → given.layout.frame < 2 ^ 32 → Alike (laying_of given live distance).at w.at (length given.statics) given.function → IsBlockOf given block.lines.items block.exit → slice_get given.function.blocks.items x ≡ Some block →
+    Begins starts (laying_of given live distance) (after k (laid_block (laying_of given live distance) x rest)) rest → At w k (laid_block (laying_of given live distance) x rest) → StandsIn w given.function.blocks.items starts given.layout.frame k block.lines.items block.exit
+laid_in w given live distance starts k x rest block o is g small alike h e begins a =
     let laying : Laying = laying_of given live distance in
     let next : Option ℕ = next_label given.first_block rest in
-    let lines : List CodeLine = lines_code laying.at (laying.cut x) 0 block.lines.items in
-    let body : List CodeLine = ended_code distance next given.first_block given.layout.frame lines block.exit in
-    let own : laid_block laying x rest ≡ labelled (given.first_block + x) body = ap (found_code laying x next) e in
-    let there : At w k body = at_labelled w k (given.first_block + x) body (subst (At w k) own a) in
+    let taken : Option Test = taken_test live block.lines.items block.exit in
+    let own : List Line = own_lines taken block.lines.items in
+    let t = takes live block.lines.items block.exit in
+    let lines : List CodeLine = lines_code laying.at (laying.cut x) 0 own in
+    let body : List CodeLine = ended_code distance next given.first_block given.layout.frame taken lines block.exit in
+    let same : laid_block laying x rest ≡ labelled (given.first_block + x) body = ap (found_code laying x next) e in
+    let there : At w k body = at_labelled w k (given.first_block + x) body (subst (At w k) same a) in
     let follows : Follows given starts next (after k body) =
-    subst (Follows given starts next) (ap (after k) own ∙ after_labelled k (given.first_block + x) body) (next_begins given live distance starts (after k (laid_block laying x rest)) rest begins) in
-    stands_in w given starts laying.at (laying.cut x) distance next (is_empty lines) 0 k given.layout.frame block.lines.items block.exit (o x) g small alike h follows there
+    subst (Follows given starts next) (ap (after k) same ∙ after_labelled k (given.first_block + x) body) (next_begins given live distance starts (after k (laid_block laying x rest)) rest begins) in
+    subst (λ (z : List Line). StandsIn w given.function.blocks.items starts given.layout.frame k z block.exit) t.whole
+    (stands_in w given live starts laying.at (laying.cut x) distance next (is_empty lines) 0 k given.layout.frame own t.tail block.exit taken (o x) is g small alike (subst (λ (z : List Line). IsBlockOf given z block.exit) (sym t.whole) h) t.is follows there)
 
 blocks_in : (w : Lines) (given : Given) (live : ℕ → ℕ → Bool) (distance : Distance) (starts : ℕ → ℕ) (k : ℕ) (order : List ℕ) →
-    ((b j : ℕ) → IsEntry ((laying_of given live distance).cut b j)) → Agrees w given → given.layout.frame < 2 ^ 32 → Alike (laying_of given live distance).at w.at (length given.statics) given.function → AreBlocks given →
+    ((b j : ℕ) → IsEntry ((laying_of given live distance).cut b j)) → IsLive given.function.blocks.items live → Agrees w given → given.layout.frame < 2 ^ 32 → Alike (laying_of given live distance).at w.at (length given.statics) given.function → AreBlocks given →
     Distinct order → Begins starts (laying_of given live distance) k order → At w k (laid_code (laying_of given live distance) order) →
-    (b : ℕ) (block : Block) → Among order b → slice_get given.function.blocks.items b ≡ Some block → StandsIn w starts given.layout.frame (starts b) block.lines.items block.exit
-blocks_in w given live distance starts k [] o g small alike are d begins a = λ b block m e. absurd m
-blocks_in w given live distance starts k (x ∷ rest) o g small alike are d begins a =
+    (b : ℕ) (block : Block) → Among order b → slice_get given.function.blocks.items b ≡ Some block → StandsIn w given.function.blocks.items starts given.layout.frame (starts b) block.lines.items block.exit
+blocks_in w given live distance starts k [] o is g small alike are d begins a = λ b block m e. absurd m
+blocks_in w given live distance starts k (x ∷ rest) o is g small alike are d begins a =
     let laying : Laying = laying_of given live distance in
     let own : List CodeLine = laid_block laying x rest in
     let behind : List CodeLine = laid_code laying rest in
@@ -83,15 +91,15 @@ blocks_in w given live distance starts k (x ∷ rest) o g small alike are d begi
           (let here : slice_get given.function.blocks.items x ≡ Some block = ap (slice_get given.function.blocks.items) s ∙ e in
           let p = are x block here in
           let at_k : starts b ≡ k = ap starts (sym s) ∙ begins x (inl refl) ∙ first_start laying k x rest in
-          subst (λ z. StandsIn w starts given.layout.frame z block.lines.items block.exit) (sym at_k)
-          (laid_in w given live distance starts k x rest block o g small alike (block_of given block p.0 p.1) here later (at_left w k own behind a)))
-      | inr r ↦ blocks_in w given live distance starts (after k own) rest o g small alike are d.1 later right b block r e
+          subst (λ z. StandsIn w given.function.blocks.items starts given.layout.frame z block.lines.items block.exit) (sym at_k)
+          (laid_in w given live distance starts k x rest block o is g small alike (block_of given block p.0 p.1) here later (at_left w k own behind a)))
+      | inr r ↦ blocks_in w given live distance starts (after k own) rest o is g small alike are d.1 later right b block r e
     ]
 
 pub function_in : (w : Lines) (given : Given) (live : ℕ → ℕ → Bool) (distance : Distance) (i : ℕ) →
-    ((b j : ℕ) → IsEntry ((laying_of given live distance).cut b j)) → Agrees w given → 0 < given.layout.frame → given.layout.frame < 2 ^ 32 → given.function.entry < length given.function.blocks.items → AreBlocks given → Alike (laying_of given live distance).at w.at (length given.statics) given.function →
+    ((b j : ℕ) → IsEntry ((laying_of given live distance).cut b j)) → IsLive given.function.blocks.items live → Agrees w given → 0 < given.layout.frame → given.layout.frame < 2 ^ 32 → given.function.entry < length given.function.blocks.items → AreBlocks given → Alike (laying_of given live distance).at w.at (length given.statics) given.function →
     At w 0 (function_code i (laying_of given live distance)) → IsSelected w given.layout.frame given.function (starts_of (laying_of given live distance))
-function_in w given live distance i o g some small t are alike a =
+function_in w given live distance i o is g some small t are alike a =
     let laying : Laying = laying_of given live distance in
     let count : ℕ = length given.function.blocks.items in
     let entry : ℕ = given.function.entry in
@@ -102,5 +110,5 @@ function_in w given live distance i o g some small t are alike a =
     let r : At w (after 0 head) rest = subst (λ z. At w z rest) (after_labelled 0 (entry_label i) head) (at_right w 0 (labelled (entry_label i) head) rest a) in
     record {
       prologue = prologue_in w given starts given.layout.frame entry g some (sym (first_start laying (after 0 head) entry (others_below entry count))) (at_labelled w 0 (entry_label i) head (at_left w 0 (labelled (entry_label i) head) rest a));
-      blocks = λ b block e. blocks_in w given live distance starts (after 0 head) order o g small alike are (order_distinct entry count) (λ b m. refl) r b block (order_all entry count b (slice_get_within given.function.blocks.items b block e)) e;
+      blocks = λ b block e. blocks_in w given live distance starts (after 0 head) order o is g small alike are (order_distinct entry count) (λ b m. refl) r b block (order_all entry count b (slice_get_within given.function.blocks.items b block e)) e;
     }

@@ -4,7 +4,8 @@ use Rattle.std.specs.Prelude.{◌&&◌, not, if◌then◌else◌, slice_get, All
 use Rattle.std.proofs.lemmas.List.Elements.{All-head, All-tail}
 use Rattle.im_num.specs.declared.kind.Kind.TheVariants.{I8, U8, I16, U16, I32, U32, Ptr}
 use Rattle.im_num.specs.Kinds.{word}
-use Rattle.im_rv.specs.declared.instr.Op.TheVariants.{Jal, Beq, Bne}
+use Rattle.im_rv.specs.declared.instr.Op.TheVariants.{Jal}
+use Rattle.im_rv.specs.Formats.{format_of}
 use Rattle.im_rv.specs.Lines.{CodeLine}
 use Rattle.im_store.specs.declared.operators.UnaryOp.TheVariants.{Negate, Complement}
 use Rattle.im_store.specs.declared.operators.Comparison.TheVariants.{Less, Greater, LessOrEqual, GreaterOrEqual, Equal, NotEqual}
@@ -16,13 +17,15 @@ use Rattle.im_block.specs.declared.code.Exit.TheVariants.{Jump, Turn, Branch, Re
 use Rattle.im_block.specs.declared.code.Block.{Block}
 use Rattle.im_block.specs.Wellformed.{ExitThere}
 use Rattle.im_select.specs.Given.{Given}
+use Rattle.im_select.specs.declared.branching.Test.{Test}
 use Rattle.im_select.specs.declared.distance.Distance.{Distance}
 use Rattle.im_select.specs.declared.distance.Distance.TheVariants.{Near, Far}
-use Rattle.im_select.specs.Emitted.{constant_code, displaced_code, adds_code, place_number, place_code, copied_code, scaled_code, address_code, call_code, line_code, lines_code, leave_code, result_code, onward_code, test_op, test_code, is_next, branch_code, exit_code, is_empty, ended_code, Laying, next_label, found_code, laid_block, laid_code, laid_order, blocks_code, enter_code, prologue_code, function_code, labelled, entry_label}
+use Rattle.im_select.specs.Emitted.{constant_code, displaced_code, adds_code, place_number, place_code, copied_code, scaled_code, address_code, call_code, line_code, lines_code, leave_code, result_code, onward_code, test_op, test_code, test_or, taken_test, own_lines, taking_code, is_next, branch_code, exit_code, is_empty, Laying, next_label, found_code, laid_block, laid_code, laid_order, blocks_code, enter_code, prologue_code, function_code, labelled, entry_label}
 use Rattle.im_select_relation.specs.Selected.{IsEntry}
 use Rattle.im_select.specs.Places.{CallsBelow}
 use Rattle.im_select.specs.Selects.{HasLabel, IsTarget, IsNear, LeadsTo, IsClosedBlock, laying_of}
 use Rattle.im_select.proofs.Low.{there}
+use Rattle.im_select.proofs.Taking.{takes, all_left, test_branches}
 use Rattle.im_select.proofs.Ordering.{Among, Distinct, order_distinct, order_below, order_all}
 use Rattle.im_select.proofs.Standing.{after, after_length}
 use Rattle.im_select.proofs.Plain.{Bare, constant_bare, displaced_bare, adds_bare, place_bare, copied_bare, scaled_bare, address_bare, bare_append, Lead, lead_append, bare_lead, lead_labelled, Unlabelled, unlabelled_append, bare_unlabelled, only_first, first_has, label_left, label_right, label_split, length_labelled}
@@ -98,33 +101,29 @@ onward_sound names whole false b h = jump_sound names whole b h
 abbrev pub IsFewWhere : Distance → List CodeLine → Type 0
 IsFewWhere distance whole = distance ≡ Near → length whole ≤ 1023
 
-tests : (holds : Bool) → (test_op holds ≡ Beq) ⊎ (test_op holds ≡ Bne)
-tests true = inr refl
-tests false = inl refl
-
-near_leads : (names : Given) (whole : List CodeLine) (holds : Bool) (b : ℕ) (line : CodeLine) → line.line.op ≡ test_op holds → length whole ≤ 1023 → b < length names.function.blocks.items → (l : ℕ) → Some (names.first_block + b) ≡ Some l → LeadsTo names whole line l
-near_leads names whole holds b line op few h l e =
+near_leads : (names : Given) (whole : List CodeLine) (holds : Bool) (t : Test) (b : ℕ) (line : CodeLine) → line.line.op ≡ test_op holds t → length whole ≤ 1023 → b < length names.function.blocks.items → (l : ℕ) → Some (names.first_block + b) ≡ Some l → LeadsTo names whole line l
+near_leads names whole holds t b line op few h l e =
     let same : names.first_block + b ≡ l = cc in
-    let near : IsNear names whole line l = record { tests = subst (λ z. (z ≡ Beq) ⊎ (z ≡ Bne)) (sym op) (tests holds); few = few; block = (b, h, sym same) } in
+    let near : IsNear names whole line l = record { branches = ap format_of op ∙ test_branches holds t; few = few; block = (b, h, sym same) } in
     record { far = inr near; to = subst (IsTarget names) same (block_target names b h) }
 
-test_sound : (names : Given) (whole : List CodeLine) (distance : Distance) (holds : Bool) (on b : ℕ) → IsFewWhere distance whole → b < length names.function.blocks.items → Sound names whole (test_code distance holds on (names.first_block + b))
-test_sound names whole Near holds on b few h = ((refl, tt), ((λ l e. near_leads names whole holds b _ refl (few refl) h l e), tt))
-test_sound names whole Far holds on b few h = let j = jump_sound names whole b h in ((refl, j.0), ((λ l e. absurd cc), j.1))
+test_sound : (names : Given) (whole : List CodeLine) (distance : Distance) (holds : Bool) (t : Test) (b : ℕ) → IsFewWhere distance whole → b < length names.function.blocks.items → Sound names whole (test_code distance holds t (names.first_block + b))
+test_sound names whole Near holds t b few h = ((refl, tt), ((λ l e. near_leads names whole holds t b _ refl (few refl) h l e), tt))
+test_sound names whole Far holds t b few h = let j = jump_sound names whole b h in ((refl, j.0), ((λ l e. absurd cc), j.1))
 
-branch_sound : (names : Given) (whole : List CodeLine) (distance : Distance) (next : Option ℕ) (on x y : ℕ) → IsFewWhere distance whole → x < length names.function.blocks.items → y < length names.function.blocks.items → Sound names whole (branch_code distance next on (names.first_block + x) (names.first_block + y))
-branch_sound names whole distance next on x y few h t = by (is_next next (names.first_block + x))
+branch_sound : (names : Given) (whole : List CodeLine) (distance : Distance) (next : Option ℕ) (t : Test) (x y : ℕ) → IsFewWhere distance whole → x < length names.function.blocks.items → y < length names.function.blocks.items → Sound names whole (branch_code distance next t (names.first_block + x) (names.first_block + y))
+branch_sound names whole distance next t x y few h i = by (is_next next (names.first_block + x))
   where
-    by : (b : Bool) → Sound names whole (if b then test_code distance false on (names.first_block + y) else test_code distance true on (names.first_block + x) ++ onward_code (is_next next (names.first_block + y)) (names.first_block + y))
-    by true = test_sound names whole distance false on y few t
-    by false = both names whole (test_code distance true on (names.first_block + x)) (onward_code (is_next next (names.first_block + y)) (names.first_block + y)) (test_sound names whole distance true on x few h) (onward_sound names whole (is_next next (names.first_block + y)) y t)
+    by : (b : Bool) → Sound names whole (if b then test_code distance false t (names.first_block + y) else test_code distance true t (names.first_block + x) ++ onward_code (is_next next (names.first_block + y)) (names.first_block + y))
+    by true = test_sound names whole distance false t y few i
+    by false = both names whole (test_code distance true t (names.first_block + x)) (onward_code (is_next next (names.first_block + y)) (names.first_block + y)) (test_sound names whole distance true t x few h) (onward_sound names whole (is_next next (names.first_block + y)) y i)
 
-exit_sound : (names : Given) (whole : List CodeLine) (distance : Distance) (next : Option ℕ) (bare_ : Bool) (frame : ℕ) (exit : Exit) → IsFewWhere distance whole → ExitThere (length names.function.blocks.items) exit → Sound names whole (exit_code distance next bare_ names.first_block frame exit)
-exit_sound names whole distance next bare_ frame (Jump b) few h = onward_sound names whole (not bare_ && is_next next (names.first_block + b)) b h
-exit_sound names whole distance next bare_ frame (Turn b) few h = jump_sound names whole b h
-exit_sound names whole distance next bare_ frame (Branch on x y) few h = branch_sound names whole distance next on x y few h.0 h.1
-exit_sound names whole distance next bare_ frame (Return None) few h = bare names whole (result_code None ++ leave_code frame) (refl, (refl, bare_append (adds_code 2 frame) _ (adds_bare 2 frame) (refl, tt)))
-exit_sound names whole distance next bare_ frame (Return (Some r)) few h = bare names whole (leave_code frame) (refl, bare_append (adds_code 2 frame) _ (adds_bare 2 frame) (refl, tt))
+exit_sound : (names : Given) (whole : List CodeLine) (distance : Distance) (next : Option ℕ) (bare_ : Bool) (frame : ℕ) (taken : Option Test) (exit : Exit) → IsFewWhere distance whole → ExitThere (length names.function.blocks.items) exit → Sound names whole (exit_code distance next bare_ names.first_block frame taken exit)
+exit_sound names whole distance next bare_ frame taken (Jump b) few h = onward_sound names whole (not bare_ && is_next next (names.first_block + b)) b h
+exit_sound names whole distance next bare_ frame taken (Turn b) few h = jump_sound names whole b h
+exit_sound names whole distance next bare_ frame taken (Branch on x y) few h = branch_sound names whole distance next (test_or taken on) x y few h.0 h.1
+exit_sound names whole distance next bare_ frame taken (Return None) few h = bare names whole (result_code None ++ leave_code frame) (refl, (refl, bare_append (adds_code 2 frame) _ (adds_bare 2 frame) (refl, tt)))
+exit_sound names whole distance next bare_ frame taken (Return (Some r)) few h = bare names whole (leave_code frame) (refl, bare_append (adds_code 2 frame) _ (adds_bare 2 frame) (refl, tt))
 
 -- what is known of a function
 pub record IsKnown (names : Given) (live : ℕ → ℕ → Bool) (distance : Distance) (whole : List CodeLine) : Type 0 where
@@ -134,13 +133,16 @@ pub record IsKnown (names : Given) (live : ℕ → ℕ → Bool) (distance : Dis
 
 -- the body of a block, before it has its label
 abbrev pub body : Laying → ℕ → Option ℕ → Block → List CodeLine
-body laying b next block = ended_code laying.distance next laying.first laying.frame (lines_code laying.at (laying.cut b) 0 block.lines.items) block.exit
+body laying b next block = taking_code laying.at (laying.cut b) laying.distance next laying.first laying.frame (taken_test laying.live block.lines.items block.exit) block.lines.items block.exit
 
 body_sound : (names : Given) (live : ℕ → ℕ → Bool) (distance : Distance) (whole : List CodeLine) (b : ℕ) (next : Option ℕ) (block : Block) → IsKnown names live distance whole → IsClosedBlock names block → Sound names whole (body (laying_of names live distance) b next block)
 body_sound names live distance whole b next block k h =
     let laying : Laying = laying_of names live distance in
-    let lines : List CodeLine = lines_code laying.at (laying.cut b) 0 block.lines.items in
-    both names whole lines (exit_code distance next (is_empty lines) names.first_block names.layout.frame block.exit) (lines_sound names whole laying.at (laying.cut b) 0 block.lines.items (k.entries b) h.calls) (exit_sound names whole distance next (is_empty lines) names.layout.frame block.exit k.few h.edges)
+    let taken : Option Test = taken_test live block.lines.items block.exit in
+    let own : List Line = own_lines taken block.lines.items in
+    let t = takes live block.lines.items block.exit in
+    let lines : List CodeLine = lines_code laying.at (laying.cut b) 0 own in
+    both names whole lines (exit_code distance next (is_empty lines) names.first_block names.layout.frame taken block.exit) (lines_sound names whole laying.at (laying.cut b) 0 own (k.entries b) (all_left (CallsBelow names.functions) own t.tail (subst (All (CallsBelow names.functions)) (sym t.whole) h.calls))) (exit_sound names whole distance next (is_empty lines) names.layout.frame taken block.exit k.few h.edges)
 
 found_lead : (names : Given) (live : ℕ → ℕ → Bool) (distance : Distance) (whole : List CodeLine) (b : ℕ) (next : Option ℕ) (block : Option Block) → IsKnown names live distance whole → ((x : Block) → block ≡ Some x → IsClosedBlock names x) → Lead names whole (found_code (laying_of names live distance) b next block)
 found_lead names live distance whole b next None k h = tt
@@ -207,7 +209,7 @@ pub record LabelThere (laying : Laying) (k : ℕ) (order : List ℕ) (b : ℕ) :
 
 found_has : (laying : Laying) (b : ℕ) (next : Option ℕ) (block : Option Block) (x : Block) → block ≡ Some x → HasLabel (found_code laying b next block) 0 (laying.first + b)
 found_has laying b next None x e = absurd cc
-found_has laying b next (Some block) x e = first_has (body laying b next block) (laying.first + b) (ended_some laying.distance next laying.first laying.frame (lines_code laying.at (laying.cut b) 0 block.lines.items) block.exit)
+found_has laying b next (Some block) x e = first_has (body laying b next block) (laying.first + b) (ended_some laying.distance next laying.first laying.frame (taken_test laying.live block.lines.items block.exit) (lines_code laying.at (laying.cut b) 0 (own_lines (taken_test laying.live block.lines.items block.exit) block.lines.items)) block.exit)
 
 laid_there : (laying : Laying) (k : ℕ) (order : List ℕ) (b : ℕ) (block : Block) → Distinct order → Among order b → slice_get laying.blocks b ≡ Some block → LabelThere laying k order b
 laid_there laying k [] b block d a e = absurd a

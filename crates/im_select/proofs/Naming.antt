@@ -14,10 +14,12 @@ use Rattle.im_block.specs.declared.code.Exit.{Exit}
 use Rattle.im_block.specs.declared.code.Exit.TheVariants.{Jump, Turn, Branch, Return}
 use Rattle.im_block.specs.declared.code.Block.{Block}
 use Rattle.im_block.specs.Wellformed.{accesses_of_line, accesses_of_lines, accesses_of_blocks}
+use Rattle.im_select.specs.declared.branching.Test.{Test}
 use Rattle.im_select.specs.declared.distance.Distance.{Distance}
 use Rattle.im_select.specs.declared.distance.Distance.TheVariants.{Near, Far}
-use Rattle.im_select.specs.Emitted.{constant_code, displaced_code, adds_code, place_number, place_code, copied_code, scaled_code, address_code, line_code, lines_code, onward_code, test_code, is_next, branch_code, exit_code, is_empty, block_code, Laying, next_label, found_code, laid_block, laid_code, laid_order, blocks_code, enter_code, prologue_code, function_code, labelled, entry_label}
+use Rattle.im_select.specs.Emitted.{constant_code, displaced_code, adds_code, place_number, place_code, copied_code, scaled_code, address_code, line_code, lines_code, onward_code, test_code, test_or, taken_test, own_lines, is_next, branch_code, exit_code, is_empty, block_code, Laying, next_label, found_code, laid_block, laid_code, laid_order, blocks_code, enter_code, prologue_code, function_code, labelled, entry_label}
 use Rattle.im_select.specs.Selects.{accesses_in, causes_in, causes_of_line, causes_of_lines, causes_of_blocks, if_found, blocks_at, laid_blocks}
+use Rattle.im_select.proofs.Taking.{IsTaken, Nothing, Comparing, takes}
 use Rattle.im_select.proofs.Plain.{constant_bare, displaced_bare, adds_bare, place_bare, copied_bare, scaled_bare, address_bare, accesses_append, causes_append, bare_accesses, bare_causes, accesses_behind, causes_behind, accesses_labelled, causes_labelled}
 
 line_accesses : (at : Name → ℕ) (m : ℕ) (line : Line) → accesses_in (line_code at m line) ≡ accesses_of_line line
@@ -102,36 +104,46 @@ onward_accesses : (falls : Bool) (label : ℕ) → accesses_in (onward_code fall
 onward_accesses true label = refl
 onward_accesses false label = refl
 
-test_accesses : (distance : Distance) (holds : Bool) (on label : ℕ) → accesses_in (test_code distance holds on label) ≡ []
-test_accesses Near holds on label = refl
-test_accesses Far holds on label = refl
+test_accesses : (distance : Distance) (holds : Bool) (t : Test) (label : ℕ) → accesses_in (test_code distance holds t label) ≡ []
+test_accesses Near holds t label = refl
+test_accesses Far holds t label = refl
 
-branch_accesses : (distance : Distance) (next : Option ℕ) (on there other : ℕ) → accesses_in (branch_code distance next on there other) ≡ []
-branch_accesses distance next on there other = by (is_next next there)
+branch_accesses : (distance : Distance) (next : Option ℕ) (t : Test) (there other : ℕ) → accesses_in (branch_code distance next t there other) ≡ []
+branch_accesses distance next t there other = by (is_next next there)
   where
-    by : (b : Bool) → accesses_in (if b then test_code distance false on other else test_code distance true on there ++ onward_code (is_next next other) other) ≡ []
-    by true = test_accesses distance false on other
+    by : (b : Bool) → accesses_in (if b then test_code distance false t other else test_code distance true t there ++ onward_code (is_next next other) other) ≡ []
+    by true = test_accesses distance false t other
     by false =
-        accesses_append (test_code distance true on there) (onward_code (is_next next other) other)
-        ∙ ap (λ z. z ++ accesses_in (onward_code (is_next next other) other)) (test_accesses distance true on there)
+        accesses_append (test_code distance true t there) (onward_code (is_next next other) other)
+        ∙ ap (λ z. z ++ accesses_in (onward_code (is_next next other) other)) (test_accesses distance true t there)
         ∙ onward_accesses (is_next next other) other
 
-exit_accesses : (distance : Distance) (next : Option ℕ) (bare : Bool) (first frame : ℕ) (exit : Exit) → accesses_in (exit_code distance next bare first frame exit) ≡ []
-exit_accesses distance next bare first frame (Jump b) = onward_accesses (not bare && is_next next (first + b)) (first + b)
-exit_accesses distance next bare first frame (Turn b) = refl
-exit_accesses distance next bare first frame (Branch on x y) = branch_accesses distance next on (first + x) (first + y)
-exit_accesses distance next bare first frame (Return None) = accesses_behind (adds_code 2 frame) _ (adds_bare 2 frame)
-exit_accesses distance next bare first frame (Return (Some r)) = accesses_behind (adds_code 2 frame) _ (adds_bare 2 frame)
+exit_accesses : (distance : Distance) (next : Option ℕ) (bare : Bool) (first frame : ℕ) (taken : Option Test) (exit : Exit) → accesses_in (exit_code distance next bare first frame taken exit) ≡ []
+exit_accesses distance next bare first frame taken (Jump b) = onward_accesses (not bare && is_next next (first + b)) (first + b)
+exit_accesses distance next bare first frame taken (Turn b) = refl
+exit_accesses distance next bare first frame taken (Branch on x y) = branch_accesses distance next (test_or taken on) (first + x) (first + y)
+exit_accesses distance next bare first frame taken (Return None) = accesses_behind (adds_code 2 frame) _ (adds_bare 2 frame)
+exit_accesses distance next bare first frame taken (Return (Some r)) = accesses_behind (adds_code 2 frame) _ (adds_bare 2 frame)
 
-block_accesses : (at : Name → ℕ) (m : ℕ → ℕ) (distance : Distance) (next : Option ℕ) (first frame b : ℕ) (block : Block) → accesses_in (block_code at m distance next first frame b block) ≡ accesses_of_lines block.lines.items
-block_accesses at m distance next first frame b block =
-    let lines : List CodeLine = lines_code at m 0 block.lines.items in
-    let exit : List CodeLine = exit_code distance next (is_empty lines) first frame block.exit in
-    accesses_labelled (first + b) (lines ++ exit) ∙ accesses_append lines exit ∙ ap (λ z. accesses_in lines ++ z) (exit_accesses distance next (is_empty lines) first frame block.exit) ∙ append-nil (accesses_in lines) ∙ lines_accesses at m 0 block.lines.items
+-- what an exit takes has none
+tail_accesses : (live : ℕ → ℕ → Bool) (lines tail : List Line) (exit : Exit) (taken : Option Test) → IsTaken live tail exit taken → accesses_of_lines lines ≡ accesses_of_lines (lines ++ tail)
+tail_accesses live [] tail exit taken (Nothing exit') = refl
+tail_accesses live [] tail exit taken (Comparing to op kind left right a b x y) = refl
+tail_accesses live (line ∷ lines) tail exit taken t = ap (λ z. accesses_of_line line ++ z) (tail_accesses live lines tail exit taken t)
+
+block_accesses : (at : Name → ℕ) (m : ℕ → ℕ) (live : ℕ → ℕ → Bool) (distance : Distance) (next : Option ℕ) (first frame b : ℕ) (block : Block) → accesses_in (block_code at m live distance next first frame b block) ≡ accesses_of_lines block.lines.items
+block_accesses at m live distance next first frame b block =
+    let taken : Option Test = taken_test live block.lines.items block.exit in
+    let own : List Line = own_lines taken block.lines.items in
+    let t = takes live block.lines.items block.exit in
+    let lines : List CodeLine = lines_code at m 0 own in
+    let exit : List CodeLine = exit_code distance next (is_empty lines) first frame taken block.exit in
+    accesses_labelled (first + b) (lines ++ exit) ∙ accesses_append lines exit ∙ ap (λ z. accesses_in lines ++ z) (exit_accesses distance next (is_empty lines) first frame taken block.exit) ∙ append-nil (accesses_in lines) ∙ lines_accesses at m 0 own
+    ∙ tail_accesses live own t.tail block.exit taken t.is ∙ ap accesses_of_lines t.whole
 
 found_accesses : (laying : Laying) (b : ℕ) (next : Option ℕ) (block : Option Block) (rest : List Block) → accesses_in (found_code laying b next block) ++ accesses_of_blocks rest ≡ accesses_of_blocks (if_found block rest)
 found_accesses laying b next None rest = refl
-found_accesses laying b next (Some block) rest = ap (λ z. z ++ accesses_of_blocks rest) (block_accesses laying.at (laying.cut b) laying.distance next laying.first laying.frame b block)
+found_accesses laying b next (Some block) rest = ap (λ z. z ++ accesses_of_blocks rest) (block_accesses laying.at (laying.cut b) laying.live laying.distance next laying.first laying.frame b block)
 
 laid_accesses : (laying : Laying) (order : List ℕ) → accesses_in (laid_code laying order) ≡ accesses_of_blocks (blocks_at laying.blocks order)
 laid_accesses laying [] = refl
@@ -152,36 +164,46 @@ onward_causes : (falls : Bool) (label : ℕ) → causes_in (onward_code falls la
 onward_causes true label = refl
 onward_causes false label = refl
 
-test_causes : (distance : Distance) (holds : Bool) (on label : ℕ) → causes_in (test_code distance holds on label) ≡ []
-test_causes Near holds on label = refl
-test_causes Far holds on label = refl
+test_causes : (distance : Distance) (holds : Bool) (t : Test) (label : ℕ) → causes_in (test_code distance holds t label) ≡ []
+test_causes Near holds t label = refl
+test_causes Far holds t label = refl
 
-branch_causes : (distance : Distance) (next : Option ℕ) (on there other : ℕ) → causes_in (branch_code distance next on there other) ≡ []
-branch_causes distance next on there other = by (is_next next there)
+branch_causes : (distance : Distance) (next : Option ℕ) (t : Test) (there other : ℕ) → causes_in (branch_code distance next t there other) ≡ []
+branch_causes distance next t there other = by (is_next next there)
   where
-    by : (b : Bool) → causes_in (if b then test_code distance false on other else test_code distance true on there ++ onward_code (is_next next other) other) ≡ []
-    by true = test_causes distance false on other
+    by : (b : Bool) → causes_in (if b then test_code distance false t other else test_code distance true t there ++ onward_code (is_next next other) other) ≡ []
+    by true = test_causes distance false t other
     by false =
-        causes_append (test_code distance true on there) (onward_code (is_next next other) other)
-        ∙ ap (λ z. z ++ causes_in (onward_code (is_next next other) other)) (test_causes distance true on there)
+        causes_append (test_code distance true t there) (onward_code (is_next next other) other)
+        ∙ ap (λ z. z ++ causes_in (onward_code (is_next next other) other)) (test_causes distance true t there)
         ∙ onward_causes (is_next next other) other
 
-exit_causes : (distance : Distance) (next : Option ℕ) (bare : Bool) (first frame : ℕ) (exit : Exit) → causes_in (exit_code distance next bare first frame exit) ≡ []
-exit_causes distance next bare first frame (Jump b) = onward_causes (not bare && is_next next (first + b)) (first + b)
-exit_causes distance next bare first frame (Turn b) = refl
-exit_causes distance next bare first frame (Branch on x y) = branch_causes distance next on (first + x) (first + y)
-exit_causes distance next bare first frame (Return None) = causes_behind (adds_code 2 frame) _ (adds_bare 2 frame)
-exit_causes distance next bare first frame (Return (Some r)) = causes_behind (adds_code 2 frame) _ (adds_bare 2 frame)
+exit_causes : (distance : Distance) (next : Option ℕ) (bare : Bool) (first frame : ℕ) (taken : Option Test) (exit : Exit) → causes_in (exit_code distance next bare first frame taken exit) ≡ []
+exit_causes distance next bare first frame taken (Jump b) = onward_causes (not bare && is_next next (first + b)) (first + b)
+exit_causes distance next bare first frame taken (Turn b) = refl
+exit_causes distance next bare first frame taken (Branch on x y) = branch_causes distance next (test_or taken on) (first + x) (first + y)
+exit_causes distance next bare first frame taken (Return None) = causes_behind (adds_code 2 frame) _ (adds_bare 2 frame)
+exit_causes distance next bare first frame taken (Return (Some r)) = causes_behind (adds_code 2 frame) _ (adds_bare 2 frame)
 
-block_causes : (at : Name → ℕ) (m : ℕ → ℕ) (distance : Distance) (next : Option ℕ) (first frame b : ℕ) (block : Block) → causes_in (block_code at m distance next first frame b block) ≡ causes_of_lines block.lines.items
-block_causes at m distance next first frame b block =
-    let lines : List CodeLine = lines_code at m 0 block.lines.items in
-    let exit : List CodeLine = exit_code distance next (is_empty lines) first frame block.exit in
-    causes_labelled (first + b) (lines ++ exit) ∙ causes_append lines exit ∙ ap (λ z. causes_in lines ++ z) (exit_causes distance next (is_empty lines) first frame block.exit) ∙ append-nil (causes_in lines) ∙ lines_causes at m 0 block.lines.items
+-- what an exit takes has none
+tail_causes : (live : ℕ → ℕ → Bool) (lines tail : List Line) (exit : Exit) (taken : Option Test) → IsTaken live tail exit taken → causes_of_lines lines ≡ causes_of_lines (lines ++ tail)
+tail_causes live [] tail exit taken (Nothing exit') = refl
+tail_causes live [] tail exit taken (Comparing to op kind left right a b x y) = refl
+tail_causes live (line ∷ lines) tail exit taken t = ap (λ z. causes_of_line line ++ z) (tail_causes live lines tail exit taken t)
+
+block_causes : (at : Name → ℕ) (m : ℕ → ℕ) (live : ℕ → ℕ → Bool) (distance : Distance) (next : Option ℕ) (first frame b : ℕ) (block : Block) → causes_in (block_code at m live distance next first frame b block) ≡ causes_of_lines block.lines.items
+block_causes at m live distance next first frame b block =
+    let taken : Option Test = taken_test live block.lines.items block.exit in
+    let own : List Line = own_lines taken block.lines.items in
+    let t = takes live block.lines.items block.exit in
+    let lines : List CodeLine = lines_code at m 0 own in
+    let exit : List CodeLine = exit_code distance next (is_empty lines) first frame taken block.exit in
+    causes_labelled (first + b) (lines ++ exit) ∙ causes_append lines exit ∙ ap (λ z. causes_in lines ++ z) (exit_causes distance next (is_empty lines) first frame taken block.exit) ∙ append-nil (causes_in lines) ∙ lines_causes at m 0 own
+    ∙ tail_causes live own t.tail block.exit taken t.is ∙ ap causes_of_lines t.whole
 
 found_causes : (laying : Laying) (b : ℕ) (next : Option ℕ) (block : Option Block) (rest : List Block) → causes_in (found_code laying b next block) ++ causes_of_blocks rest ≡ causes_of_blocks (if_found block rest)
 found_causes laying b next None rest = refl
-found_causes laying b next (Some block) rest = ap (λ z. z ++ causes_of_blocks rest) (block_causes laying.at (laying.cut b) laying.distance next laying.first laying.frame b block)
+found_causes laying b next (Some block) rest = ap (λ z. z ++ causes_of_blocks rest) (block_causes laying.at (laying.cut b) laying.live laying.distance next laying.first laying.frame b block)
 
 laid_causes : (laying : Laying) (order : List ℕ) → causes_in (laid_code laying order) ≡ causes_of_blocks (blocks_at laying.blocks order)
 laid_causes laying [] = refl

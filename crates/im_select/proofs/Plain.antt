@@ -128,7 +128,7 @@ bare_lead names whole (x ∷ xs) h = ((λ l e. let n : x.target ≡ None = ap (�
 
 -- its label is nothing to where it leads
 relabelled : (names : Given) (whole : List CodeLine) (l t : ℕ) (x : CodeLine) → LeadsTo names whole x t → LeadsTo names whole (record x { label = Some l }) t
-relabelled names whole l t x h = record { far = elim h.far [ inl j ↦ inl j | inr n ↦ inr (record { tests = n.tests; few = n.few; block = n.block }) ]; to = h.to }
+relabelled names whole l t x h = record { far = elim h.far [ inl j ↦ inl j | inr n ↦ inr (record { branches = n.branches; few = n.few; block = n.block }) ]; to = h.to }
 
 pub lead_labelled : (names : Given) (whole : List CodeLine) (l : ℕ) (xs : List CodeLine) → Lead names whole xs → Lead names whole (labelled l xs)
 lead_labelled names whole l [] h = tt

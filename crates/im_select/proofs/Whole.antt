@@ -41,7 +41,7 @@ selection_of names i lines s e =
       exact = record { live = e.live; is_live = e.is_live; distance = e.distance; lines_are = refl; near = near; far = e.far };
       starts = starts_of laying;
       selected = λ w t g.
-          function_in w names e.live e.distance i o g some small s.entry
+          function_in w names e.live e.distance i o e.is_live g some small s.entry
           (λ b block t. (all_at (IsPlacedBlock (length names.statics) f) f.blocks.items b block s.placed.blocks t, closed b block t))
           (λ n line h. (line_same names w n g line h, words_in names w s.places g line h))
           (subst (At w 0) t (at_start w));

@@ -1,11 +1,12 @@
 -- The very lines that are put for each line of placed code.
-use Rattle.std.specs.Prelude.{ℕ, zero, suc, ◌+◌, ◌-◌, ◌/◌, ◌%◌, ◌^◌, ◌==◌, ◌&&◌, nat_lt, Bool, true, false, not, if◌then◌else◌, List, [], ◌∷◌, ◌++◌, Option, Some, None, length, slice_get}
+use Rattle.std.specs.Prelude.{ℕ, zero, suc, ◌+◌, ◌-◌, ◌/◌, ◌%◌, ◌^◌, ◌==◌, ◌&&◌, ◌||◌, nat_lt, Bool, true, false, not, if◌then◌else◌, List, [], ◌∷◌, ◌++◌, Option, Some, None, length, slice_get}
 use Rattle.im_num.specs.declared.kind.Kind.{Kind}
 use Rattle.im_num.specs.declared.kind.Kind.TheVariants.{I8, U8, I16, U16, I32, U32, Ptr}
 use Rattle.im_num.specs.declared.values.Cause.{Cause}
 use Rattle.im_num.specs.Kinds.{word}
 use Rattle.im_rv.specs.declared.instr.Op.{Op}
-use Rattle.im_rv.specs.declared.instr.Op.TheVariants.{Jalr, Beq, Bne, Bgeu, Lw, Sw, Addi, Sltiu, Xori, Andi, Slli, Srli, Srai, Add as AddOp, Sub, Sltu, Mul, Div}
+use Rattle.im_rv.specs.declared.instr.Op.TheVariants.{Jalr, Bgeu, Lw, Sw, Addi, Sltiu, Xori, Andi, Slli, Srli, Srai, Add as AddOp, Sub, Sltu, Mul, Div}
+use Rattle.im_rv.specs.Decode.{Line as Instruction}
 use Rattle.im_rv.specs.Lines.{CodeLine, plain_line}
 use Rattle.im_rv_reach.specs.Instructions.{with_immediate, on_registers, storing, branching, upper, jumping}
 use Rattle.im_select_operators.specs.Tables.{load_op, store_op, operation, less_op}
@@ -22,7 +23,9 @@ use Rattle.im_block.specs.declared.code.Line.TheVariants.{Put, PutNull, Copy, Co
 use Rattle.im_block.specs.declared.code.Exit.{Exit}
 use Rattle.im_block.specs.declared.code.Exit.TheVariants.{Jump, Turn, Branch, Return}
 use Rattle.im_block.specs.declared.code.Block.{Block}
-use Rattle.im_select_relation.specs.Selected.{ones}
+use Rattle.im_select_relation.specs.Selected.{ones, Test as BothWays, nonzero, comparing}
+use Rattle.im_select.specs.declared.branching.Test.{Test}
+use Rattle.im_select.specs.declared.branching.Test.TheVariants.{Nonzero, Compares}
 use Rattle.im_select.specs.declared.distance.Distance.{Distance}
 use Rattle.im_select.specs.declared.distance.Distance.TheVariants.{Near, Far}
 use Rattle.im_rtlib.specs.Routines.{getchar_label, putchar_label, stack_label, aimed, numbered}
@@ -237,30 +240,63 @@ abbrev pub onward_code : Bool → ℕ → List CodeLine
 onward_code true label = []
 onward_code false label = call_code 0 label
 
--- the branch by a register that is other than 0, or that is 0
-abbrev pub test_op : Bool → Op
-test_op holds = if holds then Bne else Beq
+-- the branches of a test: where it holds, and where it doesn't
+abbrev pub both_ways : Test → BothWays
+both_ways (Nonzero on) = nonzero on
+both_ways (Compares op kind left right) = comparing kind left right op
 
--- to a label, where a register is other than 0, or where it is 0: near, or over a jump
-abbrev pub test_code : Distance → Bool → ℕ → ℕ → List CodeLine
-test_code Near holds on label = aimed label (branching (test_op holds) on 0 0) ∷ []
-test_code Far holds on label = plain_line (branching (test_op (not holds)) on 0 8) ∷ call_code 0 label
+abbrev pub test_op : Bool → Test → Op
+test_op holds t = if holds then (both_ways t).holds else (both_ways t).fails
+
+-- the branch by a test that holds, or by one that doesn't
+abbrev pub test_line : Bool → Test → ℕ → Instruction
+test_line holds t imm = branching (test_op holds t) (both_ways t).left (both_ways t).right imm
+
+-- to a label, where a test holds, or where it doesn't: near, or over a jump
+abbrev pub test_code : Distance → Bool → Test → ℕ → List CodeLine
+test_code Near holds t label = aimed label (test_line holds t 0) ∷ []
+test_code Far holds t label = plain_line (test_line (not holds) t 8) ∷ call_code 0 label
 
 -- the label that stands next, if any
 abbrev pub is_next : Option ℕ → ℕ → Bool
 is_next None label = false
 is_next (Some next) label = next == label
 
--- by a register to one of two labels
-abbrev pub branch_code : Distance → Option ℕ → ℕ → ℕ → ℕ → List CodeLine
-branch_code distance next on there other = if is_next next there then test_code distance false on other else test_code distance true on there ++ onward_code (is_next next other) other
+-- by a test to one of two labels
+abbrev pub branch_code : Distance → Option ℕ → Test → ℕ → ℕ → List CodeLine
+branch_code distance next t there other = if is_next next there then test_code distance false t other else test_code distance true t there ++ onward_code (is_next next other) other
 
--- bare: no line stands before it in its block
-abbrev pub exit_code : Distance → Option ℕ → Bool → ℕ → ℕ → Exit → List CodeLine
-exit_code distance next bare first frame (Jump b) = onward_code (not bare && is_next next (first + b)) (first + b)
-exit_code distance next bare first frame (Turn b) = call_code 0 (first + b)
-exit_code distance next bare first frame (Branch on x y) = branch_code distance next on (first + x) (first + y)
-exit_code distance next bare first frame (Return from) = result_code from ++ leave_code frame
+-- the test of a branch: that of the comparison before it, if it takes that, else of its register
+abbrev pub test_or : Option Test → ℕ → Test
+test_or None on = Nonzero on
+test_or (Some t) on = t
+
+-- bare: no line stands before it in its block; taken: the comparison that it takes
+abbrev pub exit_code : Distance → Option ℕ → Bool → ℕ → ℕ → Option Test → Exit → List CodeLine
+exit_code distance next bare first frame taken (Jump b) = onward_code (not bare && is_next next (first + b)) (first + b)
+exit_code distance next bare first frame taken (Turn b) = call_code 0 (first + b)
+exit_code distance next bare first frame taken (Branch on x y) = branch_code distance next (test_or taken on) (first + x) (first + y)
+exit_code distance next bare first frame taken (Return from) = result_code from ++ leave_code frame
+
+-- the comparison that an exit takes: its block's last line, whose register nothing but the exit reads. live: what lives at the starts of blocks
+abbrev pub taken_by : (ℕ → ℕ → Bool) → Line → Exit → Option Test
+taken_by live (Compare to op kind left right) (Branch on a b) = if on == to && not (live a to || live b to) then Some (Compares op kind left right) else None
+taken_by live line exit = None
+
+abbrev pub taken_test : (ℕ → ℕ → Bool) → List Line → Exit → Option Test
+taken_test live [] exit = None
+taken_test live (line ∷ []) exit = taken_by live line exit
+taken_test live (line ∷ next ∷ rest) exit = taken_test live (next ∷ rest) exit
+
+abbrev pub but_last : List Line → List Line
+but_last [] = []
+but_last (line ∷ []) = []
+but_last (line ∷ next ∷ rest) = line ∷ but_last (next ∷ rest)
+
+-- the lines that the exit doesn't take
+abbrev pub own_lines : Option Test → List Line → List Line
+own_lines None lines = lines
+own_lines (Some t) lines = but_last lines
 
 -- the first line has a label
 abbrev pub labelled : ℕ → List CodeLine → List CodeLine
@@ -272,12 +308,16 @@ is_empty [] = true
 is_empty (line ∷ lines) = false
 
 -- its lines, and behind them its exit
-abbrev pub ended_code : Distance → Option ℕ → ℕ → ℕ → List CodeLine → Exit → List CodeLine
-ended_code distance next first frame lines exit = lines ++ exit_code distance next (is_empty lines) first frame exit
+abbrev pub ended_code : Distance → Option ℕ → ℕ → ℕ → Option Test → List CodeLine → Exit → List CodeLine
+ended_code distance next first frame taken lines exit = lines ++ exit_code distance next (is_empty lines) first frame taken exit
+
+-- the lines that it doesn't take, and the exit
+abbrev pub taking_code : (Name → ℕ) → (ℕ → ℕ) → Distance → Option ℕ → ℕ → ℕ → Option Test → List Line → Exit → List CodeLine
+taking_code at m distance next first frame taken lines exit = ended_code distance next first frame taken (lines_code at m 0 (own_lines taken lines)) exit
 
 -- m: the entries of its lines; next: the label that stands behind it
-abbrev pub block_code : (Name → ℕ) → (ℕ → ℕ) → Distance → Option ℕ → ℕ → ℕ → ℕ → Block → List CodeLine
-block_code at m distance next first frame b block = labelled (first + b) (ended_code distance next first frame (lines_code at m 0 block.lines.items) block.exit)
+abbrev pub block_code : (Name → ℕ) → (ℕ → ℕ) → (ℕ → ℕ → Bool) → Distance → Option ℕ → ℕ → ℕ → ℕ → Block → List CodeLine
+block_code at m live distance next first frame b block = labelled (first + b) (taking_code at m distance next first frame (taken_test live block.lines.items block.exit) block.lines.items block.exit)
 
 -- ---- the order of blocks: the entry first, then the others, from the last to the first
 
@@ -289,11 +329,12 @@ others_below entry (suc n) = if n == entry then others_below entry n else n ∷ 
 abbrev pub laid_order : ℕ → ℕ → List ℕ
 laid_order entry count = entry ∷ others_below entry count
 
--- what a function's blocks are laid by: places of objects, entries of its cuts by block and line, how far its labels are, the label
--- of its block 0, its frame, its blocks and the number of the entry
+-- what a function's blocks are laid by: places of objects, entries of its cuts by block and line, which registers live at the starts
+-- of blocks, how far its labels are, the label of its block 0, its frame, its blocks and the number of the entry
 pub record Laying : Type 0 where
   pub at : Name → ℕ
   pub cut : ℕ → ℕ → ℕ
+  pub live : ℕ → ℕ → Bool
   pub distance : Distance
   pub first : ℕ
   pub frame : ℕ
@@ -307,7 +348,7 @@ next_label first (b ∷ behind) = Some (first + b)
 
 abbrev pub found_code : Laying → ℕ → Option ℕ → Option Block → List CodeLine
 found_code laying b next None = []
-found_code laying b next (Some block) = block_code laying.at (laying.cut b) laying.distance next laying.first laying.frame b block
+found_code laying b next (Some block) = block_code laying.at (laying.cut b) laying.live laying.distance next laying.first laying.frame b block
 
 -- block b, behind which these stand
 abbrev pub laid_block : Laying → ℕ → List ℕ → List CodeLine

@@ -9,6 +9,8 @@ use Rattle.im_block.specs.declared.code.Line.TheVariants.{Call}
 use Rattle.im_frame.specs.Layout.{IsLayout}
 use Rattle.im_select.specs.Given.{Given}
 use Rattle.im_select.specs.declared.words.Displaced.{Displaced}
+use Rattle.im_select.specs.declared.branching.Test.{Test}
+use Rattle.im_select.specs.declared.branching.Test.TheVariants.{Nonzero, Compares}
 use Rattle.im_select.specs.Emitted.{low_of, entry_label}
 
 -- the place of an object, by its name: a static's in memory, another's in the frame
@@ -29,6 +31,11 @@ pub record HasPlaces (given : Given) : Type 0 where
 abbrev pub CallsBelow : ℕ → Line → Type 0
 CallsBelow functions (Call to function first count) = function < functions
 CallsBelow functions line = Unit {0}
+
+-- a test of registers of the machine
+abbrev pub IsTest : Test → Type 0
+IsTest (Nonzero on) = on < 32
+IsTest (Compares op kind left right) = (left < 32) × (right < 32)
 
 -- a register and an offset of 12 bits, the low part of a number
 pub record IsDisplaced (d : Displaced) (base n : ℕ) : Type 0 where

@@ -1,7 +1,9 @@
 -- What selection gives: lines that may stand for the function, what linking asks of them, and how many they are.
 use Rattle.std.specs.Prelude.{◌≡◌, ◌⊎◌, ◌<◌, ◌≤◌, ℕ, ◌+◌, Bool, List, [], ◌∷◌, ◌++◌, Option, Some, None, length, slice_get, All}
 use Rattle.im_num.specs.declared.values.Cause.{Cause}
-use Rattle.im_rv.specs.declared.instr.Op.TheVariants.{Jal, Beq, Bne}
+use Rattle.im_rv.specs.declared.format.Format.TheVariants.{Branch}
+use Rattle.im_rv.specs.declared.instr.Op.TheVariants.{Jal}
+use Rattle.im_rv.specs.Formats.{format_of}
 use Rattle.im_rv.specs.Lines.{CodeLine}
 use Rattle.im_store.specs.Objects.{Named, Slot}
 use Rattle.im_block.specs.declared.code.Line.{Line}
@@ -88,9 +90,9 @@ IsTarget given l =
     ⊎ ((i : ℕ) × (i < given.functions) × (l ≡ entry_label i))
     ⊎ ((b : ℕ) × (b < length given.function.blocks.items) × (l ≡ given.first_block + b))
 
--- a test of a register for 0 that leads to a block of a function of at most 1023 lines, so that a branch reaches it
+-- a branch that leads to a block of a function of at most 1023 lines, so that it reaches it
 pub record IsNear (given : Given) (lines : List CodeLine) (line : CodeLine) (l : ℕ) : Type 0 where
-  pub tests : (line.line.op ≡ Beq) ⊎ (line.line.op ≡ Bne)
+  pub branches : format_of line.line.op ≡ Branch
   pub few : length lines ≤ 1023
   pub block : (b : ℕ) × (b < length given.function.blocks.items) × (l ≡ given.first_block + b)
 
@@ -116,6 +118,7 @@ abbrev pub laying_of : Given → (ℕ → ℕ → Bool) → Distance → Laying
 laying_of given live distance = record {
   at = at_of given;
   cut = entries live given.function.blocks.items;
+  live = live;
   distance = distance;
   first = given.first_block;
   frame = given.layout.frame;

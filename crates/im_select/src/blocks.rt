@@ -1,28 +1,25 @@
-ghost use Rattle.std.specs.Prelude.{◌≡◌, ◌<◌, ◌+◌, ◌++◌, length, slice_get, All, OnOk, IfOk, IsTrue};
-ghost use Rattle.im_rv.specs.declared.instr.Op.TheVariants.{Bne};
-ghost use Rattle.im_rv.specs.Fits.{fits};
-ghost use Rattle.im_rv.specs.Lines.{code_lines, line_of};
-ghost use Rattle.im_rv.specs.Steps.{word};
-ghost use Rattle.im_rv_reach.specs.Instructions.{branching};
+ghost use Rattle.std.specs.Prelude.{◌≡◌, ◌<◌, ◌+◌, ◌++◌, length, slice_get, All, OnOk, IfOk, IfSome};
+ghost use Rattle.im_rv.specs.Lines.{code_lines};
 ghost use Rattle.im_block.specs.Wellformed.{ExitThere};
 ghost use Rattle.im_alloc_placed.specs.Placed.{IsPlacedExit, IsPlacedBlock};
 ghost use Rattle.im_live.specs.Words.{entry_at, starts_have};
-ghost use Rattle.im_select.specs.Emitted.{labelled, leave_code, result_code, onward_code, test_op, test_code, is_next, branch_code, ended_code, enter_code, prologue_code, block_code, found_code};
+ghost use Rattle.im_select.specs.Emitted.{labelled, leave_code, result_code, onward_code, test_code, test_or, is_next, branch_code, ended_code, enter_code, prologue_code, block_code, found_code};
 ghost use Rattle.im_select.specs.Given.{given};
-ghost use Rattle.im_select.specs.Places.{at_of, HasPlaces};
+ghost use Rattle.im_select.specs.Places.{at_of, HasPlaces, IsTest};
 ghost use Rattle.im_select.specs.Selects.{laying_of, IsClosedBlock};
 
+use crate::branching::{Test, branch_by, own_lines, taken_test};
 use crate::distance::Distance;
 use crate::lines::push_lines;
 use crate::names::Names;
 use crate::push::{push, push_aimed, push_jump};
-use crate::words::{push_added, register};
+use crate::words::push_added;
 use im_block::{Block, Exit};
 use im_live::points;
 use im_num::NoMemory;
 use im_rtlib::STACK;
-use im_rv::assembler::{addi, beq, bgeu, bne, jalr, lw, sw};
-use im_rv::{Instr, Line};
+use im_rv::Line;
+use im_rv::assembler::{addi, bgeu, jalr, lw, sw};
 use std::alloc::Global;
 
 /// The first line has a label.
@@ -67,57 +64,58 @@ fn push_onward(lines: &mut Vec<Line>, is_next: bool, label: u32) -> Result<(), N
     push_jump(lines, 0, label)
 }
 
-/// A branch by a register other than 0 or, where `holds` is false, by one that is 0.
-fn branch_by(holds: bool, on: u8, offset: i32) -> Instr
-    requires { IsTrue (fits Bne 0 on 0 offset) }
-    ensures { line_of result ≡ branching (test_op holds) on 0 (word offset) }
-{
-    if holds {
-        bne(on, 0, offset)
-    } else {
-        beq(on, 0, offset)
-    }
-}
-
-/// To a label where a register is other than 0, or where it is 0: near, or over a jump.
+/// To a label where a test holds or, where `holds` is false, where it does not: near, or over a jump.
 fn push_test(
     lines: &mut Vec<Line>,
     distance: Distance,
     holds: bool,
-    on: u32,
+    test: Test,
     label: u32,
 ) -> Result<(), NoMemory>
-    requires { on < 32 }
+    requires { IsTest test }
     ensures { OnOk result (code_lines lines.new.items
-        ≡ code_lines lines.old.items ++ test_code distance holds on label) }
+        ≡ code_lines lines.old.items ++ test_code distance holds test label) }
 {
     match distance {
-        Distance::Near => push_aimed(lines, branch_by(holds, register(on), 0), label),
+        Distance::Near => push_aimed(lines, branch_by(test, holds, 0), label),
         Distance::Far => {
-            push(lines, branch_by(!holds, register(on), 8))?;
+            push(lines, branch_by(test, !holds, 8))?;
             push_jump(lines, 0, label)
         }
     }
 }
 
-/// To one of two labels, by a register.
+/// To one of two labels, by a test.
 fn push_branch(
     lines: &mut Vec<Line>,
     distance: Distance,
     next: Option<u32>,
-    on: u32,
+    test: Test,
     holds: u32,
     fails: u32,
 ) -> Result<(), NoMemory>
-    requires { on < 32 }
+    requires { IsTest test }
     ensures { OnOk result (code_lines lines.new.items
-        ≡ code_lines lines.old.items ++ branch_code distance next on holds fails) }
+        ≡ code_lines lines.old.items ++ branch_code distance next test holds fails) }
 {
     if is_next(next, holds) {
-        return push_test(lines, distance, false, on, fails);
+        return push_test(lines, distance, false, test, fails);
     }
-    push_test(lines, distance, true, on, holds)?;
+    push_test(lines, distance, true, test, holds)?;
     push_onward(lines, is_next(next, fails), fails)
+}
+
+/// The test of a branch: that of the comparison that it takes, else whether its register is not 0.
+fn test_or(taken: Option<Test>, on: u32) -> Test
+    requires on { on < 32 }
+    requires taken { IfSome taken IsTest }
+    ensures value { result ≡ test_or taken on }
+    ensures test { IsTest result }
+{
+    match taken {
+        Some(test) => test,
+        None => Test::Nonzero(on),
+    }
 }
 
 /// x10 is 0 where there is no result, so that nothing lives in it.
@@ -131,19 +129,22 @@ fn push_result(lines: &mut Vec<Line>, from: Option<u32>) -> Result<(), NoMemory>
     }
 }
 
-/// The lines of a block's exit, behind its other lines; `next` is the label that stands behind it.
+/// The lines of a block's exit, behind its other lines; `next` is the label that stands behind it,
+/// `taken` the test that it takes of the line before it.
 fn push_exit(
     lines: &mut Vec<Line>,
     names: &Names,
     distance: Distance,
     next: Option<u32>,
+    taken: Option<Test>,
     exit: Exit,
 ) -> Result<(), NoMemory>
     requires places { HasPlaces (given names.now) }
+    requires test { IfSome taken IsTest }
     requires placed { IsPlacedExit exit }
     requires there { ExitThere (length names.now.function.now.blocks.items) exit }
     ensures { OnOk result (code_lines lines.new.items ≡ ended_code distance next
-        names.now.first_block names.now.layout.now.frame (code_lines lines.old.items) exit) }
+        names.now.first_block names.now.layout.now.frame taken (code_lines lines.old.items) exit) }
 {
     let first = names.first_block;
     match exit {
@@ -153,7 +154,8 @@ fn push_exit(
         }
         Exit::Turn(to) => push_jump(lines, 0, first + to),
         Exit::Branch { on, holds, fails } => {
-            push_branch(lines, distance, next, on, first + holds, first + fails)
+            let test = test_or(taken, on);
+            push_branch(lines, distance, next, test, first + holds, first + fails)
         }
         Exit::Return(from) => {
             push_result(lines, from)?;
@@ -162,10 +164,12 @@ fn push_exit(
     }
 }
 
-/// The lines of a block, by its number and the registers that live at its points.
+/// The lines of a block, by its number and the registers that live at the starts of blocks and at its
+/// points.
 fn lines_by(
     alloc: Global,
     names: &Names,
+    live: &[u32],
     points: &[u32],
     distance: Distance,
     next: Option<u32>,
@@ -177,14 +181,16 @@ fn lines_by(
     requires placed { IsPlacedBlock
         (length names.now.statics.now) names.now.function.now block.now }
     requires closed { IsClosedBlock (given names.now) block.now }
+    requires starts { length live.now ≡ length names.now.function.now.blocks.items }
     requires enough { length points.now ≡ length block.now.lines.items + 1 }
     ensures { IfOk result (λ lines. code_lines lines.items
-        ≡ block_code (at_of (given names.now)) (entry_at points.now) distance next
+        ≡ block_code (at_of (given names.now)) (entry_at points.now) (starts_have live.now) distance next
         names.now.first_block names.now.layout.now.frame number block.now) }
 {
     let mut lines = Vec::new(alloc);
-    push_lines(&mut lines, names, points, &block.lines)?;
-    push_exit(&mut lines, names, distance, next, block.exit)?;
+    let taken = taken_test(live, &block.lines, block.exit);
+    push_lines(&mut lines, names, points, own_lines(&block.lines, taken))?;
+    push_exit(&mut lines, names, distance, next, taken, block.exit)?;
     label_first(&mut lines, names.first_block + number);
     Ok(lines)
 }
@@ -211,7 +217,7 @@ pub(crate) fn block_lines(
 {
     let block = &names.function.blocks[number as usize];
     let words = points(alloc, live, block)?;
-    let lines = lines_by(alloc, names, &words, distance, next, number, block)?;
+    let lines = lines_by(alloc, names, live, &words, distance, next, number, block)?;
     Ok(lines)
 }
 

@@ -107,7 +107,7 @@ fn is_signed(kind: Kind) -> bool
 }
 
 /// One of two operations, by the sign of a kind.
-fn by_sign(kind: Kind, signed: Op, unsigned: Op) -> Op
+pub(crate) fn by_sign(kind: Kind, signed: Op, unsigned: Op) -> Op
     ensures { result ≡ tables.by_sign kind signed unsigned }
 {
     if is_signed(kind) { signed } else { unsigned }

@@ -2,6 +2,7 @@
 #![tactic(auto)]
 
 mod blocks;
+mod branching;
 mod computing;
 mod distance;
 mod lines;
@@ -14,6 +15,7 @@ mod selection;
 mod tests;
 mod words;
 
+pub use branching::Test;
 pub use distance::Distance;
 pub use names::Names;
 pub use selection::select;

@@ -1,4 +1,4 @@
-ghost use Rattle.std.specs.Prelude.{◌≡◌, ◌+◌, ◌++◌, length, OnOk, All};
+ghost use Rattle.std.specs.Prelude.{◌≡◌, ◌≤◌, ◌+◌, ◌++◌, length, OnOk, All};
 ghost use Rattle.im_rv.specs.Lines.{code_lines};
 ghost use Rattle.im_alloc_placed.specs.Placed.{IsPlacedLine};
 ghost use Rattle.im_select.specs.Emitted.{line_code, lines_code};
@@ -90,14 +90,14 @@ pub(crate) fn push_line(
 }
 
 /// The lines of several, in order. A word of `points` has the registers that live before a line, the
-/// one behind it those that live behind the line.
+/// one behind it those that live behind the line; there may be more of them.
 pub(crate) fn push_lines(
     lines: &mut Vec<Line>,
     names: &Names,
     points: &[u32],
     placed: &[Placed],
 ) -> Result<(), NoMemory>
-    requires enough { length points.now ≡ length placed.now + 1 }
+    requires enough { length placed.now + 1 ≤ length points.now }
     requires places { HasPlaces (given names.now) }
     requires placed { All
         (IsPlacedLine (length names.now.statics.now) names.now.function.now) placed.now }

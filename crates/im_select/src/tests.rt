@@ -1,6 +1,8 @@
 ghost use Rattle.std.specs.Prelude.{◌≡◌, ◌≤◌, [], length, IfOk};
 ghost use Rattle.im_frame.specs.Layout.{bytes_of};
+ghost use Rattle.im_select.specs.Places.{IsTest};
 
+use crate::branching::{Test, branch_by};
 use crate::lines::push_lines;
 use crate::names::Names;
 use im_block::{Function, Line, Object, Place, Registers};
@@ -235,5 +237,37 @@ fn short_lines_are_those_of_the_manual(rt: HostRuntime) -> Result<(), Fail> {
     for (line, word) in lines.iter().zip(&SHORT_WORDS) {
         assert_eq!(rt; encode(line.instr), *word);
     }
+    Ok(())
+}
+
+fn compares(op: Comparison, kind: Kind) -> Test
+    ensures { IsTest result }
+{
+    Test::Compares {
+        op,
+        kind,
+        left: 10,
+        right: 11,
+    }
+}
+
+// Whether a test is these branches over one line: where it holds, and where it doesn't.
+fn are_branches(test: Test, holds: u32, fails: u32) -> bool
+    requires { IsTest test }
+{
+    encode(branch_by(test, true, 8)) == holds && encode(branch_by(test, false, 8)) == fails
+}
+
+// By llvm-mc.
+#[test]
+fn branches_are_those_of_the_assembler(rt: HostRuntime) -> Result<(), Fail> {
+    let signed = are_branches(compares(Comparison::Less, Kind::I32), 0x00b54463, 0x00b55463)
+        && are_branches(compares(Comparison::LessOrEqual, Kind::I32), 0x00a5d463, 0x00a5c463);
+    let unsigned = are_branches(compares(Comparison::Greater, Kind::U32), 0x00a5e463, 0x00a5f463)
+        && are_branches(compares(Comparison::GreaterOrEqual, Kind::Ptr), 0x00b57463, 0x00b56463);
+    let equal = are_branches(compares(Comparison::Equal, Kind::I32), 0x00b50463, 0x00b51463)
+        && are_branches(compares(Comparison::NotEqual, Kind::U32), 0x00b51463, 0x00b50463);
+    let nonzero = are_branches(Test::Nonzero(10), 0x00051463, 0x00050463);
+    assert_eq!(rt; (signed, unsigned, equal, nonzero), (true, true, true, true));
     Ok(())
 }

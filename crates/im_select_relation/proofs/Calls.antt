@@ -354,7 +354,7 @@ pub lost_by : (p : Linking) (u : Code) (g : Setting) → Premises p u g → (i :
 lost_by p u g l i f registers is = ap (λ z. kept_by z registers) is ∙ ap (λ z. kept z registers) (l.at.functions i f is).registers
 
 -- a call
-pub call_after : (p : Linking) (u : Code) (g : Setting) → Premises p u g → (s : State) (c : Cpu) (m : Mem) (r : Rel p u g s c m) (i count imm : ℕ) (rest : List Line) → sum_of c.pc imm ≡ p.entry i → Holds p.image c.pc (jumping 1 imm) → Stands p s.frame.function (frame_of g s.frame.function) (c.pc + 4) rest s.frame.spot.exit → After p u g s.fuel 10 c m (does u g (Call 10 i 10 count) rest s)
+pub call_after : (p : Linking) (u : Code) (g : Setting) → Premises p u g → (s : State) (c : Cpu) (m : Mem) (r : Rel p u g s c m) (i count imm : ℕ) (rest : List Line) → sum_of c.pc imm ≡ p.entry i → Holds p.image c.pc (jumping 1 imm) → Stands p r.f.blocks.items s.frame.function (frame_of g s.frame.function) (c.pc + 4) rest s.frame.spot.exit → After p u g s.fuel 10 c m (does u g (Call 10 i 10 count) rest s)
 call_after p u g l s c m r i count imm rest lands h code =
     let x : ℕ → ℕ = with_reg c.x 1 (sum_of c.pc 4) in
     let pc_low = h.low in

@@ -1,16 +1,23 @@
 -- The ends of runs, and lines that change the stack pointer.
-use Rattle.std.proofs.Common.{◌≡◌, ◌≢◌, ℕ, zero, ◌+◌, ◌*◌, ◌%◌, ◌^◌, ◌<◌, ◌≤◌, inr, Bool, true, false, cond, [], ◌∷◌, ap, ◌∙◌, subst, refl, arith}
-use Rattle.std.specs.Prelude.{◌==◌, nat_lt}
+use Rattle.std.proofs.Common.{◌≡◌, ◌≢◌, ℕ, zero, ◌+◌, ◌*◌, ◌%◌, ◌^◌, ◌<◌, ◌≤◌, inr, Bool, true, false, cond, [], ◌∷◌, sym, ap, ◌∙◌, subst, refl, arith}
+use Rattle.std.specs.Prelude.{◌==◌, nat_lt, not}
 use Rattle.std.proofs.lemmas.Bool.Decides.{nat_tests}
 use Rattle.im_num.specs.Bytes.{bytes_of}
 use Rattle.im_mem.specs.Memory.{Mem, little, is_place, written}
 use Rattle.im_mem.proofs.Words.{written-above, length-bytes_of}
-use Rattle.im_rv.specs.declared.instr.Op.TheVariants.{Add, Beq, Bne, Bltu, Bgeu, Sw, Addi, Ebreak}
+use Rattle.im_num.specs.declared.kind.Kind.{Kind}
+use Rattle.im_num.specs.Kinds.{is_signed}
+use Rattle.im_rv.specs.declared.instr.Op.TheVariants.{Add, Blt, Bge, Bltu, Bgeu, Sw, Addi, Ebreak}
+use Rattle.im_rv.specs.declared.effect.Effect.{Effect}
 use Rattle.im_rv.specs.declared.effect.Effect.TheVariants.{Puts, Goes as Passes, Stores}
-use Rattle.im_rv.specs.Steps.{sum_of, with_reg}
+use Rattle.im_rv.specs.Steps.{sum_of, with_reg, less_signed, row}
 use Rattle.im_rv.specs.Decode.{Line as Instruction}
 use Rattle.im_rv.proofs.Straight.{same_reg, other_reg}
+use Rattle.im_store.specs.declared.operators.Comparison.{Comparison}
+use Rattle.im_store.specs.declared.operators.Comparison.TheVariants.{Less, Greater, LessOrEqual, GreaterOrEqual, Equal, NotEqual}
 use Rattle.im_store.specs.Objects.{Value}
+use Rattle.im_select_operators.specs.Tables.{by_sign}
+use Rattle.im_select_operators.proofs.Comparisons.{word_less, outcome, no_difference, some_difference}
 use Rattle.im_rv_reach.specs.Touches.{Stored}
 use Rattle.im_rv_reach.specs.Plain.{in_runtime}
 use Rattle.im_rv_reach.specs.Reach.{Reach, Stopped}
@@ -18,7 +25,7 @@ use Rattle.im_rv_reach.specs.Instructions.{Holds, Fixed, with_immediate, on_regi
 use Rattle.im_rv_reach.proofs.Reach.{plus_is, nothing, join, next_pc, no_back, puts, leaps, passes, stores, halts, then_stops, output_told, low_store}
 use Rattle.im_rv_reach.specs.Reach.{plus}
 use Rattle.im_select_relation.specs.Linking.{Linking}
-use Rattle.im_select_relation.specs.Selected.{Constant, Small, Large, Adds, Short, Long, Jumps, Continues, Falls, Leaps, Checked, Direct, Around, Tested, Reached, Missed, Hopped, Skipped}
+use Rattle.im_select_relation.specs.Selected.{Constant, Small, Large, Adds, Short, Long, Jumps, Continues, Falls, Leaps, Checked, Direct, Around, Test, nonzero, below, not_below, comparing, Tested, Reached, Missed, Hopped, Skipped}
 use Rattle.im_select_relation.proofs.Registers.{RegsMean, means_at}
 use Rattle.im_select_relation.proofs.Cells.{little_back}
 
@@ -205,38 +212,72 @@ onward p m pc mid x target fixed reach c =
 taken : (m : Mem) (pc : ℕ) (x : ℕ → ℕ) (target : ℕ) → Reach 1 [] (record { pc = pc; x = x }) m (record { pc = target; x = x }) m → Passed m pc x target
 taken m pc x target reach = record { n = 1; some = omega arith; few = omega arith; y = x; reach = reach; kept = λ i. refl }
 
--- whether a register is other than 0 decides a branch by it
-unequal_to : (p : Linking) (m : Mem) (pc : ℕ) (x : ℕ → ℕ) (on imm to : ℕ) (t : Bool) → Fixed p.image m → (x on == x 0) ≡ t → Holds p.image pc (branching Bne on 0 imm) → cond t (sum_of pc 4) (sum_of pc imm) ≡ to → Reach 1 [] (record { pc = pc; x = x }) m (record { pc = to; x = x }) m
-unequal_to p m pc x on imm to t fixed e h lands = passes p.image m pc x (branching Bne on 0 imm) to fixed h (ap (λ b. Passes (cond b (sum_of pc 4) (sum_of pc imm))) e ∙ ap Passes lands)
-
-equal_to : (p : Linking) (m : Mem) (pc : ℕ) (x : ℕ → ℕ) (on imm to : ℕ) (t : Bool) → Fixed p.image m → (x on == x 0) ≡ t → Holds p.image pc (branching Beq on 0 imm) → cond t (sum_of pc imm) (sum_of pc 4) ≡ to → Reach 1 [] (record { pc = pc; x = x }) m (record { pc = to; x = x }) m
-equal_to p m pc x on imm to t fixed e h lands = passes p.image m pc x (branching Beq on 0 imm) to fixed h (ap (λ b. Passes (cond b (sum_of pc imm) (sum_of pc 4))) e ∙ ap Passes lands)
-
 -- over one instruction
 over_one : (image : Mem) (pc : ℕ) (l : Instruction) → Holds image pc l → sum_of pc 8 ≡ pc + 8
 over_one image pc l h = let z = h.low in omega arith
 
--- a test of a register against zero
-pub tested_yes : (p : Linking) (m : Mem) (pc : ℕ) (x : ℕ → ℕ) (on there other : ℕ) → Fixed p.image m → x 0 ≡ 0 → x on ≢ 0 → Tested p pc on there other → Passed m pc x there
-tested_yes p m pc x on there other fixed x0 ne t = by t
+-- a test of two registers holds, or fails, by its branches
+pub record Decided (t : Test) (x : ℕ → ℕ) (holds : Bool) : Type 0 where
+  pub goes : (pc imm : ℕ) → row t.holds pc (x t.left) (x t.right) imm ≡ Passes (cond holds (sum_of pc imm) (sum_of pc 4))
+  pub stays : (pc imm : ℕ) → row t.fails pc (x t.left) (x t.right) imm ≡ Passes (cond holds (sum_of pc 4) (sum_of pc imm))
+
+turned_way : (b : Bool) (f : ℕ → Effect) (v w : ℕ) → f (cond b v w) ≡ f (cond (not b) w v)
+turned_way true f v w = refl
+turned_way false f v w = refl
+
+-- a register that is other than 0
+pub nonzero_decided : (x : ℕ → ℕ) (on : ℕ) → x 0 ≡ 0 → Decided (nonzero on) x (not (x on == 0))
+nonzero_decided x on x0 = record {
+  goes = λ pc imm. ap (λ q. Passes (cond (x on == q) (sum_of pc 4) (sum_of pc imm))) x0 ∙ turned_way (x on == 0) Passes (sum_of pc 4) (sum_of pc imm);
+  stays = λ pc imm. ap (λ q. Passes (cond (x on == q) (sum_of pc imm) (sum_of pc 4))) x0 ∙ turned_way (x on == 0) Passes (sum_of pc imm) (sum_of pc 4);
+}
+
+below_row : (k : Kind) (pc a b imm : ℕ) → row (by_sign k Blt Bltu) pc a b imm ≡ Passes (cond (word_less k a b) (sum_of pc imm) (sum_of pc 4))
+below_row k pc a b imm = by (is_signed k)
   where
-    e : (x on == x 0) ≡ false
-    e = grind (arith, nat_tests)
+    by : (t : Bool) → row (cond t Blt Bltu) pc a b imm ≡ Passes (cond (cond t (less_signed a b) (nat_lt a b)) (sum_of pc imm) (sum_of pc 4))
+    by true = refl
+    by false = refl
 
-    by : Tested p pc on there other → Passed m pc x there
-    by (Reached imm lands h k) = taken m pc x there (unequal_to p m pc x on imm there false fixed e h lands)
-    by (Missed imm lands h k) = onward p m pc (pc + 4) x there fixed (equal_to p m pc x on imm (pc + 4) false fixed e h (next_pc p.image pc (branching Beq on 0 imm) h)) k
-    by (Hopped h j k) = onward p m pc (pc + 4) x there fixed (equal_to p m pc x on 8 (pc + 4) false fixed e h (next_pc p.image pc (branching Beq on 0 8) h)) (Leaps j)
-    by (Skipped h j k) = onward p m pc (pc + 8) x there fixed (unequal_to p m pc x on 8 (pc + 8) false fixed e h (over_one p.image pc (branching Bne on 0 8) h)) k
-
-pub tested_no : (p : Linking) (m : Mem) (pc : ℕ) (x : ℕ → ℕ) (on there other : ℕ) → Fixed p.image m → x 0 ≡ 0 → x on ≡ 0 → Tested p pc on there other → Passed m pc x other
-tested_no p m pc x on there other fixed x0 zero_ t = by t
+above_row : (k : Kind) (pc a b imm : ℕ) → row (by_sign k Bge Bgeu) pc a b imm ≡ Passes (cond (word_less k a b) (sum_of pc 4) (sum_of pc imm))
+above_row k pc a b imm = by (is_signed k)
   where
-    e : (x on == x 0) ≡ true
-    e = grind (arith, nat_tests)
+    by : (t : Bool) → row (cond t Bge Bgeu) pc a b imm ≡ Passes (cond (cond t (less_signed a b) (nat_lt a b)) (sum_of pc 4) (sum_of pc imm))
+    by true = refl
+    by false = refl
 
-    by : Tested p pc on there other → Passed m pc x other
-    by (Reached imm lands h k) = onward p m pc (pc + 4) x other fixed (unequal_to p m pc x on imm (pc + 4) true fixed e h (next_pc p.image pc (branching Bne on 0 imm) h)) k
-    by (Missed imm lands h k) = taken m pc x other (equal_to p m pc x on imm other true fixed e h lands)
-    by (Hopped h j k) = onward p m pc (pc + 8) x other fixed (equal_to p m pc x on 8 (pc + 8) true fixed e h (over_one p.image pc (branching Beq on 0 8) h)) k
-    by (Skipped h j k) = onward p m pc (pc + 4) x other fixed (unequal_to p m pc x on 8 (pc + 4) true fixed e h (next_pc p.image pc (branching Bne on 0 8) h)) (Leaps j)
+below_decided : (x : ℕ → ℕ) (k : Kind) (left right : ℕ) → Decided (below k left right) x (word_less k (x left) (x right))
+below_decided x k left right = record { goes = λ pc imm. below_row k pc (x left) (x right) imm; stays = λ pc imm. above_row k pc (x left) (x right) imm }
+
+not_below_decided : (x : ℕ → ℕ) (k : Kind) (left right : ℕ) → Decided (not_below k left right) x (not (word_less k (x left) (x right)))
+not_below_decided x k left right = record {
+  goes = λ pc imm. above_row k pc (x left) (x right) imm ∙ turned_way (word_less k (x left) (x right)) Passes (sum_of pc 4) (sum_of pc imm);
+  stays = λ pc imm. below_row k pc (x left) (x right) imm ∙ turned_way (word_less k (x left) (x right)) Passes (sum_of pc imm) (sum_of pc 4);
+}
+
+-- two registers that compare so
+pub comparing_decided : (x : ℕ → ℕ) (k : Kind) (left right : ℕ) (op : Comparison) → x left < 2 ^ 32 → x right < 2 ^ 32 → Decided (comparing k left right op) x (outcome (word_less k) op (x left) (x right))
+comparing_decided x k left right Less a b = below_decided x k left right
+comparing_decided x k left right Greater a b = below_decided x k right left
+comparing_decided x k left right LessOrEqual a b = not_below_decided x k right left
+comparing_decided x k left right GreaterOrEqual a b = not_below_decided x k left right
+comparing_decided x k left right Equal a b =
+    let e = no_difference (x left) (x right) a b in
+    record { goes = λ pc imm. ap (λ q. Passes (cond q (sum_of pc imm) (sum_of pc 4))) (sym e); stays = λ pc imm. ap (λ q. Passes (cond q (sum_of pc 4) (sum_of pc imm))) (sym e) }
+comparing_decided x k left right NotEqual a b =
+    let e = some_difference (x left) (x right) a b in
+    record {
+      goes = λ pc imm. turned_way (x left == x right) Passes (sum_of pc 4) (sum_of pc imm) ∙ ap (λ q. Passes (cond q (sum_of pc imm) (sum_of pc 4))) (sym e);
+      stays = λ pc imm. turned_way (x left == x right) Passes (sum_of pc imm) (sum_of pc 4) ∙ ap (λ q. Passes (cond q (sum_of pc 4) (sum_of pc imm))) (sym e);
+    }
+
+-- a branch by a test
+pub tested : (p : Linking) (m : Mem) (pc : ℕ) (x : ℕ → ℕ) (t : Test) (there other : ℕ) (holds : Bool) → Fixed p.image m → Decided t x holds → Tested p pc t there other → Passed m pc x (cond holds there other)
+tested p m pc x t there other true fixed d (Reached imm lands h k) = taken m pc x there (passes p.image m pc x (branching t.holds t.left t.right imm) there fixed h (d.goes pc imm ∙ ap Passes lands))
+tested p m pc x t there other true fixed d (Missed imm lands h k) = onward p m pc (pc + 4) x there fixed (passes p.image m pc x (branching t.fails t.left t.right imm) (pc + 4) fixed h (d.stays pc imm ∙ ap Passes (next_pc p.image pc (branching t.fails t.left t.right imm) h))) k
+tested p m pc x t there other true fixed d (Hopped h j k) = onward p m pc (pc + 4) x there fixed (passes p.image m pc x (branching t.fails t.left t.right 8) (pc + 4) fixed h (d.stays pc 8 ∙ ap Passes (next_pc p.image pc (branching t.fails t.left t.right 8) h))) (Leaps j)
+tested p m pc x t there other true fixed d (Skipped h j k) = onward p m pc (pc + 8) x there fixed (passes p.image m pc x (branching t.holds t.left t.right 8) (pc + 8) fixed h (d.goes pc 8 ∙ ap Passes (over_one p.image pc (branching t.holds t.left t.right 8) h))) k
+tested p m pc x t there other false fixed d (Reached imm lands h k) = onward p m pc (pc + 4) x other fixed (passes p.image m pc x (branching t.holds t.left t.right imm) (pc + 4) fixed h (d.goes pc imm ∙ ap Passes (next_pc p.image pc (branching t.holds t.left t.right imm) h))) k
+tested p m pc x t there other false fixed d (Missed imm lands h k) = taken m pc x other (passes p.image m pc x (branching t.fails t.left t.right imm) other fixed h (d.stays pc imm ∙ ap Passes lands))
+tested p m pc x t there other false fixed d (Hopped h j k) = onward p m pc (pc + 8) x other fixed (passes p.image m pc x (branching t.fails t.left t.right 8) (pc + 8) fixed h (d.stays pc 8 ∙ ap Passes (over_one p.image pc (branching t.fails t.left t.right 8) h))) k
+tested p m pc x t there other false fixed d (Skipped h j k) = onward p m pc (pc + 4) x other fixed (passes p.image m pc x (branching t.holds t.left t.right 8) (pc + 4) fixed h (d.goes pc 8 ∙ ap Passes (next_pc p.image pc (branching t.holds t.left t.right 8) h))) (Leaps j)

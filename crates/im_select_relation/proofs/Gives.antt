@@ -74,7 +74,7 @@ gave_more image m pc mid x y n words l v few some fixed reach kept h e on = reco
 }
 
 -- a line that computes
-pub computes_after : (p : Linking) (u : Code) (g : Setting) (s : State) (c : Cpu) (m : Mem) (r : Rel p u g s c m) (words to w next : ℕ) (o : Checked Value) (rest : List Line) → 6 < to → Gave m c.pc c.x to w next words → Stands p s.frame.function (frame_of g s.frame.function) next rest s.frame.spot.exit → ((v : Value) → o ≡ Fine v → Means p v w) → After p u g s.fuel words c m (computes to o rest s)
+pub computes_after : (p : Linking) (u : Code) (g : Setting) (s : State) (c : Cpu) (m : Mem) (r : Rel p u g s c m) (words to w next : ℕ) (o : Checked Value) (rest : List Line) → 6 < to → Gave m c.pc c.x to w next words → Stands p r.f.blocks.items s.frame.function (frame_of g s.frame.function) next rest s.frame.spot.exit → ((v : Value) → o ≡ Fine v → Means p v w) → After p u g s.fuel words c m (computes to o rest s)
 computes_after p u g s c m r words to w next o rest six q code mean =
     checked_after p u g s.fuel words c m o _ (λ v e. record {
       n = q.n;
@@ -122,7 +122,7 @@ pub record Finds (p : Linking) (store : Store) (w : ℕ) (k : Kind) (f : Found) 
   pub read : ReadOf p store f.at.object f.at.offset k f.value
 
 -- a line that reads
-pub reads_after : (p : Linking) (u : Code) (g : Setting) (s : State) (c : Cpu) (m : Mem) (r : Rel p u g s c m) (to w base imm next : ℕ) (k : Kind) (site : Site) (o : Checked Found) (rest : List Line) → 6 < to → site.size ≡ kind_size k → Ready p s.frame.registers (pointer_at s.frame.active.depth) m c.pc c.x w base imm next → Holds p.image next (with_immediate (load_op k) to base imm) → Stands p s.frame.function (frame_of g s.frame.function) (next + 4) rest s.frame.spot.exit → ((f : Found) → o ≡ Fine f → Finds p s.store w k f) → After p u g s.fuel 3 c m (reads to site o rest s)
+pub reads_after : (p : Linking) (u : Code) (g : Setting) (s : State) (c : Cpu) (m : Mem) (r : Rel p u g s c m) (to w base imm next : ℕ) (k : Kind) (site : Site) (o : Checked Found) (rest : List Line) → 6 < to → site.size ≡ kind_size k → Ready p s.frame.registers (pointer_at s.frame.active.depth) m c.pc c.x w base imm next → Holds p.image next (with_immediate (load_op k) to base imm) → Stands p r.f.blocks.items s.frame.function (frame_of g s.frame.function) (next + 4) rest s.frame.spot.exit → ((f : Found) → o ≡ Fine f → Finds p s.store w k f) → After p u g s.fuel 3 c m (reads to site o rest s)
 reads_after p u g s c m r to w base imm next k site o rest six size b h code finds =
     checked_after p u g s.fuel 3 c m o _ (λ f e.
     let q = finds f e in
@@ -156,7 +156,7 @@ pub record Leaves_ (p : Linking) (store : Store) (w x : ℕ) (k : Kind) (l : Lef
   pub write : WriteOf p store l.at.object l.at.offset k taken l.store
 
 -- a line that writes
-pub writes_after : (p : Linking) (u : Code) (g : Setting) → p.at Link ≡ 0 → (s : State) (c : Cpu) (m : Mem) (r : Rel p u g s c m) (from w base imm next : ℕ) (k : Kind) (site : Site) (o : Checked Left) (rest : List Line) → from ≢ 5 → site.size ≡ kind_size k → Ready p s.frame.registers (pointer_at s.frame.active.depth) m c.pc c.x w base imm next → Holds p.image next (storing (store_op k) base from imm) → Stands p s.frame.function (frame_of g s.frame.function) (next + 4) rest s.frame.spot.exit → ((l : Left) → o ≡ Fine l → Leaves_ p s.store w (c.x from) k l) → After p u g s.fuel 3 c m (writes site o rest s)
+pub writes_after : (p : Linking) (u : Code) (g : Setting) → p.at Link ≡ 0 → (s : State) (c : Cpu) (m : Mem) (r : Rel p u g s c m) (from w base imm next : ℕ) (k : Kind) (site : Site) (o : Checked Left) (rest : List Line) → from ≢ 5 → site.size ≡ kind_size k → Ready p s.frame.registers (pointer_at s.frame.active.depth) m c.pc c.x w base imm next → Holds p.image next (storing (store_op k) base from imm) → Stands p r.f.blocks.items s.frame.function (frame_of g s.frame.function) (next + 4) rest s.frame.spot.exit → ((l : Left) → o ≡ Fine l → Leaves_ p s.store w (c.x from) k l) → After p u g s.fuel 3 c m (writes site o rest s)
 writes_after p u g at0 s c m r from w base imm next k site o rest no5 size b h code leaves =
     checked_after p u g s.fuel 3 c m o _ (λ l e.
     let q = leaves l e in

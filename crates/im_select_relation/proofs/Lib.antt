@@ -13,6 +13,8 @@ pub mod Gives
 pub mod Pointers
 pub mod Computing
 pub mod Lines
+pub mod Alike
+pub mod Stood
 pub mod Fuel
 pub mod Steps
 pub mod Separate

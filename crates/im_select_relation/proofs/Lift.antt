@@ -3,7 +3,7 @@ use Rattle.std.proofs.Common.{◌≡◌, ℕ, suc, ◌+◌, ◌-◌, ◌%◌, �
 use Rattle.im_num.specs.declared.kind.Kind.{Kind}
 use Rattle.im_num.specs.declared.values.Cause.{Cause}
 use Rattle.im_rv.specs.declared.instr.Op.{Op}
-use Rattle.im_rv.specs.declared.instr.Op.TheVariants.{Beq, Bne, Bltu}
+use Rattle.im_rv.specs.declared.instr.Op.TheVariants.{Bltu}
 use Rattle.im_rv.specs.Steps.{sum_of}
 use Rattle.im_rv.specs.Decode.{Line as Instruction}
 use Rattle.im_rv_reach.specs.Instructions.{Holds, Splits, jumping, branching}
@@ -13,10 +13,11 @@ use Rattle.im_block.specs.declared.code.Place.{Place}
 use Rattle.im_block.specs.declared.code.Line.{Line}
 use Rattle.im_block.specs.declared.code.Exit.{Exit}
 use Rattle.im_block.specs.declared.code.Exit.TheVariants.{Jump, Turn, Branch, Return}
+use Rattle.im_block.specs.declared.code.Block.{Block}
 use Rattle.im_select_relation.specs.Linking.{Linking, frame_of}
-use Rattle.im_select_relation.specs.Selected.{Constant, Displaced, Based, Adds, Compared, Copied, Converted, Scaled, Selected, Jumps, Continues, Tested, Leaves, ExitAt, Stands, Checked, Prologue}
+use Rattle.im_select_relation.specs.Selected.{Constant, Displaced, Based, Adds, Compared, Copied, Converted, Scaled, Selected, Jumps, Continues, Test, nonzero, comparing, Tested, Leaves, ExitAt, Joined, Stands, Checked, Prologue}
 use Rattle.im_select_relation.specs.Selected as linked
-use Rattle.im_select_relation.specs.Symbolic.{Lines, HasLine, ConstantIn, Small, Large, DisplacedIn, Near, Far, BasedIn, InFrame, InStatic, Behind, AddsIn, Short, Long, ComparedIn, Lesser, Larger, NotLarger, NotLesser, Same, Other, CopiedIn, Already, Moved, ConvertedIn, Whole, Masked, Narrowed, ScaledIn, Bytes, Shifted, Multiplied, SelectedIn, Numbers, Nulls, Copies, Converts, Negates, Complements, Nots, Computes, Compares, Moves, Measures, Addresses, AddressesPage, Fetches, StoresValue, Reloads, Spills, Cuts_, Calls, Gets, Puts_, JumpsIn, ContinuesIn, Falls, Leaps, TestedIn, Reached, Missed, Hopped, Skipped, LeavesIn, ExitIn, StandsIn, CheckedIn, Direct, Around, PrologueIn, spot_of, distance, IsLaid, LinesLaw, FrameLaw}
+use Rattle.im_select_relation.specs.Symbolic.{Lines, HasLine, ConstantIn, Small, Large, DisplacedIn, Near, Far, BasedIn, InFrame, InStatic, Behind, AddsIn, Short, Long, ComparedIn, Lesser, Larger, NotLarger, NotLesser, Same, Other, CopiedIn, Already, Moved, ConvertedIn, Whole, Masked, Narrowed, ScaledIn, Bytes, Shifted, Multiplied, SelectedIn, Numbers, Nulls, Copies, Converts, Negates, Complements, Nots, Computes, Compares, Moves, Measures, Addresses, AddressesPage, Fetches, StoresValue, Reloads, Spills, Cuts_, Calls, Gets, Puts_, JumpsIn, ContinuesIn, Falls, Leaps, TestedIn, Reached, Missed, Hopped, Skipped, LeavesIn, ExitIn, JoinedIn, Decides, StandsIn, CheckedIn, Direct, Around, PrologueIn, spot_of, distance, IsLaid, LinesLaw, FrameLaw}
 
 lands : (pc target : ℕ) → pc + 4 ≤ 1048576 → target < 2 ^ 32 → sum_of pc (distance pc target) ≡ target
 lands pc target a b = omega arith
@@ -124,16 +125,16 @@ eight p pc target c = let e : pc + 4 + 4 ≡ pc + 8 = omega arith in subst (λ q
 branch_lands : (p : Linking) (i : ℕ) (w : Lines) (place starts : ℕ → ℕ) → IsLaid p i w place starts → (k b : ℕ) (m : Instruction) → Holds p.image (spot_of (p.entry i) k) m → sum_of (spot_of (p.entry i) k) (distance (spot_of (p.entry i) k) (p.place i b)) ≡ p.place i b
 branch_lands p i w place starts l k b m h = lands (spot_of (p.entry i) k) (p.place i b) h.low (small_place p i w place starts l _ _ (l.block b))
 
-tested : (p : Linking) (i : ℕ) (w : Lines) (place starts : ℕ → ℕ) → IsLaid p i w place starts → (k on a b : ℕ) → TestedIn w starts k on a b → Tested p (spot_of (p.entry i) k) on (p.place i a) (p.place i b)
-tested p i w place starts l k on a b (Reached x y) =
-    let h = aimed p i w place starts l k (branching Bne on 0 0) (w.block a) (p.place i a) None (l.block a) x in
+tested : (p : Linking) (i : ℕ) (w : Lines) (place starts : ℕ → ℕ) → IsLaid p i w place starts → (k : ℕ) (t : Test) (a b : ℕ) → TestedIn w starts k t a b → Tested p (spot_of (p.entry i) k) t (p.place i a) (p.place i b)
+tested p i w place starts l k t a b (Reached x y) =
+    let h = aimed p i w place starts l k (branching t.holds t.left t.right 0) (w.block a) (p.place i a) None (l.block a) x in
     linked.Reached (distance (spot_of (p.entry i) k) (p.place i a)) (branch_lands p i w place starts l k a _ h) h (continues p i w place starts l (suc k) b y)
-tested p i w place starts l k on a b (Missed x y) =
-    let h = aimed p i w place starts l k (branching Beq on 0 0) (w.block b) (p.place i b) None (l.block b) x in
+tested p i w place starts l k t a b (Missed x y) =
+    let h = aimed p i w place starts l k (branching t.fails t.left t.right 0) (w.block b) (p.place i b) None (l.block b) x in
     linked.Missed (distance (spot_of (p.entry i) k) (p.place i b)) (branch_lands p i w place starts l k b _ h) h (continues p i w place starts l (suc k) a y)
-tested p i w place starts l k on a b (Hopped x y z) =
+tested p i w place starts l k t a b (Hopped x y z) =
     linked.Hopped (plain p i w place starts l k _ None None x) (jumps p i w place starts l (suc k) (w.block a) (p.place i a) (l.block a) y) (eight p (spot_of (p.entry i) k) (p.place i b) (continues p i w place starts l (suc (suc k)) b z))
-tested p i w place starts l k on a b (Skipped x y z) =
+tested p i w place starts l k t a b (Skipped x y z) =
     linked.Skipped (plain p i w place starts l k _ None None x) (jumps p i w place starts l (suc k) (w.block b) (p.place i b) (l.block b) y) (eight p (spot_of (p.entry i) k) (p.place i a) (continues p i w place starts l (suc (suc k)) a z))
 
 leaves : (p : Linking) (i : ℕ) (w : Lines) (place starts : ℕ → ℕ) → IsLaid p i w place starts → (k frame : ℕ) → LeavesIn w k frame → Leaves p (spot_of (p.entry i) k) frame
@@ -142,13 +143,17 @@ leaves p i w place starts l k frame a = record { link = plain p i w place starts
 exits : (p : Linking) (i : ℕ) (w : Lines) (place starts : ℕ → ℕ) → IsLaid p i w place starts → (frame k : ℕ) (exit : Exit) → ExitIn w starts frame k exit → ExitAt p i frame (spot_of (p.entry i) k) exit
 exits p i w place starts l frame k (Jump b) h = continues p i w place starts l k b h
 exits p i w place starts l frame k (Turn b) h = jumps p i w place starts l k (w.block b) (p.place i b) (l.block b) h
-exits p i w place starts l frame k (Branch on a b) h = (h.0, tested p i w place starts l k on a b h.1)
+exits p i w place starts l frame k (Branch on a b) h = (h.0, tested p i w place starts l k (nonzero on) a b h.1)
 exits p i w place starts l frame k (Return None) h = (plain p i w place starts l k _ None None h.0, leaves p i w place starts l (suc k) frame h.1)
 exits p i w place starts l frame k (Return (Some r)) h = (h.0, leaves p i w place starts l k frame h.1)
 
-stands : (p : Linking) (i : ℕ) (w : Lines) (place starts : ℕ → ℕ) → IsLaid p i w place starts → (frame k : ℕ) (lines : List Line) (exit : Exit) → StandsIn w starts frame k lines exit → Stands p i frame (spot_of (p.entry i) k) lines exit
-stands p i w place starts l frame k [] exit h = exits p i w place starts l frame k exit h
-stands p i w place starts l frame k (line ∷ rest) exit h = (spot_of (p.entry i) h.0, selected p i w place starts l k line h.0 h.1, stands p i w place starts l frame h.0 rest exit h.2)
+joined : (p : Linking) (i : ℕ) (w : Lines) (place starts : ℕ → ℕ) → IsLaid p i w place starts → (blocks : List Block) (k : ℕ) (line : Line) (rest : List Line) (exit : Exit) → JoinedIn w blocks starts k line rest exit → Joined p blocks i (spot_of (p.entry i) k) line rest exit
+joined p i w place starts l blocks k line rest exit (Decides to op kind left right a b x y h c d t) = linked.Decides to op kind left right a b x y h c d (tested p i w place starts l k (comparing kind left right op) a b t)
+
+stands : (p : Linking) (i : ℕ) (w : Lines) (place starts : ℕ → ℕ) → IsLaid p i w place starts → (blocks : List Block) (frame k : ℕ) (lines : List Line) (exit : Exit) → StandsIn w blocks starts frame k lines exit → Stands p blocks i frame (spot_of (p.entry i) k) lines exit
+stands p i w place starts l blocks frame k [] exit h = exits p i w place starts l frame k exit h
+stands p i w place starts l blocks frame k (line ∷ rest) exit (inl h) = inl (spot_of (p.entry i) h.0, selected p i w place starts l k line h.0 h.1, stands p i w place starts l blocks frame h.0 rest exit h.2)
+stands p i w place starts l blocks frame k (line ∷ rest) exit (inr h) = inr (joined p i w place starts l blocks k line rest exit h)
 
 checked : (p : Linking) (i : ℕ) (w : Lines) (place starts : ℕ → ℕ) → IsLaid p i w place starts → (k next : ℕ) → CheckedIn w k next → Checked p (spot_of (p.entry i) k) (spot_of (p.entry i) next)
 checked p i w place starts l k next (Direct a) =
@@ -176,7 +181,7 @@ lines p g i f w place starts framed h l = record {
   registers = framed.registers;
   received = framed.received;
   prologue = prologue p i w place starts l (frame_of g i) f.entry h.prologue;
-  blocks = λ b block e. subst (λ z. Stands p i (frame_of g i) z block.lines.items block.exit) (sym (l.starts_at b)) (stands p i w place starts l (frame_of g i) (starts b) block.lines.items block.exit (h.blocks b block e));
+  blocks = λ b block e. subst (λ z. Stands p f.blocks.items i (frame_of g i) z block.lines.items block.exit) (sym (l.starts_at b)) (stands p i w place starts l f.blocks.items (frame_of g i) (starts b) block.lines.items block.exit (h.blocks b block e));
 }
 
 pub frame : FrameLaw

@@ -53,7 +53,7 @@ use Rattle.im_select_relation.proofs.Relation.{Rel, Advanced, After, checked_aft
 use Rattle.im_select_relation.proofs.Calls.{number_word, lost_by, word_even, call_after}
 use Rattle.im_select_relation.proofs.Places.{Ready, means_mod, displaced, static_means, based}
 use Rattle.im_select_relation.proofs.Operators.{Converts as Converted_, numbers_mean, truths_mean, converted_word, computed_row, condition_word, zero_test}
-use Rattle.im_select_relation.proofs.Pointers.{in_use, places_word, moved_means, moved_word, distance_means}
+use Rattle.im_select_relation.proofs.Pointers.{in_use, use_small, places_word, moved_means, moved_word, distance_means}
 use Rattle.im_select_relation.proofs.Computing.{gave_weak, gave_none, some_steps, gave_constant, gave_compared, gave_converted, gave_moved, gave_distance}
 use Rattle.im_select_relation.proofs.Gives.{Lands, gave_one, gave_more, computes_after, reads_after, writes_after}
 
@@ -64,34 +64,46 @@ after_more p u g fuel words more c m (Stops (More output) events) le a = a
 after_more p u g fuel words more c m (Stops (Undef why) events) le a = tt
 
 -- comparisons
-compared_word : (p : Linking) (store : Store) (frames : List Mark) (op : Comparison) (k : Kind) (v w : Value) (x y : ℕ) (b : Bool) → IsPromoted k ⊎ (k ≡ Ptr) → Mapped p store.shape frames → compared store op k v w ≡ Fine b → Means p v x → Means p w y → number_as b ≡ number_as (outcome (word_less k) op x y)
-compared_word p store frames op k v w x y b (inl h) m e mv mw = ap number_as (by k h e)
+pub record ComparesAs (k : Kind) (op : Comparison) (x y : ℕ) (b : Bool) : Type 0 where
+  pub is : b ≡ outcome (word_less k) op x y
+  pub left : x < 2 ^ 32
+  pub right : y < 2 ^ 32
+
+pub compared_word : (p : Linking) (store : Store) (frames : List Mark) (op : Comparison) (k : Kind) (v w : Value) (x y : ℕ) (b : Bool) → IsPromoted k ⊎ (k ≡ Ptr) → Mapped p store.shape frames → compared store op k v w ≡ Fine b → Means p v x → Means p w y → ComparesAs k op x y b
+compared_word p store frames op k v w x y b (inl h) m e mv mw = by k h e
   where
-    numbers : (k : Kind) → IsPromoted k → (c : Checked Bool) → c ≡ Fine b → c ≡ then_ (converted k v) (λ a. then_ (converted k w) (λ d. Fine (compares op a d))) → b ≡ outcome (word_less k) op x y
+    numbers : (k : Kind) → IsPromoted k → (c : Checked Bool) → c ≡ Fine b → c ≡ then_ (converted k v) (λ a. then_ (converted k w) (λ d. Fine (compares op a d))) → ComparesAs k op x y b
     numbers k h c e f =
         let t = then_fine (converted k v) _ b (sym f ∙ e) in
         let r = then_fine (converted k w) _ b t.second in
         let a = converted_word p k v x t.a t.first mv in
         let d = converted_word p k w y r.a r.first mw in
-        sym (fine_is _ b r.second) ∙ ap (λ q. compares op q r.a) a.is ∙ ap (compares op (wrap k a.z)) d.is
-        ∙ compares_word op k a.z d.z h ∙ ap (λ q. outcome (word_less k) op q (word d.z)) (sym a.word_is) ∙ ap (outcome (word_less k) op x) (sym d.word_is)
+        record {
+          is =
+              sym (fine_is _ b r.second) ∙ ap (λ q. compares op q r.a) a.is ∙ ap (compares op (wrap k a.z)) d.is
+              ∙ compares_word op k a.z d.z h ∙ ap (λ q. outcome (word_less k) op q (word d.z)) (sym a.word_is) ∙ ap (outcome (word_less k) op x) (sym d.word_is);
+          left = (let z = a.word_is in let s = word_small a.z in omega arith);
+          right = (let z = d.word_is in let s = word_small d.z in omega arith);
+        }
 
-    by : (k : Kind) → IsPromoted k → compared store op k v w ≡ Fine b → b ≡ outcome (word_less k) op x y
+    by : (k : Kind) → IsPromoted k → compared store op k v w ≡ Fine b → ComparesAs k op x y b
     by k (inl s) e = numbers k (inl s) (compared store op k v w) e (ap (λ q. cond (same_kind q Ptr) (then_ (pointer_of store v) (λ a. then_ (pointer_of store w) (λ d. compare_places op a d))) (then_ (converted k v) (λ a. then_ (converted k w) (λ d. Fine (compares op a d))))) s)
     by k (inr s) e = numbers k (inr s) (compared store op k v w) e (ap (λ q. cond (same_kind q Ptr) (then_ (pointer_of store v) (λ a. then_ (pointer_of store w) (λ d. compare_places op a d))) (then_ (converted k v) (λ a. then_ (converted k w) (λ d. Fine (compares op a d))))) s)
 compared_word p store frames op k v w x y b (inr h) m e mv mw =
     let f : compared store op Ptr v w ≡ Fine b = subst (λ q. compared store op q v w ≡ Fine b) h e in
     let t = then_fine (pointer_of store v) _ b f in
     let r = then_fine (pointer_of store w) _ b t.second in
-    let s = places_word p store.shape frames op t.a r.a x y b m (in_use p store frames v t.a x m t.first mv) (in_use p store frames w r.a y m r.first mw) r.second in
-    ap number_as (s ∙ ap (λ q. outcome (word_less q) op x y) (sym h))
+    let a = in_use p store frames v t.a x m t.first mv in
+    let d = in_use p store frames w r.a y m r.first mw in
+    let s = places_word p store.shape frames op t.a r.a x y b m a d r.second in
+    record { is = s ∙ ap (λ q. outcome (word_less q) op x y) (sym h); left = use_small p store.shape x t.a a; right = use_small p store.shape y r.a d }
 
 -- where a slot lies
 slot_lands : (p : Linking) (by : Active) (slot w : ℕ) (x : ℕ → ℕ) → 0 < by.number → x 2 ≡ pointer_at by.depth → sum_of (x 2) (p.at (Slot slot)) ≡ w → Lands p (record { object = object_of by (Slot slot); offset = 0 }) w
 slot_lands p by slot w x some sp e = let b = base_frame (object_of by (Slot slot)) by.number by.depth refl some refl in omega arith
 
 -- what a routine leaves of the state
-routine_rel : (p : Linking) (u : Code) (g : Setting) → p.at Link ≡ 0 → (s : State) (c : Cpu) (m : Mem) (r : Rel p u g s c m) (pc back : ℕ) (x : ℕ → ℕ) (output input : List ℕ) (d : Done (runtime p g) m pc x back output input) (rest : List Line) (registers : ℕ → Value) (fuel : ℕ) (output' input' : List ℕ) → output ≡ output' → input ≡ input' → Stands p s.frame.function (frame_of g s.frame.function) back rest s.frame.spot.exit → RegsMean p registers (pointer_at s.frame.active.depth) d.y → Rel p u g (record s { frame = record (with_rest s.frame rest) { registers = registers }; fuel = fuel; output = output'; input = input' }) (record { pc = back; x = d.y }) d.k
+routine_rel : (p : Linking) (u : Code) (g : Setting) → p.at Link ≡ 0 → (s : State) (c : Cpu) (m : Mem) (r : Rel p u g s c m) (pc back : ℕ) (x : ℕ → ℕ) (output input : List ℕ) (d : Done (runtime p g) m pc x back output input) (rest : List Line) (registers : ℕ → Value) (fuel : ℕ) (output' input' : List ℕ) → output ≡ output' → input ≡ input' → Stands p r.f.blocks.items s.frame.function (frame_of g s.frame.function) back rest s.frame.spot.exit → RegsMean p registers (pointer_at s.frame.active.depth) d.y → Rel p u g (record s { frame = record (with_rest s.frame rest) { registers = registers }; fuel = fuel; output = output'; input = input' }) (record { pc = back; x = d.y }) d.k
 routine_rel p u g at0 s c m r pc back x output input d rest registers fuel output' input' eo ei code regs = record {
   fixed = d.fixed;
   regs = regs;
@@ -133,7 +145,7 @@ called p u g s c m r link imm some h =
     }
 
 -- a built-in call, whose routine has run
-served_after : (p : Linking) (u : Code) (g : Setting) → Premises p u g → (s : State) (c : Cpu) (m : Mem) (r : Rel p u g s c m) (rest : List Line) (target imm fuel : ℕ) (output input output' input' : List ℕ) (v : Value) → sum_of c.pc imm ≡ target → (h : Holds p.image c.pc (jumping 1 imm)) → Stands p s.frame.function (frame_of g s.frame.function) (c.pc + 4) rest s.frame.spot.exit → (d : Done (runtime p g) m target (with_reg c.x 1 (sum_of c.pc 4)) (with_reg c.x 1 (sum_of c.pc 4) 1) output input) → output ≡ output' → input ≡ input' → Means p v (d.y 10) → Advanced p u g (suc fuel) (p.longest + 1) c m (record s { frame = record (with_rest s.frame rest) { registers = with_register (kept_by (slice_get u.functions.items s.frame.function) s.frame.registers) 10 v }; fuel = fuel; output = output'; input = input' }) (Serves ∷ [])
+served_after : (p : Linking) (u : Code) (g : Setting) → Premises p u g → (s : State) (c : Cpu) (m : Mem) (r : Rel p u g s c m) (rest : List Line) (target imm fuel : ℕ) (output input output' input' : List ℕ) (v : Value) → sum_of c.pc imm ≡ target → (h : Holds p.image c.pc (jumping 1 imm)) → Stands p r.f.blocks.items s.frame.function (frame_of g s.frame.function) (c.pc + 4) rest s.frame.spot.exit → (d : Done (runtime p g) m target (with_reg c.x 1 (sum_of c.pc 4)) (with_reg c.x 1 (sum_of c.pc 4) 1) output input) → output ≡ output' → input ≡ input' → Means p v (d.y 10) → Advanced p u g (suc fuel) (p.longest + 1) c m (record s { frame = record (with_rest s.frame rest) { registers = with_register (kept_by (slice_get u.functions.items s.frame.function) s.frame.registers) 10 v }; fuel = fuel; output = output'; input = input' }) (Serves ∷ [])
 served_after p u g l s c m r rest target imm fuel output input output' input' v lands h code d eo ei mean =
     let a : ℕ = sum_of c.pc 4 in
     let x : ℕ → ℕ = with_reg c.x 1 a in
@@ -149,7 +161,7 @@ served_after p u g l s c m r rest target imm fuel output input output' input' v 
       touches = serves_touches p d.flips (heard d.ts) d.flips_few d.system;
       orderly = d.orderly;
       reach = join 1 d.n [] d.ts _ _ _ m m d.k go d.reach;
-      rel = routine_rel p u g l.at.first s c m r target (x 1) x output input d rest _ fuel output' input' eo ei (subst (λ z. Stands p s.frame.function (frame_of g s.frame.function) z rest s.frame.spot.exit) (sym next) code)
+      rel = routine_rel p u g l.at.first s c m r target (x 1) x output input d rest _ fuel output' input' eo ei (subst (λ z. Stands p r.f.blocks.items s.frame.function (frame_of g s.frame.function) z rest s.frame.spot.exit) (sym next) code)
           (only_result p (kept_by (slice_get u.functions.items s.frame.function) s.frame.registers) (pointer_at s.frame.active.depth) 10 v d.y (lost_by p u g l s.frame.function r.f s.frame.registers r.is) d.zero_reg (d.stack ∙ other_reg c.x 1 a 2 (omega arith) ∙ r.regs.stack) mean);
     }
 
@@ -163,7 +175,7 @@ byte_of z = loaded_wrap U8 z ∙ small (wrap U8 z) (wrap-of_kind U8 z).low (wrap
     small (pos n) low high = word_of n (omega (arith, ints))
     small (negsuc n) low high = absurd (omega (arith, ints))
 
-put_line : (p : Linking) (u : Code) (g : Setting) → Premises p u g → (s : State) (c : Cpu) (m : Mem) (r : Rel p u g s c m) (rest : List Line) (imm : ℕ) → sum_of c.pc imm ≡ p.puts → Holds p.image c.pc (jumping 1 imm) → Stands p s.frame.function (frame_of g s.frame.function) (c.pc + 4) rest s.frame.spot.exit → After p u g s.fuel (p.longest + 1) c m (does u g (PutChar 10 10) rest s)
+put_line : (p : Linking) (u : Code) (g : Setting) → Premises p u g → (s : State) (c : Cpu) (m : Mem) (r : Rel p u g s c m) (rest : List Line) (imm : ℕ) → sum_of c.pc imm ≡ p.puts → Holds p.image c.pc (jumping 1 imm) → Stands p r.f.blocks.items s.frame.function (frame_of g s.frame.function) (c.pc + 4) rest s.frame.spot.exit → After p u g s.fuel (p.longest + 1) c m (does u g (PutChar 10 10) rest s)
 put_line p u g l s c m r rest imm lands h code =
     takes_after p u g s.fuel (p.longest + 1) c m s.output _ r.output (λ less.
     checked_after p u g (suc less) (p.longest + 1) c m (number_of (s.frame.registers 10)) _ (λ z e.
@@ -195,7 +207,7 @@ first_byte : (m : Mem) (a n byte : ℕ) (more : List ℕ) → ((i : ℕ) → m i
 first_byte m a zero byte more h e = absurd cc
 first_byte m a (suc n) byte more h e = let f : m a ≡ byte = cc in let k = h a in omega arith
 
-get_line : (p : Linking) (u : Code) (g : Setting) → Premises p u g → (s : State) (c : Cpu) (m : Mem) (r : Rel p u g s c m) (rest : List Line) (imm : ℕ) → sum_of c.pc imm ≡ p.gets → Holds p.image c.pc (jumping 1 imm) → Stands p s.frame.function (frame_of g s.frame.function) (c.pc + 4) rest s.frame.spot.exit → After p u g s.fuel (p.longest + 1) c m (does u g (GetChar 10) rest s)
+get_line : (p : Linking) (u : Code) (g : Setting) → Premises p u g → (s : State) (c : Cpu) (m : Mem) (r : Rel p u g s c m) (rest : List Line) (imm : ℕ) → sum_of c.pc imm ≡ p.gets → Holds p.image c.pc (jumping 1 imm) → Stands p r.f.blocks.items s.frame.function (frame_of g s.frame.function) (c.pc + 4) rest s.frame.spot.exit → After p u g s.fuel (p.longest + 1) c m (does u g (GetChar 10) rest s)
 get_line p u g l s c m r rest imm lands h code =
     takes_after p u g s.fuel (p.longest + 1) c m s.output _ r.output (λ less.
     let x : ℕ → ℕ = with_reg c.x 1 (sum_of c.pc 4) in
@@ -209,7 +221,7 @@ get_line p u g l s c m r rest imm lands h code =
         let small = first_byte m _ _ byte input r.words.bytes e in
         served_after p u g l s c m r rest p.gets imm less _ _ s.output input (Number (pos byte)) lands h code d r.output (ap got e) (a ∙ ap got_answer e ∙ sym (word_of byte (omega arith)))
 
-cut_line : (p : Linking) (u : Code) (g : Setting) → Premises p u g → (s : State) (c : Cpu) (m : Mem) (r : Rel p u g s c m) (cause : Cause) (rest : List Line) (e imm : ℕ) → IsEntry e → sum_of c.pc imm ≡ p.checkpoint e → Holds p.image c.pc (jumping 3 imm) → Stands p s.frame.function (frame_of g s.frame.function) (c.pc + 4) rest s.frame.spot.exit → After p u g s.fuel 39 c m (does u g (Cut cause) rest s)
+cut_line : (p : Linking) (u : Code) (g : Setting) → Premises p u g → (s : State) (c : Cpu) (m : Mem) (r : Rel p u g s c m) (cause : Cause) (rest : List Line) (e imm : ℕ) → IsEntry e → sum_of c.pc imm ≡ p.checkpoint e → Holds p.image c.pc (jumping 3 imm) → Stands p r.f.blocks.items s.frame.function (frame_of g s.frame.function) (c.pc + 4) rest s.frame.spot.exit → After p u g s.fuel 39 c m (does u g (Cut cause) rest s)
 cut_line p u g l s c m r cause rest en imm entry lands h code =
     let a : ℕ = sum_of c.pc 4 in
     let x : ℕ → ℕ = with_reg c.x 3 a in
@@ -227,7 +239,7 @@ cut_line p u g l s c m r cause rest en imm entry lands h code =
       touches = subst (λ z. Touches p (Cuts ∷ []) z) (sym (d.system ∙ ap (λ z. replicate z Flipped) q.1)) (Cutting [] [] Nothing);
       orderly = d.orderly;
       reach = join 1 d.n [] d.ts _ _ _ m m d.k go d.reach;
-      rel = routine_rel p u g l.at.first s c m r (p.checkpoint en) (x 3) x (shown m) (left m) d rest s.frame.registers s.fuel s.output s.input r.output r.input (subst (λ z. Stands p s.frame.function (frame_of g s.frame.function) z rest s.frame.spot.exit) (sym next) code)
+      rel = routine_rel p u g l.at.first s c m r (p.checkpoint en) (x 3) x (shown m) (left m) d rest s.frame.registers s.fuel s.output s.input r.output r.input (subst (λ z. Stands p r.f.blocks.items s.frame.function (frame_of g s.frame.function) z rest s.frame.spot.exit) (sym next) code)
           (record {
             zero_reg = d.zero_reg;
             stack = d.stack ∙ other_reg c.x 3 a 2 (omega arith) ∙ r.regs.stack;
@@ -283,7 +295,7 @@ page : (hi : ℕ) → sum_of (hi * 4096 % 2 ^ 32) 0 ≡ hi * 4096 % 2 ^ 32
 page hi = omega arith
 
 -- every line
-pub line_after : (p : Linking) (u : Code) (g : Setting) → Premises p u g → (s : State) (c : Cpu) (m : Mem) (r : Rel p u g s c m) (line : Line) (rest : List Line) (next : ℕ) → Selected p c.pc line next → Stands p s.frame.function (frame_of g s.frame.function) next rest s.frame.spot.exit → After p u g s.fuel (line_weight (steps p) line) c m (does u g line rest s)
+pub line_after : (p : Linking) (u : Code) (g : Setting) → Premises p u g → (s : State) (c : Cpu) (m : Mem) (r : Rel p u g s c m) (line : Line) (rest : List Line) (next : ℕ) → Selected p c.pc line next → Stands p r.f.blocks.items s.frame.function (frame_of g s.frame.function) next rest s.frame.spot.exit → After p u g s.fuel (line_weight (steps p) line) c m (does u g line rest s)
 line_after p u g l s c m r line rest next (Numbers to z next' home h) code =
     computes_after p u g s c m r 2 to (word z) next' (Fine (Number z)) rest home.0 (gave_constant p m c.pc c.x to (word z) next' (let q = home.0 in omega arith) r.regs.zero_reg r.fixed h) code
     (λ v e. subst (λ q. Means p q (word z)) (fine_is (Number z) v e) refl)
@@ -335,7 +347,7 @@ line_after p u g l s c m r line rest next (Compares to op kind left right next' 
     computes_after p u g s c m r 2 to (number_as (outcome (word_less kind) op (c.x left) (c.x right))) next' (as_truth (compared s.store op kind (s.frame.registers left) (s.frame.registers right))) rest home.0
     (gave_compared p m c.pc c.x to kind left right op next' (let q = home.0 in omega arith) (let q = a.0 in omega arith) (let q = b.0 in omega arith) r.regs.zero_reg r.fixed h) code
     (λ v e. truths_mean p (compared s.store op kind (s.frame.registers left) (s.frame.registers right)) v _ e (λ t f.
-    sym (compared_word p s.store _ op kind (s.frame.registers left) (s.frame.registers right) (c.x left) (c.x right) t k r.mapped f (r.regs.homes left a.0) (r.regs.homes right b.0))))
+    ap number_as (sym (compared_word p s.store _ op kind (s.frame.registers left) (s.frame.registers right) (c.x left) (c.x right) t k r.mapped f (r.regs.homes left a.0) (r.regs.homes right b.0)).is)))
 line_after p u g l s c m r line rest next (Moves to size back pointer by register mid home a b small h t) code =
     checked_after p u g s.fuel 4 c m (moved s.store size back (s.frame.registers pointer) (s.frame.registers by)) _ (λ v e.
     let n = then_fine (number_of (s.frame.registers by)) _ v e in

@@ -32,7 +32,7 @@ numbers_mean p c v w h f =
     let t = then_fine c _ v h in
     subst (λ q. Means p q w) (fine_is (Number t.a) v t.second) (f t.a t.first)
 
-truth_word : (b : Bool) → number_as b ≡ word (cond b (pos 1) (pos 0))
+pub truth_word : (b : Bool) → number_as b ≡ word (cond b (pos 1) (pos 0))
 truth_word true = sym (word_of 1 (omega arith))
 truth_word false = sym (word_of 0 (omega arith))
 

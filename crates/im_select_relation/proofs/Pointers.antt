@@ -39,6 +39,10 @@ in_use p store frames (Pointer o i) a w m h k =
     subst (λ q. InUse p store.shape w q) f.1 (At o i q e (let d = n.0 in omega arith) (let d = n.1 in omega arith))
 in_use p store frames Unset a w m h k = absurd cc
 
+pub use_small : (p : Linking) (shape : Object → Option Shape) (w : ℕ) (a : Value) → InUse p shape w a → w < 2 ^ 32
+use_small p shape w a (Nowhere e) = omega arith
+use_small p shape w a (At o i q f t s) = omega arith
+
 same_word : (p : Linking) (shape : Object → Option Shape) (frames : List Mark) (a b : Value) (x y : ℕ) → Mapped p shape frames → InUse p shape x a → InUse p shape y b → same_place a b ≡ (x == y)
 same_word p shape frames a b x y m (Nowhere e) (Nowhere f) = zero_both x y e f
   where

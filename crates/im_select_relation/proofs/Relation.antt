@@ -48,7 +48,7 @@ pub record Back (p : Linking) (u : Code) (g : Setting) (ra : ℕ) (w : Frame) (h
   pub is : slice_get u.functions.items w.function ≡ Some h
   pub lost : w.registers ≡ (λ r. Unset)
   pub to : w.to ≡ 10
-  pub code : Stands p w.function (frame_of g w.function) ra w.spot.rest w.spot.exit
+  pub code : Stands p h.blocks.items w.function (frame_of g w.function) ra w.spot.rest w.spot.exit
   pub even : ra % 4 ≡ 0
   pub low : ra ≤ 1048576
   pub behind : IsBehindCall p.image ra
@@ -68,7 +68,7 @@ pub record Rel (p : Linking) (u : Code) (g : Setting) (s : State) (c : Cpu) (m :
   pub regs : RegsMean p s.frame.registers (pointer_at s.frame.active.depth) c.x
   pub f : Function
   pub is : slice_get u.functions.items s.frame.function ≡ Some f
-  pub code : Stands p s.frame.function (frame_of g s.frame.function) c.pc s.frame.spot.rest s.frame.spot.exit
+  pub code : Stands p f.blocks.items s.frame.function (frame_of g s.frame.function) c.pc s.frame.spot.rest s.frame.spot.exit
   pub memory : Memory p s.store.shape s.store.values m
   pub mapped : Mapped p s.store.shape (marks (s.frame ∷ s.callers))
   pub ordered : Ordered g.stack (marks (s.frame ∷ s.callers))
@@ -123,7 +123,7 @@ takes_after p u g zero words c m output go same h = (refl, same)
 takes_after p u g (suc less) words c m output go same h = h less
 
 -- to other lines of the function, with other registers
-pub moved_rel : (p : Linking) (u : Code) (g : Setting) (s : State) (c : Cpu) (m : Mem) (r : Rel p u g s c m) (pc : ℕ) (x : ℕ → ℕ) (spot : Spot) (registers : ℕ → Value) (fuel : ℕ) → Stands p s.frame.function (frame_of g s.frame.function) pc spot.rest spot.exit → RegsMean p registers (pointer_at s.frame.active.depth) x → Rel p u g (record s { frame = record s.frame { spot = spot; registers = registers }; fuel = fuel }) (record { pc = pc; x = x }) m
+pub moved_rel : (p : Linking) (u : Code) (g : Setting) (s : State) (c : Cpu) (m : Mem) (r : Rel p u g s c m) (pc : ℕ) (x : ℕ → ℕ) (spot : Spot) (registers : ℕ → Value) (fuel : ℕ) → Stands p r.f.blocks.items s.frame.function (frame_of g s.frame.function) pc spot.rest spot.exit → RegsMean p registers (pointer_at s.frame.active.depth) x → Rel p u g (record s { frame = record s.frame { spot = spot; registers = registers }; fuel = fuel }) (record { pc = pc; x = x }) m
 moved_rel p u g s c m r pc x spot registers fuel code regs = record {
   fixed = r.fixed;
   regs = regs;

@@ -28,8 +28,9 @@ use Rattle.im_select_relation.specs.Law.{steps}
 use Rattle.im_select_relation.proofs.Mapped.{marks, Mapped, Cell, under_activation}
 use Rattle.im_select_relation.proofs.Checks.{found_fine, read_place_fine, write_place_fine, read_slot_fine, write_slot_fine}
 use Rattle.im_select_relation.proofs.Shapes.{Premises}
-use Rattle.im_select_relation.proofs.Relation.{Rel, SlotsShaped, After, Ordered, AllLinked}
-use Rattle.im_select_relation.proofs.Steps.{static_lies, step_after, begin_after, over_is}
+use Rattle.im_select_relation.proofs.Relation.{SlotsShaped, Ordered, AllLinked}
+use Rattle.im_select_relation.proofs.Stood.{Stood, held, Brings}
+use Rattle.im_select_relation.proofs.Steps.{static_lies, stood_brings, begin_brings, over_is}
 use Rattle.im_select_relation.proofs.Separate.{LiveByte, live_apart, SeparateAfter, AllLive, touched_more, bytes_live, ForcedCallers, Inv, Sections, SepNext, Sound, sound_after, items_append, ServedBefore, CutBehind, CutFirst}
 
 -- what is known of a state
@@ -241,9 +242,9 @@ cut_behind s [] more c = absurd c
 cut_behind s (Cuts ∷ ev) more c = tt
 cut_behind s (e ∷ ev) more c = absurd c
 
-sep_next : (p : Linking) (u : Code) (g : Setting) (k fuel words : ℕ) (o : Outcome) (run : List Event) (c : Cpu) (m : Mem) (section : List (Item Byte)) (first : Type 0) → ((s : State) (d : Cpu) (h : Mem) (next : List (Item Byte)) (events : List Event) → Rel p u g s d h → Inv s next → CutAfterCalls s.frame.spot.rest → ForcedCallers s.callers → exec u g k s events ≡ Over o run → Separate p next (StartsWithCut s.frame.spot.rest) events run) → (next : Next) (events : List Event) → After p u g fuel words c m next → SepNext p section next → (first → CutFirst next) → goes_on next (exec u g k) events ≡ Over o run → Separate p section first events run
+sep_next : (p : Linking) (u : Code) (g : Setting) (k fuel words : ℕ) (o : Outcome) (run : List Event) (c : Cpu) (m : Mem) (section : List (Item Byte)) (first : Type 0) → ((s : State) (d : Cpu) (h : Mem) (next : List (Item Byte)) (events : List Event) → Stood p u g s d h → Inv s next → CutAfterCalls s.frame.spot.rest → ForcedCallers s.callers → exec u g k s events ≡ Over o run → Separate p next (StartsWithCut s.frame.spot.rest) events run) → (next : Next) (events : List Event) → Brings p u g fuel words c m next → SepNext p section next → (first → CutFirst next) → goes_on next (exec u g k) events ≡ Over o run → Separate p section first events run
 sep_next p u g k fuel words o run c m section first rec (Goes s more) events a q cut e =
-    let f = rec s a.d a.k q.next (events ++ more) a.rel q.inv q.forced q.callers e in
+    let f = rec s a.d a.k q.next (events ++ more) a.stood q.inv q.forced q.callers e in
     record {
       more = more ++ f.more;
       split = f.split ∙ append_assoc events more f.more;
@@ -253,11 +254,12 @@ sep_next p u g k fuel words o run c m section first rec (Goes s more) events a q
     }
 sep_next p u g k fuel words o run c m section first rec (Stops q more) events a h cut e = record { more = more; split = sym (over_is q o (events ++ more) run e).1; apart = h.0; served = h.1; behind = λ t. absurd (cut t) }
 
-sep_run : (p : Linking) (u : Code) (g : Setting) → Premises p u g → AllForced u → (k : ℕ) (o : Outcome) (run : List Event) (s : State) (c : Cpu) (m : Mem) (section : List (Item Byte)) (events : List Event) → Rel p u g s c m → Inv s section → CutAfterCalls s.frame.spot.rest → ForcedCallers s.callers → exec u g k s events ≡ Over o run → Separate p section (StartsWithCut s.frame.spot.rest) events run
+sep_run : (p : Linking) (u : Code) (g : Setting) → Premises p u g → AllForced u → (k : ℕ) (o : Outcome) (run : List Event) (s : State) (c : Cpu) (m : Mem) (section : List (Item Byte)) (events : List Event) → Stood p u g s c m → Inv s section → CutAfterCalls s.frame.spot.rest → ForcedCallers s.callers → exec u g k s events ≡ Over o run → Separate p section (StartsWithCut s.frame.spot.rest) events run
 sep_run p u g l forced zero o run s c m section events r inv cuts callers e = absurd cc
 sep_run p u g l forced (suc k) o run s c m section events r inv cuts callers e =
-    let a = step_after p u g l s c m r in
-    let h : Here p g s = record { mapped = r.mapped; ordered = r.ordered; linked = r.linked; fresh = r.fresh; slots = r.slots; callers = callers } in
+    let a = stood_brings p u g l s c m r in
+    let q = held p u g s c m r in
+    let h : Here p g s = record { mapped = q.mapped; ordered = q.ordered; linked = q.linked; fresh = q.fresh; slots = q.slots; callers = callers } in
     sep_next p u g k s.fuel (spot_weight (steps p) s.frame.spot) o run c m section (StartsWithCut s.frame.spot.rest) (λ s' d h' next more r' i f w e'. sep_run p u g l forced k o run s' d h' next more r' i f w e') (step u g s) events a
     (step_sep p u g forced s section h inv cuts (sound_after p u g s.fuel (spot_weight (steps p) s.frame.spot) c m (step u g s) a)) (cut_first u g s s.frame.spot.rest) e
 
@@ -268,7 +270,7 @@ pub record Parted (p : Linking) (run : List Event) : Type 0 where
 -- from the first activation on
 pub separate : (p : Linking) (u : Code) (g : Setting) → Premises p u g → AllForced u → (x : ℕ → ℕ) (n k : ℕ) (o : Outcome) (run : List Event) → x 0 ≡ 0 → x 2 ≡ 3145728 → goes_on (start u g n) (exec u g k) [] ≡ Over o run → Parted p run
 separate p u g l forced x n k o run x0 x2 e =
-    let a = begin_after p u g l x n x0 x2 in
+    let a = begin_brings p u g l x n x0 x2 in
     let c : Cpu = record { pc = p.begin; x = x } in
     let f = sep_next p u g k n 10 o run c p.image [] ⊥ (λ s d h next more r i q w e'. sep_run p u g l forced k o run s d h next more r i q w e') (start u g n) [] a
     (enters_sep p u g forced (before u g n) [] u.main 0 0 n (λ r. Unset) [] (λ depth objects y b. first_live depth objects y b) (λ x t. absurd t) tt (sound_after p u g n 10 c p.image (start u g n) a)) (λ t. absurd t) e in

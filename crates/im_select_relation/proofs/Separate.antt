@@ -13,7 +13,8 @@ use Rattle.im_block.specs.Forced.{StartsWithCut, CutAfterCalls}
 use Rattle.im_select_relation.specs.Linking.{Linking, address}
 use Rattle.im_select_relation.specs.Law.{Touches, Nothing, Reading, Writing, Testing, Saving, Restoring, Serving, Cutting, addresses, machine_items}
 use Rattle.im_select_relation.proofs.Mapped.{Mark, marks, Mapped}
-use Rattle.im_select_relation.proofs.Relation.{After, AllLinked}
+use Rattle.im_select_relation.proofs.Relation.{AllLinked}
+use Rattle.im_select_relation.proofs.Stood.{held, Brings}
 
 abbrev pub spot : Linking → Byte → ℕ
 spot p x = address p x.object + x.place
@@ -213,8 +214,8 @@ abbrev pub Sound : Linking → Next → Type 0
 Sound p (Goes s ev) = Mapped p s.store.shape (marks (s.frame ∷ s.callers)) × AllLinked s.store.shape (marks (s.frame ∷ s.callers))
 Sound p (Stops o ev) = Unit {0}
 
-pub sound_after : (p : Linking) (u : Code) (g : Setting) (fuel words : ℕ) (c : Cpu) (m : Mem) (next : Next) → After p u g fuel words c m next → Sound p next
-sound_after p u g fuel words c m (Goes s ev) a = let r = a.rel in (r.mapped, r.linked)
+pub sound_after : (p : Linking) (u : Code) (g : Setting) (fuel words : ℕ) (c : Cpu) (m : Mem) (next : Next) → Brings p u g fuel words c m next → Sound p next
+sound_after p u g fuel words c m (Goes s ev) a = let r = held p u g s a.d a.k a.stood in (r.mapped, r.linked)
 sound_after p u g fuel words c m (Stops (End reason status output shows) ev) a = tt
 sound_after p u g fuel words c m (Stops (More output) ev) a = tt
 sound_after p u g fuel words c m (Stops (Undef why) ev) a = tt

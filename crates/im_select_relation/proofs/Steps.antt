@@ -1,9 +1,10 @@
 -- Each step of placed code on the machine, and whole runs.
 use Rattle.std.proofs.Common.{◌≡◌, ◌≢◌, ℕ, zero, suc, ◌+◌, ◌-◌, ◌<◌, ◌≤◌, inl, inr, Bool, true, false, cond, List, [], ◌∷◌, ◌++◌, Some, None, ℤ, sym, ap, ◌∙◌, subst, refl, append_assoc, arith}
-use Rattle.std.specs.Prelude.{◌==◌, not, slice_get, replicate}
+use Rattle.std.specs.Prelude.{◌==◌, ◌||◌, not, slice_get, replicate, pos}
 use Rattle.std.proofs.lemmas.Bool.Decides.{nat_tests}
 use Rattle.std.proofs.lemmas.List.{append-nil}
 use Rattle.im_num.specs.Variables.{Variable}
+use Rattle.im_num.specs.Kinds.{word}
 use Rattle.im_mem.specs.Memory.{Mem, little}
 use Rattle.im_rv.specs.declared.effect.Effect.TheVariants.{Puts}
 use Rattle.im_rv.specs.Steps.{Cpu, Stepped, sum_of, with_reg}
@@ -16,32 +17,39 @@ use Rattle.im_rv_reach.specs.Orderly.{IsOrderly}
 use Rattle.im_rv_reach.specs.Plain.{IsPlain}
 use Rattle.im_rv_reach.specs.Reach.{plus, Reach}
 use Rattle.im_rv_reach.specs.Instructions.{jumping}
-use Rattle.im_rv_reach.proofs.Reach.{plus_is, no_back, leaps, begins_trans, before_or_after}
+use Rattle.im_rv_reach.proofs.Reach.{plus_is, nothing, no_back, leaps, begins_trans, before_or_after}
 use Rattle.im_rv_reach.proofs.Orderly.{joined}
 use Rattle.im_select_operators.specs.Tables.{cell_word}
+use Rattle.im_store.specs.Checks.{Fine}
 use Rattle.im_store.specs.Objects.{Name, Named, Slot, Link, Object, static, Value, Unset, Shape}
 use Rattle.im_store.specs.Outcomes.{Outcome, Undef, More, End, IsDefined}
 use Rattle.im_store.specs.Statics.{static_shapes, static_values, with_statics}
 use Rattle.im_block.specs.declared.code.Line.{Line}
+use Rattle.im_block.specs.declared.code.Line.TheVariants.{Compare}
+use Rattle.im_block.specs.declared.code.Block.{Block}
+use Rattle.im_block.specs.declared.unit.Function.{Function}
 use Rattle.im_block.specs.declared.code.Exit.{Exit}
 use Rattle.im_block.specs.declared.code.Exit.TheVariants.{Jump, Turn, Branch, Return}
 use Rattle.im_block.specs.declared.unit.Unit.{Unit as Code}
-use Rattle.im_block.specs.Meaning.{Setting, statics_of, condition, at_block, State, Next, Goes, Stops, Event, Serves, goes_to, leaves, step_at, step}
+use Rattle.im_block.specs.Meaning.{Setting, statics_of, condition, compared, as_truth, found, with_register, with_rest, does, at_block, State, Next, Goes, Stops, Event, Serves, goes_to, leaves, step_at, step}
 use Rattle.im_block.specs.Runs.{Over, goes_on, exec, before, start}
 use Rattle.im_block.specs.Shape.{spot_weight, next_weight, after, spent, exit_words}
 use Rattle.im_select_relation.specs.Linking.{Linking, pointer_at, frame_of, address, Means}
-use Rattle.im_select_relation.specs.Selected.{Tested, ExitAt, Stands}
+use Rattle.im_live.specs.Reads.{lives_in, reads_first}
+use Rattle.im_select_relation.specs.Selected.{nonzero, comparing, Tested, ExitAt, IsDead, Joined, Decides, Stands}
 use Rattle.im_select_relation.specs.Law.{Touches, Nothing, Reading, Writing, Testing, Saving, Restoring, Serving, Cutting, ShowsStatics, steps, Shows}
-use Rattle.im_select_relation.proofs.Registers.{RegsMean, means_at}
+use Rattle.im_select_relation.proofs.Registers.{RegsMean, means_at, two_ways, register_same, register_other}
 use Rattle.im_select_relation.proofs.Mapped.{Mapped, object_is, base_static}
-use Rattle.im_select_relation.proofs.Checks.{found_fine}
+use Rattle.im_select_relation.proofs.Checks.{fine_is, then_fine, found_fine}
 use Rattle.im_select_relation.proofs.Cells.{Memory}
 use Rattle.im_select_relation.proofs.Shapes.{Premises}
-use Rattle.im_select_relation.proofs.Relation.{Rel, SlotsShaped, Advanced, Finished, After, checked_after, takes_after, moved_rel}
-use Rattle.im_select_relation.proofs.Ends.{jumps, continues, tested_yes, tested_no}
-use Rattle.im_select_relation.proofs.Operators.{condition_word}
+use Rattle.im_select_relation.proofs.Relation.{Rel, SlotsShaped, Finished, After, checked_after, takes_after, moved_rel}
+use Rattle.im_select_relation.proofs.Ends.{jumps, continues, Passed, Decided, nonzero_decided, comparing_decided, tested}
+use Rattle.im_select_relation.proofs.Operators.{truth_word, condition_word}
 use Rattle.im_select_relation.proofs.Calls.{first_after, enter_after, back_after, clears, gives}
-use Rattle.im_select_relation.proofs.Lines.{line_after}
+use Rattle.im_select_relation.proofs.Lines.{compared_word, line_after}
+use Rattle.im_select_relation.proofs.Alike.{shaded, AlikeAt, same_function, alike_in, operand, left_is, right_is, other_is, behind_lives, line_both, exit_both}
+use Rattle.im_select_relation.proofs.Stood.{truth_value, decided, Waiting, Stood, Shaded, Waits, Brought, Brings, both_brings, same_brings, checked_brings}
 use Rattle.im_select_relation.proofs.Fuel.{Paid, step_paid}
 
 same_regs : (p : Linking) (registers : ℕ → Value) (sp : ℕ) (x y : ℕ → ℕ) → RegsMean p registers sp x → ((i : ℕ) → y i ≡ x i) → RegsMean p registers sp y
@@ -68,19 +76,15 @@ to_block p u g l s c m r words n b more fuel y worth few reach kept =
       touches = Nothing;
       orderly = refl;
       reach = reach;
-      rel = moved_rel p u g s c m r (p.place s.frame.function b) y (at_block b block) s.frame.registers fuel ((l.at.functions s.frame.function f is).blocks b block found) (same_regs p s.frame.registers (pointer_at s.frame.active.depth) c.x y r.regs kept);
+      rel = moved_rel p u g s c m r (p.place s.frame.function b) y (at_block b block) s.frame.registers fuel (subst (λ (z : Function). Stands p z.blocks.items s.frame.function (frame_of g s.frame.function) (p.place s.frame.function b) block.lines.items block.exit) (same_function s.frame.function u f r.f is r.is) ((l.at.functions s.frame.function f is).blocks b block found)) (same_regs p s.frame.registers (pointer_at s.frame.active.depth) c.x y r.regs kept);
     }))
 
-branch_after : (p : Linking) (u : Code) (g : Setting) → Premises p u g → (s : State) (c : Cpu) (m : Mem) (r : Rel p u g s c m) (on a b : ℕ) (t : Bool) → t ≡ not (c.x on == 0) → Tested p c.pc on (p.place s.frame.function a) (p.place s.frame.function b) → After p u g s.fuel 3 c m (goes_to u g (cond t a b) s.fuel s)
-branch_after p u g l s c m r on a b false e t = let q = tested_no p m c.pc c.x on _ _ r.fixed r.regs.zero_reg (is_zero (c.x on) e) t in to_block p u g l s c m r 3 q.n b s.fuel s.fuel q.y (omega arith) (let z = q.few in omega arith) q.reach q.kept
+branch_after : (p : Linking) (u : Code) (g : Setting) → Premises p u g → (s : State) (c : Cpu) (m : Mem) (r : Rel p u g s c m) (on a b : ℕ) (t : Bool) → t ≡ not (c.x on == 0) → Tested p c.pc (nonzero on) (p.place s.frame.function a) (p.place s.frame.function b) → After p u g s.fuel 3 c m (goes_to u g (cond t a b) s.fuel s)
+branch_after p u g l s c m r on a b t e way = by t (tested p m c.pc c.x (nonzero on) _ _ t r.fixed (subst (λ z. Decided (nonzero on) c.x z) (sym e) (nonzero_decided c.x on r.regs.zero_reg)) way)
   where
-    is_zero : (w : ℕ) → false ≡ not (w == 0) → w ≡ 0
-    is_zero zero h = refl
-    is_zero (suc w) h = absurd (let t : (suc w == 0) ≡ false = grind (arith, nat_tests) in let d = ap not t in cc (h, d))
-branch_after p u g l s c m r on a b true e t = let q = tested_yes p m c.pc c.x on _ _ r.fixed r.regs.zero_reg (not_zero (c.x on) e) t in to_block p u g l s c m r 3 q.n a s.fuel s.fuel q.y (omega arith) (let z = q.few in omega arith) q.reach q.kept
-  where
-    not_zero : (w : ℕ) → true ≡ not (w == 0) → w ≢ 0
-    not_zero w h f = let t : (w == 0) ≡ true = grind (arith, nat_tests) in let d = ap not t in absurd (cc (h, d))
+    by : (t : Bool) → Passed m c.pc c.x (cond t (p.place s.frame.function a) (p.place s.frame.function b)) → After p u g s.fuel 3 c m (goes_to u g (cond t a b) s.fuel s)
+    by true q = to_block p u g l s c m r 3 q.n a s.fuel s.fuel q.y (omega arith) (let z = q.few in omega arith) q.reach q.kept
+    by false q = to_block p u g l s c m r 3 q.n b s.fuel s.fuel q.y (omega arith) (let z = q.few in omega arith) q.reach q.kept
 
 exit_after : (p : Linking) (u : Code) (g : Setting) → Premises p u g → (s : State) (c : Cpu) (m : Mem) (r : Rel p u g s c m) (exit : Exit) → ExitAt p s.frame.function (frame_of g s.frame.function) c.pc exit → After p u g s.fuel (exit_words exit) c m (leaves u g exit s)
 exit_after p u g l s c m r (Jump b) h = let j = continues p m c.pc c.x _ r.fixed h in to_block p u g l s c m r 1 j.n b s.fuel s.fuel j.y (omega arith) j.few j.reach j.kept
@@ -91,12 +95,108 @@ exit_after p u g l s c m r (Branch on a b) h =
 exit_after p u g l s c m r (Return None) h = back_after p u g l s c m r s.callers Unset (clears p m c.pc c.x (frame_of g s.frame.function) h.0 h.1) r.mapped r.ordered r.linked r.chain
 exit_after p u g l s c m r (Return (Some k)) h = back_after p u g l s c m r s.callers (s.frame.registers k) (gives p m c.pc c.x (frame_of g s.frame.function) (s.frame.registers k) (subst (λ z. Means p (s.frame.registers z) (c.x 10)) (sym h.0) (r.regs.homes 10 (omega arith))) h.1) r.mapped r.ordered r.linked r.chain
 
-step_by : (p : Linking) (u : Code) (g : Setting) → Premises p u g → (s : State) (c : Cpu) (m : Mem) (r : Rel p u g s c m) (lines : List Line) → Stands p s.frame.function (frame_of g s.frame.function) c.pc lines s.frame.spot.exit → After p u g s.fuel (next_weight (steps p) lines s.frame.spot.exit) c m (step_at u g lines s)
-step_by p u g l s c m r [] code = exit_after p u g l s c m r s.frame.spot.exit code
-step_by p u g l s c m r (line ∷ rest) code = line_after p u g l s c m r line rest code.0 code.1 code.2
+-- ---- a comparison and the branch by its register, as one
 
-pub step_after : (p : Linking) (u : Code) (g : Setting) → Premises p u g → (s : State) (c : Cpu) (m : Mem) → Rel p u g s c m → After p u g s.fuel (spot_weight (steps p) s.frame.spot) c m (step u g s)
-step_after p u g l s c m r = step_by p u g l s c m r s.frame.spot.rest r.code
+either_lives : (x y z a : Bool) → cond a y z ≡ true → (x || (y || z)) ≡ true
+either_lives true y z a e = refl
+either_lives false true z a e = refl
+either_lives false false true a e = refl
+either_lives false false false true e = e
+either_lives false false false false e = e
+
+one_way : (live : ℕ → ℕ → Bool) (t : Bool) (a b r : ℕ) → live (cond t a b) r ≡ true → cond t (live a r) (live b r) ≡ true
+one_way live true a b r e = e
+one_way live false a b r e = e
+
+one_dead : (blocks : List Block) (t : Bool) (a b to : ℕ) → IsDead blocks a to → IsDead blocks b to → IsDead blocks (cond t a b) to
+one_dead blocks true a b to d e = d
+one_dead blocks false a b to d e = e
+
+-- the comparison: no instruction yet
+joined_brings : (p : Linking) (u : Code) (g : Setting) (s : State) (c : Cpu) (m : Mem) (registers : ℕ → Value) (r : Rel p u g (shaded s registers) c m) (line : Line) (rest : List Line) (exit : Exit) (words : ℕ) → s.frame.spot.exit ≡ exit → AlikeAt r.f.blocks.items (line ∷ rest) exit s.frame.registers registers → Joined p r.f.blocks.items s.frame.function c.pc line rest exit → Brings p u g s.fuel words c m (does u g line rest s)
+joined_brings p u g s c m registers r line rest exit words is alike (Decides to op kind left right a b hl hr k da db way) =
+    checked_brings p u g s.fuel words c m (as_truth (compared s.store op kind (s.frame.registers left) (s.frame.registers right))) _ (λ v e.
+    let blocks : List Block = r.f.blocks.items in
+    let line' : Line = Compare to op kind left right in
+    let t = then_fine (compared s.store op kind (s.frame.registers left) (s.frame.registers right)) _ v e in
+    let el : registers left ≡ s.frame.registers left = operand blocks line' [] (Branch to a b) s.frame.registers registers left alike (left_is left right) in
+    let er : registers right ≡ s.frame.registers right = operand blocks line' [] (Branch to a b) s.frame.registers registers right alike (right_is left right) in
+    let w = compared_word p s.store _ op kind (registers left) (registers right) (c.x left) (c.x right) t.a k r.mapped (ap (λ z. compared s.store op kind z (registers right)) el ∙ ap (compared s.store op kind (s.frame.registers left)) er ∙ t.first) (r.regs.homes left hl.0) (r.regs.homes right hr.0) in
+    record {
+      n = zero;
+      worth = omega arith;
+      few = omega arith;
+      d = c;
+      k = m;
+      ts = [];
+      touches = Nothing;
+      orderly = refl;
+      reach = nothing c m;
+      stood = subst (λ z. Stood p u g (record s { frame = record (with_rest s.frame []) { registers = with_register s.frame.registers to z } }) c m) (fine_is (truth_value t.a) v t.second)
+          (Waits s c m (record {
+            registers = registers;
+            rel = r;
+            to = to;
+            a = a;
+            b = b;
+            holds = t.a;
+            test = comparing kind left right op;
+            exit = is;
+            decides = subst (λ z. Decided (comparing kind left right op) c.x z) (sym w.is) (comparing_decided c.x kind left right op w.left w.right);
+            tested = way;
+            alike = λ q n h. elim (two_ways q to) [
+              | inl same ↦ absurd (let dead = one_dead blocks t.a a b to da db (suc n) in let lives : reads_first blocks (suc n) (cond t.a a b) to ≡ true = ap (λ z. reads_first blocks (suc n) (cond t.a a b) z) (sym same) ∙ h in let bad : true ≡ false = sym lives ∙ dead in cc)
+              | inr ne ↦ alike q (suc n) (behind_lives (reads_first blocks (suc n)) line' [] (Branch to a b) q (other_is q to ne) (either_lives (q == to) _ _ t.a (one_way (reads_first blocks (suc n)) t.a a b q h))) ∙ sym (register_other s.frame.registers to (truth_value t.a) q ne)
+            ];
+          }));
+    })
+
+-- the branch
+waited_brings : (p : Linking) (u : Code) (g : Setting) → Premises p u g → (s : State) (c : Cpu) (m : Mem) (w : Waiting p u g s c m) → Brings p u g s.fuel 3 c m (leaves u g (Branch w.to w.a w.b) (decided s w.to w.holds))
+waited_brings p u g l s c m w =
+    let r = w.rel in
+    let b : ℕ = cond w.holds w.a w.b in
+    let q = passed_to w.holds (tested p m c.pc c.x w.test _ _ w.holds r.fixed w.decides w.tested) in
+    let known : condition s.store (with_register s.frame.registers w.to (truth_value w.holds) w.to) ≡ Fine w.holds = ap (condition s.store) (register_same s.frame.registers w.to (truth_value w.holds)) ∙ ap Fine (truth_holds w.holds) in
+    checked_brings p u g s.fuel 3 c m (condition s.store (with_register s.frame.registers w.to (truth_value w.holds) w.to)) _ (λ t e.
+    subst (λ z. Brings p u g s.fuel 3 c m (goes_to u g (cond z w.a w.b) s.fuel (decided s w.to w.holds))) (fine_is w.holds t (sym known ∙ e))
+    (checked_brings {A = Function} p u g s.fuel 3 c m (found (slice_get u.functions.items s.frame.function)) _ (λ f is0.
+    checked_brings {A = Block} p u g s.fuel 3 c m (found (slice_get f.blocks.items b)) _ (λ block found0.
+    let same : f ≡ r.f = same_function s.frame.function u f r.f (found_fine _ f is0) r.is in
+    let next : State = record (decided s w.to w.holds) { frame = record (decided s w.to w.holds).frame { spot = at_block b block }; fuel = s.fuel } in
+    let there : slice_get r.f.blocks.items b ≡ Some block = ap (λ (z : Function). slice_get z.blocks.items b) (sym same) ∙ found_fine _ block found0 in
+    record {
+      n = q.n;
+      worth = omega arith;
+      few = (let z = q.few in omega arith);
+      d = record { pc = p.place s.frame.function b; x = q.y };
+      k = m;
+      ts = [];
+      touches = Nothing;
+      orderly = refl;
+      reach = q.reach;
+      stood = Shaded next _ m w.registers (alike_in u next w.registers r.f r.is (λ x n h. w.alike x n (ap (λ z. lives_in (reads_first r.f.blocks.items n) z x) there ∙ h)))
+          (moved_rel p u g (shaded s w.registers) c m r (p.place s.frame.function b) q.y (at_block b block) w.registers s.fuel ((l.at.functions s.frame.function r.f r.is).blocks b block there) (same_regs p w.registers (pointer_at s.frame.active.depth) c.x q.y r.regs q.kept));
+    }))))
+  where
+    passed_to : (t : Bool) → Passed m c.pc c.x (cond t (p.place s.frame.function w.a) (p.place s.frame.function w.b)) → Passed m c.pc c.x (p.place s.frame.function (cond t w.a w.b))
+    passed_to true q = q
+    passed_to false q = q
+
+    truth_holds : (t : Bool) → not (word (cond t (pos 1) (pos 0)) == 0) ≡ t
+    truth_holds true = ap (λ z. not (z == 0)) (sym (truth_word true))
+    truth_holds false = ap (λ z. not (z == 0)) (sym (truth_word false))
+
+-- ---- a step
+
+shaded_brings : (p : Linking) (u : Code) (g : Setting) → Premises p u g → (s : State) (c : Cpu) (m : Mem) (registers : ℕ → Value) (r : Rel p u g (shaded s registers) c m) (lines : List Line) → AlikeAt r.f.blocks.items lines s.frame.spot.exit s.frame.registers registers → Stands p r.f.blocks.items s.frame.function (frame_of g s.frame.function) c.pc lines s.frame.spot.exit → Brings p u g s.fuel (next_weight (steps p) lines s.frame.spot.exit) c m (step_at u g lines s)
+shaded_brings p u g l s c m registers r [] alike code = both_brings p u g s.fuel _ c m _ _ (exit_both u g s registers r.f r.is p l s.frame.spot.exit alike) (exit_after p u g l (shaded s registers) c m r s.frame.spot.exit code)
+shaded_brings p u g l s c m registers r (line ∷ rest) alike (inl code) = both_brings p u g s.fuel _ c m _ _ (line_both u g s registers r.f r.is p l line rest alike) (line_after p u g l (shaded s registers) c m r line rest code.0 code.1 code.2)
+shaded_brings p u g l s c m registers r (line ∷ rest) alike (inr code) = joined_brings p u g s c m registers r line rest s.frame.spot.exit _ refl alike code
+
+pub stood_brings : (p : Linking) (u : Code) (g : Setting) → Premises p u g → (s : State) (c : Cpu) (m : Mem) → Stood p u g s c m → Brings p u g s.fuel (spot_weight (steps p) s.frame.spot) c m (step u g s)
+stood_brings p u g l s c m (Shaded s' c' m' registers alike r) = shaded_brings p u g l s' c m registers r s'.frame.spot.rest (alike r.f r.is) r.code
+stood_brings p u g l s c m (Waits s' c' m' w) = subst (λ z. Brings p u g s'.fuel (exit_words z) c m (leaves u g z (decided s' w.to w.holds))) (sym w.exit) (waited_brings p u g l s' c m w)
 
 pub touches_append : (p : Linking) (a b : List Event) (ts us : List Touch) → Touches p a ts → Touches p b us → Touches p (a ++ b) (ts ++ us)
 touches_append p a b ts us Nothing h = h
@@ -180,7 +280,7 @@ shows_more p u (More output) n n' j j' r r' e le h = (ap (λ (s : Stepped). s.we
 shows_more p u (Undef why) n n' j j' r r' e le h = absurd h
 
 -- a step, and what follows it
-before_it : (p : Linking) (u : Code) (g : Setting) (s : State) (c : Cpu) (m : Mem) (fuel words : ℕ) (o : Outcome) (events more run : List Event) (most : ℕ) (a : Advanced p u g fuel words c m s more) → Followed p u a.d a.k s.fuel o (events ++ more) run most → Followed p u c m fuel o events run (words + most)
+before_it : (p : Linking) (u : Code) (g : Setting) (s : State) (c : Cpu) (m : Mem) (fuel words : ℕ) (o : Outcome) (events more run : List Event) (most : ℕ) (a : Brought p u g fuel words c m s more) → Followed p u a.d a.k s.fuel o (events ++ more) run most → Followed p u c m fuel o events run (words + most)
 before_it p u g s c m fuel words o events more run most a f = record {
   j = plus a.n f.j;
   shows = shows_more p u o s.fuel fuel f.j (plus a.n f.j) (runs f.j a.d a.k) _ (a.reach.ran f.j) (λ k. let q = plus_is a.n f.j in let z = a.worth in omega arith) f.shows;
@@ -215,15 +315,15 @@ followed_at p u c m fuel o q events a b most e f =
     let k = over_is o q a b e in
     subst (λ z. Followed p u c m fuel q events z most) k.1 (subst (λ z. Followed p u c m fuel z events a most) k.0 f)
 
-pub follow_next : (p : Linking) (u : Code) (g : Setting) (k : ℕ) (o : Outcome) (run : List Event) → ((s : State) (c : Cpu) (m : Mem) (events : List Event) → Rel p u g s c m → exec u g k s events ≡ Over o run → Followed p u c m s.fuel o events run (spent u g (steps p) k s)) → (next : Next) (c : Cpu) (m : Mem) (fuel words : ℕ) (events : List Event) → IsDefined o → Paid fuel next → After p u g fuel words c m next → goes_on next (exec u g k) events ≡ Over o run → Followed p u c m fuel o events run (words + after next (spent u g (steps p) k))
-follow_next p u g k o run rec (Goes s more) c m fuel words events right paid a e = before_it p u g s c m fuel words o events more run (spent u g (steps p) k s) a (rec s a.d a.k (events ++ more) a.rel e)
+pub follow_next : (p : Linking) (u : Code) (g : Setting) (k : ℕ) (o : Outcome) (run : List Event) → ((s : State) (c : Cpu) (m : Mem) (events : List Event) → Stood p u g s c m → exec u g k s events ≡ Over o run → Followed p u c m s.fuel o events run (spent u g (steps p) k s)) → (next : Next) (c : Cpu) (m : Mem) (fuel words : ℕ) (events : List Event) → IsDefined o → Paid fuel next → Brings p u g fuel words c m next → goes_on next (exec u g k) events ≡ Over o run → Followed p u c m fuel o events run (words + after next (spent u g (steps p) k))
+follow_next p u g k o run rec (Goes s more) c m fuel words events right paid a e = before_it p u g s c m fuel words o events more run (spent u g (steps p) k s) a (rec s a.d a.k (events ++ more) a.stood e)
 follow_next p u g k o run rec (Stops (End reason status output shows) more) c m fuel words events right paid a e = followed_at p u c m fuel (End reason status output shows) o events (events ++ more) run (words + 0) e (ended p u c m fuel reason status words 0 output shows events more a)
 follow_next p u g k o run rec (Stops (More output) more) c m fuel words events right paid a e = followed_at p u c m fuel (More output) o events (events ++ more) run (words + 0) e (starved p u c m fuel words 0 output events more a paid)
 follow_next p u g k o run rec (Stops (Undef why) more) c m fuel words events right paid a e = absurd (subst IsDefined (sym (over_is (Undef why) o (events ++ more) run e).0) right)
 
-pub follow : (p : Linking) (u : Code) (g : Setting) → Premises p u g → (k : ℕ) (s : State) (c : Cpu) (m : Mem) (o : Outcome) (events run : List Event) → IsDefined o → Rel p u g s c m → exec u g k s events ≡ Over o run → Followed p u c m s.fuel o events run (spent u g (steps p) k s)
+pub follow : (p : Linking) (u : Code) (g : Setting) → Premises p u g → (k : ℕ) (s : State) (c : Cpu) (m : Mem) (o : Outcome) (events run : List Event) → IsDefined o → Stood p u g s c m → exec u g k s events ≡ Over o run → Followed p u c m s.fuel o events run (spent u g (steps p) k s)
 follow p u g l zero s c m o events run right r e = absurd cc
-follow p u g l (suc k) s c m o events run right r e = follow_next p u g k o run (λ s' d h more r' e'. follow p u g l k s' d h o more run right r' e') (step u g s) c m s.fuel (spot_weight (steps p) s.frame.spot) events right (step_paid u g s) (step_after p u g l s c m r) e
+follow p u g l (suc k) s c m o events run right r e = follow_next p u g k o run (λ s' d h more r' e'. follow p u g l k s' d h o more run right r' e') (step u g s) c m s.fuel (spot_weight (steps p) s.frame.spot) events right (step_paid u g s) (stood_brings p u g l s c m r) e
 
 -- the machine before its first line
 
@@ -296,7 +396,7 @@ slots_first u o n sh e h = let k = static_lies u o sh h in absurd (none (ap (sta
     none : None ≡ Some sh → ⊥
     none k = cc
 
-pub begin_after : (p : Linking) (u : Code) (g : Setting) → Premises p u g → (x : ℕ → ℕ) (n : ℕ) → x 0 ≡ 0 → x 2 ≡ 3145728 → After p u g n 10 (record { pc = p.begin; x = x }) p.image (start u g n)
+begin_after : (p : Linking) (u : Code) (g : Setting) → Premises p u g → (x : ℕ → ℕ) (n : ℕ) → x 0 ≡ 0 → x 2 ≡ 3145728 → After p u g n 10 (record { pc = p.begin; x = x }) p.image (start u g n)
 begin_after p u g l x n x0 x2 = first_after p u g n n 9 (record { pc = p.begin; x = x }) (record { pc = p.entry u.main; x = with_reg x 1 (sum_of p.begin 4) }) p.image _ (omega arith)
     (leaps p.image p.image p.begin x (jumping 1 l.at.call) (sum_of p.begin 4) (p.entry u.main) (λ a above less. refl) l.at.begins (ap (Puts (sum_of p.begin 4)) l.at.lands) (no_back p.begin (jumping 1 l.at.call) p.image (p.entry u.main) refl))
     (let h = l.at.begins in
@@ -317,3 +417,6 @@ begin_after p u g l x n x0 x2 = first_after p u g n n 9 (record { pc = p.begin; 
       live = λ o e. refl;
       slots = slots_first u;
     }))
+
+pub begin_brings : (p : Linking) (u : Code) (g : Setting) → Premises p u g → (x : ℕ → ℕ) (n : ℕ) → x 0 ≡ 0 → x 2 ≡ 3145728 → Brings p u g n 10 (record { pc = p.begin; x = x }) p.image (start u g n)
+begin_brings p u g l x n x0 x2 = same_brings p u g n 10 (record { pc = p.begin; x = x }) p.image (start u g n) (begin_after p u g l x n x0 x2)

@@ -21,7 +21,7 @@ use Rattle.im_select_relation.specs.Law.{Touches, steps, Shows, Follows, SelectK
 use Rattle.im_select_relation.proofs.Shapes.{Premises, function_cells, static_cells}
 use Rattle.im_select_relation.proofs.Separate.{no_war_spotted, no_war_touched}
 use Rattle.im_select_relation.proofs.Sections.{separate}
-use Rattle.im_select_relation.proofs.Steps.{Followed, follow, follow_next, begin_after}
+use Rattle.im_select_relation.proofs.Steps.{Followed, follow, follow_next, begin_brings}
 use Rattle.im_select_relation.proofs.Fuel.{start_paid}
 
 split_at : (i j : ℕ) → i ≤ j → plus i (j - i) ≡ j
@@ -62,7 +62,7 @@ follows_at : (p : Linking) (u : Code) (g : Setting) (x : ℕ → ℕ) (n : ℕ) 
 follows_at p u g x n o run l x0 x2 right r =
     let c : Cpu = record { pc = p.begin; x = x } in
     let f : Followed p u c p.image n o [] run (10 + after (start u g n) (spent u g (steps p) r.steps)) =
-    follow_next p u g r.steps o run (λ s d h events rel e. follow p u g l r.steps s d h o events run right rel e) (start u g n) c p.image n 10 [] right (start_paid u g n) (begin_after p u g l x n x0 x2) r.over in
+    follow_next p u g r.steps o run (λ s d h events rel e. follow p u g l r.steps s d h o events run right rel e) (start u g n) c p.image n 10 [] right (start_paid u g n) (begin_brings p u g l x n x0 x2) r.over in
     let t : Touches p run (heard (touched f.j c p.image)) = subst (λ z. Touches p z (heard (touched f.j c p.image))) (sym f.split) f.touches in
     record {
       j = f.j;

@@ -26,7 +26,7 @@ pub record FunctionAt (p : Linking) (g : Setting) (i : ℕ) (f : Function) : Typ
   pub registers : f.registers ≡ Machine
   pub received : f.first_parameter ≡ 10
   pub prologue : Prologue p (p.entry i) (frame_of g i) (p.place i f.entry)
-  pub blocks : (b : ℕ) (block : Block) → slice_get f.blocks.items b ≡ Some block → Stands p i (frame_of g i) (p.place i b) block.lines.items block.exit
+  pub blocks : (b : ℕ) (block : Block) → slice_get f.blocks.items b ≡ Some block → Stands p f.blocks.items i (frame_of g i) (p.place i b) block.lines.items block.exit
 
 pub record IsLinked (p : Linking) (u : Code) (g : Setting) : Type 0 where
   pub functions : (i : ℕ) (f : Function) → slice_get u.functions.items i ≡ Some f → FunctionAt p g i f

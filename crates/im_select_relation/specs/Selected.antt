@@ -6,7 +6,7 @@ use Rattle.im_num.specs.declared.values.Cause.{Cause}
 use Rattle.im_num.specs.Kinds.{kind_size, word}
 use Rattle.im_mem.specs.Map.{stack_lim_at}
 use Rattle.im_rv.specs.declared.instr.Op.{Op}
-use Rattle.im_rv.specs.declared.instr.Op.TheVariants.{Jalr, Beq, Bne, Bltu, Bgeu, Lw, Sw, Addi, Sltiu, Xori, Andi, Slli, Srli, Srai, Add as AddOp, Sub, Sltu, Mul, Div}
+use Rattle.im_rv.specs.declared.instr.Op.TheVariants.{Jalr, Beq, Bne, Blt, Bge, Bltu, Bgeu, Lw, Sw, Addi, Sltiu, Xori, Andi, Slli, Srli, Srai, Add as AddOp, Sub, Sltu, Mul, Div}
 use Rattle.im_rv.specs.Steps.{sum_of}
 use Rattle.im_rv_reach.specs.Instructions.{Holds, Splits, with_immediate, on_registers, storing, branching, upper, jumping}
 use Rattle.im_store.specs.declared.operators.BinaryOp.{BinaryOp}
@@ -21,6 +21,8 @@ use Rattle.im_block.specs.declared.code.Line.{Line}
 use Rattle.im_block.specs.declared.code.Line.TheVariants.{Put, PutNull, Copy, Convert, Unary, Not, Compute, Compare, Move, Distance, Address, Read, Write, Reload, Spill, Cut, Call, GetChar, PutChar}
 use Rattle.im_block.specs.declared.code.Exit.{Exit}
 use Rattle.im_block.specs.declared.code.Exit.TheVariants.{Jump, Turn, Branch, Return}
+use Rattle.im_block.specs.declared.code.Block.{Block}
+use Rattle.im_live.specs.Reads.{reads_first}
 use Rattle.im_select_relation.specs.Linking.{Linking}
 
 -- registers that placed code may use; x1 to x6 belong to calls, the stack, the runtime and the lines themselves
@@ -121,12 +123,38 @@ pub data Continues (p : Linking) (pc target : ℕ) : Type 0 where
   Falls : pc ≡ target → Continues p pc target
   Leaps : Jumps p pc target → Continues p pc target
 
--- a test of a register: a branch to one of the two, near or over a jump, and on to the other
-pub data Tested (p : Linking) (pc on there other : ℕ) : Type 0 where
-  Reached : (imm : ℕ) → sum_of pc imm ≡ there → Holds p.image pc (branching Bne on 0 imm) → Continues p (pc + 4) other → Tested p pc on there other
-  Missed : (imm : ℕ) → sum_of pc imm ≡ other → Holds p.image pc (branching Beq on 0 imm) → Continues p (pc + 4) there → Tested p pc on there other
-  Hopped : Holds p.image pc (branching Beq on 0 8) → Jumps p (pc + 4) there → Continues p (pc + 8) other → Tested p pc on there other
-  Skipped : Holds p.image pc (branching Bne on 0 8) → Jumps p (pc + 4) other → Continues p (pc + 8) there → Tested p pc on there other
+-- a test of two registers: the branch that is taken where it holds, and the one that is taken where it doesn't
+pub record Test : Type 0 where
+  pub holds : Op
+  pub fails : Op
+  pub left : ℕ
+  pub right : ℕ
+
+-- whether a register is other than 0
+abbrev pub nonzero : ℕ → Test
+nonzero on = record { holds = Bne; fails = Beq; left = on; right = 0 }
+
+abbrev pub below : Kind → ℕ → ℕ → Test
+below kind left right = record { holds = by_sign kind Blt Bltu; fails = by_sign kind Bge Bgeu; left = left; right = right }
+
+abbrev pub not_below : Kind → ℕ → ℕ → Test
+not_below kind left right = record { holds = by_sign kind Bge Bgeu; fails = by_sign kind Blt Bltu; left = left; right = right }
+
+-- whether two registers compare so (RISC-V Unprivileged ISA, 2.5)
+abbrev pub comparing : Kind → ℕ → ℕ → Comparison → Test
+comparing kind left right Less = below kind left right
+comparing kind left right Greater = below kind right left
+comparing kind left right LessOrEqual = not_below kind right left
+comparing kind left right GreaterOrEqual = not_below kind left right
+comparing kind left right Equal = record { holds = Beq; fails = Bne; left = left; right = right }
+comparing kind left right NotEqual = record { holds = Bne; fails = Beq; left = left; right = right }
+
+-- a branch to one of the two by a test, near or over a jump, and on to the other
+pub data Tested (p : Linking) (pc : ℕ) (t : Test) (there other : ℕ) : Type 0 where
+  Reached : (imm : ℕ) → sum_of pc imm ≡ there → Holds p.image pc (branching t.holds t.left t.right imm) → Continues p (pc + 4) other → Tested p pc t there other
+  Missed : (imm : ℕ) → sum_of pc imm ≡ other → Holds p.image pc (branching t.fails t.left t.right imm) → Continues p (pc + 4) there → Tested p pc t there other
+  Hopped : Holds p.image pc (branching t.fails t.left t.right 8) → Jumps p (pc + 4) there → Continues p (pc + 8) other → Tested p pc t there other
+  Skipped : Holds p.image pc (branching t.holds t.left t.right 8) → Jumps p (pc + 4) other → Continues p (pc + 8) there → Tested p pc t there other
 
 -- the return address is taken, the stack pointer goes up by the frame, and back to the caller
 pub record Leaves (p : Linking) (pc frame : ℕ) : Type 0 where
@@ -143,13 +171,21 @@ ReturnAt p frame pc (Some r) = (r ≡ 10) × Leaves p pc frame
 abbrev pub ExitAt : Linking → ℕ → ℕ → ℕ → Exit → Type 0
 ExitAt p i frame pc (Jump b) = Continues p pc (p.place i b)
 ExitAt p i frame pc (Turn b) = Jumps p pc (p.place i b)
-ExitAt p i frame pc (Branch on a b) = IsHome on × Tested p pc on (p.place i a) (p.place i b)
+ExitAt p i frame pc (Branch on a b) = IsHome on × Tested p pc (nonzero on) (p.place i a) (p.place i b)
 ExitAt p i frame pc (Return from) = ReturnAt p frame pc from
 
--- the lines of function i, which has this frame, from pc on
-abbrev pub Stands : Linking → ℕ → ℕ → ℕ → List Line → Exit → Type 0
-Stands p i frame pc [] exit = ExitAt p i frame pc exit
-Stands p i frame pc (line ∷ rest) exit = (next : ℕ) × Selected p pc line next × Stands p i frame next rest exit
+-- no path from a block on reads the register before it is written
+abbrev pub IsDead : List Block → ℕ → ℕ → Type 0
+IsDead blocks b r = (n : ℕ) → reads_first blocks n b r ≡ false
+
+-- from pc on, a comparison and the branch by its register as one, where nothing else reads that register
+pub data Joined (p : Linking) (blocks : List Block) (i pc : ℕ) : Line → List Line → Exit → Type 0 where
+  Decides : (to : ℕ) (op : Comparison) (kind : Kind) (left right a b : ℕ) → IsHome left → IsHome right → IsPromoted kind ⊎ (kind ≡ Ptr) → IsDead blocks a to → IsDead blocks b to → Tested p pc (comparing kind left right op) (p.place i a) (p.place i b) → Joined p blocks i pc (Compare to op kind left right) [] (Branch to a b)
+
+-- the lines of function i, which has these blocks and this frame, from pc on
+abbrev pub Stands : Linking → List Block → ℕ → ℕ → ℕ → List Line → Exit → Type 0
+Stands p blocks i frame pc [] exit = ExitAt p i frame pc exit
+Stands p blocks i frame pc (line ∷ rest) exit = ((next : ℕ) × Selected p pc line next × Stands p blocks i frame next rest exit) ⊎ Joined p blocks i pc line rest exit
 
 -- the test of the stack, near or over a jump
 pub data Checked (p : Linking) (pc : ℕ) : ℕ → Type 0 where

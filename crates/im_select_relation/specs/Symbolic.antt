@@ -6,7 +6,7 @@ use Rattle.im_num.specs.declared.values.Cause.{Cause}
 use Rattle.im_num.specs.Kinds.{word}
 use Rattle.im_mem.specs.Map.{stack_lim_at}
 use Rattle.im_rv.specs.declared.instr.Op.{Op}
-use Rattle.im_rv.specs.declared.instr.Op.TheVariants.{Jalr, Beq, Bne, Bltu, Bgeu, Lw, Sw, Addi, Sltiu, Xori, Andi, Slli, Srli, Srai, Add as AddOp, Sub, Sltu, Mul, Div}
+use Rattle.im_rv.specs.declared.instr.Op.TheVariants.{Jalr, Bltu, Bgeu, Lw, Sw, Addi, Sltiu, Xori, Andi, Slli, Srli, Srai, Add as AddOp, Sub, Sltu, Mul, Div}
 use Rattle.im_rv.specs.Decode.{Line as Instruction}
 use Rattle.im_rv.specs.Lines.{CodeLine}
 use Rattle.im_rv_reach.specs.Instructions.{Holds, Splits, with_immediate, on_registers, storing, branching, upper, jumping}
@@ -30,7 +30,7 @@ use Rattle.im_frame.specs.declared.layout.Layout.{Layout}
 use Rattle.im_frame.specs.Layout.{place_of as place_in, IsLayout}
 use Rattle.im_select_relation.specs.Linking.{Linking, LaidOut, frame_of}
 use Rattle.im_select_relation.specs.Linked.{FunctionAt}
-use Rattle.im_select_relation.specs.Selected.{IsHome, IsEntry, ones, unused_bits}
+use Rattle.im_select_relation.specs.Selected.{IsHome, IsEntry, ones, unused_bits, Test, nonzero, comparing, IsDead}
 
 -- the lines of a function; the places of objects in frames and of statics; the labels of the function's blocks, of the
 -- functions' entries, of the lines for an exhausted stack, of a checkpoint by its last register, of putchar and getchar
@@ -140,12 +140,12 @@ pub data ContinuesIn (w : Lines) (starts : ℕ → ℕ) (k b : ℕ) : Type 0 whe
   Falls : k ≡ starts b → ContinuesIn w starts k b
   Leaps : JumpsIn w k (w.block b) → ContinuesIn w starts k b
 
--- a test of a register: a branch to one of two blocks, near or over a jump, and on to the other
-pub data TestedIn (w : Lines) (starts : ℕ → ℕ) (k on there other : ℕ) : Type 0 where
-  Reached : Aimed w k (branching Bne on 0 0) (w.block there) → ContinuesIn w starts (suc k) other → TestedIn w starts k on there other
-  Missed : Aimed w k (branching Beq on 0 0) (w.block other) → ContinuesIn w starts (suc k) there → TestedIn w starts k on there other
-  Hopped : Plain w k (branching Beq on 0 8) → JumpsIn w (suc k) (w.block there) → ContinuesIn w starts (suc (suc k)) other → TestedIn w starts k on there other
-  Skipped : Plain w k (branching Bne on 0 8) → JumpsIn w (suc k) (w.block other) → ContinuesIn w starts (suc (suc k)) there → TestedIn w starts k on there other
+-- a branch to one of two blocks by a test, near or over a jump, and on to the other
+pub data TestedIn (w : Lines) (starts : ℕ → ℕ) (k : ℕ) (t : Test) (there other : ℕ) : Type 0 where
+  Reached : Aimed w k (branching t.holds t.left t.right 0) (w.block there) → ContinuesIn w starts (suc k) other → TestedIn w starts k t there other
+  Missed : Aimed w k (branching t.fails t.left t.right 0) (w.block other) → ContinuesIn w starts (suc k) there → TestedIn w starts k t there other
+  Hopped : Plain w k (branching t.fails t.left t.right 8) → JumpsIn w (suc k) (w.block there) → ContinuesIn w starts (suc (suc k)) other → TestedIn w starts k t there other
+  Skipped : Plain w k (branching t.holds t.left t.right 8) → JumpsIn w (suc k) (w.block other) → ContinuesIn w starts (suc (suc k)) there → TestedIn w starts k t there other
 
 -- the return address is taken, the stack pointer goes up by the frame, and back to the caller
 pub record LeavesIn (w : Lines) (k frame : ℕ) : Type 0 where
@@ -161,13 +161,17 @@ ReturnIn w frame k (Some r) = (r ≡ 10) × LeavesIn w k frame
 abbrev pub ExitIn : Lines → (ℕ → ℕ) → ℕ → ℕ → Exit → Type 0
 ExitIn w starts frame k (Jump b) = ContinuesIn w starts k b
 ExitIn w starts frame k (Turn b) = JumpsIn w k (w.block b)
-ExitIn w starts frame k (Branch on a b) = IsHome on × TestedIn w starts k on a b
+ExitIn w starts frame k (Branch on a b) = IsHome on × TestedIn w starts k (nonzero on) a b
 ExitIn w starts frame k (Return from) = ReturnIn w frame k from
 
--- the lines of a function that has this frame, from k on
-abbrev pub StandsIn : Lines → (ℕ → ℕ) → ℕ → ℕ → List Line → Exit → Type 0
-StandsIn w starts frame k [] exit = ExitIn w starts frame k exit
-StandsIn w starts frame k (line ∷ rest) exit = (next : ℕ) × SelectedIn w k line next × StandsIn w starts frame next rest exit
+-- from k on, a comparison and the branch by its register as one, where nothing else reads that register
+pub data JoinedIn (w : Lines) (blocks : List Block) (starts : ℕ → ℕ) (k : ℕ) : Line → List Line → Exit → Type 0 where
+  Decides : (to : ℕ) (op : Comparison) (kind : Kind) (left right a b : ℕ) → IsHome left → IsHome right → IsPromoted kind ⊎ (kind ≡ Ptr) → IsDead blocks a to → IsDead blocks b to → TestedIn w starts k (comparing kind left right op) a b → JoinedIn w blocks starts k (Compare to op kind left right) [] (Branch to a b)
+
+-- the lines of a function that has these blocks and this frame, from k on
+abbrev pub StandsIn : Lines → List Block → (ℕ → ℕ) → ℕ → ℕ → List Line → Exit → Type 0
+StandsIn w blocks starts frame k [] exit = ExitIn w starts frame k exit
+StandsIn w blocks starts frame k (line ∷ rest) exit = ((next : ℕ) × SelectedIn w k line next × StandsIn w blocks starts frame next rest exit) ⊎ JoinedIn w blocks starts k line rest exit
 
 -- the test of the stack, near or over a jump
 pub data CheckedIn (w : Lines) (k : ℕ) : ℕ → Type 0 where
@@ -188,7 +192,7 @@ pub record PrologueIn (w : Lines) (starts : ℕ → ℕ) (k frame block : ℕ) :
 -- what `select` ensures of a function's lines. starts: the line that each block begins with
 pub record IsSelected (w : Lines) (frame : ℕ) (f : Function) (starts : ℕ → ℕ) : Type 0 where
   pub prologue : PrologueIn w starts 0 frame f.entry
-  pub blocks : (b : ℕ) (block : Block) → slice_get f.blocks.items b ≡ Some block → StandsIn w starts frame (starts b) block.lines.items block.exit
+  pub blocks : (b : ℕ) (block : Block) → slice_get f.blocks.items b ≡ Some block → StandsIn w f.blocks.items starts frame (starts b) block.lines.items block.exit
 
 -- what a layout ensures of a function's frame
 pub record IsFramed (p : Linking) (g : Setting) (i : ℕ) (f : Function) : Type 0 where
