@@ -6,9 +6,9 @@ ghost use Rattle.im_check_operands.specs.im_rules.Terms as r;
 ghost use Rattle.im_store.specs.Objects as o;
 ghost use Rattle.im_types.specs.Shape.{type_of};
 
-use im_ctype::Integer;
+use im_ctype::{Integer, Traits};
 use im_num::Kind;
-use im_types::Type;
+use im_types::{Type, same_bool};
 
 /// The integer type that a type is.
 pub fn integer_in(ty: &Type) -> Option<Integer>
@@ -56,74 +56,96 @@ pub fn kind_in(ty: &Type) -> Kind
     }
 }
 
+/// Whether a type has all values of another.
+fn has_all_of(own: Traits, other: Traits) -> bool
+    ensures { result ≡ c.has_all_of own other }
+{
+    if other.is_signed {
+        own.is_signed && other.bits <= own.bits
+    } else if own.is_signed {
+        other.bits < own.bits
+    } else {
+        other.bits <= own.bits
+    }
+}
+
 /// Integer promotion (C11 6.3.1.1p2).
 pub fn promoted(ty: Integer) -> Integer
     ensures { result ≡ c.promoted ty }
 {
-    match ty {
-        Integer::UnsignedInt => Integer::UnsignedInt,
-        Integer::Long => Integer::Long,
-        Integer::UnsignedLong => Integer::UnsignedLong,
-        _ => Integer::Int,
+    let (int, own) = (Integer::Int.traits(), ty.traits());
+    if int.rank < own.rank {
+        ty
+    } else if has_all_of(int, own) {
+        Integer::Int
+    } else {
+        Integer::UnsignedInt
     }
 }
 
-fn is_unsigned(ty: Integer) -> bool
-    ensures { result ≡ c.is_unsigned ty }
+/// The unsigned type that corresponds to a type (C11 6.2.5p6).
+fn to_unsigned(ty: Integer) -> Integer
+    ensures { result ≡ c.to_unsigned ty }
 {
     match ty {
-        Integer::UnsignedInt | Integer::UnsignedLong => true,
-        _ => false,
+        Integer::Char | Integer::SignedChar | Integer::UnsignedChar => Integer::UnsignedChar,
+        Integer::Short | Integer::UnsignedShort => Integer::UnsignedShort,
+        Integer::Int | Integer::UnsignedInt => Integer::UnsignedInt,
+        Integer::Long | Integer::UnsignedLong => Integer::UnsignedLong,
     }
 }
 
-fn is_long(ty: Integer) -> bool
-    ensures { result ≡ c.is_long ty }
+/// The common type of a signed and an unsigned one.
+fn mixed(signed: Integer, unsigned: Integer) -> Integer
+    ensures { result ≡ c.mixed signed unsigned }
 {
-    match ty {
-        Integer::Long | Integer::UnsignedLong => true,
-        _ => false,
+    let (own, other) = (signed.traits(), unsigned.traits());
+    if own.rank <= other.rank {
+        unsigned
+    } else if has_all_of(own, other) {
+        signed
+    } else {
+        to_unsigned(signed)
     }
 }
 
-fn of_rank(long: bool, unsigned: bool) -> Integer
-    ensures { result ≡ c.of_rank long unsigned }
+/// The common type of two promoted ones.
+fn usual(left: Integer, right: Integer) -> Integer
+    ensures { result ≡ c.usual left right }
 {
-    match (long, unsigned) {
-        (true, true) => Integer::UnsignedLong,
-        (true, false) => Integer::Long,
-        (false, true) => Integer::UnsignedInt,
-        (false, false) => Integer::Int,
+    let (own, other) = (left.traits(), right.traits());
+    if same_bool(own.is_signed, other.is_signed) {
+        if own.rank < other.rank { right } else { left }
+    } else if own.is_signed {
+        mixed(left, right)
+    } else {
+        mixed(right, left)
     }
-}
-
-fn greater(left: Integer, right: Integer) -> Integer
-    ensures { result ≡ c.greater left right }
-{
-    of_rank(
-        is_long(left) || is_long(right),
-        is_unsigned(left) || is_unsigned(right),
-    )
 }
 
 /// The common type of two operands (C11 6.3.1.8).
 pub fn common(left: &Type, right: &Type) -> Integer
     ensures { result ≡ c.common (type_of left.now) (type_of right.now) }
 {
-    greater(promoted(integer_of(left)), promoted(integer_of(right)))
+    usual(promoted(integer_of(left)), promoted(integer_of(right)))
+}
+
+fn kind_number(kind: Kind) -> u8
+    ensures { result ≡ o.kind_number kind }
+{
+    match kind {
+        Kind::I8 => 0,
+        Kind::U8 => 1,
+        Kind::I16 => 2,
+        Kind::U16 => 3,
+        Kind::I32 => 4,
+        Kind::U32 => 5,
+        Kind::Ptr => 6,
+    }
 }
 
 pub fn same_kind(left: Kind, right: Kind) -> bool
     ensures { result ≡ o.same_kind left right }
 {
-    match (left, right) {
-        (Kind::I8, Kind::I8) => true,
-        (Kind::U8, Kind::U8) => true,
-        (Kind::I16, Kind::I16) => true,
-        (Kind::U16, Kind::U16) => true,
-        (Kind::I32, Kind::I32) => true,
-        (Kind::U32, Kind::U32) => true,
-        (Kind::Ptr, Kind::Ptr) => true,
-        _ => false,
-    }
+    kind_number(left) == kind_number(right)
 }

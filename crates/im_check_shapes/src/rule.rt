@@ -71,7 +71,11 @@ pub fn has_shape(table: &TypeTable, ty: &Type, i: &Initializer) -> bool
     match ty {
         Type::Integer(_) | Type::Pointer(_, _) => is_one_expression(i),
         Type::Array(element, count) => {
-            is_string_within(element, *count, i) || is_list_within(*count, i)
+            if is_open_string(element, i) {
+                is_string_within(element, *count, i)
+            } else {
+                is_list_within(*count, i)
+            }
         }
         Type::Unsized(element) => is_open_string(element, i) || is_list(i),
         Type::Struct(number) => is_for_struct(table, *number, i),

@@ -1,5 +1,5 @@
 -- Types are told apart by their numbers.
-use Rattle.std.proofs.Common.{◌≡◌, ℕ, zero, suc, ◌<◌, ◌≤◌, nat_eq, Bool, true, false, ◌&&◌, List, length, get_or, Some, refl, sym, ap, ◌∙◌, arith}
+use Rattle.std.proofs.Common.{◌≡◌, ℕ, zero, suc, ◌<◌, ◌≤◌, nat_eq, Bool, true, false, ◌&&◌, List, [], ◌∷◌, length, get_or, Some, refl, sym, ap, ◌∙◌, arith}
 use Rattle.std.specs.Prelude.{slice_get}
 use Rattle.std.proofs.lemmas.Bool.{eqb-true, eq-eqb}
 use Rattle.std.proofs.lemmas.Option.{slice_get-get_or}
@@ -9,7 +9,7 @@ use Rattle.im_ctype.specs.declared.integer.Integer.TheVariants.{Char, SignedChar
 use Rattle.im_ctype.specs.declared.node.TypeId.{TypeId}
 use Rattle.im_ctype.specs.declared.node.TypeNode.{TypeNode}
 use Rattle.im_ctype.specs.declared.node.TypeNode.TheVariants as node
-use Rattle.im_ctype.specs.Types.{CType, void, integer, pointer, array, unsized, struct, function, CTypes, no_types, more_types, same_integer, same_bool, same_type, same_types}
+use Rattle.im_ctype.specs.Types.{CType, void, integer, pointer, array, unsized, struct, function, CTypes, no_types, more_types, integer_number, same_integer, same_bool, same_type, same_types}
 use Rattle.im_ctype.specs.Table.{type_in, type_of_node}
 use Rattle.im_ctype.specs.Kept.{AreNodes}
 use Rattle.im_ctype.specs.Table.{IsEarlier}
@@ -25,28 +25,29 @@ and-parts false b h = cc
 and-true : (a b : Bool) → a ≡ true → b ≡ true → (a && b) ≡ true
 and-true a b e f = rw (e, f) refl
 
+integers : List Integer
+integers = Char ∷ SignedChar ∷ UnsignedChar ∷ Short ∷ UnsignedShort ∷ Int ∷ UnsignedInt ∷ Long ∷ UnsignedLong ∷ []
+
+integer_of : ℕ → Integer
+integer_of n = get_or integers n Char
+
+integer-back : (i : Integer) → integer_of (integer_number i) ≡ i
+integer-back Char = refl
+integer-back SignedChar = refl
+integer-back UnsignedChar = refl
+integer-back Short = refl
+integer-back UnsignedShort = refl
+integer-back Int = refl
+integer-back UnsignedInt = refl
+integer-back Long = refl
+integer-back UnsignedLong = refl
+
 integer-is : (i j : Integer) → same_integer i j ≡ true → i ≡ j
-integer-is Char Char h = refl
-integer-is SignedChar SignedChar h = refl
-integer-is UnsignedChar UnsignedChar h = refl
-integer-is Short Short h = refl
-integer-is UnsignedShort UnsignedShort h = refl
-integer-is Int Int h = refl
-integer-is UnsignedInt UnsignedInt h = refl
-integer-is Long Long h = refl
-integer-is UnsignedLong UnsignedLong h = refl
-integer-is i j h = cc
+integer-is i j h =
+    sym (integer-back i) ∙ ap integer_of (eqb-true (integer_number i) (integer_number j) h) ∙ integer-back j
 
 integer-itself : (i : Integer) → same_integer i i ≡ true
-integer-itself Char = refl
-integer-itself SignedChar = refl
-integer-itself UnsignedChar = refl
-integer-itself Short = refl
-integer-itself UnsignedShort = refl
-integer-itself Int = refl
-integer-itself UnsignedInt = refl
-integer-itself Long = refl
-integer-itself UnsignedLong = refl
+integer-itself i = eq-eqb (integer_number i) (integer_number i) refl
 
 bool-is : (b c : Bool) → same_bool b c ≡ true → b ≡ c
 bool-is true true h = refl

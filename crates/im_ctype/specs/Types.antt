@@ -3,6 +3,7 @@ use Rattle.std.specs.Prelude.{ℕ, Bool, true, false, not, ◌&&◌, ◌||◌, L
 use Rattle.im_num.specs.declared.kind.Kind.{Kind}
 use Rattle.im_num.specs.declared.kind.Kind.TheVariants.{I8, U8, I16, U16, I32, U32}
 use Rattle.im_ctype.specs.declared.integer.Integer.{Integer}
+use Rattle.im_ctype.specs.declared.integer.Traits.{Traits}
 use Rattle.im_ctype.specs.declared.integer.Integer.TheVariants.{Char, SignedChar, UnsignedChar, Short, UnsignedShort, Int, UnsignedInt, Long, UnsignedLong}
 
 mutual
@@ -53,6 +54,24 @@ kind_of UnsignedInt = U32
 kind_of Long = I32
 kind_of UnsignedLong = U32
 
+abbrev pub signed_of : (rank bits : ℕ) → Traits
+signed_of rank bits = record { rank = rank; bits = bits; is_signed = true }
+
+abbrev pub unsigned_of : (rank bits : ℕ) → Traits
+unsigned_of rank bits = record { rank = rank; bits = bits; is_signed = false }
+
+-- the rank, the bits and the sign of an integer type (C11 6.3.1.1p1, 6.2.6.2p6); plain char is unsigned (C11 6.2.5p15)
+abbrev pub traits : Integer → Traits
+traits Char = unsigned_of 1 8
+traits SignedChar = signed_of 1 8
+traits UnsignedChar = unsigned_of 1 8
+traits Short = signed_of 2 16
+traits UnsignedShort = unsigned_of 2 16
+traits Int = signed_of 3 32
+traits UnsignedInt = unsigned_of 3 32
+traits Long = signed_of 4 32
+traits UnsignedLong = unsigned_of 4 32
+
 abbrev pub is_void : CType → Bool
 is_void void = true
 is_void _ = false
@@ -99,24 +118,28 @@ is_complete known (unsized t) = false
 is_complete known (struct n) = nat_lt n known
 is_complete known (function r ps) = false
 
+-- the integer types by number: by it they are told apart
+abbrev pub integer_number : Integer → ℕ
+integer_number Char = 0
+integer_number SignedChar = 1
+integer_number UnsignedChar = 2
+integer_number Short = 3
+integer_number UnsignedShort = 4
+integer_number Int = 5
+integer_number UnsignedInt = 6
+integer_number Long = 7
+integer_number UnsignedLong = 8
+
 abbrev pub same_integer : Integer → Integer → Bool
-same_integer Char Char = true
-same_integer SignedChar SignedChar = true
-same_integer UnsignedChar UnsignedChar = true
-same_integer Short Short = true
-same_integer UnsignedShort UnsignedShort = true
-same_integer Int Int = true
-same_integer UnsignedInt UnsignedInt = true
-same_integer Long Long = true
-same_integer UnsignedLong UnsignedLong = true
-same_integer _ _ = false
+same_integer i j = nat_eq (integer_number i) (integer_number j)
 
 abbrev pub same_bool : Bool → Bool → Bool
 same_bool true b = b
 same_bool false b = not b
 
 abbrev mutual
-  -- two types are the same where they are equal in structure (C11 6.2.7)
+  -- two types are the same where they are equal in structure (C11 6.2.7). That a type is the same as itself and as no
+  -- other is said by the law `same_type_law`
   pub same_type : CType → CType → Bool
   same_type void void = true
   same_type (integer i) (integer j) = same_integer i j

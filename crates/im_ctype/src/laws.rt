@@ -2,10 +2,18 @@
 //! function with an empty body, whose contract says it.
 ghost use Rattle.std.specs.Prelude.{◌≡◌, ◌↔◌, ℕ, ◌+◌, ◌%◌, ◌<◌, ◌≤◌, ◌++◌, List, length, slice_get, Some, true};
 ghost use Rattle.im_ctype.specs.declared.member.MemberPlace.{MemberPlace};
-ghost use Rattle.im_ctype.specs.Types.{CType, Member, Structs, array, struct, members_of, same_type};
+ghost use Rattle.im_num.specs.Kinds.{bits, is_signed};
+ghost use Rattle.im_ctype.specs.declared.integer.Integer.{Integer};
+ghost use Rattle.im_ctype.specs.Types.{CType, Member, Structs, array, struct, members_of, same_type, kind_of, traits};
 ghost use Rattle.im_ctype.specs.Layout.{IsComplete, MembersAreComplete, AreComplete, layout, layouts, moved, round_up, struct_in};
 ghost use Rattle.im_ctype.specs.Members.{places, member_cells};
 ghost use Rattle.im_ctype.specs.Laws.{CellsInside, CellsAlignedAt, CellsDisjoint, IsAlignment, cells_from, cells_side_by_side};
+
+/// A cell of an integer type has as many bits as the type, and is signed where the type is.
+pub fn kind_law()
+    ensures bits { (i : Integer) → bits (kind_of i) ≡ (traits i).bits }
+    ensures sign { (i : Integer) → is_signed (kind_of i) ≡ (traits i).is_signed }
+{}
 
 /// Each cell of an object lies within it: its offset and its bytes are at most the object's bytes.
 pub fn cells_inside_law()

@@ -15,7 +15,7 @@ mod table;
 
 pub use cell::Cell;
 pub use extent::Extent;
-pub use integer::{Integer, bytes_of_kind};
+pub use integer::{Integer, Traits, bytes_of_kind};
 pub use listing::cells;
 pub use member::{Member, MemberPlace};
 pub use node::{TypeId, TypeNode};

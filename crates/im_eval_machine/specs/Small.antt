@@ -18,7 +18,7 @@ abbrev mutual
 
   pub small_expr : Expr → Expr
   small_expr (Constant k z) = Constant k (small z)
-  small_expr NullPointer = NullPointer
+  small_expr (NullPointer kind) = NullPointer kind
   small_expr (Read x a) = Read x (small_place a)
   small_expr (Address a) = Address (small_place a)
   small_expr (Convert k e) = Convert k (small_expr e)

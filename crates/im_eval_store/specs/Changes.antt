@@ -1,11 +1,10 @@
 -- What comes of looking up and storing in what lives.
-use Rattle.std.specs.Prelude.{◌≡◌, ◌≤◌, ◌<◌, ℕ, ◌-◌, ◌==◌, ◌&&◌, Bool, true, false, List, [], ◌∷◌, pos, get_or, slice_get, length, nat_lt, Option, Some, None, Result, Ok, Err, if◌then◌else◌}
+use Rattle.std.specs.Prelude.{◌≡◌, ◌≤◌, ◌<◌, ℕ, ◌-◌, ◌==◌, ◌&&◌, Bool, true, false, List, [], ◌∷◌, get_or, slice_get, length, nat_lt, Option, Some, None, Result, Ok, Err, if◌then◌else◌}
 use Rattle.im_store.specs.declared.undefined.Undefined.{Undefined}
 use Rattle.im_store.specs.Checks.{Checked, Fine, Bad}
 use Rattle.im_store.specs.Objects as o
 use Rattle.im_store.specs.Objects.{Object, Shape, Store, same_object}
 use Rattle.im_num.specs.declared.kind.Kind.{Kind}
-use Rattle.im_num.specs.declared.kind.Kind.TheVariants.{Ptr}
 use Rattle.im_eval_store.specs.declared.value.ObjectName.{ObjectName}
 use Rattle.im_eval_store.specs.declared.value.Value.{Value}
 use Rattle.im_eval_store.specs.declared.value.Value.TheVariants.{Unset}
@@ -62,8 +61,7 @@ stands_in n (m ∷ ms) = if n == m then true else stands_in n ms
 -- zero or null, where there is a cell
 abbrev pub zero_or : Option Kind → o.Value → o.Value
 zero_or None v = v
-zero_or (Some Ptr) v = o.Null
-zero_or (Some kind) v = o.Number (pos 0)
+zero_or (Some kind) v = o.zero_of kind
 
 -- what the cell at an offset has, once those that aren't given are zero or null
 abbrev pub cleared : List ℕ → Option Kind → o.Value → ℕ → o.Value

@@ -44,7 +44,7 @@ module _ (g : Prog) (f : Func) where
 
     pub same_expr : (e : Expr) → IsTyped g f e → small_expr e ≡ e
     same_expr (Constant k z) h = ap (Constant k) (same_number k z h.0 h.1)
-    same_expr NullPointer h = refl
+    same_expr (NullPointer kind) h = refl
     same_expr (Read x a) h = ap (Read x) (same_place a h.1)
     same_expr (Address a) h = ap Address (same_place a h)
     same_expr (Convert k e) h = ap (Convert k) (same_expr e h.1)

@@ -29,7 +29,7 @@ use Rattle.im_lower_laws.proofs.LineSteps.{Good_register, GoodPlace, GoodChange,
 
 pub nodes_positive : (e : p.Expr) → 1 ≤ expr_nodes e
 nodes_positive (p.Constant kind z) = omega arith
-nodes_positive p.NullPointer = omega arith
+nodes_positive (p.NullPointer kind) = omega arith
 nodes_positive (p.Read x a) = omega arith
 nodes_positive (p.Address a) = omega arith
 nodes_positive (p.Convert kind e) = omega arith
@@ -220,7 +220,7 @@ module _ (g : p.Prog) (f : p.Func) (code : Function) (first low limit : ℕ) (pr
 
   shape_near : (e : p.Expr) → IsTyped g f e → AreNear (cells_of_shape (shape_of g e))
   shape_near (p.Constant kind z) ty = tt
-  shape_near p.NullPointer ty = tt
+  shape_near (p.NullPointer kind) ty = tt
   shape_near (p.Read x a) ty = access_near x ty.0
   shape_near (p.Address a) ty = tt
   shape_near (p.Convert kind e) ty = tt
@@ -317,7 +317,7 @@ module _ (g : p.Prog) (f : p.Func) (code : Function) (first low limit : ℕ) (pr
     pub adds : (e : p.Expr) → IsTyped g f e → Adds e
     adds (p.Constant kind z) ty c t m n to free lt lf t1 le h =
         at_most g code low limit (c + 64 * 1) t (omega arith) (omega arith) (adds_put g code low limit to z (register to lt t1) h)
-    adds p.NullPointer ty c t m n to free lt lf t1 le h =
+    adds (p.NullPointer kind) ty c t m n to free lt lf t1 le h =
         at_most g code low limit (c + 64 * 1) t (omega arith) (omega arith) (adds_null g code low limit to (register to lt t1) h)
     adds (p.Read x a) ty c t m n to free lt lf t1 le h =
         at_most g code low limit (c + 64 * (1 + place_nodes a)) t (omega arith) (omega arith)

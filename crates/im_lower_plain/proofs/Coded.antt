@@ -134,7 +134,7 @@ module _ (g : p.Prog) (first : ℕ) (later : List Block) where
 
     pub coded : (e : p.Expr) → Coded e
     coded (p.Constant kind z) to free m low le l = refl
-    coded p.NullPointer to free m low le l = refl
+    coded (p.NullPointer kind) to free m low le l = refl
     coded (p.Read (p.Scalar kind) a) to free m low le l =
         let P = λ (w : Place) (q : ℕ). CodesPlace g first later a free (make g first (p.Read (p.Scalar kind) a) to free m).point (before (Read to w kind m.accesses) m.point) in
         (m.accesses, carry P a free (place_coded a free (put_read to (place_at first a free) kind m) low le l))

@@ -50,7 +50,7 @@ module _ (g : p.Prog) (first : ℕ) where
 
     pub grows : {m n : Made} (e : p.Expr) (to free : ℕ) → Grows m n → Grows m (make g first e to free n)
     grows (p.Constant kind z) to free h = grows_put (Put to z) h
-    grows p.NullPointer to free h = grows_put (PutNull to) h
+    grows (p.NullPointer kind) to free h = grows_put (PutNull to) h
     grows (p.Read x a) to free h = place_grows a free (load_grows x to (place_at first a free) h)
     grows (p.Address a) to free h = place_grows a free (grows_put (Address to (place_at first a free)) h)
     grows (p.Convert kind e) to free h = grows e free (free + 1) (grows_put (Convert to kind free) h)

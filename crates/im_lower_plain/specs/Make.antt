@@ -97,7 +97,7 @@ module _ (g : p.Prog) (first : ℕ) where
 
     pub make : p.Expr → ℕ → ℕ → Made → Made
     make (p.Constant kind z) to free m = put (Put to z) m
-    make p.NullPointer to free m = put (PutNull to) m
+    make (p.NullPointer kind) to free m = put (PutNull to) m
     make (p.Read x a) to free m = make_place a free (put_load x to (place_at first a free) m)
     make (p.Address a) to free m = make_place a free (put (Address to (place_at first a free)) m)
     make (p.Convert kind e) to free m = make e free (free + 1) (put (Convert to kind free) m)

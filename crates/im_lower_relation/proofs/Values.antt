@@ -446,8 +446,8 @@ module _ (u : Code) (g : Setting) (p : q.Prog) (f : q.Func) (c : Around) (bound 
         (lowered e free (free + 1) entry (before (PutChar to free) next) (omega arith) t.0 codes n registers store s ready))
         (λ z v b after left h took.
         put-line u g p home fn is virtual to free b next after left registers (λ x l ne. took.kept x (omega arith) (λ e. omega arith)) free z c.capacity v.world v.fuel works.capacity took.has took.agrees)
-    lowered q.NullPointer to free entry next lt t codes n registers store s ready =
-        subst (λ x. Does u g p home next (at home n x registers store s) (Came registers to free) (value_of c q.NullPointer s)) (sym codes)
+    lowered (q.NullPointer kind) to free entry next lt t codes n registers store s ready =
+        subst (λ x. Does u g p home next (at home n x registers store s) (Came registers to free) (value_of c (q.NullPointer kind) s)) (sym codes)
         (does-line u g p home (PutNull to) next n registers store s to (Fine Null) Null refl refl
         (arrived u g p home next n registers registers to free Null store s ready.agrees (λ _ _ _. refl)))
     lowered (q.Address a) to free entry next lt t codes n registers store s ready =

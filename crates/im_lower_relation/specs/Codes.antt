@@ -88,7 +88,7 @@ module _ (g : p.Prog) (first : ℕ) (blocks : List Block) where
     -- the register that takes the value, the one from which on they are free, the point of entry, and the one that follows
     pub Codes : p.Expr → ℕ → ℕ → Point → Point → Type 0
     Codes (p.Constant kind z) to free s t = s ≡ before (Put to z) t
-    Codes p.NullPointer to free s t = s ≡ before (PutNull to) t
+    Codes (p.NullPointer kind) to free s t = s ≡ before (PutNull to) t
     Codes (p.Read (p.Scalar kind) a) to free s t = (n : ℕ) × CodesPlace a free s (before (Read to (where_of a free) kind n) t)
     Codes (p.Read (p.Struct count cells) a) to free s t = CodesPlace a free s (before (Address to (where_of a free)) t)
     Codes (p.Address a) to free s t = CodesPlace a free s (before (Address to (where_of a free)) t)

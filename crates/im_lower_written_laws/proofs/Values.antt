@@ -46,7 +46,7 @@ module _ (g : p.Prog) (first : ℕ) (blocks : List Block) where
     pub allows : (e : p.Expr) (to free : ℕ) (s t : Point) (n : ℕ) (P : ℕ → Type 0) → Codes g first blocks e to free s t → Allows blocks n t (Or to P) → Allows blocks n s P
     allows (p.Constant kind z) to free s t n P c h =
         subst (λ x. Allows blocks n x P) (sym c) (sets_none blocks n (Put to z) to t P (λ v. refl) (λ v. refl) h)
-    allows p.NullPointer to free s t n P c h =
+    allows (p.NullPointer kind) to free s t n P c h =
         subst (λ x. Allows blocks n x P) (sym c) (sets_none blocks n (PutNull to) to t P (λ v. refl) (λ v. refl) h)
     allows (p.Read (p.Scalar kind) a) to free s t n P c h =
         let w = where_of g first blocks a free in

@@ -1,6 +1,6 @@
 -- What a node becomes where its rules hold: each conversion is written out (C11 6.3, 6.5). These are functions of its
 -- parts' terms; what an ill-typed node would become doesn't matter.
-use Rattle.std.specs.Prelude.{ℕ, ◌+◌, ℤ, pos, Bool, true, false, ◌||◌, ◌&&◌, List, [], ◌∷◌, length, Option, Some, None, if◌then◌else◌}
+use Rattle.std.specs.Prelude.{ℕ, ◌+◌, ℤ, pos, Bool, true, false, ◌||◌, ◌&&◌, nat_le, nat_lt, List, [], ◌∷◌, length, Option, Some, None, if◌then◌else◌}
 use Rattle.im_ctree.specs.im_word.Words.{Name}
 use Rattle.im_ctree.specs.im_num.declared.kind.Kind.TheVariants.{Ptr}
 use Rattle.im_ctree.specs.im_tok.declared.number.NumberType.{NumberType}
@@ -16,18 +16,19 @@ use Rattle.im_ctree.specs.declared.operator.AssignOp.TheVariants as a
 use Rattle.im_typed.specs.im_store.declared.operators.BinaryOp as store_op
 use Rattle.im_typed.specs.im_store.declared.operators.BinaryOp.TheVariants as s
 use Rattle.im_typed.specs.im_store.declared.operators.Comparison.{Comparison}
-use Rattle.im_typed.specs.im_store.declared.operators.Comparison.TheVariants as c
 use Rattle.im_typed.specs.im_store.declared.operators.UnaryOp as store_unary
 use Rattle.im_typed.specs.im_store.declared.operators.UnaryOp.TheVariants as u
 use Rattle.im_typed.specs.im_store.Objects.{same_kind}
 use Rattle.im_typed.specs.im_ctype.declared.integer.Integer.{Integer}
-use Rattle.im_typed.specs.im_ctype.declared.integer.Integer.TheVariants.{Char, Int, UnsignedInt, Long, UnsignedLong}
+use Rattle.im_typed.specs.im_ctype.declared.integer.Integer.TheVariants.{Char, SignedChar, UnsignedChar, Short, UnsignedShort, Int, UnsignedInt, Long, UnsignedLong}
+use Rattle.im_typed.specs.im_ctype.declared.integer.Traits.{Traits}
 use Rattle.im_typed.specs.im_ctype.declared.member.MemberPlace.{MemberPlace}
-use Rattle.im_typed.specs.im_ctype.Types.{CType, void, integer, pointer, array, struct, CTypes, no_types, more_types, Member, Structs, is_integer, is_pointer, kind_of, members_of}
+use Rattle.im_typed.specs.im_ctype.Types.{CType, void, integer, pointer, array, unsized, struct, function, CTypes, no_types, more_types, Member, Structs, is_integer, is_pointer, same_bool, kind_of, traits, members_of}
 use Rattle.im_typed.specs.im_ctype.Members.{places}
 use Rattle.im_typed.specs.declared.expression.Change.{Change}
 use Rattle.im_typed.specs.declared.expression.Change.TheVariants.{Number as NumberBy, Move as PointerBy}
 use Rattle.im_typed.specs.Program.{Place, Static, Local, Target, Member as MemberAt, Expr, Constant, NullPointer, Address, Convert, Unary, Binary, Move, MoveBy, Distance, Compare, Not, And, Or, Choose, Comma, Discard, Assign, Update, Increment, Part, Call, Getchar, Putchar, Exprs, no_exprs, more_exprs}
+use Rattle.im_rules.specs.Rules.{Work, either_holds, both_hold, of_numbers, by_count, sum_of, difference_of, comparison_of, operator}
 use Rattle.im_rules.specs.TypeTests.{same_name, target_of, target_constant, result_of, parameters_of}
 use Rattle.im_rules.specs.Scopes.{Entity, an_object, a_function, an_enumerator, Storage, static_object, local_object, Callee, a_body, no_body, get_character, put_character}
 use Rattle.im_rules.specs.Terms.{Value, Term, lvalue, value, kind_in, access_of, size_in, value_of}
@@ -38,49 +39,68 @@ as_integer i v = if same_kind (kind_of i) (kind_in v.type) then v.expr else Conv
 
 -- where a pointer is wanted an integer is null (C11 6.3.2.3p3)
 abbrev pub as_pointer : Value → Expr
-as_pointer v = if is_pointer v.type then v.expr else NullPointer
+as_pointer v = if is_pointer v.type then v.expr else NullPointer Ptr
 
 -- a value that fits a type, as that type
 abbrev pub as_type : CType → Value → Expr
 as_type (integer i) v = as_integer i v
 as_type (pointer k t) v = as_pointer v
-as_type t v = v.expr
+as_type void v = v.expr
+as_type (array e n) v = v.expr
+as_type (unsized e) v = v.expr
+as_type (struct n) v = v.expr
+as_type (function r ps) v = v.expr
 
--- integer promotions (C11 6.3.1.1p2): int has all values of the smaller types
+-- whether a type has all values of another
+abbrev pub has_all_of : Traits → Traits → Bool
+has_all_of t u =
+    if u.is_signed then t.is_signed && nat_le u.bits t.bits
+    else (if t.is_signed then nat_lt u.bits t.bits else nat_le u.bits t.bits)
+
+-- integer promotions (C11 6.3.1.1p2): a type of no greater rank than int becomes int where int has all of its values,
+-- and else unsigned int; the other types stay
 abbrev pub promoted : Integer → Integer
-promoted UnsignedInt = UnsignedInt
-promoted Long = Long
-promoted UnsignedLong = UnsignedLong
-promoted _ = Int
+promoted i =
+    if nat_lt (traits Int).rank (traits i).rank then i
+    else (if has_all_of (traits Int) (traits i) then Int else UnsignedInt)
 
-abbrev pub is_unsigned : Integer → Bool
-is_unsigned UnsignedInt = true
-is_unsigned UnsignedLong = true
-is_unsigned _ = false
+-- the unsigned type that corresponds to a type (C11 6.2.5p6)
+abbrev pub to_unsigned : Integer → Integer
+to_unsigned Char = UnsignedChar
+to_unsigned SignedChar = UnsignedChar
+to_unsigned UnsignedChar = UnsignedChar
+to_unsigned Short = UnsignedShort
+to_unsigned UnsignedShort = UnsignedShort
+to_unsigned Int = UnsignedInt
+to_unsigned UnsignedInt = UnsignedInt
+to_unsigned Long = UnsignedLong
+to_unsigned UnsignedLong = UnsignedLong
 
-abbrev pub is_long : Integer → Bool
-is_long Long = true
-is_long UnsignedLong = true
-is_long _ = false
+-- the common type of a signed and an unsigned one (C11 6.3.1.8p1): the unsigned one, unless the signed one has the
+-- greater rank; then this one, where it has all values of the other, and else the unsigned type that corresponds to it
+abbrev pub mixed : (signed unsigned : Integer) → Integer
+mixed signed unsigned =
+    if nat_le (traits signed).rank (traits unsigned).rank then unsigned
+    else (if has_all_of (traits signed) (traits unsigned) then signed else to_unsigned signed)
 
-abbrev pub of_rank : Bool → Bool → Integer
-of_rank true true = UnsignedLong
-of_rank true false = Long
-of_rank false true = UnsignedInt
-of_rank false false = Int
-
--- the common type of two promoted ones (C11 6.3.1.8): of the greater rank, unsigned where one of them is, since int and
--- long are equally wide
-abbrev pub greater : Integer → Integer → Integer
-greater i j = of_rank (is_long i || is_long j) (is_unsigned i || is_unsigned j)
+-- the common type of two promoted ones (C11 6.3.1.8p1): of two signed or two unsigned ones that of the greater rank
+abbrev pub usual : Integer → Integer → Integer
+usual i j =
+    if same_bool (traits i).is_signed (traits j).is_signed then (if nat_lt (traits i).rank (traits j).rank then j else i)
+    else (if (traits i).is_signed then mixed i j else mixed j i)
 
 -- the integer type of a value
 abbrev pub integer_of : CType → Integer
 integer_of (integer i) = i
-integer_of _ = Int
+integer_of void = Int
+integer_of (pointer k t) = Int
+integer_of (array e n) = Int
+integer_of (unsized e) = Int
+integer_of (struct n) = Int
+integer_of (function r ps) = Int
 
 abbrev pub common : CType → CType → Integer
-common x y = greater (promoted (integer_of x)) (promoted (integer_of y))
+common x y = usual (promoted (integer_of x)) (promoted (integer_of y))
 
 abbrev pub of_integer : Integer → Expr → Value
 of_integer i e = record { type = integer i; expr = e }
@@ -112,7 +132,7 @@ stored (local_object n) = Local n
 abbrev pub called : Option Entity → Term
 called (Some (an_object k t s)) = lvalue k t (stored s)
 called (Some (an_enumerator z)) = value (literal Int z)
-called _ = value (int_value NullPointer)
+called _ = value (int_value (NullPointer Ptr))
 
 -- the static that a string literal is: its bytes and a zero
 abbrev pub string_term : ℕ → Name → Term
@@ -155,25 +175,17 @@ comparison op x y =
     if is_pointer x.type || is_pointer y.type then int_value (Compare op Ptr (as_pointer x) (as_pointer y))
     else (let i = common x.type y.type in int_value (Compare op (kind_of i) (as_integer i x) (as_integer i y)))
 
+abbrev pub worked : Structs → Work → Value → Value → Value
+worked known either_holds x y = int_value (Or x.expr y.expr)
+worked known both_hold x y = int_value (And x.expr y.expr)
+worked known (of_numbers op) x y = arithmetic op x y
+worked known (by_count op) x y = shifted op x y
+worked known sum_of x y = sum known x y
+worked known difference_of x y = difference known x y
+worked known (comparison_of op) x y = comparison op x y
+
 abbrev pub operation : Structs → BinaryOp → Value → Value → Value
-operation known b.Or x y = int_value (Or x.expr y.expr)
-operation known b.And x y = int_value (And x.expr y.expr)
-operation known b.BitOr x y = arithmetic s.BitOr x y
-operation known b.BitXor x y = arithmetic s.BitXor x y
-operation known b.BitAnd x y = arithmetic s.BitAnd x y
-operation known b.Equal x y = comparison c.Equal x y
-operation known b.NotEqual x y = comparison c.NotEqual x y
-operation known b.Less x y = comparison c.Less x y
-operation known b.Greater x y = comparison c.Greater x y
-operation known b.LessEqual x y = comparison c.LessOrEqual x y
-operation known b.GreaterEqual x y = comparison c.GreaterOrEqual x y
-operation known b.ShiftLeft x y = shifted s.ShiftLeft x y
-operation known b.ShiftRight x y = shifted s.ShiftRight x y
-operation known b.Add x y = sum known x y
-operation known b.Subtract x y = difference known x y
-operation known b.Multiply x y = arithmetic s.Multiply x y
-operation known b.Divide x y = arithmetic s.Divide x y
-operation known b.Remainder x y = arithmetic s.Remainder x y
+operation known op x y = worked known (operator op).work x y
 
 -- what a pointer points to (C11 6.5.3.2p4)
 abbrev pub pointed : Value → Term
@@ -253,26 +265,32 @@ operator_of a.BitAnd = Some b.BitAnd
 operator_of a.BitXor = Some b.BitXor
 operator_of a.BitOr = Some b.BitOr
 
+-- the operator on numbers; a connective and a comparison have none, and stand in no compound assignment
+abbrev pub number_operator : Work → store_op.BinaryOp
+number_operator (of_numbers op) = op
+number_operator (by_count op) = op
+number_operator sum_of = s.Add
+number_operator difference_of = s.Subtract
+number_operator either_holds = s.Add
+number_operator both_hold = s.Add
+number_operator (comparison_of op) = s.Add
+
 abbrev pub store_operator : BinaryOp → store_op.BinaryOp
-store_operator b.Multiply = s.Multiply
-store_operator b.Divide = s.Divide
-store_operator b.Remainder = s.Remainder
-store_operator b.Subtract = s.Subtract
-store_operator b.ShiftLeft = s.ShiftLeft
-store_operator b.ShiftRight = s.ShiftRight
-store_operator b.BitAnd = s.BitAnd
-store_operator b.BitXor = s.BitXor
-store_operator b.BitOr = s.BitOr
-store_operator _ = s.Add
+store_operator op = number_operator (operator op).work
+
+abbrev pub has_count : Work → Bool
+has_count (by_count op) = true
+has_count _ = false
 
 abbrev pub is_shift : BinaryOp → Bool
-is_shift b.ShiftLeft = true
-is_shift b.ShiftRight = true
-is_shift _ = false
+is_shift op = has_count (operator op).work
+
+abbrev pub is_difference : Work → Bool
+is_difference difference_of = true
+is_difference _ = false
 
 abbrev pub is_subtraction : BinaryOp → Bool
-is_subtraction b.Subtract = true
-is_subtraction _ = false
+is_subtraction op = is_difference (operator op).work
 
 -- the type in which `a op= b` is computed: of a shift the left operand's
 abbrev pub computed_in : BinaryOp → CType → CType → Integer
@@ -285,7 +303,12 @@ changed_by op x v = as_integer (if is_shift op then promoted (integer_of v.type)
 abbrev pub updated : Structs → BinaryOp → CType → Place → Value → Expr
 updated known op (integer i) p v =
     Update p (NumberBy (kind_of i) (store_operator op) (kind_of (computed_in op (integer i) v.type))) (changed_by op (integer i) v)
-updated known op t p v = Update p (PointerBy (element_size known t) (is_subtraction op)) v.expr
+updated known op void p v = Update p (PointerBy (element_size known void) (is_subtraction op)) v.expr
+updated known op (pointer k t) p v = Update p (PointerBy (element_size known (pointer k t)) (is_subtraction op)) v.expr
+updated known op (array e n) p v = Update p (PointerBy (element_size known (array e n)) (is_subtraction op)) v.expr
+updated known op (unsized e) p v = Update p (PointerBy (element_size known (unsized e)) (is_subtraction op)) v.expr
+updated known op (struct n) p v = Update p (PointerBy (element_size known (struct n)) (is_subtraction op)) v.expr
+updated known op (function r ps) p v = Update p (PointerBy (element_size known (function r ps)) (is_subtraction op)) v.expr
 
 abbrev pub assigned_by : Structs → Option BinaryOp → CType → Place → Value → Expr
 assigned_by known None t p v = Assign (access_of known t) p (as_type t v)
@@ -304,7 +327,12 @@ is_decrement step.Decrement = true
 
 abbrev pub step_of : Structs → StepOp → CType → Change
 step_of known op (integer i) = NumberBy (kind_of i) (if is_decrement op then s.Subtract else s.Add) (kind_of (promoted i))
-step_of known op t = PointerBy (element_size known t) (is_decrement op)
+step_of known op void = PointerBy (element_size known void) (is_decrement op)
+step_of known op (pointer k t) = PointerBy (element_size known (pointer k t)) (is_decrement op)
+step_of known op (array e n) = PointerBy (element_size known (array e n)) (is_decrement op)
+step_of known op (unsized e) = PointerBy (element_size known (unsized e)) (is_decrement op)
+step_of known op (struct n) = PointerBy (element_size known (struct n)) (is_decrement op)
+step_of known op (function r ps) = PointerBy (element_size known (function r ps)) (is_decrement op)
 
 -- with `old` the value is the one before
 abbrev pub stepped : Structs → StepOp → Bool → Term → Value
@@ -314,7 +342,12 @@ stepped known op old (value v) = v
 -- casts (C11 6.5.4)
 abbrev pub casted : CType → Value → Value
 casted (integer i) v = of_integer i (as_integer i v)
-casted t v = record { type = t; expr = Discard v.expr }
+casted void v = record { type = void; expr = Discard v.expr }
+casted (pointer k t) v = record { type = pointer k t; expr = Discard v.expr }
+casted (array e n) v = record { type = array e n; expr = Discard v.expr }
+casted (unsized e) v = record { type = unsized e; expr = Discard v.expr }
+casted (struct n) v = record { type = struct n; expr = Discard v.expr }
+casted (function r ps) v = record { type = function r ps; expr = Discard v.expr }
 
 -- `?:` (C11 6.5.15p5, p6)
 abbrev pub chosen : Structs → Value → Value → Value → Value
@@ -335,15 +368,15 @@ converted known (more_types p ps) [] = no_exprs
 converted known (more_types p ps) (x ∷ xs) = more_exprs (as_type p (value_of known x)) (converted known ps xs)
 
 abbrev pub first_of : Exprs → Expr
-first_of no_exprs = NullPointer
+first_of no_exprs = NullPointer Ptr
 first_of (more_exprs e es) = e
 
 abbrev pub call_by : Callee → Exprs → Expr
 call_by (a_body n) es = Call n es
-call_by no_body es = NullPointer
+call_by no_body es = NullPointer Ptr
 call_by get_character es = Getchar
 call_by put_character es = Putchar (first_of es)
 
 abbrev pub call_of : Structs → Option Entity → List Term → Value
 call_of known (Some (a_function f c t)) xs = record { type = result_of t; expr = call_by f (converted known (parameters_of t) xs) }
-call_of known e xs = int_value NullPointer
+call_of known e xs = int_value (NullPointer Ptr)

@@ -130,7 +130,11 @@ parameter d = adjust d.type
     adjust : CType → Declared
     adjust (array e n) = record { name = d.name; constant = false; type = pointer d.constant e }
     adjust (unsized e) = record { name = d.name; constant = false; type = pointer d.constant e }
-    adjust a = d
+    adjust void = d
+    adjust (integer i) = d
+    adjust (pointer k t) = d
+    adjust (struct n) = d
+    adjust (function r ps) = d
 
 -- the name of the n-th parameter is in scope behind its declarator (C11 6.2.1p7)
 abbrev pub with_name : Option Name → Entity → Scopes → Scopes
@@ -155,7 +159,10 @@ abbrev pub is_sized : CType → Bool
 is_sized (unsized e) = false
 is_sized (array e n) = is_sized e
 is_sized (pointer k e) = is_sized e
-is_sized _ = true
+is_sized void = true
+is_sized (integer i) = true
+is_sized (struct n) = true
+is_sized (function r ps) = true
 
 abbrev pub parameter_asks : Context → ℕ → Declared → List Demand
 parameter_asks c n d =

@@ -32,8 +32,28 @@ past_strings ss f = record f { context = behind_strings ss f.context; strings = 
 
 -- what is predeclared
 
+-- a typedef name that stands in for a header (C11 7.20.1.1, 7.19p2)
+pub record TypeName : Type 0 where
+  pub name : Name
+  pub type : Integer
+
+abbrev pub predeclared_types : List TypeName
+predeclared_types =
+    record { name = codes "int8_t"; type = SignedChar }
+    ∷ record { name = codes "uint8_t"; type = UnsignedChar }
+    ∷ record { name = codes "int16_t"; type = Short }
+    ∷ record { name = codes "uint16_t"; type = UnsignedShort }
+    ∷ record { name = codes "int32_t"; type = Int }
+    ∷ record { name = codes "uint32_t"; type = UnsignedInt }
+    ∷ record { name = codes "size_t"; type = UnsignedInt }
+    ∷ []
+
 abbrev pub predeclared_type : Name → Integer → Scopes → Scopes
 predeclared_type x i g = named x (a_typedef false (integer i)) g
+
+abbrev pub with_types : List TypeName → Scopes → Scopes
+with_types [] g = g
+with_types (p ∷ ps) g = predeclared_type p.name p.type (with_types ps g)
 
 abbrev pub getchar_name : Name
 getchar_name = codes "getchar"
@@ -47,17 +67,24 @@ getchar_type = function (integer Int) no_types
 abbrev pub putchar_type : CType
 putchar_type = function (integer Int) (more_types (integer Int) no_types)
 
+-- a function that is there without a definition (C11 7.21.7.6, 7.21.7.8): its name, its type, and what calls it
+pub record Builtin : Type 0 where
+  pub name : Name
+  pub type : CType
+  pub callee : Callee
+
+abbrev pub builtins : List Builtin
+builtins =
+    record { name = getchar_name; type = getchar_type; callee = get_character }
+    ∷ record { name = putchar_name; type = putchar_type; callee = put_character }
+    ∷ []
+
+abbrev pub with_builtins : List Builtin → Scopes → Scopes
+with_builtins [] g = g
+with_builtins (b ∷ bs) g = named b.name (a_function b.callee false b.type) (with_builtins bs g)
+
 abbrev pub predeclared : Scopes
-predeclared =
-    predeclared_type (codes "int8_t") SignedChar
-    (predeclared_type (codes "uint8_t") UnsignedChar
-    (predeclared_type (codes "int16_t") Short
-    (predeclared_type (codes "uint16_t") UnsignedShort
-    (predeclared_type (codes "int32_t") Int
-    (predeclared_type (codes "uint32_t") UnsignedInt
-    (predeclared_type (codes "size_t") UnsignedInt
-    (named getchar_name (a_function get_character false getchar_type)
-    (named putchar_name (a_function put_character false putchar_type) nothing))))))))
+predeclared = with_types predeclared_types (with_builtins builtins nothing)
 
 -- before the first declaration of a unit
 abbrev pub file_start : t.Tree → FilePlace
@@ -71,12 +98,15 @@ file_start u =
 
 -- what a declarator declares
 
+abbrev pub body_named : Outline → Name → Callee
+body_named o x = if is_in x o.bodies then a_body (place_in x o.bodies) else no_body
+
+abbrev pub callee_among : List Builtin → Outline → Name → Callee
+callee_among [] o x = body_named o x
+callee_among (b ∷ bs) o x = if same_name b.name x then b.callee else callee_among bs o x
+
 abbrev pub callee_named : Outline → Name → Callee
-callee_named o x =
-    if same_name getchar_name x then get_character
-    else if same_name putchar_name x then put_character
-    else if is_in x o.bodies then a_body (place_in x o.bodies)
-    else no_body
+callee_named o x = callee_among builtins o x
 
 abbrev pub file_entity : Outline → t.SpecifierList → Name → Bool → CType → Entity
 file_entity o xs x c a =
@@ -89,11 +119,13 @@ is_object_entity (an_object c a s) = true
 is_object_entity e = false
 
 -- `getchar` and `putchar` keep their types and have no body
+abbrev pub keeps_among : List Builtin → Name → Bool → CType → Bool → Bool
+keeps_among [] x c a whole = true
+keeps_among (b ∷ bs) x c a whole =
+    if same_name b.name x then rule_12_builtin b.type c a whole else keeps_among bs x c a whole
+
 abbrev pub keeps_builtin : Name → Bool → CType → Bool → Bool
-keeps_builtin x c a whole =
-    if same_name getchar_name x then rule_12_builtin getchar_type c a whole
-    else if same_name putchar_name x then rule_12_builtin putchar_type c a whole
-    else true
+keeps_builtin x c a whole = keeps_among builtins x c a whole
 
 -- of a declarator, with the type that is declared (a length that isn't written is `a`'s, from the initialiser); `whole`:
 -- an initialiser or a body stands behind it

@@ -5,7 +5,7 @@ use Rattle.im_ctree.specs.im_word.Words.{Name}
 use Rattle.im_ctree.specs.im_num.Kinds.{wrap}
 use Rattle.im_ctree.specs.Tree as t
 use Rattle.im_typed.specs.im_ctype.declared.member.MemberPlace.{MemberPlace}
-use Rattle.im_typed.specs.im_ctype.Types.{CType, void, integer, pointer, array, unsized, struct, Member, Structs, members_of}
+use Rattle.im_typed.specs.im_ctype.Types.{CType, void, integer, pointer, array, unsized, struct, function, Member, Structs, members_of}
 use Rattle.im_typed.specs.im_ctype.Members.{places}
 use Rattle.im_typed.specs.Program.{Constant, Piece}
 use Rattle.im_rules.specs.Rules.{is_string_for, initializer_count, rule_16, rule_17}
@@ -52,7 +52,9 @@ shape (integer k) i = one_shape i
 shape (pointer c a) i = one_shape i
 shape (array e n) i = if is_string_for (array e n) i then string_shape e i else element_shape e i
 shape (struct n) i = struct_shape n i
-shape a i = misshapen
+shape void i = misshapen
+shape (unsized e) i = misshapen
+shape (function r ps) i = misshapen
 
 -- a length that isn't written is counted in the initialiser (C11 6.7.9p22); of a string with its zero
 abbrev pub counted : CType → t.Initializer → ℕ
@@ -75,7 +77,10 @@ abbrev pub slots_of : Structs → CType → Slots
 slots_of known (array e n) = side_by_side e
 slots_of known (unsized e) = side_by_side e
 slots_of known (struct n) = in_order (members_of known n)
-slots_of known a = side_by_side a
+slots_of known void = side_by_side void
+slots_of known (integer i) = side_by_side (integer i)
+slots_of known (pointer k t) = side_by_side (pointer k t)
+slots_of known (function r ps) = side_by_side (function r ps)
 
 abbrev pub first_slot : Slots → CType
 first_slot (side_by_side e) = e

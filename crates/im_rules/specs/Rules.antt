@@ -8,6 +8,11 @@ use Rattle.im_ctree.specs.declared.operator.BinaryOp.TheVariants as b
 use Rattle.im_ctree.specs.declared.specifier.SpecifierWord.{SpecifierWord}
 use Rattle.im_ctree.specs.declared.specifier.SpecifierWord.TheVariants as w
 use Rattle.im_ctree.specs.Tree as t
+pub use Rattle.im_ctree.specs.Typedefs.{is_type_word}
+use Rattle.im_typed.specs.im_store.declared.operators.BinaryOp as store_op
+use Rattle.im_typed.specs.im_store.declared.operators.BinaryOp.TheVariants as s
+use Rattle.im_typed.specs.im_store.declared.operators.Comparison.{Comparison}
+use Rattle.im_typed.specs.im_store.declared.operators.Comparison.TheVariants as c
 use Rattle.im_typed.specs.im_ctype.declared.integer.Integer.TheVariants.{Char, SignedChar, UnsignedChar, Short, UnsignedShort, Int, UnsignedInt, Long, UnsignedLong}
 use Rattle.im_typed.specs.im_ctype.Types.{CType, void, integer, pointer, array, unsized, struct, function, no_types, Member, Structs, members_of, same_bool, same_type, is_void, is_integer, is_character, is_pointer, is_array, is_function, is_struct, is_scalar, are_like_pointers}
 use Rattle.im_rules.specs.TypeTests.{is_complete_in, points_to_complete, members_in, find_member, has_member, decayed, count_types}
@@ -76,9 +81,6 @@ is_storage w.Typedef = true
 is_storage w.Extern = true
 is_storage w.Static = true
 is_storage _ = false
-
-abbrev pub is_type_word : SpecifierWord → Bool
-is_type_word x = nat_lt 0 (word_code x)
 
 abbrev pub count_word : ℕ → List SpecifierWord → ℕ
 count_word k [] = 0
@@ -174,7 +176,9 @@ has_unsized (unsized e) = true
 has_unsized (array e n) = has_unsized e
 has_unsized (pointer c e) = has_unsized e
 has_unsized (function r ps) = has_unsized r
-has_unsized _ = false
+has_unsized void = false
+has_unsized (integer i) = false
+has_unsized (struct n) = false
 
 -- of a declared type; whether it is a parameter's or stands before an initialiser
 abbrev pub rule_6_absent : CType → Bool → Bool
@@ -303,11 +307,12 @@ is_list_for (Some n) (t.braced_initializer at is) = nat_le (initializer_count is
 abbrev pub rule_16 : Structs → CType → t.Initializer → Bool
 rule_16 known (integer k) i = is_one_expression i
 rule_16 known (pointer c a) i = is_one_expression i
-rule_16 known (array e n) i = is_string_for (array e n) i || is_list_for (Some n) i
+rule_16 known (array e n) i = if is_string_for (unsized e) i then is_string_for (array e n) i else is_list_for (Some n) i
 rule_16 known (unsized e) i = is_string_for (unsized e) i || is_list_for None i
 rule_16 known (struct n) (t.value_initializer e) = true
 rule_16 known (struct n) i = is_list_for (Some (length (members_of known n))) i
-rule_16 known _ i = false
+rule_16 known void i = false
+rule_16 known (function r ps) i = false
 
 -- 17 (C11 6.5.16.1, 6.5.2.2p2, 6.7.9p11, 6.8.6.4p3). An initialising expression, the right side of `=`, an argument and
 -- a returned value fit their target.
@@ -371,7 +376,10 @@ abbrev pub free_in : List Bool → CType → Bool
 free_in done (array e n) = free_in done e
 free_in done (unsized e) = free_in done e
 free_in done (struct n) = slice_index_or done n true
-free_in done a = true
+free_in done void = true
+free_in done (integer i) = true
+free_in done (pointer k t) = true
+free_in done (function r ps) = true
 
 abbrev pub members_free : List Bool → List Member → Bool
 members_free done [] = true
@@ -418,32 +426,51 @@ rule_28 x y = rule_26 x y || are_like_pointers (value_type x) (value_type y)
 abbrev pub rule_29 : Operand → Operand → Bool
 rule_29 x y = rule_28 x y || ((is_pointer (value_type x) && is_integer_null y) || (is_integer_null x && is_pointer (value_type y)))
 
--- the rule of each binary operator, and what it says (C11 6.5.5 to 6.5.14)
+-- The binary operators (C11 6.5.5 to 6.5.14): the rule of each, what it says, and what the operator computes.
+
+pub data Work : Type 0 where
+  either_holds both_hold : Work
+  -- of two integers in their common type
+  of_numbers : store_op.BinaryOp → Work
+  -- of two integers, each promoted by itself
+  by_count : store_op.BinaryOp → Work
+  -- of integers, or of pointers
+  sum_of difference_of : Work
+  comparison_of : Comparison → Work
+
+pub record Operator : Type 0 where
+  pub rule : ℕ
+  pub says : Structs → Operand → Operand → Bool
+  pub work : Work
+
+abbrev pub both_conditions : Operand → Operand → Bool
+both_conditions x y = rule_25_condition x && rule_25_condition y
+
+abbrev pub operator : BinaryOp → Operator
+operator b.Or = record { rule = 25; says = λ known. both_conditions; work = either_holds }
+operator b.And = record { rule = 25; says = λ known. both_conditions; work = both_hold }
+operator b.BitOr = record { rule = 26; says = λ known. rule_26; work = of_numbers s.BitOr }
+operator b.BitXor = record { rule = 26; says = λ known. rule_26; work = of_numbers s.BitXor }
+operator b.BitAnd = record { rule = 26; says = λ known. rule_26; work = of_numbers s.BitAnd }
+operator b.Equal = record { rule = 29; says = λ known. rule_29; work = comparison_of c.Equal }
+operator b.NotEqual = record { rule = 29; says = λ known. rule_29; work = comparison_of c.NotEqual }
+operator b.Less = record { rule = 28; says = λ known. rule_28; work = comparison_of c.Less }
+operator b.Greater = record { rule = 28; says = λ known. rule_28; work = comparison_of c.Greater }
+operator b.LessEqual = record { rule = 28; says = λ known. rule_28; work = comparison_of c.LessOrEqual }
+operator b.GreaterEqual = record { rule = 28; says = λ known. rule_28; work = comparison_of c.GreaterOrEqual }
+operator b.ShiftLeft = record { rule = 26; says = λ known. rule_26; work = by_count s.ShiftLeft }
+operator b.ShiftRight = record { rule = 26; says = λ known. rule_26; work = by_count s.ShiftRight }
+operator b.Add = record { rule = 27; says = rule_27_add; work = sum_of }
+operator b.Subtract = record { rule = 27; says = rule_27_subtract; work = difference_of }
+operator b.Multiply = record { rule = 26; says = λ known. rule_26; work = of_numbers s.Multiply }
+operator b.Divide = record { rule = 26; says = λ known. rule_26; work = of_numbers s.Divide }
+operator b.Remainder = record { rule = 26; says = λ known. rule_26; work = of_numbers s.Remainder }
+
 abbrev pub rule_of : BinaryOp → ℕ
-rule_of b.Or = 25
-rule_of b.And = 25
-rule_of b.Add = 27
-rule_of b.Subtract = 27
-rule_of b.Less = 28
-rule_of b.Greater = 28
-rule_of b.LessEqual = 28
-rule_of b.GreaterEqual = 28
-rule_of b.Equal = 29
-rule_of b.NotEqual = 29
-rule_of _ = 26
+rule_of op = (operator op).rule
 
 abbrev pub allows : Structs → BinaryOp → Operand → Operand → Bool
-allows known b.Or x y = rule_25_condition x && rule_25_condition y
-allows known b.And x y = rule_25_condition x && rule_25_condition y
-allows known b.Add x y = rule_27_add known x y
-allows known b.Subtract x y = rule_27_subtract known x y
-allows known b.Less x y = rule_28 x y
-allows known b.Greater x y = rule_28 x y
-allows known b.LessEqual x y = rule_28 x y
-allows known b.GreaterEqual x y = rule_28 x y
-allows known b.Equal x y = rule_29 x y
-allows known b.NotEqual x y = rule_29 x y
-allows known _ x y = rule_26 x y
+allows known op x y = (operator op).says known x y
 
 -- 30 (C11 6.5.16.2, 6.5.2.4p1, 6.5.3.1p1). `a op= b` is right as `a op b` and its value fits a; `++` and `--` have an
 -- integer or a pointer to a complete type. A pointer stands only on the left.

@@ -1,13 +1,12 @@
 -- The first value of a static (C11 6.6p7 to p9, 6.7.9p4, p10): what its initialiser's expressions are as constants, and
 -- what each of its cells has.
 use Rattle.std.specs.Prelude.{ℕ, ℤ, pos, negsuc, ◌+ℤ◌, ◌*ℤ◌, neg_ℤ, Bool, true, false, ◌&&◌, List, [], ◌∷◌, map, Option, Some, None, is_some, nat_eq, if◌then◌else◌}
-use Rattle.im_ctree.specs.im_num.declared.kind.Kind.{Kind}
-use Rattle.im_ctree.specs.im_num.declared.kind.Kind.TheVariants.{Ptr}
 use Rattle.im_ctree.specs.declared.operator.UnaryOp.TheVariants as o
 use Rattle.im_ctree.specs.Tree as t
 use Rattle.im_typed.specs.im_ctype.declared.cell.Cell.{Cell}
 use Rattle.im_typed.specs.im_ctype.Types.{Structs}
 use Rattle.im_typed.specs.im_store.Objects.{Value, Number, Null, Pointer, static}
+pub use Rattle.im_typed.specs.im_store.Objects.{zero_of}
 use Rattle.im_typed.specs.Program.{Place, Static, Local, Target, Member, Expr, NullPointer, Address, Move, MoveBy, Piece}
 use Rattle.im_rules.specs.Constants.{constant_value}
 use Rattle.im_rules.specs.Rules.{is_within, rule_14}
@@ -74,7 +73,7 @@ number_or (Some z) v = Some (Number z)
 -- the value of an expression as a constant; none where it is neither a constant expression nor an address constant.
 -- `size` has the bytes of each static
 abbrev pub static_value : (ℕ → ℕ) → Expr → Option Value
-static_value size NullPointer = Some Null
+static_value size (NullPointer kind) = Some Null
 static_value size e = number_or (constant_value e) (pointer_to (address_of size e))
 
 abbrev pub is_source_reached : Source → Bool
@@ -94,10 +93,6 @@ abbrev pub item_token : Item → ℕ
 item_token p = source_token p.source
 
 -- cells
-
-abbrev pub zero_of : Kind → Value
-zero_of Ptr = Null
-zero_of k = Number (pos 0)
 
 abbrev pub value_or : Value → Option Value → Value
 value_or v None = v

@@ -1,7 +1,7 @@
 -- What the rules ask about types, beside what the types themselves tell.
 use Rattle.std.specs.Prelude.{ℕ, ◌+◌, Bool, true, false, ◌&&◌, ◌||◌, List, [], ◌∷◌, length, nat_eq, Option, Some, None, if◌then◌else◌}
 use Rattle.im_ctree.specs.im_word.Words.{Name}
-use Rattle.im_typed.specs.im_ctype.Types.{CType, void, pointer, array, unsized, struct, function, CTypes, no_types, more_types, Member, Structs, members_of, is_complete}
+use Rattle.im_typed.specs.im_ctype.Types.{CType, void, integer, pointer, array, unsized, struct, function, CTypes, no_types, more_types, Member, Structs, members_of, is_complete}
 
 -- a complete object type, by the structs whose member lists have ended (C11 6.2.5p1, p22)
 abbrev pub is_complete_in : Structs → CType → Bool
@@ -35,7 +35,11 @@ has_member x (m ∷ ms) = same_name m.name x || has_member x ms
 abbrev pub decayed : Bool → CType → CType
 decayed constant (array t n) = pointer constant t
 decayed constant (unsized t) = pointer constant t
-decayed constant t = t
+decayed constant void = void
+decayed constant (integer i) = integer i
+decayed constant (pointer k t) = pointer k t
+decayed constant (struct n) = struct n
+decayed constant (function r ps) = function r ps
 
 -- what a pointer points to
 abbrev pub target_of : CType → CType

@@ -1,5 +1,11 @@
 //! What holds of the definitions. Each law is a function with an empty body, whose contract says
 //! it.
+ghost use Rattle.std.specs.Prelude.{◌≡◌, map};
+ghost use Rattle.im_ctree.specs.Tree.{SpecifierList};
+ghost use Rattle.im_ctree.specs.Typedefs.{has_typedef};
+ghost use Rattle.im_ctree.specs.Units.{predeclared_names};
+ghost use Rattle.im_rules.specs.FileScope.{TypeName, predeclared_types};
+ghost use Rattle.im_rules.specs.Rules.{is_typedef};
 ghost use Rattle.im_rules.specs.Laws.{IsTypedOnce, NamesOnce, DeclaresOnce, InitialisedOnce, StatementOnce, ItemsOnce, UnitOnce};
 ghost use Rattle.im_rules.specs.Laws.{TypedBreaksNone, NamedBreaksNone, DeclaredBreaksNone, InitialisedBreaksNone, StatementBreaksNone, ItemsBreakNone, UnitBreaksNone};
 
@@ -24,4 +30,11 @@ pub fn typed_breaks_none_law()
     ensures statement { StatementBreaksNone }
     ensures items { ItemsBreakNone }
     ensures unit { UnitBreaksNone }
+{}
+
+/// The typedef names that the grammar begins with are those of the rules, and a declaration gives
+/// names to types by the grammar where it does so by the rules.
+pub fn typedef_names_law()
+    ensures names { map {A = TypeName} (λ t. t.name) predeclared_types ≡ predeclared_names }
+    ensures typedefs { (xs : SpecifierList) → has_typedef xs ≡ is_typedef xs }
 {}

@@ -1,8 +1,8 @@
 -- Operators on well-typed values.
 use Rattle.std.proofs.Common.{◌≡◌, ◌&&◌, ◌||◌, ◌⊎◌, inl, inr, ⊎_elim, Bool, true, false, refl, sym, ap, ◌∙◌, subst, arith}
-use Rattle.std.specs.Prelude.{Option, Some, if◌then◌else◌}
+use Rattle.std.specs.Prelude.{Option, Some, nat_le, nat_lt, if◌then◌else◌}
 use Rattle.im_num.specs.declared.kind.Kind.{Kind}
-use Rattle.im_num.specs.declared.kind.Kind.TheVariants.{Ptr}
+use Rattle.im_num.specs.declared.kind.Kind.TheVariants.{I8, U8, I16, U16, I32, U32, Ptr}
 use Rattle.im_ctree.specs.declared.operator.BinaryOp.{BinaryOp}
 use Rattle.im_ctree.specs.declared.operator.BinaryOp.TheVariants as b
 use Rattle.im_store.specs.declared.operators.BinaryOp as store_op
@@ -13,13 +13,13 @@ use Rattle.im_store.specs.Objects.{same_kind}
 use Rattle.im_store.proofs.Same.{same_kind-is, both-true}
 use Rattle.im_ctype.specs.declared.integer.Integer.{Integer}
 use Rattle.im_ctype.specs.declared.integer.Integer.TheVariants.{Char, SignedChar, UnsignedChar, Short, UnsignedShort, Int, UnsignedInt, Long, UnsignedLong}
-use Rattle.im_ctype.specs.Types.{CType, void, integer, pointer, array, unsized, struct, function, Structs, kind_of, is_integer, is_pointer, is_array, is_scalar, are_like_pointers}
+use Rattle.im_ctype.specs.Types.{CType, void, integer, pointer, array, unsized, struct, function, Structs, kind_of, traits, same_bool, is_integer, is_pointer, is_array, is_scalar, are_like_pointers}
 use Rattle.im_typed.specs.Program.{Access, Scalar, Func, Prog, Expr, Convert, NullPointer, Move, MoveBy, Distance, Compare}
 use Rattle.im_typed.specs.Typing.{IsInteger, IsPromoted, IsCompared, IsIntegerShape, IsPromotedShape, IsScalarShape, IsRightShape, shape_of, IsTyped}
 use Rattle.im_rules.specs.TypeTests.{decayed, points_to_complete}
 use Rattle.im_rules.specs.Terms.{Value, Term, lvalue, value, kind_in, operand_of, value_of}
 use Rattle.im_rules.specs.Rules.{value_type, allows}
-use Rattle.im_rules.specs.Conversions.{as_integer, as_pointer, promoted, of_rank, is_long, is_unsigned, integer_of, common, arithmetic, shifted, element_size, moved, sum, difference, comparison, operation, int_value}
+use Rattle.im_rules.specs.Conversions.{as_integer, as_pointer, has_all_of, promoted, to_unsigned, mixed, usual, integer_of, common, arithmetic, shifted, element_size, moved, sum, difference, comparison, operation, int_value}
 use Rattle.im_rules_sound.specs.Sound.{gives, IsSoundValue, MovesWell}
 
 -- tests
@@ -114,30 +114,62 @@ integer-kind UnsignedInt = tt
 integer-kind Long = tt
 integer-kind UnsignedLong = tt
 
-pub promoted-kind : (i : Integer) → IsPromoted (kind_of (promoted i))
-promoted-kind Char = (tt, omega arith)
-promoted-kind SignedChar = (tt, omega arith)
-promoted-kind UnsignedChar = (tt, omega arith)
-promoted-kind Short = (tt, omega arith)
-promoted-kind UnsignedShort = (tt, omega arith)
-promoted-kind Int = (tt, omega arith)
-promoted-kind UnsignedInt = (tt, omega arith)
-promoted-kind Long = (tt, omega arith)
-promoted-kind UnsignedLong = (tt, omega arith)
+int-promoted : IsPromoted I32
+int-promoted = (tt, omega arith)
 
-rank-kind : (l u : Bool) → IsPromoted (kind_of (of_rank l u))
-rank-kind true true = (tt, omega arith)
-rank-kind true false = (tt, omega arith)
-rank-kind false true = (tt, omega arith)
-rank-kind false false = (tt, omega arith)
+unsigned-promoted : IsPromoted U32
+unsigned-promoted = (tt, omega arith)
+
+pub promoted-kind : (i : Integer) → IsPromoted (kind_of (promoted i))
+promoted-kind Char = int-promoted
+promoted-kind SignedChar = int-promoted
+promoted-kind UnsignedChar = int-promoted
+promoted-kind Short = int-promoted
+promoted-kind UnsignedShort = int-promoted
+promoted-kind Int = int-promoted
+promoted-kind UnsignedInt = unsigned-promoted
+promoted-kind Long = int-promoted
+promoted-kind UnsignedLong = unsigned-promoted
+
+unsigned-kind : (i : Integer) → IsPromoted (kind_of i) → IsPromoted (kind_of (to_unsigned i))
+unsigned-kind Char h = h
+unsigned-kind SignedChar h = h
+unsigned-kind UnsignedChar h = h
+unsigned-kind Short h = h
+unsigned-kind UnsignedShort h = h
+unsigned-kind Int h = h
+unsigned-kind UnsignedInt h = h
+unsigned-kind Long h = h
+unsigned-kind UnsignedLong h = h
+
+either-kind : (b : Bool) (i j : Integer) → IsPromoted (kind_of i) → IsPromoted (kind_of j) → IsPromoted (kind_of (if b then i else j))
+either-kind true i j h k = h
+either-kind false i j h k = k
+
+mixed-kind : (i j : Integer) → IsPromoted (kind_of i) → IsPromoted (kind_of j) → IsPromoted (kind_of (mixed i j))
+mixed-kind i j h k =
+    either-kind (nat_le (traits i).rank (traits j).rank) j (if has_all_of (traits i) (traits j) then i else to_unsigned i) k
+    (either-kind (has_all_of (traits i) (traits j)) i (to_unsigned i) h (unsigned-kind i h))
+
+usual-kind : (i j : Integer) → IsPromoted (kind_of i) → IsPromoted (kind_of j) → IsPromoted (kind_of (usual i j))
+usual-kind i j h k =
+    either-kind (same_bool (traits i).is_signed (traits j).is_signed)
+    (if nat_lt (traits i).rank (traits j).rank then j else i) (if (traits i).is_signed then mixed i j else mixed j i)
+    (either-kind (nat_lt (traits i).rank (traits j).rank) j i k h)
+    (either-kind (traits i).is_signed (mixed i j) (mixed j i) (mixed-kind i j h k) (mixed-kind j i k h))
 
 pub common-kind : (t u : CType) → IsPromoted (kind_of (common t u))
 common-kind t u =
-    rank-kind (is_long (promoted (integer_of t)) || is_long (promoted (integer_of u))) (is_unsigned (promoted (integer_of t)) || is_unsigned (promoted (integer_of u)))
+    usual-kind (promoted (integer_of t)) (promoted (integer_of u)) (promoted-kind (integer_of t)) (promoted-kind (integer_of u))
 
 compared-kind : (kind : Kind) → IsPromoted kind → IsCompared kind
+compared-kind I8 h = h
+compared-kind U8 h = h
+compared-kind I16 h = h
+compared-kind U16 h = h
+compared-kind I32 h = h
+compared-kind U32 h = h
 compared-kind Ptr h = tt
-compared-kind kind h = h
 
 module _ (g : Prog) (f : Func) (known : Structs) where
   abbrev Sound : Value → Type 0
@@ -175,9 +207,9 @@ module _ (g : Prog) (f : Func) (known : Structs) where
   pub as-pointer-sound : (v : Value) → Sound v → IsOf Ptr (as_pointer v)
   as-pointer-sound v h = by-kind (is_pointer v.type) refl
     where
-      by-kind : (x : Bool) → is_pointer v.type ≡ x → IsOf Ptr (if x then v.expr else NullPointer)
+      by-kind : (x : Bool) → is_pointer v.type ≡ x → IsOf Ptr (if x then v.expr else NullPointer Ptr)
       by-kind true e = record { typed = h.typed; shape = pointer-shape v h e }
-      by-kind false e = record { typed = tt; shape = refl }
+      by-kind false e = record { typed = refl; shape = refl }
 
   arithmetic-sound : (op : store_op.BinaryOp) (x y : Value) → ((kind : Kind) (shape : Option Access) → shape ≡ Some (Scalar kind) → IsRightShape op kind shape) → Sound x → Sound y → is_integer x.type ≡ true → is_integer y.type ≡ true → Sound (arithmetic op x y)
   arithmetic-sound op x y right hx hy ix iy =

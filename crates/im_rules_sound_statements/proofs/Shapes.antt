@@ -106,11 +106,19 @@ module _ (g : Prog) (f : Func) (c : Context) where
           (by-others l.at l.text is) r
       by-form (inr l) = subst (Info g c (array e n) at) (sym (l.braced e p is)) tt
 
+  -- what is no string of the array, and has its shape, is a list of few enough
+  no-text-few : (e : CType) (n p : ℕ) (is : t.Initializers) → is_string_for (array e n) (t.braced_initializer p is) ≡ false → rule_16 c.known (array e n) (t.braced_initializer p is) ≡ true → nat_le (initializer_count is) n ≡ true
+  no-text-few e n p is q r = by (is_string_for (unsized e) (t.braced_initializer p is)) (subst (λ b. (if is_string_for (unsized e) (t.braced_initializer p is) then b else nat_le (initializer_count is) n) ≡ true) q r)
+    where
+      by : (b : Bool) → (if b then false else nat_le (initializer_count is) n) ≡ true → nat_le (initializer_count is) n ≡ true
+      by true h = cc
+      by false h = h
+
   element-info : (e : CType) (n at : ℕ) (i : t.Initializer) → is_string_for (array e n) i ≡ false → rule_16 c.known (array e n) i ≡ true → IsWrittenInitialiser i → HasStrings g c (strings_given c.known (array e n) i) → IsGivenWithin c (an_initialiser (array e n) at i)
       → Info g c (array e n) at (element_shape e i)
   element-info e n at (t.value_initializer x) q r w s l = tt
   element-info e n at (t.braced_initializer p is) q r w s l =
-      let few : (false || nat_le (initializer_count is) n) ≡ true = subst (λ b. (b || nat_le (initializer_count is) n) ≡ true) q r in
+      let few = no-text-few e n p is q r in
       let shaped : shape (array e n) (t.braced_initializer p is) ≡ elements e is = ap (λ b. if b then string_shape e (t.braced_initializer p is) else elements e is) q in
       record {
         count = n;

@@ -143,7 +143,7 @@ module _ (g : Prog) (f : Func) where
       by-test : (m : Option ℤ) → picked m (evaluated a) (evaluated b) ≡ Some z → (evaluated a ≡ Some z → IsNumber a z) → (evaluated b ≡ Some z → IsNumber b z) → IsNumber (Choose d a b) z
       by-test None e p q = absurd (cc)
       by-test (Some y) e p q = by-arm (is_true y) e p q
-  number-good NullPointer h c z e = absurd (cc)
+  number-good (NullPointer kind) h c z e = absurd (cc)
   number-good (Read x p) h c z e = absurd (cc)
   number-good (Address p) h c z e = absurd (cc)
   number-good (Move n k a b) h c z e = absurd (cc)
@@ -212,7 +212,7 @@ module _ (g : Prog) (f : Func) where
       address-good (Move n k a b) h p e = record { shape = refl; spot = moved-good (address_of size a) (bytes_moved n k (constant_value b)) p (λ r is. (address-good a h.1 r is).spot) e }
       address-good (MoveBy n a b) h p e = record { shape = refl; spot = moved-good (address_of size b) (bytes_moved n false (constant_value a)) p (λ r is. (address-good b h.2 r is).spot) e }
       address-good (Constant k v) h p e = absurd (cc)
-      address-good NullPointer h p e = absurd (cc)
+      address-good (NullPointer kind) h p e = absurd (cc)
       address-good (Read x q) h p e = absurd (cc)
       address-good (Convert k a) h p e = absurd (cc)
       address-good (Unary op k a) h p e = absurd (cc)
@@ -261,9 +261,9 @@ module _ (g : Prog) (f : Func) where
         by-constant None is k = by-address (address_of size e) refl k
 
     pub static-good : (e : Expr) → IsTyped g f e → (v : Value) → static_value size e ≡ Some v → IsStaticValue e v
-    static-good NullPointer h v k =
+    static-good (NullPointer kind) h v k =
         let same : Null ≡ v = cc in
-        record { kind = Ptr; shape = refl; first = subst (IsFirstValue g.statics Ptr) same refl }
+        record { kind = Ptr; shape = ap (λ q. Some (Scalar q)) h; first = subst (IsFirstValue g.statics Ptr) same refl }
     static-good (Constant k z) h v e = value-good (Constant k z) h v e
     static-good (Read x p) h v e = value-good (Read x p) h v e
     static-good (Address p) h v e = value-good (Address p) h v e

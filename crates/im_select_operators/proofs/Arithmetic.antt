@@ -9,6 +9,7 @@ use Rattle.std.proofs.Math.Pow.{pow-lt}
 use Rattle.im_num.specs.declared.kind.Kind.{Kind}
 use Rattle.im_num.specs.declared.kind.Kind.TheVariants.{I32, U32}
 use Rattle.im_num.specs.Kinds.{wrap, word}
+use Rattle.im_store.specs.Numbers.{bits_of}
 use Rattle.im_rv.specs.Steps.{signed, sum_of, difference_of, less_signed}
 use Rattle.im_select_operators.specs.Tables.{IsPromoted}
 use Rattle.im_select_operators.proofs.Words.{word_only, word_small, word_wrap, word_sum, word_difference, wrap_unsigned, wrap_signed, word_of}
@@ -39,18 +40,24 @@ product_word k a b (inr e) =
     let s : word (wrap U32 a *ℤ wrap U32 b) ≡ word a * word b % 2 ^ 32 = ap (λ z. word (z *ℤ wrap U32 b)) (wrap_unsigned a) ∙ ap (λ z. word (pos (word a) *ℤ z)) (wrap_unsigned b) ∙ word_pos (word a * word b) in
     word_wrap k _ (inr e) ∙ ap (λ q. word (wrap q a *ℤ wrap q b)) e ∙ s
 
-bits_word : (f : ℕ → ℕ → ℕ) (k : Kind) (a b : ℤ) → IsPromoted k → ((x y : ℕ) → x < 2 ^ 32 → y < 2 ^ 32 → f x y < 2 ^ 32) → word (wrap k (pos (f (word (wrap k a)) (word (wrap k b))))) ≡ f (word a) (word b)
+-- the bits of a promoted number are its word
+promoted_bits : (k : Kind) (z : ℤ) → IsPromoted k → bits_of k z ≡ word z
+unfolding word
+promoted_bits k z (inl e) = ap (λ q. bits_of q z) e
+promoted_bits k z (inr e) = ap (λ q. bits_of q z) e
+
+bits_word : (f : ℕ → ℕ → ℕ) (k : Kind) (a b : ℤ) → IsPromoted k → ((x y : ℕ) → x < 2 ^ 32 → y < 2 ^ 32 → f x y < 2 ^ 32) → word (wrap k (pos (f (bits_of k (wrap k a)) (bits_of k (wrap k b))))) ≡ f (word a) (word b)
 bits_word f k a b h small =
-    let e : f (word (wrap k a)) (word (wrap k b)) ≡ f (word a) (word b) = ap (λ z. f z (word (wrap k b))) (word_wrap k a h) ∙ ap (f (word a)) (word_wrap k b h) in
+    let e : f (bits_of k (wrap k a)) (bits_of k (wrap k b)) ≡ f (word a) (word b) = ap (λ z. f z (bits_of k (wrap k b))) (promoted_bits k (wrap k a) h ∙ word_wrap k a h) ∙ ap (f (word a)) (promoted_bits k (wrap k b) h ∙ word_wrap k b h) in
     word_wrap k _ h ∙ ap (λ z. word (pos z)) e ∙ word_of (f (word a) (word b)) (small (word a) (word b) (word_small a) (word_small b))
 
-pub and_word : (k : Kind) (a b : ℤ) → IsPromoted k → word (wrap k (pos (bit_and (word (wrap k a)) (word (wrap k b))))) ≡ bit_and (word a) (word b)
+pub and_word : (k : Kind) (a b : ℤ) → IsPromoted k → word (wrap k (pos (bit_and (bits_of k (wrap k a)) (bits_of k (wrap k b))))) ≡ bit_and (word a) (word b)
 and_word k a b h = bits_word bit_and k a b h (λ x y p q. and_lt 32 x y p q)
 
-pub or_word : (k : Kind) (a b : ℤ) → IsPromoted k → word (wrap k (pos (bit_or (word (wrap k a)) (word (wrap k b))))) ≡ bit_or (word a) (word b)
+pub or_word : (k : Kind) (a b : ℤ) → IsPromoted k → word (wrap k (pos (bit_or (bits_of k (wrap k a)) (bits_of k (wrap k b))))) ≡ bit_or (word a) (word b)
 or_word k a b h = bits_word bit_or k a b h (λ x y p q. or_lt 32 x y p q)
 
-pub xor_word : (k : Kind) (a b : ℤ) → IsPromoted k → word (wrap k (pos (bit_xor (word (wrap k a)) (word (wrap k b))))) ≡ bit_xor (word a) (word b)
+pub xor_word : (k : Kind) (a b : ℤ) → IsPromoted k → word (wrap k (pos (bit_xor (bits_of k (wrap k a)) (bits_of k (wrap k b))))) ≡ bit_xor (word a) (word b)
 xor_word k a b h = bits_word bit_xor k a b h (λ x y p q. xor_lt 32 x y p q)
 
 -- negation; the complement is a difference from -1

@@ -5,7 +5,7 @@ use Rattle.std.specs.Int.{int_div_euclid}
 use Rattle.std.proofs.lemmas.Bool.Decides.{nat_tests}
 use Rattle.im_num.specs.declared.kind.Kind.{Kind}
 use Rattle.im_num.specs.declared.kind.Kind.TheVariants.{I32, U32}
-use Rattle.im_num.specs.Kinds.{wrap, word}
+use Rattle.im_num.specs.Kinds.{bits, wrap, word}
 use Rattle.im_rv.specs.declared.effect.Effect.TheVariants.{Puts}
 use Rattle.im_rv.specs.Steps.{sum_of, as_number as number_as, row, signed, shift_right, shift_right_signed}
 use Rattle.im_select_operators.specs.Tables.{IsPromoted, operation}
@@ -53,9 +53,13 @@ converted_word p kind v w a h m =
     record { z = t.a; word_is = number_word p v w t.a t.first m; is = sym (fine_is (wrap kind t.a) a t.second) }
 
 -- shifts by counts in range
-shifted_fine : (f : ℕ → ℤ) (b z : ℤ) → shifted f b ≡ Fine z → (n : ℕ) × (b ≡ pos n) × (n < 32) × (f n ≡ z)
-shifted_fine f (negsuc n) z h = absurd cc
-shifted_fine f (pos n) z h = by (nat_lt n 32) refl h
+promoted_bits : (k : Kind) → IsPromoted k → bits k ≡ 32
+promoted_bits k (inl h) = ap bits h
+promoted_bits k (inr h) = ap bits h
+
+shifted_fine : (k : Kind) (f : ℕ → ℤ) (b z : ℤ) → IsPromoted k → shifted k f b ≡ Fine z → (n : ℕ) × (b ≡ pos n) × (n < 32) × (f n ≡ z)
+shifted_fine k f (negsuc n) z p h = absurd cc
+shifted_fine k f (pos n) z p h = by (nat_lt n 32) refl (subst (λ m. cond (nat_lt n m) (Fine (f n)) (Bad ShiftCount) ≡ Fine z) (promoted_bits k p) h)
   where
     below : (n : ℕ) → nat_lt n 32 ≡ true → n < 32
     below n t = grind (arith, nat_tests)
@@ -94,17 +98,17 @@ operator_row BitAnd k a b z pc imm h e = ap (λ q. Puts q (sum_of pc 4)) (sym (a
 operator_row BitOr k a b z pc imm h e = ap (λ q. Puts q (sum_of pc 4)) (sym (or_word k a b h) ∙ ap word (fine_is _ z e))
 operator_row BitXor k a b z pc imm h e = ap (λ q. Puts q (sum_of pc 4)) (sym (xor_word k a b h) ∙ ap word (fine_is _ z e))
 operator_row ShiftLeft k a b z pc imm h e =
-    let s = shifted_fine (λ n. wrap k (wrap k a *ℤ pos (2 ^ n))) b z e in
+    let s = shifted_fine k (λ n. wrap k (wrap k a *ℤ pos (2 ^ n))) b z h e in
     let c : word b % 32 ≡ s.0 = ap (λ q. word q % 32) s.1 ∙ shift_place s.0 s.2 in
     ap (λ q. Puts q (sum_of pc 4)) (ap (λ q. word a * 2 ^ q % 2 ^ 32) c ∙ sym (shifted_word k a s.0 h s.2) ∙ ap word s.3)
 operator_row ShiftRight k a b z pc imm (inl h) e =
-    let s = shifted_fine (λ n. int_div_euclid (wrap k a) (pos (2 ^ n))) b z e in
+    let s = shifted_fine k (λ n. int_div_euclid (wrap k a) (pos (2 ^ n))) b z (inl h) e in
     let c : word b ≡ s.0 = ap word s.1 ∙ word_of s.0 (let q = s.2 in omega arith) in
     let d : wrap k a ≡ signed (word a) = ap (λ q. wrap q a) h ∙ wrap_signed a in
     ap (λ q. row (operation ShiftRight q) pc (word a) (word b) imm) h ∙ ap (λ q. Puts (shift_right_signed (word a) q) (sum_of pc 4)) c
     ∙ ap (λ q. Puts q (sum_of pc 4)) (signed_shift (word a) s.0 (word_small a) s.2 ∙ ap (λ q. word (int_div_euclid q (pos (2 ^ s.0)))) (sym d) ∙ ap word s.3)
 operator_row ShiftRight k a b z pc imm (inr h) e =
-    let s = shifted_fine (λ n. int_div_euclid (wrap k a) (pos (2 ^ n))) b z e in
+    let s = shifted_fine k (λ n. int_div_euclid (wrap k a) (pos (2 ^ n))) b z (inr h) e in
     let c : word b ≡ s.0 = ap word s.1 ∙ word_of s.0 (let q = s.2 in omega arith) in
     let d : wrap k a ≡ pos (word a) = ap (λ q. wrap q a) h ∙ wrap_unsigned a in
     ap (λ q. row (operation ShiftRight q) pc (word a) (word b) imm) h ∙ ap (λ q. Puts (shift_right (word a) q) (sum_of pc 4)) c

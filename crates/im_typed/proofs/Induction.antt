@@ -98,7 +98,7 @@ module _ (k b activation depth first capacity : ℕ) (calls calls' : Calls) (cal
 
     pub rel-value : (e : Expr) → Related k b (value_of c e) (value_of d e)
     rel-value (Constant kind z) = rel-give (Number z ∷ [])
-    rel-value NullPointer = rel-give (Null ∷ [])
+    rel-value (NullPointer kind) = rel-give (Null ∷ [])
     rel-value (Read x a) = rel-bind (rel-place a) (λ at. rel-read_at x at)
     rel-value (Address a) = rel-bind (rel-place a) (λ at. rel-give (at ∷ []))
     rel-value (Convert kind e) = rel-bind (rel-number_in (rel-value e)) (λ z. rel-give (Number (wrap kind z) ∷ []))

@@ -174,7 +174,7 @@ module _ (g : Prog) where
 
       pub right-value : (e : Expr) (s : State) → IsTyped g f e → IsSoundWorld g.statics s.world → IsHere f c s.world → IsRight g.statics s.world (Fits (shape_of g e)) (value_of c e s)
       right-value (Constant kind z) s t sane here = right-give g.statics s _ sane (t, refl)
-      right-value NullPointer s t sane here = right-give g.statics s _ sane (refl, refl)
+      right-value (NullPointer kind) s t sane here = right-give g.statics s _ sane (t, refl)
       right-value (Read x a) s t sane here =
           right-bind g.statics (right-place a s t.1 sane here) (λ at u sane₁ kept h. right-read g.statics x at u sane₁)
       right-value (Address a) s t sane here =

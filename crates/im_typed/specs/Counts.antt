@@ -25,7 +25,7 @@ abbrev mutual
 
   pub expr_nodes : Expr → ℕ
   expr_nodes (Constant kind z) = 1
-  expr_nodes NullPointer = 1
+  expr_nodes (NullPointer kind) = 1
   expr_nodes (Read x a) = 1 + place_nodes a
   expr_nodes (Address a) = 1 + place_nodes a
   expr_nodes (Convert kind e) = 1 + expr_nodes e

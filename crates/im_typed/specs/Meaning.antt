@@ -2,11 +2,11 @@
 use Rattle.std.specs.Prelude.{ℕ, zero, suc, ◌+◌, ◌==◌, Bool, true, false, not, List, [], ◌∷◌, ◌++◌, map, length, take, drop, ℤ, pos, negsuc, nat_abs, Option, Some, None, nat_lt, if◌then◌else◌}
 use Rattle.std.specs.Ordering.{int_eq}
 use Rattle.im_num.specs.declared.kind.Kind.{Kind}
-use Rattle.im_num.specs.declared.kind.Kind.TheVariants.{U8, Ptr}
+use Rattle.im_num.specs.declared.kind.Kind.TheVariants.{U8}
 use Rattle.im_num.specs.Kinds.{wrap}
 use Rattle.im_store.specs.im_ctype.declared.cell.Cell.{Cell}
 use Rattle.im_store.specs.Numbers.{apply, apply_one}
-use Rattle.im_store.specs.Objects.{Named, Object, static, Value, Number, Null, Pointer, Unset, Shape, Store, same_object}
+use Rattle.im_store.specs.Objects.{Named, Object, static, Value, Number, Null, Pointer, Unset, Shape, Store, same_object, zero_of}
 use Rattle.im_store.specs.Pointers.{moved_by, bytes_moved, member_at, distance, compare_values, holds}
 use Rattle.im_typed.specs.declared.statement.Case.{Case}
 use Rattle.im_typed.specs.Program.{Place, Static, Local, Target, Member, Expr, Constant, NullPointer, Read, Address, Convert, Unary, Binary, Move, MoveBy, Distance, Compare, Not, And, Or, Choose, Comma, Discard, Assign, Update, Increment, Part, Call, Getchar, Putchar, Exprs, no_exprs, more_exprs, Piece, Stmt, Do, Forget, Initialise, Block, If, While, DoWhile, For, Switch, Break, Continue, Return, Stmts, no_stmts, more_stmts}
@@ -57,7 +57,7 @@ module _ (c : Around) where
 
     pub value_of : Expr → Run Values
     value_of (Constant kind z) = number z
-    value_of NullPointer = scalar Null
+    value_of (NullPointer kind) = scalar Null
     value_of (Read x a) = do
       at ← place_of a
       read_at x at
@@ -205,8 +205,7 @@ forgotten o store =
 -- zero or null, where there is a cell
 abbrev pub zero_or : Option Kind → Value → Value
 zero_or None v = v
-zero_or (Some Ptr) v = Null
-zero_or (Some kind) v = Number (pos 0)
+zero_or (Some kind) v = zero_of kind
 
 abbrev pub kind_of_cell : Option Shape → ℕ → Option Kind
 kind_of_cell None offset = None

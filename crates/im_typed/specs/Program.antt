@@ -25,7 +25,7 @@ mutual
   -- C11 6.5. size is the bytes of what a pointer points to
   pub data Expr : Type 0 where
     Constant : (kind : Kind) (value : ℤ) → Expr
-    NullPointer : Expr
+    NullPointer : (kind : Kind) → Expr
     Read : (access : Access) (place : Place) → Expr
     Address : (place : Place) → Expr
     Convert : (kind : Kind) (operand : Expr) → Expr

@@ -1,6 +1,7 @@
 -- The program that a Rust value stands for. Its table of types has the cells of structs and objects.
 use Rattle.std.specs.Prelude.{map}
 use Rattle.std.specs.Option.{option_map}
+use Rattle.im_num.specs.declared.kind.Kind.TheVariants.{Ptr}
 use Rattle.im_store.specs.im_ctype.Layout.{layouts, layout_at}
 use Rattle.im_store.specs.im_ctype.Table.{Table, structs_of, layout_of}
 use Rattle.im_store.specs.Objects.{Value, Number, Null, Pointer, static}
@@ -33,7 +34,7 @@ module _ (types : Table) where
 
     pub expr_of : re.Expr → p.Expr
     expr_of (re.Number k z) = p.Constant k z
-    expr_of re.Null = p.NullPointer
+    expr_of re.Null = p.NullPointer Ptr
     expr_of (re.Read' x b a) = p.Read (access_of x) (place_of a)
     expr_of (re.Address' b a) = p.Address (place_of a)
     expr_of (re.Convert' k b e) = p.Convert k (expr_of e)

@@ -1,7 +1,7 @@
 -- What a program does on an input: its statics, calls, and what main returns (C11 5.1.2.2.3, 6.2.4, 6.5.2.2, 6.9.1).
 use Rattle.std.specs.Prelude.{ℕ, zero, suc, ◌+◌, ◌-◌, ◌==◌, length, take, sum_by, Bool, true, false, List, [], ◌∷◌, ℤ, pos, Option, Some, None, nat_le, slice_get, slice_index_or, if◌then◌else◌}
 use Rattle.im_store.specs.declared.undefined.Undefined.TheVariants.{MissingResult}
-use Rattle.im_store.specs.Objects.{Name, Named, Slot, Link, Object, Value, Number, Shape, shape_of, Store, begins, ends}
+use Rattle.im_store.specs.Objects.{Name, Named, Slot, Link, Object, Value, Number, Null, Pointer, Unset, Shape, shape_of, Store, begins, ends}
 use Rattle.im_store.specs.Statics.{with_statics}
 use Rattle.im_store.specs.Access.{with_value}
 use Rattle.im_store.specs.Outcomes.{Outcome, Undef, More, End, variables}
@@ -61,8 +61,11 @@ call_result false _ = []
 
 -- main of a well-typed program gives a number
 abbrev pub status_of : Values → ℤ
+status_of [] = pos 0
 status_of (Number z ∷ vs) = z
-status_of _ = pos 0
+status_of (Null ∷ vs) = pos 0
+status_of (Pointer o i ∷ vs) = pos 0
+status_of (Unset ∷ vs) = pos 0
 
 module _ (g : Setting) where
   abbrev pub frame_of : ℕ → ℕ

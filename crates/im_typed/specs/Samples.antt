@@ -170,7 +170,7 @@ calls_main =
 abbrev pub has_two_activations : Setting
 has_two_activations =
     program []
-    (function 0 (Some I32) [] (returns (Call 1 (arguments (NullPointer ∷ int 1 ∷ []))) ∷ [])
+    (function 0 (Some I32) [] (returns (Call 1 (arguments (NullPointer Ptr ∷ int 1 ∷ []))) ∷ [])
     ∷ function 2 (Some I32) (pointer_object ∷ int_object ∷ int_object ∷ [])
     (Forget 2
     ∷ If (get (Local 1)) (returns (Call 1 (arguments (Address (Local 2) ∷ int 0 ∷ [])))) (Block no_stmts)
@@ -181,7 +181,7 @@ has_two_activations =
 abbrev pub reads_dead_pointer : Setting
 reads_dead_pointer =
     program (static_of 4 (cell 0 Ptr ∷ []) (v.Null ∷ []) ∷ [])
-    (function 0 (Some I32) [] (Do (Call 1 no_exprs) ∷ returns (Compare Equal Ptr (pointer (Static 0)) NullPointer) ∷ [])
+    (function 0 (Some I32) [] (Do (Call 1 no_exprs) ∷ returns (Compare Equal Ptr (pointer (Static 0)) (NullPointer Ptr)) ∷ [])
     ∷ function 0 None (int_object ∷ []) (Forget 0 ∷ Do (Assign (Scalar Ptr) (Static 0) (Address (Local 0))) ∷ []) ∷ [])
 
 -- `int *f(void) { int x; return &x; } int main(void) { return f() == f(); }`
@@ -313,4 +313,4 @@ orders_two_objects =
 
 -- `int *p; p = 0; return e;`
 abbrev pub with_null : Expr → Setting
-with_null e = main_only (pointer_object ∷ []) (Forget 0 ∷ Do (Assign (Scalar Ptr) (Local 0) NullPointer) ∷ returns e ∷ [])
+with_null e = main_only (pointer_object ∷ []) (Forget 0 ∷ Do (Assign (Scalar Ptr) (Local 0) (NullPointer Ptr)) ∷ returns e ∷ [])

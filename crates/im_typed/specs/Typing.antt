@@ -3,7 +3,7 @@ use Rattle.std.specs.Prelude.{◌≡◌, ℕ, suc, ◌+◌, ◌%◌, ◌<◌, �
 use Rattle.std.specs.Ordering.{int_eq}
 use Rattle.std.specs.Option.{option_map}
 use Rattle.im_num.specs.declared.kind.Kind.{Kind}
-use Rattle.im_num.specs.declared.kind.Kind.TheVariants.{I32, Ptr}
+use Rattle.im_num.specs.declared.kind.Kind.TheVariants.{I8, U8, I16, U16, I32, U32, Ptr}
 use Rattle.im_num.specs.Kinds.{kind_size, IsOfKind}
 use Rattle.im_store.specs.im_ctype.declared.cell.Cell.{Cell}
 use Rattle.im_store.specs.declared.operators.BinaryOp.{BinaryOp}
@@ -24,8 +24,13 @@ Each P (x ∷ xs) = P x × Each P xs
 
 -- a kind of integers
 abbrev pub IsInteger : Kind → Type 0
+IsInteger I8 = Unit {0}
+IsInteger U8 = Unit {0}
+IsInteger I16 = Unit {0}
+IsInteger U16 = Unit {0}
+IsInteger I32 = Unit {0}
+IsInteger U32 = Unit {0}
 IsInteger Ptr = ⊥
-IsInteger _ = Unit {0}
 
 -- operators work on promoted numbers: those of a kind at least as wide as int (C11 6.3.1.8)
 abbrev pub IsPromoted : Kind → Type 0
@@ -33,8 +38,13 @@ IsPromoted kind = IsInteger kind × (kind_size I32 ≤ kind_size kind)
 
 -- promoted numbers are compared, and pointers
 abbrev pub IsCompared : Kind → Type 0
+IsCompared I8 = IsPromoted I8
+IsCompared U8 = IsPromoted U8
+IsCompared I16 = IsPromoted I16
+IsCompared U16 = IsPromoted U16
+IsCompared I32 = IsPromoted I32
+IsCompared U32 = IsPromoted U32
 IsCompared Ptr = Unit {0}
-IsCompared kind = IsPromoted kind
 
 -- bytes of an element that a pointer moves over
 abbrev pub IsElement : ℕ → Type 0
@@ -169,7 +179,7 @@ module _ (g : Prog) where
   -- what an expression gives
   abbrev pub shape_of : Expr → Option Access
   shape_of (Constant kind z) = Some (Scalar kind)
-  shape_of NullPointer = Some (Scalar Ptr)
+  shape_of (NullPointer kind) = Some (Scalar kind)
   shape_of (Read x a) = Some x
   shape_of (Address a) = Some (Scalar Ptr)
   shape_of (Convert kind e) = Some (Scalar kind)
@@ -203,7 +213,7 @@ module _ (g : Prog) where
 
       pub IsTyped : Expr → Type 0
       IsTyped (Constant kind z) = IsInteger kind × IsOfKind kind z
-      IsTyped NullPointer = Unit {0}
+      IsTyped (NullPointer kind) = kind ≡ Ptr
       IsTyped (Read x a) = IsAccess x × IsTypedPlace a
       IsTyped (Address a) = IsTypedPlace a
       IsTyped (Convert kind e) = IsInteger kind × IsTyped e × IsIntegerShape (shape_of e)

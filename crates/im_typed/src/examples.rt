@@ -184,9 +184,9 @@ pub fn pointers()
 /// `&*p` of a null p is null, `&p[0]` is arithmetic on null, and `*p` is no cell (C11 6.5.3.2).
 pub fn null_pointer()
     ensures address_of_target { (input : List ℕ) (fuel : ℕ) →
-        meaning (with_null (Compare Equal Ptr (Address (target 0)) NullPointer)) input fuel ≡ End 0 (pos 1) [] [] }
+        meaning (with_null (Compare Equal Ptr (Address (target 0)) (NullPointer Ptr))) input fuel ≡ End 0 (pos 1) [] [] }
     ensures address_of_element { (input : List ℕ) (fuel : ℕ) →
-        meaning (with_null (Compare Equal Ptr (Address (Target (Move 4 false (pointer (Local 0)) (int 0)))) NullPointer)) input fuel ≡ Undef OutsideObject }
+        meaning (with_null (Compare Equal Ptr (Address (Target (Move 4 false (pointer (Local 0)) (int 0)))) (NullPointer Ptr))) input fuel ≡ Undef OutsideObject }
     ensures value { (input : List ℕ) (fuel : ℕ) →
         meaning (with_null (get (target 0))) input fuel ≡ Undef NoSuchCell }
     ensures member { (input : List ℕ) (fuel : ℕ) →

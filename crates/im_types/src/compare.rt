@@ -14,21 +14,26 @@ pub fn same_bool(first: bool, second: bool) -> bool
     if first { second } else { !second }
 }
 
+fn integer_number(ty: Integer) -> u8
+    ensures { result ≡ t.integer_number ty }
+{
+    match ty {
+        Integer::Char => 0,
+        Integer::SignedChar => 1,
+        Integer::UnsignedChar => 2,
+        Integer::Short => 3,
+        Integer::UnsignedShort => 4,
+        Integer::Int => 5,
+        Integer::UnsignedInt => 6,
+        Integer::Long => 7,
+        Integer::UnsignedLong => 8,
+    }
+}
+
 fn same_integer(first: Integer, second: Integer) -> bool
     ensures { result ≡ t.same_integer first second }
 {
-    match (first, second) {
-        (Integer::Char, Integer::Char) => true,
-        (Integer::SignedChar, Integer::SignedChar) => true,
-        (Integer::UnsignedChar, Integer::UnsignedChar) => true,
-        (Integer::Short, Integer::Short) => true,
-        (Integer::UnsignedShort, Integer::UnsignedShort) => true,
-        (Integer::Int, Integer::Int) => true,
-        (Integer::UnsignedInt, Integer::UnsignedInt) => true,
-        (Integer::Long, Integer::Long) => true,
-        (Integer::UnsignedLong, Integer::UnsignedLong) => true,
-        _ => false,
-    }
+    integer_number(first) == integer_number(second)
 }
 
 fn is_void_too(other: &Type) -> bool
