@@ -18,8 +18,6 @@ use Rattle.im_lower_plain.specs.MakeUnit.{HasTypes, KnowsTypes}
 use Rattle.im_typed.specs.StructsLaws.{StatementsLaw, ObjectsLaw}
 use Rattle.im_rules_sound_unit.specs.Laws.{UnitsLaw}
 use Rattle.im_rules_sound_unit.specs.im_rules_sound_places.Units.{IsWrittenUnit}
-use Rattle.im_check_stop.specs.declared.stop.Stop.{Stop}
-use Rattle.im_check_stop.specs.declared.stop.Stop.TheVariants as s
 use Rattle.im_check_defined.specs.declared.function.Defined.{Defined}
 use Rattle.im_check_program.specs.declared.programs.Parts.{Parts}
 use Rattle.im_check_program.specs.Known.{AreStaticsOf, AreFunctionsOf}
@@ -29,8 +27,7 @@ use Rattle.im_check.specs.declared.fault.CheckFault.TheVariants as f
 use Rattle.im_check.specs.declared.fault.Limit.TheVariants as w
 use Rattle.im_check.specs.Checked.{IsChecked, IsCheckFault}
 use Rattle.im_check.specs.Counts.{IsOverParameters, IsOverStatics}
-use Rattle.im_check.specs.Stops.{fault_of}
-use Rattle.im_check.specs.Units.{UnitTyped, IsUnitFault}
+use Rattle.im_check.specs.Units.{UnitTyped}
 use Rattle.im_check.proofs.Programs.{meant, is_typed, statics_same, within, is_program}
 
 statics_known : (types : Table) (xs : List StaticObject) (ss : List rst.Static) → AreStaticsOf types xs ss → All (λ (x : rst.Static). IsIn types x.object.ty) ss
@@ -66,18 +63,10 @@ checked statements objects units {u = u} {p = p} h g m written few small =
       known = record { statics = statics_known g.types _ g.statics.items m.statics; objects = functions_known p.file.place.structs g.types p.functions.items g.funcs.items m.functions };
     }
 
-unit_stop : (u : t.Tree) (stop : Stop) → IsUnitFault u stop → IsCheckFault u (fault_of stop)
-unit_stop u (s.Rule rule token) h = h
-unit_stop u (s.Large bytes) h = l.too_large h.0 h.1
-unit_stop u s.Memory h = tt
-
-pub unit_stops : (u : t.Tree) (stop : Stop) (x : CheckFault) → x ≡ fault_of stop → IsUnitFault u stop → IsCheckFault u x
-unit_stops u stop x same h = subst (IsCheckFault u) (sym same) (unit_stop u stop h)
-
 pub parameters_stop : (u : t.Tree) (x : CheckFault) → IsOverParameters u x → IsCheckFault u x
 parameters_stop u (f.Limit w.Parameters count) h = l.too_many_parameters h
-parameters_stop u (f.Limit w.Size count) h = absurd h
 parameters_stop u (f.Limit w.Statics count) h = absurd h
+parameters_stop u (f.Large bytes token name) h = absurd h
 parameters_stop u (f.Rule rule token) h = absurd h
 parameters_stop u f.OutOfMemory h = tt
 
@@ -86,6 +75,6 @@ statics_stop {u = u} h g (f.Limit w.Statics count) m o =
     let same : count ≡ static_bytes (meant h).statics = o.0 ∙ ap (λ xs. static_bytes xs) (statics_same h g m) in
     (subst (λ n. l.Exceeds u l.of_statics n) (sym same) (l.too_many_statics (is_typed h) (subst (λ n. 1048576 < n) same o.1)), h.within)
 statics_stop h g (f.Limit w.Parameters count) m o = absurd o
-statics_stop h g (f.Limit w.Size count) m o = absurd o
+statics_stop h g (f.Large bytes token name) m o = absurd o
 statics_stop h g (f.Rule rule token) m o = absurd o
 statics_stop h g f.OutOfMemory m o = tt

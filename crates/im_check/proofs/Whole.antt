@@ -5,18 +5,26 @@ use Rattle.im_rules.specs.Demands.{Meets}
 use Rattle.im_rules.specs.FileScope.{FilePlace, file_start, main_asks}
 use Rattle.im_rules.specs.TypedUnit.{AreExternals}
 use Rattle.im_rules.specs.UnitBreaks.{some_externals, UnitBroken, in_externals, at_unit}
+use Rattle.im_rules_limits.specs.Limits as l
 use Rattle.im_rules_limits.specs.Limits.{IsFileWithin}
 use Rattle.im_check_stop.specs.declared.stop.Stop.{Stop}
-use Rattle.im_check_stop.specs.declared.stop.Stop.TheVariants.{Rule, Large, Memory}
+use Rattle.im_check_stop.specs.declared.stop.Stop.TheVariants as s
 use Rattle.im_check_stop.specs.Answers.{IsRefusal}
 use Rattle.im_check_file_place.specs.declared.file.File.{File}
 use Rattle.im_check_file_place.specs.Files.{file_place_of}
-use Rattle.im_check_externals.specs.Answers.{IsFileFault}
 use Rattle.im_check_defined.specs.Values.{first_values_in}
+use Rattle.im_check_externals.specs.declared.fault.UnitFault.{UnitFault}
+use Rattle.im_check_externals.specs.declared.fault.UnitFault.TheVariants as f
 use Rattle.im_check_externals.specs.declared.unit.UnitDefined.{UnitDefined}
 use Rattle.im_check_externals.specs.Externals.{ExternalsDone}
+use Rattle.im_check_externals.specs.Faults.{IsExternalsFault}
+use Rattle.im_check_externals.proofs.Large.{among_sized}
 use Rattle.im_check_program.specs.declared.programs.Parts.{Parts}
-use Rattle.im_check.specs.Units.{UnitTyped, IsUnitFault}
+use Rattle.im_check.specs.declared.fault.CheckFault.{CheckFault}
+use Rattle.im_check.specs.declared.fault.CheckFault.TheVariants.{Rule, Limit, Large, OutOfMemory}
+use Rattle.im_check.specs.Checked.{IsCheckFault}
+use Rattle.im_check.specs.Stops.{IsOfRule, fault_of}
+use Rattle.im_check.specs.Units.{UnitTyped}
 
 pub unit_typed : (u : t.Tree) (before after : File) (done : UnitDefined) → file_place_of before ≡ file_start u → ExternalsDone before u after done → Meets (main_asks (file_place_of after).context.scopes)
     → UnitTyped u (record { file = after; given = done.firsts; functions = done.functions })
@@ -29,15 +37,21 @@ unit_typed u before after done begun h main =
       within = subst (λ (p : FilePlace). IsFileWithin p (some_externals u)) begun h.within;
     }
 
-pub externals_fault : (u : t.Tree) (p : FilePlace) (stop : Stop) → p ≡ file_start u → IsFileFault p (some_externals u) stop → IsUnitFault u stop
-externals_fault u p (Rule rule token) begun h = in_externals (subst (λ (q : FilePlace). IsFileFault q (some_externals u) (Rule rule token)) begun h)
-externals_fault u p (Large bytes) begun h = subst (λ (q : FilePlace). IsFileFault q (some_externals u) (Large bytes)) begun h
-externals_fault u p Memory begun h = tt
+unit_fault : (u : t.Tree) (fault : UnitFault) → IsExternalsFault (file_start u) u fault → IsCheckFault u (fault_of fault)
+unit_fault u (f.Rule rule token) h = in_externals h
+unit_fault u (f.Large bytes token name) h = record { exceeds = l.too_large (among_sized h.0) h.1; first = h.0 }
+unit_fault u f.Memory h = tt
 
-pub main_fault : (u : t.Tree) (before after : File) (done : UnitDefined) (stop : Stop) → file_place_of before ≡ file_start u → ExternalsDone before u after done
-    → IsRefusal (main_asks (file_place_of after).context.scopes) 0 stop → IsUnitFault u stop
-main_fault u before after done (Rule rule token) begun h r =
+pub externals_fault : (u : t.Tree) (p : FilePlace) (fault : UnitFault) (x : CheckFault) → x ≡ fault_of fault → p ≡ file_start u → IsExternalsFault p u fault → IsCheckFault u x
+externals_fault u p fault x same begun h =
+    subst (IsCheckFault u) (sym same) (unit_fault u fault (subst (λ (q : FilePlace). IsExternalsFault q u fault) begun h))
+
+pub main_fault : (u : t.Tree) (before after : File) (done : UnitDefined) (stop : Stop) (x : CheckFault) → file_place_of before ≡ file_start u → ExternalsDone before u after done
+    → IsRefusal (main_asks (file_place_of after).context.scopes) 0 stop → IsOfRule stop x → IsCheckFault u x
+main_fault u before after done stop (Rule rule token) begun h r is =
     let typed : AreExternals (file_start u) u (first_values_in done.firsts.items) h.made (file_place_of after) = subst (λ (p : FilePlace). AreExternals p u (first_values_in done.firsts.items) h.made (file_place_of after)) begun h.typed in
-    subst (λ k. UnitBroken u rule k) (sym r.1) (at_unit typed r.0)
-main_fault u before after done (Large bytes) begun h r = absurd r
-main_fault u before after done Memory begun h r = tt
+    let refused : IsRefusal (main_asks (file_place_of after).context.scopes) 0 (s.Rule rule token) = subst (λ z. IsRefusal (main_asks (file_place_of after).context.scopes) 0 z) is r in
+    subst (λ k. UnitBroken u rule k) (sym refused.1) (at_unit typed refused.0)
+main_fault u before after done stop (Limit which count) begun h r is = absurd is
+main_fault u before after done stop (Large bytes token name) begun h r is = absurd is
+main_fault u before after done stop OutOfMemory begun h r is = tt

@@ -2,25 +2,28 @@ ghost use Rattle.std.specs.Prelude.{◌≡◌};
 ghost use Rattle.im_check.specs.declared.fault.CheckFault.TheVariants.{OutOfMemory};
 ghost use Rattle.im_check.specs.Stops.{fault_of};
 
-use im_check_stop::Stop;
+use im_check_externals::UnitFault;
+use im_ctree::Name;
 use im_num::NoMemory;
 
-/// What has a limit: the parameters of one function, the bytes of one type, and the bytes of all
-/// statics.
+/// What is counted and has a limit: the parameters of one function, and the bytes of all statics.
 #[derive(Clone, Copy, PartialEq, Eq, Debug)]
 pub enum Limit {
     Parameters,
-    Size,
     Statics,
 }
 
 /// Why a tree isn't checked to a program.
-#[derive(Clone, Copy, PartialEq, Eq, Debug)]
+#[derive(Debug, Drop)]
 pub enum CheckFault {
     /// The rule of that number is broken by a node whose first token is that one.
     Rule { number: u32, token: u32 },
     /// A count is over its limit.
     Limit { which: Limit, count: u64 },
+    /// A type has that many bytes, which is over the limit of 1048576. It was met in the declarator of
+    /// this name, or in a function with it, or in specifiers, which have no name; the token is their
+    /// first.
+    Large { bytes: u64, token: u32, name: Name },
     OutOfMemory,
 }
 
@@ -32,17 +35,14 @@ impl From<NoMemory> for CheckFault {
     }
 }
 
-impl From<Stop> for CheckFault {
-    ghost from_gives = { λ stop fault. fault ≡ fault_of stop };
+impl From<UnitFault> for CheckFault {
+    ghost from_gives = { λ fault result. result ≡ fault_of fault };
 
-    fn from(stop: Stop) -> CheckFault {
-        match stop {
-            Stop::Rule { number, token } => CheckFault::Rule { number, token },
-            Stop::Large { bytes } => CheckFault::Limit {
-                which: Limit::Size,
-                count: bytes,
-            },
-            Stop::Memory => CheckFault::OutOfMemory,
+    fn from(fault: UnitFault) -> CheckFault {
+        match fault {
+            UnitFault::Rule { number, token } => CheckFault::Rule { number, token },
+            UnitFault::Large { bytes, token, name } => CheckFault::Large { bytes, token, name },
+            UnitFault::Memory => CheckFault::OutOfMemory,
         }
     }
 }

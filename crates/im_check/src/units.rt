@@ -1,8 +1,13 @@
 //! Units (C11 6.9).
-ghost use Rattle.std.specs.Prelude.{MatchResult};
+ghost use Rattle.std.specs.Prelude.{MatchResult, List};
 ghost use Rattle.im_ctree.specs.Shape.{tree_of};
-ghost use Rattle.im_check.specs.Units.{UnitTyped, IsUnitFault};
+ghost use Rattle.im_rules.specs.Demands.{Demand};
+ghost use Rattle.im_check_stop.specs.Answers.{IsRefusal};
+ghost use Rattle.im_check.specs.Checked.{IsCheckFault};
+ghost use Rattle.im_check.specs.Stops.{IsOfRule};
+ghost use Rattle.im_check.specs.Units.{UnitTyped};
 
+use crate::fault::CheckFault;
 use im_check_externals::externals;
 use im_check_file_names::has_main;
 use im_check_file_place::File;
@@ -11,16 +16,30 @@ use im_check_stop::Stop;
 use im_ctree::Tree;
 use std::alloc::Global;
 
+/// A rule that refuses, which names no type.
+fn of_rule(stop: Stop) -> CheckFault
+    requires { (asked : List Demand) × IsRefusal asked 0 stop }
+    ensures { IsOfRule stop result }
+{
+    match stop {
+        Stop::Rule { number, token } => CheckFault::Rule { number, token },
+        Stop::Large { .. } => unreachable!(),
+        Stop::Memory => CheckFault::OutOfMemory,
+    }
+}
+
 /// The external declarations of a unit, with a body of `main`. Each is given back once it is typed.
-pub(crate) fn unit(alloc: Global, tree: Tree) -> Result<Parts, Stop>
-    ensures { MatchResult result (UnitTyped (tree_of tree)) (IsUnitFault (tree_of tree)) }
+pub(crate) fn unit(alloc: Global, tree: Tree) -> Result<Parts, CheckFault>
+    ensures { MatchResult result (UnitTyped (tree_of tree)) (IsCheckFault (tree_of tree)) }
 {
     let mut file = File::start(alloc, &tree)?;
     let done = externals(alloc, tree, &mut file)?;
-    has_main(alloc, &file.place.scope)?;
-    Ok(Parts {
-        file,
-        given: done.firsts,
-        functions: done.functions,
-    })
+    match has_main(alloc, &file.place.scope) {
+        Ok(()) => Ok(Parts {
+            file,
+            given: done.firsts,
+            functions: done.functions,
+        }),
+        Err(stop) => Err(of_rule(stop)),
+    }
 }

@@ -1,5 +1,5 @@
 -- External declarations, one behind the other.
-use Rattle.std.proofs.Common.{◌≡◌, ◌<◌, ◌≤◌, ℕ, ◌+◌, List, [], ◌∷◌, ◌++◌, length, drop, get_or, Vec, Global, sym, ap, ◌∙◌, subst, append_assoc}
+use Rattle.std.proofs.Common.{◌≡◌, ◌<◌, ◌≤◌, ℕ, ◌+◌, List, [], ◌∷◌, ◌++◌, length, drop, get_or, Vec, Global, Result, Ok, Err, MatchResult, sym, ap, ◌∙◌, subst, append_assoc}
 use Rattle.std.proofs.lemmas.List.{append-nil, drop_more, drop_all, length_push}
 use Rattle.im_ctree.specs.Tree as t
 use Rattle.im_ctree.specs.Shape.{external_of, externals_of}
@@ -8,22 +8,28 @@ use Rattle.im_check_file_functions.specs.im_typed.Program.{Func}
 use Rattle.im_rules.specs.FileScope.{FilePlace}
 use Rattle.im_rules.specs.TypedUnit as u
 use Rattle.im_rules.specs.TypedUnit.{AreExternals, no_external, an_external}
+use Rattle.im_rules.specs.BodyBreaks.{declarator_token}
+use Rattle.im_rules.specs.Outline.{name_of}
 use Rattle.im_rules.specs.UnitBreaks as b
 use Rattle.im_rules.specs.UnitBreaks.{FileBroken, some_externals, within_file, first_external, other_externals}
-use Rattle.im_check_file_functions.specs.im_rules_limits.Limits.{FileSized, size_in_file_part, IsFileWithin}
+use Rattle.im_check_file_functions.specs.im_word.Words.{Name}
+use Rattle.im_check_file_functions.specs.im_rules_limits.Limits.{IsFileWithin}
 use Rattle.im_check_stop.specs.declared.stop.Stop.{Stop}
-use Rattle.im_check_stop.specs.declared.stop.Stop.TheVariants.{Rule, Large, Memory}
 use Rattle.im_check_file_place.specs.declared.file.File.{File}
 use Rattle.im_check_file_place.specs.Files.{file_place_of}
-use Rattle.im_check_file_declarations.specs.Answers.{IsFileFault}
+use Rattle.im_check_file_specifiers.specs.Answers.{IsFileFault}
 use Rattle.im_check_defined.specs.declared.first_values.FirstValues.{FirstValues}
 use Rattle.im_check_defined.specs.declared.function.Defined.{Defined}
 use Rattle.im_check_defined.specs.Functions.{function_in, AreDefined}
 use Rattle.im_check_defined.specs.Values.{first_values_in}
 use Rattle.im_check_file_declarations.specs.Declarations.{DeclarationDone}
 use Rattle.im_check_file_functions.specs.Definitions.{DefinitionDone}
+use Rattle.im_check_externals.specs.declared.fault.UnitFault.{UnitFault}
 use Rattle.im_check_externals.specs.declared.unit.UnitDefined.{UnitDefined}
 use Rattle.im_check_externals.specs.Externals.{ExternalDone, ExternalsDone}
+use Rattle.im_check_externals.specs.Faults.{IsExternalFault, IsExternalsFault, IsMetIn}
+use Rattle.im_check_externals.specs.Large.{LargeAmong, in_function, this_external, other_external}
+use Rattle.im_check_externals.proofs.Faults.{of_whole, of_stop}
 use Rattle.im_check_externals.proofs.Longer.{external_more}
 use Rattle.im_check_externals.proofs.Defined.{defined_longer, defined_two, defined_one}
 use Rattle.im_check_externals.proofs.Within.{nothing_within, more_within}
@@ -36,7 +42,7 @@ last xs i all = drop_all i xs all
 
 -- one of either kind
 
-pub of_declared : {before after : File} {x : t.External} (firsts : Vec FirstValues Global) (done : UnitDefined)
+of_declared : {before after : File} {x : t.External} (firsts : Vec FirstValues Global) (done : UnitDefined)
     → DeclarationDone (file_place_of before) x done.firsts.items firsts.items (file_place_of after)
     → ExternalDone before done x after (record { firsts = firsts; functions = done.functions })
 of_declared firsts done d =
@@ -50,6 +56,12 @@ of_declared firsts done d =
       functions = sym (append-nil done.functions.items);
       same = tt;
     }
+
+pub declared : {before after : File} {x : t.External} (firsts : Vec FirstValues Global) (done : UnitDefined) (result : Result Unit UnitFault)
+    → MatchResult result (λ u. DeclarationDone (file_place_of before) x done.firsts.items firsts.items (file_place_of after)) (IsExternalFault (file_place_of before) x)
+    → MatchResult result (λ u. ExternalDone before done x after (record { firsts = firsts; functions = done.functions })) (IsExternalFault (file_place_of before) x)
+declared firsts done (Ok u) d = of_declared firsts done d
+declared firsts done (Err fault) h = h
 
 pub of_defined : {before after : File} {x : t.External} {f : Defined} (functions : Vec Defined Global) (done : UnitDefined)
     → functions.items ≡ done.functions.items ++ f ∷ []
@@ -76,7 +88,7 @@ pub record Reached (before now : File) (done : UnitDefined) (xs : List External)
   pub breaks_on : (rule token : ℕ)
       → FileBroken (file_place_of now) (some_externals (externals_of (drop i xs))) rule token
       → FileBroken (file_place_of before) (some_externals (externals_of xs)) rule token
-  pub sizes_on : (bytes : ℕ) → FileSized (file_place_of now) (some_externals (externals_of (drop i xs))) bytes → FileSized (file_place_of before) (some_externals (externals_of xs)) bytes
+  pub larges_on : (bytes token : ℕ) (name : Name) → LargeAmong (file_place_of now) (externals_of (drop i xs)) bytes token name → LargeAmong (file_place_of before) (externals_of xs) bytes token name
   pub within_on : IsFileWithin (file_place_of now) (some_externals (externals_of (drop i xs))) → IsFileWithin (file_place_of before) (some_externals (externals_of xs))
   pub same : AreDefined now.place.structs made done.functions.items
 
@@ -86,7 +98,7 @@ reached_none f done xs no_firsts no_functions =
       made = [];
       goes_on = λ hs ks e h. subst (λ (vs : List FirstValues). AreExternals (file_place_of f) (externals_of xs) (first_values_in vs ++ hs) ks e) (sym no_firsts) h;
       breaks_on = λ rule token h. h;
-      sizes_on = λ bytes h. h;
+      larges_on = λ bytes token name h. h;
       within_on = λ h. h;
       same = subst (λ fs. AreDefined f.place.structs [] fs) (sym no_functions) tt;
     }
@@ -108,7 +120,7 @@ reached_more {before = before} {now = now} {after = after} {done = done} {done' 
           subst (λ z. AreExternals (file_place_of before) (externals_of xs) z ((reached.made ++ one.made) ++ ks) e) values
           (subst (λ z. AreExternals (file_place_of before) (externals_of xs) (first_values_in done.firsts.items ++ (one.given ++ hs)) z e) (sym (append_assoc reached.made one.made ks)) (reached.goes_on (one.given ++ hs) (one.made ++ ks) e h₁));
       breaks_on = λ rule token h. reached.breaks_on rule token (subst (λ z. FileBroken (file_place_of now) (some_externals z) rule token) (sym whole) (within_file (other_externals one.typed) h));
-      sizes_on = λ bytes h. reached.sizes_on bytes (subst (λ z. FileSized (file_place_of now) (some_externals z) bytes) (sym whole) (size_in_file_part (other_externals one.typed) h));
+      larges_on = λ bytes token name h. reached.larges_on bytes token name (subst (λ z. LargeAmong (file_place_of now) z bytes token name) (sym whole) (other_external one.typed one.within h));
       within_on = λ h. reached.within_on (subst (λ z. IsFileWithin (file_place_of now) (some_externals z)) (sym whole) (more_within one.typed one.within h));
       same =
           subst (λ fs. AreDefined after.place.structs (reached.made ++ one.made) fs) (sym one.functions)
@@ -123,16 +135,24 @@ pub reached_push : {before now after : File} {done done' : UnitDefined} (xs yiel
 reached_push {before = before} {after = after} {done' = done'} xs yielded x below is reached one =
     subst (λ n. Reached before after done' xs n) (sym (length_push yielded x)) (reached_more (next xs (length yielded) x below is) reached one)
 
-pub reached_fault : {before now : File} {done : UnitDefined} {xs : List External} {i : ℕ} {x : External} (stop : Stop)
+pub reached_fault : {before now : File} {done : UnitDefined} {xs : List External} {i : ℕ} {x : External} (fault : UnitFault)
     → drop i xs ≡ x ∷ drop (i + 1) xs
     → Reached before now done xs i
-    → IsFileFault (file_place_of now) (b.an_external (external_of x)) stop
-    → IsFileFault (file_place_of before) (some_externals (externals_of xs)) stop
-reached_fault {now = now} (Rule rule token) at reached h =
-    reached.breaks_on rule token (subst (λ (zs : List External). FileBroken (file_place_of now) (some_externals (externals_of zs)) rule token) (sym at) (within_file first_external h))
-reached_fault {now = now} (Large bytes) at reached h =
-    (reached.sizes_on bytes (subst (λ (zs : List External). FileSized (file_place_of now) (some_externals (externals_of zs)) bytes) (sym at) (size_in_file_part first_external h.0)), h.1)
-reached_fault Memory at reached h = tt
+    → IsExternalFault (file_place_of now) (external_of x) fault
+    → IsExternalsFault (file_place_of before) (externals_of xs) fault
+reached_fault {before = before} {now = now} {xs = xs} {i = i} {x = x} fault at reached h =
+    let rest = externals_of (drop (i + 1) xs) in
+    let here : IsExternalsFault (file_place_of now) (t.more_externals (external_of x) rest) fault =
+    of_whole fault (λ rule token z. within_file first_external z) (λ bytes token name z. this_external z) h in
+    let here' : IsExternalsFault (file_place_of now) (externals_of (drop i xs)) fault = subst (λ (zs : List External). IsExternalsFault (file_place_of now) (externals_of zs) fault) (sym at) here in
+    of_whole fault reached.breaks_on reached.larges_on here'
+
+-- a fault in a function definition
+pub function_fault : (f : FilePlace) (s : t.Specifiers) (d : t.Declarator) (body : t.Block) (stop : Stop) (fault : UnitFault)
+    → IsFileFault f (b.an_external (t.function_definition s d body)) stop
+    → IsMetIn (declarator_token d) (name_of d) stop fault
+    → IsExternalFault f (t.function_definition s d body) fault
+function_fault f s d body stop fault h is = of_stop stop fault (λ rule token z. z) (λ bytes z. in_function z) h is
 
 pub reached_all : {before now : File} {done : UnitDefined} {xs : List External} {i : ℕ} → drop i xs ≡ [] → Reached before now done xs i → ExternalsDone before (externals_of xs) now done
 reached_all {before = before} {now = now} {done = done} {xs = xs} ends reached =

@@ -1,5 +1,7 @@
 pub mod Externals
-pub use Rattle.im_check_file_declarations.specs.Answers
+pub mod Faults
+pub mod Large
 pub use Rattle.im_check_file_functions.specs.im_ctype
+pub use Rattle.im_check_file_functions.specs.im_word
 pub use Rattle.im_check_file_functions.specs.im_store
 pub use Rattle.im_check_file_functions.specs.im_types

@@ -1,16 +1,15 @@
 //! External declarations, in order (C11 6.9).
 ghost use Rattle.std.specs.Prelude.{MatchResult};
 ghost use Rattle.im_ctree.specs.Shape.{external_of, externals_of, tree_of};
-ghost use Rattle.im_rules.specs.UnitBreaks.{an_external, some_externals};
 ghost use Rattle.im_check_file_place.specs.Files.{file_place_of};
-ghost use Rattle.im_check_file_declarations.specs.Answers.{IsFileFault};
 ghost use Rattle.im_check_externals.specs.Externals.{ExternalDone, ExternalsDone};
+ghost use Rattle.im_check_externals.specs.Faults.{IsExternalFault, IsExternalsFault};
 
+use crate::declaration::declaration;
+use crate::fault::{UnitFault, in_declarator};
 use im_check_defined::{Defined, FirstValues};
-use im_check_file_declarations::declaration;
 use im_check_file_functions::definition;
 use im_check_file_place::File;
-use im_check_stop::Stop;
 use im_ctree::{External, Tree};
 use std::alloc::Global;
 
@@ -28,28 +27,27 @@ fn external(
     x: &External,
     file: &mut File,
     done: &mut UnitDefined,
-) -> Result<(), Stop>
+) -> Result<(), UnitFault>
     ensures { let e = external_of x.now in MatchResult result
         (λ _. ExternalDone file.old done.old e file.new done.new)
-        (IsFileFault (file_place_of file.old) (an_external e)) }
+        (IsExternalFault (file_place_of file.old) e) }
 {
     match x {
-        External::Declaration(d) => {
-            declaration(alloc, d, file, &mut done.firsts)?;
-            Ok(())
-        }
-        External::Function(f) => {
-            let function = definition(alloc, f, file)?;
-            done.functions.push(function)?;
-            Ok(())
-        }
+        External::Declaration(d) => declaration(alloc, d, file, &mut done.firsts),
+        External::Function(f) => match definition(alloc, f, file) {
+            Ok(function) => {
+                done.functions.push(function)?;
+                Ok(())
+            }
+            Err(stop) => Err(in_declarator(alloc, stop, &f.declarator)),
+        },
     }
 }
 
-fn in_order(alloc: Global, list: Vec<External>, file: &mut File) -> Result<UnitDefined, Stop>
+fn in_order(alloc: Global, list: Vec<External>, file: &mut File) -> Result<UnitDefined, UnitFault>
     ensures { let u = externals_of list.items in MatchResult result
         (ExternalsDone file.old u file.new)
-        (IsFileFault (file_place_of file.old) (some_externals u)) }
+        (IsExternalsFault (file_place_of file.old) u) }
 {
     let mut done = UnitDefined {
         firsts: Vec::new(alloc),
@@ -62,10 +60,11 @@ fn in_order(alloc: Global, list: Vec<External>, file: &mut File) -> Result<UnitD
 }
 
 /// The external declarations of a unit, in order, from where the file stands. Each is given back
-/// once it is typed.
-pub fn externals(alloc: Global, tree: Tree, file: &mut File) -> Result<UnitDefined, Stop>
+/// once it is typed. Of the first size over the limit it is told in which declarator, function or
+/// specifiers it was met.
+pub fn externals(alloc: Global, tree: Tree, file: &mut File) -> Result<UnitDefined, UnitFault>
     ensures { let u = tree_of tree in MatchResult result (ExternalsDone file.old u file.new)
-        (IsFileFault (file_place_of file.old) (some_externals u)) }
+        (IsExternalsFault (file_place_of file.old) u) }
 {
     in_order(alloc, tree.externals, file)
 }

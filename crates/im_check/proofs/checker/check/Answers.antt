@@ -1,12 +1,11 @@
 use Rattle.std.proofs.lemmas.Result.{err_from_is_err_and}
 use Rattle.im_ctree.specs.Shape.{tree_of}
-use Rattle.im_check.proofs.Answering.{unit_stops}
 use Rattle.im_check.proofs.checker.check.Goals as goal
 
 pub returns-in_err-typed : goal.returns-in_err-typed
 returns-in_err-typed c =
     let p = err_from_is_err_and c.from_residual.result c.from_residual.ensures.1 in
-    rw p.1 (unit_stops (tree_of c.args.tree) _ p.0 p.2 c.in_err-typed.ensures)
+    rw (p.1, p.2) c.in_err-typed.ensures
 
 pub returns : goal.returns
 returns c = c.unit_program.ensures (tree_of c.args.tree) c.requires c.in_ok-typed.ensures c.too_many_parameters-over.ensures
