@@ -38,7 +38,7 @@ ROWS = [
 
 # a source of which a quantity is over its limit as a whole, and the one line that is said of it
 LIMITS = [
-    ("char a[1048577]; int main(void) { return 0; }\n", "a.c: size 1048577 over 1048576"),
+    ("char a[1048576]; int main(void) { return 0; }\n", "a.c: statics 1048580 over 1048576"),
     ("char a[600000], b[600000]; int main(void) { return 0; }\n", "a.c: statics 1200008 over 1048576"),
 ]
 
@@ -53,6 +53,36 @@ CROWDED = [
     (f"int x;\nint one({MANY}, int j), two({MANY}, int j, int k);\nint main(void) {{}}\n", "a.c:2:5", 9, "one", f"int one({MANY}, int j), two({MANY}, int j, int k);", 4),
     # a line marker
     (f'# 7 "my.c"\n\tvoid f({MANY}, int j) {{}}\nint main(void) {{}}\n', "my.c:7:7", 9, "f", f"\tvoid f({MANY}, int j) {{}}", 6),
+]
+
+# a source with a type that is too large: where what is declared there begins, the type's size, the name, the line, and how many of
+# its bytes stand in front of the caret
+OBJECTS = [
+    ("char a[1048577]; int main(void) { return 0; }\n", "a.c:1:6", 1048577, "a", "char a[1048577]; int main(void) { return 0; }", 5),
+    # an array of arrays, the second of three declarators
+    ("static int a, rows[1100][1000], c;\nint main(void) { return 0; }\n", "a.c:1:15", 4400000, "rows", "static int a, rows[1100][1000], c;", 14),
+    # the innermost type that is too large
+    ("int main(void);\nchar page[2][1048580];\nint main(void) { return 0; }\n", "a.c:2:6", 1048580, "page", "char page[2][1048580];", 5),
+    # a declarator that begins with a star, and one in parentheses
+    ("int x;\nint *list[300000];\nint main(void) { return x; }\n", "a.c:2:5", 1200000, "list", "int *list[300000];", 4),
+    ("int x;\nint *(list[300000]);\nint main(void) { return x; }\n", "a.c:2:5", 1200000, "list", "int *(list[300000]);", 4),
+    # the first of two
+    ("char a[1048576], b[1048577], c[1048578];\nint main(void) { return 0; }\n", "a.c:1:18", 1048577, "b", "char a[1048576], b[1048577], c[1048578];", 17),
+    # what only sizeof names in an initialiser
+    ("int one, n = sizeof(char[1048577]);\nint main(void) { return n; }\n", "a.c:1:10", 1048577, "n", "int one, n = sizeof(char[1048577]);", 9),
+    # in a block, and in a function behind others
+    ("int main(void)\n{\n    char page[1048577];\n    page[0] = 1;\n    return page[0];\n}\n", "a.c:1:5", 1048577, "main", "int main(void)", 4),
+    ("int f(void) { return 0; }\nint main(void) { return f(); }\nvoid g(void);\n"
+     "int h(void) { int all[262145]; all[0] = 1; return all[0]; }\n", "a.c:4:5", 1048580, "h", "int h(void) { int all[262145]; all[0] = 1; return all[0]; }", 4),
+    # a parameter's type, of a definition and of a prototype
+    ("int f(char page[1048577]) { return page[0]; }\nint main(void) { return 0; }\n", "a.c:1:5", 1048577, "f", "int f(char page[1048577]) { return page[0]; }", 4),
+    ("int f(char page[1048577]);\nint main(void) { return 0; }\n", "a.c:1:5", 1048577, "f", "int f(char page[1048577]);", 4),
+    # a struct, a member of one, and a static of it
+    ("struct page { char a[600000]; char b[600000]; };\nint main(void) { return 0; }\n", "a.c:1:1", 1200000, "", "struct page { char a[600000]; char b[600000]; };", 0),
+    ("int x;\nstatic struct { char a[1048577]; } page;\nint main(void) { return x; }\n", "a.c:2:1", 1048577, "", "static struct { char a[1048577]; } page;", 0),
+    ("struct page { char a[600000]; };\nstruct page two[2];\nint main(void) { return 0; }\n", "a.c:2:13", 1200000, "two", "struct page two[2];", 12),
+    # a line marker, and a tab
+    ('# 7 "my.c"\n\tchar a[1048577];\nint main(void) { return 0; }\n', "my.c:7:7", 1048577, "a", "\tchar a[1048577];", 6),
 ]
 
 # a source with a function whose frame is too large: the function's name, and the bytes of its array
@@ -109,6 +139,14 @@ def check_tells_limits(room):
 def check_tells_crowded(room):
     for source, place, count, name, line, front in CROWDED:
         said = f"{place}: parameters {count} over 8 in '{name}': a function has at most 8 parameters"
+        says(room, source, source, (said, line, under(line[:front])))
+
+
+@test("check tells what is declared where a type is too large, its line, and a caret under it")
+def check_tells_objects(room):
+    for source, place, count, name, line, front in OBJECTS:
+        within = f" in '{name}'" if name else ""
+        said = f"{place}: size {count} over 1048576{within}: a type has at most 1048576 bytes"
         says(room, source, source, (said, line, under(line[:front])))
 
 

@@ -30,10 +30,14 @@ abbrev pub IsOver : t.Tree → k.Limit → ℕ → Type 0
 IsOver u which.Parameters count = l.Exceeds u l.of_parameters count
 IsOver u which.Statics count = l.Exceeds u l.of_statics count × HasNoLargeType u
 
--- a size is over the limit, and so met first: where the token and the name tell
+-- of this unit a size is met first where the token and the name tell
+abbrev pub IsFirstLarge : t.Tree → ℕ → ℕ → Name → Type 0
+IsFirstLarge u bytes token name = LargeAmong (file_start u) u bytes token name
+
+-- it is over the limit
 pub record IsLarge (u : t.Tree) (bytes token : ℕ) (name : Name) : Type 0 where
   pub exceeds : l.Exceeds u l.of_size bytes
-  pub first : LargeAmong (file_start u) u bytes token name
+  pub first : IsFirstLarge u bytes token name
 
 -- a node breaks the rule; a count or a size is over its limit; or memory ran out
 abbrev pub IsCheckFault : t.Tree → CheckFault → Type 0

@@ -90,7 +90,12 @@ abbrev pub over_text : Quantity → ℕ → List ℕ → List ℕ
 over_text quantity count behind =
     quantity_name quantity ++ (codes " " ++ (decimal count ++ (codes " over " ++ (decimal (limit_of quantity) ++ behind))))
 
+-- in front of a name; nothing where there is none
+abbrev pub within : List ℕ → List ℕ
+within [] = []
+within (byte ∷ bytes) = codes " in '"
+
 -- in what has this name, and what the limit asks for
 abbrev pub named_text : Quantity → ℕ → List ℕ → List ℕ
 named_text quantity count name =
-    over_text quantity count (codes " in '" ++ (name ++ (codes "': " ++ (limit_sentence quantity ++ codes "\n"))))
+    over_text quantity count (within name ++ (name ++ (closing name ++ (codes ": " ++ (limit_sentence quantity ++ codes "\n")))))

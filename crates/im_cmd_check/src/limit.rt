@@ -4,12 +4,12 @@ ghost use Rattle.im_fault.specs.Texts.{limit_of, quantity_name};
 ghost use Rattle.im_cmd_check.specs.Message.{declared_message, limit_message, shown_line};
 ghost use Rattle.im_cmd_check.specs.Reading.{presumed as presumed_reading, reading_of};
 ghost use Rattle.im_cmd_check.specs.Runs.{part};
-ghost use Rattle.im_cmd_check.specs.Sentences.{named_text, over_text};
+ghost use Rattle.im_cmd_check.specs.Sentences.{closing as closing_of, named_text, over_text, within as within_of};
 
 use crate::message::{send_place, send_shown_line};
 use crate::reading::{Reading, presumed};
 use crate::runs::{part_of, rest_of};
-use crate::sentences::limit_sentence;
+use crate::sentences::{closing, limit_sentence, within};
 use im_fault::{Place, Quantity, Subject};
 use im_io::{Failed, Sink, send_pieces};
 use itoa::Buffer;
@@ -91,9 +91,12 @@ fn send_over_in<'a, S: Sink>(
     why: &'a [u8],
 ) -> Result<(), Failed>
     ensures { Sends (quantity.now ++ (codes " " ++ (decimal count ++ (codes " over "
-        ++ (decimal limit ++ (codes " in '" ++ (name.now ++ (codes "': " ++ (why.now
-        ++ codes "\n"))))))))) result (S.state sink.old) (S.state sink.new) }
+        ++ (decimal limit ++ (within_of name.now ++ (name.now ++ (closing_of name.now
+        ++ (codes ": " ++ (why.now ++ codes "\n")))))))))) result (S.state sink.old)
+        (S.state sink.new) }
 {
+    let before = within(name);
+    let behind = closing(name);
     let mut count_text = Buffer::new();
     let mut limit_text = Buffer::new();
     send_pieces(
@@ -104,16 +107,17 @@ fn send_over_in<'a, S: Sink>(
             count_text.format(count).as_bytes(),
             b" over ",
             limit_text.format(limit).as_bytes(),
-            b" in '",
+            before,
             name,
-            b"': ",
+            behind,
+            b": ",
             why,
             b"\n",
         ],
     )
 }
 
-// A quantity is over its limit in what has this name, and what the limit asks for.
+// A quantity is over its limit in what has this name, if it has one, and what the limit asks for.
 fn send_in<S: Sink>(sink: &mut S, quantity: Quantity, count: u64, name: &[u8]) -> Result<(), Failed>
     ensures { Sends (named_text quantity count name.now) result (S.state sink.old)
         (S.state sink.new) }

@@ -1,5 +1,5 @@
 ghost use Rattle.std.specs.Prelude.{◌≡◌};
-ghost use Rattle.im_cmd_check.specs.Sentences.{closing as closing_of, limit_sentence as limit_sentence_of, opening as opening_of, rule_sentence as rule_sentence_of, syntax_sentence as syntax_sentence_of};
+ghost use Rattle.im_cmd_check.specs.Sentences.{closing as closing_of, limit_sentence as limit_sentence_of, opening as opening_of, rule_sentence as rule_sentence_of, syntax_sentence as syntax_sentence_of, within as within_of};
 
 use im_fault::Quantity;
 
@@ -53,11 +53,18 @@ pub fn opening(token: &[u8]) -> &'static [u8]
     if token.is_empty() { b"" } else { b" at '" }
 }
 
-/// What stands behind a token.
+/// What stands behind a token or a name.
 pub fn closing(token: &[u8]) -> &'static [u8]
     ensures { result.now ≡ closing_of token.now }
 {
     if token.is_empty() { b"" } else { b"'" }
+}
+
+/// What stands in front of a name.
+pub fn within(name: &[u8]) -> &'static [u8]
+    ensures { result.now ≡ within_of name.now }
+{
+    if name.is_empty() { b"" } else { b" in '" }
 }
 
 /// Why the grammar doesn't go on.

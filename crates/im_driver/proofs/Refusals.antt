@@ -48,8 +48,8 @@ read_refused source OutOfMemory h = tt
 pub check_refused : (source : List ℕ) (tokens : List Token) (tree : Tree) (fault : CheckFault) → IsTreeOf source tokens tree → IsCheckFault (tree_of tree) fault → IsRefused source (fault_at source (token_spans tokens) fault)
 check_refused source tokens tree (check.Rule number token) is_tree h = record { tokens = tokens; tree = tree; is_tree = is_tree; token = token; broken = h; is_place = refl }
 check_refused source tokens tree (check.Limit which.Parameters count) is_tree h = record { tokens = tokens; tree = tree; is_tree = is_tree; exceeds = h }
-check_refused source tokens tree (check.Limit which.Size count) is_tree h = record { tokens = tokens; tree = tree; is_tree = is_tree; exceeds = h }
 check_refused source tokens tree (check.Limit which.Statics count) is_tree h = record { tokens = tokens; tree = tree; is_tree = is_tree; exceeds = h.0; sizes = h.1 }
+check_refused source tokens tree (check.Large bytes token name) is_tree h = record { tokens = tokens; tree = tree; is_tree = is_tree; exceeds = h.exceeds }
 check_refused source tokens tree check.OutOfMemory is_tree h = tt
 
 pub made_refused : RefusedLaw → (source : List ℕ) (made : Prog) (max_gap : Option ℕ) (fault : CompileFault) → IsReady source made → IsFaultOf made max_gap fault → IsRefused source (of_compile fault)

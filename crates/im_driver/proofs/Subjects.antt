@@ -57,11 +57,11 @@ module _ (source : List ℕ) (tokens : List Token) (tree : Tree) (is_tree : IsTr
       let h = has count first in
       record { tokens = tokens; tree = tree; is_tree = is_tree; token = h.0; first = h.1; is_place = h.2 }
 
-  check_subject : (fault : CheckFault) (crowded : Subject) → IsCheckFault (tree_of tree) fault → HasCrowded source (token_spans tokens) (tree_of tree) crowded → IsSubject source (fault_at source (token_spans tokens) fault) (counted_of fault crowded)
+  check_subject : (fault : CheckFault) (crowded : Subject) → IsCheckFault (tree_of tree) fault → HasCrowded source (token_spans tokens) (tree_of tree) crowded → IsSubject source (fault_at source (token_spans tokens) fault) (counted_of source (token_spans tokens) fault crowded)
   check_subject (check.Rule number token) crowded h has = refl
   check_subject (check.Limit which.Parameters count) crowded h has = crowded_subject count crowded (first_of count h) has
-  check_subject (check.Limit which.Size count) crowded h has = refl
   check_subject (check.Limit which.Statics count) crowded h has = refl
+  check_subject (check.Large bytes token name) crowded h has = record { tokens = tokens; tree = tree; is_tree = is_tree; token = token; first = h.first; is_place = refl }
   check_subject check.OutOfMemory crowded h has = refl
 
   pub check_refused_for : (fault : CheckFault) (crowded : Subject) → IsCheckFault (tree_of tree) fault → HasCrowded source (token_spans tokens) (tree_of tree) crowded → IsRefusedFor source (refused_at source (token_spans tokens) fault crowded)

@@ -2,7 +2,7 @@
 use Rattle.std.specs.Prelude.{◌≡◌, ℕ, List}
 use Rattle.im_fault.specs.declared.fault.Place.{Place}
 use Rattle.im_fault.specs.declared.fault.Quantity.{Quantity}
-use Rattle.im_fault.specs.declared.fault.Quantity.TheVariants.{Parameters, Frame}
+use Rattle.im_fault.specs.declared.fault.Quantity.TheVariants.{Parameters, Size, Frame}
 use Rattle.im_fault.specs.declared.fault.SourceFault.{SourceFault}
 use Rattle.im_fault.specs.declared.fault.SourceFault.TheVariants.{Limit}
 use Rattle.im_fault.specs.declared.fault.Subject.{Subject}
@@ -12,6 +12,7 @@ use Rattle.im_ctree.specs.declared.unit.Tree.{Tree}
 use Rattle.im_ctree.specs.Shape.{tree_of}
 use Rattle.im_front.specs.Reading.{place_of_token}
 use Rattle.im_typed.specs.Program.{Prog}
+use Rattle.im_check.specs.Checked.{IsFirstLarge}
 use Rattle.im_check_counts.specs.Crowded.{IsFirstCrowded, file_declarators}
 use Rattle.im_keeps_built.specs.Laws.{IsLargeFrame}
 use Rattle.im_driver.specs.declared.refused.Refused.{Refused}
@@ -26,6 +27,16 @@ pub record IsCrowdedFunction (source : List ℕ) (count : ℕ) (place : Place) (
   pub first : IsFirstCrowded (file_declarators (tree_of tree)) count token name
   pub is_place : place ≡ place_of_token source tokens token
 
+-- in the source's tree a size is first over the limit, by so many bytes, in the declarator of this name, with its initialiser,
+-- or in the function with it; or else in specifiers, which have no name. This begins at the place
+pub record IsLargeObject (source : List ℕ) (count : ℕ) (place : Place) (name : List ℕ) : Type 0 where
+  pub tokens : List Token
+  pub tree : Tree
+  pub is_tree : IsTreeOf source tokens tree
+  pub token : ℕ
+  pub first : IsFirstLarge (tree_of tree) count token name
+  pub is_place : place ≡ place_of_token source tokens token
+
 -- the function of this name has a frame of so many bytes: more than 65536, and no more than it may need
 pub record IsLargeFunction (source : List ℕ) (count : ℕ) (name : List ℕ) : Type 0 where
   pub prog : Prog
@@ -34,11 +45,15 @@ pub record IsLargeFunction (source : List ℕ) (count : ℕ) (name : List ℕ) :
   pub large : IsLargeFrame prog function count
   pub is_name : name ≡ large.f.name
 
--- parameters are those of one function, and so is a frame; the others are of no one function or object
+-- parameters are those of one function, and so is a frame; a size is that of a type in one declaration; the others are of no
+-- one function or object
 abbrev pub IsCountedOf : List ℕ → Quantity → ℕ → Subject → Type 0
 IsCountedOf source Parameters count (Declared place name) = IsCrowdedFunction source count place name.items
 IsCountedOf source Parameters count Whole = ⊥
 IsCountedOf source Parameters count (Named name) = ⊥
+IsCountedOf source Size count (Declared place name) = IsLargeObject source count place name.items
+IsCountedOf source Size count Whole = ⊥
+IsCountedOf source Size count (Named name) = ⊥
 IsCountedOf source Frame count (Named name) = IsLargeFunction source count name.items
 IsCountedOf source Frame count Whole = ⊥
 IsCountedOf source Frame count (Declared place name) = ⊥

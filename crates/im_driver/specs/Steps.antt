@@ -60,26 +60,27 @@ KeptLaw =
 
 abbrev pub quantity_of : k.Limit → Quantity
 quantity_of which.Parameters = Parameters
-quantity_of which.Size = Size
 quantity_of which.Statics = Statics
 
 -- these are the bytes of the source's tokens
 abbrev pub fault_at : List ℕ → List (ℕ × ℕ) → CheckFault → SourceFault
 fault_at source spans (check.Rule number token) = Line (place_among source spans token) (Rule number)
 fault_at source spans (check.Limit which count) = Limit (quantity_of which) count
+fault_at source spans (check.Large bytes token name) = Limit Size bytes
 fault_at source spans check.OutOfMemory = OutOfMemory
 
 -- a fault of no one function or object
 abbrev pub as_whole : SourceFault → Refused
 as_whole fault = record { fault = fault; subject = Whole }
 
--- parameters are counted of the function that has too many
-abbrev pub counted_of : CheckFault → Subject → Subject
-counted_of (check.Limit which.Parameters count) crowded = crowded
-counted_of fault crowded = Whole
+-- parameters are counted of the function that has too many, and a size of what is declared there
+abbrev pub counted_of : List ℕ → List (ℕ × ℕ) → CheckFault → Subject → Subject
+counted_of source spans (check.Limit which.Parameters count) crowded = crowded
+counted_of source spans (check.Large bytes token name) crowded = Declared (place_among source spans token) name
+counted_of source spans fault crowded = Whole
 
 abbrev pub refused_at : List ℕ → List (ℕ × ℕ) → CheckFault → Subject → Refused
-refused_at source spans fault crowded = record { fault = fault_at source spans fault; subject = counted_of fault crowded }
+refused_at source spans fault crowded = record { fault = fault_at source spans fault; subject = counted_of source spans fault crowded }
 
 -- this is the function of a unit that has so many parameters, if a function has too many
 abbrev pub IsCrowdedSubject : List ℕ → List (ℕ × ℕ) → t.Tree → ℕ → Subject → Type 0

@@ -1,7 +1,7 @@
-ghost use Rattle.std.specs.Prelude.{◌≡◌, ◌<◌, ◌^◌, length, IfOk, MatchResult};
+ghost use Rattle.std.specs.Prelude.{◌≡◌, ◌<◌, ◌^◌, length, ℕ, List, IfOk, MatchResult};
 ghost use Rattle.im_ctree.specs.Shape.{tree_of};
 ghost use Rattle.im_driver.specs.Refused.{IsRefusedFor};
-ghost use Rattle.im_driver.specs.Steps.{HasCrowded, IsReady, counted_of, fault_at, quantity_of, refused_at};
+ghost use Rattle.im_driver.specs.Steps.{HasCrowded, IsReady, quantity_of, refused_at};
 
 use crate::laws::{program_law, written_law};
 use crate::refused::{Refused, whole};
@@ -19,48 +19,45 @@ fn quantity(which: Limit) -> Quantity
 {
     match which {
         Limit::Parameters => Quantity::Parameters,
-        Limit::Size => Quantity::Size,
         Limit::Statics => Quantity::Statics,
     }
 }
 
-// Why a source has no program, of whose tree this is told; these are the bytes of its tokens.
-fn fault_of(source: &[u8], spans: &[(u32, u32)], fault: CheckFault) -> SourceFault
-    requires { length source.now < 2 ^ 31 }
-    ensures { result ≡ fault_at source.now spans.now fault }
+fn counted(which: Limit, count: u64, crowded: Subject) -> Refused
+    ensures { (source : List ℕ) (spans : List (ℕ × ℕ))
+        → result ≡ refused_at source spans (CheckFault.Limit which count) crowded }
 {
-    match fault {
-        CheckFault::Rule { number, token } => SourceFault::Line {
-            place: place_of(source, spans, token),
-            why: LineFault::Rule(number),
-        },
-        CheckFault::Limit { which, count } => SourceFault::Limit {
+    Refused {
+        fault: SourceFault::Limit {
             quantity: quantity(which),
             count,
         },
-        CheckFault::OutOfMemory => SourceFault::OutOfMemory,
-    }
-}
-
-fn subject_of(fault: CheckFault, crowded: Subject) -> Subject
-    ensures { result ≡ counted_of fault crowded }
-{
-    match fault {
-        CheckFault::Limit { which, .. } => match which {
+        subject: match which {
             Limit::Parameters => crowded,
-            Limit::Size | Limit::Statics => Subject::Whole,
+            Limit::Statics => Subject::Whole,
         },
-        CheckFault::Rule { .. } | CheckFault::OutOfMemory => Subject::Whole,
     }
 }
 
+// Why a source has no program, of whose tree this is told; these are the bytes of its tokens.
 fn untyped(source: &[u8], spans: &[(u32, u32)], fault: CheckFault, crowded: Subject) -> Refused
     requires { length source.now < 2 ^ 31 }
     ensures { result ≡ refused_at source.now spans.now fault crowded }
 {
-    Refused {
-        fault: fault_of(source, spans, fault),
-        subject: subject_of(fault, crowded),
+    match fault {
+        CheckFault::Rule { number, token } => whole(SourceFault::Line {
+            place: place_of(source, spans, token),
+            why: LineFault::Rule(number),
+        }),
+        CheckFault::Limit { which, count } => counted(which, count, crowded),
+        CheckFault::Large { bytes, token, name } => Refused {
+            fault: SourceFault::Limit {
+                quantity: Quantity::Size,
+                count: bytes,
+            },
+            subject: Subject::Declared(place_of(source, spans, token), name),
+        },
+        CheckFault::OutOfMemory => whole(SourceFault::OutOfMemory),
     }
 }
 
