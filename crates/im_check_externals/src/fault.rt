@@ -32,21 +32,21 @@ impl<T: Drop> From<AllocFailed<T>> for UnitFault {
     }
 }
 
-fn large(alloc: Global, bytes: u64, token: u32, name: &[u8]) -> UnitFault
-    ensures { IsMetIn token name.now (Stop.Large bytes) result }
+fn large(alloc: Global, bytes: u64, token: u32, met_in: &[u8]) -> UnitFault
+    ensures { IsMetIn token met_in.now (Stop.Large bytes) result }
 {
-    match Vec::from_slice(alloc, name) {
+    match Vec::from_slice(alloc, met_in) {
         Ok(name) => UnitFault::Large { bytes, token, name },
         Err(_) => UnitFault::Memory,
     }
 }
 
-fn met_in(alloc: Global, stop: Stop, token: u32, name: &[u8]) -> UnitFault
-    ensures { IsMetIn token name.now stop result }
+fn met_in(alloc: Global, stop: Stop, at: u32, name: &[u8]) -> UnitFault
+    ensures { IsMetIn at name.now stop result }
 {
     match stop {
         Stop::Rule { number, token } => UnitFault::Rule { number, token },
-        Stop::Large { bytes } => large(alloc, bytes, token, name),
+        Stop::Large { bytes } => large(alloc, bytes, at, name),
         Stop::Memory => UnitFault::Memory,
     }
 }

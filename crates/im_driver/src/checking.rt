@@ -1,7 +1,7 @@
 ghost use Rattle.std.specs.Prelude.{◌≡◌, ◌<◌, ◌^◌, length, ℕ, List, IfOk, MatchResult};
 ghost use Rattle.im_ctree.specs.Shape.{tree_of};
 ghost use Rattle.im_driver.specs.Refused.{IsRefusedFor};
-ghost use Rattle.im_driver.specs.Steps.{HasCrowded, IsReady, quantity_of, refused_at};
+ghost use Rattle.im_driver.specs.Steps.{HasCrowded, IsReady, refused_at};
 
 use crate::laws::{program_law, written_law};
 use crate::refused::{Refused, whole};
@@ -14,28 +14,23 @@ use im_num::NoMemory;
 use im_typed::Prog;
 use std::alloc::Global;
 
-fn quantity(which: Limit) -> Quantity
-    ensures { result ≡ quantity_of which }
-{
-    match which {
-        Limit::Parameters => Quantity::Parameters,
-        Limit::Statics => Quantity::Statics,
-    }
-}
-
+// A count of a tree is over its limit.
 fn counted(which: Limit, count: u64, crowded: Subject) -> Refused
     ensures { (source : List ℕ) (spans : List (ℕ × ℕ))
         → result ≡ refused_at source spans (CheckFault.Limit which count) crowded }
 {
-    Refused {
-        fault: SourceFault::Limit {
-            quantity: quantity(which),
+    match which {
+        Limit::Parameters => Refused {
+            fault: SourceFault::Limit {
+                quantity: Quantity::Parameters,
+                count,
+            },
+            subject: crowded,
+        },
+        Limit::Statics => whole(SourceFault::Limit {
+            quantity: Quantity::Statics,
             count,
-        },
-        subject: match which {
-            Limit::Parameters => crowded,
-            Limit::Statics => Subject::Whole,
-        },
+        }),
     }
 }
 
