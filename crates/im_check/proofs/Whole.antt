@@ -7,9 +7,6 @@ use Rattle.im_rules.specs.TypedUnit.{AreExternals}
 use Rattle.im_rules.specs.UnitBreaks.{some_externals, UnitBroken, in_externals, at_unit}
 use Rattle.im_rules_limits.specs.Limits as l
 use Rattle.im_rules_limits.specs.Limits.{IsFileWithin}
-use Rattle.im_check_stop.specs.declared.stop.Stop.{Stop}
-use Rattle.im_check_stop.specs.declared.stop.Stop.TheVariants as s
-use Rattle.im_check_stop.specs.Answers.{IsRefusal}
 use Rattle.im_check_file_place.specs.declared.file.File.{File}
 use Rattle.im_check_file_place.specs.Files.{file_place_of}
 use Rattle.im_check_defined.specs.Values.{first_values_in}
@@ -23,7 +20,7 @@ use Rattle.im_check_program.specs.declared.programs.Parts.{Parts}
 use Rattle.im_check.specs.declared.fault.CheckFault.{CheckFault}
 use Rattle.im_check.specs.declared.fault.CheckFault.TheVariants.{Rule, Limit, Large, OutOfMemory}
 use Rattle.im_check.specs.Checked.{IsCheckFault}
-use Rattle.im_check.specs.Stops.{IsOfRule, fault_of}
+use Rattle.im_check.specs.Stops.{IsRuleFault, fault_of}
 use Rattle.im_check.specs.Units.{UnitTyped}
 
 pub unit_typed : (u : t.Tree) (before after : File) (done : UnitDefined) → file_place_of before ≡ file_start u → ExternalsDone before u after done → Meets (main_asks (file_place_of after).context.scopes)
@@ -46,12 +43,11 @@ pub externals_fault : (u : t.Tree) (p : FilePlace) (fault : UnitFault) (x : Chec
 externals_fault u p fault x same begun h =
     subst (IsCheckFault u) (sym same) (unit_fault u fault (subst (λ (q : FilePlace). IsExternalsFault q u fault) begun h))
 
-pub main_fault : (u : t.Tree) (before after : File) (done : UnitDefined) (stop : Stop) (x : CheckFault) → file_place_of before ≡ file_start u → ExternalsDone before u after done
-    → IsRefusal (main_asks (file_place_of after).context.scopes) 0 stop → IsOfRule stop x → IsCheckFault u x
-main_fault u before after done stop (Rule rule token) begun h r is =
+pub main_fault : (u : t.Tree) (before after : File) (done : UnitDefined) (x : CheckFault) → file_place_of before ≡ file_start u → ExternalsDone before u after done
+    → IsRuleFault (main_asks (file_place_of after).context.scopes) x → IsCheckFault u x
+main_fault u before after done (Rule rule token) begun h r =
     let typed : AreExternals (file_start u) u (first_values_in done.firsts.items) h.made (file_place_of after) = subst (λ (p : FilePlace). AreExternals p u (first_values_in done.firsts.items) h.made (file_place_of after)) begun h.typed in
-    let refused : IsRefusal (main_asks (file_place_of after).context.scopes) 0 (s.Rule rule token) = subst (λ z. IsRefusal (main_asks (file_place_of after).context.scopes) 0 z) is r in
-    subst (λ k. UnitBroken u rule k) (sym refused.1) (at_unit typed refused.0)
-main_fault u before after done stop (Limit which count) begun h r is = absurd is
-main_fault u before after done stop (Large bytes token name) begun h r is = absurd is
-main_fault u before after done stop OutOfMemory begun h r is = tt
+    subst (λ k. UnitBroken u rule k) (sym r.1) (at_unit typed r.0)
+main_fault u before after done (Limit which count) begun h r = absurd r
+main_fault u before after done (Large bytes token name) begun h r = absurd r
+main_fault u before after done OutOfMemory begun h r = tt

@@ -20,9 +20,9 @@ pub enum CheckFault {
     Rule { number: u32, token: u32 },
     /// A count is over its limit.
     Limit { which: Limit, count: u64 },
-    /// A type has that many bytes, which is over the limit of 1048576. It was met in the declarator of
-    /// this name, or in a function with it, or in specifiers, which have no name; the token is their
-    /// first.
+    /// A type has that many bytes, which is over the limit of 1048576. It was met in the declarator
+    /// of this name, or in a function with it, or in specifiers, which have no name; the token is
+    /// their first.
     Large { bytes: u64, token: u32, name: Name },
     OutOfMemory,
 }
@@ -36,7 +36,7 @@ impl From<NoMemory> for CheckFault {
 }
 
 impl From<UnitFault> for CheckFault {
-    ghost from_gives = { λ fault result. result ≡ fault_of fault };
+    ghost from_gives = { λ of_unit fault. fault ≡ fault_of of_unit };
 
     fn from(fault: UnitFault) -> CheckFault {
         match fault {

@@ -1,5 +1,5 @@
 -- A declaration at file scope, put together.
-use Rattle.std.proofs.Common.{ℕ, List, Result, Ok, Err, MatchResult, [], sym, subst}
+use Rattle.std.proofs.Common.{List, Result, Ok, Err, MatchResult, [], sym, subst}
 use Rattle.im_ctree.specs.Tree as t
 use Rattle.im_ctree.specs.Shape.{specifiers_of}
 use Rattle.im_ctree.specs.declared.specifier.Specifiers as ss
@@ -17,7 +17,7 @@ use Rattle.im_check_file_declarations.specs.Declarations.{DeclaratorsDone, Decla
 use Rattle.im_check_file_declarations.proofs.External.{declaration_made}
 use Rattle.im_check_externals.specs.declared.fault.UnitFault.{UnitFault}
 use Rattle.im_check_externals.specs.Faults.{IsDeclaredFault, IsExternalFault, IsMetIn}
-use Rattle.im_check_externals.specs.Large.{in_specifiers, in_declarators}
+use Rattle.im_check_externals.specs.Large.{LargeExternal, in_specifiers, in_declarators}
 use Rattle.im_check_externals.proofs.Faults.{of_whole, of_stop}
 
 abbrev tree_by : t.Specifiers → t.InitDeclarators → t.External
@@ -29,7 +29,7 @@ pub unspecified : (f : FilePlace) (s : ss.Specifiers) (ds : t.InitDeclarators) (
     → IsExternalFault f (tree_by (specifiers_of s) ds) fault
 unspecified f s ds stop fault h is =
     let here : IsExternalFault f (tree_by (specifiers_in s) ds) fault =
-    of_stop stop fault (λ rule token b. within_file declaration_specifiers b) (λ bytes z. in_specifiers z) h is in
+    of_stop (LargeExternal f (tree_by (specifiers_in s) ds)) (ss.out-Specifiers s).at [] stop fault (λ rule token b. within_file declaration_specifiers b) (λ bytes z. in_specifiers z) h is in
     subst (λ z. IsExternalFault f (tree_by z ds) fault) (sym (specifiers_shape s)) here
 
 undeclared : (f g : FilePlace) (s : ss.Specifiers) (q : Qualified) (ds : t.InitDeclarators) (fault : UnitFault)

@@ -1,10 +1,10 @@
 -- Sizes over the limit are sizes of the unit.
-use Rattle.std.proofs.Common.{ℕ}
+use Rattle.std.proofs.Common.{◌≡◌, ℕ, List, [], refl, subst}
 use Rattle.im_check_file_functions.specs.im_word.Words.{Name}
 use Rattle.im_ctree.specs.Tree as t
 use Rattle.im_rules.specs.Declared.{Qualified}
 use Rattle.im_rules.specs.FileScope.{FilePlace}
-use Rattle.im_rules.specs.TypedUnit.{one_declared, none_declared}
+use Rattle.im_rules.specs.TypedUnit.{FirstValues, AreDeclared, one_declared, none_declared}
 use Rattle.im_rules.specs.UnitBreaks.{an_external, some_declared, some_externals, first_external, other_externals, declaration_specifiers, declared_part, other_declared, file_declarator, FileBroken, here_in_file, within_file, in_file_inner, in_static_initialiser, in_static_values, at_declarator}
 use Rattle.im_check_file_functions.specs.im_rules_limits.Limits.{FileSized, of_static, size_in_file_part, size_in_file_inner, size_in_static_initialiser}
 use Rattle.im_check_externals.specs.Large.{alone, LargeDeclared, this_declarator, other_declarator, LargeExternal, in_specifiers, in_declarators, in_function, LargeAmong, this_external, other_external}
@@ -39,11 +39,21 @@ more_broken ds (in_file_inner file_declarator s) = in_file_inner file_declarator
 more_broken ds (in_static_initialiser dd s) = in_static_initialiser dd s
 more_broken ds (in_static_values dd n s) = in_static_values dd n s
 
-declared_sized : {f : FilePlace} {xs : t.SpecifierList} {q : Qualified} {ds : t.InitDeclarators} {bytes token : ℕ} {x : Name}
+-- behind the last declarator nothing changes
+pub ends : {xs : t.SpecifierList} {q : Qualified} {f g : FilePlace} {gs : List FirstValues} → AreDeclared xs q f t.no_init_declarators gs g → (g ≡ f) × (gs ≡ [])
+ends none_declared = (refl, refl)
+
+step_sized : {xs : t.SpecifierList} {q : Qualified} {f g : FilePlace} {d : t.Declarator} {i : t.MaybeInitializer} {gs : List FirstValues} {k : ℕ} (ds : t.InitDeclarators)
+    → AreDeclared xs q f (alone d i) gs g
+    → FileSized g (some_declared xs q ds) k
+    → FileSized f (some_declared xs q (t.more_init_declarators d i ds)) k
+step_sized {xs = xs} {q = q} {k = k} ds (one_declared dd m v more) s = size_in_file_part (other_declared dd) (subst (λ (p : FilePlace). FileSized p (some_declared xs q ds) k) (ends more).0 s)
+
+declared_sized : {xs : t.SpecifierList} {q : Qualified} {f : FilePlace} {ds : t.InitDeclarators} {bytes token : ℕ} {x : Name}
     → LargeDeclared xs q f ds bytes token x
     → FileSized f (some_declared xs q ds) bytes
 declared_sized (this_declarator {ds = ds} s) = more_sized ds s
-declared_sized (other_declarator (one_declared dd m g none_declared) w l) = size_in_file_part (other_declared dd) (declared_sized l)
+declared_sized (other_declarator {ds = ds} p w l) = step_sized ds p (declared_sized l)
 
 external_sized : {f : FilePlace} {x : t.External} {bytes token : ℕ} {name : Name} → LargeExternal f x bytes token name → FileSized f (an_external x) bytes
 external_sized (in_specifiers s) = size_in_file_part declaration_specifiers s

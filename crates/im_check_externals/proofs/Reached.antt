@@ -1,5 +1,5 @@
 -- External declarations, one behind the other.
-use Rattle.std.proofs.Common.{◌≡◌, ◌<◌, ◌≤◌, ℕ, ◌+◌, List, [], ◌∷◌, ◌++◌, length, drop, get_or, Vec, Global, Result, Ok, Err, MatchResult, sym, ap, ◌∙◌, subst, append_assoc}
+use Rattle.std.proofs.Common.{◌≡◌, ◌<◌, ◌≤◌, ℕ, ◌+◌, List, [], ◌∷◌, ◌++◌, length, drop, get_or, Vec, Global, sym, ap, ◌∙◌, subst, append_assoc}
 use Rattle.std.proofs.lemmas.List.{append-nil, drop_more, drop_all, length_push}
 use Rattle.im_ctree.specs.Tree as t
 use Rattle.im_ctree.specs.Shape.{external_of, externals_of}
@@ -28,7 +28,7 @@ use Rattle.im_check_externals.specs.declared.fault.UnitFault.{UnitFault}
 use Rattle.im_check_externals.specs.declared.unit.UnitDefined.{UnitDefined}
 use Rattle.im_check_externals.specs.Externals.{ExternalDone, ExternalsDone}
 use Rattle.im_check_externals.specs.Faults.{IsExternalFault, IsExternalsFault, IsMetIn}
-use Rattle.im_check_externals.specs.Large.{LargeAmong, in_function, this_external, other_external}
+use Rattle.im_check_externals.specs.Large.{LargeExternal, LargeAmong, in_function, this_external, other_external}
 use Rattle.im_check_externals.proofs.Faults.{of_whole, of_stop}
 use Rattle.im_check_externals.proofs.Longer.{external_more}
 use Rattle.im_check_externals.proofs.Defined.{defined_longer, defined_two, defined_one}
@@ -42,7 +42,7 @@ last xs i all = drop_all i xs all
 
 -- one of either kind
 
-of_declared : {before after : File} {x : t.External} (firsts : Vec FirstValues Global) (done : UnitDefined)
+pub of_declared : {before after : File} {x : t.External} (firsts : Vec FirstValues Global) (done : UnitDefined)
     → DeclarationDone (file_place_of before) x done.firsts.items firsts.items (file_place_of after)
     → ExternalDone before done x after (record { firsts = firsts; functions = done.functions })
 of_declared firsts done d =
@@ -56,12 +56,6 @@ of_declared firsts done d =
       functions = sym (append-nil done.functions.items);
       same = tt;
     }
-
-pub declared : {before after : File} {x : t.External} (firsts : Vec FirstValues Global) (done : UnitDefined) (result : Result Unit UnitFault)
-    → MatchResult result (λ u. DeclarationDone (file_place_of before) x done.firsts.items firsts.items (file_place_of after)) (IsExternalFault (file_place_of before) x)
-    → MatchResult result (λ u. ExternalDone before done x after (record { firsts = firsts; functions = done.functions })) (IsExternalFault (file_place_of before) x)
-declared firsts done (Ok u) d = of_declared firsts done d
-declared firsts done (Err fault) h = h
 
 pub of_defined : {before after : File} {x : t.External} {f : Defined} (functions : Vec Defined Global) (done : UnitDefined)
     → functions.items ≡ done.functions.items ++ f ∷ []
@@ -152,7 +146,7 @@ pub function_fault : (f : FilePlace) (s : t.Specifiers) (d : t.Declarator) (body
     → IsFileFault f (b.an_external (t.function_definition s d body)) stop
     → IsMetIn (declarator_token d) (name_of d) stop fault
     → IsExternalFault f (t.function_definition s d body) fault
-function_fault f s d body stop fault h is = of_stop stop fault (λ rule token z. z) (λ bytes z. in_function z) h is
+function_fault f s d body stop fault h is = of_stop (LargeExternal f (t.function_definition s d body)) (declarator_token d) (name_of d) stop fault (λ rule token z. z) (λ bytes z. in_function z) h is
 
 pub reached_all : {before now : File} {done : UnitDefined} {xs : List External} {i : ℕ} → drop i xs ≡ [] → Reached before now done xs i → ExternalsDone before (externals_of xs) now done
 reached_all {before = before} {now = now} {done = done} {xs = xs} ends reached =

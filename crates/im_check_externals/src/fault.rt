@@ -16,9 +16,9 @@ use std::alloc::{AllocFailed, Global};
 pub enum UnitFault {
     /// The rule of that number is broken by a node whose first token is that one.
     Rule { number: u32, token: u32 },
-    /// A type has that many bytes, which is over the limit of one type. It was met in the declarator
-    /// of this name, or in a function with it, or in specifiers, which have no name; the token is
-    /// their first.
+    /// A type has that many bytes, which is over the limit of one type. It was met in the
+    /// declarator of this name, or in a function with it, or in specifiers, which have no name; the
+    /// token is their first.
     Large { bytes: u64, token: u32, name: Name },
     /// Memory ran out.
     Memory,

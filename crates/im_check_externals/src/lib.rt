@@ -1,5 +1,5 @@
-//! From the external declarations of a unit to its functions and the first values of its statics, or
-//! why they aren't typed (C11 6.9).
+//! From the external declarations of a unit to its functions and the first values of its statics,
+//! or why they aren't typed (C11 6.9).
 #![tactic(auto)]
 
 mod declaration;

@@ -1,7 +1,9 @@
 //! External declarations, in order (C11 6.9).
 ghost use Rattle.std.specs.Prelude.{MatchResult};
 ghost use Rattle.im_ctree.specs.Shape.{external_of, externals_of, tree_of};
+ghost use Rattle.im_ctree.specs.declared.unit.External.TheVariants as ext;
 ghost use Rattle.im_check_file_place.specs.Files.{file_place_of};
+ghost use Rattle.im_check_file_functions.specs.Definitions.{DefinitionDone};
 ghost use Rattle.im_check_externals.specs.Externals.{ExternalDone, ExternalsDone};
 ghost use Rattle.im_check_externals.specs.Faults.{IsExternalFault, IsExternalsFault};
 
@@ -10,7 +12,7 @@ use crate::fault::{UnitFault, in_declarator};
 use im_check_defined::{Defined, FirstValues};
 use im_check_file_functions::definition;
 use im_check_file_place::File;
-use im_ctree::{External, Tree};
+use im_ctree::{External, Function, Tree};
 use std::alloc::Global;
 
 /// What external declarations define, in their order: the first values that initialisers give
@@ -19,6 +21,17 @@ use std::alloc::Global;
 pub struct UnitDefined {
     pub firsts: Vec<FirstValues>,
     pub functions: Vec<Defined>,
+}
+
+fn function(alloc: Global, f: &Function, file: &mut File) -> Result<Defined, UnitFault>
+    ensures { let x = external_of (ext.Function f.now) in MatchResult result
+        (DefinitionDone file.old x file.new)
+        (IsExternalFault (file_place_of file.old) x) }
+{
+    match definition(alloc, f, file) {
+        Ok(defined) => Ok(defined),
+        Err(stop) => Err(in_declarator(alloc, stop, &f.declarator)),
+    }
 }
 
 /// A declaration or a function definition; what it defines is behind the others.
@@ -33,14 +46,15 @@ fn external(
         (IsExternalFault (file_place_of file.old) e) }
 {
     match x {
-        External::Declaration(d) => declaration(alloc, d, file, &mut done.firsts),
-        External::Function(f) => match definition(alloc, f, file) {
-            Ok(function) => {
-                done.functions.push(function)?;
-                Ok(())
-            }
-            Err(stop) => Err(in_declarator(alloc, stop, &f.declarator)),
-        },
+        External::Declaration(d) => {
+            declaration(alloc, d, file, &mut done.firsts)?;
+            Ok(())
+        }
+        External::Function(f) => {
+            let defined = function(alloc, f, file)?;
+            done.functions.push(defined)?;
+            Ok(())
+        }
     }
 }
 

@@ -9,11 +9,10 @@ returns-in_err-done c =
     let p = err_from_is_err_and c.from_residual-in_err-done.result c.from_residual-in_err-done.ensures.1 in
     rw p.1 (externals_fault (tree_of c.args.tree) (file_place_of c.in_ok-file.file) _ p.0 p.2 c.in_ok-file.ensures c.in_err-done.ensures)
 
-pub of_rule-requires : goal.of_rule-requires
-of_rule-requires c = (_, c.in-Err.ensures)
+pub returns-in_err-with_main : goal.returns-in_err-with_main
+returns-in_err-with_main c =
+    let p = err_from_is_err_and c.from_residual-in_err-with_main.result c.from_residual-in_err-with_main.ensures.1 in
+    rw (p.1, p.2) (main_fault (tree_of c.args.tree) c.in_ok-file.file c.externals.new.file c.in_ok-done.done _ c.in_ok-file.ensures c.in_ok-done.ensures c.in_err-with_main.ensures)
 
-pub returns-in-Err : goal.returns-in-Err
-returns-in-Err c = main_fault (tree_of c.args.tree) c.in_ok-file.file c.externals.new.file c.in_ok-done.done c.in-Err.stop _ c.in_ok-file.ensures c.in_ok-done.ensures c.in-Err.ensures c.of_rule.ensures
-
-pub returns-in-Ok : goal.returns-in-Ok
-returns-in-Ok c = unit_typed (tree_of c.args.tree) c.in_ok-file.file c.externals.new.file c.in_ok-done.done c.in_ok-file.ensures c.in_ok-done.ensures c.in-Ok.ensures
+pub returns : goal.returns
+returns c = unit_typed (tree_of c.args.tree) c.in_ok-file.file c.externals.new.file c.in_ok-done.done c.in_ok-file.ensures c.in_ok-done.ensures c.in_ok-with_main.ensures
