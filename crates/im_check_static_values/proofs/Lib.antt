@@ -1,5 +1,5 @@
 pub mod Constants
 pub mod FilePlaces
 pub mod GivenValues
-pub mod StructCells
+pub mod Elements
 pub mod Walks

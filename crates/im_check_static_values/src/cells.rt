@@ -2,11 +2,9 @@
 ghost use Rattle.std.specs.Prelude.{◌≡◌, ℕ, ◌+◌, ◌++◌, ◌∷◌, [], IfOk, OnOk};
 ghost use Rattle.im_ctype.specs.Layout as l;
 ghost use Rattle.im_ctype.specs.Table.{structs_of};
-ghost use Rattle.im_ctype.specs.Types.{struct};
 ghost use Rattle.im_types.specs.Shape.{type_of};
 
-use im_ctype::laws::member_law;
-use im_ctype::{Cell, TypeTable, cells, size_of};
+use im_ctype::{Cell, TypeTable, cells_of_struct};
 use im_num::{Kind, NoMemory};
 use im_types::{Type, size};
 use std::alloc::Global;
@@ -55,26 +53,6 @@ fn repeated(alloc: Global, part: &[Cell], bytes: u64, count: u64) -> Result<Vec<
     Ok(done)
 }
 
-/// The cells of a struct, by its number; none of one that has no member list.
-fn struct_cells(alloc: Global, table: &TypeTable, number: u32) -> Result<Vec<Cell>, NoMemory>
-    ensures { IfOk result (λ done. done.items
-        ≡ (l.layout (structs_of table.now) (struct number)).cells) }
-{
-    member_law();
-    let members = table.members(number);
-    let places = table.places(number);
-    let mut done = Vec::new(alloc);
-    for (index, member) in members.iter().enumerate() {
-        if index >= places.len() {
-            return Ok(done);
-        }
-        let _bytes = size_of(member.ty, table);
-        let part = cells(alloc, member.ty, table)?;
-        push_moved(places[index].offset, &part, &mut done)?;
-    }
-    Ok(done)
-}
-
 /// The cells of an object of that type, in order; none of what is no object type. Want of memory
 /// where an offset is no number of 64 bits.
 pub fn cells_of(alloc: Global, table: &TypeTable, ty: &Type) -> Result<Vec<Cell>, NoMemory>
@@ -90,6 +68,6 @@ pub fn cells_of(alloc: Global, table: &TypeTable, ty: &Type) -> Result<Vec<Cell>
             let bytes = size(table, element)?;
             repeated(alloc, &part, bytes, *count)
         }
-        Type::Struct(number) => struct_cells(alloc, table, *number),
+        Type::Struct(number) => cells_of_struct(alloc, *number, table),
     }
 }

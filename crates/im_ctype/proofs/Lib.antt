@@ -9,4 +9,5 @@ mod Pushed
 pub mod Rounded
 pub mod Same
 pub mod Steps
+pub mod StructCells
 pub mod Walked

@@ -11,6 +11,7 @@ mod member;
 mod node;
 mod nodes;
 mod size;
+mod struct_cells;
 mod table;
 
 pub use cell::Cell;
@@ -20,4 +21,5 @@ pub use listing::cells;
 pub use member::{Member, MemberPlace};
 pub use node::{TypeId, TypeNode};
 pub use size::{align_of, cell_count, is_complete, size_of};
+pub use struct_cells::cells_of_struct;
 pub use table::TypeTable;

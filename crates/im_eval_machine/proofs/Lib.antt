@@ -1,5 +1,4 @@
 pub mod Steps
-pub mod StructCells
 pub mod Rows
 pub mod Plans
 pub mod Stores

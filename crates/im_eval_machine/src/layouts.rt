@@ -10,9 +10,8 @@ ghost use Rattle.im_typed.specs.declared.program.Func as rust_func;
 ghost use Rattle.im_typed.specs.declared.program.Static as rust_static;
 ghost use Rattle.im_eval_machine.specs.Settings.{AreLayouts, AreLayoutsOf, ArePlans, HasKnownTypes, HasTypes, IsPlanOf, cells_at, local_shapes, static_shapes};
 
-use crate::cells::struct_cells;
 use crate::code::{Layout, Layouts};
-use im_ctype::{Cell, TypeTable, cells, size_of};
+use im_ctype::{Cell, TypeTable, cells, cells_of_struct, size_of};
 use im_eval_store::Plan;
 use im_num::NoMemory;
 use im_typed::{Func, Object, Prog, Static};
@@ -91,7 +90,7 @@ fn all_struct_cells(alloc: Global, types: &TypeTable) -> Result<Vec<Vec<Cell>>, 
         let Ok(name) = u32::try_from(number) else {
             return Err(NoMemory::OutOfMemory);
         };
-        structs.push(struct_cells(alloc, name, types)?)?;
+        structs.push(cells_of_struct(alloc, name, types)?)?;
     }
     Ok(structs)
 }

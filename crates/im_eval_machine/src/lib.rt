@@ -3,7 +3,6 @@
 
 mod access;
 mod activation;
-mod cells;
 mod change;
 mod code;
 mod found;

@@ -4,11 +4,11 @@ ghost use Rattle.im_lower_plain.specs.Make.{make, make_place, part_offset};
 ghost use Rattle.im_lower.specs.MakeEach.{make_each};
 
 use crate::builder::{Builder, next};
-use crate::cells::struct_cells;
 use crate::lines::{put_change, put_copy, put_increment, put_load, register_at, small};
 use crate::operators::{put_known, put_operator};
 use crate::places::{behind, changed_kind, place_at, shape_of};
 use im_block::{Exit, Line};
+use im_ctype::cells_of_struct;
 use im_num::NoMemory;
 use im_typed::{Access, Expr, Place, Prog};
 
@@ -157,7 +157,7 @@ pub(crate) fn lower_expression(
         }
         Expr::Assign(Access::Struct { number, .. }, place, value) => {
             let from = behind(place, free)?;
-            let cells = struct_cells(code.alloc(), *number, &prog.types)?;
+            let cells = cells_of_struct(code.alloc(), *number, &prog.types)?;
             put_copy(code, to, from, place_at(place, free, first)?, &cells)?;
             lower_expression(code, value, from, next(from)?, prog, first)?;
             lower_place(code, place, free, prog, first)
@@ -231,7 +231,7 @@ fn part_offset(code: &Builder, from: u32, whole: &Expr, prog: &Prog) -> Result<u
     let Some(Access::Struct { number, .. }) = shape_of(whole, prog) else {
         return Ok(0);
     };
-    let cells = struct_cells(code.alloc(), number, &prog.types)?;
+    let cells = cells_of_struct(code.alloc(), number, &prog.types)?;
     match cells.get(from as usize) {
         Some(cell) => small(cell.offset),
         None => Ok(0),

@@ -7,11 +7,10 @@ ghost use Rattle.im_lower_relation.specs.Statements.{zero_line};
 ghost use Rattle.im_lower.specs.Marks.{AreMarks};
 
 use crate::builder::{Builder, next, sum};
-use crate::cells::struct_cells;
 use crate::expressions::{Base, lower_value};
 use crate::lines::{put_reads, put_writes, small};
 use im_block::{Line, Object, Place};
-use im_ctype::Cell;
+use im_ctype::{Cell, cells_of_struct};
 use im_num::{Kind, NoMemory};
 use im_typed::{Access, Piece, Prog};
 
@@ -67,7 +66,7 @@ fn push_offsets(
     match access {
         Access::Scalar(_) => Ok(found.push(offset as u64)?),
         Access::Struct { number, .. } => {
-            let cells = struct_cells(code.alloc(), number, &prog.types)?;
+            let cells = cells_of_struct(code.alloc(), number, &prog.types)?;
             push_cell_offsets(found, offset, &cells)
         }
     }
@@ -210,7 +209,7 @@ fn put_piece(
     match access {
         Access::Scalar(kind) => code.put_write(place, kind, low),
         Access::Struct { number, .. } => {
-            let cells = struct_cells(code.alloc(), number, &prog.types)?;
+            let cells = cells_of_struct(code.alloc(), number, &prog.types)?;
             let from = next(low)?;
             put_writes(code, place, from, &cells)?;
             put_reads(code, low, from, &cells)

@@ -2,7 +2,6 @@
 #![tactic(auto)]
 
 mod builder;
-mod cells;
 mod expressions;
 mod functions;
 mod initialise;

@@ -4,7 +4,7 @@ use Rattle.im_ctype.specs.Layout.{layout}
 use Rattle.im_ctype.specs.Table.{structs_of}
 use Rattle.im_types.specs.declared.tree.Type as rust
 use Rattle.im_types.specs.Shape.{type_of}
-use Rattle.im_check_static_values.proofs.StructCells.{elements}
+use Rattle.im_check_static_values.proofs.Elements.{elements}
 use Rattle.im_check_static_values.proofs.cells.+cells_of.Goals as goal
 
 pub returns-in_ok-bytes-in-Array : goal.returns-in_ok-bytes-in-Array

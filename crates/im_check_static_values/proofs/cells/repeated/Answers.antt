@@ -1,6 +1,6 @@
 use Rattle.std.proofs.Common.{◌≡◌, ◌+◌, ◌-◌, arith}
 use Rattle.im_ctype.specs.Layout.{Layout, repeated}
-use Rattle.im_check_static_values.proofs.StructCells.{element_more}
+use Rattle.im_check_static_values.proofs.Elements.{element_more}
 use Rattle.im_check_static_values.proofs.cells.repeated.Goals as goal
 
 pub loop-element-preserved : goal.loop-element-preserved

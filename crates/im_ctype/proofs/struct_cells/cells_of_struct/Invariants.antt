@@ -1,7 +1,7 @@
 use Rattle.std.proofs.Common.{◌≡◌, ◌++◌, drop}
 use Rattle.im_ctype.specs.Layout.{moved}
-use Rattle.im_lower.proofs.StructCells.{row_cells}
-use Rattle.im_lower.proofs.cells.struct_cells.Given as goal
+use Rattle.im_ctype.proofs.StructCells.{row_cells}
+use Rattle.im_ctype.proofs.struct_cells.cells_of_struct.Given as goal
 
 abbrev pub invariant-loop-index : goal.invariant-loop-index
 invariant-loop-index l =

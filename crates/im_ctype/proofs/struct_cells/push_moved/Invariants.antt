@@ -1,6 +1,6 @@
 use Rattle.std.proofs.Common.{◌≡◌, ◌++◌, drop}
 use Rattle.im_ctype.specs.Layout.{moved}
-use Rattle.im_eval_machine.proofs.cells.push_moved.Given as goal
+use Rattle.im_ctype.proofs.struct_cells.push_moved.Given as goal
 
 abbrev pub invariant-loop-cell : goal.invariant-loop-cell
 invariant-loop-cell l =

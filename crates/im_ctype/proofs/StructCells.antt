@@ -1,12 +1,12 @@
--- The cells of a struct, from its members as the table has them; and those of elements side by side.
-use Rattle.std.proofs.Common.{◌≡◌, ℕ, ◌+◌, ◌≤◌, List, [], ◌∷◌, ◌++◌, drop, length, refl, sym, ap, ◌∙◌, add-one, append_assoc}
+-- The cells of a struct, from its members as the table has them.
+use Rattle.std.proofs.Common.{◌≡◌, ℕ, ◌≤◌, List, [], ◌∷◌, ◌++◌, drop, length, refl, sym, ap, ◌∙◌}
 use Rattle.std.proofs.Math.ListN.{drop_of_length-le}
 use Rattle.std.proofs.lemmas.List.{append-nil}
 use Rattle.im_ctype.specs.declared.cell.Cell.{Cell}
 use Rattle.im_ctype.specs.declared.member.Member.{Member}
 use Rattle.im_ctype.specs.declared.member.MemberPlace.{MemberPlace}
 use Rattle.im_ctype.specs.Types.{members_of, struct}
-use Rattle.im_ctype.specs.Layout.{Layout, moved, repeated, layouts, layout}
+use Rattle.im_ctype.specs.Layout.{moved, layouts, layout, layout_at}
 use Rattle.im_ctype.specs.Members.{places, member_cells}
 use Rattle.im_ctype.specs.Table.{Table, layout_of, members_in, members_at, types_of, structs_of}
 use Rattle.im_ctype.proofs.Steps.{plain-members}
@@ -35,33 +35,14 @@ module _ (types : Table) where
   no_more ms ps i h = ap (λ x. row_cells types x (drop i ps)) (drop_of_length-le ms h)
 
   -- all of them are the struct's
-  all_cells : (n : ℕ) → (layout (structs_of types) (struct n)).cells ≡ member_cells (layouts (structs_of types)) (members_of (structs_of types) n) (places (structs_of types) n) → row_cells types (members_at types n) (places (structs_of types) n) ≡ (layout (structs_of types) (struct n)).cells
+  pub all_cells : (n : ℕ) → (layout (structs_of types) (struct n)).cells ≡ member_cells (layouts (structs_of types)) (members_of (structs_of types) n) (places (structs_of types) n) → row_cells types (members_at types n) (places (structs_of types) n) ≡ (layout_at (layouts (structs_of types)) n).cells
   all_cells n law =
       rows (members_at types n) (places (structs_of types) n)
       ∙ ap (λ ms. member_cells (layouts (structs_of types)) ms (places (structs_of types) n)) (sym (plain-members types n))
       ∙ sym law
 
   -- all of them are found
-  pub finished : (n : ℕ) (found : List Cell) (ms : List Member) (ps : List MemberPlace) (i : ℕ) → found ++ row_cells types (drop i ms) (drop i ps) ≡ row_cells types ms ps → row_cells types (drop i ms) (drop i ps) ≡ [] → ms ≡ members_at types n → ps ≡ places (structs_of types) n → (layout (structs_of types) (struct n)).cells ≡ member_cells (layouts (structs_of types)) (members_of (structs_of types) n) (places (structs_of types) n) → found ≡ (layout (structs_of types) (struct n)).cells
+  pub finished : (n : ℕ) (found : List Cell) (ms : List Member) (ps : List MemberPlace) (i : ℕ) → found ++ row_cells types (drop i ms) (drop i ps) ≡ row_cells types ms ps → row_cells types (drop i ms) (drop i ps) ≡ [] → ms ≡ members_at types n → ps ≡ places (structs_of types) n → (layout (structs_of types) (struct n)).cells ≡ member_cells (layouts (structs_of types)) (members_of (structs_of types) n) (places (structs_of types) n) → found ≡ (layout_at (layouts (structs_of types)) n).cells
   finished n found ms ps i so_far none em ep law =
       sym (append-nil found) ∙ ap (λ cs. found ++ cs) (sym none) ∙ so_far
       ∙ ap (λ x. row_cells types x ps) em ∙ ap (λ x. row_cells types (members_at types n) x) ep ∙ all_cells n law
-
--- one element, and those behind it
-pub first_element : (at n m : ℕ) (e : Layout) → n ≡ m + 1 → repeated at n e ≡ moved at e.cells ++ repeated (at + e.size) m e
-first_element at n m e h = ap (λ k. repeated at k e) (h ∙ add-one m)
-
-pub elements : (l : Layout) (n s : ℕ) (cs : List Cell) → s ≡ l.size → cs ≡ l.cells → repeated 0 n (record { size = s; align = l.align; cells = cs }) ≡ repeated 0 n l
-elements l n s cs e f =
-    ap (λ k. repeated 0 n (record { size = k; align = l.align; cells = cs })) e
-    ∙ ap (λ ds. repeated 0 n (record { size = l.size; align = l.align; cells = ds })) f
-
--- one element more is listed
-pub element_more : (done now : List Cell) (at next n m : ℕ) (e : Layout) (whole : List Cell) → n ≡ m + 1 → next ≡ at + e.size → now ≡ done ++ moved at e.cells
-    → done ++ repeated at n e ≡ whole → now ++ repeated next m e ≡ whole
-element_more done now at next n m e whole h f g so_far =
-    ap (λ xs. xs ++ repeated next m e) g
-    ∙ append_assoc done (moved at e.cells) (repeated next m e)
-    ∙ ap (λ k. done ++ (moved at e.cells ++ repeated k m e)) f
-    ∙ ap (λ xs. done ++ xs) (sym (first_element at n m e h))
-    ∙ so_far

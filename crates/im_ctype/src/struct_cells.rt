@@ -2,17 +2,17 @@ ghost use Rattle.std.specs.Prelude.{◌≡◌, ◌++◌, IfOk, OnOk};
 ghost use Rattle.im_ctype.specs.Layout.{layout_at, layouts, moved};
 ghost use Rattle.im_ctype.specs.Table.{structs_of};
 
-use im_ctype::laws::member_law;
-use im_ctype::{Cell, TypeTable, cells, size_of};
+use crate::cell::Cell;
+use crate::laws::member_law;
+use crate::listing::cells;
+use crate::size::size_of;
+use crate::table::TypeTable;
 use im_num::NoMemory;
 use std::alloc::Global;
 
-/// The cells of a struct of the table, in order: those of its members, each at its place.
-pub(crate) fn struct_cells(
-    alloc: Global,
-    number: u32,
-    types: &TypeTable,
-) -> Result<Vec<Cell>, NoMemory>
+/// The cells of a struct of the table, in order: those of its members, each at its place
+/// (C11 6.7.2.1). Want of memory where an offset is no number of 64 bits.
+pub fn cells_of_struct(alloc: Global, number: u32, types: &TypeTable) -> Result<Vec<Cell>, NoMemory>
     ensures { IfOk result (λ found. found.items
         ≡ (layout_at (layouts (structs_of types.now)) number).cells) }
 {

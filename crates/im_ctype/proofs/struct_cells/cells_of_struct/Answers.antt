@@ -1,7 +1,7 @@
-use Rattle.std.proofs.Common.{◌≤◌, length, arith}
+use Rattle.std.proofs.Common.{◌≡◌, ◌≤◌, length, arith}
 use Rattle.im_ctype.specs.Table.{structs_of}
-use Rattle.im_eval_machine.proofs.StructCells.{none_left, no_more, finished}
-use Rattle.im_eval_machine.proofs.cells.struct_cells.Goals as goal
+use Rattle.im_ctype.proofs.StructCells.{none_left, no_more, finished}
+use Rattle.im_ctype.proofs.struct_cells.cells_of_struct.Goals as goal
 
 pub returns-then-index-places : goal.returns-then-index-places
 returns-then-index-places c =
