@@ -4,6 +4,7 @@ use Rattle.im_num.specs.declared.kind.Kind.{Kind}
 use Rattle.im_store.specs.Checks.{Checked, Fine, Bad, then_, unless}
 use Rattle.im_store.specs.Objects.{Object, Value, Number, Null, Pointer, Unset, Shape, Store, same_kind, is_there, lives}
 use Rattle.im_store.specs.Access.{is_of_kind, has_cell, stands, taken, read_cell, write_cell, with_value}
+use Rattle.im_num.specs.declared.kind.Kind.TheVariants.{U32}
 use Rattle.im_store.proofs.Same.{same_kind-is}
 use Rattle.im_block.specs.declared.code.Place.{Place}
 use Rattle.im_store.specs.declared.undefined.Undefined.TheVariants.{DeadPointerRead, NoSuchCell}
