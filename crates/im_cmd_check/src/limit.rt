@@ -125,7 +125,16 @@ fn send_in<S: Sink>(sink: &mut S, quantity: Quantity, count: u64, name: &[u8]) -
     let behind = closing(name);
     let why = limit_sentence(quantity);
     let most = most_of(quantity);
-    send_over_in(sink, name_of(quantity), count, most, before, name, behind, why)
+    send_over_in(
+        sink,
+        name_of(quantity),
+        count,
+        most,
+        before,
+        name,
+        behind,
+        why,
+    )
 }
 
 fn send_file<S: Sink>(sink: &mut S, file: &str) -> Result<(), Failed>
