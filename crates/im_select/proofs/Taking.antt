@@ -74,10 +74,6 @@ pub all_left : {X : Type 0} (P : X → Type 0) (xs ys : List X) → All P (xs ++
 all_left P [] ys a = All-nil P
 all_left P (x ∷ xs) ys a = All-cons P x xs (All-head P x (xs ++ ys) a) (all_left P xs ys (All-tail P x (xs ++ ys) a))
 
-pub all_right : {X : Type 0} (P : X → Type 0) (xs ys : List X) → All P (xs ++ ys) → All P ys
-all_right P [] ys a = a
-all_right P (x ∷ xs) ys a = all_right P xs ys (All-tail P x (xs ++ ys) a)
-
 -- ---- the test is one of branches
 
 by_sign_branches : (kind : Kind) (signed unsigned : Op) → format_of signed ≡ OfBranches → format_of unsigned ≡ OfBranches → format_of (if is_signed kind then signed else unsigned) ≡ OfBranches
@@ -140,3 +136,12 @@ own_few (Some t) lines = fewer lines
     fewer [] = omega arith
     fewer (line ∷ []) = omega arith
     fewer (line ∷ next ∷ rest) = let h = fewer (next ∷ rest) in omega arith
+
+all_but_last : (P : Line → Type 0) (lines : List Line) → All P lines → All P (but_last lines)
+all_but_last P [] a = a
+all_but_last P (line ∷ []) a = All-nil P
+all_but_last P (line ∷ next ∷ rest) a = All-cons P line (but_last (next ∷ rest)) (All-head P line (next ∷ rest) a) (all_but_last P (next ∷ rest) (All-tail P line (next ∷ rest) a))
+
+pub own_all : (P : Line → Type 0) (taken : Option Test) (lines : List Line) → All P lines → All P (own_lines taken lines)
+own_all P None lines a = a
+own_all P (Some t) lines a = all_but_last P lines a
