@@ -51,7 +51,7 @@ same_function i u f h a b = let e = sym a ∙ b in cc
 pub alike_in : (u : Code) (s : State) (registers : ℕ → Value) (f : Function) → slice_get u.functions.items s.frame.function ≡ Some f → AlikeAt f.blocks.items s.frame.spot.rest s.frame.spot.exit s.frame.registers registers → Alike u s registers
 alike_in u s registers f is a h is' = subst (λ (z : Function). AlikeAt z.blocks.items s.frame.spot.rest s.frame.spot.exit s.frame.registers registers) (same_function s.frame.function u f h is is') a
 
-checked_both : {A : Type 0} (u : Code) (c c' : Checked A) (go go' : A → Next) → c' ≡ c → ((a : A) → c ≡ Fine a → Both u (go a) (go' a)) → Both u (on_checked c go) (on_checked c' go')
+pub checked_both : {A : Type 0} (u : Code) (c c' : Checked A) (go go' : A → Next) → c' ≡ c → ((a : A) → c ≡ Fine a → Both u (go a) (go' a)) → Both u (on_checked c go) (on_checked c' go')
 checked_both {A} u c c' go go' e h = subst (λ z. Both u (on_checked c go) (on_checked z go')) (sym e) (by c h)
   where
     by : (c : Checked A) → ((a : A) → c ≡ Fine a → Both u (go a) (go' a)) → Both u (on_checked c go) (on_checked c go')
@@ -71,7 +71,7 @@ cond_both u false x y x' y' h k = k
 same_is : (r : ℕ) → (r == r) ≡ true
 same_is r = grind (arith, nat_tests)
 
-used_lives : (live : ℕ → ℕ → Bool) (line : Line) (rest : List Line) (exit : Exit) (r : ℕ) → uses line r ≡ true → lives_before live (line ∷ rest) exit r ≡ true
+pub used_lives : (live : ℕ → ℕ → Bool) (line : Line) (rest : List Line) (exit : Exit) (r : ℕ) → uses line r ≡ true → lives_before live (line ∷ rest) exit r ≡ true
 used_lives live line rest exit r e = by (uses line r) _ _ e
   where
     by : (a b c : Bool) → a ≡ true → ((a || b) || c) ≡ true

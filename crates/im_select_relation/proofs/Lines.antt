@@ -10,7 +10,7 @@ use Rattle.im_num.specs.declared.values.Cause.{Cause}
 use Rattle.im_num.proofs.Wrapping.{wrap-of_kind}
 use Rattle.im_mem.specs.Memory.{Mem, is_place, bytes_from}
 use Rattle.im_rv.specs.declared.instr.Op.{Op}
-use Rattle.im_rv.specs.declared.instr.Op.TheVariants.{Addi, Sltiu, Xori, Srl, Sra, Sub, Div, Divu, Rem, Remu}
+use Rattle.im_rv.specs.declared.instr.Op.TheVariants.{Addi, Sltiu, Xori, Srl, Sra, Srli, Srai, Sub, Div, Divu, Rem, Remu}
 use Rattle.im_rv.specs.declared.effect.Effect.TheVariants.{Puts}
 use Rattle.im_rv.specs.Steps.{Cpu, sum_of, difference_of, as_number as number_as, with_reg, quotient}
 use Rattle.im_rv.proofs.Straight.{same_reg, other_reg}
@@ -39,9 +39,9 @@ use Rattle.im_block.specs.declared.code.Place.TheVariants.{Static}
 use Rattle.im_block.specs.declared.code.Line.{Line}
 use Rattle.im_block.specs.declared.code.Line.TheVariants.{Cut, GetChar, PutChar}
 use Rattle.im_block.specs.declared.unit.Unit.{Unit as Code}
-use Rattle.im_block.specs.Meaning.{Setting, State, Next, Goes, Stops, Serves, Cuts, Active, object_of, with_register, with_rest, kept_by, does, place_of, computed, computed_one, moved, distance_of, negation, condition, compared, converted, pointer_of, slot_of, slot_shape, read_place, write_place, read_slot, write_slot, site_of, slot_site, number_of, Location, as_number, as_truth, served, gets}
+use Rattle.im_block.specs.Meaning.{Setting, State, Next, Goes, Stops, Serves, Cuts, Active, object_of, with_register, with_rest, kept_by, computes, does, place_of, computed, computed_one, moved, distance_of, negation, condition, compared, converted, pointer_of, slot_of, slot_shape, read_place, write_place, read_slot, write_slot, site_of, slot_site, number_of, Location, as_number, as_truth, served, gets}
 use Rattle.im_select_relation.specs.Linking.{Linking, pointer_at, frame_of, runtime, Means}
-use Rattle.im_select_relation.specs.Selected.{IsEntry, ones, Already, Moved, Selected, Numbers, Nulls, Copies, Converts, Negates, Complements, Nots, Computes, Compares, Moves, Measures, Addresses, AddressesPage, Fetches, StoresValue, Reloads, Spills, Cuts_, Calls, Gets, Puts_, Stands, Displaced}
+use Rattle.im_select_relation.specs.Selected.{IsHome, IsEntry, ones, Immediate, AddsBy, SubtractsBy, AndsBy, OrsBy, XorsBy, ShiftsLeftBy, ShiftsRightBy, Already, Moved, Selected, Numbers, Nulls, Copies, Converts, Negates, Complements, Nots, Computes, Compares, Moves, Measures, Addresses, AddressesPage, Fetches, StoresValue, Reloads, Spills, Cuts_, Calls, Gets, Puts_, Stands, Displaced}
 use Rattle.im_block.specs.Shape.{narrowing, line_weight}
 use Rattle.im_select_relation.specs.Law.{Touches, Nothing, Serving, Cutting, steps}
 use Rattle.im_select_relation.proofs.Registers.{RegsMean, means_at, only_result}
@@ -52,7 +52,7 @@ use Rattle.im_select_relation.proofs.Shapes.{Premises}
 use Rattle.im_select_relation.proofs.Relation.{Rel, Advanced, After, checked_after, takes_after, chain_kept, links_same}
 use Rattle.im_select_relation.proofs.Calls.{number_word, lost_by, word_even, call_after}
 use Rattle.im_select_relation.proofs.Places.{Ready, means_mod, displaced, static_means, based}
-use Rattle.im_select_relation.proofs.Operators.{Converts as Converted_, numbers_mean, truths_mean, converted_word, computed_row, condition_word, zero_test}
+use Rattle.im_select_relation.proofs.Operators.{Converts as Converted_, numbers_mean, truths_mean, converted_word, computed_row, immediate_row, condition_word, zero_test}
 use Rattle.im_select_relation.proofs.Pointers.{in_use, use_small, places_word, moved_means, moved_word, distance_means}
 use Rattle.im_select_relation.proofs.Computing.{gave_weak, gave_none, some_steps, gave_constant, gave_compared, gave_converted, gave_moved, gave_distance}
 use Rattle.im_select_relation.proofs.Gives.{Lands, gave_one, gave_more, computes_after, reads_after, writes_after}
@@ -290,6 +290,25 @@ operation_on BitOr kind = refl
 operation_on BitXor kind = refl
 operation_on ShiftLeft kind = refl
 operation_on ShiftRight kind = signed_on kind Sra Srl refl refl
+
+immediate_on : (z : ℤ) (kind : Kind) (op : BinaryOp) (by : Op) (imm : ℕ) → Immediate z kind op by imm → returns_by by ≡ false
+immediate_on z kind op by imm AddsBy = refl
+immediate_on z kind op by imm (SubtractsBy n e) = refl
+immediate_on z kind op by imm AndsBy = refl
+immediate_on z kind op by imm OrsBy = refl
+immediate_on z kind op by imm XorsBy = refl
+immediate_on z kind op by imm ShiftsLeftBy = refl
+immediate_on z kind op by imm ShiftsRightBy = signed_on kind Srai Srli refl refl
+
+-- an operator and the constant on its right, as one
+pub folded_after : (p : Linking) (u : Code) (g : Setting) (s : State) (c : Cpu) (m : Mem) (r : Rel p u g s c m) (z : ℤ) (to : ℕ) (op : BinaryOp) (kind : Kind) (left : ℕ) (rest : List Line) (by : Op) (imm : ℕ) → IsHome to → IsHome left → IsPromoted kind → Immediate z kind op by imm → Holds p.image c.pc (with_immediate by to left imm) → Stands p r.f.blocks.items s.frame.function (frame_of g s.frame.function) (c.pc + 4) rest s.frame.spot.exit → After p u g s.fuel (1 + narrowing kind) c m (computes to (as_number (computed op kind (s.frame.registers left) (Number z))) rest s)
+folded_after p u g s c m r z to op kind left rest by imm home a k is h code =
+    checked_after p u g s.fuel (1 + narrowing kind) c m (as_number (computed op kind (s.frame.registers left) (Number z))) _ (λ v e.
+    let t = then_fine (computed op kind (s.frame.registers left) (Number z)) _ v e in
+    computes_after p u g s c m r (1 + narrowing kind) to (word t.a) (c.pc + 4) (Fine v) rest home.0
+    (gave_weak m c.pc c.x to (word t.a) (c.pc + 4) 1 (1 + narrowing kind) (omega arith) (gave_one p.image m c.pc c.x (with_immediate by to left imm) (word t.a) (let q = home.0 in omega arith) r.fixed h
+    (immediate_row z kind op by imm c.pc (c.x left) (c.x 0) is ∙ computed_row p op kind (s.frame.registers left) (Number z) (c.x left) (word z) t.a c.pc 0 k t.first (r.regs.homes left a.0) refl) (immediate_on z kind op by imm is))) code
+    (λ v' e'. subst (λ q. Means p q (word t.a)) (fine_is (Number t.a) v t.second ∙ fine_is v v' e') refl))
 
 page : (hi : ℕ) → sum_of (hi * 4096 % 2 ^ 32) 0 ≡ hi * 4096 % 2 ^ 32
 page hi = omega arith

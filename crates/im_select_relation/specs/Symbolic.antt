@@ -30,7 +30,7 @@ use Rattle.im_frame.specs.declared.layout.Layout.{Layout}
 use Rattle.im_frame.specs.Layout.{place_of as place_in, IsLayout}
 use Rattle.im_select_relation.specs.Linking.{Linking, LaidOut, frame_of}
 use Rattle.im_select_relation.specs.Linked.{FunctionAt}
-use Rattle.im_select_relation.specs.Selected.{IsHome, IsEntry, ones, unused_bits, Test, nonzero, comparing, IsDead}
+use Rattle.im_select_relation.specs.Selected.{IsHome, IsEntry, ones, unused_bits, Test, nonzero, comparing, IsDead, Immediate, IsSpent}
 
 -- the lines of a function; the places of objects in frames and of statics; the labels of the function's blocks, of the
 -- functions' entries, of the lines for an exhausted stack, of a checkpoint by its last register, of putchar and getchar
@@ -168,10 +168,19 @@ ExitIn w starts frame k (Return from) = ReturnIn w frame k from
 pub data JoinedIn (w : Lines) (blocks : List Block) (starts : ℕ → ℕ) (k : ℕ) : Line → List Line → Exit → Type 0 where
   Decides : (to : ℕ) (op : Comparison) (kind : Kind) (left right a b : ℕ) → IsHome left → IsHome right → IsPromoted kind ⊎ (kind ≡ Ptr) → IsDead blocks a to → IsDead blocks b to → TestedIn w starts k (comparing kind left right op) a b → JoinedIn w blocks starts k (Compare to op kind left right) [] (Branch to a b)
 
--- the lines of a function that has these blocks and this frame, from k on
-abbrev pub StandsIn : Lines → List Block → (ℕ → ℕ) → ℕ → ℕ → List Line → Exit → Type 0
-StandsIn w blocks starts frame k [] exit = ExitIn w starts frame k exit
-StandsIn w blocks starts frame k (line ∷ rest) exit = ((next : ℕ) × SelectedIn w k line next × StandsIn w blocks starts frame next rest exit) ⊎ JoinedIn w blocks starts k line rest exit
+-- from k to next, a constant and the line that uses it as one, where nothing else reads the constant's register
+pub data FoldedIn (w : Lines) (blocks : List Block) (k : ℕ) : Line → Line → List Line → Exit → ℕ → Type 0 where
+  ComputesBy : (r : ℕ) (z : ℤ) (to : ℕ) (op : BinaryOp) (kind : Kind) (left : ℕ) (rest : List Line) (exit : Exit) (by : Op) (imm : ℕ) → IsHome to → IsHome left → left ≢ r → IsPromoted kind → Immediate z kind op by imm → IsSpent blocks rest exit to r → Plain w k (with_immediate by to left imm) → FoldedIn w blocks k (Put r z) (Compute to op kind left r) rest exit (suc k)
+
+mutual
+  -- the lines of a function that has these blocks and this frame, from k on
+  abbrev pub StandsIn : Lines → List Block → (ℕ → ℕ) → ℕ → ℕ → List Line → Exit → Type 0
+  StandsIn w blocks starts frame k [] exit = ExitIn w starts frame k exit
+  StandsIn w blocks starts frame k (line ∷ rest) exit = ((next : ℕ) × SelectedIn w k line next × StandsIn w blocks starts frame next rest exit) ⊎ JoinedIn w blocks starts k line rest exit ⊎ PairedIn w blocks starts frame k line rest exit
+
+  abbrev pub PairedIn : Lines → List Block → (ℕ → ℕ) → ℕ → ℕ → Line → List Line → Exit → Type 0
+  PairedIn w blocks starts frame k line [] exit = ⊥
+  PairedIn w blocks starts frame k line (user ∷ rest) exit = (next : ℕ) × FoldedIn w blocks k line user rest exit next × StandsIn w blocks starts frame next rest exit
 
 -- the test of the stack, near or over a jump
 pub data CheckedIn (w : Lines) (k : ℕ) : ℕ → Type 0 where
