@@ -201,13 +201,13 @@ IsSpent blocks rest exit to r = (r ≡ to) ⊎ ((n : ℕ) → lives_before (read
 pub data Folded (p : Linking) (blocks : List Block) (pc : ℕ) : Line → Line → List Line → Exit → ℕ → Type 0 where
   ComputesBy : (r : ℕ) (z : ℤ) (to : ℕ) (op : BinaryOp) (kind : Kind) (left : ℕ) (rest : List Line) (exit : Exit) (by : Op) (imm : ℕ) → IsHome to → IsHome left → left ≢ r → IsPromoted kind → Immediate z kind op by imm → IsSpent blocks rest exit to r → Holds p.image pc (with_immediate by to left imm) → Folded p blocks pc (Put r z) (Compute to op kind left r) rest exit (pc + 4)
 
-mutual
+abbrev mutual
   -- the lines of function i, which has these blocks and this frame, from pc on: a line for itself, or with its exit, or with the next
-  abbrev pub Stands : Linking → List Block → ℕ → ℕ → ℕ → List Line → Exit → Type 0
+  pub Stands : Linking → List Block → ℕ → ℕ → ℕ → List Line → Exit → Type 0
   Stands p blocks i frame pc [] exit = ExitAt p i frame pc exit
   Stands p blocks i frame pc (line ∷ rest) exit = ((next : ℕ) × Selected p pc line next × Stands p blocks i frame next rest exit) ⊎ Joined p blocks i pc line rest exit ⊎ Paired p blocks i frame pc line rest exit
 
-  abbrev pub Paired : Linking → List Block → ℕ → ℕ → ℕ → Line → List Line → Exit → Type 0
+  pub Paired : Linking → List Block → ℕ → ℕ → ℕ → Line → List Line → Exit → Type 0
   Paired p blocks i frame pc line [] exit = ⊥
   Paired p blocks i frame pc line (user ∷ rest) exit = (next : ℕ) × Folded p blocks pc line user rest exit next × Stands p blocks i frame next rest exit
 

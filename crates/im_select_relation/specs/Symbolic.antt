@@ -172,13 +172,13 @@ pub data JoinedIn (w : Lines) (blocks : List Block) (starts : ℕ → ℕ) (k : 
 pub data FoldedIn (w : Lines) (blocks : List Block) (k : ℕ) : Line → Line → List Line → Exit → ℕ → Type 0 where
   ComputesBy : (r : ℕ) (z : ℤ) (to : ℕ) (op : BinaryOp) (kind : Kind) (left : ℕ) (rest : List Line) (exit : Exit) (by : Op) (imm : ℕ) → IsHome to → IsHome left → left ≢ r → IsPromoted kind → Immediate z kind op by imm → IsSpent blocks rest exit to r → Plain w k (with_immediate by to left imm) → FoldedIn w blocks k (Put r z) (Compute to op kind left r) rest exit (suc k)
 
-mutual
+abbrev mutual
   -- the lines of a function that has these blocks and this frame, from k on
-  abbrev pub StandsIn : Lines → List Block → (ℕ → ℕ) → ℕ → ℕ → List Line → Exit → Type 0
+  pub StandsIn : Lines → List Block → (ℕ → ℕ) → ℕ → ℕ → List Line → Exit → Type 0
   StandsIn w blocks starts frame k [] exit = ExitIn w starts frame k exit
   StandsIn w blocks starts frame k (line ∷ rest) exit = ((next : ℕ) × SelectedIn w k line next × StandsIn w blocks starts frame next rest exit) ⊎ JoinedIn w blocks starts k line rest exit ⊎ PairedIn w blocks starts frame k line rest exit
 
-  abbrev pub PairedIn : Lines → List Block → (ℕ → ℕ) → ℕ → ℕ → Line → List Line → Exit → Type 0
+  pub PairedIn : Lines → List Block → (ℕ → ℕ) → ℕ → ℕ → Line → List Line → Exit → Type 0
   PairedIn w blocks starts frame k line [] exit = ⊥
   PairedIn w blocks starts frame k line (user ∷ rest) exit = (next : ℕ) × FoldedIn w blocks k line user rest exit next × StandsIn w blocks starts frame next rest exit
 
