@@ -50,8 +50,8 @@ use Rattle.im_select_relation.proofs.Ends.{jumps, continues, Passed, Decided, no
 use Rattle.im_select_relation.proofs.Operators.{truth_word, condition_word}
 use Rattle.im_select_relation.proofs.Calls.{first_after, enter_after, back_after, clears, gives}
 use Rattle.im_select_relation.proofs.Lines.{compared_word, folded_after, line_after}
-use Rattle.im_select_relation.proofs.Alike.{shaded, AlikeAt, Both, Going, checked_both, same_function, alike_in, used_lives, operand, left_is, right_is, other_is, behind_lives, line_both, exit_both}
-use Rattle.im_select_relation.proofs.Stood.{truth_value, decided, Waiting, bearing, Bearing, Stood, Shaded, Waits, Bears, Brought, Brings, both_brings, same_brings, checked_brings}
+use Rattle.im_select_relation.proofs.Alike.{shaded, AlikeAt, Going, checked_both, same_function, alike_in, used_lives, operand, left_is, right_is, other_is, behind_lives, line_both, exit_both}
+use Rattle.im_select_relation.proofs.Stood.{truth_value, decided, Waiting, bearing, Stood, Shaded, Waits, Bears, Brought, Brings, both_brings, same_brings, checked_brings}
 use Rattle.im_select_relation.proofs.Fuel.{Paid, step_paid}
 
 same_regs : (p : Linking) (registers : ℕ → Value) (sp : ℕ) (x y : ℕ → ℕ) → RegsMean p registers sp x → ((i : ℕ) → y i ≡ x i) → RegsMean p registers sp y
@@ -226,13 +226,13 @@ module _ (blocks : List Block) (exit : Exit) (old registers : ℕ → Value) (r 
   abbrev borne : ℕ → Value
   borne = with_register old r (Number z)
 
-  abbrev user : Line
-  user = Compute to op kind left r
+  abbrev taking : Line
+  taking = Compute to op kind left r
 
   left_still : registers left ≡ borne left
   left_still =
-      let used = used_lives (reads_first blocks 0) user rest exit left (left_is left r) in
-      alike left 0 (behind_lives (reads_first blocks 0) (Put r z) (user ∷ rest) exit left (other_is left r ne) used) ∙ sym (register_other old r (Number z) left ne)
+      let used = used_lives (reads_first blocks 0) taking rest exit left (left_is left r) in
+      alike left 0 (behind_lives (reads_first blocks 0) (Put r z) (taking ∷ rest) exit left (other_is left r ne) used) ∙ sym (register_other old r (Number z) left ne)
 
   still : (q n : ℕ) → q ≢ to → lives_before (reads_first blocks n) rest exit q ≡ true → registers q ≡ borne q
   still q n other h = elim (two_ways q r) [
@@ -241,8 +241,8 @@ module _ (blocks : List Block) (exit : Exit) (old registers : ℕ → Value) (r 
       | inr dead ↦ (let lives : lives_before (reads_first blocks n) rest exit r ≡ true = ap (λ x. lives_before (reads_first blocks n) rest exit x) (sym same) ∙ h in let none = dead n in let bad : true ≡ false = sym lives ∙ none in cc)
     ])
     | inr apart ↦ (
-        let behind = behind_lives (reads_first blocks n) user rest exit q (other_is q to other) h in
-        alike q n (behind_lives (reads_first blocks n) (Put r z) (user ∷ rest) exit q (other_is q r apart) behind) ∙ sym (register_other old r (Number z) q apart)
+        let behind = behind_lives (reads_first blocks n) taking rest exit q (other_is q to other) h in
+        alike q n (behind_lives (reads_first blocks n) (Put r z) (taking ∷ rest) exit q (other_is q r apart) behind) ∙ sym (register_other old r (Number z) q apart)
         )
   ]
 
