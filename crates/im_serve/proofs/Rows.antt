@@ -1,6 +1,6 @@
 -- The laws of each row.
 use Rattle.std.proofs.Common.{◌≡◌, ℕ, suc, ◌+◌, ◌<◌, ◌≤◌, ◌^◌, List, [], ◌∷◌, ◌++◌, length, drop, Bool, true, false, ℤ, pos, negsuc, ◌+ℤ◌, ◌-ℤ◌, ◌*ℤ◌, ◌≤ℤ◌, inl, inr, refl, sym, ap, ◌∙◌, subst, arith, append-nil}
-use Rattle.std.specs.Prelude.{nat_abs, nat_lt, Some, None, if◌then◌else◌}
+use Rattle.std.specs.Prelude.{nat_abs, nat_lt}
 use Rattle.std.specs.Int.{int_rem_euclid}
 use Rattle.std.proofs.lemmas.Int.{ints}
 use Rattle.im_num.specs.declared.kind.Kind.{Kind}
@@ -9,7 +9,7 @@ use Rattle.im_num.specs.Kinds.{IsOfKind, wrap, word}
 use Rattle.im_num.proofs.Wrapping.{wrap-of_kind, wrap-modulo, wrap-only}
 use Rattle.im_serve.specs.declared.service.Service.{Service}
 use Rattle.im_serve.specs.declared.service.Service.TheVariants.{Getchar, Putchar}
-use Rattle.im_serve.specs.Services.{Reply, byte_in, byte_out, row, serve}
+use Rattle.im_serve.specs.Services.{byte_in, byte_put, byte_out}
 use Rattle.im_serve.specs.Laws.{AreBytes, IsWord, ServiceLaw}
 
 -- numbers
@@ -71,21 +71,15 @@ in-fits capacity (b ∷ rest) output h = h
 
 -- a byte of output
 
-abbrev room : Bool → (byte : ℕ) (input output : List ℕ) → Reply
-room has byte input output =
-    if has
-    then record { value = pos byte; input = input; output = output ++ byte ∷ [] }
-    else record { value = negsuc 0; input = input; output = output }
-
-out-value : (has : Bool) (byte : ℕ) (input output : List ℕ) → byte < 256 → IsOfKind I32 (room has byte input output).value
+out-value : (has : Bool) (byte : ℕ) (input output : List ℕ) → byte < 256 → IsOfKind I32 (byte_put has byte input output).value
 out-value true byte input output lt = byte-of_kind byte lt
 out-value false byte input output lt = none-of_kind
 
-out-takes : (has : Bool) (byte : ℕ) (input output : List ℕ) → (n : ℕ) × ((room has byte input output).input ≡ drop n input)
+out-takes : (has : Bool) (byte : ℕ) (input output : List ℕ) → (n : ℕ) × ((byte_put has byte input output).input ≡ drop n input)
 out-takes true byte input output = (0, refl)
 out-takes false byte input output = (0, refl)
 
-out-puts : (has : Bool) (byte : ℕ) (input output : List ℕ) → (more : List ℕ) × (output ++ more ≡ (room has byte input output).output)
+out-puts : (has : Bool) (byte : ℕ) (input output : List ℕ) → (more : List ℕ) × (output ++ more ≡ (byte_put has byte input output).output)
 out-puts true byte input output = (byte ∷ [], refl)
 out-puts false byte input output = ([], append-nil output)
 
@@ -93,7 +87,7 @@ length-more : (output : List ℕ) (byte : ℕ) → length (output ++ byte ∷ []
 length-more [] byte = refl
 length-more (b ∷ rest) byte = ap suc (length-more rest byte)
 
-out-fits : (capacity byte : ℕ) (input output : List ℕ) (has : Bool) → nat_lt (length output) capacity ≡ has → length output ≤ capacity → length (room has byte input output).output ≤ capacity
+out-fits : (capacity byte : ℕ) (input output : List ℕ) (has : Bool) → nat_lt (length output) capacity ≡ has → length output ≤ capacity → length (byte_put has byte input output).output ≤ capacity
 out-fits capacity byte input output true e h = let l = length-more output byte in grind (arith, e, l)
 out-fits capacity byte input output false e h = h
 

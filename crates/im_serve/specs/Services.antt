@@ -1,5 +1,5 @@
 -- The functions that the runtime serves, as a table: a program calls them and has no body of theirs.
-use Rattle.std.specs.Prelude.{ℕ, List, [], ◌∷◌, ◌++◌, length, codes, ℤ, pos, negsuc, nat_abs, nat_lt, Option, Some, None, if◌then◌else◌}
+use Rattle.std.specs.Prelude.{ℕ, List, [], ◌∷◌, ◌++◌, length, codes, ℤ, pos, negsuc, nat_abs, nat_lt, Bool, true, false, Option, Some, None}
 use Rattle.im_num.specs.declared.kind.Kind.{Kind}
 use Rattle.im_num.specs.declared.kind.Kind.TheVariants.{U8, I32}
 use Rattle.im_num.specs.Kinds.{wrap}
@@ -18,11 +18,12 @@ byte_in [] output = record { value = negsuc 0; input = []; output = output }
 byte_in (byte ∷ rest) output = record { value = pos byte; input = rest; output = output }
 
 -- a byte more of output where there is room, else -1 (C11 7.21.7.8)
+abbrev pub byte_put : (room : Bool) (byte : ℕ) (input output : List ℕ) → Reply
+byte_put true byte input output = record { value = pos byte; input = input; output = output ++ byte ∷ [] }
+byte_put false byte input output = record { value = negsuc 0; input = input; output = output }
+
 abbrev pub byte_out : (capacity byte : ℕ) (input output : List ℕ) → Reply
-byte_out capacity byte input output =
-    if nat_lt (length output) capacity
-    then record { value = pos byte; input = input; output = output ++ byte ∷ [] }
-    else record { value = negsuc 0; input = input; output = output }
+byte_out capacity byte input output = byte_put (nat_lt (length output) capacity) byte input output
 
 -- a row: the name, the kind of the parameter where there is one, the kind of the result, and what the service does, by the
 -- capacity of the output in bytes, the argument (0 where there is no parameter), the input that is left, the output so far
