@@ -2,16 +2,18 @@
 use Rattle.std.specs.Prelude.{ℕ, ℤ, Bool, true, false, Option, Some, None, if◌then◌else◌}
 use Rattle.im_ctree.specs.im_word.Words.{Name}
 use Rattle.im_typed.specs.im_ctype.Types.{CType}
+use Rattle.im_typed.specs.im_serve.declared.service.Service.{Service}
 use Rattle.im_rules.specs.TypeTests.{same_name}
 
 -- a static by its number, or an object of the function by its number
 pub data Storage : Type 0 where
   static_object local_object : ℕ → Storage
 
--- a function of the unit by its number, one that has no body, or one of the two that are predeclared
+-- a function of the unit by its number, one that has no body, or a service
 pub data Callee : Type 0 where
   a_body : ℕ → Callee
-  no_body get_character put_character : Callee
+  no_body : Callee
+  a_service : Service → Callee
 
 -- what an ordinary name means; `constant` is the const of an object, of a function's result, of what a typedef name means
 pub data Entity : Type 0 where
