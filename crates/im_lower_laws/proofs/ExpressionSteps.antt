@@ -50,8 +50,8 @@ nodes_positive (p.Update a change e) = omega arith
 nodes_positive (p.Increment a change old) = omega arith
 nodes_positive (p.Part from x e) = omega arith
 nodes_positive (p.Call n es) = omega arith
-nodes_positive p.Getchar = omega arith
-nodes_positive (p.Putchar e) = omega arith
+nodes_positive (p.Serve service p.no_argument) = omega arith
+nodes_positive (p.Serve service (p.an_argument e)) = omega arith
 
 place_positive : (a : p.Place) → 1 ≤ place_nodes a
 place_positive (p.Static n) = omega arith
@@ -241,8 +241,8 @@ module _ (g : p.Prog) (f : p.Func) (code : Function) (first low limit : ℕ) (pr
   shape_near (p.Increment a change old) ty = tt
   shape_near (p.Part from x e) ty = access_near x ty.0
   shape_near (p.Call n es) ty = callee_near (slice_get g.funcs n)
-  shape_near p.Getchar ty = tt
-  shape_near (p.Putchar e) ty = tt
+  shape_near (p.Serve service p.no_argument) ty = tt
+  shape_near (p.Serve service (p.an_argument e)) ty = tt
 
   part_near : (from : ℕ) (e : p.Expr) → IsTyped g f e → part_offset g from e ≤ 2097152
   part_near from e ty = let near = offset_near (cells_of_shape (shape_of g e)) from (shape_near e ty) in omega arith
@@ -481,9 +481,9 @@ module _ (g : p.Prog) (f : p.Func) (code : Function) (first low limit : ℕ) (pr
         at_most g code low limit (c + 64 * (1 + exprs_nodes es)) t (omega arith) (omega arith)
         (arguments_add (parameters (slice_get g.funcs k)) es ty.1 (c + (7 + 4 * count_of es)) t m _ free lf (omega arith)
         (adds_call g code low limit to k free (count_of es) (register to lt t1) lf (omega arith) facts.few facts.takes h))
-    adds p.Getchar ty c t m n to free lt lf t1 le h =
+    adds (p.Serve service p.no_argument) ty c t m n to free lt lf t1 le h =
         at_most g code low limit (c + 64 * 1) t (omega arith) (omega arith) (adds_getchar g code low limit to (register to lt t1) h)
-    adds (p.Putchar e) ty c t m n to free lt lf t1 le h =
+    adds (p.Serve service (p.an_argument e)) ty c t m n to free lt lf t1 le h =
         let one = nodes_positive e in
         at_most g code low limit (c + 64 * (1 + expr_nodes e)) t (omega arith) (omega arith)
         (adds e ty.0 (c + 11) t m _ free (free + 1) lf (omega arith) (omega arith) (omega arith)
