@@ -18,7 +18,7 @@ use Rattle.im_store.specs.Objects.{Name, Slot}
 use Rattle.im_block.specs.declared.code.Place.{Place}
 use Rattle.im_block.specs.declared.code.Place.TheVariants.{Static, Local, Through}
 use Rattle.im_block.specs.declared.code.Line.{Line}
-use Rattle.im_block.specs.declared.code.Line.TheVariants.{Put, PutNull, Copy, Convert, Unary, Not, Compute, Compare, Move, Distance, Address, Read, Write, Reload, Spill, Cut, Call, GetChar, PutChar}
+use Rattle.im_block.specs.declared.code.Line.TheVariants.{Put, PutNull, Copy, Convert, Unary, Not, Compute, Compare, Move, Distance, Address, Read, Write, Reload, Spill, Cut, Call, Serve}
 use Rattle.im_block.specs.declared.code.Exit.{Exit}
 use Rattle.im_block.specs.declared.code.Exit.TheVariants.{Jump, Turn, Branch, Return}
 use Rattle.im_block.specs.declared.code.Block.{Block}
@@ -110,8 +110,8 @@ line_some at m (Reload to slot access) = append_some (displaced_code 2 (at (Slot
 line_some at m (Spill slot from access) = append_some (displaced_code 2 (at (Slot slot))) _ _
 line_some at m (Cut cause) = omega arith
 line_some at m (Call to function first count) = omega arith
-line_some at m (GetChar to) = omega arith
-line_some at m (PutChar to from) = omega arith
+line_some at m (Serve to service None) = omega arith
+line_some at m (Serve to service (Some from)) = omega arith
 
 lines_some : (at : Name → ℕ) (m : ℕ → ℕ) (j : ℕ) (lines : List Line) → sum_of line_words lines ≤ length (lines_code at m j lines)
 lines_some at m j [] = omega arith

@@ -13,7 +13,7 @@ use Rattle.im_store.specs.Objects.{Name, Named, Slot}
 use Rattle.im_block.specs.declared.code.Place.{Place}
 use Rattle.im_block.specs.declared.code.Place.TheVariants.{Static, Local, Through}
 use Rattle.im_block.specs.declared.code.Line.{Line}
-use Rattle.im_block.specs.declared.code.Line.TheVariants.{Put, PutNull, Copy, Convert, Unary, Not, Compute, Compare, Move, Distance, Address, Read, Write, Reload, Spill, Cut, Call, GetChar, PutChar}
+use Rattle.im_block.specs.declared.code.Line.TheVariants.{Put, PutNull, Copy, Convert, Unary, Not, Compute, Compare, Move, Distance, Address, Read, Write, Reload, Spill, Cut, Call, Serve}
 use Rattle.im_alloc_placed.specs.Operands.{PlaceAtHome}
 use Rattle.im_alloc_placed.specs.Placed.{IsPlacedLine}
 use Rattle.im_select_relation.specs.Symbolic.{Lines, HasLine, Plain, Aimed, ConstantIn, Small, Large, DisplacedIn, Near, Far, BasedIn, InFrame, InStatic, Behind, AddsIn, Short, Long, Lesser, Larger, NotLarger, NotLesser, Same, Other, Whole, Already, Moved, CopiedIn, Narrowed, Masked, Bytes, Shifted, Multiplied, ScaledIn, SelectedIn, Numbers, Nulls, Copies, Converts, Negates, Complements, Nots, Computes, Compares, Moves, Measures, Addresses, AddressesPage, Fetches, StoresValue, Reloads, Spills, Cuts_, Calls, Gets, Puts_}
@@ -174,7 +174,7 @@ selected_in w given k m o g (Cut cause) h c s a = Cuts_ cause m o (subst (λ z. 
 selected_in w given k m o g (Call to i base count) h c s a =
     let call : Aimed w k (jumping 1 0) (w.entry i) = subst (Aimed w k (jumping 1 0)) (sym (g.entries i c)) a.0 in
     subst (λ z. SelectedIn w k (Call z i base count) (suc k)) (sym h.0) (subst (λ z. SelectedIn w k (Call 10 i z count) (suc k)) (sym h.1) (Calls i count call))
-selected_in w given k m o g (GetChar to) h c s a = subst (λ z. SelectedIn w k (GetChar z) (suc k)) (sym h) (Gets (subst (Aimed w k (jumping 1 0)) (sym g.gets) a.0))
-selected_in w given k m o g (PutChar to from) h c s a =
+selected_in w given k m o g (Serve to service None) h c s a = subst (λ z. SelectedIn w k (Serve z service None) (suc k)) (sym h) (Gets (subst (Aimed w k (jumping 1 0)) (sym g.gets) a.0))
+selected_in w given k m o g (Serve to service (Some from)) h c s a =
     let call : Aimed w k (jumping 1 0) w.puts = subst (Aimed w k (jumping 1 0)) (sym g.puts) a.0 in
-    subst (λ z. SelectedIn w k (PutChar z from) (suc k)) (sym h.0) (subst (λ z. SelectedIn w k (PutChar 10 z) (suc k)) (sym h.1) (Puts_ call))
+    subst (λ z. SelectedIn w k (Serve z service (Some from)) (suc k)) (sym h.0) (subst (λ z. SelectedIn w k (Serve 10 service (Some z)) (suc k)) (sym h.1) (Puts_ call))

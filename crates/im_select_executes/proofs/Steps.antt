@@ -1,11 +1,11 @@
 -- The steps of placed code are few for its words, and the cuts too.
 use Rattle.std.proofs.Common.{ℕ, ◌+◌, ◌*◌, ◌≤◌, Bool, true, false, cond, List, [], ◌∷◌, arith}
-use Rattle.std.specs.Prelude.{◌==◌, ◌&&◌}
+use Rattle.std.specs.Prelude.{◌==◌, ◌&&◌, Some, None}
 use Rattle.im_num.specs.declared.kind.Kind.{Kind}
 use Rattle.im_num.specs.declared.kind.Kind.TheVariants.{I8, U8, I16, U16, I32, U32, Ptr}
 use Rattle.im_num.specs.Kinds.{kind_size}
 use Rattle.im_block.specs.declared.code.Line.{Line}
-use Rattle.im_block.specs.declared.code.Line.TheVariants.{Put, PutNull, Copy, Convert, Unary, Not, Compute, Compare, Move, Distance, Address, Read, Write, Reload, Spill, Cut, Call, GetChar, PutChar}
+use Rattle.im_block.specs.declared.code.Line.TheVariants.{Put, PutNull, Copy, Convert, Unary, Not, Compute, Compare, Move, Distance, Address, Read, Write, Reload, Spill, Cut, Call, Serve}
 use Rattle.im_block.specs.declared.code.Exit.{Exit}
 use Rattle.im_block.specs.declared.code.Exit.TheVariants.{Jump, Turn, Branch, Return}
 use Rattle.im_block.specs.declared.code.Block.{Block}
@@ -48,8 +48,8 @@ few_line p (Reload to slot access) = omega arith
 few_line p (Spill slot from access) = omega arith
 few_line p (Cut cause) = omega arith
 few_line p (Call to i first count) = omega arith
-few_line p (GetChar to) = omega arith
-few_line p (PutChar to from) = omega arith
+few_line p (Serve to service None) = omega arith
+few_line p (Serve to service (Some from)) = omega arith
 
 few_exit : (exit : Exit) → exit_words exit ≤ 7
 few_exit (Jump b) = omega arith

@@ -1,6 +1,6 @@
 -- Each line that passes on to the next, on the machine.
 use Rattle.std.proofs.Common.{◌≡◌, ℕ, zero, suc, ◌+◌, ◌*◌, ◌%◌, ◌^◌, ◌<◌, ◌≤◌, ◌⊎◌, inl, inr, ℤ, pos, negsuc, ◌≤ℤ◌, ◌<ℤ◌, Bool, true, false, cond, List, [], ◌∷◌, ◌++◌, length, Some, sym, ap, ◌∙◌, subst, refl, arith}
-use Rattle.std.specs.Prelude.{◌==◌, ◌&&◌, neg_ℤ, ◌-ℤ◌, nat_lt, nat_abs, not, slice_get, replicate, bit_xor}
+use Rattle.std.specs.Prelude.{◌==◌, ◌&&◌, neg_ℤ, ◌-ℤ◌, nat_lt, nat_abs, not, slice_get, replicate, bit_xor, None}
 use Rattle.std.proofs.lemmas.List.{append-nil}
 use Rattle.std.proofs.lemmas.Int.{ints}
 use Rattle.im_num.specs.declared.kind.Kind.{Kind}
@@ -35,9 +35,11 @@ use Rattle.im_store.specs.Outcomes.{Undef, More, End}
 use Rattle.im_store.specs.Pointers.{compare_places}
 use Rattle.im_store.specs.Numbers.{apply_one, compares}
 use Rattle.im_store.specs.Objects.{Slot, Link, Value, Number, Null, Pointer, Shape, Store, same_kind}
+use Rattle.im_serve.specs.declared.service.Service.TheVariants.{Getchar, Putchar}
+use Rattle.im_serve.specs.Services.{byte_in, byte_put}
 use Rattle.im_block.specs.declared.code.Place.TheVariants.{Static}
 use Rattle.im_block.specs.declared.code.Line.{Line}
-use Rattle.im_block.specs.declared.code.Line.TheVariants.{Cut, GetChar, PutChar}
+use Rattle.im_block.specs.declared.code.Line.TheVariants.{Cut, Serve}
 use Rattle.im_block.specs.declared.unit.Unit.{Unit as Code}
 use Rattle.im_block.specs.Meaning.{Setting, State, Next, Goes, Stops, Serves, Cuts, Active, object_of, with_register, with_rest, kept_by, does, place_of, computed, computed_one, moved, distance_of, negation, condition, compared, converted, pointer_of, slot_of, slot_shape, read_place, write_place, read_slot, write_slot, site_of, slot_site, number_of, Location, as_number, as_truth, served, gets}
 use Rattle.im_select_relation.specs.Linking.{Linking, pointer_at, frame_of, runtime, Means}
@@ -175,7 +177,7 @@ byte_of z = loaded_wrap U8 z ∙ small (wrap U8 z) (wrap-of_kind U8 z).low (wrap
     small (pos n) low high = word_of n (omega (arith, ints))
     small (negsuc n) low high = absurd (omega (arith, ints))
 
-put_line : (p : Linking) (u : Code) (g : Setting) → Premises p u g → (s : State) (c : Cpu) (m : Mem) (r : Rel p u g s c m) (rest : List Line) (imm : ℕ) → sum_of c.pc imm ≡ p.puts → Holds p.image c.pc (jumping 1 imm) → Stands p r.f.blocks.items s.frame.function (frame_of g s.frame.function) (c.pc + 4) rest s.frame.spot.exit → After p u g s.fuel (p.longest + 1) c m (does u g (PutChar 10 10) rest s)
+put_line : (p : Linking) (u : Code) (g : Setting) → Premises p u g → (s : State) (c : Cpu) (m : Mem) (r : Rel p u g s c m) (rest : List Line) (imm : ℕ) → sum_of c.pc imm ≡ p.puts → Holds p.image c.pc (jumping 1 imm) → Stands p r.f.blocks.items s.frame.function (frame_of g s.frame.function) (c.pc + 4) rest s.frame.spot.exit → After p u g s.fuel (p.longest + 1) c m (does u g (Serve 10 Putchar (Some 10)) rest s)
 put_line p u g l s c m r rest imm lands h code =
     takes_after p u g s.fuel (p.longest + 1) c m s.output _ r.output (λ less.
     checked_after p u g (suc less) (p.longest + 1) c m (number_of (s.frame.registers 10)) _ (λ z e.
@@ -189,7 +191,7 @@ put_line p u g l s c m r rest imm lands h code =
     x : ℕ → ℕ
     x = with_reg c.x 1 (sum_of c.pc 4)
 
-    by : (less : ℕ) (z : ℤ) (d : Done (runtime p g) m p.puts (with_reg c.x 1 (sum_of c.pc 4)) (with_reg c.x 1 (sum_of c.pc 4) 1) (put g.capacity (shown m) (with_reg c.x 1 (sum_of c.pc 4) 10)) (left m)) → d.y 10 ≡ put_answer g.capacity (shown m) (with_reg c.x 1 (sum_of c.pc 4) 10) → with_reg c.x 1 (sum_of c.pc 4) 10 % 256 ≡ nat_abs (wrap U8 z) → (b : Bool) → nat_lt (length s.output) g.capacity ≡ b → After p u g (suc less) (p.longest + 1) c m (cond b (served u g 10 (Number (pos (nat_abs (wrap U8 z)))) rest s.input (s.output ++ nat_abs (wrap U8 z) ∷ []) less s) (served u g 10 (Number (negsuc 0)) rest s.input s.output less s))
+    by : (less : ℕ) (z : ℤ) (d : Done (runtime p g) m p.puts (with_reg c.x 1 (sum_of c.pc 4)) (with_reg c.x 1 (sum_of c.pc 4) 1) (put g.capacity (shown m) (with_reg c.x 1 (sum_of c.pc 4) 10)) (left m)) → d.y 10 ≡ put_answer g.capacity (shown m) (with_reg c.x 1 (sum_of c.pc 4) 10) → with_reg c.x 1 (sum_of c.pc 4) 10 % 256 ≡ nat_abs (wrap U8 z) → (b : Bool) → nat_lt (length s.output) g.capacity ≡ b → After p u g (suc less) (p.longest + 1) c m (replies u g 10 (byte_put b (nat_abs (wrap U8 z)) s.input s.output) rest less s)
     by less z d a byte true t =
         let room : nat_lt (length (shown m)) g.capacity ≡ true = ap (λ (q : List ℕ). nat_lt (length q) g.capacity) r.output ∙ t in
         let eo : put g.capacity (shown m) (x 10) ≡ s.output ++ nat_abs (wrap U8 z) ∷ [] = ap (λ b. cond b (shown m ++ x 10 % 256 ∷ []) (shown m)) room ∙ ap (λ q. q ++ x 10 % 256 ∷ []) r.output ∙ ap (λ q. s.output ++ q ∷ []) byte in
@@ -207,14 +209,14 @@ first_byte : (m : Mem) (a n byte : ℕ) (more : List ℕ) → ((i : ℕ) → m i
 first_byte m a zero byte more h e = absurd cc
 first_byte m a (suc n) byte more h e = let f : m a ≡ byte = cc in let k = h a in omega arith
 
-get_line : (p : Linking) (u : Code) (g : Setting) → Premises p u g → (s : State) (c : Cpu) (m : Mem) (r : Rel p u g s c m) (rest : List Line) (imm : ℕ) → sum_of c.pc imm ≡ p.gets → Holds p.image c.pc (jumping 1 imm) → Stands p r.f.blocks.items s.frame.function (frame_of g s.frame.function) (c.pc + 4) rest s.frame.spot.exit → After p u g s.fuel (p.longest + 1) c m (does u g (GetChar 10) rest s)
+get_line : (p : Linking) (u : Code) (g : Setting) → Premises p u g → (s : State) (c : Cpu) (m : Mem) (r : Rel p u g s c m) (rest : List Line) (imm : ℕ) → sum_of c.pc imm ≡ p.gets → Holds p.image c.pc (jumping 1 imm) → Stands p r.f.blocks.items s.frame.function (frame_of g s.frame.function) (c.pc + 4) rest s.frame.spot.exit → After p u g s.fuel (p.longest + 1) c m (does u g (Serve 10 Getchar None) rest s)
 get_line p u g l s c m r rest imm lands h code =
     takes_after p u g s.fuel (p.longest + 1) c m s.output _ r.output (λ less.
     let x : ℕ → ℕ = with_reg c.x 1 (sum_of c.pc 4) in
     let q = l.at.gets m x (called p u g s c m r 1 imm (omega arith) h) in
     by less q.0 q.1 s.input r.input)
   where
-    by : (less : ℕ) (d : Done (runtime p g) m p.gets (with_reg c.x 1 (sum_of c.pc 4)) (with_reg c.x 1 (sum_of c.pc 4) 1) (shown m) (got (left m))) → d.y 10 ≡ got_answer (left m) → (input : List ℕ) → left m ≡ input → After p u g (suc less) (p.longest + 1) c m (gets u g 10 rest input less s)
+    by : (less : ℕ) (d : Done (runtime p g) m p.gets (with_reg c.x 1 (sum_of c.pc 4)) (with_reg c.x 1 (sum_of c.pc 4) 1) (shown m) (got (left m))) → d.y 10 ≡ got_answer (left m) → (input : List ℕ) → left m ≡ input → After p u g (suc less) (p.longest + 1) c m (replies u g 10 (byte_in input s.output) rest less s)
     by less d a [] e =
         served_after p u g l s c m r rest p.gets imm less _ _ s.output [] (Number (negsuc 0)) lands h code d r.output (ap got e) (a ∙ ap got_answer e ∙ sym minus_one)
     by less d a (byte ∷ input) e =

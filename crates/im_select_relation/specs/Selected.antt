@@ -15,10 +15,11 @@ use Rattle.im_store.specs.declared.operators.UnaryOp.TheVariants.{Negate, Comple
 use Rattle.im_store.specs.declared.operators.Comparison.{Comparison}
 use Rattle.im_store.specs.declared.operators.Comparison.TheVariants.{Less, Greater, LessOrEqual, GreaterOrEqual, Equal, NotEqual}
 use Rattle.im_store.specs.Objects.{Named, Slot}
+use Rattle.im_serve.specs.declared.service.Service.TheVariants.{Getchar, Putchar}
 use Rattle.im_block.specs.declared.code.Place.{Place}
 use Rattle.im_block.specs.declared.code.Place.TheVariants.{Static, Local, Through}
 use Rattle.im_block.specs.declared.code.Line.{Line}
-use Rattle.im_block.specs.declared.code.Line.TheVariants.{Put, PutNull, Copy, Convert, Unary, Not, Compute, Compare, Move, Distance, Address, Read, Write, Reload, Spill, Cut, Call, GetChar, PutChar}
+use Rattle.im_block.specs.declared.code.Line.TheVariants.{Put, PutNull, Copy, Convert, Unary, Not, Compute, Compare, Move, Distance, Address, Read, Write, Reload, Spill, Cut, Call, Serve}
 use Rattle.im_block.specs.declared.code.Exit.{Exit}
 use Rattle.im_block.specs.declared.code.Exit.TheVariants.{Jump, Turn, Branch, Return}
 use Rattle.im_block.specs.declared.code.Block.{Block}
@@ -109,8 +110,8 @@ pub data Selected (p : Linking) (pc : ℕ) : Line → ℕ → Type 0 where
   Spills : (slot from access base imm next : ℕ) → IsHome from → Displaced p pc 2 (p.at (Slot slot)) base imm next → Holds p.image next (storing Sw base from imm) → Selected p pc (Spill slot from access) (next + 4)
   Cuts_ : (cause : Cause) (m imm : ℕ) → IsEntry m → sum_of pc imm ≡ p.checkpoint m → Holds p.image pc (jumping 3 imm) → Selected p pc (Cut cause) (pc + 4)
   Calls : (i count imm : ℕ) → sum_of pc imm ≡ p.entry i → Holds p.image pc (jumping 1 imm) → Selected p pc (Call 10 i 10 count) (pc + 4)
-  Gets : (imm : ℕ) → sum_of pc imm ≡ p.gets → Holds p.image pc (jumping 1 imm) → Selected p pc (GetChar 10) (pc + 4)
-  Puts_ : (imm : ℕ) → sum_of pc imm ≡ p.puts → Holds p.image pc (jumping 1 imm) → Selected p pc (PutChar 10 10) (pc + 4)
+  Gets : (imm : ℕ) → sum_of pc imm ≡ p.gets → Holds p.image pc (jumping 1 imm) → Selected p pc (Serve 10 Getchar None) (pc + 4)
+  Puts_ : (imm : ℕ) → sum_of pc imm ≡ p.puts → Holds p.image pc (jumping 1 imm) → Selected p pc (Serve 10 Putchar (Some 10)) (pc + 4)
 
 -- a jump from pc
 pub record Jumps (p : Linking) (pc target : ℕ) : Type 0 where

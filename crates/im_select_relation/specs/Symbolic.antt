@@ -16,10 +16,11 @@ use Rattle.im_store.specs.declared.operators.UnaryOp.TheVariants.{Negate, Comple
 use Rattle.im_store.specs.declared.operators.Comparison.{Comparison}
 use Rattle.im_store.specs.declared.operators.Comparison.TheVariants.{Less, Greater, LessOrEqual, GreaterOrEqual, Equal, NotEqual}
 use Rattle.im_store.specs.Objects.{Name, Named, Slot, Shape}
+use Rattle.im_serve.specs.declared.service.Service.TheVariants.{Getchar, Putchar}
 use Rattle.im_block.specs.declared.code.Place.{Place}
 use Rattle.im_block.specs.declared.code.Place.TheVariants.{Static, Local, Through}
 use Rattle.im_block.specs.declared.code.Line.{Line}
-use Rattle.im_block.specs.declared.code.Line.TheVariants.{Put, PutNull, Copy, Convert, Unary, Not, Compute, Compare, Move, Distance, Address, Read, Write, Reload, Spill, Cut, Call, GetChar, PutChar}
+use Rattle.im_block.specs.declared.code.Line.TheVariants.{Put, PutNull, Copy, Convert, Unary, Not, Compute, Compare, Move, Distance, Address, Read, Write, Reload, Spill, Cut, Call, Serve}
 use Rattle.im_block.specs.declared.code.Exit.{Exit}
 use Rattle.im_block.specs.declared.code.Exit.TheVariants.{Jump, Turn, Branch, Return}
 use Rattle.im_block.specs.declared.code.Block.{Block}
@@ -128,8 +129,8 @@ pub data SelectedIn (w : Lines) (k : ℕ) : Line → ℕ → Type 0 where
   Spills : (slot from access base imm next : ℕ) → IsHome from → DisplacedIn w k 2 (w.at (Slot slot)) base imm next → Accessing w next (storing Sw base from imm) access → SelectedIn w k (Spill slot from access) (suc next)
   Cuts_ : (cause : Cause) (m : ℕ) → IsEntry m → HasLine w k (jumping 3 0) (Some (w.checkpoint m)) None (Some cause) → SelectedIn w k (Cut cause) (suc k)
   Calls : (i count : ℕ) → Aimed w k (jumping 1 0) (w.entry i) → SelectedIn w k (Call 10 i 10 count) (suc k)
-  Gets : Aimed w k (jumping 1 0) w.gets → SelectedIn w k (GetChar 10) (suc k)
-  Puts_ : Aimed w k (jumping 1 0) w.puts → SelectedIn w k (PutChar 10 10) (suc k)
+  Gets : Aimed w k (jumping 1 0) w.gets → SelectedIn w k (Serve 10 Getchar None) (suc k)
+  Puts_ : Aimed w k (jumping 1 0) w.puts → SelectedIn w k (Serve 10 Putchar (Some 10)) (suc k)
 
 -- a jump from k to a label
 abbrev pub JumpsIn : Lines → ℕ → ℕ → Type 0
