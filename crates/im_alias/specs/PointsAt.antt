@@ -62,8 +62,7 @@ behind p sets (Reload to slot access) = sets
 behind p sets (Spill slot from access) = sets
 behind p sets (Cut cause) = sets
 behind p sets (Call to callee first count) = with_set sets to (p.result callee)
-behind p sets (Serve to service None) = with_set sets to []
-behind p sets (Serve to service (Some from)) = with_set sets to []
+behind p sets (Serve to service from) = with_set sets to []
 
 abbrev pub CallFits : PointsAt → (ℕ → List ℕ) → ℕ → ℕ → ℕ → Option Function → Type 0
 CallFits p sets first count callee None = Unit {0}

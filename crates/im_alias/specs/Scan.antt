@@ -49,8 +49,7 @@ target_of (Reload to slot access) = None
 target_of (Spill slot from access) = None
 target_of (Cut cause) = None
 target_of (Call to callee first count) = Some to
-target_of (Serve to service None) = Some to
-target_of (Serve to service (Some from)) = Some to
+target_of (Serve to service from) = Some to
 
 abbrev pub given_of : PointsAt → (ℕ → List ℕ) → Line → List ℕ
 given_of p sets (Copy to from) = sets from

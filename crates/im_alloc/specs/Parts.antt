@@ -103,8 +103,7 @@ plain_line h n line rest =
 
 abbrev pub calls : Line → Bool
 calls (Call to i first given) = true
-calls (Serve to service None) = true
-calls (Serve to service (Some from)) = true
+calls (Serve to service from) = true
 calls line = false
 
 abbrev pub left_to_put : Exit → Bool → List Line → List Line

@@ -22,14 +22,12 @@ target_of (Reload to slot access) = Some to
 target_of (Spill slot from access) = None
 target_of (Cut cause) = None
 target_of (Call to i first count) = Some to
-target_of (Serve to service None) = Some to
-target_of (Serve to service (Some from)) = Some to
+target_of (Serve to service from) = Some to
 
 -- the result of a call, where a line is one
 abbrev pub result_of : Line → Option ℕ
 result_of (Call to i first count) = Some to
-result_of (Serve to service None) = Some to
-result_of (Serve to service (Some from)) = Some to
+result_of (Serve to service from) = Some to
 result_of line = None
 
 abbrev pub IsArgument : Line → ℕ → Type 0

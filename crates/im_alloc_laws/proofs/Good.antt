@@ -155,10 +155,10 @@ module _ (statics : ℕ) (f g : Function) (h : ℕ → Home) (homes : Homes h g.
       (cons (Call 10 i 10 count) back (refl, refl, p) (cons (Cut ReturnCut) (give (h to) (n + 2) rest) tt (give_at (h to) to (n + 2) rest refl q)))
   good_line n (Serve to service None) rest p q =
       let back : List Line = Cut ReturnCut ∷ give (h to) (n + 2) rest in
-      cons (Serve 10 service None) back refl (cons (Cut ReturnCut) (give (h to) (n + 2) rest) tt (give_at (h to) to (n + 2) rest refl q))
+      cons (Serve 10 service None) back (refl, p) (cons (Cut ReturnCut) (give (h to) (n + 2) rest) tt (give_at (h to) to (n + 2) rest refl q))
   good_line n (Serve to service (Some from)) rest p q =
       let back : List Line = Cut ReturnCut ∷ give (h to) (n + 2) rest in
-      good_into from 10 n (Serve 10 service (Some 10) ∷ back) home10 (cons (Serve 10 service (Some 10)) back (refl, refl) (cons (Cut ReturnCut) (give (h to) (n + 2) rest) tt (give_at (h to) to (n + 2) rest refl q)))
+      good_into from 10 n (Serve 10 service (Some 10) ∷ back) home10 (cons (Serve 10 service (Some 10)) back (refl, refl, p) (cons (Cut ReturnCut) (give (h to) (n + 2) rest) tt (give_at (h to) to (n + 2) rest refl q)))
 
   good_lines : (n : ℕ) (lines tail : List Line) → All (IsPlaceableLine statics f) lines → AllGood tail → AllGood (put_lines h n lines tail)
   good_lines n [] tail p q = q

@@ -88,7 +88,7 @@ within statics g (Reload to slot access) h = h.0.1
 within statics g (Spill slot from access) h = h.0.1
 within statics g (Cut cause) h = tt
 within statics g (Call to i first count) h = let a = h.0 in let b = h.1 in let c = h.2 in (omega arith, omega arith)
-within statics g (Serve to service None) h = omega arith
+within statics g (Serve to service None) h = let a = h.0 in omega arith
 within statics g (Serve to service (Some from)) h = let a = h.0 in let b = h.1 in (omega arith, omega arith)
 
 exit_within : (exit : Exit) → IsPlacedExit exit → ExitWithin 32 exit

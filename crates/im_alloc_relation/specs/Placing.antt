@@ -45,8 +45,7 @@ ValidLine h (Reload to slot access) after = ⊥
 ValidLine h (Spill slot from access) after = ⊥
 ValidLine h (Cut cause) after = Unit {0}
 ValidLine h (Call to i first count) after = Survives h to after × Clear h first count
-ValidLine h (Serve to service None) after = Survives h to after
-ValidLine h (Serve to service (Some from)) after = Survives h to after
+ValidLine h (Serve to service from) after = Survives h to after
 
 abbrev pub Valid : (ℕ → Home) → (ℕ → ℕ → Bool) → List Line → Exit → Type 0
 Valid h live [] exit = Unit {0}

@@ -10,8 +10,7 @@ use Rattle.im_alloc_relation.specs.Live.{lives}
 
 abbrev pub IsCall : Line → Type 0
 IsCall (Call to i first count) = Unit {0}
-IsCall (Serve to service None) = Unit {0}
-IsCall (Serve to service (Some from)) = Unit {0}
+IsCall (Serve to service from) = Unit {0}
 IsCall line = ⊥
 
 -- behind a call no register lives but the result's. wanted b: the registers that live at the start of block b

@@ -13,8 +13,7 @@ use Rattle.im_block.specs.declared.unit.Unit.{Unit as Code}
 -- why a cut stands behind a line, and before a block's exit
 abbrev pub due_behind : Line → Option Cause
 due_behind (Call to function first count) = Some Back
-due_behind (Serve to service None) = Some Back
-due_behind (Serve to service (Some from)) = Some Back
+due_behind (Serve to service from) = Some Back
 due_behind line = None
 
 abbrev pub due_at : Option Cause → Exit → Option Cause

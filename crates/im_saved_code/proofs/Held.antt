@@ -102,7 +102,7 @@ result_not_set r to at n = by (r == to) refl
 
 not_set : (statics : ℕ) (f : Function) (line : Line) (r : ℕ) → IsPlacedLine statics f line → not (writes line r) ≡ true → not (sets line r) ≡ true
 not_set statics f (Call to i first count) r h n = result_not_set r to h.0 n
-not_set statics f (Serve to service None) r h n = result_not_set r to h n
+not_set statics f (Serve to service None) r h n = result_not_set r to h.0 n
 not_set statics f (Serve to service (Some from)) r h n = result_not_set r to h.0 n
 not_set statics f line r h n = n
 
