@@ -1,47 +1,22 @@
 -- What is built is a chain of passes.
-use Rattle.std.proofs.Common.{◌≡◌, ℕ, suc, ◌-◌, List, [], ◌∷◌, Option, length, Some, refl, sym, subst, arith}
-use Rattle.std.specs.Prelude.{◌<◌, ◌^◌, min, All, slice_get}
-use Rattle.std.proofs.lemmas.List.Elements.{All-head, All-tail}
+use Rattle.std.proofs.Common.{ℕ, List, Option, sym, subst}
 use Rattle.im_gap.specs.Gap.{IsGap}
 use Rattle.im_typed.specs.declared.program.Prog.{Prog}
 use Rattle.im_typed.specs.ProgramOf.{program_of}
-use Rattle.im_typed.specs.Program as p
-use Rattle.im_typed.specs.Counts.{func_need}
-use Rattle.im_typed.specs.Typing.{Each}
-use Rattle.im_block.specs.declared.unit.Function.{Function}
 use Rattle.im_block.specs.declared.unit.Unit.{Unit as Code}
 use Rattle.im_keeps_source.specs.LoweringLaws.{LowersLaw, NeedsFit}
 use Rattle.im_keeps_source.specs.Source.{source_of}
 use Rattle.im_pack_laws.specs.im_keeps_passes.Passes.{Lowers, Selects}
 use Rattle.im_keeps_source.specs.Middle.{Chain}
 use Rattle.im_keeps_source.specs.MiddleLaws.{MiddleLaw}
+use Rattle.im_keeps_source.proofs.Needs.{needs_fit}
 use Rattle.im_compile.specs.declared.options.Options.{Options}
 use Rattle.im_compile.specs.declared.built.Built.{Built}
 use Rattle.im_compile.specs.Passed.{IsSource, IsPassed}
 use Rattle.im_compile.specs.Built.{IsBuilt, bytes_of}
 
--- what frames may need has 64 bits
-
-abbrev AreTold : List p.Func → List Function → Type 0
-AreTold fs cs = (k : ℕ) (f : p.Func) (c : Function) → slice_get fs k ≡ Some f → slice_get cs k ≡ Some c → c.need ≡ min (func_need f) (2 ^ 64 - 1)
-
-abbrev IsTold : Function → Type 0
-IsTold c = c.need < 2 ^ 64 - 1
-
-needs_fit : (fs : List p.Func) (cs : List Function) → length cs ≡ length fs → AreTold fs cs → All IsTold cs → Each {A = p.Func} (λ f. func_need f < 2 ^ 64) fs
-needs_fit [] cs count are told = tt
-needs_fit (f ∷ fs) [] count are told = absurd (cc)
-needs_fit (f ∷ fs) (c ∷ cs) count are told =
-    let rest : length cs ≡ length fs = cc in
-    let need = are 0 f c refl refl in
-    let small : c.need < 2 ^ 64 - 1 = All-head IsTold c cs told in
-    (omega (arith, need, small), needs_fit fs cs rest (λ k x y a b. are (suc k) x y a b) (All-tail IsTold c cs told))
-
 pub fit : (prog : Prog) (max_gap : Option ℕ) (code : Code) → IsPassed prog max_gap code → NeedsFit (program_of prog)
-fit prog max_gap code passed = record {
-  functions = needs_fit (program_of prog).funcs passed.lowered.functions.items passed.lower.count
-      (λ k f c a b. (passed.lower.functions k f c a b).need) passed.told;
-}
+fit prog max_gap code passed = needs_fit (program_of prog) passed.lowered passed.lower passed.told
 
 pub gap_of : (prog : Prog) (options : Options) (built : Built) → IsBuilt prog options built → IsGap built.image.words built.image.entry built.gap
 gap_of prog options built b =

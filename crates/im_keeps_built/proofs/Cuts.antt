@@ -1,5 +1,5 @@
 -- The cuts that linking tells are those of the code.
-use Rattle.std.proofs.Common.{◌≡◌, ℕ, zero, suc, ◌+◌, inl, inr, Bool, true, false, List, [], ◌∷◌, ◌++◌, Option, Some, None, map, refl, sym, ap, ◌∙◌, subst}
+use Rattle.std.proofs.Common.{◌≡◌, ℕ, ◌+◌, inl, inr, true, List, [], ◌∷◌, Option, Some, None, map, refl, sym, ap, ◌∙◌, subst}
 use Rattle.std.specs.Prelude.{Vec, string_bytes, encode_utf8_all, option_map, slice_get}
 use Rattle.std.specs.Global.{Global}
 use Rattle.std.proofs.lemmas.Option.{slice_get_cases, slice_get-map}
@@ -7,7 +7,6 @@ use Rattle.im_num.specs.declared.values.Cause.{Cause}
 use Rattle.im_rv.specs.declared.code.Line.{Line}
 use Rattle.im_rv.specs.declared.code.Part.{Part}
 use Rattle.im_rv.specs.declared.code.Cut.{Cut}
-use Rattle.im_rv.specs.Lines.{code_line}
 use Rattle.im_rv.specs.Code.{address, instruction_at}
 use Rattle.im_gap.specs.Flow.{links, links_by}
 use Rattle.im_link.specs.Parts.{lines_of, first_of}

@@ -1,12 +1,8 @@
 -- Selection keeps its line of the record of passes.
-use Rattle.std.proofs.Common.{◌≡◌, ℕ, List, Option, sym, ap, ◌∙◌, subst}
-use Rattle.std.specs.Prelude.{map}
+use Rattle.std.proofs.Common.{ℕ, List, Option, sym, subst}
 use Rattle.im_link.specs.Code.{IsLinkable}
 use Rattle.im_typed.specs.declared.program.Prog.{Prog}
-use Rattle.im_typed.specs.ProgramOf.{program_of}
-use Rattle.im_block.specs.declared.unit.Static.{Static as StaticOf}
 use Rattle.im_block.specs.declared.unit.Unit.{Unit as Code}
-use Rattle.im_block.specs.Meaning.{static_of, statics_of}
 use Rattle.im_recut.specs.Laws.{RecutKeepsLaw}
 use Rattle.im_alloc_relation.specs.Settled.{IsSettled}
 use Rattle.im_alloc_laws.specs.Laws.{PlacedCodeLaw}

@@ -1,3 +1,4 @@
 mod Right
 mod Promises
 mod Lines
+pub mod Needs

@@ -1,16 +1,10 @@
 -- What is built writes no other memory.
-use Rattle.std.proofs.Common.{◌≡◌, ℕ, suc, false, ◌+◌, ◌-◌, List, [], ◌∷◌, length, Some, None, refl, subst, arith}
-use Rattle.std.specs.Prelude.{◌<◌, ◌^◌, min, All, slice_get}
-use Rattle.std.proofs.lemmas.List.Elements.{All-head, All-tail}
+use Rattle.std.proofs.Common.{◌≡◌, ℕ, false, ◌+◌, List, None, refl, subst, arith}
 use Rattle.im_ckpt.specs.Runs.{writes}
 use Rattle.im_replay.specs.Compiled.{RunsSafely}
 use Rattle.im_store.specs.Outcomes.{Outcome, IsDefined}
 use Rattle.im_typed.specs.declared.program.Prog.{Prog}
 use Rattle.im_typed.specs.ProgramOf.{program_of}
-use Rattle.im_typed.specs.Program as p
-use Rattle.im_typed.specs.Counts.{func_need}
-use Rattle.im_typed.specs.Typing.{Each}
-use Rattle.im_block.specs.declared.unit.Function.{Function}
 use Rattle.im_block.specs.Meaning.{Setting, Event}
 use Rattle.im_block.specs.Runs.{Runs}
 use Rattle.im_block.specs.Laws.{AddedCutsLaw}
@@ -31,6 +25,7 @@ use Rattle.im_keeps_written.specs.Written.{code_end}
 use Rattle.im_keeps_written.specs.Laws.{WrittenLaw}
 use Rattle.im_keeps_passes.specs.Passes.{setting, Lowers}
 use Rattle.im_keeps_source.specs.MiddleLaws.{MiddleLaw}
+use Rattle.im_keeps_source.proofs.Needs.{needs_fit}
 use Rattle.im_keeps_source.specs.Source.{source_of}
 use Rattle.im_keeps_source.specs.Laws.{meaning_of}
 use Rattle.im_compile.specs.declared.options.Options.{Options}
@@ -41,23 +36,6 @@ use Rattle.im_keeps_writes.specs.Writes.{may_change, Writes}
 use Rattle.im_keeps_writes.specs.Laws.{BuiltWritesLaw}
 use Rattle.im_keeps_writes.proofs.Within.{none_at}
 use Rattle.im_keeps_writes.proofs.Moments.{all}
-
--- what frames may need has 64 bits
-
-abbrev AreTold : List p.Func → List Function → Type 0
-AreTold fs cs = (k : ℕ) (f : p.Func) (c : Function) → slice_get fs k ≡ Some f → slice_get cs k ≡ Some c → c.need ≡ min (func_need f) (2 ^ 64 - 1)
-
-abbrev IsTold : Function → Type 0
-IsTold c = c.need < 2 ^ 64 - 1
-
-needs_fit : (fs : List p.Func) (cs : List Function) → length cs ≡ length fs → AreTold fs cs → All IsTold cs → Each {A = p.Func} (λ f. func_need f < 2 ^ 64) fs
-needs_fit [] cs count are told = tt
-needs_fit (f ∷ fs) [] count are told = absurd (cc)
-needs_fit (f ∷ fs) (c ∷ cs) count are told =
-    let rest : length cs ≡ length fs = cc in
-    let need = are 0 f c refl refl in
-    let small : c.need < 2 ^ 64 - 1 = All-head IsTold c cs told in
-    (omega (arith, need, small), needs_fit fs cs rest (λ k x y a b. are (suc k) x y a b) (All-tail IsTold c cs told))
 
 pub record Laws : Type 0 where
   pub ready : ReadyLaw
@@ -95,10 +73,7 @@ module _ (laws : Laws) (prog : Prog) (options : Options) (built : Built) (s : Is
   }
 
   fit : NeedsFit (program_of prog)
-  fit = record {
-    functions = needs_fit (program_of prog).funcs passed.lowered.functions.items passed.lower.count
-        (λ k f c x y. (passed.lower.functions k f c x y).need) passed.told;
-  }
+  fit = needs_fit (program_of prog) passed.lowered passed.lower passed.told
 
   lower : Lowers (source_of (program_of prog)) passed.forwarded
   lower = laws.middle.registers (source_of (program_of prog)) passed.lowered passed.forwarded

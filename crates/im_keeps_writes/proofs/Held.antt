@@ -27,8 +27,9 @@ use Rattle.im_select_relation.specs.Law.{steps}
 use Rattle.im_select_relation.proofs.Mapped.{Mark, marks, InFrames, Mapped, Cell, base_static}
 use Rattle.im_select_relation.proofs.Checks.{write_place_fine, write_slot_fine}
 use Rattle.im_select_relation.proofs.Shapes.{Premises, function_cells, static_cells}
-use Rattle.im_select_relation.proofs.Relation.{Rel, SlotsShaped, After, Ordered, AllLinked}
-use Rattle.im_select_relation.proofs.Steps.{static_lies, step_after, begin_after, over_is}
+use Rattle.im_select_relation.proofs.Relation.{SlotsShaped, Ordered, AllLinked}
+use Rattle.im_select_relation.proofs.Stood.{Stood, Shaded, Waits, Brings}
+use Rattle.im_select_relation.proofs.Steps.{static_lies, stood_brings, begin_brings, over_is}
 
 -- n bytes from a on lie in the static of this number
 pub record InStatic (p : Linking) (u : Code) (a n : ℕ) : Type 0 where
@@ -75,8 +76,9 @@ record Here (p : Linking) (u : Code) (g : Setting) (s : State) : Type 0 where
   slots : SlotsShaped s.store.shape
   statics : (o : Object) → o.activation ≡ 0 → s.store.shape o ≡ (with_statics (statics_of u)).shape o
 
-here_of : (p : Linking) (u : Code) (g : Setting) (s : State) (c : Cpu) (m : Mem) → Rel p u g s c m → Here p u g s
-here_of p u g s c m r = record { mapped = r.mapped; ordered = r.ordered; linked = r.linked; slots = r.slots; statics = r.statics }
+here_of : (p : Linking) (u : Code) (g : Setting) (s : State) (c : Cpu) (m : Mem) → Stood p u g s c m → Here p u g s
+here_of p u g s c m (Shaded s' c' m' registers alike r) = record { mapped = r.mapped; ordered = r.ordered; linked = r.linked; slots = r.slots; statics = r.statics }
+here_of p u g s c m (Waits s' c' m' w) = let r = w.rel in record { mapped = r.mapped; ordered = r.ordered; linked = r.linked; slots = r.slots; statics = r.statics }
 
 -- bytes of a live object
 live_held : (p : Linking) (u : Code) (g : Setting) (s : State) → Here p u g s → (o : Object) (sh : Shape) (i n : ℕ) → s.store.shape o ≡ Some sh → i + n ≤ sh.size → IsHeld p u g (address p o + i) n
@@ -187,21 +189,21 @@ module _ (p : Linking) (u : Code) (g : Setting) where
   step_held s [] h k = leaves_held s s.frame.spot.exit k
   step_held s (line ∷ rest) h k = does_held s line rest h k
 
-  known_after : (fuel words : ℕ) (c : Cpu) (m : Mem) (next : Next) → After p u g fuel words c m next → Known next
-  known_after fuel words c m (Goes s events) a = here_of p u g s a.d a.k a.rel
+  known_after : (fuel words : ℕ) (c : Cpu) (m : Mem) (next : Next) → Brings p u g fuel words c m next → Known next
+  known_after fuel words c m (Goes s events) a = here_of p u g s a.d a.k a.stood
   known_after fuel words c m (Stops o events) a = tt
 
   held_next : (k fuel words : ℕ) (o : Outcome) (run : List Event) (c : Cpu) (m : Mem)
-      → ((s : State) (d : Cpu) (n : Mem) (events : List Event) → Rel p u g s d n → AllHeld p u g events → exec u g k s events ≡ Over o run → AllHeld p u g run)
-      → (next : Next) (events : List Event) → After p u g fuel words c m next → HeldNext next → AllHeld p u g events → goes_on next (exec u g k) events ≡ Over o run → AllHeld p u g run
-  held_next k fuel words o run c m rec (Goes s more) events a h so_far e = rec s a.d a.k (events ++ more) a.rel (held_append p u g events more so_far h) e
+      → ((s : State) (d : Cpu) (n : Mem) (events : List Event) → Stood p u g s d n → AllHeld p u g events → exec u g k s events ≡ Over o run → AllHeld p u g run)
+      → (next : Next) (events : List Event) → Brings p u g fuel words c m next → HeldNext next → AllHeld p u g events → goes_on next (exec u g k) events ≡ Over o run → AllHeld p u g run
+  held_next k fuel words o run c m rec (Goes s more) events a h so_far e = rec s a.d a.k (events ++ more) a.stood (held_append p u g events more so_far h) e
   held_next k fuel words o run c m rec (Stops q more) events a h so_far e = subst (AllHeld p u g) (over_is q o (events ++ more) run e).1 (held_append p u g events more so_far h)
 
   module _ (l : Premises p u g) where
-    held_run : (k : ℕ) (o : Outcome) (run : List Event) (s : State) (c : Cpu) (m : Mem) (events : List Event) → Rel p u g s c m → AllHeld p u g events → exec u g k s events ≡ Over o run → AllHeld p u g run
+    held_run : (k : ℕ) (o : Outcome) (run : List Event) (s : State) (c : Cpu) (m : Mem) (events : List Event) → Stood p u g s c m → AllHeld p u g events → exec u g k s events ≡ Over o run → AllHeld p u g run
     held_run zero o run s c m events r so_far e = let bad : At s events ≡ Over o run = e in absurd cc
     held_run (suc k) o run s c m events r so_far e =
-        let a = step_after p u g l s c m r in
+        let a = stood_brings p u g l s c m r in
         held_next k s.fuel (spot_weight (steps p) s.frame.spot) o run c m (λ s' d n more r' h e'. held_run k o run s' d n more r' h e') (step u g s) events a
         (step_held s s.frame.spot.rest (here_of p u g s c m r) (known_after s.fuel (spot_weight (steps p) s.frame.spot) c m (step u g s) a)) so_far e
 
@@ -210,6 +212,6 @@ pub held : (p : Linking) (u : Code) (g : Setting) → IsWellFormed u → IsLinke
 held p u g w linked x x0 x2 n o run r =
     let l : Premises p u g = record { at = linked; cells = λ i f is a sh h. function_cells u w i f is a sh h; static_cells = λ a sh h. static_cells u w a sh h } in
     let c : Cpu = record { pc = p.begin; x = x } in
-    let a = begin_after p u g l x n x0 x2 in
+    let a = begin_brings p u g l x n x0 x2 in
     held_next p u g r.steps n 10 o run c p.image (λ s d k more rel h e. held_run p u g l r.steps o run s d k more rel h e) (start u g n) [] a
     (enters_held p u g (before u g n) u.main 0 0 n (λ q. Unset) [] (known_after p u g n 10 c p.image (start u g n) a)) tt r.over

@@ -1,3 +1,7 @@
+ghost use Rattle.std.specs.Prelude.{◌≡◌, [], ◌∷◌, None, Some, IfSome, MatchResult, codes, string_bytes};
+ghost use Rattle.im_trial.specs.Finding.{Finds, IsEnded, first_stop, found_of, without_blank as text_without_blank};
+ghost use Rattle.im_trial.specs.declared.stop.Stop.TheVariants.{Memory};
+
 use crate::fields::{number_of, small_of, word_of};
 use crate::row::Row;
 use crate::stop::Stop;
@@ -9,13 +13,36 @@ use std::fmt::{Debug, Display};
 #[derive(Drop)]
 pub struct Case {
     pub alloc: Global,
-    text: String,
-    stop: Option<Stop>,
+    /// What was found, each thing behind a blank.
+    pub text: String,
+    /// What ended it first.
+    pub stop: Option<Stop>,
+}
+
+fn first_of(ended: Option<Stop>, stop: Stop) -> Option<Stop>
+    ensures { result ≡ first_stop ended stop }
+{
+    match ended {
+        None => Some(stop),
+        Some(first) => Some(first),
+    }
+}
+
+fn without_blank(text: &str) -> &str
+    ensures { result.now ≡ text_without_blank text.now }
+{
+    match text.strip_prefix(' ') {
+        Some(rest) => rest,
+        None => text,
+    }
 }
 
 impl Case {
     /// A case that has found nothing yet.
-    pub fn new(alloc: Global) -> Case {
+    pub fn new(alloc: Global) -> Case
+        ensures text { string_bytes result.text ≡ [] }
+        ensures stop { result.stop ≡ None }
+    {
         Case {
             alloc,
             text: String::new(alloc),
@@ -24,30 +51,30 @@ impl Case {
     }
 
     /// Ends the case early. What ended it first is why.
-    pub fn end(&mut self, stop: Stop) {
-        if self.stop.is_none() {
-            self.stop = Some(stop);
-        }
+    pub fn end(&mut self, stop: Stop)
+        ensures { IsEnded stop self.old self.new }
+    {
+        self.stop = first_of(self.stop, stop);
     }
 
     /// What the case finds in all, without the blank before it. One that ended early finds why.
-    pub fn found(&self) -> &str {
+    pub fn found(&self) -> &str
+        ensures { result.now ≡ found_of self.now }
+    {
         match self.stop {
             Some(Stop::Row) => "no case",
             Some(Stop::Memory) => "no memory",
             Some(Stop::Files) => "no file",
-            None => {
-                let text = self.text.as_str();
-                match text.strip_prefix(' ') {
-                    Some(rest) => rest,
-                    None => text,
-                }
-            }
+            None => without_blank(&self.text),
         }
     }
 
     /// What was made, and none where the case ends for want of it.
-    pub fn take<T: Drop>(&mut self, made: Result<T, Stop>) -> Option<T> {
+    pub fn take<T: Drop>(&mut self, made: Result<T, Stop>) -> Option<T>
+        ensures made { MatchResult made (λ value. result ≡ Some value) (λ _. result ≡ None) }
+        ensures case { MatchResult made (λ _. self.new ≡ self.old)
+            (λ stop. IsEnded stop self.old self.new) }
+    {
         match made {
             Ok(value) => Some(value),
             Err(stop) => {
@@ -61,14 +88,20 @@ impl Case {
 // What is found.
 impl Case {
     /// Finds a text.
-    pub fn say(&mut self, text: &str) {
-        if self.text.push_str(text).is_err() {
-            self.end(Stop::Memory);
+    pub fn say(&mut self, text: &str)
+        ensures { Finds text.now self.old self.new }
+    {
+        match self.text.push_str(text) {
+            Ok(()) => {}
+            Err(_) => self.end(Stop::Memory),
         }
     }
 
     /// Finds a text, if there was memory for it.
-    pub fn tell(&mut self, text: Result<String, AllocError>) {
+    pub fn tell(&mut self, text: Result<String, AllocError>)
+        ensures { MatchResult text (λ told. Finds (string_bytes told) self.old self.new)
+            (λ _. IsEnded Memory self.old self.new) }
+    {
         match text {
             Ok(text) => self.say(&text),
             Err(_) => self.end(Stop::Memory),
@@ -76,13 +109,18 @@ impl Case {
     }
 
     /// Finds a value, behind a blank.
-    pub fn show<T: Display + Drop>(&mut self, value: T) {
+    pub fn show<T: Display + Drop>(&mut self, value: T)
+        ensures { IfSome (T.output value) (λ text. Finds (32 ∷ text) self.old self.new) }
+    {
         let text = format!(in self.alloc; " {value}");
         self.tell(text);
     }
 
     /// Finds a value as it is written in code, behind a blank.
-    pub fn debug<T: Debug>(&mut self, value: &T) {
+    pub fn debug<T: Debug>(&mut self, value: &T)
+        ensures { IfSome (T.debug_output value.now)
+            (λ text. Finds (32 ∷ text) self.old self.new) }
+    {
         let text = format!(in self.alloc; " {value:?}");
         self.tell(text);
     }

@@ -7,12 +7,12 @@ mod fields;
 mod row;
 mod stop;
 mod table;
+mod tables;
 mod tally;
 mod texts;
 
 pub use case::Case;
 pub use row::Row;
 pub use stop::Stop;
-pub use table::rows_of;
-pub use tally::Tally;
+pub use tables::{Kinds, run_tables};
 pub use texts::Texts;

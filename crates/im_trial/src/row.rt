@@ -1,3 +1,6 @@
+ghost use Rattle.std.specs.Prelude.{◌≡◌, string_bytes};
+ghost use Rattle.im_trial.specs.Rows.{field_of, wanted_of};
+
 use crate::fields::word_of;
 use crate::stop::Stop;
 use crate::texts::Texts;
@@ -7,8 +10,9 @@ use std::alloc::Global;
 /// the lines below it.
 #[derive(Drop)]
 pub struct Row<'a> {
-    fields: Vec<&'a str>,
-    below: String,
+    pub fields: Vec<&'a str>,
+    /// The lines below, each with an LF.
+    pub below: String,
 }
 
 impl<'a> Row<'a> {
@@ -30,7 +34,9 @@ impl<'a> Row<'a> {
     }
 
     /// The field of that number, as it is written, and nothing where there is none.
-    pub fn field(&self, number: usize) -> &'a str {
+    pub fn field(&self, number: usize) -> &'a str
+        ensures { result.now ≡ field_of self.now number }
+    {
         match self.fields.get(number) {
             Some(field) => *field,
             None => "",
@@ -38,26 +44,35 @@ impl<'a> Row<'a> {
     }
 
     /// The kind, by which it is read.
-    pub fn kind(&self) -> &'a str {
+    pub fn kind(&self) -> &'a str
+        ensures { result.now ≡ field_of self.now 0 }
+    {
         self.field(0)
     }
 
     /// The name, which is printed with the verdict.
-    pub fn name(&self) -> &'a str {
+    pub fn name(&self) -> &'a str
+        ensures { result.now ≡ field_of self.now 1 }
+    {
         self.field(1)
     }
 
     /// What the case should find: the last field, or the lines below where that is `|`.
-    pub fn wanted(&self) -> &str {
-        match self.fields.last() {
-            Some(field) if *field == "|" => self.below.as_str(),
-            Some(field) => *field,
-            None => "",
+    pub fn wanted(&self) -> &str
+        ensures { result.now ≡ wanted_of self.now }
+    {
+        let field = self.field(self.fields.len().saturating_sub(1));
+        if field == "|" {
+            self.below.as_str()
+        } else {
+            field
         }
     }
 
     /// The lines below, each with an LF.
-    pub fn below(&self) -> &str {
+    pub fn below(&self) -> &str
+        ensures { result.now ≡ string_bytes self.now.below }
+    {
         self.below.as_str()
     }
 

@@ -1,5 +1,5 @@
 use crate::{lexical, literals, nesting, numbered, parsing, readings, specifiers, types, words};
-use im_trial::{Case, Row, Stop, Texts};
+use im_trial::{Case, Kinds, Row, Stop, Texts};
 
 // Tokens.
 fn run_token(texts: &Texts, row: &Row<'_>, case: &mut Case) -> bool {
@@ -44,10 +44,16 @@ fn run_type(row: &Row<'_>, case: &mut Case) -> bool {
     true
 }
 
-/// Runs the case of a row by its kind.
-pub(crate) fn run(texts: &Texts, row: &Row<'_>, case: &mut Case) {
-    let is_known = run_token(texts, row, case) || run_tree(texts, row, case) || run_type(row, case);
-    if !is_known {
-        case.end(Stop::Row);
+/// Cases of the front end.
+pub(crate) struct Front;
+
+impl Kinds for Front {
+    fn run(&self, _rt: &HostRuntime, texts: &Texts, row: &Row<'_>, case: &mut Case) {
+        let is_known = run_token(texts, row, case)
+            || run_tree(texts, row, case)
+            || run_type(row, case);
+        if !is_known {
+            case.end(Stop::Row);
+        }
     }
 }

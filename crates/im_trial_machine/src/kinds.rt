@@ -2,7 +2,7 @@ use crate::{
     gaps, images, instructions, largest, machines, memories, numbers, pages, periods, routines,
     saved, sections, survivals,
 };
-use im_trial::{Case, Row, Stop, Texts};
+use im_trial::{Case, Kinds, Row, Stop, Texts};
 
 // Numbers and words.
 fn run_number(texts: &Texts, row: &Row<'_>, case: &mut Case) -> bool {
@@ -67,13 +67,17 @@ fn run_machine(texts: &Texts, row: &Row<'_>, case: &mut Case) -> bool {
     true
 }
 
-/// Runs the case of a row by its kind.
-pub(crate) fn run(texts: &Texts, row: &Row<'_>, case: &mut Case) {
-    let is_known = run_number(texts, row, case)
-        || run_instruction(texts, row, case)
-        || run_image(texts, row, case)
-        || run_machine(texts, row, case);
-    if !is_known {
-        case.end(Stop::Row);
+/// Cases of words, images, machines and linked code.
+pub(crate) struct Device;
+
+impl Kinds for Device {
+    fn run(&self, _rt: &HostRuntime, texts: &Texts, row: &Row<'_>, case: &mut Case) {
+        let is_known = run_number(texts, row, case)
+            || run_instruction(texts, row, case)
+            || run_image(texts, row, case)
+            || run_machine(texts, row, case);
+        if !is_known {
+            case.end(Stop::Row);
+        }
     }
 }

@@ -1,5 +1,5 @@
 use crate::{command_lines, files, host, images, lines, refusals, reports};
-use im_trial::{Case, Row, Stop, Texts};
+use im_trial::{Case, Kinds, Row, Stop, Texts};
 
 // What is told of images and of their runs.
 fn run_image(texts: &Texts, row: &Row<'_>, case: &mut Case) -> bool {
@@ -39,10 +39,16 @@ fn run_words(rt: &HostRuntime, row: &Row<'_>, case: &mut Case) -> bool {
     true
 }
 
-/// Runs the case of a row by its kind.
-pub(crate) fn run(rt: &HostRuntime, texts: &Texts, row: &Row<'_>, case: &mut Case) {
-    let is_known = run_words(rt, row, case) || run_source(row, case) || run_image(texts, row, case);
-    if !is_known {
-        case.end(Stop::Row);
+/// Cases of words, lines and files.
+pub(crate) struct Outside;
+
+impl Kinds for Outside {
+    fn run(&self, rt: &HostRuntime, texts: &Texts, row: &Row<'_>, case: &mut Case) {
+        let is_known = run_words(rt, row, case)
+            || run_source(row, case)
+            || run_image(texts, row, case);
+        if !is_known {
+            case.end(Stop::Row);
+        }
     }
 }

@@ -1,5 +1,5 @@
 use crate::{blocks, commands, losses, meanings, programs, sources, typed, units};
-use im_trial::{Case, Row, Stop, Texts};
+use im_trial::{Case, Kinds, Row, Stop, Texts};
 
 // Sources, from their text to their image.
 fn run_source(texts: &Texts, row: &Row<'_>, case: &mut Case) -> bool {
@@ -29,9 +29,13 @@ fn run_whole(texts: &Texts, row: &Row<'_>, case: &mut Case) -> bool {
     true
 }
 
-/// Runs the case of a row by its kind.
-pub(crate) fn run(texts: &Texts, row: &Row<'_>, case: &mut Case) {
-    if !run_source(texts, row, case) && !run_whole(texts, row, case) {
-        case.end(Stop::Row);
+/// Cases of the whole compiler.
+pub(crate) struct Top;
+
+impl Kinds for Top {
+    fn run(&self, _rt: &HostRuntime, texts: &Texts, row: &Row<'_>, case: &mut Case) {
+        if !run_source(texts, row, case) && !run_whole(texts, row, case) {
+            case.end(Stop::Row);
+        }
     }
 }

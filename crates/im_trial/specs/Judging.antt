@@ -1,0 +1,27 @@
+-- What is counted and told of a case.
+use Rattle.std.specs.Prelude.{ℕ, ◌+◌, ◌-◌, ◌^◌, Bool, true, false, List, ◌++◌, codes, bytes_eq, min, if◌then◌else◌}
+use Rattle.im_trial.specs.declared.case.Case.{Case}
+use Rattle.im_trial.specs.declared.row.Row.{Row}
+use Rattle.im_trial.specs.declared.tally.Tally.{Tally}
+use Rattle.im_trial.specs.Finding.{found_of}
+use Rattle.im_trial.specs.Rows.{field_of, wanted_of}
+
+-- a case passes if it found what its row wants, byte by byte
+abbrev pub passes : Row → Case → Bool
+passes row case = bytes_eq (found_of case) (wanted_of row)
+
+abbrev pub one_more : ℕ → ℕ
+one_more count = min (count + 1) (2 ^ 32 - 1)
+
+abbrev pub counted : Bool → Tally → Tally
+counted true tally = record { passed = one_more tally.passed; failed = tally.failed }
+counted false tally = record { passed = tally.passed; failed = one_more tally.failed }
+
+-- the kind, the name, and where that isn't what the row wants, both texts
+abbrev pub told_of : Row → Case → List ℕ
+told_of row case =
+    let kind = field_of row 0 in
+    let name = field_of row 1 in
+    if passes row case
+    then codes "passed " ++ (kind ++ (codes " " ++ name))
+    else codes "FAILED " ++ (kind ++ (codes " " ++ (name ++ (codes ": found " ++ (found_of case ++ (codes ", wanted " ++ wanted_of row))))))

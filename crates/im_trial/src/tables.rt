@@ -1,0 +1,53 @@
+use crate::case::Case;
+use crate::row::Row;
+use crate::stop::Stop;
+use crate::table::rows_of;
+use crate::tally::Tally;
+use crate::texts::Texts;
+use std::fs;
+
+/// The kinds of cases that a trial has.
+pub trait Kinds {
+    /// Runs the case of a row by its kind.
+    fn run(&self, rt: &HostRuntime, texts: &Texts, row: &Row<'_>, case: &mut Case);
+}
+
+/// Takes the text of a row, or runs its case and tells whether it found what it should.
+fn run_row<K: Kinds>(
+    rt: &HostRuntime,
+    kinds: &K,
+    texts: &mut Texts,
+    tally: &mut Tally,
+    row: &Row<'_>,
+) -> Result<(), Stop> {
+    if texts.take(rt, row)? {
+        return Ok(());
+    }
+    let mut case = Case::new(rt.alloc());
+    kinds.run(rt, texts, row, &mut case);
+    tally.judge(rt, row, &case)
+}
+
+fn run_table<K: Kinds>(
+    rt: &HostRuntime,
+    kinds: &K,
+    texts: &mut Texts,
+    tally: &mut Tally,
+    name: &str,
+) -> Result<(), Stop> {
+    let table = fs::read_to_string(rt, name)?;
+    for row in &rows_of(rt.alloc(), &table)? {
+        run_row(rt, kinds, texts, tally, row)?;
+    }
+    Ok(())
+}
+
+/// Runs the cases of tables, files of these names, in turn: prints what each found, and the counts.
+pub fn run_tables<K: Kinds>(rt: &HostRuntime, kinds: &K, names: &[&str]) -> Result<(), Stop> {
+    let mut texts = Texts::new(rt.alloc());
+    let mut tally = Tally::new();
+    for name in names {
+        run_table(rt, kinds, &mut texts, &mut tally, name)?;
+    }
+    tally.finish(rt)
+}
