@@ -1,5 +1,5 @@
 -- What comes of all that is still to do, in each activation.
-use Rattle.std.specs.Prelude.{◌≡◌, ◌==◌, ℕ, List, [], ◌∷◌, reverse, drop, Ok, Err}
+use Rattle.std.specs.Prelude.{◌≡◌, ◌==◌, ℕ, List, [], ◌∷◌, reverse, drop, Ok, Err, pos}
 use Rattle.std.specs.Prelude.{Result as Either}
 use Rattle.im_ctype.specs.Table.{Table}
 use Rattle.im_store.specs.declared.undefined.Undefined as causes

@@ -1,10 +1,8 @@
 -- What tasks mean: what is still to do in an activation, in the terms of the meaning of programs.
-use Rattle.std.specs.Prelude.{ℕ, List, [], ◌∷◌, ◌++◌, map, drop, take, length, ℤ, pos, nat_abs, Option, Some, None, true, false, not, if◌then◌else◌}
+use Rattle.std.specs.Prelude.{ℕ, List, [], ◌∷◌, ◌++◌, map, drop, take, length, ℤ, pos, Option, Some, None, true, false, not, if◌then◌else◌}
 use denote.Bor.{Bor}
 use Rattle.std.specs.Prelude.{Box}
 use Rattle.std.specs.declared.alloc.Global.{Global}
-use Rattle.im_num.specs.declared.kind.Kind.TheVariants.{U8}
-use Rattle.im_num.specs.Kinds.{wrap}
 use Rattle.im_ctype.specs.Table.{Table}
 use Rattle.im_store.specs.Checks.{Checked, Fine, then_}
 use Rattle.im_store.specs.Numbers.{apply, apply_one}
