@@ -5,10 +5,10 @@ ghost use Rattle.im_recut.specs.Recut.{IsGapLimit};
 
 use crate::fault::{Fault, taken};
 use crate::forcing::tell_cuts;
-use im_serve::Service;
 use im_block::{Block, Exit, Function, Line, Place, Registers, Tag, Tags, Unit};
 use im_num::{Cause, Kind};
 use im_recut::recut;
+use im_serve::Service;
 use im_trial::{Case, Row, Stop};
 use std::alloc::Global;
 
@@ -29,7 +29,11 @@ fn sample(alloc: Global) -> Result<Unit, Fault>
 {
     let lines = vec![in alloc;
         Line::Cut(Cause::Entry),
-        Line::Serve { to: 10, service: Service::Getchar, from: None },
+        Line::Serve {
+            to: 10,
+            service: Service::Getchar,
+            from: None
+        },
         Line::Cut(Cause::Return),
         Line::Spill {
             slot: 0,
