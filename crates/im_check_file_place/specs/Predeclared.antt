@@ -1,6 +1,6 @@
 -- The functions that are predeclared.
 use Rattle.std.specs.Prelude.{false, List}
-use Rattle.im_typed.specs.im_serve.declared.service.Service.TheVariants.{Getchar, Putchar}
+use Rattle.im_serve.specs.declared.service.Service.TheVariants.{Getchar, Putchar}
 use Rattle.im_check_place.specs.im_word.Words.{Name}
 use Rattle.im_ctype.specs.declared.integer.Integer.TheVariants.{Int}
 use Rattle.im_ctype.specs.Types.{integer, function}

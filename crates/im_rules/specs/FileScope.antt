@@ -5,11 +5,11 @@ use Rattle.im_ctree.specs.Tree as t
 use Rattle.im_typed.specs.im_serve.declared.service.Service.{Service}
 use Rattle.im_typed.specs.im_serve.declared.service.Service.TheVariants.{Getchar, Putchar}
 use Rattle.im_typed.specs.im_serve.Services.{row, services}
-use Rattle.im_num.specs.declared.kind.Kind.{Kind}
-use Rattle.im_num.specs.declared.kind.Kind.TheVariants.{I8, U8, I16, U16, I32, U32, Ptr}
+use Rattle.im_ctree.specs.im_num.declared.kind.Kind.{Kind}
+use Rattle.im_ctree.specs.im_num.declared.kind.Kind.TheVariants.{I8, U8, I16, U16, I32, U32, Ptr}
 use Rattle.im_typed.specs.im_ctype.declared.integer.Integer.{Integer}
 use Rattle.im_typed.specs.im_ctype.declared.integer.Integer.TheVariants.{SignedChar, UnsignedChar, Short, UnsignedShort, Int, UnsignedInt}
-use Rattle.im_typed.specs.im_ctype.Types.{CType, integer, function, no_types, more_types, Member, Structs, is_function}
+use Rattle.im_typed.specs.im_ctype.Types.{CType, CTypes, integer, function, no_types, more_types, Member, Structs, is_function}
 use Rattle.im_rules.specs.TypeTests.{same_name}
 use Rattle.im_rules.specs.Scopes.{Tag, struct_tag, Scopes, nothing, named, tagged, meaning, meaning_here, tag_meaning, at_file_scope, Entity, an_object, a_function, an_enumerator, a_typedef, static_object, Callee, a_body, no_body, a_service, enum_tag}
 use Rattle.im_rules.specs.Rules.{is_typedef, rule_1, rule_2, rule_2_elsewhere, rule_3, rule_4, rule_5, rule_6_absent, rule_7, rule_8_list, rule_8_constant, rule_11, rule_12_builtin, rule_13, rule_15}
