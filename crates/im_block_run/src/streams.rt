@@ -4,16 +4,18 @@ ghost use Rattle.im_num.specs.declared.kind.Kind.TheVariants.{U8};
 ghost use Rattle.im_store.specs.Objects as store;
 ghost use Rattle.im_block.specs.Meaning as meaning;
 ghost use Rattle.im_serve.specs.Services.{byte_in, byte_out};
-ghost use Rattle.im_block_run.specs.Shown.{Follows, IsState};
+ghost use Rattle.im_store.specs.Applied.{Applies};
+ghost use Rattle.im_block_run.specs.Shown.{Follows, IsFrame, IsState};
 
 use crate::calls::pay;
+use crate::registers::Frame;
 use crate::state::State;
 use crate::stop::Stop;
 use crate::values::number_of;
 use im_block::Unit;
 use im_eval_store::Value;
 use im_serve::Service;
-use im_store::Number;
+use im_store::{Number, Undefined};
 use std::alloc::Global;
 
 /// What a service gives that can't do its work.
@@ -69,7 +71,7 @@ fn put(
 ) -> Result<(), Stop>
     ensures { (g : meaning.Setting) (s : meaning.State) → IsState state.old s
         → g.capacity ≡ capacity → Follows unit.now result state.new
-        (meaning.replies unit.now g to (byte_out capacity byte s.input s.output) s.frame.spot.rest
+        (meaning.replies unit.now g to (byte_out g.capacity byte s.input s.output) s.frame.spot.rest
         s.fuel s) }
 {
     if state.output.len() as u64 >= capacity as u64 {
@@ -77,6 +79,37 @@ fn put(
     }
     state.output.push(byte)?;
     give(alloc, unit, state, to, byte_number(byte))
+}
+
+/// What a service is given: the number of a register, or 0 where it has no parameter.
+fn given(frame: &Frame, from: Option<u32>) -> Result<Number, Undefined>
+    ensures { (s : meaning.Frame) → IsFrame frame.now s
+        → Applies result (meaning.argument from s.registers) }
+{
+    match from {
+        None => Ok(Number::ZERO),
+        Some(from) => number_of(frame.register(from)),
+    }
+}
+
+/// The work of a service.
+fn work(
+    alloc: Global,
+    unit: &Unit,
+    capacity: u32,
+    state: &mut State,
+    to: u32,
+    service: Service,
+    number: Number,
+) -> Result<(), Stop>
+    ensures { (g : meaning.Setting) (s : meaning.State) → IsState state.old s
+        → g.capacity ≡ capacity → Follows unit.now result state.new
+        (meaning.serves unit.now g to service number.value s.frame.spot.rest s.fuel s) }
+{
+    match service {
+        Service::Getchar => get(alloc, unit, state, to),
+        Service::Putchar => put(alloc, unit, capacity, state, to, byte_of(number)),
+    }
 }
 
 /// Calls a service for a unit of fuel, with the number of a register where it has a parameter.
@@ -96,12 +129,6 @@ pub(crate) fn serve(
         meaning.serves unit.now g to service z s.frame.spot.rest fuel s))) }
 {
     pay(state)?;
-    let number = match from {
-        None => Number::ZERO,
-        Some(from) => number_of(state.frame.register(from))?,
-    };
-    match service {
-        Service::Getchar => get(alloc, unit, state, to),
-        Service::Putchar => put(alloc, unit, capacity, state, to, byte_of(number)),
-    }
+    let number = given(&state.frame, from)?;
+    work(alloc, unit, capacity, state, to, service, number)
 }
