@@ -8,8 +8,7 @@ ghost use Rattle.im_store.specs.Applied.{Applies};
 ghost use Rattle.im_block_run.specs.Shown.{Follows, IsFrame, IsState};
 
 use crate::calls::pay;
-use crate::registers::Frame;
-use crate::state::State;
+use crate::state::{Frame, State};
 use crate::stop::Stop;
 use crate::values::number_of;
 use im_block::Unit;
