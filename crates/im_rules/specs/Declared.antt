@@ -7,7 +7,7 @@ use Rattle.im_ctree.specs.declared.specifier.SpecifierWord.TheVariants as w
 use Rattle.im_ctree.specs.Tree as t
 use Rattle.im_typed.specs.im_ctype.declared.integer.Integer.TheVariants.{Int}
 use Rattle.im_typed.specs.im_ctype.Types.{CType, void, integer, pointer, array, unsized, struct, function, CTypes, no_types, more_types, is_void}
-use Rattle.im_rules.specs.Scopes.{Entity, an_object, a_typedef, local_object, Scopes, named, tagged, meaning, meaning_here, tag_meaning, Tag, struct_tag, at_file_scope}
+use Rattle.im_rules.specs.Scopes.{Entity, an_object, a_typedef, local_object, Scopes, named, tagged, meaning, meaning_here, tag_meaning, tag_meaning_here, Tag, struct_tag, at_file_scope}
 use Rattle.im_rules.specs.Context.{Context, tag_number}
 use Rattle.im_rules.specs.Demands.{Demand, asks}
 use Rattle.im_rules.specs.Rules.{line_type, lines, keywords_in, named_in, rule_1, rule_2_elsewhere, rule_3, rule_4, rule_5, rule_6_length, rule_8_use, rule_9_result, rule_9_parameter, rule_9_void, rule_10, rule_15}
@@ -90,6 +90,20 @@ tags_in c _ = c.scopes
 
 abbrev pub behind_specifiers : Context → t.SpecifierList → Context
 behind_specifiers c xs = record c { scopes = tags_in c (named_in xs) }
+
+-- of a declaration in a block. One that is `struct s;` alone declares the tag in the innermost scope, whatever it means
+-- further out (C11 6.7.2.3p7); there it is no enum's (rule 3)
+abbrev pub declaration_asks : Context → t.SpecifierList → t.InitDeclarators → List Demand
+declaration_asks c (t.more_specifiers (t.struct_tag at x) t.no_specifiers) t.no_init_declarators =
+    asks 3 (is_no_enum (tag_meaning_here c.scopes x)) ∷ []
+declaration_asks c xs ds = specifiers_ask c xs
+
+abbrev pub tags_declared : Context → t.SpecifierList → t.InitDeclarators → Scopes
+tags_declared c (t.more_specifiers (t.struct_tag at x) t.no_specifiers) t.no_init_declarators = declared_tag c at x (tag_meaning_here c.scopes x)
+tags_declared c xs ds = tags_in c (named_in xs)
+
+abbrev pub behind_tags : Context → t.SpecifierList → t.InitDeclarators → Context
+behind_tags c xs ds = record c { scopes = tags_declared c xs ds }
 
 -- stars (C11 6.7.6.1): the first one is nearest the specifiers; each with the number of `const` behind it
 abbrev pub starred : Qualified → ℕ → Qualified

@@ -52,6 +52,13 @@ meaning_here (opened g) x = None
 meaning_here (named y e g) x = if same_name y x then Some e else meaning_here g x
 meaning_here (tagged y t g) x = meaning_here g x
 
+-- what the tag means in the innermost scope alone
+abbrev pub tag_meaning_here : Scopes → Name → Option Tag
+tag_meaning_here nothing x = None
+tag_meaning_here (opened g) x = None
+tag_meaning_here (named y e g) x = tag_meaning_here g x
+tag_meaning_here (tagged y t g) x = if same_name y x then Some t else tag_meaning_here g x
+
 -- no scope is opened but that of the file
 abbrev pub at_file_scope : Scopes → Bool
 at_file_scope nothing = true

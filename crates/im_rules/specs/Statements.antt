@@ -17,7 +17,7 @@ use Rattle.im_rules.specs.Context.{Context, in_new_scope, with_entity, behind, b
 use Rattle.im_rules.specs.Terms.{Term, Value, value_of, operand_of, constant_in}
 use Rattle.im_rules.specs.Conversions.{as_type, as_integer, promoted, integer_of}
 use Rattle.im_rules.specs.Demands.{Demand, asks, Meets}
-use Rattle.im_rules.specs.Declared.{Qualified, Declared, specifiers_ask, behind_specifiers, type_of_specifiers}
+use Rattle.im_rules.specs.Declared.{Qualified, Declared, declaration_asks, behind_tags, type_of_specifiers}
 use Rattle.im_rules.specs.Typed.{Typed, Declares}
 use Rattle.im_rules.specs.Initialisers.{Item, Initialised, completed, strings_given, pieces_of}
 
@@ -122,8 +122,8 @@ in_context c s = record s { context = c }
 -- a declaration in a block
 pub data TypedDeclaration : Site → t.Declaration → Stmts → Added → Site → Type 0 where
   of_declaration : {s e : Site} {at : ℕ} {xs : t.SpecifierList} {ds : t.InitDeclarators} {us : Stmts} {added : Added}
-      → Meets (specifiers_ask s.context xs)
-      → AreLocals (type_of_specifiers s.context xs) (in_context (behind_specifiers s.context xs) s) ds us added e
+      → Meets (declaration_asks s.context xs ds)
+      → AreLocals (type_of_specifiers s.context xs) (in_context (behind_tags s.context xs ds) s) ds us added e
       → TypedDeclaration s (t.declaration (t.specifiers at xs) ds) us added e
 
 -- statements
