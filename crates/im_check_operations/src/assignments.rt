@@ -89,17 +89,24 @@ fn computed_in(op: BinaryOp, x: Integer, y: &Type) -> Integer
     }
 }
 
+/// The type of the right operand of `a op= b`, converted: of a shift its own, promoted.
+fn operand_type(op: BinaryOp, x: Integer, y: &Type) -> Integer
+    ensures { result ≡ (if c.is_shift op then c.promoted (c.integer_of (type_of y.now))
+        else c.common (integer x) (type_of y.now)) }
+{
+    if is_shift(op) {
+        promoted(integer_of(y))
+    } else {
+        common(&Type::Integer(x), y)
+    }
+}
+
 /// The right operand of `a op= b`.
 fn changed_by(alloc: Global, op: BinaryOp, x: Integer, y: Value) -> Result<Annotated, NoMemory>
     ensures { (types : Table) → IfOk result
         (λ e. expr_of types e.tree ≡ c.changed_by op (integer x) (value_in types y)) }
 {
-    let ty = if is_shift(op) {
-        promoted(integer_of(&y.ty))
-    } else {
-        common(&Type::Integer(x), &y.ty)
-    };
-    as_integer(alloc, ty, y)
+    as_integer(alloc, operand_type(op, x, &y.ty), y)
 }
 
 /// The value stored.

@@ -4,7 +4,7 @@ ghost use Rattle.im_fault.specs.Texts.{limit_of, quantity_name};
 ghost use Rattle.im_cmd_check.specs.Message.{declared_message, limit_message, shown_line};
 ghost use Rattle.im_cmd_check.specs.Reading.{presumed as presumed_reading, reading_of};
 ghost use Rattle.im_cmd_check.specs.Runs.{part};
-ghost use Rattle.im_cmd_check.specs.Sentences.{closing as closing_of, named_text, over_text, within as within_of};
+ghost use Rattle.im_cmd_check.specs.Sentences.{named_text, over_text};
 
 use crate::message::{send_place, send_shown_line};
 use crate::reading::{Reading, presumed};
@@ -87,16 +87,15 @@ fn send_over_in<'a, S: Sink>(
     quantity: &str,
     count: u64,
     limit: u64,
+    before: &'a [u8],
     name: &'a [u8],
+    behind: &'a [u8],
     why: &'a [u8],
 ) -> Result<(), Failed>
     ensures { Sends (quantity.now ++ (codes " " ++ (decimal count ++ (codes " over "
-        ++ (decimal limit ++ (within_of name.now ++ (name.now ++ (closing_of name.now
-        ++ (codes ": " ++ (why.now ++ codes "\n")))))))))) result (S.state sink.old)
-        (S.state sink.new) }
+        ++ (decimal limit ++ (before.now ++ (name.now ++ (behind.now ++ (codes ": " ++ (why.now
+        ++ codes "\n")))))))))) result (S.state sink.old) (S.state sink.new) }
 {
-    let before = within(name);
-    let behind = closing(name);
     let mut count_text = Buffer::new();
     let mut limit_text = Buffer::new();
     send_pieces(
@@ -122,9 +121,20 @@ fn send_in<S: Sink>(sink: &mut S, quantity: Quantity, count: u64, name: &[u8]) -
     ensures { Sends (named_text quantity count name.now) result (S.state sink.old)
         (S.state sink.new) }
 {
+    let before = within(name);
+    let behind = closing(name);
     let why = limit_sentence(quantity);
     let most = most_of(quantity);
-    send_over_in(sink, name_of(quantity), count, most, name, why)
+    send_over_in(
+        sink,
+        name_of(quantity),
+        count,
+        most,
+        before,
+        name,
+        behind,
+        why,
+    )
 }
 
 fn send_file<S: Sink>(sink: &mut S, file: &str) -> Result<(), Failed>

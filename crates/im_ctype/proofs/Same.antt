@@ -25,10 +25,10 @@ and-parts false b h = cc
 and-true : (a b : Bool) → a ≡ true → b ≡ true → (a && b) ≡ true
 and-true a b e f = rw (e, f) refl
 
-integers : List Integer
+abbrev integers : List Integer
 integers = Char ∷ SignedChar ∷ UnsignedChar ∷ Short ∷ UnsignedShort ∷ Int ∷ UnsignedInt ∷ Long ∷ UnsignedLong ∷ []
 
-integer_of : ℕ → Integer
+abbrev integer_of : ℕ → Integer
 integer_of n = get_or integers n Char
 
 integer-back : (i : Integer) → integer_of (integer_number i) ≡ i

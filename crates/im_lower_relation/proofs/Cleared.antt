@@ -8,7 +8,7 @@ use Rattle.im_num.specs.declared.kind.Kind.TheVariants.{I8, U8, I16, U16, I32, U
 use Rattle.im_num.specs.Kinds.{kind_size}
 use Rattle.im_ctype.specs.declared.cell.Cell.{Cell}
 use Rattle.im_store.specs.Checks.{Fine, then_}
-use Rattle.im_store.specs.Objects.{Named, Object, Value, Number, Null, Store, same_object, kind_at, shape_of}
+use Rattle.im_store.specs.Objects.{Named, Object, Value, Number, Null, Store, same_object, zero_of, kind_at, shape_of}
 use Rattle.im_store.specs.Access.{is_of_kind, has_cell, stands, write_cell, with_value}
 use Rattle.im_store.proofs.Same.{same_kind-self, same_object-is}
 use Rattle.im_typed.specs.Program as q
@@ -32,20 +32,7 @@ use Rattle.im_lower_relation.proofs.Operands.{stored-same}
 use Rattle.im_lower_relation.proofs.Layouts.{none-before, some-size, AreFound, local-place}
 use Rattle.im_lower_relation.proofs.Entering.{values-agree}
 
--- what a cleared cell has
-abbrev pub zero_of : Kind → Value
-zero_of Ptr = Null
-zero_of kind = Number (pos 0)
-
-zero-of : (kind : Kind) (v : Value) → zero_or (Some kind) v ≡ zero_of kind
-zero-of I8 v = refl
-zero-of U8 v = refl
-zero-of I16 v = refl
-zero-of U16 v = refl
-zero-of I32 v = refl
-zero-of U32 v = refl
-zero-of Ptr v = refl
-
+-- what a cleared cell has is of its kind
 zero-fits : (begun : ℕ) (store : Store) (kind : Kind) → IsValue begun store kind (zero_of kind)
 zero-fits begun store I8 = (tt, record { low = omega (arith, ints); high = omega (arith, ints) })
 zero-fits begun store U8 = (tt, record { low = omega (arith, ints); high = omega (arith, ints) })
@@ -113,7 +100,6 @@ all-zeroed from size given o (c ∷ cs) values p i h =
         ∙ ap (λ k. zero_or k (with_value values o c.offset (zero_of c.kind) p i)) (none-before (c.offset + kind_size c.kind) size cs i h.2 behind)
         ∙ ap (λ x. if x && i == c.offset then zero_of c.kind else values p i) es
         ∙ if-true (i == c.offset) (zero_of c.kind) (values p i) (eq-eqb i c.offset (sym e))
-        ∙ sym (zero-of c.kind (values p i))
         ∙ ap (λ k. zero_or k (values p i)) (sym (if-true (c.offset == i) (Some c.kind) (kind_at cs i) (eq-eqb c.offset i e)))
         ∙ sym (if-false (is_among i given) (values p i) (zero_or (kind_at (c ∷ cs) i) (values p i)) not_given)
 

@@ -49,6 +49,9 @@ stored-memory m a n w is =
     (λ place. written-memory m a (bytes_of n w) is (let room = place-room a n place in omega (arith, length-bytes_of n w)) (bytes_of-bytes n w))
     is
 
+pub stored-nowhere : (m : Mem) (a n w : ℕ) → is_place a n ≡ false → stored m a n w ≡ m
+stored-nowhere m a n w refused = rw refused refl
+
 -- ---- pages
 
 -- bytes of 0 are zero

@@ -1,4 +1,4 @@
-ghost use Rattle.std.specs.Prelude.{◌≡◌, ◌≤◌, ◌<◌, ◌+◌, ◌^◌, length};
+ghost use Rattle.std.specs.Prelude.{◌≡◌, ◌≤◌, ◌<◌, ◌+◌, ◌/◌, ◌^◌, length};
 ghost use Rattle.im_mem_paged.specs.Marks.{KeepsMarks, MarksBytes, MarksPageOf};
 
 /// Marks the pages of so many bytes from a place on, those behind the last mark left out.
@@ -17,14 +17,12 @@ pub fn mark_bytes(marks: &mut Vec<bool>, at: usize, count: usize)
     }
 }
 
-/// Marks the page of an address, where there is such a page.
+/// Marks the page of an address.
 pub fn mark_page(marks: &mut Vec<bool>, at: u32)
+    requires { at / 4096 < length marks.old.items }
     ensures length { length marks.new.items ≡ length marks.old.items }
     ensures keeps { KeepsMarks marks.old.items marks.new.items }
     ensures page { MarksPageOf at marks.new.items }
 {
-    let page = (at / 4096) as usize;
-    if page < marks.len() {
-        marks[page] = true;
-    }
+    marks[(at / 4096) as usize] = true;
 }

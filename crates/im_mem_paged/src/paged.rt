@@ -1,4 +1,5 @@
 ghost use Rattle.std.specs.Prelude.{◌≡◌, IfOk, length};
+ghost use Rattle.im_mem.specs.Memory.{view, is_place, loaded, stored};
 ghost use Rattle.im_mem_paged.specs.Pages as pages;
 
 use crate::marks::{mark_bytes, mark_page};
@@ -127,17 +128,45 @@ fn no_marks(alloc: Global) -> Result<Vec<bool>, AllocError>
     vec![in alloc; false; 1280]
 }
 
+// The number at an address. Each size has a call of its own, in which no size is left to divide by.
+fn get(flat: &FlatMem, addr: u32, size: u32) -> Option<u32>
+    ensures { result ≡ loaded (view flat.now) addr size }
+{
+    match size {
+        1 => flat.load(addr, 1),
+        2 => flat.load(addr, 2),
+        4 => flat.load(addr, 4),
+        _ => None,
+    }
+}
+
+// Writes a number at an address, in the same way.
+fn put(flat: &mut FlatMem, addr: u32, size: u32, word: u32) -> bool
+    ensures took { result ≡ is_place addr size }
+    ensures bytes { view flat.new ≡ stored (view flat.old) addr size word }
+{
+    match size {
+        1 => flat.store(addr, 1, word),
+        2 => flat.store(addr, 2, word),
+        4 => flat.store(addr, 4, word),
+        _ => false,
+    }
+}
+
 impl Memory for PagedMem {
     ghost use Rattle.im_mem.specs.Memory.{view};
 
     ghost bytes = { λ m. view m };
 
     fn load(&self, addr: u32, size: u32) -> Option<u32> {
-        self.flat.load(addr, size)
+        get(&self.flat, addr, size)
     }
 
     fn store(&mut self, addr: u32, size: u32, word: u32) -> bool {
-        mark_page(&mut self.marks, addr);
-        self.flat.store(addr, size, word)
+        let took = put(&mut self.flat, addr, size, word);
+        if took {
+            mark_page(&mut self.marks, addr);
+        }
+        took
     }
 }

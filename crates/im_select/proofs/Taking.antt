@@ -1,5 +1,5 @@
 -- What an exit takes of its block's lines: nothing, or a last comparison.
-use Rattle.std.proofs.Common.{◌≡◌, ℕ, ◌+◌, ◌-◌, ◌<◌, ◌≤◌, Bool, true, false, List, [], ◌∷◌, ◌++◌, Option, Some, None, length, take, get_or, refl, sym, ap, ◌∙◌, subst, arith}
+use Rattle.std.proofs.Common.{◌≡◌, ℕ, zero, suc, ◌+◌, ◌-◌, ◌<◌, ◌≤◌, Bool, true, false, List, [], ◌∷◌, ◌++◌, Option, Some, None, length, take, get_or, refl, sym, ap, ◌∙◌, subst, arith}
 use Rattle.std.specs.Prelude.{◌==◌, ◌&&◌, ◌||◌, not, if◌then◌else◌, All}
 use Rattle.std.proofs.lemmas.List.Elements.{All-head, All-tail, All-nil, All-cons}
 use Rattle.im_num.specs.declared.kind.Kind.{Kind}
@@ -74,10 +74,6 @@ pub all_left : {X : Type 0} (P : X → Type 0) (xs ys : List X) → All P (xs ++
 all_left P [] ys a = All-nil P
 all_left P (x ∷ xs) ys a = All-cons P x xs (All-head P x (xs ++ ys) a) (all_left P xs ys (All-tail P x (xs ++ ys) a))
 
-pub all_right : {X : Type 0} (P : X → Type 0) (xs ys : List X) → All P (xs ++ ys) → All P ys
-all_right P [] ys a = a
-all_right P (x ∷ xs) ys a = all_right P xs ys (All-tail P x (xs ++ ys) a)
-
 -- ---- the test is one of branches
 
 by_sign_branches : (kind : Kind) (signed unsigned : Op) → format_of signed ≡ OfBranches → format_of unsigned ≡ OfBranches → format_of (if is_signed kind then signed else unsigned) ≡ OfBranches
@@ -111,15 +107,26 @@ test_branches false (Compares NotEqual kind left right) = refl
 
 -- ---- as the code finds them
 
+last_at : (live : ℕ → ℕ → Bool) (lines : List Line) (exit : Exit) (d : Line) (n : ℕ) → length lines ≡ suc n → taken_test live lines exit ≡ taken_by live (get_or lines n d) exit
+last_at live [] exit d n e = absurd (omega arith)
+last_at live (line ∷ []) exit d zero e = refl
+last_at live (line ∷ []) exit d (suc n) e = absurd (omega arith)
+last_at live (line ∷ next ∷ rest) exit d zero e = absurd (omega arith)
+last_at live (line ∷ next ∷ rest) exit d (suc n) e = last_at live (next ∷ rest) exit d n (omega arith)
+
 pub last_taken : (live : ℕ → ℕ → Bool) (lines : List Line) (exit : Exit) (d : Line) → 0 < length lines → taken_test live lines exit ≡ taken_by live (get_or lines (length lines - 1) d) exit
-last_taken live [] exit d h = absurd (omega arith)
-last_taken live (line ∷ []) exit d h = refl
-last_taken live (line ∷ next ∷ rest) exit d h = last_taken live (next ∷ rest) exit d (omega arith)
+last_taken live lines exit d h = last_at live lines exit d (length lines - 1) (omega arith)
+
+but_last_at : (lines : List Line) (n : ℕ) → length lines ≡ suc n → but_last lines ≡ take n lines
+but_last_at [] n e = absurd (omega arith)
+but_last_at (line ∷ []) zero e = refl
+but_last_at (line ∷ []) (suc n) e = absurd (omega arith)
+but_last_at (line ∷ next ∷ rest) zero e = absurd (omega arith)
+but_last_at (line ∷ next ∷ rest) (suc n) e = ap (λ z. line ∷ z) (but_last_at (next ∷ rest) n (omega arith))
 
 pub but_last_taken : (lines : List Line) → but_last lines ≡ take (length lines - 1) lines
 but_last_taken [] = refl
-but_last_taken (line ∷ []) = refl
-but_last_taken (line ∷ next ∷ rest) = ap (λ z. line ∷ z) (but_last_taken (next ∷ rest))
+but_last_taken (line ∷ rest) = but_last_at (line ∷ rest) (length (line ∷ rest) - 1) (omega arith)
 
 pub own_few : (taken : Option Test) (lines : List Line) → length (own_lines taken lines) ≤ length lines
 own_few None lines = omega arith
@@ -129,3 +136,12 @@ own_few (Some t) lines = fewer lines
     fewer [] = omega arith
     fewer (line ∷ []) = omega arith
     fewer (line ∷ next ∷ rest) = let h = fewer (next ∷ rest) in omega arith
+
+all_but_last : (P : Line → Type 0) (lines : List Line) → All P lines → All P (but_last lines)
+all_but_last P [] a = a
+all_but_last P (line ∷ []) a = All-nil P
+all_but_last P (line ∷ next ∷ rest) a = All-cons P line (but_last (next ∷ rest)) (All-head P line (next ∷ rest) a) (all_but_last P (next ∷ rest) (All-tail P line (next ∷ rest) a))
+
+pub own_all : (P : Line → Type 0) (taken : Option Test) (lines : List Line) → All P lines → All P (own_lines taken lines)
+own_all P None lines a = a
+own_all P (Some t) lines a = all_but_last P lines a

@@ -196,8 +196,8 @@ pub(crate) fn taken_test(live: &[u32], lines: &[Placed], exit: Exit) -> Option<T
 pub(crate) fn own_lines(lines: &[Placed], taken: Option<Test>) -> &[Placed]
     ensures { result.now ≡ own_lines taken lines.now }
 {
-    if taken.is_none() || lines.is_empty() {
-        return lines;
+    match taken {
+        Some(_) => &lines[..lines.len().saturating_sub(1)],
+        None => lines,
     }
-    &lines[..lines.len() - 1]
 }

@@ -261,13 +261,37 @@ fn are_branches(test: Test, holds: u32, fails: u32) -> bool
 // By llvm-mc.
 #[test]
 fn branches_are_those_of_the_assembler(rt: HostRuntime) -> Result<(), Fail> {
-    let signed = are_branches(compares(Comparison::Less, Kind::I32), 0x00b54463, 0x00b55463)
-        && are_branches(compares(Comparison::LessOrEqual, Kind::I32), 0x00a5d463, 0x00a5c463);
-    let unsigned = are_branches(compares(Comparison::Greater, Kind::U32), 0x00a5e463, 0x00a5f463)
-        && are_branches(compares(Comparison::GreaterOrEqual, Kind::Ptr), 0x00b57463, 0x00b56463);
-    let equal = are_branches(compares(Comparison::Equal, Kind::I32), 0x00b50463, 0x00b51463)
-        && are_branches(compares(Comparison::NotEqual, Kind::U32), 0x00b51463, 0x00b50463);
+    let signed = are_branches(
+        compares(Comparison::Less, Kind::I32),
+        0x00b54463,
+        0x00b55463,
+    ) && are_branches(
+        compares(Comparison::LessOrEqual, Kind::I32),
+        0x00a5d463,
+        0x00a5c463,
+    );
+    let unsigned = are_branches(
+        compares(Comparison::Greater, Kind::U32),
+        0x00a5e463,
+        0x00a5f463,
+    ) && are_branches(
+        compares(Comparison::GreaterOrEqual, Kind::Ptr),
+        0x00b57463,
+        0x00b56463,
+    );
+    let equal = are_branches(
+        compares(Comparison::Equal, Kind::I32),
+        0x00b50463,
+        0x00b51463,
+    ) && are_branches(
+        compares(Comparison::NotEqual, Kind::U32),
+        0x00b51463,
+        0x00b50463,
+    );
     let nonzero = are_branches(Test::Nonzero(10), 0x00051463, 0x00050463);
-    assert_eq!(rt; (signed, unsigned, equal, nonzero), (true, true, true, true));
+    assert_eq!(rt;
+        (signed, unsigned, equal, nonzero),
+        (true, true, true, true)
+    );
     Ok(())
 }

@@ -1,10 +1,11 @@
 -- What checks gave, where they gave something.
 use Rattle.std.proofs.Common.{◌≡◌, ℕ, Bool, true, false, cond, Option, Some, None, sym, ap, ◌∙◌, subst, refl}
 use Rattle.im_num.specs.declared.kind.Kind.{Kind}
-use Rattle.im_num.specs.declared.kind.Kind.TheVariants.{I8, U8, I16, U16, I32, U32, Ptr}
 use Rattle.im_store.specs.Checks.{Checked, Fine, Bad, then_, unless}
 use Rattle.im_store.specs.Objects.{Object, Value, Number, Null, Pointer, Unset, Shape, Store, same_kind, is_there, lives}
 use Rattle.im_store.specs.Access.{is_of_kind, has_cell, stands, taken, read_cell, write_cell, with_value}
+use Rattle.im_num.specs.declared.kind.Kind.TheVariants.{U32}
+use Rattle.im_store.proofs.Same.{same_kind-is}
 use Rattle.im_block.specs.declared.code.Place.{Place}
 use Rattle.im_store.specs.declared.undefined.Undefined.TheVariants.{DeadPointerRead, NoSuchCell}
 use Rattle.im_block.specs.Meaning.{Active, found, stored, place_of, Location, location_of, located, Found, Left, read_place, write_place, read_slot, write_slot, slot_shape}
@@ -30,14 +31,7 @@ found_fine None a h = absurd cc
 found_fine (Some b) a h = ap Some (fine_is b a h)
 
 pub kind_true : (a b : Kind) → same_kind a b ≡ true → a ≡ b
-kind_true I8 I8 h = refl
-kind_true U8 U8 h = refl
-kind_true I16 I16 h = refl
-kind_true U16 U16 h = refl
-kind_true I32 I32 h = refl
-kind_true U32 U32 h = refl
-kind_true Ptr Ptr h = refl
-kind_true a b h = absurd cc
+kind_true a b h = same_kind-is a b h
 
 pub taken_fine : (store : Store) (x v : Value) → taken store x ≡ Fine v → x ≡ v
 taken_fine store (Number z) v h = fine_is _ _ h
