@@ -1,5 +1,5 @@
 -- Which declarations in a block are `struct s;` alone.
-use Rattle.std.proofs.Common.{◌≡◌, ℕ, Bool, true, false, List, [], ◌∷◌, length, get_or, Option, Some, None, MatchOption, refl, sym, ap}
+use Rattle.std.proofs.Common.{◌≡◌, ℕ, Bool, true, false, List, [], ◌∷◌, length, get_or, Option, Some, None, MatchOption, refl, sym, ap, arith}
 use Rattle.im_check_initialisers.specs.im_word.Words.{Name}
 use Rattle.im_ctree.specs.Tree as t
 use Rattle.im_ctree.specs.Shape.{init_declarators_of}
@@ -45,9 +45,9 @@ not_a_tag s xs h ds =
     ordinary_by (form_of (list_from (s ∷ xs)) ds) (λ at x e f. not_both (is_struct_tag (specifier_in s)) (tag_first (specifier_in s) (list_from xs) at x e) h)
 
 one_alone : (xs : List Specifier) (s : Specifier) → length xs ≡ 1 → s ≡ get_or xs 0 s → xs ≡ s ∷ []
-one_alone [] s one is = absurd cc
+one_alone [] s one is = absurd (omega arith)
 one_alone (y ∷ []) s one is = ap (λ z. z ∷ []) (sym is)
-one_alone (y ∷ z ∷ zs) s one is = absurd cc
+one_alone (y ∷ z ∷ zs) s one is = absurd (omega arith)
 
 -- of one specifier, and of one without declarators
 
