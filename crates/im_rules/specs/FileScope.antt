@@ -1,18 +1,18 @@
 -- What stands before a place at file scope, and what is asked there (C11 6.7, 6.9).
-use Rattle.std.specs.Prelude.{ℕ, ◌+◌, ◌-◌, ℤ, pos, Bool, true, false, not, ◌&&◌, ◌||◌, List, [], ◌∷◌, ◌++◌, length, codes, slice_get, Option, Some, None, if◌then◌else◌}
+use Rattle.std.specs.Prelude.{ℕ, ◌+◌, ◌-◌, ℤ, pos, Bool, true, false, ◌&&◌, ◌||◌, List, [], ◌∷◌, ◌++◌, length, codes, slice_get, Option, Some, None, if◌then◌else◌}
 use Rattle.im_ctree.specs.im_word.Words.{Name}
 use Rattle.im_ctree.specs.Tree as t
 use Rattle.im_typed.specs.im_ctype.declared.integer.Integer.{Integer}
 use Rattle.im_typed.specs.im_ctype.declared.integer.Integer.TheVariants.{SignedChar, UnsignedChar, Short, UnsignedShort, Int, UnsignedInt}
 use Rattle.im_typed.specs.im_ctype.Types.{CType, integer, function, no_types, more_types, Member, Structs, is_function}
 use Rattle.im_rules.specs.TypeTests.{same_name}
-use Rattle.im_rules.specs.Scopes.{Tag, struct_tag, Scopes, nothing, named, tagged, meaning, meaning_here, tag_meaning, at_file_scope, Entity, an_object, a_function, an_enumerator, a_typedef, static_object, Callee, a_body, no_body, get_character, put_character, enum_tag}
-use Rattle.im_rules.specs.Rules.{is_typedef, rule_1, rule_2, rule_2_elsewhere, rule_3, rule_4, rule_5, rule_6_absent, rule_7, rule_8_list, rule_8_constant, rule_11, rule_12_builtin, rule_13, rule_15}
+use Rattle.im_rules.specs.Scopes.{Tag, struct_tag, Scopes, nothing, named, tagged, meaning, tag_meaning, at_file_scope, Entity, an_object, a_function, an_enumerator, a_typedef, static_object, Callee, a_body, no_body, get_character, put_character, enum_tag}
+use Rattle.im_rules.specs.Rules.{is_typedef, rule_1, rule_2, rule_2_elsewhere, rule_7, rule_8_list, rule_8_constant, rule_11, rule_12_builtin, rule_13, rule_15}
 use Rattle.im_rules.specs.Outline.{Outline, outline, is_in, place_in, nearest, Nearest, parameters}
 use Rattle.im_rules.specs.Context.{Context, with_entity, behind_strings}
 use Rattle.im_rules.specs.Terms.{size_in}
 use Rattle.im_rules.specs.Demands.{Demand, asks}
-use Rattle.im_rules.specs.Declared.{Declared, declared_tag, is_no_enum}
+use Rattle.im_rules.specs.Declared.{Declared, naming_asks, typing_asks, declared_tag, is_no_enum}
 use Rattle.im_rules.specs.Statements.{name_of as name_in}
 
 -- what stands before: what is known; the tags of which a member list has begun; the names that have a body or an
@@ -134,13 +134,10 @@ file_asks f xs y a whole =
     let x = name_in y.name in
     let e = file_entity f.context.unit xs x y.constant a in
     let g = f.context.scopes in
-    asks 2 (rule_2 xs whole)
-    ∷ asks 3 (rule_3 (meaning_here g x) e true (is_in x f.whole) whole)
-    ∷ asks 4 (rule_4 (meaning g x) e)
-    ∷ asks 6 (rule_6_absent y.type whole)
-    ∷ asks 5 (not (is_object_entity e) || rule_5 f.context.known a)
-    ∷ asks 12 (is_typedef xs || keeps_builtin x y.constant a whole)
-    ∷ []
+    (asks 2 (rule_2 xs whole) ∷ [])
+    ++ (naming_asks g x e true (is_in x f.whole) whole
+    ++ (typing_asks f.context.known (is_object_entity e) y.type a whole
+    ++ (asks 12 (is_typedef xs || keeps_builtin x y.constant a whole) ∷ [])))
 
 -- behind a declarator: its name is in scope, also in its own initialiser (C11 6.2.1p7)
 abbrev pub with_declared : t.SpecifierList → Declared → CType → Bool → FilePlace → FilePlace
@@ -205,7 +202,7 @@ with_struct ms f = record f { context = record f.context { known = f.context.kno
 
 -- a member has a name, a complete object type, and lengths
 abbrev pub member_asks : Structs → Declared → List Demand
-member_asks known y = asks 6 (rule_6_absent y.type false) ∷ asks 5 (rule_5 known y.type) ∷ []
+member_asks known y = typing_asks known true y.type y.type false
 
 abbrev pub member_of : Declared → Member
 member_of y = record { name = name_in y.name; constant = y.constant; type = y.type }
@@ -237,9 +234,7 @@ abbrev pub enumerator_asks : Scopes → Name → Option ℤ → List Demand
 enumerator_asks g x z =
     asks 15 (rule_15 z)
     ∷ asks 8 (constant_fits z)
-    ∷ asks 3 (rule_3 (meaning_here g x) (an_enumerator (number_in z)) (at_file_scope g) false false)
-    ∷ asks 4 (rule_4 (meaning g x) (an_enumerator (number_in z)))
-    ∷ []
+    ∷ naming_asks g x (an_enumerator (number_in z)) (at_file_scope g) false false
 
 abbrev pub with_enumerator : Name → Option ℤ → t.MaybeExpression → FilePlace → FilePlace
 with_enumerator x z e f = in_place (with_entity x (an_enumerator (number_in z)) f.context) f
