@@ -29,7 +29,7 @@ not_lone (s ∷ y ∷ ys) at x h e = absurd cc
 pub not_one : (xs : List Specifier) → (length xs ≡ 1 → ⊥) → (ds : t.InitDeclarators) → IsOrdinary (list_from xs) ds
 not_one xs h ds = ordinary_by (form_of (list_from xs) ds) (λ at x e f. not_lone xs at x h e)
 
-first_of : t.SpecifierList → t.Specifier → t.Specifier
+abbrev first_of : t.SpecifierList → t.Specifier → t.Specifier
 first_of t.no_specifiers other = other
 first_of (t.more_specifiers s xs) other = s
 
