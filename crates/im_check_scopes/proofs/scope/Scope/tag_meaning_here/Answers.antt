@@ -1,4 +1,4 @@
-use Rattle.std.proofs.Common.{◌≡◌, ◌<◌, Some, None, true, false, sym, ap, subst, ◌∙◌}
+use Rattle.std.proofs.Common.{◌≡◌, ◌<◌, None, true, false, sym, ap, subst, ◌∙◌}
 use Rattle.im_check_name_map.specs.im_rules.Scopes.{tag_meaning_here}
 use Rattle.im_check_scopes.specs.Shape.{scopes_of}
 use Rattle.im_check_scopes.specs.Search.{tag_named, is_before}
