@@ -1,10 +1,12 @@
 -- What names and tags mean, by the places of their last entries.
-use Rattle.std.proofs.Common.{◌≡◌, ℕ, Bool, true, false, ◌||◌, List, get_or, Option, Some, None, if◌then◌else◌, is_none, refl, sym, ap, ◌∙◌}
+use Rattle.std.proofs.Common.{◌≡◌, ℕ, Bool, true, false, ◌||◌, List, [], ◌∷◌, get_or, Option, Some, None, if◌then◌else◌, is_none, refl, sym, ap, ◌∙◌}
 use Rattle.im_check_name_map.specs.im_word.Words.{Name}
+use Rattle.im_check_name_map.specs.im_rules.TypeTests.{same_name}
+use Rattle.im_check_name_map.specs.im_rules.Scopes as s
 use Rattle.im_check_name_map.specs.im_rules.Scopes.{Scopes, nothing, meaning, meaning_here, tag_meaning, tag_meaning_here, at_file_scope}
 use Rattle.im_check_scopes.specs.declared.entity.Entry.{Entry}
 use Rattle.im_check_scopes.specs.declared.entity.Entry.TheVariants as n
-use Rattle.im_check_scopes.specs.Shape.{with_entry, scopes_of}
+use Rattle.im_check_scopes.specs.Shape.{with_entry, with_entries, scopes_of}
 use Rattle.im_check_scopes.specs.Search.{is_opening, is_named, is_tagged, last_place, entity_named, tag_named, is_before}
 use Rattle.im_check_scopes.proofs.Search.{searched-none, searched-some, last-passes, last-either, later}
 
