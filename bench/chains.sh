@@ -1,8 +1,8 @@
 #!/bin/sh
 # That no chain of casts, calls, indices, commas, suffixes, stars, operators, statements or typedef names overflows a stack of
 # 2 MiB, nor one of them within as many operators or blocks as may stand in one another: each is built, and evaluated, with
-# 100, LINKS, one more and 500000 links (of typedef names 100000, since a source has 4 MiB at most), where LINKS is the most
-# that are read. The status, which is never that of a signal, is told beside the time of the build in milliseconds. It is no
+# 100, LINKS, one more and 500000 links (of typedef names 100000, since a source has 4 MiB at most), where LINKS is the limit
+# of links; a typedef name has a limit of its own, 250 derivations. The status, which is never that of a signal, is told beside the time of the build in milliseconds. It is no
 # part of the gate.
 set -eu
 top=$(CDPATH= cd -- "$(dirname -- "$0")/.." && pwd)

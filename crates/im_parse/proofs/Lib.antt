@@ -1,3 +1,4 @@
 pub mod ExternalLines
 pub mod UnitLines
 pub mod Parsing
+pub mod Cut
