@@ -39,12 +39,12 @@ pub record Derived : Type 0 where
   pub name : List ℕ
 
 -- that of a declarator behind specifiers whose type has so many
-abbrev pub derived : ℕ → t.Declarator → Derived
-derived base d = record { count = base + own_derivations d; token = first_token d; name = name_of d }
+abbrev pub derived_from : ℕ → t.Declarator → Derived
+derived_from base d = record { count = base + own_derivations d; token = first_token d; name = name_of d }
 
 abbrev pub derived_in : ℕ → t.InitDeclarators → List Derived
 derived_in base t.no_init_declarators = []
-derived_in base (t.more_init_declarators d i ds) = derived base d ∷ derived_in base ds
+derived_in base (t.more_init_declarators d i ds) = derived_from base d ∷ derived_in base ds
 
 abbrev pub with_derived : Known → Derived → Known
 with_derived known x y = if same_name x.name y then x.count else known y

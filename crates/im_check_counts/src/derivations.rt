@@ -3,11 +3,13 @@ ghost use Rattle.std.specs.Prelude.{◌≡◌, ◌+◌, ◌∷◌, [], IfOk, OnO
 ghost use Rattle.im_ctree.specs.Shape.{declarator_of, core_of, init_declarators_of, external_of, tree_of};
 ghost use Rattle.im_ctree_parts.specs.Lists.{list_from, stars_in, suffixes_from};
 ghost use Rattle.im_check_outline.specs.im_rules.Outline.{typedef_in as typedef_name_in};
-ghost use Rattle.im_check_counts.specs.Derivations.{derivations_by, own_derivations, inner_derivations, derived as derived_behind, derived_as, derived_in, derived_by, with_derived as with_name, known_of, IsWalked, IsDeepIn};
+ghost use Rattle.im_check_counts.specs.Derivations.{derivations_by, own_derivations, inner_derivations, derived_from, derived_as, derived_in, derived_by, with_derived as with_name, known_of, IsWalked, IsDeepIn};
 
 use im_check_name_map::NameMap;
 use im_check_outline::{is_typedef, name_of, typedef_in};
-use im_ctree::{Core, Declaration, Declarator, External, InitDeclarator, Specifier, Star, Suffix, Tree};
+use im_ctree::{
+    Core, Declaration, Declarator, External, InitDeclarator, Specifier, Star, Suffix, Tree,
+};
 use im_num::NoMemory;
 use std::alloc::Global;
 
@@ -61,7 +63,7 @@ fn inner(core: &Core) -> Result<usize, NoMemory>
 
 /// What a declarator declares behind specifiers whose type has so many derivations.
 fn derived(base: usize, d: &Declarator) -> Result<Deep<'_>, NoMemory>
-    ensures { IfOk result (λ x. derived_as x ≡ derived_behind base (declarator_of d.now)) }
+    ensures { IfOk result (λ x. derived_as x ≡ derived_from base (declarator_of d.now)) }
 {
     let more = own(d)?;
     let count = sum(base, more)?;
@@ -93,7 +95,7 @@ fn in_declarator<'a>(
     known: &mut NameMap,
 ) -> Result<Option<Deep<'a>>, NoMemory>
     ensures { IfOk result (IsWalked (known_of known.old)
-        (derived_behind base (declarator_of d.now) ∷ []) (known_of known.new)) }
+        (derived_from base (declarator_of d.now) ∷ []) (known_of known.new)) }
 {
     let x = derived(base, d)?;
     if is_deep(x.count) {

@@ -96,12 +96,7 @@ fn deep(alloc: Global, source: &[u8], spans: &[(u32, u32)], x: Deep<'_>) -> Refu
 }
 
 // Whether each typedef name stands for few enough derivations, so that typing goes no deeper.
-fn shallow(
-    alloc: Global,
-    source: &[u8],
-    spans: &[(u32, u32)],
-    tree: &Tree,
-) -> Result<(), Refused>
+fn shallow(alloc: Global, source: &[u8], spans: &[(u32, u32)], tree: &Tree) -> Result<(), Refused>
     requires { length source.now < 2 ^ 31 }
     ensures { MatchResult result (λ _. IsShallowUnit (tree_of tree.now))
         (IsTooDeep source.now spans.now (tree_of tree.now)) }

@@ -73,6 +73,6 @@ pub enum Subject {
     Whole,
     /// The function or object of this name.
     Named(Vec<u8>),
-    /// The function or object of this name, which is declared at the place.
+    /// The function, object or typedef name that is declared at the place.
     Declared(Place, Vec<u8>),
 }

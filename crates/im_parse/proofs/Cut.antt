@@ -1,5 +1,6 @@
 -- The words before the first with links over the limit, parsed alone.
-use Rattle.std.proofs.Common.{◌≡◌, ℕ, suc, ◌-◌, ◌<◌, ◌≤◌, List, [], ◌∷◌, ◌++◌, length, map, take, drop, Result, Ok, Err, MatchResult, refl, sym, ap, ◌∙◌, subst, arith}
+use Rattle.std.proofs.Common.{◌≡◌, ℕ, suc, ◌-◌, ◌<◌, ◌≤◌, List, [], ◌∷◌, ◌++◌, length, map, take, drop, nat_lt, true, false, if◌then◌else◌, Result, Ok, Err, MatchResult, refl, sym, ap, ◌∙◌, subst, arith}
+use Rattle.std.proofs.lemmas.Bool.{ltb-true, ltb-false}
 use Rattle.std.proofs.lemmas.List.{append-nil, take-append-drop, take-take, take_all, length-take}
 use Rattle.im_word.specs.Words.{Word}
 use Rattle.im_word.specs.Shown.{shown}
@@ -14,7 +15,7 @@ use Rattle.im_parse_core.specs.declared.stop.Stop.TheVariants as stop
 use Rattle.im_parse.specs.declared.text.ParseFault.{ParseFault}
 use Rattle.im_parse.specs.declared.text.ParseFault.TheVariants as fault
 use Rattle.im_parse.specs.Links.{IsFirstLinked, NoneLinked}
-use Rattle.im_parse.specs.Spelling.{IsFirstFault, StopsUnit, IsParsed, IsWholeFault, IsCutShort}
+use Rattle.im_parse.specs.Spelling.{IsFirstFault, StopsUnit, earlier, IsParsed, IsWholeFault, IsCutShort}
 
 -- a front of a unit's words begins a unit
 front_of : (tree : t.Tree) (words : List Word) (n : ℕ) → Spells tree words → IsFront (take n words)
@@ -44,6 +45,13 @@ front_to words p q past h =
     let short = length-take p words in
     let few : length (take p words) ≤ q = omega (arith, short) in
     subst IsFront (take_all q (take p words) few) h.begins
+
+-- of a fault behind those words and the limit the earlier one is told
+pub earlier_told : (words : List Word) (place q : ℕ) → place < length words → IsFirstFault (take place words) q → IsCutShort words place (earlier q place)
+earlier_told words place q within h = elim (nat_lt q place) as (λ b. nat_lt q place ≡ b → IsCutShort words place (if b then fault.Syntax q else fault.Links place)) [
+  | true ↦ λ e. (let before = ltb-true q place e in (before, fault_within words place q within before h))
+  | false ↦ λ e. (refl, front_to words place q (ltb-false q place e) h)
+] refl
 
 -- what `parse` answers of all words
 

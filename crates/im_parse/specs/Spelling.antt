@@ -1,5 +1,5 @@
 -- What `parse` gives, by the words of the tokens.
-use Rattle.std.specs.Prelude.{◌≡◌, ℕ, suc, ◌<◌, ◌≤◌, List, [], ◌∷◌, take, length, slice_range, Result, Ok, Err}
+use Rattle.std.specs.Prelude.{◌≡◌, ℕ, suc, ◌<◌, ◌≤◌, List, [], ◌∷◌, take, length, slice_range, nat_lt, if◌then◌else◌, Result, Ok, Err}
 use Rattle.im_tok.specs.declared.token.Token.{Token}
 use Rattle.im_word.specs.Words.{Word}
 use Rattle.im_word.specs.Tokens.{IsWordOf}
@@ -45,6 +45,10 @@ IsParsed words (Err (fault.Depth p)) = IsFirstOver 200 words p
 IsParsed words (Err (fault.Links p)) = NoneOver 200 words × IsFirstLinked 512 words p × IsFront (take p words)
 IsParsed words (Err (fault.Syntax p)) = NoneOver 200 words × NoneLinkedBefore 512 words p × IsFirstFault words p
 IsParsed words (Err fault.Memory) = Unit {0}
+
+-- what stands first, a fault of syntax or links over their limit
+abbrev pub earlier : ℕ → ℕ → ParseFault
+earlier p place = if nat_lt p place then fault.Syntax p else fault.Links place
 
 -- for private contracts: why words within the limit of links have no tree
 abbrev pub IsWholeFault : List Word → ParseFault → Type 0

@@ -4,7 +4,7 @@ ghost use Rattle.im_word.specs.Shown.{shown};
 ghost use Rattle.im_parse.specs.declared.text.ParseFault.TheVariants.{Memory};
 ghost use Rattle.im_ctree.specs.Shape.{tree_of};
 ghost use Rattle.im_ctree.specs.Units.{Spells};
-ghost use Rattle.im_parse.specs.Spelling.{AreWords, IsCutShort, IsParsed, IsParsedText, IsWithin, IsWholeFault};
+ghost use Rattle.im_parse.specs.Spelling.{AreWords, IsCutShort, IsParsed, earlier, IsParsedText, IsWithin, IsWholeFault};
 
 use super::links::first_linked;
 use super::units::unit;
@@ -106,8 +106,20 @@ fn cut_short(alloc: Global, words: &[Word], place: usize) -> ParseFault
     ensures { IsCutShort (map shown words.now) place result }
 {
     match unit(alloc, &words[..place]) {
-        Err(Stop::Syntax(fault)) if (fault as usize) < place => ParseFault::Syntax(fault),
+        Ok(_) => ParseFault::Links(place as u32),
+        Err(Stop::Syntax(fault)) => earlier(fault, place),
         Err(Stop::Memory) => ParseFault::Memory,
-        _ => ParseFault::Links(place as u32),
+    }
+}
+
+/// What stands first, a fault of syntax or links over their limit.
+fn earlier(fault: u32, place: usize) -> ParseFault
+    requires { place < 2 ^ 32 }
+    ensures { result ≡ earlier fault place }
+{
+    if (fault as usize) < place {
+        ParseFault::Syntax(fault)
+    } else {
+        ParseFault::Links(place as u32)
     }
 }
