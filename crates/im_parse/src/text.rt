@@ -1,7 +1,7 @@
 ghost use Rattle.std.specs.Prelude.{◌≡◌, ◌^◌, ◌<◌, IfOk, MatchResult, length, map};
 ghost use Rattle.std.specs.List.{All};
 ghost use Rattle.im_word.specs.Shown.{shown};
-ghost use Rattle.im_parse.specs.declared.text.ParseFault.TheVariants.{Memory};
+ghost use Rattle.im_parse.specs.declared.text.ParseFault.TheVariants.{Links, Memory};
 ghost use Rattle.im_ctree.specs.Shape.{tree_of};
 ghost use Rattle.im_ctree.specs.Units.{Spells};
 ghost use Rattle.im_parse.specs.Spelling.{AreWords, IsCutShort, IsParsed, earlier, IsParsedText, IsWithin, IsWholeFault};
@@ -106,10 +106,17 @@ fn cut_short(alloc: Global, words: &[Word], place: usize) -> ParseFault
     ensures { IsCutShort (map shown words.now) place result }
 {
     match unit(alloc, &words[..place]) {
-        Ok(_) => ParseFault::Links(place as u32),
+        Ok(_) => links_at(place),
         Err(Stop::Syntax(fault)) => earlier(fault, place),
         Err(Stop::Memory) => ParseFault::Memory,
     }
+}
+
+fn links_at(place: usize) -> ParseFault
+    requires { place < 2 ^ 32 }
+    ensures { result ≡ Links place }
+{
+    ParseFault::Links(place as u32)
 }
 
 /// What stands first, a fault of syntax or links over their limit.
@@ -120,6 +127,6 @@ fn earlier(fault: u32, place: usize) -> ParseFault
     if (fault as usize) < place {
         ParseFault::Syntax(fault)
     } else {
-        ParseFault::Links(place as u32)
+        links_at(place)
     }
 }
