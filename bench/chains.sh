@@ -16,6 +16,10 @@ LINKS=512
 many() { # TEXT
     awk -v text="$1" 'BEGIN { for (i = 0; i < 190; i++) printf "%s", text }'
 }
+# a row of as many typedef names as may stand in one another
+row() {
+    awk 'BEGIN { printf "typedef int t0;"; for (i = 0; i < 250; i++) printf " typedef t%d *t%d;", i, i + 1 }'
+}
 # name, front, link and end as formats (of the link's number and the next one, and of the last one), most links
 chain() {
     name=$1
@@ -61,6 +65,8 @@ chain names 'int a' ', a' '; int main(void) { return 7; }'
 chain enumerators 'enum { a' ', b' '}; int main(void) { return 7; }'
 chain typedefs 'typedef int t0;' ' typedef t%d *t%d;' ' t%d last; int main(void) { return 7; }' 100000
 chain arrays 'typedef int t0;' ' typedef t%d t%d[1];' ' t%d last; int main(void) { return 7; }' 100000
+chain row-suffixes "$(row) t250 a" '[1]' '; int main(void) { return 7; }'
+chain row-stars "$(row) t250 $(many '*')a" '[1]' '; int main(void) { return 7; }'
 chain minus-casts "int main(void) { return $(many '- ')" '(int)' '7; }'
 chain minus-calls "int f(int a) { return a; } int main(void) { return $(many '- ')f(7)" '()' '; }'
 chain minus-indices "int a[2]; int main(void) { return $(many '- ')a" '[0]' '; }'
