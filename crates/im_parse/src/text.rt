@@ -105,10 +105,13 @@ fn cut_short(alloc: Global, words: &[Word], place: usize) -> ParseFault
     requires within { place < length words.now }
     ensures { IsCutShort (map shown words.now) place result }
 {
-    match unit(alloc, &words[..place]) {
-        Ok(_) => links_at(place),
-        Err(Stop::Syntax(fault)) => earlier(fault, place),
-        Err(Stop::Memory) => ParseFault::Memory,
+    let stop = match unit(alloc, &words[..place]) {
+        Ok(_) => return links_at(place),
+        Err(stop) => stop,
+    };
+    match stop {
+        Stop::Syntax(fault) => earlier(fault, place),
+        Stop::Memory => ParseFault::Memory,
     }
 }
 

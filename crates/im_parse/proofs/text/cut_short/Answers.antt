@@ -13,11 +13,11 @@ returns-in-Ok c =
     let spelled = subst (Spells (tree_of c.in-Ok.field-0)) (sym (take-map shown c.args.place words)) c.in-Ok.ensures in
     rw c.links_at.ensures ((refl, whole_front (map shown words) c.args.place (tree_of c.in-Ok.field-0) spelled))
 
-pub returns-in-Err-Syntax : goal.returns-in-Err-Syntax
-returns-in-Err-Syntax c =
+pub returns-in-Syntax : goal.returns-in-Syntax
+returns-in-Syntax c =
     let words = c.args.words.now in
     let place = c.args.place in
     let long = length-map words shown in
     let within = c.requires.within in
-    let fault = subst (λ ws. IsFirstFault ws c.in-Err-Syntax.fault) (sym (take-map shown place words)) c.in-Err-Syntax.ensures in
-    rw c.earlier.ensures (earlier_told (map shown words) place c.in-Err-Syntax.fault (omega (arith, long, within)) fault)
+    let fault = subst (λ ws. IsFirstFault ws c.in-Syntax.fault) (sym (take-map shown place words)) (rw c.in-Syntax.is at c.in-Err.ensures) in
+    rw c.earlier.ensures (earlier_told (map shown words) place c.in-Syntax.fault (omega (arith, long, within)) fault)
