@@ -1,5 +1,5 @@
 -- The derivations of typedef names, one name behind the other.
-use Rattle.std.proofs.Common.{◌≡◌, ℕ, suc, ◌+◌, ◌<◌, ◌≤◌, Bool, true, false, ◌⊎◌, inl, inr, zero, List, [], ◌∷◌, ◌++◌, length, map, Option, Some, None, if◌then◌else◌, refl, sym, ap, ◌∙◌, subst, arith, append_assoc}
+use Rattle.std.proofs.Common.{◌≡◌, ℕ, suc, ◌+◌, ◌<◌, ◌≤◌, Bool, true, false, ◌⊎◌, inl, inr, zero, List, [], ◌∷◌, ◌++◌, length, Option, Some, None, if◌then◌else◌, refl, sym, ap, ◌∙◌, subst, arith, append_assoc}
 use Rattle.std.specs.List.{Contains}
 use Rattle.std.proofs.lemmas.List.{length-map}
 use Rattle.std.proofs.lemmas.List.Elements.{Contains-append_cases}
@@ -17,7 +17,7 @@ use Rattle.im_check_outline.specs.im_rules.Rules.{is_typedef}
 use Rattle.im_check_outline.specs.im_rules.TypeTests.{same_name}
 use Rattle.im_check_name_map.specs.Numbers.{number_of}
 use Rattle.im_check_counts.specs.declared.derivations.Deep.{Deep}
-use Rattle.im_check_counts.specs.Derivations.{Known, Derived, derivations_by, own_derivations, inner_derivations, derivation_limit, derived_in, derived_by, with_derived, known_behind, known_of, count_or_none, derived_as, none_known, derived_names, AreShallow, IsFirstDeep, IsWalked, IsDeepIn}
+use Rattle.im_check_counts.specs.Derivations.{Known, Derived, derivations_by, own_derivations, inner_derivations, derivation_limit, derived_in, derived_by, with_derived, known_behind, known_of, count_or_none, derived_as, none_known, derived_names, AreShallow, IsWalked, IsDeepIn}
 
 -- a declarator, by its parts
 

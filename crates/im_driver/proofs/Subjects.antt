@@ -27,7 +27,6 @@ use Rattle.im_keeps_built.specs.Laws.{IsLargeFrame, RefusedLaw}
 use Rattle.im_driver.specs.declared.refused.Refused.{Refused}
 use Rattle.im_driver.specs.Compiled.{IsTreeOf, IsRefused}
 use Rattle.im_driver.specs.Refused.{IsCountedOf, IsRefusedFor, IsSubject}
-use Rattle.im_check_counts.specs.Derivations.{Derived, derived_names, IsFirstDeep}
 use Rattle.im_driver.specs.Steps.{HasCrowded, IsDeepTold, IsFrameTold, IsReady, IsTooDeep, as_whole, counted_of, fault_at, of_compile, refused_at}
 use Rattle.im_driver.proofs.Refusals.{read_refused, check_refused, made_refused}
 

@@ -1,21 +1,17 @@
 -- The words before the first with links over the limit, parsed alone.
-use Rattle.std.proofs.Common.{◌≡◌, ℕ, suc, ◌-◌, ◌<◌, ◌≤◌, List, [], ◌∷◌, ◌++◌, length, map, take, drop, nat_lt, true, false, if◌then◌else◌, Result, Ok, Err, MatchResult, refl, sym, ap, ◌∙◌, subst, arith}
+use Rattle.std.proofs.Common.{◌≡◌, ℕ, suc, ◌<◌, ◌≤◌, List, [], length, take, drop, nat_lt, true, false, if◌then◌else◌, Result, Ok, Err, MatchResult, refl, sym, subst, arith}
 use Rattle.std.proofs.lemmas.Bool.{ltb-true, ltb-false}
 use Rattle.std.proofs.lemmas.List.{append-nil, take-append-drop, take-take, take_all, length-take}
 use Rattle.im_word.specs.Words.{Word}
-use Rattle.im_word.specs.Shown.{shown}
-use Rattle.im_word.specs.declared.word.Word as w
 use Rattle.im_word.specs.Nesting.{NoneOver}
 use Rattle.im_ctree.specs.Tree as t
 use Rattle.im_ctree.specs.Units.{Spells, IsFront, IsUnit, predeclared_names}
 use Rattle.im_ctree.specs.Shape.{tree_of}
 use Rattle.im_ctree.specs.declared.unit.Tree.{Tree}
-use Rattle.im_parse_core.specs.declared.stop.Stop.{Stop}
-use Rattle.im_parse_core.specs.declared.stop.Stop.TheVariants as stop
 use Rattle.im_parse.specs.declared.text.ParseFault.{ParseFault}
 use Rattle.im_parse.specs.declared.text.ParseFault.TheVariants as fault
 use Rattle.im_parse.specs.Links.{IsFirstLinked, NoneLinked}
-use Rattle.im_parse.specs.Spelling.{IsFirstFault, StopsUnit, earlier, IsParsed, IsWholeFault, IsCutShort}
+use Rattle.im_parse.specs.Spelling.{IsFirstFault, earlier, IsParsed, IsWholeFault, IsCutShort}
 
 -- a front of a unit's words begins a unit
 front_of : (tree : t.Tree) (words : List Word) (n : ℕ) → Spells tree words → IsFront (take n words)

@@ -2,7 +2,7 @@
 -- they are closed, and yet a tree may go down a step for each, as in `(int)(int)a`, `f()()`, `a[0][0]` and `a, b, c`. They are
 -- counted from one statement, declaration, initialiser or enumerator to the next, with a stack of levels that the words are
 -- read with from the left.
-use Rattle.std.specs.Prelude.{ℕ, zero, suc, ◌+◌, ◌≤◌, ◌<◌, Bool, true, false, ◌&&◌, cond, List, [], ◌∷◌, Option, Some, None, length, slice_get}
+use Rattle.std.specs.Prelude.{ℕ, zero, suc, ◌+◌, ◌≤◌, ◌<◌, Bool, true, false, cond, List, [], ◌∷◌, Option, Some, None, length, slice_get}
 use Rattle.im_tok.specs.declared.keyword.Keyword.{Keyword}
 use Rattle.im_tok.specs.declared.keyword.Keyword.TheVariants.{Typedef, Extern, Static, Const, Struct, Enum, Void, Char, Short, Int, Long, Signed, Unsigned}
 use Rattle.im_tok.specs.declared.punctuator.Punctuator.{Punctuator}

@@ -1,8 +1,7 @@
-use Rattle.std.proofs.Common.{◌≡◌, ◌+◌, length, IfOk, ap, sym, ◌∙◌, subst}
+use Rattle.std.proofs.Common.{◌≡◌, ◌+◌, IfOk, ap, sym, ◌∙◌, subst}
 use Rattle.im_ctree.specs.Shape.{core_of}
 use Rattle.im_ctree.specs.declared.declarator.Declarator.{out-Declarator}
-use Rattle.im_ctree_parts.specs.Lists.{stars_in, suffixes_from}
-use Rattle.im_check_counts.specs.Derivations.{derivations_by, inner_derivations}
+use Rattle.im_check_counts.specs.Derivations.{inner_derivations}
 use Rattle.im_check_counts.proofs.Derived.{own_shape}
 use Rattle.im_check_counts.proofs.derivations.+own.Goals as goal
 

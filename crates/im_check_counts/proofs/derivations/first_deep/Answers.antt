@@ -1,8 +1,8 @@
-use Rattle.std.proofs.Common.{◌≡◌, ◌+◌, Some, None, List, [], ◌∷◌, ◌++◌, drop, refl, sym, subst}
+use Rattle.std.proofs.Common.{◌+◌, Some, None, List, drop, refl, sym, subst}
 use Rattle.std.proofs.lemmas.List.{drop_all}
 use Rattle.im_ctree.specs.Shape.{external_of, externals_of, tree_of}
 use Rattle.im_ctree.specs.declared.unit.External.{External}
-use Rattle.im_check_counts.specs.Derivations.{Known, none_known, derived_by, derived_of, known_of, known_behind, IsWalked}
+use Rattle.im_check_counts.specs.Derivations.{Known, derived_by, derived_of, known_of, known_behind, IsWalked}
 use Rattle.im_check_counts.proofs.Over.{next}
 use Rattle.im_check_counts.proofs.Derived.{walked_none, walked_front, walked_next, deep_of, nothing_known}
 use Rattle.im_check_counts.proofs.derivations.first_deep.Goals as goal

@@ -1,4 +1,4 @@
-use Rattle.std.proofs.Common.{true, false, ap, sym, ◌∙◌}
+use Rattle.std.proofs.Common.{sym, ◌∙◌}
 use Rattle.im_ctree.specs.Shape.{init_declarators_of}
 use Rattle.im_check_counts.specs.Derivations.{known_of}
 use Rattle.im_check_counts.proofs.Derived.{no_typedef, a_typedef}

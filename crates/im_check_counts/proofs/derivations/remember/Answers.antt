@@ -1,4 +1,3 @@
-use Rattle.std.proofs.Common.{◌≡◌, List, ℕ, ap, subst, sym, ◌∙◌}
 use Rattle.im_check_counts.specs.Derivations.{derived_as}
 use Rattle.im_check_counts.proofs.Derived.{remembered}
 use Rattle.im_check_counts.proofs.derivations.remember.Goals as goal

@@ -1,4 +1,4 @@
-use Rattle.std.proofs.Common.{refl, sym, ◌∙◌}
+use Rattle.std.proofs.Common.{refl}
 use Rattle.im_check_counts.specs.Derivations.{derived_as}
 use Rattle.im_driver.proofs.checking.deep.Goals as goal
 

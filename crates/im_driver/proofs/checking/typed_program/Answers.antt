@@ -1,7 +1,7 @@
 use Rattle.std.proofs.Common.{List, ℕ, sym, subst, arith}
 use Rattle.im_ctree.specs.Shape.{tree_of}
 use Rattle.im_driver.specs.Refused.{IsRefusedFor}
-use Rattle.im_driver.specs.Steps.{HasCrowded, IsTooDeep, refused_at}
+use Rattle.im_driver.specs.Steps.{HasCrowded, refused_at}
 use Rattle.im_driver.proofs.Subjects.{read_refused_for, check_refused_for, deep_refused_for, starved}
 use Rattle.im_driver.proofs.checking.typed_program.Goals as goal
 
