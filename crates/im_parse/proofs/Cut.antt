@@ -1,17 +1,12 @@
 -- The words before the first with links over the limit, parsed alone.
-use Rattle.std.proofs.Common.{◌≡◌, ℕ, suc, ◌<◌, ◌≤◌, List, [], length, take, drop, nat_lt, true, false, if◌then◌else◌, Result, Ok, Err, MatchResult, refl, sym, subst, arith}
+use Rattle.std.proofs.Common.{◌≡◌, ℕ, suc, ◌<◌, ◌≤◌, List, [], length, take, drop, nat_lt, true, false, if◌then◌else◌, refl, sym, subst, arith}
 use Rattle.std.proofs.lemmas.Bool.{ltb-true, ltb-false}
 use Rattle.std.proofs.lemmas.List.{append-nil, take-append-drop, take-take, take_all, length-take}
 use Rattle.im_word.specs.Words.{Word}
-use Rattle.im_word.specs.Nesting.{NoneOver}
 use Rattle.im_ctree.specs.Tree as t
 use Rattle.im_ctree.specs.Units.{Spells, IsFront, IsUnit, predeclared_names}
-use Rattle.im_ctree.specs.Shape.{tree_of}
-use Rattle.im_ctree.specs.declared.unit.Tree.{Tree}
-use Rattle.im_parse.specs.declared.text.ParseFault.{ParseFault}
 use Rattle.im_parse.specs.declared.text.ParseFault.TheVariants as fault
-use Rattle.im_parse.specs.Links.{IsFirstLinked, NoneLinked}
-use Rattle.im_parse.specs.Spelling.{IsFirstFault, earlier, IsParsed, IsWholeFault, IsCutShort}
+use Rattle.im_parse.specs.Spelling.{IsFirstFault, earlier, IsCutShort}
 
 -- a front of a unit's words begins a unit
 front_of : (tree : t.Tree) (words : List Word) (n : ℕ) → Spells tree words → IsFront (take n words)
@@ -48,23 +43,3 @@ earlier_told words place q within h = elim (nat_lt q place) as (λ b. nat_lt q p
   | true ↦ λ e. (let before = ltb-true q place e in (before, fault_within words place q within before h))
   | false ↦ λ e. (refl, front_to words place q (ltb-false q place e) h)
 ] refl
-
--- what `parse` answers of all words
-
-pub whole_parsed : (words : List Word) (result : Result Tree ParseFault) → NoneOver 200 words → NoneLinked 512 words
-    → MatchResult result (λ tree. Spells (tree_of tree) words) (IsWholeFault words)
-    → IsParsed words result
-whole_parsed words (Ok tree) nested linked h = (nested, linked, h)
-whole_parsed words (Err (fault.Depth p)) nested linked h = absurd h
-whole_parsed words (Err (fault.Links p)) nested linked h = absurd h
-whole_parsed words (Err (fault.Syntax p)) nested linked h = (nested, λ i before. linked i (let within = h.within in omega arith), h)
-whole_parsed words (Err fault.Memory) nested linked h = tt
-
-pub cut_parsed : (words : List Word) (place : ℕ) (why : ParseFault) → NoneOver 200 words → IsFirstLinked 512 words place
-    → IsCutShort words place why
-    → IsParsed words (Err why)
-cut_parsed words place (fault.Depth p) nested first h = absurd h
-cut_parsed words place (fault.Links p) nested first h =
-    (nested, subst (IsFirstLinked 512 words) (sym h.0) first, subst (λ n. IsFront (take n words)) (sym h.0) h.1)
-cut_parsed words place (fault.Syntax p) nested first h = (nested, λ i before. first.first i (let less = h.0 in omega arith), h.1)
-cut_parsed words place fault.Memory nested first h = tt
