@@ -101,10 +101,13 @@ fn shallow(alloc: Global, source: &[u8], spans: &[(u32, u32)], tree: &Tree) -> R
     ensures { MatchResult result (λ _. IsShallowUnit (tree_of tree.now))
         (IsTooDeep source.now spans.now (tree_of tree.now)) }
 {
-    match first_deep(alloc, tree) {
-        Ok(None) => Ok(()),
-        Ok(Some(x)) => Err(deep(alloc, source, spans, x)),
-        Err(_) => Err(whole(SourceFault::OutOfMemory)),
+    let found = match first_deep(alloc, tree) {
+        Ok(found) => found,
+        Err(_) => return Err(whole(SourceFault::OutOfMemory)),
+    };
+    match found {
+        None => Ok(()),
+        Some(x) => Err(deep(alloc, source, spans, x)),
     }
 }
 
