@@ -26,7 +26,7 @@ pub below_next : (words : List Word) (i more : ℕ) → more ≡ links_at words 
 below_next words i more here few below k less = elim (nat_lt k i) as (λ b. nat_lt k i ≡ b → links_at words k ≤ 512) [
   | true ↦ λ e. below k (ltb-true k i e)
   | false ↦ λ e. (
-    let le = ltb-false k i e in
-    let same : i ≡ k = omega (arith, le, less) in
-    subst (λ n. links_at words n ≤ 512) same (subst (λ n. n ≤ 512) here few))
+      let le = ltb-false k i e in
+      let same : i ≡ k = omega (arith, le, less) in
+      subst (λ n. links_at words n ≤ 512) same (subst (λ n. n ≤ 512) here few))
 ] refl
