@@ -17,7 +17,7 @@ returns-in-Some c =
     let x = c.external-item.result in
     let known = known_of c.loop-external.known in
     let at = next xs i x c.loop-external-test.true c.external-item.is in
-    let new = known_of c.in_ok-in_external.known in
+    let new = known_of c.in_external.new.known in
     let whole = c.loop-external.invariant new (Some c.in-Some.x) (subst (λ (z : List External). IsWalked known (derived_of known (externals_of z)) new (Some c.in-Some.x)) (sym at)
     (walked_front known (derived_by known (external_of x)) (derived_of (known_behind known (derived_by known (external_of x))) (externals_of (drop (i + 1) xs))) new new c.in-Some.x (rw c.in-Some.is at c.in_ok-in_external.ensures))) in
     deep_of (tree_of c.args.tree.now) new (Some c.in-Some.x) whole
